@@ -1,0 +1,3 @@
+mod Chain
+pub mod Solved
+pub mod Transfer

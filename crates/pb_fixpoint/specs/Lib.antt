@@ -1,0 +1,3 @@
+pub mod Solution
+pub mod Fixpoint
+pub mod Transfer
