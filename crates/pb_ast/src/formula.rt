@@ -28,7 +28,10 @@ pub struct Instance {
 #[cycle(formulas)]
 pub enum Formula {
     /// `true` or `false`.
-    Constant { place: Place, value: bool },
+    Constant {
+        place: Place,
+        value: bool,
+    },
     /// A predicate variable.
     Instance(Instance),
     /// `!` and its operand, the place being that of `!`.
