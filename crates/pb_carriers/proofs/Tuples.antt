@@ -73,17 +73,17 @@ contains_in x [] (k, below, at) = absurd (omega (arith, below))
 contains_in x (y ∷ xs) (zero, below, at) = inl at
 contains_in x (y ∷ xs) (suc k, below, at) = inr (contains_in x xs (k, omega (arith, below), at))
 
-in_append : {A : Type 0} (x : A) (xs ys : List A) → In x (xs ++ ys) → In x xs ⊎ In x ys
+pub in_append : {A : Type 0} (x : A) (xs ys : List A) → In x (xs ++ ys) → In x xs ⊎ In x ys
 in_append x [] ys h = inr h
 in_append x (y ∷ xs) ys (inl e) = inl (inl e)
 in_append x (y ∷ xs) ys (inr h) = elim (in_append x xs ys h) [ inl i ↦ inl (inr i) | inr i ↦ inr i ]
 
-from_map : {A B : Type 0} (f : A → B) (y : B) (xs : List A) → In y (map f xs) → (x : A) × In x xs × (f x ≡ y)
+pub from_map : {A B : Type 0} (f : A → B) (y : B) (xs : List A) → In y (map f xs) → (x : A) × In x xs × (f x ≡ y)
 from_map f y [] h = absurd h
 from_map f y (x ∷ xs) (inl e) = (x, inl refl, e)
 from_map f y (x ∷ xs) (inr h) = let p = from_map f y xs h in (p.0, inr p.1, p.2)
 
-from_flat_map : {A B : Type 0} (f : A → List B) (y : B) (xs : List A) → In y (flat_map f xs) → (x : A) × In x xs × In y (f x)
+pub from_flat_map : {A B : Type 0} (f : A → List B) (y : B) (xs : List A) → In y (flat_map f xs) → (x : A) × In x xs × In y (f x)
 from_flat_map f y [] h = absurd h
 from_flat_map f y (x ∷ xs) h = elim (in_append y (f x) (flat_map f xs) h)
     [ inl i ↦ (x, inl refl, i) | inr i ↦ let p = from_flat_map f y xs i in (p.0, inr p.1, p.2) ]

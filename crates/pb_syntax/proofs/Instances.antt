@@ -27,7 +27,7 @@ instances_of spec X = record {
   count = length-map (named_with X.name) (tuples (carriers_of spec X.parameters)) ∙ length-tuples (carriers_of spec X.parameters);
 }
 
-are_monotone : (spec : Spec) (E : List Equation) → ArePositive E → AreMonotone (map (equation_of spec) E)
+pub are_monotone : (spec : Spec) (E : List Equation) → ArePositive E → AreMonotone (map (equation_of spec) E)
 are_monotone spec [] p = tt
 are_monotone spec (X ∷ E) p = (positive_is_monotone spec X p.0, are_monotone spec E p.1)
 

@@ -1,3 +1,2 @@
 pub mod Positive
-pub mod Division
 pub mod Instances

@@ -1,10 +1,11 @@
 -- The value of a data term under an assignment.
-use Rattle.std.specs.Prelude.{ℕ, zero, suc, ◌-◌, ◌/◌, ◌%◌, pos, negsuc, ◌+ℤ◌, ◌-ℤ◌, ◌*ℤ◌, neg_ℤ, unsigned_abs, int_lt, int_le, Bool, false, not, ◌&&◌, ◌||◌, if◌then◌else◌, List, [], ◌∷◌, Option, Some, None, unwrap_or, codes}
+use Rattle.std.specs.Prelude.{ℕ, pos, ◌+ℤ◌, ◌-ℤ◌, ◌*ℤ◌, neg_ℤ, unsigned_abs, int_lt, int_le, Bool, false, not, ◌&&◌, ◌||◌, if◌then◌else◌, List, [], ◌∷◌, Option, Some, None, unwrap_or, codes}
 use Rattle.std.specs.Ordering.{int_eq}
 use Rattle.std.specs.Int.{int_max, int_min}
 use Rattle.std.specs.List.{list_any, list_all}
 use Rattle.pb_syntax.specs.Syntax.{Name, same_name, Variable, Quantifier, Forall, Exists, Operator, Term, Terms, Spec}
 use Rattle.pb_carriers.specs.Carrier.{Value, Tuple, Carrier, of_bool}
+use Rattle.pb_carriers.specs.Division.{quotient, remainder}
 use Rattle.pb_syntax.specs.Sorts.{carrier_of, place_in}
 
 -- what the variables in scope stand for, the innermost first; so an inner variable hides an outer one of its name
@@ -29,19 +30,6 @@ quantified spec q (x ∷ xs) p a = of_values q (λ v. quantified spec q xs p ((x
 
 abbrev pub is_true : Value → Bool
 is_true v = not (int_eq v (of_bool false))
-
--- The quotient q and the remainder r of a = q * b + r with 0 <= r < b, and 0 where b is below 1.
-abbrev pub quotient : Value → Value → Value
-quotient (pos a) (pos (suc b)) = pos (a / suc b)
-quotient (negsuc a) (pos (suc b)) = negsuc (a / suc b)
-quotient a (pos zero) = pos 0
-quotient a (negsuc b) = pos 0
-
-abbrev pub remainder : Value → Value → Value
-remainder (pos a) (pos (suc b)) = pos (a % suc b)
-remainder (negsuc a) (pos (suc b)) = pos (b - a % suc b)
-remainder a (pos zero) = pos 0
-remainder a (negsuc b) = pos 0
 
 abbrev pub binary : Operator → Value → Value → Value
 binary Operator.And x y = of_bool (is_true x && is_true y)

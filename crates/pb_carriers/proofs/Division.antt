@@ -1,7 +1,7 @@
 -- The quotient and the remainder are the ones of a = q * b + r with 0 <= r < b.
 use Rattle.std.proofs.Common.{◌≡◌, ℕ, zero, suc, ◌<◌, ℤ, pos, negsuc, ◌+ℤ◌, ◌*ℤ◌, ◌≤ℤ◌, ◌<ℤ◌, arith}
 use Rattle.std.proofs.lemmas.Int.{ints}
-use Rattle.pb_syntax.specs.Value.{quotient, remainder}
+use Rattle.pb_carriers.specs.Division.{quotient, remainder}
 
 pub within : (a : ℤ) (b : ℕ) → 0 < b → (pos 0 ≤ℤ remainder a (pos b)) × (remainder a (pos b) <ℤ pos b)
 within (pos a) zero h = absurd (omega arith)

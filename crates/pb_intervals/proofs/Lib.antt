@@ -1,0 +1,5 @@
+pub mod Ends
+pub mod Products
+pub mod Division
+pub mod Sound
+pub mod Monotone

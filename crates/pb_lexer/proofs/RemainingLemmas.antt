@@ -1,0 +1,97 @@
+-- What a lexer still gives is how the bytes are cut.
+use Rattle.std.proofs.Common.{◌≡◌, ℕ, zero, suc, ◌-◌, ◌<◌, ◌≤◌, true, false, cond, List, [], ◌∷◌, ◌++◌, length, take, drop, refl, sym, ap, ◌∙◌, arith, subst, length-drop}
+use Rattle.pb_ast.specs.declared.place.Place.{Place}
+use Rattle.pb_lexer.specs.declared.kind.Kind.{Kind}
+use Rattle.pb_lexer.specs.declared.kind.Kind.TheVariants.{End}
+use Rattle.pb_lexer.specs.declared.piece.Piece.{Piece}
+use Rattle.pb_lexer.specs.declared.piece.Piece.TheVariants.{Blank, Token, Stop}
+use Rattle.pb_lexer.specs.Kinds.{is_last}
+use Rattle.pb_lexer.specs.Lexing.{piece, past, next_place, Cuts, none, blank, token}
+use Rattle.pb_lexer.specs.Remaining.{tokens_from, tokens_of}
+use Rattle.pb_lexer.specs.Steps.{ends}
+use Rattle.pb_lexer.specs.Tokens.{Tok, token_at}
+use Rattle.pb_lexer.proofs.PieceLemmas.{TakesOf, piece-takes, token-takes, stop-takes}
+
+skip : (bs : List ℕ) (n : ℕ) (p : Place) → n ≤ length bs → tokens_from bs n p ≡ tokens_from (drop n bs) 0 (past p (take n bs))
+unfolding tokens_from
+skip [] zero p le = refl
+skip [] (suc n) p le = absurd (omega arith)
+skip (b ∷ bs) zero p le = refl
+skip (b ∷ bs) (suc n) p le = skip bs n (next_place p b) (omega arith)
+
+-- the tokens after a piece
+passed : (b : ℕ) (bs : List ℕ) (n : ℕ) (p : Place) → 0 < n → n ≤ length (b ∷ bs)
+    → tokens_from bs (n - 1) (next_place p b) ≡ tokens_from (drop n (b ∷ bs)) 0 (past p (take n (b ∷ bs)))
+passed b bs zero p some le = absurd (omega arith)
+passed b bs (suc n) p some le =
+    let same : suc n - 1 ≡ n = omega arith in
+    ap (λ m. tokens_from bs m (next_place p b)) same ∙ skip bs n (next_place p b) (omega arith)
+
+pub blank-step : (bs : List ℕ) (n : ℕ) (p : Place) → piece p bs ≡ Blank n → 0 < n → n ≤ length bs
+    → tokens_from bs 0 p ≡ tokens_from (drop n bs) 0 (past p (take n bs))
+unfolding tokens_from
+blank-step [] n p e some le = absurd (omega arith)
+blank-step (b ∷ bs) n p e some le = ap (λ v. tokens_of v p (b ∷ bs) (λ m. tokens_from bs m (next_place p b))) e ∙ passed b bs n p some le
+
+pub token-step : (bs : List ℕ) (kind : Kind) (n : ℕ) (p : Place) → piece p bs ≡ Token kind n → 0 < n → n ≤ length bs
+    → tokens_from bs 0 p ≡ token_at p kind (take n bs) ∷ tokens_from (drop n bs) 0 (past p (take n bs))
+unfolding tokens_from
+token-step [] kind n p e some le = absurd (omega arith)
+token-step (b ∷ bs) kind n p e some le =
+    ap (λ v. tokens_of v p (b ∷ bs) (λ m. tokens_from bs m (next_place p b))) e ∙ ap (λ v. token_at p kind (take n (b ∷ bs)) ∷ v) (passed b bs n p some le)
+
+pub stop-step : (bs : List ℕ) (kind : Kind) (p : Place) → piece p bs ≡ Stop kind → tokens_from bs 0 p ≡ token_at p kind [] ∷ []
+unfolding tokens_from piece
+stop-step [] kind p e = let same : End ≡ kind = cc in ap (λ v. token_at p v [] ∷ []) same
+stop-step (b ∷ bs) kind p e = ap (λ v. tokens_of v p (b ∷ bs) (λ m. tokens_from bs m (next_place p b))) e
+
+-- The tokens: the bytes are cut into them up to where no token stands, and the last one says why.
+pub record IsLexed (p : Place) (bs : List ℕ) (tokens : List Tok) : Type 0 where
+  pub front : List Tok
+  pub place : Place
+  pub rest : List ℕ
+  pub kind : Kind
+  pub cut : Cuts p bs front place rest
+  pub stops : piece place rest ≡ Stop kind
+  pub is : tokens ≡ front ++ token_at place kind [] ∷ []
+
+lexed-by : (p : Place) (bs : List ℕ) → ((q : Place) (cs : List ℕ) → length cs < length bs → IsLexed q cs (tokens_from cs 0 q))
+    → (v : Piece) → piece p bs ≡ v → TakesOf v bs → IsLexed p bs (tokens_from bs 0 p)
+lexed-by p bs again (Blank n) e takes =
+    let some = takes.0 in
+    let le = takes.1 in
+    let a = again (past p (take n bs)) (drop n bs) (omega (arith, length-drop n bs)) in
+    record { front = a.front; place = a.place; rest = a.rest; kind = a.kind; cut = blank e a.cut; stops = a.stops; is = blank-step bs n p e some le ∙ a.is }
+lexed-by p bs again (Token kind n) e takes =
+    let some = takes.0 in
+    let le = takes.1 in
+    let a = again (past p (take n bs)) (drop n bs) (omega (arith, length-drop n bs)) in
+    let t = token_at p kind (take n bs) in
+    record { front = t ∷ a.front; place = a.place; rest = a.rest; kind = a.kind; cut = token e a.cut; stops = a.stops; is = token-step bs kind n p e some le ∙ ap (λ v. t ∷ v) a.is }
+lexed-by p bs again (Stop kind) e takes =
+    record { front = []; place = p; rest = bs; kind = kind; cut = none; stops = e; is = stop-step bs kind p e }
+
+lexed-within : (n : ℕ) (p : Place) (bs : List ℕ) → length bs ≤ n → IsLexed p bs (tokens_from bs 0 p)
+lexed-within zero p bs le = lexed-by p bs (λ q cs h. absurd (omega arith)) (piece p bs) refl (piece-takes p bs).is
+lexed-within (suc n) p bs le = lexed-by p bs (λ q cs h. lexed-within n q cs (omega arith)) (piece p bs) refl (piece-takes p bs).is
+
+pub lexed : (p : Place) (bs : List ℕ) → IsLexed p bs (tokens_from bs 0 p)
+lexed p bs = lexed-within (length bs) p bs (omega arith)
+
+-- ---- the last token, and no other, is one behind which none stands
+
+ends-cons : (t e : Tok) (ts : List Tok) → is_last t.kind ≡ false → ends (ts ++ e ∷ []) ≡ true → ends (t ∷ (ts ++ e ∷ [])) ≡ true
+ends-cons t e [] other h = ap (λ v. cond v false (is_last e.kind)) other ∙ h
+ends-cons t e (u ∷ ts) other h = ap (λ v. cond v false (ends (u ∷ (ts ++ e ∷ [])))) other ∙ h
+
+cuts-ends : (p q : Place) (bs rest : List ℕ) (ts : List Tok) (e : Tok) → Cuts p bs ts q rest → is_last e.kind ≡ true → ends (ts ++ e ∷ []) ≡ true
+cuts-ends p q bs rest ts e none h = h
+cuts-ends p q bs rest ts e (blank f c) h = cuts-ends _ q _ rest _ e c h
+cuts-ends p q bs rest ts e (token {kind = kind} {n = n} f c) h =
+    ends-cons (token_at p kind (take n bs)) e _ (token-takes p bs kind n (sym f)).2 (cuts-ends _ q _ rest _ e c h)
+
+pub tokens-end : (p : Place) (bs : List ℕ) → ends (tokens_from bs 0 p) ≡ true
+tokens-end p bs =
+    let l = lexed p bs in
+    subst (λ (v : List Tok). ends v ≡ true) (sym l.is)
+    (cuts-ends p l.place bs l.rest l.front (token_at l.place l.kind []) l.cut (stop-takes l.place l.rest l.kind (sym l.stops)).0)

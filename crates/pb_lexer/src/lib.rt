@@ -1,0 +1,16 @@
+//! The tokens of a text, given one at a time, and the steps that a reader of any grammar is made of.
+//!
+//! `specs/Lexing.antt` says how a text is cut into tokens. `specs/Grammar.antt` has the words in which a grammar is
+//! written, as relations without position or lookahead. `specs/Steps.antt` has the same words as functions, which
+//! compute; `proofs/` shows, once for each word, that the functions meet the relations. The crates above write
+//! their productions in these words alone.
+#![tactic(auto)]
+
+pub mod fault;
+pub mod input;
+pub mod kind;
+pub mod lexer;
+pub mod piece;
+#[cfg(test)]
+mod tests;
+pub mod token;

@@ -1,0 +1,229 @@
+//! What stands at the front of a text: white space, a comment, a token, or none of these.
+
+ghost use Rattle.std.specs.Prelude.{◌≡◌, ◌+◌, ◌≤◌, ◌<◌, ◌↔◌, length, IsTrue};
+ghost use Rattle.std.specs.Str.Parse.{AllDigits};
+ghost use Rattle.pb_lexer.specs.Lexing as spec;
+
+use crate::kind::Kind;
+use pb_ast::Place;
+
+/// What stands at the front of a text, with its length in bytes.
+#[derive(Clone, Copy, Debug)]
+pub enum Piece {
+    /// White space, or a comment.
+    Blank(usize),
+    /// A token, whose kind isn't one of the last.
+    Token(Kind, usize),
+    /// The end of the text, or what is no token.
+    Stop(Kind),
+}
+
+/// The largest number that a text may write, 2^62.
+pub const LARGEST_NUMBER: u64 = 4_611_686_018_427_387_904;
+
+/// The reserved words.
+const WORDS: [(&str, Kind); 24] = [
+    ("sort", Kind::Sort),
+    ("struct", Kind::Struct),
+    ("pbes", Kind::Pbes),
+    ("mu", Kind::Mu),
+    ("nu", Kind::Nu),
+    ("init", Kind::Init),
+    ("val", Kind::Val),
+    ("true", Kind::True),
+    ("false", Kind::False),
+    ("forall", Kind::Forall),
+    ("exists", Kind::Exists),
+    ("div", Kind::Div),
+    ("mod", Kind::Mod),
+    ("cons", Kind::Reserved),
+    ("map", Kind::Reserved),
+    ("var", Kind::Reserved),
+    ("eqn", Kind::Reserved),
+    ("glob", Kind::Reserved),
+    ("lambda", Kind::Reserved),
+    ("whr", Kind::Reserved),
+    ("end", Kind::Reserved),
+    ("in", Kind::Reserved),
+    ("act", Kind::Reserved),
+    ("proc", Kind::Reserved),
+];
+
+/// The symbols of two bytes.
+const PAIRS: [(u8, u8, Kind); 7] = [
+    (b'=', b'=', Kind::Equal),
+    (b'!', b'=', Kind::NotEqual),
+    (b'=', b'>', Kind::Implies),
+    (b'<', b'=', Kind::LessOrEqual),
+    (b'>', b'=', Kind::GreaterOrEqual),
+    (b'&', b'&', Kind::And),
+    (b'|', b'|', Kind::Or),
+];
+
+fn is_blank(b: u8) -> bool
+    ensures { result ≡ spec.is_blank b }
+{
+    b == b' ' || b == b'\t' || b == b'\n' || b == b'\r'
+}
+
+fn is_letter(b: u8) -> bool
+    ensures { result ≡ spec.is_letter b }
+{
+    b.is_ascii_alphabetic() || b == b'_'
+}
+
+fn is_name_byte(b: u8) -> bool
+    ensures { result ≡ spec.is_name_byte b }
+{
+    is_letter(b) || b.is_ascii_digit() || b == b'\''
+}
+
+fn name_len(bytes: &[u8]) -> usize
+    ensures value { result ≡ length (spec.name_bytes bytes.now) }
+    ensures fits { result ≤ length bytes.now }
+{
+    bytes.iter().take_while(|b| is_name_byte(**b)).count()
+}
+
+fn line_len(bytes: &[u8]) -> usize
+    ensures value { result ≡ length (spec.line bytes.now) }
+    ensures fits { result ≤ length bytes.now }
+{
+    bytes.iter().take_while(|b| **b != b'\n').count()
+}
+
+fn digits_len(bytes: &[u8]) -> usize
+    ensures value { result ≡ length (spec.digits bytes.now) }
+    ensures fits { result ≤ length bytes.now }
+{
+    bytes.iter().take_while(|b| b.is_ascii_digit()).count()
+}
+
+/// The kind that a table gives a word, or that of a name.
+fn kind_among(table: &[(&str, Kind)], word: &[u8]) -> Kind
+    ensures { result ≡ spec.kind_among (spec.entries table.now) word.now }
+{
+    for (text, kind) in table {
+        if text.as_bytes() == word {
+            return *kind;
+        }
+    }
+    Kind::Name
+}
+
+/// The kind of a word: that of a reserved word, or that of a name.
+#[tactic(auto, unfolding(crate::specs::Lexing::word_kind))]
+fn word_kind(word: &[u8]) -> Kind
+    ensures { result ≡ spec.word_kind word.now }
+{
+    kind_among(&WORDS, word)
+}
+
+/// The symbol of one byte.
+fn one_byte_symbol(byte: u8) -> Piece
+    ensures { result ≡ spec.one_byte_among spec.one_byte_symbols byte }
+{
+    match byte {
+        b'(' => Piece::Token(Kind::Open, 1),
+        b')' => Piece::Token(Kind::Close, 1),
+        b',' => Piece::Token(Kind::Comma, 1),
+        b';' => Piece::Token(Kind::Semicolon, 1),
+        b':' => Piece::Token(Kind::Colon, 1),
+        b'.' => Piece::Token(Kind::Period, 1),
+        b'=' => Piece::Token(Kind::Is, 1),
+        b'!' => Piece::Token(Kind::Not, 1),
+        b'|' => Piece::Token(Kind::Bar, 1),
+        b'<' => Piece::Token(Kind::Less, 1),
+        b'>' => Piece::Token(Kind::Greater, 1),
+        b'+' => Piece::Token(Kind::Plus, 1),
+        b'-' => Piece::Token(Kind::Minus, 1),
+        b'*' => Piece::Token(Kind::Times, 1),
+        b'?' => Piece::Token(Kind::Question, 1),
+        _ => Piece::Stop(Kind::Unknown),
+    }
+}
+
+/// The symbol of two bytes that a table gives, or else the symbol of the first of them.
+fn two_byte_symbol(table: &[(u8, u8, Kind)], first: u8, second: u8) -> Piece
+    ensures { result ≡ spec.two_bytes_among table.now first second }
+{
+    for (a, b, kind) in table {
+        if first == *a && second == *b {
+            return Piece::Token(*kind, 2);
+        }
+    }
+    one_byte_symbol(first)
+}
+
+/// The longest symbol that a byte begins, with the byte behind it if there is one.
+#[tactic(auto, unfolding(crate::specs::Lexing::symbol))]
+fn symbol(first: u8, second: Option<u8>) -> Piece
+    ensures { result ≡ spec.symbol first second }
+{
+    match second {
+        None => one_byte_symbol(first),
+        Some(second) => two_byte_symbol(&PAIRS, first, second),
+    }
+}
+
+/// A number, by its digits.
+#[tactic(auto, unfolding(crate::specs::Lexing::number))]
+fn number(digits: &[u8]) -> Piece
+    requires { AllDigits 10 digits.now }
+    ensures { result ≡ spec.number digits.now }
+{
+    let mut value: u64 = 0;
+    for digit in digits {
+        let digit = u64::from(*digit - b'0');
+        if value > (LARGEST_NUMBER - digit) / 10 {
+            return Piece::Stop(Kind::LargeNumber);
+        }
+        value = value * 10 + digit;
+    }
+    Piece::Token(Kind::Number, digits.len())
+}
+
+/// Whether a comment that goes on with these bytes is a range line, if it begins its line.
+fn begins_range(bytes: &[u8]) -> bool
+    ensures { result ≡ spec.begins_range bytes.now }
+{
+    match bytes {
+        [b'r', b'a', b'n', b'g', b'e'] => true,
+        [b'r', b'a', b'n', b'g', b'e', next, ..] => *next == b' '
+            || *next == b'\t'
+            || *next == b'\n',
+        _ => false,
+    }
+}
+
+/// What stands at a place, at the front of the bytes from there on.
+#[tactic(auto, unfolding(crate::specs::Lexing::piece))]
+pub fn front_piece(place: Place, bytes: &[u8]) -> Piece
+    ensures { result ≡ spec.piece place bytes.now }
+{
+    if bytes.is_empty() {
+        return Piece::Stop(Kind::End);
+    }
+    let first = bytes[0];
+    let rest = &bytes[1..];
+    if is_blank(first) {
+        return Piece::Blank(1);
+    }
+    if first == b'%' {
+        if place.column == 1 && begins_range(rest) {
+            return Piece::Stop(Kind::RangeLine);
+        }
+        return Piece::Blank(1 + line_len(rest));
+    }
+    if is_letter(first) {
+        let len = 1 + name_len(rest);
+        return Piece::Token(word_kind(&bytes[..len]), len);
+    }
+    if first == b'0' {
+        return Piece::Token(Kind::Number, 1);
+    }
+    if first.is_ascii_digit() {
+        return number(&bytes[..1 + digits_len(rest)]);
+    }
+    symbol(first, rest.first().copied())
+}

@@ -1,0 +1,48 @@
+-- The line that tells of a fault or a refusal, with its line feed.
+use Rattle.std.specs.Prelude.{ℕ, List, ◌++◌, codes, decimal}
+use Rattle.pb_ast.specs.declared.place.Place.{Place}
+use Rattle.pb_text.specs.declared.error.Rule as text_rule
+use Rattle.pb_text.specs.declared.error.Rule.TheVariants.{UnknownByte, UnexpectedToken, LargeNumber, LimitExceeded, RangeLine}
+use Rattle.pb_text.specs.declared.error.TextError.{TextError}
+use Rattle.pb_text.specs.declared.error.TextError.TheVariants as text_error
+use Rattle.pb_typing.specs.declared.fault.Rule as type_rule
+use Rattle.pb_typing.specs.declared.fault.Rule.TheVariants.{UnknownName, NameTwice, OddNegations, Limit}
+use Rattle.pb_typing.specs.declared.fault.TypeError.{TypeError}
+use Rattle.pb_typing.specs.declared.fault.TypeError.TheVariants as type_error
+use Rattle.pb_report.specs.declared.fault.Fault.{Fault}
+use Rattle.pb_report.specs.declared.fault.Fault.TheVariants.{U01, U02, E01, E02, M01}
+
+-- a fault of the whole run: its number
+abbrev pub line_of : Fault → List ℕ
+line_of U01 = codes "U01\n"
+line_of U02 = codes "U02\n"
+line_of E01 = codes "E01\n"
+line_of E02 = codes "E02\n"
+line_of M01 = codes "M01\n"
+
+-- a rule, by its number, and where it is broken
+abbrev pub line_at : List ℕ → Place → List ℕ
+line_at rule place = rule ++ (codes " line " ++ (decimal place.line ++ (codes " column " ++ (decimal place.column ++ codes "\n"))))
+
+abbrev pub text_rule_number : text_rule.Rule → List ℕ
+text_rule_number UnknownByte = codes "P01"
+text_rule_number UnexpectedToken = codes "P02"
+text_rule_number LargeNumber = codes "P03"
+text_rule_number LimitExceeded = codes "P04"
+text_rule_number RangeLine = codes "P05"
+
+abbrev pub type_rule_number : type_rule.Rule → List ℕ
+type_rule_number UnknownName = codes "T01"
+type_rule_number NameTwice = codes "T02"
+type_rule_number OddNegations = codes "T06"
+type_rule_number Limit = codes "T12"
+
+-- why a text was not read
+abbrev pub text_line : TextError → List ℕ
+text_line (text_error.Refused rule place) = line_at (text_rule_number rule) place
+text_line text_error.Memory = line_of M01
+
+-- why a text that was read was refused
+abbrev pub type_line : TypeError → List ℕ
+type_line (type_error.At fault) = line_at (type_rule_number fault.rule) fault.place
+type_line type_error.Memory = line_of M01

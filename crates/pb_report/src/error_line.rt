@@ -1,0 +1,82 @@
+//! Errors that have a line of their own: which rule was broken, and where.
+ghost use Rattle.std.specs.Prelude.{◌≡◌, ℕ, List, IfOk, string_bytes};
+ghost use Rattle.pb_report.specs.Lines.{line_at, text_rule_number, type_rule_number};
+
+use crate::fault::Fault;
+use pb_ast::Place;
+use pb_text::TextError;
+use pb_typing::TypeError;
+use std::alloc::{AllocError, Global};
+
+/// An error that the program tells of by a line.
+pub trait ErrorLine {
+    // The line, with its line feed.
+    ghost line: { Self → List ℕ };
+
+    /// The line of this error, with its line feed: the rule's number and its place, as `P02 line 1 column 22`, or
+    /// `M01` where the error is want of memory. The one error of this call is want of memory for the line.
+    fn error_line(&self, alloc: Global) -> Result<String, AllocError>
+        ensures { IfOk result (λ s. string_bytes s ≡ line self.now) };
+}
+
+// The number of a rule and a place.
+fn placed_line(alloc: Global, rule: &str, place: Place) -> Result<String, AllocError>
+    ensures { IfOk result (λ s. string_bytes s ≡ line_at rule.now place) }
+{
+    let line = place.line;
+    let column = place.column;
+    format!(in alloc; "{rule} line {line} column {column}\n")
+}
+
+fn text_rule_number(rule: pb_text::Rule) -> &'static str
+    ensures { result.now ≡ text_rule_number rule }
+{
+    match rule {
+        pb_text::Rule::UnknownByte => "P01",
+        pb_text::Rule::UnexpectedToken => "P02",
+        pb_text::Rule::LargeNumber => "P03",
+        pb_text::Rule::LimitExceeded => "P04",
+        pb_text::Rule::RangeLine => "P05",
+    }
+}
+
+fn type_rule_number(rule: pb_typing::Rule) -> &'static str
+    ensures { result.now ≡ type_rule_number rule }
+{
+    match rule {
+        pb_typing::Rule::UnknownName => "T01",
+        pb_typing::Rule::NameTwice => "T02",
+        pb_typing::Rule::OddNegations => "T06",
+        pb_typing::Rule::Limit => "T12",
+    }
+}
+
+impl ErrorLine for TextError {
+    ghost use Rattle.pb_report.specs.Lines.{text_line};
+
+    ghost line = { text_line };
+
+    fn error_line(&self, alloc: Global) -> Result<String, AllocError> {
+        match self {
+            TextError::Refused { rule, place } => placed_line(
+                alloc,
+                text_rule_number(*rule),
+                *place,
+            ),
+            TextError::Memory => String::from_str(alloc, Fault::M01.line()),
+        }
+    }
+}
+
+impl ErrorLine for TypeError {
+    ghost use Rattle.pb_report.specs.Lines.{type_line};
+
+    ghost line = { type_line };
+
+    fn error_line(&self, alloc: Global) -> Result<String, AllocError> {
+        match self {
+            TypeError::At(fault) => placed_line(alloc, type_rule_number(fault.rule), fault.place),
+            TypeError::Memory => String::from_str(alloc, Fault::M01.line()),
+        }
+    }
+}

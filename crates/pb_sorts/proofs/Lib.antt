@@ -1,0 +1,11 @@
+pub mod Intervals
+pub mod Places
+pub mod TuplePlaces
+pub mod InstancePlaces
+pub mod Numbers
+pub mod Counts
+pub mod Reading
+pub mod Filling
+pub mod Equations
+pub mod Layouts
+pub mod Building

@@ -1,0 +1,8 @@
+pub mod Sink
+pub mod Out
+pub mod Source
+pub mod In
+pub mod Carrier
+pub mod Instance
+pub mod Layout
+pub mod LayoutError

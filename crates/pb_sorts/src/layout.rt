@@ -1,0 +1,284 @@
+//! The numbers of instances. All instances stand in one list: equations in order, the last parameter fastest; an
+//! instance's number is its place there.
+ghost use Rattle.std.specs.Prelude.{◌≡◌, ◌≤◌, ◌<◌, ◌↔◌, All, List, Err, IfOk, IfSome, IsSome, IsTrue, Some, length, vec_len};
+ghost use Rattle.std.specs.List.{slice_get};
+ghost use Rattle.pb_sorts.specs.declared.carrier.Carrier.{Carrier};
+ghost use Rattle.pb_sorts.specs.Instance.{first_of, size_of, instances, instance_of, is_instance, owns_number};
+ghost use Rattle.pb_sorts.specs.Layout.{IsNumbered, IsWithinLimits, carriers_of, count_of, lists_of};
+
+use crate::carrier::Carrier;
+use crate::instance::Instance;
+use crate::limits::{MAX_EQUATIONS, MAX_INSTANCES, MAX_PARAMETERS};
+use crate::tuple::{count_tuples, place_of_tuple, tuple_at};
+use std::alloc::{AllocError, AllocFailed, Global};
+use std::fmt;
+use std::marker::Model;
+
+/// Why there is no layout.
+#[derive(Clone, Copy, Debug, PartialEq, Eq)]
+pub enum LayoutError {
+    /// `L02`: the carriers have more than `MAX_INSTANCES` instances.
+    TooManyInstances,
+    /// `M01`: memory was refused.
+    OutOfMemory,
+}
+
+impl fmt::Display for LayoutError {
+    ghost use Rattle.std.specs.Prelude.{Some};
+    ghost use Rattle.pb_sorts.specs.LayoutError.{code_of};
+
+    ghost output = { λ error. Some (code_of error) };
+
+    fn fmt<W: fmt::Write>(&self, f: &mut fmt::Formatter<W>) -> fmt::Result {
+        match self {
+            LayoutError::TooManyInstances => f.write_str("L02"),
+            LayoutError::OutOfMemory => f.write_str("M01"),
+        }
+    }
+}
+
+impl std::error::Error for LayoutError {}
+
+impl From<AllocError> for LayoutError {
+    ghost use Rattle.pb_sorts.specs.declared.layout.LayoutError.TheVariants.{OutOfMemory};
+
+    ghost from_gives = { λ _ error. error ≡ OutOfMemory };
+
+    fn from(_: AllocError) -> LayoutError {
+        LayoutError::OutOfMemory
+    }
+}
+
+impl<T: Drop> From<AllocFailed<T>> for LayoutError {
+    ghost use Rattle.pb_sorts.specs.declared.layout.LayoutError.TheVariants.{OutOfMemory};
+
+    ghost from_gives = { λ _ error. error ≡ OutOfMemory };
+
+    fn from(_: AllocFailed<T>) -> LayoutError {
+        LayoutError::OutOfMemory
+    }
+}
+
+/// The numbers of the instances of a sequence of equations. Contracts see, for each equation, the carriers of its
+/// parameters.
+#[derive(Drop)]
+pub struct Layout {
+    /// The carriers of each equation's parameters.
+    carriers: Vec<Vec<Carrier>>,
+    /// The first number of each equation, and behind these the count of all instances.
+    firsts: Vec<u32>,
+}
+
+impl Model for Layout {
+    ghost Value = { List (List Carrier) };
+
+    ghost view = { λ layout. lists_of layout.carriers.items };
+
+    ghost invariant = { λ layout. IsNumbered (lists_of layout.carriers.items) layout.firsts.items × IsWithinLimits (lists_of layout.carriers.items) };
+}
+
+/// How many instances equations have; none where these are more than a layout may have.
+fn count_instances(equations: &[Vec<Carrier>]) -> Option<u32>
+    ensures fits { IsSome result ↔ (count_of (lists_of equations.now) ≤ MAX_INSTANCES) }
+    ensures count { IfSome result (λ count. count ≡ count_of (lists_of equations.now)) }
+{
+    let mut count = 0;
+    for parameters in equations {
+        count += count_tuples(parameters)?;
+        if count > MAX_INSTANCES {
+            return None;
+        }
+    }
+    Some(count)
+}
+
+impl Layout {
+    /// The layout of equations with these parameters.
+    ///
+    /// # Errors
+    /// `TooManyInstances` exactly where there are more than `MAX_INSTANCES`, and `OutOfMemory` where memory is refused.
+    pub fn new(alloc: Global, equations: &[Vec<Carrier>]) -> Result<Layout, LayoutError>
+        requires equations { length equations.now ≤ MAX_EQUATIONS }
+        requires parameters { All (λ parameters. vec_len parameters ≤ MAX_PARAMETERS) equations.now }
+        ensures ok { IfOk result (λ layout. layout ≡ lists_of equations.now) }
+        ensures too_many { (result ≡ Err LayoutError.TooManyInstances) ↔ (MAX_INSTANCES < count_of (lists_of equations.now)) }
+    {
+        if count_instances(equations).is_none() {
+            return Err(LayoutError::TooManyInstances);
+        }
+        let mut carriers = Vec::with_capacity(alloc, equations.len())?;
+        let mut firsts = Vec::with_capacity(alloc, equations.len() + 1)?;
+        let mut first = 0;
+        for parameters in equations {
+            firsts.push(first)?;
+            carriers.push(Vec::from_slice(alloc, parameters)?)?;
+            first += count_tuples(parameters).unwrap();
+        }
+        firsts.push(first)?;
+        Ok(Layout { carriers, firsts })
+    }
+
+    /// How many equations there are.
+    pub fn equation_count(&self) -> usize
+        ensures count { result ≡ length self.now }
+        ensures few { result ≤ MAX_EQUATIONS }
+    {
+        self.carriers.len()
+    }
+
+    /// The carriers of an equation's parameters, in order.
+    pub fn carriers(&self, equation: usize) -> &[Carrier]
+        requires { equation < length self.now }
+        ensures list { slice_get self.now equation ≡ Some result.now }
+        ensures few { length result.now ≤ MAX_PARAMETERS }
+    {
+        &self.carriers[equation]
+    }
+
+    /// The number of an equation's first instance.
+    pub fn first(&self, equation: usize) -> u32
+        requires { equation < length self.now }
+        ensures { result ≡ first_of (carriers_of self.now) equation }
+    {
+        self.firsts[equation]
+    }
+
+    /// How many instances an equation has.
+    pub fn size(&self, equation: usize) -> u32
+        requires { equation < length self.now }
+        ensures { result ≡ size_of (carriers_of self.now) equation }
+    {
+        self.firsts[equation + 1] - self.first(equation)
+    }
+
+    /// How many instances there are: the numbers are those below.
+    pub fn count(&self) -> u32
+        ensures count { result ≡ count_of self.now }
+        ensures few { result ≤ MAX_INSTANCES }
+    {
+        self.firsts[self.equation_count()]
+    }
+
+    /// The equation of the instance with this number.
+    pub fn equation_of(&self, number: u32) -> usize
+        requires { number < count_of self.now }
+        ensures known { result < length self.now }
+        ensures owner { IsTrue (owns_number (carriers_of self.now) result number) }
+    {
+        self.firsts.partition_point(|first| *first <= number) - 1
+    }
+
+    /// An instance's number. None where there is no such instance: its equation is unknown, or its values are not one
+    /// of each of the equation's carriers.
+    pub fn number(&self, instance: &Instance) -> Option<u32>
+        ensures exists { IsSome result ↔ IsTrue (is_instance (carriers_of self.now) (instance_of instance.now)) }
+        ensures place { IfSome result (λ number. slice_get (instances (carriers_of self.now)) number ≡ Some (instance_of instance.now)) }
+    {
+        let equation = instance.equation as usize;
+        let carriers = self.carriers.get(equation)?;
+        let place = place_of_tuple(carriers, &instance.values)?;
+        Some(self.first(equation) + place)
+    }
+
+    /// The instance with this number.
+    pub fn instance(&self, number: u32) -> Instance
+        requires { number < count_of self.now }
+        ensures { slice_get (instances (carriers_of self.now)) number ≡ Some (instance_of result) }
+    {
+        let equation = self.equation_of(number);
+        let place = number - self.first(equation);
+        let carriers = self.carriers(equation);
+        let alloc = *self.firsts.allocator();
+        Instance {
+            equation: equation as u8,
+            values: tuple_at(alloc, carriers, self.size(equation), place),
+        }
+    }
+}
+
+#[cfg(test)]
+mod tests {
+    use super::*;
+    use crate::carrier::Enumeration;
+    use crate::instance::Tuple;
+    use std::test::Fail;
+
+    fn enumeration(count: u8) -> Carrier
+        requires { 0 < count }
+    {
+        Carrier::Enum(Enumeration { sort: 0, count })
+    }
+
+    fn instance(alloc: Global, equation: u8, values: &[i64]) -> Result<Instance, AllocError> {
+        Ok(Instance {
+            equation,
+            values: Tuple::from_slice(alloc, values)?,
+        })
+    }
+
+    #[test]
+    fn two_equations_over_one_enumeration(rt: HostRuntime) -> Result<(), Fail> {
+        let alloc = rt.alloc();
+        let equations = [
+            vec![in alloc; enumeration(2)]?,
+            vec![in alloc; enumeration(2)]?,
+        ];
+        let layout = Layout::new(alloc, &equations)?;
+        assert_eq!(rt; layout.count(), 4);
+        assert_eq!(rt; layout.equation_count(), 2);
+        assert_eq!(rt; layout.number(&instance(alloc, 0, &[0])?), Some(0));
+        assert_eq!(rt; layout.number(&instance(alloc, 0, &[1])?), Some(1));
+        assert_eq!(rt; layout.number(&instance(alloc, 1, &[0])?), Some(2));
+        assert_eq!(rt; layout.number(&instance(alloc, 1, &[1])?), Some(3));
+        assert_eq!(rt; layout.number(&instance(alloc, 2, &[0])?), None);
+        Ok(())
+    }
+
+    #[test]
+    fn the_last_parameter_runs_fastest(rt: HostRuntime) -> Result<(), Fail> {
+        let alloc = rt.alloc();
+        let equations = [vec![in alloc; enumeration(3), Carrier::Bool]?];
+        let layout = Layout::new(alloc, &equations)?;
+        assert_eq!(rt; layout.number(&instance(alloc, 0, &[1, 0])?), Some(2));
+        assert_eq!(rt; layout.number(&instance(alloc, 0, &[2, 1])?), Some(5));
+        assert_eq!(rt; layout.number(&instance(alloc, 0, &[3, 0])?), None);
+        assert_eq!(rt; layout.number(&instance(alloc, 0, &[1])?), None);
+        assert_eq!(rt; layout.equation_count(), 1);
+        assert_eq!(rt; layout.first(0), 0);
+        assert_eq!(rt; layout.size(0), 6);
+        assert_eq!(rt; layout.carriers(0).len(), 2);
+        assert_eq!(rt; layout.count(), 6);
+        assert_eq!(rt; layout.equation_of(5), 0);
+        let last = layout.instance(5);
+        assert_eq!(rt; last.equation, 0);
+        assert_eq!(rt; last.values.as_slice(), [2, 1].as_slice());
+        Ok(())
+    }
+
+    #[test]
+    fn instances_are_limited(rt: HostRuntime) -> Result<(), Fail> {
+        let alloc = rt.alloc();
+        let wide = Carrier::range(0, 1023)?;
+        let cube = [vec![in alloc; wide, wide, wide]?];
+        assert_eq!(rt;
+            Layout::new(alloc, &cube).err(),
+            Some(LayoutError::TooManyInstances)
+        );
+        let most = [vec![in alloc; Carrier::range(0, 4_194_303)?]?];
+        let layout = Layout::new(alloc, &most)?;
+        assert_eq!(rt; layout.count(), 4_194_304);
+        let more = [vec![in alloc; Carrier::range(0, 4_194_304)?]?];
+        assert_eq!(rt;
+            Layout::new(alloc, &more).err(),
+            Some(LayoutError::TooManyInstances)
+        );
+        Ok(())
+    }
+
+    #[test]
+    fn no_equation_has_no_instance(rt: HostRuntime) -> Result<(), Fail> {
+        let layout = Layout::new(rt.alloc(), &[])?;
+        assert_eq!(rt; layout.count(), 0);
+        Ok(())
+    }
+}

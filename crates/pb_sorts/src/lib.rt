@@ -1,0 +1,19 @@
+//! What all parts of the program share: carriers of data, instances and their numbers, and where bytes go and come from.
+#![tactic(auto)]
+
+pub mod carrier;
+pub mod instance;
+pub mod laws;
+pub mod layout;
+mod limits;
+pub mod sink;
+pub mod source;
+mod tuple;
+
+pub use carrier::{Carrier, Enumeration, L01, Range};
+pub use instance::{Instance, Tuple};
+pub use layout::{Layout, LayoutError};
+pub use limits::{MAX_EQUATIONS, MAX_INSTANCES, MAX_PARAMETERS};
+pub use sink::{E02, Out, Sink, put};
+pub use source::{E01, In, Source};
+pub use tuple::count_tuples;

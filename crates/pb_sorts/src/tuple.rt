@@ -1,0 +1,73 @@
+//! The place of a tuple among all tuples of its carriers, the last value running fastest, and back.
+ghost use Rattle.std.specs.Prelude.{◌≡◌, ◌≤◌, ◌<◌, ◌↔◌, length, map, Some, IsSome, IfSome, IsTrue};
+ghost use Rattle.std.specs.List.{slice_get};
+ghost use Rattle.pb_carriers.specs.Carrier.{is_within, tuples, tuple_count};
+ghost use Rattle.pb_sorts.specs.Carrier.{values_of};
+
+use crate::carrier::Carrier;
+use crate::instance::Tuple;
+use crate::limits::{MAX_INSTANCES, MAX_PARAMETERS};
+use std::alloc::Global;
+
+/// How many tuples carriers have; none where these are more than a layout may have.
+pub fn count_tuples(carriers: &[Carrier]) -> Option<u32>
+    ensures fits { IsSome result ↔ (tuple_count (map values_of carriers.now) ≤ MAX_INSTANCES) }
+    ensures count { IfSome result (λ count. count ≡ tuple_count (map values_of carriers.now)) }
+{
+    let mut count: u64 = 1;
+    for carrier in carriers {
+        count *= carrier.size();
+        if count > MAX_INSTANCES as u64 {
+            return None;
+        }
+    }
+    Some(count as u32)
+}
+
+/// The place of `values` among the tuples of `carriers`; none where they are no such tuple.
+pub(crate) fn place_of_tuple(carriers: &[Carrier], values: &[i64]) -> Option<u32>
+    requires { tuple_count (map values_of carriers.now) ≤ MAX_INSTANCES }
+    ensures exists { IsSome result ↔ IsTrue (is_within (map values_of carriers.now) values.now) }
+    ensures place { IfSome result (λ place. slice_get (tuples (map values_of carriers.now)) place ≡ Some values.now) }
+{
+    if carriers.len() != values.len() {
+        return None;
+    }
+    let mut place: u64 = 0;
+    for (carrier, value) in carriers.iter().zip(values) {
+        place = place * carrier.size() + carrier.place(*value)?;
+    }
+    Some(place as u32)
+}
+
+/// The tuple at a place among the `count` tuples of `carriers`.
+pub(crate) fn tuple_at(alloc: Global, carriers: &[Carrier], count: u32, place: u32) -> Tuple
+    requires few { length carriers.now ≤ MAX_PARAMETERS }
+    requires count { count ≡ tuple_count (map values_of carriers.now) }
+    requires below { place < count }
+    ensures { slice_get (tuples (map values_of carriers.now)) place ≡ Some result.items }
+{
+    let mut values = Tuple::new(alloc);
+    let mut weight = count as u64;
+    let mut rest = place as u64;
+    for carrier in carriers {
+        weight /= carrier.size();
+        values.push_reserved(carrier.value(rest / weight));
+        rest %= weight;
+    }
+    values
+}
+
+#[cfg(test)]
+mod tests {
+    use super::*;
+
+    #[test]
+    fn tuples_are_counted(rt: HostRuntime) {
+        assert_eq!(rt; count_tuples(&[]), Some(1));
+        assert_eq!(rt;
+            count_tuples(&[Carrier::Bool, Carrier::Bool, Carrier::Bool]),
+            Some(8)
+        );
+    }
+}

@@ -1,0 +1,122 @@
+//! Texts with the answer or the refusal that they have, worked out by hand.
+use super::{ROOM, run_on};
+use pb_sorts::In;
+use std::alloc::{AllocError, Global};
+use std::test::Fail;
+
+const SOLVE: [&str; 2] = ["pbsolve", "solve"];
+
+#[test]
+fn answers(rt: HostRuntime) -> Result<(), Fail> {
+    for (text, truth) in [
+        ("pbes nu X = X; init X;", "true"),
+        ("pbes mu X = X; init X;", "false"),
+        ("pbes mu X = Y; nu Y = X; init X;", "false"),
+        ("pbes nu Y = X; mu X = Y; init X;", "true"),
+        ("pbes mu X = !(!X); init X;", "false"),
+        ("pbes nu X = (X && Y) || Y; mu Y = Y; init X;", "false"),
+        ("pbes nu X = (X => false) => X; init X;", "true"),
+    ] {
+        let outcome = run_on(rt.alloc(), &SOLVE, &mut In::new(text.as_bytes()), ROOM);
+        assert_eq!(rt; outcome.status, 0, "{text}");
+        let wanted = format!(in rt.alloc(); "answer {truth}\n")?;
+        assert_eq!(rt; outcome.out.bytes(), wanted.as_str().as_bytes(), "{text}");
+        assert_eq!(rt; outcome.err.bytes(), b"".as_slice(), "{text}");
+    }
+    Ok(())
+}
+
+#[test]
+fn refuses_texts(rt: HostRuntime) -> Result<(), Fail> {
+    for (text, line) in [
+        ("", "P02 line 1 column 1\n"),
+        ("pbes nu X = X; init X", "P02 line 1 column 22\n"),
+        ("pbes nu X = X; init X; #", "P01 line 1 column 24\n"),
+        (
+            "pbes nu X = !forall b: Bool . X; init X;",
+            "P02 line 1 column 14\n",
+        ),
+        ("pbes mu X = !X; init X;", "T06 line 1 column 14\n"),
+        ("pbes nu X = X => true; init X;", "T06 line 1 column 13\n"),
+        ("pbes nu X = X; nu X = X; init X;", "T02 line 1 column 19\n"),
+        ("pbes nu X = Z; init X;", "T01 line 1 column 13\n"),
+    ] {
+        let outcome = run_on(rt.alloc(), &SOLVE, &mut In::new(text.as_bytes()), ROOM);
+        assert_eq!(rt; outcome.status, 1, "{text}");
+        assert_eq!(rt; outcome.out.bytes(), b"".as_slice(), "{text}");
+        assert_eq!(rt; outcome.err.bytes(), line.as_bytes(), "{text}");
+    }
+    Ok(())
+}
+
+// `pbes nu X = X; init X;` with so many brackets round its right side.
+fn bracketed(alloc: Global, depth: usize) -> Result<String, AllocError> {
+    let mut text = String::from_str(alloc, "pbes nu X = ")?;
+    for _ in 0..depth {
+        text.push('(')?;
+    }
+    text.push('X')?;
+    for _ in 0..depth {
+        text.push(')')?;
+    }
+    text.push_str("; init X;")?;
+    Ok(text)
+}
+
+#[test]
+fn nests_to_the_limit(rt: HostRuntime) -> Result<(), Fail> {
+    let deepest = bracketed(rt.alloc(), 64)?;
+    let outcome = run_on(
+        rt.alloc(),
+        &SOLVE,
+        &mut In::new(deepest.as_str().as_bytes()),
+        ROOM,
+    );
+    assert_eq!(rt; outcome.status, 0);
+    assert_eq!(rt; outcome.out.bytes(), b"answer true\n".as_slice());
+
+    let too_deep = bracketed(rt.alloc(), 65)?;
+    let outcome = run_on(
+        rt.alloc(),
+        &SOLVE,
+        &mut In::new(too_deep.as_str().as_bytes()),
+        ROOM,
+    );
+    assert_eq!(rt; outcome.status, 1);
+    assert_eq!(rt; outcome.out.bytes(), b"".as_slice());
+    assert_eq!(rt; outcome.err.bytes(), b"P04 line 1 column 77\n".as_slice());
+    Ok(())
+}
+
+// So many equations, each of them `nu`, the first of the name and the others of a letter and a number.
+fn many(alloc: Global, first: &str, equations: usize) -> Result<String, AllocError> {
+    let mut text = format!(in alloc; "pbes nu {first} = true;")?;
+    for index in 1..equations {
+        text.push_str(format!(in alloc; " nu Y{index} = true;")?.as_str())?;
+    }
+    text.push_str(format!(in alloc; " init {first};")?.as_str())?;
+    Ok(text)
+}
+
+#[test]
+fn declares_to_the_limit(rt: HostRuntime) -> Result<(), Fail> {
+    let longest = "Xaaaaaaaaaaaaaaaaaaaaaaaaaaaaaaaaaaaaaaaaaaaaaaaaaaaaaaaaaaaaaaa";
+    let too_long = format!(in rt.alloc(); "{longest}a")?;
+    for (first, equations, status, out, err) in [
+        (longest, 64, 0, "answer true\n", ""),
+        (too_long.as_str(), 1, 1, "", "T12 line 1 column 9\n"),
+        ("X", 65, 1, "", "T12 line 1 column 958\n"),
+    ] {
+        let text = many(rt.alloc(), first, equations)?;
+        let outcome = run_on(
+            rt.alloc(),
+            &SOLVE,
+            &mut In::new(text.as_str().as_bytes()),
+            ROOM,
+        );
+        assert_eq!(rt; outcome.status, status, "{first}");
+        assert_eq!(rt; outcome.out.bytes(), out.as_bytes(), "{first}");
+        assert_eq!(rt; outcome.err.bytes(), err.as_bytes(), "{first}");
+    }
+    Ok(())
+}

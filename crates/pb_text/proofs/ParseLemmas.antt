@@ -1,0 +1,95 @@
+-- From tokens to bytes.
+use Rattle.std.proofs.Common.{◌≡◌, ℕ, true, false, List, refl, sym, ◌∙◌, ap, subst, arith, Result, Ok, Err}
+use Rattle.pb_ast.specs.declared.place.Place.{Place}
+use Rattle.pb_ast.specs.declared.spec.Spec.{Spec}
+use Rattle.pb_ast.specs.Form.{Text, text}
+use Rattle.pb_lexer.specs.declared.fault.Rule.{Rule}
+use Rattle.pb_lexer.specs.declared.fault.Rule.TheVariants.{Unexpected, Limit}
+use Rattle.pb_lexer.specs.declared.fault.Refusal.{Refusal}
+use Rattle.pb_lexer.specs.declared.fault.Fault.{Fault}
+use Rattle.pb_lexer.specs.declared.fault.Fault.TheVariants.{Memory, At}
+use Rattle.pb_lexer.specs.declared.kind.Kind.{Kind}
+use Rattle.pb_lexer.specs.declared.kind.Kind.TheVariants.{Unknown, LargeNumber, RangeLine}
+use Rattle.pb_lexer.specs.Kinds.{is_defect}
+use Rattle.pb_lexer.specs.Lexing.{start, IsDefect}
+use Rattle.pb_lexer.specs.Remaining.{tokens_from}
+use Rattle.pb_lexer.specs.Grammar.{State, Within}
+use Rattle.pb_lexer.specs.Steps.{Outcome, Gives}
+use Rattle.pb_lexer.specs.Tokens.{Tok}
+use Rattle.pb_lexer.proofs.Correct.{st}
+use Rattle.pb_lexer.proofs.CutLemmas.{same-cut, stands, whole-cut}
+use Rattle.pb_lexer.proofs.RemainingLemmas.{tokens-end}
+use Rattle.pb_text.specs.Grammar.{IsText}
+use Rattle.pb_text.specs.Parsing.{IsReading, IsReadingWithin, IsRefusal, IsBroken, StandsBy, rule_of, NoReading, Stands, error_of}
+use Rattle.pb_text.specs.Reading.{whole}
+use Rattle.pb_text.proofs.CorrectSystem.{IsFault, IsRead, Reading, whole-reads}
+
+abbrev pub all_tokens : List ℕ → List Tok
+all_tokens bytes = tokens_from bytes 0 start
+
+pub is-reading : (bytes : List ℕ) (x : Text) → IsRead 64 8192 (all_tokens bytes) x → IsReading bytes x
+is-reading bytes x r = record { tokens = all_tokens bytes; cut = whole-cut bytes r.front r.end r.cut r.end_is; says = r.reads }
+
+pub only-reading : (bytes : List ℕ) (x : Text) → IsRead 64 8192 (all_tokens bytes) x → (d n : ℕ) (y : Text) → IsReadingWithin d n bytes y → y ≡ x
+only-reading bytes x r d n y h = r.only d n y (subst (λ (v : List Tok). IsText d n v y) (same-cut bytes h.tokens h.cut) h.says)
+
+within-self : (rule : Rule) → Within rule 64 8192 64 8192
+within-self Unexpected = tt
+within-self Limit = (omega arith, omega arith)
+
+pub no-reading : (bytes : List ℕ) (bad : Refusal) → IsFault 64 8192 (all_tokens bytes) bad → (y : Text) → IsReading bytes y → ⊥
+no-reading bytes bad f y h =
+    f.none 64 8192 f.more y (within-self bad.rule) (subst (λ (v : List Tok). IsText 64 8192 v y) (same-cut bytes h.tokens h.cut ∙ f.cut) h.says)
+
+-- a refused token is no token, or it is refused by the grammar
+by-kind : (bytes : List ℕ) (rule : Rule) (kind : Kind) (place : Place) → (is_defect kind ≡ true → IsBroken bytes kind place) → (is_defect kind ≡ false → IsRefusal bytes rule place)
+    → StandsBy (rule_of rule kind) bytes place
+by-kind bytes rule Unknown place broken refused = broken refl
+by-kind bytes rule LargeNumber place broken refused = broken refl
+by-kind bytes rule RangeLine place broken refused = broken refl
+by-kind bytes Unexpected _ place broken refused = refused refl
+by-kind bytes Limit _ place broken refused = refused refl
+
+pub stands-by : (bytes : List ℕ) (bad : Refusal) → IsFault 64 8192 (all_tokens bytes) bad → StandsBy (rule_of bad.rule bad.kind) bytes bad.place
+stands-by bytes bad f =
+    let s = stands bytes f.front f.more f.next f.cut in
+    by-kind bytes bad.rule bad.kind bad.place
+    (λ h. record {
+      front = f.front;
+      defect = subst (λ (v : Place). IsDefect bytes f.front v bad.kind) (sym f.place)
+          (subst (λ (v : Kind). IsDefect bytes f.front f.next.place v) (sym f.kind) (s.defect (ap is_defect (sym f.kind) ∙ h)));
+    })
+    (λ h. record {
+      front = f.front;
+      next = f.next;
+      begins = s.sound (ap is_defect (sym f.kind) ∙ h);
+      stands = sym f.place;
+      limited = f.limited;
+      none = f.none;
+    })
+
+-- ---- what reading the tokens of a text answers
+
+abbrev pub Answered : List ℕ → Result Spec Fault → Type 0
+Answered bytes (Ok s) = IsRead 64 8192 (all_tokens bytes) (text s)
+Answered bytes (Err Memory) = Unit {0}
+Answered bytes (Err (At bad)) = IsFault 64 8192 (all_tokens bytes) bad
+
+answered-by : (bytes : List ℕ) (o : Outcome Text) (result : Result Spec Fault) (z : State) → Gives text o result z → Reading 64 (st (all_tokens bytes) 8192) o → Answered bytes result
+answered-by bytes o (Ok s) z is h = subst (λ (v : Outcome Text). Reading 64 (st (all_tokens bytes) 8192) v) is h
+answered-by bytes o (Err Memory) z is h = tt
+answered-by bytes o (Err (At bad)) z is h = subst (λ (v : Outcome Text). Reading 64 (st (all_tokens bytes) 8192) v) is h
+
+pub answered : (bytes : List ℕ) (s : State) (result : Result Spec Fault) (z : State) → s ≡ st (all_tokens bytes) 8192 → Gives text (whole 64 s) result z → Answered bytes result
+answered bytes s result z is h =
+    answered-by bytes (whole 64 (st (all_tokens bytes) 8192)) result z
+    (subst (λ (v : State). Gives text (whole 64 v) result z) is h)
+    (whole-reads 64 (st (all_tokens bytes) 8192) (tokens-end start bytes))
+
+pub refused-is : (bytes : List ℕ) (fault : Fault) → Answered bytes (Err fault) → NoReading bytes (error_of fault)
+refused-is bytes Memory h = tt
+refused-is bytes (At bad) h = no-reading bytes bad h
+
+pub stands-is : (bytes : List ℕ) (fault : Fault) → Answered bytes (Err fault) → Stands bytes (error_of fault)
+stands-is bytes Memory h = tt
+stands-is bytes (At bad) h = stands-by bytes bad h

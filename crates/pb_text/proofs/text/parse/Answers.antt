@@ -1,0 +1,23 @@
+use Rattle.std.proofs.Common.{Ok, Err}
+use Rattle.std.proofs.lemmas.Result.{err_from_is_err_and}
+use Rattle.pb_ast.specs.Form.{text}
+use Rattle.pb_text.proofs.ParseLemmas.{answered, is-reading, only-reading, refused-is, stands-is}
+use Rattle.pb_text.proofs.text.parse.Goals as goal
+
+pub returns-in_err-whole-clause-refused : goal.returns-in_err-whole-clause-refused
+returns-in_err-whole-clause-refused c =
+    let p = err_from_is_err_and c.from_residual.result c.from_residual.ensures.1 in
+    rw (p.1, p.2) (refused-is c.args.bytes.now c.in_err-whole.field-0.0 (answered c.args.bytes.now c.new-input.result (Err c.in_err-whole.field-0.0) c.whole.new.input c.new-input.ensures c.in_err-whole.ensures))
+
+pub returns-in_err-whole-clause-stands : goal.returns-in_err-whole-clause-stands
+returns-in_err-whole-clause-stands c =
+    let p = err_from_is_err_and c.from_residual.result c.from_residual.ensures.1 in
+    rw (p.1, p.2) (stands-is c.args.bytes.now c.in_err-whole.field-0.0 (answered c.args.bytes.now c.new-input.result (Err c.in_err-whole.field-0.0) c.whole.new.input c.new-input.ensures c.in_err-whole.ensures))
+
+pub returns-clause-reading : goal.returns-clause-reading
+returns-clause-reading c =
+    is-reading c.args.bytes.now (text c.in_ok-whole.field-0) (answered c.args.bytes.now c.new-input.result (Ok c.in_ok-whole.field-0) c.whole.new.input c.new-input.ensures c.in_ok-whole.ensures)
+
+pub returns-clause-only : goal.returns-clause-only
+returns-clause-only c =
+    only-reading c.args.bytes.now (text c.in_ok-whole.field-0) (answered c.args.bytes.now c.new-input.result (Ok c.in_ok-whole.field-0) c.whole.new.input c.new-input.ensures c.in_ok-whole.ensures)

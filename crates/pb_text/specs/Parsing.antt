@@ -1,0 +1,79 @@
+-- What a text says, and where the fault of one stands that says nothing.
+use Rattle.std.specs.Prelude.{◌≡◌, ℕ, true, List, [], ◌∷◌, ◌++◌}
+use Rattle.pb_ast.specs.declared.place.Place.{Place}
+use Rattle.pb_ast.specs.Form.{Text}
+use Rattle.pb_lexer.specs.declared.fault.Rule.TheVariants as refused
+use Rattle.pb_lexer.specs.declared.fault.Rule as token_rule
+use Rattle.pb_lexer.specs.declared.fault.Fault.{Fault}
+use Rattle.pb_lexer.specs.declared.fault.Fault.TheVariants as fault
+use Rattle.pb_lexer.specs.declared.kind.Kind.{Kind}
+use Rattle.pb_lexer.specs.declared.kind.Kind.TheVariants as k
+use Rattle.pb_lexer.specs.Grammar.{Within}
+use Rattle.pb_lexer.specs.Kinds.{is_limited}
+use Rattle.pb_lexer.specs.Lexing.{IsCut, IsDefect, Begins}
+use Rattle.pb_lexer.specs.Tokens.{Tok}
+use Rattle.pb_text.specs.declared.error.Rule.{Rule}
+use Rattle.pb_text.specs.declared.error.Rule.TheVariants as rule
+use Rattle.pb_text.specs.declared.error.TextError.{TextError}
+use Rattle.pb_text.specs.declared.error.TextError.TheVariants as error
+use Rattle.pb_text.specs.Grammar.{IsText}
+
+-- how many levels of brackets and negations may open, and how many operators with two operands an equation may have
+abbrev pub depth_limit : ℕ
+depth_limit = 64
+
+abbrev pub operator_limit : ℕ
+operator_limit = 8192
+
+-- The bytes are this text: so many levels may open, and each equation may have so many operators.
+pub record IsReadingWithin (depth operators : ℕ) (bytes : List ℕ) (x : Text) : Type 0 where
+  pub tokens : List Tok
+  pub cut : IsCut bytes tokens
+  pub says : IsText depth operators tokens x
+
+-- the bytes are this text, within the limits
+abbrev pub IsReading : List ℕ → Text → Type 0
+IsReading bytes x = IsReadingWithin depth_limit operator_limit bytes x
+
+-- The bytes begin with tokens, the last of which stands at this place: no text begins so, within the limits that the rule speaks of.
+-- Where the rule is a limit, that token is one at which a limit can be exceeded.
+pub record IsRefusal (bytes : List ℕ) (broken : token_rule.Rule) (place : Place) : Type 0 where
+  pub front : List Tok
+  pub next : Tok
+  pub begins : Begins bytes (front ++ next ∷ [])
+  pub stands : next.place ≡ place
+  pub limited : broken ≡ refused.Limit → is_limited next.kind ≡ true
+  pub none : (d n : ℕ) (tail : List Tok) (x : Text) → Within broken depth_limit operator_limit d n → IsText d n (front ++ next ∷ tail) x → ⊥
+
+-- the bytes are cut into tokens up to this place, where no token stands, nor the end
+pub record IsBroken (bytes : List ℕ) (kind : Kind) (place : Place) : Type 0 where
+  pub front : List Tok
+  pub defect : IsDefect bytes front place kind
+
+-- what a refusal says of the bytes
+abbrev pub StandsBy : Rule → List ℕ → Place → Type 0
+StandsBy rule.UnknownByte bytes place = IsBroken bytes k.Unknown place
+StandsBy rule.UnexpectedToken bytes place = IsRefusal bytes refused.Unexpected place
+StandsBy rule.LargeNumber bytes place = IsBroken bytes k.LargeNumber place
+StandsBy rule.LimitExceeded bytes place = IsRefusal bytes refused.Limit place
+StandsBy rule.RangeLine bytes place = IsBroken bytes k.RangeLine place
+
+-- the rule that a refused token breaks: its own, where it is no token
+abbrev pub rule_of : token_rule.Rule → Kind → Rule
+rule_of broken k.Unknown = rule.UnknownByte
+rule_of broken k.LargeNumber = rule.LargeNumber
+rule_of broken k.RangeLine = rule.RangeLine
+rule_of refused.Unexpected kind = rule.UnexpectedToken
+rule_of refused.Limit kind = rule.LimitExceeded
+
+abbrev pub error_of : Fault → TextError
+error_of fault.Memory = error.Memory
+error_of (fault.At refusal) = error.Refused (rule_of refusal.rule refusal.kind) refusal.place
+
+abbrev pub Stands : List ℕ → TextError → Type 0
+Stands bytes error.Memory = Unit {0}
+Stands bytes (error.Refused rule place) = StandsBy rule bytes place
+
+abbrev pub NoReading : List ℕ → TextError → Type 0
+NoReading bytes error.Memory = Unit {0}
+NoReading bytes (error.Refused rule place) = (x : Text) → IsReading bytes x → ⊥

@@ -1,0 +1,60 @@
+//! Why a text is refused.
+
+ghost use Rattle.std.specs.Prelude.{◌≡◌};
+ghost use Rattle.pb_text.specs.Parsing as spec;
+
+use pb_ast::Place;
+use pb_lexer::fault::{Fault, Rule as Broken};
+use pb_lexer::kind::Kind;
+
+/// Which rule a text breaks, with the number that a user sees.
+#[derive(Clone, Copy, Debug, PartialEq, Eq)]
+pub enum Rule {
+    /// P01: a byte that begins no token.
+    UnknownByte,
+    /// P02: a token with which no text goes on. The end of the text counts as a token.
+    UnexpectedToken,
+    /// P03: a number above 2^62.
+    LargeNumber,
+    /// P04: a token that opens more than 64 levels, or more than 8,192 operators with two operands in an equation.
+    LimitExceeded,
+    /// P05: a range line.
+    RangeLine,
+}
+
+/// Why no text was read: it breaks a rule at a place, or memory ran out.
+#[derive(Clone, Copy, Debug)]
+pub enum TextError {
+    Memory,
+    Refused { rule: Rule, place: Place },
+}
+
+/// The rule that a refused token breaks: its own, where it is no token.
+fn rule_of(broken: Broken, kind: Kind) -> Rule
+    ensures { result ≡ spec.rule_of broken kind }
+{
+    match (kind, broken) {
+        (Kind::Unknown, _) => Rule::UnknownByte,
+        (Kind::LargeNumber, _) => Rule::LargeNumber,
+        (Kind::RangeLine, _) => Rule::RangeLine,
+        (_, Broken::Unexpected) => Rule::UnexpectedToken,
+        (_, Broken::Limit) => Rule::LimitExceeded,
+    }
+}
+
+impl From<Fault> for TextError {
+    ghost use Rattle.std.specs.Prelude.{◌≡◌};
+    ghost use Rattle.pb_text.specs.Parsing.{error_of};
+
+    ghost from_gives = { λ fault error. error ≡ error_of fault };
+
+    fn from(fault: Fault) -> TextError {
+        match fault {
+            Fault::Memory => TextError::Memory,
+            Fault::At(refusal) => TextError::Refused {
+                rule: rule_of(refusal.rule, refusal.kind),
+                place: refusal.place,
+            },
+        }
+    }
+}

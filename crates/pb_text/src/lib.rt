@@ -1,0 +1,15 @@
+//! Reads the text of a Boolean equation system into its syntax tree.
+//!
+//! `specs/Grammar.antt` is the grammar, a relation between tokens and what they say. `specs/Reading.antt` is the same
+//! as a function, which the code computes; no public clause cites it. `specs/Parsing.antt` has what `parse` ensures.
+#![tactic(auto)]
+
+pub mod error;
+mod formula;
+mod system;
+#[cfg(test)]
+mod tests;
+pub mod text;
+
+pub use error::{Rule, TextError};
+pub use text::parse;

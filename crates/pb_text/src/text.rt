@@ -1,0 +1,35 @@
+//! From bytes to a syntax tree.
+
+ghost use Rattle.std.specs.Prelude.{◌≡◌, ◌≤◌, ℕ, length, IfOk, IfErr};
+ghost use Rattle.pb_ast.specs.Form.{Text, text};
+ghost use Rattle.pb_text.specs.Parsing.{IsReading, IsReadingWithin, NoReading, Stands};
+
+use crate::error::TextError;
+use crate::system::whole;
+use pb_ast::Spec;
+use pb_lexer::input::Input;
+use std::alloc::Global;
+
+/// How many operators with two operands an equation may have.
+const OPERATOR_LIMIT: u32 = 8192;
+
+/// Reads a text of at most 67,108,864 bytes.
+///
+/// A text that says nothing is refused at its least fault: `Rule::UnknownByte` (P01), `Rule::LargeNumber` (P03) or
+/// `Rule::RangeLine` (P05) where a token should stand and none does, `Rule::UnexpectedToken` (P02) at the first token
+/// with which no text goes on, `Rule::LimitExceeded` (P04) at a token that goes past a limit. Lines and columns count
+/// from 1, columns in bytes; the end of the text stands where its next byte would.
+pub fn parse(alloc: Global, bytes: &[u8]) -> Result<Spec, TextError>
+    requires { length bytes.now ≤ 67108864 }
+    // It is what the bytes say, within the limits, places included.
+    ensures reading { IfOk result (λ s. IsReading bytes.now (text s)) }
+    // They say nothing else, within any limits.
+    ensures only { IfOk result (λ s. (d n : ℕ) (x : Text) → IsReadingWithin d n bytes.now x → x ≡ text s) }
+    // Only where they say nothing within the limits, or memory runs out, is there no text.
+    ensures refused { IfErr result (λ e. NoReading bytes.now e) }
+    // The fault stands at its place, and nothing that is no token stands before it.
+    ensures stands { IfErr result (λ e. Stands bytes.now e) }
+{
+    let mut input = Input::new(bytes, OPERATOR_LIMIT);
+    Ok(whole(&mut input, alloc)?)
+}

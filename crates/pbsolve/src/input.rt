@@ -1,0 +1,58 @@
+//! Reading the whole input, up to its limit.
+ghost use Rattle.std.specs.Prelude.{◌≡◌, ◌≢◌, ◌≤◌, true, IfOk, OnOk, IfErr, Err, vec_len};
+ghost use Rattle.pb_sorts.specs.Source.{IsWhole, IsLongerThan};
+
+use pb_sorts::Source;
+use std::alloc::{AllocError, Global};
+
+/// The most bytes that the program takes.
+pub const INPUT_LIMIT: usize = 67_108_864;
+
+// So many bytes are asked for at a time.
+const PIECE: usize = 65_536;
+
+/// Why there is no input.
+#[derive(Clone, Copy, Debug, PartialEq, Eq)]
+pub(crate) enum InputError {
+    /// Reading failed.
+    Failed,
+    /// There are more bytes than `INPUT_LIMIT`.
+    TooLong,
+    /// A request for memory was refused.
+    Memory,
+}
+
+impl From<AllocError> for InputError {
+    ghost use Rattle.pbsolve.specs.declared.input.InputError.TheVariants.{Memory};
+
+    ghost from_gives = { λ _ e. e ≡ Memory };
+
+    fn from(_error: AllocError) -> InputError {
+        InputError::Memory
+    }
+}
+
+/// Reads to the end of the input. Of a failure and of too many bytes it answers what the reading meets first.
+pub(crate) fn read_input<R: Source>(alloc: Global, reader: &mut R) -> Result<Vec<u8>, InputError>
+    ensures short { IfOk result (λ text. vec_len text ≤ INPUT_LIMIT) }
+    ensures whole { IfOk result (λ text. IsWhole (R.left reader.old) text.items) }
+    ensures too_long { result ≡ Err InputError.TooLong → IsLongerThan INPUT_LIMIT (R.left reader.old) }
+    ensures failed { result ≡ Err InputError.Failed → R.has_failed reader.new ≡ true }
+    ensures ok_failed { OnOk result (R.has_failed reader.new ≡ R.has_failed reader.old) }
+    ensures err_failed { IfErr result (λ e. e ≢ InputError.Failed → R.has_failed reader.new ≡ R.has_failed reader.old) }
+{
+    let mut text = Vec::new(alloc);
+    let mut piece = [0u8; PIECE];
+    loop {
+        let Ok(n) = reader.read(&mut piece) else {
+            return Err(InputError::Failed);
+        };
+        if n == 0 {
+            return Ok(text);
+        }
+        if n > INPUT_LIMIT - text.len() {
+            return Err(InputError::TooLong);
+        }
+        text.extend_from_slice(&piece[..n])?;
+    }
+}

@@ -1,0 +1,37 @@
+//! The program `pbsolve`: its library on the process's words and standard streams.
+#![tactic(auto)]
+
+use pb_report::Fault;
+use pb_sorts::{In, Out};
+use std::io::ErrorKind;
+use std::process::ExitCode;
+use std::{env, io};
+
+fn words(rt: &HostRuntime) -> io::Result<Vec<String>> {
+    Ok(env::args(rt)?.collect(rt.alloc())?)
+}
+
+// Why there are no words: no memory for them, or one that is no text.
+fn words_fault(error: &io::Error) -> Fault {
+    if error.kind() == ErrorKind::OutOfMemory {
+        Fault::M01
+    } else {
+        Fault::U01
+    }
+}
+
+fn main(rt: HostRuntime) -> ExitCode {
+    let mut out = Out::new(rt.stdout());
+    let mut err = Out::new(rt.stderr());
+    let code = match words(&rt) {
+        Ok(words) => pbsolve::run(
+            rt.alloc(),
+            words.as_slice(),
+            &mut In::new(rt.reader()),
+            &mut out,
+            &mut err,
+        ),
+        Err(error) => u8::from(pbsolve::tell_fault(words_fault(&error), &mut err)),
+    };
+    ExitCode::from(code)
+}
