@@ -1,0 +1,124 @@
+-- Counting tuples and instances from left to right.
+use Rattle.std.proofs.Common.{◌≡◌, ℕ, zero, suc, ◌+◌, ◌*◌, ◌<◌, ◌≤◌, true, false, List, [], ◌∷◌, ◌++◌, length, drop, map, get_or, refl, sym, ap, ◌∙◌, arith}
+use Rattle.std.specs.Prelude.{ℤ, pos, negsuc, ◌+ℤ◌, ◌≤ℤ◌, ◌-ℤ◌, nat_lt}
+use Rattle.std.proofs.Math.Nat.{mul_assoc, mul-le-mul_left}
+use Rattle.std.proofs.lemmas.Int.{ints}
+use Rattle.pb_carriers.specs.Carrier.{tuple_count, numbers_from, at_least_none}
+use Rattle.pb_sorts.specs.Carrier.{values_of}
+use Rattle.pb_sorts.specs.declared.carrier.Carrier.{Carrier}
+use Rattle.pb_sorts.specs.declared.carrier.Carrier.TheVariants as carrier
+use Rattle.std.proofs.lemmas.Bool.{lt-ltb, le-ltb}
+use Rattle.std.proofs.lemmas.List.{length-map}
+use Rattle.std.proofs.Common.{Ok, Err, append_assoc}
+use Rattle.std.proofs.lemmas.List.{append-nil}
+use Rattle.std.proofs.Math.ListN.{drop_of_length-le}
+use Rattle.pb_bytecode.specs.declared.fault.Rule.TheVariants as rule
+use Rattle.pb_bytecode.specs.declared.fault.ReadError.{ReadError}
+use Rattle.pb_bytecode.specs.declared.fault.ReadError.TheVariants as errors
+use Rattle.pb_bytecode.specs.Reading.{◌>>=◌, Fails, Field, params_at, byte_at, value_at, values_at, initial_at}
+use Rattle.pb_bytecode.proofs.Loop.{with_front}
+use Rattle.pb_bytecode.specs.declared.equation.Equation.{Equation}
+use Rattle.pb_bytecode.specs.Limits.{instance_count}
+use Rattle.pb_bytecode.specs.Views.{equation_contents}
+
+abbrev pub tuples : List Carrier → ℕ
+tuples cs = tuple_count (map values_of cs)
+
+abbrev pub instances : List Equation → ℕ
+instances es = instance_count (map equation_contents es)
+
+tuples_step : (cs : List Carrier) (i : ℕ) (d : Carrier) → i < length cs → tuples (drop i cs) ≡ length (values_of (get_or cs i d)) * tuples (drop (i + 1) cs)
+tuples_step [] i d h = absurd (omega arith)
+tuples_step (c ∷ cs) zero d h = refl
+tuples_step (c ∷ cs) (suc i) d h = let z : suc i + 1 ≡ suc (i + 1) = omega arith in tuples_step cs i d (omega arith) ∙ ap (λ m. length (values_of (get_or cs i d)) * tuples (drop m (c ∷ cs))) (sym z)
+
+numbers_length : (low : ℤ) (n : ℕ) → length (numbers_from low n) ≡ n
+numbers_length low zero = refl
+numbers_length low (suc n) = ap suc (numbers_length (low +ℤ pos 1) n)
+
+at_least_one : (d : ℤ) → pos 1 ≤ℤ d → 0 < at_least_none d
+at_least_one (pos n) h = omega (arith, ints)
+at_least_one (negsuc n) h = absurd (omega (arith, ints))
+
+values_some : (c : Carrier) → 0 < length (values_of c)
+values_some carrier.Bool = omega arith
+values_some (carrier.Enum e) = omega (arith, numbers_length (pos 0) e.count, e.not_empty)
+values_some (carrier.Range r) =
+    let some = at_least_one (r.hi -ℤ r.lo +ℤ pos 1) (let h = r.not_empty in omega (arith, ints)) in
+    omega (arith, numbers_length r.lo (at_least_none (r.hi -ℤ r.lo +ℤ pos 1)), some)
+
+tuples_some : (cs : List Carrier) → 1 ≤ tuples cs
+tuples_some [] = omega arith
+tuples_some (c ∷ cs) = let a = values_some c in let b = tuples_some cs in omega (arith, mul-le-mul_left (length (values_of c)) b)
+
+-- one carrier more
+pub step_more : (cs : List Carrier) (d : Carrier) (count i size : ℕ) → i < length cs → size ≡ length (values_of (get_or cs i d)) → count * tuples (drop i cs) ≡ tuples cs → count * size * tuples (drop (i + 1) cs) ≡ tuples cs
+step_more cs d count i size h e so_far = rw e (mul_assoc count (length (values_of (get_or cs i d))) (tuples (drop (i + 1) cs)) ∙ ap (λ m. count * m) (sym (tuples_step cs i d h)) ∙ so_far)
+
+pub too_many : (cs : List Carrier) (d : Carrier) (count i size limit : ℕ) → i < length cs → size ≡ length (values_of (get_or cs i d)) → count * tuples (drop i cs) ≡ tuples cs → limit < count * size → limit < tuples cs
+too_many cs d count i size limit h e so_far more =
+    let all = step_more cs d count i size h e so_far in
+    let rest = mul-le-mul_left (count * size) (tuples_some (drop (i + 1) cs)) in
+    omega (arith, all, rest)
+
+pub instances_step : (es : List Equation) (i : ℕ) (d : Equation) → i < length es → instances (drop i es) ≡ tuples (get_or es i d).params.items + instances (drop (i + 1) es)
+instances_step [] i d h = absurd (omega arith)
+instances_step (e ∷ es) zero d h = refl
+instances_step (e ∷ es) (suc i) d h = let z : suc i + 1 ≡ suc (i + 1) = omega arith in instances_step es i d (omega arith) ∙ ap (λ m. tuples (get_or es i d).params.items + instances (drop m (e ∷ es))) (sym z)
+
+-- the initial instance's equation
+pub params_here : (es : List Equation) (i : ℕ) (d : Equation) → i < length es → params_at (map equation_contents es) i ≡ (get_or es i d).params.items
+params_here [] i d h = absurd (omega arith)
+params_here (e ∷ es) zero d h = refl
+params_here (e ∷ es) (suc i) d h = params_here es i d (omega arith)
+
+values_fold : (cs : List Carrier) (d : Carrier) (i : ℕ) (bytes : List ℕ) → i < length cs → values_at (drop i cs) bytes ≡ (value_at (get_or cs i d) bytes >>= λ z. values_at (drop (i + 1) cs) z.1 >>= λ zs. Ok (z.0 ∷ zs.0, zs.1))
+values_fold [] d i bytes h = absurd (omega arith)
+values_fold (c ∷ cs) d zero bytes h = refl
+values_fold (c ∷ cs) d (suc i) bytes h =
+    let z : suc i + 1 ≡ suc (i + 1) = omega arith in
+    values_fold cs d i bytes (omega arith) ∙ ap (λ m. value_at (get_or cs i d) bytes >>= λ z. values_at (drop m (c ∷ cs)) z.1 >>= λ zs. Ok (z.0 ∷ zs.0, zs.1)) (sym z)
+
+regroup : (front : List ℤ) (a : ℤ) (read : Field (List ℤ)) → with_front front (read >>= λ x. Ok (a ∷ x.0, x.1)) ≡ with_front (front ++ a ∷ []) read
+regroup front a (Ok x) = ap (λ (ns : List ℤ). Ok (ns, x.1)) (sym (append_assoc front (a ∷ []) x.0))
+regroup front a (Err f) = refl
+
+pub value_read : (front : List ℤ) (cs : List Carrier) (c : Carrier) (i : ℕ) (bytes rest : List ℕ) (z : ℤ) (total : Field (List ℤ)) → i < length cs → c ≡ get_or cs i c → value_at c bytes ≡ Ok (z, rest) → with_front front (values_at (drop i cs) bytes) ≡ total → with_front (front ++ z ∷ []) (values_at (drop (i + 1) cs) rest) ≡ total
+value_read front cs c i bytes rest z total h same r so_far =
+    let r' : value_at (get_or cs i c) bytes ≡ Ok (z, rest) = ap (λ x. value_at x bytes) (sym same) ∙ r in
+    let one : with_front front (values_at (drop i cs) bytes) ≡ with_front (front ++ z ∷ []) (values_at (drop (i + 1) cs) rest) =
+    ap (with_front front) (values_fold cs c i bytes h) ∙ rw r' (regroup front z (values_at (drop (i + 1) cs) rest)) in
+    sym one ∙ so_far
+
+pub value_fails : (e : ReadError) (front : List ℤ) (cs : List Carrier) (c : Carrier) (i : ℕ) (bytes : List ℕ) (total : Field (List ℤ)) → i < length cs → c ≡ get_or cs i c → Fails e (value_at c bytes) → with_front front (values_at (drop i cs) bytes) ≡ total → Fails e total
+value_fails errors.Memory front cs c i bytes total h same f so_far = tt
+value_fails (errors.Fault e) front cs c i bytes total h same f so_far =
+    let f' : value_at (get_or cs i c) bytes ≡ Err e = ap (λ x. value_at x bytes) (sym same) ∙ f in
+    sym so_far ∙ ap (with_front front) (values_fold cs c i bytes h) ∙ rw f' refl
+
+pub values_done : (front : List ℤ) (cs : List Carrier) (i : ℕ) (bytes : List ℕ) (total : Field (List ℤ)) → length cs ≤ i → with_front front (values_at (drop i cs) bytes) ≡ total → total ≡ Ok (front, bytes)
+values_done front cs i bytes total h so_far =
+    let none : drop i cs ≡ [] = drop_of_length-le cs h in
+    let one : with_front front (values_at (drop i cs) bytes) ≡ Ok (front, bytes) = rw none (ap (λ (ns : List ℤ). Ok (ns, bytes)) (append-nil front)) in
+    sym so_far ∙ one
+
+pub initial_read : (es : List Equation) (d : Equation) (bytes rest after : List ℕ) (e : ℕ) (params : List Carrier) (values : List ℤ) → byte_at bytes ≡ Ok (e, rest) → e < length es → params ≡ (get_or es e d).params.items → values_at params rest ≡ Ok (values, after) → initial_at (map equation_contents es) bytes ≡ Ok (record { equation = e; values = values }, after)
+unfolding initial_at
+initial_read es d bytes rest after e params values p lt same q =
+    let there : nat_lt e (length (map equation_contents es)) ≡ true = lt-ltb _ _ (rw length-map lt) in
+    let q' : values_at (params_at (map equation_contents es) e) rest ≡ Ok (values, after) = rw (params_here es e d lt, sym same) q in
+    rw (p, there, q') refl
+
+pub initial_fails : (error : ReadError) (es : List Equation) (d : Equation) (bytes rest : List ℕ) (e : ℕ) (params : List Carrier) → byte_at bytes ≡ Ok (e, rest) → e < length es → params ≡ (get_or es e d).params.items → Fails error (values_at params rest) → Fails error (initial_at (map equation_contents es) bytes)
+unfolding initial_at
+initial_fails errors.Memory es d bytes rest e params p lt same q = tt
+initial_fails (errors.Fault f) es d bytes rest e params p lt same q =
+    let there : nat_lt e (length (map equation_contents es)) ≡ true = lt-ltb _ _ (rw length-map lt) in
+    let q' : values_at (params_at (map equation_contents es) e) rest ≡ Err f = rw (params_here es e d lt, sym same) q in
+    rw (p, there, q') refl
+
+pub initial_none : (es : List Equation) (bytes rest : List ℕ) (e : ℕ) → byte_at bytes ≡ Ok (e, rest) → length es ≤ e → initial_at (map equation_contents es) bytes ≡ Err (record { rule = rule.Initial; left = length bytes })
+unfolding initial_at
+initial_none es bytes rest e p le =
+    let none : nat_lt e (length (map equation_contents es)) ≡ false = le-ltb _ _ (rw length-map le) in
+    rw (p, none) refl

@@ -1,0 +1,11 @@
+pub mod Orders
+pub mod NameBytes
+pub mod Loop
+pub mod Carriers
+pub mod Counting
+pub mod Readers
+pub mod FieldLaws
+pub mod NameLaws
+pub mod OpLaws
+pub mod ModuleLaws
+pub mod Appending

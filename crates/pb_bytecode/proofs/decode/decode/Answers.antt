@@ -1,0 +1,30 @@
+use Rattle.std.proofs.Common.{◌≡◌, subst, Err, arith}
+use Rattle.pb_bytecode.specs.Reading.{Fails, all_of}
+use Rattle.pb_bytecode.specs.Views.{contents_of}
+use Rattle.pb_bytecode.proofs.ModuleLaws.{all_takes, all_within, read_one, read_none}
+use Rattle.pb_bytecode.proofs.decode.decode.Goals as goal
+
+pub invariant_of-result : goal.invariant_of-result
+invariant_of-result c = record { within_limits = (all_takes c.args.bytes.now (contents_of c.in-Ok.version c.in-Ok.sorts.items c.in-Ok.equations.items c.in-Ok.initial) (λ i. omega (arith, c.type_inv.bytes i)) c.in-Ok.ensures).1 }
+
+pub overflow_sub-result : goal.overflow_sub-result
+overflow_sub-result c =
+    let met : all_of c.args.bytes.now ≡ Err c.in-Err-Fault.fault = subst (λ e. Fails e (all_of c.args.bytes.now)) c.in-Err-Fault.field-0-is c.in-Err-Fault.ensures in
+    all_within c.args.bytes.now c.in-Err-Fault.fault (λ i. omega (arith, c.type_inv.bytes i)) met
+
+pub returns-in-Ok-clause-spelled : goal.returns-in-Ok-clause-spelled
+returns-in-Ok-clause-spelled c = (all_takes c.args.bytes.now (contents_of c.in-Ok.version c.in-Ok.sorts.items c.in-Ok.equations.items c.in-Ok.initial) (λ i. omega (arith, c.type_inv.bytes i)) c.in-Ok.ensures).0
+
+pub returns-in-Ok-clause-read : goal.returns-in-Ok-clause-read
+returns-in-Ok-clause-read c = λ m h e. read_one c.args.bytes.now (contents_of c.in-Ok.version c.in-Ok.sorts.items c.in-Ok.equations.items c.in-Ok.initial) m h e c.in-Ok.ensures
+
+pub returns-in-Err-Fault-clause-read : goal.returns-in-Err-Fault-clause-read
+returns-in-Err-Fault-clause-read c =
+    let met : all_of c.args.bytes.now ≡ Err c.in-Err-Fault.fault = subst (λ e. Fails e (all_of c.args.bytes.now)) c.in-Err-Fault.field-0-is c.in-Err-Fault.ensures in
+    λ m h e. read_none c.args.bytes.now c.in-Err-Fault.fault m h e met
+
+pub returns-in-Err-Fault-clause-fault : goal.returns-in-Err-Fault-clause-fault
+returns-in-Err-Fault-clause-fault c =
+    let met : all_of c.args.bytes.now ≡ Err c.in-Err-Fault.fault = subst (λ e. Fails e (all_of c.args.bytes.now)) c.in-Err-Fault.field-0-is c.in-Err-Fault.ensures in
+    let within = all_within c.args.bytes.now c.in-Err-Fault.fault (λ i. omega (arith, c.type_inv.bytes i)) met in
+    record { left = c.in-Err-Fault.fault.left; first = met; place = omega arith }

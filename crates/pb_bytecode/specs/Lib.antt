@@ -1,0 +1,9 @@
+pub mod Contents
+pub mod Names
+pub mod Formats
+pub mod Limits
+pub mod Spelling
+pub mod Reading
+pub mod Views
+pub mod Decoded
+pub mod Countable

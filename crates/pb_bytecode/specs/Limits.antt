@@ -1,0 +1,120 @@
+-- Which contents a module may have. Each test is one that computes, so that it can stand in an invariant.
+use Rattle.std.specs.Prelude.{ℕ, ◌+◌, ◌^◌, Bool, true, false, ◌&&◌, ◌==◌, nat_le, nat_lt, List, [], ◌∷◌, length, map, Option, Some, None, unwrap_or, slice_get, ℤ, pos, negsuc, int_le}
+use Rattle.std.specs.List.{list_all}
+use Rattle.pb_carriers.specs.Carrier.{Tuple, is_within, tuple_count}
+use Rattle.pb_sorts.specs.Carrier.{values_of}
+use Rattle.pb_sorts.specs.declared.carrier.Carrier.{Carrier}
+use Rattle.pb_sorts.specs.declared.carrier.Carrier.TheVariants as carrier
+use Rattle.pb_code.specs.Values.{fits64}
+use Rattle.pb_code.specs.declared.instruction.Op.{Op}
+use Rattle.pb_code.specs.declared.instruction.Op.TheVariants as op
+use Rattle.pb_bytecode.specs.declared.version.Version.{Version}
+use Rattle.pb_bytecode.specs.declared.version.Version.TheVariants as version
+use Rattle.pb_bytecode.specs.Contents.{SortContents, EquationContents, InitialContents, Contents, counts}
+use Rattle.pb_bytecode.specs.Names.{is_name}
+
+-- ---- numbers
+
+abbrev pub is_byte : ℕ → Bool
+is_byte n = nat_lt n 256
+
+abbrev pub is_u16 : ℕ → Bool
+is_u16 n = nat_lt n (2 ^ 16)
+
+abbrev pub is_u32 : ℕ → Bool
+is_u32 n = nat_lt n (2 ^ 32)
+
+abbrev pub is_i32 : ℤ → Bool
+is_i32 z = int_le (negsuc 2147483647) z && int_le z (pos 2147483647)
+
+abbrev pub is_i64 : ℤ → Bool
+is_i64 z = fits64 z z
+
+-- from low on, and below end
+abbrev pub is_between : ℕ → ℕ → ℕ → Bool
+is_between low end n = nat_le low n && nat_lt n end
+
+-- two bounds of a range that isn't empty
+abbrev pub are_bounds : ℤ → ℤ → Bool
+are_bounds lo hi = (is_i32 lo && is_i32 hi) && int_le lo hi
+
+-- ---- sorts and carriers
+
+-- a sort has 1 to 255 enumerators
+abbrev pub fits_sort : SortContents → Bool
+fits_sort names = is_between 1 256 (length names) && list_all is_name names
+
+-- how many enumerators a sort has
+abbrev pub count_of : List ℕ → ℕ → ℕ
+count_of sizes s = unwrap_or (slice_get sizes s) 0
+
+-- a place in the list of sorts
+abbrev pub is_sort : List ℕ → ℕ → Bool
+is_sort sizes s = is_byte s && nat_lt s (length sizes)
+
+abbrev pub fits_carrier : List ℕ → Carrier → Bool
+fits_carrier sizes carrier.Bool = true
+fits_carrier sizes (carrier.Enum enum) = is_byte enum.sort && enum.count == count_of sizes enum.sort
+fits_carrier sizes (carrier.Range range) = are_bounds range.lo range.hi
+
+-- ---- instructions
+
+abbrev pub is_second : Version → Bool
+is_second version.One = false
+is_second version.Two = true
+
+-- Enumerators are there, and ranges aren't empty. Slots, callees and targets are a verifier's matter.
+abbrev pub fits_op : Version → List ℕ → Op → Bool
+fits_op v sizes (op.PushInt k) = is_i64 k
+fits_op v sizes (op.PushEnum s i) = is_sort sizes s && (is_byte i && nat_lt i (count_of sizes s))
+fits_op v sizes (op.Get slot) = is_byte slot
+fits_op v sizes (op.Jump to) = is_u16 to
+fits_op v sizes (op.JumpIf on to) = is_u16 to
+fits_op v sizes (op.InRange lo hi to) = are_bounds lo hi && is_u16 to
+fits_op v sizes (op.SlotInRange slot lo hi to) = is_second v && (is_byte slot && (are_bounds lo hi && is_u16 to))
+fits_op v sizes (op.Loop slot) = is_byte slot
+fits_op v sizes (op.Call equation) = is_byte equation
+fits_op v sizes _ = true
+
+-- ---- equations
+
+-- at most 8 parameters, 240 loop slots, and 1 to 65535 instructions
+abbrev pub fits_equation : Version → List ℕ → EquationContents → Bool
+fits_equation v sizes e =
+    is_name e.name
+    && ((is_between 0 9 (length e.params) && list_all (fits_carrier sizes) e.params)
+    && ((is_between 0 241 (length e.loops) && list_all (fits_carrier sizes) e.loops)
+    && (is_u32 e.steps
+    && (is_u32 e.tokens
+    && (is_between 1 (2 ^ 16) (length e.code) && list_all (fits_op v sizes) e.code)))))
+
+-- how many instances the equations' predicate variables have
+abbrev pub instance_count : List EquationContents → ℕ
+instance_count [] = 0
+instance_count (e ∷ es) = tuple_count (map values_of e.params) + instance_count es
+
+-- ---- modules
+
+abbrev pub params_of : Option EquationContents → Option (List Carrier)
+params_of None = None
+params_of (Some e) = Some e.params
+
+-- numbers of 64 bits, one of each carrier
+abbrev pub fits_values : List Carrier → Tuple → Bool
+fits_values carriers values = list_all is_i64 values && is_within (map values_of carriers) values
+
+abbrev pub is_tuple : Option (List Carrier) → Tuple → Bool
+is_tuple None values = false
+is_tuple (Some params) values = fits_values params values
+
+-- the initial instance is of an equation that is there, with values of its parameters' carriers
+abbrev pub fits_initial : List EquationContents → InitialContents → Bool
+fits_initial equations i = is_byte i.equation && is_tuple (params_of (slice_get equations i.equation)) i.values
+
+-- at most 255 sorts, 1 to 64 equations, and 2^22 instances over all carriers
+abbrev pub fits : Contents → Bool
+fits m =
+    (is_between 0 256 (length m.sorts) && list_all fits_sort m.sorts)
+    && ((is_between 1 65 (length m.equations) && list_all (fits_equation m.version (counts m.sorts)) m.equations)
+    && (nat_le (instance_count m.equations) 4194304
+    && fits_initial m.equations m.initial))

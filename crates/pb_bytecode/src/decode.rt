@@ -1,0 +1,97 @@
+//! Reading modules.
+ghost use Rattle.std.specs.Prelude.{◌≡◌, ◌+◌, length, true, Ok, Err, IfOk, IfErr, MatchResult};
+ghost use Rattle.pb_bytecode.specs.Contents.{Contents};
+ghost use Rattle.pb_bytecode.specs.Decoded.{IsFirstFault, IsModuleOf, module_contents};
+ghost use Rattle.pb_bytecode.specs.Limits.{fits};
+ghost use Rattle.pb_bytecode.specs.Reading.{Gives, all_of, mark_at, version_at};
+ghost use Rattle.pb_bytecode.specs.Spelling.{spelling};
+ghost use Rattle.pb_bytecode.specs.Views.{contents_of};
+
+use crate::equation::Equation;
+use crate::fault::{ModuleError, ReadError, Rule};
+use crate::initial::Initial;
+use crate::module::Module;
+use crate::reading::{equations_at, fault, initial_at, sizes_of, sorts_at, truncated, u8_at};
+use crate::sort::Sort;
+use crate::version::Version;
+use std::alloc::Global;
+
+/// The first bytes of a module.
+pub(crate) const MARK: [u8; 4] = *b"PBES";
+
+/// The bytes behind the mark.
+#[tactic(auto, unfolding(crate::specs::Reading::mark_at))]
+fn mark_at(bytes: &[u8]) -> Result<&[u8], ReadError>
+    ensures { Gives (λ x. (tt, x.now)) result (mark_at bytes.now) }
+{
+    match bytes {
+        [b'P', b'B', b'E', b'S', rest @ ..] => Ok(rest),
+        [b'P', b'B', b'E', _, ..] => Err(fault(Rule::Mark, &bytes[3..])),
+        [b'P', b'B', _, _, ..] => Err(fault(Rule::Mark, &bytes[2..])),
+        [b'P', _, _, _, ..] => Err(fault(Rule::Mark, &bytes[1..])),
+        [_, _, _, _, ..] => Err(fault(Rule::Mark, bytes)),
+        _ => Err(truncated()),
+    }
+}
+
+#[tactic(auto, unfolding(crate::specs::Reading::version_at))]
+fn version_at(bytes: &[u8]) -> Result<(Version, &[u8]), ReadError>
+    ensures { Gives (λ x. (x.0, x.1.now)) result (version_at bytes.now) }
+{
+    let (number, rest) = u8_at(bytes)?;
+    match number {
+        1 => Ok((Version::One, rest)),
+        2 => Ok((Version::Two, rest)),
+        _ => Err(fault(Rule::Version, bytes)),
+    }
+}
+
+/// The fields of a module, all of the bytes.
+#[tactic(auto, unfolding(crate::specs::Reading::all_of, crate::specs::Reading::contents_at))]
+fn fields(
+    alloc: Global,
+    bytes: &[u8],
+) -> Result<(Version, Vec<Sort>, Vec<Equation>, Initial), ReadError>
+    ensures { Gives (λ x. contents_of x.0 x.1.items x.2.items x.3) result (all_of bytes.now) }
+{
+    let rest = mark_at(bytes)?;
+    let (version, rest) = version_at(rest)?;
+    let (sorts, rest) = sorts_at(alloc, rest)?;
+    let sizes = sizes_of(alloc, &sorts)?;
+    let (equations, rest) = equations_at(alloc, version, &sizes, rest)?;
+    let (initial, rest) = initial_at(alloc, &equations, rest)?;
+    if rest.is_empty() {
+        Ok((version, sorts, equations, initial))
+    } else {
+        Err(fault(Rule::Trailing, rest))
+    }
+}
+
+/// The module that the bytes spell, all of the bytes.
+///
+/// # Errors
+/// `Memory` where memory ran out; else the first fault from the left.
+pub fn decode(alloc: Global, bytes: &[u8]) -> Result<Module, ModuleError>
+    // What is read is spelled so.
+    ensures spelled { IfOk result (λ m. bytes.now ≡ spelling (module_contents m)) }
+    // What is spelled so is read, unless memory runs out.
+    ensures read { (m : Contents) → fits m ≡ true → bytes.now ≡ spelling m → IsModuleOf m result }
+    // Which fault it is, and where it stands.
+    ensures fault { IfErr result (IsFirstFault bytes.now) }
+{
+    match fields(alloc, bytes) {
+        Ok((version, sorts, equations, initial)) => Ok(Module {
+            version,
+            sorts,
+            equations,
+            initial,
+        }),
+        Err(ReadError::Memory) => Err(ModuleError::Memory),
+        Err(ReadError::Fault(fault)) => {
+            Err(ModuleError::Fault {
+                rule: fault.rule,
+                byte: bytes.len() - fault.left,
+            })
+        }
+    }
+}

@@ -1,0 +1,64 @@
+//! Why bytes are no module.
+ghost use Rattle.std.specs.Prelude.{◌≡◌};
+ghost use Rattle.pb_bytecode.specs.declared.fault.ReadError.TheVariants.{Memory};
+
+use std::alloc::{AllocError, AllocFailed};
+
+/// What is wrong with the bytes.
+#[derive(Clone, Copy, Debug, PartialEq, Eq)]
+pub enum Rule {
+    /// B01: the first bytes aren't the format's mark.
+    Mark,
+    /// B02: the version is neither 1 nor 2.
+    Version,
+    /// B03: the bytes end inside a field.
+    Truncated,
+    /// B04: there is no instruction of this code in the version.
+    UnknownOp,
+    /// B05: a field is out of its limit.
+    Limit,
+    /// B06: bytes stand behind the module.
+    Trailing,
+    /// B07: there is no such initial instance.
+    Initial,
+}
+
+/// A fault, and how many bytes are left from the beginning of its field on.
+#[derive(Clone, Copy, Debug, PartialEq, Eq)]
+pub(crate) struct Fault {
+    pub(crate) rule: Rule,
+    pub(crate) left: usize,
+}
+
+/// Why a field could not be read.
+#[derive(Debug, Drop)]
+pub(crate) enum ReadError {
+    Memory,
+    Fault(Fault),
+}
+
+impl From<AllocError> for ReadError {
+    ghost from_gives = { λ _ e. e ≡ Memory };
+
+    fn from(_e: AllocError) -> ReadError {
+        ReadError::Memory
+    }
+}
+
+impl<T: Drop> From<AllocFailed<T>> for ReadError {
+    ghost from_gives = { λ _ e. e ≡ Memory };
+
+    fn from(_e: AllocFailed<T>) -> ReadError {
+        ReadError::Memory
+    }
+}
+
+/// Why bytes could not be read as a module.
+#[derive(Clone, Copy, Debug, PartialEq, Eq)]
+pub enum ModuleError {
+    /// Memory ran out.
+    Memory,
+    /// The first fault from the left, and the byte at which its field begins, counted from 0. Where the input ends
+    /// inside a field it is the input's length, and where the mark is wrong the first byte that differs.
+    Fault { rule: Rule, byte: usize },
+}

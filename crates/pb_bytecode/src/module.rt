@@ -1,0 +1,21 @@
+//! Modules: an equation system whose right sides are code.
+ghost use Rattle.std.specs.Prelude.{◌≡◌, true};
+ghost use Rattle.pb_bytecode.specs.Limits.{fits};
+ghost use Rattle.pb_bytecode.specs.Views.{contents_of};
+
+use crate::equation::Equation;
+use crate::initial::Initial;
+use crate::sort::Sort;
+use crate::version::Version;
+
+/// A system of parameterised Boolean equations in compiled form. Its fields are within the limits of the format, so
+/// that it has a spelling; whether its code is accepted is a verifier's matter.
+#[derive(Debug, Drop)]
+pub struct Module {
+    pub version: Version,
+    pub sorts: Vec<Sort>,
+    /// The equations, 1 to 64, the earlier ones dominating.
+    pub equations: Vec<Equation>,
+    pub initial: Initial,
+    pub ghost within_limits: { fits (contents_of version sorts.items equations.items initial) ≡ true },
+}

@@ -1,0 +1,13 @@
+//! What is known of an operand without running the program.
+
+/// A kind, with an interval for a number: the abstract value of an operand or of a slot (interval analysis, Cousot and
+/// Cousot 1977).
+#[derive(Clone, Copy, Debug, PartialEq, Eq)]
+pub enum AbstractValue {
+    /// A truth value.
+    Bool,
+    /// A whole number from `lo` to `hi`, both included.
+    Int { lo: i64, hi: i64 },
+    /// An enumerator of the sort, with an index below `count`.
+    Enum { sort: u8, count: u8 },
+}

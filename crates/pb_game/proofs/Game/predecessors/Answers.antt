@@ -1,0 +1,12 @@
+use Rattle.std.proofs.Common.{List, ℕ, ◌≡◌, ◌<◌, length, get_or, sym, subst, rules}
+use Rattle.pb_game.specs.Adjacency.{row}
+use Rattle.pb_game.specs.Games.{vertex_count}
+use Rattle.pb_game.proofs.Game.predecessors.Goals as goal
+
+pub returns-clause-closed : goal.returns-clause-closed
+unfolding vertex_count
+returns-clause-closed c =
+    let g = c.args.self.now in
+    let e : c.row_of.result.now ≡ row g.predecessor_places.items g.predecessors.items c.args.v = search rules in
+    subst (λ (xs : List ℕ). (k : ℕ) → k < length xs → get_or xs k 0 < length g.owners.items) (sym e)
+    (g.well_formed.reverse_rows.closed c.args.v c.requires)

@@ -1,0 +1,4 @@
+pub mod Adjacency
+pub mod Games
+pub mod Parts
+pub mod Transpose

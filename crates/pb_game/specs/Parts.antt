@@ -1,0 +1,58 @@
+-- What parts make a game, and what is wrong with those that don't.
+use Rattle.std.specs.Prelude.{◌≡◌, ℕ, ◌+◌, ◌^◌, ◌<◌, ◌≤◌, length, slice_index, All, ⊤}
+use Rattle.std.specs.List.Sorted.{IsStrictlyIncreasing}
+use Rattle.pb_game.specs.declared.Game.{Game}
+use Rattle.pb_game.specs.declared.parts.Parts.{Parts}
+use Rattle.pb_game.specs.declared.parts.GameError.{GameError}
+use Rattle.pb_game.specs.declared.parts.GameError.TheVariants.{Memory, TooManyVertices, Owners, Priorities, Places, Successors}
+use Rattle.pb_game.specs.Adjacency.{row}
+use Rattle.pb_game.specs.Games.{vertex_count, owner_of, priority_of, successors_of}
+
+-- at most 2 ^ 24 vertices
+abbrev pub HasFewVertices : Parts → Type 0
+HasFewVertices p = length p.owners.items ≤ 2 ^ 24
+
+-- each owner is player 0 or 1
+abbrev pub HasOwners : Parts → Type 0
+HasOwners p = All (λ owner. owner < 2) p.owners.items
+
+-- one priority for each vertex
+abbrev pub HasPriorities : Parts → Type 0
+HasPriorities p = length p.priorities.items ≡ length p.owners.items
+
+-- one place for each vertex and one more, which begin at 0, rise, and end behind the last successor
+pub record HasPlaces (p : Parts) : Type 0 where
+  pub size : length p.places.items ≡ length p.owners.items + 1
+  pub first : slice_index p.places.items 0 ≡ 0
+  pub rising : IsStrictlyIncreasing p.places.items
+  pub last : slice_index p.places.items (length p.owners.items) ≡ length p.successors.items
+
+-- the successors of each vertex are vertices that rise
+pub record HasSuccessors (p : Parts) : Type 0 where
+  pub closed : All (λ u. u < length p.owners.items) p.successors.items
+  pub rising : (v : ℕ) → v < length p.owners.items → IsStrictlyIncreasing (row p.places.items p.successors.items v)
+
+-- parts that make a game
+pub record AreGame (p : Parts) : Type 0 where
+  pub few : HasFewVertices p
+  pub owners : HasOwners p
+  pub priorities : HasPriorities p
+  pub places : HasPlaces p
+  pub successors : HasSuccessors p
+
+-- the first of the five that fails, in this order
+abbrev pub Refuses : Parts → GameError → Type 0
+Refuses p (Memory _) = ⊤
+Refuses p TooManyVertices = ¬ HasFewVertices p
+Refuses p Owners = HasFewVertices p × ¬ HasOwners p
+Refuses p Priorities = HasFewVertices p × HasOwners p × ¬ HasPriorities p
+Refuses p Places = HasFewVertices p × HasOwners p × HasPriorities p × ¬ HasPlaces p
+Refuses p Successors = HasFewVertices p × HasOwners p × HasPriorities p × HasPlaces p × ¬ HasSuccessors p
+
+-- the game has the parts' vertices
+pub record IsGameOf (p : Parts) (g : Game) : Type 0 where
+  pub parts : AreGame p
+  pub vertices : vertex_count g ≡ length p.owners.items
+  pub owner : (v : ℕ) → v < length p.owners.items → owner_of g v ≡ slice_index p.owners.items v
+  pub priority : (v : ℕ) → v < length p.owners.items → priority_of g v ≡ slice_index p.priorities.items v
+  pub successors : (v : ℕ) → v < length p.owners.items → successors_of g v ≡ row p.places.items p.successors.items v

@@ -1,0 +1,133 @@
+//! Parity games as flat lists.
+//!
+//! A parity game (Zielonka 1998) has finitely many vertices, each owned by player 0 or 1, with a priority and
+//! at least one successor. A token moves along the edges for ever, and player 0 wins a play exactly where the
+//! greatest priority that occurs infinitely often is even. A [`Game`] keeps beside the successors of each
+//! vertex its predecessors, which attractors are computed by.
+#![tactic(auto)]
+
+ghost use Rattle.std.specs.Prelude.{◌≡◌, ℕ, ◌<◌, ◌≤◌, length, slice_index, IfOk, IfErr, IsTrue, ◌↔◌};
+ghost use Rattle.pb_game.specs.Adjacency.{IsFlatGame};
+
+mod adjacency;
+mod parts;
+mod predecessors;
+
+use adjacency::row_of;
+pub use parts::{GameError, Parts};
+use predecessors::{Predecessors, transpose};
+use std::alloc::Global;
+
+/// A parity game of at most 2^24 vertices, which are the numbers below [`Game::len`].
+#[derive(Drop)]
+pub struct Game {
+    owners: Vec<u8>,
+    priorities: Vec<u32>,
+    greatest: u32,
+    places: Vec<usize>,
+    successors: Vec<u32>,
+    predecessor_places: Vec<usize>,
+    predecessors: Vec<u32>,
+    pub ghost well_formed: { IsFlatGame owners.items priorities.items greatest places.items successors.items predecessor_places.items predecessors.items },
+}
+
+impl Game {
+    ghost use Rattle.pb_game.specs.Games.{vertex_count, owner_of, priority_of, greatest_priority, successors_of, predecessors_of, IsGame};
+    ghost use Rattle.pb_game.specs.Parts.{IsGameOf, Refuses};
+
+    /// The greatest number of vertices, 2^24.
+    pub const LIMIT: usize = 16777216;
+
+    /// The game of these parts.
+    ///
+    /// # Errors
+    ///
+    /// The first fault of the parts, in the order of [`GameError`]'s variants; or memory.
+    pub fn from_parts(alloc: Global, parts: Parts) -> Result<Game, GameError>
+        ensures game { IfOk result (λ game. IsGameOf parts game) }
+        ensures well_formed { IfOk result (λ game. IsGame game) }
+        ensures refused { IfErr result (λ error. Refuses parts error) }
+    {
+        parts.check()?;
+        let greatest = parts.greatest();
+        let Predecessors { places, vertices } = transpose(
+            alloc,
+            &parts.places,
+            &parts.successors,
+            parts.owners.len(),
+        )?;
+        Ok(Game {
+            owners: parts.owners,
+            priorities: parts.priorities,
+            greatest,
+            places: parts.places,
+            successors: parts.successors,
+            predecessor_places: places,
+            predecessors: vertices,
+        })
+    }
+
+    /// How many vertices there are.
+    #[tactic(auto, unfolding(crate::specs::Games::vertex_count))]
+    pub fn len(&self) -> u32
+        ensures value { result ≡ vertex_count self.now }
+        ensures small { result ≤ 16777216 }
+    {
+        self.owners.len() as u32
+    }
+
+    /// Whether the game has no vertex.
+    pub fn is_empty(&self) -> bool
+        ensures { IsTrue result ↔ (vertex_count self.now ≡ 0) }
+    {
+        self.len() == 0
+    }
+
+    /// The player, 0 or 1, that moves at `v`.
+    #[tactic(auto, unfolding(crate::specs::Games::vertex_count, crate::specs::Games::owner_of))]
+    pub fn owner(&self, v: u32) -> u8
+        requires { v < vertex_count self.now }
+        ensures value { result ≡ owner_of self.now v }
+        ensures player { result < 2 }
+    {
+        self.owners[v as usize]
+    }
+
+    /// The priority of `v`.
+    #[tactic(auto, unfolding(crate::specs::Games::vertex_count, crate::specs::Games::priority_of, crate::specs::Games::greatest_priority))]
+    pub fn priority(&self, v: u32) -> u32
+        requires { v < vertex_count self.now }
+        ensures value { result ≡ priority_of self.now v }
+        ensures within { result ≤ greatest_priority self.now }
+    {
+        self.priorities[v as usize]
+    }
+
+    /// The greatest priority of a vertex, 0 where there is none.
+    #[tactic(auto, unfolding(crate::specs::Games::greatest_priority))]
+    pub fn greatest_priority(&self) -> u32
+        ensures { result ≡ greatest_priority self.now }
+    {
+        self.greatest
+    }
+
+    /// The successors of `v`, rising.
+    #[tactic(auto, unfolding(crate::specs::Games::vertex_count, crate::specs::Games::successors_of))]
+    pub fn successors(&self, v: u32) -> &[u32]
+        requires { v < vertex_count self.now }
+        ensures list { result.now ≡ successors_of self.now v }
+        ensures closed { (k : ℕ) → k < length result.now → slice_index result.now k < vertex_count self.now }
+    {
+        row_of(&self.places, &self.successors, v as usize)
+    }
+
+    /// The predecessors of `v`, rising.
+    #[tactic(auto, unfolding(crate::specs::Games::vertex_count, crate::specs::Games::predecessors_of))]
+    pub fn predecessors(&self, v: u32) -> &[u32]
+        requires { v < vertex_count self.now }
+        ensures list { result.now ≡ predecessors_of self.now v }
+        ensures closed { (k : ℕ) → k < length result.now → slice_index result.now k < vertex_count self.now }
+    {
+        row_of(&self.predecessor_places, &self.predecessors, v as usize)
+    }
+}

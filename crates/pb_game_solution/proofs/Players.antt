@@ -1,0 +1,90 @@
+-- The two players, each named by the truth value that the player wants instances to have: player 0 wants true, and has
+-- the even priorities and the disjunctions; player 1 wants false, and has the odd priorities and the conjunctions.
+use Rattle.std.proofs.Common.{◌≡◌, ◌≢◌, ℕ, Bool, true, false, not, ◌&&◌, ◌||◌, ◌⊎◌, inl, inr, refl, sym, ap}
+use Rattle.std.proofs.lemmas.Bool.{true≢false}
+use Rattle.pb_fixpoint.specs.declared.Sign.{Sign}
+use Rattle.pb_fixpoint.specs.declared.Sign.TheVariants.{Mu, Nu}
+use Rattle.pb_fixpoint.specs.Solution.{start}
+use Rattle.pb_trees.specs.Tree.{Connective, Conjunction, Disjunction, joined, of_none}
+use Rattle.pb_trees.specs.Game.{owner_of}
+
+-- the number of the player who wants b
+abbrev pub player : Bool → ℕ
+player true = 0
+player false = 1
+
+-- the connective at which that player chooses
+abbrev pub choosing : Bool → Connective
+choosing true = Disjunction
+choosing false = Conjunction
+
+-- the truth value that steps with this sign begin with
+abbrev pub begins : Sign → Bool
+begins Mu = false
+begins Nu = true
+
+pub start-begins : (s : Sign) (n : ℕ) → start s n ≡ begins s
+start-begins Mu n = refl
+start-begins Nu n = refl
+
+-- a truth value is b, or the other
+pub value_cases : (b x : Bool) → (x ≡ b) ⊎ (x ≡ not b)
+value_cases true true = inl refl
+value_cases true false = inr refl
+value_cases false true = inr refl
+value_cases false false = inl refl
+
+pub connective_cases : (b : Bool) (c : Connective) → (c ≡ choosing b) ⊎ (c ≡ choosing (not b))
+connective_cases true Conjunction = inr refl
+connective_cases true Disjunction = inl refl
+connective_cases false Conjunction = inl refl
+connective_cases false Disjunction = inr refl
+
+pub not_other : (b : Bool) → not b ≡ b → ⊥
+not_other true h = true≢false (sym h)
+not_other false h = true≢false h
+
+pub not_not : (b : Bool) → not (not b) ≡ b
+not_not true = refl
+not_not false = refl
+
+pub owner-choosing : (b : Bool) → owner_of (choosing b) ≡ player b
+owner-choosing true = refl
+owner-choosing false = refl
+
+pub owner-other : (b : Bool) → owner_of (choosing (not b)) ≡ player b → ⊥
+owner-other true h = cc
+owner-other false h = cc
+
+pub player-other : (b : Bool) → player (not b) ≢ player b
+player-other true h = cc
+player-other false h = cc
+
+pub player-same : (a b : Bool) → player a ≡ player b → a ≡ b
+player-same true true h = refl
+player-same true false h = cc
+player-same false true h = cc
+player-same false false h = refl
+
+-- of no operands, the player's own bracket has the other value, and the other player's has the player's
+pub of_none-choosing : (b : Bool) → of_none (choosing b) ≡ not b
+of_none-choosing true = refl
+of_none-choosing false = refl
+
+-- one operand with the value b decides the player's own bracket
+pub joined_left : (b x y : Bool) → x ≡ b → joined (choosing b) x y ≡ b
+joined_left true x y h = ap (λ z. z || y) h
+joined_left false x y h = ap (λ z. z && y) h
+
+pub joined_right : (b x y : Bool) → y ≡ b → joined (choosing b) x y ≡ b
+joined_right true true y h = refl
+joined_right true false y h = h
+joined_right false true y h = h
+joined_right false false y h = refl
+
+-- all operands with the value b decide the other player's bracket
+pub joined_both : (b x y : Bool) → x ≡ b → y ≡ b → joined (choosing (not b)) x y ≡ b
+joined_both true true y h k = k
+joined_both true false y h k = h
+joined_both false true y h k = h
+joined_both false false y h k = k

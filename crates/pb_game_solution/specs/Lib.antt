@@ -1,0 +1,3 @@
+pub mod Vertices
+pub mod Meaning
+pub mod Examples

@@ -1,0 +1,3 @@
+pub mod Mirror
+pub mod Output
+pub mod Reachable

@@ -1,0 +1,36 @@
+-- A vertex that meets the rules has no flaw, and the other way round.
+use Rattle.std.proofs.Common.{ℕ, inl, inr, arith}
+use Rattle.pb_game.specs.declared.Game.{Game}
+use Rattle.pb_certificate.specs.declared.Solution.{Solution}
+use Rattle.pb_certificate.specs.declared.Rule.{Rule}
+use Rattle.pb_certificate.specs.declared.Rule.TheVariants.{Length, NoSuccessor, LeavesRegion, Increases, NoDecrease}
+use Rattle.pb_game.specs.Games.{priority_of, priority_count}
+use Rattle.pb_certificate.specs.Solutions.{winner_of, count_of, HasLengths}
+use Rattle.pb_certificate.specs.Certificates.{Decreases, IsSame, IsCertifiedAt}
+use Rattle.pb_certificate.specs.Flaws.{Fails}
+use Rattle.pb_strategy.specs.Comparisons.{DontIncrease}
+
+-- the counts can't decrease both ways
+pub one_way : (f t : ℕ → ℕ) (w p limit : ℕ) → Decreases f t w p limit → Decreases t f w p limit → ⊥
+one_way f t w p limit a b = grind (arith, a.same b.place, b.same a.place, a.less, b.less, a.below, b.below, a.losing, b.losing)
+
+pub not_same : (f t : ℕ → ℕ) (w p limit : ℕ) → Decreases f t w p limit → IsSame t f w p limit → ⊥
+not_same f t w p limit a b = grind (arith, b.same a.place a.above a.below a.losing, a.less)
+
+pub same_not : (f t : ℕ → ℕ) (w p limit : ℕ) → Decreases f t w p limit → IsSame f t w p limit → ⊥
+same_not f t w p limit a b = grind (arith, b.same a.place a.above a.below a.losing, a.less)
+
+pub no_increase : (g : Game) (s : Solution) (v u : ℕ) → DontIncrease g s v u →
+    Decreases (count_of g s u) (count_of g s v) (winner_of s v) (priority_of g v) (priority_count g) → ⊥
+no_increase g s v u (inl a) b = one_way _ _ _ _ _ a b
+no_increase g s v u (inr a) b = not_same _ _ _ _ _ b a
+
+-- a vertex that meets the rules fails none
+pub no_flaw : (g : Game) (s : Solution) (v : ℕ) → HasLengths g s → IsCertifiedAt g s v → (rule : Rule) → Fails g s v rule → ⊥
+no_flaw g s v lengths at Length f = f.1 lengths
+no_flaw g s v lengths at NoSuccessor f = f.missing (at.choice f.owner)
+no_flaw g s v lengths at LeavesRegion f = f.1.leaves (at.region f.0 f.1.kept)
+no_flaw g s v lengths at Increases f =
+    elim (at.progress f.0 f.1.kept) [ inl a ↦ one_way _ _ _ _ _ a f.1.more | inr b ↦ not_same _ _ _ _ _ f.1.more b.1 ]
+no_flaw g s v lengths at NoDecrease f =
+    elim (at.progress f.along.0 f.along.1.kept) [ inl a ↦ f.along.1.stays a | inr b ↦ f.losing b.0 ]

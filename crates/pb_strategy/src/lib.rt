@@ -1,0 +1,77 @@
+//! The checker of certificates.
+//!
+//! [`check`] takes a game and lists that claim to solve it, from whatever solver, and answers with the lists'
+//! winners only where they are a certificate: winning regions with strategies and progress measures (Jurdzinski
+//! 2000). It takes no memory, and reads each edge a few times for each priority.
+#![tactic(auto)]
+
+ghost use Rattle.std.specs.Prelude.{◌≡◌, ◌*◌, ◌<◌, ◌↔◌, length, IsTrue, IsOk, IfErr, IfOk};
+ghost use Rattle.pb_game.specs.Games.{vertex_count, priority_count};
+ghost use Rattle.pb_certificate.specs.Solutions.{winner_of, HasLengths};
+ghost use Rattle.pb_certificate.specs.Certificates.{IsCertificate};
+ghost use Rattle.pb_certificate.specs.Flaws.{IsFirstFlaw};
+
+mod edges;
+
+use edges::flaw_at;
+use pb_certificate::{Flaw, Rule, Solution};
+use pb_game::Game;
+
+/// A solution that is a certificate of its game.
+#[derive(Drop)]
+pub struct Checked<'a> {
+    pub game: &'a Game,
+    pub solution: &'a Solution,
+    pub ghost certificate: { ∥ IsCertificate game.now solution.now ∥₁ },
+}
+
+impl Checked<'_> {
+    ghost use Rattle.pb_game_solution.specs.Meaning.{IsSolvedAt};
+
+    /// Whether player 0 wins `v`. Of whatever Boolean equation system the game was built, this is the truth of the
+    /// instance whose vertex `v` is (Groote and Willemse 2005).
+    pub fn truth(&self, v: u32) -> bool
+        requires { v < vertex_count self.now.game.now }
+        ensures winner { IsTrue result ↔ (winner_of self.now.solution.now v ≡ 0) }
+        ensures meaning { IsSolvedAt self.now.game.now v result }
+    {
+        self.solution.winner(v) == 0
+    }
+}
+
+/// The solution as a certificate of the game.
+///
+/// # Errors
+///
+/// The least vertex at which a rule fails, with the first such rule, where the solution is no certificate. A
+/// list of a wrong length is a flaw at vertex 0, before all others.
+pub fn check<'a>(game: &'a Game, solution: &'a Solution) -> Result<Checked<'a>, Flaw>
+    ensures certificate { IsOk result ↔ IsCertificate game.entry.now solution.entry.now }
+    ensures flaw { IfErr result (λ flaw. IsFirstFlaw game.entry.now solution.entry.now flaw.vertex flaw.rule) }
+    ensures same_game { IfOk result (λ checked. checked.game.now ≡ game.entry.now) }
+    ensures same_solution { IfOk result (λ checked. checked.solution.now ≡ solution.entry.now) }
+{
+    if !has_lengths(game, solution) {
+        return Err(Flaw {
+            vertex: 0,
+            rule: Rule::Length,
+        });
+    }
+    for vertex in 0..game.len() {
+        if let Some(rule) = flaw_at(game, solution, vertex) {
+            return Err(Flaw { vertex, rule });
+        }
+    }
+    Ok(Checked { game, solution })
+}
+
+/// Whether the lists have their lengths.
+fn has_lengths(game: &Game, solution: &Solution) -> bool
+    ensures { IsTrue result ↔ HasLengths game.now solution.now }
+{
+    let vertices = game.len() as usize;
+    let priorities = game.greatest_priority() as usize + 1;
+    solution.winner.len() == vertices
+        && solution.choice.len() == vertices
+        && solution.counts.len() == vertices * priorities
+}

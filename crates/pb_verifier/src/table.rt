@@ -1,0 +1,54 @@
+//! What is known of the places to come.
+
+ghost use Rattle.std.specs.Prelude.{◌≡◌, ◌<◌, OnErr, OnOk, Some, None};
+ghost use Rattle.pb_abstract_state.specs.Edges.{edges_of};
+ghost use Rattle.pb_verifier.specs.Pass.{merge_edges as merged_edges, merge_state as merged_state};
+
+use pb_abstract_state::{AbstractState, Edges, Rule};
+
+/// Joins a state into what is known at a place.
+pub fn merge(
+    table: &mut Vec<Option<AbstractState>>,
+    to: usize,
+    state: AbstractState,
+) -> Result<(), Rule>
+    ensures ok { OnOk result (merged_state table.old.items to state ≡ Some table.new.items) }
+    ensures err { OnErr result (merged_state table.old.items to state ≡ None) }
+{
+    if to >= table.len() {
+        return Err(Rule::PastTheEnd);
+    }
+    match table[to].take() {
+        None => {
+            table[to] = Some(state);
+            Ok(())
+        }
+        Some(known) => match known.join(&state) {
+            None => Err(Rule::WaysDiffer),
+            Some(joined) => {
+                table[to] = Some(joined);
+                Ok(())
+            }
+        },
+    }
+}
+
+/// Joins what flows from a place: first into the next place, then into the target.
+pub fn merge_edges(
+    table: &mut Vec<Option<AbstractState>>,
+    place: usize,
+    edges: Edges,
+) -> Result<(), Rule>
+    requires { place < 65536 }
+    ensures ok { OnOk result (merged_edges table.old.items (edges_of place edges.next edges.jump) ≡ Some table.new.items) }
+    ensures err { OnErr result (merged_edges table.old.items (edges_of place edges.next edges.jump) ≡ None) }
+{
+    let Edges { next, jump } = edges;
+    if let Some(state) = next {
+        merge(table, place + 1, state)?;
+    }
+    if let Some((to, state)) = jump {
+        merge(table, to, state)?;
+    }
+    Ok(())
+}

@@ -1,0 +1,78 @@
+//! One place of the pass.
+
+ghost use Rattle.std.specs.Prelude.{◌≡◌, ◌<◌, None, OnErr, OnOk, Option, Some, map, vec_items};
+ghost use Rattle.pb_code.specs.Monotone.{HasOrderedRange};
+ghost use Rattle.pb_abstract_state.specs.Refusals.{OnRefused};
+ghost use Rattle.pb_code.specs.Counts.{Straight, loop_effect};
+ghost use Rattle.pb_code.specs.Machine.{Program, carrier_of};
+ghost use Rattle.pb_code.specs.Transfer.{AbstractState as Known, transfer};
+ghost use Rattle.pb_code.specs.declared.instruction.Op.TheVariants as op;
+ghost use Rattle.pb_verifier.specs.Pass.{merge_edges as merged_edges, then_table};
+
+use crate::table::{merge, merge_edges};
+use pb_abstract_state::flow::flow;
+use pb_abstract_state::{AbstractState, FlowError, Rule};
+use pb_code::Op;
+use pb_sorts::Carrier;
+use std::alloc::Global;
+
+/// Joins what flows from an instruction, other than the start and the end of a loop, into the table. `sorts` has the
+/// counts of enumerators, `callees` the carriers of each equation's parameters.
+pub fn visit(
+    state: AbstractState,
+    alloc: Global,
+    sorts: &[u8],
+    callees: &[Vec<Carrier>],
+    place: usize,
+    instruction: Op,
+    table: &mut Vec<Option<AbstractState>>,
+) -> Result<(), FlowError>
+    requires straight { loop_effect instruction ≡ Straight }
+    requires bounds { HasOrderedRange instruction }
+    requires small { place < 65536 }
+    ensures ok { OnOk result ((p : Program) (home : Option Known) → p.sorts ≡ sorts.now → p.callees ≡ map vec_items callees.now → then_table (transfer p home place instruction state) (merged_edges table.old.items) ≡ Some table.new.items) }
+    ensures refused { OnRefused result ((p : Program) (home : Option Known) → p.sorts ≡ sorts.now → p.callees ≡ map vec_items callees.now → then_table (transfer p home place instruction state) (merged_edges table.old.items) ≡ None) }
+{
+    let edges = flow(state, alloc, sorts, callees, instruction)?;
+    merge_edges(table, place, edges)?;
+    Ok(())
+}
+
+/// Joins what flows from the start of a loop into the table. `carrier` is the slot's, if it is a loop slot.
+pub fn visit_loop(
+    state: &AbstractState,
+    alloc: Global,
+    slot: u8,
+    carrier: Option<Carrier>,
+    place: usize,
+    table: &mut Vec<Option<AbstractState>>,
+) -> Result<(), FlowError>
+    requires { place < 65536 }
+    ensures ok { OnOk result ((p : Program) (home : Option Known) → carrier_of p slot ≡ carrier → then_table (transfer p home place (op.Loop slot) state.now) (merged_edges table.old.items) ≡ Some table.new.items) }
+    ensures refused { OnRefused result ((p : Program) (home : Option Known) → carrier_of p slot ≡ carrier → then_table (transfer p home place (op.Loop slot) state.now) (merged_edges table.old.items) ≡ None) }
+{
+    let Some(carrier) = carrier else {
+        return Err(FlowError::Refused(Rule::UnknownName));
+    };
+    let body = state.enter_loop(alloc, slot, carrier)?;
+    merge(table, place + 1, body)?;
+    Ok(())
+}
+
+/// Joins what flows from the end of a loop into the table. `home` is what was known at the loop's start.
+pub fn visit_next(
+    state: &AbstractState,
+    home: Option<AbstractState>,
+    place: usize,
+    table: &mut Vec<Option<AbstractState>>,
+) -> Result<(), Rule>
+    requires { place < 65536 }
+    ensures ok { OnOk result ((p : Program) → then_table (transfer p home place op.Next state.now) (merged_edges table.old.items) ≡ Some table.new.items) }
+    ensures err { OnErr result ((p : Program) → then_table (transfer p home place op.Next state.now) (merged_edges table.old.items) ≡ None) }
+{
+    let Some(known) = home else {
+        return Err(Rule::LoopStructure);
+    };
+    let after = state.leave_loop(known)?;
+    merge(table, place + 1, after)
+}

@@ -1,0 +1,11 @@
+pub mod Forcing
+pub mod Counts
+pub mod Frames
+pub mod Measures
+pub mod Won
+pub mod LevelLemmas
+pub mod LostLemmas
+pub mod TurnLemmas
+pub mod Whole
+pub mod RoundLemmas
+pub mod PackedLemmas

@@ -1,0 +1,13 @@
+use Rattle.std.proofs.Common.{◌≡◌, ℕ, ◌<◌, ◌≤◌}
+use Rattle.pb_game.specs.Games.{vertex_count}
+use Rattle.pb_certificate.specs.Solutions.{HasLengths}
+use Rattle.pb_zielonka.specs.Changes.{IsSameAt, IsLostAt}
+use Rattle.pb_zielonka.proofs.changes.lose.Given as goal
+
+abbrev pub invariant-loop-v : goal.invariant-loop-v
+invariant-loop-v l = record {
+  end : l.v-end ≡ vertex_count l.game;
+  lengths : HasLengths l.game l.solution;
+  done : (w : ℕ) → w < l.v → IsLostAt l.game l.initial.solution l.solution l.attractor l.opponent l.top l.base w;
+  rest : (w : ℕ) → l.v ≤ w → IsSameAt l.game l.initial.solution l.solution w;
+}
