@@ -5,7 +5,7 @@ use crate::encode::encode;
 use crate::fault::{ModuleError, Rule};
 use crate::list::list;
 use crate::version::Version;
-use pb_code::Op;
+use pb_code::{Arithmetic, Leaf, Op};
 use std::alloc::Global;
 use std::process::Abort;
 use std::test::Fail;
@@ -31,6 +31,14 @@ const TESTED: [u8; 73] = [
     0x25, 0x00, 0x01, 0x00, 0x00, 0x00, 0x09, 0x00, 0x00, 0x00, 0x07, 0x00, 0x04, 0x00, 0x01, 0x01,
     0x00, 0x00, 0x00, 0x00, 0x00, 0x00, 0x00, 0x07, 0x24, 0x00, 0x18, 0x08, 0x00, 0x21, 0x20, 0x00,
     0x00, 0x09, 0x00, 0x00, 0x00, 0x00, 0x00, 0x00, 0x00,
+];
+
+/// Code that divides by a parameter from 0 to 3.
+const DIVIDES: [u8; 55] = [
+    0x50, 0x42, 0x45, 0x53, 0x01, 0x00, 0x01, 0x01, 0x01, 0x58, 0x01, 0x02, 0x00, 0x00, 0x00, 0x00,
+    0x03, 0x00, 0x00, 0x00, 0x00, 0x06, 0x00, 0x00, 0x00, 0x01, 0x00, 0x00, 0x00, 0x06, 0x00, 0x01,
+    0x04, 0x00, 0x00, 0x00, 0x00, 0x00, 0x00, 0x00, 0x04, 0x00, 0x0a, 0x05, 0x21, 0x00, 0x00, 0x00,
+    0x00, 0x00, 0x00, 0x00, 0x00, 0x00, 0x00,
 ];
 
 fn assert_fault(rt: &impl Abort, alloc: Global, bytes: &[u8], rule: Rule, byte: usize) {
@@ -59,6 +67,37 @@ fn lists_a_module(rt: HostRuntime) -> Result<(), Fail> {
     let wanted =
         b"sort 0 a b c\nequation 0 nu X\nparam 0 Enum 0\nloop 1 Enum 0\nsteps 28\ntokens 5\n0 AND\n1 LOOP 1\n2 GET 1\n3 GET 0\n4 NE\n5 NOT\n6 JT 9\n7 GET 1\n8 CALL 0\n9 NEXT\n10 CLOSE\n11 END\ninit 0 0\n";
     assert_eq!(rt; text.as_slice(), wanted.as_slice());
+    Ok(())
+}
+
+#[test]
+fn lists_a_slot_test(rt: HostRuntime) -> Result<(), Fail> {
+    let module = decode(rt.alloc(), &TESTED)?;
+    let text = list(rt.alloc(), &module)?;
+    let wanted =
+        b"equation 0 mu X\nparam 0 Range 0 9\nsteps 10\ntokens 4\n0 OR\n1 INL 0 1 9 7\n2 GET 0\n3 INT 1\n4 SUB\n5 CALL 0\n6 JMP 8\n7 YES\n8 CLOSE\n9 END\ninit 0 9\n";
+    assert_eq!(rt; text.as_slice(), wanted.as_slice());
+    Ok(())
+}
+
+#[test]
+fn reads_what_only_a_verifier_refuses(rt: HostRuntime) -> Result<(), Fail> {
+    let module = decode(rt.alloc(), &DIVIDES)?;
+    assert_eq!(rt; module.equations.len(), 1);
+    assert_eq!(rt;
+        module.equations[0].code.as_slice(),
+        [
+            Op::PushInt(4),
+            Op::Get { slot: 0 },
+            Op::Arithmetic(Arithmetic::Div),
+            Op::Pop,
+            Op::Emit(Leaf::Yes),
+            Op::End
+        ]
+        .as_slice()
+    );
+    let written = encode(rt.alloc(), &module)?;
+    assert_eq!(rt; written.as_slice(), DIVIDES.as_slice());
     Ok(())
 }
 
