@@ -7,3 +7,4 @@ pub mod Reading
 pub mod Views
 pub mod Decoded
 pub mod Countable
+pub mod Meaning
