@@ -1,26 +1,16 @@
 //! Formulas as they are read.
 
+use crate::name::Name;
+use crate::operator::{Connective, Quantifier};
 use crate::place::Place;
-
-/// A connective of two formulas.
-#[derive(Clone, Copy, Debug, PartialEq, Eq)]
-pub enum Connective {
-    And,
-    Or,
-    Implies,
-}
-
-/// A name, where it stands.
-#[derive(Debug, Drop)]
-pub struct Name {
-    pub place: Place,
-    pub text: String,
-}
+use crate::term::{Argument, Term};
+use crate::variable::Variables;
 
 /// An instance of a predicate variable.
 #[derive(Debug, Drop)]
 pub struct Instance {
     pub name: Name,
+    pub arguments: Vec<Argument>,
 }
 
 /// A formula.
@@ -32,7 +22,12 @@ pub enum Formula {
         place: Place,
         value: bool,
     },
-    /// A predicate variable.
+    /// `val` and its data term, the place being that of `val`.
+    Value {
+        place: Place,
+        term: Term,
+    },
+    /// A predicate variable with its arguments.
     Instance(Instance),
     /// `!` and its operand, the place being that of `!`.
     Negation {
@@ -44,6 +39,13 @@ pub enum Formula {
         connective: Connective,
         first: Box<Formula>,
         links: Vec<Link>,
+    },
+    /// A quantifier with its variables and its body, the place being that of the quantifier.
+    Quantified {
+        place: Place,
+        quantifier: Quantifier,
+        variables: Vec<Variables>,
+        body: Box<Formula>,
     },
 }
 

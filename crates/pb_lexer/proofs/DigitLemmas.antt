@@ -1,17 +1,16 @@
 -- Digits and the number that they write.
-use Rattle.std.proofs.Common.{◌≡◌, ℕ, suc, ◌+◌, ◌*◌, ◌-◌, ◌<◌, ◌≤◌, Bool, true, false, cond, List, [], ◌∷◌, length, take, drop, get_or, refl, ap, ◌∙◌, arith, subst}
+use Rattle.std.proofs.Common.{◌≡◌, ℕ, suc, ◌+◌, ◌*◌, ◌-◌, ◌<◌, ◌≤◌, Bool, true, false, cond, List, [], ◌∷◌, length, take, drop, get_or, refl, sym, ap, ◌∙◌, arith, subst, None}
 use Rattle.std.specs.Char.{is_ascii_digit, digit_value}
 use Rattle.std.specs.Str.Parse.{digits_value, AllDigits}
 use Rattle.std.proofs.lemmas.Str.Parse.{digit_at, digits_value-take-le}
 use Rattle.std.proofs.lemmas.Str.{digit_value_digit}
 use Rattle.std.proofs.lemmas.Int.Digits.{digits_value_more}
 use Rattle.std.specs.List.{prefix_len}
+use Rattle.std.proofs.lemmas.List.{take_all}
 use Rattle.std.proofs.lemmas.List.Folds.{length-prefix_len}
 use Rattle.std.proofs.lemmas.Grind.{common_steps}
 use Rattle.std.proofs.lemmas.Bool.Decides.{nat_tests}
-use Rattle.pb_lexer.specs.declared.kind.Kind.TheVariants as k
-use Rattle.pb_lexer.specs.declared.piece.Piece.TheVariants.{Stop}
-use Rattle.pb_lexer.specs.Lexing.{digits, largest_number, number}
+use Rattle.pb_lexer.specs.Bytes.{digits, value_within}
 
 -- one digit more
 pub one-more : (ds : List ℕ) (i value digit : ℕ) → AllDigits 10 ds → i < length ds → value ≡ digits_value 10 (take i ds) → digit ≡ get_or ds i 0 - 48
@@ -29,11 +28,10 @@ pub digit-at-most : (ds : List ℕ) (i : ℕ) → AllDigits 10 ds → i < length
 digit-at-most ds i all at = let p = (digit_at ds i all at).1 in omega arith
 
 -- a number whose first digits write too much is too large
-pub number-large : (ds : List ℕ) (i : ℕ) → largest_number < digits_value 10 (take i ds) → number ds ≡ Stop k.LargeNumber
-unfolding number
-number-large ds i large =
+pub value-large : (largest : ℕ) (ds : List ℕ) (i : ℕ) → largest < digits_value 10 (take i ds) → value_within largest ds ≡ None
+value-large largest ds i large =
     let more = digits_value-take-le 10 ds i (omega arith) in
-    let whole : largest_number < digits_value 10 ds = omega arith in
+    let whole : largest < digits_value 10 ds = omega arith in
     grind (arith, nat_tests)
 
 digit-value : (b : ℕ) → is_ascii_digit b ≡ true → digit_value b < 10
@@ -63,3 +61,17 @@ digits-at (b ∷ bs) n some digit count =
     let same : n ≡ prefix_len is_ascii_digit bs = count ∙ ap (λ v. length (digits v)) (behind-first b bs) ∙ length-prefix_len is_ascii_digit bs in
     let more : suc (prefix_len is_ascii_digit bs) ≡ 1 + n = omega arith in
     subst (λ (n : ℕ). AllDigits 10 (take n (b ∷ bs))) more (digit-value b digit, front-digits bs)
+
+-- a word that is digits alone
+pub all-digits : (bs : List ℕ) → length (digits bs) ≡ length bs → AllDigits 10 bs
+all-digits bs count =
+    let same : prefix_len is_ascii_digit bs ≡ length bs = sym (length-prefix_len is_ascii_digit bs) ∙ count in
+    let whole : digits bs ≡ bs = ap (λ n. take n bs) same ∙ take_all (length bs) bs (omega arith) in
+    subst (λ (v : List ℕ). AllDigits 10 v) whole (front-digits bs)
+
+-- a digit and the digits behind it
+pub front-all : (b : ℕ) (bs : List ℕ) → is_ascii_digit b ≡ true → AllDigits 10 (take (1 + length (digits bs)) (b ∷ bs))
+front-all b bs e =
+    let same = length-prefix_len is_ascii_digit bs in
+    let more : suc (prefix_len is_ascii_digit bs) ≡ 1 + length (digits bs) = omega arith in
+    subst (λ (n : ℕ). AllDigits 10 (take n (b ∷ bs))) more (digit-value b e, front-digits bs)

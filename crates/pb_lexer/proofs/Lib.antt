@@ -5,3 +5,8 @@ pub mod TokenLemmas
 pub mod CutLemmas
 pub mod Correct
 pub mod CorrectSeries
+pub mod CorrectChained
+pub mod CorrectEither
+pub mod CorrectPlain
+pub mod CorrectLeft
+pub mod LoopLemmas

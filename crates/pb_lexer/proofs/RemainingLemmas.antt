@@ -6,8 +6,10 @@ use Rattle.pb_lexer.specs.declared.kind.Kind.TheVariants.{End}
 use Rattle.pb_lexer.specs.declared.piece.Piece.{Piece}
 use Rattle.pb_lexer.specs.declared.piece.Piece.TheVariants.{Blank, Token, Stop}
 use Rattle.pb_lexer.specs.Kinds.{is_last}
+use Rattle.pb_ast.specs.Form.{RangeForm}
+use Rattle.pb_lexer.specs.RangeLines.{ranges_at}
 use Rattle.pb_lexer.specs.Lexing.{piece, past, next_place, Cuts, none, blank, token}
-use Rattle.pb_lexer.specs.Remaining.{tokens_from, tokens_of}
+use Rattle.pb_lexer.specs.Remaining.{tokens_from, tokens_of, ranges_from, ranges_of}
 use Rattle.pb_lexer.specs.Steps.{ends}
 use Rattle.pb_lexer.specs.Tokens.{Tok, token_at}
 use Rattle.pb_lexer.proofs.PieceLemmas.{TakesOf, piece-takes, token-takes, stop-takes}
@@ -45,37 +47,95 @@ unfolding tokens_from piece
 stop-step [] kind p e = let same : End ≡ kind = cc in ap (λ v. token_at p v [] ∷ []) same
 stop-step (b ∷ bs) kind p e = ap (λ v. tokens_of v p (b ∷ bs) (λ m. tokens_from bs m (next_place p b))) e
 
--- The tokens: the bytes are cut into them up to where no token stands, and the last one says why.
-pub record IsLexed (p : Place) (bs : List ℕ) (tokens : List Tok) : Type 0 where
+-- ---- range lines
+
+skip-ranges : (bs : List ℕ) (n : ℕ) (p : Place) → n ≤ length bs → ranges_from bs n p ≡ ranges_from (drop n bs) 0 (past p (take n bs))
+unfolding ranges_from
+skip-ranges [] zero p le = refl
+skip-ranges [] (suc n) p le = absurd (omega arith)
+skip-ranges (b ∷ bs) zero p le = refl
+skip-ranges (b ∷ bs) (suc n) p le = skip-ranges bs n (next_place p b) (omega arith)
+
+-- the range lines after a piece
+passed-ranges : (b : ℕ) (bs : List ℕ) (n : ℕ) (p : Place) → 0 < n → n ≤ length (b ∷ bs)
+    → ranges_from bs (n - 1) (next_place p b) ≡ ranges_from (drop n (b ∷ bs)) 0 (past p (take n (b ∷ bs)))
+passed-ranges b bs zero p some le = absurd (omega arith)
+passed-ranges b bs (suc n) p some le =
+    let same : suc n - 1 ≡ n = omega arith in
+    ap (λ m. ranges_from bs m (next_place p b)) same ∙ skip-ranges bs n (next_place p b) (omega arith)
+
+pub blank-ranges : (bs : List ℕ) (n : ℕ) (p : Place) → piece p bs ≡ Blank n → 0 < n → n ≤ length bs
+    → ranges_from bs 0 p ≡ ranges_at p bs ++ ranges_from (drop n bs) 0 (past p (take n bs))
+unfolding ranges_from
+blank-ranges [] n p e some le = absurd (omega arith)
+blank-ranges (b ∷ bs) n p e some le =
+    ap (λ v. ranges_of v (ranges_at p (b ∷ bs)) (λ m. ranges_from bs m (next_place p b))) e ∙ ap (λ v. ranges_at p (b ∷ bs) ++ v) (passed-ranges b bs n p some le)
+
+pub token-ranges : (bs : List ℕ) (kind : Kind) (n : ℕ) (p : Place) → piece p bs ≡ Token kind n → 0 < n → n ≤ length bs
+    → ranges_from bs 0 p ≡ ranges_from (drop n bs) 0 (past p (take n bs))
+unfolding ranges_from
+token-ranges [] kind n p e some le = absurd (omega arith)
+token-ranges (b ∷ bs) kind n p e some le =
+    ap (λ v. ranges_of v (ranges_at p (b ∷ bs)) (λ m. ranges_from bs m (next_place p b))) e ∙ passed-ranges b bs n p some le
+
+pub stop-ranges : (bs : List ℕ) (kind : Kind) (p : Place) → piece p bs ≡ Stop kind → ranges_from bs 0 p ≡ []
+unfolding ranges_from
+stop-ranges [] kind p e = refl
+stop-ranges (b ∷ bs) kind p e = ap (λ v. ranges_of v (ranges_at p (b ∷ bs)) (λ m. ranges_from bs m (next_place p b))) e
+
+-- The tokens and range lines: the bytes are cut into them up to where no token stands, and the last token says why.
+pub record IsLexed (p : Place) (bs : List ℕ) (tokens : List Tok) (found : List RangeForm) : Type 0 where
   pub front : List Tok
+  pub ranges : List RangeForm
   pub place : Place
   pub rest : List ℕ
   pub kind : Kind
-  pub cut : Cuts p bs front place rest
+  pub cut : Cuts p bs front ranges place rest
   pub stops : piece place rest ≡ Stop kind
   pub is : tokens ≡ front ++ token_at place kind [] ∷ []
+  pub same : found ≡ ranges
 
-lexed-by : (p : Place) (bs : List ℕ) → ((q : Place) (cs : List ℕ) → length cs < length bs → IsLexed q cs (tokens_from cs 0 q))
-    → (v : Piece) → piece p bs ≡ v → TakesOf v bs → IsLexed p bs (tokens_from bs 0 p)
+lexed-by : (p : Place) (bs : List ℕ) → ((q : Place) (cs : List ℕ) → length cs < length bs → IsLexed q cs (tokens_from cs 0 q) (ranges_from cs 0 q))
+    → (v : Piece) → piece p bs ≡ v → TakesOf v bs → IsLexed p bs (tokens_from bs 0 p) (ranges_from bs 0 p)
 lexed-by p bs again (Blank n) e takes =
     let some = takes.0 in
     let le = takes.1 in
     let a = again (past p (take n bs)) (drop n bs) (omega (arith, length-drop n bs)) in
-    record { front = a.front; place = a.place; rest = a.rest; kind = a.kind; cut = blank e a.cut; stops = a.stops; is = blank-step bs n p e some le ∙ a.is }
+    record {
+      front = a.front;
+      ranges = ranges_at p bs ++ a.ranges;
+      place = a.place;
+      rest = a.rest;
+      kind = a.kind;
+      cut = blank e a.cut;
+      stops = a.stops;
+      is = blank-step bs n p e some le ∙ a.is;
+      same = blank-ranges bs n p e some le ∙ ap (λ v. ranges_at p bs ++ v) a.same;
+    }
 lexed-by p bs again (Token kind n) e takes =
     let some = takes.0 in
     let le = takes.1 in
     let a = again (past p (take n bs)) (drop n bs) (omega (arith, length-drop n bs)) in
     let t = token_at p kind (take n bs) in
-    record { front = t ∷ a.front; place = a.place; rest = a.rest; kind = a.kind; cut = token e a.cut; stops = a.stops; is = token-step bs kind n p e some le ∙ ap (λ v. t ∷ v) a.is }
+    record {
+      front = t ∷ a.front;
+      ranges = a.ranges;
+      place = a.place;
+      rest = a.rest;
+      kind = a.kind;
+      cut = token e a.cut;
+      stops = a.stops;
+      is = token-step bs kind n p e some le ∙ ap (λ v. t ∷ v) a.is;
+      same = token-ranges bs kind n p e some le ∙ a.same;
+    }
 lexed-by p bs again (Stop kind) e takes =
-    record { front = []; place = p; rest = bs; kind = kind; cut = none; stops = e; is = stop-step bs kind p e }
+    record { front = []; ranges = []; place = p; rest = bs; kind = kind; cut = none; stops = e; is = stop-step bs kind p e; same = stop-ranges bs kind p e }
 
-lexed-within : (n : ℕ) (p : Place) (bs : List ℕ) → length bs ≤ n → IsLexed p bs (tokens_from bs 0 p)
+lexed-within : (n : ℕ) (p : Place) (bs : List ℕ) → length bs ≤ n → IsLexed p bs (tokens_from bs 0 p) (ranges_from bs 0 p)
 lexed-within zero p bs le = lexed-by p bs (λ q cs h. absurd (omega arith)) (piece p bs) refl (piece-takes p bs).is
 lexed-within (suc n) p bs le = lexed-by p bs (λ q cs h. lexed-within n q cs (omega arith)) (piece p bs) refl (piece-takes p bs).is
 
-pub lexed : (p : Place) (bs : List ℕ) → IsLexed p bs (tokens_from bs 0 p)
+pub lexed : (p : Place) (bs : List ℕ) → IsLexed p bs (tokens_from bs 0 p) (ranges_from bs 0 p)
 lexed p bs = lexed-within (length bs) p bs (omega arith)
 
 -- ---- the last token, and no other, is one behind which none stands
@@ -84,14 +144,14 @@ ends-cons : (t e : Tok) (ts : List Tok) → is_last t.kind ≡ false → ends (t
 ends-cons t e [] other h = ap (λ v. cond v false (is_last e.kind)) other ∙ h
 ends-cons t e (u ∷ ts) other h = ap (λ v. cond v false (ends (u ∷ (ts ++ e ∷ [])))) other ∙ h
 
-cuts-ends : (p q : Place) (bs rest : List ℕ) (ts : List Tok) (e : Tok) → Cuts p bs ts q rest → is_last e.kind ≡ true → ends (ts ++ e ∷ []) ≡ true
-cuts-ends p q bs rest ts e none h = h
-cuts-ends p q bs rest ts e (blank f c) h = cuts-ends _ q _ rest _ e c h
-cuts-ends p q bs rest ts e (token {kind = kind} {n = n} f c) h =
-    ends-cons (token_at p kind (take n bs)) e _ (token-takes p bs kind n (sym f)).2 (cuts-ends _ q _ rest _ e c h)
+cuts-ends : (p q : Place) (bs rest : List ℕ) (ts : List Tok) (rs : List RangeForm) (e : Tok) → Cuts p bs ts rs q rest → is_last e.kind ≡ true → ends (ts ++ e ∷ []) ≡ true
+cuts-ends p q bs rest ts rs e none h = h
+cuts-ends p q bs rest ts rs e (blank f c) h = cuts-ends _ q _ rest _ _ e c h
+cuts-ends p q bs rest ts rs e (token {kind = kind} {n = n} f c) h =
+    ends-cons (token_at p kind (take n bs)) e _ (token-takes p bs kind n (sym f)).2 (cuts-ends _ q _ rest _ _ e c h)
 
 pub tokens-end : (p : Place) (bs : List ℕ) → ends (tokens_from bs 0 p) ≡ true
 tokens-end p bs =
     let l = lexed p bs in
     subst (λ (v : List Tok). ends v ≡ true) (sym l.is)
-    (cuts-ends p l.place bs l.rest l.front (token_at l.place l.kind []) l.cut (stop-takes l.place l.rest l.kind (sym l.stops)).0)
+    (cuts-ends p l.place bs l.rest l.front l.ranges (token_at l.place l.kind []) l.cut (stop-takes l.place l.rest l.kind (sym l.stops)).0)

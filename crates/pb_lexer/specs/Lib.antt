@@ -1,7 +1,11 @@
 pub mod Kinds
 pub mod Tokens
+pub mod Bytes
+pub mod RangeLines
 pub mod Lexing
 pub mod Grammar
+pub mod OpenGrammar
+pub mod LeftGrammar
 pub mod Steps
 pub mod Remaining
 pub mod View

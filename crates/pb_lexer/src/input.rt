@@ -1,6 +1,7 @@
 //! The tokens that a reader has before it, one of which it sees, and the steps that take them.
 
 ghost use Rattle.std.specs.Prelude.{◌≡◌, ◌-◌, ◌<◌, ◌^◌, length, false, Ok, OnOk};
+ghost use Rattle.std.specs.Str.Parse.{digits_value};
 ghost use Rattle.pb_lexer.specs.Grammar.{State};
 ghost use Rattle.pb_lexer.specs.Kinds.{is_last};
 ghost use Rattle.pb_lexer.specs.Lexing.{start};
@@ -9,9 +10,11 @@ ghost use Rattle.pb_lexer.specs.Steps as spec;
 ghost use Rattle.pb_lexer.specs.Steps.{Gives};
 ghost use Rattle.pb_lexer.specs.Tokens.{tok};
 
+use crate::digits::value_within;
 use crate::fault::{Fault, Refusal, Rule};
 use crate::kind::{Kind, same_kind};
 use crate::lexer::{Lexer, first_token};
+use crate::piece::LARGEST_NUMBER;
 use crate::token::Token;
 use pb_ast::Place;
 use std::marker::Model;
@@ -53,6 +56,24 @@ impl<'a> Input<'a> {
         ensures { result ≡ spec.kind self.now }
     {
         self.lexer.token.kind
+    }
+
+    /// Where the next token stands.
+    pub fn place(&self) -> Place
+        ensures { result ≡ spec.place self.now }
+    {
+        self.lexer.token.place
+    }
+
+    /// The value of the next token, a number.
+    pub fn number(&self) -> u64
+        requires { spec.kind self.now ≡ Kind.Number }
+        ensures { result ≡ digits_value 10 (spec.head_text self.now.tokens) }
+    {
+        match value_within(self.lexer.token.text.as_bytes(), LARGEST_NUMBER) {
+            Some(value) => value,
+            None => unreachable!(),
+        }
     }
 
     /// How many operators with two operands may still come.

@@ -3,7 +3,7 @@
 ghost use Rattle.std.specs.Prelude.{◌≡◌, ◌+◌, ◌≤◌, ◌<◌, ◌^◌, length};
 ghost use Rattle.std.specs.Str.{IsAscii};
 ghost use Rattle.pb_lexer.specs.Lexing as spec;
-ghost use Rattle.pb_lexer.specs.Remaining.{IsWithin, remaining, tokens_from};
+ghost use Rattle.pb_lexer.specs.Remaining.{HasDigits, IsWithin, remaining, tokens_from};
 
 use crate::piece::{Piece, front_piece};
 use crate::token::Token;
@@ -19,7 +19,7 @@ pub struct Lexer<'a> {
 }
 
 /// The place behind the bytes.
-fn past(place: Place, bytes: &[u8]) -> Place
+pub fn past(place: Place, bytes: &[u8]) -> Place
     requires { IsWithin place bytes.now }
     ensures value { result ≡ spec.past place bytes.now }
     ensures line { result.line ≤ place.line + length bytes.now }
@@ -38,7 +38,7 @@ fn past(place: Place, bytes: &[u8]) -> Place
 }
 
 /// Bytes of a token as text.
-fn text_of(bytes: &[u8]) -> &str
+pub fn text_of(bytes: &[u8]) -> &str
     requires { IsAscii bytes.now }
     ensures { result.now ≡ bytes.now }
 {
@@ -53,6 +53,7 @@ pub fn first_token<'a>(bytes: &'a [u8], place: Place) -> Lexer<'a>
     requires { IsWithin place bytes.now }
     ensures gives { remaining result ≡ tokens_from bytes.now 0 place }
     ensures within { IsWithin result.place result.rest.now }
+    ensures number { HasDigits result.token }
 {
     let mut rest = bytes;
     let mut place = place;

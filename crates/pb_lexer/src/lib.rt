@@ -6,11 +6,16 @@
 //! their productions in these words alone.
 #![tactic(auto)]
 
+pub mod bytes;
+pub mod digits;
 pub mod fault;
 pub mod input;
 pub mod kind;
 pub mod lexer;
 pub mod piece;
+pub mod range_line;
+pub mod ranges;
 #[cfg(test)]
 mod tests;
 pub mod token;
+pub mod word;

@@ -1,10 +1,14 @@
 //! What stands at the front of a text: white space, a comment, a token, or none of these.
 
-ghost use Rattle.std.specs.Prelude.{◌≡◌, ◌+◌, ◌≤◌, ◌<◌, ◌↔◌, length, IsTrue};
+ghost use Rattle.std.specs.Prelude.{◌≡◌};
 ghost use Rattle.std.specs.Str.Parse.{AllDigits};
 ghost use Rattle.pb_lexer.specs.Lexing as spec;
 
+use crate::bytes::{digits_len, is_blank, is_letter, line_len, name_len};
+use crate::digits::value_within;
 use crate::kind::Kind;
+use crate::range_line::is_wrong;
+use crate::word::word_kind;
 use pb_ast::Place;
 
 /// What stands at the front of a text, with its length in bytes.
@@ -21,34 +25,6 @@ pub enum Piece {
 /// The largest number that a text may write, 2^62.
 pub const LARGEST_NUMBER: u64 = 4_611_686_018_427_387_904;
 
-/// The reserved words.
-const WORDS: [(&str, Kind); 24] = [
-    ("sort", Kind::Sort),
-    ("struct", Kind::Struct),
-    ("pbes", Kind::Pbes),
-    ("mu", Kind::Mu),
-    ("nu", Kind::Nu),
-    ("init", Kind::Init),
-    ("val", Kind::Val),
-    ("true", Kind::True),
-    ("false", Kind::False),
-    ("forall", Kind::Forall),
-    ("exists", Kind::Exists),
-    ("div", Kind::Div),
-    ("mod", Kind::Mod),
-    ("cons", Kind::Reserved),
-    ("map", Kind::Reserved),
-    ("var", Kind::Reserved),
-    ("eqn", Kind::Reserved),
-    ("glob", Kind::Reserved),
-    ("lambda", Kind::Reserved),
-    ("whr", Kind::Reserved),
-    ("end", Kind::Reserved),
-    ("in", Kind::Reserved),
-    ("act", Kind::Reserved),
-    ("proc", Kind::Reserved),
-];
-
 /// The symbols of two bytes.
 const PAIRS: [(u8, u8, Kind); 7] = [
     (b'=', b'=', Kind::Equal),
@@ -59,65 +35,6 @@ const PAIRS: [(u8, u8, Kind); 7] = [
     (b'&', b'&', Kind::And),
     (b'|', b'|', Kind::Or),
 ];
-
-fn is_blank(b: u8) -> bool
-    ensures { result ≡ spec.is_blank b }
-{
-    b == b' ' || b == b'\t' || b == b'\n' || b == b'\r'
-}
-
-fn is_letter(b: u8) -> bool
-    ensures { result ≡ spec.is_letter b }
-{
-    b.is_ascii_alphabetic() || b == b'_'
-}
-
-fn is_name_byte(b: u8) -> bool
-    ensures { result ≡ spec.is_name_byte b }
-{
-    is_letter(b) || b.is_ascii_digit() || b == b'\''
-}
-
-fn name_len(bytes: &[u8]) -> usize
-    ensures value { result ≡ length (spec.name_bytes bytes.now) }
-    ensures fits { result ≤ length bytes.now }
-{
-    bytes.iter().take_while(|b| is_name_byte(**b)).count()
-}
-
-fn line_len(bytes: &[u8]) -> usize
-    ensures value { result ≡ length (spec.line bytes.now) }
-    ensures fits { result ≤ length bytes.now }
-{
-    bytes.iter().take_while(|b| **b != b'\n').count()
-}
-
-fn digits_len(bytes: &[u8]) -> usize
-    ensures value { result ≡ length (spec.digits bytes.now) }
-    ensures fits { result ≤ length bytes.now }
-{
-    bytes.iter().take_while(|b| b.is_ascii_digit()).count()
-}
-
-/// The kind that a table gives a word, or that of a name.
-fn kind_among(table: &[(&str, Kind)], word: &[u8]) -> Kind
-    ensures { result ≡ spec.kind_among (spec.entries table.now) word.now }
-{
-    for (text, kind) in table {
-        if text.as_bytes() == word {
-            return *kind;
-        }
-    }
-    Kind::Name
-}
-
-/// The kind of a word: that of a reserved word, or that of a name.
-#[tactic(auto, unfolding(crate::specs::Lexing::word_kind))]
-fn word_kind(word: &[u8]) -> Kind
-    ensures { result ≡ spec.word_kind word.now }
-{
-    kind_among(&WORDS, word)
-}
 
 /// The symbol of one byte.
 fn one_byte_symbol(byte: u8) -> Piece
@@ -172,27 +89,9 @@ fn number(digits: &[u8]) -> Piece
     requires { AllDigits 10 digits.now }
     ensures { result ≡ spec.number digits.now }
 {
-    let mut value: u64 = 0;
-    for digit in digits {
-        let digit = u64::from(*digit - b'0');
-        if value > (LARGEST_NUMBER - digit) / 10 {
-            return Piece::Stop(Kind::LargeNumber);
-        }
-        value = value * 10 + digit;
-    }
-    Piece::Token(Kind::Number, digits.len())
-}
-
-/// Whether a comment that goes on with these bytes is a range line, if it begins its line.
-fn begins_range(bytes: &[u8]) -> bool
-    ensures { result ≡ spec.begins_range bytes.now }
-{
-    match bytes {
-        [b'r', b'a', b'n', b'g', b'e'] => true,
-        [b'r', b'a', b'n', b'g', b'e', next, ..] => *next == b' '
-            || *next == b'\t'
-            || *next == b'\n',
-        _ => false,
+    match value_within(digits, LARGEST_NUMBER) {
+        None => Piece::Stop(Kind::LargeNumber),
+        Some(_) => Piece::Token(Kind::Number, digits.len()),
     }
 }
 
@@ -210,7 +109,7 @@ pub fn front_piece(place: Place, bytes: &[u8]) -> Piece
         return Piece::Blank(1);
     }
     if first == b'%' {
-        if place.column == 1 && begins_range(rest) {
+        if place.column == 1 && is_wrong(rest) {
             return Piece::Stop(Kind::RangeLine);
         }
         return Piece::Blank(1 + line_len(rest));

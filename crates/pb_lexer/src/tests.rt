@@ -1,10 +1,13 @@
 //! Which tokens a text has.
 
+ghost use Rattle.std.specs.Prelude.{◌<◌, length};
+
 use crate::fault::{Fault, Rule};
 use crate::input::Input;
 use crate::kind::{Kind, is_last, same_kind};
 use crate::lexer::first_token;
 use crate::piece::{Piece, front_piece};
+use crate::ranges::ranges;
 use pb_ast::Place;
 use std::alloc::Global;
 use std::process::Abort;
@@ -130,8 +133,10 @@ fn stops_where_no_token_stands(rt: HostRuntime) -> Result<(), Fail> {
     let a = rt.alloc();
     let found = kinds(&rt, a, b"X & X")?;
     assert_eq!(rt; found.as_slice(), [Kind::Name, Kind::Unknown].as_slice());
-    let found = kinds(&rt, a, b"X\n%range\tInt 0 9")?;
+    let found = kinds(&rt, a, b"X\n%range\tInt 0")?;
     assert_eq!(rt; found.as_slice(), [Kind::Name, Kind::RangeLine].as_slice());
+    let found = kinds(&rt, a, b"X\n%range\tInt 0 9")?;
+    assert_eq!(rt; found.as_slice(), [Kind::Name, Kind::End].as_slice());
     let found = kinds(&rt, a, b"X %range Int 0 9\n%range\r\n%rang\xc3\xa9")?;
     assert_eq!(rt; found.as_slice(), [Kind::Name, Kind::End].as_slice());
     let found = kinds(&rt, a, b"X\xc3\xa9")?;
@@ -203,4 +208,81 @@ fn takes_tokens(rt: HostRuntime) -> Result<(), Fail> {
         10
     );
     Ok(())
+}
+
+/// Whether a text is one range line that says nothing.
+fn is_refused(text: &[u8]) -> bool
+    requires { length text.now < 1000 }
+{
+    let token = Input::new(text, 0);
+    same_kind(token.kind(), Kind::RangeLine)
+}
+
+#[test]
+fn refuses_range_lines_that_say_nothing(rt: HostRuntime) {
+    assert!(rt; is_refused(b"%range"));
+    assert!(rt; is_refused(b"%range \n"));
+    assert!(rt; is_refused(b"%range Nat"));
+    assert!(rt; is_refused(b"%range Nat 0"));
+    assert!(rt; is_refused(b"%range Nat 0 9 9"));
+    assert!(rt; is_refused(b"%range Nat 9 0"));
+    assert!(rt; is_refused(b"%range Nat +1 9"));
+    assert!(rt; is_refused(b"%range Nat 0 -"));
+    assert!(rt; is_refused(b"%range Nat 0 2147483648"));
+    assert!(rt; is_refused(b"%range Nat -2147483649 0"));
+    assert!(rt; is_refused(b"%range Nat 0 99999999999999999999"));
+    assert!(rt; is_refused(b"%range Nat\r0 9"));
+    assert!(rt; is_refused(b"%range Nat 0 9\r\r"));
+    assert!(rt; is_refused(b"%range Nat 0 9\r \n"));
+    assert!(rt; is_refused(b"%range proc 0 9"));
+    assert!(rt; is_refused(b"%range 1 0 9"));
+    assert!(rt; is_refused(b"%range Nat 0 9 % nine"));
+}
+
+#[test]
+fn takes_other_comments(rt: HostRuntime) {
+    assert!(rt; !is_refused(b"%ranges"));
+    assert!(rt; !is_refused(b"%range\r\n"));
+    assert!(rt; !is_refused(b"% range"));
+    assert!(rt; !is_refused(b" %range"));
+    assert!(rt; !is_refused(b"%RANGE"));
+}
+
+/// The range lines of a text that begins with one.
+const RANGES: &str = "%range Nat 0 3\r\n\
+    mu X = %range Pos 1 2\n%range\tm' -2147483648 \t 2147483647\t\n\
+    X; % %range Int 0 1\n%range Int -007 -0";
+
+#[test]
+fn finds_ranges(rt: HostRuntime) -> Result<(), Fail> {
+    let text = RANGES.as_bytes();
+    assert!(rt; text.len() < 1000);
+    let found = ranges(rt.alloc(), text)?;
+    assert_eq!(rt; found.len(), 3);
+    let wanted = [
+        (1, "Nat", 0, 3),
+        (3, "m'", i32::MIN, i32::MAX),
+        (5, "Int", -7, 0),
+    ];
+    for (range, (line, name, low, high)) in found.iter().zip(wanted) {
+        assert_eq!(rt; range.place, Place { line, column: 1 });
+        assert_eq!(rt; range.name.as_str(), name);
+        assert_eq!(rt; range.low, low);
+        assert_eq!(rt; range.high, high);
+    }
+    Ok(())
+}
+
+#[test]
+fn gives_numbers_and_places(rt: HostRuntime) {
+    let mut input = Input::new(b"X 4611686018427387904 0", 0);
+    assert_eq!(rt; input.place(), Place { line: 1, column: 1 });
+    assert_eq!(rt; input.kind(), Kind::Name);
+    input.take();
+    assert_eq!(rt; input.place(), Place { line: 1, column: 3 });
+    assert_eq!(rt; input.kind(), Kind::Number);
+    assert_eq!(rt; input.number(), 1 << 62);
+    input.take();
+    assert_eq!(rt; input.kind(), Kind::Number);
+    assert_eq!(rt; input.number(), 0);
 }

@@ -84,7 +84,7 @@ impl Carrier {
     }
 
     /// The least and the greatest value; the numbers between are values too.
-    fn bounds(&self) -> (i64, i64)
+    pub fn bounds(&self) -> (i64, i64)
         ensures interval { values_of self.now ≡ interval result.0 result.1 }
         ensures order { result.0 ≤ℤ result.1 }
         ensures low { negsuc 2147483647 ≤ℤ result.0 }

@@ -1,7 +1,9 @@
 -- The truth of a positive formula is monotone in the environment.
 use Rattle.std.proofs.Common.{◌≡◌, Bool, true, false, not, ◌&&◌, ◌||◌, List, [], ◌∷◌, refl, sym, true≢false}
 use Rattle.pb_fixpoint.specs.Solution.{Environment}
-use Rattle.pb_syntax.specs.Syntax.{Variable, Quantifier, Forall, Exists, Formula, Equation, Spec}
+use Rattle.pb_ast.specs.declared.operator.Quantifier.{Quantifier}
+use Rattle.pb_ast.specs.declared.operator.Quantifier.TheVariants.{Forall, Exists}
+use Rattle.pb_syntax.specs.Syntax.{Variable, Formula, Equation, Spec}
 use Rattle.pb_carriers.specs.Carrier.{Value, Carrier}
 use Rattle.pb_syntax.specs.Sorts.{carrier_of}
 use Rattle.pb_syntax.specs.Value.{Assignment, of_values, quantified, values}

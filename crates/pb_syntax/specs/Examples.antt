@@ -2,7 +2,8 @@
 use Rattle.std.specs.Prelude.{ℕ, List, [], ◌∷◌, None, codes, pos, negsuc, false}
 use Rattle.pb_fixpoint.specs.declared.Sign.{Sign}
 use Rattle.pb_fixpoint.specs.declared.Sign.TheVariants.{Mu, Nu}
-use Rattle.pb_syntax.specs.Syntax.{Name, Variable, Forall, Operator, Term, Terms, Formula, Enumerator, Struct, Alias, Range, Equation, Spec}
+use Rattle.pb_ast.specs.declared.operator.Quantifier.TheVariants.{Forall}
+use Rattle.pb_syntax.specs.Syntax.{Name, Variable, Operator, Term, Terms, Formula, Enumerator, Struct, Alias, Range, Equation, Spec}
 
 abbrev pub X : Name
 X = codes "X"

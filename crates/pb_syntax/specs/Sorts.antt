@@ -31,6 +31,11 @@ carrier_of spec s = carrier_within (suc (length spec.sorts)) spec s
 
 -- ---- enumerators
 
+-- whether an enumerator has a recogniser of this name
+abbrev pub is_recogniser : Name → Option Name → Bool
+is_recogniser f None = false
+is_recogniser f (Some g) = same_name g f
+
 -- the place of an enumerator by this test, in a list that begins at n
 abbrev pub place_from : ℕ → (Enumerator → Bool) → List Enumerator → Option ℕ
 place_from n test [] = None

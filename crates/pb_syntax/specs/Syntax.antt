@@ -1,6 +1,7 @@
 -- What a text of a Boolean equation system says, without its places: the abstract syntax.
 use Rattle.std.specs.Prelude.{ℕ, ℤ, Option, List, Bool, bytes_eq}
 use Rattle.pb_fixpoint.specs.declared.Sign.{Sign}
+use Rattle.pb_ast.specs.declared.operator.Quantifier.{Quantifier}
 
 -- a name, by its bytes
 abbrev pub Name : Type 0
@@ -13,10 +14,6 @@ same_name = bytes_eq
 pub record Variable : Type 0 where
   pub name : Name
   pub sort : Name
-
-pub data Quantifier : Type 0 where
-  Forall : Quantifier
-  Exists : Quantifier
 
 -- an operator of two Booleans, a comparison, or one of two whole numbers
 pub data Operator : Type 0 where

@@ -3,10 +3,12 @@ use Rattle.std.specs.Prelude.{ℕ, pos, ◌+ℤ◌, ◌-ℤ◌, ◌*ℤ◌, neg_
 use Rattle.std.specs.Ordering.{int_eq}
 use Rattle.std.specs.Int.{int_max, int_min}
 use Rattle.std.specs.List.{list_any, list_all}
-use Rattle.pb_syntax.specs.Syntax.{Name, same_name, Variable, Quantifier, Forall, Exists, Operator, Term, Terms, Spec}
+use Rattle.pb_ast.specs.declared.operator.Quantifier.{Quantifier}
+use Rattle.pb_ast.specs.declared.operator.Quantifier.TheVariants.{Forall, Exists}
+use Rattle.pb_syntax.specs.Syntax.{Name, same_name, Variable, Operator, Term, Terms, Spec}
 use Rattle.pb_carriers.specs.Carrier.{Value, Tuple, Carrier, of_bool}
 use Rattle.pb_carriers.specs.Division.{quotient, remainder}
-use Rattle.pb_syntax.specs.Sorts.{carrier_of, place_in}
+use Rattle.pb_syntax.specs.Sorts.{carrier_of, is_recogniser, place_in}
 
 -- what the variables in scope stand for, the innermost first; so an inner variable hides an outer one of its name
 abbrev pub Assignment : Type 0
@@ -57,7 +59,7 @@ is_place (Some n) v = int_eq v (pos n)
 -- a recogniser
 abbrev pub recognised : Spec → Name → Value → Value
 recognised spec f v =
-    of_bool (is_place (place_in (λ e. same_name (unwrap_or e.recogniser []) f) spec.sorts) v)
+    of_bool (is_place (place_in (λ e. is_recogniser f e.recogniser) spec.sorts) v)
 
 abbrev pub function_of_one : Spec → Name → Value → Value
 function_of_one spec f x =

@@ -37,3 +37,8 @@ returns-in-Stop-clause-gives c =
     let last = (stop-takes _ _ c.in-Stop.kind c.in-Stop.ensures).0 in
     let step = stop-step c.pieces.rest.now c.in-Stop.kind c.pieces.place (sym c.in-Stop.ensures) in
     rw last (sym step ∙ c.pieces.invariant.tokens)
+
+pub returns-in-Token-clause-number : goal.returns-in-Token-clause-number
+returns-in-Token-clause-number c is =
+    let takes = token-takes _ _ c.in-Token.kind c.in-Token.len c.in-Token.ensures in
+    rw (c.text_of.ensures, c.split_at-in-Token.ensures.front) (takes.4 is)
