@@ -1,194 +1,286 @@
 -- Formulas are read rightly.
-use Rattle.std.proofs.Common.{◌≡◌, ℕ, zero, suc, ◌≤◌, ◌<◌, Bool, true, false, List, [], ◌∷◌, ◌++◌, length, refl, sym, ap, ◌∙◌, subst, arith}
-use Rattle.pb_ast.specs.declared.formula.Connective.{Connective}
-use Rattle.pb_ast.specs.declared.formula.Connective.TheVariants.{And, Or, Implies}
-use Rattle.pb_ast.specs.Form.{Form, constant, instance, negation, binary}
+use Rattle.std.proofs.Common.{◌≡◌, ℕ, zero, suc, ◌≤◌, Bool, true, false, cond, List, [], ◌∷◌, refl, sym, ap, ◌∙◌, subst, arith, inl, inr}
+use Rattle.pb_ast.specs.Form.{FormulaForm, TermForm, InstanceForm}
 use Rattle.pb_lexer.specs.declared.fault.Rule.TheVariants.{Unexpected, Limit}
 use Rattle.pb_lexer.specs.declared.kind.Kind.{Kind}
 use Rattle.pb_lexer.specs.declared.kind.Kind.TheVariants as k
 use Rattle.pb_lexer.specs.Kinds.{same_kind, is_last, is_limited}
-use Rattle.pb_lexer.specs.Grammar.{State, Within, Reads, Is, Nothing, One, Operator, First, Series}
+use Rattle.pb_lexer.specs.Grammar.{State, Within, Reads, Is, Nothing, One, First}
 use Rattle.pb_lexer.specs.Grammar as grammar
-use Rattle.pb_lexer.specs.Steps.{ends, head_kind, Step, pure, take_token, take_operator, expect, refuse}
+use Rattle.pb_lexer.specs.Steps.{ends, head_kind, kind, Step, and_then, pure, take_token, expect, refuse, refusal, unless_next, connected}
 use Rattle.pb_lexer.specs.Steps as step
 use Rattle.pb_lexer.specs.Tokens.{Tok}
 use Rattle.pb_lexer.proofs.TokenLemmas.{kind-same, same-kind}
-use Rattle.pb_lexer.proofs.Correct.{st, Family, Stops, never, stops-never, Correct, then-correct, pure-correct, HeadIs, take-correct, expect-correct, operator-correct, refused-here, unlike, first-correct, deeper, deeper-correct, alike-correct, weaker-correct}
-use Rattle.pb_lexer.proofs.CorrectSeries.{going, Passes, head-at, passes-at, shorter, no-longer, series-correct}
-use Rattle.pb_text.specs.Grammar.{symbol, Chain, Begun, Node, OperandOf, LevelOf, IsFormula}
-use Rattle.pb_text.specs.Reading.{chain, operand, level, begun, node}
+use Rattle.pb_lexer.proofs.Correct.{st, Family, Stops, never, Answers, Correct, then-correct, pure-correct, HeadIs, take-correct, expect-correct, refused-here, unlike, first-correct, deeper, deeper-correct, alike-correct}
+use Rattle.pb_lexer.proofs.CorrectSeries.{going, Passes, head-at}
+use Rattle.pb_lexer.proofs.CorrectPlain.{Always, anywhere, then-plain, is-correct, leaf-correct, nothing-correct}
+use Rattle.pb_lexer.proofs.CorrectLeft.{unless_next-correct}
+use Rattle.pb_lexer.proofs.CorrectEither.{Not, connects, IsBelow, connected-correct}
+use Rattle.pb_lexer.specs.OpenGrammar.{Connected}
+use Rattle.pb_expressions.specs.Grammar.{Instance, IsTerm, Quantified, QuantifiedBy}
+use Rattle.pb_expressions.specs.Operators.{connected_by, is_quantifier}
+use Rattle.pb_expressions.specs.Reading.{is_open}
+use Rattle.pb_expressions.specs.Reading as expressions
+use Rattle.pb_text.specs.Grammar.{Begun, IsNode, IsFormula}
+use Rattle.pb_text.specs.Reading.{opening, begun, data_term, node, formula}
+use Rattle.pb_expressions.proofs.CorrectTerm.{term_goes, term-correct, instance-correct}
+use Rattle.pb_expressions.proofs.CorrectVariable.{quantified-correct, quantified-last}
 
-abbrev Always : List Tok → Type 0
-Always ts = Unit {0}
+-- what goes on with a node: a bracket, behind a name
+abbrev pub node_goes : Kind → Bool
+node_goes = going never is_open
 
--- ---- a chain: operators stand between the operands
+abbrev pub formula_goes : Kind → Bool
+formula_goes = connects node_goes
 
-symbol-not-last : (c : Connective) → is_last (symbol c) ≡ false
-symbol-not-last And = refl
-symbol-not-last Or = refl
-symbol-not-last Implies = refl
+-- ---- tokens that begin a node
 
-symbol-limited : (c : Connective) → is_limited (symbol c) ≡ true
-symbol-limited And = refl
-symbol-limited Or = refl
-symbol-limited Implies = refl
+abbrev kinds : ℕ → Kind → Reads FormulaForm
+kinds d = Begun (deeper IsNode d) (deeper IsFormula d) (deeper IsTerm d)
 
-abbrev pub is_symbol : Connective → Kind → Bool
-is_symbol c kind = same_kind kind (symbol c)
-
-pub is-symbol-at : (c : Connective) (k : Kind) → k ≡ symbol c → is_symbol c k ≡ true
-is-symbol-at c k e = subst (λ (v : Kind). same_kind k v ≡ true) e (same-kind k)
-
-pub head-of-passes : (c : Connective) (ts : List Tok) → Passes (is_symbol c) ts → HeadIs (symbol c) ts
-head-of-passes c [] h = h
-head-of-passes c (t ∷ ts) h = kind-same t.kind (symbol c) h
-
-pub chain-correct : (c : Connective) (fam : Family Form) (g : Kind → Bool) (depth : ℕ) → g (symbol c) ≡ false
-    → (op : Step Form) → Correct (λ ts. Unit {0}) op fam g depth
-    → Correct (λ ts. Unit {0}) (λ s. chain c op (suc (length s.tokens)) s) (λ d. Chain c (fam d)) (going g (is_symbol c)) depth
-chain-correct c fam g depth apart op right-op s end u =
-    series-correct fam (λ d. Operator (symbol c)) (λ x. x) (λ x t y. binary c t.place x y) g (is_symbol c) depth
-    (λ k h. ap g (kind-same k (symbol c) h) ∙ apart)
-    (λ d m t o y z r rest. passes-at (is_symbol c) m.tokens o.tokens t r.0 (is-symbol-at c t.kind r.1))
-    op right-op take_operator (weaker-correct (HeadIs (symbol c)) (Passes (is_symbol c)) take_operator (λ d. Operator (symbol c)) never depth (head-of-passes c) (operator-correct (symbol c) depth (symbol-not-last c) (symbol-limited c)))
-    (λ s0 s1 s2 x t a b. less s0.tokens s1.tokens s2.tokens a.front b.front t a.tokens b.tokens (b.reads []).0)
-    (suc (length s.tokens)) s (omega arith) end
-  where
-    less : (ts us vs front behind_front : List Tok) (t : Tok) → ts ≡ front ++ us → us ≡ behind_front ++ vs → behind_front ++ [] ≡ t ∷ [] → length vs < length ts
-    less ts us vs front behind_front t p q r =
-        let a = no-longer ts front us p in let b = shorter us behind_front vs [] t q r in omega arith
-
--- ---- levels
-
-abbrev pub operand_goes : Connective → Kind → Bool
-operand_goes And = never
-operand_goes Or = going never (is_symbol And)
-operand_goes Implies = going (going never (is_symbol And)) (is_symbol Or)
-
-abbrev pub level_goes : Connective → Kind → Bool
-level_goes c = going (operand_goes c) (is_symbol c)
-
-apart : (c : Connective) → operand_goes c (symbol c) ≡ false
-unfolding same_kind
-apart And = refl
-apart Or = refl
-apart Implies = refl
-
-module _ (nodes : Step Form) (fam : Family Form) (depth : ℕ) (right-nodes : Correct Always nodes fam never depth) where
-  chain-level : (c : Connective) → Correct Always (operand c nodes) (λ d. OperandOf c (fam d)) (operand_goes c) depth
-      → Correct Always (level c nodes) (λ d. LevelOf c (fam d)) (level_goes c) depth
-  chain-level c a = chain-correct c (λ d. OperandOf c (fam d)) (operand_goes c) depth (apart c) (operand c nodes) a
-
-  conjunctions : Correct Always (level And nodes) (λ d. LevelOf And (fam d)) (level_goes And) depth
-  conjunctions = chain-level And right-nodes
-
-  disjunctions : Correct Always (level Or nodes) (λ d. LevelOf Or (fam d)) (level_goes Or) depth
-  disjunctions = chain-level Or conjunctions
-
-  pub level-correct : Correct Always (level Implies nodes) (λ d. LevelOf Implies (fam d)) (level_goes Implies) depth
-  level-correct = chain-level Implies disjunctions
-
--- ---- nodes
-
-starts : (N F : Reads Form) (kind : Kind) (s : State) (y : Form) (z : State) → Begun N F kind s y z → HeadIs kind s.tokens
-starts N F k.Not s y z r = head-at k.Not s.tokens r.1.tokens r.0 r.2.0 r.2.1
-starts N F k.Open s y z r = head-at k.Open s.tokens r.1.tokens r.0 r.2.0 r.2.1
-starts N F k.True s y z r = head-at k.True s.tokens r.1.tokens r.0 r.2.0 r.2.1
-starts N F k.False s y z r = head-at k.False s.tokens r.1.tokens r.0 r.2.0 r.2.1
-starts N F k.Name s y z r = head-at k.Name s.tokens r.1.tokens r.0 r.2.0 r.2.1
-starts N F _ s y z r = absurd r
-
-abbrev pub kinds : ℕ → Kind → Reads Form
-kinds d kind = Begun (deeper Node d) (deeper IsFormula d) kind
-
-to-node : (d : ℕ) (s : State) (y : Form) (z : State) → First (kinds d) s y z → Node d s y z
+to-node : (d : ℕ) (s : State) (y : FormulaForm) (z : State) → First (kinds d) s y z → IsNode d s y z
 to-node zero s y z r = r
 to-node (suc d) s y z r = r
 
-from-node : (d : ℕ) (s : State) (y : Form) (z : State) → Node d s y z → First (kinds d) s y z
+from-node : (d : ℕ) (s : State) (y : FormulaForm) (z : State) → IsNode d s y z → First (kinds d) s y z
 from-node zero s y z r = r
 from-node (suc d) s y z r = r
 
-never-follows : {Y : Type 0} (R : Family Y) (g : Kind → Bool) (d : ℕ) (x : Tok) (m : State) (y : Y) (z : State) → R d m y z → Stops g z.tokens → Stops never m.tokens
-never-follows R g d x m y z r over = stops-never m.tokens
-
--- a single token that is a value
-leaf-correct : (kind : Kind) (f : Tok → Form) (depth : ℕ) → is_last kind ≡ false
-    → Correct (HeadIs kind) (step.◌>>=◌ take_token (λ t. pure (f t))) (λ d. grammar.◌>>=◌ (One kind) (λ t. Is (f t))) never depth
-leaf-correct kind f depth ne =
-    then-correct (λ d. One kind) (λ t d. Is (f t)) never never depth (λ d x m y z r over. stops-never m.tokens)
-    (HeadIs kind) take_token (λ t. pure (f t)) (take-correct kind depth ne) (λ t. pure-correct (f t) never depth)
-
-no-other : (kind : Kind) (depth : ℕ) → Correct (HeadIs kind) (refuse Unexpected) (λ d. Nothing {X = Form}) never depth
-no-other kind depth s end h = refused-here (λ d. Nothing) never depth s Unexpected end (λ q. absurd (unlike q)) (λ d n t tail y w head within r over. r)
+starts : (N F : Reads FormulaForm) (T : Reads TermForm) (kind : Kind) (s : State) (y : FormulaForm) (z : State) → Begun N F T kind s y z → HeadIs kind s.tokens
+starts N F T k.Not s y z r = head-at k.Not s.tokens r.1.tokens r.0 r.2.0 r.2.1
+starts N F T k.Open s y z r = head-at k.Open s.tokens r.1.tokens r.0 r.2.0 r.2.1
+starts N F T k.True s y z r = head-at k.True s.tokens r.1.tokens r.0 r.2.0 r.2.1
+starts N F T k.False s y z r = head-at k.False s.tokens r.1.tokens r.0 r.2.0 r.2.1
+starts N F T k.Val s y z r = head-at k.Val s.tokens r.1.tokens r.0 r.2.0 r.2.1
+starts N F T k.Name s y z r = name-starts T s r.0 r.1 r.2
+  where
+    name-starts : (T : Reads TermForm) (s : State) (x : InstanceForm) (m : State) → Instance T s x m → HeadIs k.Name s.tokens
+    name-starts T s x m (inl q) = head-at k.Name s.tokens q.2.1.tokens q.2.0 q.2.2.0 q.2.2.1
+    name-starts T s x m (inr q) = head-at k.Name s.tokens q.2.2.1.tokens q.2.2.0 q.2.2.2.0 q.2.2.2.1
+starts N F T _ s y z r = absurd r
 
 -- a limit can be exceeded at a token of this kind
 head-limited : (kind : Kind) (ts : List Tok) → HeadIs kind ts → is_limited kind ≡ true → is_limited (head_kind ts) ≡ true
 head-limited kind [] h lim = absurd h
 head-limited kind (t ∷ ts) h lim = ap is_limited h ∙ lim
 
--- where no level may open
-no-level-not : (d n : ℕ) (s : State) (y : Form) (w : State) → d ≤ 0 → kinds d k.Not s y w → ⊥
+-- no bracket opens behind what is read
+closed-correct : (P : List Tok → Type 0) (p : Step FormulaForm) (fam : Family FormulaForm) (depth : ℕ) → Correct P p fam never depth → Correct P (unless_next is_open p) fam node_goes depth
+closed-correct P p fam depth a = unless_next-correct fam never is_open depth P p a
+
+leaf : (kind : Kind) (f : Tok → FormulaForm) (depth : ℕ) → is_last kind ≡ false
+    → Correct (HeadIs kind) (unless_next is_open (step.◌>>=◌ take_token (λ t. pure (f t)))) (λ d. grammar.◌>>=◌ (One kind) (λ t. Is (f t))) node_goes depth
+leaf kind f depth ne = closed-correct (HeadIs kind) (step.◌>>=◌ take_token (λ t. pure (f t))) (λ d. grammar.◌>>=◌ (One kind) (λ t. Is (f t))) depth (leaf-correct kind f depth ne)
+
+-- what is read says the value, whatever goes on with it
+said-correct : {X : Type 0} (fam : Family X) (f : X → FormulaForm) (g : Kind → Bool) (depth : ℕ) (P : List Tok → Type 0) (p : Step X)
+    → Correct P p fam g depth → Correct P (step.◌>>=◌ p (λ x. pure (f x))) (λ d. grammar.◌>>=◌ (fam d) (λ x. Is (f x))) g depth
+said-correct fam f g depth P p a =
+    then-correct fam (λ x d. Is (f x)) g g depth (λ d x m y z h over. subst (λ (v : State). Stops g v.tokens) h.1 over) P p (λ x. pure (f x)) a (λ x. pure-correct (f x) g depth)
+
+instances : (depth : ℕ) → Correct (HeadIs k.Name) (step.◌>>=◌ (expressions.instance depth) (λ x. pure (FormulaForm.instance x))) (λ d. kinds d k.Name) node_goes depth
+instances depth =
+    said-correct (λ d. Instance (deeper IsTerm d)) FormulaForm.instance node_goes depth (HeadIs k.Name) (expressions.instance depth)
+    (anywhere (HeadIs k.Name) (expressions.instance depth) (λ d. Instance (deeper IsTerm d)) node_goes depth (instance-correct depth))
+
+-- ---- where no level may open
+
+no-level-not : (d n : ℕ) (s : State) (y : FormulaForm) (w : State) → d ≤ 0 → kinds d k.Not s y w → ⊥
 no-level-not zero n s y w le r = r.3.2
 no-level-not (suc d) n s y w le r = omega arith
 
-no-level-open : (d n : ℕ) (s : State) (y : Form) (w : State) → d ≤ 0 → kinds d k.Open s y w → ⊥
+no-level-open : (d n : ℕ) (s : State) (y : FormulaForm) (w : State) → d ≤ 0 → kinds d k.Open s y w → ⊥
 no-level-open zero n s y w le r = r.3.2
 no-level-open (suc d) n s y w le r = omega arith
 
-at-last : (kind : Kind) → Correct (HeadIs kind) (begun (refuse Limit) (refuse Limit) (refuse Limit) kind) (λ d. kinds d kind) never 0
-at-last k.Not = λ s end h. refused-here (λ d. kinds d k.Not) never 0 s Limit end (λ q. head-limited k.Not s.tokens h refl) (λ d n t tail y w head within r over. no-level-not d n (st (t ∷ tail) n) y w within.0 r)
-at-last k.Open = λ s end h. refused-here (λ d. kinds d k.Open) never 0 s Limit end (λ q. head-limited k.Open s.tokens h refl) (λ d n t tail y w head within r over. no-level-open d n (st (t ∷ tail) n) y w within.0 r)
-at-last k.True = leaf-correct k.True (λ t. constant t.place true) 0 refl
-at-last k.False = leaf-correct k.False (λ t. constant t.place false) 0 refl
-at-last k.Name = leaf-correct k.Name (λ t. instance (record { place = t.place; text = t.text })) 0 refl
-at-last kind = no-other kind 0
+-- a data term in brackets, behind `val`
+abbrev in_brackets : Tok → Family FormulaForm
+in_brackets word d = grammar.◌>>=◌ (One k.Open) (λ open_bracket. grammar.◌>>=◌ (deeper IsTerm d) (λ x. grammar.◌>>=◌ (One k.Close) (λ close_bracket. Is (FormulaForm.val word.place x))))
 
-closes : (ts us : List Tok) (t : Tok) → ts ≡ t ∷ us → t.kind ≡ k.Close → Stops (level_goes Implies) ts
+no-level-val : (word : Tok) (d : ℕ) (s : State) (y : FormulaForm) (w : State) → d ≤ 0 → in_brackets word d s y w → ⊥
+no-level-val word zero s y w le r = r.3.2
+no-level-val word (suc d) s y w le r = omega arith
+
+opens-not : (s : State) (t : Tok) (m : State) → One k.Open s t m → is_open (head_kind s.tokens) ≡ true
+opens-not s t m r = head s.tokens r.0
+  where
+    head : (ts : List Tok) → ts ≡ t ∷ m.tokens → is_open (head_kind ts) ≡ true
+    head ts e = subst (λ (v : List Tok). is_open (head_kind v) ≡ true) (sym e) (subst (λ (v : Kind). is_open v ≡ true) (sym r.1) (same-kind k.Open))
+
+-- no bracket may open
+opening-last : (word : Tok) (q : Tok → Step FormulaForm) → Correct Always (step.◌>>=◌ (opening (refuse Limit)) q) (in_brackets word) never 0
+unfolding opening
+opening-last word q s end u = go s.tokens s.operators end
+  where
+    differs : (t u : Tok) (tail : List Tok) (n : ℕ) (m : State) → u.kind ≡ t.kind → is_open t.kind ≡ false → (y : Tok) → One k.Open (st (u ∷ tail) n) y m → ⊥
+    differs t u tail n m head other y r =
+        let a = opens-not (st (u ∷ tail) n) y m r in let b : is_open t.kind ≡ true = subst (λ (v : Kind). is_open v ≡ true) head a in cc
+
+    at : (t : Tok) (ts : List Tok) (n : ℕ) (b : Bool) → is_open t.kind ≡ b → ends (t ∷ ts) ≡ true
+        → Answers (in_brackets word) never 0 (st (t ∷ ts) n) (and_then (cond b (refuse Limit (st (t ∷ ts) n)) (refuse Unexpected (st (t ∷ ts) n))) q)
+    at t ts n true same e =
+        refused-here (in_brackets word) never 0 (st (t ∷ ts) n) Limit e (λ x. ap is_limited (kind-same t.kind k.Open same)) (λ d m v tail y w head within r over. no-level-val word d (st (v ∷ tail) m) y w within.0 r)
+    at t ts n false other e =
+        refused-here (in_brackets word) never 0 (st (t ∷ ts) n) Unexpected e (λ x. absurd (unlike x)) (λ d m v tail y w head within r over. differs t v tail m r.1 head other r.0 r.2)
+
+    go : (ts : List Tok) (n : ℕ) → ends ts ≡ true → Answers (in_brackets word) never 0 (st ts n) (step.◌>>=◌ (opening (refuse Limit)) q (st ts n))
+    go [] n e = cc
+    go (t ∷ ts) n e = at t ts n (is_open t.kind) refl e
+
+at-last : (kind : Kind) → Correct (HeadIs kind) (begun (refuse Limit) (refuse Limit) (refuse Limit) (refuse Limit) (expressions.instance 0) kind) (λ d. kinds d kind) node_goes 0
+at-last k.Not = λ s end h. refused-here (λ d. kinds d k.Not) node_goes 0 s Limit end (λ q. head-limited k.Not s.tokens h refl) (λ d n t tail y w head within r over. no-level-not d n (st (t ∷ tail) n) y w within.0 r)
+at-last k.Open = λ s end h. refused-here (λ d. kinds d k.Open) node_goes 0 s Limit end (λ q. head-limited k.Open s.tokens h refl) (λ d n t tail y w head within r over. no-level-open d n (st (t ∷ tail) n) y w within.0 r)
+at-last k.True = leaf k.True (λ t. FormulaForm.constant t.place true) 0 refl
+at-last k.False = leaf k.False (λ t. FormulaForm.constant t.place false) 0 refl
+at-last k.Val =
+    closed-correct (HeadIs k.Val) _ (λ d. kinds d k.Val) 0
+    (then-plain (λ d. One k.Val) in_brackets never 0 (HeadIs k.Val) take_token _ (take-correct k.Val 0 refl)
+    (λ word. opening-last word (λ open_bracket. step.◌>>=◌ (refuse Limit) (λ x. step.◌>>=◌ (expect k.Close) (λ close_bracket. pure (FormulaForm.val word.place x))))))
+at-last k.Name = instances 0
+at-last kind = nothing-correct kind node_goes 0
+
+-- ---- where a level may open
+
+closes : (ts us : List Tok) (t : Tok) → ts ≡ t ∷ us → t.kind ≡ k.Close → Stops formula_goes ts
 unfolding same_kind
-closes ts us t e is = subst (λ (v : List Tok). Stops (level_goes Implies) v) (sym e) (subst (λ (v : Kind). level_goes Implies v ≡ false) (sym is) refl)
+closes ts us t e is = subst (λ (v : List Tok). Stops formula_goes v) (sym e) (subst (λ (v : Kind). formula_goes v ≡ false) (sym is) refl)
 
-module _ (depth : ℕ) (again : Correct Always (node depth) Node never depth) where
-  inner-node : Correct (Stops never) (node depth) (deeper Node) never (suc depth)
-  inner-node = weaker-correct Always (Stops never) (node depth) (deeper Node) never (suc depth) (λ ts h. tt)
-      (deeper-correct Always (node depth) Node never depth again)
+term-closes : (ts us : List Tok) (t : Tok) → ts ≡ t ∷ us → t.kind ≡ k.Close → Stops term_goes ts
+unfolding same_kind
+term-closes ts us t e is = subst (λ (v : List Tok). Stops term_goes v) (sym e) (subst (λ (v : Kind). term_goes v ≡ false) (sym is) refl)
 
-  inner-formula : Correct (Stops never) (level Implies (node depth)) (deeper IsFormula) (level_goes Implies) (suc depth)
-  inner-formula = weaker-correct Always (Stops never) (level Implies (node depth)) (deeper IsFormula) (level_goes Implies) (suc depth) (λ ts h. tt)
-      (deeper-correct Always (level Implies (node depth)) IsFormula (level_goes Implies) depth (level-correct (node depth) Node depth again))
+module _ (depth : ℕ) (right-node : Correct Always (node depth) IsNode node_goes depth) (right-formula : Correct Always (formula depth) IsFormula formula_goes depth) where
+  inner-term : Correct Always (data_term depth) (deeper IsTerm) term_goes (suc depth)
+  unfolding data_term
+  inner-term = deeper-correct Always (data_term depth) IsTerm term_goes depth (term-correct depth)
 
-  at-each : (kind : Kind) → Correct (HeadIs kind) (begun take_token (node depth) (level Implies (node depth)) kind) (λ d. kinds d kind) never (suc depth)
+  inner-formula : Correct Always (formula depth) (deeper IsFormula) formula_goes (suc depth)
+  inner-formula = deeper-correct Always (formula depth) IsFormula formula_goes depth right-formula
+
+  inner-node : Correct Always (node depth) (deeper IsNode) node_goes (suc depth)
+  inner-node = deeper-correct Always (node depth) IsNode node_goes depth right-node
+
+  -- a closing bracket, and then a value
+  closing : {X : Type 0} (g : Kind → Bool) (x : X) → Correct (Stops g) (step.◌>>=◌ (expect k.Close) (λ t. pure x)) (λ d. grammar.◌>>=◌ (One k.Close) (λ t. Is x)) never (suc depth)
+  closing g x =
+      anywhere (Stops g) _ (λ d. grammar.◌>>=◌ (One k.Close) (λ t. Is x)) never (suc depth)
+      (then-plain (λ d. One k.Close) (λ t d. Is x) never (suc depth) Always (expect k.Close) (λ t. pure x) (expect-correct k.Close (suc depth) refl) (λ t. is-correct x (suc depth)))
+
+  open-correct : (word : Tok) → Correct Always (step.◌>>=◌ (opening take_token) (λ open_bracket. step.◌>>=◌ (data_term depth) (λ x. step.◌>>=◌ (expect k.Close) (λ close_bracket. pure (FormulaForm.val word.place x)))))
+      (in_brackets word) never (suc depth)
+  unfolding opening expect
+  open-correct word =
+      then-plain (λ d. One k.Open) (λ open_bracket d. grammar.◌>>=◌ (deeper IsTerm d) (λ x. grammar.◌>>=◌ (One k.Close) (λ close_bracket. Is (FormulaForm.val word.place x)))) never (suc depth)
+      Always (opening take_token) _ (expect-correct k.Open (suc depth) refl) (λ open_bracket.
+      then-correct (deeper IsTerm) (λ x d. grammar.◌>>=◌ (One k.Close) (λ close_bracket. Is (FormulaForm.val word.place x))) term_goes never (suc depth)
+      (λ d x m y z r over. term-closes m.tokens r.1.tokens r.0 r.2.0 r.2.1) Always (data_term depth) _ inner-term (λ x. closing term_goes (FormulaForm.val word.place x)))
+
+  at-each : (kind : Kind) → Correct (HeadIs kind) (begun take_token (node depth) (formula depth) (data_term depth) (expressions.instance (suc depth)) kind) (λ d. kinds d kind) node_goes (suc depth)
   at-each k.Not =
-      then-correct (λ d. One k.Not) (λ sign d. grammar.◌>>=◌ (deeper Node d) (λ inner. Is (negation sign.place inner))) never never (suc depth)
-      (λ d x m y z r over. stops-never m.tokens) (HeadIs k.Not) take_token (λ sign. step.◌>>=◌ (node depth) (λ inner. pure (negation sign.place inner)))
-      (take-correct k.Not (suc depth) refl)
-      (λ sign. then-correct (deeper Node) (λ inner d. Is (negation sign.place inner)) never never (suc depth)
-      (λ d x m y z r over. stops-never m.tokens) (Stops never) (node depth) (λ inner. pure (negation sign.place inner))
-      inner-node (λ inner. pure-correct (negation sign.place inner) never (suc depth)))
+      then-plain (λ d. One k.Not) (λ sign d. grammar.◌>>=◌ (deeper IsNode d) (λ operand. Is (FormulaForm.negation sign.place operand))) node_goes (suc depth)
+      (HeadIs k.Not) take_token (λ sign. step.◌>>=◌ (node depth) (λ operand. pure (FormulaForm.negation sign.place operand))) (take-correct k.Not (suc depth) refl)
+      (λ sign. said-correct (deeper IsNode) (λ operand. FormulaForm.negation sign.place operand) node_goes (suc depth) Always (node depth) inner-node)
   at-each k.Open =
-      then-correct (λ d. One k.Open) (λ open_bracket d. grammar.◌>>=◌ (deeper IsFormula d) (λ inner. grammar.◌>>=◌ (One k.Close) (λ close_bracket. Is inner))) never never (suc depth)
-      (λ d x m y z r over. stops-never m.tokens) (HeadIs k.Open) take_token (λ open_bracket. step.◌>>=◌ (level Implies (node depth)) (λ inner. step.◌>>=◌ (expect k.Close) (λ close_bracket. pure inner)))
-      (take-correct k.Open (suc depth) refl)
-      (λ open_bracket. then-correct (deeper IsFormula) (λ inner d. grammar.◌>>=◌ (One k.Close) (λ close_bracket. Is inner)) (level_goes Implies) never (suc depth)
-      (λ d x m y z r over. closes m.tokens r.1.tokens r.0 r.2.0 r.2.1) (Stops never) (level Implies (node depth)) (λ inner. step.◌>>=◌ (expect k.Close) (λ close_bracket. pure inner))
-      inner-formula
-      (λ inner. then-correct (λ d. One k.Close) (λ close_bracket d. Is inner) never never (suc depth)
-      (λ d x m y z r over. stops-never m.tokens) (Stops (level_goes Implies)) (expect k.Close) (λ close_bracket. pure inner)
-      (weaker-correct Always (Stops (level_goes Implies)) (expect k.Close) (λ d. One k.Close) never (suc depth) (λ ts h. tt) (expect-correct k.Close (suc depth) refl))
-      (λ close_bracket. pure-correct inner never (suc depth))))
-  at-each k.True = leaf-correct k.True (λ t. constant t.place true) (suc depth) refl
-  at-each k.False = leaf-correct k.False (λ t. constant t.place false) (suc depth) refl
-  at-each k.Name = leaf-correct k.Name (λ t. instance (record { place = t.place; text = t.text })) (suc depth) refl
-  at-each kind = no-other kind (suc depth)
+      closed-correct (HeadIs k.Open) _ (λ d. kinds d k.Open) (suc depth)
+      (then-plain (λ d. One k.Open) (λ open_bracket d. grammar.◌>>=◌ (deeper IsFormula d) (λ inner. grammar.◌>>=◌ (One k.Close) (λ close_bracket. Is inner))) never (suc depth)
+      (HeadIs k.Open) take_token (λ open_bracket. step.◌>>=◌ (formula depth) (λ inner. step.◌>>=◌ (expect k.Close) (λ close_bracket. pure inner))) (take-correct k.Open (suc depth) refl)
+      (λ open_bracket. then-correct (deeper IsFormula) (λ inner d. grammar.◌>>=◌ (One k.Close) (λ close_bracket. Is inner)) formula_goes never (suc depth)
+      (λ d x m y z r over. closes m.tokens r.1.tokens r.0 r.2.0 r.2.1) Always (formula depth) _ inner-formula (λ inner. closing formula_goes inner)))
+  at-each k.True = leaf k.True (λ t. FormulaForm.constant t.place true) (suc depth) refl
+  at-each k.False = leaf k.False (λ t. FormulaForm.constant t.place false) (suc depth) refl
+  at-each k.Val =
+      closed-correct (HeadIs k.Val) _ (λ d. kinds d k.Val) (suc depth)
+      (then-plain (λ d. One k.Val) in_brackets never (suc depth) (HeadIs k.Val) take_token _ (take-correct k.Val (suc depth) refl) open-correct)
+  at-each k.Name = instances (suc depth)
+  at-each kind = nothing-correct kind node_goes (suc depth)
 
-pub node-correct : (depth : ℕ) → Correct Always (node depth) Node never depth
+node-last : Correct Always (node 0) IsNode node_goes 0
 unfolding node
-node-correct zero =
-    alike-correct Always (node 0) (λ d. First (kinds d)) Node never 0 to-node from-node
-    (first-correct kinds never 0 (λ d kind. starts (deeper Node d) (deeper IsFormula d) kind) (begun (refuse Limit) (refuse Limit) (refuse Limit)) at-last)
-node-correct (suc depth) =
-    alike-correct Always (node (suc depth)) (λ d. First (kinds d)) Node never (suc depth) to-node from-node
-    (first-correct kinds never (suc depth) (λ d kind. starts (deeper Node d) (deeper IsFormula d) kind) (begun take_token (node depth) (level Implies (node depth))) (at-each depth (node-correct depth)))
+node-last =
+    alike-correct Always (node 0) (λ d. First (kinds d)) IsNode node_goes 0 to-node from-node
+    (first-correct kinds node_goes 0 (λ d kind. starts (deeper IsNode d) (deeper IsFormula d) (deeper IsTerm d) kind) (begun (refuse Limit) (refuse Limit) (refuse Limit) (refuse Limit) (expressions.instance 0)) at-last)
 
-pub formula-correct : (depth : ℕ) → Correct Always (level Implies (node depth)) IsFormula (level_goes Implies) depth
-formula-correct depth = level-correct (node depth) Node depth (node-correct depth)
+node-over : (depth : ℕ) → Correct Always (node depth) IsNode node_goes depth → Correct Always (formula depth) IsFormula formula_goes depth → Correct Always (node (suc depth)) IsNode node_goes (suc depth)
+unfolding node
+node-over depth n f =
+    alike-correct Always (node (suc depth)) (λ d. First (kinds d)) IsNode node_goes (suc depth) to-node from-node
+    (first-correct kinds node_goes (suc depth) (λ d kind. starts (deeper IsNode d) (deeper IsFormula d) (deeper IsTerm d) kind)
+    (begun take_token (node depth) (formula depth) (data_term depth) (expressions.instance (suc depth))) (at-each depth n f))
+
+-- ---- the connectives
+
+abbrev quantifieds : Family FormulaForm
+quantifieds d = Quantified FormulaForm.quantified (deeper IsFormula d)
+
+abbrev connecteds : Family FormulaForm
+connecteds d = Connected (connected_by FormulaForm.connected) (IsNode d) (quantifieds d)
+
+to-formula : (d : ℕ) (s : State) (y : FormulaForm) (z : State) → connecteds d s y z → IsFormula d s y z
+to-formula zero s y z r = r
+to-formula (suc d) s y z r = r
+
+from-formula : (d : ℕ) (s : State) (y : FormulaForm) (z : State) → IsFormula d s y z → connecteds d s y z
+from-formula zero s y z r = r
+from-formula (suc d) s y z r = r
+
+-- a node begins with no quantifier, and a quantified formula with one
+node-starts : (d : ℕ) (s : State) (y : FormulaForm) (z : State) → IsNode d s y z → Passes (Not is_quantifier) s.tokens
+node-starts d s y z r = at s.tokens s.operators (from-node d s y z r)
+  where
+    plain : (kind : Kind) (s : State) → kinds d kind s y z → Not is_quantifier kind ≡ true
+    plain k.Not s r = refl
+    plain k.Open s r = refl
+    plain k.True s r = refl
+    plain k.False s r = refl
+    plain k.Val s r = refl
+    plain k.Name s r = refl
+    plain _ s r = absurd r
+
+    at : (ts : List Tok) (n : ℕ) → First (kinds d) (st ts n) y z → Passes (Not is_quantifier) ts
+    at [] n r = r
+    at (t ∷ ts) n r = plain t.kind (st (t ∷ ts) n) r
+
+quantified-starts : (d : ℕ) (s : State) (y : FormulaForm) (z : State) → quantifieds d s y z → Passes is_quantifier s.tokens
+quantified-starts d s y z r = at s.tokens s.operators r
+  where
+    plain : (kind : Kind) (s : State) → QuantifiedBy FormulaForm.quantified (deeper IsFormula d) kind s y z → is_quantifier kind ≡ true
+    plain k.Forall s r = refl
+    plain k.Exists s r = refl
+    plain _ s r = absurd r
+
+    at : (ts : List Tok) (n : ℕ) → quantifieds d (st ts n) y z → Passes is_quantifier ts
+    at [] n r = r
+    at (t ∷ ts) n r = plain t.kind (st (t ∷ ts) n) r
+
+below : IsBelow node_goes
+unfolding same_kind
+below = record { conjunction = refl; disjunction = refl; implication = refl }
+
+connections-correct : (depth : ℕ) (n q : Step FormulaForm) → Correct Always n IsNode node_goes depth → Correct (Passes is_quantifier) q quantifieds formula_goes depth
+    → Correct Always (connected (connected_by FormulaForm.connected) is_quantifier n q) IsFormula formula_goes depth
+connections-correct depth n q right-n right-q =
+    alike-correct Always (connected (connected_by FormulaForm.connected) is_quantifier n q) connecteds IsFormula formula_goes depth to-formula from-formula
+    (connected-correct (connected_by FormulaForm.connected) IsNode quantifieds node_goes is_quantifier depth below node-starts quantified-starts n q right-n right-q)
+
+-- both, so many levels being open to them
+pub record AreCorrect (depth : ℕ) : Type 0 where
+  pub nodes : Correct Always (node depth) IsNode node_goes depth
+  pub formulas : Correct Always (formula depth) IsFormula formula_goes depth
+
+formulas-last : Correct Always (formula 0) IsFormula formula_goes 0
+unfolding node formula
+formulas-last = connections-correct 0 (node 0) (expressions.quantified FormulaForm.quantified (refuse Limit) (refuse Limit)) node-last (quantified-last FormulaForm.quantified IsFormula formula_goes (refuse Limit))
+
+formulas-over : (depth : ℕ) → Correct Always (node (suc depth)) IsNode node_goes (suc depth) → Correct Always (formula depth) IsFormula formula_goes depth
+    → Correct Always (formula (suc depth)) IsFormula formula_goes (suc depth)
+unfolding node formula
+formulas-over depth n f =
+    connections-correct (suc depth) (node (suc depth)) (expressions.quantified FormulaForm.quantified take_token (formula depth)) n
+    (quantified-correct FormulaForm.quantified IsFormula formula_goes depth (formula depth) f)
+
+pub formulas-correct : (depth : ℕ) → AreCorrect depth
+formulas-correct zero = record { nodes = node-last; formulas = formulas-last }
+formulas-correct (suc depth) =
+    let less = formulas-correct depth in
+    let nodes = node-over depth less.nodes less.formulas in
+    record { nodes = nodes; formulas = formulas-over depth nodes less.formulas }

@@ -1,5 +1,6 @@
-pub mod ChainLemmas
-pub mod KindLemmas
+pub mod PartsLemmas
+pub mod FormulaLemmas
 pub mod CorrectFormula
-pub mod CorrectSystem
+pub mod CorrectSorts
+pub mod CorrectText
 pub mod ParseLemmas

@@ -1,8 +1,8 @@
 -- From tokens to bytes.
-use Rattle.std.proofs.Common.{◌≡◌, ℕ, true, false, List, refl, sym, ◌∙◌, ap, subst, arith, Result, Ok, Err}
+use Rattle.std.proofs.Common.{◌≡◌, ℕ, true, false, List, [], map, refl, sym, ◌∙◌, ap, subst, arith, Result, Ok, Err}
 use Rattle.pb_ast.specs.declared.place.Place.{Place}
 use Rattle.pb_ast.specs.declared.spec.Spec.{Spec}
-use Rattle.pb_ast.specs.Form.{Text, text}
+use Rattle.pb_ast.specs.Form.{RangeForm, SpecForm, spec_form, range_form}
 use Rattle.pb_lexer.specs.declared.fault.Rule.{Rule}
 use Rattle.pb_lexer.specs.declared.fault.Rule.TheVariants.{Unexpected, Limit}
 use Rattle.pb_lexer.specs.declared.fault.Refusal.{Refusal}
@@ -12,7 +12,7 @@ use Rattle.pb_lexer.specs.declared.kind.Kind.{Kind}
 use Rattle.pb_lexer.specs.declared.kind.Kind.TheVariants.{Unknown, LargeNumber, RangeLine}
 use Rattle.pb_lexer.specs.Kinds.{is_defect}
 use Rattle.pb_lexer.specs.Lexing.{start, IsDefect}
-use Rattle.pb_lexer.specs.Remaining.{tokens_from}
+use Rattle.pb_lexer.specs.Remaining.{tokens_from, ranges_from}
 use Rattle.pb_lexer.specs.Grammar.{State, Within}
 use Rattle.pb_lexer.specs.Steps.{Outcome, Gives}
 use Rattle.pb_lexer.specs.Tokens.{Tok}
@@ -21,25 +21,34 @@ use Rattle.pb_lexer.proofs.CutLemmas.{same-cut, stands, whole-cut}
 use Rattle.pb_lexer.proofs.RemainingLemmas.{tokens-end}
 use Rattle.pb_text.specs.Grammar.{IsText}
 use Rattle.pb_text.specs.Parsing.{IsReading, IsReadingWithin, IsRefusal, IsBroken, StandsBy, rule_of, NoReading, Stands, error_of}
-use Rattle.pb_text.specs.Reading.{whole}
-use Rattle.pb_text.proofs.CorrectSystem.{IsFault, IsRead, Reading, whole-reads}
+use Rattle.pb_text.specs.Reading.{whole_text}
+use Rattle.pb_text.proofs.CorrectText.{IsFault, IsRead, Reading, whole-reads, with-ranges}
 
 abbrev pub all_tokens : List ℕ → List Tok
 all_tokens bytes = tokens_from bytes 0 start
 
-pub is-reading : (bytes : List ℕ) (x : Text) → IsRead 64 8192 (all_tokens bytes) x → IsReading bytes x
-is-reading bytes x r = record { tokens = all_tokens bytes; cut = whole-cut bytes r.front r.end r.cut r.end_is; says = r.reads }
+abbrev pub all_ranges : List ℕ → List RangeForm
+all_ranges bytes = ranges_from bytes 0 start
 
-pub only-reading : (bytes : List ℕ) (x : Text) → IsRead 64 8192 (all_tokens bytes) x → (d n : ℕ) (y : Text) → IsReadingWithin d n bytes y → y ≡ x
-only-reading bytes x r d n y h = r.only d n y (subst (λ (v : List Tok). IsText d n v y) (same-cut bytes h.tokens h.cut) h.says)
+pub is-reading : (bytes : List ℕ) (x : SpecForm) → IsRead 64 8192 (all_tokens bytes) (all_ranges bytes) x → IsReading bytes x
+is-reading bytes x r = record { tokens = all_tokens bytes; ranges = all_ranges bytes; cut = whole-cut bytes r.front r.end r.cut r.end_is; says = r.reads }
+
+-- what the tokens and range lines of a cut say, those that the lexer gives say
+of-cut : (bytes : List ℕ) (d n : ℕ) (y : SpecForm) → IsReadingWithin d n bytes y → IsText d n (all_tokens bytes) (all_ranges bytes) y
+of-cut bytes d n y h =
+    let same = same-cut bytes h.tokens h.ranges h.cut in
+    subst (λ (v : List Tok). IsText d n v (all_ranges bytes) y) same.tokens (subst (λ (v : List RangeForm). IsText d n h.tokens v y) same.ranges_too h.says)
+
+pub only-reading : (bytes : List ℕ) (x : SpecForm) → IsRead 64 8192 (all_tokens bytes) (all_ranges bytes) x → (d n : ℕ) (y : SpecForm) → IsReadingWithin d n bytes y → y ≡ x
+only-reading bytes x r d n y h = r.only d n y (of-cut bytes d n y h)
 
 within-self : (rule : Rule) → Within rule 64 8192 64 8192
 within-self Unexpected = tt
 within-self Limit = (omega arith, omega arith)
 
-pub no-reading : (bytes : List ℕ) (bad : Refusal) → IsFault 64 8192 (all_tokens bytes) bad → (y : Text) → IsReading bytes y → ⊥
+pub no-reading : (bytes : List ℕ) (bad : Refusal) → IsFault 64 8192 (all_tokens bytes) bad → (y : SpecForm) → IsReading bytes y → ⊥
 no-reading bytes bad f y h =
-    f.none 64 8192 f.more y (within-self bad.rule) (subst (λ (v : List Tok). IsText 64 8192 v y) (same-cut bytes h.tokens h.cut ∙ f.cut) h.says)
+    f.none 64 8192 f.more (all_ranges bytes) y (within-self bad.rule) (subst (λ (v : List Tok). IsText 64 8192 v (all_ranges bytes) y) f.cut (of-cut bytes 64 8192 y h))
 
 -- a refused token is no token, or it is refused by the grammar
 by-kind : (bytes : List ℕ) (rule : Rule) (kind : Kind) (place : Place) → (is_defect kind ≡ true → IsBroken bytes kind place) → (is_defect kind ≡ false → IsRefusal bytes rule place)
@@ -71,20 +80,27 @@ stands-by bytes bad f =
 -- ---- what reading the tokens of a text answers
 
 abbrev pub Answered : List ℕ → Result Spec Fault → Type 0
-Answered bytes (Ok s) = IsRead 64 8192 (all_tokens bytes) (text s)
+Answered bytes (Ok s) = IsRead 64 8192 (all_tokens bytes) [] (spec_form s)
 Answered bytes (Err Memory) = Unit {0}
 Answered bytes (Err (At bad)) = IsFault 64 8192 (all_tokens bytes) bad
 
-answered-by : (bytes : List ℕ) (o : Outcome Text) (result : Result Spec Fault) (z : State) → Gives text o result z → Reading 64 (st (all_tokens bytes) 8192) o → Answered bytes result
-answered-by bytes o (Ok s) z is h = subst (λ (v : Outcome Text). Reading 64 (st (all_tokens bytes) 8192) v) is h
+answered-by : (bytes : List ℕ) (o : Outcome SpecForm) (result : Result Spec Fault) (z : State) → Gives spec_form o result z → Reading [] 64 (st (all_tokens bytes) 8192) o → Answered bytes result
+answered-by bytes o (Ok s) z is h = subst (λ (v : Outcome SpecForm). Reading [] 64 (st (all_tokens bytes) 8192) v) is h
 answered-by bytes o (Err Memory) z is h = tt
-answered-by bytes o (Err (At bad)) z is h = subst (λ (v : Outcome Text). Reading 64 (st (all_tokens bytes) 8192) v) is h
+answered-by bytes o (Err (At bad)) z is h = subst (λ (v : Outcome SpecForm). Reading [] 64 (st (all_tokens bytes) 8192) v) is h
 
-pub answered : (bytes : List ℕ) (s : State) (result : Result Spec Fault) (z : State) → s ≡ st (all_tokens bytes) 8192 → Gives text (whole 64 s) result z → Answered bytes result
+pub answered : (bytes : List ℕ) (s : State) (result : Result Spec Fault) (z : State) → s ≡ st (all_tokens bytes) 8192 → Gives spec_form (whole_text [] 64 s) result z → Answered bytes result
 answered bytes s result z is h =
-    answered-by bytes (whole 64 (st (all_tokens bytes) 8192)) result z
-    (subst (λ (v : State). Gives text (whole 64 v) result z) is h)
-    (whole-reads 64 (st (all_tokens bytes) 8192) (tokens-end start bytes))
+    answered-by bytes (whole_text [] 64 (st (all_tokens bytes) 8192)) result z
+    (subst (λ (v : State). Gives spec_form (whole_text [] 64 v) result z) is h)
+    (whole-reads [] 64 (st (all_tokens bytes) 8192) (tokens-end start bytes))
+
+-- what a tree says whose ranges are put in is what the bytes say
+pub ranged : (bytes : List ℕ) (s t : Spec) → Answered bytes (Ok s) → spec_form t ≡ record (spec_form s) { ranges = map range_form t.ranges.items }
+    → map range_form t.ranges.items ≡ all_ranges bytes → IsRead 64 8192 (all_tokens bytes) (all_ranges bytes) (spec_form t)
+ranged bytes s t a is same =
+    let e : record (spec_form s) { ranges = all_ranges bytes } ≡ spec_form t = ap (λ (v : List RangeForm). record (spec_form s) { ranges = v }) (sym same) ∙ sym is in
+    subst (λ (v : SpecForm). IsRead 64 8192 (all_tokens bytes) (all_ranges bytes) v) e (with-ranges (all_ranges bytes) 64 8192 (all_tokens bytes) (spec_form s) a)
 
 pub refused-is : (bytes : List ℕ) (fault : Fault) → Answered bytes (Err fault) → NoReading bytes (error_of fault)
 refused-is bytes Memory h = tt

@@ -1,73 +1,111 @@
--- The grammar of systems without parameters, one production for each row (this project's own; names and connectives as in
+-- The grammar of texts, one production for each row (this project's own; names, connectives and declarations as in
 -- mCRL2's text of parameterised Boolean equation systems, Groote and Mousavi 2014).
-use Rattle.std.specs.Prelude.{◌≡◌, ℕ, zero, suc, true, false, List, [], ◌∷◌}
+use Rattle.std.specs.Prelude.{◌≡◌, ℕ, zero, suc, true, false, List, [], ◌∷◌, ◌++◌, Some, None}
 use Rattle.pb_fixpoint.specs.declared.Sign.{Sign}
 use Rattle.pb_fixpoint.specs.declared.Sign.TheVariants as sign
-use Rattle.pb_ast.specs.declared.formula.Connective.{Connective}
-use Rattle.pb_ast.specs.declared.formula.Connective.TheVariants.{And, Or, Implies}
-use Rattle.pb_ast.specs.Form.{Form, constant, instance, negation, binary, Named, Eqn, Text}
+use Rattle.pb_ast.specs.Form.{VariableForm, TermForm, FormulaForm, InstanceForm, EnumeratorForm, SortForm, struct, alias, SortDeclarationForm, RangeForm, EquationForm, SpecForm}
 use Rattle.pb_lexer.specs.declared.kind.Kind.{Kind}
 use Rattle.pb_lexer.specs.declared.kind.Kind.TheVariants as k
-use Rattle.pb_lexer.specs.Grammar.{Reads, ◌>>=◌, Is, Nothing, One, Operator, First, Series, Own}
+use Rattle.pb_lexer.specs.Grammar.{Reads, ◌>>=◌, Is, Nothing, One, First, Series, Own}
+use Rattle.pb_lexer.specs.LeftGrammar.{Extended, Listed}
+use Rattle.pb_lexer.specs.OpenGrammar.{Connected}
 use Rattle.pb_lexer.specs.Tokens.{Tok}
+use Rattle.pb_expressions.specs.Operators.{connected_by}
+use Rattle.pb_expressions.specs.Grammar.{Name, Variables, Quantified, Instance, IsTerm}
 
 -- ---- formulas
 
--- the token of a connective
-abbrev pub symbol : Connective → Kind
-symbol And = k.And
-symbol Or = k.Or
-symbol Implies = k.Implies
-
--- One operand, or operands with the connective between them, read to the right.
-abbrev pub Chain : Connective → Reads Form → Reads Form
-Chain c Operand = Series Operand (Operator (symbol c)) (λ x. x) (λ x t y. binary c t.place x y)
-
--- what a chain of a connective is made of: `&&` binds tightest, then `||`, then `=>`
-abbrev pub OperandOf : Connective → Reads Form → Reads Form
-OperandOf And Node = Node
-OperandOf Or Node = Chain And Node
-OperandOf Implies Node = Chain Or (Chain And Node)
-
-abbrev pub LevelOf : Connective → Reads Form → Reads Form
-LevelOf c Node = Chain c (OperandOf c Node)
-
--- what begins with a token of a kind, over what may stand below a negation and in brackets
-abbrev pub Begun : Reads Form → Reads Form → Kind → Reads Form
-Begun Negated Formula k.Not = do
+-- What a token of a kind begins that is no quantifier: below a negation Node may stand, in brackets Formula, and as data Term.
+abbrev pub Begun : Reads FormulaForm → Reads FormulaForm → Reads TermForm → Kind → Reads FormulaForm
+Begun Node Formula Term k.Not = do
   sign ← One k.Not
-  inner ← Negated
-  Is (negation sign.place inner)
-Begun Negated Formula k.Open = do
+  operand ← Node
+  Is (FormulaForm.negation sign.place operand)
+Begun Node Formula Term k.Open = do
   open_bracket ← One k.Open
   inner ← Formula
   close_bracket ← One k.Close
   Is inner
-Begun Negated Formula k.True = do
+Begun Node Formula Term k.True = do
   word ← One k.True
-  Is (constant word.place true)
-Begun Negated Formula k.False = do
+  Is (FormulaForm.constant word.place true)
+Begun Node Formula Term k.False = do
   word ← One k.False
-  Is (constant word.place false)
-Begun Negated Formula k.Name = do
-  name ← One k.Name
-  Is (instance (record { place = name.place; text = name.text }))
-Begun Negated Formula _ = Nothing
+  Is (FormulaForm.constant word.place false)
+Begun Node Formula Term k.Val = do
+  word ← One k.Val
+  open_bracket ← One k.Open
+  term ← Term
+  close_bracket ← One k.Close
+  Is (FormulaForm.val word.place term)
+Begun Node Formula Term k.Name = do
+  found ← Instance Term
+  Is (FormulaForm.instance found)
+Begun Node Formula Term _ = Nothing
 
--- a negation, a formula in brackets, a constant or a predicate variable, in which so many levels may open
-abbrev pub Node : ℕ → Reads Form
-Node zero = First (Begun Nothing Nothing)
-Node (suc depth) = First (Begun (Node depth) (LevelOf Implies (Node depth)))
+-- `&&` binds tightest, then `||`, then `=>`; at their right end a quantifier over Body may stand.
+abbrev pub Connections : Reads FormulaForm → Reads FormulaForm → Reads FormulaForm
+Connections Node Body = Connected (connected_by FormulaForm.connected) Node (Quantified FormulaForm.quantified Body)
 
-abbrev pub IsFormula : ℕ → Reads Form
-IsFormula depth = LevelOf Implies (Node depth)
+-- So many levels may open: each `!`, each bracket and each quantifier opens one.
+abbrev mutual
+  pub IsNode : ℕ → Reads FormulaForm
+  IsNode zero = First (Begun Nothing Nothing Nothing)
+  IsNode (suc depth) = First (Begun (IsNode depth) (IsFormula depth) (IsTerm depth))
 
--- ---- systems
+  pub IsFormula : ℕ → Reads FormulaForm
+  IsFormula zero = Connections (First (Begun Nothing Nothing Nothing)) Nothing
+  IsFormula (suc depth) = Connections (First (Begun (IsNode depth) (IsFormula depth) (IsTerm depth))) (IsFormula depth)
 
-abbrev pub Name : Reads Named
-Name = do
-  token ← One k.Name
-  Is (record { place = token.place; text = token.text })
+-- ---- sorts
+
+-- a name without a recogniser
+abbrev pub Plain : Reads EnumeratorForm
+Plain = do
+  name ← Name
+  Is (record { name = name; recogniser = None })
+
+-- a recogniser behind an enumerator's name
+abbrev pub Recognised : EnumeratorForm → Reads EnumeratorForm
+Recognised plain = do
+  question ← One k.Question
+  name ← Name
+  Is (record { name = plain.name; recogniser = Some name })
+
+abbrev pub Enumerator : Reads EnumeratorForm
+Enumerator = Extended Plain Recognised
+
+-- what a sort is declared to be, up to the semicolon, by its first token
+abbrev pub SortBy : Kind → Reads SortForm
+SortBy k.Struct = do
+  word ← One k.Struct
+  enumerators ← Listed Enumerator (One k.Bar)
+  semicolon ← One k.Semicolon
+  Is (struct enumerators)
+SortBy k.Name = do
+  target ← Name
+  semicolon ← One k.Semicolon
+  Is (alias target)
+SortBy _ = Nothing
+
+abbrev pub SortDecl : Reads SortDeclarationForm
+SortDecl = do
+  name ← Name
+  is ← One k.Is
+  sort ← First SortBy
+  Is (record { name = name; sort = sort })
+
+abbrev pub SortPart : Reads (List SortDeclarationForm)
+SortPart = do
+  word ← One k.Sort
+  declarations ← Listed SortDecl (Is {X = Unit {0}} tt)
+  Is declarations
+
+-- any number of sort parts
+abbrev pub SortParts : Reads (List SortDeclarationForm)
+SortParts = Extended (Is []) (λ none. Series SortPart (Is {X = Unit {0}} tt) (λ sorts. sorts) (λ sorts u rest. sorts ++ rest))
+
+-- ---- equations and texts
 
 abbrev pub SignOf : Kind → Reads Sign
 SignOf k.Mu = do
@@ -78,29 +116,46 @@ SignOf k.Nu = do
   Is sign.Nu
 SignOf _ = Nothing
 
-abbrev pub IsEquation : ℕ → Reads Eqn
+-- parameters in brackets, which open a level
+abbrev pub Declared : ℕ → Reads (List VariableForm)
+Declared zero = Nothing
+Declared (suc depth) = do
+  open_bracket ← One k.Open
+  parameters ← Variables
+  close_bracket ← One k.Close
+  Is parameters
+
+abbrev pub IsEquation : ℕ → Reads EquationForm
 IsEquation depth = do
   sign ← First SignOf
   name ← Name
+  parameters ← Extended (Is []) (λ none. Declared depth)
   is ← One k.Is
   right ← Own (IsFormula depth)
   semicolon ← One k.Semicolon
-  Is (record { sign = sign; name = name; right = right })
+  Is (record { sign = sign; name = name; parameters = parameters; right = right })
 
 -- one equation or more
-abbrev pub Equations : ℕ → Reads (List Eqn)
-Equations depth = Series (IsEquation depth) (Is {X = Unit {0}} tt) (λ e. e ∷ []) (λ e u es. e ∷ es)
+abbrev pub Equations : ℕ → Reads (List EquationForm)
+Equations depth = Listed (IsEquation depth) (Is {X = Unit {0}} tt)
 
-abbrev pub IsSystem : ℕ → Reads Text
-IsSystem depth = do
+-- the instance that is asked for, its arguments in brackets, which open a level
+abbrev pub IsInitial : ℕ → Reads InstanceForm
+IsInitial zero = Instance Nothing
+IsInitial (suc depth) = Instance (IsTerm depth)
+
+-- The ranges are those of the text's range lines, which stand among the tokens as white space.
+abbrev pub IsSpec : List RangeForm → ℕ → Reads SpecForm
+IsSpec ranges depth = do
+  sorts ← SortParts
   pbes ← One k.Pbes
   equations ← Equations depth
   init ← One k.Init
-  initial ← Name
+  initial ← Own (IsInitial depth)
   semicolon ← One k.Semicolon
-  Is (record { equations = equations; initial = initial })
+  Is (record { sorts = sorts; ranges = ranges; equations = equations; initial = initial })
 
--- The tokens are this system, and then the end. So many levels may open, and each formula may have so many operators.
-abbrev pub IsText : ℕ → ℕ → List Tok → Text → Type 0
-IsText depth operators tokens text =
-    (m : ℕ) × (end : Tok) × IsSystem depth (record { tokens = tokens; operators = operators }) text (record { tokens = end ∷ []; operators = m }) × (end.kind ≡ k.End)
+-- The tokens are this text, and then the end. So many levels may open; each equation, and the initial instance, may have so many operators.
+abbrev pub IsText : ℕ → ℕ → List Tok → List RangeForm → SpecForm → Type 0
+IsText depth operators tokens ranges text =
+    (m : ℕ) × (end : Tok) × IsSpec ranges depth (record { tokens = tokens; operators = operators }) text (record { tokens = end ∷ []; operators = m }) × (end.kind ≡ k.End)

@@ -1,7 +1,7 @@
 -- What a text says, and where the fault of one stands that says nothing.
 use Rattle.std.specs.Prelude.{◌≡◌, ℕ, true, List, [], ◌∷◌, ◌++◌}
 use Rattle.pb_ast.specs.declared.place.Place.{Place}
-use Rattle.pb_ast.specs.Form.{Text}
+use Rattle.pb_ast.specs.Form.{RangeForm, SpecForm}
 use Rattle.pb_lexer.specs.declared.fault.Rule.TheVariants as refused
 use Rattle.pb_lexer.specs.declared.fault.Rule as token_rule
 use Rattle.pb_lexer.specs.declared.fault.Fault.{Fault}
@@ -18,21 +18,23 @@ use Rattle.pb_text.specs.declared.error.TextError.{TextError}
 use Rattle.pb_text.specs.declared.error.TextError.TheVariants as error
 use Rattle.pb_text.specs.Grammar.{IsText}
 
--- how many levels of brackets and negations may open, and how many operators with two operands an equation may have
+-- how many levels of brackets, negations, signs and quantifiers may open, and how many operators with two operands an
+-- equation, and the initial instance, may have
 abbrev pub depth_limit : ℕ
 depth_limit = 64
 
 abbrev pub operator_limit : ℕ
 operator_limit = 8192
 
--- The bytes are this text: so many levels may open, and each equation may have so many operators.
-pub record IsReadingWithin (depth operators : ℕ) (bytes : List ℕ) (x : Text) : Type 0 where
+-- The bytes are this text: so many levels may open, and each equation, and the initial instance, may have so many operators.
+pub record IsReadingWithin (depth operators : ℕ) (bytes : List ℕ) (x : SpecForm) : Type 0 where
   pub tokens : List Tok
-  pub cut : IsCut bytes tokens
-  pub says : IsText depth operators tokens x
+  pub ranges : List RangeForm
+  pub cut : IsCut bytes tokens ranges
+  pub says : IsText depth operators tokens ranges x
 
 -- the bytes are this text, within the limits
-abbrev pub IsReading : List ℕ → Text → Type 0
+abbrev pub IsReading : List ℕ → SpecForm → Type 0
 IsReading bytes x = IsReadingWithin depth_limit operator_limit bytes x
 
 -- The bytes begin with tokens, the last of which stands at this place: no text begins so, within the limits that the rule speaks of.
@@ -43,7 +45,7 @@ pub record IsRefusal (bytes : List ℕ) (broken : token_rule.Rule) (place : Plac
   pub begins : Begins bytes (front ++ next ∷ [])
   pub stands : next.place ≡ place
   pub limited : broken ≡ refused.Limit → is_limited next.kind ≡ true
-  pub none : (d n : ℕ) (tail : List Tok) (x : Text) → Within broken depth_limit operator_limit d n → IsText d n (front ++ next ∷ tail) x → ⊥
+  pub none : (d n : ℕ) (tail : List Tok) (ranges : List RangeForm) (x : SpecForm) → Within broken depth_limit operator_limit d n → IsText d n (front ++ next ∷ tail) ranges x → ⊥
 
 -- the bytes are cut into tokens up to this place, where no token stands, nor the end
 pub record IsBroken (bytes : List ℕ) (kind : Kind) (place : Place) : Type 0 where
@@ -76,4 +78,4 @@ Stands bytes (error.Refused rule place) = StandsBy rule bytes place
 
 abbrev pub NoReading : List ℕ → TextError → Type 0
 NoReading bytes error.Memory = Unit {0}
-NoReading bytes (error.Refused rule place) = (x : Text) → IsReading bytes x → ⊥
+NoReading bytes (error.Refused rule place) = (x : SpecForm) → IsReading bytes x → ⊥

@@ -1,68 +1,174 @@
--- Reading a system, as a function.
-use Rattle.std.specs.Prelude.{ℕ, zero, suc, Bool, true, false, if◌then◌else◌, ◌||◌, List, [], ◌∷◌, length, Ok}
+-- Reading a text, as a function.
+use Rattle.std.specs.Prelude.{ℕ, zero, suc, Bool, true, false, if◌then◌else◌, ◌||◌, List, [], ◌++◌, length, Some, None}
 use Rattle.pb_fixpoint.specs.declared.Sign.{Sign}
 use Rattle.pb_fixpoint.specs.declared.Sign.TheVariants as sign
-use Rattle.pb_ast.specs.declared.formula.Connective.{Connective}
-use Rattle.pb_ast.specs.declared.formula.Connective.TheVariants.{And, Or, Implies}
-use Rattle.pb_ast.specs.Form.{Form, constant, instance, negation, binary, Named, Eqn, Text}
+use Rattle.pb_ast.specs.declared.operator.Connective.{Connective}
+use Rattle.pb_ast.specs.declared.operator.Connective.TheVariants as connective
+use Rattle.pb_ast.specs.Form.{VariableForm, TermForm, FormulaForm, InstanceForm, EnumeratorForm, SortForm, struct, alias, SortDeclarationForm, RangeForm, EquationForm, SpecForm}
 use Rattle.pb_lexer.specs.declared.fault.Rule.TheVariants.{Unexpected, Limit}
 use Rattle.pb_lexer.specs.declared.kind.Kind.{Kind}
 use Rattle.pb_lexer.specs.declared.kind.Kind.TheVariants as k
 use Rattle.pb_lexer.specs.Kinds.{same_kind}
-use Rattle.pb_lexer.specs.Steps.{Step, alone, ◌>>=◌, pure, peek, refuse, take_token, expect, take_operator, series}
+use Rattle.pb_lexer.specs.Steps.{Step, alone, ◌>>=◌, pure, peek, refuse, take_token, expect, enter, series, connected, conjunction, disjunction, either, extended, unless_next, listed, nothing_between}
+use Rattle.pb_lexer.specs.Steps as step
 use Rattle.pb_lexer.specs.Tokens.{Tok}
-use Rattle.pb_text.specs.Grammar.{symbol}
+use Rattle.pb_expressions.specs.Operators.{connected_by, is_quantifier}
+use Rattle.pb_expressions.specs.Reading.{name, is_open, quantified, variables}
+use Rattle.pb_expressions.specs.Reading as expressions
 
--- a chain of at most so many operands
-abbrev pub chain : Connective → Step Form → ℕ → Step Form
-chain c operand = series operand (λ kind. same_kind kind (symbol c)) take_operator (λ x. x) (λ x t y. binary c t.place x y)
+abbrev pub is_question : Kind → Bool
+is_question kind = same_kind kind k.Question
 
--- what a chain of the connective is made of, over the level of negations, brackets and names
-abbrev pub operand : Connective → Step Form → Step Form
-operand And node = node
-operand Or node = λ s. chain And node (suc (length s.tokens)) s
-operand Implies node = λ s. chain Or (λ s. chain And node (suc (length s.tokens)) s) (suc (length s.tokens)) s
+abbrev pub is_bar : Kind → Bool
+is_bar kind = same_kind kind k.Bar
 
-abbrev pub level : Connective → Step Form → Step Form
-level c node = λ s. chain c (operand c node) (suc (length s.tokens)) s
+abbrev pub is_name : Kind → Bool
+is_name kind = same_kind kind k.Name
 
-abbrev pub instance_named : Step Form
-instance_named = do
-  name ← take_token
-  pure (instance (record { place = name.place; text = name.text }))
+abbrev pub is_sort : Kind → Bool
+is_sort kind = same_kind kind k.Sort
 
-abbrev pub truth : Bool → Step Form
-truth value = do
+abbrev pub begins_equation : Kind → Bool
+begins_equation kind = same_kind kind k.Mu || same_kind kind k.Nu
+
+-- ---- formulas
+
+-- no bracket opens behind a constant, a data term or a bracket that closes
+abbrev pub truth : Bool → Step FormulaForm
+truth value = unless_next is_open (do
   word ← take_token
-  pure (constant word.place value)
+  pure (FormulaForm.constant word.place value))
 
--- What a token begins. The first step takes a token that opens a level.
-abbrev pub begun : Step Tok → Step Form → Step Form → Kind → Step Form
-begun enter negated formula k.Not = do
+-- an opening bracket; the step takes it
+unfoldable pub opening : Step Tok → Step Tok
+opening enter = λ s. if is_open (step.kind s) then enter s else refuse Unexpected s
+
+-- What a token begins that is no quantifier. The first step takes a token that opens a level.
+abbrev pub begun : Step Tok → Step FormulaForm → Step FormulaForm → Step TermForm → Step InstanceForm → Kind → Step FormulaForm
+begun enter below inner term instance k.Not = do
   sign ← enter
-  inner ← negated
-  pure (negation sign.place inner)
-begun enter negated formula k.Open = do
+  operand ← below
+  pure (FormulaForm.negation sign.place operand)
+begun enter below inner term instance k.Open = unless_next is_open (do
   open_bracket ← enter
-  inner ← formula
+  x ← inner
   close_bracket ← expect k.Close
-  pure inner
-begun enter negated formula k.True = truth true
-begun enter negated formula k.False = truth false
-begun enter negated formula k.Name = instance_named
-begun enter negated formula _ = refuse Unexpected
+  pure x)
+begun enter below inner term instance k.True = truth true
+begun enter below inner term instance k.False = truth false
+begun enter below inner term instance k.Val = unless_next is_open (do
+  word ← take_token
+  open_bracket ← opening enter
+  x ← term
+  close_bracket ← expect k.Close
+  pure (FormulaForm.val word.place x))
+begun enter below inner term instance k.Name = do
+  x ← instance
+  pure (FormulaForm.instance x)
+begun enter below inner term instance _ = refuse Unexpected
 
--- A negation, a formula in brackets, a constant or a predicate variable. The number is how many levels may still open.
-unfoldable pub node : ℕ → Step Form
-node zero = peek >>= begun (refuse Limit) (refuse Limit) (refuse Limit)
-node (suc depth) = peek >>= begun take_token (node depth) (level Implies (node depth))
+abbrev pub connections : Step Tok → Step FormulaForm → Step FormulaForm → Step FormulaForm
+connections enter node body = connected (connected_by FormulaForm.connected) is_quantifier node (quantified FormulaForm.quantified enter body)
 
--- ---- systems
+-- the data term behind `val`
+unfoldable pub data_term : ℕ → Step TermForm
+data_term depth = expressions.term depth
 
-unfoldable pub name : Step Named
-name = do
-  token ← expect k.Name
-  pure (record { place = token.place; text = token.text })
+-- where no level may open, and where one may
+abbrev pub last_node : Step FormulaForm
+last_node = peek >>= begun (refuse Limit) (refuse Limit) (refuse Limit) (refuse Limit) (expressions.instance 0)
+
+abbrev pub node_over : Step FormulaForm → Step FormulaForm → ℕ → Step FormulaForm
+node_over below inner depth = peek >>= begun take_token below inner (data_term depth) (expressions.instance (suc depth))
+
+-- The number is how many levels may still open.
+unfoldable mutual
+  pub node : ℕ → Step FormulaForm
+  node zero = last_node
+  node (suc depth) = node_over (node depth) (formula depth) depth
+
+  pub formula : ℕ → Step FormulaForm
+  formula zero = connections (refuse Limit) last_node (refuse Limit)
+  formula (suc depth) = connections take_token (node_over (node depth) (formula depth) depth) (formula depth)
+
+-- a quantifier with its variables and its body
+unfoldable pub quantification : ℕ → Step FormulaForm
+quantification zero = quantified FormulaForm.quantified (refuse Limit) (refuse Limit)
+quantification (suc depth) = quantified FormulaForm.quantified take_token (formula depth)
+
+-- an operand of `&&`
+abbrev pub primary : ℕ → Step FormulaForm
+primary depth = either is_quantifier (node depth) (quantification depth)
+
+-- a chain of the connective, and an operand of one
+abbrev pub level : Connective → ℕ → Step FormulaForm
+level connective.And depth = conjunction (connected_by FormulaForm.connected) (primary depth)
+level connective.Or depth = disjunction (connected_by FormulaForm.connected) (primary depth)
+level connective.Implies depth = formula depth
+
+abbrev pub operand : Connective → ℕ → Step FormulaForm
+operand connective.And depth = primary depth
+operand connective.Or depth = level connective.And depth
+operand connective.Implies depth = level connective.Or depth
+
+-- ---- sorts
+
+abbrev pub plain : Step EnumeratorForm
+plain = do
+  found ← name
+  pure (record { name = found; recogniser = None })
+
+abbrev pub recognised : EnumeratorForm → Step EnumeratorForm
+recognised x = unless_next is_question (do
+  question ← take_token
+  found ← name
+  pure (record { name = x.name; recogniser = Some found }))
+
+unfoldable pub enumerator : Step EnumeratorForm
+enumerator = extended is_question plain recognised
+
+abbrev pub enumerators : Step (List EnumeratorForm)
+enumerators = λ s. listed enumerator is_bar take_token (suc (length s.tokens)) s
+
+abbrev pub sort_by : Kind → Step SortForm
+sort_by k.Struct = do
+  word ← take_token
+  found ← enumerators
+  semicolon ← expect k.Semicolon
+  pure (struct found)
+sort_by k.Name = do
+  target ← name
+  semicolon ← expect k.Semicolon
+  pure (alias target)
+sort_by _ = refuse Unexpected
+
+unfoldable pub sort : Step SortForm
+sort = peek >>= sort_by
+
+unfoldable pub declaration : Step SortDeclarationForm
+declaration = do
+  found ← name
+  is ← expect k.Is
+  its_sort ← sort
+  pure (record { name = found; sort = its_sort })
+
+abbrev pub declarations : Step (List SortDeclarationForm)
+declarations = λ s. listed declaration is_name nothing_between (suc (length s.tokens)) s
+
+unfoldable pub sort_part : Step (List SortDeclarationForm)
+sort_part = do
+  word ← expect k.Sort
+  found ← declarations
+  pure found
+
+abbrev pub some_sort_parts : Step (List SortDeclarationForm)
+some_sort_parts = λ s. series sort_part is_sort nothing_between (λ sorts. sorts) (λ sorts u rest. sorts ++ rest) (suc (length s.tokens)) s
+
+-- where no part begins, no declaration of one does
+abbrev pub sort_parts : Step (List SortDeclarationForm)
+sort_parts = extended is_sort (unless_next is_name (pure [])) (λ none. some_sort_parts)
+
+-- ---- equations and texts
 
 abbrev pub sign_by : Kind → Step Sign
 sign_by k.Mu = do
@@ -76,43 +182,52 @@ sign_by _ = refuse Unexpected
 unfoldable pub sign_of : Step Sign
 sign_of = peek >>= sign_by
 
--- a formula with all the operators that are allowed
-unfoldable pub right_side : ℕ → Step Form
-right_side depth = alone (level Implies (node depth))
+-- parameters in brackets
+abbrev pub declared : ℕ → Step (List VariableForm)
+declared depth = do
+  open_bracket ← enter depth
+  found ← variables
+  close_bracket ← expect k.Close
+  pure found
 
-unfoldable pub equation : ℕ → Step Eqn
+-- the parameters of an equation, if it has any
+unfoldable pub parameters : ℕ → Step (List VariableForm)
+parameters depth = extended is_open (pure []) (λ none. unless_next is_open (declared depth))
+
+-- a formula with all the operators that are allowed
+unfoldable pub right_side : ℕ → Step FormulaForm
+right_side depth = alone (level connective.Implies depth)
+
+unfoldable pub equation : ℕ → Step EquationForm
 equation depth = do
   sign ← sign_of
   defined ← name
+  its_parameters ← parameters depth
   is ← expect k.Is
   right ← right_side depth
   semicolon ← expect k.Semicolon
-  pure (record { sign = sign; name = defined; right = right })
+  pure (record { sign = sign; name = defined; parameters = its_parameters; right = right })
 
-abbrev pub begins_equation : Kind → Bool
-begins_equation kind = same_kind kind k.Mu || same_kind kind k.Nu
+abbrev pub equations : ℕ → Step (List EquationForm)
+equations depth = λ s. listed (equation depth) begins_equation nothing_between (suc (length s.tokens)) s
 
-abbrev pub nothing_between : Step (Unit {0})
-nothing_between = λ s. Ok (tt, s)
+-- an instance with all the operators that are allowed
+unfoldable pub initial_instance : ℕ → Step InstanceForm
+initial_instance depth = alone (expressions.instance depth)
 
-abbrev pub equations_from : ℕ → ℕ → Step (List Eqn)
-equations_from depth = series (equation depth) begins_equation nothing_between (λ e. e ∷ []) (λ e u es. e ∷ es)
-
-abbrev pub equations : ℕ → Step (List Eqn)
-equations depth = λ s. equations_from depth (suc (length s.tokens)) s
-
-unfoldable pub system : ℕ → Step Text
-system depth = do
+unfoldable pub text : List RangeForm → ℕ → Step SpecForm
+text ranges depth = do
+  sorts ← sort_parts
   pbes ← expect k.Pbes
   found ← equations depth
   init ← expect k.Init
-  initial ← name
+  initial ← initial_instance depth
   semicolon ← expect k.Semicolon
-  pure (record { equations = found; initial = initial })
+  pure (record { sorts = sorts; ranges = ranges; equations = found; initial = initial })
 
 -- and nothing behind it
-unfoldable pub whole : ℕ → Step Text
-whole depth = do
-  found ← system depth
+unfoldable pub whole_text : List RangeForm → ℕ → Step SpecForm
+whole_text ranges depth = do
+  found ← text ranges depth
   last ← peek
   if same_kind last k.End then pure found else refuse Unexpected

@@ -6,6 +6,7 @@ ghost use Rattle.pb_text.specs.Parsing as spec;
 use pb_ast::Place;
 use pb_lexer::fault::{Fault, Rule as Broken};
 use pb_lexer::kind::Kind;
+use std::alloc::AllocError;
 
 /// Which rule a text breaks, with the number that a user sees.
 #[derive(Clone, Copy, Debug, PartialEq, Eq)]
@@ -16,9 +17,9 @@ pub enum Rule {
     UnexpectedToken,
     /// P03: a number above 2^62.
     LargeNumber,
-    /// P04: a token that opens more than 64 levels, or more than 8,192 operators with two operands in an equation.
+    /// P04: a token that opens level 65, or the 8,193rd operator with two operands in an equation or in `init`.
     LimitExceeded,
-    /// P05: a range line.
+    /// P05: a range line that isn't a name and two bounds in order, each within 32 bits.
     RangeLine,
 }
 
@@ -56,5 +57,16 @@ impl From<Fault> for TextError {
                 place: refusal.place,
             },
         }
+    }
+}
+
+impl From<AllocError> for TextError {
+    ghost use Rattle.std.specs.Prelude.{◌≡◌};
+    ghost use Rattle.pb_text.specs.declared.error.TextError.TheVariants.{Memory};
+
+    ghost from_gives = { λ _ e. e ≡ Memory };
+
+    fn from(_error: AllocError) -> TextError {
+        TextError::Memory
     }
 }

@@ -1,28 +1,23 @@
 //! Reads formulas, by recursive descent. A chain of one connective is read by a loop, so that the recursion is as deep
-//! as brackets and negations nest.
+//! as brackets, negations and quantifiers nest.
 
-ghost use Rattle.std.specs.Prelude.{◌≡◌, ◌<◌, length, OnOk, IfOk, []};
-ghost use Rattle.pb_ast.specs.Form.{form, chained, linked_all};
+ghost use Rattle.std.specs.Prelude.{◌≡◌, ◌<◌, length, OnOk, IfOk};
+ghost use Rattle.pb_ast.specs.Form.{FormulaForm, formula_form, term_form, chained, link_forms};
+ghost use Rattle.pb_lexer.specs.Steps as spec;
 ghost use Rattle.pb_lexer.specs.Steps.{Gives};
-ghost use Rattle.pb_text.specs.Grammar as grammar;
+ghost use Rattle.pb_expressions.specs.Operators as operators;
+ghost use Rattle.pb_expressions.specs.Reading as expressions;
 ghost use Rattle.pb_text.specs.Reading as reading;
 
-use pb_ast::{Connective, Formula, Instance, Link, Name};
+use crate::next::{open, unless};
+use pb_ast::{Connective, Formula, Link, Quantifier, Term};
+use pb_expressions::operator::{quantifier, symbol};
+use pb_expressions::term::{instance, term};
+use pb_expressions::variable::variables;
 use pb_lexer::fault::{Fault, Rule};
 use pb_lexer::input::Input;
 use pb_lexer::kind::{Kind, same_kind};
 use std::alloc::{AllocError, Global};
-
-/// The token of a connective.
-fn symbol(connective: Connective) -> Kind
-    ensures { result ≡ grammar.symbol connective }
-{
-    match connective {
-        Connective::And => Kind::And,
-        Connective::Or => Kind::Or,
-        Connective::Implies => Kind::Implies,
-    }
-}
 
 /// The node of a chain, or its first operand where there is no other.
 fn joined(
@@ -31,7 +26,8 @@ fn joined(
     first: Formula,
     links: Vec<Link>,
 ) -> Result<Formula, AllocError>
-    ensures { IfOk result (λ f. form f ≡ chained connective (form first) (linked_all links.items)) }
+    ensures { IfOk result (λ f. formula_form f
+        ≡ chained (FormulaForm.connected connective) (formula_form first) (link_forms links.items)) }
 {
     if links.is_empty() {
         return Ok(first);
@@ -44,11 +40,20 @@ fn joined(
     })
 }
 
-/// A negation, a formula in brackets, a constant or a predicate variable, in which so many levels may open.
+/// The data term behind `val`, in which so many levels may open.
+#[tactic(auto, unfolding(crate::specs::Reading::data_term))]
+fn data_term(input: &mut Input<'_>, alloc: Global, depth: u32) -> Result<Term, Fault>
+    ensures reads { Gives term_form (reading.data_term depth input.old) result input.new }
+    ensures fewer { OnOk result (length input.new.tokens < length input.old.tokens) }
+{
+    term(input, alloc, depth)
+}
+
+/// A negation, a formula in brackets, a constant, a data term or an instance, in which so many levels may open.
 #[cycle(formulas)]
 #[tactic(auto, unfolding(crate::specs::Reading::node))]
 fn node(input: &mut Input<'_>, alloc: Global, depth: u32) -> Result<Formula, Fault>
-    ensures reads { Gives form (reading.node depth input.old) result input.new }
+    ensures reads { Gives formula_form (reading.node depth input.old) result input.new }
     ensures fewer { OnOk result (length input.new.tokens < length input.old.tokens) }
 {
     match input.kind() {
@@ -62,29 +67,59 @@ fn node(input: &mut Input<'_>, alloc: Global, depth: u32) -> Result<Formula, Fau
             input.enter(depth)?;
             let inner = level(input, alloc, Connective::Implies, depth - 1)?;
             input.expect(Kind::Close)?;
+            unless(input, Kind::Open)?;
             Ok(inner)
         }
         Kind::True => {
             let place = input.take().place;
+            unless(input, Kind::Open)?;
             Ok(Formula::Constant { place, value: true })
         }
         Kind::False => {
             let place = input.take().place;
+            unless(input, Kind::Open)?;
             Ok(Formula::Constant {
                 place,
                 value: false,
             })
         }
-        Kind::Name => {
-            let token = input.take();
-            let text = token.text.to_owned(alloc)?;
-            let place = token.place;
-            Ok(Formula::Instance(Instance {
-                name: Name { place, text },
-            }))
+        Kind::Val => {
+            let place = input.take().place;
+            open(input, depth)?;
+            let term = data_term(input, alloc, depth - 1)?;
+            input.expect(Kind::Close)?;
+            unless(input, Kind::Open)?;
+            Ok(Formula::Value { place, term })
         }
+        Kind::Name => Ok(Formula::Instance(instance(input, alloc, depth)?)),
         _ => Err(input.refuse(Rule::Unexpected)),
     }
+}
+
+/// A quantifier, its variables and its body, in which so many levels may open.
+#[cycle(formulas)]
+#[tactic(auto, unfolding(crate::specs::Reading::quantification))]
+fn quantified(
+    input: &mut Input<'_>,
+    alloc: Global,
+    quantifier: Quantifier,
+    depth: u32,
+) -> Result<Formula, Fault>
+    requires { expressions.quantifier_of (spec.kind input.old) ≡ Some quantifier }
+    ensures reads { Gives formula_form (reading.quantification depth input.old) result input.new }
+    ensures fewer { OnOk result (length input.new.tokens < length input.old.tokens) }
+{
+    let place = input.enter(depth)?.place;
+    let variables = variables(input, alloc)?;
+    input.expect(Kind::Period)?;
+    let body = level(input, alloc, Connective::Implies, depth - 1)?;
+    let body = Box::new(alloc, body)?;
+    Ok(Formula::Quantified {
+        place,
+        quantifier,
+        variables,
+        body,
+    })
 }
 
 /// An operand of a chain of the connective.
@@ -95,11 +130,14 @@ fn operand(
     connective: Connective,
     depth: u32,
 ) -> Result<Formula, Fault>
-    ensures reads { Gives form (reading.operand connective (reading.node depth) input.old) result input.new }
+    ensures reads { Gives formula_form (reading.operand connective depth input.old) result input.new }
     ensures fewer { OnOk result (length input.new.tokens < length input.old.tokens) }
 {
     match connective {
-        Connective::And => node(input, alloc, depth),
+        Connective::And => match quantifier(input.kind()) {
+            Some(quantifier) => quantified(input, alloc, quantifier, depth),
+            None => node(input, alloc, depth),
+        },
         Connective::Or => level(input, alloc, Connective::And, depth),
         Connective::Implies => level(input, alloc, Connective::Or, depth),
     }
@@ -113,7 +151,7 @@ pub fn level(
     connective: Connective,
     depth: u32,
 ) -> Result<Formula, Fault>
-    ensures reads { Gives form (reading.level connective (reading.node depth) input.old) result input.new }
+    ensures reads { Gives formula_form (reading.level connective depth input.old) result input.new }
     ensures fewer { OnOk result (length input.new.tokens < length input.old.tokens) }
 {
     let first = operand(input, alloc, connective, depth)?;

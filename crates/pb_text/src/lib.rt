@@ -1,4 +1,4 @@
-//! Reads the text of a Boolean equation system into its syntax tree.
+//! Reads the text of a parameterised Boolean equation system into its syntax tree.
 //!
 //! `specs/Grammar.antt` is the grammar, a relation between tokens and what they say. `specs/Reading.antt` is the same
 //! as a function, which the code computes; no public clause cites it. `specs/Parsing.antt` has what `parse` ensures.
@@ -6,6 +6,8 @@
 
 pub mod error;
 mod formula;
+mod next;
+mod sort;
 mod system;
 #[cfg(test)]
 mod tests;

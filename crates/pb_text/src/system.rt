@@ -1,19 +1,23 @@
-//! Reads equations and whole systems.
+//! Reads equations and whole texts.
 
-ghost use Rattle.std.specs.Prelude.{◌≡◌, ◌<◌, length, OnOk};
-ghost use Rattle.pb_ast.specs.Form.{form, named, eqn, eqns, text};
+ghost use Rattle.std.specs.Prelude.{◌≡◌, ◌<◌, ◌≤◌, length, OnOk, map, []};
+ghost use Rattle.pb_ast.specs.Form.{formula_form, variable_forms, equation_form, instance_form, range_form, spec_form};
 ghost use Rattle.pb_lexer.specs.Steps.{Gives};
 ghost use Rattle.pb_text.specs.Reading as reading;
 
 use crate::formula::level;
-use pb_ast::{Connective, Equation, Formula, Instance, Name, Spec};
+use crate::next::unless;
+use crate::sort::sort_parts;
+use pb_ast::{Connective, Equation, Formula, Instance, Spec, Variables};
+use pb_expressions::term::instance;
+use pb_expressions::variable::{name, variables};
 use pb_fixpoint::Sign;
 use pb_lexer::fault::{Fault, Rule};
 use pb_lexer::input::Input;
 use pb_lexer::kind::{Kind, same_kind};
 use std::alloc::Global;
 
-/// How many levels of brackets and negations may open.
+/// How many levels of brackets, negations, signs and quantifiers may open.
 const DEPTH_LIMIT: u32 = 64;
 
 /// Whether an equation begins with a token of this kind.
@@ -21,20 +25,6 @@ fn begins_equation(kind: Kind) -> bool
     ensures { result ≡ reading.begins_equation kind }
 {
     same_kind(kind, Kind::Mu) || same_kind(kind, Kind::Nu)
-}
-
-/// A name, where one must stand.
-#[tactic(auto, unfolding(crate::specs::Reading::name))]
-fn name(input: &mut Input<'_>, alloc: Global) -> Result<Name, Fault>
-    ensures reads { Gives named (reading.name input.old) result input.new }
-    ensures fewer { OnOk result (length input.new.tokens < length input.old.tokens) }
-{
-    let token = input.expect(Kind::Name)?;
-    let text = token.text.to_owned(alloc)?;
-    Ok(Name {
-        place: token.place,
-        text,
-    })
 }
 
 /// `mu` or `nu`.
@@ -56,10 +46,26 @@ fn sign(input: &mut Input<'_>) -> Result<Sign, Fault>
     }
 }
 
+/// The parameters of an equation, in brackets, if it has any.
+#[tactic(auto, unfolding(crate::specs::Reading::parameters))]
+fn parameters(input: &mut Input<'_>, alloc: Global) -> Result<Vec<Variables>, Fault>
+    ensures reads { Gives (λ v. variable_forms v.items) (reading.parameters 64 input.old) result input.new }
+    ensures fewer { OnOk result (length input.new.tokens ≤ length input.old.tokens) }
+{
+    if !same_kind(input.kind(), Kind::Open) {
+        return Ok(Vec::new(alloc));
+    }
+    input.enter(DEPTH_LIMIT)?;
+    let parameters = variables(input, alloc)?;
+    input.expect(Kind::Close)?;
+    unless(input, Kind::Open)?;
+    Ok(parameters)
+}
+
 /// The right side of an equation, with all the operators that one may have.
 #[tactic(auto, unfolding(crate::specs::Reading::right_side))]
 fn right_side(input: &mut Input<'_>, alloc: Global) -> Result<Formula, Fault>
-    ensures reads { Gives form (reading.right_side 64 input.old) result input.new }
+    ensures reads { Gives formula_form (reading.right_side 64 input.old) result input.new }
     ensures fewer { OnOk result (length input.new.tokens < length input.old.tokens) }
 {
     let allowed = input.operators();
@@ -68,23 +74,29 @@ fn right_side(input: &mut Input<'_>, alloc: Global) -> Result<Formula, Fault>
     Ok(formula)
 }
 
-/// A sign, a name, `=`, a formula and `;`.
+/// A sign, a name with its parameters, `=`, a formula and `;`.
 #[tactic(auto, unfolding(crate::specs::Reading::equation))]
 fn equation(input: &mut Input<'_>, alloc: Global) -> Result<Equation, Fault>
-    ensures reads { Gives eqn (reading.equation 64 input.old) result input.new }
+    ensures reads { Gives equation_form (reading.equation 64 input.old) result input.new }
     ensures fewer { OnOk result (length input.new.tokens < length input.old.tokens) }
 {
     let sign = sign(input)?;
     let name = name(input, alloc)?;
+    let parameters = parameters(input, alloc)?;
     input.expect(Kind::Is)?;
     let right = right_side(input, alloc)?;
     input.expect(Kind::Semicolon)?;
-    Ok(Equation { sign, name, right })
+    Ok(Equation {
+        sign,
+        name,
+        parameters,
+        right,
+    })
 }
 
 /// One equation or more.
 fn equations(input: &mut Input<'_>, alloc: Global) -> Result<Vec<Equation>, Fault>
-    ensures { Gives (λ v. eqns v.items) (reading.equations 64 input.old) result input.new }
+    ensures { Gives (λ v. map equation_form v.items) (reading.equations 64 input.old) result input.new }
 {
     let mut equations = Vec::new(alloc);
     'equations: loop {
@@ -96,28 +108,44 @@ fn equations(input: &mut Input<'_>, alloc: Global) -> Result<Vec<Equation>, Faul
     }
 }
 
-/// `pbes`, equations, `init`, a name and `;`.
-#[tactic(auto, unfolding(crate::specs::Reading::system))]
-fn system(input: &mut Input<'_>, alloc: Global) -> Result<Spec, Fault>
-    ensures { Gives text (reading.system 64 input.old) result input.new }
+/// The instance that is asked for, with all the operators that its arguments may have.
+#[tactic(auto, unfolding(crate::specs::Reading::initial_instance))]
+fn initial_instance(input: &mut Input<'_>, alloc: Global) -> Result<Instance, Fault>
+    ensures { Gives instance_form (reading.initial_instance 64 input.old) result input.new }
 {
+    let allowed = input.operators();
+    let initial = instance(input, alloc, DEPTH_LIMIT)?;
+    input.allow(allowed);
+    Ok(initial)
+}
+
+/// Sorts, `pbes`, equations, `init`, an instance and `;`, without ranges.
+#[tactic(auto, unfolding(crate::specs::Reading::text))]
+fn text(input: &mut Input<'_>, alloc: Global) -> Result<Spec, Fault>
+    ensures { Gives spec_form (reading.text [] 64 input.old) result input.new }
+{
+    let sorts = sort_parts(input, alloc)?;
     input.expect(Kind::Pbes)?;
     let equations = equations(input, alloc)?;
     input.expect(Kind::Init)?;
-    let name = name(input, alloc)?;
+    let initial = initial_instance(input, alloc)?;
     input.expect(Kind::Semicolon)?;
-    let initial = Instance { name };
-    Ok(Spec { equations, initial })
+    Ok(Spec {
+        sorts,
+        ranges: Vec::new(alloc),
+        equations,
+        initial,
+    })
 }
 
-/// The system that all tokens are.
-#[tactic(auto, unfolding(crate::specs::Reading::whole))]
+/// The text that all tokens are, without ranges.
+#[tactic(auto, unfolding(crate::specs::Reading::whole_text))]
 pub fn whole(input: &mut Input<'_>, alloc: Global) -> Result<Spec, Fault>
-    ensures { Gives text (reading.whole 64 input.old) result input.new }
+    ensures { Gives spec_form (reading.whole_text [] 64 input.old) result input.new }
 {
-    let system = system(input, alloc)?;
+    let text = text(input, alloc)?;
     if same_kind(input.kind(), Kind::End) {
-        Ok(system)
+        Ok(text)
     } else {
         Err(input.refuse(Rule::Unexpected))
     }

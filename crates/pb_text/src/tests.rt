@@ -1,17 +1,14 @@
-//! Which texts are refused, and where; texts at the limits.
+//! Which texts are read and refused, and where; texts at the limits.
 
 use crate::error::{Rule, TextError};
 use crate::text::parse;
-use pb_ast::{Connective, Formula};
-use pb_fixpoint::Sign;
 use std::alloc::{AllocError, Global};
-use std::process::Abort;
 use std::test::Fail;
 
-/// What reading a text gives: how many equations, or the rule's number with the line and the column.
+/// What reading a text gives: how many sorts, ranges and equations, or the rule's number with the line and the column.
 #[derive(Clone, Copy, Debug, PartialEq, Eq)]
 enum Answer {
-    Read(usize),
+    Read(usize, usize, usize),
     Refused(u32, u32, u32),
     Memory,
     TooLong,
@@ -32,7 +29,7 @@ fn outcome(alloc: Global, text: &[u8]) -> Answer {
         return Answer::TooLong;
     }
     match parse(alloc, text) {
-        Ok(spec) => Answer::Read(spec.equations.len()),
+        Ok(spec) => Answer::Read(spec.sorts.len(), spec.ranges.len(), spec.equations.len()),
         Err(TextError::Memory) => Answer::Memory,
         Err(TextError::Refused { rule, place }) => {
             Answer::Refused(number(rule), place.line, place.column)
@@ -41,208 +38,257 @@ fn outcome(alloc: Global, text: &[u8]) -> Answer {
 }
 
 #[test]
-fn reads_systems(rt: HostRuntime) -> Result<(), Fail> {
+fn reads_texts(rt: HostRuntime) -> Result<(), Fail> {
     let a = rt.alloc();
-    assert_eq!(rt; outcome(a, b"pbes nu X = X; init X;"), Answer::Read(1));
-    assert_eq!(rt;
-        outcome(a, b"pbes mu X = Y; nu Y = X; init X;"),
-        Answer::Read(2)
-    );
-    assert_eq!(rt;
-        outcome(
-            a,
-            b"% c\npbes nu X_1' = (X_1' => false) => true || !X_1' && X_1';\n\tinit\rX_1';"
+    let texts: [(&[u8], Answer); 13] = [
+        (b"pbes nu X = X; init X;", Answer::Read(0, 0, 1)),
+        (b"pbes mu X = Y; nu Y = X; init X;", Answer::Read(0, 0, 2)),
+        (
+            b"% c\npbes nu X_1' = (X_1' => false) => true || !X_1' && X_1';\n\tinit\rX_1';",
+            Answer::Read(0, 0, 1),
         ),
-        Answer::Read(1)
-    );
+        (
+            b"%range Int 0 9\npbes mu X(n: Int) = val(n == 0) || X(n - 1); init X(9);",
+            Answer::Read(0, 1, 1),
+        ),
+        (
+            b"sort D = struct a | b | c; pbes nu X(d: D) = forall e: D . val(e != d) => X(e); init X(a);",
+            Answer::Read(1, 0, 1),
+        ),
+        (
+            b"sort D = struct a?is_a; pbes nu X = X; init X;",
+            Answer::Read(1, 0, 1),
+        ),
+        (
+            b"sort A = B; B = struct b; sort C = A; pbes nu X = X; init X;\n%range A 0 1",
+            Answer::Read(3, 1, 1),
+        ),
+        (
+            b"pbes nu X = val(-7 div 2 == -4 && -7 mod 2 == 1) && X; init X;",
+            Answer::Read(0, 0, 1),
+        ),
+        (
+            b"pbes nu X = val(4611686018427387904 > 0) && X; init X;",
+            Answer::Read(0, 0, 1),
+        ),
+        (
+            b"%range Int 1 4\npbes nu X(n: Int) = val((2 * n) div 3 == 1) && X(n); init X(2);",
+            Answer::Read(0, 1, 1),
+        ),
+        (
+            b"sort D = struct a?is_a | b?is_b; pbes nu X(d: D) = val(is_a(d)) && X(b) || val(is_b(d)) && X(a); init X(a);",
+            Answer::Read(1, 0, 1),
+        ),
+        (
+            b"pbes nu X(n, m: Nat, b: Bool) = (exists k: Nat . X(k, m, b)) && forall c: Bool . X(n, m, c) => X(m, n, b); init X(0, 1 + 1, true && false);",
+            Answer::Read(0, 0, 1),
+        ),
+        (
+            b"pbes nu X(d: D) = val(exists e: D . e != d) && X(d); init X(a);",
+            Answer::Read(0, 0, 1),
+        ),
+    ];
+    for (text, answer) in texts {
+        assert_eq!(rt; outcome(a, text), answer);
+    }
     Ok(())
 }
 
 #[test]
 fn refuses_at_the_least_fault(rt: HostRuntime) -> Result<(), Fail> {
     let a = rt.alloc();
-    assert_eq!(rt; outcome(a, b""), Answer::Refused(2, 1, 1));
-    assert_eq!(rt;
-        outcome(a, b"pbes nu X = X; init X"),
-        Answer::Refused(2, 1, 22)
-    );
-    assert_eq!(rt;
-        outcome(a, b"pbes nu X = X; init X; #"),
-        Answer::Refused(1, 1, 24)
-    );
-    assert_eq!(rt;
-        outcome(a, b"pbes nu X = !forall b: Bool . X; init X;"),
-        Answer::Refused(2, 1, 14)
-    );
-    assert_eq!(rt;
-        outcome(a, b"% c\npbes mu X = Y;\n nu Y = X; init X; X"),
-        Answer::Refused(2, 3, 20)
-    );
-    assert_eq!(rt;
-        outcome(a, b"pbes nu X = X && ; init X; #"),
-        Answer::Refused(2, 1, 18)
-    );
-    assert_eq!(rt;
-        outcome(a, b"pbes nu X = X & X; init X;"),
-        Answer::Refused(1, 1, 15)
-    );
-    Ok(())
-}
-
-#[test]
-fn refuses_tokens_of_later_grammars(rt: HostRuntime) -> Result<(), Fail> {
-    let a = rt.alloc();
-    assert_eq!(rt;
-        outcome(a, b"sort D = struct a | b; pbes nu X = X; init X;"),
-        Answer::Refused(2, 1, 1)
-    );
-    assert_eq!(rt;
-        outcome(a, b"pbes nu X(n: Nat) = X; init X;"),
-        Answer::Refused(2, 1, 10)
-    );
-    assert_eq!(rt;
-        outcome(a, b"pbes nu X = val(true); init X;"),
-        Answer::Refused(2, 1, 13)
-    );
-    assert_eq!(rt;
-        outcome(a, b"pbes nu end = end; init end;"),
-        Answer::Refused(2, 1, 9)
-    );
-    assert_eq!(rt;
-        outcome(a, b"pbes nu X = 4611686018427387904; init X;"),
-        Answer::Refused(2, 1, 13)
-    );
-    assert_eq!(rt;
-        outcome(a, b"pbes nu X = 4611686018427387905; init X;"),
-        Answer::Refused(3, 1, 13)
-    );
-    Ok(())
-}
-
-#[test]
-fn refuses_range_lines(rt: HostRuntime) -> Result<(), Fail> {
-    let a = rt.alloc();
-    assert_eq!(rt;
-        outcome(a, b"%range Int 0 9\npbes nu X = X; init X;"),
-        Answer::Refused(5, 1, 1)
-    );
-    assert_eq!(rt;
-        outcome(a, b"pbes nu X = X; init X;\n%range"),
-        Answer::Refused(5, 2, 1)
-    );
-    assert_eq!(rt;
-        outcome(
-            a,
-            b"%range\r\n %range Int 0 9\n%ranges\npbes nu X = X; init X;"
+    let texts: [(&[u8], Answer); 14] = [
+        (b"", Answer::Refused(2, 1, 1)),
+        (b"pbes nu X = X; init X", Answer::Refused(2, 1, 22)),
+        (b"pbes nu X = X; init X; #", Answer::Refused(1, 1, 24)),
+        (
+            b"% c\npbes mu X = Y;\n nu Y = X; init X; X",
+            Answer::Refused(2, 3, 20),
         ),
-        Answer::Read(1)
-    );
+        (b"pbes nu X = X && ; init X; #", Answer::Refused(2, 1, 18)),
+        (b"pbes nu X = X & X; init X;", Answer::Refused(1, 1, 15)),
+        (
+            b"pbes nu X = val(4611686018427387905 > 0) && X; init X;",
+            Answer::Refused(3, 1, 17),
+        ),
+        (
+            b"%range Nat 3\npbes nu X = X; init X;",
+            Answer::Refused(5, 1, 1),
+        ),
+        (b"pbes nu X = X; init X;\n%range", Answer::Refused(5, 2, 1)),
+        (
+            b"%range Int 1 4\npbes nu X(n: Int) = val(2 * n div 3 == 1) && X(n); init X(2);",
+            Answer::Refused(2, 2, 31),
+        ),
+        (b"pbes nu end = end; init end;", Answer::Refused(2, 1, 9)),
+        (
+            b"D = struct a; pbes nu X = X; init X;",
+            Answer::Refused(2, 1, 1),
+        ),
+        (b"sort pbes nu X = X; init X;", Answer::Refused(2, 1, 6)),
+        (
+            b"sort D = struct a?is_a?b; pbes nu X = X; init X;",
+            Answer::Refused(2, 1, 23),
+        ),
+    ];
+    for (text, answer) in texts {
+        assert_eq!(rt; outcome(a, text), answer);
+    }
     Ok(())
 }
 
-fn nested(alloc: Global, opened: &[u8], closed: &[u8], n: usize) -> Result<Vec<u8>, AllocError> {
+/// Formulas that aren't in the grammar, each with the column at which it is refused.
+#[test]
+fn refuses_other_formulas(rt: HostRuntime) -> Result<(), Fail> {
+    let a = rt.alloc();
+    let formulas: [(&[u8], u32); 14] = [
+        (b"!forall b: Bool . X", 2),
+        (b"X && !exists b: Bool . X", 7),
+        (b"val(forall b: Bool . b", 23),
+        (b"forall b . X", 10),
+        (b"forall b: Bool, . X", 17),
+        (b"forall b: Bool X", 16),
+        (b"X()", 3),
+        (b"X(1)(2)", 5),
+        (b"X(1", 4),
+        (b"true(1)", 5),
+        (b"(X)(X)", 4),
+        (b"val b", 5),
+        (b"val(b)(b)", 7),
+        (b"X == Y", 3),
+    ];
+    for (formula, column) in formulas {
+        let text = equation(a, formula)?;
+        assert_eq!(rt; outcome(a, &text), Answer::Refused(2, 1, column + 12));
+    }
+    Ok(())
+}
+
+/// A text whose right side begins in column 13.
+fn equation(alloc: Global, formula: &[u8]) -> Result<Vec<u8>, AllocError> {
     let mut text = b"pbes nu X = ".to_vec(alloc)?;
-    for _ in 0..n {
-        text.extend_from_slice(opened)?;
-    }
-    text.push(b'X')?;
-    for _ in 0..n {
-        text.extend_from_slice(closed)?;
-    }
+    text.extend_from_slice(formula)?;
     text.extend_from_slice(b"; init X;")?;
     Ok(text)
 }
 
+/// So many times the first part, then the second, and so many times the third.
+fn repeated(
+    alloc: Global,
+    (first, second, third): (&[u8], &[u8], &[u8]),
+    n: usize,
+) -> Result<Vec<u8>, AllocError> {
+    let mut formula = Vec::new(alloc);
+    for _ in 0..n {
+        formula.extend_from_slice(first)?;
+    }
+    formula.extend_from_slice(second)?;
+    for _ in 0..n {
+        formula.extend_from_slice(third)?;
+    }
+    equation(alloc, &formula)
+}
+
+/// What nests, with the column of level 65 where the first begins in column 13.
 #[test]
 fn nests_to_the_limit(rt: HostRuntime) -> Result<(), Fail> {
     let a = rt.alloc();
-    assert_eq!(rt; outcome(a, &nested(a, b"(", b")", 64)?), Answer::Read(1));
-    assert_eq!(rt;
-        outcome(a, &nested(a, b"(", b")", 65)?),
-        Answer::Refused(4, 1, 77)
-    );
-    assert_eq!(rt; outcome(a, &nested(a, b"!", b"", 64)?), Answer::Read(1));
-    assert_eq!(rt;
-        outcome(a, &nested(a, b"!", b"", 65)?),
-        Answer::Refused(4, 1, 77)
-    );
+    let nests: [((&[u8], &[u8], &[u8]), u32); 4] = [
+        ((b"(", b"X", b")"), 13 + 64),
+        ((b"!", b"X", b""), 13 + 64),
+        ((b"forall b: B . ", b"X", b""), 13 + 64 * 14),
+        ((b"X && exists b: B . ", b"X", b""), 13 + 64 * 19 + 5),
+    ];
+    for (nest, column) in nests {
+        assert_eq!(rt; outcome(a, &repeated(a, nest, 64)?), Answer::Read(0, 0, 1));
+        assert_eq!(rt;
+            outcome(a, &repeated(a, nest, 65)?),
+            Answer::Refused(4, 1, column)
+        );
+    }
     Ok(())
 }
 
-fn chained(alloc: Global, operator: &[u8], n: usize) -> Result<Vec<u8>, AllocError> {
-    let mut text = b"pbes nu X = X".to_vec(alloc)?;
-    for _ in 0..n {
-        text.extend_from_slice(operator)?;
-        text.push(b'X')?;
+/// What nests in data: the bracket of `val` is the first level.
+#[test]
+fn nests_to_the_limit_in_data(rt: HostRuntime) -> Result<(), Fail> {
+    let a = rt.alloc();
+    let nests: [((&[u8], &[u8]), u32); 4] = [
+        ((b"(", b")"), 1),
+        ((b"!", b""), 1),
+        ((b"-", b""), 1),
+        ((b"f(", b")"), 2),
+    ];
+    for ((first, third), width) in nests {
+        let mut text = b"pbes nu X = val(".to_vec(a)?;
+        for _ in 0..64u32 {
+            text.extend_from_slice(first)?;
+        }
+        text.push(b'b')?;
+        for _ in 0..64u32 {
+            text.extend_from_slice(third)?;
+        }
+        text.extend_from_slice(b"); init X;")?;
+        // The last of the 64 opens level 65.
+        assert_eq!(rt; outcome(a, &text), Answer::Refused(4, 1, 16 + 64 * width));
     }
-    text.extend_from_slice(b"; init X;")?;
-    Ok(text)
+    Ok(())
+}
+
+/// `X` with so many operators behind it, each with an operand.
+fn chained(
+    alloc: Global,
+    operand: &[u8],
+    operator: &[u8],
+    n: usize,
+) -> Result<Vec<u8>, AllocError> {
+    let mut formula = operand.to_vec(alloc)?;
+    for _ in 0..n {
+        formula.extend_from_slice(operator)?;
+        formula.extend_from_slice(operand)?;
+    }
+    Ok(formula)
 }
 
 #[test]
 fn chains_to_the_limit(rt: HostRuntime) -> Result<(), Fail> {
     let a = rt.alloc();
     for operator in [b"&&".as_slice(), b"||".as_slice(), b"=>".as_slice()] {
-        assert_eq!(rt; outcome(a, &chained(a, operator, 8192)?), Answer::Read(1));
+        let longest = equation(a, &chained(a, b"X", operator, 8192)?)?;
+        assert_eq!(rt; outcome(a, &longest), Answer::Read(0, 0, 1));
         // 13 bytes stand before the first operator, and three from each operator to the next.
-        assert_eq!(rt;
-            outcome(a, &chained(a, operator, 8193)?),
-            Answer::Refused(4, 1, 24_590)
-        );
+        let longer = equation(a, &chained(a, b"X", operator, 8193)?)?;
+        assert_eq!(rt; outcome(a, &longer), Answer::Refused(4, 1, 24_590));
     }
     Ok(())
 }
 
-/// The uppermost node of a formula with the columns of its tokens, as `and@15@20`.
-fn shown(alloc: Global, formula: &Formula) -> Result<String, AllocError> {
-    match formula {
-        Formula::Constant { place, value } => format!(in alloc; "{value}@{}", place.column),
-        Formula::Instance(instance) => {
-            format!(in alloc; "{}@{}", instance.name.text, instance.name.place.column)
-        }
-        Formula::Negation { place, .. } => format!(in alloc; "!@{}", place.column),
-        Formula::Chain {
-            connective,
-            links,
-            ..
-        } => {
-            let mut text = String::new(alloc);
-            text.push_str(name_of(*connective))?;
-            for link in links {
-                let place = format!(in alloc; "@{}", link.place.column)?;
-                text.push_str(&place)?;
-            }
-            Ok(text)
-        }
-    }
-}
-
-fn name_of(connective: Connective) -> &'static str {
-    match connective {
-        Connective::And => "and",
-        Connective::Or => "or",
-        Connective::Implies => "implies",
-    }
-}
-
-fn right_side(rt: &impl Abort, alloc: Global, text: &[u8]) -> Result<String, Fail> {
-    assert!(rt; text.len() < 1000);
-    let Ok(spec) = parse(alloc, text) else {
-        return Err(Fail::from("no text"));
-    };
-    assert_eq!(rt; spec.equations.len(), 1);
-    assert_eq!(rt; spec.equations[0].sign, Sign::Nu);
-    Ok(shown(alloc, &spec.equations[0].right)?)
-}
-
+/// The initial instance has an allowance of its own, and each equation has.
 #[test]
-fn places_nodes_at_their_tokens(rt: HostRuntime) -> Result<(), Fail> {
+fn counts_operators_of_init_alone(rt: HostRuntime) -> Result<(), Fail> {
     let a = rt.alloc();
-    let chain = right_side(&rt, a, b"pbes nu X = X && X && !X; init X;")?;
-    assert_eq!(rt; chain.as_str(), "and@15@20");
-    let name = right_side(&rt, a, b"pbes nu X = ((X)); init X;")?;
-    assert_eq!(rt; name.as_str(), "X@15");
-    let mixed = right_side(&rt, a, b"pbes nu X = X && X || X => true; init X;")?;
-    assert_eq!(rt; mixed.as_str(), "implies@25");
+    for operator in [
+        b" + ".as_slice(),
+        b" - ".as_slice(),
+        b" * ".as_slice(),
+        b" div ".as_slice(),
+        b" && ".as_slice(),
+    ] {
+        for (operators, read) in [(8192usize, true), (8193usize, false)] {
+            let mut text = b"pbes nu X = ".to_vec(a)?;
+            text.extend_from_slice(&chained(a, b"X", b"&&", 8192)?)?;
+            text.extend_from_slice(b";\ninit X(")?;
+            text.extend_from_slice(&chained(a, b"1", operator, operators)?)?;
+            text.extend_from_slice(b");")?;
+            match outcome(a, &text) {
+                Answer::Read(_, _, _) => assert!(rt; read),
+                Answer::Refused(rule, line, _) => {
+                    assert!(rt; !read);
+                    assert_eq!(rt; (rule, line), (4, 2));
+                }
+                _ => assert!(rt; false),
+            }
+        }
+    }
     Ok(())
 }

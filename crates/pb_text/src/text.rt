@@ -1,19 +1,22 @@
 //! From bytes to a syntax tree.
 
 ghost use Rattle.std.specs.Prelude.{◌≡◌, ◌≤◌, ℕ, length, IfOk, IfErr};
-ghost use Rattle.pb_ast.specs.Form.{Text, text};
+ghost use Rattle.pb_ast.specs.Form.{SpecForm, spec_form};
 ghost use Rattle.pb_text.specs.Parsing.{IsReading, IsReadingWithin, NoReading, Stands};
 
 use crate::error::TextError;
 use crate::system::whole;
 use pb_ast::Spec;
 use pb_lexer::input::Input;
+use pb_lexer::ranges::ranges;
 use std::alloc::Global;
 
-/// How many operators with two operands an equation may have.
+/// How many operators with two operands an equation, and the initial instance, may have.
 const OPERATOR_LIMIT: u32 = 8192;
 
 /// Reads a text of at most 67,108,864 bytes.
+///
+/// Range lines may stand anywhere in it; the tree has them in order.
 ///
 /// A text that says nothing is refused at its least fault: `Rule::UnknownByte` (P01), `Rule::LargeNumber` (P03) or
 /// `Rule::RangeLine` (P05) where a token should stand and none does, `Rule::UnexpectedToken` (P02) at the first token
@@ -22,14 +25,16 @@ const OPERATOR_LIMIT: u32 = 8192;
 pub fn parse(alloc: Global, bytes: &[u8]) -> Result<Spec, TextError>
     requires { length bytes.now ≤ 67108864 }
     // It is what the bytes say, within the limits, places included.
-    ensures reading { IfOk result (λ s. IsReading bytes.now (text s)) }
+    ensures reading { IfOk result (λ s. IsReading bytes.now (spec_form s)) }
     // They say nothing else, within any limits.
-    ensures only { IfOk result (λ s. (d n : ℕ) (x : Text) → IsReadingWithin d n bytes.now x → x ≡ text s) }
+    ensures only { IfOk result (λ s. (d n : ℕ) (x : SpecForm) → IsReadingWithin d n bytes.now x → x ≡ spec_form s) }
     // Only where they say nothing within the limits, or memory runs out, is there no text.
     ensures refused { IfErr result (λ e. NoReading bytes.now e) }
     // The fault stands at its place, and nothing that is no token stands before it.
     ensures stands { IfErr result (λ e. Stands bytes.now e) }
 {
     let mut input = Input::new(bytes, OPERATOR_LIMIT);
-    Ok(whole(&mut input, alloc)?)
+    let mut text = whole(&mut input, alloc)?;
+    text.ranges = ranges(alloc, bytes)?;
+    Ok(text)
 }

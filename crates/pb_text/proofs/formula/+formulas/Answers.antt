@@ -1,31 +1,33 @@
 use Rattle.std.proofs.Common.{rules, arith, ◌≡◌, ◌<◌, ◌-◌, length, true, false, vec_len, ◌∙◌}
 use Rattle.std.proofs.lemmas.Result.{err_from_is_err_and}
-use Rattle.pb_ast.specs.Form.{form, linked_all}
+use Rattle.pb_ast.specs.Form.{FormulaForm, formula_form, link_forms}
 use Rattle.pb_lexer.specs.Kinds.{same_kind}
 use Rattle.pb_lexer.specs.Steps.{kind, take_operator}
 use Rattle.pb_lexer.specs.Tokens.{tok}
-use Rattle.pb_text.specs.Grammar.{symbol}
-use Rattle.pb_text.specs.Reading.{node, operand, level}
-use Rattle.pb_text.proofs.ChainLemmas.{chain-first, chain-first-fails, resumed-end, resumed-more, resumed-operator-fails, resumed-operand-fails, linked-last, fails-as}
-use Rattle.pb_text.proofs.KindLemmas.{node-other}
+use Rattle.pb_lexer.proofs.LoopLemmas.{resumed-first, resumed-first-fails, resumed-end, resumed-more, resumed-operator-fails, resumed-operand-fails, fails-as}
+use Rattle.pb_expressions.specs.Operators.{symbol}
+use Rattle.pb_text.specs.Reading.{operand, level}
+use Rattle.pb_text.proofs.FormulaLemmas.{level-chain, links-last, node-other}
 use Rattle.pb_text.proofs.formula.+formulas.Goals as goal
 
 pub node-returns-in_default : goal.node-returns-in_default
 node-returns-in_default t c = rw c.refuse.ensures (record {
   reads = node-other c.args.depth c.args.input.now (λ q. c.in_default.not-Not (c.kind.ensures ∙ q)) (λ q. c.in_default.not-Open (c.kind.ensures ∙ q))
-      (λ q. c.in_default.not-True (c.kind.ensures ∙ q)) (λ q. c.in_default.not-False (c.kind.ensures ∙ q)) (λ q. c.in_default.not-Name (c.kind.ensures ∙ q));
+      (λ q. c.in_default.not-True (c.kind.ensures ∙ q)) (λ q. c.in_default.not-False (c.kind.ensures ∙ q)) (λ q. c.in_default.not-Val (c.kind.ensures ∙ q)) (λ q. c.in_default.not-Name (c.kind.ensures ∙ q));
   fewer = tt;
 })
 
 pub level-returns-in_err-first-clause-reads : goal.level-returns-in_err-first-clause-reads
 level-returns-in_err-first-clause-reads t c =
     let p = err_from_is_err_and c.from_residual.result c.from_residual.ensures.1 in
-    rw (p.1, p.2) (fails-as (operand c.args.connective (node c.args.depth) c.args.input.now) (level c.args.connective (node c.args.depth) c.args.input.now) c.in_err-first.field-0.0
-    (λ bad e. chain-first-fails c.args.connective (operand c.args.connective (node c.args.depth)) (length c.args.input.now.tokens) c.args.input.now bad e) c.in_err-first.ensures.reads)
+    rw (p.1, p.2) (fails-as (operand c.args.connective c.args.depth c.args.input.now) (level c.args.connective c.args.depth c.args.input.now) c.in_err-first.field-0.0
+    (λ bad e. level-chain c.args.connective c.args.depth c.args.input.now
+    ∙ resumed-first-fails (symbol c.args.connective) (FormulaForm.connected c.args.connective) (operand c.args.connective c.args.depth) (length c.args.input.now.tokens) c.args.input.now bad e) c.in_err-first.ensures.reads)
 
 pub level-links-init : goal.level-links-init
 level-links-init t c = record {
-  reads = rw (c.new-links.ensures.items, c.new-links.ensures.len) (chain-first c.args.connective (operand c.args.connective (node c.args.depth)) (length c.args.input.now.tokens) _ _ _ c.in_ok-first.ensures.reads);
+  reads = rw (c.new-links.ensures.items, c.new-links.ensures.len) (level-chain c.args.connective c.args.depth c.args.input.now
+      ∙ resumed-first (symbol c.args.connective) (FormulaForm.connected c.args.connective) (operand c.args.connective c.args.depth) (length c.args.input.now.tokens) _ _ _ c.in_ok-first.ensures.reads);
   room = omega (arith, c.in_ok-first.ensures.fewer);
 }
 
@@ -33,32 +35,34 @@ pub level-returns-in_err-place-clause-reads : goal.level-returns-in_err-place-cl
 level-returns-in_err-place-clause-reads t c =
     let p = err_from_is_err_and c.from_residual-in_err-place.result c.from_residual-in_err-place.ensures.1 in
     let same : same_kind (kind c.links.input) (symbol c.args.connective) ≡ true = search rules in
-    rw (p.1, p.2) (fails-as (take_operator c.links.input) (level c.args.connective (node c.args.depth) c.args.input.now) c.in_err-place.field-0.0
-    (λ bad e. c.links.invariant.reads ∙ resumed-operator-fails c.args.connective (operand c.args.connective (node c.args.depth)) (length c.args.input.now.tokens - vec_len c.links.links) _ (linked_all c.links.links.items)
-    c.links.input bad same e) c.in_err-place.ensures.reads)
+    rw (p.1, p.2) (fails-as (take_operator c.links.input) (level c.args.connective c.args.depth c.args.input.now) c.in_err-place.field-0.0
+    (λ bad e. c.links.invariant.reads ∙ resumed-operator-fails (symbol c.args.connective) (FormulaForm.connected c.args.connective) (operand c.args.connective c.args.depth)
+    (length c.args.input.now.tokens - vec_len c.links.links) _ (link_forms c.links.links.items) c.links.input bad same e) c.in_err-place.ensures.reads)
 
 pub level-returns-in_err-operand-clause-reads : goal.level-returns-in_err-operand-clause-reads
 level-returns-in_err-operand-clause-reads t c =
     let p = err_from_is_err_and c.from_residual-in_err-operand.result c.from_residual-in_err-operand.ensures.1 in
     let same : same_kind (kind c.links.input) (symbol c.args.connective) ≡ true = search rules in
     let some : 0 < length c.args.input.now.tokens - vec_len c.links.links = omega arith in
-    rw (p.1, p.2) (fails-as (operand c.args.connective (node c.args.depth) c.take_operator.new.self) (level c.args.connective (node c.args.depth) c.args.input.now) c.in_err-operand.field-0.0
-    (λ bad e. c.links.invariant.reads ∙ resumed-operand-fails c.args.connective (operand c.args.connective (node c.args.depth)) (length c.args.input.now.tokens - vec_len c.links.links) _ (linked_all c.links.links.items)
+    rw (p.1, p.2) (fails-as (operand c.args.connective c.args.depth c.take_operator.new.self) (level c.args.connective c.args.depth c.args.input.now) c.in_err-operand.field-0.0
+    (λ bad e. c.links.invariant.reads ∙ resumed-operand-fails (symbol c.args.connective) (FormulaForm.connected c.args.connective) (operand c.args.connective c.args.depth)
+    (length c.args.input.now.tokens - vec_len c.links.links) _ (link_forms c.links.links.items)
     c.links.input c.take_operator.new.self (tok c.in_ok-place.field-0) bad some same c.in_ok-place.ensures.reads e) c.in_err-operand.ensures.reads)
 
 pub level-links-preserved : goal.level-links-preserved
 level-links-preserved t c =
     let same : same_kind (kind c.links.input) (symbol c.args.connective) ≡ true = search rules in
-    let more = resumed-more c.args.connective (operand c.args.connective (node c.args.depth)) (length c.args.input.now.tokens - vec_len c.links.links)
-    (length c.args.input.now.tokens - vec_len c.push.new.self) _ (linked_all c.links.links.items) c.links.input c.take_operator.new.self c.operand-in-links.new.input
-    (tok c.in_ok-place.field-0) (form c.in_ok-operand.operand) (omega (arith, c.in_ok-push.ensures.len)) same c.in_ok-place.ensures.reads c.in_ok-operand.ensures.reads in
+    let more = resumed-more (symbol c.args.connective) (FormulaForm.connected c.args.connective) (operand c.args.connective c.args.depth) (length c.args.input.now.tokens - vec_len c.links.links)
+    (length c.args.input.now.tokens - vec_len c.push.new.self) _ (link_forms c.links.links.items) c.links.input c.take_operator.new.self c.operand-in-links.new.input
+    (tok c.in_ok-place.field-0) (formula_form c.in_ok-operand.operand) (omega (arith, c.in_ok-push.ensures.len)) same c.in_ok-place.ensures.reads c.in_ok-operand.ensures.reads in
     record {
-      reads = rw (c.in_ok-push.ensures.items, linked-last) (c.links.invariant.reads ∙ more);
+      reads = rw (c.in_ok-push.ensures.items, links-last) (c.links.invariant.reads ∙ more);
       room = omega (arith, c.in_ok-place.ensures.fewer, c.in_ok-operand.ensures.fewer, c.in_ok-push.ensures.len);
     }
 
 pub level-returns-clause-reads : goal.level-returns-clause-reads
 level-returns-clause-reads t c =
     let other : same_kind (kind c.links.input) (symbol c.args.connective) ≡ false = search rules in
-    let end = resumed-end c.args.connective (operand c.args.connective (node c.args.depth)) (length c.args.input.now.tokens - vec_len c.links.links) _ (linked_all c.links.links.items) c.links.input other in
+    let end = resumed-end (symbol c.args.connective) (FormulaForm.connected c.args.connective) (operand c.args.connective c.args.depth)
+    (length c.args.input.now.tokens - vec_len c.links.links) _ (link_forms c.links.links.items) c.links.input other in
     rw c.in_ok-joined.ensures (c.links.invariant.reads ∙ end)

@@ -1,8 +1,8 @@
 use Rattle.std.proofs.Common.{ap, ◌∙◌}
-use Rattle.pb_ast.specs.Form.{form, chained, linked_all}
-use Rattle.pb_ast.proofs.FormLemmas.{form-chain}
+use Rattle.pb_ast.specs.Form.{FormulaForm, formula_form, chained, link_forms}
+use Rattle.pb_ast.proofs.FormLemmas.{formula-chain}
 use Rattle.pb_text.proofs.formula.joined.Goals as goal
 
 pub returns : goal.returns
 returns c =
-    form-chain c.args.connective c.in_ok-first.first c.args.links ∙ ap (λ f. chained c.args.connective (form f) (linked_all c.args.links.items)) c.in_ok-first.ensures.ok
+    formula-chain c.args.connective c.in_ok-first.first c.args.links ∙ ap (λ f. chained (FormulaForm.connected c.args.connective) (formula_form f) (link_forms c.args.links.items)) c.in_ok-first.ensures.ok

@@ -1,12 +1,13 @@
-use Rattle.std.proofs.Common.{◌≡◌, ◌+◌, ◌-◌, ◌≤◌, suc, length, vec_len}
-use Rattle.pb_ast.specs.Form.{eqns}
-use Rattle.pb_text.specs.Reading.{equations, equations_from}
-use Rattle.pb_text.proofs.ChainLemmas.{behind_equations}
+use Rattle.std.proofs.Common.{◌≡◌, ◌+◌, ◌-◌, ◌≤◌, suc, length, map, vec_len}
+use Rattle.pb_ast.specs.Form.{equation_form}
+use Rattle.pb_lexer.specs.Steps.{nothing_between}
+use Rattle.pb_lexer.proofs.LoopLemmas.{gathered}
+use Rattle.pb_text.specs.Reading.{equation, equations, begins_equation}
 use Rattle.pb_text.proofs.system.equations.Given as goal
 
 abbrev pub invariant-equations : goal.invariant-equations
 invariant-equations l = record {
-  reads : equations 64 l.fn.input ≡ behind_equations (eqns l.equations.items) (equations_from 64 (suc (length l.fn.input.tokens) - vec_len l.equations)) l.input;
+  reads : equations 64 l.fn.input ≡ gathered (equation 64) begins_equation nothing_between (map equation_form l.equations.items) (suc (length l.fn.input.tokens) - vec_len l.equations) l.input;
   room : vec_len l.equations + length l.input.tokens ≤ length l.fn.input.tokens;
 }
 

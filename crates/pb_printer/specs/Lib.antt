@@ -1,0 +1,3 @@
+pub mod Unplaced
+pub mod SameParts
+pub mod Printing

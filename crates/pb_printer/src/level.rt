@@ -1,0 +1,130 @@
+//! Where an expression stands, and whether it needs brackets there.
+
+use pb_ast::{Arithmetic, Comparison, Connective};
+
+/// The levels of the grammar, from the one that binds loosest.
+#[derive(Clone, Copy, Debug, PartialEq, Eq)]
+pub enum Level {
+    Implication,
+    Disjunction,
+    Conjunction,
+    Equality,
+    Order,
+    Sum,
+    Product,
+    Unary,
+}
+
+impl Level {
+    /// How tightly the level binds.
+    fn rank(self) -> u8 {
+        self as u8
+    }
+
+    /// Whether an expression of this level stands without brackets where one of the other is asked for.
+    pub fn fits(self, asked: Level) -> bool {
+        asked.rank() <= self.rank()
+    }
+}
+
+/// Where an expression stands: the level that is asked for, and whether a quantifier may stand at its right end.
+#[derive(Clone, Copy, Debug)]
+pub struct Position {
+    pub level: Level,
+    pub open: bool,
+}
+
+impl Position {
+    /// Where any expression may stand: between brackets, behind a quantifier, as a whole.
+    pub const WHOLE: Position = Position {
+        level: Level::Implication,
+        open: true,
+    };
+
+    /// Where no quantifier may end the expression.
+    pub fn closed(level: Level) -> Position {
+        Position { level, open: false }
+    }
+
+    /// Where the last operand of a chain stands that stands here.
+    pub fn last(self, level: Level) -> Position {
+        Position {
+            level,
+            open: self.open,
+        }
+    }
+}
+
+/// The level of a chain of the connective.
+pub fn connective_level(connective: Connective) -> Level {
+    match connective {
+        Connective::Implies => Level::Implication,
+        Connective::Or => Level::Disjunction,
+        Connective::And => Level::Conjunction,
+    }
+}
+
+/// The level of a comparison, and that of its two sides.
+pub fn comparison_levels(comparison: Comparison) -> (Level, Level) {
+    match comparison {
+        Comparison::Equal | Comparison::NotEqual => (Level::Equality, Level::Order),
+        _ => (Level::Order, Level::Sum),
+    }
+}
+
+/// The level of a chain of arithmetic with this operator, and that of its operands.
+pub fn arithmetic_levels(operator: Arithmetic) -> (Level, Level) {
+    match operator {
+        Arithmetic::Plus | Arithmetic::Minus => (Level::Sum, Level::Product),
+        _ => (Level::Product, Level::Unary),
+    }
+}
+
+/// Operators of arithmetic that may stand in one chain.
+#[derive(Clone, Copy, Debug, PartialEq, Eq)]
+pub enum Group {
+    Additive,
+    Times,
+    Division,
+}
+
+/// With which operators one may stand in a chain.
+pub fn arithmetic_group(operator: Arithmetic) -> Group {
+    match operator {
+        Arithmetic::Plus | Arithmetic::Minus => Group::Additive,
+        Arithmetic::Times => Group::Times,
+        Arithmetic::Div | Arithmetic::Mod => Group::Division,
+    }
+}
+
+/// The token of a connective.
+pub fn connective_token(connective: Connective) -> &'static str {
+    match connective {
+        Connective::And => "&&",
+        Connective::Or => "||",
+        Connective::Implies => "=>",
+    }
+}
+
+/// The token of a comparison.
+pub fn comparison_token(comparison: Comparison) -> &'static str {
+    match comparison {
+        Comparison::Equal => "==",
+        Comparison::NotEqual => "!=",
+        Comparison::Less => "<",
+        Comparison::LessEqual => "<=",
+        Comparison::Greater => ">",
+        Comparison::GreaterEqual => ">=",
+    }
+}
+
+/// The token of an operator of arithmetic.
+pub fn arithmetic_token(operator: Arithmetic) -> &'static str {
+    match operator {
+        Arithmetic::Plus => "+",
+        Arithmetic::Minus => "-",
+        Arithmetic::Times => "*",
+        Arithmetic::Div => "div",
+        Arithmetic::Mod => "mod",
+    }
+}

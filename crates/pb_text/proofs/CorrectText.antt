@@ -1,0 +1,308 @@
+-- Equations and whole texts are read rightly.
+use Rattle.std.proofs.Common.{◌≡◌, ℕ, zero, suc, ◌≤◌, Bool, true, false, cond, List, [], ◌∷◌, ◌++◌, refl, sym, ◌∙◌, ap, subst, arith, Ok, Err}
+use Rattle.pb_fixpoint.specs.declared.Sign.{Sign}
+use Rattle.pb_fixpoint.specs.declared.Sign.TheVariants as sign
+use Rattle.pb_ast.specs.Form.{VariableForm, InstanceForm, RangeForm, EquationForm, SpecForm}
+use Rattle.pb_ast.specs.declared.operator.Connective.TheVariants as connective
+use Rattle.pb_lexer.specs.declared.fault.Rule.TheVariants.{Unexpected, Limit}
+use Rattle.pb_lexer.specs.declared.fault.Refusal.{Refusal}
+use Rattle.pb_lexer.specs.declared.kind.Kind.{Kind}
+use Rattle.pb_lexer.specs.declared.kind.Kind.TheVariants as k
+use Rattle.pb_lexer.specs.Kinds.{same_kind, is_last, is_limited}
+use Rattle.pb_lexer.specs.Grammar.{State, Within, Reads, Is, Nothing, One, First, Series, Own}
+use Rattle.pb_lexer.specs.Grammar as grammar
+use Rattle.pb_lexer.specs.LeftGrammar.{Extended}
+use Rattle.pb_lexer.specs.Steps.{ends, Step, Outcome, and_then, pure, take_token, expect, refuse, refusal, kind, head_kind, alone, unless_next, nothing_between}
+use Rattle.pb_lexer.specs.Steps as step
+use Rattle.pb_lexer.specs.Tokens.{Tok}
+use Rattle.pb_lexer.proofs.TokenLemmas.{kind-same, same-kind}
+use Rattle.pb_lexer.proofs.Correct.{st, Family, Stops, never, stops-never, Took, Answers, Correct, move, then-correct, HeadIs, take-correct, expect-correct, refused-here, unlike, first-correct, weaker-correct, deeper, deeper-correct, alike-correct, own-correct}
+use Rattle.pb_lexer.proofs.CorrectSeries.{going, Passes, head-at}
+use Rattle.pb_lexer.proofs.CorrectPlain.{Always, anywhere, then-plain, is-correct, nothing-correct}
+use Rattle.pb_lexer.proofs.CorrectLeft.{unless_next-correct, extended-correct}
+use Rattle.pb_expressions.specs.Grammar.{Name, Variables, Instance, IsTerm}
+use Rattle.pb_expressions.specs.Reading.{name, variables, is_open, is_comma}
+use Rattle.pb_expressions.specs.Reading as expressions
+use Rattle.pb_text.specs.Grammar.{IsFormula, SortParts, SignOf, Declared, IsEquation, Equations, IsInitial, IsSpec, IsText}
+use Rattle.pb_text.specs.Reading.{level, sign_by, sign_of, declared, parameters, right_side, equation, begins_equation, equations, initial_instance, sort_parts, text, whole_text}
+use Rattle.pb_expressions.proofs.CorrectVariable.{name-correct, variables-correct}
+use Rattle.pb_expressions.proofs.CorrectTerm.{instance-correct}
+use Rattle.pb_text.proofs.CorrectFormula.{node_goes, formula_goes, formulas-correct}
+use Rattle.pb_text.proofs.CorrectSorts.{passes-kind, head-of, other-stops, token-correct, many-correct, parts_go, sort_parts-correct}
+
+-- Before one of the tokens a fault stands: no list that begins with those up to it, and it, is a text within the limits.
+pub record IsFault (depth operators : ℕ) (tokens : List Tok) (bad : Refusal) : Type 0 where
+  pub front : List Tok
+  pub next : Tok
+  pub more : List Tok
+  pub cut : tokens ≡ front ++ next ∷ more
+  pub kind : bad.kind ≡ next.kind
+  pub place : bad.place ≡ next.place
+  pub limited : bad.rule ≡ Limit → is_limited next.kind ≡ true
+  pub none : (d n : ℕ) (tail : List Tok) (ranges : List RangeForm) (y : SpecForm) → Within bad.rule depth operators d n → IsText d n (front ++ next ∷ tail) ranges y → ⊥
+
+-- the tokens are this text, within the limits, and no other, within any
+pub record IsRead (depth operators : ℕ) (tokens : List Tok) (ranges : List RangeForm) (x : SpecForm) : Type 0 where
+  pub front : List Tok
+  pub end : Tok
+  pub cut : tokens ≡ front ++ end ∷ []
+  pub end_is : end.kind ≡ k.End
+  pub reads : IsText depth operators tokens ranges x
+  pub only : (d n : ℕ) (y : SpecForm) → IsText d n tokens ranges y → y ≡ x
+
+-- ---- signs
+
+sign-starts : (kind : Kind) (s : State) (y : Sign) (z : State) → SignOf kind s y z → HeadIs kind s.tokens
+sign-starts k.Mu s y z r = head-at k.Mu s.tokens r.1.tokens r.0 r.2.0 r.2.1
+sign-starts k.Nu s y z r = head-at k.Nu s.tokens r.1.tokens r.0 r.2.0 r.2.1
+sign-starts _ s y z r = absurd r
+
+at-sign : (depth : ℕ) (kind : Kind) → Correct (HeadIs kind) (sign_by kind) (λ d. SignOf kind) never depth
+at-sign depth k.Mu = then-plain (λ d. One k.Mu) (λ t d. Is sign.Mu) never depth (HeadIs k.Mu) take_token (λ t. pure sign.Mu) (take-correct k.Mu depth refl) (λ t. is-correct sign.Mu depth)
+at-sign depth k.Nu = then-plain (λ d. One k.Nu) (λ t d. Is sign.Nu) never depth (HeadIs k.Nu) take_token (λ t. pure sign.Nu) (take-correct k.Nu depth refl) (λ t. is-correct sign.Nu depth)
+at-sign depth kind = nothing-correct kind never depth
+
+sign-correct : (depth : ℕ) → Correct Always sign_of (λ d. First SignOf) never depth
+unfolding sign_of
+sign-correct depth = first-correct (λ d. SignOf) never depth (λ d. sign-starts) sign_by (at-sign depth)
+
+-- ---- parameters
+
+comma-closes : going never is_comma k.Close ≡ false
+unfolding same_kind
+comma-closes = refl
+
+-- variables in brackets
+abbrev in_brackets : Family (List VariableForm)
+in_brackets d = grammar.◌>>=◌ (One k.Open) (λ open_bracket. grammar.◌>>=◌ (deeper (λ d. Variables) d) (λ found. grammar.◌>>=◌ (One k.Close) (λ close_bracket. Is found)))
+
+to-declared : (d : ℕ) (s : State) (y : List VariableForm) (z : State) → in_brackets d s y z → Declared d s y z
+to-declared zero s y z r = absurd r.3.2
+to-declared (suc d) s y z r = r
+
+from-declared : (d : ℕ) (s : State) (y : List VariableForm) (z : State) → Declared d s y z → in_brackets d s y z
+from-declared zero s y z r = absurd r
+from-declared (suc d) s y z r = r
+
+declared-starts : (d : ℕ) (none : List VariableForm) (s : State) (y : List VariableForm) (z : State) → Declared d s y z → Passes is_open s.tokens
+declared-starts d none s y z r = let b = from-declared d s y z r in passes-kind k.Open s.tokens b.1.tokens b.0 b.2.0 b.2.1
+
+no-level : (d : ℕ) (s : State) (y : List VariableForm) (z : State) → d ≤ 0 → Declared d s y z → ⊥
+no-level zero s y z le r = r
+no-level (suc d) s y z le r = omega arith
+
+declared-correct : (depth : ℕ) → Correct (HeadIs k.Open) (declared depth) Declared never depth
+declared-correct zero = λ s end h. refused-here Declared never 0 s Limit end (λ q. limited s.tokens h) (λ d n t tail y w head within r over. no-level d (st (t ∷ tail) n) y w within.0 r)
+  where
+    limited : (ts : List Tok) → HeadIs k.Open ts → is_limited (head_kind ts) ≡ true
+    limited [] h = absurd h
+    limited (t ∷ ts) h = ap is_limited h
+declared-correct (suc depth) =
+    alike-correct (HeadIs k.Open) (declared (suc depth)) in_brackets Declared never (suc depth) to-declared from-declared
+    (then-plain (λ d. One k.Open) (λ open_bracket d. grammar.◌>>=◌ (deeper (λ d. Variables) d) (λ found. grammar.◌>>=◌ (One k.Close) (λ close_bracket. Is found))) never (suc depth)
+    (HeadIs k.Open) take_token _ (take-correct k.Open (suc depth) refl) (λ open_bracket.
+    then-correct (deeper (λ d. Variables)) (λ found d. grammar.◌>>=◌ (One k.Close) (λ close_bracket. Is found)) (going never is_comma) never (suc depth)
+    (λ d x m y z r over. other-stops (going never is_comma) k.Close m.tokens r.1.tokens r.0 comma-closes r.2.0 r.2.1) Always variables _
+    (deeper-correct Always variables (λ d. Variables) (going never is_comma) depth (variables-correct depth))
+    (λ found. anywhere (Stops (going never is_comma)) _ _ never (suc depth) (token-correct k.Close (suc depth) found refl))))
+
+abbrev parameters_of : Family (List VariableForm)
+parameters_of d = Extended (Is []) (λ none. Declared d)
+
+parameters-correct : (depth : ℕ) → Correct Always (parameters depth) parameters_of (going never is_open) depth
+unfolding parameters
+parameters-correct depth =
+    extended-correct (λ d. Is []) (λ none d. Declared d) never is_open depth (λ kind h. refl) declared-starts Always (pure []) (is-correct [] depth)
+    (λ none. unless_next is_open (declared depth))
+    (λ none. unless_next-correct Declared never is_open depth (Passes is_open) (declared depth)
+    (weaker-correct (HeadIs k.Open) (Passes is_open) (declared depth) Declared never depth (head-of k.Open) (declared-correct depth)))
+
+-- ---- equations
+
+right_side-correct : (depth : ℕ) → Correct Always (right_side depth) (λ d. Own (IsFormula d)) formula_goes depth
+unfolding right_side
+right_side-correct depth = own-correct Always (level connective.Implies depth) IsFormula formula_goes depth (formulas-correct depth).formulas
+
+is-stops : going never is_open k.Is ≡ false
+unfolding same_kind
+is-stops = refl
+
+semicolon-stops : formula_goes k.Semicolon ≡ false
+unfolding same_kind
+semicolon-stops = refl
+
+equation-correct : (depth : ℕ) → Correct Always (equation depth) IsEquation never depth
+unfolding equation
+equation-correct depth =
+    then-plain (λ d. First SignOf) (λ sign d. grammar.◌>>=◌ Name (λ name. grammar.◌>>=◌ (parameters_of d) (λ ps. grammar.◌>>=◌ (One k.Is) (λ equals. grammar.◌>>=◌ (Own (IsFormula d)) (λ right. grammar.◌>>=◌ (One k.Semicolon) (λ semicolon. Is (record { sign = sign; name = name; parameters = ps; right = right }))))))) never depth
+    Always sign_of _ (sign-correct depth) (λ sign.
+    then-plain (λ d. Name) (λ name d. grammar.◌>>=◌ (parameters_of d) (λ ps. grammar.◌>>=◌ (One k.Is) (λ equals. grammar.◌>>=◌ (Own (IsFormula d)) (λ right. grammar.◌>>=◌ (One k.Semicolon) (λ semicolon. Is (record { sign = sign; name = name; parameters = ps; right = right })))))) never depth
+    Always name _ (name-correct depth) (λ name.
+    then-correct parameters_of (λ ps d. grammar.◌>>=◌ (One k.Is) (λ equals. grammar.◌>>=◌ (Own (IsFormula d)) (λ right. grammar.◌>>=◌ (One k.Semicolon) (λ semicolon. Is (record { sign = sign; name = name; parameters = ps; right = right }))))) (going never is_open) never depth
+    (λ d x m y z r over. other-stops (going never is_open) k.Is m.tokens r.1.tokens r.0 is-stops r.2.0 r.2.1) Always (parameters depth) _ (parameters-correct depth) (λ ps. anywhere (Stops (going never is_open)) _ _ never depth (
+    then-plain (λ d. One k.Is) (λ equals d. grammar.◌>>=◌ (Own (IsFormula d)) (λ right. grammar.◌>>=◌ (One k.Semicolon) (λ semicolon. Is (record { sign = sign; name = name; parameters = ps; right = right })))) never depth
+    Always (expect k.Is) _ (expect-correct k.Is depth refl) (λ equals.
+    then-correct (λ d. Own (IsFormula d)) (λ right d. grammar.◌>>=◌ (One k.Semicolon) (λ semicolon. Is (record { sign = sign; name = name; parameters = ps; right = right }))) formula_goes never depth
+    (λ d x m y z r over. other-stops formula_goes k.Semicolon m.tokens r.1.tokens r.0 semicolon-stops r.2.0 r.2.1) Always (right_side depth) _ (right_side-correct depth)
+    (λ right. anywhere (Stops formula_goes) _ _ never depth (token-correct k.Semicolon depth (record { sign = sign; name = name; parameters = ps; right = right }) refl)))))))
+
+equation-starts : (d : ℕ) (s : State) (e : EquationForm) (z : State) → IsEquation d s e z → Passes begins_equation s.tokens
+unfolding same_kind
+equation-starts d s e z r = sign-at s.tokens s.operators r.0 r.1 r.2
+  where
+    begins : (kind : Kind) (s m : State) (y : Sign) → SignOf kind s y m → begins_equation kind ≡ true
+    begins k.Mu s m y r = refl
+    begins k.Nu s m y r = refl
+    begins _ s m y r = absurd r
+
+    sign-at : (ts : List Tok) (n : ℕ) (y : Sign) (m : State) → First SignOf (st ts n) y m → Passes begins_equation ts
+    sign-at [] n y m r = r
+    sign-at (t ∷ ts) n y m r = begins t.kind (st (t ∷ ts) n) m y r
+
+equations-correct : (depth : ℕ) → Correct Always (equations depth) Equations (going never begins_equation) depth
+equations-correct depth =
+    many-correct IsEquation never begins_equation depth (λ kind h. refl) equation-starts (λ x. x ∷ []) (λ x u xs. x ∷ xs) (equation depth) (equation-correct depth)
+
+-- ---- the initial instance
+
+to-initial : (d : ℕ) (s : State) (y : InstanceForm) (z : State) → Instance (deeper IsTerm d) s y z → IsInitial d s y z
+to-initial zero s y z r = r
+to-initial (suc d) s y z r = r
+
+from-initial : (d : ℕ) (s : State) (y : InstanceForm) (z : State) → IsInitial d s y z → Instance (deeper IsTerm d) s y z
+from-initial zero s y z r = r
+from-initial (suc d) s y z r = r
+
+initial-correct : (depth : ℕ) → Correct Always (initial_instance depth) (λ d. Own (IsInitial d)) node_goes depth
+unfolding initial_instance
+initial-correct depth =
+    own-correct Always (expressions.instance depth) IsInitial node_goes depth
+    (alike-correct Always (expressions.instance depth) (λ d. Instance (deeper IsTerm d)) IsInitial node_goes depth to-initial from-initial (instance-correct depth))
+
+-- ---- the whole text
+
+init-stops : going never begins_equation k.Init ≡ false
+unfolding same_kind
+init-stops = refl
+
+pbes-stops : parts_go k.Pbes ≡ false
+unfolding same_kind
+pbes-stops = refl
+
+end-stops : node_goes k.Semicolon ≡ false
+unfolding same_kind
+end-stops = refl
+
+module _ (ranges : List RangeForm) (depth : ℕ) where
+  text-correct : Correct Always (text ranges depth) (IsSpec ranges) never depth
+  unfolding text
+  text-correct =
+      then-correct (λ d. SortParts) (λ sorts d. grammar.◌>>=◌ (One k.Pbes) (λ pbes. grammar.◌>>=◌ (Equations d) (λ found. grammar.◌>>=◌ (One k.Init) (λ init. grammar.◌>>=◌ (Own (IsInitial d)) (λ initial. grammar.◌>>=◌ (One k.Semicolon) (λ semicolon. Is (record { sorts = sorts; ranges = ranges; equations = found; initial = initial }))))))) parts_go never depth
+      (λ d x m y z r over. other-stops parts_go k.Pbes m.tokens r.1.tokens r.0 pbes-stops r.2.0 r.2.1) Always sort_parts _ (sort_parts-correct depth) (λ sorts. anywhere (Stops parts_go) _ _ never depth (
+      then-plain (λ d. One k.Pbes) (λ pbes d. grammar.◌>>=◌ (Equations d) (λ found. grammar.◌>>=◌ (One k.Init) (λ init. grammar.◌>>=◌ (Own (IsInitial d)) (λ initial. grammar.◌>>=◌ (One k.Semicolon) (λ semicolon. Is (record { sorts = sorts; ranges = ranges; equations = found; initial = initial })))))) never depth
+      Always (expect k.Pbes) _ (expect-correct k.Pbes depth refl) (λ pbes.
+      then-correct Equations (λ found d. grammar.◌>>=◌ (One k.Init) (λ init. grammar.◌>>=◌ (Own (IsInitial d)) (λ initial. grammar.◌>>=◌ (One k.Semicolon) (λ semicolon. Is (record { sorts = sorts; ranges = ranges; equations = found; initial = initial }))))) (going never begins_equation) never depth
+      (λ d x m y z r over. other-stops (going never begins_equation) k.Init m.tokens r.1.tokens r.0 init-stops r.2.0 r.2.1) Always (equations depth) _ (equations-correct depth) (λ found. anywhere (Stops (going never begins_equation)) _ _ never depth (
+      then-plain (λ d. One k.Init) (λ init d. grammar.◌>>=◌ (Own (IsInitial d)) (λ initial. grammar.◌>>=◌ (One k.Semicolon) (λ semicolon. Is (record { sorts = sorts; ranges = ranges; equations = found; initial = initial })))) never depth
+      Always (expect k.Init) _ (expect-correct k.Init depth refl) (λ init.
+      then-correct (λ d. Own (IsInitial d)) (λ initial d. grammar.◌>>=◌ (One k.Semicolon) (λ semicolon. Is (record { sorts = sorts; ranges = ranges; equations = found; initial = initial }))) node_goes never depth
+      (λ d x m y z r over. other-stops node_goes k.Semicolon m.tokens r.1.tokens r.0 end-stops r.2.0 r.2.1) Always (initial_instance depth) _ (initial-correct depth)
+      (λ initial. anywhere (Stops node_goes) _ _ never depth (token-correct k.Semicolon depth (record { sorts = sorts; ranges = ranges; equations = found; initial = initial }) refl))))))))
+
+-- A refusal is the same whatever the range lines are.
+abbrev pub Reading : List RangeForm → ℕ → State → Outcome SpecForm → Type 0
+Reading ranges depth s (Ok r) = IsRead depth s.operators s.tokens ranges r.0
+Reading ranges depth s (Err bad) = IsFault depth s.operators s.tokens bad
+
+-- the same with other range lines
+other-ranges : (rs us : List RangeForm) (d : ℕ) (s : State) (y : SpecForm) (z : State) → IsSpec us d s y z → IsSpec rs d s (record y { ranges = rs }) z
+other-ranges rs us d s y z r =
+    let p = r.3 in
+    let e = p.3 in
+    let i = e.3 in
+    let n = i.3 in
+    let c = n.3 in
+    (r.0, r.1, r.2, (p.0, p.1, p.2, (e.0, e.1, e.2, (i.0, i.1, i.2, (n.0, n.1, n.2, (c.0, c.1, c.2, (ap (λ (v : SpecForm). record v { ranges = rs }) c.3.0, c.3.1)))))))
+
+-- its ranges are those
+ranges-are : (rs : List RangeForm) (d : ℕ) (s : State) (y : SpecForm) (z : State) → IsSpec rs d s y z → y ≡ record y { ranges = rs }
+ranges-are rs d s y z r =
+    let e : y.ranges ≡ rs = ap (λ (v : SpecForm). v.ranges) r.3.3.3.3.3.3.0 in
+    ap (λ (v : List RangeForm). record y { ranges = v }) e
+
+pub with-ranges : (rs : List RangeForm) (depth operators : ℕ) (tokens : List Tok) (x : SpecForm) → IsRead depth operators tokens [] x → IsRead depth operators tokens rs (record x { ranges = rs })
+with-ranges rs depth operators tokens x a = record {
+  front = a.front;
+  end = a.end;
+  cut = a.cut;
+  end_is = a.end_is;
+  reads = (a.reads.0, a.reads.1, other-ranges rs [] depth _ x _ a.reads.2, a.reads.3);
+  only = λ d n y r.
+      ranges-are rs d _ y _ r.2 ∙ ap (λ (v : SpecForm). record v { ranges = rs }) (a.only d n (record y { ranges = [] }) (r.0, r.1, other-ranges [] rs d _ y _ r.2, r.3));
+}
+
+pub whole-reads : (ranges : List RangeForm) (depth : ℕ) (s : State) → ends s.tokens ≡ true → Reading ranges depth s (whole_text ranges depth s)
+unfolding whole_text
+whole-reads ranges depth s ended = at-text (text ranges depth s) (text-correct ranges depth s ended tt)
+  where
+    end-only : (ts : List Tok) → ends ts ≡ true → same_kind (step.head_kind ts) k.End ≡ true → (t : Tok) × (ts ≡ t ∷ []) × (t.kind ≡ k.End)
+    end-only [] e same = cc
+    end-only (t ∷ []) e same = (t, refl, kind-same t.kind k.End same)
+    end-only (t ∷ u ∷ ts) e same =
+        let last : is_last t.kind ≡ true = ap is_last (kind-same t.kind k.End same) in
+        let none : ends (t ∷ u ∷ ts) ≡ false = ap (λ v. cond v false (ends (u ∷ ts))) last in
+        let apart : false ≡ true = sym none ∙ e in
+        absurd (let never : ⊥ = cc in never)
+
+    is-end : (t u : Tok) (ts us : List Tok) → u ∷ us ≡ t ∷ ts → u.kind ≡ k.End → same_kind t.kind k.End ≡ false → ⊥
+    is-end t u ts us e end other =
+        let p : u ≡ t = cc in let q : t.kind ≡ k.End = sym (ap (λ v. v.kind) p) ∙ end in
+        let r : same_kind t.kind k.End ≡ true = subst (λ (v : Kind). same_kind t.kind v ≡ true) q (same-kind t.kind) in cc
+
+    found : (x : SpecForm) (z : State) → Took (IsSpec ranges) never depth s x z → (t : Tok) → z.tokens ≡ t ∷ [] → t.kind ≡ k.End → IsRead depth s.operators s.tokens ranges x
+    found x z a t is end = record {
+      front = a.front;
+      end = t;
+      cut = a.tokens ∙ ap (λ v. a.front ++ v) is;
+      end_is = end;
+      reads = (z.operators, t, move (IsSpec ranges depth) (a.front ++ t ∷ []) s.tokens s.operators s.operators x (st (t ∷ []) z.operators) (sym (a.tokens ∙ ap (λ v. a.front ++ v) is)) refl (a.reads (t ∷ [])), end);
+      only = λ d n y r.
+          (a.only d n (t ∷ []) y (st (r.1 ∷ []) r.0) (stops-never (t ∷ []))
+          (move (IsSpec ranges d) s.tokens (a.front ++ t ∷ []) n n y (st (r.1 ∷ []) r.0) (a.tokens ∙ ap (λ v. a.front ++ v) is) refl r.2) (stops-never (r.1 ∷ []))).0;
+    }
+
+    not-end : (x : SpecForm) (z : State) → Took (IsSpec ranges) never depth s x z → (ts : List Tok) → z.tokens ≡ ts → ends ts ≡ true → same_kind (step.head_kind ts) k.End ≡ false
+        → IsFault depth s.operators s.tokens (refusal Unexpected ts)
+    not-end x z a [] is e other = cc
+    not-end x z a (t ∷ ts) is e other = record {
+      front = a.front;
+      next = t;
+      more = ts;
+      cut = a.tokens ∙ ap (λ v. a.front ++ v) is;
+      kind = refl;
+      place = refl;
+      limited = λ q. absurd (unlike q);
+      none = λ d n tail us y within r.
+          let same = other-ranges ranges us d _ y _ r.2 in
+          is-end t r.1 tail [] (a.only d n (t ∷ tail) (record y { ranges = ranges }) (st (r.1 ∷ []) r.0) (stops-never (t ∷ tail)) same (stops-never (r.1 ∷ []))).1 r.3 other;
+    }
+
+    at-kind : (x : SpecForm) (z : State) → Took (IsSpec ranges) never depth s x z → (b : Bool) → same_kind (kind z) k.End ≡ b
+        → Reading ranges depth s (cond b (pure x) (refuse Unexpected) z)
+    at-kind x z a true same = let e = end-only z.tokens a.ended same in found x z a e.0 e.1 e.2
+    at-kind x z a false other = not-end x z a z.tokens refl a.ended other
+
+    at-text : (o : Outcome SpecForm) → Answers (IsSpec ranges) never depth s o
+        → Reading ranges depth s (and_then o (λ x. step.◌>>=◌ step.peek (λ last. cond (same_kind last k.End) (pure x) (refuse Unexpected))))
+    at-text (Ok r) a = at-kind r.0 r.1 a (same_kind (kind r.1) k.End) refl
+    at-text (Err bad) a = record {
+      front = a.front;
+      next = a.next;
+      more = a.more;
+      cut = a.tokens;
+      kind = a.kind;
+      place = a.place;
+      limited = a.limited;
+      none = λ d n tail us y within r.
+          let same = other-ranges ranges us d _ y _ r.2 in a.none d n tail (record y { ranges = ranges }) (st (r.1 ∷ []) r.0) within same (stops-never (r.1 ∷ []));
+    }
