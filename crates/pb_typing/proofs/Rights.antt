@@ -1,32 +1,28 @@
--- The faults of a whole text, equation by equation.
-use Rattle.std.proofs.Common.{◌≡◌, ℕ, ◌+◌, ◌<◌, ◌≤◌, true, List, [], ◌++◌, length, get_or, drop, refl, sym, ◌∙◌, ap}
-use Rattle.std.proofs.Math.Path.{fun_ext}
-use Rattle.std.proofs.lemmas.List.{append_assoc}
+-- The faults of right sides, equation by equation.
+use Rattle.std.proofs.Common.{◌≡◌, ℕ, zero, suc, ◌+◌, ◌<◌, ◌≤◌, true, List, [], ◌∷◌, ◌++◌, map, length, get_or, drop, refl, sym, ap, arith, add-one}
 use Rattle.pb_ast.specs.declared.spec.Equation.{Equation}
-use Rattle.pb_ast.specs.declared.spec.Spec.{Spec}
-use Rattle.pb_ast.specs.Form.{Eqn, form, named, eqns, text}
-use Rattle.pb_typing.specs.declared.fault.Fault.{Fault}
-use Rattle.pb_typing.specs.Faults.{declares, declaration_faults, formula_faults, right_faults, instance_faults, faults}
-use Rattle.pb_typing.proofs.Declared.{Seen, eqns-drop, eqns-ended}
-use Rattle.pb_typing.proofs.Parts.{first_clear}
+use Rattle.pb_ast.specs.Form.{EquationForm, equation_form, formula_form}
+use Rattle.pb_syntax.specs.Syntax.{Spec}
+use Rattle.pb_syntax.specs.Erase.{erased_variables}
+use Rattle.pb_declarations.specs.declared.fault.Fault.{Fault}
+use Rattle.pb_shapes.specs.Scope.{bound, outermost}
+use Rattle.pb_shapes.specs.Faults.{formula_faults, right_faults}
 
--- what is left once no declared name has a fault, where a test tells the declared names
-pub faults_begun : (spec : Spec) (d : Seen) (items : List Equation) → ((x : List ℕ) → d x ≡ declares (eqns items) x) → declaration_faults [] (eqns items) ≡ [] → items ≡ spec.equations.items
-    → (equations : List Equation) → equations ≡ spec.equations.items
-    → faults (text spec) ≡ right_faults d (eqns equations) ++ instance_faults d true (named spec.initial.name)
-faults_begun spec d items same clear is equations are =
-    let E = eqns spec.equations.items in
-    let tells : declares E ≡ d = fun_ext (λ x. ap (λ (xs : List Equation). declares (eqns xs) x) (sym is) ∙ sym (same x)) in
-    first_clear (faults (text spec)) (declaration_faults [] E) _ refl (ap (λ (xs : List Equation). declaration_faults [] (eqns xs)) (sym is) ∙ clear)
-    ∙ (ap (λ (e : Seen). right_faults e E ++ instance_faults e true (named spec.initial.name)) tells
-    ∙ ap (λ (xs : List Equation). right_faults d (eqns xs) ++ instance_faults d true (named spec.initial.name)) (sym are))
+-- the right sides of these equations
+abbrev pub rights : Spec → List Equation → List Fault
+rights S E = right_faults S (map equation_form E)
 
-pub right_faults_next : (d : Seen) (equations : List Equation) (k : ℕ) (X : Equation) (others : List Fault) → k < length equations → X ≡ get_or equations k X
-    → right_faults d (eqns (drop k equations)) ++ others ≡ formula_faults d true (form X.right) ++ (right_faults d (eqns (drop (k + 1) equations)) ++ others)
-right_faults_next d equations k X others below at =
-    ap (λ (E : List Eqn). right_faults d E ++ others) (eqns-drop equations k X below at)
-    ∙ append_assoc (formula_faults d true (form X.right)) (right_faults d (eqns (drop (k + 1) equations))) others
+pub rights_next : (S : Spec) (E : List Equation) (k : ℕ) (X : Equation) → k < length E → X ≡ get_or E k X
+    → rights S (drop k E) ≡ formula_faults S true (bound S (erased_variables (equation_form X).parameters) outermost) (formula_form X.right) ++ rights S (drop (k + 1) E)
+rights_next S E k X below at = rw add-one (by_suc E k below at)
+  where
+    by_suc : (E : List Equation) (k : ℕ) → k < length E → X ≡ get_or E k X → rights S (drop k E) ≡ formula_faults S true (bound S (erased_variables (equation_form X).parameters) outermost) (formula_form X.right) ++ rights S (drop (suc k) E)
+    by_suc [] k below at = absurd (omega arith)
+    by_suc (Y ∷ E) zero below at = ap (λ (Z : Equation). formula_faults S true (bound S (erased_variables (equation_form Z).parameters) outermost) (formula_form Z.right) ++ rights S E) (sym at)
+    by_suc (Y ∷ E) (suc k) below at = by_suc E k (omega arith) at
 
-pub right_faults_ended : (d : Seen) (equations : List Equation) (k : ℕ) (others : List Fault) → length equations ≤ k
-    → right_faults d (eqns (drop k equations)) ++ others ≡ others
-right_faults_ended d equations k others h = ap (λ (E : List Eqn). right_faults d E ++ others) (eqns-ended equations k h)
+pub rights_ended : (S : Spec) (E : List Equation) (k : ℕ) → length E ≤ k → rights S (drop k E) ≡ []
+rights_ended S [] zero h = refl
+rights_ended S [] (suc k) h = refl
+rights_ended S (X ∷ E) zero h = absurd (omega arith)
+rights_ended S (X ∷ E) (suc k) h = rights_ended S E k (omega arith)

@@ -1,3 +1,4 @@
-pub mod Faults
-pub mod Names
-pub mod WellTyped
+pub mod View
+pub mod Scopes
+pub mod Arguments
+pub mod Typed

@@ -1,42 +1,88 @@
 //! The check of formulas.
 
 ghost use Rattle.std.specs.Prelude.{◌≡◌, [], MatchResult};
-ghost use Rattle.pb_ast.specs.Form.{form, named};
-ghost use Rattle.pb_typing.specs.Faults.{formula_faults, instance_faults, operand_parity, IsAmong};
-ghost use Rattle.pb_typing.specs.Names.{is_name_in};
+ghost use Rattle.pb_ast.specs.Form.{formula_form, spec_form};
+ghost use Rattle.pb_shapes.specs.Faults.{formula_faults, operand_parity};
+ghost use Rattle.pb_declarations.specs.Faults.{IsAmong};
+ghost use Rattle.pb_declarations.specs.View.{spec_of, text_of};
+ghost use Rattle.pb_typing.specs.Scopes.{inner_view, scope_view};
 
-use crate::fault::{Rule, TypeError};
-use crate::names::require;
-use pb_ast::{Connective, Formula, Name};
-use std::collections::HashSet;
+use crate::instance::check_instance;
+use crate::scope::{Scope, variable_shapes};
+use crate::shape::Shape;
+use crate::term::check_truth;
+use pb_ast::{Connective, Formula, Spec};
+use pb_declarations::{Declarations, TypeError};
+use std::alloc::Global;
+use std::collections::HashMap;
 
 /// Checks a formula, where `even` says whether the negations around it are even in number.
-pub(crate) fn check_formula(
-    names: &HashSet<&str>,
-    formula: &Formula,
+#[cycle(formulas)]
+pub(crate) fn check_formula<'t>(
+    alloc: Global,
+    declarations: &Declarations<'_>,
+    spec: &Spec,
+    scope: &Scope<'_, 't>,
     even: bool,
+    formula: &'t Formula,
 ) -> Result<(), TypeError>
+    requires { text_of declarations.now ≡ spec_form spec.now }
     ensures { MatchResult result
-        (λ _. formula_faults (is_name_in names.now) even (form formula.now) ≡ [])
-        (IsAmong (formula_faults (is_name_in names.now) even (form formula.now))) }
+        (λ _. formula_faults (spec_of declarations.now) even (scope_view scope.now) (formula_form formula.now) ≡ [])
+        (IsAmong (formula_faults (spec_of declarations.now) even (scope_view scope.now) (formula_form formula.now))) }
 {
     match formula {
         Formula::Constant { .. } => Ok(()),
-        Formula::Instance(instance) => check_instance(names, &instance.name, even),
-        Formula::Negation { operand, .. } => check_formula(names, operand, !even),
+        Formula::Value { place, term } => check_truth(alloc, declarations, scope, term, *place),
+        Formula::Instance(instance) => {
+            check_instance(alloc, declarations, spec, scope, even, instance)
+        }
+        Formula::Negation { operand, .. } => {
+            check_formula(alloc, declarations, spec, scope, !even, operand)
+        }
         Formula::Chain {
             connective,
             first,
             links,
         } => {
-            check_formula(names, first, operand_parity(*connective, even, links.len()))?;
+            let parity = operand_parity(*connective, even, links.len());
+            check_formula(alloc, declarations, spec, scope, parity, first)?;
             for (index, link) in links.iter().enumerate() {
                 let parity = operand_parity(*connective, even, links.len() - index - 1);
-                check_formula(names, &link.operand, parity)?;
+                check_formula(alloc, declarations, spec, scope, parity, &link.operand)?;
             }
             Ok(())
         }
+        Formula::Quantified {
+            variables,
+            body,
+            ..
+        } => {
+            declarations.check_variables(alloc, variables)?;
+            let table = variable_shapes(alloc, declarations, variables)?;
+            check_body(alloc, declarations, spec, &*scope, even, &table, body)
+        }
     }
+}
+
+/// Checks the body of a quantifier, whose variables have the shapes of a table.
+#[cycle(formulas)]
+fn check_body<'a, 't>(
+    alloc: Global,
+    declarations: &Declarations<'_>,
+    spec: &Spec,
+    outer: &'a Scope<'a, 't>,
+    even: bool,
+    table: &'a HashMap<&'t str, Shape>,
+    body: &'t Formula,
+) -> Result<(), TypeError>
+    requires { text_of declarations.now ≡ spec_form spec.now }
+    ensures { MatchResult result
+        (λ _. formula_faults (spec_of declarations.now) even (inner_view table.now (scope_view outer.now)) (formula_form body.now) ≡ [])
+        (IsAmong (formula_faults (spec_of declarations.now) even (inner_view table.now (scope_view outer.now)) (formula_form body.now))) }
+{
+    let scope = Scope::Inner(table, outer);
+    check_formula(alloc, declarations, spec, &scope, even, body)
 }
 
 /// Whether the negations around an operand of a chain are even in number, where `behind` operands stand behind it.
@@ -48,22 +94,4 @@ fn operand_parity(connective: Connective, even: bool, behind: usize) -> bool
         Connective::Implies if behind > 0 => !even,
         _ => even,
     }
-}
-
-/// Checks a predicate variable where it is used.
-pub(crate) fn check_instance(
-    names: &HashSet<&str>,
-    name: &Name,
-    even: bool,
-) -> Result<(), TypeError>
-    ensures { MatchResult result
-        (λ _. instance_faults (is_name_in names.now) even (named name.now) ≡ [])
-        (IsAmong (instance_faults (is_name_in names.now) even (named name.now))) }
-{
-    require(
-        names.contains(name.text.as_str()),
-        Rule::UnknownName,
-        name.place,
-    )?;
-    require(even, Rule::OddNegations, name.place)
 }

@@ -1,18 +1,21 @@
-//! Names and positivity of equation systems without parameters: whether a text that was read may be solved, and if
-//! not, a rule that fails and where.
+//! Kinds, intervals and positivity: whether a text that was read may be solved, and if not, a rule that fails and where.
 #![tactic(auto)]
 
-mod fault;
 mod formula;
-mod laws;
-mod names;
+mod function;
+mod initial;
+mod instance;
+mod name;
+mod operation;
+mod scope;
+mod shape;
+mod shape_of_term;
 mod spec;
-#[cfg(test)]
-mod tests;
+mod term;
 mod typed;
 
-pub use fault::{Fault, Rule, TypeError};
-pub use laws::no_faults_where_well_typed;
-pub use names::{MAX_EQUATIONS, MAX_NAME_BYTES};
+pub use scope::{Scope, variable_shapes};
+pub use shape::Shape;
+pub use shape_of_term::term_shape;
 pub use spec::check;
 pub use typed::Typed;

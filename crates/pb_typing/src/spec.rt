@@ -1,43 +1,85 @@
 //! The check of a whole text.
 
-ghost use Rattle.std.specs.Prelude.{◌≡◌, ◌≢◌, [], MatchResult, OnOk, IfErr};
-ghost use Rattle.pb_ast.specs.Form.{text};
-ghost use Rattle.pb_syntax.specs.Erase.{erase};
-ghost use Rattle.pb_typing.specs.Faults.{faults, IsAmong};
-ghost use Rattle.pb_typing.specs.WellTyped.{IsWellTyped};
+ghost use Rattle.std.specs.Prelude.{◌≡◌, ◌≢◌, [], true, MatchResult, OnOk, IfErr};
+ghost use Rattle.pb_ast.specs.Form.{equation_form, spec_form};
+ghost use Rattle.pb_syntax.specs.Erase.{erase, erased_variables};
+ghost use Rattle.pb_declarations.specs.Faults.{IsAmong};
+ghost use Rattle.pb_declarations.specs.View.{spec_of, text_of};
+ghost use Rattle.pb_shapes.specs.Faults.{faults, formula_faults, right_faults};
+ghost use Rattle.pb_shapes.specs.Scope.{bound, outermost};
+ghost use Rattle.pb_shapes.specs.WellTyped.{IsWellTyped};
+ghost use Rattle.pb_typing.specs.Typed.{IsLayout};
 
-use crate::fault::TypeError;
-use crate::formula::{check_formula, check_instance};
-use crate::names::declared_names;
+use crate::formula::check_formula;
+use crate::initial::check_initial;
+use crate::scope::{Scope, variable_shapes};
 use crate::typed::Typed;
-use pb_ast::Spec;
+use pb_ast::{Equation, Spec};
+use pb_declarations::{Declarations, TypeError};
+use pb_sorts::Layout;
 use std::alloc::Global;
 
-/// Accepts a text exactly where it is well typed, that is, where names, positivity and limits are as they must be
-/// (Groote and Mousavi 2014: predicate formulas are monotone where predicate variables stand under an
-/// even number of negations).
+/// Accepts a text exactly where it is well typed and positive within the limits (Groote and Mousavi 2014: kinds of
+/// terms, and predicate formulas that are monotone since predicate variables stand under an even number of negations).
 ///
+/// # Errors
 /// A refusal hands the text back with a rule that fails at its place; where several fail, any one of them.
 /// `TypeError::Memory` comes only where memory was refused.
 pub fn check(alloc: Global, spec: Spec) -> Result<Typed, (Spec, TypeError)>
     ensures kept { MatchResult result (λ typed. typed.spec ≡ spec) (λ refused. refused.0 ≡ spec) }
-    ensures accepted { OnOk result (IsWellTyped (erase (text spec))) }
-    ensures fails { IfErr result (λ refused. IsAmong (faults (text spec)) refused.1) }
-    ensures ill_typed { IfErr result (λ refused. refused.1 ≢ TypeError.Memory → ¬ IsWellTyped (erase (text spec))) }
+    ensures accepted { OnOk result (IsWellTyped (erase (spec_form spec))) }
+    ensures fails { IfErr result (λ refused. IsAmong (faults (spec_form spec)) refused.1) }
+    ensures ill_typed { IfErr result (λ refused. refused.1 ≢ TypeError.Memory → ¬ IsWellTyped (erase (spec_form spec))) }
 {
     match check_spec(alloc, &spec) {
-        Ok(()) => Ok(Typed { spec }),
+        Ok(layout) => Ok(Typed { spec, layout }),
         Err(error) => Err((spec, error)),
     }
 }
 
-/// Checks the declarations, then each right side, then the initial predicate variable.
-fn check_spec(alloc: Global, spec: &Spec) -> Result<(), TypeError>
-    ensures { MatchResult result (λ _. faults (text spec.now) ≡ []) (IsAmong (faults (text spec.now))) }
+/// Checks the declarations, then each right side, then the initial instance.
+fn check_spec(alloc: Global, spec: &Spec) -> Result<Layout, TypeError>
+    ensures { MatchResult result
+        (λ layout. (faults (spec_form spec.now) ≡ []) × IsLayout (erase (spec_form spec.now)) layout)
+        (IsAmong (faults (spec_form spec.now))) }
 {
-    let names = declared_names(alloc, &spec.equations)?;
-    for equation in spec.equations.iter() {
-        check_formula(&names, &equation.right, true)?;
+    let declarations = Declarations::read(alloc, spec)?;
+    check_rights(alloc, &declarations, spec)?;
+    let layout = declarations.layout(alloc)?;
+    check_initial(alloc, &declarations, spec, &layout)?;
+    Ok(layout)
+}
+
+/// Checks the right side of each equation.
+fn check_rights(
+    alloc: Global,
+    declarations: &Declarations<'_>,
+    spec: &Spec,
+) -> Result<(), TypeError>
+    requires { text_of declarations.now ≡ spec_form spec.now }
+    ensures { MatchResult result
+        (λ _. right_faults (spec_of declarations.now) (spec_form spec.now).equations ≡ [])
+        (IsAmong (right_faults (spec_of declarations.now) (spec_form spec.now).equations)) }
+{
+    for equation in &spec.equations {
+        check_right(alloc, declarations, spec, equation)?;
     }
-    check_instance(&names, &spec.initial.name, true)
+    Ok(())
+}
+
+/// Checks a right side under its equation's parameters.
+fn check_right(
+    alloc: Global,
+    declarations: &Declarations<'_>,
+    spec: &Spec,
+    equation: &Equation,
+) -> Result<(), TypeError>
+    requires { text_of declarations.now ≡ spec_form spec.now }
+    ensures { MatchResult result
+        (λ _. formula_faults (spec_of declarations.now) true (bound (spec_of declarations.now) (erased_variables (equation_form equation.now).parameters) outermost) (equation_form equation.now).right ≡ [])
+        (IsAmong (formula_faults (spec_of declarations.now) true (bound (spec_of declarations.now) (erased_variables (equation_form equation.now).parameters) outermost) (equation_form equation.now).right)) }
+{
+    let parameters = variable_shapes(alloc, declarations, &equation.parameters)?;
+    let scope = Scope::Inner(&parameters, &Scope::Outermost);
+    check_formula(alloc, declarations, spec, &scope, true, &equation.right)
 }

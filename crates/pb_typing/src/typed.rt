@@ -1,15 +1,18 @@
 //! Texts that are accepted.
 
-ghost use Rattle.pb_ast.specs.Form.{text};
+ghost use Rattle.std.specs.Prelude.{◌≡◌, true};
+ghost use Rattle.pb_ast.specs.Form.{spec_form};
 ghost use Rattle.pb_syntax.specs.Erase.{erase};
-ghost use Rattle.pb_typing.specs.WellTyped.{IsWellTyped, IsWellTyped-prop};
+ghost use Rattle.pb_typing.specs.Typed.{is_faultless, IsLayout};
 
 use pb_ast::Spec;
+use pb_sorts::Layout;
 
-/// A text whose predicate variables are declared once, are known where they are used and stand under an even number
-/// of negations, within the limits.
-#[derive(Debug, Drop)]
+/// A text that is well typed and positive, within the limits, with the layout of its equations' instances.
+#[derive(Drop)]
 pub struct Typed {
     pub spec: Spec,
-    pub ghost well_typed: { IsWellTyped (erase (text spec)) } by { IsWellTyped-prop (erase (text spec)) },
+    pub layout: Layout,
+    pub ghost faultless: { is_faultless (spec_form spec) ≡ true },
+    pub ghost laid_out: { IsLayout (erase (spec_form spec)) layout },
 }

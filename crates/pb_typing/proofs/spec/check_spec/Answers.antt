@@ -1,40 +1,50 @@
-use Rattle.std.proofs.Common.{◌≡◌, [], true, rules, sym, subst, ◌∙◌, arith, List}
-use Rattle.std.specs.Prelude.{MatchResult}
-use Rattle.pb_ast.specs.Form.{named, text}
-use Rattle.pb_typing.specs.declared.fault.Fault.{Fault}
-use Rattle.pb_typing.specs.Faults.{faults, instance_faults, IsAmong}
-use Rattle.pb_typing.specs.Names.{is_name_in}
-use Rattle.pb_typing.proofs.Parts.{among_first, first_clear}
-use Rattle.pb_typing.proofs.Rights.{faults_begun, right_faults_next, right_faults_ended}
+use Rattle.std.proofs.Common.{◌≡◌, ◌∙◌, List, [], ◌++◌, ap, sym, subst, rules}
+use Rattle.pb_ast.specs.Form.{SpecForm, spec_form}
+use Rattle.pb_syntax.specs.Erase.{erase}
+use Rattle.pb_declarations.specs.declared.fault.Fault.{Fault}
+use Rattle.pb_declarations.specs.declared.fault.TypeError.{TypeError}
+use Rattle.pb_declarations.specs.Declarations.{declaration_faults}
+use Rattle.pb_declarations.specs.Faults.{IsAmong}
+use Rattle.pb_shapes.specs.Faults.{faults, initial_faults, right_faults}
+use Rattle.pb_shapes.proofs.Parts.{among_left, among_right, no_whole}
+use Rattle.pb_typing.specs.Typed.{IsLayout}
 use Rattle.pb_typing.proofs.spec.check_spec.Goals as goal
 
-pub loop-equation-init : goal.loop-equation-init
-loop-equation-init c =
-    let checked = c.in_ok-names.ensures in
-    faults_begun c.args.spec.now (is_name_in c.in_ok-names.names) c.deref.result.now checked.1 checked.0 c.deref.ensures.value
-    c.deref-equation-items.result.now c.deref-equation-items.ensures.value
+-- a text that another one equals has the same faults of right sides and of the initial instance
+rights_of : (u t : SpecForm) (e : TypeError) → u ≡ t → IsAmong (right_faults (erase u) t.equations) e → IsAmong (faults t) e
+rights_of u t e same h =
+    among_right (declaration_faults t) _ e (among_left _ (initial_faults (erase t) t.initial) e (subst (λ (v : SpecForm). IsAmong (right_faults (erase v) t.equations) e) same h))
 
-pub returns-in_err-check_formula : goal.returns-in_err-check_formula
-returns-in_err-check_formula c =
-    let d = is_name_in c.in_ok-names.names in
-    let whole = faults (text c.args.spec.now) in
-    let h : IsAmong whole c.in_err-check_formula.field-0.0 =
-    among_first whole _ _ _
-    (c.loop-equation.invariant ∙ right_faults_next d c.deref-equation-items.result.now c.loop-equation.equation-index c.equation-item.result (instance_faults d true (named c.args.spec.now.initial.name)) c.loop-equation-test.true c.equation-item.is)
-    c.in_err-check_formula.ensures in
+initial_of : (u t : SpecForm) (e : TypeError) → u ≡ t → IsAmong (initial_faults (erase u) t.initial) e → IsAmong (faults t) e
+initial_of u t e same h =
+    among_right (declaration_faults t) _ e (among_right (right_faults (erase t) t.equations) _ e (subst (λ (v : SpecForm). IsAmong (initial_faults (erase v) t.initial) e) same h))
+
+none_of : (u t : SpecForm) → u ≡ t → declaration_faults t ≡ [] → right_faults (erase u) t.equations ≡ [] → initial_faults (erase u) t.initial ≡ [] → faults t ≡ []
+none_of u t same d r i =
+    no_whole (declaration_faults t) _ d
+    (no_whole (right_faults (erase t) t.equations) _ (ap (λ (v : SpecForm). right_faults (erase v) t.equations) (sym same) ∙ r) (ap (λ (v : SpecForm). initial_faults (erase v) t.initial) (sym same) ∙ i))
+
+pub returns-in_err-declarations : goal.returns-in_err-declarations
+returns-in_err-declarations c =
+    let h : IsAmong (faults (spec_form c.args.spec.now)) c.in_err-declarations.field-0.0 =
+    among_left (declaration_faults (spec_form c.args.spec.now)) _ c.in_err-declarations.field-0.0 c.in_err-declarations.ensures.checked in
     search rules
 
-pub loop-equation-preserved : goal.loop-equation-preserved
-loop-equation-preserved c =
-    let d = is_name_in c.in_ok-names.names in
-    first_clear _ _ _
-    (c.loop-equation.invariant ∙ right_faults_next d c.deref-equation-items.result.now c.loop-equation.equation-index c.equation-item.result (instance_faults d true (named c.args.spec.now.initial.name)) c.loop-equation-test.true c.equation-item.is)
-    c.in_ok-check_formula.ensures
+pub returns-in_err-check_rights : goal.returns-in_err-check_rights
+returns-in_err-check_rights c =
+    let h : IsAmong (faults (spec_form c.args.spec.now)) c.in_err-check_rights.field-0.0 =
+    rights_of _ (spec_form c.args.spec.now) c.in_err-check_rights.field-0.0 c.in_ok-declarations.ensures.text c.in_err-check_rights.ensures in
+    search rules
+
+pub returns-in_err-check_initial : goal.returns-in_err-check_initial
+returns-in_err-check_initial c =
+    let h : IsAmong (faults (spec_form c.args.spec.now)) c.in_err-check_initial.field-0.0 =
+    initial_of _ (spec_form c.args.spec.now) c.in_err-check_initial.field-0.0 c.in_ok-declarations.ensures.text c.in_err-check_initial.ensures in
+    search rules
 
 pub returns : goal.returns
 returns c =
-    let d = is_name_in c.in_ok-names.names in
-    let left = instance_faults d true (named c.args.spec.now.initial.name) in
-    let is : faults (text c.args.spec.now) ≡ left =
-    c.loop-equation.invariant ∙ right_faults_ended d c.deref-equation-items.result.now c.loop-equation.equation-index left (omega (arith, c.loop-equation-test.false)) in
-    subst (λ (all : List Fault). MatchResult c.check_instance.result (λ _. all ≡ []) (IsAmong all)) (sym is) c.check_instance.ensures
+    let t = spec_form c.args.spec.now in (
+      none_of _ t c.in_ok-declarations.ensures.text c.in_ok-declarations.ensures.checked c.in_ok-check_rights.ensures c.in_ok-check_initial.ensures,
+      subst (λ (v : SpecForm). IsLayout (erase v) c.in_ok-layout.layout) c.in_ok-declarations.ensures.text c.in_ok-layout.ensures.carriers,
+    )

@@ -1,0 +1,34 @@
+-- Carriers of equations, equation by equation.
+use Rattle.std.proofs.Common.{◌≡◌, ◌≤◌, ◌∙◌, ◌++◌, zero, suc, List, [], ◌∷◌, length, map, sym, ap, subst, arith, Vec, Global}
+use Rattle.std.specs.Prelude.{All}
+use Rattle.std.proofs.lemmas.List.{map-append}
+use Rattle.pb_sorts.specs.declared.carrier.Carrier.{Carrier}
+use Rattle.pb_sorts.specs.Carrier.{values_of}
+use Rattle.pb_sorts.specs.Layout as layouts
+use Rattle.pb_sorts.specs.Layout.{lists_of}
+use Rattle.pb_carriers.specs.Carrier as carriers
+
+abbrev Parameters : Type 0
+Parameters = Vec Carrier Global
+
+pub sizes_are : {K : List carriers.Carrier} (v : Parameters) (slice : List Carrier) → slice ≡ v.items → map values_of v.items ≡ K → map values_of slice ≡ K
+sizes_are v slice is are = ap (map values_of) is ∙ are
+
+pub lists_pushed : (old new : List Parameters) (v : Parameters) → new ≡ old ++ (v ∷ []) → layouts.carriers_of (lists_of new) ≡ layouts.carriers_of (lists_of old) ++ (map values_of v.items ∷ [])
+lists_pushed old new v is =
+    ap (λ (vs : List Parameters). layouts.carriers_of (lists_of vs)) is
+    ∙ (ap layouts.carriers_of (map-append (λ (u : Parameters). u.items) old (v ∷ []))
+    ∙ map-append (λ (cs : List Carrier). map values_of cs) (lists_of old) (v.items ∷ []))
+
+abbrev Short : List Carrier → Type 0
+Short cs = length cs ≤ 8
+
+all_one : (xs : List (List Carrier)) (x : List Carrier) → All Short xs → Short x → All Short (xs ++ (x ∷ []))
+all_one [] x hs h zero d below = h
+all_one [] x hs h (suc k) d below = absurd (omega (arith, below))
+all_one (y ∷ xs) x hs h zero d below = hs zero d (omega arith)
+all_one (y ∷ xs) x hs h (suc k) d below = all_one xs x (λ j e lt. hs (suc j) e (omega (arith, lt))) h k d (omega (arith, below))
+
+pub all_pushed : (old new : List Parameters) (v : Parameters) → new ≡ old ++ (v ∷ []) → All Short (lists_of old) → length v.items ≤ 8 → All Short (lists_of new)
+all_pushed old new v is hs h =
+    subst (λ (ls : List (List Carrier)). All Short ls) (sym (ap lists_of is ∙ map-append (λ (u : Parameters). u.items) old (v ∷ []))) (all_one (lists_of old) v.items hs h)

@@ -1,0 +1,17 @@
+pub mod Parts
+pub mod Filling
+pub mod Loops
+pub mod Structs
+pub mod Agreeing
+pub mod ReadParts
+pub mod VariableLemmas
+pub mod ParameterLemmas
+pub mod EquationLemmas
+pub mod LayoutLemmas
+pub mod Exact
+pub mod ExactParts
+pub mod DeclaredLaw
+pub mod DataNames
+pub mod Lookups
+pub mod ShapeLaws
+pub mod PlaceLaws

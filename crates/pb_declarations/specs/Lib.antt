@@ -1,0 +1,13 @@
+pub mod Faults
+pub mod Shapes
+pub mod Enumerators
+pub mod Tables
+pub mod Entries
+pub mod Variables
+pub mod View
+pub mod Agreement
+pub mod Reading
+pub mod Instances
+pub mod Declarations
+pub mod Rule
+pub mod WellDeclared

@@ -1,0 +1,10 @@
+pub mod Parts
+pub mod Declared
+pub mod Values
+pub mod Names
+pub mod Operations
+pub mod Functions
+pub mod Contained
+pub mod Exact
+pub mod WellTypedLemmas
+pub mod Fitting

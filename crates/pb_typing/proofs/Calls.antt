@@ -1,0 +1,159 @@
+-- Calls of predicate variables: arguments against parameters.
+use Rattle.std.proofs.Common.{◌≡◌, ℕ, zero, suc, ◌+◌, ◌<◌, ◌≤◌, Bool, false, List, [], ◌∷◌, ◌++◌, map, length, get_or, drop, refl, sym, ◌∙◌, ap, subst, arith, Option, Some, None, string_bytes}
+use Rattle.std.specs.Prelude.{◌==◌}
+use Rattle.std.proofs.lemmas.List.{append_assoc}
+use Rattle.pb_ast.specs.declared.place.Place.{Place}
+use Rattle.pb_ast.specs.declared.name.Name as ast
+use Rattle.pb_ast.specs.declared.term.Argument.{Argument}
+use Rattle.pb_ast.specs.declared.variable.Variables.{Variables}
+use Rattle.pb_ast.specs.declared.spec.Equation as declared_equation
+use Rattle.pb_ast.specs.declared.spec.Spec as declared_spec
+use Rattle.pb_ast.specs.declared.formula.Instance as declared_instance
+use Rattle.pb_ast.specs.Form.{named, VariableForm, variable_forms, argument_forms, instance_form, equation_form, spec_form, term_form}
+use Rattle.pb_syntax.specs.Syntax.{Name, same_name, Equation, Spec}
+use Rattle.pb_syntax.specs.Formula.{equation_named}
+use Rattle.pb_syntax.specs.Erase.{erase, erased_arguments, erased_equation, erased_term, erased_variables}
+use Rattle.pb_declarations.specs.declared.fault.Rule.TheVariants as rule
+use Rattle.pb_declarations.specs.declared.fault.Fault.{Fault}
+use Rattle.pb_declarations.specs.declared.fault.TypeError.TheVariants.{At}
+use Rattle.pb_declarations.specs.Faults.{unless, IsAmong}
+use Rattle.pb_declarations.specs.Agreement.{equation_place}
+use Rattle.pb_declarations.specs.Shapes.{Shape, sort_shape}
+use Rattle.pb_shapes.specs.Shapes.{may_be_alike}
+use Rattle.pb_shapes.specs.Scope.{Scope}
+use Rattle.pb_shapes.specs.Term.{shape}
+use Rattle.pb_shapes.specs.Formula.{count}
+use Rattle.pb_shapes.specs.Faults.{term_faults, argument_faults, called_faults, instance_faults}
+use Rattle.pb_shapes.proofs.Parts.{among_right, among_left}
+use Rattle.pb_typing.specs.Arguments.{parameter_count, each_faults}
+use Rattle.pb_typing.proofs.Links.{links-drop, links-ended}
+use Rattle.pb_typing.proofs.Unknown.{some_position, no_position, found_at, found_nowhere}
+
+pub length-erased : (xs : List Argument) → count (erased_arguments (argument_forms xs)) ≡ length xs
+length-erased [] = refl
+length-erased (x ∷ xs) = ap suc (length-erased xs)
+
+abbrev group_variables : Variables → List ast.Name → List VariableForm
+group_variables group names = map (λ (n : ast.Name). record { name = named n; sort = named group.sort }) names
+
+length-group : (group : Variables) (names : List ast.Name) (rest : List VariableForm) (n : ℕ) → length (erased_variables rest) ≡ n → length (erased_variables (group_variables group names ++ rest)) ≡ length names + n
+length-group group [] rest n e = e ∙ omega arith
+length-group group (x ∷ names) rest n e = ap suc (length-group group names rest n e) ∙ omega arith
+
+pub length-parameters : (groups : List Variables) → length (erased_variables (variable_forms groups)) ≡ parameter_count groups
+length-parameters [] = refl
+length-parameters (group ∷ groups) = length-group group group.names.items (variable_forms groups) (parameter_count groups) (length-parameters groups)
+
+-- ---- group by group
+
+arguments-group : (S : Spec) (a : Scope) (group : Variables) (names : List ast.Name) (rest : List VariableForm) (here behind : List Argument) → length here ≡ length names
+    → argument_faults S a (argument_forms (here ++ behind)) (erased_variables (group_variables group names ++ rest))
+    ≡ each_faults S a here (sort_shape S (string_bytes group.sort.text)) ++ argument_faults S a (argument_forms behind) (erased_variables rest)
+arguments-group S a group [] rest [] behind e = refl
+arguments-group S a group [] rest (x ∷ here) behind e = absurd (omega (arith, e))
+arguments-group S a group (n ∷ names) rest [] behind e = absurd (omega (arith, e))
+arguments-group S a group (n ∷ names) rest (x ∷ here) behind e =
+    let s = sort_shape S (string_bytes group.sort.text) in
+    let first = term_faults S false a (term_form x.term) in
+    let kind = unless (may_be_alike (shape S a (erased_term (term_form x.term))) s) rule.WrongKind x.place in
+    let more = each_faults S a here s in
+    let left = argument_faults S a (argument_forms behind) (erased_variables rest) in
+    ap (λ (zs : List Fault). first ++ (kind ++ zs)) (arguments-group S a group names rest here behind (omega (arith, e)))
+    ∙ (ap (λ (zs : List Fault). first ++ zs) (sym (append_assoc kind more left)) ∙ sym (append_assoc first (kind ++ more) left))
+
+-- in the code's words: the arguments that are left are those of a group and those behind them
+pub arguments_next : (S : Spec) (a : Scope) (groups : List Variables) (k : ℕ) (group : Variables) (left here behind : List Argument) (s : Shape) (sort : List ℕ)
+    → k < length groups → group ≡ get_or groups k group → left ≡ here ++ behind → length here ≡ length group.names.items → sort ≡ string_bytes group.sort.text → s ≡ sort_shape S sort
+    → argument_faults S a (argument_forms left) (erased_variables (variable_forms (drop k groups)))
+    ≡ each_faults S a here s ++ argument_faults S a (argument_forms behind) (erased_variables (variable_forms (drop (k + 1) groups)))
+arguments_next S a groups k group left here behind s sort below at parts long sort_is shape_is =
+    ap (λ (gs : List Variables). argument_faults S a (argument_forms left) (erased_variables (variable_forms gs))) (links-drop groups k group below at)
+    ∙ (ap (λ (xs : List Argument). argument_faults S a (argument_forms xs) (erased_variables (variable_forms (group ∷ drop (k + 1) groups)))) parts
+    ∙ (arguments-group S a group group.names.items (variable_forms (drop (k + 1) groups)) here behind long
+    ∙ ap (λ (h : Shape). each_faults S a here h ++ argument_faults S a (argument_forms behind) (erased_variables (variable_forms (drop (k + 1) groups)))) (sym (shape_is ∙ ap (sort_shape S) sort_is))))
+
+pub arguments_ended : (S : Spec) (a : Scope) (groups : List Variables) (k : ℕ) (left : List Argument) → length groups ≤ k → length left ≡ parameter_count (drop k groups)
+    → argument_faults S a (argument_forms left) (erased_variables (variable_forms (drop k groups))) ≡ []
+arguments_ended S a groups k left h e = none left (e ∙ ap parameter_count (links-ended groups k h))
+  where
+    none : (xs : List Argument) → length xs ≡ 0 → argument_faults S a (argument_forms xs) (erased_variables (variable_forms (drop k groups))) ≡ []
+    none [] f = refl
+    none (x ∷ xs) f = absurd (omega (arith, f))
+
+pub count-next : (groups : List Variables) (k : ℕ) (group : Variables) → k < length groups → group ≡ get_or groups k group → parameter_count (drop k groups) ≡ length group.names.items + parameter_count (drop (k + 1) groups)
+count-next groups k group below at = ap parameter_count (links-drop groups k group below at)
+
+pub count-ended : (groups : List Variables) (k : ℕ) → length groups ≤ k → parameter_count (drop k groups) ≡ 0
+count-ended groups k h = ap parameter_count (links-ended groups k h)
+
+-- ---- arguments of one kind
+
+pub each_next : (S : Spec) (a : Scope) (xs : List Argument) (k : ℕ) (x : Argument) (s : Shape) → k < length xs → x ≡ get_or xs k x
+    → each_faults S a (drop k xs) s ≡ term_faults S false a (term_form x.term) ++ (unless (may_be_alike (shape S a (erased_term (term_form x.term))) s) rule.WrongKind x.place ++ each_faults S a (drop (k + 1) xs) s)
+each_next S a xs k x s below at = ap (λ (ys : List Argument). each_faults S a ys s) (links-drop xs k x below at)
+
+pub each_ended : (S : Spec) (a : Scope) (xs : List Argument) (k : ℕ) (s : Shape) → length xs ≤ k → each_faults S a (drop k xs) s ≡ []
+each_ended S a xs k s h = ap (λ (ys : List Argument). each_faults S a ys s) (links-ended xs k h)
+
+-- ---- the equation of a call
+
+equations-at : (E : List declared_equation.Equation) (k : ℕ) (X : declared_equation.Equation) (d : Equation) → k < length E → X ≡ get_or E k X → get_or (map erased_equation (map equation_form E)) k d ≡ erased_equation (equation_form X)
+equations-at [] k X d below at = absurd (omega (arith, below))
+equations-at (Y ∷ E) zero X d below at = ap (λ (Z : declared_equation.Equation). erased_equation (equation_form Z)) (sym at)
+equations-at (Y ∷ E) (suc k) X d below at = equations-at E k X d (omega arith) at
+
+length-equations : (E : List declared_equation.Equation) → length (map erased_equation (map equation_form E)) ≡ length E
+length-equations [] = refl
+length-equations (X ∷ E) = ap suc (length-equations E)
+
+abbrev named_as : Name → Equation → Bool
+named_as x X = same_name X.name x
+
+-- an equation's place is one of the text's
+pub place_below : (spec : declared_spec.Spec) (x : Name) (k : ℕ) → equation_place (erase (spec_form spec)) x ≡ Some k → k < length spec.equations.items
+place_below spec x k e =
+    let p = some_position (named_as x) (erase (spec_form spec)).equations k e in
+    omega (arith, p.0, length-equations spec.equations.items)
+
+pub equation_found : (spec : declared_spec.Spec) (x : Name) (k : ℕ) (X : declared_equation.Equation) → equation_place (erase (spec_form spec)) x ≡ Some k → X ≡ get_or spec.equations.items k X
+    → equation_named (erase (spec_form spec)).equations x ≡ Some (erased_equation (equation_form X))
+equation_found spec x k X e at =
+    let E = (erase (spec_form spec)).equations in
+    let d = erased_equation (equation_form X) in
+    let p = some_position (named_as x) E k e in
+    let below : k < length spec.equations.items = place_below spec x k e in
+    found_at (named_as x) E d (omega (arith, p.0, p.1)) ∙ ap Some (ap (λ m. get_or E m d) p.1 ∙ equations-at spec.equations.items k X d below at)
+
+pub equation_missed : (S : Spec) (x : Name) → equation_place S x ≡ None → equation_named S.equations x ≡ None
+equation_missed S x e = found_nowhere (named_as x) S.equations (no_position (named_as x) S.equations e)
+
+-- the faults of a call whose equation is this one
+abbrev pub call_faults : Spec → Scope → List Argument → List Variables → Place → List Fault
+call_faults S a xs groups p = unless (length xs == parameter_count groups) rule.WrongCount p ++ argument_faults S a (argument_forms xs) (erased_variables (variable_forms groups))
+
+pub instance-called : (spec : declared_spec.Spec) (S : Spec) (even : Bool) (a : Scope) (i : declared_instance.Instance) (text : Name) (k : ℕ) (X : declared_equation.Equation) (xs : List Argument) (groups : List Variables)
+    → S ≡ erase (spec_form spec) → text ≡ string_bytes i.name.text → equation_place S text ≡ Some k → X ≡ get_or spec.equations.items k X → xs ≡ i.arguments.items → groups ≡ X.parameters.items
+    → unless even rule.OddNegations i.name.place ≡ []
+    → instance_faults S even a (instance_form i) ≡ call_faults S a xs groups i.name.place
+instance-called spec S even a i text k X xs groups same text_is place at are groups_are passed =
+    let x = string_bytes i.name.text in
+    let p = i.name.place in
+    let vs = variable_forms X.parameters.items in
+    let place_in_text : equation_place (erase (spec_form spec)) x ≡ Some k = ap (λ (T : Spec). equation_place T x) (sym same) ∙ (ap (equation_place S) (sym text_is) ∙ place) in
+    let found : equation_named S.equations x ≡ Some (erased_equation (equation_form X)) = ap (λ (T : Spec). equation_named T.equations x) same ∙ equation_found spec x k X place_in_text at in
+    let numbers : (count (erased_arguments (argument_forms i.arguments.items)) == length (erased_variables vs)) ≡ (length i.arguments.items == parameter_count X.parameters.items) =
+    ap (λ n. n == length (erased_variables vs)) (length-erased i.arguments.items) ∙ ap (λ n. length i.arguments.items == n) (length-parameters X.parameters.items) in
+    ap (λ (zs : List Fault). zs ++ called_faults S a (argument_forms i.arguments.items) (equation_named S.equations x) p) passed
+    ∙ (ap (λ (o : Option Equation). called_faults S a (argument_forms i.arguments.items) o p) found
+    ∙ (ap (λ (b : Bool). unless b rule.WrongCount p ++ argument_faults S a (argument_forms i.arguments.items) (erased_variables vs)) numbers
+    ∙ (ap (λ (ys : List Argument). call_faults S a ys X.parameters.items p) (sym are) ∙ ap (λ (gs : List Variables). call_faults S a xs gs p) (sym groups_are))))
+
+pub unknown_instance : (S : Spec) (even : Bool) (a : Scope) (i : declared_instance.Instance) (text : Name) → text ≡ string_bytes i.name.text → equation_place S text ≡ None
+    → IsAmong (instance_faults S even a (instance_form i)) (At (record { rule = rule.UnknownName; place = i.name.place }))
+unknown_instance S even a i text text_is place =
+    let x = string_bytes i.name.text in
+    let none = equation_missed S x (ap (equation_place S) (sym text_is) ∙ place) in
+    let e = At (record { rule = rule.UnknownName; place = i.name.place }) in
+    among_right (unless even rule.OddNegations i.name.place) _ e
+    (subst (λ (o : Option Equation). IsAmong (called_faults S a (argument_forms i.arguments.items) o i.name.place) e) (sym none)
+    (among_left (unless false rule.UnknownName i.name.place) _ e (0, omega arith, refl)))

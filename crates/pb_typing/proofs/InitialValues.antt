@@ -1,0 +1,176 @@
+-- The values of the initial instance's arguments, against the carriers of its equation's parameters.
+use Rattle.std.proofs.Common.{◌≡◌, ℕ, zero, suc, ◌<◌, ◌≤◌, Bool, true, false, List, [], ◌∷◌, ◌++◌, map, length, Option, Some, None, cond, get_or, refl, sym, ◌∙◌, ap, subst, arith, tests, find, true≢false}
+use Rattle.std.specs.Prelude.{Result, Ok, Err, MatchResult, nat_lt, position}
+use Rattle.std.specs.List.{slice_get, position_or_len}
+use Rattle.std.proofs.lemmas.List.Quantifiers.{position-Some}
+use Rattle.std.proofs.lemmas.List.Folds.{find_at}
+use Rattle.std.proofs.lemmas.Option.{slice_get_past}
+use Rattle.pb_carriers.specs.Carrier as carriers
+use Rattle.pb_carriers.specs.Carrier.{Value, contains}
+use Rattle.pb_sorts.specs.declared.carrier.Carrier.{Carrier}
+use Rattle.pb_sorts.specs.Carrier.{values_of}
+use Rattle.pb_sorts.specs.Layout as layouts
+use Rattle.pb_sorts.proofs.Equations.{slice_get-carriers_of}
+use Rattle.pb_ast.specs.declared.term.Argument.{Argument}
+use Rattle.pb_ast.specs.Form.{ArgumentForms, no_arguments, argument, InstanceForm, argument_forms, term_form}
+use Rattle.pb_syntax.specs.Syntax.{Name, same_name, Variable, Equation, Spec}
+use Rattle.pb_syntax.specs.Sorts.{carrier_of}
+use Rattle.pb_syntax.specs.Value.{value}
+use Rattle.pb_syntax.specs.Formula.{carriers_of, equation_named}
+use Rattle.pb_syntax.specs.Erase.{erased_arguments, erased_term}
+use Rattle.pb_bounds.specs.Fits.{AllFit}
+use Rattle.pb_declarations.specs.declared.fault.Fault.{Fault}
+use Rattle.pb_declarations.specs.declared.fault.TypeError.TheVariants.{Memory, At}
+use Rattle.pb_declarations.specs.declared.fault.Rule.TheVariants.{OutsideCarrier}
+use Rattle.pb_declarations.specs.declared.fault.TypeError.{TypeError}
+use Rattle.pb_declarations.specs.Faults.{unless, IsAmong}
+use Rattle.pb_declarations.specs.Agreement.{equation_place}
+use Rattle.pb_shapes.specs.Faults.{and_then, instance_faults, parameters_named, value_faults}
+use Rattle.pb_shapes.specs.Scope.{outermost}
+use Rattle.pb_shapes.proofs.Contained.{all_fit, called_typed}
+use Rattle.pb_shapes.proofs.Exact.{instance_proper}
+use Rattle.pb_shapes.proofs.Parts.{among_left, among_right, no_whole}
+use Rattle.pb_typing.specs.Typed.{IsLayout}
+
+abbrev first : List carriers.Carrier → carriers.Carrier
+first [] = []
+first (c ∷ cs) = c
+
+abbrev behind : List carriers.Carrier → List carriers.Carrier
+behind [] = []
+behind (c ∷ cs) = cs
+
+abbrev is_some : List carriers.Carrier → Bool
+is_some [] = false
+is_some (c ∷ cs) = true
+
+-- the first of some parameters, whose carrier comes first
+pub record Headed (S : Spec) (c : Carrier) (cs : List Carrier) (xs : List Variable) : Type 0 where
+  pub head : Variable
+  pub rest : List Variable
+  pub whole : xs ≡ head ∷ rest
+  pub carrier : values_of c ≡ carrier_of S head.sort
+  pub carriers : map values_of cs ≡ carriers_of S rest
+
+pub headed : (S : Spec) (c : Carrier) (cs : List Carrier) (xs : List Variable) → map values_of (c ∷ cs) ≡ carriers_of S xs → Headed S c cs xs
+headed S c cs [] e = absurd (true≢false (ap is_some e))
+headed S c cs (x ∷ xs) e = record { head = x; rest = xs; whole = refl; carrier = ap first e; carriers = ap behind e }
+
+-- the test of an argument is that of its value in its parameter's carrier
+tested : (S : Spec) (c : Carrier) (x : Variable) (a : Argument) (v : Value) (b : Bool) → values_of c ≡ carrier_of S x.sort → v ≡ value S [] (erased_term (term_form a.term)) → b ≡ contains (values_of c) v
+    → b ≡ contains (carrier_of S x.sort) (value S [] (erased_term (term_form a.term)))
+tested S c x a v b ec ev eb = eb ∙ (ap (contains (values_of c)) ev ∙ ap (λ (d : carriers.Carrier). contains d (value S [] (erased_term (term_form a.term)))) ec)
+
+-- a fault of the first argument
+pub value_fault : (S : Spec) (c : Carrier) (cs : List Carrier) (a : Argument) (es : List Argument) (all : List Argument) (allc : List Carrier) (xs : List Variable) (v : Value) (b : Bool) (e : TypeError)
+    → allc ≡ c ∷ cs → all ≡ a ∷ es → map values_of allc ≡ carriers_of S xs → v ≡ value S [] (erased_term (term_form a.term)) → b ≡ contains (values_of c) v → IsAmong (unless b OutsideCarrier a.place) e
+    → IsAmong (value_faults S (argument_forms all) xs) e
+value_fault S c cs a es all allc xs v b e ec ea m ev eb h =
+    let p = headed S c cs xs (sym (ap (map values_of) ec) ∙ m) in
+    let same = tested S c p.head a v b p.carrier ev eb in
+    let here : IsAmong (value_faults S (argument_forms (a ∷ es)) (p.head ∷ p.rest)) e =
+    among_left _ _ e (subst (λ (t : Bool). IsAmong (unless t OutsideCarrier a.place) e) same h) in
+    subst (λ (zs : List Argument). IsAmong (value_faults S (argument_forms zs) xs) e) (sym ea)
+    (subst (λ (ys : List Variable). IsAmong (value_faults S (argument_forms (a ∷ es)) ys) e) (sym p.whole) here)
+
+abbrev pub Tells : Spec → List Argument → List Variable → Result (Unit {0}) TypeError → Type 0
+Tells S es xs r = MatchResult r (λ u. value_faults S (argument_forms es) xs ≡ []) (IsAmong (value_faults S (argument_forms es) xs))
+
+-- what is told of the other arguments, where the first one has no fault
+later : (S : Spec) (a : Argument) (es : List Argument) (x : Variable) (xs : List Variable) (r : Result (Unit {0}) TypeError) → unless (contains (carrier_of S x.sort) (value S [] (erased_term (term_form a.term)))) OutsideCarrier a.place ≡ []
+    → Tells S es xs r → Tells S (a ∷ es) (x ∷ xs) r
+later S a es x xs (Ok u) clear told = no_whole _ _ clear told
+later S a es x xs (Err e) clear told = among_right _ _ e told
+
+pub value_clear : (S : Spec) (c : Carrier) (cs : List Carrier) (a : Argument) (es : List Argument) (all : List Argument) (allc : List Carrier) (xs : List Variable) (v : Value) (b : Bool) (r : Result (Unit {0}) TypeError)
+    → allc ≡ c ∷ cs → all ≡ a ∷ es → map values_of allc ≡ carriers_of S xs → v ≡ value S [] (erased_term (term_form a.term)) → b ≡ contains (values_of c) v → unless b OutsideCarrier a.place ≡ []
+    → ((ys : List Variable) → map values_of cs ≡ carriers_of S ys → Tells S es ys r) → Tells S all xs r
+value_clear S c cs a es all allc xs v b r ec ea m ev eb clear told =
+    let p = headed S c cs xs (sym (ap (map values_of) ec) ∙ m) in
+    let same = tested S c p.head a v b p.carrier ev eb in
+    let here = later S a es p.head p.rest r (ap (λ (t : Bool). unless t OutsideCarrier a.place) (sym same) ∙ clear) (told p.rest p.carriers) in
+    subst (λ (zs : List Argument). Tells S zs xs r) (sym ea) (subst (λ (ys : List Variable). Tells S (a ∷ es) ys r) (sym p.whole) here)
+
+-- ---- the equation of the initial instance
+
+abbrev carriers_at : Spec → Option Equation → Option (List carriers.Carrier)
+carriers_at S None = None
+carriers_at S (Some X) = Some (carriers_of S X.parameters)
+
+mapped : (S : Spec) (E : List Equation) (k : ℕ) → slice_get (map (λ (X : Equation). carriers_of S X.parameters) E) k ≡ carriers_at S (slice_get E k)
+mapped S [] k = refl
+mapped S (X ∷ E) zero = refl
+mapped S (X ∷ E) (suc k) = mapped S E k
+
+first_found : (p : Equation → Bool) (E : List Equation) (k : ℕ) (d : Equation) → k < length E → p (get_or E k d) ≡ true → ((j : ℕ) → j < k → p (get_or E j d) ≡ false) → find p E ≡ slice_get E k
+first_found p [] k d lt e before = absurd (omega arith)
+first_found p (X ∷ E) zero d lt e before = ap (λ b. cond b (Some X) (find p E)) e
+first_found p (X ∷ E) (suc k) d lt e before =
+    ap (λ b. cond b (Some X) (find p E)) (before 0 (omega arith)) ∙ first_found p E k d (omega arith) e (λ j below. before (suc j) (omega arith))
+
+found : (p : Equation → Bool) (E : List Equation) (k : ℕ) → position p E ≡ Some k → find p E ≡ slice_get E k
+found p [] k e = cc
+found p (X ∷ E) k e = let at = position-Some p (X ∷ E) k X e in first_found p (X ∷ E) k X at.0 at.1 at.2
+
+below : (p : Equation → Bool) (E : List Equation) (k : ℕ) → position p E ≡ Some k → k < length E
+below p [] k e = cc
+below p (X ∷ E) k e = let at = position-Some p (X ∷ E) k X e in at.0
+
+no_place : (b : Bool) (n : ℕ) → cond b (Some n) None ≡ None → b ≡ false
+no_place true n e = cc
+no_place false n e = refl
+
+past_all : (n m : ℕ) → nat_lt n m ≡ false → m ≤ n
+past_all n m e = grind (arith, tests)
+
+not_found : (p : Equation → Bool) (E : List Equation) → position p E ≡ None → find p E ≡ None
+not_found p E e = find_at p E ∙ slice_get_past E (position_or_len p E) (past_all (position_or_len p E) (length E) (no_place (nat_lt (position_or_len p E) (length E)) (position_or_len p E) e))
+
+same_parameters : (S : Spec) (o : Option Equation) (cs : List carriers.Carrier) → carriers_at S o ≡ Some cs → cs ≡ carriers_of S (parameters_named o)
+same_parameters S None cs e = cc
+same_parameters S (Some X) cs e = cc
+
+-- the carriers at the place of a name's equation are those of its parameters
+pub carriers_there : (S : Spec) (layout : List (List Carrier)) (x : Name) (k : ℕ) (cs : List Carrier) → IsLayout S layout → equation_place S x ≡ Some k → slice_get layout k ≡ Some cs
+    → map values_of cs ≡ carriers_of S (parameters_named (equation_named S.equations x))
+carriers_there S layout x k cs laid at there =
+    same_parameters S (equation_named S.equations x) (map values_of cs)
+    (ap (carriers_at S) (found (λ X. same_name X.name x) S.equations k at)
+    ∙ (sym (mapped S S.equations k)
+    ∙ (ap (λ (css : List (List carriers.Carrier)). slice_get css k) (sym laid) ∙ slice_get-carriers_of layout k cs there)))
+
+length-mapped : (layout : List (List Carrier)) → length (layouts.carriers_of layout) ≡ length layout
+length-mapped [] = refl
+length-mapped (cs ∷ layout) = ap suc (length-mapped layout)
+
+length-equations : (S : Spec) (E : List Equation) → length (map (λ (X : Equation). carriers_of S X.parameters) E) ≡ length E
+length-equations S [] = refl
+length-equations S (X ∷ E) = ap suc (length-equations S E)
+
+pub place_below : (S : Spec) (layout : List (List Carrier)) (x : Name) (k : ℕ) → IsLayout S layout → equation_place S x ≡ Some k → k < length layout
+place_below S layout x k laid at =
+    let lt = below (λ X. same_name X.name x) S.equations k at in
+    let e = sym (length-mapped layout) ∙ (ap length laid ∙ length-equations S S.equations) in
+    omega (arith, lt, e)
+
+-- where no equation has the name, no value is out of its carrier
+no_values : (S : Spec) (es : ArgumentForms) → value_faults S es [] ≡ []
+no_values S no_arguments = refl
+no_values S (argument p e es) = refl
+
+pub no_equation : (S : Spec) (x : Name) (es : ArgumentForms) → equation_place S x ≡ None → value_faults S es (parameters_named (equation_named S.equations x)) ≡ []
+no_equation S x es e =
+    ap (λ (o : Option Equation). value_faults S es (parameters_named o)) (not_found (λ X. same_name X.name x) S.equations e) ∙ no_values S es
+
+-- ---- faults, and where there are none, other faults
+
+pub among_then : (xs ys : List Fault) (e : TypeError) → IsAmong xs e → IsAmong (and_then xs ys) e
+among_then [] ys Memory h = tt
+among_then [] ys (At fault) h = absurd (omega (arith, h.1))
+among_then (x ∷ xs) ys e h = h
+
+-- each data term of an instance without faults fits, where no variable is in scope
+pub arguments_fit : (S : Spec) (i : InstanceForm) → instance_faults S true outermost i ≡ [] → AllFit S [] (erased_arguments i.arguments)
+arguments_fit S i e =
+    let proper = instance_proper S true outermost i e in
+    all_fit S outermost [] (erased_arguments i.arguments) (λ x. tt) (called_typed S outermost (erased_arguments i.arguments) (equation_named S.equations i.name.text) proper.1)

@@ -1,0 +1,29 @@
+use Rattle.std.proofs.Common.{◌∙◌, sym, ap, subst, List}
+use Rattle.pb_ast.specs.Form.{instance_form}
+use Rattle.pb_syntax.specs.Erase.{erase}
+use Rattle.pb_shapes.specs.Faults.{instance_faults}
+use Rattle.pb_declarations.specs.declared.fault.Fault.{Fault}
+use Rattle.pb_declarations.specs.declared.fault.TypeError.{TypeError}
+use Rattle.pb_declarations.specs.Faults.{IsAmong}
+use Rattle.pb_declarations.specs.View.{spec_of}
+use Rattle.pb_typing.specs.Scopes.{scope_view}
+use Rattle.pb_typing.proofs.Calls.{instance-called, unknown_instance}
+use Rattle.pb_typing.proofs.FormulaNodes.{Checks}
+use Rattle.pb_typing.proofs.instance.check_instance.Goals as goal
+
+pub returns-in-Some : goal.returns-in-Some
+returns-in-Some c =
+    let S = spec_of c.args.declarations.now in
+    let a = scope_view c.args.scope.now in
+    let same = ap erase c.requires in
+    subst (λ (zs : List Fault). Checks zs c.check_call.result)
+    (sym (instance-called c.args.spec.now S c.args.even a c.args.instance.now c.deref.result.now c.in-Some.index c.index.result.now c.deref-in-Some-2.result.now c.deref-in-Some.result.now
+    same c.deref.ensures (sym c.equation.ensures ∙ c.in-Some.is) c.index.ensures c.deref-in-Some-2.ensures.value c.deref-in-Some.ensures.value c.in_ok-require.ensures))
+    c.check_call.ensures
+
+pub returns-in-None : goal.returns-in-None
+returns-in-None c =
+    let S = spec_of c.args.declarations.now in
+    let a = scope_view c.args.scope.now in
+    subst (λ (e : TypeError). IsAmong (instance_faults S c.args.even a (instance_form c.args.instance.now)) e) (sym c.fault.ensures)
+    (unknown_instance S c.args.even a c.args.instance.now c.deref.result.now c.deref.ensures (sym c.equation.ensures ∙ c.in-None.is))

@@ -1,0 +1,24 @@
+use Rattle.std.proofs.Common.{◌≡◌, ◌∙◌, sym, true, subst}
+use Rattle.pb_declarations.specs.declared.fault.TypeError.{TypeError}
+use Rattle.pb_declarations.specs.declared.fault.Rule.TheVariants as rule
+use Rattle.pb_declarations.specs.Faults.{IsAmong}
+use Rattle.pb_declarations.specs.Shapes.{Wholes}
+use Rattle.pb_shapes.specs.Shapes.{may_divide, Computed}
+use Rattle.pb_shapes.specs.Faults.{operator_faults}
+use Rattle.pb_shapes.proofs.Parts.{holds_unless}
+use Rattle.pb_typing.specs.View.{operation_of}
+use Rattle.pb_typing.proofs.Computed.{computed, beyond}
+use Rattle.pb_typing.proofs.operation.compute_intervals.Goals as goal
+
+pub returns-in-Some : goal.returns-in-Some
+returns-in-Some c =
+    let d : may_divide (operation_of c.args.operator) (Wholes c.args.right.low c.args.right.high) ≡ true =
+    sym c.may_divide-divides.ensures ∙ holds_unless c.may_divide-divides.result rule.Divisor c.args.place c.in_ok-require.ensures in
+    computed (operation_of c.args.operator) c.args.left c.args.right c.args.place c.in-Some.interval d (sym c.in-Some.is ∙ c.result_interval.ensures)
+
+pub returns-in-None : goal.returns-in-None
+returns-in-None c =
+    let d : may_divide (operation_of c.args.operator) (Wholes c.args.right.low c.args.right.high) ≡ true =
+    sym c.may_divide-divides.ensures ∙ holds_unless c.may_divide-divides.result rule.Divisor c.args.place c.in_ok-require.ensures in
+    let P : TypeError → Type 0 = λ e. IsAmong (operator_faults (Computed (operation_of c.args.operator)) (Wholes c.args.left.low c.args.left.high) (Wholes c.args.right.low c.args.right.high) c.args.place) e in
+    subst P (sym c.fault.ensures) (beyond (operation_of c.args.operator) c.args.left c.args.right c.args.place d (sym c.in-None.is ∙ c.result_interval.ensures))

@@ -1,0 +1,46 @@
+use Rattle.std.proofs.Common.{◌≡◌, ◌+◌, drop}
+use Rattle.pb_ast.specs.Form.{TermForm, arithmetic_links, calculated, chained, term_form, term_links}
+use Rattle.pb_syntax.specs.Erase.{erased_term}
+use Rattle.pb_shapes.specs.Faults.{term_faults}
+use Rattle.pb_shapes.specs.Term.{shape}
+use Rattle.pb_declarations.specs.View.{spec_of}
+use Rattle.pb_typing.specs.Scopes.{scope_view}
+use Rattle.pb_typing.specs.View.{shape_view}
+use Rattle.pb_typing.proofs.Weight.{weight, links_weight, arithmetic_weight, arguments_weight}
+use Rattle.pb_typing.proofs.Links.{link_faults, arithmetic_faults, calculated_shape}
+use Rattle.pb_typing.proofs.term.+terms.Given as goal
+
+abbrev pub decreases-check_term : goal.decreases-check_term
+decreases-check_term l = weight l.term.now
+
+abbrev pub decreases-check_chain : goal.decreases-check_chain
+decreases-check_chain l = 1 + (weight l.first.now + links_weight l.links.now)
+
+abbrev pub decreases-check_arithmetic : goal.decreases-check_arithmetic
+decreases-check_arithmetic l = 1 + (weight l.first.now + arithmetic_weight l.links.now)
+
+abbrev pub decreases-check_application : goal.decreases-check_application
+decreases-check_application l = 1 + arguments_weight l.arguments.now
+
+-- all faults of the chain are those of the links that are left
+abbrev pub invariant-check_chain-loop-index : goal.invariant-check_chain-loop-index
+invariant-check_chain-loop-index l =
+    let S = spec_of l.declarations in
+    let a = scope_view l.scope in
+    record {
+      left : term_faults S l.stands a (chained (TermForm.connected l.fn.connective) (term_form l.first) (term_links l.links)) ≡ link_faults S l.stands a (shape_view l.left) (drop l.index l.links);
+      first : l.index ≡ 0 → shape_view l.left ≡ shape S a (erased_term (term_form l.first));
+    }
+
+-- all faults are those of the links that are left, which make the shape of the whole of that so far
+abbrev pub invariant-check_arithmetic-loop-link : goal.invariant-check_arithmetic-loop-link
+invariant-check_arithmetic-loop-link l =
+    let S = spec_of l.declarations in
+    let a = scope_view l.scope in
+    record {
+      left : term_faults S l.stands a (calculated (term_form l.first) (arithmetic_links l.links)) ≡ arithmetic_faults S a (shape_view l.left) (drop l.link-index l.links);
+      whole : shape S a (erased_term (calculated (term_form l.first) (arithmetic_links l.links))) ≡ calculated_shape S a (shape_view l.left) (drop l.link-index l.links);
+    }
+
+abbrev pub decreases-check_body : goal.decreases-check_body
+decreases-check_body l = 1 + weight l.body.now

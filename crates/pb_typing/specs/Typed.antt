@@ -1,0 +1,21 @@
+-- What an accepted text has.
+use Rattle.std.specs.Prelude.{◌≡◌, Bool, true, false, List, [], ◌∷◌, map}
+use Rattle.pb_sorts.specs.declared.carrier.Carrier.{Carrier}
+use Rattle.pb_sorts.specs.Layout as layouts
+use Rattle.pb_ast.specs.Form.{SpecForm}
+use Rattle.pb_syntax.specs.Syntax.{Equation, Spec}
+use Rattle.pb_syntax.specs.Formula.{carriers_of}
+use Rattle.pb_declarations.specs.declared.fault.Fault.{Fault}
+use Rattle.pb_shapes.specs.Faults.{faults}
+
+abbrev pub is_none : List Fault → Bool
+is_none [] = true
+is_none (f ∷ fs) = false
+
+-- no rule fails anywhere
+abbrev pub is_faultless : SpecForm → Bool
+is_faultless text = is_none (faults text)
+
+-- the layout has the carriers of each equation's parameters
+abbrev pub IsLayout : Spec → List (List Carrier) → Type 0
+IsLayout spec layout = layouts.carriers_of layout ≡ map (λ (X : Equation). carriers_of spec X.parameters) spec.equations

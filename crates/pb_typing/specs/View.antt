@@ -1,0 +1,46 @@
+-- The program's shapes and functions, as the definitions name them.
+use Rattle.std.specs.Prelude.{◌≡◌, [], ◌∷◌, Bool, true, false, List, Result, MatchResult}
+use Rattle.pb_ast.specs.declared.term.ArithmeticLink.{ArithmeticLink}
+use Rattle.pb_ast.specs.declared.operator.Arithmetic.{Arithmetic}
+use Rattle.pb_ast.specs.declared.operator.Arithmetic.TheVariants as arithmetic
+use Rattle.pb_intervals.specs.Operation.{BinaryOperation, Sum, Difference, Product, Quotient, Remainder, Maximum, Minimum, Successor, Predecessor, AbsoluteValue}
+use Rattle.pb_declarations.specs.declared.fault.Fault.{Fault}
+use Rattle.pb_declarations.specs.declared.fault.TypeError.{TypeError}
+use Rattle.pb_declarations.specs.Faults.{IsAmong}
+use Rattle.pb_declarations.specs.Shapes as model
+use Rattle.pb_shapes.specs.Functions as functions
+use Rattle.pb_typing.specs.declared.function.Function.{Function}
+use Rattle.pb_typing.specs.declared.function.Function.TheVariants as function
+use Rattle.pb_typing.specs.declared.shape.Shape.{Shape}
+use Rattle.pb_typing.specs.declared.shape.Shape.TheVariants as code
+
+abbrev pub shape_view : Shape → model.Shape
+shape_view code.Unknown = model.Unknown
+shape_view code.Truths = model.Truths
+shape_view (code.Places sort count) = model.Places sort count
+shape_view (code.Wholes i) = model.Wholes i.low i.high
+
+-- there is no fault and this is the shape, or a fault is answered
+abbrev pub Judges : List Fault → model.Shape → Result Shape TypeError → Type 0
+Judges all s result = MatchResult result (λ r. (all ≡ []) × (shape_view r ≡ s)) (IsAmong all)
+
+abbrev pub operation_of : Arithmetic → BinaryOperation
+operation_of arithmetic.Plus = Sum
+operation_of arithmetic.Minus = Difference
+operation_of arithmetic.Times = Product
+operation_of arithmetic.Div = Quotient
+operation_of arithmetic.Mod = Remainder
+
+abbrev pub function_view : Function → functions.Function
+function_view function.Choice = functions.Choice
+function_view function.Conversion = functions.Conversion
+function_view function.Successor = functions.OfOne Successor
+function_view function.Predecessor = functions.OfOne Predecessor
+function_view function.AbsoluteValue = functions.OfOne AbsoluteValue
+function_view function.Maximum = functions.OfTwo Maximum
+function_view function.Minimum = functions.OfTwo Minimum
+function_view (function.Recogniser s) = functions.Recogniser (shape_view s)
+
+abbrev pub is_no_link : List ArithmeticLink → Bool
+is_no_link [] = true
+is_no_link (link ∷ links) = false

@@ -1,0 +1,127 @@
+//! The check of instances of predicate variables.
+
+ghost use Rattle.std.specs.Prelude.{◌≡◌, ◌==◌, ◌++◌, [], length, MatchResult};
+ghost use Rattle.pb_ast.specs.Form.{argument_forms, instance_form, spec_form, variable_forms};
+ghost use Rattle.pb_syntax.specs.Erase.{erased_variables};
+ghost use Rattle.pb_shapes.specs.Faults.{argument_faults, instance_faults};
+ghost use Rattle.pb_declarations.specs.Faults.{IsAmong, unless};
+ghost use Rattle.pb_declarations.specs.View.{spec_of, text_of};
+ghost use Rattle.pb_typing.specs.Arguments.{each_faults, parameter_count};
+ghost use Rattle.pb_typing.specs.Scopes.{scope_view};
+ghost use Rattle.pb_typing.specs.View.{shape_view};
+
+use crate::operation::fault;
+use crate::scope::{Scope, sort_shape};
+use crate::shape::Shape;
+use crate::term::check_term;
+use pb_ast::{Argument, Instance, Place, Spec, Variables};
+use pb_declarations::{Declarations, Rule, TypeError, require};
+use std::alloc::Global;
+
+/// Checks a predicate variable with its arguments, where `even` says whether the negations around it are even in number.
+pub(crate) fn check_instance<'t>(
+    alloc: Global,
+    declarations: &Declarations<'_>,
+    spec: &Spec,
+    scope: &Scope<'_, 't>,
+    even: bool,
+    instance: &'t Instance,
+) -> Result<(), TypeError>
+    requires { text_of declarations.now ≡ spec_form spec.now }
+    ensures { MatchResult result
+        (λ _. instance_faults (spec_of declarations.now) even (scope_view scope.now) (instance_form instance.now) ≡ [])
+        (IsAmong (instance_faults (spec_of declarations.now) even (scope_view scope.now) (instance_form instance.now))) }
+{
+    let place = instance.name.place;
+    require(even, Rule::OddNegations, place)?;
+    match declarations.equation(&instance.name.text) {
+        Some(index) => {
+            let parameters = &spec.equations[index].parameters;
+            check_call(
+                alloc,
+                declarations,
+                scope,
+                parameters,
+                &instance.arguments,
+                place,
+            )
+        }
+        None => Err(fault(Rule::UnknownName, place)),
+    }
+}
+
+/// Checks arguments against parameters: first their number.
+fn check_call<'t>(
+    alloc: Global,
+    declarations: &Declarations<'_>,
+    scope: &Scope<'_, 't>,
+    parameters: &[Variables],
+    arguments: &'t [Argument],
+    place: Place,
+) -> Result<(), TypeError>
+    ensures { MatchResult result
+        (λ _. unless (length arguments.now == parameter_count parameters.now) Rule.WrongCount place ++ argument_faults (spec_of declarations.now) (scope_view scope.now) (argument_forms arguments.now) (erased_variables (variable_forms parameters.now)) ≡ [])
+        (IsAmong (unless (length arguments.now == parameter_count parameters.now) Rule.WrongCount place ++ argument_faults (spec_of declarations.now) (scope_view scope.now) (argument_forms arguments.now) (erased_variables (variable_forms parameters.now)))) }
+{
+    let is_count = are_counted(parameters, arguments.len());
+    require(is_count, Rule::WrongCount, place)?;
+    check_arguments(alloc, declarations, scope, parameters, arguments)
+}
+
+/// Whether parameters are so many.
+fn are_counted(parameters: &[Variables], count: usize) -> bool
+    ensures { result ≡ (count == parameter_count parameters.now) }
+{
+    let mut left = count;
+    for group in parameters {
+        let names = group.names.len();
+        if names > left {
+            return false;
+        }
+        left -= names;
+    }
+    left == 0
+}
+
+/// Checks arguments against as many parameters.
+fn check_arguments<'t>(
+    alloc: Global,
+    declarations: &Declarations<'_>,
+    scope: &Scope<'_, 't>,
+    parameters: &[Variables],
+    arguments: &'t [Argument],
+) -> Result<(), TypeError>
+    requires { length arguments.now ≡ parameter_count parameters.now }
+    ensures { MatchResult result
+        (λ _. argument_faults (spec_of declarations.now) (scope_view scope.now) (argument_forms arguments.now) (erased_variables (variable_forms parameters.now)) ≡ [])
+        (IsAmong (argument_faults (spec_of declarations.now) (scope_view scope.now) (argument_forms arguments.now) (erased_variables (variable_forms parameters.now)))) }
+{
+    let mut rest = arguments;
+    for group in parameters {
+        let shape = sort_shape(declarations, &group.sort.text);
+        let (here, behind) = rest.split_at(group.names.len());
+        check_each(alloc, declarations, scope, here, &shape)?;
+        rest = behind;
+    }
+    Ok(())
+}
+
+/// Checks arguments that all have to be of one kind.
+fn check_each<'t>(
+    alloc: Global,
+    declarations: &Declarations<'_>,
+    scope: &Scope<'_, 't>,
+    arguments: &'t [Argument],
+    parameter: &Shape,
+) -> Result<(), TypeError>
+    ensures { MatchResult result
+        (λ _. each_faults (spec_of declarations.now) (scope_view scope.now) arguments.now (shape_view parameter.now) ≡ [])
+        (IsAmong (each_faults (spec_of declarations.now) (scope_view scope.now) arguments.now (shape_view parameter.now))) }
+{
+    for argument in arguments {
+        let shape = check_term(alloc, declarations, scope, false, &argument.term)?;
+        let accepted = shape.may_be_alike(parameter);
+        require(accepted, Rule::WrongKind, argument.place)?;
+    }
+    Ok(())
+}

@@ -1,0 +1,145 @@
+//! Names in data: variables, enumerators and functions.
+
+ghost use Rattle.std.specs.Prelude.{◌≡◌, ◌||◌, List, Some, length, MatchResult, codes};
+ghost use Rattle.std.specs.Option.{option_map};
+ghost use Rattle.pb_ast.specs.Form.{named};
+ghost use Rattle.pb_syntax.specs.Syntax.{same_name};
+ghost use Rattle.pb_shapes.specs.Faults.{function_faults, name_faults, unknown_faults};
+ghost use Rattle.pb_shapes.specs.Functions.{arity, function_named};
+ghost use Rattle.pb_shapes.specs.Scope.{named_shape};
+ghost use Rattle.pb_shapes.specs.Shapes.{is_limited};
+ghost use Rattle.pb_shapes.specs.Term.{shape_or_unknown};
+ghost use Rattle.pb_declarations.specs.Enumerators.{position_shape};
+ghost use Rattle.pb_declarations.specs.Faults.{IsAmong, unless};
+ghost use Rattle.pb_declarations.specs.Shapes as model;
+ghost use Rattle.pb_declarations.specs.View.{spec_of};
+ghost use Rattle.pb_typing.specs.Scopes.{scope_view};
+ghost use Rattle.pb_typing.specs.View.{Judges, function_view, shape_view};
+
+use crate::function::Function;
+use crate::operation::fault;
+use crate::scope::{Scope, variable_shape};
+use crate::shape::Shape;
+use pb_ast::{Name, Place};
+use pb_declarations::{Declarations, Enumerator, Rule, TypeError, require};
+
+/// The shape of a variable in scope, else of an enumerator.
+pub(crate) fn name_shape(
+    declarations: &Declarations<'_>,
+    scope: &Scope<'_, '_>,
+    name: &Name,
+) -> Result<Shape, TypeError>
+    ensures { Judges (name_faults (spec_of declarations.now) (named_shape (spec_of declarations.now) (scope_view scope.now) (named name.now).text) (named name.now))
+        (shape_or_unknown (named_shape (spec_of declarations.now) (scope_view scope.now) (named name.now).text)) result }
+{
+    match known_shape(declarations, scope, &name.text) {
+        Some(shape) => limited(shape, name.place),
+        None => Err(unknown(declarations, name)),
+    }
+}
+
+/// The shape of a variable in scope, else of an enumerator, if the name is one of the two.
+pub(crate) fn known_shape(
+    declarations: &Declarations<'_>,
+    scope: &Scope<'_, '_>,
+    name: &str,
+) -> Option<Shape>
+    ensures { option_map shape_view result ≡ named_shape (spec_of declarations.now) (scope_view scope.now) name.now }
+{
+    match variable_shape(scope, name) {
+        Some(shape) => Some(shape),
+        None => struct_shape(declarations.enumerator(name)),
+    }
+}
+
+/// The shape of an enumerator's sort.
+fn struct_shape(enumerator: Option<Enumerator>) -> Option<Shape>
+    ensures { option_map shape_view result ≡ option_map position_shape enumerator }
+{
+    match enumerator {
+        Some(enumerator) => Some(Shape::Places {
+            sort: enumerator.sort,
+            count: enumerator.count,
+        }),
+        None => None,
+    }
+}
+
+/// A shape whose values are within 2^62.
+fn limited(shape: Shape, place: Place) -> Result<Shape, TypeError>
+    ensures { Judges (unless (is_limited (shape_view shape)) Rule.LargeInterval place) (shape_view shape) result }
+{
+    let accepted = shape.is_limited();
+    require(accepted, Rule::LargeInterval, place)?;
+    Ok(shape)
+}
+
+/// What is wrong with a name in data that stands for nothing there.
+fn unknown(declarations: &Declarations<'_>, name: &Name) -> TypeError
+    ensures { IsAmong (unknown_faults (spec_of declarations.now) (named name.now)) result }
+{
+    match declarations.equation(&name.text) {
+        Some(_) => fault(Rule::PredicateInData, name.place),
+        None => fault(Rule::UnknownName, name.place),
+    }
+}
+
+/// A function that is there and takes so many arguments.
+pub(crate) fn find_function(
+    declarations: &Declarations<'_>,
+    name: &Name,
+    count: usize,
+) -> Result<Function, TypeError>
+    ensures { MatchResult result
+        (λ f. (function_named (spec_of declarations.now) (named name.now).text ≡ Some (function_view f)) × (arity (function_view f) ≡ count))
+        (λ e. (ss : List model.Shape) → length ss ≡ count → IsAmong (function_faults (spec_of declarations.now) (function_named (spec_of declarations.now) (named name.now).text) ss (named name.now)) e) }
+{
+    match function_named(declarations, &name.text) {
+        Some(function) => {
+            if function.arity() == count {
+                Ok(function)
+            } else {
+                Err(fault(Rule::WrongCount, name.place))
+            }
+        }
+        None => Err(unknown(declarations, name)),
+    }
+}
+
+/// The function of a name.
+pub(crate) fn function_named(declarations: &Declarations<'_>, name: &str) -> Option<Function>
+    ensures { option_map function_view result ≡ function_named (spec_of declarations.now) name.now }
+{
+    if name == "if" {
+        return Some(Function::Choice);
+    }
+    if name == "succ" {
+        return Some(Function::Successor);
+    }
+    if name == "pred" {
+        return Some(Function::Predecessor);
+    }
+    if name == "abs" {
+        return Some(Function::AbsoluteValue);
+    }
+    if is_conversion(name) {
+        return Some(Function::Conversion);
+    }
+    if name == "max" {
+        return Some(Function::Maximum);
+    }
+    if name == "min" {
+        return Some(Function::Minimum);
+    }
+    match struct_shape(declarations.recogniser(name)) {
+        Some(shape) => Some(Function::Recogniser(shape)),
+        None => None,
+    }
+}
+
+/// Whether the name is that of a conversion between integer sorts.
+fn is_conversion(name: &str) -> bool
+    ensures { result ≡ (same_name name.now (codes "Pos2Nat") || same_name name.now (codes "Pos2Int") || same_name name.now (codes "Nat2Int")) }
+{
+    name == "Pos2Nat" || name == "Pos2Int" || name == "Nat2Int"
+}
