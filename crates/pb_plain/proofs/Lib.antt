@@ -1,8 +1,8 @@
-pub mod Named
-pub mod Step
+pub mod Order
+pub mod Approach
+pub mod Ranges
+pub mod Rights
+pub mod Sets
 pub mod Turn
-pub mod Chains
-pub mod Limits
-pub mod Known
-pub mod Between
-pub mod Steps
+pub mod Ready
+pub mod Accepted

@@ -1,2 +1,4 @@
-pub mod Truths
+pub mod Side
 pub mod Bounds
+pub mod Names
+pub mod Step

@@ -1,10 +1,11 @@
-//! The plain solver of equation systems without parameters. It computes the nested fixpoint solution (Groote and
-//! Willemse 2005) equation by equation, in time exponential in the number of alternations at worst.
+//! The plain solver of parameterised Boolean equation systems. It computes the nested fixpoint solution (Groote and
+//! Willemse 2005) equation by equation, over the sets of all instances.
 #![tactic(auto)]
 
-mod evaluation;
+mod right;
+mod set;
 mod solver;
-#[cfg(test)]
-mod tests;
+mod system;
+mod typed;
 
-pub use solver::solve;
+pub use typed::solve;

@@ -1,94 +1,181 @@
 //! The nested solution, equation by equation.
 
-ghost use Rattle.std.specs.Prelude.{◌≡◌, ◌≤◌, true, false, length, drop, IfOk, OnOk, vec_len};
+ghost use Rattle.std.specs.Prelude.{◌≡◌, ◌≤◌, ◌<◌, not, true, false, length, drop, IfOk, OnOk, Some, [], vec_len};
+ghost use Rattle.std.specs.List.{slice_get};
 ghost use Rattle.pb_fixpoint.specs.Solution.{solution};
-ghost use Rattle.pb_ast.specs.Form.{text};
-ghost use Rattle.pb_syntax.specs.Meaning.{answer, equations_of};
-ghost use Rattle.pb_syntax.specs.Names.{AreNamedApart};
-ghost use Rattle.pb_syntax.specs.Positive.{ArePositive};
+ghost use Rattle.pb_ast.specs.Form.{spec_form};
+ghost use Rattle.pb_declarations.specs.Declarations.{declaration_faults};
+ghost use Rattle.pb_shapes.specs.WellTyped.{IsWellTyped};
+ghost use Rattle.pb_declarations.specs.View.{spec_of, text_of};
+ghost use Rattle.pb_sorts.specs.Layout.{carriers_of, count_of};
 ghost use Rattle.pb_syntax.specs.Erase.{erase};
+ghost use Rattle.pb_syntax.specs.Meaning.{answer, equations_of};
+ghost use Rattle.pb_syntax.specs.Syntax as syntax;
+ghost use Rattle.pb_bounds.specs.Fits.{AllFit};
+ghost use Rattle.pb_evaluation.specs.Environment.{all_carriers, environment_of};
 ghost use Rattle.pb_plain.specs.Bounds.{AreBounds};
-ghost use Rattle.pb_plain.specs.Truths.{starts_full, environment_of};
+ghost use Rattle.pb_plain.specs.Side.{side_of};
+ghost use Rattle.pb_plain.specs.Step.{IsSolvable};
 
-use crate::evaluation::{formula_truth, variable_truth};
+use crate::set::{improve, same_set, take_set};
+use crate::system::System;
 use pb_ast::Spec;
+use pb_declarations::Declarations;
+use pb_evaluation::{Scope, instance_truth};
 use pb_fixpoint::Sign;
+use pb_sorts::Layout;
 use std::alloc::{AllocError, Global};
-
-/// The truth of the initial predicate variable in the nested fixpoint solution of the equations
-/// (Groote and Willemse 2005).
-///
-/// No two equations may have one name, and each predicate variable stands under an even number of negations, as type
-/// checking ensures. The only error is want of memory. Recursion goes as deep as there are equations, and as formulas
-/// nest. Where all equations have one sign, each is evaluated at most as often as there are equations; else the time
-/// may grow exponentially with the number of alternations.
-pub fn solve(alloc: Global, spec: &Spec) -> Result<bool, AllocError>
-    requires apart { AreNamedApart (erase (text spec.now)).equations }
-    requires positive { ArePositive (erase (text spec.now)).equations }
-    ensures { IfOk result (λ truth. truth ≡ answer (erase (text spec.now))) }
-{
-    let count = spec.equations.len();
-    let least = vec![in alloc; false; count]?;
-    let greatest = vec![in alloc; true; count]?;
-    let mut environment = vec![in alloc; false; count]?;
-    solve_from(spec, 0, &mut environment, &least, &greatest)?;
-    Ok(variable_truth(&spec.initial.name.text, &spec.equations, &environment))
-}
 
 /// Brings an environment to the solution of the equations from `first` on under it.
 ///
 /// The sets of these equations lie between `least` and `greatest`; where both are the same, so is the set.
-/// Else a set of one instance takes one step: where the step gives back the set that it began at, that is the
-/// fixpoint, and the equations below are solved under it already. Where it doesn't, the environment has grown for
-/// `mu` or shrunk for `nu`, so what the equations below had is a bound of what they get.
+#[cycle(solver)]
 fn solve_from(
-    spec: &Spec,
+    system: &System<'_, '_>,
     first: usize,
-    environment: &mut Vec<bool>,
+    truths: &mut Vec<bool>,
     least: &[bool],
     greatest: &[bool],
 ) -> Result<(), AllocError>
-    requires apart { AreNamedApart (erase (text spec.now)).equations }
-    requires positive { ArePositive (erase (text spec.now)).equations }
-    requires within { first ≤ vec_len spec.now.equations }
-    requires length { vec_len environment.old ≡ vec_len spec.now.equations }
-    requires lower { length least.now ≡ vec_len spec.now.equations }
-    requires upper { length greatest.now ≡ vec_len spec.now.equations }
-    requires least { AreBounds true (drop first (equations_of (erase (text spec.now)))) (environment_of spec.now environment.old.items) (drop first least.now) }
-    requires greatest { AreBounds false (drop first (equations_of (erase (text spec.now)))) (environment_of spec.now environment.old.items) (drop first greatest.now) }
-    ensures solved { OnOk result (environment_of spec.now environment.new.items ≡ solution (drop first (equations_of (erase (text spec.now)))) (environment_of spec.now environment.old.items)) }
-    ensures length { OnOk result (vec_len environment.new ≡ vec_len environment.old) }
+    requires said { text_of system.now.declarations.now ≡ spec_form system.now.spec.now }
+    requires solvable { IsSolvable (spec_of system.now.declarations.now) }
+    requires within { first ≤ length system.now.layout.now }
+    requires count { vec_len truths.old ≡ count_of system.now.layout.now }
+    requires lower { length least.now ≡ count_of system.now.layout.now }
+    requires upper { length greatest.now ≡ count_of system.now.layout.now }
+    requires least { AreBounds true (drop first (equations_of (spec_of system.now.declarations.now))) (environment_of (spec_of system.now.declarations.now) truths.old.items) (environment_of (spec_of system.now.declarations.now) least.now) }
+    requires greatest { AreBounds false (drop first (equations_of (spec_of system.now.declarations.now))) (environment_of (spec_of system.now.declarations.now) truths.old.items) (environment_of (spec_of system.now.declarations.now) greatest.now) }
+    ensures solved { OnOk result (environment_of (spec_of system.now.declarations.now) truths.new.items ≡ solution (drop first (equations_of (spec_of system.now.declarations.now))) (environment_of (spec_of system.now.declarations.now) truths.old.items)) }
+    ensures count { OnOk result (vec_len truths.new ≡ count_of system.now.layout.now) }
 {
-    if first == spec.equations.len() {
+    if first == system.layout.equation_count() {
         return Ok(());
     }
-    let equation = &spec.equations[first];
-    if least[first] == greatest[first] {
-        environment[first] = least[first];
-        return solve_from(spec, first + 1, environment, least, greatest);
+    if same_set(system.layout, first, least, greatest) {
+        take_set(system.layout, first, least, truths);
+        return solve_from(system, first + 1, truths, least, greatest);
     }
-    let start = starts_full(equation.sign);
-    environment[first] = start;
-    let mut below = environment.clone()?;
-    solve_from(spec, first + 1, &mut below, least, greatest)?;
-    let truth = formula_truth(&equation.right, spec, &below);
-    if truth == start {
-        *environment = below;
-        return Ok(());
-    }
-    environment[first] = truth;
-    match equation.sign {
-        Sign::Mu => solve_from(spec, first + 1, environment, &below, greatest),
-        Sign::Nu => solve_from(spec, first + 1, environment, least, &below),
+    match system.spec.equations[first].sign {
+        Sign::Mu => approach(system, first, truths, least, greatest),
+        Sign::Nu => approach(system, first, truths, greatest, least),
     }
 }
 
-/// Whether the steps towards a fixpoint begin at the full set.
-fn starts_full(sign: Sign) -> bool
-    ensures { result ≡ starts_full sign }
+/// The same for one equation and those behind it: `near` bounds its sets on the side where the steps begin, and `far`
+/// on the other side.
+///
+/// The set moves from its near bound towards the fixpoint, at most as often as it has instances; a step that changes
+/// nothing has reached it. What the equations behind had at one step is a near bound of what they get at the next one.
+#[cycle(solver)]
+fn approach(
+    system: &System<'_, '_>,
+    first: usize,
+    truths: &mut Vec<bool>,
+    near: &[bool],
+    far: &[bool],
+) -> Result<(), AllocError>
+    requires said { text_of system.now.declarations.now ≡ spec_form system.now.spec.now }
+    requires solvable { IsSolvable (spec_of system.now.declarations.now) }
+    requires within { first < length system.now.layout.now }
+    requires count { vec_len truths.old ≡ count_of system.now.layout.now }
+    requires lower { length near.now ≡ count_of system.now.layout.now }
+    requires upper { length far.now ≡ count_of system.now.layout.now }
+    requires near { (X : syntax.Equation) → slice_get (spec_of system.now.declarations.now).equations first ≡ Some X → AreBounds (side_of X.sign) (drop first (equations_of (spec_of system.now.declarations.now))) (environment_of (spec_of system.now.declarations.now) truths.old.items) (environment_of (spec_of system.now.declarations.now) near.now) }
+    requires far { (X : syntax.Equation) → slice_get (spec_of system.now.declarations.now).equations first ≡ Some X → AreBounds (not (side_of X.sign)) (drop first (equations_of (spec_of system.now.declarations.now))) (environment_of (spec_of system.now.declarations.now) truths.old.items) (environment_of (spec_of system.now.declarations.now) far.now) }
+    ensures solved { OnOk result (environment_of (spec_of system.now.declarations.now) truths.new.items ≡ solution (drop first (equations_of (spec_of system.now.declarations.now))) (environment_of (spec_of system.now.declarations.now) truths.old.items)) }
+    ensures count { OnOk result (vec_len truths.new ≡ count_of system.now.layout.now) }
+{
+    let sign = system.spec.equations[first].sign;
+    take_set(system.layout, first, near, truths);
+    let mut kept = Vec::from_slice(*truths.allocator(), near)?;
+    for _step in 0..system.layout.size(first) {
+        let mut below = truths.clone()?;
+        solve_toward(system, sign, first + 1, &mut below, &kept, far)?;
+        if !improve(
+            system.spec,
+            system.declarations,
+            system.layout,
+            first,
+            truths,
+            &below,
+        ) {
+            *truths = below;
+            return Ok(());
+        }
+        kept = below;
+    }
+    solve_toward(system, sign, first + 1, truths, &kept, far)
+}
+
+/// The same with bounds on the side where a sign's steps begin, and on the other side.
+#[cycle(solver)]
+fn solve_toward(
+    system: &System<'_, '_>,
+    sign: Sign,
+    first: usize,
+    truths: &mut Vec<bool>,
+    near: &[bool],
+    far: &[bool],
+) -> Result<(), AllocError>
+    requires said { text_of system.now.declarations.now ≡ spec_form system.now.spec.now }
+    requires solvable { IsSolvable (spec_of system.now.declarations.now) }
+    requires within { first ≤ length system.now.layout.now }
+    requires count { vec_len truths.old ≡ count_of system.now.layout.now }
+    requires lower { length near.now ≡ count_of system.now.layout.now }
+    requires upper { length far.now ≡ count_of system.now.layout.now }
+    requires near { AreBounds (side_of sign) (drop first (equations_of (spec_of system.now.declarations.now))) (environment_of (spec_of system.now.declarations.now) truths.old.items) (environment_of (spec_of system.now.declarations.now) near.now) }
+    requires far { AreBounds (not (side_of sign)) (drop first (equations_of (spec_of system.now.declarations.now))) (environment_of (spec_of system.now.declarations.now) truths.old.items) (environment_of (spec_of system.now.declarations.now) far.now) }
+    ensures solved { OnOk result (environment_of (spec_of system.now.declarations.now) truths.new.items ≡ solution (drop first (equations_of (spec_of system.now.declarations.now))) (environment_of (spec_of system.now.declarations.now) truths.old.items)) }
+    ensures count { OnOk result (vec_len truths.new ≡ count_of system.now.layout.now) }
 {
     match sign {
-        Sign::Mu => false,
-        Sign::Nu => true,
+        Sign::Mu => solve_from(system, first, truths, near, far),
+        Sign::Nu => solve_from(system, first, truths, far, near),
     }
+}
+
+/// The truth of the initial instance in the nested fixpoint solution of a text's equations (Groote and Willemse 2005).
+///
+/// The text is well typed, none of its declarations is at fault, and `layout` has the carriers of its parameters, as
+/// type checking answers. The only error is want of memory. Recursion goes as deep as there are equations, as formulas
+/// nest and as quantifiers bind variables. Sets of one sign are kept from one step of an outer equation to the next, so
+/// that the time grows exponentially with the number of alternations alone.
+pub(crate) fn solve_spec(alloc: Global, spec: &Spec, layout: &Layout) -> Result<bool, AllocError>
+    requires faultless { declaration_faults (spec_form spec.now) ≡ [] }
+    requires well_typed { IsWellTyped (erase (spec_form spec.now)) }
+    requires laid_out { carriers_of layout.now ≡ all_carriers (erase (spec_form spec.now)) }
+    ensures { IfOk result (λ truth. truth ≡ answer (erase (spec_form spec.now))) }
+{
+    match Declarations::read(alloc, spec) {
+        Ok(declarations) => solve_system(alloc, spec, &declarations, layout),
+        // Nothing that is declared is at fault, so memory was refused.
+        Err(_) => Err(AllocError),
+    }
+}
+
+/// The same over what the text declares.
+fn solve_system(
+    alloc: Global,
+    spec: &Spec,
+    declarations: &Declarations<'_>,
+    layout: &Layout,
+) -> Result<bool, AllocError>
+    requires said { text_of declarations.now ≡ spec_form spec.now }
+    requires laid_out { carriers_of layout.now ≡ all_carriers (spec_of declarations.now) }
+    requires solvable { IsSolvable (spec_of declarations.now) }
+    requires initial { AllFit (spec_of declarations.now) [] (spec_of declarations.now).arguments }
+    ensures { IfOk result (λ truth. truth ≡ answer (spec_of declarations.now)) }
+{
+    let system = System {
+        spec,
+        declarations,
+        layout,
+    };
+    let count = layout.count() as usize;
+    let least = vec![in alloc; false; count]?;
+    let greatest = vec![in alloc; true; count]?;
+    let mut truths = vec![in alloc; false; count]?;
+    solve_from(&system, 0, &mut truths, &least, &greatest)?;
+    let environment = system.environment(&truths);
+    Ok(instance_truth(&spec.initial, &Scope::Outermost, &environment))
 }

@@ -1,0 +1,4 @@
+pub mod Scope
+pub mod Quantifier
+pub mod Connective
+pub mod Environment

@@ -1,0 +1,112 @@
+//! What operators and named functions give of whole numbers.
+
+ghost use Rattle.std.specs.Prelude.{◌≡◌, Bool, MatchOption};
+ghost use Rattle.pb_declarations.specs.View.{spec_of};
+ghost use Rattle.pb_syntax.specs.Erase.{of_arithmetic, of_comparison};
+ghost use Rattle.pb_syntax.specs.Value as meaning;
+ghost use Rattle.pb_carriers.specs.Carrier.{of_bool};
+ghost use Rattle.pb_evaluation.specs.Connective.{connected_truth};
+ghost use Rattle.pb_bounds.specs.Fits.{DivisorFits, IsBounded};
+
+use pb_ast::{Arithmetic, Comparison, Connective};
+use pb_declarations::Declarations;
+
+/// Whether a value stands for true.
+pub(crate) fn is_true(value: i64) -> bool
+    ensures { result ≡ meaning.is_true value }
+{
+    value != 0
+}
+
+/// The truth of two operands that are connected, where the left one decides it: any truth of the right one gives it.
+/// Where it doesn't, the truth is that of the right one.
+pub(crate) fn decided_by(connective: Connective, left: bool) -> Option<bool>
+    ensures { MatchOption result ((right : Bool) → connected_truth connective left right ≡ right) (λ decided. (right : Bool) → connected_truth connective left right ≡ decided) }
+{
+    match connective {
+        Connective::And => (!left).then_some(false),
+        Connective::Or => left.then_some(true),
+        Connective::Implies => (!left).then_some(true),
+    }
+}
+
+/// Whether two values compare so.
+pub(crate) fn compares(comparison: Comparison, left: i64, right: i64) -> bool
+    ensures { of_bool result ≡ meaning.binary (of_comparison comparison) left right }
+{
+    match comparison {
+        Comparison::Equal => left == right,
+        Comparison::NotEqual => left != right,
+        Comparison::Less => left < right,
+        Comparison::LessEqual => left <= right,
+        Comparison::Greater => left > right,
+        Comparison::GreaterEqual => left >= right,
+    }
+}
+
+/// What an operator of two whole numbers gives.
+pub(crate) fn calculate(operator: Arithmetic, left: i64, right: i64) -> i64
+    requires divisor { DivisorFits (of_arithmetic operator) right }
+    requires bounded { IsBounded (meaning.binary (of_arithmetic operator) left right) }
+    ensures { result ≡ meaning.binary (of_arithmetic operator) left right }
+{
+    match operator {
+        Arithmetic::Plus => left + right,
+        Arithmetic::Minus => left - right,
+        Arithmetic::Times => left * right,
+        Arithmetic::Div => left.div_euclid(right),
+        Arithmetic::Mod => left.rem_euclid(right),
+    }
+}
+
+/// What a function or a recogniser gives of one argument.
+pub(crate) fn function_of_one(name: &str, x: i64, declarations: &Declarations<'_>) -> i64
+    requires { IsBounded x }
+    ensures { result ≡ meaning.function_of_one (spec_of declarations.now) name.now x }
+{
+    if name == "succ" {
+        x + 1
+    } else if name == "pred" {
+        x - 1
+    } else if name == "abs" {
+        x.abs()
+    } else if name == "Pos2Nat" || name == "Pos2Int" || name == "Nat2Int" {
+        x
+    } else {
+        i64::from(recognises(name, x, declarations))
+    }
+}
+
+/// Whether a recogniser's enumerator has this place, and false where there is no recogniser of this name.
+fn recognises(name: &str, place: i64, declarations: &Declarations<'_>) -> bool
+    ensures { of_bool result ≡ meaning.recognised (spec_of declarations.now) name.now place }
+{
+    match declarations.recogniser(name) {
+        Some(enumerator) => i64::from(enumerator.place) == place,
+        None => false,
+    }
+}
+
+/// What a function gives of two arguments.
+pub(crate) fn function_of_two(name: &str, x: i64, y: i64) -> i64
+    ensures { result ≡ meaning.function_of_two name.now x y }
+{
+    if name == "max" {
+        x.max(y)
+    } else if name == "min" {
+        x.min(y)
+    } else {
+        0
+    }
+}
+
+/// What a function gives of three arguments.
+pub(crate) fn function_of_three(name: &str, condition: i64, x: i64, y: i64) -> i64
+    ensures { result ≡ meaning.function_of_three name.now condition x y }
+{
+    if name == "if" {
+        if is_true(condition) { x } else { y }
+    } else {
+        0
+    }
+}

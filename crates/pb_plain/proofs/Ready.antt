@@ -1,0 +1,21 @@
+-- A text that is well typed is solvable.
+use Rattle.std.proofs.Common.{◌≡◌, ℕ, zero, suc, List, [], ◌∷◌, map, get_or, refl, sym, ◌∙◌, arith}
+use Rattle.pb_sorts.proofs.Places.{map_length}
+use Rattle.pb_syntax.specs.Syntax.{Equation, Spec}
+use Rattle.pb_shapes.specs.WellTyped.{IsWellTyped}
+use Rattle.pb_shapes.proofs.Fitting.{spec_fits, spec_positive}
+use Rattle.pb_plain.specs.Step.{IsSolvable}
+
+get_or-map : {A B : Type 0} (f : A → B) (xs : List A) (k : ℕ) (d : A) → get_or (map f xs) k (f d) ≡ f (get_or xs k d)
+get_or-map f [] k d = refl
+get_or-map f (x ∷ xs) zero d = refl
+get_or-map f (x ∷ xs) (suc k) d = get_or-map f xs k d
+
+pub solvable : (spec : Spec) → IsWellTyped spec → IsSolvable spec
+solvable spec h = record {
+  apart = λ i j d lt below e.
+      h.declarations.predicate_variables i j d.name lt (omega (arith, below, map_length (λ (X : Equation). X.name) spec.equations))
+      (get_or-map (λ (X : Equation). X.name) spec.equations i d ∙ (e ∙ sym (get_or-map (λ (X : Equation). X.name) spec.equations j d)));
+  positive = spec_positive spec h;
+  fits = (spec_fits spec h).rights;
+}

@@ -1,0 +1,32 @@
+use Rattle.std.proofs.Common.{◌≡◌, ◌+◌, ◌-◌, ◌*◌, drop, length, vec_len, Some}
+use Rattle.std.specs.List.{slice_get}
+use Rattle.pb_declarations.specs.View.{spec_of}
+use Rattle.pb_sorts.specs.Layout.{count_of}
+use Rattle.pb_syntax.specs.Meaning.{equation_of, equations_of}
+use Rattle.pb_syntax.specs.Syntax as syntax
+use Rattle.pb_evaluation.specs.Environment.{environment_of}
+use Rattle.pb_plain.specs.Bounds.{AreBounds}
+use Rattle.pb_plain.specs.Side.{side_of}
+use Rattle.pb_plain.proofs.Approach.{IsApproach}
+use Rattle.pb_plain.proofs.solver.+solver.Given as goal
+
+abbrev pub decreases-solve_from : goal.decreases-solve_from
+decreases-solve_from l = 3 * (length l.system.now.layout.now - l.first) + 1
+
+abbrev pub decreases-approach : goal.decreases-approach
+decreases-approach l = 3 * (length l.system.now.layout.now - l.first)
+
+abbrev pub decreases-solve_toward : goal.decreases-solve_toward
+decreases-solve_toward l = 3 * (length l.system.now.layout.now - l.first) + 2
+
+-- after so many steps the set has been approached, and what is kept bounds the sets behind it
+abbrev pub invariant-approach-loop-step : goal.invariant-approach-loop-step
+invariant-approach-loop-step l =
+    let S = spec_of l.system.declarations.now in
+    let after = drop (l.first + 1) (equations_of S) in
+    record {
+      count : vec_len l.truths ≡ count_of l.system.layout.now;
+      kept : vec_len l.kept ≡ count_of l.system.layout.now;
+      approach : (X : syntax.Equation) → slice_get S.equations l.first ≡ Some X → IsApproach (equation_of S X) after (environment_of S l.fn.truths.items) l._step (environment_of S l.truths.items);
+      bounds : (X : syntax.Equation) → slice_get S.equations l.first ≡ Some X → AreBounds (side_of X.sign) after (environment_of S l.truths.items) (environment_of S l.kept.items);
+    }

@@ -1,0 +1,53 @@
+-- One step of the solver at the equation at a place, on lists of truths that stand for environments.
+use Rattle.std.specs.Prelude.{◌≡◌, ℕ, Bool, true, false, List, [], ⊤, All, slice_index_or, Option, Some, None}
+use Rattle.std.specs.List.{slice_get}
+use Rattle.pb_fixpoint.specs.Solution.{Environment}
+use Rattle.pb_sorts.specs.declared.carrier.Carrier.{Carrier}
+use Rattle.pb_sorts.specs.Layout.{carriers_of}
+use Rattle.pb_sorts.specs.Instance as numbered
+use Rattle.pb_sorts.specs.Instance.{instances, owns_number}
+use Rattle.pb_syntax.specs.Syntax.{Equation, Spec}
+use Rattle.pb_syntax.specs.Formula.{Instance, truth}
+use Rattle.pb_syntax.specs.Meaning.{assigned}
+use Rattle.pb_syntax.specs.Names.{AreNamedApart}
+use Rattle.pb_syntax.specs.Positive.{ArePositive}
+use Rattle.pb_bounds.specs.Fits.{FormulaFits, RightFits}
+use Rattle.pb_evaluation.specs.Environment.{environment_of}
+use Rattle.pb_plain.specs.Side.{side_of, joined}
+
+-- equations of different names, each right side positive, its values within 64 bits
+pub record IsSolvable (spec : Spec) : Type 0 where
+  pub apart : AreNamedApart spec.equations
+  pub positive : ArePositive spec.equations
+  pub fits : All (RightFits spec) spec.equations
+
+-- the truth of an equation's right side at an instance, if there is one
+abbrev pub right_truth : Spec → Environment Instance → Equation → Option numbered.Instance → Bool
+right_truth spec t X None = false
+right_truth spec t X (Some i) = truth spec (assigned X.parameters i.values []) t X.right
+
+-- the same at a number
+abbrev pub right_truth_at : Spec → Environment Instance → Equation → List (List Carrier) → ℕ → Bool
+right_truth_at spec t X layout n = right_truth spec t X (slice_get (instances (carriers_of layout)) n)
+
+-- only the set of the equation at place k is another
+abbrev pub ChangesOnly : List (List Carrier) → ℕ → List Bool → List Bool → Type 0
+ChangesOnly layout k old new = (n : ℕ) → owns_number (carriers_of layout) k n ≡ false → slice_index_or new n false ≡ slice_index_or old n false
+
+-- the set of the equation at place k is the one in `from`
+abbrev pub TakesSet : List (List Carrier) → ℕ → List Bool → List Bool → Type 0
+TakesSet layout k from new = (n : ℕ) → owns_number (carriers_of layout) k n ≡ true → slice_index_or new n false ≡ slice_index_or from n false
+
+-- each truth of X's set is joined with that of its right side under `below`
+abbrev pub JoinsRight : Spec → List (List Carrier) → ℕ → Equation → List Bool → List Bool → List Bool → Type 0
+JoinsRight spec layout k X below old new =
+    (n : ℕ) → owns_number (carriers_of layout) k n ≡ true
+    → slice_index_or new n false ≡ joined (side_of X.sign) (slice_index_or old n false) (right_truth_at spec (environment_of spec below) X layout n)
+
+-- an equation's right side fits at the instance with a number
+abbrev pub FitsAtInstance : Spec → Equation → Option numbered.Instance → Type 0
+FitsAtInstance spec X None = ⊤
+FitsAtInstance spec X (Some i) = FormulaFits spec (assigned X.parameters i.values []) X.right
+
+abbrev pub FitsAt : Spec → List (List Carrier) → Equation → ℕ → Type 0
+FitsAt spec layout X n = FitsAtInstance spec X (slice_get (instances (carriers_of layout)) n)
