@@ -15,7 +15,7 @@ use Rattle.pb_code.proofs.Monotone.{AllEdges}
 use Rattle.pb_abstract_state.proofs.Hulls.{state_same}
 use Rattle.pb_abstract_state.proofs.Covered.{flow_covered, solid_flow}
 use Rattle.pb_verifier.specs.Pass.{then_table, put, joined_at, merge_state, merge_edges}
-use Rattle.pb_verifier.specs.Structure.{IsStructured, IsWithinLimits}
+use Rattle.pb_structure.specs.Structure.{IsStructured, IsWithinLimits}
 use Rattle.pb_verifier.proofs.Targets.{TargetHolds, transfer_goes}
 use Rattle.pb_verifier.proofs.Merges.{IsBelow, AllSolid, Joined, AllFit, leads_further, covered_further, edges_joined, edges_refused, table_same, none_table, some_none, op_same, set_other}
 

@@ -4,3 +4,7 @@ pub mod Agreement
 pub mod Kept
 pub mod Whole
 pub mod Taken
+pub mod Steps
+pub mod Limits
+pub mod Modules
+pub mod Equations

@@ -15,7 +15,7 @@ use Rattle.pb_sorts.specs.declared.carrier.Carrier.TheVariants as carrier
 use lib.Signed.{≤ℤ_refl}
 use Rattle.pb_abstract_state.proofs.Hulls.{state_same}
 use Rattle.pb_verifier.specs.Pass.{Homes, homes_after, visited, passes, passes_on, opening, code_passes, innermost}
-use Rattle.pb_verifier.specs.Structure.{IsStructured, IsWithinLimits}
+use Rattle.pb_structure.specs.Structure.{IsStructured, IsWithinLimits}
 use Rattle.pb_verifier.proofs.Merges.{IsBelow, set_same, set_other, set_long, none_some}
 use Rattle.pb_verifier.proofs.Agreement.{Agrees, SameBehind, SameResult, visited_agrees, home_of}
 use Rattle.pb_verifier.proofs.Kept.{Kept, later_edges, kept_more, earlier_more, refused_at, below_more, then_visit}

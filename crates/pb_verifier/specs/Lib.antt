@@ -1,2 +1,5 @@
 pub mod Pass
-pub mod Structure
+pub mod Programs
+pub mod EquationErrors
+pub mod Acceptance
+pub mod Refusals

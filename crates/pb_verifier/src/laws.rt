@@ -5,7 +5,7 @@ ghost use Rattle.pb_code.specs.Accepted.{Accepted, Table};
 ghost use Rattle.pb_code.specs.Counts.{static_steps, static_tokens};
 ghost use Rattle.pb_code.specs.Machine.{Program};
 ghost use Rattle.pb_verifier.specs.Pass.{code_passes};
-ghost use Rattle.pb_verifier.specs.Structure.{IsStructured, IsWithinLimits};
+ghost use Rattle.pb_structure.specs.Structure.{IsStructured, IsWithinLimits};
 
 /// Code that keeps the rules by position has an accepted table where the pass ends, and none where it refuses.
 pub fn pass_decides()

@@ -1,7 +1,21 @@
-//! The verifier of code: one pass over the abstract states of an equation's code, which is accepted where each
-//! instruction's rule holds of what is known at its place.
+//! The verifier of modules. Code is accepted where it keeps the rules by position, states counts that are large enough,
+//! and has a table of abstract states with which each instruction agrees; one pass from the first place to the last
+//! finds the least such table. What is accepted never faults and ends within the stated counts, and no module that is
+//! accepted is refused.
 #![tactic(auto)]
 
+mod equation;
+mod equation_error;
 pub mod laws;
-pub mod table;
-pub mod visit;
+mod module_tables;
+mod open_loops;
+mod pass;
+mod table;
+pub mod verification;
+pub mod verified;
+pub mod verify_error;
+mod visit;
+
+pub use verification::verify;
+pub use verified::Verified;
+pub use verify_error::VerifyError;

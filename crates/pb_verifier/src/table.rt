@@ -7,7 +7,7 @@ ghost use Rattle.pb_verifier.specs.Pass.{merge_edges as merged_edges, merge_stat
 use pb_abstract_state::{AbstractState, Edges, Rule};
 
 /// Joins a state into what is known at a place.
-pub fn merge(
+pub(crate) fn merge(
     table: &mut Vec<Option<AbstractState>>,
     to: usize,
     state: AbstractState,
@@ -34,7 +34,7 @@ pub fn merge(
 }
 
 /// Joins what flows from a place: first into the next place, then into the target.
-pub fn merge_edges(
+pub(crate) fn merge_edges(
     table: &mut Vec<Option<AbstractState>>,
     place: usize,
     edges: Edges,

@@ -1,6 +1,6 @@
 //! One place of the pass.
 
-ghost use Rattle.std.specs.Prelude.{◌≡◌, ◌<◌, None, OnErr, OnOk, Option, Some, map, vec_items};
+ghost use Rattle.std.specs.Prelude.{◌≡◌, ◌<◌, None, OnOk, Option, Some, map, vec_items};
 ghost use Rattle.pb_code.specs.Monotone.{HasOrderedRange};
 ghost use Rattle.pb_abstract_state.specs.Refusals.{OnRefused};
 ghost use Rattle.pb_code.specs.Counts.{Straight, loop_effect};
@@ -18,7 +18,7 @@ use std::alloc::Global;
 
 /// Joins what flows from an instruction, other than the start and the end of a loop, into the table. `sorts` has the
 /// counts of enumerators, `callees` the carriers of each equation's parameters.
-pub fn visit(
+pub(crate) fn visit(
     state: AbstractState,
     alloc: Global,
     sorts: &[u8],
@@ -39,7 +39,7 @@ pub fn visit(
 }
 
 /// Joins what flows from the start of a loop into the table. `carrier` is the slot's, if it is a loop slot.
-pub fn visit_loop(
+pub(crate) fn visit_loop(
     state: &AbstractState,
     alloc: Global,
     slot: u8,
@@ -60,19 +60,20 @@ pub fn visit_loop(
 }
 
 /// Joins what flows from the end of a loop into the table. `home` is what was known at the loop's start.
-pub fn visit_next(
+pub(crate) fn visit_next(
     state: &AbstractState,
     home: Option<AbstractState>,
     place: usize,
     table: &mut Vec<Option<AbstractState>>,
-) -> Result<(), Rule>
+) -> Result<(), FlowError>
     requires { place < 65536 }
     ensures ok { OnOk result ((p : Program) → then_table (transfer p home place op.Next state.now) (merged_edges table.old.items) ≡ Some table.new.items) }
-    ensures err { OnErr result ((p : Program) → then_table (transfer p home place op.Next state.now) (merged_edges table.old.items) ≡ None) }
+    ensures refused { OnRefused result ((p : Program) → then_table (transfer p home place op.Next state.now) (merged_edges table.old.items) ≡ None) }
 {
     let Some(known) = home else {
-        return Err(Rule::LoopStructure);
+        return Err(FlowError::Refused(Rule::LoopStructure));
     };
     let after = state.leave_loop(known)?;
-    merge(table, place + 1, after)
+    merge(table, place + 1, after)?;
+    Ok(())
 }

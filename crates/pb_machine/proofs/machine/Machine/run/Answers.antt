@@ -1,59 +1,51 @@
-use Rattle.std.proofs.Common.{◌≡◌, suc, ◌+◌, ◌-◌, ◌∙◌, true, false, length, refl, ap, subst, arith, rules, Fits, w64}
-use Rattle.std.proofs.lemmas.Option.{slice_get_within}
-use Rattle.pb_trees.specs.Tokens.{tree_tokens}
-use Rattle.pb_code.specs.Machine.{execute}
-use Rattle.pb_code.specs.declared.instruction.Op.{Op}
-use Rattle.pb_machine.specs.Mirror.{IsNoFault, WritesAtMost}
-use Rattle.pb_machine.proofs.Runs.{LeadsTo, next_step, instruction_same, if_ok_more, goes_on, has_ended}
+use Rattle.std.proofs.Common.{◌≡◌, List, Some, sym, ◌∙◌, ap, subst, arith}
+use Rattle.std.specs.List.{slice_get}
+use Rattle.std.proofs.lemmas.Option.{slice_get-get_or}
+use Rattle.pb_sorts.specs.Instance.{instance_of, instances}
+use Rattle.pb_sorts.specs.Layout.{carriers_of}
+use Rattle.pb_sorts.specs.declared.carrier.Carrier.{Carrier}
+use Rattle.pb_bytecode.specs.Meaning.{program_of}
+use Rattle.pb_bytecode.specs.Views.{equation_contents}
+use Rattle.pb_machine.proofs.ModuleInstances.{equation_there, declared_at, values_within, can_run_at, output_at, meant}
+use Rattle.pb_machine.proofs.Runs.{if_ok_more}
 use Rattle.pb_machine.proofs.machine.Machine.run.Goals as goal
 
-pub instruction-op-requires : goal.instruction-op-requires
-instruction-op-requires c =
-    let p = c.requires.0 in
-    let r = c.requires.1 in
-    let u = c.loop-turn.invariant p r in
-    let count : c.args.code.now.steps - c.loop-turn.turn ≡ suc (c.args.code.now.steps - (c.loop-turn.turn + 1)) = omega arith in
-    let s = next_step p c.loop-turn.self _ _ c.args.arguments.now count r.runnable u in
-    let within = slice_get_within p.code u.state.place s.i s.here in
-    let here = u.mirrors.place in
-    let code = ap length r.same_code.same_code in
-    omega arith
+pub index-equation-requires : goal.index-equation-requires
+index-equation-requires c =
+    let at = subst (λ (x : List (List Carrier)). slice_get (instances (carriers_of x)) c.args.number ≡ Some (instance_of c.instance-instance.result)) c.layout-layout.ensures c.instance-instance.ensures in
+    let there = equation_there c.args.verified.now c.module.result.now c.args.number (instance_of c.instance-instance.result) c.module.ensures at in
+    omega (arith, c.module.result.now.equations.ok.0)
 
-pub execute-requires-clause-ready : goal.execute-requires-clause-ready
-execute-requires-clause-ready c =
-    let p = c.requires.0 in
-    let r = c.requires.1 in
-    let u = c.loop-turn.invariant p r in
-    let count : c.args.code.now.steps - c.loop-turn.turn ≡ suc (c.args.code.now.steps - (c.loop-turn.turn + 1)) = omega arith in
-    let s = next_step p c.loop-turn.self _ _ c.args.arguments.now count r.runnable u in
-    let same = instruction_same p c.args.code.now.instructions.now c.loop-turn.self.place u.state s.i c.instruction-op.result r.same_code.same_code u.mirrors.place s.here c.instruction-op.ensures in
-    let fine = subst (λ (i : Op). IsNoFault (execute p i u.state)) same s.fine in
-    let short = subst (λ (i : Op). WritesAtMost p.stated_tokens (execute p i u.state)) same s.short in
-    let within = slice_get_within p.code u.state.place s.i s.here in
-    let code = ap length r.same_code.same_code in
-    let fit : Fits w64 (length c.args.code.now.instructions.now) = search rules in
-    (p, r.calls, r.same_code.same_loops, record { state = u.state; within = omega arith; mirrors = u.mirrors; fine = fine; short = short })
+pub run_code-requires : goal.run_code-requires
+run_code-requires c =
+    let m = c.args.verified.now in
+    let i = instance_of c.instance-instance.result in
+    let held = c.index-equation.result.now in
+    let at = subst (λ (x : List (List Carrier)). slice_get (instances (carriers_of x)) c.args.number ≡ Some i) c.layout-layout.ensures c.instance-instance.ensures in
+    let there = equation_there m c.module.result.now c.args.number i c.module.ensures at in
+    let declared = declared_at m c.module.result.now i.equation held c.module.ensures (slice_get-get_or c.module.result.now.equations.items i.equation held there ∙ ap Some (sym c.index-equation.ensures)) in (
+      program_of m (equation_contents held),
+      can_run_at m c.args.number i (equation_contents held) at declared c.layout-layout.result.now c.deref.result.now c.deref-2.result.now c.deref-3.result.now c.layout-layout.ensures (c.runs_safely.ensures.safe i.equation (equation_contents held) declared) c.deref.ensures.value c.deref-2.ensures.value c.deref-3.ensures,
+    )
 
-pub returns-then-not-execute : goal.returns-then-not-execute
-returns-then-not-execute c = if_ok_more _ _ c.copied.result c.copied.ensures (λ tree e p r.
-    let u = c.loop-turn.invariant p r in
-    let count : c.args.code.now.steps - c.loop-turn.turn ≡ suc (c.args.code.now.steps - (c.loop-turn.turn + 1)) = omega arith in
-    let s = next_step p c.loop-turn.self _ _ c.args.arguments.now count r.runnable u in
-    let same = instruction_same p c.args.code.now.instructions.now c.loop-turn.self.place u.state s.i c.instruction-op.result r.same_code.same_code u.mirrors.place s.here c.instruction-op.ensures in
-    let fine = subst (λ (i : Op). IsNoFault (execute p i u.state)) same s.fine in
-    let short = subst (λ (i : Op). WritesAtMost p.stated_tokens (execute p i u.state)) same s.short in
-    let leads = subst (λ (i : Op). LeadsTo p (c.args.code.now.steps - (c.loop-turn.turn + 1)) (tree_tokens u.tree) (execute p i u.state)) same s.leads in
-    let ended = has_ended p (c.args.code.now.steps - (c.loop-turn.turn + 1)) (tree_tokens u.tree) c.execute.new.self _ false refl (c.if-not-execute.ensures p r.calls r.same_code.same_loops u.state u.mirrors fine short) leads in
-    record { tree = u.tree; ends = u.ends; written = e ∙ c.deref.ensures.value ∙ ended })
+pub returns-clause-output : goal.returns-clause-output
+returns-clause-output c =
+    let m = c.args.verified.now in
+    let i = instance_of c.instance-instance.result in
+    let held = c.index-equation.result.now in
+    let at = subst (λ (x : List (List Carrier)). slice_get (instances (carriers_of x)) c.args.number ≡ Some i) c.layout-layout.ensures c.instance-instance.ensures in
+    let there = equation_there m c.module.result.now c.args.number i c.module.ensures at in
+    let declared = declared_at m c.module.result.now i.equation held c.module.ensures (slice_get-get_or c.module.result.now.equations.items i.equation held there ∙ ap Some (sym c.index-equation.ensures)) in
+    let can = can_run_at m c.args.number i (equation_contents held) at declared c.layout-layout.result.now c.deref.result.now c.deref-2.result.now c.deref-3.result.now c.layout-layout.ensures (c.runs_safely.ensures.safe i.equation (equation_contents held) declared) c.deref.ensures.value c.deref-2.ensures.value c.deref-3.ensures in
+    if_ok_more _ _ c.run_code.result c.run_code.ensures (λ tree f. record { instance = i; numbered = at; equation = equation_contents held; declared = declared; output = output_at (program_of m (equation_contents held)) c.deref-3.result.now i.values tree c.deref-3.ensures (f (program_of m (equation_contents held)) can) })
 
-pub loop-turn-preserved : goal.loop-turn-preserved
-loop-turn-preserved c p r =
-    let u = c.loop-turn.invariant p r in
-    let count : c.args.code.now.steps - c.loop-turn.turn ≡ suc (c.args.code.now.steps - (c.loop-turn.turn + 1)) = omega arith in
-    let s = next_step p c.loop-turn.self _ _ c.args.arguments.now count r.runnable u in
-    let same = instruction_same p c.args.code.now.instructions.now c.loop-turn.self.place u.state s.i c.instruction-op.result r.same_code.same_code u.mirrors.place s.here c.instruction-op.ensures in
-    let fine = subst (λ (i : Op). IsNoFault (execute p i u.state)) same s.fine in
-    let short = subst (λ (i : Op). WritesAtMost p.stated_tokens (execute p i u.state)) same s.short in
-    let leads = subst (λ (i : Op). LeadsTo p (c.args.code.now.steps - (c.loop-turn.turn + 1)) (tree_tokens u.tree) (execute p i u.state)) same s.leads in
-    let g = goes_on p (c.args.code.now.steps - (c.loop-turn.turn + 1)) (tree_tokens u.tree) c.execute.new.self _ true refl (c.if-not-execute.ensures p r.calls r.same_code.same_loops u.state u.mirrors fine short) leads in
-    record { state = g.0; mirrors = g.1; tree = u.tree; ends = u.ends; left = g.2 }
+pub returns-clause-meaning : goal.returns-clause-meaning
+returns-clause-meaning c =
+    let m = c.args.verified.now in
+    let i = instance_of c.instance-instance.result in
+    let held = c.index-equation.result.now in
+    let at = subst (λ (x : List (List Carrier)). slice_get (instances (carriers_of x)) c.args.number ≡ Some i) c.layout-layout.ensures c.instance-instance.ensures in
+    let there = equation_there m c.module.result.now c.args.number i c.module.ensures at in
+    let declared = declared_at m c.module.result.now i.equation held c.module.ensures (slice_get-get_or c.module.result.now.equations.items i.equation held there ∙ ap Some (sym c.index-equation.ensures)) in
+    let can = can_run_at m c.args.number i (equation_contents held) at declared c.layout-layout.result.now c.deref.result.now c.deref-2.result.now c.deref-3.result.now c.layout-layout.ensures (c.runs_safely.ensures.safe i.equation (equation_contents held) declared) c.deref.ensures.value c.deref-2.ensures.value c.deref-3.ensures in
+    if_ok_more _ _ c.run_code.result c.run_code.ensures (λ tree f trees all. meant m c.args.number i (equation_contents held) tree trees at declared (values_within m c.args.number i (equation_contents held) at declared) (output_at (program_of m (equation_contents held)) c.deref-3.result.now i.values tree c.deref-3.ensures (f (program_of m (equation_contents held)) can)) all)

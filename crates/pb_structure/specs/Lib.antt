@@ -1,0 +1,4 @@
+pub mod Structure
+pub mod Views
+pub mod Nesting
+pub mod Refusals

@@ -1,0 +1,137 @@
+-- What the limits of modules say of the equations' code and of the layout.
+use Rattle.std.proofs.Common.{◌≡◌, ℕ, zero, suc, ◌+◌, ◌^◌, ◌<◌, ◌≤◌, Bool, true, ◌&&◌, List, [], ◌∷◌, length, map, Some, refl, ap, subst, ◌∙◌, arith}
+use Rattle.std.specs.Prelude.{All, nat_le, nat_lt, slice_get, int_le}
+use Rattle.std.specs.List.{list_all}
+use Rattle.std.proofs.lemmas.Bool.{and_parts, leb-true, ltb-true}
+use Rattle.std.proofs.lemmas.List.{length-map}
+use Rattle.pb_carriers.specs.Carrier.{tuple_count}
+use Rattle.pb_sorts.specs.Carrier.{values_of}
+use Rattle.pb_sorts.specs.Instance.{instances_from}
+use Rattle.pb_sorts.specs.Layout.{carriers_of, count_of}
+use Rattle.pb_sorts.specs.declared.carrier.Carrier.{Carrier}
+use Rattle.pb_sorts.proofs.InstancePlaces.{length-instances_from-cons}
+use Rattle.pb_code.proofs.Ints.{le_true}
+use Rattle.pb_code.specs.Monotone.{HasOrderedRange}
+use Rattle.pb_code.specs.declared.instruction.Op.{Op}
+use Rattle.pb_code.specs.declared.instruction.Op.TheVariants as op
+use Rattle.pb_bytecode.specs.declared.version.Version.{Version}
+use Rattle.pb_bytecode.specs.Contents.{EquationContents, Contents, counts}
+use Rattle.pb_bytecode.specs.Meaning.{parameters, program_of}
+use Rattle.pb_bytecode.specs.Names.{is_name}
+use Rattle.pb_bytecode.specs.Limits.{is_between, is_byte, is_i32, is_u16, is_u32, is_second, are_bounds, fits_sort, fits_carrier, fits_op, fits_equation, fits_initial, instance_count, fits}
+use Rattle.pb_structure.specs.Structure.{IsWithinLimits}
+
+-- ---- parts of the limits
+
+all_at : {A : Type 0} → (test : A → Bool) (xs : List A) (k : ℕ) (x : A) → list_all test xs ≡ true → slice_get xs k ≡ Some x → test x ≡ true
+all_at test [] k x h e = cc
+all_at test (y ∷ ys) zero x h e = let same : y ≡ x = cc in subst (λ z. test z ≡ true) same (and_parts (test y) (list_all test ys) h).0
+all_at test (y ∷ ys) (suc k) x h e = all_at test ys k x (and_parts (test y) (list_all test ys) h).1 e
+
+below : (low end n : ℕ) → is_between low end n ≡ true → n < end
+below low end n h = ltb-true n end (and_parts (nat_le low n) (nat_lt n end) h).1
+
+above : (low end n : ℕ) → is_between low end n ≡ true → low ≤ n
+above low end n h = leb-true low n (and_parts (nat_le low n) (nat_lt n end) h).0
+
+pub record EquationsFit (m : Contents) : Type 0 where
+  pub few : is_between 1 65 (length m.equations) ≡ true
+  pub each : list_all (fits_equation m.version (counts m.sorts)) m.equations ≡ true
+  pub instances : nat_le (instance_count m.equations) 4194304 ≡ true
+
+equations_fit : (m : Contents) → fits m ≡ true → EquationsFit m
+equations_fit m h =
+    let a = and_parts (is_between 0 256 (length m.sorts) && list_all fits_sort m.sorts) ((is_between 1 65 (length m.equations) && list_all (fits_equation m.version (counts m.sorts)) m.equations) && (nat_le (instance_count m.equations) 4194304 && fits_initial m.equations m.initial)) h in
+    let b = and_parts (is_between 1 65 (length m.equations) && list_all (fits_equation m.version (counts m.sorts)) m.equations) (nat_le (instance_count m.equations) 4194304 && fits_initial m.equations m.initial) a.1 in
+    let c = and_parts (is_between 1 65 (length m.equations)) (list_all (fits_equation m.version (counts m.sorts)) m.equations) b.0 in
+    record { few = c.0; each = c.1; instances = (and_parts (nat_le (instance_count m.equations) 4194304) (fits_initial m.equations m.initial) b.1).0 }
+
+pub record CodeFits (v : Version) (sizes : List ℕ) (e : EquationContents) : Type 0 where
+  pub params : is_between 0 9 (length e.params) ≡ true
+  pub code : is_between 1 (2 ^ 16) (length e.code) ≡ true
+  pub ops : list_all (fits_op v sizes) e.code ≡ true
+
+code_fits : (v : Version) (sizes : List ℕ) (e : EquationContents) → fits_equation v sizes e ≡ true → CodeFits v sizes e
+code_fits v sizes e h =
+    let code = is_between 1 (2 ^ 16) (length e.code) && list_all (fits_op v sizes) e.code in
+    let tokens = is_u32 e.tokens && code in
+    let steps = is_u32 e.steps && tokens in
+    let loops = is_between 0 241 (length e.loops) && list_all (fits_carrier sizes) e.loops in
+    let params = is_between 0 9 (length e.params) && list_all (fits_carrier sizes) e.params in
+    let a = and_parts (is_name e.name) (params && (loops && steps)) h in
+    let b = and_parts params (loops && steps) a.1 in
+    let c = and_parts loops steps b.1 in
+    let d = and_parts (is_u32 e.steps) tokens c.1 in
+    let f = and_parts (is_u32 e.tokens) code d.1 in
+    let g = and_parts (is_between 1 (2 ^ 16) (length e.code)) (list_all (fits_op v sizes) e.code) f.1 in
+    record { params = (and_parts (is_between 0 9 (length e.params)) (list_all (fits_carrier sizes) e.params) b.0).0; code = g.0; ops = g.1 }
+
+-- ---- code
+
+ordered : (v : Version) (sizes : List ℕ) (i : Op) → fits_op v sizes i ≡ true → HasOrderedRange i
+ordered v sizes (op.InRange lo hi to) h = le_true lo hi (and_parts (is_i32 lo && is_i32 hi) (int_le lo hi) (and_parts (are_bounds lo hi) (is_u16 to) h).0).1
+ordered v sizes (op.SlotInRange slot lo hi to) h =
+    let a = and_parts (is_second v) (is_byte slot && (are_bounds lo hi && is_u16 to)) h in
+    let b = and_parts (is_byte slot) (are_bounds lo hi && is_u16 to) a.1 in
+    le_true lo hi (and_parts (is_i32 lo && is_i32 hi) (int_le lo hi) (and_parts (are_bounds lo hi) (is_u16 to) b.1).0).1
+ordered v sizes op.End h = tt
+ordered v sizes (op.PushInt z) h = tt
+ordered v sizes (op.PushBool z) h = tt
+ordered v sizes (op.PushEnum s z) h = tt
+ordered v sizes (op.Get z) h = tt
+ordered v sizes op.Pop h = tt
+ordered v sizes (op.Arithmetic z) h = tt
+ordered v sizes op.Negate h = tt
+ordered v sizes op.Absolute h = tt
+ordered v sizes (op.Compare z) h = tt
+ordered v sizes (op.Equality z) h = tt
+ordered v sizes op.Not h = tt
+ordered v sizes (op.Logic z) h = tt
+ordered v sizes (op.Jump to) h = tt
+ordered v sizes (op.JumpIf on to) h = tt
+ordered v sizes (op.Loop z) h = tt
+ordered v sizes op.Next h = tt
+ordered v sizes (op.Open z) h = tt
+ordered v sizes op.Close h = tt
+ordered v sizes (op.Emit z) h = tt
+ordered v sizes (op.Call z) h = tt
+
+pub code_within_limits : (m : Contents) (k : ℕ) (e : EquationContents) → fits m ≡ true → slice_get m.equations k ≡ Some e → IsWithinLimits (program_of m e)
+code_within_limits m k e h at =
+    let parts = equations_fit m h in
+    let fit = code_fits m.version (counts m.sorts) e (all_at (fits_equation m.version (counts m.sorts)) m.equations k e parts.each at) in
+    record {
+      some = let a = above 1 (2 ^ 16) (length e.code) fit.code in omega arith;
+      short = below 1 (2 ^ 16) (length e.code) fit.code;
+      bounds = λ q i here. ordered m.version (counts m.sorts) i (all_at (fits_op m.version (counts m.sorts)) e.code q i fit.ops here);
+    }
+
+-- ---- the layout
+
+few_params : (v : Version) (sizes : List ℕ) (es : List EquationContents) → list_all (fits_equation v sizes) es ≡ true → All (λ (ps : List Carrier). length ps ≤ 8) (map (λ (e : EquationContents). e.params) es)
+few_params v sizes [] h k d lt = absurd (omega arith)
+few_params v sizes (e ∷ es) h zero d lt =
+    let b = below 0 9 (length e.params) (code_fits v sizes e (and_parts (fits_equation v sizes e) (list_all (fits_equation v sizes) es) h).0).params in
+    omega arith
+few_params v sizes (e ∷ es) h (suc k) d lt = few_params v sizes es (and_parts (fits_equation v sizes e) (list_all (fits_equation v sizes) es) h).1 k d (omega arith)
+
+instances_long : (n : ℕ) (es : List EquationContents) → length (instances_from n (carriers_of (map (λ (e : EquationContents). e.params) es))) ≡ instance_count es
+instances_long n [] = refl
+instances_long n (e ∷ es) =
+    length-instances_from-cons n (map values_of e.params) (carriers_of (map (λ (x : EquationContents). x.params) es))
+    ∙ ap (λ k. tuple_count (map values_of e.params) + k) (instances_long (suc n) es)
+
+-- there are no more equations, parameters and instances than a layout may have
+pub record HasLayout (callees : List (List Carrier)) : Type 0 where
+  pub equations : length callees ≤ 64
+  pub params : All (λ (ps : List Carrier). length ps ≤ 8) callees
+  pub instances : count_of callees ≤ 4194304
+
+pub has_layout : (m : Contents) → fits m ≡ true → HasLayout (parameters m)
+has_layout m h =
+    let parts = equations_fit m h in
+    record {
+      equations = let a = below 1 65 (length m.equations) parts.few in rw length-map (omega arith);
+      params = few_params m.version (counts m.sorts) m.equations parts.each;
+      instances = let a = leb-true (instance_count m.equations) 4194304 parts.instances in omega (arith, instances_long 0 m.equations);
+    }

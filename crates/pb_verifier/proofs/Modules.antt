@@ -1,0 +1,96 @@
+-- From the equations of a module as the program holds them to what the module says.
+use Rattle.std.proofs.Common.{◌≡◌, ℕ, zero, suc, ◌≤◌, true, List, [], ◌∷◌, length, map, Some, Vec, refl, sym, ap, subst, ◌∙◌, arith}
+use Rattle.std.specs.Prelude.{All, slice_get, vec_items, vec_len, option_map}
+use Rattle.std.proofs.lemmas.Option.{slice_get-map}
+use Rattle.pb_sorts.specs.declared.carrier.Carrier.{Carrier}
+use Rattle.pb_bytecode.specs.declared.module.Module.{Module}
+use Rattle.pb_bytecode.specs.declared.equation.Equation.{Equation}
+use Rattle.pb_bytecode.specs.Contents.{EquationContents, counts}
+use Rattle.pb_bytecode.specs.Decoded.{module_contents}
+use Rattle.pb_bytecode.specs.Limits.{fits}
+use Rattle.pb_bytecode.specs.Meaning.{parameters, program_of}
+use Rattle.pb_bytecode.specs.Views.{equation_contents, sort_contents}
+use Rattle.pb_verifier.specs.Acceptance.{HasTable, IsAccepted, IsVerified}
+use Rattle.pb_verifier.specs.Programs.{HaveTables, params_of, program_in}
+use Rattle.pb_verifier.specs.Refusals.{WhereRefused}
+use Rattle.pb_verifier.specs.declared.verify_error.VerifyError.{VerifyError}
+use Rattle.pb_verifier.specs.declared.verify_error.VerifyError.TheVariants as error
+use Rattle.pb_bytecode.specs.declared.sort.Sort.{Sort}
+use Rattle.std.proofs.lemmas.List.{length-map}
+use Rattle.pb_structure.specs.Structure.{IsWithinLimits}
+use Rattle.pb_verifier.proofs.Limits.{HasLayout, code_within_limits, has_layout}
+
+-- what the check of a module has at hand: counts of enumerators, the carriers of callees, and the equations
+pub record IsOf (m : Module) (sizes : List ℕ) (callees : List (List Carrier)) (equations : List Equation) : Type 0 where
+  pub sizes_are : sizes ≡ counts (map sort_contents m.sorts.items)
+  pub callees_are : callees ≡ map params_of m.equations.items
+  pub equations_are : equations ≡ m.equations.items
+
+params_map : (es : List Equation) → map params_of es ≡ map (λ (e : EquationContents). e.params) (map equation_contents es)
+params_map [] = refl
+params_map (e ∷ es) = ap (λ (cs : List (List Carrier)). params_of e ∷ cs) (params_map es)
+
+pub parameters_are : (m : Module) (sizes : List ℕ) (callees : List (List Carrier)) (es : List Equation) → IsOf m sizes callees es → callees ≡ parameters (module_contents m)
+parameters_are m sizes callees es o = o.callees_are ∙ params_map m.equations.items
+
+same_program : (m : Module) (sizes : List ℕ) (callees : List (List Carrier)) (es : List Equation) (e : Equation) → IsOf m sizes callees es → program_of (module_contents m) (equation_contents e) ≡ program_in sizes callees e
+same_program m sizes callees es e o = rw (o.sizes_are, parameters_are m sizes callees es o) refl
+
+contents_at : (es : List Equation) (k : ℕ) (e : Equation) → slice_get es k ≡ Some e → slice_get (map equation_contents es) k ≡ Some (equation_contents e)
+contents_at es k e h = slice_get-map equation_contents es k ∙ ap (option_map equation_contents) h
+
+-- the equation that is there
+pub record IsThere (es : List Equation) (k : ℕ) (x : EquationContents) : Type 0 where
+  pub equation : Equation
+  pub there : slice_get es k ≡ Some equation
+  pub says : equation_contents equation ≡ x
+
+equation_at : (es : List Equation) (k : ℕ) (x : EquationContents) → slice_get (map equation_contents es) k ≡ Some x → IsThere es k x
+equation_at [] k x h = cc
+equation_at (e ∷ es) zero x h = record { equation = e; there = refl; says = let same : equation_contents e ≡ x = cc in same }
+equation_at (e ∷ es) (suc k) x h = let t = equation_at es k x h in record { equation = t.equation; there = t.there; says = t.says }
+
+pub each_within_limits : (m : Module) (sizes : List ℕ) (callees : List (List Carrier)) (es : List Equation) → IsOf m sizes callees es → fits (module_contents m) ≡ true → (k : ℕ) (e : Equation) → slice_get es k ≡ Some e → IsWithinLimits (program_in sizes callees e)
+each_within_limits m sizes callees es o f k e h =
+    let here : slice_get m.equations.items k ≡ Some e = ap (λ (xs : List Equation). slice_get xs k) (sym o.equations_are) ∙ h in
+    subst IsWithinLimits (same_program m sizes callees es e o) (code_within_limits (module_contents m) k (equation_contents e) f (contents_at m.equations.items k e here))
+
+pub accepted_by_tables : (m : Module) (sizes : List ℕ) (callees : List (List Carrier)) (es : List Equation) → IsOf m sizes callees es → HaveTables sizes callees es → IsAccepted (module_contents m)
+accepted_by_tables m sizes callees es o h = record {
+  codes = λ k x at.
+      let t = equation_at m.equations.items k x at in
+      let there : slice_get es k ≡ Some t.equation = ap (λ (xs : List Equation). slice_get xs k) o.equations_are ∙ t.there in
+      let table : HasTable (program_of (module_contents m) (equation_contents t.equation)) = subst HasTable (sym (same_program m sizes callees es t.equation o)) (h k t.equation there) in
+      subst (λ (y : EquationContents). HasTable (program_of (module_contents m) y)) t.says table;
+}
+
+pub tables_of_accepted : (m : Module) (sizes : List ℕ) (callees : List (List Carrier)) (es : List Equation) → IsOf m sizes callees es → IsAccepted (module_contents m) → HaveTables sizes callees es
+tables_of_accepted m sizes callees es o a k e h =
+    let here : slice_get m.equations.items k ≡ Some e = ap (λ (xs : List Equation). slice_get xs k) (sym o.equations_are) ∙ h in
+    subst HasTable (same_program m sizes callees es e o) (a.codes k (equation_contents e) (contents_at m.equations.items k e here))
+
+pub layout_fits : (m : Module) (sizes : List ℕ) (callees : List (List Carrier)) (es : List Equation) → IsOf m sizes callees es → fits (module_contents m) ≡ true → HasLayout callees
+layout_fits m sizes callees es o f = subst HasLayout (sym (parameters_are m sizes callees es o)) (has_layout (module_contents m) f)
+
+-- these are at hand where the parts were read out of the module
+pub is_of : {A : Type 0} → (m : Module) (sorts : List Sort) (equations es : List Equation) (sizes ss : List ℕ) (vs ws : List (Vec Carrier A)) → sorts ≡ m.sorts.items → equations ≡ m.equations.items → sizes ≡ counts (map sort_contents sorts) → map vec_items vs ≡ map params_of equations → ss ≡ sizes → ws ≡ vs → es ≡ m.equations.items → IsOf m ss (map vec_items ws) es
+is_of m sorts equations es sizes ss vs ws s e a b f g h = record {
+  sizes_are = f ∙ a ∙ ap (λ xs. counts (map sort_contents xs)) s;
+  callees_are = ap (map vec_items) g ∙ b ∙ ap (map params_of) e;
+  equations_are = h;
+}
+
+pub few_each : {A : Type 0} → (vs : List (Vec Carrier A)) → All (λ (ps : List Carrier). length ps ≤ 8) (map vec_items vs) → All (λ v. vec_len v ≤ 8) vs
+few_each [] h k d lt = absurd (omega arith)
+few_each (v ∷ vs) h zero d lt = let a = h 0 [] (omega arith) in omega (arith, v.ok.0)
+few_each (v ∷ vs) h (suc k) d lt = few_each vs (λ j e l. h (suc j) e (omega arith)) k d (omega arith)
+
+pub few_lists : {A : Type 0} → (vs : List (Vec Carrier A)) → length (map vec_items vs) ≤ 64 → length vs ≤ 64
+few_lists vs h = simp length-map at h
+
+pub verified_by : (m : Module) (sizes : List ℕ) (callees layout : List (List Carrier)) (es : List Equation) → IsOf m sizes callees es → HaveTables sizes callees es → layout ≡ callees → IsVerified (module_contents m) layout
+verified_by m sizes callees layout es o h e = record { accepted = accepted_by_tables m sizes callees es o h; laid_out = e ∙ parameters_are m sizes callees es o }
+
+pub where_refused : {P Q : Type 0} → (e : VerifyError) → (P → Q) → WhereRefused e P → WhereRefused e Q
+where_refused (error.Refusal rule equation place) f h = f h
+where_refused error.Memory f h = h

@@ -1,0 +1,78 @@
+-- One place of the pass.
+use Rattle.std.proofs.lemmas.Option.{slice_get-get_or}
+use Rattle.std.proofs.Common.{◌≡◌, ℕ, zero, suc, ◌+◌, ◌<◌, ◌≤◌, ◌∙◌, get_or, Bool, true, false, List, [], ◌∷◌, length, drop, Option, Some, None, refl, sym, ap, arith}
+use Rattle.std.specs.Prelude.{Result, Ok, Err, OnOk, slice_get, slice_set}
+use Rattle.pb_code.specs.Counts.{loop_effect}
+use Rattle.pb_abstract_state.specs.Refusals.{OnRefused, OnRefusedBy}
+use Rattle.pb_abstract_state.specs.declared.flow_error.FlowError.{FlowError}
+use Rattle.pb_abstract_state.specs.declared.flow_error.FlowError.TheVariants.{Refused, Memory}
+use Rattle.pb_code.specs.Machine.{Program}
+use Rattle.pb_code.specs.Transfer.{AbstractState, transfer}
+use Rattle.pb_code.specs.Accepted.{Table, state_at}
+use Rattle.pb_code.specs.declared.instruction.Op.{Op}
+use Rattle.pb_verifier.specs.Pass.{Homes, homes_after, innermost, merge_edges, passes, code_passes, opening, then_table, visited}
+
+-- what is known flows on
+pub known_flows : (p : Program) (q : ℕ) (i : Op) (o : Option AbstractState) (k : AbstractState) (home : Option AbstractState) (homes : Homes) (t : Table) (u : Option Table) → o ≡ Some k → home ≡ innermost homes → then_table (transfer p home q i k) (merge_edges t) ≡ u → visited p q i o homes t ≡ u
+known_flows p q i o k home homes t u e h r = rw (e, sym h) r
+
+-- nothing is known
+pub unknown_passes : (p : Program) (q : ℕ) (i : Op) (o : Option AbstractState) (homes : Homes) (t : Table) → o ≡ None → visited p q i o homes t ≡ Some t
+unknown_passes p q i o homes t e = rw e refl
+
+-- ---- what follows of results
+
+pub where_ok : {E : Type 0} {P Q : Type 0} → (r : Result (Unit {0}) E) → (P → Q) → OnOk r P → OnOk r Q
+where_ok (Ok x) f h = f h
+where_ok (Err e) f h = h
+
+pub where_refused_by : {P Q : Type 0} → (e : FlowError) → (P → Q) → OnRefusedBy e P → OnRefusedBy e Q
+where_refused_by (Refused rule) f h = f h
+where_refused_by Memory f h = h
+
+pub where_refused : {P Q : Type 0} → (r : Result (Unit {0}) FlowError) → (P → Q) → OnRefused r P → OnRefused r Q
+where_refused (Ok x) f h = h
+where_refused (Err e) f h = where_refused_by e f h
+
+-- ---- the instructions that are left
+
+drop_here : (code : List Op) (q : ℕ) (i : Op) → slice_get code q ≡ Some i → drop q code ≡ i ∷ drop (q + 1) code
+drop_here [] q i e = cc
+drop_here (j ∷ code) zero i e = let same : j ≡ i = cc in ap (λ (x : Op). x ∷ code) same
+drop_here (j ∷ code) (suc q) i e = let z : suc q + 1 ≡ suc (q + 1) = omega arith in rw z (drop_here code q i e)
+
+drop_behind : (code : List Op) (q : ℕ) → length code ≤ q → drop q code ≡ []
+drop_behind [] zero l = refl
+drop_behind [] (suc q) l = refl
+drop_behind (j ∷ code) zero l = absurd (omega arith)
+drop_behind (j ∷ code) (suc q) l = drop_behind code q (omega arith)
+
+-- the instruction at a place
+pub op_here : (items code : List Op) (q : ℕ) (d : Op) → items ≡ code → q < length items → slice_get code q ≡ Some (get_or items q d)
+op_here items code q d e l = sym (ap (λ (x : List Op). slice_get x q) e) ∙ slice_get-get_or items q d l
+
+-- at the start
+pub passes_begin : (p : Program) (homes : Homes) (t : Table) → homes ≡ [] → t ≡ opening p → passes p 0 (drop 0 p.code) homes t ≡ code_passes p
+passes_begin p homes t h e = rw (h, e, drop_none p.code) refl
+  where
+    drop_none : (code : List Op) → drop 0 code ≡ code
+    drop_none [] = refl
+    drop_none (j ∷ code) = refl
+
+-- where a place is visited, the pass goes on behind it
+pub passes_next : (p : Program) (code : List Op) (q : ℕ) (i : Op) (homes after : Homes) (t u : Table) (all : Bool) → slice_get code q ≡ Some i → visited p q i (state_at t q) homes (slice_set t q None) ≡ Some u → after ≡ homes_after (loop_effect i) (state_at t q) homes → passes p q (drop q code) homes t ≡ all → passes p (q + 1) (drop (q + 1) code) after u ≡ all
+passes_next p code q i homes after t u all e v h so_far =
+    let here : passes p q (drop q code) homes t ≡ passes p (q + 1) (drop (q + 1) code) after u = rw (drop_here code q i e, v, h) refl in
+    sym here ∙ so_far
+
+-- where it is refused, the pass refuses the code
+pub passes_not : (p : Program) (code : List Op) (q : ℕ) (i : Op) (homes : Homes) (t : Table) (all : Bool) → slice_get code q ≡ Some i → visited p q i (state_at t q) homes (slice_set t q None) ≡ None → passes p q (drop q code) homes t ≡ all → all ≡ false
+passes_not p code q i homes t all e v so_far =
+    let here : passes p q (drop q code) homes t ≡ false = rw (drop_here code q i e, v) refl in
+    sym so_far ∙ here
+
+-- behind the last place it ends
+pub passes_end : (p : Program) (code : List Op) (q : ℕ) (homes : Homes) (t : Table) (all : Bool) → length code ≤ q → passes p q (drop q code) homes t ≡ all → all ≡ true
+passes_end p code q homes t all l so_far =
+    let here : passes p q (drop q code) homes t ≡ true = rw (drop_behind code q l) refl in
+    sym so_far ∙ here

@@ -1,0 +1,33 @@
+use Rattle.std.proofs.Common.{map, length, ◌≤◌, ap, arith}
+use Rattle.std.specs.Prelude.{vec_items}
+use Rattle.pb_code.specs.declared.instruction.Op.TheVariants as op
+use Rattle.pb_verifier.specs.Programs.{program_in}
+use Rattle.pb_verifier.proofs.Steps.{op_here, passes_begin, passes_next, passes_not, passes_end}
+use Rattle.pb_verifier.proofs.pass.pass.Goals as goal
+
+pub loop-place-init : goal.loop-place-init
+loop-place-init c =
+    passes_begin (program_in c.args.sorts.now (map vec_items c.args.callees.now) c.args.equation.now) c.in_ok-pass.pass.open c.in_ok-pass.pass.table.items c.in_ok-pass.ensures.open
+    (c.in_ok-pass.ensures.table c.args.sorts.now (map vec_items c.args.callees.now))
+
+pub step-requires-clause-bounds : goal.step-requires-clause-bounds
+step-requires-clause-bounds c =
+    c.requires.bounds c.loop-place.place _
+    (op_here c.deref-instruction-items.result.now c.args.equation.now.code.items c.loop-place.place op.End c.deref-instruction-items.ensures.value c.loop-place-test.true)
+
+pub loop-place-preserved : goal.loop-place-preserved
+loop-place-preserved c =
+    passes_next (program_in c.args.sorts.now (map vec_items c.args.callees.now) c.args.equation.now) c.args.equation.now.code.items c.loop-place.place _ c.loop-place.pass.open c.step.new.self.open c.loop-place.pass.table.items c.step.new.self.table.items _
+    (op_here c.deref-instruction-items.result.now c.args.equation.now.code.items c.loop-place.place op.End c.deref-instruction-items.ensures.value c.loop-place-test.true)
+    c.in-Ok.ensures.flows c.in-Ok.ensures.open c.loop-place.invariant
+
+pub returns-in-Err-Refused-clause-refused : goal.returns-in-Err-Refused-clause-refused
+returns-in-Err-Refused-clause-refused c =
+    passes_not (program_in c.args.sorts.now (map vec_items c.args.callees.now) c.args.equation.now) c.args.equation.now.code.items c.loop-place.place _ c.loop-place.pass.open c.loop-place.pass.table.items _
+    (op_here c.deref-instruction-items.result.now c.args.equation.now.code.items c.loop-place.place op.End c.deref-instruction-items.ensures.value c.loop-place-test.true)
+    (rw c.in-Err-Refused.field-0-is at c.in-Err-Refused.ensures.refused) c.loop-place.invariant
+
+pub returns-clause-passes : goal.returns-clause-passes
+returns-clause-passes c =
+    let past : length c.args.equation.now.code.items ≤ c.loop-place.place = omega (arith, c.loop-place-test.false, ap length c.deref-instruction-items.ensures.value) in
+    passes_end (program_in c.args.sorts.now (map vec_items c.args.callees.now) c.args.equation.now) c.args.equation.now.code.items c.loop-place.place c.loop-place.pass.open c.loop-place.pass.table.items _ past c.loop-place.invariant

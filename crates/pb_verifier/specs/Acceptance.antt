@@ -1,0 +1,39 @@
+-- Accepted modules, and what is promised of them.
+use Rattle.std.specs.Prelude.{◌≡◌, ℕ, ◌≤◌, List, Some}
+use Rattle.std.specs.List.{slice_get}
+use Rattle.pb_sorts.specs.declared.carrier.Carrier.{Carrier}
+use Rattle.pb_code.specs.Machine.{Program}
+use Rattle.pb_code.specs.Counts.{static_steps, static_tokens}
+use Rattle.pb_code.specs.Accepted.{Accepted, Table}
+use Rattle.pb_code.specs.Safety.{IsSafe}
+use Rattle.pb_bytecode.specs.Contents.{EquationContents, Contents}
+use Rattle.pb_bytecode.specs.Meaning.{parameters, program_of}
+
+-- a table of abstract states accepts the code, which states counts that are large enough and within the limits
+pub record HasTable (p : Program) : Type 0 where
+  pub table : Table
+  pub accepted : Accepted p table
+
+-- the code of each equation is accepted
+pub record IsAccepted (m : Contents) : Type 0 where
+  pub codes : (k : ℕ) (e : EquationContents) → slice_get m.equations k ≡ Some e → HasTable (program_of m e)
+
+-- the module is accepted, and the layout has the carriers of its equations' parameters
+pub record IsVerified (m : Contents) (layout : List (List Carrier)) : Type 0 where
+  pub accepted : IsAccepted m
+  pub laid_out : layout ≡ parameters m
+
+-- the steps and tokens are at least the static counts and within the limits
+pub record StatesCounts (p : Program) (steps tokens : ℕ) : Type 0 where
+  pub enough_steps : static_steps p ≤ steps
+  pub few_steps : steps ≤ 1000000
+  pub enough_tokens : static_tokens p ≤ tokens
+  pub few_tokens : tokens ≤ 100000
+
+-- on any arguments of the declared carriers a run never faults, and it ends within the steps and tokens that are stated
+pub record RunsSafely (p : Program) : Type 0 where
+  pub safe : IsSafe p
+  pub steps : static_steps p ≤ p.stated_steps
+  pub tokens : static_tokens p ≤ p.stated_tokens
+  pub few_steps : p.stated_steps ≤ 1000000
+  pub few_tokens : p.stated_tokens ≤ 100000

@@ -1,0 +1,63 @@
+//! The check of one equation's code: the rules by position, then the stated counts, then the pass.
+
+ghost use Rattle.std.specs.Prelude.{◌↔◌, IsTrue, OnOk, map, vec_items};
+ghost use Rattle.pb_code.specs.Machine.{Program};
+ghost use Rattle.pb_structure.specs.Structure.{IsStructured};
+ghost use Rattle.pb_structure.specs.Views.{IsProgramOf};
+ghost use Rattle.pb_verifier.specs.Acceptance.{HasTable, StatesCounts};
+ghost use Rattle.pb_verifier.specs.EquationErrors.{OnRuleBroken};
+ghost use Rattle.pb_verifier.specs.Programs.{program_in};
+ghost use Rattle.pb_structure.specs.Structure.{IsWithinLimits};
+
+use crate::equation_error::EquationError;
+use crate::pass::pass;
+use pb_abstract_state::Rule;
+use pb_bytecode::Equation;
+use pb_sorts::Carrier;
+use pb_structure::{EquationCode, check_structure, static_counts};
+use std::alloc::Global;
+
+/// At most how many steps an equation may state.
+const MAX_STEPS: u64 = 1_000_000;
+
+/// At most how many tokens an equation may state.
+const MAX_TOKENS: u64 = 100_000;
+
+// Whether the stated counts are at least the static ones and within the limits.
+fn are_enough(code: &EquationCode, steps: u32, tokens: u32) -> bool
+    requires { (p : Program) → IsProgramOf p code.now → IsStructured p }
+    ensures { (p : Program) → IsProgramOf p code.now → IsTrue result ↔ StatesCounts p steps tokens }
+{
+    let counts = static_counts(code);
+    let steps = u64::from(steps);
+    let tokens = u64::from(tokens);
+    counts.steps <= steps && steps <= MAX_STEPS && counts.tokens <= tokens && tokens <= MAX_TOKENS
+}
+
+/// Checks the code of an equation. `sorts` has the counts of enumerators, `callees` the carriers of each equation's
+/// parameters.
+pub(crate) fn check_equation(
+    alloc: Global,
+    sorts: &[u8],
+    callees: &[Vec<Carrier>],
+    equation: &Equation,
+) -> Result<(), EquationError>
+    requires { IsWithinLimits (program_in sorts.now (map vec_items callees.now) equation.now) }
+    ensures accepted { OnOk result (HasTable (program_in sorts.now (map vec_items callees.now) equation.now)) }
+    ensures refused { OnRuleBroken result (HasTable (program_in sorts.now (map vec_items callees.now) equation.now) → ⊥) }
+{
+    let code = EquationCode {
+        instructions: &equation.code,
+        params: &equation.params,
+        loops: &equation.loops,
+        equations: callees.len(),
+    };
+    check_structure(alloc, &code)?;
+    if !are_enough(&code, equation.steps, equation.tokens) {
+        return Err(EquationError::Refused {
+            rule: Rule::StatedCounts,
+            place: 0,
+        });
+    }
+    pass(alloc, sorts, callees, equation)
+}

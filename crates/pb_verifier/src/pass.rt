@@ -1,0 +1,183 @@
+//! The pass over the code of an equation: each place's state flows on to later places, from the first place to the last.
+
+ghost use Rattle.std.specs.Prelude.{◌≡◌, ◌<◌, [], ◌∷◌, IfOk, List, None, OnOk, Some, ℕ, map, replicate, slice_set, true, false, vec_items, vec_len};
+ghost use Rattle.pb_abstract_state.specs.Refusals.{OnRefused};
+ghost use Rattle.pb_code.specs.Accepted.{state_at};
+ghost use Rattle.pb_code.specs.Counts.{Leaves, loop_effect};
+ghost use Rattle.pb_code.specs.Monotone.{HasOrderedRange};
+ghost use Rattle.pb_code.specs.Machine.{Program, carrier_of};
+ghost use Rattle.pb_code.specs.declared.instruction.Op.TheVariants as op;
+ghost use Rattle.pb_verifier.specs.EquationErrors.{OnRuleBroken};
+ghost use Rattle.pb_verifier.specs.Pass.{code_passes, homes_after, opening, visited};
+ghost use Rattle.pb_verifier.specs.Programs.{program_in};
+ghost use Rattle.pb_structure.specs.Structure.{IsWithinLimits};
+ghost use Rattle.pb_sorts.specs.declared.carrier.Carrier.{Carrier as carrier_type};
+
+use crate::equation_error::EquationError;
+use crate::open_loops::OpenLoops;
+use crate::visit::{visit, visit_loop, visit_next};
+use pb_abstract_state::{AbstractState, FlowError};
+use pb_bytecode::Equation;
+use pb_code::Op;
+use pb_sorts::Carrier;
+use std::alloc::{AllocError, Global};
+
+/// What is known in the midst of a pass: at the places to come, and at the starts of the loops around.
+#[derive(Drop)]
+struct PassState {
+    table: Vec<Option<AbstractState>>,
+    open: OpenLoops,
+}
+
+// A table that knows nothing of any place.
+fn empty_table(alloc: Global, places: usize) -> Result<Vec<Option<AbstractState>>, AllocError>
+    ensures table { IfOk result (λ table. table.items ≡ replicate places None) }
+    ensures len { IfOk result (λ table. vec_len table ≡ places) }
+{
+    let mut table = Vec::with_capacity(alloc, places)?;
+    for _place in 0..places {
+        table.push(None)?;
+    }
+    Ok(table)
+}
+
+// What is known at a place, taken out of the table.
+fn take_state(table: &mut Vec<Option<AbstractState>>, place: usize) -> Option<AbstractState>
+    ensures state { result ≡ state_at table.old.items place }
+    ensures taken { table.new.items ≡ slice_set table.old.items place None }
+{
+    if place >= table.len() {
+        return None;
+    }
+    table[place].take()
+}
+
+// The carrier of a loop slot.
+fn loop_carrier(equation: &Equation, slot: u8) -> Option<Carrier>
+    ensures { (sorts : List ℕ) (callees : List (List carrier_type)) → result ≡ carrier_of (program_in sorts callees equation.now) slot }
+{
+    let slot = usize::from(slot);
+    if slot < equation.params.len() {
+        return None;
+    }
+    equation.loops.get(slot - equation.params.len()).copied()
+}
+
+impl PassState {
+    // At the start the first place alone is known.
+    fn opening(alloc: Global, equation: &Equation) -> Result<PassState, AllocError>
+        requires { 0 < vec_len equation.now.code }
+        ensures table { IfOk result (λ pass. (sorts : List ℕ) (callees : List (List carrier_type)) → pass.table.items ≡ opening (program_in sorts callees equation.now)) }
+        ensures open { IfOk result (λ pass. pass.open ≡ []) }
+    {
+        let mut table = empty_table(alloc, equation.code.len())?;
+        table[0] = Some(AbstractState::entry(alloc, &equation.params)?);
+        Ok(PassState {
+            table,
+            open: OpenLoops::new(alloc),
+        })
+    }
+
+    // One place: what is known there flows on.
+    fn step(
+        &mut self,
+        alloc: Global,
+        sorts: &[u8],
+        callees: &[Vec<Carrier>],
+        equation: &Equation,
+        place: usize,
+        instruction: Op,
+    ) -> Result<(), FlowError>
+        requires bounds { HasOrderedRange instruction }
+        requires small { place < 65536 }
+        ensures flows { OnOk result (visited (program_in sorts.now (map vec_items callees.now) equation.now) place instruction (state_at self.old.table.items place) self.old.open (slice_set self.old.table.items place None) ≡ Some self.new.table.items) }
+        ensures open { OnOk result (self.new.open ≡ homes_after (loop_effect instruction) (state_at self.old.table.items place) self.old.open) }
+        ensures refused { OnRefused result (visited (program_in sorts.now (map vec_items callees.now) equation.now) place instruction (state_at self.old.table.items place) self.old.open (slice_set self.old.table.items place None) ≡ None) }
+    {
+        let known = take_state(&mut self.table, place);
+        match instruction {
+            Op::Loop { slot } => self.start_loop(alloc, equation, slot, place, known),
+            Op::Next => self.end_loop(place, known),
+            _ => match known {
+                Some(state) => visit(
+                    state,
+                    alloc,
+                    sorts,
+                    callees,
+                    place,
+                    instruction,
+                    &mut self.table,
+                ),
+                None => Ok(()),
+            },
+        }
+    }
+
+    // The start of a loop, of which this is known.
+    fn start_loop(
+        &mut self,
+        alloc: Global,
+        equation: &Equation,
+        slot: u8,
+        place: usize,
+        known: Option<AbstractState>,
+    ) -> Result<(), FlowError>
+        requires { place < 65536 }
+        ensures flows { OnOk result ((sorts : List ℕ) (callees : List (List carrier_type)) → visited (program_in sorts callees equation.now) place (op.Loop slot) known self.old.open self.old.table.items ≡ Some self.new.table.items) }
+        ensures open { OnOk result (self.new.open ≡ known ∷ self.old.open) }
+        ensures refused { OnRefused result ((sorts : List ℕ) (callees : List (List carrier_type)) → visited (program_in sorts callees equation.now) place (op.Loop slot) known self.old.open self.old.table.items ≡ None) }
+    {
+        match known {
+            Some(state) => {
+                let carrier = loop_carrier(equation, slot);
+                visit_loop(&state, alloc, slot, carrier, place, &mut self.table)?;
+                self.open.enter(Some(state))?;
+                Ok(())
+            }
+            None => {
+                self.open.enter(None)?;
+                Ok(())
+            }
+        }
+    }
+
+    // The end of a loop, of which this is known.
+    fn end_loop(&mut self, place: usize, known: Option<AbstractState>) -> Result<(), FlowError>
+        requires { place < 65536 }
+        ensures flows { OnOk result ((p : Program) → visited p place op.Next known self.old.open self.old.table.items ≡ Some self.new.table.items) }
+        ensures open { OnOk result (self.new.open ≡ homes_after Leaves known self.old.open) }
+        ensures refused { OnRefused result ((p : Program) → visited p place op.Next known self.old.open self.old.table.items ≡ None) }
+    {
+        let start = self.open.leave();
+        match known {
+            Some(state) => visit_next(&state, start, place, &mut self.table),
+            None => Ok(()),
+        }
+    }
+}
+
+/// Passes over the code of an equation. `sorts` has the counts of enumerators, `callees` the carriers of each equation's
+/// parameters.
+///
+/// # Errors
+/// The rule that fails and the place of its instruction, where the pass refuses the code.
+pub(crate) fn pass(
+    alloc: Global,
+    sorts: &[u8],
+    callees: &[Vec<Carrier>],
+    equation: &Equation,
+) -> Result<(), EquationError>
+    requires { IsWithinLimits (program_in sorts.now (map vec_items callees.now) equation.now) }
+    ensures passes { OnOk result (code_passes (program_in sorts.now (map vec_items callees.now) equation.now) ≡ true) }
+    ensures refused { OnRuleBroken result (code_passes (program_in sorts.now (map vec_items callees.now) equation.now) ≡ false) }
+{
+    let mut pass = PassState::opening(alloc, equation)?;
+    for (place, instruction) in equation.code.iter().enumerate() {
+        match pass.step(alloc, sorts, callees, equation, place, *instruction) {
+            Ok(()) => {}
+            Err(FlowError::Refused(rule)) => return Err(EquationError::Refused { rule, place }),
+            Err(FlowError::Memory) => return Err(EquationError::Memory),
+        }
+    }
+    Ok(())
+}

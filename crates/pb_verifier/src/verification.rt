@@ -1,0 +1,82 @@
+//! Verifying modules.
+
+ghost use Rattle.std.specs.Prelude.{◌≡◌, IfErr, IfOk, OnOk, Some, ℕ, map, slice_get, vec_items};
+ghost use Rattle.pb_bytecode.specs.Decoded.{module_contents};
+ghost use Rattle.pb_bytecode.specs.declared.equation.Equation.{Equation as equation_type};
+ghost use Rattle.pb_verifier.specs.Acceptance.{HasTable, IsAccepted, IsVerified};
+ghost use Rattle.pb_verifier.specs.Programs.{program_in, HaveTables};
+ghost use Rattle.pb_verifier.specs.Refusals.{WhereRefused};
+ghost use Rattle.pb_structure.specs.Structure.{IsWithinLimits};
+
+use crate::equation::check_equation;
+use crate::equation_error::EquationError;
+use crate::module_tables::{enumerator_counts, layout_of, parameter_carriers};
+use crate::verified::Verified;
+use crate::verify_error::VerifyError;
+use pb_bytecode::{Equation, Module};
+use pb_sorts::{Carrier, Layout};
+use std::alloc::Global;
+
+// Checks the code of each equation, in order.
+fn check_equations(
+    alloc: Global,
+    sorts: &[u8],
+    callees: &[Vec<Carrier>],
+    equations: &[Equation],
+) -> Result<(), VerifyError>
+    requires { (k : ℕ) (e : equation_type) → slice_get equations.now k ≡ Some e → IsWithinLimits (program_in sorts.now (map vec_items callees.now) e) }
+    ensures accepted { OnOk result (HaveTables sorts.now (map vec_items callees.now) equations.now) }
+    ensures refused { IfErr result (λ error. WhereRefused error (HaveTables sorts.now (map vec_items callees.now) equations.now → ⊥)) }
+{
+    for (number, equation) in equations.iter().enumerate() {
+        match check_equation(alloc, sorts, callees, equation) {
+            Ok(()) => {}
+            Err(EquationError::Refused { rule, place }) => {
+                return Err(VerifyError::Refusal {
+                    rule,
+                    equation: number,
+                    place,
+                });
+            }
+            Err(EquationError::Memory) => return Err(VerifyError::Memory),
+        }
+    }
+    Ok(())
+}
+
+// Checks the module, and gives the layout of its instances.
+fn check(alloc: Global, module: &Module) -> Result<Layout, VerifyError>
+    ensures verified { IfOk result (IsVerified (module_contents «module».now)) }
+    ensures refused { IfErr result (λ error. WhereRefused error (IsAccepted (module_contents «module».now) → ⊥)) }
+{
+    let sorts = enumerator_counts(alloc, &module.sorts)?;
+    let callees = parameter_carriers(alloc, &module.equations)?;
+    check_equations(alloc, &sorts, &callees, &module.equations)?;
+    let layout = layout_of(alloc, &callees)?;
+    Ok(layout)
+}
+
+/// Verifies a module: it is accepted where the code of each equation keeps the rules by position, states counts that are
+/// at least the static ones and at most 1,000,000 steps and 100,000 tokens, and has a table of abstract states with
+/// which each instruction agrees (bytecode verification, Lindholm and Yellin 1996).
+///
+/// # Errors
+/// The module is handed back with the reason. `Refusal` names a rule that is broken, and where: equations are checked in
+/// order, and of each one first how its loops nest, then names and targets, then the stated counts, and then the
+/// instructions that are reached, from the first place to the last. No module that is accepted is refused. `Memory` where
+/// memory is refused.
+pub fn verify(alloc: Global, module: Module) -> Result<Verified, (Module, VerifyError)>
+    // The verified module is the one that was given.
+    ensures same { IfOk result (λ verified. verified ≡ module_contents «module») }
+    // What is not refused is accepted.
+    ensures accepted { OnOk result (IsAccepted (module_contents «module»)) }
+    // A refused module is handed back as it was.
+    ensures handed_back { IfErr result (λ refusal. refusal.0 ≡ «module») }
+    // What is accepted is refused for want of memory alone.
+    ensures refused { IfErr result (λ refusal. WhereRefused refusal.1 (IsAccepted (module_contents «module») → ⊥)) }
+{
+    match check(alloc, &module) {
+        Ok(layout) => Ok(Verified::new(module, layout)),
+        Err(error) => Err((module, error)),
+    }
+}
