@@ -5,10 +5,9 @@ use Rattle.pb_text.specs.declared.error.Rule as text_rule
 use Rattle.pb_text.specs.declared.error.Rule.TheVariants.{UnknownByte, UnexpectedToken, LargeNumber, LimitExceeded, RangeLine}
 use Rattle.pb_text.specs.declared.error.TextError.{TextError}
 use Rattle.pb_text.specs.declared.error.TextError.TheVariants as text_error
-use Rattle.pb_typing.specs.declared.fault.Rule as type_rule
-use Rattle.pb_typing.specs.declared.fault.Rule.TheVariants.{UnknownName, NameTwice, OddNegations, Limit}
-use Rattle.pb_typing.specs.declared.fault.TypeError.{TypeError}
-use Rattle.pb_typing.specs.declared.fault.TypeError.TheVariants as type_error
+use Rattle.pb_declarations.specs.Rule.{rule_number}
+use Rattle.pb_declarations.specs.declared.fault.TypeError.{TypeError}
+use Rattle.pb_declarations.specs.declared.fault.TypeError.TheVariants as type_error
 use Rattle.pb_report.specs.declared.fault.Fault.{Fault}
 use Rattle.pb_report.specs.declared.fault.Fault.TheVariants.{U01, U02, E01, E02, M01}
 
@@ -31,12 +30,6 @@ text_rule_number LargeNumber = codes "P03"
 text_rule_number LimitExceeded = codes "P04"
 text_rule_number RangeLine = codes "P05"
 
-abbrev pub type_rule_number : type_rule.Rule → List ℕ
-type_rule_number UnknownName = codes "T01"
-type_rule_number NameTwice = codes "T02"
-type_rule_number OddNegations = codes "T06"
-type_rule_number Limit = codes "T12"
-
 -- why a text was not read
 abbrev pub text_line : TextError → List ℕ
 text_line (text_error.Refused rule place) = line_at (text_rule_number rule) place
@@ -44,5 +37,5 @@ text_line text_error.Memory = line_of M01
 
 -- why a text that was read was refused
 abbrev pub type_line : TypeError → List ℕ
-type_line (type_error.At fault) = line_at (type_rule_number fault.rule) fault.place
+type_line (type_error.At fault) = line_at (rule_number fault.rule) fault.place
 type_line type_error.Memory = line_of M01

@@ -1,11 +1,11 @@
 //! Errors that have a line of their own: which rule was broken, and where.
 ghost use Rattle.std.specs.Prelude.{◌≡◌, ℕ, List, IfOk, string_bytes};
-ghost use Rattle.pb_report.specs.Lines.{line_at, text_rule_number, type_rule_number};
+ghost use Rattle.pb_report.specs.Lines.{line_at, text_rule_number};
 
 use crate::fault::Fault;
 use pb_ast::Place;
+use pb_declarations::TypeError;
 use pb_text::TextError;
-use pb_typing::TypeError;
 use std::alloc::{AllocError, Global};
 
 /// An error that the program tells of by a line.
@@ -40,17 +40,6 @@ fn text_rule_number(rule: pb_text::Rule) -> &'static str
     }
 }
 
-fn type_rule_number(rule: pb_typing::Rule) -> &'static str
-    ensures { result.now ≡ type_rule_number rule }
-{
-    match rule {
-        pb_typing::Rule::UnknownName => "T01",
-        pb_typing::Rule::NameTwice => "T02",
-        pb_typing::Rule::OddNegations => "T06",
-        pb_typing::Rule::Limit => "T12",
-    }
-}
-
 impl ErrorLine for TextError {
     ghost use Rattle.pb_report.specs.Lines.{text_line};
 
@@ -75,7 +64,7 @@ impl ErrorLine for TypeError {
 
     fn error_line(&self, alloc: Global) -> Result<String, AllocError> {
         match self {
-            TypeError::At(fault) => placed_line(alloc, type_rule_number(fault.rule), fault.place),
+            TypeError::At(fault) => placed_line(alloc, fault.rule.number(), fault.place),
             TypeError::Memory => String::from_str(alloc, Fault::M01.line()),
         }
     }

@@ -1,5 +1,6 @@
 //! One run of the program in memory, for the tests below.
 mod answers;
+mod data;
 mod depth;
 mod faults;
 

@@ -1,8 +1,8 @@
 -- How the errors of the layers become those of a call, and then those of a run.
 use Rattle.pb_text.specs.declared.error.TextError.{TextError}
 use Rattle.pb_text.specs.declared.error.TextError.TheVariants as text_error
-use Rattle.pb_typing.specs.declared.fault.TypeError.{TypeError}
-use Rattle.pb_typing.specs.declared.fault.TypeError.TheVariants as type_error
+use Rattle.pb_declarations.specs.declared.fault.TypeError.{TypeError}
+use Rattle.pb_declarations.specs.declared.fault.TypeError.TheVariants as type_error
 use Rattle.pb_report.specs.declared.fault.Fault.TheVariants.{U01, U02, E01, E02, M01}
 use Rattle.pbsolve.specs.declared.words.WordsError.{WordsError}
 use Rattle.pbsolve.specs.declared.words.WordsError.TheVariants as words_error

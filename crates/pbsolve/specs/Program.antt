@@ -4,7 +4,7 @@ use Rattle.std.specs.Io.KnownBytes.{Appends}
 use Rattle.pb_sorts.specs.Sink.{AppendsPrefix}
 use Rattle.pb_sorts.specs.Source.{IsWhole, IsLongerThan}
 use Rattle.pb_text.specs.declared.error.TextError.{TextError}
-use Rattle.pb_typing.specs.declared.fault.TypeError.{TypeError}
+use Rattle.pb_declarations.specs.declared.fault.TypeError.{TypeError}
 use Rattle.pb_report.specs.Report.{report_text}
 use Rattle.pb_report.specs.Lines as lines
 use Rattle.pb_report.specs.declared.fault.Fault as fault
@@ -64,7 +64,7 @@ IsRefusedBy known (Text error) = ForInput known (λ bytes. IsRefusedText bytes e
 IsRefusedBy known (Typing error) = ForInput known (λ bytes. IsRefusedType bytes error)
 
 -- The input is refused, and this is the line that says so: it is too long, or its text is not in the grammar,
--- or the text breaks a rule on names or negations.
+-- or the text breaks a rule of typing.
 abbrev pub IsRefusalLine : Option (List ℕ) → List ℕ → Type 0
 IsRefusalLine known line =
     (IsLongerThan INPUT_LIMIT known × (line ≡ lines.line_of U02))

@@ -4,9 +4,9 @@ ghost use Rattle.std.specs.Prelude.{◌≡◌};
 use crate::input::InputError;
 use crate::solve_error::SolveError;
 use crate::words::WordsError;
+use pb_declarations::TypeError;
 use pb_report::Fault;
 use pb_text::TextError;
-use pb_typing::TypeError;
 
 /// Why a run has no answer.
 #[derive(Debug, Drop)]
@@ -15,7 +15,7 @@ pub(crate) enum RunError {
     Fault(Fault),
     /// The text is not in the grammar, or passes a limit of it.
     Text(TextError),
-    /// The text breaks a rule on names or on negations.
+    /// The text breaks a rule of typing.
     Typing(TypeError),
 }
 

@@ -53,6 +53,6 @@ fn answer_of(alloc: Global, bytes: &[u8]) -> Result<Answer, SolveError>
         Ok(typed) => typed,
         Err((_spec, error)) => return Err(SolveError::from(error)),
     };
-    let truth = pb_plain::solve(alloc, &typed.spec).map_err(SolveError::Memory)?;
+    let truth = pb_plain::solve(alloc, &typed).map_err(SolveError::Memory)?;
     Ok(Answer { truth })
 }

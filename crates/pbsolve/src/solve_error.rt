@@ -1,9 +1,9 @@
 //! The errors of the layers, joined: why a text has no answer.
 ghost use Rattle.std.specs.Prelude.{◌≡◌};
 
+use pb_declarations::TypeError;
 use pb_sorts::E02;
 use pb_text::TextError;
-use pb_typing::TypeError;
 use std::alloc::AllocError;
 use thiserror::Error;
 
@@ -13,8 +13,8 @@ pub enum SolveError {
     /// The text is not in the grammar, or passes a limit of it. It never holds want of memory.
     #[error("the text is not in the grammar")]
     Text(TextError),
-    /// The text is in the grammar, and breaks a rule on names or on negations. It never holds want of memory.
-    #[error("the text breaks a rule on names or negations")]
+    /// The text is in the grammar, and breaks a rule of typing. It never holds want of memory.
+    #[error("the text breaks a rule of typing")]
     Typing(TypeError),
     /// A request for memory was refused.
     #[error("no memory")]

@@ -1,0 +1,131 @@
+//! Texts over data with the answer or the refusal that they have, worked out by hand.
+use super::{ROOM, run_on};
+use pb_sorts::In;
+use std::test::Fail;
+
+const SOLVE: [&str; 2] = ["pbsolve", "solve"];
+
+#[test]
+fn answers_over_data(rt: HostRuntime) -> Result<(), Fail> {
+    for (text, truth) in [
+        (
+            "%range Int 0 9\npbes mu X(n: Int) = val(n == 0) || X(n - 1); init X(9);",
+            "true",
+        ),
+        (
+            "%range Int 0 3\npbes nu X(n: Int) = X(n + 1); init X(0);",
+            "false",
+        ),
+        (
+            "sort D = struct a | b | c; pbes nu X(d: D) = forall e: D . val(e != d) => X(e); init X(a);",
+            "true",
+        ),
+        (
+            "sort S = struct s0 | s1; pbes nu X(s: S) = Y(s); mu Y(s: S) = (val(s == s0) && X(s1)) || (val(s == s1) && Y(s0)); init X(s0);",
+            "true",
+        ),
+        (
+            "%range Pos 1 4\npbes mu X(n: Pos) = val(4 div n == 2) || X(n); init X(2);",
+            "true",
+        ),
+        (
+            "%range Int 2147483000 2147483647\npbes nu X(n: Int) = val(n * n > 0) && X(n); init X(2147483000);",
+            "true",
+        ),
+        (
+            "%range Int 1 4\npbes nu X(n: Int) = val((2 * n) div 3 == 1) && X(n); init X(2);",
+            "true",
+        ),
+        (
+            "sort D = struct a | b; pbes nu X(d: D) = val(exists e: D . e != d) && X(d); init X(a);",
+            "true",
+        ),
+        (
+            "pbes nu X = val(-7 div 2 == -4 && -7 mod 2 == 1) && X; init X;",
+            "true",
+        ),
+        (
+            "pbes nu X = val(4611686018427387904 > 0) && X; init X;",
+            "true",
+        ),
+        (
+            "pbes nu A = F && E; mu F = F; mu E = A || E; init E;",
+            "false",
+        ),
+        (
+            "sort D = struct a?is_a | b?is_b; pbes nu X(d: D) = val(is_a(d)) && X(b) || val(is_b(d)) && X(a); init X(a);",
+            "true",
+        ),
+        (
+            "%range Int 0 1\npbes nu X(n, m: Int) = X(n + 1, m - 1); init X(0, 1);",
+            "false",
+        ),
+    ] {
+        let outcome = run_on(rt.alloc(), &SOLVE, &mut In::new(text.as_bytes()), ROOM);
+        assert_eq!(rt; outcome.status, 0, "{text}");
+        let wanted = format!(in rt.alloc(); "answer {truth}\n")?;
+        assert_eq!(rt; outcome.out.bytes(), wanted.as_str().as_bytes(), "{text}");
+        assert_eq!(rt; outcome.err.bytes(), b"".as_slice(), "{text}");
+    }
+    Ok(())
+}
+
+#[test]
+fn refuses_data(rt: HostRuntime) -> Result<(), Fail> {
+    for (text, line) in [
+        (
+            "%range Int 0 3\npbes mu X(n: Int) = val(4 div n == 2) || X(n); init X(1);",
+            "T09 line 2 column 27\n",
+        ),
+        (
+            "%range Int 2147483000 2147483647\npbes nu X(n: Int) = val(n * n * n > 0) && X(n); init X(2147483000);",
+            "T10 line 2 column 31\n",
+        ),
+        (
+            "%range Int 0 9\npbes nu X(n: Int) = X(n); init X(10);",
+            "T11 line 2 column 34\n",
+        ),
+        (
+            "pbes nu X(n: Nat) = X(n); init X(0);",
+            "T05 line 1 column 14\n",
+        ),
+        (
+            "%range Int 1 4\npbes nu X(n: Int) = val(2 * n div 3 == 1) && X(n); init X(2);",
+            "P02 line 2 column 31\n",
+        ),
+        (
+            "pbes nu X = val((forall b: Bool . b) == true); init X;",
+            "T13 line 1 column 18\n",
+        ),
+        (
+            "pbes nu X = forall n: Nat . X; init X;",
+            "T05 line 1 column 23\n",
+        ),
+        (
+            "pbes nu X = val(4611686018427387905 > 0) && X; init X;",
+            "P03 line 1 column 17\n",
+        ),
+        (
+            "pbes nu X = val(4611686018427387904 + 1 > 0) && X; init X;",
+            "T10 line 1 column 37\n",
+        ),
+        (
+            "%range Nat -1 3\npbes nu X = X; init X;",
+            "T05 line 1 column 1\n",
+        ),
+        (
+            "%range Nat 3\npbes nu X = X; init X;",
+            "P05 line 1 column 1\n",
+        ),
+        (
+            "%range Int 0 4194304\npbes nu X(n: Int) = X(n); init X(4194303);",
+            "T12 line 2 column 9\n",
+        ),
+    ] {
+        let outcome = run_on(rt.alloc(), &SOLVE, &mut In::new(text.as_bytes()), ROOM);
+        assert_eq!(rt; outcome.status, 1, "{text}");
+        assert_eq!(rt; outcome.out.bytes(), b"".as_slice(), "{text}");
+        assert_eq!(rt; outcome.err.bytes(), line.as_bytes(), "{text}");
+    }
+    Ok(())
+}
