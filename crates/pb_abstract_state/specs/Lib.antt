@@ -3,3 +3,4 @@ pub mod Edges
 pub mod Refusals
 pub mod Inhabited
 pub mod Flows
+pub mod RuleNumber

@@ -40,14 +40,36 @@ pub enum Rule {
 }
 
 impl Rule {
-    /// The number after `V`.
-    pub fn number(self) -> u8 {
-        self as u8 + 1
+    ghost use Rattle.std.specs.Prelude.{◌≡◌};
+    ghost use Rattle.pb_abstract_state.specs.RuleNumber.{rule_number};
+
+    /// The rule's number, as `V01`.
+    pub fn number(self) -> &'static str
+        ensures { result.now ≡ rule_number self }
+    {
+        match self {
+            Rule::MissingOperand => "V01",
+            Rule::WrongKind => "V02",
+            Rule::Divisor => "V03",
+            Rule::Overflow => "V04",
+            Rule::TargetOutside => "V05",
+            Rule::TargetNotLater => "V06",
+            Rule::TargetInOtherBody => "V07",
+            Rule::ArgumentOutside => "V08",
+            Rule::UnknownName => "V09",
+            Rule::TooManyOperands => "V10",
+            Rule::WaysDiffer => "V11",
+            Rule::LoopStructure => "V12",
+            Rule::Brackets => "V13",
+            Rule::Roots => "V14",
+            Rule::PastTheEnd => "V15",
+            Rule::StatedCounts => "V16",
+        }
     }
 }
 
 impl fmt::Display for Rule {
     fn fmt<W: fmt::Write>(&self, f: &mut fmt::Formatter<W>) -> fmt::Result {
-        write!(f, "V{:02}", self.number())
+        f.write_str(self.number())
     }
 }

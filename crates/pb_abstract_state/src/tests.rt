@@ -56,21 +56,27 @@ fn flows_name_the_rule_that_fails(rt: HostRuntime) -> Result<(), Fail> {
     let alloc = rt.alloc();
     let refused = |flowed: Result<Edges, FlowError>| match flowed {
         Err(FlowError::Refused(rule)) => rule.number(),
-        _ => 0,
+        _ => "",
     };
-    assert_eq!(rt; refused(flow(start(alloc)?, alloc, &[], &[], Op::Pop)), 1);
+    assert_eq!(rt;
+        refused(flow(start(alloc)?, alloc, &[], &[], Op::Pop)),
+        "V01"
+    );
     assert_eq!(rt;
         refused(flow(start(alloc)?, alloc, &[], &[], Op::Close)),
-        13
+        "V13"
     );
-    assert_eq!(rt; refused(flow(start(alloc)?, alloc, &[], &[], Op::End)), 14);
+    assert_eq!(rt;
+        refused(flow(start(alloc)?, alloc, &[], &[], Op::End)),
+        "V14"
+    );
     assert_eq!(rt;
         refused(flow(start(alloc)?, alloc, &[], &[], Op::Get { slot: 1 })),
-        9
+        "V09"
     );
     let mut kinds = start(alloc)?;
     assert!(rt; kinds.push(AbstractValue::Bool).is_ok());
-    assert_eq!(rt; refused(flow(kinds, alloc, &[], &[], Op::Negate)), 2);
+    assert_eq!(rt; refused(flow(kinds, alloc, &[], &[], Op::Negate)), "V02");
     Ok(())
 }
 

@@ -8,3 +8,4 @@ pub mod Views
 pub mod Decoded
 pub mod Countable
 pub mod Meaning
+pub mod RuleNumber

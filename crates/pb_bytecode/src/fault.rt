@@ -3,6 +3,7 @@ ghost use Rattle.std.specs.Prelude.{◌≡◌};
 ghost use Rattle.pb_bytecode.specs.declared.fault.ReadError.TheVariants.{Memory};
 
 use std::alloc::{AllocError, AllocFailed};
+use std::fmt;
 
 /// What is wrong with the bytes.
 #[derive(Clone, Copy, Debug, PartialEq, Eq)]
@@ -21,6 +22,31 @@ pub enum Rule {
     Trailing,
     /// B07: there is no such initial instance.
     Initial,
+}
+
+impl Rule {
+    ghost use Rattle.pb_bytecode.specs.RuleNumber.{rule_number};
+
+    /// The rule's number, as `B01`.
+    pub fn number(self) -> &'static str
+        ensures { result.now ≡ rule_number self }
+    {
+        match self {
+            Rule::Mark => "B01",
+            Rule::Version => "B02",
+            Rule::Truncated => "B03",
+            Rule::UnknownOp => "B04",
+            Rule::Limit => "B05",
+            Rule::Trailing => "B06",
+            Rule::Initial => "B07",
+        }
+    }
+}
+
+impl fmt::Display for Rule {
+    fn fmt<W: fmt::Write>(&self, f: &mut fmt::Formatter<W>) -> fmt::Result {
+        f.write_str(self.number())
+    }
 }
 
 /// A fault, and how many bytes are left from the beginning of its field on.
@@ -61,4 +87,13 @@ pub enum ModuleError {
     /// The first fault from the left, and the byte at which its field begins, counted from 0. Where the input ends
     /// inside a field it is the input's length, and where the mark is wrong the first byte that differs.
     Fault { rule: Rule, byte: usize },
+}
+
+impl fmt::Display for ModuleError {
+    fn fmt<W: fmt::Write>(&self, f: &mut fmt::Formatter<W>) -> fmt::Result {
+        match self {
+            ModuleError::Memory => f.write_str("M01"),
+            ModuleError::Fault { rule, byte } => write!(f, "{rule} byte {byte}"),
+        }
+    }
 }

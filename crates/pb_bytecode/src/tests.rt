@@ -182,3 +182,16 @@ fn every_changed_byte_is_read_exactly_or_refused(rt: HostRuntime) -> Result<(), 
     }
     Ok(())
 }
+
+#[test]
+fn faults_are_printed_with_their_byte(rt: HostRuntime) -> Result<(), Fail> {
+    let alloc = rt.alloc();
+    match decode(alloc, &OTHERS[..30]) {
+        Ok(_) => assert!(rt; false, "read"),
+        Err(error) => {
+            let line = format!(in alloc; "{error}")?;
+            assert_eq!(rt; line.as_str(), "B03 byte 30");
+        }
+    }
+    Ok(())
+}
