@@ -1,0 +1,51 @@
+-- The normal form of each equation of a well-typed specification has the truth of the equation's right side.
+use Rattle.std.proofs.Common.{◌≡◌, zero, suc, true, List, [], ◌∷◌, length, refl, sym, ◌∙◌, arith, true≢false}
+use Rattle.std.specs.List.{All}
+use Rattle.pb_ast.specs.Form.{SpecForm}
+use Rattle.pb_syntax.specs.Syntax.{Equation, Spec}
+use Rattle.pb_syntax.specs.Erase.{erase}
+use Rattle.pb_syntax.specs.Meaning.{assigned}
+use Rattle.pb_syntax.specs.Positive.{IsPositive, ArePositive}
+use Rattle.pb_declarations.specs.declared.fault.Fault.{Fault}
+use Rattle.pb_declarations.proofs.ShapeLaws.{shape_carrier-sort_shape}
+use Rattle.pb_shapes.specs.Formula.{IsProper}
+use Rattle.pb_shapes.specs.Faults.{faults}
+use Rattle.pb_shapes.specs.WellTyped.{parameters_of, AreProper, IsWellTyped}
+use Rattle.pb_shapes.proofs.Fitting.{spec_positive}
+use Rattle.pb_shapes.proofs.WellTypedLemmas.{well_typed}
+use Rattle.pb_typing.specs.Typed.{is_none, is_faultless}
+use Rattle.pb_normal.specs.Expansion.{expanded}
+use Rattle.pb_normal.specs.Normalisation.{unslotted, with_slots}
+use Rattle.pb_normal.specs.Equations.{KeepsTruth}
+use Rattle.pb_normal.proofs.Expanded.{expanded-truth}
+use Rattle.pb_normal.proofs.Truth.{normal-truth}
+use Rattle.pb_normal.proofs.Positive.{expanded-positive}
+use Rattle.pb_normal.proofs.Plain.{expanded-plain}
+use Rattle.pb_normal.proofs.Parameters.{agree-parameters, free-parameters}
+
+keeps-truth : (spec : Spec) (X : Equation) → IsProper spec true (parameters_of spec X) X.right → IsPositive true X.right → KeepsTruth spec X
+keeps-truth spec X proper positive t slots i count hold =
+    let scope = parameters_of spec X in
+    let a = assigned X.parameters i.values [] in
+    normal-truth spec t (expanded X.right) true scope (λ s. sym (shape_carrier-sort_shape spec s))
+    (expanded-positive true X.right positive) (expanded-plain spec true scope X.right proper)
+    (with_slots X.parameters 0 unslotted) (length X.parameters) slots a
+    (free-parameters X.parameters) (agree-parameters X.parameters i.values slots count hold)
+    ∙ expanded-truth spec t X.right a
+
+rights-keep-truth : (spec : Spec) (E : List Equation) → AreProper spec E → ArePositive E → All (KeepsTruth spec) E
+rights-keep-truth spec [] proper positive k d below = absurd (omega arith)
+rights-keep-truth spec (X ∷ E) proper positive zero d below = keeps-truth spec X proper.0 positive.0
+rights-keep-truth spec (X ∷ E) proper positive (suc k) d below = rights-keep-truth spec E proper.1 positive.1 k d (omega arith)
+
+pub equations-keep-truth : (spec : Spec) → IsWellTyped spec → All (KeepsTruth spec) spec.equations
+equations-keep-truth spec h = rights-keep-truth spec spec.equations h.rights (spec_positive spec h)
+
+-- ---- texts that typing accepts
+
+pub no-faults : (fs : List Fault) → is_none fs ≡ true → fs ≡ []
+no-faults [] e = refl
+no-faults (f ∷ fs) e = absurd (true≢false (sym e))
+
+pub accepted-well-typed : (text : SpecForm) → is_faultless text ≡ true → IsWellTyped (erase text)
+accepted-well-typed text e = well_typed text (no-faults (faults text) e)

@@ -1,0 +1,207 @@
+-- Formulas in normal form, operand by operand and node by node; calls, argument by argument.
+use Rattle.std.proofs.Common.{◌≡◌, ℕ, suc, ◌+◌, ◌-◌, ◌<◌, ◌≤◌, Bool, cond, List, [], ◌∷◌, ◌++◌, map, length, get_or, drop, refl, sym, ◌∙◌, ap, subst, arith, Box, Vec, Global, Result, IfOk, Option, Some, add-one}
+use Rattle.std.specs.Prelude.{box_value}
+use Rattle.std.specs.List.{position_from}
+use Rattle.std.specs.declared.alloc.AllocError.{AllocError}
+use Rattle.std.proofs.lemmas.Iterator.Adapters.{position_from-zero}
+use Rattle.std.proofs.lemmas.List.{append-nil, append_assoc, length-drop}
+use Rattle.pb_sorts.specs.declared.carrier.Carrier.{Carrier}
+use Rattle.pb_ast.specs.declared.place.Place.{Place}
+use Rattle.pb_ast.specs.declared.operator.Connective.{Connective}
+use Rattle.pb_ast.specs.declared.operator.Connective.TheVariants.{And, Or, Implies}
+use Rattle.pb_ast.specs.declared.operator.Quantifier.{Quantifier}
+use Rattle.pb_ast.specs.declared.variable.Variables.{Variables}
+use Rattle.pb_ast.specs.declared.term.Argument.{Argument}
+use Rattle.pb_ast.specs.declared.formula.Formula as ast
+use Rattle.pb_ast.specs.declared.formula.Link.{Link}
+use Rattle.pb_ast.specs.Form as form
+use Rattle.pb_ast.specs.Form.{FormulaForm, formula_form, link_forms, argument_forms, term_form}
+use Rattle.pb_ast.proofs.FormLemmas.{formula-chain}
+use Rattle.pb_syntax.specs.Syntax as syntax
+use Rattle.pb_syntax.specs.Syntax.{Name, same_name, Variable, Equation, Spec}
+use Rattle.pb_syntax.specs.Erase.{erased_formula, erased_arguments, erased_term, joined}
+use Rattle.pb_declarations.specs.Agreement.{equation_place}
+use Rattle.pb_declarations.specs.Shapes.{Shape}
+use Rattle.pb_shapes.specs.Faults.{operand_parity}
+use Rattle.pb_shapes.specs.Scope.{Scope}
+use Rattle.pb_typing.proofs.Links.{links-drop, links-ended}
+use Rattle.pb_shapes.specs.Term.{shape}
+use Rattle.pb_typing.specs.View.{shape_view}
+use Rattle.pb_normal.specs.declared.formula.Argument as declared
+use Rattle.pb_normal.specs.declared.formula.Formula as code
+use Rattle.pb_normal.specs.Chains.{joins}
+use Rattle.pb_normal.specs.Expansion.{expanded}
+use Rattle.pb_normal.specs.Loops.{IsShaped, loops}
+use Rattle.pb_normal.specs.Normal as model
+use Rattle.pb_normal.specs.Normal.{Formula, Join}
+use Rattle.pb_normal.specs.Normalisation.{Slotting, arguments, normal, place_of, slotted, width}
+use Rattle.pb_normal.specs.Tree.{formula_chain_of, formula_of, quantified_formula}
+use Rattle.pb_normal.specs.View.{argument_view, chained, shapes_of, term_view, formula_view, formula_views}
+use Rattle.pb_normal.proofs.NormalChains.{link_normals, link_width, chained-normal}
+use Rattle.pb_normal.proofs.ValueLemmas.{grown, joined-loops, joined_shaped}
+use Rattle.pb_normal.proofs.ValueSteps.{views-push}
+
+-- ---- chains
+
+expanded-joined : (o : Connective) (f g : syntax.Formula) → expanded (joined o f g) ≡ joined o (expanded f) (expanded g)
+expanded-joined And f g = refl
+expanded-joined Or f g = refl
+expanded-joined Implies f g = refl
+
+abbrev pub links_loops : Spec → List Link → List Shape
+links_loops S [] = []
+links_loops S (link ∷ links) = loops S (formula_of link.operand) ++ links_loops S links
+
+abbrev pub AreShapedLinks : Spec → List Link → Type 0
+AreShapedLinks S [] = Unit {0}
+AreShapedLinks S (link ∷ links) = IsShaped S (formula_of link.operand) × AreShapedLinks S links
+
+abbrev chain_form : Connective → FormulaForm → List Link → syntax.Formula
+chain_form o first links = expanded (erased_formula (form.chained (FormulaForm.connected o) first (link_forms links)))
+
+form-loops : (S : Spec) (o : Connective) (first : FormulaForm) (links : List Link) → loops S (chain_form o first links) ≡ loops S (expanded (erased_formula first)) ++ links_loops S links
+form-loops S o first [] = sym (append-nil (loops S (expanded (erased_formula first))))
+form-loops S o first (l ∷ ls) =
+    ap (loops S) (expanded-joined o (erased_formula first) (erased_formula (form.chained (FormulaForm.connected o) (formula_form l.operand) (link_forms ls))))
+    ∙ (joined-loops S o (expanded (erased_formula first)) (chain_form o (formula_form l.operand) ls)
+    ∙ ap (λ (ss : List Shape). loops S (expanded (erased_formula first)) ++ ss) (form-loops S o (formula_form l.operand) ls))
+
+pub chain-loops : (S : Spec) (o : Connective) (first : ast.Formula) (links : List Link) → loops S (formula_chain_of o first links) ≡ loops S (formula_of first) ++ links_loops S links
+chain-loops S o first links = form-loops S o (formula_form first) links
+
+form_shaped : (S : Spec) (o : Connective) (first : FormulaForm) (links : List Link) → IsShaped S (chain_form o first links) → IsShaped S (expanded (erased_formula first)) × AreShapedLinks S links
+form_shaped S o first [] h = (h, tt)
+form_shaped S o first (l ∷ ls) h =
+    let rest = erased_formula (form.chained (FormulaForm.connected o) (formula_form l.operand) (link_forms ls)) in
+    let both = joined_shaped S o (expanded (erased_formula first)) (expanded rest) (subst (IsShaped S) (expanded-joined o (erased_formula first) rest) h) in
+    (both.0, form_shaped S o (formula_form l.operand) ls both.1)
+
+pub chain_shaped : (S : Spec) (o : Connective) (first : ast.Formula) (links : List Link) → IsShaped S (formula_chain_of o first links) → IsShaped S (formula_of first) × AreShapedLinks S links
+chain_shaped S o first links h = form_shaped S o (formula_form first) links h
+
+next-normals : (S : Spec) (o : Connective) (even : Bool) (c : Slotting) (scope : Scope) (n : ℕ) (links : List Link) (k : ℕ) (link : Link) → k < length links → link ≡ get_or links k link
+    → link_normals S o even c scope n (drop k links) ≡ normal S (operand_parity o even (length links - k - 1)) c scope n (formula_of link.operand) ∷ link_normals S o even c scope (n + link_width link) (drop (k + 1) links)
+next-normals S o even c scope n links k link below at =
+    let rest = drop (k + 1) links in
+    let count : length rest ≡ length links - k - 1 = omega (arith, length-drop (k + 1) links) in
+    ap (link_normals S o even c scope n) (links-drop links k link below at)
+    ∙ ap (λ (m : ℕ). normal S (operand_parity o even m) c scope n (formula_of link.operand) ∷ link_normals S o even c scope (n + link_width link) rest) count
+
+-- the first operand and so many links are done: their normal forms, and the carriers of their quantifiers
+pub record AreDone (S : Spec) (o : Connective) (even : Bool) (c : Slotting) (scope : Scope) (first : ast.Formula) (links : List Link) (before : List Carrier) (k : ℕ) (begun : code.Formula) (done : List code.Formula) (now : List Carrier) : Type 0 where
+  pub head : formula_view begun ≡ normal S (operand_parity o even (length links)) c scope (length before) (formula_of first)
+  pub rest : link_normals S o even c scope (length before + width (formula_of first)) links ≡ formula_views done ++ link_normals S o even c scope (length now) (drop k links)
+  pub carriers : shapes_of now ++ links_loops S (drop k links) ≡ shapes_of before ++ loops S (formula_chain_of o first links)
+  pub shaped : AreShapedLinks S (drop k links)
+
+pub done_begun : (S : Spec) (o : Connective) (even : Bool) (c : Slotting) (scope : Scope) (first : ast.Formula) (links : List Link) (before now : List Carrier) (begun : code.Formula) (done : List code.Formula) (p : Bool) → p ≡ operand_parity o even (length links) → done ≡ []
+    → IsShaped S (formula_chain_of o first links) → formula_view begun ≡ normal S p c scope (length before) (formula_of first) → shapes_of now ≡ shapes_of before ++ loops S (formula_of first)
+    → AreDone S o even c scope first links before 0 begun done now
+done_begun S o even c scope first links before now begun done p parity none shaped form shapes = record {
+  head = form ∙ ap (λ (q : Bool). normal S q c scope (length before) (formula_of first)) parity;
+  rest = ap (λ (m : ℕ). link_normals S o even c scope m links) (sym (grown S (formula_of first) before now shapes)) ∙ ap (λ (fs : List code.Formula). formula_views fs ++ link_normals S o even c scope (length now) links) (sym none);
+  carriers =
+      ap (λ (ss : List Shape). ss ++ links_loops S links) shapes
+      ∙ (append_assoc (shapes_of before) (loops S (formula_of first)) (links_loops S links)
+      ∙ ap (λ (ss : List Shape). shapes_of before ++ ss) (sym (chain-loops S o first links)));
+  shaped = (chain_shaped S o first links shaped).1;
+}
+
+pub done_next : (S : Spec) (o : Connective) (even : Bool) (c : Slotting) (scope : Scope) (first : ast.Formula) (links : List Link) (before old new : List Carrier) (k : ℕ) (link : Link) (begun f : code.Formula) (done more : List code.Formula) (p : Bool)
+    → k < length links → link ≡ get_or links k link → p ≡ operand_parity o even (length links - k - 1) → more ≡ done ++ f ∷ []
+    → formula_view f ≡ normal S p c scope (length old) (formula_of link.operand) → shapes_of new ≡ shapes_of old ++ loops S (formula_of link.operand)
+    → AreDone S o even c scope first links before k begun done old → AreDone S o even c scope first links before (k + 1) begun more new
+done_next S o even c scope first links before old new k link begun f done more p below at parity pushed form shapes h =
+    let left = links-drop links k link below at in
+    let others = link_normals S o even c scope (length new) (drop (k + 1) links) in
+    record {
+      head = h.head;
+      rest =
+          h.rest
+          ∙ (ap (λ (fs : List Formula). formula_views done ++ fs) (next-normals S o even c scope (length old) links k link below at)
+          ∙ (ap (λ (q : Bool). formula_views done ++ normal S q c scope (length old) (formula_of link.operand) ∷ link_normals S o even c scope (length old + link_width link) (drop (k + 1) links)) (sym parity)
+          ∙ (ap (λ (g : Formula). formula_views done ++ g ∷ link_normals S o even c scope (length old + link_width link) (drop (k + 1) links)) (sym form)
+          ∙ (ap (λ (m : ℕ). formula_views done ++ formula_view f ∷ link_normals S o even c scope m (drop (k + 1) links)) (sym (grown S (formula_of link.operand) old new shapes))
+          ∙ (sym (append_assoc (formula_views done) (formula_view f ∷ []) others)
+          ∙ (ap (λ (fs : List Formula). fs ++ others) (sym (views-push done f)) ∙ ap (λ (fs : List code.Formula). formula_views fs ++ others) (sym pushed)))))));
+      carriers =
+          ap (λ (ss : List Shape). ss ++ links_loops S (drop (k + 1) links)) shapes
+          ∙ (append_assoc (shapes_of old) (loops S (formula_of link.operand)) (links_loops S (drop (k + 1) links))
+          ∙ (ap (λ (ls : List Link). shapes_of old ++ links_loops S ls) (sym left) ∙ h.carriers));
+      shaped = (subst (AreShapedLinks S) left h.shaped).1;
+    }
+
+pub shaped_at : (S : Spec) (links : List Link) (k : ℕ) (link : Link) → k < length links → link ≡ get_or links k link → AreShapedLinks S (drop k links) → IsShaped S (formula_of link.operand)
+shaped_at S links k link below at h = (subst (AreShapedLinks S) (links-drop links k link below at) h).0
+
+-- all links are done
+pub shapes_ended : (S : Spec) (o : Connective) (even : Bool) (c : Slotting) (scope : Scope) (first : ast.Formula) (links : List Link) (before now : List Carrier) (k : ℕ) (begun : code.Formula) (done : List code.Formula) → length links ≤ k
+    → AreDone S o even c scope first links before k begun done now → shapes_of now ≡ shapes_of before ++ loops S (formula_chain_of o first links)
+shapes_ended S o even c scope first links before now k begun done end h =
+    sym (ap (λ (ls : List Link). shapes_of now ++ links_loops S ls) (links-ended links k end) ∙ append-nil (shapes_of now)) ∙ h.carriers
+
+pub chain-view : (S : Spec) (o : Connective) (even : Bool) (c : Slotting) (scope : Scope) (first : ast.Formula) (links : List Link) (before now : List Carrier) (k : ℕ) (begun : code.Formula) (done : List code.Formula) (m : Bool) (f : Formula)
+    → length links ≤ k → m ≡ joins o even → f ≡ formula_view begun → AreDone S o even c scope first links before k begun done now
+    → chained (Join m) f (formula_views done) ≡ normal S even c scope (length before) (formula_chain_of o first links)
+chain-view S o even c scope first links before now k begun done m f end joined same h =
+    let others : link_normals S o even c scope (length before + width (formula_of first)) links ≡ formula_views done =
+    h.rest ∙ (ap (λ (ls : List Link). formula_views done ++ link_normals S o even c scope (length now) ls) (links-ended links k end) ∙ append-nil (formula_views done)) in
+    ap (λ (b : Bool). chained (Join b) f (formula_views done)) joined
+    ∙ (ap (λ (g : Formula). chained (Join (joins o even)) g (formula_views done)) (same ∙ h.head)
+    ∙ (ap (chained (Join (joins o even)) (normal S (operand_parity o even (length links)) c scope (length before) (formula_of first))) (sym others)
+    ∙ sym (chained-normal S o even c scope (length before) (formula_form first) links)))
+
+-- ---- nodes
+
+-- a result says a formula
+abbrev pub Says : Spec → Bool → Slotting → Scope → ℕ → Result code.Formula AllocError → syntax.Formula → Type 0
+Says S even c scope n r f = IfOk r (λ (y : code.Formula). formula_view y ≡ normal S even c scope n f)
+
+pub says_same : (S : Spec) (even : Bool) (c : Slotting) (scope : Scope) (n : ℕ) (r : Result code.Formula AllocError) (f g : syntax.Formula) → g ≡ f → Says S even c scope n r f → Says S even c scope n r g
+says_same S even c scope n r f g e h = subst (Says S even c scope n r) (sym e) h
+
+pub chain-node : (t x : ast.Formula) (o : Connective) (first : Box ast.Formula Global) (v : Vec Link Global) (links : List Link) → t ≡ ast.Chain o first v → x ≡ box_value first → links ≡ v.items
+    → formula_of t ≡ formula_chain_of o x links
+chain-node t x o first v links is same are =
+    ap (λ (f : FormulaForm). expanded (erased_formula f)) (ap formula_form is ∙ formula-chain o first v)
+    ∙ (ap (λ (y : ast.Formula). formula_chain_of o y v.items) (sym same) ∙ ap (formula_chain_of o x) (sym are))
+
+pub quantified-node : (t x : ast.Formula) (p : Place) (q : Quantifier) (vs : Vec Variables Global) (body : Box ast.Formula Global) (groups : List Variables) → t ≡ ast.Quantified p q vs body → x ≡ box_value body → groups ≡ vs.items
+    → formula_of t ≡ quantified_formula q groups x
+quantified-node t x p q vs body groups is same are =
+    ap formula_of is ∙ (ap (quantified_formula q vs.items) (sym same) ∙ ap (λ (gs : List Variables). quantified_formula q gs x) (sym are))
+
+-- ---- calls
+
+place-from : (n : ℕ) (E : List Equation) (x : Name) → place_of n E x ≡ position_from (λ (X : Equation). same_name X.name x) n E
+place-from n [] x = refl
+place-from n (X ∷ E) x =
+    ap (λ (o : Option ℕ). cond (same_name X.name x) (Some n) o) (place-from (suc n) E x ∙ ap (λ (m : ℕ). position_from (λ (Y : Equation). same_name Y.name x) m E) (sym (add-one n)))
+
+pub place-found : (S : Spec) (x : Name) → equation_place S x ≡ place_of 0 S.equations x
+place-found S x = position_from-zero (λ (X : Equation). same_name X.name x) S.equations ∙ sym (place-from 0 S.equations x)
+
+abbrev pub call_arguments : Spec → Slotting → Scope → List Argument → List model.Argument
+call_arguments S c scope xs = arguments S c scope (erased_arguments (argument_forms xs))
+
+arguments-push : (done : List declared.Argument) (y : declared.Argument) → map argument_view (done ++ y ∷ []) ≡ map argument_view done ++ argument_view y ∷ []
+arguments-push [] y = refl
+arguments-push (e ∷ done) y = ap (λ (es : List model.Argument). argument_view e ∷ es) (arguments-push done y)
+
+-- an argument that is put behind those that are done
+pub argument_next : (S : Spec) (c : Slotting) (scope : Scope) (xs : List Argument) (k : ℕ) (x : Argument) (y : declared.Argument) (done more : List declared.Argument) (all : List model.Argument) → k < length xs → x ≡ get_or xs k x
+    → term_view y.term ≡ slotted S c (erased_term (term_form x.term)) → shape_view y.shape ≡ shape S scope (erased_term (term_form x.term)) → more ≡ done ++ y ∷ []
+    → all ≡ map argument_view done ++ call_arguments S c scope (drop k xs) → all ≡ map argument_view more ++ call_arguments S c scope (drop (k + 1) xs)
+argument_next S c scope xs k x y done more all below at term_is shape_is pushed h =
+    let rest = call_arguments S c scope (drop (k + 1) xs) in
+    h
+    ∙ (ap (λ (ys : List Argument). map argument_view done ++ call_arguments S c scope ys) (links-drop xs k x below at)
+    ∙ (ap (λ (t : model.Term). map argument_view done ++ record { term = t; shape = shape S scope (erased_term (term_form x.term)) } ∷ rest) (sym term_is)
+    ∙ (ap (λ (s : Shape). map argument_view done ++ record { term = term_view y.term; shape = s } ∷ rest) (sym shape_is)
+    ∙ (sym (append_assoc (map argument_view done) (argument_view y ∷ []) rest)
+    ∙ (ap (λ (es : List model.Argument). es ++ rest) (sym (arguments-push done y)) ∙ ap (λ (es : List declared.Argument). map argument_view es ++ rest) (sym pushed))))))
+
+pub arguments_ended : (S : Spec) (c : Slotting) (scope : Scope) (xs : List Argument) (k : ℕ) (done : List declared.Argument) → length xs ≤ k
+    → call_arguments S c scope xs ≡ map argument_view done ++ call_arguments S c scope (drop k xs) → map argument_view done ≡ call_arguments S c scope xs
+arguments_ended S c scope xs k done end h =
+    sym (h ∙ (ap (λ (ys : List Argument). map argument_view done ++ call_arguments S c scope ys) (links-ended xs k end) ∙ append-nil (map argument_view done)))

@@ -1,0 +1,68 @@
+-- Chains and quantifiers in normal form: what the code's flat nodes stand for.
+use Rattle.std.proofs.Common.{◌≡◌, ℕ, suc, ◌+◌, Bool, false, not, if◌then◌else◌, List, [], ◌∷◌, length, refl, sym, ◌∙◌, ap, arith, Some, true≢false}
+use Rattle.pb_sorts.specs.declared.carrier.Carrier.{Carrier}
+use Rattle.pb_ast.specs.declared.operator.Connective.{Connective}
+use Rattle.pb_ast.specs.declared.operator.Connective.TheVariants.{And, Or, Implies}
+use Rattle.pb_ast.specs.declared.formula.Link.{Link}
+use Rattle.pb_ast.specs.Form as form
+use Rattle.pb_ast.specs.Form.{FormulaForm, TermForm, formula_form, link_forms, term_form, term_links}
+use Rattle.pb_syntax.specs.Syntax as syntax
+use Rattle.pb_syntax.specs.Syntax.{Variable, Operator, Spec}
+use Rattle.pb_syntax.specs.Erase.{erased_formula}
+use Rattle.pb_declarations.specs.Shapes.{Shape, sort_shape}
+use Rattle.pb_declarations.specs.Entries.{carrier_shape}
+use Rattle.pb_shapes.specs.Faults.{operand_parity}
+use Rattle.pb_shapes.specs.Scope.{Scope}
+use Rattle.pb_normal.specs.Chains.{joins}
+use Rattle.pb_normal.specs.Expansion.{has_quantifier, expanded, expanded_term, connected}
+use Rattle.pb_normal.specs.Normal.{Formula, Join, Each}
+use Rattle.pb_normal.specs.Normalisation.{Slotting, with_slot, with_slots, each, normal, width}
+use Rattle.pb_normal.specs.Loops.{variable_shapes}
+use Rattle.pb_normal.specs.View.{chained, nested, shapes_of}
+
+-- ---- formulas
+
+abbrev pub link_width : Link → ℕ
+link_width link = width (expanded (erased_formula (formula_form link.operand)))
+
+-- the operands behind the first, the next slots being theirs
+abbrev pub link_normals : Spec → Connective → Bool → Slotting → Scope → ℕ → List Link → List Formula
+link_normals S o even c scope n [] = []
+link_normals S o even c scope n (link ∷ links) =
+    normal S (operand_parity o even (length links)) c scope n (expanded (erased_formula (formula_form link.operand)))
+    ∷ link_normals S o even c scope (n + link_width link) links
+
+pub chained-normal : (S : Spec) (o : Connective) (even : Bool) (c : Slotting) (scope : Scope) (n : ℕ) (first : FormulaForm) (links : List Link)
+    → normal S even c scope n (expanded (erased_formula (form.chained (FormulaForm.connected o) first (link_forms links))))
+    ≡ chained (Join (joins o even)) (normal S (operand_parity o even (length links)) c scope n (expanded (erased_formula first))) (link_normals S o even c scope (n + width (expanded (erased_formula first))) links)
+chained-normal S o even c scope n first [] = refl
+chained-normal S And even c scope n first (l ∷ ls) = ap (Join even (normal S even c scope n (expanded (erased_formula first)))) (chained-normal S And even c scope (n + width (expanded (erased_formula first))) (formula_form l.operand) ls)
+chained-normal S Or even c scope n first (l ∷ ls) = ap (Join (not even) (normal S even c scope n (expanded (erased_formula first)))) (chained-normal S Or even c scope (n + width (expanded (erased_formula first))) (formula_form l.operand) ls)
+chained-normal S Implies even c scope n first (l ∷ ls) = ap (Join (not even) (normal S (not even) c scope n (expanded (erased_formula first)))) (chained-normal S Implies even c scope (n + width (expanded (erased_formula first))) (formula_form l.operand) ls)
+
+-- ---- quantifiers
+
+pub each-nested : (S : Spec) (universal : Bool) (xs : List Variable) (c : Slotting) (n : ℕ) (body : Slotting → ℕ → Formula) (carriers : List Carrier)
+    → shapes_of carriers ≡ variable_shapes S xs → each S universal xs c n body ≡ nested universal n carriers (body (with_slots xs n c) (n + length xs))
+each-nested S universal [] c n body [] h = ap (body c) (omega arith)
+each-nested S universal [] c n body (k ∷ ks) h = absurd (cc)
+each-nested S universal (x ∷ xs) c n body [] h = absurd (cc)
+each-nested S universal (x ∷ xs) c n body (k ∷ ks) h =
+    let first : carrier_shape (Some k) ≡ sort_shape S x.sort = cc in
+    let others : shapes_of ks ≡ variable_shapes S xs = cc in
+    ap (λ (s : Shape). Each universal n s (each S universal xs (with_slot x.name n c) (suc n) body)) (sym first)
+    ∙ ap (Each universal n (carrier_shape (Some k)))
+    (each-nested S universal xs (with_slot x.name n c) (suc n) body ks others
+    ∙ ap (λ (m : ℕ). nested universal (suc n) ks (body (with_slots xs (suc n) (with_slot x.name n c)) m)) (omega arith))
+
+-- ---- data terms
+
+pub plain-expanded : (x : syntax.Term) → has_quantifier x ≡ false → expanded_term x ≡ syntax.Formula.Val x
+plain-expanded (syntax.Term.Truth b) h = refl
+plain-expanded (syntax.Term.Number n) h = refl
+plain-expanded (syntax.Term.Named x) h = refl
+plain-expanded (syntax.Term.Not x) h = ap (λ (b : Bool). if b then syntax.Formula.Not (expanded_term x) else syntax.Formula.Val (syntax.Term.Not x)) h
+plain-expanded (syntax.Term.Negative x) h = refl
+plain-expanded (syntax.Term.Binary o x y) h = ap (λ (b : Bool). if b then connected o (expanded_term x) (expanded_term y) (syntax.Formula.Val (syntax.Term.Binary o x y)) else syntax.Formula.Val (syntax.Term.Binary o x y)) h
+plain-expanded (syntax.Term.Apply f xs) h = refl
+plain-expanded (syntax.Term.Quantified q xs x) h = absurd (true≢false h)

@@ -1,0 +1,82 @@
+-- Quantifiers among the operands of chains and among arguments.
+use Rattle.std.proofs.Common.{◌≡◌, ℕ, ◌+◌, ◌<◌, ◌≤◌, Bool, true, false, ◌||◌, List, [], ◌∷◌, length, get_or, drop, refl, sym, ◌∙◌, ap, Box, Vec, Global}
+use Rattle.std.specs.Prelude.{box_value}
+use Rattle.pb_ast.specs.declared.operator.Connective.{Connective}
+use Rattle.pb_ast.specs.declared.name.Name.{Name}
+use Rattle.pb_ast.specs.declared.term.Term as term
+use Rattle.pb_ast.specs.declared.term.Term.{Term}
+use Rattle.pb_ast.specs.declared.term.TermLink.{TermLink}
+use Rattle.pb_ast.specs.declared.term.ArithmeticLink.{ArithmeticLink}
+use Rattle.pb_ast.specs.declared.term.Argument.{Argument}
+use Rattle.pb_ast.specs.Form.{TermForm, argument_forms, arithmetic_links, calculated, chained, term_form, term_links}
+use Rattle.pb_ast.proofs.FormLemmas.{term-chain, term-arithmetic, term-application}
+use Rattle.pb_syntax.specs.Erase.{erased_term, erased_arguments}
+use Rattle.pb_normal.specs.Expansion.{has_quantifier, have_quantifier}
+use Rattle.pb_normal.specs.Links.{links_have_quantifier, arithmetic_have_quantifier}
+use Rattle.pb_typing.proofs.Links.{links-drop, links-ended}
+
+abbrev pub quantified : Term → Bool
+quantified x = has_quantifier (erased_term (term_form x))
+
+or-false : (b : Bool) → b ≡ (b || false)
+or-false true = refl
+or-false false = refl
+
+or-assoc : (a b c : Bool) → ((a || b) || c) ≡ (a || (b || c))
+or-assoc true b c = refl
+or-assoc false b c = refl
+
+pub chained-quantifier : (c : Connective) (first : TermForm) (links : List TermLink)
+    → has_quantifier (erased_term (chained (TermForm.connected c) first (term_links links))) ≡ (has_quantifier (erased_term first) || links_have_quantifier links)
+chained-quantifier c first [] = or-false _
+chained-quantifier c first (l ∷ ls) = ap (λ (b : Bool). has_quantifier (erased_term first) || b) (chained-quantifier c (term_form l.operand) ls)
+
+pub calculated-quantifier : (first : TermForm) (links : List ArithmeticLink)
+    → has_quantifier (erased_term (calculated first (arithmetic_links links))) ≡ (has_quantifier (erased_term first) || arithmetic_have_quantifier links)
+calculated-quantifier first [] = or-false _
+calculated-quantifier first (l ∷ ls) =
+    calculated-quantifier (TermForm.computed l.operator l.place first (term_form l.operand)) ls ∙ or-assoc (has_quantifier (erased_term first)) (quantified l.operand) (arithmetic_have_quantifier ls)
+
+-- ---- in the code's words
+
+pub chain : (t : Term) (x : Term) (c : Connective) (first : Box Term Global) (v : Vec TermLink Global) (links : List TermLink) → t ≡ term.Chain c first v → x ≡ box_value first → links ≡ v.items
+    → quantified t ≡ (quantified x || links_have_quantifier links)
+chain t x c first v links is same are =
+    ap (λ (f : TermForm). has_quantifier (erased_term f)) (ap term_form is ∙ term-chain c first v)
+    ∙ (chained-quantifier c (term_form (box_value first)) v.items
+    ∙ (ap (λ (y : Term). quantified y || links_have_quantifier v.items) (sym same) ∙ ap (λ (ls : List TermLink). quantified x || links_have_quantifier ls) (sym are)))
+
+pub arithmetic : (t : Term) (x : Term) (first : Box Term Global) (v : Vec ArithmeticLink Global) (links : List ArithmeticLink) → t ≡ term.Arithmetic first v → x ≡ box_value first → links ≡ v.items
+    → quantified t ≡ (quantified x || arithmetic_have_quantifier links)
+arithmetic t x first v links is same are =
+    ap (λ (f : TermForm). has_quantifier (erased_term f)) (ap term_form is ∙ term-arithmetic first v)
+    ∙ (calculated-quantifier (term_form (box_value first)) v.items
+    ∙ (ap (λ (y : Term). quantified y || arithmetic_have_quantifier v.items) (sym same) ∙ ap (λ (ls : List ArithmeticLink). quantified x || arithmetic_have_quantifier ls) (sym are)))
+
+pub application : (t : Term) (f : Name) (v : Vec Argument Global) (xs : List Argument) → t ≡ term.Application f v → xs ≡ v.items → quantified t ≡ have_quantifier (erased_arguments (argument_forms xs))
+application t f v xs is are =
+    ap (λ (g : TermForm). has_quantifier (erased_term g)) (ap term_form is ∙ term-application f v)
+    ∙ ap (λ (ys : List Argument). have_quantifier (erased_arguments (argument_forms ys))) (sym are)
+
+-- ---- element by element
+
+pub links_next : (links : List TermLink) (k : ℕ) (link : TermLink) → k < length links → link ≡ get_or links k link → links_have_quantifier (drop k links) ≡ (quantified link.operand || links_have_quantifier (drop (k + 1) links))
+links_next links k link below at = ap links_have_quantifier (links-drop links k link below at)
+
+pub links_ended : (links : List TermLink) (k : ℕ) → length links ≤ k → links_have_quantifier (drop k links) ≡ false
+links_ended links k h = ap links_have_quantifier (links-ended links k h)
+
+pub arithmetic_next : (links : List ArithmeticLink) (k : ℕ) (link : ArithmeticLink) → k < length links → link ≡ get_or links k link → arithmetic_have_quantifier (drop k links) ≡ (quantified link.operand || arithmetic_have_quantifier (drop (k + 1) links))
+arithmetic_next links k link below at = ap arithmetic_have_quantifier (links-drop links k link below at)
+
+pub arithmetic_ended : (links : List ArithmeticLink) (k : ℕ) → length links ≤ k → arithmetic_have_quantifier (drop k links) ≡ false
+arithmetic_ended links k h = ap arithmetic_have_quantifier (links-ended links k h)
+
+abbrev pub arguments_quantified : List Argument → Bool
+arguments_quantified xs = have_quantifier (erased_arguments (argument_forms xs))
+
+pub arguments_next : (xs : List Argument) (k : ℕ) (x : Argument) → k < length xs → x ≡ get_or xs k x → arguments_quantified (drop k xs) ≡ (quantified x.term || arguments_quantified (drop (k + 1) xs))
+arguments_next xs k x below at = ap arguments_quantified (links-drop xs k x below at)
+
+pub arguments_ended : (xs : List Argument) (k : ℕ) → length xs ≤ k → arguments_quantified (drop k xs) ≡ false
+arguments_ended xs k h = ap arguments_quantified (links-ended xs k h)

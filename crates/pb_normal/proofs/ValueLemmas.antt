@@ -1,0 +1,182 @@
+-- Data terms of kind Bool read as formulas: chains up to their last quantifier, and quantifiers.
+use Rattle.std.proofs.Common.{◌≡◌, ℕ, ◌+◌, Bool, true, false, cond, ◌||◌, List, [], ◌∷◌, ◌++◌, length, refl, sym, ◌∙◌, ap, subst, arith, true≢false}
+use Rattle.std.proofs.lemmas.List.{append-nil, length-append}
+use Rattle.pb_sorts.specs.declared.carrier.Carrier.{Carrier}
+use Rattle.pb_ast.specs.declared.operator.Connective.{Connective}
+use Rattle.pb_ast.specs.declared.operator.Connective.TheVariants.{And, Or, Implies}
+use Rattle.pb_ast.specs.declared.term.Term as ast
+use Rattle.pb_ast.specs.declared.term.TermLink.{TermLink}
+use Rattle.pb_ast.specs.Form as form
+use Rattle.pb_ast.specs.Form.{TermForm, term_form, term_links}
+use Rattle.pb_syntax.specs.Syntax as syntax
+use Rattle.pb_syntax.specs.Syntax.{Variable, Spec}
+use Rattle.pb_syntax.specs.Erase.{erased_term, of_connective, joined}
+use Rattle.pb_declarations.specs.Shapes.{Shape}
+use Rattle.pb_shapes.specs.Faults.{left_parity, operand_parity}
+use Rattle.pb_shapes.specs.Scope.{Scope}
+use Rattle.pb_normal.specs.Chains.{joins}
+use Rattle.pb_normal.specs.Expansion.{has_quantifier, expanded_term}
+use Rattle.pb_normal.specs.Links.{links_have_quantifier}
+use Rattle.pb_normal.specs.Loops.{IsShaped, loops, variable_shapes}
+use Rattle.pb_normal.specs.Normal.{Formula, Join}
+use Rattle.pb_normal.specs.Normalisation.{Slotting, normal, width}
+use Rattle.pb_normal.specs.Tail.{tail_tests}
+use Rattle.pb_normal.specs.Tree.{chain_of, value_of}
+use Rattle.pb_normal.specs.View.{chained, shapes_of}
+use Rattle.pb_normal.proofs.NormalChains.{plain-expanded}
+use Rattle.pb_normal.proofs.Quantifiers.{quantified, chained-quantifier}
+use Rattle.pb_normal.proofs.SlotLemmas.{length_behind, length-variables}
+
+-- ---- two operands
+
+pub split : (o : Connective) (x y : syntax.Term) → (has_quantifier x || has_quantifier y) ≡ true → expanded_term (syntax.Term.Binary (of_connective o) x y) ≡ joined o (expanded_term x) (expanded_term y)
+split And x y h = ap (λ (b : Bool). cond b (syntax.Formula.And (expanded_term x) (expanded_term y)) (syntax.Formula.Val (syntax.Term.Binary (of_connective And) x y))) h
+split Or x y h = ap (λ (b : Bool). cond b (syntax.Formula.Or (expanded_term x) (expanded_term y)) (syntax.Formula.Val (syntax.Term.Binary (of_connective Or) x y))) h
+split Implies x y h = ap (λ (b : Bool). cond b (syntax.Formula.Implies (expanded_term x) (expanded_term y)) (syntax.Formula.Val (syntax.Term.Binary (of_connective Implies) x y))) h
+
+pub joined-normal : (S : Spec) (o : Connective) (even : Bool) (c : Slotting) (scope : Scope) (n : ℕ) (f g : syntax.Formula)
+    → normal S even c scope n (joined o f g) ≡ Join (joins o even) (normal S (left_parity o even) c scope n f) (normal S even c scope (n + width f) g)
+joined-normal S And even c scope n f g = refl
+joined-normal S Or even c scope n f g = refl
+joined-normal S Implies even c scope n f g = refl
+
+pub joined-loops : (S : Spec) (o : Connective) (f g : syntax.Formula) → loops S (joined o f g) ≡ loops S f ++ loops S g
+joined-loops S And f g = refl
+joined-loops S Or f g = refl
+joined-loops S Implies f g = refl
+
+pub joined_shaped : (S : Spec) (o : Connective) (f g : syntax.Formula) → IsShaped S (joined o f g) → IsShaped S f × IsShaped S g
+joined_shaped S And f g h = h
+joined_shaped S Or f g h = h
+joined_shaped S Implies f g h = h
+
+-- as many slots as the width says
+pub length-loops : (S : Spec) (f : syntax.Formula) → length (loops S f) ≡ width f
+length-loops S (syntax.Formula.Truth b) = refl
+length-loops S (syntax.Formula.Val x) = refl
+length-loops S (syntax.Formula.Not f) = length-loops S f
+length-loops S (syntax.Formula.And f g) = omega (arith, length-append (loops S f) (loops S g), length-loops S f, length-loops S g)
+length-loops S (syntax.Formula.Or f g) = omega (arith, length-append (loops S f) (loops S g), length-loops S f, length-loops S g)
+length-loops S (syntax.Formula.Implies f g) = omega (arith, length-append (loops S f) (loops S g), length-loops S f, length-loops S g)
+length-loops S (syntax.Formula.Quantified q xs f) = omega (arith, length-append (variable_shapes S xs) (loops S f), length-variables S xs, length-loops S f)
+length-loops S (syntax.Formula.Call X es) = refl
+
+pub grown : (S : Spec) (f : syntax.Formula) (old new : List Carrier) → shapes_of new ≡ shapes_of old ++ loops S f → length new ≡ length old + width f
+grown S f old new e = omega (arith, length_behind old new (loops S f) e, length-loops S f)
+
+-- ---- chains
+
+abbrev pub operand : TermLink → syntax.Formula
+operand link = value_of link.operand
+
+-- the operands behind the first, the next slots being theirs: up to the last quantifier one by one, the others as one
+abbrev pub value_normals : Spec → Connective → Bool → Slotting → Scope → ℕ → List TermLink → List Formula
+value_normals S o even c scope n [] = []
+value_normals S o even c scope n (link ∷ links) =
+    cond (links_have_quantifier (link ∷ links))
+    (normal S (operand_parity o even (length links)) c scope n (operand link) ∷ value_normals S o even c scope (n + width (operand link)) links)
+    (tail_tests S even c o (link ∷ links))
+
+abbrev pub value_loops : Spec → List TermLink → List Shape
+value_loops S [] = []
+value_loops S (link ∷ links) = loops S (operand link) ++ value_loops S links
+
+abbrev pub AreShapedLinks : Spec → List TermLink → Type 0
+AreShapedLinks S [] = Unit {0}
+AreShapedLinks S (link ∷ links) = IsShaped S (operand link) × AreShapedLinks S links
+
+abbrev chain_form : Connective → TermForm → List TermLink → syntax.Term
+chain_form o first links = erased_term (form.chained (TermForm.connected o) first (term_links links))
+
+form-normal : (S : Spec) (o : Connective) (even : Bool) (c : Slotting) (scope : Scope) (n : ℕ) (first : TermForm) (links : List TermLink) → has_quantifier (chain_form o first links) ≡ true
+    → normal S even c scope n (expanded_term (chain_form o first links))
+    ≡ chained (Join (joins o even)) (normal S (operand_parity o even (length links)) c scope n (expanded_term (erased_term first))) (value_normals S o even c scope (n + width (expanded_term (erased_term first))) links)
+form-normal S o even c scope n first [] h = refl
+form-normal S o even c scope n first (l ∷ ls) h =
+    let x = erased_term first in
+    let rest = chain_form o (term_form l.operand) ls in
+    let m = n + width (expanded_term x) in
+    ap (normal S even c scope n) (split o x rest h)
+    ∙ (joined-normal S o even c scope n (expanded_term x) (expanded_term rest)
+    ∙ by_test (normal S (left_parity o even) c scope n (expanded_term x)) m (links_have_quantifier (l ∷ ls)) (chained-quantifier o (term_form l.operand) ls) (form-normal S o even c scope m (term_form l.operand) ls))
+  where
+    by_test : (F : Formula) (m : ℕ) (b : Bool) → has_quantifier (chain_form o (term_form l.operand) ls) ≡ b
+        → (has_quantifier (chain_form o (term_form l.operand) ls) ≡ true → normal S even c scope m (expanded_term (chain_form o (term_form l.operand) ls)) ≡ chained (Join (joins o even)) (normal S (operand_parity o even (length ls)) c scope m (operand l)) (value_normals S o even c scope (m + width (operand l)) ls))
+        → Join (joins o even) F (normal S even c scope m (expanded_term (chain_form o (term_form l.operand) ls)))
+        ≡ chained (Join (joins o even)) F (cond b (normal S (operand_parity o even (length ls)) c scope m (operand l) ∷ value_normals S o even c scope (m + width (operand l)) ls) (tail_tests S even c o (l ∷ ls)))
+    by_test F m true e rest = ap (Join (joins o even) F) (rest e)
+    by_test F m false e rest = ap (λ (f : syntax.Formula). Join (joins o even) F (normal S even c scope m f)) (plain-expanded (chain_form o (term_form l.operand) ls) e)
+
+pub chain-normal : (S : Spec) (o : Connective) (even : Bool) (c : Slotting) (scope : Scope) (n : ℕ) (first : ast.Term) (links : List TermLink) → has_quantifier (chain_of o first links) ≡ true
+    → normal S even c scope n (expanded_term (chain_of o first links))
+    ≡ chained (Join (joins o even)) (normal S (operand_parity o even (length links)) c scope n (value_of first)) (value_normals S o even c scope (n + width (value_of first)) links)
+chain-normal S o even c scope n first links h = form-normal S o even c scope n (term_form first) links h
+
+-- what has no quantifier takes no slot
+plain-loops : (S : Spec) (x : syntax.Term) → has_quantifier x ≡ false → loops S (expanded_term x) ≡ []
+plain-loops S x h = ap (loops S) (plain-expanded x h)
+
+plain_shaped : (S : Spec) (x : syntax.Term) → has_quantifier x ≡ false → IsShaped S (expanded_term x)
+plain_shaped S x h = subst (IsShaped S) (sym (plain-expanded x h)) tt
+
+or-left : (b c : Bool) → (b || c) ≡ false → b ≡ false
+or-left true c e = e
+or-left false c e = refl
+
+or-right : (b c : Bool) → (b || c) ≡ false → c ≡ false
+or-right true c e = absurd (true≢false e)
+or-right false c e = e
+
+pub plain-links : (S : Spec) (links : List TermLink) → links_have_quantifier links ≡ false → value_loops S links ≡ []
+plain-links S [] h = refl
+plain-links S (l ∷ ls) h =
+    ap (λ (ss : List Shape). ss ++ value_loops S ls) (plain-loops S (erased_term (term_form l.operand)) (or-left (quantified l.operand) (links_have_quantifier ls) h))
+    ∙ plain-links S ls (or-right (quantified l.operand) (links_have_quantifier ls) h)
+
+plain_links_shaped : (S : Spec) (links : List TermLink) → links_have_quantifier links ≡ false → AreShapedLinks S links
+plain_links_shaped S [] h = tt
+plain_links_shaped S (l ∷ ls) h =
+    (plain_shaped S (erased_term (term_form l.operand)) (or-left (quantified l.operand) (links_have_quantifier ls) h), plain_links_shaped S ls (or-right (quantified l.operand) (links_have_quantifier ls) h))
+
+form-loops : (S : Spec) (o : Connective) (first : TermForm) (links : List TermLink) → loops S (expanded_term (chain_form o first links)) ≡ loops S (expanded_term (erased_term first)) ++ value_loops S links
+form-loops S o first [] = sym (append-nil (loops S (expanded_term (erased_term first))))
+form-loops S o first (l ∷ ls) =
+    by_test (has_quantifier (erased_term first) || has_quantifier (chain_form o (term_form l.operand) ls)) refl (form-loops S o (term_form l.operand) ls)
+  where
+    by_test : (b : Bool) → (has_quantifier (erased_term first) || has_quantifier (chain_form o (term_form l.operand) ls)) ≡ b
+        → loops S (expanded_term (chain_form o (term_form l.operand) ls)) ≡ loops S (operand l) ++ value_loops S ls
+        → loops S (expanded_term (chain_form o first (l ∷ ls))) ≡ loops S (expanded_term (erased_term first)) ++ value_loops S (l ∷ ls)
+    by_test true e rest =
+        ap (loops S) (split o (erased_term first) (chain_form o (term_form l.operand) ls) e)
+        ∙ (joined-loops S o (expanded_term (erased_term first)) (expanded_term (chain_form o (term_form l.operand) ls))
+        ∙ ap (λ (ss : List Shape). loops S (expanded_term (erased_term first)) ++ ss) rest)
+    by_test false e rest =
+        let x = or-left (has_quantifier (erased_term first)) (has_quantifier (chain_form o (term_form l.operand) ls)) e in
+        let y = or-right (has_quantifier (erased_term first)) (has_quantifier (chain_form o (term_form l.operand) ls)) e in
+        let whole : loops S (expanded_term (chain_form o first (l ∷ ls))) ≡ [] = ap (loops S) (plain-expanded (syntax.Term.Binary (of_connective o) (erased_term first) (chain_form o (term_form l.operand) ls)) e) in
+        whole
+        ∙ sym (ap (λ (ss : List Shape). ss ++ value_loops S (l ∷ ls)) (plain-loops S (erased_term first) x) ∙ plain-links S (l ∷ ls) (sym (chained-quantifier o (term_form l.operand) ls) ∙ y))
+
+pub chain-loops : (S : Spec) (o : Connective) (first : ast.Term) (links : List TermLink) → loops S (expanded_term (chain_of o first links)) ≡ loops S (value_of first) ++ value_loops S links
+chain-loops S o first links = form-loops S o (term_form first) links
+
+form_shaped : (S : Spec) (o : Connective) (first : TermForm) (links : List TermLink) → IsShaped S (expanded_term (chain_form o first links)) → IsShaped S (expanded_term (erased_term first)) × AreShapedLinks S links
+form_shaped S o first [] h = (h, tt)
+form_shaped S o first (l ∷ ls) h =
+    by_test (has_quantifier (erased_term first) || has_quantifier (chain_form o (term_form l.operand) ls)) refl (form_shaped S o (term_form l.operand) ls) h
+  where
+    by_test : (b : Bool) → (has_quantifier (erased_term first) || has_quantifier (chain_form o (term_form l.operand) ls)) ≡ b
+        → (IsShaped S (expanded_term (chain_form o (term_form l.operand) ls)) → IsShaped S (operand l) × AreShapedLinks S ls)
+        → IsShaped S (expanded_term (chain_form o first (l ∷ ls))) → IsShaped S (expanded_term (erased_term first)) × AreShapedLinks S (l ∷ ls)
+    by_test true e rest h =
+        let both = joined_shaped S o (expanded_term (erased_term first)) (expanded_term (chain_form o (term_form l.operand) ls))
+        (subst (IsShaped S) (split o (erased_term first) (chain_form o (term_form l.operand) ls) e) h) in
+        let others = rest both.1 in
+        (both.0, others)
+    by_test false e rest h =
+        let x = or-left (has_quantifier (erased_term first)) (has_quantifier (chain_form o (term_form l.operand) ls)) e in
+        let y = or-right (has_quantifier (erased_term first)) (has_quantifier (chain_form o (term_form l.operand) ls)) e in
+        (plain_shaped S (erased_term first) x, plain_links_shaped S (l ∷ ls) (sym (chained-quantifier o (term_form l.operand) ls) ∙ y))
+
+pub chain_shaped : (S : Spec) (o : Connective) (first : ast.Term) (links : List TermLink) → IsShaped S (expanded_term (chain_of o first links)) → IsShaped S (value_of first) × AreShapedLinks S links
+chain_shaped S o first links h = form_shaped S o (term_form first) links h

@@ -1,0 +1,261 @@
+-- Data terms of kind Bool, operand by operand and node by node.
+use Rattle.std.proofs.Common.{◌≡◌, ℕ, ◌+◌, ◌-◌, ◌<◌, Bool, true, false, cond, ◌||◌, List, [], ◌∷◌, ◌++◌, length, get_or, drop, refl, sym, ◌∙◌, ap, subst, arith, Box, Vec, vec_len, Global, Result, Ok, Err, IfOk, OnOk}
+use Rattle.std.specs.declared.alloc.AllocError.{AllocError}
+use Rattle.std.specs.Prelude.{box_value}
+use Rattle.std.proofs.lemmas.List.{append-nil, append_assoc, get_or_append_left, length-drop}
+use Rattle.pb_sorts.specs.declared.carrier.Carrier.{Carrier}
+use Rattle.pb_ast.specs.declared.place.Place.{Place}
+use Rattle.pb_ast.specs.declared.operator.Arithmetic.{Arithmetic}
+use Rattle.pb_ast.specs.declared.operator.Arithmetic.TheVariants as arithmetic
+use Rattle.pb_ast.specs.declared.operator.Comparison.{Comparison}
+use Rattle.pb_ast.specs.declared.operator.Comparison.TheVariants as comparison
+use Rattle.pb_ast.specs.declared.operator.Connective.{Connective}
+use Rattle.pb_ast.specs.declared.operator.Quantifier.{Quantifier}
+use Rattle.pb_ast.specs.declared.variable.Variables.{Variables}
+use Rattle.pb_ast.specs.declared.term.Term as ast
+use Rattle.pb_ast.specs.declared.term.TermLink.{TermLink}
+use Rattle.pb_ast.specs.declared.term.ArithmeticLink.{ArithmeticLink}
+use Rattle.pb_ast.specs.Form as form
+use Rattle.pb_ast.specs.Form.{TermForm, term_form, term_links, arithmetic_links}
+use Rattle.pb_ast.proofs.FormLemmas.{term-chain, term-arithmetic}
+use Rattle.pb_syntax.specs.Syntax as syntax
+use Rattle.pb_syntax.specs.Syntax.{Variable, Spec}
+use Rattle.pb_syntax.specs.Erase.{erased_term, of_arithmetic, of_comparison}
+use Rattle.pb_declarations.specs.Shapes.{Shape}
+use Rattle.pb_shapes.specs.Faults.{operand_parity}
+use Rattle.pb_shapes.specs.Scope.{Scope, bound}
+use Rattle.pb_typing.proofs.Links.{links-drop}
+use Rattle.pb_normal.specs.declared.formula.Formula as code
+use Rattle.pb_normal.specs.Chains.{joins}
+use Rattle.pb_normal.specs.Expansion.{has_quantifier, expanded_term}
+use Rattle.pb_normal.specs.Links.{links_have_quantifier, quantified_count}
+use Rattle.pb_normal.specs.Loops.{IsShaped, loops, variable_shapes}
+use Rattle.pb_normal.specs.Normal.{Formula, Join}
+use Rattle.pb_normal.specs.Normalisation.{Slotting, with_slots, is_universal, normal, signed_test, slotted, width}
+use Rattle.pb_normal.specs.Tail.{tail_tests}
+use Rattle.pb_normal.specs.Tree.{chain_of, quantified_value, value_of}
+use Rattle.pb_normal.specs.View.{chained, nested, shapes_of, formula_view, formula_views}
+use Rattle.pb_normal.proofs.LinkCount.{counted, behind_count}
+use Rattle.pb_normal.proofs.NormalChains.{plain-expanded, each-nested}
+use Rattle.pb_normal.proofs.SlotLemmas.{length_behind, length-variables}
+use Rattle.pb_normal.proofs.ValueLemmas.{operand, value_normals, value_loops, AreShapedLinks, chain-loops, chain-normal, chain_shaped, grown, plain-links}
+
+-- where the first operand and the operands behind it stand, their chain stands
+pub chain-view : (S : Spec) (o : Connective) (even : Bool) (c : Slotting) (scope : Scope) (n : ℕ) (first : ast.Term) (links : List TermLink) (m : Bool) (f : Formula) (rest : List Formula) → m ≡ joins o even
+    → f ≡ normal S (operand_parity o even (length links)) c scope n (value_of first) → value_normals S o even c scope (n + width (value_of first)) links ≡ rest → has_quantifier (chain_of o first links) ≡ true
+    → chained (Join m) f rest ≡ normal S even c scope n (expanded_term (chain_of o first links))
+chain-view S o even c scope n first links m f rest joined head others h =
+    ap (λ (b : Bool). chained (Join b) f rest) joined
+    ∙ (ap (λ (g : Formula). chained (Join (joins o even)) g rest) head
+    ∙ (ap (chained (Join (joins o even)) (normal S (operand_parity o even (length links)) c scope n (value_of first))) (sym others)
+    ∙ sym (chain-normal S o even c scope n first links h)))
+
+-- a result says a formula, in any scope
+abbrev pub Says : Spec → Bool → Slotting → ℕ → Result code.Formula AllocError → syntax.Formula → Type 0
+Says S even c n r f = IfOk r (λ (y : code.Formula). (scope : Scope) → formula_view y ≡ normal S even c scope n f)
+
+-- carriers that a formula's quantifiers have grown
+abbrev pub Grows : Spec → List Carrier → List Carrier → Result code.Formula AllocError → syntax.Formula → Type 0
+Grows S old new r f = OnOk r (shapes_of new ≡ shapes_of old ++ loops S f)
+
+-- ---- operand by operand
+
+next-normals : (S : Spec) (o : Connective) (even : Bool) (c : Slotting) (scope : Scope) (n : ℕ) (links : List TermLink) (k : ℕ) (link : TermLink) → k < length links → link ≡ get_or links k link → k < quantified_count links
+    → value_normals S o even c scope n (drop k links) ≡ normal S (operand_parity o even (length links - k - 1)) c scope n (operand link) ∷ value_normals S o even c scope (n + width (operand link)) (drop (k + 1) links)
+next-normals S o even c scope n links k link below at counts =
+    let rest = drop (k + 1) links in
+    let left = links-drop links k link below at in
+    let has : links_have_quantifier (link ∷ rest) ≡ true = sym (ap links_have_quantifier left) ∙ counted links k counts in
+    let others = value_normals S o even c scope (n + width (operand link)) rest in
+    let count : length rest ≡ length links - k - 1 = omega (arith, length-drop (k + 1) links) in
+    ap (value_normals S o even c scope n) left
+    ∙ (ap (λ (b : Bool). cond b (normal S (operand_parity o even (length rest)) c scope n (operand link) ∷ others) (tail_tests S even c o (link ∷ rest))) has
+    ∙ ap (λ (m : ℕ). normal S (operand_parity o even m) c scope n (operand link) ∷ others) count)
+
+plain-normals : (S : Spec) (o : Connective) (even : Bool) (c : Slotting) (scope : Scope) (n : ℕ) (links : List TermLink) → links_have_quantifier links ≡ false → value_normals S o even c scope n links ≡ tail_tests S even c o links
+plain-normals S o even c scope n [] h = refl
+plain-normals S o even c scope n (l ∷ ls) h =
+    ap (λ (b : Bool). cond b (normal S (operand_parity o even (length ls)) c scope n (operand l) ∷ value_normals S o even c scope (n + width (operand l)) ls) (tail_tests S even c o (l ∷ ls))) h
+
+pub views-push : (fs : List code.Formula) (f : code.Formula) → formula_views (fs ++ f ∷ []) ≡ formula_views fs ++ formula_view f ∷ []
+views-push [] f = refl
+views-push (g ∷ fs) f = ap (λ (vs : List Formula). formula_view g ∷ vs) (views-push fs f)
+
+-- the first operand and so many links are done: their normal forms, and the carriers of their quantifiers
+pub record AreDone (S : Spec) (o : Connective) (even : Bool) (c : Slotting) (first : ast.Term) (links : List TermLink) (before : List Carrier) (k : ℕ) (begun : code.Formula) (done : List code.Formula) (now : List Carrier) : Type 0 where
+  pub head : (scope : Scope) → formula_view begun ≡ normal S (operand_parity o even (length links)) c scope (length before) (value_of first)
+  pub rest : (scope : Scope) → value_normals S o even c scope (length before + width (value_of first)) links ≡ formula_views done ++ value_normals S o even c scope (length now) (drop k links)
+  pub carriers : shapes_of now ++ value_loops S (drop k links) ≡ shapes_of before ++ loops S (expanded_term (chain_of o first links))
+  pub shaped : AreShapedLinks S (drop k links)
+
+pub done_begun : (S : Spec) (o : Connective) (even : Bool) (c : Slotting) (first : ast.Term) (links : List TermLink) (before now : List Carrier) (begun : code.Formula) (done : List code.Formula) (p : Bool) → p ≡ operand_parity o even (length links) → done ≡ []
+    → IsShaped S (expanded_term (chain_of o first links)) → ((scope : Scope) → formula_view begun ≡ normal S p c scope (length before) (value_of first)) → shapes_of now ≡ shapes_of before ++ loops S (value_of first)
+    → AreDone S o even c first links before 0 begun done now
+done_begun S o even c first links before now begun done p parity none shaped form shapes = record {
+  head = λ scope. form scope ∙ ap (λ (q : Bool). normal S q c scope (length before) (value_of first)) parity;
+  rest = λ scope. ap (λ (m : ℕ). value_normals S o even c scope m links) (sym (grown S (value_of first) before now shapes)) ∙ ap (λ (fs : List code.Formula). formula_views fs ++ value_normals S o even c scope (length now) links) (sym none);
+  carriers =
+      ap (λ (ss : List Shape). ss ++ value_loops S links) shapes
+      ∙ (append_assoc (shapes_of before) (loops S (value_of first)) (value_loops S links)
+      ∙ ap (λ (ss : List Shape). shapes_of before ++ ss) (sym (chain-loops S o first links)));
+  shaped = (chain_shaped S o first links shaped).1;
+}
+
+pub done_next : (S : Spec) (o : Connective) (even : Bool) (c : Slotting) (first : ast.Term) (links : List TermLink) (before old new : List Carrier) (k : ℕ) (link : TermLink) (begun f : code.Formula) (done more : List code.Formula) (p : Bool)
+    → k < length links → link ≡ get_or links k link → k < quantified_count links → p ≡ operand_parity o even (length links - k - 1) → more ≡ done ++ f ∷ []
+    → ((scope : Scope) → formula_view f ≡ normal S p c scope (length old) (operand link)) → shapes_of new ≡ shapes_of old ++ loops S (operand link)
+    → AreDone S o even c first links before k begun done old → AreDone S o even c first links before (k + 1) begun more new
+done_next S o even c first links before old new k link begun f done more p below at counts parity pushed form shapes h =
+    let left = links-drop links k link below at in
+    record {
+      head = h.head;
+      rest = λ scope.
+          let others = value_normals S o even c scope (length new) (drop (k + 1) links) in
+          h.rest scope
+          ∙ (ap (λ (fs : List Formula). formula_views done ++ fs) (next-normals S o even c scope (length old) links k link below at counts)
+          ∙ (ap (λ (q : Bool). formula_views done ++ normal S q c scope (length old) (operand link) ∷ value_normals S o even c scope (length old + width (operand link)) (drop (k + 1) links)) (sym parity)
+          ∙ (ap (λ (g : Formula). formula_views done ++ g ∷ value_normals S o even c scope (length old + width (operand link)) (drop (k + 1) links)) (sym (form scope))
+          ∙ (ap (λ (m : ℕ). formula_views done ++ formula_view f ∷ value_normals S o even c scope m (drop (k + 1) links)) (sym (grown S (operand link) old new shapes))
+          ∙ (sym (append_assoc (formula_views done) (formula_view f ∷ []) others)
+          ∙ (ap (λ (fs : List Formula). fs ++ others) (sym (views-push done f)) ∙ ap (λ (fs : List code.Formula). formula_views fs ++ others) (sym pushed)))))));
+      carriers =
+          ap (λ (ss : List Shape). ss ++ value_loops S (drop (k + 1) links)) shapes
+          ∙ (append_assoc (shapes_of old) (loops S (operand link)) (value_loops S (drop (k + 1) links))
+          ∙ (ap (λ (ls : List TermLink). shapes_of old ++ value_loops S ls) (sym left) ∙ h.carriers));
+      shaped = (subst (AreShapedLinks S) left h.shaped).1;
+    }
+
+pub none_behind : (links : List TermLink) (k : ℕ) → k ≡ quantified_count links → links_have_quantifier (drop k links) ≡ false
+none_behind links k e = ap (λ (m : ℕ). links_have_quantifier (drop m links)) e ∙ behind_count links
+
+-- all links up to the last that has a quantifier are done
+pub done_ended : (S : Spec) (o : Connective) (even : Bool) (c : Slotting) (first : ast.Term) (links : List TermLink) (before now : List Carrier) (k : ℕ) (begun : code.Formula) (done : List code.Formula) → k ≡ quantified_count links
+    → AreDone S o even c first links before k begun done now → (scope : Scope) → value_normals S o even c scope (length before + width (value_of first)) links ≡ formula_views done ++ tail_tests S even c o (drop k links)
+done_ended S o even c first links before now k begun done e h scope =
+    h.rest scope ∙ ap (λ (fs : List Formula). formula_views done ++ fs) (plain-normals S o even c scope (length now) (drop k links) (none_behind links k e))
+
+pub shapes_ended : (S : Spec) (o : Connective) (even : Bool) (c : Slotting) (first : ast.Term) (links : List TermLink) (before now : List Carrier) (k : ℕ) (begun : code.Formula) (done : List code.Formula) → k ≡ quantified_count links
+    → AreDone S o even c first links before k begun done now → shapes_of now ≡ shapes_of before ++ loops S (expanded_term (chain_of o first links))
+shapes_ended S o even c first links before now k begun done e h =
+    sym (ap (λ (ss : List Shape). shapes_of now ++ ss) (plain-links S (drop k links) (none_behind links k e)) ∙ append-nil (shapes_of now)) ∙ h.carriers
+
+-- the link at a place of the links up to the last that has a quantifier, among all links
+pub link_at : (links here tail : List TermLink) (k : ℕ) (link : TermLink) → k < length here → links ≡ here ++ tail → link ≡ get_or here k link → link ≡ get_or links k link
+link_at links here tail k link below e at = at ∙ (sym (get_or_append_left here tail link k below) ∙ ap (λ (ls : List TermLink). get_or ls k link) (sym e))
+
+pub shaped_at : (S : Spec) (links : List TermLink) (k : ℕ) (link : TermLink) → k < length links → link ≡ get_or links k link → AreShapedLinks S (drop k links) → IsShaped S (operand link)
+shaped_at S links k link below at h = (subst (AreShapedLinks S) (links-drop links k link below at) h).0
+
+-- ---- nodes
+
+pub chain-node : (t x : ast.Term) (o : Connective) (first : Box ast.Term Global) (v : Vec TermLink Global) (links : List TermLink) → t ≡ ast.Chain o first v → x ≡ box_value first → links ≡ v.items
+    → erased_term (term_form t) ≡ chain_of o x links
+chain-node t x o first v links is same are =
+    ap erased_term (ap term_form is ∙ term-chain o first v) ∙ (ap (λ (y : ast.Term). chain_of o y v.items) (sym same) ∙ ap (chain_of o x) (sym are))
+
+pub empty-count : {A : Type 0} (v : Vec A Global) → length v.items ≡ 0 → vec_len v ≡ 0
+empty-count v e = omega (arith, v.ok.0, e)
+
+no-links : (f : TermForm) (links : List ArithmeticLink) → length links ≡ 0 → form.calculated f (arithmetic_links links) ≡ f
+no-links f [] e = refl
+no-links f (l ∷ ls) e = absurd (omega (arith, e))
+
+-- arithmetic without an operator is its operand
+pub operand-node : (t x : ast.Term) (first : Box ast.Term Global) (v : Vec ArithmeticLink Global) → t ≡ ast.Arithmetic first v → x ≡ box_value first → length v.items ≡ 0 → erased_term (term_form t) ≡ erased_term (term_form x)
+operand-node t x first v is same none =
+    ap erased_term (ap term_form is ∙ (term-arithmetic first v ∙ no-links (term_form (box_value first)) v.items none)) ∙ ap (λ (y : ast.Term). erased_term (term_form y)) (sym same)
+
+pub quantified-node : (t x : ast.Term) (p : Place) (q : Quantifier) (vs : Vec Variables Global) (body : Box ast.Term Global) (groups : List Variables) → t ≡ ast.Quantified p q vs body → x ≡ box_value body → groups ≡ vs.items
+    → value_of t ≡ quantified_value q groups x
+quantified-node t x p q vs body groups is same are =
+    ap value_of is ∙ (ap (quantified_value q vs.items) (sym same) ∙ ap (λ (gs : List Variables). quantified_value q gs x) (sym are))
+
+-- ---- terms that no connective and no quantifier is above
+
+twice : (b : Bool) (f : syntax.Formula) → cond b f f ≡ f
+twice true f = refl
+twice false f = refl
+
+arithmetic-plain : (o : Arithmetic) (x y : syntax.Term) → expanded_term (syntax.Term.Binary (of_arithmetic o) x y) ≡ syntax.Formula.Val (syntax.Term.Binary (of_arithmetic o) x y)
+arithmetic-plain arithmetic.Plus x y = twice (has_quantifier x || has_quantifier y) _
+arithmetic-plain arithmetic.Minus x y = twice (has_quantifier x || has_quantifier y) _
+arithmetic-plain arithmetic.Times x y = twice (has_quantifier x || has_quantifier y) _
+arithmetic-plain arithmetic.Div x y = twice (has_quantifier x || has_quantifier y) _
+arithmetic-plain arithmetic.Mod x y = twice (has_quantifier x || has_quantifier y) _
+
+comparison-plain : (o : Comparison) (x y : syntax.Term) → expanded_term (syntax.Term.Binary (of_comparison o) x y) ≡ syntax.Formula.Val (syntax.Term.Binary (of_comparison o) x y)
+comparison-plain comparison.Equal x y = twice (has_quantifier x || has_quantifier y) _
+comparison-plain comparison.NotEqual x y = twice (has_quantifier x || has_quantifier y) _
+comparison-plain comparison.Less x y = twice (has_quantifier x || has_quantifier y) _
+comparison-plain comparison.LessEqual x y = twice (has_quantifier x || has_quantifier y) _
+comparison-plain comparison.Greater x y = twice (has_quantifier x || has_quantifier y) _
+comparison-plain comparison.GreaterEqual x y = twice (has_quantifier x || has_quantifier y) _
+
+calculated-plain : (f : TermForm) (l : ArithmeticLink) (links : List ArithmeticLink)
+    → expanded_term (erased_term (form.calculated f (arithmetic_links (l ∷ links)))) ≡ syntax.Formula.Val (erased_term (form.calculated f (arithmetic_links (l ∷ links))))
+calculated-plain f l [] = arithmetic-plain l.operator (erased_term f) (erased_term (term_form l.operand))
+calculated-plain f l (m ∷ links) = calculated-plain (TermForm.computed l.operator l.place f (term_form l.operand)) m links
+
+some-links : (f : TermForm) (links : List ArithmeticLink) → (length links ≡ 0 → ⊥) → expanded_term (erased_term (form.calculated f (arithmetic_links links))) ≡ syntax.Formula.Val (erased_term (form.calculated f (arithmetic_links links)))
+some-links f [] some = absurd (some refl)
+some-links f (l ∷ links) some = calculated-plain f l links
+
+pub arithmetic-node : (t : ast.Term) (first : Box ast.Term Global) (v : Vec ArithmeticLink Global) → t ≡ ast.Arithmetic first v → (length v.items ≡ 0 → ⊥) → value_of t ≡ syntax.Formula.Val (erased_term (term_form t))
+arithmetic-node t first v is some =
+    let same = ap term_form is ∙ term-arithmetic first v in
+    ap (λ (f : TermForm). expanded_term (erased_term f)) same
+    ∙ (some-links (term_form (box_value first)) v.items some ∙ sym (ap (λ (f : TermForm). syntax.Formula.Val (erased_term f)) same))
+
+pub comparison-node : (t : ast.Term) (p : Place) (o : Comparison) (left right : Box ast.Term Global) → t ≡ ast.Comparison p o left right → value_of t ≡ syntax.Formula.Val (erased_term (term_form t))
+comparison-node t p o left right is =
+    ap value_of is
+    ∙ (comparison-plain o (erased_term (term_form (box_value left))) (erased_term (term_form (box_value right)))
+    ∙ sym (ap (λ (u : ast.Term). syntax.Formula.Val (erased_term (term_form u))) is))
+
+-- another node, which `other` is
+pub other-node : (t other : ast.Term) → t ≡ other → value_of other ≡ syntax.Formula.Val (erased_term (term_form other)) → value_of t ≡ syntax.Formula.Val (erased_term (term_form t))
+other-node t other is e = ap value_of is ∙ (e ∙ sym (ap (λ (u : ast.Term). syntax.Formula.Val (erased_term (term_form u))) is))
+
+pub plain-grows : (S : Spec) (x : syntax.Term) (f : syntax.Formula) (old : List Carrier) → f ≡ syntax.Formula.Val x → shapes_of old ≡ shapes_of old ++ loops S f
+plain-grows S x f old e = sym (ap (λ (g : syntax.Formula). shapes_of old ++ loops S g) e ∙ append-nil (shapes_of old))
+
+-- such a term is one test
+pub plain_says : (S : Spec) (even : Bool) (c : Slotting) (n : ℕ) (r : Result code.Formula AllocError) (f : syntax.Formula) (x : syntax.Term) → f ≡ syntax.Formula.Val x
+    → IfOk r (λ (y : code.Formula). formula_view y ≡ signed_test even (slotted S c x)) → Says S even c n r f
+plain_says S even c n (Ok y) f x e h = λ scope. h ∙ sym (ap (normal S even c scope n) e)
+plain_says S even c n (Err z) f x e h = h
+
+pub plain_grows : (S : Spec) (x : syntax.Term) (f : syntax.Formula) (old : List Carrier) (r : Result code.Formula AllocError) → f ≡ syntax.Formula.Val x → Grows S old old r f
+plain_grows S x f old (Ok y) e = plain-grows S x f old e
+plain_grows S x f old (Err z) e = tt
+
+-- a result that says one formula says an equal one
+pub says_same : (S : Spec) (even : Bool) (c : Slotting) (n : ℕ) (r : Result code.Formula AllocError) (f g : syntax.Formula) → g ≡ f → Says S even c n r f → Says S even c n r g
+says_same S even c n r f g e h = subst (Says S even c n r) (sym e) h
+
+pub grows_same : (S : Spec) (old new : List Carrier) (r : Result code.Formula AllocError) (f g : syntax.Formula) → g ≡ f → Grows S old new r f → Grows S old new r g
+grows_same S old new r f g e h = subst (Grows S old new r) (sym e) h
+
+pub plain-normal : (S : Spec) (even : Bool) (c : Slotting) (scope : Scope) (n : ℕ) (x : syntax.Term) → has_quantifier x ≡ false → normal S even c scope n (expanded_term x) ≡ signed_test even (slotted S c x)
+plain-normal S even c scope n x h = ap (normal S even c scope n) (plain-expanded x h)
+
+-- a quantifier: its carriers, and a body under its slots
+pub quantified-view : (S : Spec) (even : Bool) (q : Quantifier) (xs : List Variable) (c inner : Slotting) (scope : Scope) (f : syntax.Formula) (old mid own : List Carrier) (m : Bool) (slot : ℕ) (body : code.Formula)
+    → slot ≡ length old → m ≡ is_universal q even → inner ≡ with_slots xs (length old) c → shapes_of own ≡ variable_shapes S xs → shapes_of mid ≡ shapes_of old ++ variable_shapes S xs
+    → formula_view body ≡ normal S even inner (bound S xs scope) (length mid) f
+    → nested m slot own (formula_view body) ≡ normal S even c scope (length old) (syntax.Formula.Quantified q xs f)
+quantified-view S even q xs c inner scope f old mid own m slot body at universal slots shapes grows form =
+    let n = length old in
+    let count : length mid ≡ n + length xs = length_behind old mid (variable_shapes S xs) grows ∙ ap (λ (k : ℕ). n + k) (length-variables S xs) in
+    ap (λ (k : ℕ). nested m k own (formula_view body)) at
+    ∙ (ap (λ (u : Bool). nested u n own (formula_view body)) universal
+    ∙ (ap (nested (is_universal q even) n own)
+    (form
+    ∙ (ap (λ (d : Slotting). normal S even d (bound S xs scope) (length mid) f) slots
+    ∙ ap (λ (k : ℕ). normal S even (with_slots xs n c) (bound S xs scope) k f) count))
+    ∙ sym (each-nested S (is_universal q even) xs c n (λ d k. normal S even d (bound S xs scope) k f) own shapes)))
+
+pub quantified-grows : (S : Spec) (q : Quantifier) (xs : List Variable) (f : syntax.Formula) (old mid new : List Carrier) → shapes_of mid ≡ shapes_of old ++ variable_shapes S xs → shapes_of new ≡ shapes_of mid ++ loops S f
+    → shapes_of new ≡ shapes_of old ++ loops S (syntax.Formula.Quantified q xs f)
+quantified-grows S q xs f old mid new first rest =
+    rest ∙ (ap (λ (ss : List Shape). ss ++ loops S f) first ∙ append_assoc (shapes_of old) (variable_shapes S xs) (loops S f))

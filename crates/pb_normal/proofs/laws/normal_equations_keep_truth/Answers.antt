@@ -1,0 +1,9 @@
+use Rattle.pb_syntax.specs.Erase.{erase}
+use Rattle.pb_normal.proofs.Equations.{equations-keep-truth, accepted-well-typed}
+use Rattle.pb_normal.proofs.laws.normal_equations_keep_truth.Goals as goal
+
+pub returns : goal.returns
+returns c = record {
+  well_typed = equations-keep-truth;
+  accepted = λ text faultless. equations-keep-truth (erase text) (accepted-well-typed text faultless);
+}

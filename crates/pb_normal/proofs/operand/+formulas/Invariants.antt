@@ -1,0 +1,23 @@
+use Rattle.std.proofs.Common.{◌+◌, ◌*◌}
+use Rattle.pb_declarations.specs.View.{spec_of}
+use Rattle.pb_typing.specs.Scopes.{scope_view}
+use Rattle.pb_typing.proofs.FormulaWeight.{weight, links_weight}
+use Rattle.pb_normal.specs.Slots.{slotting}
+use Rattle.pb_normal.proofs.FormulaSteps.{AreDone}
+use Rattle.pb_normal.proofs.operand.+formulas.Given as goal
+
+abbrev pub decreases-normal_formula : goal.decreases-normal_formula
+decreases-normal_formula l = 3 * weight l.formula.now
+
+abbrev pub decreases-normal_quantified : goal.decreases-normal_quantified
+decreases-normal_quantified l = 3 * weight l.body.now + 2
+
+abbrev pub decreases-normal_body : goal.decreases-normal_body
+decreases-normal_body l = 3 * weight l.body.now + 1
+
+abbrev pub decreases-normal_chain : goal.decreases-normal_chain
+decreases-normal_chain l = 3 * (weight l.first.now + links_weight l.links.now) + 1
+
+abbrev pub invariant-normal_chain-loop-index : goal.invariant-normal_chain-loop-index
+invariant-normal_chain-loop-index l =
+    AreDone (spec_of l.declarations) l.connective l.even (slotting l.slots) (scope_view l.scope) l.first l.links l.fn.carriers.items l.index l.head l.rest.items l.carriers.items

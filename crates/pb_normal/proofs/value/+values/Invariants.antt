@@ -1,0 +1,22 @@
+use Rattle.std.proofs.Common.{◌+◌, ◌*◌}
+use Rattle.pb_declarations.specs.View.{spec_of}
+use Rattle.pb_typing.proofs.Weight.{weight, links_weight}
+use Rattle.pb_normal.specs.Slots.{slotting}
+use Rattle.pb_normal.proofs.ValueSteps.{AreDone}
+use Rattle.pb_normal.proofs.value.+values.Given as goal
+
+abbrev pub decreases-normal_value : goal.decreases-normal_value
+decreases-normal_value l = 3 * weight l.term.now
+
+abbrev pub decreases-normal_quantified : goal.decreases-normal_quantified
+decreases-normal_quantified l = 3 * weight l.body.now + 2
+
+abbrev pub decreases-normal_body : goal.decreases-normal_body
+decreases-normal_body l = 3 * weight l.body.now + 1
+
+abbrev pub decreases-normal_operands : goal.decreases-normal_operands
+decreases-normal_operands l = 3 * (weight l.first.now + links_weight l.links.now) + 1
+
+abbrev pub invariant-normal_operands-loop-index : goal.invariant-normal_operands-loop-index
+invariant-normal_operands-loop-index l =
+    AreDone (spec_of l.declarations) l.connective l.even (slotting l.slots) l.first l.links l.fn.carriers.items l.index l.head l.rest.items l.carriers.items

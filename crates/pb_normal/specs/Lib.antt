@@ -1,0 +1,15 @@
+pub mod Expansion
+pub mod Normal
+pub mod Normalisation
+pub mod Plain
+pub mod View
+pub mod Slots
+pub mod Links
+pub mod Chains
+pub mod Loops
+pub mod Equations
+pub mod Tail
+pub mod Tree
+pub mod Answer
+pub mod Kept
+pub mod SlotOrder

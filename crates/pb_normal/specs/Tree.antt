@@ -1,0 +1,35 @@
+-- The parts of a syntax tree as the formulas that they are read as.
+use Rattle.std.specs.Prelude.{List}
+use Rattle.pb_ast.specs.declared.operator.Connective.{Connective}
+use Rattle.pb_ast.specs.declared.operator.Quantifier.{Quantifier}
+use Rattle.pb_ast.specs.declared.variable.Variables.{Variables}
+use Rattle.pb_ast.specs.declared.term.Term as ast
+use Rattle.pb_ast.specs.declared.term.TermLink.{TermLink}
+use Rattle.pb_ast.specs.declared.formula.Formula as predicate
+use Rattle.pb_ast.specs.declared.formula.Link.{Link}
+use Rattle.pb_ast.specs.Form.{TermForm, FormulaForm, chained, formula_form, link_forms, term_form, term_links, variable_forms}
+use Rattle.pb_syntax.specs.Syntax.{Term, Formula}
+use Rattle.pb_syntax.specs.Erase.{erased_formula, erased_term, erased_variables}
+use Rattle.pb_normal.specs.Expansion.{expanded, expanded_term}
+
+-- a data term of kind Bool
+abbrev pub value_of : ast.Term → Formula
+value_of x = expanded_term (erased_term (term_form x))
+
+-- operands of one connective in data
+abbrev pub chain_of : Connective → ast.Term → List TermLink → Term
+chain_of o first links = erased_term (chained (TermForm.connected o) (term_form first) (term_links links))
+
+-- a quantifier in data
+abbrev pub quantified_value : Quantifier → List Variables → ast.Term → Formula
+quantified_value q groups body = Formula.Quantified q (erased_variables (variable_forms groups)) (value_of body)
+
+abbrev pub formula_of : predicate.Formula → Formula
+formula_of f = expanded (erased_formula (formula_form f))
+
+-- operands of one connective
+abbrev pub formula_chain_of : Connective → predicate.Formula → List Link → Formula
+formula_chain_of o first links = expanded (erased_formula (chained (FormulaForm.connected o) (formula_form first) (link_forms links)))
+
+abbrev pub quantified_formula : Quantifier → List Variables → predicate.Formula → Formula
+quantified_formula q groups body = Formula.Quantified q (erased_variables (variable_forms groups)) (formula_of body)

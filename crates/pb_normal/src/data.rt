@@ -1,0 +1,153 @@
+//! Data terms over slots.
+
+ghost use Rattle.std.specs.Prelude.{◌≡◌, ◌∷◌, IfOk};
+ghost use Rattle.pb_ast.specs.Form.{TermForm, argument_forms, arithmetic_links, calculated, chained, named, term_form, term_links};
+ghost use Rattle.pb_syntax.specs.Erase.{erased_arguments, erased_term};
+ghost use Rattle.pb_declarations.specs.View.{spec_of};
+ghost use Rattle.pb_normal.specs.Normalisation.{applied, slotted, slotted_all};
+ghost use Rattle.pb_normal.specs.Slots.{slotting};
+ghost use Rattle.pb_normal.specs.View.{term_view};
+
+use crate::function::{apply_one, apply_three, apply_two, name_term};
+use crate::slots::Slots;
+use crate::term::{Link, Term};
+use pb_ast::{Argument, ArithmeticLink, Connective, Name, TermLink};
+use pb_declarations::Declarations;
+use std::alloc::{AllocError, Global};
+
+/// A data term over the slots of the variables in scope.
+///
+/// # Errors
+/// Memory was refused.
+#[cycle(data)]
+pub(crate) fn slot_term(
+    alloc: Global,
+    declarations: &Declarations<'_>,
+    slots: &Slots<'_, '_>,
+    term: &pb_ast::Term,
+) -> Result<Term, AllocError>
+    ensures { IfOk result (λ x. term_view x ≡ slotted (spec_of declarations.now) (slotting slots.now) (erased_term (term_form term.now))) }
+{
+    match term {
+        pb_ast::Term::Constant { value, .. } => Ok(Term::Constant(*value)),
+        pb_ast::Term::Number { value, .. } => Ok(Term::Number(*value)),
+        pb_ast::Term::Name(name) => Ok(name_term(declarations, slots, &name.text)),
+        pb_ast::Term::Not { operand, .. } => {
+            let operand = slot_term(alloc, declarations, slots, operand)?;
+            Ok(Term::Not(Box::new(alloc, operand)?))
+        }
+        pb_ast::Term::Negative { operand, .. } => {
+            let operand = slot_term(alloc, declarations, slots, operand)?;
+            Ok(Term::Negative(Box::new(alloc, operand)?))
+        }
+        pb_ast::Term::Chain {
+            connective,
+            first,
+            links,
+        } => slot_chain(alloc, declarations, slots, *connective, first, links),
+        pb_ast::Term::Comparison {
+            comparison,
+            left,
+            right,
+            ..
+        } => {
+            let left = slot_term(alloc, declarations, slots, left)?;
+            let right = slot_term(alloc, declarations, slots, right)?;
+            Ok(Term::Comparison {
+                comparison: *comparison,
+                left: Box::new(alloc, left)?,
+                right: Box::new(alloc, right)?,
+            })
+        }
+        pb_ast::Term::Arithmetic { first, links } => {
+            slot_arithmetic(alloc, declarations, slots, first, links)
+        }
+        pb_ast::Term::Application {
+            function,
+            arguments,
+        } => slot_application(alloc, declarations, slots, function, arguments),
+        pb_ast::Term::Quantified { .. } => Ok(Term::Constant(false)),
+    }
+}
+
+/// Operands of one connective.
+#[cycle(data)]
+pub(crate) fn slot_chain(
+    alloc: Global,
+    declarations: &Declarations<'_>,
+    slots: &Slots<'_, '_>,
+    connective: Connective,
+    first: &pb_ast::Term,
+    links: &[TermLink],
+) -> Result<Term, AllocError>
+    ensures { IfOk result (λ x. term_view x ≡ slotted (spec_of declarations.now) (slotting slots.now) (erased_term (chained (TermForm.connected connective) (term_form first.now) (term_links links.now)))) }
+{
+    let head = slot_term(alloc, declarations, slots, first)?;
+    let mut operands = Vec::new(alloc);
+    for link in links {
+        let operand = slot_term(alloc, declarations, slots, &link.operand)?;
+        operands.push(operand)?;
+    }
+    Ok(Term::Chain {
+        connective,
+        first: Box::new(alloc, head)?,
+        links: operands,
+    })
+}
+
+/// Operands of arithmetic.
+#[cycle(data)]
+fn slot_arithmetic(
+    alloc: Global,
+    declarations: &Declarations<'_>,
+    slots: &Slots<'_, '_>,
+    first: &pb_ast::Term,
+    links: &[ArithmeticLink],
+) -> Result<Term, AllocError>
+    ensures { IfOk result (λ x. term_view x ≡ slotted (spec_of declarations.now) (slotting slots.now) (erased_term (calculated (term_form first.now) (arithmetic_links links.now)))) }
+{
+    let head = slot_term(alloc, declarations, slots, first)?;
+    let mut operands = Vec::new(alloc);
+    for link in links {
+        let operand = slot_term(alloc, declarations, slots, &link.operand)?;
+        operands.push(Link {
+            operator: link.operator,
+            operand,
+        })?;
+    }
+    Ok(Term::Arithmetic {
+        first: Box::new(alloc, head)?,
+        links: operands,
+    })
+}
+
+/// A function or a recogniser with its arguments.
+#[cycle(data)]
+fn slot_application(
+    alloc: Global,
+    declarations: &Declarations<'_>,
+    slots: &Slots<'_, '_>,
+    function: &Name,
+    arguments: &[Argument],
+) -> Result<Term, AllocError>
+    ensures { IfOk result (λ x. term_view x ≡ applied (spec_of declarations.now) (named function.now).text (slotted_all (spec_of declarations.now) (slotting slots.now) (erased_arguments (argument_forms arguments.now)))) }
+{
+    match arguments {
+        [x] => {
+            let x = slot_term(alloc, declarations, slots, &x.term)?;
+            apply_one(alloc, declarations, &function.text, x)
+        }
+        [x, y] => {
+            let x = slot_term(alloc, declarations, slots, &x.term)?;
+            let y = slot_term(alloc, declarations, slots, &y.term)?;
+            apply_two(alloc, &function.text, x, y)
+        }
+        [x, y, z] => {
+            let x = slot_term(alloc, declarations, slots, &x.term)?;
+            let y = slot_term(alloc, declarations, slots, &y.term)?;
+            let z = slot_term(alloc, declarations, slots, &z.term)?;
+            apply_three(alloc, &function.text, x, y, z)
+        }
+        _ => Ok(Term::Number(0)),
+    }
+}

@@ -1,0 +1,130 @@
+//! Names in data: variables, enumerators and functions, over slots.
+
+ghost use Rattle.std.specs.Prelude.{◌≡◌, ◌||◌, IfOk, codes};
+ghost use Rattle.pb_syntax.specs.Syntax.{same_name};
+ghost use Rattle.pb_declarations.specs.Enumerators.{enumerator_of, recogniser_of};
+ghost use Rattle.pb_declarations.specs.View.{spec_of};
+ghost use Rattle.pb_normal.specs.Normalisation as normalisation;
+ghost use Rattle.pb_normal.specs.Slots.{slotting};
+ghost use Rattle.pb_normal.specs.View.{term_view};
+
+use crate::slots::{Slots, variable_slot};
+use crate::term::{Enumerator, Term};
+use pb_declarations::Declarations;
+use std::alloc::{AllocError, Global};
+
+/// A variable in scope, else an enumerator.
+pub(crate) fn name_term(declarations: &Declarations<'_>, slots: &Slots<'_, '_>, name: &str) -> Term
+    ensures { term_view result ≡ normalisation.named (spec_of declarations.now) (slotting slots.now name.now) name.now }
+{
+    match variable_slot(slots, name) {
+        Some(slot) => Term::Slot(slot),
+        None => enumerator_term(declarations, name),
+    }
+}
+
+/// An enumerator; where none has the name, a number that stands for nothing.
+fn enumerator_term(declarations: &Declarations<'_>, name: &str) -> Term
+    ensures { term_view result ≡ normalisation.enumerator (enumerator_of (spec_of declarations.now) name.now) }
+{
+    match declarations.enumerator(name) {
+        Some(found) => Term::Enumerator(Enumerator {
+            sort: found.sort,
+            place: found.place,
+        }),
+        None => Term::Number(0),
+    }
+}
+
+/// A function of one argument.
+///
+/// # Errors
+/// Memory was refused.
+pub(crate) fn apply_one(
+    alloc: Global,
+    declarations: &Declarations<'_>,
+    name: &str,
+    x: Term,
+) -> Result<Term, AllocError>
+    ensures { IfOk result (λ y. term_view y ≡ normalisation.applied_to_one (spec_of declarations.now) name.now (term_view x)) }
+{
+    if name == "succ" {
+        Ok(Term::Successor(Box::new(alloc, x)?))
+    } else if name == "pred" {
+        Ok(Term::Predecessor(Box::new(alloc, x)?))
+    } else if name == "abs" {
+        Ok(Term::Absolute(Box::new(alloc, x)?))
+    } else if is_conversion(name) {
+        Ok(x)
+    } else {
+        recognise(alloc, declarations, name, x)
+    }
+}
+
+/// Whether the name is that of a conversion between integer sorts.
+fn is_conversion(name: &str) -> bool
+    ensures { result ≡ (same_name name.now (codes "Pos2Nat") || same_name name.now (codes "Pos2Int") || same_name name.now (codes "Nat2Int")) }
+{
+    name == "Pos2Nat" || name == "Pos2Int" || name == "Nat2Int"
+}
+
+/// A recogniser of an argument; a name that is no recogniser's recognises nothing.
+fn recognise(
+    alloc: Global,
+    declarations: &Declarations<'_>,
+    name: &str,
+    x: Term,
+) -> Result<Term, AllocError>
+    ensures { IfOk result (λ y. term_view y ≡ normalisation.recognised (recogniser_of (spec_of declarations.now) name.now) (term_view x)) }
+{
+    match declarations.recogniser(name) {
+        Some(found) => Ok(Term::Recognised {
+            enumerator: Enumerator {
+                sort: found.sort,
+                place: found.place,
+            },
+            operand: Box::new(alloc, x)?,
+        }),
+        None => Ok(Term::Constant(false)),
+    }
+}
+
+/// A function of two arguments.
+///
+/// # Errors
+/// Memory was refused.
+pub(crate) fn apply_two(alloc: Global, name: &str, x: Term, y: Term) -> Result<Term, AllocError>
+    ensures { IfOk result (λ z. term_view z ≡ normalisation.applied_to_two name.now (term_view x) (term_view y)) }
+{
+    if name == "max" {
+        Ok(Term::Maximum(Box::new(alloc, x)?, Box::new(alloc, y)?))
+    } else if name == "min" {
+        Ok(Term::Minimum(Box::new(alloc, x)?, Box::new(alloc, y)?))
+    } else {
+        Ok(Term::Number(0))
+    }
+}
+
+/// A function of three arguments.
+///
+/// # Errors
+/// Memory was refused.
+pub(crate) fn apply_three(
+    alloc: Global,
+    name: &str,
+    x: Term,
+    y: Term,
+    z: Term,
+) -> Result<Term, AllocError>
+    ensures { IfOk result (λ r. term_view r ≡ normalisation.applied_to_three name.now (term_view x) (term_view y) (term_view z)) }
+{
+    if name == "if" {
+        Ok(Term::Choice {
+            condition: Box::new(alloc, x)?,
+            positive: Box::new(alloc, y)?,
+            negative: Box::new(alloc, z)?,
+        })
+    } else {
+        Ok(Term::Number(0))
+    }
+}

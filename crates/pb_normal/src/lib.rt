@@ -1,0 +1,21 @@
+//! Positive normal form: negations are driven down to data terms, a data term with quantifiers becomes a formula, and
+//! variables become slots.
+#![tactic(auto)]
+
+mod call;
+mod data;
+pub mod formula;
+mod function;
+pub mod laws;
+pub mod normal;
+mod operand;
+mod quantifier;
+mod sign;
+mod slots;
+pub mod term;
+mod value;
+mod variables;
+
+pub use formula::{Argument, Formula};
+pub use normal::{Equation, Normal, normalise};
+pub use term::{Enumerator, Link, Term};

@@ -1,0 +1,102 @@
+//! The normal form of a text.
+
+ghost use Rattle.std.specs.Prelude.{◌≡◌, map, IfOk};
+ghost use Rattle.pb_ast.specs.Form.{equation_form, spec_form};
+ghost use Rattle.pb_syntax.specs.Erase.{erase, erased_equation};
+ghost use Rattle.pb_syntax.specs.Meaning.{answer};
+ghost use Rattle.pb_declarations.specs.View.{spec_of, text_of};
+ghost use Rattle.pb_normal.specs.Answer.{answer_by, normal_equations};
+ghost use Rattle.pb_normal.specs.Equations.{normal_equation};
+ghost use Rattle.pb_normal.specs.Loops.{equation_loops, IsShapedEquation};
+ghost use Rattle.pb_normal.specs.View.{formula_view, right_views, shapes_of};
+
+use crate::formula::Formula;
+use crate::operand::normal_formula;
+use crate::slots::Slots;
+use crate::variables::{carriers_from, declare_variables};
+use pb_declarations::{Declarations, TypeError};
+use pb_sorts::Carrier;
+use pb_typing::{Scope, Typed, variable_shapes};
+use std::alloc::{AllocError, Global};
+
+/// An accepted text with the right sides of its equations in positive normal form. Signs, names, parameters and the
+/// initial instance are those of the text.
+#[derive(Drop)]
+pub struct Normal<'a> {
+    pub typed: &'a Typed,
+    /// The equations in the order of the text.
+    pub equations: Vec<Equation>,
+}
+
+/// The right side of an equation over slots: its parameters have the first slots, and the variables of its quantifiers
+/// the next, in the order of the normal form.
+#[derive(Debug, Drop)]
+pub struct Equation {
+    pub right: Formula,
+    /// The carriers of the slots behind those of the parameters, in order.
+    pub loops: Vec<Carrier>,
+}
+
+/// The positive normal form of each right side (Groote and Willemse 2005): negation stands on data alone, and each
+/// variable is a slot.
+///
+/// # Errors
+/// Memory was refused.
+pub fn normalise(alloc: Global, typed: &Typed) -> Result<Normal<'_>, AllocError>
+    // It borrows the text.
+    ensures text { IfOk result (λ normal. normal.typed.now ≡ typed.now) }
+    // Each right side is the positive normal form of the text's.
+    ensures rights { IfOk result (λ normal. right_views normal.equations.items ≡ normal_equations (erase (spec_form typed.now.spec))) }
+    // They have the answer of the text.
+    ensures answer { IfOk result (λ normal. answer_by (erase (spec_form typed.now.spec)) (right_views normal.equations.items) ≡ answer (erase (spec_form typed.now.spec))) }
+    // The slots behind the parameters are those of the quantified variables, in order.
+    ensures loops { IfOk result (λ normal. map (λ X. shapes_of X.loops.items) normal.equations.items ≡ map (equation_loops (erase (spec_form typed.now.spec))) (erase (spec_form typed.now.spec)).equations) }
+{
+    let declarations = read_declarations(alloc, typed)?;
+    let mut equations = Vec::new(alloc);
+    for equation in &typed.spec.equations {
+        let normal = normal_equation(alloc, &declarations, equation)?;
+        equations.push(normal)?;
+    }
+    Ok(Normal { typed, equations })
+}
+
+/// What an accepted text declares.
+fn read_declarations(alloc: Global, typed: &Typed) -> Result<Declarations<'_>, AllocError>
+    ensures { IfOk result (λ declarations. text_of declarations ≡ spec_form typed.now.spec) }
+{
+    match Declarations::read(alloc, &typed.spec) {
+        Ok(declarations) => Ok(declarations),
+        Err(TypeError::Memory) => Err(AllocError),
+        Err(TypeError::At(_)) => unreachable!(),
+    }
+}
+
+/// The normal form of an equation's right side.
+fn normal_equation(
+    alloc: Global,
+    declarations: &Declarations<'_>,
+    equation: &pb_ast::Equation,
+) -> Result<Equation, AllocError>
+    requires { IsShapedEquation (spec_of declarations.now) (erased_equation (equation_form equation.now)) }
+    ensures right { IfOk result (λ X. formula_view X.right ≡ normal_equation (spec_of declarations.now) (erased_equation (equation_form equation.now))) }
+    ensures loops { IfOk result (λ X. shapes_of X.loops.items ≡ equation_loops (spec_of declarations.now) (erased_equation (equation_form equation.now))) }
+{
+    let mut carriers = Vec::new(alloc);
+    let shapes = variable_shapes(alloc, declarations, &equation.parameters)?;
+    let table = declare_variables(alloc, declarations, &equation.parameters, &mut carriers)?;
+    let parameters = carriers.len();
+    let scope = Scope::Inner(&shapes, &Scope::Outermost);
+    let slots = Slots::Inner(&table, &Slots::Outermost);
+    let right = normal_formula(
+        alloc,
+        declarations,
+        &scope,
+        &slots,
+        true,
+        &mut carriers,
+        &equation.right,
+    )?;
+    let loops = carriers_from(alloc, &carriers, parameters)?;
+    Ok(Equation { right, loops })
+}

@@ -1,0 +1,40 @@
+//! What negations turn round (De Morgan).
+
+ghost use Rattle.std.specs.Prelude.{◌≡◌};
+ghost use Rattle.pb_shapes.specs.Faults as parity;
+ghost use Rattle.pb_normal.specs.Normalisation as normalisation;
+ghost use Rattle.pb_normal.specs.Chains.{joins};
+
+use pb_ast::{Connective, Quantifier};
+
+/// Whether a quantifier is for all values, where `even` says whether the negations around it are even in number.
+pub(crate) fn is_universal(quantifier: Quantifier, even: bool) -> bool
+    ensures { result ≡ normalisation.is_universal quantifier even }
+{
+    match quantifier {
+        Quantifier::Forall => even,
+        Quantifier::Exists => !even,
+    }
+}
+
+/// Whether operands of a connective are a conjunction, where `even` says whether the negations around them are even in
+/// number. The left side of `=>` counts as negated.
+pub(crate) fn is_conjunctive(connective: Connective, even: bool) -> bool
+    ensures { result ≡ joins connective even }
+{
+    match connective {
+        Connective::And => even,
+        Connective::Or | Connective::Implies => !even,
+    }
+}
+
+/// Whether the negations around an operand of a chain are even in number, where `behind` operands stand behind it.
+/// A chain is read to the right.
+pub(crate) fn operand_parity(connective: Connective, even: bool, behind: usize) -> bool
+    ensures { result ≡ parity.operand_parity connective even behind }
+{
+    match connective {
+        Connective::Implies if behind > 0 => !even,
+        _ => even,
+    }
+}
