@@ -108,20 +108,23 @@ fn main(rt: HostRuntime) -> io::Result<()> {
     for _ in 0..before {
         Box::new(rt.alloc(), 0u8)?;
     }
-    let mut refused = 0;
-    let mut wrong = 0;
+    let mut is_right = true;
+    let mut is_refused = false;
     for case in &CASES {
         match answer_to(&rt, case) {
             Answer::Given => {}
-            Answer::OutOfMemory => refused += 1,
-            Answer::Wrong => wrong += 1,
+            Answer::OutOfMemory => {
+                is_right = is_right && !is_refused;
+                is_refused = true;
+            }
+            Answer::Wrong => is_right = false,
         }
     }
     let is_counted = match number {
-        0 | LAST => refused == 0,
-        1 => refused == 1,
-        _ => refused <= 1,
+        0 | LAST => !is_refused,
+        1 => is_refused,
+        _ => true,
     };
-    let is_wanted = wrong == 0 && is_counted;
+    let is_wanted = is_right && is_counted;
     println!(rt; "{}", if is_wanted { "as wanted" } else { "wrong" })
 }
