@@ -1,5 +1,6 @@
 //! Measures the reader of texts: reads lines `KIND KILOBYTES TURNS`, makes the text of each, reads it so many times and
-//! prints what it has. The kinds are `comments`, `enumerators`, `terms` and `formulas`.
+//! prints what it has. The kinds are `comments`, `enumerators`, `terms`, `formulas`, `calls` (instances
+//! with long argument lists) and `mixed` (a third each of comments, enumerators and calls).
 #![tactic(auto)]
 
 mod texts;

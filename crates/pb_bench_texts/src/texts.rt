@@ -11,6 +11,10 @@ const SUMMAND: &[u8] = b" + (first_variable - 1) * second_variable";
 
 const CONJUNCT: &[u8] = b" && (Predicate_variable(n) || val(n == 0))";
 
+/// An instance with a long argument list.
+const CALL: &[u8] =
+    b"\n    && (Predicate_variable(state_of_sender, state_of_receiver, first_channel, second_channel, counter + 1, false, first_enumerator, 1024, buffer) || val(state_of_receiver == waiting_for_message))";
+
 /// So many equations fill the text, with fewer operators than one may have.
 const PARTS_OF_AN_EQUATION: u32 = 2000;
 
@@ -38,16 +42,28 @@ fn equations(
     Ok(())
 }
 
+/// Adds a sort whose enumerators fill so many bytes.
+fn enumerators(text: &mut Vec<u8>, bytes: u32) -> Result<(), AllocError> {
+    text.extend_from_slice(b"sort D = struct first")?;
+    repeat(text, ENUMERATOR, bytes / 55)?;
+    text.extend_from_slice(b";\n")
+}
+
+/// Adds equations whose instances have long argument lists.
+fn calls(text: &mut Vec<u8>, bytes: u32) -> Result<(), AllocError> {
+    equations(text, b"nu Y(n: Nat) = true", CALL, b";\n", bytes / 196)
+}
+
 /// A text of about so many kilobytes.
 pub fn text_of(alloc: Global, kind: &str, kilobytes: u32) -> Result<Vec<u8>, AllocError> {
     let bytes = kilobytes.min(65_000) * 1000;
     let mut text = Vec::new(alloc);
     match kind {
         "comments" => repeat(&mut text, COMMENT, bytes / 74)?,
-        "enumerators" => {
-            text.extend_from_slice(b"sort D = struct first")?;
-            repeat(&mut text, ENUMERATOR, bytes / 55)?;
-            text.extend_from_slice(b";\n")?;
+        "enumerators" => enumerators(&mut text, bytes)?,
+        "mixed" => {
+            repeat(&mut text, COMMENT, bytes / 3 / 74)?;
+            enumerators(&mut text, bytes / 3)?;
         }
         _ => {}
     }
@@ -67,6 +83,8 @@ pub fn text_of(alloc: Global, kind: &str, kilobytes: u32) -> Result<Vec<u8>, All
             b";\n",
             bytes / 42,
         )?,
+        "calls" => calls(&mut text, bytes)?,
+        "mixed" => calls(&mut text, bytes / 3)?,
         _ => {}
     }
     text.extend_from_slice(b"init X;\n")?;

@@ -12,7 +12,7 @@ use Rattle.pb_declarations.specs.declared.fault.Rule.TheVariants.{NameTwice, Lim
 use Rattle.pb_declarations.specs.Faults.{unless, repeated, length_faults}
 use Rattle.pb_declarations.specs.Shapes.{End, Shaped, Unranged, Undeclared, Endless, end_of, base_of, is_sort, is_built_in, number_behind}
 use Rattle.pb_declarations.specs.Instances.{instance_count, all_instances}
-use Rattle.pb_declarations.specs.Declarations.{is_integer, is_named_function, use_faults, variable_names, variable_faults, variables_faults, limit_faults, equation_faults, equations_faults_behind, recogniser_faults, recogniser_name, names_of_enumerator, enumerator_faults, enumerators_of_sort, all_enumerator_forms, struct_faults, structs_faults, definition_faults, sort_faults, range_faults, empty_faults}
+use Rattle.pb_declarations.specs.Declarations.{is_integer, is_named_function, use_faults, variable_names, variable_faults, variables_faults, limit_faults, own_names, equation_faults, equations_faults_behind, recogniser_faults, recogniser_name, names_of_enumerator, enumerator_faults, enumerators_of_sort, all_enumerator_forms, struct_faults, structs_faults, definition_faults, sort_faults, range_faults, empty_faults}
 use Rattle.pb_declarations.specs.WellDeclared.{AreApart, has_shape, AreVariables, IsDefined, structs_behind, IsRanged, enumerators, given, enumerator_names, every_enumerator}
 use Rattle.pb_declarations.proofs.Parts.{no_parts, no_whole, holds_unless, unless_holds}
 use Rattle.pb_declarations.proofs.Loops.{same_length}
@@ -147,22 +147,24 @@ one_sort : (S : Spec) (n : ℕ) (s : Named) (sort : SortForm) → n ≤ 255 → 
 one_sort S n s (struct es) low e f =
     let p = no_parts (unless (nat_lt n 255) Limit s.place) _ e in
     let q = no_parts (unless (nat_lt 0 (length es)) Limit s.place) _ p.1 in
-    let r = no_parts (unless (nat_le (length es) 255) Limit s.place) _ q.1 in
+    let r = no_parts (limit_faults 255 (own_names es)) _ q.1 in
+    let named = same_length (λ (e : EnumeratorForm). e.name) es in
     let same = same_length erased_enumerator es in
     let some = below 0 (length es) (holds_unless _ _ _ q.0) in
-    let most = at_most (length es) 255 (holds_unless _ _ _ r.0) in
+    let most = few_names 255 (own_names es) r.0 in
     let fits = below n 255 (holds_unless _ _ _ p.0) in
-    record { defined = (omega (arith, same, some), omega (arith, same, most)); few = omega (arith, fits); enumerators = r.1 }
+    record { defined = (omega (arith, same, some), omega (arith, same, named, most)); few = omega (arith, fits); enumerators = r.1 }
 one_sort S n s (alias t) low e f =
     let p = no_parts (unless (is_sort S t.text) UnknownSort t.place) _ f in
     record { defined = (holds_unless _ _ _ p.0, not_true _ (holds_unless _ _ _ p.1)); few = low; enumerators = refl }
 
 one_sort_clear : (S : Spec) (n : ℕ) (s : Named) (sort : SortForm) → SortHolds S n s sort → (struct_faults n s.place sort ≡ []) × (definition_faults S s sort ≡ [])
 one_sort_clear S n s (struct es) h =
-    let same = same_length erased_enumerator es in (
+    let same = same_length erased_enumerator es in
+    let named = same_length (λ (e : EnumeratorForm). e.name) es in (
       no_whole (unless (nat_lt n 255) Limit s.place) _ (unless_holds _ _ _ (below_true n 255 (omega (arith, h.few))))
           (no_whole (unless (nat_lt 0 (length es)) Limit s.place) _ (unless_holds _ _ _ (below_true 0 (length es) (omega (arith, same, h.defined.0))))
-          (no_whole (unless (nat_le (length es) 255) Limit s.place) _ (unless_holds _ _ _ (at_most_true (length es) 255 (omega (arith, same, h.defined.1)))) h.enumerators)),
+          (no_whole (limit_faults 255 (own_names es)) _ (limit_clear 255 (own_names es) (omega (arith, same, named, h.defined.1))) h.enumerators)),
       refl,
     )
 one_sort_clear S n s (alias t) h =

@@ -3,6 +3,7 @@ pub mod Filling
 pub mod Loops
 pub mod Structs
 pub mod Agreeing
+pub mod ChainLemmas
 pub mod ReadParts
 pub mod VariableLemmas
 pub mod ParameterLemmas

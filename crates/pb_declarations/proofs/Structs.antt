@@ -1,6 +1,6 @@
 -- The faults and the entries of sorts, sort by sort.
-use Rattle.std.proofs.Common.{◌≡◌, ℕ, suc, ◌+◌, ◌<◌, ◌≤◌, true, List, [], ◌∷◌, ◌++◌, length, get_or, drop, map, sym, ◌∙◌, ap, arith, rules, tests, Vec, Global}
-use Rattle.std.specs.Prelude.{flat_map, nat_lt, nat_le}
+use Rattle.std.proofs.Common.{◌≡◌, ℕ, zero, suc, ◌+◌, ◌<◌, ◌≤◌, true, false, refl, List, [], ◌∷◌, ◌++◌, length, get_or, drop, map, sym, ◌∙◌, ap, arith, rules, tests, Vec, Global}
+use Rattle.std.specs.Prelude.{flat_map, nat_lt}
 use Rattle.std.proofs.lemmas.List.{map-append}
 use Rattle.pb_ast.specs.declared.place.Place.{Place}
 use Rattle.pb_ast.specs.declared.sort.Enumerator as ast
@@ -18,19 +18,34 @@ use Rattle.pb_declarations.specs.Faults.{unless}
 use Rattle.pb_declarations.specs.Shapes.{definition_of, number_behind}
 use Rattle.pb_declarations.specs.Tables.{entry_names, entry_values}
 use Rattle.pb_declarations.specs.Entries.{shown, struct_count, shown_entries}
-use Rattle.pb_declarations.specs.Declarations.{struct_faults, structs_faults, enumerator_faults}
+use Rattle.pb_declarations.specs.Declarations.{limit_faults, own_names, struct_faults, structs_faults, enumerator_faults}
 use Rattle.pb_declarations.proofs.Parts.{no_parts, holds_unless}
 use Rattle.pb_declarations.proofs.Loops.{next, same_length, one_more, more}
 
-abbrev pub struct_parts : ℕ → Place → ℕ → List Fault → List Fault
-struct_parts n place count rest = unless (nat_lt n 255) Limit place ++ (unless (nat_lt 0 count) Limit place ++ (unless (nat_le count 255) Limit place ++ rest))
+abbrev pub struct_parts : ℕ → Place → ℕ → List Fault → List Fault → List Fault
+struct_parts n place count few rest = unless (nat_lt n 255) Limit place ++ (unless (nat_lt 0 count) Limit place ++ (few ++ rest))
+
+abbrev pub count_faults : List ast.Enumerator → List Fault
+count_faults es = limit_faults 255 (own_names (map enumerator_form es))
 
 -- the faults of a struct in the code's words
 pub struct_whole : (n : ℕ) (place : Place) (s : sort.Sort) (es : Vec ast.Enumerator Global) (count : ℕ) → s ≡ sorts.Struct es → count ≡ length es.items
-    → struct_faults n place (sort_form s) ≡ struct_parts n place count (flat_map enumerator_faults (map enumerator_form es.items))
+    → struct_faults n place (sort_form s) ≡ struct_parts n place count (count_faults es.items) (flat_map enumerator_faults (map enumerator_form es.items))
 struct_whole n place s es count is are =
     ap (λ (t : sort.Sort). struct_faults n place (sort_form t)) is
-    ∙ ap (λ (k : ℕ). struct_parts n place k (flat_map enumerator_faults (map enumerator_form es.items))) (same_length enumerator_form es.items ∙ sym are)
+    ∙ ap (λ (k : ℕ). struct_parts n place k (count_faults es.items) (flat_map enumerator_faults (map enumerator_form es.items))) (same_length enumerator_form es.items ∙ sym are)
+
+-- the fault of the enumerator that passes the limit
+pub count_at : (es : List ast.Enumerator) (limit : ℕ) (e : ast.Enumerator) → limit < length es → e ≡ get_or es limit e → limit_faults limit (own_names (map enumerator_form es)) ≡ unless false Limit e.name.place
+count_at [] limit e below at = absurd (omega (arith, below))
+count_at (f ∷ es) zero e below at = ap (λ (g : ast.Enumerator). unless false Limit g.name.place) (sym at)
+count_at (f ∷ es) (suc limit) e below at = count_at es limit e (omega (arith, below)) at
+
+-- and none where so many are enough
+pub count_clear : (es : List ast.Enumerator) (limit : ℕ) → length es ≤ limit → limit_faults limit (own_names (map enumerator_form es)) ≡ []
+count_clear [] limit few = refl
+count_clear (e ∷ es) zero few = absurd (omega (arith, few))
+count_clear (e ∷ es) (suc limit) few = count_clear es limit (omega (arith, few))
 
 -- the number of the next struct
 pub number_after : (n : ℕ) (d : SortForm) (definition : declared.Definition) → shown definition ≡ definition_of n (erased_sort d) → n + struct_count (shown definition) ≡ number_behind n (erased_sort d)

@@ -60,3 +60,6 @@ carriers_few S xs carriers limit are clear =
 
 pub below_length : (k n : ℕ) → true ≡ nat_lt k n → k < n
 below_length k n e = search (rules, tests)
+
+pub not_below_length : (k n : ℕ) → false ≡ nat_lt k n → n ≤ k
+not_below_length k n e = search (rules, tests)

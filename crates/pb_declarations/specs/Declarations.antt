@@ -14,6 +14,16 @@ use Rattle.pb_declarations.specs.Shapes.{End, Shaped, Unranged, Undeclared, Endl
 use Rattle.pb_declarations.specs.Instances.{instance_count}
 use Rattle.pb_sorts.specs.declared.limits.TheConstants.{MAX_INSTANCES}
 
+-- ---- limits
+
+-- the one that comes after so many passes the limit
+abbrev pub limit_fault : Option Named → List Fault
+limit_fault None = []
+limit_fault (Some x) = unless false Limit x.place
+
+abbrev pub limit_faults : ℕ → List Named → List Fault
+limit_faults limit xs = limit_fault (slice_get xs limit)
+
 -- ---- enumerators and recognisers, in the order of the text
 
 abbrev pub recogniser_name : Option Named → List Named
@@ -64,12 +74,15 @@ definition_faults spec s (alias target) =
 abbrev pub sort_faults : Spec → SortDeclarationForm → List Fault
 sort_faults spec d = unless (not (is_built_in d.name.text)) NameTwice d.name.place ++ definition_faults spec d.name d.sort
 
+abbrev pub own_names : List EnumeratorForm → List Named
+own_names es = map (λ (e : EnumeratorForm). e.name) es
+
 -- behind n structs: there are at most 255, and each has 1 to 255 enumerators
 abbrev pub struct_faults : ℕ → Place → SortForm → List Fault
 struct_faults n place (struct es) =
     unless (nat_lt n 255) Limit place
     ++ (unless (nat_lt 0 (length es)) Limit place
-    ++ (unless (nat_le (length es) 255) Limit place
+    ++ (limit_faults 255 (own_names es)
     ++ flat_map enumerator_faults es))
 struct_faults n place (alias target) = []
 
@@ -127,14 +140,6 @@ abbrev pub variables_faults : Spec → List VariableForm → List Fault
 variables_faults spec xs = repeated (variable_names xs) ++ flat_map (variable_faults spec) xs
 
 -- ---- predicate variables
-
--- the one that comes after so many passes the limit
-abbrev pub limit_fault : Option Named → List Fault
-limit_fault None = []
-limit_fault (Some x) = unless false Limit x.place
-
-abbrev pub limit_faults : ℕ → List Named → List Fault
-limit_faults limit xs = limit_fault (slice_get xs limit)
 
 abbrev pub equation_names : List EquationForm → List Named
 equation_names E = map (λ (X : EquationForm). X.name) E

@@ -3,6 +3,7 @@ pub mod Shapes
 pub mod Enumerators
 pub mod Tables
 pub mod Entries
+pub mod Chains
 pub mod Variables
 pub mod View
 pub mod Agreement

@@ -1,9 +1,9 @@
-//! Chains of aliases, and what stands at their ends.
+//! What stands at the end of a chain of aliases, and one step of a chain.
 
-ghost use Rattle.std.specs.Prelude.{◌≡◌, suc, codes};
+ghost use Rattle.std.specs.Prelude.{◌≡◌, codes};
 ghost use Rattle.pb_syntax.specs.Syntax.{Name, same_name};
 ghost use Rattle.pb_declarations.specs.Shapes as ends;
-ghost use Rattle.pb_declarations.specs.Shapes.{end_by, end_within, is_built_in, built_in_integers};
+ghost use Rattle.pb_declarations.specs.Shapes.{end_by, is_built_in, built_in_integers};
 ghost use Rattle.pb_declarations.specs.Entries.{end_shown, end_behind, range_in, definition_in};
 
 use crate::definition::Definition;
@@ -65,32 +65,6 @@ impl End {
     }
 }
 
-/// The end of the chain that begins at a sort. A sort with a range ends it, and a chain of more than `limit` aliases has
-/// no end.
-pub(crate) fn chain_end<'a>(
-    definitions: &HashMap<&'a str, Definition<'a>>,
-    ranges: &HashMap<&'a str, Range>,
-    limit: usize,
-    sort: &str,
-) -> End
-    ensures { end_shown result ≡ end_within (suc limit) (range_in ranges.now) (definition_in definitions.now) sort.now }
-{
-    let mut sort = sort;
-    let mut left = limit;
-    loop {
-        match chain_step(definitions, ranges, sort) {
-            Step::Ends(end) => return end,
-            Step::GoesOn(target) => {
-                if left == 0 {
-                    return End::Endless;
-                }
-                left -= 1;
-                sort = target;
-            }
-        }
-    }
-}
-
 /// One step of a chain: its end, or the target of an alias.
 #[derive(Clone, Copy)]
 pub(crate) enum Step<'a> {
@@ -98,7 +72,8 @@ pub(crate) enum Step<'a> {
     GoesOn(&'a str),
 }
 
-fn chain_step<'a>(
+/// Looks at one sort of a chain. A sort with a range ends it.
+pub(crate) fn chain_step<'a>(
     definitions: &HashMap<&'a str, Definition<'a>>,
     ranges: &HashMap<&'a str, Range>,
     sort: &str,

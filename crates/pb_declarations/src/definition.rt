@@ -1,14 +1,14 @@
 //! What sorts and enumerators are declared to be, in the order of the text.
 
-ghost use Rattle.std.specs.Prelude.{◌≡◌, ◌≤◌, nat_le, map, flat_map, length, MatchResult};
+ghost use Rattle.std.specs.Prelude.{◌≡◌, ◌≤◌, [], nat_le, map, flat_map, length, MatchResult};
 ghost use Rattle.pb_ast.specs.Form.{enumerator_form, sort_declaration_form, sort_form, recogniser_form, named};
 ghost use Rattle.pb_declarations.specs.Faults.{IsAmong};
-ghost use Rattle.pb_declarations.specs.Declarations.{struct_faults, structs_faults, recogniser_faults, enumerator_faults, is_named_function, is_numeric_function, is_conversion};
+ghost use Rattle.pb_declarations.specs.Declarations.{limit_faults, own_names, struct_faults, structs_faults, recogniser_faults, enumerator_faults, is_named_function, is_numeric_function, is_conversion};
 ghost use Rattle.pb_declarations.specs.Entries.{as_enumerator, as_recogniser};
 ghost use Rattle.pb_declarations.specs.Reading.{AreDefinitions, IsDefinition, HasEnumerators, HasRecogniser};
 
 use crate::entry::Entry;
-use crate::fault::{Rule, TypeError, require};
+use crate::fault::{Fault, Rule, TypeError, require};
 use crate::sorts::Enumerator;
 use pb_ast::{Name, Sort, SortDeclaration};
 use pb_sorts::Enumeration;
@@ -118,7 +118,7 @@ fn read_definition<'a>(
             let count = enumerators.len();
             require(number < MAX_ENUMERATION, Rule::Limit, place)?;
             require(0 < count, Rule::Limit, place)?;
-            require(count <= MAX_ENUMERATION, Rule::Limit, place)?;
+            check_count(enumerators)?;
             let enumeration = Enumeration {
                 sort: number as u8,
                 count: count as u8,
@@ -127,6 +127,21 @@ fn read_definition<'a>(
             Ok(Definition::Struct(enumeration))
         }
         Sort::Alias(target) => Ok(Definition::Alias(&target.text)),
+    }
+}
+
+/// Whether a struct has few enough enumerators; the fault stands at the one that passes the limit.
+fn check_count(enumerators: &[pb_ast::Enumerator]) -> Result<(), TypeError>
+    ensures { MatchResult result
+        (λ _. (limit_faults 255 (own_names (map enumerator_form enumerators.now)) ≡ []) × (length enumerators.now ≤ 255))
+        (IsAmong (limit_faults 255 (own_names (map enumerator_form enumerators.now)))) }
+{
+    match enumerators.get(MAX_ENUMERATION) {
+        None => Ok(()),
+        Some(enumerator) => Err(TypeError::At(Fault {
+            rule: Rule::Limit,
+            place: enumerator.name.place,
+        })),
     }
 }
 

@@ -6,6 +6,7 @@
 mod chain;
 mod declarations;
 mod definition;
+mod ends;
 mod entry;
 mod fault;
 mod laws;

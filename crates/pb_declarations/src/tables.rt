@@ -1,6 +1,6 @@
 //! Look-up tables of what a text declares, and the check of its declarations by them.
 
-ghost use Rattle.std.specs.Prelude.{◌≡◌, ◌+◌, ◌≤◌, nat_le, [], map, flat_map, MatchResult, IfOk};
+ghost use Rattle.std.specs.Prelude.{◌≡◌, ◌+◌, ◌≤◌, nat_le, [], None, map, flat_map, MatchResult, IfOk};
 ghost use Rattle.pb_carriers.specs.Carrier.{tuple_count};
 ghost use Rattle.pb_sorts.specs.Carrier.{values_of};
 ghost use Rattle.pb_sorts.specs.Layout.{lists_of};
@@ -10,14 +10,16 @@ ghost use Rattle.pb_declarations.specs.Faults.{unless, IsAmong};
 ghost use Rattle.pb_declarations.specs.Shapes.{end_of, base_of, is_sort};
 ghost use Rattle.pb_declarations.specs.Enumerators.{enumerator_of, recogniser_of};
 ghost use Rattle.pb_declarations.specs.Tables.{entry_names};
-ghost use Rattle.pb_declarations.specs.Entries.{end_shown, as_enumerator, as_recogniser};
+ghost use Rattle.pb_declarations.specs.Entries.{end_shown, as_enumerator, as_recogniser, definition_in, range_in};
+ghost use Rattle.pb_declarations.specs.Chains.{AreChains};
 ghost use Rattle.pb_declarations.specs.Variables.{variables_of};
 ghost use Rattle.pb_declarations.specs.Agreement.{Agree, equation_place};
 ghost use Rattle.pb_declarations.specs.Reading.{AreEquations, IsCarrier, HasVariables, HasParameters, AddsInstances, HasCarriers};
 ghost use Rattle.pb_declarations.specs.Declarations.{tables_faults, checks_faults, sort_faults, range_faults, limit_faults, use_faults, variables_faults, equation_faults, equations_faults_behind};
 
-use crate::chain::{End, chain_end, is_built_in};
+use crate::chain::{End, is_built_in};
 use crate::definition::{DataName, Definition, is_short, read_definitions};
+use crate::ends::{Chain, chain_end, read_bases, read_chains};
 use crate::entry::Entry;
 use crate::fault::{Fault, Rule, TypeError, require};
 use crate::range::read_ranges;
@@ -36,7 +38,12 @@ pub(crate) struct Tables<'a> {
     pub ranges: HashMap<&'a str, Range>,
     pub names: HashMap<&'a str, DataName>,
     pub equations: HashMap<&'a str, usize>,
+    /// The chains of aliases, and those of the sorts without any ranges.
+    pub chains: HashMap<&'a str, Chain>,
+    pub bases: HashMap<&'a str, Chain>,
     pub ghost agrees: { Agree (erase (spec_form spec.now)) definitions ranges names equations },
+    pub ghost chained: { AreChains (range_in ranges) (definition_in definitions) chains },
+    pub ghost based: { AreChains (λ s. None) (definition_in definitions) bases },
 }
 
 impl<'a> Tables<'a> {
@@ -53,12 +60,16 @@ impl<'a> Tables<'a> {
         let definitions = table(alloc, &definitions.sorts)?;
         let ranges = table(alloc, &ranges)?;
         let equations = table(alloc, &equations)?;
+        let chains = read_chains(alloc, &definitions, &ranges, &spec.sorts)?;
+        let bases = read_bases(alloc, &definitions, &spec.sorts)?;
         Ok(Tables {
             spec,
             definitions,
             ranges,
             names,
             equations,
+            chains,
+            bases,
         })
     }
 
@@ -66,7 +77,8 @@ impl<'a> Tables<'a> {
     pub fn end(&self, sort: &str) -> End
         ensures { end_shown result ≡ end_of (erase (spec_form self.now.spec.now)) sort.now }
     {
-        chain_end(&self.definitions, &self.ranges, self.spec.sorts.len(), sort)
+        let limit = self.spec.sorts.len();
+        chain_end(&self.definitions, &self.ranges, &self.chains, limit, sort)
     }
 
     /// The same without any ranges: the built-in sort or the struct behind the aliases.
@@ -74,7 +86,8 @@ impl<'a> Tables<'a> {
         ensures { end_shown result ≡ base_of (erase (spec_form self.now.spec.now)) sort.now }
     {
         let ranges = HashMap::new(alloc);
-        chain_end(&self.definitions, &ranges, self.spec.sorts.len(), sort)
+        let limit = self.spec.sorts.len();
+        chain_end(&self.definitions, &ranges, &self.bases, limit, sort)
     }
 
     /// What a name in data is declared to be.

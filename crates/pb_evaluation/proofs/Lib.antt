@@ -6,3 +6,4 @@ pub mod Arguments
 pub mod FormulaWeight
 pub mod FormulaLinks
 pub mod Called
+pub mod Odometer

@@ -1,3 +1,4 @@
+pub mod Binding
 pub mod Scope
 pub mod Quantifier
 pub mod Connective

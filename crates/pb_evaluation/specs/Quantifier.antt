@@ -1,4 +1,4 @@
--- Quantifiers as they are evaluated: variables of one sort one after the other, each over the numbers of its carrier.
+-- Quantifiers as they are evaluated.
 use Rattle.std.specs.Prelude.{ℕ, Bool, true, false, List, map, string_bytes}
 use Rattle.pb_ast.specs.declared.name.Name.{Name}
 use Rattle.pb_ast.specs.declared.operator.Quantifier.{Quantifier}

@@ -3,6 +3,7 @@
 //! it judges an argument by its value.
 #![tactic(auto)]
 
+mod binding;
 mod environment;
 mod formula;
 mod operation;
@@ -10,6 +11,7 @@ mod quantifier;
 mod scope;
 mod term;
 
+pub use binding::Binding;
 pub use environment::Environment;
 pub use formula::{formula_truth, instance_truth};
 pub use scope::Scope;

@@ -5,14 +5,15 @@ ghost use Rattle.pb_declarations.specs.View.{spec_of};
 ghost use Rattle.pb_syntax.specs.Value.{looked_up, named_value};
 ghost use Rattle.pb_evaluation.specs.Scope.{assignment_of};
 
+use crate::binding::{Binding, bound_value};
 use pb_declarations::Declarations;
 
 /// The variables in scope with their values, the innermost outside: an inner variable hides an outer one of its name.
-/// It takes no memory.
 #[derive(Clone, Copy)]
 pub enum Scope<'a> {
     Outermost,
     Bound(&'a str, i64, &'a Scope<'a>),
+    Quantified(&'a [Binding<'a>], &'a Scope<'a>),
 }
 
 /// The value of a variable in scope, else an enumerator's place, and 0 where the name is neither.
@@ -31,5 +32,9 @@ pub(crate) fn named_value(name: &str, scope: &Scope<'_>, declarations: &Declarat
                 named_value(name, outer, declarations)
             }
         }
+        Scope::Quantified(bindings, outer) => match bound_value(name, bindings) {
+            Some(value) => value,
+            None => named_value(name, outer, declarations),
+        },
     }
 }

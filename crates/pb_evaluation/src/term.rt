@@ -1,37 +1,51 @@
 //! The value of a data term under a scope.
 
-ghost use Rattle.std.specs.Prelude.{◌≡◌, ◌++◌};
+ghost use Rattle.std.specs.Prelude.{◌≡◌, IfOk};
 ghost use Rattle.pb_ast.specs.Form.{TermForm, argument_forms, arithmetic_links, calculated, chained, term_form, term_links, variable_forms};
 ghost use Rattle.pb_declarations.specs.View.{spec_of};
 ghost use Rattle.pb_syntax.specs.Erase.{erased_arguments, erased_term, erased_variables};
 ghost use Rattle.pb_syntax.specs.Value as meaning;
 ghost use Rattle.pb_bounds.specs.Fits.{AllFit, Fits, FitsFor};
-ghost use Rattle.pb_evaluation.specs.Quantifier.{variables_of};
 ghost use Rattle.pb_evaluation.specs.Scope.{assignment_of};
 
+use crate::binding::{advance, bindings_of, has_no_values};
 use crate::operation::{
     calculate, compares, decided_by, function_of_one, function_of_three, function_of_two, is_true,
 };
-use crate::quantifier::{deciding, sort_values};
+use crate::quantifier::deciding;
 use crate::scope::{Scope, named_value};
-use pb_ast::{Argument, ArithmeticLink, Connective, Name, Quantifier, Term, TermLink, Variables};
+use pb_ast::{Argument, ArithmeticLink, Connective, Quantifier, Term, TermLink, Variables};
 use pb_declarations::Declarations;
+use std::alloc::AllocError;
 
-/// The value of a data term: false is 0 and true is 1, an enumerator is its place. It takes no memory.
+/// The value of a data term: false is 0 and true is 1, an enumerator is its place.
 ///
 /// Each value on the way must be within 2^62 and each divisor at least 1, as type checking ensures. Recursion goes as
-/// deep as terms nest, and as quantifiers bind variables.
+/// deep as terms nest.
+///
+/// # Errors
+/// Memory was refused, which only quantifiers ask for.
 #[cycle(terms)]
-pub fn value<'a>(term: &'a Term, scope: &'a Scope<'a>, declarations: &Declarations<'_>) -> i64
+pub fn value<'a>(
+    term: &'a Term,
+    scope: &'a Scope<'a>,
+    declarations: &Declarations<'_>,
+) -> Result<i64, AllocError>
     requires { Fits (spec_of declarations.now) (assignment_of scope.now) (erased_term (term_form term.now)) }
-    ensures { result ≡ meaning.value (spec_of declarations.now) (assignment_of scope.now) (erased_term (term_form term.now)) }
+    ensures { IfOk result (λ v. v ≡ meaning.value (spec_of declarations.now) (assignment_of scope.now) (erased_term (term_form term.now))) }
 {
     match term {
-        Term::Constant { value, .. } => i64::from(*value),
-        Term::Number { value, .. } => *value as i64,
-        Term::Name(name) => named_value(&name.text, scope, declarations),
-        Term::Not { operand, .. } => i64::from(!is_true(value(operand, scope, declarations))),
-        Term::Negative { operand, .. } => -value(operand, scope, declarations),
+        Term::Constant { value, .. } => Ok(i64::from(*value)),
+        Term::Number { value, .. } => Ok(*value as i64),
+        Term::Name(name) => Ok(named_value(&name.text, scope, declarations)),
+        Term::Not { operand, .. } => {
+            let operand = value(operand, scope, declarations)?;
+            Ok(i64::from(!is_true(operand)))
+        }
+        Term::Negative { operand, .. } => {
+            let operand = value(operand, scope, declarations)?;
+            Ok(-operand)
+        }
         Term::Chain {
             connective,
             first,
@@ -42,11 +56,11 @@ pub fn value<'a>(term: &'a Term, scope: &'a Scope<'a>, declarations: &Declaratio
             left,
             right,
             ..
-        } => i64::from(compares(
-            *comparison,
-            value(left, scope, declarations),
-            value(right, scope, declarations),
-        )),
+        } => {
+            let left = value(left, scope, declarations)?;
+            let right = value(right, scope, declarations)?;
+            Ok(i64::from(compares(*comparison, left, right)))
+        }
         Term::Arithmetic { first, links } => arithmetic_value(first, links, scope, declarations),
         Term::Application {
             function,
@@ -57,7 +71,10 @@ pub fn value<'a>(term: &'a Term, scope: &'a Scope<'a>, declarations: &Declaratio
             variables,
             body,
             ..
-        } => i64::from(quantified(*quantifier, variables, body, scope, declarations)),
+        } => {
+            let holds = quantified(*quantifier, variables, body, scope, declarations)?;
+            Ok(i64::from(holds))
+        }
     }
 }
 
@@ -69,18 +86,19 @@ fn chain_value<'a>(
     links: &'a [TermLink],
     scope: &'a Scope<'a>,
     declarations: &Declarations<'_>,
-) -> i64
+) -> Result<i64, AllocError>
     requires { Fits (spec_of declarations.now) (assignment_of scope.now) (erased_term (chained (TermForm.connected connective) (term_form first.now) (term_links links.now))) }
-    ensures { result ≡ meaning.value (spec_of declarations.now) (assignment_of scope.now) (erased_term (chained (TermForm.connected connective) (term_form first.now) (term_links links.now))) }
+    ensures { IfOk result (λ v. v ≡ meaning.value (spec_of declarations.now) (assignment_of scope.now) (erased_term (chained (TermForm.connected connective) (term_form first.now) (term_links links.now)))) }
 {
-    let mut current = value(first, scope, declarations);
+    let mut current = value(first, scope, declarations)?;
     for link in links {
         if let Some(decided) = decided_by(connective, is_true(current)) {
-            return i64::from(decided);
+            return Ok(i64::from(decided));
         }
-        current = i64::from(is_true(value(&link.operand, scope, declarations)));
+        let operand = value(&link.operand, scope, declarations)?;
+        current = i64::from(is_true(operand));
     }
-    current
+    Ok(current)
 }
 
 /// The value of a chain of arithmetic.
@@ -90,16 +108,16 @@ fn arithmetic_value<'a>(
     links: &'a [ArithmeticLink],
     scope: &'a Scope<'a>,
     declarations: &Declarations<'_>,
-) -> i64
+) -> Result<i64, AllocError>
     requires { Fits (spec_of declarations.now) (assignment_of scope.now) (erased_term (calculated (term_form first.now) (arithmetic_links links.now))) }
-    ensures { result ≡ meaning.value (spec_of declarations.now) (assignment_of scope.now) (erased_term (calculated (term_form first.now) (arithmetic_links links.now))) }
+    ensures { IfOk result (λ v. v ≡ meaning.value (spec_of declarations.now) (assignment_of scope.now) (erased_term (calculated (term_form first.now) (arithmetic_links links.now)))) }
 {
-    let mut current = value(first, scope, declarations);
+    let mut current = value(first, scope, declarations)?;
     for link in links {
-        let operand = value(&link.operand, scope, declarations);
+        let operand = value(&link.operand, scope, declarations)?;
         current = calculate(link.operator, current, operand);
     }
-    current
+    Ok(current)
 }
 
 /// What a function or a recogniser gives of arguments.
@@ -109,24 +127,27 @@ fn application_value<'a>(
     arguments: &'a [Argument],
     scope: &'a Scope<'a>,
     declarations: &Declarations<'_>,
-) -> i64
+) -> Result<i64, AllocError>
     requires { AllFit (spec_of declarations.now) (assignment_of scope.now) (erased_arguments (argument_forms arguments.now)) }
-    ensures { result ≡ meaning.function_value (spec_of declarations.now) function.now (meaning.values (spec_of declarations.now) (assignment_of scope.now) (erased_arguments (argument_forms arguments.now))) }
+    ensures { IfOk result (λ v. v ≡ meaning.function_value (spec_of declarations.now) function.now (meaning.values (spec_of declarations.now) (assignment_of scope.now) (erased_arguments (argument_forms arguments.now)))) }
 {
     match arguments {
-        [x] => function_of_one(function, value(&x.term, scope, declarations), declarations),
+        [x] => {
+            let argument = value(&x.term, scope, declarations)?;
+            Ok(function_of_one(function, argument, declarations))
+        }
         [x, y] => {
-            let left = value(&x.term, scope, declarations);
-            let right = value(&y.term, scope, declarations);
-            function_of_two(function, left, right)
+            let left = value(&x.term, scope, declarations)?;
+            let right = value(&y.term, scope, declarations)?;
+            Ok(function_of_two(function, left, right))
         }
         [condition, x, y] => {
-            let tested = value(&condition.term, scope, declarations);
-            let left = value(&x.term, scope, declarations);
-            let right = value(&y.term, scope, declarations);
-            function_of_three(function, tested, left, right)
+            let tested = value(&condition.term, scope, declarations)?;
+            let left = value(&x.term, scope, declarations)?;
+            let right = value(&y.term, scope, declarations)?;
+            Ok(function_of_three(function, tested, left, right))
         }
-        _ => 0,
+        _ => Ok(0),
     }
 }
 
@@ -134,55 +155,27 @@ fn application_value<'a>(
 #[cycle(terms)]
 fn quantified<'a>(
     quantifier: Quantifier,
-    variables: &'a [Variables],
+    variables: &'a Vec<Variables>,
     body: &'a Term,
     scope: &'a Scope<'a>,
     declarations: &Declarations<'_>,
-) -> bool
-    requires { FitsFor (spec_of declarations.now) (erased_variables (variable_forms variables.now)) (λ a. Fits (spec_of declarations.now) a (erased_term (term_form body.now))) (assignment_of scope.now) }
-    ensures { result ≡ meaning.quantified (spec_of declarations.now) quantifier (erased_variables (variable_forms variables.now)) (λ a. meaning.is_true (meaning.value (spec_of declarations.now) a (erased_term (term_form body.now)))) (assignment_of scope.now) }
+) -> Result<bool, AllocError>
+    requires { FitsFor (spec_of declarations.now) (erased_variables (variable_forms variables.now.items)) (λ a. Fits (spec_of declarations.now) a (erased_term (term_form body.now))) (assignment_of scope.now) }
+    ensures { IfOk result (λ holds. holds ≡ meaning.quantified (spec_of declarations.now) quantifier (erased_variables (variable_forms variables.now.items)) (λ a. meaning.is_true (meaning.value (spec_of declarations.now) a (erased_term (term_form body.now)))) (assignment_of scope.now)) }
 {
-    match variables.split_first() {
-        None => is_true(value(body, scope, declarations)),
-        Some((group, rest)) => {
-            let sort = group.sort.text.as_str();
-            quantified_group(
-                quantifier,
-                &group.names,
-                sort,
-                rest,
-                body,
-                scope,
-                declarations,
-            )
-        }
+    let mut bindings = bindings_of(variables, declarations)?;
+    if has_no_values(&bindings) {
+        return Ok(!deciding(quantifier));
     }
-}
-
-/// Whether a term is true for all or some values of variables of one sort, and of those behind them.
-#[cycle(terms)]
-fn quantified_group<'a>(
-    quantifier: Quantifier,
-    names: &'a [Name],
-    sort: &str,
-    rest: &'a [Variables],
-    body: &'a Term,
-    scope: &'a Scope<'a>,
-    declarations: &Declarations<'_>,
-) -> bool
-    requires { FitsFor (spec_of declarations.now) (variables_of names.now sort.now ++ erased_variables (variable_forms rest.now)) (λ a. Fits (spec_of declarations.now) a (erased_term (term_form body.now))) (assignment_of scope.now) }
-    ensures { result ≡ meaning.quantified (spec_of declarations.now) quantifier (variables_of names.now sort.now ++ erased_variables (variable_forms rest.now)) (λ a. meaning.is_true (meaning.value (spec_of declarations.now) a (erased_term (term_form body.now)))) (assignment_of scope.now) }
-{
-    let Some((name, names)) = names.split_first() else {
-        return quantified(quantifier, rest, body, scope, declarations);
-    };
-    let numbers = sort_values(sort, declarations);
-    for place in 0..numbers.count {
-        let inner = Scope::Bound(&name.text, numbers.least + place as i64, scope);
-        let holds = quantified_group(quantifier, names, sort, rest, body, &inner, declarations);
+    loop {
+        let inner = Scope::Quantified(&bindings, &*scope);
+        let value = value(&*body, &inner, declarations)?;
+        let holds = is_true(value);
         if holds == deciding(quantifier) {
-            return holds;
+            return Ok(holds);
+        }
+        if !advance(&mut bindings) {
+            return Ok(holds);
         }
     }
-    !deciding(quantifier)
 }

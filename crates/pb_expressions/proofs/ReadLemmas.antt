@@ -1,5 +1,5 @@
 -- What the functions for terms give, step by step: comparisons, arithmetic, signs, brackets and names.
-use Rattle.std.proofs.Common.{◌≡◌, ◌≢◌, ℕ, zero, suc, ◌-◌, ◌<◌, Bool, true, false, cond, List, [], ◌∷◌, length, map, refl, sym, ap, ◌∙◌, arith, Ok, Err}
+use Rattle.std.proofs.Common.{◌≡◌, ◌≢◌, ℕ, zero, suc, ◌-◌, ◌<◌, Bool, true, false, cond, List, [], ◌∷◌, ◌≤◌, length, map, refl, sym, ap, ◌∙◌, arith, Result, Ok, Err, OnOk}
 use Rattle.std.specs.Str.Parse.{digits_value}
 use Rattle.pb_ast.specs.declared.place.Place.{Place}
 use Rattle.pb_ast.specs.declared.operator.Arithmetic.{Arithmetic}
@@ -7,17 +7,21 @@ use Rattle.pb_ast.specs.declared.term.Argument.{Argument}
 use Rattle.pb_ast.specs.Form.{Named, TermForm, ArgumentForms, InstanceForm, term_form, argument_forms, calculated}
 use Rattle.pb_lexer.specs.declared.fault.Rule.TheVariants.{Unexpected}
 use Rattle.pb_lexer.specs.declared.fault.Refusal.{Refusal}
+use Rattle.pb_lexer.specs.declared.fault.Fault.{Fault}
+use Rattle.pb_lexer.proofs.LoopLemmas.{fails-as, resumed-first, resumed-first-fails, resumed-end}
+use Rattle.pb_ast.specs.declared.term.Term.{Term}
 use Rattle.pb_lexer.specs.declared.kind.Kind.{Kind}
 use Rattle.pb_lexer.specs.declared.kind.Kind.TheVariants as k
 use Rattle.pb_lexer.specs.Grammar.{State}
+use Rattle.pb_lexer.specs.Kinds.{same_kind}
 use Rattle.pb_lexer.specs.LeftGrammar.{grouped}
-use Rattle.pb_lexer.specs.Steps.{Step, Outcome, and_then, ◌>>=◌, pure, refuse, refusal, kind, head_text, take_token, take_from, take_operator, expect, enter, operator_of, nothing_between, listed, series, place, link, linked, comparison}
+use Rattle.pb_lexer.specs.Steps.{Step, Outcome, and_then, ◌>>=◌, pure, refuse, refusal, kind, head_text, take_token, take_from, take_operator, expect, enter, operator_of, nothing_between, listed, series, place, link, linked, comparison, chain, Gives}
 use Rattle.pb_lexer.specs.Tokens.{Tok}
 use Rattle.pb_expressions.specs.declared.operator.Operators.{Operators}
 use Rattle.pb_expressions.specs.declared.operator.Operators.TheVariants.{Additive, Times, Division}
-use Rattle.pb_expressions.specs.Operators.{computed_by, arithmetic_of, is_times, is_division, is_additive, is_quantifier}
+use Rattle.pb_expressions.specs.Operators.{computed_by, arithmetic_of, is_times, is_division, is_additive, is_order, is_equality, is_operator, is_quantifier, compared_by}
 use Rattle.pb_expressions.specs.Grammar.{arguments_of, applied}
-use Rattle.pb_expressions.specs.Reading.{name, placed, closed, is_open, is_among, operation, operations, product, sum, unary, begun, lowest, equated, term, below, instance, argument_list, argument_pair}
+use Rattle.pb_expressions.specs.Reading.{name, placed, closed, is_open, is_among, operation, operations, product, sum, ordered, unary, begun, lowest, equated, term, below, instance, argument_list, argument_pair}
 use Rattle.pb_expressions.proofs.TermLemmas.{unary-is, lowest-is}
 
 -- ---- a comparison
@@ -47,6 +51,25 @@ module _ {X : Type 0} (test : Kind → Bool) (join : X → Tok → X → X) (ite
       → comparison test join item s ≡ Ok (join x t y, s3)
   unfolding operator_of
   both-read s s1 s2 s3 x y t reads stands taken reads' other = rw reads (rw stands (rw stands (rw taken (rw reads' (rw other refl)))))
+
+-- ---- no operator
+
+abbrev NoOperator : Kind → Type 0
+NoOperator kind = (is_times kind ≡ false) × (is_division kind ≡ false) × (is_additive kind ≡ false) × (is_order kind ≡ false) × (is_equality kind ≡ false)
+
+no-operator : (kind : Kind) → is_operator kind ≡ false → NoOperator kind
+no-operator k.Plus h = absurd (let no : ⊥ = cc in no)
+no-operator k.Minus h = absurd (let no : ⊥ = cc in no)
+no-operator k.Times h = absurd (let no : ⊥ = cc in no)
+no-operator k.Div h = absurd (let no : ⊥ = cc in no)
+no-operator k.Mod h = absurd (let no : ⊥ = cc in no)
+no-operator k.Less h = absurd (let no : ⊥ = cc in no)
+no-operator k.LessOrEqual h = absurd (let no : ⊥ = cc in no)
+no-operator k.Greater h = absurd (let no : ⊥ = cc in no)
+no-operator k.GreaterOrEqual h = absurd (let no : ⊥ = cc in no)
+no-operator k.Equal h = absurd (let no : ⊥ = cc in no)
+no-operator k.NotEqual h = absurd (let no : ⊥ = cc in no)
+no-operator _ h = (refl, refl, refl, refl, refl)
 
 -- ---- one operator with its operand
 
@@ -274,3 +297,48 @@ unary-other depth s a b c d e f g =
 
 pub lowest-node : (depth : ℕ) (s : State) → is_quantifier (kind s) ≡ false → lowest depth s ≡ equated (unary depth) s
 lowest-node depth s other = ap (λ p. p s) (lowest-is depth) ∙ rw other refl
+
+-- ---- operands that are read first
+
+module _ (depth : ℕ) where
+  pub equated-first-fails : (s : State) (bad : Refusal) → unary depth s ≡ Err bad → equated (unary depth) s ≡ Err bad
+  unfolding ordered equated
+  equated-first-fails s bad fails =
+      left-fails is_equality compared_by (ordered (unary depth)) s bad
+      (left-fails is_order compared_by (sum (unary depth)) s bad (sum-first-fails (unary depth) s bad (product-first-fails (unary depth) s bad fails)))
+
+  pub equated-alone : (s s1 : State) (x : TermForm) → unary depth s ≡ Ok (x, s1) → is_operator (kind s1) ≡ false → equated (unary depth) s ≡ Ok (x, s1)
+  unfolding ordered equated
+  equated-alone s s1 x reads other =
+      let no = no-operator (kind s1) other in
+      left-alone is_equality compared_by (ordered (unary depth)) s s1 x
+      (left-alone is_order compared_by (sum (unary depth)) s s1 x
+      (sum-alone (unary depth) s s1 x (product-alone (unary depth) s s1 x reads no.0 no.1) no.2) no.3) no.4
+
+  pub equated-product-fails : (s : State) (bad : Refusal) → product (unary depth) s ≡ Err bad → equated (unary depth) s ≡ Err bad
+  unfolding ordered equated
+  equated-product-fails s bad fails =
+      left-fails is_equality compared_by (ordered (unary depth)) s bad (left-fails is_order compared_by (sum (unary depth)) s bad (sum-first-fails (unary depth) s bad fails))
+
+  pub equated-sum-fails : (s : State) (bad : Refusal) → sum (unary depth) s ≡ Err bad → equated (unary depth) s ≡ Err bad
+  unfolding ordered equated
+  equated-sum-fails s bad fails = left-fails is_equality compared_by (ordered (unary depth)) s bad (left-fails is_order compared_by (sum (unary depth)) s bad fails)
+
+  pub equated-ordered-fails : (s : State) (bad : Refusal) → ordered (unary depth) s ≡ Err bad → equated (unary depth) s ≡ Err bad
+  unfolding equated
+  equated-ordered-fails s bad fails = left-fails is_equality compared_by (ordered (unary depth)) s bad fails
+
+  pub equated-alone-or-fails : (s z : State) (r : Result Term Fault) → Gives term_form (unary depth s) r z → is_operator (kind z) ≡ false → Gives term_form (equated (unary depth) s) r z
+  equated-alone-or-fails s z (Ok x) reads other = equated-alone s z (term_form x) reads other
+  equated-alone-or-fails s z (Err fault) reads other = fails-as (unary depth s) (equated (unary depth) s) fault (λ bad e. equated-first-fails s bad e) reads
+
+-- fewer tokens are left, where no more are left behind the first operand
+pub on-fewer : {X E : Type 0} (r : Result X E) (a b c : ℕ) → OnOk r (a ≤ b) → b < c → OnOk r (a < c)
+on-fewer (Ok x) a b c le lt = omega arith
+on-fewer (Err e) a b c le lt = tt
+
+-- a first operand behind which the connective doesn't stand
+pub resumed-alone-or-fails : {X Y : Type 0} (c : Kind) (join : Place → X → X → X) (op : Step X) (view : Y → X) (n : ℕ) (s z : State) (r : Result Y Fault)
+    → Gives view (op s) r z → same_kind (kind z) c ≡ false → Gives view (chain c (λ x t y. join t.place x y) op (suc n) s) r z
+resumed-alone-or-fails c join op view n s z (Ok x) reads other = resumed-first c join op n s z (view x) reads ∙ resumed-end c join op (n - 0) (view x) [] z other
+resumed-alone-or-fails c join op view n s z (Err fault) reads other = fails-as (op s) (chain c (λ x t y. join t.place x y) op (suc n) s) fault (λ bad e. resumed-first-fails c join op n s bad e) reads

@@ -79,6 +79,21 @@ is_division k.Div = true
 is_division k.Mod = true
 is_division _ = false
 
+-- whether a token is an operator of arithmetic or compares
+abbrev pub is_operator : Kind → Bool
+is_operator k.Plus = true
+is_operator k.Minus = true
+is_operator k.Times = true
+is_operator k.Div = true
+is_operator k.Mod = true
+is_operator k.Less = true
+is_operator k.LessOrEqual = true
+is_operator k.Greater = true
+is_operator k.GreaterOrEqual = true
+is_operator k.Equal = true
+is_operator k.NotEqual = true
+is_operator _ = false
+
 -- the operator of a token; only of its signs it is asked for
 abbrev pub arithmetic_of : Kind → Arithmetic
 arithmetic_of k.Minus = arithmetic.Minus

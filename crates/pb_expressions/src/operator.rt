@@ -53,6 +53,26 @@ pub fn is_order(kind: Kind) -> bool
     )
 }
 
+/// Whether a token is an operator of arithmetic or compares.
+pub fn is_operator(kind: Kind) -> bool
+    ensures { result ≡ spec.is_operator kind }
+{
+    matches!(
+        kind,
+        Kind::Plus
+            | Kind::Minus
+            | Kind::Times
+            | Kind::Div
+            | Kind::Mod
+            | Kind::Less
+            | Kind::LessOrEqual
+            | Kind::Greater
+            | Kind::GreaterOrEqual
+            | Kind::Equal
+            | Kind::NotEqual
+    )
+}
+
 /// The comparison of a token; only of a comparison's sign it is asked for.
 pub fn comparison(kind: Kind) -> Comparison
     ensures { result ≡ spec.comparison_of kind }

@@ -1,9 +1,10 @@
 //! Reads data terms, by recursive descent. A chain of operators is read by a loop, so that the recursion is as deep as
 //! brackets, signs and quantifiers nest.
 
-ghost use Rattle.std.specs.Prelude.{◌≡◌, ◌<◌, length, map, OnOk, IfOk, IsTrue};
+ghost use Rattle.std.specs.Prelude.{◌≡◌, ◌<◌, ◌≤◌, length, map, Ok, OnOk, IfOk, IsTrue};
 ghost use Rattle.pb_ast.specs.Form as form;
 ghost use Rattle.pb_ast.specs.Form.{TermForm, term_form, term_links, arithmetic_links, argument_forms, instance_form};
+ghost use Rattle.pb_lexer.specs.Grammar.{State};
 ghost use Rattle.pb_lexer.specs.Steps as steps;
 ghost use Rattle.pb_lexer.specs.Steps.{Gives};
 ghost use Rattle.pb_lexer.specs.Tokens.{tok};
@@ -13,8 +14,8 @@ ghost use Rattle.pb_expressions.specs.Reading as reading;
 ghost use Rattle.pb_expressions.specs.Reading.{argument_pair};
 
 use crate::operator::{
-    Operators, arithmetic, comparison, is_among, is_equality, is_order, is_quantifier, quantifier,
-    symbol,
+    Operators, arithmetic, comparison, is_among, is_equality, is_operator, is_order, is_quantifier,
+    quantifier, symbol,
 };
 use crate::variable::{name, variables};
 use pb_ast::{Argument, ArithmeticLink, Connective, Instance, Term, TermLink};
@@ -145,7 +146,7 @@ fn argument_list(input: &mut Input<'_>, alloc: Global, depth: u32) -> Result<Vec
     ensures reads { Gives (λ v. map argument_pair v.items) (reading.argument_list (reading.term depth) input.old) result input.new }
     ensures fewer { OnOk result (length input.new.tokens < length input.old.tokens) }
 {
-    let mut arguments = Vec::new(alloc);
+    let mut arguments = Vec::with_capacity(alloc, 1)?;
     'arguments: loop {
         let place = input.place();
         let term = level(input, alloc, Connective::Implies, depth)?;
@@ -206,7 +207,7 @@ fn operations(
     ensures reads { Gives (λ v. arithmetic_links v.items) (reading.operations operators (reading.operand_of operators (reading.unary depth)) input.old) result input.new }
     ensures fewer { OnOk result (length input.new.tokens < length input.old.tokens) }
 {
-    let mut links = Vec::new(alloc);
+    let mut links = Vec::with_capacity(alloc, 1)?;
     'operations: loop {
         let sign = input.take_operator()?;
         let operand = operand_of(input, alloc, operators, depth)?;
@@ -221,13 +222,17 @@ fn operations(
     }
 }
 
-/// Operands of `*` alone, or of `div` and `mod` alone.
+/// What `*` alone, or `div` and `mod` alone, make of a first operand and of those behind it.
 #[cycle(terms)]
-fn product(input: &mut Input<'_>, alloc: Global, depth: u32) -> Result<Term, Fault>
-    ensures reads { Gives term_form (reading.product (reading.unary depth) input.old) result input.new }
-    ensures fewer { OnOk result (length input.new.tokens < length input.old.tokens) }
+fn product_behind(
+    input: &mut Input<'_>,
+    alloc: Global,
+    depth: u32,
+    first: Term,
+) -> Result<Term, Fault>
+    ensures reads { (s : State) → reading.unary depth s ≡ Ok (term_form first, input.old) → Gives term_form (reading.product (reading.unary depth) s) result input.new }
+    ensures fewer { OnOk result (length input.new.tokens ≤ length input.old.tokens) }
 {
-    let first = unary(input, alloc, depth)?;
     if is_among(Operators::Times, input.kind()) {
         let links = operations(input, alloc, Operators::Times, depth)?;
         if is_among(Operators::Division, input.kind()) {
@@ -245,13 +250,22 @@ fn product(input: &mut Input<'_>, alloc: Global, depth: u32) -> Result<Term, Fau
     Ok(first)
 }
 
-/// Operands of `+` and `-`.
+/// Operands of `*` alone, or of `div` and `mod` alone.
 #[cycle(terms)]
-fn sum(input: &mut Input<'_>, alloc: Global, depth: u32) -> Result<Term, Fault>
-    ensures reads { Gives term_form (reading.sum (reading.unary depth) input.old) result input.new }
+fn product(input: &mut Input<'_>, alloc: Global, depth: u32) -> Result<Term, Fault>
+    ensures reads { Gives term_form (reading.product (reading.unary depth) input.old) result input.new }
     ensures fewer { OnOk result (length input.new.tokens < length input.old.tokens) }
 {
-    let first = product(input, alloc, depth)?;
+    let first = unary(input, alloc, depth)?;
+    product_behind(input, alloc, depth, first)
+}
+
+/// What `+` and `-` make of a first operand and of those behind it.
+#[cycle(terms)]
+fn sum_behind(input: &mut Input<'_>, alloc: Global, depth: u32, first: Term) -> Result<Term, Fault>
+    ensures reads { (s : State) → reading.product (reading.unary depth) s ≡ Ok (term_form first, input.old) → Gives term_form (reading.sum (reading.unary depth) s) result input.new }
+    ensures fewer { OnOk result (length input.new.tokens ≤ length input.old.tokens) }
+{
     if !is_among(Operators::Additive, input.kind()) {
         return Ok(first);
     }
@@ -259,13 +273,27 @@ fn sum(input: &mut Input<'_>, alloc: Global, depth: u32) -> Result<Term, Fault>
     Ok(calculated(alloc, first, links)?)
 }
 
-/// One sum, or two that an order compares.
+/// Operands of `+` and `-`.
 #[cycle(terms)]
-fn ordered(input: &mut Input<'_>, alloc: Global, depth: u32) -> Result<Term, Fault>
-    ensures reads { Gives term_form (reading.ordered (reading.unary depth) input.old) result input.new }
+fn sum(input: &mut Input<'_>, alloc: Global, depth: u32) -> Result<Term, Fault>
+    ensures reads { Gives term_form (reading.sum (reading.unary depth) input.old) result input.new }
     ensures fewer { OnOk result (length input.new.tokens < length input.old.tokens) }
 {
-    let left = sum(input, alloc, depth)?;
+    let first = product(input, alloc, depth)?;
+    sum_behind(input, alloc, depth, first)
+}
+
+/// A sum that is read, or what an order compares it with.
+#[cycle(terms)]
+fn ordered_behind(
+    input: &mut Input<'_>,
+    alloc: Global,
+    depth: u32,
+    left: Term,
+) -> Result<Term, Fault>
+    ensures reads { (s : State) → reading.sum (reading.unary depth) s ≡ Ok (term_form left, input.old) → Gives term_form (reading.ordered (reading.unary depth) s) result input.new }
+    ensures fewer { OnOk result (length input.new.tokens ≤ length input.old.tokens) }
+{
     if !is_order(input.kind()) {
         return Ok(left);
     }
@@ -277,13 +305,27 @@ fn ordered(input: &mut Input<'_>, alloc: Global, depth: u32) -> Result<Term, Fau
     Ok(compared(alloc, sign, left, right)?)
 }
 
-/// One term without connectives, or two that are compared for equality.
+/// One sum, or two that an order compares.
 #[cycle(terms)]
-fn equated(input: &mut Input<'_>, alloc: Global, depth: u32) -> Result<Term, Fault>
-    ensures reads { Gives term_form (reading.equated (reading.unary depth) input.old) result input.new }
+fn ordered(input: &mut Input<'_>, alloc: Global, depth: u32) -> Result<Term, Fault>
+    ensures reads { Gives term_form (reading.ordered (reading.unary depth) input.old) result input.new }
     ensures fewer { OnOk result (length input.new.tokens < length input.old.tokens) }
 {
-    let left = ordered(input, alloc, depth)?;
+    let left = sum(input, alloc, depth)?;
+    ordered_behind(input, alloc, depth, left)
+}
+
+/// A term without connectives that is read, or what it is compared with for equality.
+#[cycle(terms)]
+fn equated_behind(
+    input: &mut Input<'_>,
+    alloc: Global,
+    depth: u32,
+    left: Term,
+) -> Result<Term, Fault>
+    ensures reads { (s : State) → reading.ordered (reading.unary depth) s ≡ Ok (term_form left, input.old) → Gives term_form (reading.equated (reading.unary depth) s) result input.new }
+    ensures fewer { OnOk result (length input.new.tokens ≤ length input.old.tokens) }
+{
     if !is_equality(input.kind()) {
         return Ok(left);
     }
@@ -293,6 +335,37 @@ fn equated(input: &mut Input<'_>, alloc: Global, depth: u32) -> Result<Term, Fau
         return Err(input.refuse(Rule::Unexpected));
     }
     Ok(compared(alloc, sign, left, right)?)
+}
+
+/// What operators of arithmetic and comparisons make of a first operand and of what stands behind it.
+#[cycle(terms)]
+#[inline(never)]
+fn operators_behind(
+    input: &mut Input<'_>,
+    alloc: Global,
+    depth: u32,
+    first: Term,
+) -> Result<Term, Fault>
+    ensures reads { (s : State) → reading.unary depth s ≡ Ok (term_form first, input.old) → Gives term_form (reading.equated (reading.unary depth) s) result input.new }
+    ensures fewer { OnOk result (length input.new.tokens ≤ length input.old.tokens) }
+{
+    let product = product_behind(input, alloc, depth, first)?;
+    let sum = sum_behind(input, alloc, depth, product)?;
+    let left = ordered_behind(input, alloc, depth, sum)?;
+    equated_behind(input, alloc, depth, left)
+}
+
+/// One term without connectives, or two that are compared for equality. Most often no operator follows at all.
+#[cycle(terms)]
+fn equated(input: &mut Input<'_>, alloc: Global, depth: u32) -> Result<Term, Fault>
+    ensures reads { Gives term_form (reading.equated (reading.unary depth) input.old) result input.new }
+    ensures fewer { OnOk result (length input.new.tokens < length input.old.tokens) }
+{
+    let operand = unary(input, alloc, depth);
+    if !is_operator(input.kind()) {
+        return operand;
+    }
+    operators_behind(input, alloc, depth, operand?)
 }
 
 /// A quantifier, its variables and its body.
@@ -341,6 +414,28 @@ fn operand(
     }
 }
 
+/// The chain of the connective that a first operand begins, behind which the connective stands.
+#[cycle(terms)]
+#[inline(never)]
+fn chain_behind(
+    input: &mut Input<'_>,
+    alloc: Global,
+    connective: Connective,
+    depth: u32,
+    first: Term,
+) -> Result<Term, Fault>
+    ensures reads { (s : State) → reading.operand TermForm.connected connective (reading.lowest depth) s ≡ Ok (term_form first, input.old) → length input.old.tokens < length s.tokens → Gives term_form (reading.level TermForm.connected connective (reading.lowest depth) s) result input.new }
+    ensures fewer { OnOk result (length input.new.tokens ≤ length input.old.tokens) }
+{
+    let mut links = Vec::with_capacity(alloc, 1)?;
+    'links: while same_kind(input.kind(), symbol(connective)) {
+        let place = input.take_operator()?.place;
+        let operand = operand(input, alloc, connective, depth)?;
+        links.push(TermLink { place, operand })?;
+    }
+    Ok(joined(alloc, connective, first, links)?)
+}
+
 /// A chain of the connective, at whose right end a quantifier may stand.
 #[cycle(terms)]
 fn level(
@@ -352,14 +447,11 @@ fn level(
     ensures reads { Gives term_form (reading.level TermForm.connected connective (reading.lowest depth) input.old) result input.new }
     ensures fewer { OnOk result (length input.new.tokens < length input.old.tokens) }
 {
-    let first = operand(input, alloc, connective, depth)?;
-    let mut links = Vec::new(alloc);
-    'links: while same_kind(input.kind(), symbol(connective)) {
-        let place = input.take_operator()?.place;
-        let operand = operand(input, alloc, connective, depth)?;
-        links.push(TermLink { place, operand })?;
+    let first = operand(input, alloc, connective, depth);
+    if !same_kind(input.kind(), symbol(connective)) {
+        return first;
     }
-    Ok(joined(alloc, connective, first, links)?)
+    chain_behind(input, alloc, connective, depth, first?)
 }
 
 /// A data term, in which so many levels may open.

@@ -30,7 +30,7 @@ fn names(input: &mut Input<'_>, alloc: Global) -> Result<Vec<Name>, Fault>
     ensures reads { Gives (λ v. map named v.items) (reading.names input.old) result input.new }
     ensures fewer { OnOk result (length input.new.tokens < length input.old.tokens) }
 {
-    let mut names = Vec::new(alloc);
+    let mut names = Vec::with_capacity(alloc, 1)?;
     'names: loop {
         let name = name(input, alloc)?;
         names.push(name)?;
@@ -58,7 +58,7 @@ pub fn variables(input: &mut Input<'_>, alloc: Global) -> Result<Vec<Variables>,
     ensures reads { Gives (λ v. variable_forms v.items) (reading.variables input.old) result input.new }
     ensures fewer { OnOk result (length input.new.tokens < length input.old.tokens) }
 {
-    let mut variables = Vec::new(alloc);
+    let mut variables = Vec::with_capacity(alloc, 1)?;
     'groups: loop {
         let group = group(input, alloc)?;
         variables.push(group)?;

@@ -10,3 +10,4 @@ pub mod CorrectEither
 pub mod CorrectPlain
 pub mod CorrectLeft
 pub mod LoopLemmas
+pub mod WordLemmas

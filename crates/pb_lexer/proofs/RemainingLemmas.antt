@@ -1,5 +1,7 @@
 -- What a lexer still gives is how the bytes are cut.
-use Rattle.std.proofs.Common.{◌≡◌, ℕ, zero, suc, ◌-◌, ◌<◌, ◌≤◌, true, false, cond, List, [], ◌∷◌, ◌++◌, length, take, drop, refl, sym, ap, ◌∙◌, arith, subst, length-drop}
+use Rattle.std.proofs.Common.{◌≡◌, ℕ, zero, suc, ◌+◌, ◌-◌, ◌<◌, ◌≤◌, ◌==◌, Bool, not, true, false, cond, List, [], ◌∷◌, ◌++◌, length, take, drop, refl, sym, ap, ◌∙◌, arith, subst, length-drop, None}
+use Rattle.std.proofs.lemmas.Bool.Decides.{nat_tests}
+use Rattle.pb_lexer.specs.Bytes.{line}
 use Rattle.pb_ast.specs.declared.place.Place.{Place}
 use Rattle.pb_lexer.specs.declared.kind.Kind.{Kind}
 use Rattle.pb_lexer.specs.declared.kind.Kind.TheVariants.{End}
@@ -7,7 +9,7 @@ use Rattle.pb_lexer.specs.declared.piece.Piece.{Piece}
 use Rattle.pb_lexer.specs.declared.piece.Piece.TheVariants.{Blank, Token, Stop}
 use Rattle.pb_lexer.specs.Kinds.{is_last}
 use Rattle.pb_ast.specs.Form.{RangeForm}
-use Rattle.pb_lexer.specs.RangeLines.{ranges_at}
+use Rattle.pb_lexer.specs.RangeLines.{ranges_at, behind_range, is_mark, placed, said}
 use Rattle.pb_lexer.specs.Lexing.{piece, past, next_place, Cuts, none, blank, token}
 use Rattle.pb_lexer.specs.Remaining.{tokens_from, tokens_of, ranges_from, ranges_of}
 use Rattle.pb_lexer.specs.Steps.{ends}
@@ -82,6 +84,59 @@ pub stop-ranges : (bs : List ℕ) (kind : Kind) (p : Place) → piece p bs ≡ S
 unfolding ranges_from
 stop-ranges [] kind p e = refl
 stop-ranges (b ∷ bs) kind p e = ap (λ v. ranges_of v (ranges_at p (b ∷ bs)) (λ m. ranges_from bs m (next_place p b))) e
+
+-- ---- no range line without its mark
+
+unnamed : (c : ℕ) (cs : List ℕ) → (c == 114) ≡ false → behind_range (c ∷ cs) ≡ None
+unfolding behind_range
+unnamed c [] other = refl
+unnamed c (d ∷ []) other = refl
+unnamed c (d ∷ e ∷ []) other = refl
+unnamed c (d ∷ e ∷ f ∷ []) other = refl
+unnamed c (d ∷ e ∷ f ∷ g ∷ cs) other = rw other refl
+
+unnamed-front : (c : ℕ) (cs : List ℕ) (n : ℕ) → (c == 114) ≡ false → (v : Bool) → behind_range (take (cond v (1 + n) 0) (c ∷ cs)) ≡ None
+unfolding behind_range
+unnamed-front c cs n other true =
+    let more : 1 + n ≡ suc n = omega arith in
+    ap (λ m. behind_range (take m (c ∷ cs))) more ∙ unnamed c (take n cs) other
+unnamed-front c cs n other false = refl
+
+unmarked-line : (bs : List ℕ) → is_mark (37 ∷ bs) ≡ false → behind_range (line bs) ≡ None
+unfolding behind_range
+unmarked-line [] bare = refl
+unmarked-line (c ∷ cs) bare = unnamed-front c cs _ bare (not (c == 10))
+
+unmarked : (p : Place) (b : ℕ) (bs : List ℕ) → is_mark (b ∷ bs) ≡ false → (v : Bool) → (b == 37) ≡ v → ranges_at p (b ∷ bs) ≡ []
+unfolding ranges_at
+unmarked p b bs bare true is =
+    let same : b ≡ 37 = grind (arith, nat_tests) in
+    let unsaid = unmarked-line bs (subst (λ (v : ℕ). is_mark (v ∷ bs) ≡ false) same bare) in
+    rw (is, unsaid) (none-placed p (p.column == 1))
+  where
+    none-placed : (p : Place) (v : Bool) → cond v (placed p (said None)) [] ≡ []
+    none-placed p true = refl
+    none-placed p false = refl
+unmarked p b bs bare false is = rw is refl
+
+no-ranges : (b : ℕ) (bs : List ℕ) → is_mark (b ∷ bs) ≡ false → ((n : ℕ) (p : Place) → ranges_from bs n p ≡ []) → (n : ℕ) (p : Place) → ranges_from (b ∷ bs) n p ≡ []
+unfolding ranges_from
+no-ranges b bs bare rest (suc n) p = rest n (next_place p b)
+no-ranges b bs bare rest zero p = by-piece (piece p (b ∷ bs))
+  where
+    by-piece : (v : Piece) → ranges_of v (ranges_at p (b ∷ bs)) (λ m. ranges_from bs m (next_place p b)) ≡ []
+    by-piece (Blank n) = rw (unmarked p b bs bare (b == 37) refl) (rest (n - 1) (next_place p b))
+    by-piece (Token kind n) = rest (n - 1) (next_place p b)
+    by-piece (Stop kind) = refl
+
+pub no_ranges_before : (bs : List ℕ) → 0 < length bs → is_mark bs ≡ false → ((n : ℕ) (p : Place) → ranges_from (drop 1 bs) n p ≡ []) → (n : ℕ) (p : Place) → ranges_from bs n p ≡ []
+no_ranges_before [] some bare rest n p = absurd (omega arith)
+no_ranges_before (b ∷ bs) some bare rest n p = no-ranges b bs bare rest n p
+
+pub no_ranges_at_end : (bs : List ℕ) → length bs ≡ 0 → (n : ℕ) (p : Place) → ranges_from bs n p ≡ []
+unfolding ranges_from
+no_ranges_at_end [] bare n p = refl
+no_ranges_at_end (b ∷ bs) bare n p = absurd (omega arith)
 
 -- The tokens and range lines: the bytes are cut into them up to where no token stands, and the last token says why.
 pub record IsLexed (p : Place) (bs : List ℕ) (tokens : List Tok) (found : List RangeForm) : Type 0 where

@@ -97,6 +97,11 @@ unfoldable pub ranges_at : Place → List ℕ → List RangeForm
 ranges_at p [] = []
 ranges_at p (b ∷ bs) = if b == 37 && p.column == 1 then placed p (said (behind_range (line bs))) else []
 
+-- the bytes without which no range line begins
+abbrev pub is_mark : List ℕ → Bool
+is_mark (a ∷ b ∷ bs) = a == 37 && b == 114
+is_mark _ = false
+
 -- ---- as the code has it
 
 abbrev pub bounded_line : declared_line.RangeLine → Bounded

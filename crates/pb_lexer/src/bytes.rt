@@ -4,6 +4,7 @@ ghost use Rattle.std.specs.Prelude.{◌≡◌, ◌≤◌, length};
 ghost use Rattle.pb_lexer.specs.Bytes as spec;
 
 /// Whether a byte is white space.
+#[inline(always)]
 pub fn is_blank(b: u8) -> bool
     ensures { result ≡ spec.is_blank b }
 {
@@ -11,6 +12,7 @@ pub fn is_blank(b: u8) -> bool
 }
 
 /// Whether a name may begin with a byte.
+#[inline(always)]
 pub fn is_letter(b: u8) -> bool
     ensures { result ≡ spec.is_letter b }
 {
@@ -18,6 +20,7 @@ pub fn is_letter(b: u8) -> bool
 }
 
 /// Whether a name may go on with a byte.
+#[inline(always)]
 fn is_name_byte(b: u8) -> bool
     ensures { result ≡ spec.is_name_byte b }
 {
@@ -25,6 +28,7 @@ fn is_name_byte(b: u8) -> bool
 }
 
 /// How many bytes at the front a name may have.
+#[inline(always)]
 pub fn name_len(bytes: &[u8]) -> usize
     ensures value { result ≡ length (spec.name_bytes bytes.now) }
     ensures fits { result ≤ length bytes.now }
@@ -33,6 +37,7 @@ pub fn name_len(bytes: &[u8]) -> usize
 }
 
 /// How many bytes stand on the line.
+#[inline(always)]
 pub fn line_len(bytes: &[u8]) -> usize
     ensures value { result ≡ length (spec.line bytes.now) }
     ensures fits { result ≤ length bytes.now }
@@ -41,6 +46,7 @@ pub fn line_len(bytes: &[u8]) -> usize
 }
 
 /// How many digits stand at the front.
+#[inline(always)]
 pub fn digits_len(bytes: &[u8]) -> usize
     ensures value { result ≡ length (spec.digits bytes.now) }
     ensures fits { result ≤ length bytes.now }

@@ -93,6 +93,7 @@ pub enum Kind {
 }
 
 /// Whether two tokens are of one kind.
+#[inline(always)]
 pub fn same_kind(a: Kind, b: Kind) -> bool
     ensures value { result ≡ spec.same_kind a b }
     ensures same { result ≡ true → a ≡ b }

@@ -19,6 +19,7 @@ pub struct Lexer<'a> {
 }
 
 /// The place behind the bytes.
+#[inline(always)]
 pub fn past(place: Place, bytes: &[u8]) -> Place
     requires { IsWithin place bytes.now }
     ensures value { result ≡ spec.past place bytes.now }
@@ -38,6 +39,7 @@ pub fn past(place: Place, bytes: &[u8]) -> Place
 }
 
 /// Bytes of a token as text.
+#[inline(always)]
 pub fn text_of(bytes: &[u8]) -> &str
     requires { IsAscii bytes.now }
     ensures { result.now ≡ bytes.now }

@@ -37,6 +37,7 @@ const PAIRS: [(u8, u8, Kind); 7] = [
 ];
 
 /// The symbol of one byte.
+#[inline(always)]
 fn one_byte_symbol(byte: u8) -> Piece
     ensures { result ≡ spec.one_byte_among spec.one_byte_symbols byte }
 {
@@ -61,6 +62,7 @@ fn one_byte_symbol(byte: u8) -> Piece
 }
 
 /// The symbol of two bytes that a table gives, or else the symbol of the first of them.
+#[inline(always)]
 fn two_byte_symbol(table: &[(u8, u8, Kind)], first: u8, second: u8) -> Piece
     ensures { result ≡ spec.two_bytes_among table.now first second }
 {
@@ -74,6 +76,7 @@ fn two_byte_symbol(table: &[(u8, u8, Kind)], first: u8, second: u8) -> Piece
 
 /// The longest symbol that a byte begins, with the byte behind it if there is one.
 #[tactic(auto, unfolding(crate::specs::Lexing::symbol))]
+#[inline(always)]
 fn symbol(first: u8, second: Option<u8>) -> Piece
     ensures { result ≡ spec.symbol first second }
 {
@@ -97,6 +100,7 @@ fn number(digits: &[u8]) -> Piece
 
 /// What stands at a place, at the front of the bytes from there on.
 #[tactic(auto, unfolding(crate::specs::Lexing::piece))]
+#[inline(always)]
 pub fn front_piece(place: Place, bytes: &[u8]) -> Piece
     ensures { result ≡ spec.piece place bytes.now }
 {

@@ -1,6 +1,7 @@
 //! The range lines of a whole text.
 
-ghost use Rattle.std.specs.Prelude.{◌≡◌, ◌-◌, ◌<◌, ◌^◌, ◌++◌, length, map, IfOk, OnOk};
+ghost use Rattle.std.specs.Prelude.{◌≡◌, ◌-◌, ◌<◌, ◌^◌, ◌++◌, ℕ, false, [], length, map, IfOk, OnOk};
+ghost use Rattle.pb_ast.specs.declared.place.Place.{Place};
 ghost use Rattle.pb_ast.specs.Form.{range_form};
 ghost use Rattle.pb_lexer.specs.Lexing.{start};
 ghost use Rattle.pb_lexer.specs.RangeLines as spec;
@@ -44,19 +45,48 @@ fn range(alloc: Global, place: Place, line: RangeLine<'_>) -> Result<Range, Allo
     })
 }
 
-/// Adds the range of the line at a place, at the front of the bytes from there on, if a range line stands there.
+/// Adds the range of the line at a place, at the front of the bytes from there on, if a range line stands there, and
+/// says whether it did.
 fn add_range(
     alloc: Global,
     ranges: &mut Vec<Range>,
     place: Place,
     bytes: &[u8],
-) -> Result<(), AllocError>
+) -> Result<bool, AllocError>
     ensures { OnOk result (map range_form ranges.new.items ≡ map range_form ranges.old.items ++ spec.ranges_at place bytes.now) }
 {
-    if let Some(line) = range_at(place, bytes) {
-        ranges.push(range(alloc, place, line)?)?;
+    match range_at(place, bytes) {
+        None => Ok(false),
+        Some(line) => {
+            ranges.push(range(alloc, place, line)?)?;
+            Ok(true)
+        }
     }
-    Ok(())
+}
+
+/// Whether `%r` stands at the front.
+fn is_mark(bytes: &[u8]) -> bool
+    ensures { result ≡ spec.is_mark bytes.now }
+{
+    match bytes {
+        [b'%', b'r', ..] => true,
+        _ => false,
+    }
+}
+
+/// Whether a range line may stand anywhere in the bytes: a quick test, so that most of a text isn't cut twice.
+fn may_follow(bytes: &[u8]) -> bool
+    ensures { result ≡ false → (n : ℕ) (p : Place) → ranges_from bytes.now n p ≡ [] }
+{
+    let mut rest = bytes;
+    'bytes: while !rest.is_empty() {
+        if is_mark(rest) {
+            return true;
+        }
+        let (_, after) = rest.split_at(1);
+        rest = after;
+    }
+    false
 }
 
 /// The range lines of a text, in order, up to where no token stands or to the end.
@@ -65,13 +95,19 @@ pub fn ranges(alloc: Global, bytes: &[u8]) -> Result<Vec<Range>, AllocError>
     ensures { IfOk result (λ v. map range_form v.items ≡ ranges_from bytes.now 0 start) }
 {
     let mut ranges = Vec::new(alloc);
+    if !may_follow(bytes) {
+        return Ok(ranges);
+    }
     let mut rest = bytes;
     let mut place = Place { line: 1, column: 1 };
     'pieces: loop {
         match front_piece(place, rest) {
             Piece::Blank(len) => {
-                add_range(alloc, &mut ranges, place, rest)?;
+                let found = add_range(alloc, &mut ranges, place, rest)?;
                 let (text, after) = rest.split_at(len);
+                if found && !may_follow(after) {
+                    return Ok(ranges);
+                }
                 place = past(place, text);
                 rest = after;
             }

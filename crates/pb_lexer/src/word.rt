@@ -34,6 +34,11 @@ const WORDS: [(&str, Kind); 24] = [
     ("proc", Kind::Reserved),
 ];
 
+/// How many letters a reserved word has at least, and at most.
+const SHORTEST: usize = 2;
+
+const LONGEST: usize = 6;
+
 /// The kind that a table gives a word, or that of a name.
 fn kind_among(table: &[(&str, Kind)], word: &[u8]) -> Kind
     ensures { result ≡ spec.kind_among (spec.entries table.now) word.now }
@@ -47,10 +52,16 @@ fn kind_among(table: &[(&str, Kind)], word: &[u8]) -> Kind
 }
 
 /// The kind of a word: that of a reserved word, or that of a name.
-#[tactic(auto, unfolding(crate::specs::Bytes::word_kind))]
+#[tactic(auto, using(crate::proofs::WordLemmas::short_name, crate::proofs::WordLemmas::long_name), unfolding(crate::specs::Bytes::word_kind))]
 pub fn word_kind(word: &[u8]) -> Kind
     ensures { result ≡ spec.word_kind word.now }
 {
+    if word.len() < SHORTEST {
+        return Kind::Name;
+    }
+    if word.len() > LONGEST {
+        return Kind::Name;
+    }
     kind_among(&WORDS, word)
 }
 

@@ -16,7 +16,7 @@ mod Positive
 mod Plain
 mod Parameters
 mod Equations
-mod Sequences
+pub mod Sequences
 mod Answer
 mod Kept
 mod SlotLaws

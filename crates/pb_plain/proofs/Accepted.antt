@@ -4,7 +4,7 @@ use Rattle.pb_ast.specs.Form.{SpecForm}
 use Rattle.pb_syntax.specs.Erase.{erase}
 use Rattle.pb_declarations.specs.declared.fault.Fault.{Fault}
 use Rattle.pb_declarations.specs.Declarations.{declaration_faults}
-use Rattle.pb_shapes.specs.Faults.{faults, initial_faults, right_faults}
+use Rattle.pb_shapes.specs.Faults.{faults}
 use Rattle.pb_shapes.specs.WellTyped.{IsWellTyped}
 use Rattle.pb_shapes.proofs.Parts.{no_parts}
 use Rattle.pb_shapes.proofs.WellTypedLemmas as laws

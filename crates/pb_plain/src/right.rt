@@ -1,6 +1,6 @@
 //! The truth of a right side where its parameters have values.
 
-ghost use Rattle.std.specs.Prelude.{◌≡◌, ◌++◌};
+ghost use Rattle.std.specs.Prelude.{◌≡◌, ◌++◌, IfOk};
 ghost use Rattle.pb_ast.specs.Form.{formula_form};
 ghost use Rattle.pb_declarations.specs.View.{spec_of};
 ghost use Rattle.pb_syntax.specs.Erase.{erased_formula};
@@ -12,6 +12,7 @@ ghost use Rattle.pb_plain.specs.Names.{named_with, names_in, names_of};
 
 use pb_ast::{Formula, Name, Variables};
 use pb_evaluation::{Environment, Scope, formula_truth};
+use std::alloc::AllocError;
 
 /// The truth of a right side where these parameters have these values, in order.
 #[cycle(right)]
@@ -21,9 +22,9 @@ pub(crate) fn right_truth<'a>(
     scope: &'a Scope<'a>,
     right: &'a Formula,
     environment: &Environment<'_, '_>,
-) -> bool
+) -> Result<bool, AllocError>
     requires { FormulaFits (spec_of environment.now.declarations.now) (named_with (names_of parameters.now) values.now (assignment_of scope.now)) (erased_formula (formula_form right.now)) }
-    ensures { result ≡ truth (spec_of environment.now.declarations.now) (named_with (names_of parameters.now) values.now (assignment_of scope.now)) (environment_of (spec_of environment.now.declarations.now) environment.now.truths.now) (erased_formula (formula_form right.now)) }
+    ensures { IfOk result (λ holds. holds ≡ truth (spec_of environment.now.declarations.now) (named_with (names_of parameters.now) values.now (assignment_of scope.now)) (environment_of (spec_of environment.now.declarations.now) environment.now.truths.now) (erased_formula (formula_form right.now))) }
 {
     match parameters.split_first() {
         None => formula_truth(right, scope, environment),
@@ -42,9 +43,9 @@ fn right_truth_of_group<'a>(
     scope: &'a Scope<'a>,
     right: &'a Formula,
     environment: &Environment<'_, '_>,
-) -> bool
+) -> Result<bool, AllocError>
     requires { FormulaFits (spec_of environment.now.declarations.now) (named_with (names_in names.now ++ names_of rest.now) values.now (assignment_of scope.now)) (erased_formula (formula_form right.now)) }
-    ensures { result ≡ truth (spec_of environment.now.declarations.now) (named_with (names_in names.now ++ names_of rest.now) values.now (assignment_of scope.now)) (environment_of (spec_of environment.now.declarations.now) environment.now.truths.now) (erased_formula (formula_form right.now)) }
+    ensures { IfOk result (λ holds. holds ≡ truth (spec_of environment.now.declarations.now) (named_with (names_in names.now ++ names_of rest.now) values.now (assignment_of scope.now)) (environment_of (spec_of environment.now.declarations.now) environment.now.truths.now) (erased_formula (formula_form right.now))) }
 {
     let Some((name, names)) = names.split_first() else {
         return right_truth(rest, values, scope, right, environment);

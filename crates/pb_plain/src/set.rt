@@ -1,6 +1,6 @@
 //! The set of one equation, among the truths of all instances.
 
-ghost use Rattle.std.specs.Prelude.{◌≡◌, ◌<◌, ◌≤◌, ◌+◌, not, true, false, length, Some};
+ghost use Rattle.std.specs.Prelude.{◌≡◌, ◌<◌, ◌≤◌, ◌+◌, not, true, false, length, Some, IfOk, OnOk};
 ghost use Rattle.std.specs.List.{slice_get};
 ghost use Rattle.pb_ast.specs.Form.{equation_form, spec_form};
 ghost use Rattle.pb_declarations.specs.View.{spec_of, text_of};
@@ -18,6 +18,7 @@ use pb_declarations::Declarations;
 use pb_evaluation::{Environment, Scope};
 use pb_fixpoint::Sign;
 use pb_sorts::Layout;
+use std::alloc::AllocError;
 
 /// The numbers of an equation's instances: those from `start` on, below `end`.
 #[derive(Clone, Copy)]
@@ -83,6 +84,9 @@ fn starts_full(sign: Sign) -> bool
 
 /// Joins the set of the equation at a place with what its right side gives under an environment, and says whether the
 /// set is another then. A right side is evaluated only where its truth may still change the set.
+///
+/// # Errors
+/// Memory was refused.
 pub(crate) fn improve(
     spec: &Spec,
     declarations: &Declarations<'_>,
@@ -90,16 +94,16 @@ pub(crate) fn improve(
     equation: usize,
     truths: &mut [bool],
     below: &[bool],
-) -> bool
+) -> Result<bool, AllocError>
     requires known { equation < length layout.now }
     requires said { text_of declarations.now ≡ spec_form spec.now }
     requires laid_out { carriers_of layout.now ≡ all_carriers (spec_of declarations.now) }
     requires solvable { IsSolvable (spec_of declarations.now) }
     requires truths { length truths.old ≡ count_of layout.now }
     requires below { length below.now ≡ count_of layout.now }
-    ensures joins { (X : syntax.Equation) → slice_get (spec_of declarations.now).equations equation ≡ Some X → JoinsRight (spec_of declarations.now) layout.now equation X below.now truths.old truths.new }
-    ensures others { ChangesOnly layout.now equation truths.old truths.new }
-    ensures unchanged { result ≡ false → TakesSet layout.now equation truths.old truths.new }
+    ensures joins { OnOk result ((X : syntax.Equation) → slice_get (spec_of declarations.now).equations equation ≡ Some X → JoinsRight (spec_of declarations.now) layout.now equation X below.now truths.old truths.new) }
+    ensures others { OnOk result (ChangesOnly layout.now equation truths.old truths.new) }
+    ensures unchanged { IfOk result (λ changed. changed ≡ false → TakesSet layout.now equation truths.old truths.new) }
 {
     let right_side = &spec.equations[equation];
     let environment = Environment {
@@ -111,21 +115,26 @@ pub(crate) fn improve(
     let numbers = numbers_of(layout, equation);
     let mut changed = false;
     for number in numbers.start..numbers.end {
-        if truths[number] == start
-            && right_truth_of(right_side, number as u32, &environment) != start
-        {
-            truths[number] = !start;
-            changed = true;
+        if truths[number] == start {
+            let holds = right_truth_of(right_side, number as u32, &environment)?;
+            if holds != start {
+                truths[number] = !start;
+                changed = true;
+            }
         }
     }
-    changed
+    Ok(changed)
 }
 
 /// The truth of an equation's right side at the instance with a number.
-fn right_truth_of(equation: &Equation, number: u32, environment: &Environment<'_, '_>) -> bool
+fn right_truth_of(
+    equation: &Equation,
+    number: u32,
+    environment: &Environment<'_, '_>,
+) -> Result<bool, AllocError>
     requires number { number < count_of environment.now.layout.now }
     requires fits { FitsAt (spec_of environment.now.declarations.now) environment.now.layout.now (erased_equation (equation_form equation.now)) number }
-    ensures { result ≡ right_truth_at (spec_of environment.now.declarations.now) (environment_of (spec_of environment.now.declarations.now) environment.now.truths.now) (erased_equation (equation_form equation.now)) environment.now.layout.now number }
+    ensures { IfOk result (λ holds. holds ≡ right_truth_at (spec_of environment.now.declarations.now) (environment_of (spec_of environment.now.declarations.now) environment.now.truths.now) (erased_equation (equation_form equation.now)) environment.now.layout.now number) }
 {
     let instance = environment.layout.instance(number);
     right_truth(

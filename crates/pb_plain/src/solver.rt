@@ -91,14 +91,15 @@ fn approach(
     for _step in 0..system.layout.size(first) {
         let mut below = truths.clone()?;
         solve_toward(system, sign, first + 1, &mut below, &kept, far)?;
-        if !improve(
+        let changed = improve(
             system.spec,
             system.declarations,
             system.layout,
             first,
             truths,
             &below,
-        ) {
+        )?;
+        if !changed {
             *truths = below;
             return Ok(());
         }
@@ -137,9 +138,9 @@ fn solve_toward(
 /// The truth of the initial instance in the nested fixpoint solution of a text's equations (Groote and Willemse 2005).
 ///
 /// The text is well typed, none of its declarations is at fault, and `layout` has the carriers of its parameters, as
-/// type checking answers. The only error is want of memory. Recursion goes as deep as there are equations, as formulas
-/// nest and as quantifiers bind variables. Sets of one sign are kept from one step of an outer equation to the next, so
-/// that the time grows exponentially with the number of alternations alone.
+/// type checking answers. The only error is want of memory. Recursion goes as deep as there are equations, and as
+/// formulas nest. Sets of one sign are kept from one step of an outer equation to the next, so that the time grows
+/// exponentially with the number of alternations alone.
 pub(crate) fn solve_spec(alloc: Global, spec: &Spec, layout: &Layout) -> Result<bool, AllocError>
     requires faultless { declaration_faults (spec_form spec.now) ≡ [] }
     requires well_typed { IsWellTyped (erase (spec_form spec.now)) }
@@ -177,5 +178,5 @@ fn solve_system(
     let mut truths = vec![in alloc; false; count]?;
     solve_from(&system, 0, &mut truths, &least, &greatest)?;
     let environment = system.environment(&truths);
-    Ok(instance_truth(&spec.initial, &Scope::Outermost, &environment))
+    instance_truth(&spec.initial, &Scope::Outermost, &environment)
 }

@@ -1,5 +1,8 @@
 //! Writes formulas.
 
+ghost use Rattle.std.specs.Prelude.{◌≡◌};
+ghost use Rattle.pb_printer.specs.Words.{formula_side};
+
 use crate::level::{Level, Position, connective_level, connective_token};
 use crate::term::{write_instance, write_quantifier, write_term, write_truth};
 use crate::writer::Writer;
@@ -7,7 +10,9 @@ use pb_ast::{Connective, Formula};
 use std::alloc::{AllocError, Global};
 
 /// The level of the operands of a chain of formulas.
-fn operand_level(connective: Connective) -> Level {
+fn operand_level(connective: Connective) -> Level
+    ensures { result ≡ formula_side connective }
+{
     match connective {
         Connective::Implies => Level::Disjunction,
         Connective::Or => Level::Conjunction,

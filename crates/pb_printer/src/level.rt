@@ -1,5 +1,8 @@
 //! Where an expression stands, and whether it needs brackets there.
 
+ghost use Rattle.std.specs.Prelude.{◌≡◌};
+ghost use Rattle.pb_printer.specs.Words as words;
+
 use pb_ast::{Arithmetic, Comparison, Connective};
 
 /// The levels of the grammar, from the one that binds loosest.
@@ -17,12 +20,16 @@ pub enum Level {
 
 impl Level {
     /// How tightly the level binds.
-    fn rank(self) -> u8 {
+    fn rank(self) -> u8
+        ensures { result ≡ words.rank self }
+    {
         self as u8
     }
 
     /// Whether an expression of this level stands without brackets where one of the other is asked for.
-    pub fn fits(self, asked: Level) -> bool {
+    pub fn fits(self, asked: Level) -> bool
+        ensures { result ≡ words.fits self asked }
+    {
         asked.rank() <= self.rank()
     }
 }
@@ -56,7 +63,9 @@ impl Position {
 }
 
 /// The level of a chain of the connective.
-pub fn connective_level(connective: Connective) -> Level {
+pub fn connective_level(connective: Connective) -> Level
+    ensures { result ≡ words.connective_level connective }
+{
     match connective {
         Connective::Implies => Level::Implication,
         Connective::Or => Level::Disjunction,
@@ -65,7 +74,10 @@ pub fn connective_level(connective: Connective) -> Level {
 }
 
 /// The level of a comparison, and that of its two sides.
-pub fn comparison_levels(comparison: Comparison) -> (Level, Level) {
+pub fn comparison_levels(comparison: Comparison) -> (Level, Level)
+    ensures own { result.0 ≡ words.comparison_level comparison }
+    ensures sides { result.1 ≡ words.comparison_side comparison }
+{
     match comparison {
         Comparison::Equal | Comparison::NotEqual => (Level::Equality, Level::Order),
         _ => (Level::Order, Level::Sum),
@@ -73,7 +85,10 @@ pub fn comparison_levels(comparison: Comparison) -> (Level, Level) {
 }
 
 /// The level of a chain of arithmetic with this operator, and that of its operands.
-pub fn arithmetic_levels(operator: Arithmetic) -> (Level, Level) {
+pub fn arithmetic_levels(operator: Arithmetic) -> (Level, Level)
+    ensures own { result.0 ≡ words.arithmetic_level operator }
+    ensures operands { result.1 ≡ words.arithmetic_side operator }
+{
     match operator {
         Arithmetic::Plus | Arithmetic::Minus => (Level::Sum, Level::Product),
         _ => (Level::Product, Level::Unary),
@@ -98,7 +113,9 @@ pub fn arithmetic_group(operator: Arithmetic) -> Group {
 }
 
 /// The token of a connective.
-pub fn connective_token(connective: Connective) -> &'static str {
+pub fn connective_token(connective: Connective) -> &'static str
+    ensures { result.now ≡ (words.connective_word connective).text }
+{
     match connective {
         Connective::And => "&&",
         Connective::Or => "||",
@@ -107,7 +124,9 @@ pub fn connective_token(connective: Connective) -> &'static str {
 }
 
 /// The token of a comparison.
-pub fn comparison_token(comparison: Comparison) -> &'static str {
+pub fn comparison_token(comparison: Comparison) -> &'static str
+    ensures { result.now ≡ (words.comparison_word comparison).text }
+{
     match comparison {
         Comparison::Equal => "==",
         Comparison::NotEqual => "!=",
@@ -119,7 +138,9 @@ pub fn comparison_token(comparison: Comparison) -> &'static str {
 }
 
 /// The token of an operator of arithmetic.
-pub fn arithmetic_token(operator: Arithmetic) -> &'static str {
+pub fn arithmetic_token(operator: Arithmetic) -> &'static str
+    ensures { result.now ≡ (words.arithmetic_word operator).text }
+{
     match operator {
         Arithmetic::Plus => "+",
         Arithmetic::Minus => "-",

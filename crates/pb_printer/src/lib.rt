@@ -6,11 +6,14 @@
 
 mod error;
 mod formula;
+mod laws;
 mod level;
 mod printing;
 mod same_formula;
 mod same_term;
 mod same_text;
+#[cfg(test)]
+mod stack_tests;
 mod term;
 mod term_copy;
 #[cfg(test)]
@@ -19,5 +22,6 @@ mod text;
 mod writer;
 
 pub use error::PrintError;
+pub use laws::{printed_text_is_read_back, printed_words_are_read_back};
 pub use printing::print;
 pub use term_copy::copy;

@@ -1,5 +1,8 @@
 //! Writes data terms, variables and instances.
 
+ghost use Rattle.std.specs.Prelude.{◌≡◌};
+ghost use Rattle.pb_printer.specs.Words.{term_side};
+
 use crate::level::{
     Level, Position, arithmetic_group, arithmetic_levels, arithmetic_token, comparison_levels,
     comparison_token, connective_level, connective_token,
@@ -9,7 +12,9 @@ use pb_ast::{Argument, ArithmeticLink, Connective, Instance, Quantifier, Term, V
 use std::alloc::{AllocError, Global};
 
 /// The level of the operands of a chain of terms.
-fn operand_level(connective: Connective) -> Level {
+fn operand_level(connective: Connective) -> Level
+    ensures { result ≡ term_side connective }
+{
     match connective {
         Connective::Implies => Level::Disjunction,
         Connective::Or => Level::Conjunction,

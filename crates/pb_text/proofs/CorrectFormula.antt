@@ -23,7 +23,8 @@ use Rattle.pb_expressions.specs.Reading.{is_open}
 use Rattle.pb_expressions.specs.Reading as expressions
 use Rattle.pb_text.specs.Grammar.{Begun, IsNode, IsFormula}
 use Rattle.pb_text.specs.Reading.{opening, begun, data_term, node, formula}
-use Rattle.pb_expressions.proofs.CorrectTerm.{term_goes, term-correct, instance-correct}
+use Rattle.pb_expressions.proofs.CorrectOperators.{term_goes}
+use Rattle.pb_expressions.proofs.CorrectTerm.{term-correct, instance-correct}
 use Rattle.pb_expressions.proofs.CorrectVariable.{quantified-correct, quantified-last}
 
 -- what goes on with a node: a bracket, behind a name

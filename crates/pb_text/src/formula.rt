@@ -1,8 +1,9 @@
 //! Reads formulas, by recursive descent. A chain of one connective is read by a loop, so that the recursion is as deep
 //! as brackets, negations and quantifiers nest.
 
-ghost use Rattle.std.specs.Prelude.{◌≡◌, ◌<◌, length, OnOk, IfOk};
+ghost use Rattle.std.specs.Prelude.{◌≡◌, ◌<◌, ◌≤◌, length, Ok, OnOk, IfOk};
 ghost use Rattle.pb_ast.specs.Form.{FormulaForm, formula_form, term_form, chained, link_forms};
+ghost use Rattle.pb_lexer.specs.Grammar.{State};
 ghost use Rattle.pb_lexer.specs.Steps as spec;
 ghost use Rattle.pb_lexer.specs.Steps.{Gives};
 ghost use Rattle.pb_expressions.specs.Operators as operators;
@@ -49,6 +50,53 @@ fn data_term(input: &mut Input<'_>, alloc: Global, depth: u32) -> Result<Term, F
     term(input, alloc, depth)
 }
 
+/// `!` and its operand.
+#[cycle(formulas)]
+#[inline(never)]
+#[tactic(auto, unfolding(crate::specs::Reading::node))]
+fn negation(input: &mut Input<'_>, alloc: Global, depth: u32) -> Result<Formula, Fault>
+    requires { spec.kind input.old ≡ Kind.Not }
+    ensures reads { Gives formula_form (reading.node depth input.old) result input.new }
+    ensures fewer { OnOk result (length input.new.tokens < length input.old.tokens) }
+{
+    let place = input.enter(depth)?.place;
+    let operand = node(input, alloc, depth - 1)?;
+    let operand = Box::new(alloc, operand)?;
+    Ok(Formula::Negation { place, operand })
+}
+
+/// A formula in brackets.
+#[cycle(formulas)]
+#[inline(never)]
+#[tactic(auto, unfolding(crate::specs::Reading::node))]
+fn bracketed(input: &mut Input<'_>, alloc: Global, depth: u32) -> Result<Formula, Fault>
+    requires { spec.kind input.old ≡ Kind.Open }
+    ensures reads { Gives formula_form (reading.node depth input.old) result input.new }
+    ensures fewer { OnOk result (length input.new.tokens < length input.old.tokens) }
+{
+    input.enter(depth)?;
+    let inner = level(input, alloc, Connective::Implies, depth - 1)?;
+    input.expect(Kind::Close)?;
+    unless(input, Kind::Open)?;
+    Ok(inner)
+}
+
+/// `val` and its data term.
+#[inline(never)]
+#[tactic(auto, unfolding(crate::specs::Reading::node))]
+fn value(input: &mut Input<'_>, alloc: Global, depth: u32) -> Result<Formula, Fault>
+    requires { spec.kind input.old ≡ Kind.Val }
+    ensures reads { Gives formula_form (reading.node depth input.old) result input.new }
+    ensures fewer { OnOk result (length input.new.tokens < length input.old.tokens) }
+{
+    let place = input.take().place;
+    open(input, depth)?;
+    let term = data_term(input, alloc, depth - 1)?;
+    input.expect(Kind::Close)?;
+    unless(input, Kind::Open)?;
+    Ok(Formula::Value { place, term })
+}
+
 /// A negation, a formula in brackets, a constant, a data term or an instance, in which so many levels may open.
 #[cycle(formulas)]
 #[tactic(auto, unfolding(crate::specs::Reading::node))]
@@ -57,19 +105,8 @@ fn node(input: &mut Input<'_>, alloc: Global, depth: u32) -> Result<Formula, Fau
     ensures fewer { OnOk result (length input.new.tokens < length input.old.tokens) }
 {
     match input.kind() {
-        Kind::Not => {
-            let place = input.enter(depth)?.place;
-            let operand = node(input, alloc, depth - 1)?;
-            let operand = Box::new(alloc, operand)?;
-            Ok(Formula::Negation { place, operand })
-        }
-        Kind::Open => {
-            input.enter(depth)?;
-            let inner = level(input, alloc, Connective::Implies, depth - 1)?;
-            input.expect(Kind::Close)?;
-            unless(input, Kind::Open)?;
-            Ok(inner)
-        }
+        Kind::Not => negation(input, alloc, depth),
+        Kind::Open => bracketed(input, alloc, depth),
         Kind::True => {
             let place = input.take().place;
             unless(input, Kind::Open)?;
@@ -83,14 +120,7 @@ fn node(input: &mut Input<'_>, alloc: Global, depth: u32) -> Result<Formula, Fau
                 value: false,
             })
         }
-        Kind::Val => {
-            let place = input.take().place;
-            open(input, depth)?;
-            let term = data_term(input, alloc, depth - 1)?;
-            input.expect(Kind::Close)?;
-            unless(input, Kind::Open)?;
-            Ok(Formula::Value { place, term })
-        }
+        Kind::Val => value(input, alloc, depth),
         Kind::Name => Ok(Formula::Instance(instance(input, alloc, depth)?)),
         _ => Err(input.refuse(Rule::Unexpected)),
     }
@@ -143,6 +173,28 @@ fn operand(
     }
 }
 
+/// The chain of the connective that a first operand begins, behind which the connective stands.
+#[cycle(formulas)]
+#[inline(never)]
+fn chain_behind(
+    input: &mut Input<'_>,
+    alloc: Global,
+    connective: Connective,
+    depth: u32,
+    first: Formula,
+) -> Result<Formula, Fault>
+    ensures reads { (s : State) → reading.operand connective depth s ≡ Ok (formula_form first, input.old) → length input.old.tokens < length s.tokens → Gives formula_form (reading.level connective depth s) result input.new }
+    ensures fewer { OnOk result (length input.new.tokens ≤ length input.old.tokens) }
+{
+    let mut links = Vec::with_capacity(alloc, 1)?;
+    'links: while same_kind(input.kind(), symbol(connective)) {
+        let place = input.take_operator()?.place;
+        let operand = operand(input, alloc, connective, depth)?;
+        links.push(Link { place, operand })?;
+    }
+    Ok(joined(alloc, connective, first, links)?)
+}
+
 /// A chain of the connective, in which so many levels may open.
 #[cycle(formulas)]
 pub fn level(
@@ -154,12 +206,9 @@ pub fn level(
     ensures reads { Gives formula_form (reading.level connective depth input.old) result input.new }
     ensures fewer { OnOk result (length input.new.tokens < length input.old.tokens) }
 {
-    let first = operand(input, alloc, connective, depth)?;
-    let mut links = Vec::new(alloc);
-    'links: while same_kind(input.kind(), symbol(connective)) {
-        let place = input.take_operator()?.place;
-        let operand = operand(input, alloc, connective, depth)?;
-        links.push(Link { place, operand })?;
+    let first = operand(input, alloc, connective, depth);
+    if !same_kind(input.kind(), symbol(connective)) {
+        return first;
     }
-    Ok(joined(alloc, connective, first, links)?)
+    chain_behind(input, alloc, connective, depth, first?)
 }

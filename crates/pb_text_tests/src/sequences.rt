@@ -1,6 +1,7 @@
 //! All sequences of three tokens, as the right side of an equation and as the beginning of a data term.
 
-use pb_text::{Rule, TextError};
+use crate::answer::{Answer, answered};
+use pb_text::Rule;
 use std::alloc::{AllocError, Global};
 use std::process::Abort;
 use std::test::Fail;
@@ -14,25 +15,6 @@ const TOKENS: [&[u8]; 16] = [
 const MIDDLES: [&[u8]; 7] = [b"", b"X", b"(X)", b"X: X . X", b": X . X", b"X . X", b". X"];
 
 const CLOSING: [&[u8]; 6] = [b"", b")", b"))", b")))", b"))))", b")))))"];
-
-/// What reading a text of one line gives: a tree, or the rule and the column.
-#[derive(Clone, Copy, Debug, PartialEq, Eq)]
-enum Answer {
-    Read,
-    Refused(Rule, u32),
-    Memory,
-}
-
-fn answered(alloc: Global, text: &[u8]) -> Answer {
-    if text.len() > 1000 {
-        return Answer::Memory;
-    }
-    match pb_text::parse(alloc, text) {
-        Ok(_) => Answer::Read,
-        Err(TextError::Memory) => Answer::Memory,
-        Err(TextError::Refused { rule, place }) => Answer::Refused(rule, place.column),
-    }
-}
 
 /// One text in three parts.
 fn joined(alloc: Global, first: &[u8], second: &[u8], third: &[u8]) -> Result<Vec<u8>, AllocError> {

@@ -1,15 +1,13 @@
 -- The values of the initial instance's arguments, against the carriers of its equation's parameters.
-use Rattle.std.proofs.Common.{◌≡◌, ℕ, zero, suc, ◌<◌, ◌≤◌, Bool, true, false, List, [], ◌∷◌, ◌++◌, map, length, Option, Some, None, cond, get_or, refl, sym, ◌∙◌, ap, subst, arith, tests, find, true≢false}
+use Rattle.std.proofs.Common.{◌≡◌, ℕ, zero, suc, ◌≤◌, Bool, true, false, List, [], ◌∷◌, map, length, Option, Some, None, cond, refl, sym, ◌∙◌, ap, subst, arith, tests, find, true≢false}
 use Rattle.std.specs.Prelude.{Result, Ok, Err, MatchResult, nat_lt, position}
 use Rattle.std.specs.List.{slice_get, position_or_len}
-use Rattle.std.proofs.lemmas.List.Quantifiers.{position-Some}
 use Rattle.std.proofs.lemmas.List.Folds.{find_at}
 use Rattle.std.proofs.lemmas.Option.{slice_get_past}
 use Rattle.pb_carriers.specs.Carrier as carriers
 use Rattle.pb_carriers.specs.Carrier.{Value, contains}
 use Rattle.pb_sorts.specs.declared.carrier.Carrier.{Carrier}
 use Rattle.pb_sorts.specs.Carrier.{values_of}
-use Rattle.pb_sorts.specs.Layout as layouts
 use Rattle.pb_sorts.proofs.Equations.{slice_get-carriers_of}
 use Rattle.pb_ast.specs.declared.term.Argument.{Argument}
 use Rattle.pb_ast.specs.Form.{ArgumentForms, no_arguments, argument, InstanceForm, argument_forms, term_form}
@@ -102,19 +100,12 @@ mapped S [] k = refl
 mapped S (X ∷ E) zero = refl
 mapped S (X ∷ E) (suc k) = mapped S E k
 
-first_found : (p : Equation → Bool) (E : List Equation) (k : ℕ) (d : Equation) → k < length E → p (get_or E k d) ≡ true → ((j : ℕ) → j < k → p (get_or E j d) ≡ false) → find p E ≡ slice_get E k
-first_found p [] k d lt e before = absurd (omega arith)
-first_found p (X ∷ E) zero d lt e before = ap (λ b. cond b (Some X) (find p E)) e
-first_found p (X ∷ E) (suc k) d lt e before =
-    ap (λ b. cond b (Some X) (find p E)) (before 0 (omega arith)) ∙ first_found p E k d (omega arith) e (λ j below. before (suc j) (omega arith))
+the_place : (b : Bool) (n k : ℕ) → cond b (Some n) None ≡ Some k → n ≡ k
+the_place true n k e = cc
+the_place false n k e = cc
 
 found : (p : Equation → Bool) (E : List Equation) (k : ℕ) → position p E ≡ Some k → find p E ≡ slice_get E k
-found p [] k e = cc
-found p (X ∷ E) k e = let at = position-Some p (X ∷ E) k X e in first_found p (X ∷ E) k X at.0 at.1 at.2
-
-below : (p : Equation → Bool) (E : List Equation) (k : ℕ) → position p E ≡ Some k → k < length E
-below p [] k e = cc
-below p (X ∷ E) k e = let at = position-Some p (X ∷ E) k X e in at.0
+found p E k e = find_at p E ∙ ap (slice_get E) (the_place (nat_lt (position_or_len p E) (length E)) (position_or_len p E) k e)
 
 no_place : (b : Bool) (n : ℕ) → cond b (Some n) None ≡ None → b ≡ false
 no_place true n e = cc
@@ -138,20 +129,6 @@ carriers_there S layout x k cs laid at there =
     (ap (carriers_at S) (found (λ X. same_name X.name x) S.equations k at)
     ∙ (sym (mapped S S.equations k)
     ∙ (ap (λ (css : List (List carriers.Carrier)). slice_get css k) (sym laid) ∙ slice_get-carriers_of layout k cs there)))
-
-length-mapped : (layout : List (List Carrier)) → length (layouts.carriers_of layout) ≡ length layout
-length-mapped [] = refl
-length-mapped (cs ∷ layout) = ap suc (length-mapped layout)
-
-length-equations : (S : Spec) (E : List Equation) → length (map (λ (X : Equation). carriers_of S X.parameters) E) ≡ length E
-length-equations S [] = refl
-length-equations S (X ∷ E) = ap suc (length-equations S E)
-
-pub place_below : (S : Spec) (layout : List (List Carrier)) (x : Name) (k : ℕ) → IsLayout S layout → equation_place S x ≡ Some k → k < length layout
-place_below S layout x k laid at =
-    let lt = below (λ X. same_name X.name x) S.equations k at in
-    let e = sym (length-mapped layout) ∙ (ap length laid ∙ length-equations S S.equations) in
-    omega (arith, lt, e)
 
 -- where no equation has the name, no value is out of its carrier
 no_values : (S : Spec) (es : ArgumentForms) → value_faults S es [] ≡ []

@@ -1,6 +1,4 @@
 pub mod Computed
-pub mod Weight
-pub mod FormulaWeight
 pub mod Links
 pub mod FormulaLinks
 pub mod Nodes

@@ -1,7 +1,7 @@
 -- The faults of right sides, equation by equation.
 use Rattle.std.proofs.Common.{◌≡◌, ℕ, zero, suc, ◌+◌, ◌<◌, ◌≤◌, true, List, [], ◌∷◌, ◌++◌, map, length, get_or, drop, refl, sym, ap, arith, add-one}
 use Rattle.pb_ast.specs.declared.spec.Equation.{Equation}
-use Rattle.pb_ast.specs.Form.{EquationForm, equation_form, formula_form}
+use Rattle.pb_ast.specs.Form.{equation_form, formula_form}
 use Rattle.pb_syntax.specs.Syntax.{Spec}
 use Rattle.pb_syntax.specs.Erase.{erased_variables}
 use Rattle.pb_declarations.specs.declared.fault.Fault.{Fault}

@@ -58,7 +58,7 @@ fn check_values(
                 &argument.term,
                 &pb_evaluation::Scope::Outermost,
                 declarations,
-            );
+            )?;
             require(
                 carrier.contains(value),
                 Rule::OutsideCarrier,

@@ -60,6 +60,30 @@ fn answers_over_data(rt: HostRuntime) -> Result<(), Fail> {
             "%range Int 0 1\npbes nu X(n, m: Int) = X(n + 1, m - 1); init X(0, 1);",
             "false",
         ),
+        (
+            "%range Int 0 1023\npbes nu X(n, m: Int) = X(n, m); init X(0, 0);",
+            "true",
+        ),
+        (
+            "%range Int 0 1023\npbes nu X(n, m: Int, b: Bool) = X(n, m, b); init X(0, 0, true);",
+            "true",
+        ),
+        (
+            "%range Int 0 4194303\npbes nu X(n: Int) = X(n); init X(4194303);",
+            "true",
+        ),
+        (
+            "%range Int 0 2\npbes nu X = forall n: Int . exists m, k: Int . val(n + m == 2 && k == m + m - m); init X;",
+            "true",
+        ),
+        (
+            "%range Int 0 2\npbes nu X = exists m, n: Int . forall k: Int . val(n == 2 && m == 2 && k + n == m); init X;",
+            "false",
+        ),
+        (
+            "%range Int 0 2\npbes nu X = val(forall n, m: Int . exists n: Int . n == m) && X; init X;",
+            "true",
+        ),
     ] {
         let outcome = run_on(rt.alloc(), &SOLVE, &mut In::new(text.as_bytes()), ROOM);
         assert_eq!(rt; outcome.status, 0, "{text}");

@@ -1,108 +1,92 @@
-use Rattle.std.proofs.Common.{◌≡◌, ◌∙◌, sym, ap, subst, arith, w64, to_z, of_z, not, List, length, pos, ◌+ℤ◌, Bool}
-use Rattle.std.proofs.lemmas.Int.{ints}
-use Rattle.pb_ast.specs.declared.name.Name.{Name}
+use Rattle.std.proofs.Common.{◌<◌, ◌∙◌, sym, ap, subst, refl, arith, not, List, length, Bool}
 use Rattle.pb_ast.specs.declared.formula.Formula.{Formula}
 use Rattle.pb_ast.specs.declared.formula.Link.{Link}
-use Rattle.pb_ast.specs.Form.{FormulaForm, formula_form}
+use Rattle.pb_ast.specs.Form.{FormulaForm, formula_form, variable_forms}
 use Rattle.pb_ast.proofs.FormLemmas.{formula-chain}
 use Rattle.pb_declarations.specs.View.{spec_of}
-use Rattle.pb_syntax.specs.Syntax.{Variable}
-use Rattle.pb_syntax.specs.Erase.{erased_formula}
+use Rattle.pb_syntax.specs.Erase.{erased_formula, erased_variables}
 use Rattle.pb_syntax.specs.Formula.{truth}
 use Rattle.pb_syntax.specs.Value as meaning
-use Rattle.pb_bounds.specs.Fits.{FitsFor, FormulaFits}
+use Rattle.pb_bounds.specs.Fits.{FormulaFits}
 use Rattle.pb_evaluation.specs.Environment.{environment_of}
+use Rattle.pb_evaluation.specs.declared.binding.Binding.{Binding}
+use Rattle.pb_evaluation.specs.Binding.{AreLast, AreNext, bound}
 use Rattle.pb_evaluation.specs.Scope.{assignment_of}
-use Rattle.pb_evaluation.proofs.Weight.{groups_weight}
 use Rattle.pb_evaluation.proofs.FormulaWeight.{weight, weight-chain, links_weight, link_lighter}
 use Rattle.pb_evaluation.proofs.FormulaLinks.{LinksFit, truth_of, chain_truth, truth-chained, fits-chained, link_fits}
-use Rattle.pb_evaluation.proofs.Quantified.{below, group_of, first_group, fits_at, answer_at, over_next, over_decided, over_end, whole, differs, agrees}
+use Rattle.pb_evaluation.proofs.Quantified.{differs}
+use Rattle.pb_evaluation.proofs.Odometer.{IsUnderWay, fits_now, goes_on, is_ended, lacks_values, left_less, left_of, none_at_all, under_way, written}
 use Rattle.pb_evaluation.proofs.formula.+formulas.Goals as goal
 
 -- ---- quantifiers
 
-pub quantified-returns-in-Some : goal.quantified-returns-in-Some
-quantified-returns-in-Some t c =
+pub quantified-returns-then-has_no_values : goal.quantified-returns-then-has_no_values
+quantified-returns-then-has_no_values t c =
     let S = spec_of c.args.environment.now.declarations.now in
     let e = environment_of S c.args.environment.now.truths.now in
     let p = λ (a : meaning.Assignment). truth S a e (erased_formula (formula_form c.args.body.now)) in
-    let a = assignment_of c.args.scope.now in
-    let grouped = first_group c.args.variables.now c.in-Some.group.now c.in-Some.rest.now c.deref.result.now c.as_str-sort.result.now c.in-Some.ensures.cases.0 c.deref.ensures.value c.as_str-sort.ensures.value in
-    c.quantified_group.ensures ∙ ap (λ (xs : List Variable). meaning.quantified S c.args.quantifier xs p a) (sym grouped)
+    let bs = c.in_ok-bindings.bindings.items in
+    let lacks = ap lacks_values (sym c.deref.ensures.value) ∙ sym c.if-has_no_values.ensures in
+    ap not c.deciding.ensures ∙ sym (none_at_all S c.args.quantifier (erased_variables (variable_forms c.args.variables.now.items)) bs p (assignment_of c.args.scope.now) c.in_ok-bindings.ensures.bindings lacks)
 
-pub quantified-quantified_group-requires : goal.quantified-quantified_group-requires
-quantified-quantified_group-requires t c =
+pub quantified-loop-bindings-init : goal.quantified-loop-bindings-init
+quantified-loop-bindings-init t c =
+    let S = spec_of c.args.environment.now.declarations.now in
+    let e = environment_of S c.args.environment.now.truths.now in
+    let p = λ (a : meaning.Assignment). truth S a e (erased_formula (formula_form c.args.body.now)) in
+    let bs = c.in_ok-bindings.bindings.items in
+    let some = ap lacks_values (sym c.deref.ensures.value) ∙ sym c.if-has_no_values.ensures in
+    under_way S c.args.quantifier (erased_variables (variable_forms c.args.variables.now.items)) bs p (assignment_of c.args.scope.now) c.in_ok-bindings.ensures.bindings c.in_ok-bindings.ensures.first some
+
+pub quantified-formula_truth-requires : goal.quantified-formula_truth-requires
+quantified-formula_truth-requires t c =
     let S = spec_of c.args.environment.now.declarations.now in
     let P = λ (a : meaning.Assignment). FormulaFits S a (erased_formula (formula_form c.args.body.now)) in
     let a = assignment_of c.args.scope.now in
-    let grouped = first_group c.args.variables.now c.in-Some.group.now c.in-Some.rest.now c.deref.result.now c.as_str-sort.result.now c.in-Some.ensures.cases.0 c.deref.ensures.value c.as_str-sort.ensures.value in (
-      omega (arith, c.decreases, ap groups_weight c.in-Some.ensures.cases.0, ap (λ (ns : List Name). length ns) c.deref.ensures.value),
-      subst (λ (xs : List Variable). FitsFor S xs P a) grouped c.requires,
+    let bs = c.loop-bindings.bindings.items in (
+      omega (arith, c.decreases),
+      subst (λ (ds : List Binding). P (bound ds a)) (sym c.deref-in-loop-bindings.ensures.value)
+          (fits_now S (erased_variables (variable_forms c.args.variables.now.items)) bs P a c.loop-bindings.invariant.are c.loop-bindings.invariant.within c.requires),
     )
 
-pub quantified_group-quantified_group-holds-requires : goal.quantified_group-quantified_group-holds-requires
-quantified_group-quantified_group-holds-requires t c =
+pub quantified-returns-then-not-advance : goal.quantified-returns-then-not-advance
+quantified-returns-then-not-advance t c =
     let S = spec_of c.args.environment.now.declarations.now in
-    let P = λ (a : meaning.Assignment). FormulaFits S a (erased_formula (formula_form c.args.body.now)) in
+    let e = environment_of S c.args.environment.now.truths.now in
+    let p = λ (a : meaning.Assignment). truth S a e (erased_formula (formula_form c.args.body.now)) in
     let a = assignment_of c.args.scope.now in
-    let numbers = c.sort_values-numbers.result in
-    let k = c.loop-place.place in
-    let v = to_z w64 (of_z w64 (to_z w64 (of_z w64 numbers.least) +ℤ to_z w64 k)) in
-    let is : v ≡ numbers.least +ℤ pos k = omega (arith, ints) in (
-      omega (arith, c.requires.1.0, ap (λ (ns : List Name). length ns) c.in-Some.ensures.cases.0),
-      fits_at S c.args.names.now c.in-Some.name.now c.in-Some.names.now c.args.sort.now c.args.rest.now P a numbers.least numbers.count k c.deref.result.now v
-          c.in-Some.ensures.cases.0 c.sort_values-numbers.ensures c.loop-place-test.true c.deref.ensures is c.requires.1.1,
-    )
+    let bs = c.loop-bindings.bindings.items in
+    let is = c.in_ok-holds.ensures ∙ ap (λ (ds : List Binding). p (bound ds a)) c.deref-in-loop-bindings.ensures.value in
+    is_ended S c.args.quantifier (erased_variables (variable_forms c.args.variables.now.items)) bs p a c.in_ok-holds.holds c.loop-bindings.invariant is (subst AreLast c.deref_mut.ensures.value (c.if-not-advance.ensures.last refl))
 
-pub quantified_group-loop-place-preserved : goal.quantified_group-loop-place-preserved
-quantified_group-loop-place-preserved t c =
+pub quantified-loop-bindings-smaller : goal.quantified-loop-bindings-smaller
+quantified-loop-bindings-smaller t c =
+    let bs = c.loop-bindings.bindings.items in
+    let cs = c.advance.new.bindings in
+    let same = written bs cs c.loop-bindings.bindings.len (omega (arith, c.advance.auto.bindings, ap (λ (ds : List Binding). length ds) c.deref_mut.ensures.value)) c.loop-bindings.bindings.ok.0 in
+    let next = subst (λ (ds : List Binding). AreNext ds cs) c.deref_mut.ensures.value (c.if-not-advance.ensures.next refl) in
+    subst (λ (ds : List Binding). left_of ds < left_of bs) (sym same) (left_less bs cs c.loop-bindings.invariant.within next)
+
+pub quantified-loop-bindings-preserved : goal.quantified-loop-bindings-preserved
+quantified-loop-bindings-preserved t c =
     let S = spec_of c.args.environment.now.declarations.now in
     let e = environment_of S c.args.environment.now.truths.now in
     let p = λ (a : meaning.Assignment). truth S a e (erased_formula (formula_form c.args.body.now)) in
     let a = assignment_of c.args.scope.now in
     let q = c.args.quantifier in
-    let xs = group_of c.in-Some.names.now c.args.sort.now c.args.rest.now in
-    let numbers = c.sort_values-numbers.result in
-    let k = c.loop-place.place in
-    let v = to_z w64 (of_z w64 (to_z w64 (of_z w64 numbers.least) +ℤ to_z w64 k)) in
-    let is : v ≡ numbers.least +ℤ pos k = omega (arith, ints) in
-    let holds = answer_at S q c.in-Some.name.now xs p a numbers.least k c.deref.result.now v c.quantified_group-holds.result c.quantified_group-holds.ensures c.deref.ensures is in
-    sym (over_next q (below S q c.in-Some.name.now xs p a) numbers.least k numbers.count c.quantified_group-holds.result c.loop-place-test.true holds (differs _ _ _ c.if-holds-deciding.false c.deciding.ensures))
-    ∙ c.loop-place.invariant
-
-pub quantified_group-returns-then-holds-deciding : goal.quantified_group-returns-then-holds-deciding
-quantified_group-returns-then-holds-deciding t c =
-    let S = spec_of c.args.environment.now.declarations.now in
-    let e = environment_of S c.args.environment.now.truths.now in
-    let p = λ (a : meaning.Assignment). truth S a e (erased_formula (formula_form c.args.body.now)) in
-    let a = assignment_of c.args.scope.now in
-    let q = c.args.quantifier in
-    let xs = group_of c.in-Some.names.now c.args.sort.now c.args.rest.now in
-    let numbers = c.sort_values-numbers.result in
-    let k = c.loop-place.place in
-    let v = to_z w64 (of_z w64 (to_z w64 (of_z w64 numbers.least) +ℤ to_z w64 k)) in
-    let is : v ≡ numbers.least +ℤ pos k = omega (arith, ints) in
-    let holds = answer_at S q c.in-Some.name.now xs p a numbers.least k c.deref.result.now v c.quantified_group-holds.result c.quantified_group-holds.ensures c.deref.ensures is in
-    let all = whole S q c.args.names.now c.in-Some.name.now c.in-Some.names.now c.args.sort.now c.args.rest.now p a numbers.least numbers.count c.in-Some.ensures.cases.0 c.sort_values-numbers.ensures in
-    sym (over_decided q (below S q c.in-Some.name.now xs p a) numbers.least k numbers.count c.quantified_group-holds.result c.loop-place-test.true holds (agrees _ _ _ c.if-holds-deciding.true c.deciding.ensures))
-    ∙ (c.loop-place.invariant ∙ all)
-
-pub quantified_group-returns : goal.quantified_group-returns
-quantified_group-returns t c =
-    let S = spec_of c.args.environment.now.declarations.now in
-    let e = environment_of S c.args.environment.now.truths.now in
-    let p = λ (a : meaning.Assignment). truth S a e (erased_formula (formula_form c.args.body.now)) in
-    let a = assignment_of c.args.scope.now in
-    let q = c.args.quantifier in
-    let xs = group_of c.in-Some.names.now c.args.sort.now c.args.rest.now in
-    let numbers = c.sort_values-numbers.result in
-    let all = whole S q c.args.names.now c.in-Some.name.now c.in-Some.names.now c.args.sort.now c.args.rest.now p a numbers.least numbers.count c.in-Some.ensures.cases.0 c.sort_values-numbers.ensures in
-    ap not c.deciding-2.ensures ∙ (sym (over_end q (below S q c.in-Some.name.now xs p a) numbers.least c.loop-place.place numbers.count c.loop-place-test.false) ∙ (c.loop-place.invariant ∙ all))
+    let xs = erased_variables (variable_forms c.args.variables.now.items) in
+    let bs = c.loop-bindings.bindings.items in
+    let cs = c.advance.new.bindings in
+    let is = c.in_ok-holds.ensures ∙ ap (λ (ds : List Binding). p (bound ds a)) c.deref-in-loop-bindings.ensures.value in
+    let same = written bs cs c.loop-bindings.bindings.len (omega (arith, c.advance.auto.bindings, ap (λ (ds : List Binding). length ds) c.deref_mut.ensures.value)) c.loop-bindings.bindings.ok.0 in
+    let next = subst (λ (ds : List Binding). AreNext ds cs) c.deref_mut.ensures.value (c.if-not-advance.ensures.next refl) in
+    subst (λ (ds : List Binding). IsUnderWay S q xs ds p a) (sym same)
+    (goes_on S q xs bs cs p a c.in_ok-holds.holds c.loop-bindings.invariant is (differs _ _ _ c.if-holds-deciding.false c.deciding-in-loop-bindings.ensures) next)
 
 -- ---- chains
 
-pub formula_truth-formula_truth-current-requires : goal.formula_truth-formula_truth-current-requires
-formula_truth-formula_truth-current-requires t c =
+pub formula_truth-formula_truth-requires-in-Chain : goal.formula_truth-formula_truth-requires-in-Chain
+formula_truth-formula_truth-requires-in-Chain t c =
     let S = spec_of c.args.environment.now.declarations.now in
     let a = assignment_of c.args.scope.now in
     let f = c.in-Chain.first in
@@ -119,12 +103,12 @@ formula_truth-loop-link-init t c =
     let a = assignment_of c.args.scope.now in
     let f = c.in-Chain.first in
     let is = ap formula_form c.in-Chain.is ∙ formula-chain c.in-Chain.connective f c.in-Chain.links in
-    ap (λ (ls : List Link). chain_truth S a e c.in-Chain.connective c.formula_truth-current.result ls) c.deref-link-items.ensures.value
-    ∙ (ap (λ (b : Bool). chain_truth S a e c.in-Chain.connective b c.in-Chain.links.items) (c.formula_truth-current.ensures ∙ ap (λ (x : Formula). truth_of S a e (formula_form x)) c.deref-in-Chain.ensures)
+    ap (λ (ls : List Link). chain_truth S a e c.in-Chain.connective c.in_ok-current-in-Chain.current ls) c.deref-link-items.ensures.value
+    ∙ (ap (λ (b : Bool). chain_truth S a e c.in-Chain.connective b c.in-Chain.links.items) (c.in_ok-current-in-Chain.ensures ∙ ap (λ (x : Formula). truth_of S a e (formula_form x)) c.deref-in-Chain.ensures)
     ∙ (sym (truth-chained S a e c.in-Chain.connective (formula_form f.value) c.in-Chain.links.items) ∙ ap (truth_of S a e) (sym is)))
 
-pub formula_truth-formula_truth-current-requires-in-loop-link : goal.formula_truth-formula_truth-current-requires-in-loop-link
-formula_truth-formula_truth-current-requires-in-loop-link t c =
+pub formula_truth-formula_truth-requires-in-loop-link : goal.formula_truth-formula_truth-requires-in-loop-link
+formula_truth-formula_truth-requires-in-loop-link t c =
     let S = spec_of c.args.environment.now.declarations.now in
     let a = assignment_of c.args.scope.now in
     let f = c.in-Chain.first in

@@ -64,11 +64,11 @@ loop-argument-preserved c =
     let same = c.deref-argument-items.ensures.value in
     let k = c.loop-argument.argument-index in
     let x = c.argument-item.result in
-    let fits : SFits w64 c.value.result = record { sfits = c.value.type_inv } in
+    let fits : SFits w64 c.in_ok-value.value = record { sfits = omega arith } in
     record {
-      so_far = values_more S a xs k x c.loop-argument.values.items c.push_reserved.new.self.items (meaning.values S a (erased_arguments (argument_forms xs))) (to_z w64 (of_z w64 c.value.result))
+      so_far = values_more S a xs k x c.loop-argument.values.items c.push_reserved.new.self.items (meaning.values S a (erased_arguments (argument_forms xs))) (to_z w64 (of_z w64 c.in_ok-value.value))
           (subst (λ (ys : List Argument). k < length ys) same c.loop-argument-test.true) (subst (λ (ys : List Argument). x ≡ get_or ys k x) same c.argument-item.is)
-          (to_z-of_z fits ∙ c.value.ensures) c.push_reserved.ensures.items c.loop-argument.invariant.so_far;
+          (to_z-of_z fits ∙ c.in_ok-value.ensures) c.push_reserved.ensures.items c.loop-argument.invariant.so_far;
       count = grind (arith, length_push, c.push_reserved.ensures.items, c.loop-argument.invariant.count);
       room = c.push_reserved.ensures.capacity ∙ c.loop-argument.invariant.room;
     }

@@ -1,25 +1,25 @@
-use Rattle.std.proofs.Common.{◌≡◌, ◌∙◌, sym, ap, subst, arith, SFits, w64, to_z, of_z, to_z-of_z, not, List, ℕ, length, pos, ◌+ℤ◌, Bool, true, false, refl}
+use Rattle.std.proofs.Common.{◌≡◌, ◌∙◌, sym, ap, subst, arith, SFits, w64, to_z, to_z-of_z, not, List, ℕ, length, pos, ◌+◌, ◌<◌, drop, ℤ, IfOk, Bool, true, false, refl}
 use mir.Val.{bool_byte}
-use Rattle.std.proofs.lemmas.Int.{ints}
-use Rattle.pb_ast.specs.declared.name.Name.{Name}
 use Rattle.pb_ast.specs.declared.term.Term.{Term}
 use Rattle.pb_ast.specs.declared.term.TermLink.{TermLink}
 use Rattle.pb_ast.specs.declared.term.ArithmeticLink.{ArithmeticLink}
 use Rattle.pb_ast.specs.declared.term.Argument.{Argument}
-use Rattle.pb_ast.specs.Form.{TermForm, argument_forms, arithmetic_links, calculated, chained, term_form, term_links}
+use Rattle.pb_ast.specs.Form.{TermForm, argument_forms, arithmetic_links, calculated, chained, term_form, term_links, variable_forms}
 use Rattle.pb_ast.proofs.FormLemmas.{term-chain, term-arithmetic, term-application}
 use Rattle.pb_declarations.specs.View.{spec_of}
 use Rattle.pb_carriers.specs.Carrier.{of_bool}
-use Rattle.pb_syntax.specs.Syntax.{Variable}
-use Rattle.pb_syntax.specs.Erase.{erased_arguments, erased_term}
+use Rattle.pb_syntax.specs.Erase.{erased_arguments, erased_term, erased_variables, of_arithmetic}
 use Rattle.pb_syntax.specs.Value as meaning
-use Rattle.pb_bounds.specs.Fits.{AllFit, Fits, FitsFor, IsBounded}
+use Rattle.pb_bounds.specs.Fits.{AllFit, Fits, IsBounded}
 use Rattle.pb_bounds.proofs.Bounded.{fits_bounded}
+use Rattle.pb_evaluation.specs.declared.binding.Binding.{Binding}
+use Rattle.pb_evaluation.specs.Binding.{AreLast, AreNext, bound}
 use Rattle.pb_evaluation.specs.Scope.{assignment_of}
-use Rattle.pb_evaluation.proofs.Weight.{weight, weight-chain, weight-arithmetic, weight-application, links_weight, arithmetic_weight, arguments_weight, groups_weight, link_lighter, operand_lighter}
-use Rattle.pb_evaluation.proofs.Arguments.{argument_fits, two, three, many, same_two, same_three}
-use Rattle.pb_evaluation.proofs.Links.{ArithmeticFits, chain_value, value-chained, fits-chained, link_fits, chain_decided, chain_next, value-calculated, fits-calculated, arithmetic_value, arithmetic_next}
-use Rattle.pb_evaluation.proofs.Quantified.{below, group_of, first_group, fits_at, answer_at, over_next, over_decided, over_end, whole, differs, agrees}
+use Rattle.pb_evaluation.proofs.Weight.{weight, weight-chain, weight-arithmetic, weight-application, links_weight, arithmetic_weight, arguments_weight, link_lighter, operand_lighter}
+use Rattle.pb_evaluation.proofs.Arguments.{argument_fits, many}
+use Rattle.pb_evaluation.proofs.Links.{ArithmeticFits, chain_value, value-chained, fits-chained, link_fits, chain_decided, chain_next, value-calculated, fits-calculated, arithmetic_value, arithmetic_next, arithmetic_value-next}
+use Rattle.pb_evaluation.proofs.Quantified.{differs}
+use Rattle.pb_evaluation.proofs.Odometer.{IsUnderWay, fits_now, goes_on, is_ended, lacks_values, left_less, left_of, none_at_all, under_way, written}
 use Rattle.pb_evaluation.proofs.term.+terms.Goals as goal
 
 -- ---- functions
@@ -28,113 +28,13 @@ pub application_value-function_of_one-requires : goal.application_value-function
 application_value-function_of_one-requires t c =
     let S = spec_of c.args.declarations.now in
     let a = assignment_of c.args.scope.now in
-    let fits : SFits w64 c.value.result = record { sfits = c.value.type_inv } in
-    rw to_z-of_z (subst IsBounded (sym c.value.ensures) (fits_bounded S a (erased_term (term_form c.x-item.result.term)) (argument_fits S a c.args.arguments.now 0 c.x-item.result c.requires.1.1 (omega arith) c.x-item.is)))
-
-pub application_value-returns-in-len2 : goal.application_value-returns-in-len2
-application_value-returns-in-len2 t c =
-    let S = spec_of c.args.declarations.now in
-    let a = assignment_of c.args.scope.now in
-    let xs = c.args.arguments.now in
-    let fits : SFits w64 c.function_of_two.result = record { sfits = c.function_of_two.type_inv } in
-    let fits_x : SFits w64 c.value-left.result = record { sfits = c.value-left.type_inv } in
-    let fits_y : SFits w64 c.value-right.result = record { sfits = c.value-right.type_inv } in
-    rw to_z-of_z (c.function_of_two.ensures
-    ∙ (same_two c.args.function.now _ _ _ _ (to_z-of_z fits_x ∙ c.value-left.ensures) (to_z-of_z fits_y ∙ c.value-right.ensures)
-    ∙ sym (ap (meaning.function_value S c.args.function.now) (two S a xs c.x-item-then-arguments-lt3.result c.y-item.result c.in-len2.len_at_least c.in-len2.len_below c.x-item-then-arguments-lt3.is c.y-item.is))))
-
-pub application_value-returns-in-len3 : goal.application_value-returns-in-len3
-application_value-returns-in-len3 t c =
-    let S = spec_of c.args.declarations.now in
-    let a = assignment_of c.args.scope.now in
-    let xs = c.args.arguments.now in
-    let fits : SFits w64 c.function_of_three.result = record { sfits = c.function_of_three.type_inv } in
-    let fits_u : SFits w64 c.value-tested.result = record { sfits = c.value-tested.type_inv } in
-    let fits_x : SFits w64 c.value-left-in-len3.result = record { sfits = c.value-left-in-len3.type_inv } in
-    let fits_y : SFits w64 c.value-right-in-len3.result = record { sfits = c.value-right-in-len3.type_inv } in
-    rw to_z-of_z (c.function_of_three.ensures
-    ∙ (same_three c.args.function.now _ _ _ _ _ _ (to_z-of_z fits_u ∙ c.value-tested.ensures) (to_z-of_z fits_x ∙ c.value-left-in-len3.ensures) (to_z-of_z fits_y ∙ c.value-right-in-len3.ensures)
-    ∙ sym (ap (meaning.function_value S c.args.function.now) (three S a xs c.condition-item.result c.x-item-then-arguments-lt4.result c.y-item-then-arguments-lt4.result c.in-len3.len_at_least c.in-len3.len_below c.condition-item.is c.x-item-then-arguments-lt4.is c.y-item-then-arguments-lt4.is))))
+    let x = c.in_ok-argument-in-len1 in
+    let fits : SFits w64 x.argument = record { sfits = omega arith } in
+    rw to_z-of_z (subst IsBounded (sym x.ensures) (fits_bounded S a (erased_term (term_form c.x-item.result.term)) (argument_fits S a c.args.arguments.now 0 c.x-item.result c.requires.1.1 (omega arith) c.x-item.is)))
 
 pub application_value-returns-in_default-2 : goal.application_value-returns-in_default-2
 application_value-returns-in_default-2 t c =
     many (spec_of c.args.declarations.now) (assignment_of c.args.scope.now) c.args.function.now c.args.arguments.now c.in_default.len_at_least
-
--- ---- quantifiers
-
-pub quantified-returns-in-Some : goal.quantified-returns-in-Some
-quantified-returns-in-Some t c =
-    let S = spec_of c.args.declarations.now in
-    let p = λ (a : meaning.Assignment). meaning.is_true (meaning.value S a (erased_term (term_form c.args.body.now))) in
-    let a = assignment_of c.args.scope.now in
-    let grouped = first_group c.args.variables.now c.in-Some.group.now c.in-Some.rest.now c.deref.result.now c.as_str-sort.result.now c.in-Some.ensures.cases.0 c.deref.ensures.value c.as_str-sort.ensures.value in
-    c.quantified_group.ensures ∙ ap (λ (xs : List Variable). meaning.quantified S c.args.quantifier xs p a) (sym grouped)
-
-pub quantified-quantified_group-requires : goal.quantified-quantified_group-requires
-quantified-quantified_group-requires t c =
-    let S = spec_of c.args.declarations.now in
-    let P = λ (a : meaning.Assignment). Fits S a (erased_term (term_form c.args.body.now)) in
-    let a = assignment_of c.args.scope.now in
-    let grouped = first_group c.args.variables.now c.in-Some.group.now c.in-Some.rest.now c.deref.result.now c.as_str-sort.result.now c.in-Some.ensures.cases.0 c.deref.ensures.value c.as_str-sort.ensures.value in (
-      omega (arith, c.decreases, ap groups_weight c.in-Some.ensures.cases.0, ap (λ (ns : List Name). length ns) c.deref.ensures.value),
-      subst (λ (xs : List Variable). FitsFor S xs P a) grouped c.requires,
-    )
-
-pub quantified_group-quantified_group-holds-requires : goal.quantified_group-quantified_group-holds-requires
-quantified_group-quantified_group-holds-requires t c =
-    let S = spec_of c.args.declarations.now in
-    let P = λ (a : meaning.Assignment). Fits S a (erased_term (term_form c.args.body.now)) in
-    let a = assignment_of c.args.scope.now in
-    let numbers = c.sort_values-numbers.result in
-    let k = c.loop-place.place in
-    let v = to_z w64 (of_z w64 (to_z w64 (of_z w64 numbers.least) +ℤ to_z w64 k)) in
-    let is : v ≡ numbers.least +ℤ pos k = omega (arith, ints) in (
-      omega (arith, c.requires.1.0, ap (λ (ns : List Name). length ns) c.in-Some.ensures.cases.0),
-      fits_at S c.args.names.now c.in-Some.name.now c.in-Some.names.now c.args.sort.now c.args.rest.now P a numbers.least numbers.count k c.deref.result.now v
-          c.in-Some.ensures.cases.0 c.sort_values-numbers.ensures c.loop-place-test.true c.deref.ensures is c.requires.1.1,
-    )
-
-pub quantified_group-loop-place-preserved : goal.quantified_group-loop-place-preserved
-quantified_group-loop-place-preserved t c =
-    let S = spec_of c.args.declarations.now in
-    let p = λ (a : meaning.Assignment). meaning.is_true (meaning.value S a (erased_term (term_form c.args.body.now))) in
-    let a = assignment_of c.args.scope.now in
-    let q = c.args.quantifier in
-    let xs = group_of c.in-Some.names.now c.args.sort.now c.args.rest.now in
-    let numbers = c.sort_values-numbers.result in
-    let k = c.loop-place.place in
-    let v = to_z w64 (of_z w64 (to_z w64 (of_z w64 numbers.least) +ℤ to_z w64 k)) in
-    let is : v ≡ numbers.least +ℤ pos k = omega (arith, ints) in
-    let holds = answer_at S q c.in-Some.name.now xs p a numbers.least k c.deref.result.now v c.quantified_group-holds.result c.quantified_group-holds.ensures c.deref.ensures is in
-    sym (over_next q (below S q c.in-Some.name.now xs p a) numbers.least k numbers.count c.quantified_group-holds.result c.loop-place-test.true holds (differs _ _ _ c.if-holds-deciding.false c.deciding.ensures))
-    ∙ c.loop-place.invariant
-
-pub quantified_group-returns-then-holds-deciding : goal.quantified_group-returns-then-holds-deciding
-quantified_group-returns-then-holds-deciding t c =
-    let S = spec_of c.args.declarations.now in
-    let p = λ (a : meaning.Assignment). meaning.is_true (meaning.value S a (erased_term (term_form c.args.body.now))) in
-    let a = assignment_of c.args.scope.now in
-    let q = c.args.quantifier in
-    let xs = group_of c.in-Some.names.now c.args.sort.now c.args.rest.now in
-    let numbers = c.sort_values-numbers.result in
-    let k = c.loop-place.place in
-    let v = to_z w64 (of_z w64 (to_z w64 (of_z w64 numbers.least) +ℤ to_z w64 k)) in
-    let is : v ≡ numbers.least +ℤ pos k = omega (arith, ints) in
-    let holds = answer_at S q c.in-Some.name.now xs p a numbers.least k c.deref.result.now v c.quantified_group-holds.result c.quantified_group-holds.ensures c.deref.ensures is in
-    let all = whole S q c.args.names.now c.in-Some.name.now c.in-Some.names.now c.args.sort.now c.args.rest.now p a numbers.least numbers.count c.in-Some.ensures.cases.0 c.sort_values-numbers.ensures in
-    sym (over_decided q (below S q c.in-Some.name.now xs p a) numbers.least k numbers.count c.quantified_group-holds.result c.loop-place-test.true holds (agrees _ _ _ c.if-holds-deciding.true c.deciding.ensures))
-    ∙ (c.loop-place.invariant ∙ all)
-
-pub quantified_group-returns : goal.quantified_group-returns
-quantified_group-returns t c =
-    let S = spec_of c.args.declarations.now in
-    let p = λ (a : meaning.Assignment). meaning.is_true (meaning.value S a (erased_term (term_form c.args.body.now))) in
-    let a = assignment_of c.args.scope.now in
-    let q = c.args.quantifier in
-    let xs = group_of c.in-Some.names.now c.args.sort.now c.args.rest.now in
-    let numbers = c.sort_values-numbers.result in
-    let all = whole S q c.args.names.now c.in-Some.name.now c.in-Some.names.now c.args.sort.now c.args.rest.now p a numbers.least numbers.count c.in-Some.ensures.cases.0 c.sort_values-numbers.ensures in
-    ap not c.deciding-2.ensures ∙ (sym (over_end q (below S q c.in-Some.name.now xs p a) numbers.least c.loop-place.place numbers.count c.loop-place-test.false) ∙ (c.loop-place.invariant ∙ all))
 
 -- ---- nodes with several operands
 
@@ -153,12 +53,11 @@ pub value-returns-in-Application : goal.value-returns-in-Application
 value-returns-in-Application t c =
     let S = spec_of c.args.declarations.now in
     let a = assignment_of c.args.scope.now in
-    let fits : SFits w64 c.application_value.result = record { sfits = c.application_value.type_inv } in
     let is = ap term_form c.in-Application.is ∙ term-application c.in-Application.function c.in-Application.arguments in
-    rw to_z-of_z (c.application_value.ensures
-    ∙ (ap (λ (xs : List Argument). meaning.function_value S c.deref-in-Application.result.now (meaning.values S a (erased_arguments (argument_forms xs)))) c.deref-in-Application-2.ensures.value
+    let same = ap (λ (xs : List Argument). meaning.function_value S c.deref-in-Application.result.now (meaning.values S a (erased_arguments (argument_forms xs)))) c.deref-in-Application-2.ensures.value
     ∙ (ap (λ (f : List ℕ). meaning.function_value S f (meaning.values S a (erased_arguments (argument_forms c.in-Application.arguments.items)))) c.deref-in-Application.ensures
-    ∙ ap (λ (f : TermForm). meaning.value S a (erased_term f)) (sym is))))
+    ∙ ap (λ (f : TermForm). meaning.value S a (erased_term f)) (sym is)) in
+    subst (λ (w : ℤ). IfOk c.application_value.result (λ v. v ≡ w)) same c.application_value.ensures
 
 pub value-chain_value-requires : goal.value-chain_value-requires
 value-chain_value-requires t c =
@@ -177,11 +76,10 @@ value-returns-in-Chain t c =
     let S = spec_of c.args.declarations.now in
     let a = assignment_of c.args.scope.now in
     let f = c.in-Chain.first in
-    let fits : SFits w64 c.chain_value.result = record { sfits = c.chain_value.type_inv } in
     let is = ap term_form c.in-Chain.is ∙ term-chain c.in-Chain.connective f c.in-Chain.links in
     let same = ap (λ (x : Term). chained (TermForm.connected c.in-Chain.connective) (term_form x) (term_links c.deref-in-Chain-2.result.now)) c.deref-in-Chain.ensures
     ∙ (ap (λ (ls : List TermLink). chained (TermForm.connected c.in-Chain.connective) (term_form f.value) (term_links ls)) c.deref-in-Chain-2.ensures.value ∙ sym is) in
-    rw to_z-of_z (c.chain_value.ensures ∙ ap (λ (x : TermForm). meaning.value S a (erased_term x)) same)
+    subst (λ (x : TermForm). IfOk c.chain_value.result (λ v. v ≡ meaning.value S a (erased_term x))) same c.chain_value.ensures
 
 pub value-arithmetic_value-requires : goal.value-arithmetic_value-requires
 value-arithmetic_value-requires t c =
@@ -200,11 +98,10 @@ value-returns-in-Arithmetic t c =
     let S = spec_of c.args.declarations.now in
     let a = assignment_of c.args.scope.now in
     let f = c.in-Arithmetic.first in
-    let fits : SFits w64 c.arithmetic_value.result = record { sfits = c.arithmetic_value.type_inv } in
     let is = ap term_form c.in-Arithmetic.is ∙ term-arithmetic f c.in-Arithmetic.links in
     let same = ap (λ (x : Term). calculated (term_form x) (arithmetic_links c.deref-in-Arithmetic-2.result.now)) c.deref-in-Arithmetic.ensures
     ∙ (ap (λ (ls : List ArithmeticLink). calculated (term_form f.value) (arithmetic_links ls)) c.deref-in-Arithmetic-2.ensures.value ∙ sym is) in
-    rw to_z-of_z (c.arithmetic_value.ensures ∙ ap (λ (x : TermForm). meaning.value S a (erased_term x)) same)
+    subst (λ (x : TermForm). IfOk c.arithmetic_value.result (λ v. v ≡ meaning.value S a (erased_term x))) same c.arithmetic_value.ensures
 
 -- ---- chains of one connective
 
@@ -212,8 +109,8 @@ byte-bool : (b : Bool) → pos (bool_byte b) ≡ of_bool b
 byte-bool true = refl
 byte-bool false = refl
 
-pub chain_value-value-current-requires : goal.chain_value-value-current-requires
-chain_value-value-current-requires t c =
+pub chain_value-value-requires : goal.chain_value-value-requires
+chain_value-value-requires t c =
     let S = spec_of c.args.declarations.now in
     (omega (arith, c.decreases), (fits-chained S (assignment_of c.args.scope.now) c.args.connective (term_form c.args.first.now) c.args.links.now c.requires).0)
 
@@ -221,12 +118,12 @@ pub chain_value-loop-link-init : goal.chain_value-loop-link-init
 chain_value-loop-link-init t c =
     let S = spec_of c.args.declarations.now in
     let a = assignment_of c.args.scope.now in
-    let fits : SFits w64 c.value-current.result = record { sfits = c.value-current.type_inv } in
-    ap (λ v. chain_value S a c.args.connective v c.args.links.now) (to_z-of_z fits ∙ c.value-current.ensures)
+    let fits : SFits w64 c.in_ok-current.current = record { sfits = omega arith } in
+    ap (λ v. chain_value S a c.args.connective v c.args.links.now) (to_z-of_z fits ∙ c.in_ok-current.ensures)
     ∙ sym (value-chained S a c.args.connective (term_form c.args.first.now) c.args.links.now)
 
-pub chain_value-value-requires : goal.chain_value-value-requires
-chain_value-value-requires t c =
+pub chain_value-value-requires-in-loop-link : goal.chain_value-value-requires-in-loop-link
+chain_value-value-requires-in-loop-link t c =
     let S = spec_of c.args.declarations.now in
     let a = assignment_of c.args.scope.now in
     let links = c.args.links.now in
@@ -240,10 +137,10 @@ chain_value-loop-link-preserved t c =
     let S = spec_of c.args.declarations.now in
     let a = assignment_of c.args.scope.now in
     let fits : SFits w64 c.from-current.result = record { sfits = c.from-current.type_inv } in
-    let fits_x : SFits w64 c.value.result = record { sfits = c.value.type_inv } in
+    let fits_x : SFits w64 c.in_ok-operand.operand = record { sfits = omega arith } in
     chain_next S a c.args.connective (to_z w64 c.loop-link.current-bits) _ c.args.links.now c.loop-link.link-index c.link-item.result c.is_true.result c.loop-link-test.true c.link-item.is
     c.is_true.ensures c.in_default.ensures
-    (to_z-of_z fits ∙ (c.from-current.ensures ∙ (byte-bool c.is_true-in-loop-link.result ∙ ap of_bool (c.is_true-in-loop-link.ensures ∙ ap meaning.is_true (to_z-of_z fits_x ∙ c.value.ensures)))))
+    (to_z-of_z fits ∙ (c.from-current.ensures ∙ (byte-bool c.is_true-in-loop-link.result ∙ ap of_bool (c.is_true-in-loop-link.ensures ∙ ap meaning.is_true (to_z-of_z fits_x ∙ c.in_ok-operand.ensures)))))
     ∙ c.loop-link.invariant
 
 pub chain_value-returns-in-Some : goal.chain_value-returns-in-Some
@@ -259,8 +156,8 @@ chain_value-returns-in-Some t c =
 
 -- ---- chains of arithmetic
 
-pub arithmetic_value-value-current-requires : goal.arithmetic_value-value-current-requires
-arithmetic_value-value-current-requires t c =
+pub arithmetic_value-value-requires : goal.arithmetic_value-value-requires
+arithmetic_value-value-requires t c =
     let S = spec_of c.args.declarations.now in
     (omega (arith, c.decreases), (fits-calculated S (assignment_of c.args.scope.now) (term_form c.args.first.now) c.args.links.now c.requires).0)
 
@@ -268,15 +165,15 @@ pub arithmetic_value-loop-link-init : goal.arithmetic_value-loop-link-init
 arithmetic_value-loop-link-init t c =
     let S = spec_of c.args.declarations.now in
     let a = assignment_of c.args.scope.now in
-    let fits : SFits w64 c.value-current.result = record { sfits = c.value-current.type_inv } in
-    let is = to_z-of_z fits ∙ c.value-current.ensures in
+    let fits : SFits w64 c.in_ok-current.current = record { sfits = omega arith } in
+    let is = to_z-of_z fits ∙ c.in_ok-current.ensures in
     record {
       same = ap (λ v. arithmetic_value S a v c.args.links.now) is ∙ sym (value-calculated S a (term_form c.args.first.now) c.args.links.now);
       fits = subst (λ v. ArithmeticFits S a v c.args.links.now) (sym is) (fits-calculated S a (term_form c.args.first.now) c.args.links.now c.requires).1;
     }
 
-pub arithmetic_value-value-operand-requires : goal.arithmetic_value-value-operand-requires
-arithmetic_value-value-operand-requires t c =
+pub arithmetic_value-value-requires-in-loop-link : goal.arithmetic_value-value-requires-in-loop-link
+arithmetic_value-value-requires-in-loop-link t c =
     let S = spec_of c.args.declarations.now in
     let a = assignment_of c.args.scope.now in
     let links = c.args.links.now in
@@ -284,3 +181,93 @@ arithmetic_value-value-operand-requires t c =
       omega (arith, c.decreases, operand_lighter links k c.link-item.result c.loop-link-test.true c.link-item.is),
       (arithmetic_next S a (to_z w64 c.loop-link.current-bits) links k c.link-item.result c.loop-link-test.true c.link-item.is c.loop-link.invariant.fits).0,
     )
+
+pub arithmetic_value-calculate-current-requires-clause-bounded : goal.arithmetic_value-calculate-current-requires-clause-bounded
+arithmetic_value-calculate-current-requires-clause-bounded t c =
+    let S = spec_of c.args.declarations.now in
+    let a = assignment_of c.args.scope.now in
+    let v = to_z w64 c.loop-link.current-bits in
+    let link = c.link-item.result in
+    let fits : SFits w64 c.in_ok-operand.operand = record { sfits = omega arith } in
+    let next = arithmetic_next S a v c.args.links.now c.loop-link.link-index link c.loop-link-test.true c.link-item.is c.loop-link.invariant.fits in
+    subst (λ (x : ℤ). IsBounded (meaning.binary (of_arithmetic link.operator) v x)) (sym (to_z-of_z fits ∙ c.in_ok-operand.ensures)) next.2
+
+pub arithmetic_value-loop-link-preserved : goal.arithmetic_value-loop-link-preserved
+arithmetic_value-loop-link-preserved t c =
+    let S = spec_of c.args.declarations.now in
+    let a = assignment_of c.args.scope.now in
+    let v = to_z w64 c.loop-link.current-bits in
+    let links = c.args.links.now in
+    let k = c.loop-link.link-index in
+    let link = c.link-item.result in
+    let fits_x : SFits w64 c.in_ok-operand.operand = record { sfits = omega arith } in
+    let fits : SFits w64 c.calculate-current.result = record { sfits = c.calculate-current.type_inv } in
+    let next = arithmetic_next S a v links k link c.loop-link-test.true c.link-item.is c.loop-link.invariant.fits in
+    let is = to_z-of_z fits ∙ (c.calculate-current.ensures ∙ ap (λ (x : ℤ). meaning.binary (of_arithmetic link.operator) v x) (to_z-of_z fits_x ∙ c.in_ok-operand.ensures)) in
+    record {
+      same = ap (λ (w : ℤ). arithmetic_value S a w (drop (k + 1) links)) is ∙ (sym (arithmetic_value-next S a v links k link c.loop-link-test.true c.link-item.is) ∙ c.loop-link.invariant.same);
+      fits = subst (λ (w : ℤ). ArithmeticFits S a w (drop (k + 1) links)) (sym is) next.3;
+    }
+
+-- ---- quantifiers
+
+pub quantified-returns-then-has_no_values : goal.quantified-returns-then-has_no_values
+quantified-returns-then-has_no_values t c =
+    let S = spec_of c.args.declarations.now in
+    let p = λ (a : meaning.Assignment). meaning.is_true (meaning.value S a (erased_term (term_form c.args.body.now))) in
+    let bs = c.in_ok-bindings.bindings.items in
+    let lacks = ap lacks_values (sym c.deref.ensures.value) ∙ sym c.if-has_no_values.ensures in
+    ap not c.deciding.ensures ∙ sym (none_at_all S c.args.quantifier (erased_variables (variable_forms c.args.variables.now.items)) bs p (assignment_of c.args.scope.now) c.in_ok-bindings.ensures.bindings lacks)
+
+pub quantified-loop-bindings-init : goal.quantified-loop-bindings-init
+quantified-loop-bindings-init t c =
+    let S = spec_of c.args.declarations.now in
+    let p = λ (a : meaning.Assignment). meaning.is_true (meaning.value S a (erased_term (term_form c.args.body.now))) in
+    let bs = c.in_ok-bindings.bindings.items in
+    let some = ap lacks_values (sym c.deref.ensures.value) ∙ sym c.if-has_no_values.ensures in
+    under_way S c.args.quantifier (erased_variables (variable_forms c.args.variables.now.items)) bs p (assignment_of c.args.scope.now) c.in_ok-bindings.ensures.bindings c.in_ok-bindings.ensures.first some
+
+pub quantified-value-requires : goal.quantified-value-requires
+quantified-value-requires t c =
+    let S = spec_of c.args.declarations.now in
+    let P = λ (a : meaning.Assignment). Fits S a (erased_term (term_form c.args.body.now)) in
+    let a = assignment_of c.args.scope.now in
+    let bs = c.loop-bindings.bindings.items in (
+      omega (arith, c.decreases),
+      subst (λ (ds : List Binding). P (bound ds a)) (sym c.deref-in-loop-bindings.ensures.value)
+          (fits_now S (erased_variables (variable_forms c.args.variables.now.items)) bs P a c.loop-bindings.invariant.are c.loop-bindings.invariant.within c.requires),
+    )
+
+pub quantified-returns-then-not-advance : goal.quantified-returns-then-not-advance
+quantified-returns-then-not-advance t c =
+    let S = spec_of c.args.declarations.now in
+    let p = λ (a : meaning.Assignment). meaning.is_true (meaning.value S a (erased_term (term_form c.args.body.now))) in
+    let a = assignment_of c.args.scope.now in
+    let bs = c.loop-bindings.bindings.items in
+    let fits : SFits w64 c.in_ok-value.value = record { sfits = omega arith } in
+    let is = c.is_true-holds.ensures ∙ (ap meaning.is_true (to_z-of_z fits ∙ c.in_ok-value.ensures) ∙ ap (λ (ds : List Binding). p (bound ds a)) c.deref-in-loop-bindings.ensures.value) in
+    is_ended S c.args.quantifier (erased_variables (variable_forms c.args.variables.now.items)) bs p a c.is_true-holds.result c.loop-bindings.invariant is (subst AreLast c.deref_mut.ensures.value (c.if-not-advance.ensures.last refl))
+
+pub quantified-loop-bindings-smaller : goal.quantified-loop-bindings-smaller
+quantified-loop-bindings-smaller t c =
+    let bs = c.loop-bindings.bindings.items in
+    let cs = c.advance.new.bindings in
+    let same = written bs cs c.loop-bindings.bindings.len (omega (arith, c.advance.auto.bindings, ap (λ (ds : List Binding). length ds) c.deref_mut.ensures.value)) c.loop-bindings.bindings.ok.0 in
+    let next = subst (λ (ds : List Binding). AreNext ds cs) c.deref_mut.ensures.value (c.if-not-advance.ensures.next refl) in
+    subst (λ (ds : List Binding). left_of ds < left_of bs) (sym same) (left_less bs cs c.loop-bindings.invariant.within next)
+
+pub quantified-loop-bindings-preserved : goal.quantified-loop-bindings-preserved
+quantified-loop-bindings-preserved t c =
+    let S = spec_of c.args.declarations.now in
+    let p = λ (a : meaning.Assignment). meaning.is_true (meaning.value S a (erased_term (term_form c.args.body.now))) in
+    let a = assignment_of c.args.scope.now in
+    let q = c.args.quantifier in
+    let xs = erased_variables (variable_forms c.args.variables.now.items) in
+    let bs = c.loop-bindings.bindings.items in
+    let cs = c.advance.new.bindings in
+    let fits : SFits w64 c.in_ok-value.value = record { sfits = omega arith } in
+    let is = c.is_true-holds.ensures ∙ (ap meaning.is_true (to_z-of_z fits ∙ c.in_ok-value.ensures) ∙ ap (λ (ds : List Binding). p (bound ds a)) c.deref-in-loop-bindings.ensures.value) in
+    let same = written bs cs c.loop-bindings.bindings.len (omega (arith, c.advance.auto.bindings, ap (λ (ds : List Binding). length ds) c.deref_mut.ensures.value)) c.loop-bindings.bindings.ok.0 in
+    let next = subst (λ (ds : List Binding). AreNext ds cs) c.deref_mut.ensures.value (c.if-not-advance.ensures.next refl) in
+    subst (λ (ds : List Binding). IsUnderWay S q xs ds p a) (sym same)
+    (goes_on S q xs bs cs p a c.is_true-holds.result c.loop-bindings.invariant is (differs _ _ _ c.if-holds-deciding.false c.deciding-in-loop-bindings.ensures) next)

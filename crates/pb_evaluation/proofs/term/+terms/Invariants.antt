@@ -1,12 +1,12 @@
-use Rattle.std.proofs.Common.{◌≡◌, ◌+◌, length, drop}
-use Rattle.pb_ast.specs.Form.{TermForm, arithmetic_links, calculated, chained, term_form, term_links}
+use Rattle.std.proofs.Common.{◌≡◌, ◌+◌, drop}
+use Rattle.pb_ast.specs.Form.{TermForm, arithmetic_links, calculated, chained, term_form, term_links, variable_forms}
 use Rattle.pb_declarations.specs.View.{spec_of}
-use Rattle.pb_syntax.specs.Erase.{erased_term}
+use Rattle.pb_syntax.specs.Erase.{erased_term, erased_variables}
 use Rattle.pb_syntax.specs.Value as meaning
 use Rattle.pb_evaluation.specs.Scope.{assignment_of}
-use Rattle.pb_evaluation.proofs.Weight.{weight, links_weight, arithmetic_weight, arguments_weight, groups_weight}
+use Rattle.pb_evaluation.proofs.Weight.{weight, links_weight, arithmetic_weight, arguments_weight}
 use Rattle.pb_evaluation.proofs.Links.{value_of, chain_value, arithmetic_value, ArithmeticFits}
-use Rattle.pb_evaluation.proofs.Quantified.{over, below, group_of}
+use Rattle.pb_evaluation.proofs.Odometer.{IsUnderWay, left_of}
 use Rattle.pb_evaluation.proofs.term.+terms.Given as goal
 
 abbrev pub decreases-value : goal.decreases-value
@@ -22,10 +22,7 @@ abbrev pub decreases-application_value : goal.decreases-application_value
 decreases-application_value l = 1 + arguments_weight l.arguments.now
 
 abbrev pub decreases-quantified : goal.decreases-quantified
-decreases-quantified l = 1 + (groups_weight l.variables.now + weight l.body.now)
-
-abbrev pub decreases-quantified_group : goal.decreases-quantified_group
-decreases-quantified_group l = 2 + (length l.names.now + (groups_weight l.rest.now + weight l.body.now))
+decreases-quantified l = 1 + weight l.body.now
 
 -- the links that are left, behind the operand whose value is known, have the chain's value
 abbrev pub invariant-chain_value-loop-link : goal.invariant-chain_value-loop-link
@@ -44,9 +41,11 @@ invariant-arithmetic_value-loop-link l =
       fits : ArithmeticFits S a l.current (drop l.link-index l.links);
     }
 
--- the numbers that are left have the answer
-abbrev pub invariant-quantified_group-loop-place : goal.invariant-quantified_group-loop-place
-invariant-quantified_group-loop-place l =
+-- the values that are left have the answer
+abbrev pub invariant-quantified-loop-bindings : goal.invariant-quantified-loop-bindings
+invariant-quantified-loop-bindings l =
     let S = spec_of l.declarations in
-    let p = below S l.quantifier l.name (group_of l.names l.sort l.rest) (λ a. meaning.is_true (meaning.value S a (erased_term (term_form l.body)))) (assignment_of l.scope) in
-    over l.quantifier p l.numbers.least l.place l.numbers.count ≡ over l.quantifier p l.numbers.least 0 l.numbers.count
+    IsUnderWay S l.quantifier (erased_variables (variable_forms l.variables.items)) l.bindings.items (λ a. meaning.is_true (meaning.value S a (erased_term (term_form l.body)))) (assignment_of l.scope)
+
+abbrev pub decreases-quantified-loop-bindings : goal.decreases-quantified-loop-bindings
+decreases-quantified-loop-bindings l = left_of l.bindings.items

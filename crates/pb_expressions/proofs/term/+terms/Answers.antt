@@ -7,15 +7,15 @@ use Rattle.pb_lexer.specs.Steps.{Outcome, Gives, kind, take_operator, take_token
 use Rattle.pb_lexer.specs.Tokens.{tok}
 use Rattle.pb_lexer.proofs.LoopLemmas.{fails-as, gathered-more, gathered-end, gathered-item-fails, resumed-first, resumed-first-fails, resumed-more, resumed-end, resumed-operator-fails, resumed-operand-fails}
 use Rattle.pb_expressions.specs.declared.operator.Operators.TheVariants.{Additive, Times, Division}
-use Rattle.pb_expressions.specs.Operators.{symbol, is_equality, is_order, is_additive, is_times, is_division, is_quantifier, compared_by, arithmetic_of}
+use Rattle.pb_expressions.specs.Operators.{symbol, is_equality, is_order, is_additive, is_times, is_division, is_quantifier, is_operator, compared_by, arithmetic_of}
 use Rattle.pb_expressions.specs.Reading.{closed, unary, lowest, term, level, operand, equated, ordered, sum, product, placed, argument_pair, argument_list, instance, is_comma, is_open, operation, operations, operand_of, is_among}
 use Rattle.pb_expressions.proofs.VariableLemmas.{mapped-last}
-use Rattle.pb_expressions.proofs.ReadLemmas.{left-fails, left-alone, sign-fails, right-fails, right-goes-on, both-read, operation-fails, operation-operand-fails, operation-read, sum-first-fails, sum-alone, sum-fails, sum-read, product-first-fails, product-alone, times-fail, times-mixed, times-read, division-fails, division-mixed, division-read, arguments-fail, arguments-again, arguments-read, arguments-is, inner-fails, number-is, true-is, false-is, name-is, unary-other, lowest-node, placed-fails, placed-read}
+use Rattle.pb_expressions.proofs.ReadLemmas.{left-fails, left-alone, sign-fails, right-fails, right-goes-on, both-read, operation-fails, operation-operand-fails, operation-read, sum-first-fails, sum-alone, sum-fails, sum-read, product-first-fails, product-alone, times-fail, times-mixed, times-read, division-fails, division-mixed, division-read, arguments-fail, arguments-again, arguments-read, arguments-is, inner-fails, number-is, true-is, false-is, name-is, unary-other, lowest-node, placed-fails, placed-read, on-fewer, resumed-alone-or-fails, equated-first-fails, equated-alone-or-fails, equated-product-fails, equated-sum-fails, equated-ordered-fails}
 use Rattle.pb_expressions.proofs.term.+terms.Goals as goal
 
 pub argument_list-returns-in_err-term-clause-reads : goal.argument_list-returns-in_err-term-clause-reads
 argument_list-returns-in_err-term-clause-reads t c =
-    let p = err_from_is_err_and c.from_residual.result c.from_residual.ensures.1 in
+    let p = err_from_is_err_and c.from_residual-in_err-term.result c.from_residual-in_err-term.ensures.1 in
     rw (p.1, p.2) (fails-as (term c.args.depth c.arguments.input) (argument_list (term c.args.depth) c.args.input.now) c.in_err-term.field-0.0 (λ bad e. c.arguments.invariant.reads ∙ gathered-item-fails (placed (term c.args.depth)) is_comma take_token (map argument_pair c.arguments.arguments.items) (suc (length c.args.input.now.tokens) - vec_len c.arguments.arguments) (length c.args.input.now.tokens - vec_len c.arguments.arguments) c.arguments.input bad (omega arith) (placed-fails (term c.args.depth) c.arguments.input bad e)) c.in_err-term.ensures.reads)
 
 pub argument_list-returns-then-not-same_kind-clause-reads : goal.argument_list-returns-then-not-same_kind-clause-reads
@@ -34,45 +34,39 @@ argument_list-arguments-preserved t c =
       room = omega (arith, c.in_ok-push.ensures.len, c.in_ok-term.ensures.fewer, c.take.ensures.fewer);
     }
 
-pub equated-returns-in_err-left-clause-reads : goal.equated-returns-in_err-left-clause-reads
+pub equated_behind-returns-then-not-is_equality-clause-reads : goal.equated_behind-returns-then-not-is_equality-clause-reads
 unfolding equated
-equated-returns-in_err-left-clause-reads t c =
+equated_behind-returns-then-not-is_equality-clause-reads t c s h =
+    let other : is_equality (kind c.args.input.now) ≡ false = search rules in
+    left-alone is_equality compared_by (ordered (unary c.args.depth)) s c.args.input.now (term_form c.args.left) h other
+
+pub equated_behind-returns-in_err-sign-clause-reads : goal.equated_behind-returns-in_err-sign-clause-reads
+unfolding equated
+equated_behind-returns-in_err-sign-clause-reads t c s h =
+    let stands : is_equality (kind c.args.input.now) ≡ true = search rules in
     let p = err_from_is_err_and c.from_residual.result c.from_residual.ensures.1 in
-    rw (p.1, p.2) (fails-as (ordered (unary c.args.depth) c.args.input.now) (equated (unary c.args.depth) c.args.input.now) c.in_err-left.field-0.0 (λ bad e. left-fails is_equality compared_by (ordered (unary c.args.depth)) c.args.input.now bad e) c.in_err-left.ensures.reads)
+    rw (p.1, p.2) (fails-as (take_operator c.args.input.now) (equated (unary c.args.depth) s) c.in_err-sign.field-0.0 (λ bad e. sign-fails is_equality compared_by (ordered (unary c.args.depth)) s c.args.input.now (term_form c.args.left) bad h stands e) c.in_err-sign.ensures.reads)
 
-pub equated-returns-then-not-is_equality-clause-reads : goal.equated-returns-then-not-is_equality-clause-reads
+pub equated_behind-returns-in_err-right-clause-reads : goal.equated_behind-returns-in_err-right-clause-reads
 unfolding equated
-equated-returns-then-not-is_equality-clause-reads t c =
-    let other : is_equality (kind c.ordered.new.input) ≡ false = search rules in
-    left-alone is_equality compared_by (ordered (unary c.args.depth)) c.args.input.now c.ordered.new.input (term_form c.in_ok-left.left) c.in_ok-left.ensures.reads other
-
-pub equated-returns-in_err-sign-clause-reads : goal.equated-returns-in_err-sign-clause-reads
-unfolding equated
-equated-returns-in_err-sign-clause-reads t c =
-    let stands : is_equality (kind c.ordered.new.input) ≡ true = search rules in
-    let p = err_from_is_err_and c.from_residual-in_err-sign.result c.from_residual-in_err-sign.ensures.1 in
-    rw (p.1, p.2) (fails-as (take_operator c.ordered.new.input) (equated (unary c.args.depth) c.args.input.now) c.in_err-sign.field-0.0 (λ bad e. sign-fails is_equality compared_by (ordered (unary c.args.depth)) c.args.input.now c.ordered.new.input (term_form c.in_ok-left.left) bad c.in_ok-left.ensures.reads stands e) c.in_err-sign.ensures.reads)
-
-pub equated-returns-in_err-right-clause-reads : goal.equated-returns-in_err-right-clause-reads
-unfolding equated
-equated-returns-in_err-right-clause-reads t c =
-    let stands : is_equality (kind c.ordered.new.input) ≡ true = search rules in
+equated_behind-returns-in_err-right-clause-reads t c s h =
+    let stands : is_equality (kind c.args.input.now) ≡ true = search rules in
     let p = err_from_is_err_and c.from_residual-in_err-right.result c.from_residual-in_err-right.ensures.1 in
-    rw (p.1, p.2) (fails-as (ordered (unary c.args.depth) c.take_operator.new.self) (equated (unary c.args.depth) c.args.input.now) c.in_err-right.field-0.0 (λ bad e. right-fails is_equality compared_by (ordered (unary c.args.depth)) c.args.input.now c.ordered.new.input c.take_operator.new.self (term_form c.in_ok-left.left) (tok c.in_ok-sign.sign) bad c.in_ok-left.ensures.reads stands c.in_ok-sign.ensures.reads e) c.in_err-right.ensures.reads)
+    rw (p.1, p.2) (fails-as (ordered (unary c.args.depth) c.take_operator.new.self) (equated (unary c.args.depth) s) c.in_err-right.field-0.0 (λ bad e. right-fails is_equality compared_by (ordered (unary c.args.depth)) s c.args.input.now c.take_operator.new.self (term_form c.args.left) (tok c.in_ok-sign.sign) bad h stands c.in_ok-sign.ensures.reads e) c.in_err-right.ensures.reads)
 
-pub equated-returns-then-is_equality-clause-reads : goal.equated-returns-then-is_equality-clause-reads
+pub equated_behind-returns-then-is_equality-clause-reads : goal.equated_behind-returns-then-is_equality-clause-reads
 unfolding equated
-equated-returns-then-is_equality-clause-reads t c =
-    let stands : is_equality (kind c.ordered.new.input) ≡ true = search rules in
-    let again : is_equality (kind c.ordered-2.new.input) ≡ true = search rules in
-    rw c.refuse.ensures (right-goes-on is_equality compared_by (ordered (unary c.args.depth)) c.args.input.now c.ordered.new.input c.take_operator.new.self c.ordered-2.new.input (term_form c.in_ok-left.left) (term_form c.in_ok-right.right) (tok c.in_ok-sign.sign) c.in_ok-left.ensures.reads stands c.in_ok-sign.ensures.reads c.in_ok-right.ensures.reads again)
+equated_behind-returns-then-is_equality-clause-reads t c s h =
+    let stands : is_equality (kind c.args.input.now) ≡ true = search rules in
+    let again : is_equality (kind c.ordered.new.input) ≡ true = search rules in
+    rw c.refuse.ensures (right-goes-on is_equality compared_by (ordered (unary c.args.depth)) s c.args.input.now c.take_operator.new.self c.ordered.new.input (term_form c.args.left) (term_form c.in_ok-right.right) (tok c.in_ok-sign.sign) h stands c.in_ok-sign.ensures.reads c.in_ok-right.ensures.reads again)
 
-pub equated-returns-clause-reads : goal.equated-returns-clause-reads
+pub equated_behind-returns-clause-reads : goal.equated_behind-returns-clause-reads
 unfolding equated
-equated-returns-clause-reads t c =
-    let stands : is_equality (kind c.ordered.new.input) ≡ true = search rules in
-    let other : is_equality (kind c.ordered-2.new.input) ≡ false = search rules in
-    rw c.in_ok-compared.ensures (both-read is_equality compared_by (ordered (unary c.args.depth)) c.args.input.now c.ordered.new.input c.take_operator.new.self c.ordered-2.new.input (term_form c.in_ok-left.left) (term_form c.in_ok-right.right) (tok c.in_ok-sign.sign) c.in_ok-left.ensures.reads stands c.in_ok-sign.ensures.reads c.in_ok-right.ensures.reads other)
+equated_behind-returns-clause-reads t c s h =
+    let stands : is_equality (kind c.args.input.now) ≡ true = search rules in
+    let other : is_equality (kind c.ordered.new.input) ≡ false = search rules in
+    rw c.in_ok-compared.ensures (both-read is_equality compared_by (ordered (unary c.args.depth)) s c.args.input.now c.take_operator.new.self c.ordered.new.input (term_form c.args.left) (term_form c.in_ok-right.right) (tok c.in_ok-sign.sign) h stands c.in_ok-sign.ensures.reads c.in_ok-right.ensures.reads other)
 
 pub ordered-returns-in_err-left-clause-reads : goal.ordered-returns-in_err-left-clause-reads
 unfolding ordered
@@ -80,39 +74,39 @@ ordered-returns-in_err-left-clause-reads t c =
     let p = err_from_is_err_and c.from_residual.result c.from_residual.ensures.1 in
     rw (p.1, p.2) (fails-as (sum (unary c.args.depth) c.args.input.now) (ordered (unary c.args.depth) c.args.input.now) c.in_err-left.field-0.0 (λ bad e. left-fails is_order compared_by (sum (unary c.args.depth)) c.args.input.now bad e) c.in_err-left.ensures.reads)
 
-pub ordered-returns-then-not-is_order-clause-reads : goal.ordered-returns-then-not-is_order-clause-reads
+pub ordered_behind-returns-then-not-is_order-clause-reads : goal.ordered_behind-returns-then-not-is_order-clause-reads
 unfolding ordered
-ordered-returns-then-not-is_order-clause-reads t c =
-    let other : is_order (kind c.sum.new.input) ≡ false = search rules in
-    left-alone is_order compared_by (sum (unary c.args.depth)) c.args.input.now c.sum.new.input (term_form c.in_ok-left.left) c.in_ok-left.ensures.reads other
+ordered_behind-returns-then-not-is_order-clause-reads t c s h =
+    let other : is_order (kind c.args.input.now) ≡ false = search rules in
+    left-alone is_order compared_by (sum (unary c.args.depth)) s c.args.input.now (term_form c.args.left) h other
 
-pub ordered-returns-in_err-sign-clause-reads : goal.ordered-returns-in_err-sign-clause-reads
+pub ordered_behind-returns-in_err-sign-clause-reads : goal.ordered_behind-returns-in_err-sign-clause-reads
 unfolding ordered
-ordered-returns-in_err-sign-clause-reads t c =
-    let stands : is_order (kind c.sum.new.input) ≡ true = search rules in
-    let p = err_from_is_err_and c.from_residual-in_err-sign.result c.from_residual-in_err-sign.ensures.1 in
-    rw (p.1, p.2) (fails-as (take_operator c.sum.new.input) (ordered (unary c.args.depth) c.args.input.now) c.in_err-sign.field-0.0 (λ bad e. sign-fails is_order compared_by (sum (unary c.args.depth)) c.args.input.now c.sum.new.input (term_form c.in_ok-left.left) bad c.in_ok-left.ensures.reads stands e) c.in_err-sign.ensures.reads)
+ordered_behind-returns-in_err-sign-clause-reads t c s h =
+    let stands : is_order (kind c.args.input.now) ≡ true = search rules in
+    let p = err_from_is_err_and c.from_residual.result c.from_residual.ensures.1 in
+    rw (p.1, p.2) (fails-as (take_operator c.args.input.now) (ordered (unary c.args.depth) s) c.in_err-sign.field-0.0 (λ bad e. sign-fails is_order compared_by (sum (unary c.args.depth)) s c.args.input.now (term_form c.args.left) bad h stands e) c.in_err-sign.ensures.reads)
 
-pub ordered-returns-in_err-right-clause-reads : goal.ordered-returns-in_err-right-clause-reads
+pub ordered_behind-returns-in_err-right-clause-reads : goal.ordered_behind-returns-in_err-right-clause-reads
 unfolding ordered
-ordered-returns-in_err-right-clause-reads t c =
-    let stands : is_order (kind c.sum.new.input) ≡ true = search rules in
+ordered_behind-returns-in_err-right-clause-reads t c s h =
+    let stands : is_order (kind c.args.input.now) ≡ true = search rules in
     let p = err_from_is_err_and c.from_residual-in_err-right.result c.from_residual-in_err-right.ensures.1 in
-    rw (p.1, p.2) (fails-as (sum (unary c.args.depth) c.take_operator.new.self) (ordered (unary c.args.depth) c.args.input.now) c.in_err-right.field-0.0 (λ bad e. right-fails is_order compared_by (sum (unary c.args.depth)) c.args.input.now c.sum.new.input c.take_operator.new.self (term_form c.in_ok-left.left) (tok c.in_ok-sign.sign) bad c.in_ok-left.ensures.reads stands c.in_ok-sign.ensures.reads e) c.in_err-right.ensures.reads)
+    rw (p.1, p.2) (fails-as (sum (unary c.args.depth) c.take_operator.new.self) (ordered (unary c.args.depth) s) c.in_err-right.field-0.0 (λ bad e. right-fails is_order compared_by (sum (unary c.args.depth)) s c.args.input.now c.take_operator.new.self (term_form c.args.left) (tok c.in_ok-sign.sign) bad h stands c.in_ok-sign.ensures.reads e) c.in_err-right.ensures.reads)
 
-pub ordered-returns-then-is_order-clause-reads : goal.ordered-returns-then-is_order-clause-reads
+pub ordered_behind-returns-then-is_order-clause-reads : goal.ordered_behind-returns-then-is_order-clause-reads
 unfolding ordered
-ordered-returns-then-is_order-clause-reads t c =
-    let stands : is_order (kind c.sum.new.input) ≡ true = search rules in
-    let again : is_order (kind c.sum-2.new.input) ≡ true = search rules in
-    rw c.refuse.ensures (right-goes-on is_order compared_by (sum (unary c.args.depth)) c.args.input.now c.sum.new.input c.take_operator.new.self c.sum-2.new.input (term_form c.in_ok-left.left) (term_form c.in_ok-right.right) (tok c.in_ok-sign.sign) c.in_ok-left.ensures.reads stands c.in_ok-sign.ensures.reads c.in_ok-right.ensures.reads again)
+ordered_behind-returns-then-is_order-clause-reads t c s h =
+    let stands : is_order (kind c.args.input.now) ≡ true = search rules in
+    let again : is_order (kind c.sum.new.input) ≡ true = search rules in
+    rw c.refuse.ensures (right-goes-on is_order compared_by (sum (unary c.args.depth)) s c.args.input.now c.take_operator.new.self c.sum.new.input (term_form c.args.left) (term_form c.in_ok-right.right) (tok c.in_ok-sign.sign) h stands c.in_ok-sign.ensures.reads c.in_ok-right.ensures.reads again)
 
-pub ordered-returns-clause-reads : goal.ordered-returns-clause-reads
+pub ordered_behind-returns-clause-reads : goal.ordered_behind-returns-clause-reads
 unfolding ordered
-ordered-returns-clause-reads t c =
-    let stands : is_order (kind c.sum.new.input) ≡ true = search rules in
-    let other : is_order (kind c.sum-2.new.input) ≡ false = search rules in
-    rw c.in_ok-compared.ensures (both-read is_order compared_by (sum (unary c.args.depth)) c.args.input.now c.sum.new.input c.take_operator.new.self c.sum-2.new.input (term_form c.in_ok-left.left) (term_form c.in_ok-right.right) (tok c.in_ok-sign.sign) c.in_ok-left.ensures.reads stands c.in_ok-sign.ensures.reads c.in_ok-right.ensures.reads other)
+ordered_behind-returns-clause-reads t c s h =
+    let stands : is_order (kind c.args.input.now) ≡ true = search rules in
+    let other : is_order (kind c.sum.new.input) ≡ false = search rules in
+    rw c.in_ok-compared.ensures (both-read is_order compared_by (sum (unary c.args.depth)) s c.args.input.now c.take_operator.new.self c.sum.new.input (term_form c.args.left) (term_form c.in_ok-right.right) (tok c.in_ok-sign.sign) h stands c.in_ok-sign.ensures.reads c.in_ok-right.ensures.reads other)
 
 pub instance-returns-in_err-arguments-clause-reads : goal.instance-returns-in_err-arguments-clause-reads
 instance-returns-in_err-arguments-clause-reads t c =
@@ -141,40 +135,45 @@ level-returns-in_err-first-clause-reads t c =
     let p = err_from_is_err_and c.from_residual.result c.from_residual.ensures.1 in
     rw (p.1, p.2) (fails-as (operand TermForm.connected c.args.connective (lowest c.args.depth) c.args.input.now) (level TermForm.connected c.args.connective (lowest c.args.depth) c.args.input.now) c.in_err-first.field-0.0 (λ bad e. resumed-first-fails (symbol c.args.connective) (TermForm.connected c.args.connective) (operand TermForm.connected c.args.connective (lowest c.args.depth)) (length c.args.input.now.tokens) c.args.input.now bad e) c.in_err-first.ensures.reads)
 
-pub level-links-init : goal.level-links-init
-level-links-init t c =
+pub chain_behind-links-init : goal.chain_behind-links-init
+chain_behind-links-init t c =
     record {
-      reads = rw (c.new-links.ensures.items, c.new-links.ensures.len) (resumed-first (symbol c.args.connective) (TermForm.connected c.args.connective) (operand TermForm.connected c.args.connective (lowest c.args.depth)) (length c.args.input.now.tokens) _ _ _ c.in_ok-first.ensures.reads);
-      room = omega (arith, c.in_ok-first.ensures.fewer);
+      reads = λ s h fewer. rw (c.in_ok-links.ensures.items, c.in_ok-links.ensures.len) (resumed-first (symbol c.args.connective) (TermForm.connected c.args.connective) (operand TermForm.connected c.args.connective (lowest c.args.depth)) (length s.tokens) s c.args.input.now (term_form c.args.first) h);
+      room = omega (arith, c.in_ok-links.ensures.len);
     }
 
-pub level-returns-in_err-place-clause-reads : goal.level-returns-in_err-place-clause-reads
-level-returns-in_err-place-clause-reads t c =
+pub level-returns-then-not-same_kind-clause-reads : goal.level-returns-then-not-same_kind-clause-reads
+level-returns-then-not-same_kind-clause-reads t c =
+    let other : same_kind (kind c.operand-first.new.input) (symbol c.args.connective) ≡ false = search rules in
+    resumed-alone-or-fails (symbol c.args.connective) (TermForm.connected c.args.connective) (operand TermForm.connected c.args.connective (lowest c.args.depth)) term_form (length c.args.input.now.tokens)
+    c.args.input.now c.operand-first.new.input c.operand-first.result c.operand-first.ensures.reads other
+
+pub chain_behind-returns-in_err-place-clause-reads : goal.chain_behind-returns-in_err-place-clause-reads
+chain_behind-returns-in_err-place-clause-reads t c s h fewer =
     let same : same_kind (kind c.links.input) (symbol c.args.connective) ≡ true = search rules in
     let p = err_from_is_err_and c.from_residual-in_err-place.result c.from_residual-in_err-place.ensures.1 in
-    rw (p.1, p.2) (fails-as (take_operator c.links.input) (level TermForm.connected c.args.connective (lowest c.args.depth) c.args.input.now) c.in_err-place.field-0.0 (λ bad e. c.links.invariant.reads ∙ resumed-operator-fails (symbol c.args.connective) (TermForm.connected c.args.connective) (operand TermForm.connected c.args.connective (lowest c.args.depth)) (length c.args.input.now.tokens - vec_len c.links.links) _ (term_links c.links.links.items) c.links.input bad same e) c.in_err-place.ensures.reads)
+    rw (p.1, p.2) (fails-as (take_operator c.links.input) (level TermForm.connected c.args.connective (lowest c.args.depth) s) c.in_err-place.field-0.0 (λ bad e. c.links.invariant.reads s h fewer ∙ resumed-operator-fails (symbol c.args.connective) (TermForm.connected c.args.connective) (operand TermForm.connected c.args.connective (lowest c.args.depth)) (length s.tokens - vec_len c.links.links) _ (term_links c.links.links.items) c.links.input bad same e) c.in_err-place.ensures.reads)
 
-pub level-returns-in_err-operand-clause-reads : goal.level-returns-in_err-operand-clause-reads
-level-returns-in_err-operand-clause-reads t c =
+pub chain_behind-returns-in_err-operand-clause-reads : goal.chain_behind-returns-in_err-operand-clause-reads
+chain_behind-returns-in_err-operand-clause-reads t c s h fewer =
     let same : same_kind (kind c.links.input) (symbol c.args.connective) ≡ true = search rules in
-    let some : 0 < length c.args.input.now.tokens - vec_len c.links.links = omega arith in
+    let some : 0 < length s.tokens - vec_len c.links.links = omega arith in
     let p = err_from_is_err_and c.from_residual-in_err-operand.result c.from_residual-in_err-operand.ensures.1 in
-    rw (p.1, p.2) (fails-as (operand TermForm.connected c.args.connective (lowest c.args.depth) c.take_operator.new.self) (level TermForm.connected c.args.connective (lowest c.args.depth) c.args.input.now) c.in_err-operand.field-0.0 (λ bad e. c.links.invariant.reads ∙ resumed-operand-fails (symbol c.args.connective) (TermForm.connected c.args.connective) (operand TermForm.connected c.args.connective (lowest c.args.depth)) (length c.args.input.now.tokens - vec_len c.links.links) _ (term_links c.links.links.items) c.links.input c.take_operator.new.self (tok c.in_ok-place.field-0) bad some same c.in_ok-place.ensures.reads e) c.in_err-operand.ensures.reads)
+    rw (p.1, p.2) (fails-as (operand TermForm.connected c.args.connective (lowest c.args.depth) c.take_operator.new.self) (level TermForm.connected c.args.connective (lowest c.args.depth) s) c.in_err-operand.field-0.0 (λ bad e. c.links.invariant.reads s h fewer ∙ resumed-operand-fails (symbol c.args.connective) (TermForm.connected c.args.connective) (operand TermForm.connected c.args.connective (lowest c.args.depth)) (length s.tokens - vec_len c.links.links) _ (term_links c.links.links.items) c.links.input c.take_operator.new.self (tok c.in_ok-place.field-0) bad some same c.in_ok-place.ensures.reads e) c.in_err-operand.ensures.reads)
 
-pub level-links-preserved : goal.level-links-preserved
-level-links-preserved t c =
+pub chain_behind-links-preserved : goal.chain_behind-links-preserved
+chain_behind-links-preserved t c =
     let same : same_kind (kind c.links.input) (symbol c.args.connective) ≡ true = search rules in
-    let more = resumed-more (symbol c.args.connective) (TermForm.connected c.args.connective) (operand TermForm.connected c.args.connective (lowest c.args.depth)) (length c.args.input.now.tokens - vec_len c.links.links) (length c.args.input.now.tokens - vec_len c.push.new.self) _ (term_links c.links.links.items) c.links.input c.take_operator.new.self c.operand-in-links.new.input
-    (tok c.in_ok-place.field-0) (term_form c.in_ok-operand.operand) (omega (arith, c.in_ok-push.ensures.len)) same c.in_ok-place.ensures.reads c.in_ok-operand.ensures.reads in
     record {
-      reads = rw (c.in_ok-push.ensures.items, mapped-last) (c.links.invariant.reads ∙ more);
+      reads = λ s h fewer. rw (c.in_ok-push.ensures.items, mapped-last) (c.links.invariant.reads s h fewer ∙ resumed-more (symbol c.args.connective) (TermForm.connected c.args.connective) (operand TermForm.connected c.args.connective (lowest c.args.depth)) (length s.tokens - vec_len c.links.links) (length s.tokens - vec_len c.push.new.self) _ (term_links c.links.links.items) c.links.input c.take_operator.new.self c.operand.new.input
+          (tok c.in_ok-place.field-0) (term_form c.in_ok-operand.operand) (omega (arith, c.in_ok-push.ensures.len, c.links.invariant.room)) same c.in_ok-place.ensures.reads c.in_ok-operand.ensures.reads);
       room = omega (arith, c.in_ok-place.ensures.fewer, c.in_ok-operand.ensures.fewer, c.in_ok-push.ensures.len);
     }
 
-pub level-returns-clause-reads : goal.level-returns-clause-reads
-level-returns-clause-reads t c =
+pub chain_behind-returns-clause-reads : goal.chain_behind-returns-clause-reads
+chain_behind-returns-clause-reads t c s h fewer =
     let other : same_kind (kind c.links.input) (symbol c.args.connective) ≡ false = search rules in
-    rw c.in_ok-joined.ensures (c.links.invariant.reads ∙ resumed-end (symbol c.args.connective) (TermForm.connected c.args.connective) (operand TermForm.connected c.args.connective (lowest c.args.depth)) (length c.args.input.now.tokens - vec_len c.links.links) _ (term_links c.links.links.items) c.links.input other)
+    rw c.in_ok-joined.ensures (c.links.invariant.reads s h fewer ∙ resumed-end (symbol c.args.connective) (TermForm.connected c.args.connective) (operand TermForm.connected c.args.connective (lowest c.args.depth)) (length s.tokens - vec_len c.links.links) _ (term_links c.links.links.items) c.links.input other)
 
 pub operand-returns-else-is_quantifier-clause-reads : goal.operand-returns-else-is_quantifier-clause-reads
 operand-returns-else-is_quantifier-clause-reads t c =
@@ -183,7 +182,7 @@ operand-returns-else-is_quantifier-clause-reads t c =
 
 pub operations-returns-in_err-sign-clause-reads : goal.operations-returns-in_err-sign-clause-reads
 operations-returns-in_err-sign-clause-reads t c =
-    let p = err_from_is_err_and c.from_residual.result c.from_residual.ensures.1 in
+    let p = err_from_is_err_and c.from_residual-in_err-sign.result c.from_residual-in_err-sign.ensures.1 in
     rw (p.1, p.2) (fails-as (take_operator c.operations.input) (operations c.args.operators (operand_of c.args.operators (unary c.args.depth)) c.args.input.now) c.in_err-sign.field-0.0 (λ bad e. c.operations.invariant.reads ∙ gathered-item-fails (operation c.args.operators (operand_of c.args.operators (unary c.args.depth))) (is_among c.args.operators) nothing_between (arithmetic_links c.operations.links.items) (suc (length c.args.input.now.tokens) - vec_len c.operations.links) (length c.args.input.now.tokens - vec_len c.operations.links) c.operations.input bad (omega arith) (operation-fails c.args.operators (operand_of c.args.operators (unary c.args.depth)) c.operations.input bad c.operations.invariant.stands e)) c.in_err-sign.ensures.reads)
 
 pub operations-returns-in_err-operand-clause-reads : goal.operations-returns-in_err-operand-clause-reads
@@ -213,71 +212,71 @@ product-returns-in_err-first-clause-reads t c =
     let p = err_from_is_err_and c.from_residual.result c.from_residual.ensures.1 in
     rw (p.1, p.2) (fails-as (unary c.args.depth c.args.input.now) (product (unary c.args.depth) c.args.input.now) c.in_err-first.field-0.0 (λ bad e. product-first-fails (unary c.args.depth) c.args.input.now bad e) c.in_err-first.ensures.reads)
 
-pub product-returns-in_err-links-clause-reads : goal.product-returns-in_err-links-clause-reads
-product-returns-in_err-links-clause-reads t c =
-    let goes : is_times (kind c.unary.new.input) ≡ true = search rules in
-    let p = err_from_is_err_and c.from_residual-in_err-links.result c.from_residual-in_err-links.ensures.1 in
-    rw (p.1, p.2) (fails-as (operations Times (unary c.args.depth) c.unary.new.input) (product (unary c.args.depth) c.args.input.now) c.in_err-links.field-0.0 (λ bad e. times-fail (unary c.args.depth) c.args.input.now c.unary.new.input (term_form c.in_ok-first.first) bad c.in_ok-first.ensures.reads goes e) c.in_err-links.ensures.reads)
+pub product_behind-returns-in_err-links-clause-reads : goal.product_behind-returns-in_err-links-clause-reads
+product_behind-returns-in_err-links-clause-reads t c s h =
+    let goes : is_times (kind c.args.input.now) ≡ true = search rules in
+    let p = err_from_is_err_and c.from_residual.result c.from_residual.ensures.1 in
+    rw (p.1, p.2) (fails-as (operations Times (unary c.args.depth) c.args.input.now) (product (unary c.args.depth) s) c.in_err-links.field-0.0 (λ bad e. times-fail (unary c.args.depth) s c.args.input.now (term_form c.args.first) bad h goes e) c.in_err-links.ensures.reads)
 
-pub product-returns-then-is_among-2-clause-reads : goal.product-returns-then-is_among-2-clause-reads
-product-returns-then-is_among-2-clause-reads t c =
-    let goes : is_times (kind c.unary.new.input) ≡ true = search rules in
+pub product_behind-returns-then-is_among-2-clause-reads : goal.product_behind-returns-then-is_among-2-clause-reads
+product_behind-returns-then-is_among-2-clause-reads t c s h =
+    let goes : is_times (kind c.args.input.now) ≡ true = search rules in
     let mixed : is_division (kind c.operations.new.input) ≡ true = search rules in
-    rw c.refuse.ensures (times-mixed (unary c.args.depth) c.args.input.now c.unary.new.input c.operations.new.input (term_form c.in_ok-first.first) (arithmetic_links c.in_ok-links.links.items) c.in_ok-first.ensures.reads goes c.in_ok-links.ensures.reads mixed)
+    rw c.refuse.ensures (times-mixed (unary c.args.depth) s c.args.input.now c.operations.new.input (term_form c.args.first) (arithmetic_links c.in_ok-links.links.items) h goes c.in_ok-links.ensures.reads mixed)
 
-pub product-returns-then-is_among-clause-reads : goal.product-returns-then-is_among-clause-reads
-product-returns-then-is_among-clause-reads t c =
-    let goes : is_times (kind c.unary.new.input) ≡ true = search rules in
+pub product_behind-returns-then-is_among-clause-reads : goal.product_behind-returns-then-is_among-clause-reads
+product_behind-returns-then-is_among-clause-reads t c s h =
+    let goes : is_times (kind c.args.input.now) ≡ true = search rules in
     let unmixed : is_division (kind c.operations.new.input) ≡ false = search rules in
-    rw c.in_ok-calculated.ensures (times-read (unary c.args.depth) c.args.input.now c.unary.new.input c.operations.new.input (term_form c.in_ok-first.first) (arithmetic_links c.in_ok-links.links.items) c.in_ok-first.ensures.reads goes c.in_ok-links.ensures.reads unmixed)
+    rw c.in_ok-calculated.ensures (times-read (unary c.args.depth) s c.args.input.now c.operations.new.input (term_form c.args.first) (arithmetic_links c.in_ok-links.links.items) h goes c.in_ok-links.ensures.reads unmixed)
 
-pub product-returns-in_err-links-2-clause-reads : goal.product-returns-in_err-links-2-clause-reads
-product-returns-in_err-links-2-clause-reads t c =
-    let other : is_times (kind c.unary.new.input) ≡ false = search rules in
-    let goes : is_division (kind c.unary.new.input) ≡ true = search rules in
+pub product_behind-returns-in_err-links-2-clause-reads : goal.product_behind-returns-in_err-links-2-clause-reads
+product_behind-returns-in_err-links-2-clause-reads t c s h =
+    let other : is_times (kind c.args.input.now) ≡ false = search rules in
+    let goes : is_division (kind c.args.input.now) ≡ true = search rules in
     let p = err_from_is_err_and c.from_residual-in_err-links-2.result c.from_residual-in_err-links-2.ensures.1 in
-    rw (p.1, p.2) (fails-as (operations Division (unary c.args.depth) c.unary.new.input) (product (unary c.args.depth) c.args.input.now) c.in_err-links-2.field-0.0 (λ bad e. division-fails (unary c.args.depth) c.args.input.now c.unary.new.input (term_form c.in_ok-first.first) bad c.in_ok-first.ensures.reads other goes e) c.in_err-links-2.ensures.reads)
+    rw (p.1, p.2) (fails-as (operations Division (unary c.args.depth) c.args.input.now) (product (unary c.args.depth) s) c.in_err-links-2.field-0.0 (λ bad e. division-fails (unary c.args.depth) s c.args.input.now (term_form c.args.first) bad h other goes e) c.in_err-links-2.ensures.reads)
 
-pub product-returns-then-is_among-4-clause-reads : goal.product-returns-then-is_among-4-clause-reads
-product-returns-then-is_among-4-clause-reads t c =
-    let other : is_times (kind c.unary.new.input) ≡ false = search rules in
-    let goes : is_division (kind c.unary.new.input) ≡ true = search rules in
+pub product_behind-returns-then-is_among-4-clause-reads : goal.product_behind-returns-then-is_among-4-clause-reads
+product_behind-returns-then-is_among-4-clause-reads t c s h =
+    let other : is_times (kind c.args.input.now) ≡ false = search rules in
+    let goes : is_division (kind c.args.input.now) ≡ true = search rules in
     let mixed : is_times (kind c.operations-then-is_among-3.new.input) ≡ true = search rules in
-    rw c.refuse-then-is_among-4.ensures (division-mixed (unary c.args.depth) c.args.input.now c.unary.new.input c.operations-then-is_among-3.new.input (term_form c.in_ok-first.first) (arithmetic_links c.in_ok-links-2.links.items) c.in_ok-first.ensures.reads other goes c.in_ok-links-2.ensures.reads mixed)
+    rw c.refuse-then-is_among-4.ensures (division-mixed (unary c.args.depth) s c.args.input.now c.operations-then-is_among-3.new.input (term_form c.args.first) (arithmetic_links c.in_ok-links-2.links.items) h other goes c.in_ok-links-2.ensures.reads mixed)
 
-pub product-returns-then-is_among-3-clause-reads : goal.product-returns-then-is_among-3-clause-reads
-product-returns-then-is_among-3-clause-reads t c =
-    let other : is_times (kind c.unary.new.input) ≡ false = search rules in
-    let goes : is_division (kind c.unary.new.input) ≡ true = search rules in
+pub product_behind-returns-then-is_among-3-clause-reads : goal.product_behind-returns-then-is_among-3-clause-reads
+product_behind-returns-then-is_among-3-clause-reads t c s h =
+    let other : is_times (kind c.args.input.now) ≡ false = search rules in
+    let goes : is_division (kind c.args.input.now) ≡ true = search rules in
     let unmixed : is_times (kind c.operations-then-is_among-3.new.input) ≡ false = search rules in
-    rw c.in_ok-calculated-2.ensures (division-read (unary c.args.depth) c.args.input.now c.unary.new.input c.operations-then-is_among-3.new.input (term_form c.in_ok-first.first) (arithmetic_links c.in_ok-links-2.links.items) c.in_ok-first.ensures.reads other goes c.in_ok-links-2.ensures.reads unmixed)
+    rw c.in_ok-calculated-2.ensures (division-read (unary c.args.depth) s c.args.input.now c.operations-then-is_among-3.new.input (term_form c.args.first) (arithmetic_links c.in_ok-links-2.links.items) h other goes c.in_ok-links-2.ensures.reads unmixed)
 
-pub product-returns-clause-reads : goal.product-returns-clause-reads
-product-returns-clause-reads t c =
-    let other : is_times (kind c.unary.new.input) ≡ false = search rules in
-    let other' : is_division (kind c.unary.new.input) ≡ false = search rules in
-    product-alone (unary c.args.depth) c.args.input.now c.unary.new.input (term_form c.in_ok-first.first) c.in_ok-first.ensures.reads other other'
+pub product_behind-returns-clause-reads : goal.product_behind-returns-clause-reads
+product_behind-returns-clause-reads t c s h =
+    let other : is_times (kind c.args.input.now) ≡ false = search rules in
+    let other' : is_division (kind c.args.input.now) ≡ false = search rules in
+    product-alone (unary c.args.depth) s c.args.input.now (term_form c.args.first) h other other'
 
 pub sum-returns-in_err-first-clause-reads : goal.sum-returns-in_err-first-clause-reads
 sum-returns-in_err-first-clause-reads t c =
     let p = err_from_is_err_and c.from_residual.result c.from_residual.ensures.1 in
     rw (p.1, p.2) (fails-as (product (unary c.args.depth) c.args.input.now) (sum (unary c.args.depth) c.args.input.now) c.in_err-first.field-0.0 (λ bad e. sum-first-fails (unary c.args.depth) c.args.input.now bad e) c.in_err-first.ensures.reads)
 
-pub sum-returns-then-not-is_among-clause-reads : goal.sum-returns-then-not-is_among-clause-reads
-sum-returns-then-not-is_among-clause-reads t c =
-    let other : is_additive (kind c.product.new.input) ≡ false = search rules in
-    sum-alone (unary c.args.depth) c.args.input.now c.product.new.input (term_form c.in_ok-first.first) c.in_ok-first.ensures.reads other
+pub sum_behind-returns-then-not-is_among-clause-reads : goal.sum_behind-returns-then-not-is_among-clause-reads
+sum_behind-returns-then-not-is_among-clause-reads t c s h =
+    let other : is_additive (kind c.args.input.now) ≡ false = search rules in
+    sum-alone (unary c.args.depth) s c.args.input.now (term_form c.args.first) h other
 
-pub sum-returns-in_err-links-clause-reads : goal.sum-returns-in_err-links-clause-reads
-sum-returns-in_err-links-clause-reads t c =
-    let goes : is_additive (kind c.product.new.input) ≡ true = search rules in
-    let p = err_from_is_err_and c.from_residual-in_err-links.result c.from_residual-in_err-links.ensures.1 in
-    rw (p.1, p.2) (fails-as (operations Additive (product (unary c.args.depth)) c.product.new.input) (sum (unary c.args.depth) c.args.input.now) c.in_err-links.field-0.0 (λ bad e. sum-fails (unary c.args.depth) c.args.input.now c.product.new.input (term_form c.in_ok-first.first) bad c.in_ok-first.ensures.reads goes e) c.in_err-links.ensures.reads)
+pub sum_behind-returns-in_err-links-clause-reads : goal.sum_behind-returns-in_err-links-clause-reads
+sum_behind-returns-in_err-links-clause-reads t c s h =
+    let goes : is_additive (kind c.args.input.now) ≡ true = search rules in
+    let p = err_from_is_err_and c.from_residual.result c.from_residual.ensures.1 in
+    rw (p.1, p.2) (fails-as (operations Additive (product (unary c.args.depth)) c.args.input.now) (sum (unary c.args.depth) s) c.in_err-links.field-0.0 (λ bad e. sum-fails (unary c.args.depth) s c.args.input.now (term_form c.args.first) bad h goes e) c.in_err-links.ensures.reads)
 
-pub sum-returns-clause-reads : goal.sum-returns-clause-reads
-sum-returns-clause-reads t c =
-    let goes : is_additive (kind c.product.new.input) ≡ true = search rules in
-    rw c.in_ok-calculated.ensures (sum-read (unary c.args.depth) c.args.input.now c.product.new.input c.operations.new.input (term_form c.in_ok-first.first) (arithmetic_links c.in_ok-links.links.items) c.in_ok-first.ensures.reads goes c.in_ok-links.ensures.reads)
+pub sum_behind-returns-clause-reads : goal.sum_behind-returns-clause-reads
+sum_behind-returns-clause-reads t c s h =
+    let goes : is_additive (kind c.args.input.now) ≡ true = search rules in
+    rw c.in_ok-calculated.ensures (sum-read (unary c.args.depth) s c.args.input.now c.operations.new.input (term_form c.args.first) (arithmetic_links c.in_ok-links.links.items) h goes c.in_ok-links.ensures.reads)
 
 pub unary-returns-in_err-inner-in-Open-clause-reads : goal.unary-returns-in_err-inner-in-Open-clause-reads
 unary-returns-in_err-inner-in-Open-clause-reads t c =
@@ -316,3 +315,63 @@ unary-returns-in_default t c =
           (λ q. c.in_default.not-Number (c.kind.ensures ∙ q)) (λ q. c.in_default.not-True (c.kind.ensures ∙ q)) (λ q. c.in_default.not-False (c.kind.ensures ∙ q)) (λ q. c.in_default.not-Name (c.kind.ensures ∙ q));
       fewer = tt;
     })
+
+pub product-returns-clause-reads : goal.product-returns-clause-reads
+product-returns-clause-reads t c = c.product_behind.ensures.reads c.args.input.now c.in_ok-first.ensures.reads
+
+pub product-returns-clause-fewer : goal.product-returns-clause-fewer
+product-returns-clause-fewer t c = on-fewer c.product_behind.result _ _ _ c.product_behind.ensures.fewer c.in_ok-first.ensures.fewer
+
+pub sum-returns-clause-reads : goal.sum-returns-clause-reads
+sum-returns-clause-reads t c = c.sum_behind.ensures.reads c.args.input.now c.in_ok-first.ensures.reads
+
+pub sum-returns-clause-fewer : goal.sum-returns-clause-fewer
+sum-returns-clause-fewer t c = on-fewer c.sum_behind.result _ _ _ c.sum_behind.ensures.fewer c.in_ok-first.ensures.fewer
+
+pub ordered-returns-clause-reads : goal.ordered-returns-clause-reads
+ordered-returns-clause-reads t c = c.ordered_behind.ensures.reads c.args.input.now c.in_ok-left.ensures.reads
+
+pub ordered-returns-clause-fewer : goal.ordered-returns-clause-fewer
+ordered-returns-clause-fewer t c = on-fewer c.ordered_behind.result _ _ _ c.ordered_behind.ensures.fewer c.in_ok-left.ensures.fewer
+
+pub equated-returns-clause-reads : goal.equated-returns-clause-reads
+equated-returns-clause-reads t c = c.operators_behind.ensures.reads c.args.input.now c.in_ok-operand.ensures.reads
+
+pub equated-returns-clause-fewer : goal.equated-returns-clause-fewer
+equated-returns-clause-fewer t c = on-fewer c.operators_behind.result _ _ _ c.operators_behind.ensures.fewer c.in_ok-operand.ensures.fewer
+
+pub equated-returns-in_err-operand-clause-reads : goal.equated-returns-in_err-operand-clause-reads
+equated-returns-in_err-operand-clause-reads t c =
+    let p = err_from_is_err_and c.from_residual.result c.from_residual.ensures.1 in
+    rw (p.1, p.2) (fails-as (unary c.args.depth c.args.input.now) (equated (unary c.args.depth) c.args.input.now) c.in_err-operand.field-0.0 (λ bad e. equated-first-fails c.args.depth c.args.input.now bad e) c.in_err-operand.ensures.reads)
+
+pub equated-returns-then-not-is_operator-clause-reads : goal.equated-returns-then-not-is_operator-clause-reads
+equated-returns-then-not-is_operator-clause-reads t c =
+    let other : is_operator (kind c.unary-operand.new.input) ≡ false = search rules in
+    equated-alone-or-fails c.args.depth c.args.input.now c.unary-operand.new.input c.unary-operand.result c.unary-operand.ensures.reads other
+
+pub operators_behind-returns-in_err-product-clause-reads : goal.operators_behind-returns-in_err-product-clause-reads
+operators_behind-returns-in_err-product-clause-reads t c s h =
+    let p = err_from_is_err_and c.from_residual.result c.from_residual.ensures.1 in
+    rw (p.1, p.2) (fails-as (product (unary c.args.depth) s) (equated (unary c.args.depth) s) c.in_err-product.field-0.0 (λ bad e. equated-product-fails c.args.depth s bad e) (c.in_err-product.ensures.reads s h))
+
+pub operators_behind-returns-in_err-sum-clause-reads : goal.operators_behind-returns-in_err-sum-clause-reads
+operators_behind-returns-in_err-sum-clause-reads t c s h =
+    let p = err_from_is_err_and c.from_residual-in_err-sum.result c.from_residual-in_err-sum.ensures.1 in
+    rw (p.1, p.2) (fails-as (sum (unary c.args.depth) s) (equated (unary c.args.depth) s) c.in_err-sum.field-0.0 (λ bad e. equated-sum-fails c.args.depth s bad e)
+    (c.in_err-sum.ensures.reads s (c.in_ok-product.ensures.reads s h)))
+
+pub operators_behind-returns-in_err-left-clause-reads : goal.operators_behind-returns-in_err-left-clause-reads
+operators_behind-returns-in_err-left-clause-reads t c s h =
+    let p = err_from_is_err_and c.from_residual-in_err-left.result c.from_residual-in_err-left.ensures.1 in
+    rw (p.1, p.2) (fails-as (ordered (unary c.args.depth) s) (equated (unary c.args.depth) s) c.in_err-left.field-0.0 (λ bad e. equated-ordered-fails c.args.depth s bad e)
+    (c.in_err-left.ensures.reads s (c.in_ok-sum.ensures.reads s (c.in_ok-product.ensures.reads s h))))
+
+pub operators_behind-returns-clause-reads : goal.operators_behind-returns-clause-reads
+operators_behind-returns-clause-reads t c s h = c.equated_behind.ensures.reads s (c.in_ok-left.ensures.reads s (c.in_ok-sum.ensures.reads s (c.in_ok-product.ensures.reads s h)))
+
+pub level-returns-clause-reads : goal.level-returns-clause-reads
+level-returns-clause-reads t c = c.chain_behind.ensures.reads c.args.input.now c.in_ok-first.ensures.reads c.in_ok-first.ensures.fewer
+
+pub level-returns-clause-fewer : goal.level-returns-clause-fewer
+level-returns-clause-fewer t c = on-fewer c.chain_behind.result _ _ _ c.chain_behind.ensures.fewer c.in_ok-first.ensures.fewer

@@ -10,7 +10,7 @@ use Rattle.pb_expressions.proofs.variable.names.Goals as goal
 
 pub returns-in_err-name-clause-reads : goal.returns-in_err-name-clause-reads
 returns-in_err-name-clause-reads c =
-    let p = err_from_is_err_and c.from_residual.result c.from_residual.ensures.1 in
+    let p = err_from_is_err_and c.from_residual-in_err-name.result c.from_residual-in_err-name.ensures.1 in
     rw (p.1, p.2) (fails-as (name c.names.input) (names c.args.input.now) c.in_err-name.field-0.0
     (λ bad e. c.names.invariant.reads ∙ gathered-item-fails name is_comma take_token (map named c.names.names.items) (suc (length c.args.input.now.tokens) - vec_len c.names.names)
     (length c.args.input.now.tokens - vec_len c.names.names) c.names.input bad (omega arith) e) c.in_err-name.ensures.reads)

@@ -10,7 +10,7 @@ use Rattle.pb_expressions.proofs.variable.variables.Goals as goal
 
 pub returns-in_err-group-clause-reads : goal.returns-in_err-group-clause-reads
 returns-in_err-group-clause-reads c =
-    let p = err_from_is_err_and c.from_residual.result c.from_residual.ensures.1 in
+    let p = err_from_is_err_and c.from_residual-in_err-group.result c.from_residual-in_err-group.ensures.1 in
     rw (p.1, p.2) (fails-as (group c.groups.input) (variables c.args.input.now) c.in_err-group.field-0.0
     (λ bad e. variables-fail c.args.input.now bad (c.groups.invariant.reads
     ∙ gathered-item-fails group is_comma take_token (map variables_form c.groups.variables.items) (suc (length c.args.input.now.tokens) - vec_len c.groups.variables)

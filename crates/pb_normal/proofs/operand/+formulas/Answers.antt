@@ -3,7 +3,7 @@ use Rattle.std.specs.Prelude.{box_value}
 use Rattle.pb_declarations.specs.View.{spec_of}
 use Rattle.pb_shapes.specs.Scope.{Scope}
 use Rattle.pb_typing.specs.Scopes.{scope_view, table_view}
-use Rattle.pb_typing.proofs.FormulaWeight.{weight, weight-chain, links_weight, link_lighter}
+use Rattle.pb_evaluation.proofs.FormulaWeight.{weight, weight-chain, links_weight, link_lighter}
 use Rattle.pb_typing.proofs.Nodes.{inner_scope}
 use Rattle.pb_normal.specs.declared.formula.Formula.{Formula}
 use Rattle.pb_normal.specs.Loops.{IsShaped}

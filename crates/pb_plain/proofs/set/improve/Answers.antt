@@ -12,7 +12,7 @@ use Rattle.pb_plain.specs.Step.{right_truth_at}
 use Rattle.pb_plain.proofs.Ranges.{IsMixed, is_between, between_yes, mixed_start, mixed_set, mixed_keep, mixed_ahead, mixed_inside, mixed_outside}
 use Rattle.pb_plain.proofs.Rights.{equation_said, fits_at_number}
 use Rattle.pb_plain.proofs.set.improve.Goals as goal
-use Rattle.pb_plain.proofs.set.improve.Goals.{then-truths-number+then-right_truth_of-start, else-truths-number, else-truths-number-via-then-truths-number+else-right_truth_of-start, else-truths-number-via-else-truths-number}
+use Rattle.pb_plain.proofs.set.improve.Goals.{then-truths-number+in_ok-holds+then-holds-start, then-truths-number+in_ok-holds+else-holds-start, else-truths-number}
 
 -- a truth that changes
 joins_new : (s start cur r : Bool) → start ≡ not s → beq cur start ≡ true → not (beq r start) ≡ true → not start ≡ joined s cur r
@@ -93,23 +93,21 @@ loop-number-preserved c =
       λ none n. ap (λ (zs : List Bool). get_or zs n false) is ∙ c.loop-number.invariant.kept (sym same ∙ none) n,
     ) in goal_at in
     elim c.if-truths-number.branch [
-      | then-truths-number+then-right_truth_of-start w ↦ (
+      | then-truths-number+in_ok-holds+then-holds-start w ↦ (
           let joins : not start ≡ f k = joins_new side start (get_or old k false) (right k) c.starts_full-start.ensures
-          (ap (λ b. beq b start) (sym here) ∙ w.if-truths-number.true) (ap (λ b. not (beq b start)) (sym w.right_truth_of.ensures) ∙ w.if-right_truth_of-start.true) in
+          (ap (λ b. beq b start) (sym here) ∙ w.if-truths-number.true) (ap (λ b. not (beq b start)) (sym w.in_ok-holds.ensures) ∙ w.if-holds-start.true) in
           record {
             mixed = subst (λ (zs : List Bool). IsMixed first (k + 1) f old zs) (sym w.truths-is) (mixed_set first k f old xs (not start) from below joins m);
             kept = λ none. absurd (true≢false (sym w.changed-is ∙ none));
           })
-      | else-truths-number w ↦ elim w.else-truths-number.branch [
-        | else-truths-number-via-then-truths-number+else-right_truth_of-start w' ↦ (
-            let p = stays c.if-truths-number.truths c.if-truths-number.changed w.truths-is w.changed-is (joins_same side start (get_or old k false) (right k) c.starts_full-start.ensures
-            (ap (λ b. beq b start) (sym here) ∙ w'.if-truths-number.true) (ap (λ b. not (beq b start)) (sym w'.right_truth_of.ensures) ∙ w'.if-right_truth_of-start.false)) in
-            record { mixed = p.0; kept = p.1 })
-        | else-truths-number-via-else-truths-number w' ↦ (
-            let p = stays c.if-truths-number.truths c.if-truths-number.changed w.truths-is w.changed-is (joins_done side start (get_or old k false) (right k) c.starts_full-start.ensures
-            (ap (λ b. beq b start) (sym here) ∙ w'.if-truths-number.false)) in
-            record { mixed = p.0; kept = p.1 })
-      ]
+      | then-truths-number+in_ok-holds+else-holds-start w ↦ (
+          let p = stays c.if-truths-number.truths c.if-truths-number.changed w.truths-is w.changed-is (joins_same side start (get_or old k false) (right k) c.starts_full-start.ensures
+          (ap (λ b. beq b start) (sym here) ∙ w.if-truths-number.true) (ap (λ b. not (beq b start)) (sym w.in_ok-holds.ensures) ∙ w.if-holds-start.false)) in
+          record { mixed = p.0; kept = p.1 })
+      | else-truths-number w ↦ (
+          let p = stays c.if-truths-number.truths c.if-truths-number.changed w.truths-is w.changed-is (joins_done side start (get_or old k false) (right k) c.starts_full-start.ensures
+          (ap (λ b. beq b start) (sym here) ∙ w.if-truths-number.false)) in
+          record { mixed = p.0; kept = p.1 })
     ]
 
 pub returns-clause-joins : goal.returns-clause-joins

@@ -1,4 +1,4 @@
-use Rattle.std.proofs.Common.{◌∙◌, List, ℤ, [], sym, subst, ap}
+use Rattle.std.proofs.Common.{◌≡◌, ◌∙◌, Bool, List, ℤ, [], IfOk, sym, subst, ap}
 use Rattle.pb_ast.specs.declared.variable.Variables.{Variables}
 use Rattle.pb_ast.specs.Form.{equation_form, formula_form}
 use Rattle.pb_declarations.specs.View.{spec_of}
@@ -31,4 +31,5 @@ returns c =
     let vs = c.instance-instance.result.values.items in
     let same = assigned-groups X.parameters.items vs []
     ∙ (ap (λ (gs : List Variables). named_with (names_of gs) vs []) (sym c.deref.ensures.value) ∙ ap (λ (ws : List ℤ). named_with (names_of c.deref.result.now) ws []) (sym c.deref-2.ensures)) in
-    c.right_truth.ensures ∙ (ap (λ (a : Assignment). truth S a t f) (sym same) ∙ ap (right_truth S t (erased_equation (equation_form X))) (sym c.instance-instance.ensures))
+    let there = ap (λ (a : Assignment). truth S a t f) (sym same) ∙ ap (right_truth S t (erased_equation (equation_form X))) (sym c.instance-instance.ensures) in
+    subst (λ (b : Bool). IfOk c.right_truth.result (λ holds. holds ≡ b)) there c.right_truth.ensures

@@ -217,8 +217,8 @@ pub approach-improve-requires-clause-truths : goal.approach-improve-requires-cla
 approach-improve-requires-clause-truths t c =
     omega (arith, ap (λ (ys : List Bool). length ys) c.deref_mut-in-loop-step.ensures.value, c.loop-step.truths.ok.0, c.loop-step.invariant.count)
 
-pub approach-returns-then-not-improve-clause-solved : goal.approach-returns-then-not-improve-clause-solved
-approach-returns-then-not-improve-clause-solved t c =
+pub approach-returns-then-not-changed-clause-solved : goal.approach-returns-then-not-changed-clause-solved
+approach-returns-then-not-changed-clause-solved t c =
     let S = spec_of c.args.system.now.declarations.now in
     let layout = c.args.system.now.layout.now in
     let k = c.args.first in
@@ -231,8 +231,8 @@ approach-returns-then-not-improve-clause-solved t c =
     let next = c.improve.new.truths in
     let same = each_same _ _ c.in_ok-below.ensures.cases.0 in
     let joins = subst (λ (o : List Bool). JoinsRight S layout k X below o next) c.deref_mut-in-loop-step.ensures.value
-    (subst (λ (u : List Bool). JoinsRight S layout k X u c.deref_mut-in-loop-step.result.now next) c.deref-in-loop-step.ensures.value (c.improve.ensures.joins X at)) in
-    let unchanged = subst (λ (o : List Bool). TakesSet layout k o next) c.deref_mut-in-loop-step.ensures.value (c.improve.ensures.unchanged c.if-not-improve.true) in
+    (subst (λ (u : List Bool). JoinsRight S layout k X u c.deref_mut-in-loop-step.result.now next) c.deref-in-loop-step.ensures.value (c.in_ok-changed.ensures.joins X at)) in
+    let unchanged = subst (λ (o : List Bool). TakesSet layout k o next) c.deref_mut-in-loop-step.ensures.value (c.in_ok-changed.ensures.unchanged c.if-not-changed.true) in
     stopped S layout c.args.system.now.laid_out c.requires.solvable k X at (environment_of S c.args.truths.now.items) c.loop-step._step cur below next (c.loop-step.invariant.approach X at)
     (c.in_ok-solve_toward.ensures.solved ∙ ap (λ (u : List Bool). solution after (environment_of S u)) same) joins unchanged
 
@@ -248,9 +248,9 @@ approach-loop-step-preserved t c =
     let next = c.improve.new.truths in
     let same = each_same _ _ c.in_ok-below.ensures.cases.0 in
     let W = written cur next c.loop-step.truths.len (omega (arith, c.improve.auto.truths, ap (λ (ys : List Bool). length ys) c.deref_mut-in-loop-step.ensures.value)) (sym c.loop-step.truths.ok.0) in
-    let others = subst (λ (o : List Bool). ChangesOnly layout k o next) c.deref_mut-in-loop-step.ensures.value c.improve.ensures.others in
+    let others = subst (λ (o : List Bool). ChangesOnly layout k o next) c.deref_mut-in-loop-step.ensures.value c.in_ok-changed.ensures.others in
     let joins = λ (X : syntax.Equation) (at : slice_get S.equations k ≡ Some X). subst (λ (o : List Bool). JoinsRight S layout k X below o next) c.deref_mut-in-loop-step.ensures.value
-    (subst (λ (u : List Bool). JoinsRight S layout k X u c.deref_mut-in-loop-step.result.now next) c.deref-in-loop-step.ensures.value (c.improve.ensures.joins X at)) in
+    (subst (λ (u : List Bool). JoinsRight S layout k X u c.deref_mut-in-loop-step.result.now next) c.deref-in-loop-step.ensures.value (c.in_ok-changed.ensures.joins X at)) in
     let step = λ (X : syntax.Equation) (at : slice_get S.equations k ≡ Some X). stepped S layout c.args.system.now.laid_out c.requires.solvable k X at start c.loop-step._step cur below next (c.loop-step.invariant.approach X at)
     (c.in_ok-solve_toward.ensures.solved ∙ ap (λ (u : List Bool). solution after (environment_of S u)) same) others (joins X at) in
     record {

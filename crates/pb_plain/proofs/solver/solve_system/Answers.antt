@@ -1,4 +1,4 @@
-use Rattle.std.proofs.Common.{◌∙◌, List, [], Bool, true, false, sym, ap, subst}
+use Rattle.std.proofs.Common.{◌≡◌, IfOk, ◌∙◌, List, [], Bool, true, false, sym, ap, subst}
 use Rattle.pb_fixpoint.specs.Solution.{Environment, solution}
 use Rattle.pb_ast.specs.Form.{FormulaForm, SpecForm, instance_form}
 use Rattle.pb_declarations.specs.declared.declarations.Declarations.{Declarations}
@@ -30,10 +30,11 @@ returns c =
     let S = spec_of D in
     let E = c.environment-environment in
     let f = erased_formula (FormulaForm.instance (instance_form c.args.spec.now.initial)) in
-    c.instance_truth.ensures
-    ∙ (ap (λ (d : Declarations). truth (spec_of d) [] (environment_of (spec_of d) E.result.truths.now) f) E.ensures.declarations
+    let same =
+    ap (λ (d : Declarations). truth (spec_of d) [] (environment_of (spec_of d) E.result.truths.now) f) E.ensures.declarations
     ∙ (ap (λ (u : List Bool). truth S [] (environment_of S u) f) (E.ensures.truths ∙ c.deref-3.ensures.value)
     ∙ (ap (λ (t : Environment Instance). truth S [] t f)
     (c.in_ok-solve_from.ensures.solved
     ∙ ap (solution (equations_of S)) (ap (λ (u : List Bool). environment_of S u) (c.in_ok-truths.ensures.items_if_clones_equal (λ y e. e)) ∙ none_true S _))
-    ∙ ap (λ (text : SpecForm). truth S [] (solution (equations_of S) (λ i. false)) (erased_formula (FormulaForm.instance text.initial))) (sym c.requires.said))))
+    ∙ ap (λ (text : SpecForm). truth S [] (solution (equations_of S) (λ i. false)) (erased_formula (FormulaForm.instance text.initial))) (sym c.requires.said))) in
+    subst (λ (b : Bool). IfOk c.instance_truth.result (λ truth. truth ≡ b)) same c.instance_truth.ensures

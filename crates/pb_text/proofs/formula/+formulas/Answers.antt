@@ -1,11 +1,12 @@
-use Rattle.std.proofs.Common.{rules, arith, ◌≡◌, ◌<◌, ◌-◌, length, true, false, vec_len, ◌∙◌}
+use Rattle.std.proofs.Common.{rules, arith, ◌≡◌, ◌<◌, ◌-◌, length, true, false, vec_len, ◌∙◌, sym, subst}
 use Rattle.std.proofs.lemmas.Result.{err_from_is_err_and}
 use Rattle.pb_ast.specs.Form.{FormulaForm, formula_form, link_forms}
 use Rattle.pb_lexer.specs.Kinds.{same_kind}
-use Rattle.pb_lexer.specs.Steps.{kind, take_operator}
+use Rattle.pb_lexer.specs.Steps.{Outcome, Gives, kind, take_operator}
 use Rattle.pb_lexer.specs.Tokens.{tok}
 use Rattle.pb_lexer.proofs.LoopLemmas.{resumed-first, resumed-first-fails, resumed-end, resumed-more, resumed-operator-fails, resumed-operand-fails, fails-as}
 use Rattle.pb_expressions.specs.Operators.{symbol}
+use Rattle.pb_expressions.proofs.ReadLemmas.{on-fewer, resumed-alone-or-fails}
 use Rattle.pb_text.specs.Reading.{operand, level}
 use Rattle.pb_text.proofs.FormulaLemmas.{level-chain, links-last, node-other}
 use Rattle.pb_text.proofs.formula.+formulas.Goals as goal
@@ -24,45 +25,57 @@ level-returns-in_err-first-clause-reads t c =
     (λ bad e. level-chain c.args.connective c.args.depth c.args.input.now
     ∙ resumed-first-fails (symbol c.args.connective) (FormulaForm.connected c.args.connective) (operand c.args.connective c.args.depth) (length c.args.input.now.tokens) c.args.input.now bad e) c.in_err-first.ensures.reads)
 
-pub level-links-init : goal.level-links-init
-level-links-init t c = record {
-  reads = rw (c.new-links.ensures.items, c.new-links.ensures.len) (level-chain c.args.connective c.args.depth c.args.input.now
-      ∙ resumed-first (symbol c.args.connective) (FormulaForm.connected c.args.connective) (operand c.args.connective c.args.depth) (length c.args.input.now.tokens) _ _ _ c.in_ok-first.ensures.reads);
-  room = omega (arith, c.in_ok-first.ensures.fewer);
+pub chain_behind-links-init : goal.chain_behind-links-init
+chain_behind-links-init t c = record {
+  reads = λ s h fewer. rw (c.in_ok-links.ensures.items, c.in_ok-links.ensures.len) (level-chain c.args.connective c.args.depth s
+      ∙ resumed-first (symbol c.args.connective) (FormulaForm.connected c.args.connective) (operand c.args.connective c.args.depth) (length s.tokens) s c.args.input.now (formula_form c.args.first) h);
+  room = omega (arith, c.in_ok-links.ensures.len);
 }
 
-pub level-returns-in_err-place-clause-reads : goal.level-returns-in_err-place-clause-reads
-level-returns-in_err-place-clause-reads t c =
+pub level-returns-then-not-same_kind-clause-reads : goal.level-returns-then-not-same_kind-clause-reads
+level-returns-then-not-same_kind-clause-reads t c =
+    let other : same_kind (kind c.operand-first.new.input) (symbol c.args.connective) ≡ false = search rules in
+    subst (λ (o : Outcome FormulaForm). Gives formula_form o c.operand-first.result c.operand-first.new.input) (sym (level-chain c.args.connective c.args.depth c.args.input.now))
+    (resumed-alone-or-fails (symbol c.args.connective) (FormulaForm.connected c.args.connective) (operand c.args.connective c.args.depth) formula_form (length c.args.input.now.tokens)
+    c.args.input.now c.operand-first.new.input c.operand-first.result c.operand-first.ensures.reads other)
+
+pub chain_behind-returns-in_err-place-clause-reads : goal.chain_behind-returns-in_err-place-clause-reads
+chain_behind-returns-in_err-place-clause-reads t c s h fewer =
     let p = err_from_is_err_and c.from_residual-in_err-place.result c.from_residual-in_err-place.ensures.1 in
     let same : same_kind (kind c.links.input) (symbol c.args.connective) ≡ true = search rules in
-    rw (p.1, p.2) (fails-as (take_operator c.links.input) (level c.args.connective c.args.depth c.args.input.now) c.in_err-place.field-0.0
-    (λ bad e. c.links.invariant.reads ∙ resumed-operator-fails (symbol c.args.connective) (FormulaForm.connected c.args.connective) (operand c.args.connective c.args.depth)
-    (length c.args.input.now.tokens - vec_len c.links.links) _ (link_forms c.links.links.items) c.links.input bad same e) c.in_err-place.ensures.reads)
+    rw (p.1, p.2) (fails-as (take_operator c.links.input) (level c.args.connective c.args.depth s) c.in_err-place.field-0.0
+    (λ bad e. c.links.invariant.reads s h fewer ∙ resumed-operator-fails (symbol c.args.connective) (FormulaForm.connected c.args.connective) (operand c.args.connective c.args.depth)
+    (length s.tokens - vec_len c.links.links) _ (link_forms c.links.links.items) c.links.input bad same e) c.in_err-place.ensures.reads)
 
-pub level-returns-in_err-operand-clause-reads : goal.level-returns-in_err-operand-clause-reads
-level-returns-in_err-operand-clause-reads t c =
+pub chain_behind-returns-in_err-operand-clause-reads : goal.chain_behind-returns-in_err-operand-clause-reads
+chain_behind-returns-in_err-operand-clause-reads t c s h fewer =
     let p = err_from_is_err_and c.from_residual-in_err-operand.result c.from_residual-in_err-operand.ensures.1 in
     let same : same_kind (kind c.links.input) (symbol c.args.connective) ≡ true = search rules in
-    let some : 0 < length c.args.input.now.tokens - vec_len c.links.links = omega arith in
-    rw (p.1, p.2) (fails-as (operand c.args.connective c.args.depth c.take_operator.new.self) (level c.args.connective c.args.depth c.args.input.now) c.in_err-operand.field-0.0
-    (λ bad e. c.links.invariant.reads ∙ resumed-operand-fails (symbol c.args.connective) (FormulaForm.connected c.args.connective) (operand c.args.connective c.args.depth)
-    (length c.args.input.now.tokens - vec_len c.links.links) _ (link_forms c.links.links.items)
+    let some : 0 < length s.tokens - vec_len c.links.links = omega arith in
+    rw (p.1, p.2) (fails-as (operand c.args.connective c.args.depth c.take_operator.new.self) (level c.args.connective c.args.depth s) c.in_err-operand.field-0.0
+    (λ bad e. c.links.invariant.reads s h fewer ∙ resumed-operand-fails (symbol c.args.connective) (FormulaForm.connected c.args.connective) (operand c.args.connective c.args.depth)
+    (length s.tokens - vec_len c.links.links) _ (link_forms c.links.links.items)
     c.links.input c.take_operator.new.self (tok c.in_ok-place.field-0) bad some same c.in_ok-place.ensures.reads e) c.in_err-operand.ensures.reads)
 
-pub level-links-preserved : goal.level-links-preserved
-level-links-preserved t c =
+pub chain_behind-links-preserved : goal.chain_behind-links-preserved
+chain_behind-links-preserved t c =
     let same : same_kind (kind c.links.input) (symbol c.args.connective) ≡ true = search rules in
-    let more = resumed-more (symbol c.args.connective) (FormulaForm.connected c.args.connective) (operand c.args.connective c.args.depth) (length c.args.input.now.tokens - vec_len c.links.links)
-    (length c.args.input.now.tokens - vec_len c.push.new.self) _ (link_forms c.links.links.items) c.links.input c.take_operator.new.self c.operand-in-links.new.input
-    (tok c.in_ok-place.field-0) (formula_form c.in_ok-operand.operand) (omega (arith, c.in_ok-push.ensures.len)) same c.in_ok-place.ensures.reads c.in_ok-operand.ensures.reads in
     record {
-      reads = rw (c.in_ok-push.ensures.items, links-last) (c.links.invariant.reads ∙ more);
+      reads = λ s h fewer. rw (c.in_ok-push.ensures.items, links-last) (c.links.invariant.reads s h fewer ∙ resumed-more (symbol c.args.connective) (FormulaForm.connected c.args.connective) (operand c.args.connective c.args.depth) (length s.tokens - vec_len c.links.links)
+          (length s.tokens - vec_len c.push.new.self) _ (link_forms c.links.links.items) c.links.input c.take_operator.new.self c.operand.new.input
+          (tok c.in_ok-place.field-0) (formula_form c.in_ok-operand.operand) (omega (arith, c.in_ok-push.ensures.len, c.links.invariant.room)) same c.in_ok-place.ensures.reads c.in_ok-operand.ensures.reads);
       room = omega (arith, c.in_ok-place.ensures.fewer, c.in_ok-operand.ensures.fewer, c.in_ok-push.ensures.len);
     }
 
-pub level-returns-clause-reads : goal.level-returns-clause-reads
-level-returns-clause-reads t c =
+pub chain_behind-returns-clause-reads : goal.chain_behind-returns-clause-reads
+chain_behind-returns-clause-reads t c s h fewer =
     let other : same_kind (kind c.links.input) (symbol c.args.connective) ≡ false = search rules in
     let end = resumed-end (symbol c.args.connective) (FormulaForm.connected c.args.connective) (operand c.args.connective c.args.depth)
-    (length c.args.input.now.tokens - vec_len c.links.links) _ (link_forms c.links.links.items) c.links.input other in
-    rw c.in_ok-joined.ensures (c.links.invariant.reads ∙ end)
+    (length s.tokens - vec_len c.links.links) _ (link_forms c.links.links.items) c.links.input other in
+    rw c.in_ok-joined.ensures (c.links.invariant.reads s h fewer ∙ end)
+
+pub level-returns-clause-reads : goal.level-returns-clause-reads
+level-returns-clause-reads t c = c.chain_behind.ensures.reads c.args.input.now c.in_ok-first.ensures.reads c.in_ok-first.ensures.fewer
+
+pub level-returns-clause-fewer : goal.level-returns-clause-fewer
+level-returns-clause-fewer t c = on-fewer c.chain_behind.result _ _ _ c.chain_behind.ensures.fewer c.in_ok-first.ensures.fewer

@@ -1,7 +1,8 @@
-use Rattle.std.proofs.Common.{ℕ, ◌≡◌, ◌+◌, ◌*◌, ◌-◌, ◌≤◌, length, vec_len}
+use Rattle.std.proofs.Common.{ℕ, ◌≡◌, ◌+◌, ◌*◌, ◌-◌, ◌≤◌, ◌<◌, length, vec_len, Ok}
 use Rattle.pb_ast.specs.declared.operator.Connective.{Connective}
 use Rattle.pb_ast.specs.declared.operator.Connective.TheVariants.{And, Or, Implies}
 use Rattle.pb_ast.specs.Form.{FormulaForm, formula_form, link_forms}
+use Rattle.pb_lexer.specs.Grammar.{State}
 use Rattle.pb_lexer.proofs.LoopLemmas.{resumed}
 use Rattle.pb_expressions.specs.Operators.{symbol}
 use Rattle.pb_text.specs.Reading.{operand, level}
@@ -9,27 +10,37 @@ use Rattle.pb_text.proofs.formula.+formulas.Given as goal
 
 abbrev rank : Connective → ℕ
 rank And = 2
-rank Or = 4
-rank Implies = 6
+rank Or = 5
+rank Implies = 8
 
 abbrev pub decreases-node : goal.decreases-node
-decreases-node l = l.depth * 8
+decreases-node l = l.depth * 16 + 1
+
+abbrev pub decreases-negation : goal.decreases-negation
+decreases-negation l = l.depth * 16
+
+abbrev pub decreases-bracketed : goal.decreases-bracketed
+decreases-bracketed l = l.depth * 16
 
 abbrev pub decreases-quantified : goal.decreases-quantified
-decreases-quantified l = l.depth * 8
+decreases-quantified l = l.depth * 16
 
 abbrev pub decreases-operand : goal.decreases-operand
-decreases-operand l = l.depth * 8 + rank l.connective
+decreases-operand l = l.depth * 16 + rank l.connective
 
 abbrev pub decreases-level : goal.decreases-level
-decreases-level l = l.depth * 8 + rank l.connective + 1
+decreases-level l = l.depth * 16 + rank l.connective + 2
 
-abbrev pub invariant-level-links : goal.invariant-level-links
-invariant-level-links l = record {
-  reads : level l.connective l.depth l.fn.input ≡
-      resumed (symbol l.connective) (FormulaForm.connected l.connective) (operand l.connective l.depth) (length l.fn.input.tokens - vec_len l.links) (formula_form l.first) (link_forms l.links.items) l.input;
-  room : vec_len l.links + length l.input.tokens + 1 ≤ length l.fn.input.tokens;
+abbrev pub decreases-chain_behind : goal.decreases-chain_behind
+decreases-chain_behind l = l.depth * 16 + rank l.connective + 1
+
+abbrev pub invariant-chain_behind-links : goal.invariant-chain_behind-links
+invariant-chain_behind-links l = record {
+  reads : (s : State) → operand l.connective l.depth s ≡ Ok (formula_form l.fn.first, l.fn.input) → length l.fn.input.tokens < length s.tokens
+      → level l.connective l.depth s ≡
+      resumed (symbol l.connective) (FormulaForm.connected l.connective) (operand l.connective l.depth) (length s.tokens - vec_len l.links) (formula_form l.first) (link_forms l.links.items) l.input;
+  room : vec_len l.links + length l.input.tokens ≤ length l.fn.input.tokens;
 }
 
-abbrev pub decreases-level-links : goal.decreases-level-links
-decreases-level-links l = length l.input.tokens
+abbrev pub decreases-chain_behind-links : goal.decreases-chain_behind-links
+decreases-chain_behind-links l = length l.input.tokens

@@ -1,4 +1,4 @@
-use Rattle.std.proofs.Common.{◌≡◌, ◌∙◌, List, [], ap, subst, length, arith, rules, SFits, w64, to_z, of_z, to_z-of_z}
+use Rattle.std.proofs.Common.{◌∙◌, List, [], ap, subst, length, arith, rules, SFits, w64, to_z, of_z, to_z-of_z}
 use Rattle.pb_ast.specs.declared.term.Argument.{Argument}
 use Rattle.pb_ast.specs.Form.{argument_forms}
 use Rattle.pb_syntax.specs.Erase.{erased_arguments}
@@ -13,10 +13,10 @@ pub returns-in_err-require-in-Some-Some : goal.returns-in_err-require-in-Some-So
 returns-in_err-require-in-Some-Some t c = λ xs m.
     let S = spec_of c.args.declarations.now in
     let s = c.in-Some-Some in
-    let fits : SFits w64 c.value-value.result = record { sfits = c.value-value.type_inv } in
+    let fits : SFits w64 c.in_ok-value-in-Some-Some.value = record { sfits = omega arith } in
     let h : IsAmong (value_faults S (argument_forms c.args.arguments.now) xs) c.in_err-require-in-Some-Some.field-0.0 =
-    value_fault S s.carrier.now s.carriers.now s.argument.now s.arguments.now c.args.arguments.now c.args.carriers.now xs (to_z w64 (of_z w64 c.value-value.result)) c.contains.result c.in_err-require-in-Some-Some.field-0.0
-    s.ensures.cases.0 s.ensures'.cases.0 m (to_z-of_z fits ∙ c.value-value.ensures) c.contains.ensures c.in_err-require-in-Some-Some.ensures in
+    value_fault S s.carrier.now s.carriers.now s.argument.now s.arguments.now c.args.arguments.now c.args.carriers.now xs (to_z w64 (of_z w64 c.in_ok-value-in-Some-Some.value)) c.contains.result c.in_err-require-in-Some-Some.field-0.0
+    s.ensures.cases.0 s.ensures'.cases.0 m (to_z-of_z fits ∙ c.in_ok-value-in-Some-Some.ensures) c.contains.ensures c.in_err-require-in-Some-Some.ensures in
     search rules
 
 pub check_values-requires : goal.check_values-requires
@@ -31,6 +31,6 @@ pub returns-in_ok-require-in-Some-Some : goal.returns-in_ok-require-in-Some-Some
 returns-in_ok-require-in-Some-Some t c = λ xs m.
     let S = spec_of c.args.declarations.now in
     let s = c.in-Some-Some in
-    let fits : SFits w64 c.value-value.result = record { sfits = c.value-value.type_inv } in
-    value_clear S s.carrier.now s.carriers.now s.argument.now s.arguments.now c.args.arguments.now c.args.carriers.now xs (to_z w64 (of_z w64 c.value-value.result)) c.contains.result c.check_values.result
-    s.ensures.cases.0 s.ensures'.cases.0 m (to_z-of_z fits ∙ c.value-value.ensures) c.contains.ensures c.in_ok-require-in-Some-Some.ensures c.check_values.ensures
+    let fits : SFits w64 c.in_ok-value-in-Some-Some.value = record { sfits = omega arith } in
+    value_clear S s.carrier.now s.carriers.now s.argument.now s.arguments.now c.args.arguments.now c.args.carriers.now xs (to_z w64 (of_z w64 c.in_ok-value-in-Some-Some.value)) c.contains.result c.check_values.result
+    s.ensures.cases.0 s.ensures'.cases.0 m (to_z-of_z fits ∙ c.in_ok-value-in-Some-Some.ensures) c.contains.ensures c.in_ok-require-in-Some-Some.ensures c.check_values.ensures

@@ -1,4 +1,4 @@
-use Rattle.std.proofs.Common.{◌≡◌, ◌∙◌, List, [], true, ap, sym, subst, rules}
+use Rattle.std.proofs.Common.{◌≡◌, ◌∙◌, List, [], ap, sym, subst, rules}
 use Rattle.std.specs.Prelude.{MatchResult}
 use Rattle.pb_ast.specs.declared.term.Argument.{Argument}
 use Rattle.pb_ast.specs.Form.{argument_forms, instance_form}

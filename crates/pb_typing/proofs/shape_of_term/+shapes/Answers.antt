@@ -1,4 +1,4 @@
-use Rattle.std.proofs.Common.{◌≡◌, ◌∙◌, sym, ap, arith, refl, inl, inr, Option, Some, List, [], ◌∷◌, length}
+use Rattle.std.proofs.Common.{◌≡◌, ◌∙◌, sym, ap, arith, refl, inr, Option, Some, List, [], ◌∷◌, length}
 use Rattle.std.specs.Prelude.{◌==◌, vec_len}
 use Rattle.std.specs.Option.{option_map}
 use Rattle.pb_ast.specs.declared.term.Term.{Term}
@@ -15,8 +15,8 @@ use Rattle.pb_declarations.specs.View.{spec_of}
 use Rattle.pb_typing.specs.declared.function.Function as code
 use Rattle.pb_typing.specs.Scopes.{scope_view}
 use Rattle.pb_typing.specs.View.{shape_view, function_view}
-use Rattle.pb_typing.proofs.Weight.{weight, weight-chain, weight-arithmetic, weight-application, arithmetic_weight, arguments_weight, operand_lighter}
-use Rattle.pb_typing.proofs.Links.{calculated-shape, calculated_shape, chained-shape, chain_shape, some_link_shape, no_link_shape}
+use Rattle.pb_evaluation.proofs.Weight.{weight, weight-arithmetic, weight-application, arithmetic_weight, arguments_weight, operand_lighter}
+use Rattle.pb_typing.proofs.Links.{calculated-shape, calculated_shape, chained-shape, some_link_shape, no_link_shape}
 use Rattle.pb_typing.proofs.Nodes.{three_behind, shape_of_call, no_result}
 use Rattle.pb_typing.proofs.shape_of_term.+shapes.Goals as goal
 

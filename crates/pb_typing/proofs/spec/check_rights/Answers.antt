@@ -1,4 +1,4 @@
-use Rattle.std.proofs.Common.{◌≡◌, ◌∙◌, ap, sym, arith, rules}
+use Rattle.std.proofs.Common.{◌∙◌, ap, sym, arith, rules}
 use Rattle.pb_declarations.specs.Faults.{IsAmong}
 use Rattle.pb_declarations.specs.View.{spec_of}
 use Rattle.pb_shapes.proofs.Parts.{among_first, first_clear}

@@ -1,7 +1,6 @@
-use Rattle.std.proofs.Common.{◌≡◌, ◌∙◌, List, [], ◌++◌, ap, sym, subst, rules}
+use Rattle.std.proofs.Common.{◌≡◌, ◌∙◌, [], ap, sym, subst, rules}
 use Rattle.pb_ast.specs.Form.{SpecForm, spec_form}
 use Rattle.pb_syntax.specs.Erase.{erase}
-use Rattle.pb_declarations.specs.declared.fault.Fault.{Fault}
 use Rattle.pb_declarations.specs.declared.fault.TypeError.{TypeError}
 use Rattle.pb_declarations.specs.Declarations.{declaration_faults}
 use Rattle.pb_declarations.specs.Faults.{IsAmong}

@@ -18,7 +18,7 @@ use Rattle.pb_declarations.specs.View.{spec_of}
 use Rattle.pb_shapes.proofs.Parts.{among_left, among_right, among_first, first_clear}
 use Rattle.pb_typing.specs.Scopes.{scope_view, table_view, inner_view}
 use Rattle.pb_typing.specs.View.{Judges, shape_view, operation_of, is_no_link}
-use Rattle.pb_typing.proofs.Weight.{weight, weight-chain, weight-arithmetic, weight-application, links_weight, arithmetic_weight, arguments_weight, link_lighter, operand_lighter}
+use Rattle.pb_evaluation.proofs.Weight.{weight, weight-chain, weight-arithmetic, weight-application, links_weight, arithmetic_weight, arguments_weight, link_lighter, operand_lighter}
 use Rattle.pb_typing.proofs.Links.{link_faults, chained-faults, chained-shape, arithmetic_faults, calculated-faults, calculated-shape, calculated_shape, links-drop, links-ended, some_link_shape}
 use Rattle.pb_typing.proofs.Nodes.{comparison_left, comparison_right, quantified_variables, quantified_body, inner_scope, length-shapes, one_argument, two_arguments, three_arguments, application_faults, first_fault, second_fault, third_fault}
 use Rattle.pb_typing.proofs.term.+terms.Goals as goal

@@ -6,7 +6,7 @@ use Rattle.pb_shapes.specs.Term.{shape}
 use Rattle.pb_declarations.specs.View.{spec_of}
 use Rattle.pb_typing.specs.Scopes.{scope_view}
 use Rattle.pb_typing.specs.View.{shape_view}
-use Rattle.pb_typing.proofs.Weight.{weight, links_weight, arithmetic_weight, arguments_weight}
+use Rattle.pb_evaluation.proofs.Weight.{weight, links_weight, arithmetic_weight, arguments_weight}
 use Rattle.pb_typing.proofs.Links.{link_faults, arithmetic_faults, calculated_shape}
 use Rattle.pb_typing.proofs.term.+terms.Given as goal
 

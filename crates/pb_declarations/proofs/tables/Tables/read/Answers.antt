@@ -94,6 +94,8 @@ invariant_of-result c =
             ∙ ap (λ (xs : List Equation). numbered_from 0 (equation_names (map equation_form xs))) (c.deref-3).ensures.value))
             ∙ first-numbered_from text.equations x);
       };
+      chained = c.in_ok-chains.ensures;
+      based = c.in_ok-bases.ensures;
     }
 
 pub returns : goal.returns

@@ -1,0 +1,14 @@
+mod Flat
+mod Wins
+mod Joins
+mod Equality
+mod Terms
+mod Numbered
+mod Formulas
+mod Calls
+mod Slots
+mod Whole
+mod FullCalls
+mod Equations
+mod Known
+mod System

@@ -1,0 +1,17 @@
+//! Tests of what no contract of pb_typing says: that the rules and their places are those that a user is told of, that a
+//! text that is refused comes back as it was, and that the largest texts are checked within a second or two. The columns
+//! were counted by hand.
+#![tactic(auto)]
+
+#[cfg(test)]
+mod answer;
+#[cfg(test)]
+mod largest;
+#[cfg(test)]
+mod limits;
+#[cfg(test)]
+mod names;
+#[cfg(test)]
+mod rows;
+#[cfg(test)]
+mod terms;
