@@ -13,7 +13,7 @@ use std::io::{Cursor, Read};
 const REFUSED: u32 = 2000;
 
 /// The runs ask for memory less often than this.
-const LAST: u32 = 420;
+const LAST: u32 = 460;
 
 /// A text, and what the program is to say of it.
 struct Case {
