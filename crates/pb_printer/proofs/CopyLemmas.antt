@@ -13,7 +13,7 @@ use Rattle.pb_ast.specs.declared.term.ArithmeticLink.{ArithmeticLink}
 use Rattle.pb_ast.specs.declared.term.Argument.{Argument}
 use Rattle.pb_ast.specs.Form.{Named, VariableForm, TermForm, ArgumentForms, no_arguments, argument, named, variables_form, variable_forms, term_form, term_links, arithmetic_links, argument_forms, chained, calculated}
 use Rattle.pb_ast.proofs.FormLemmas.{term-chain, term-arithmetic, term-application}
-use Rattle.pb_printer.specs.SameParts.{placed_argument}
+use Rattle.pb_printer.specs.Copied.{placed_argument}
 
 pub group-copied : (a b : Variables) → map named a.names.items ≡ map named b.names.items → named a.sort ≡ named b.sort → variables_form a ≡ variables_form b
 group-copied a b names sorts = by (named a.sort) a.names.items ∙ ap (λ v. map (sorted v) (map named a.names.items)) sorts ∙ ap (map (sorted (named b.sort))) names ∙ sym (by (named b.sort) b.names.items)

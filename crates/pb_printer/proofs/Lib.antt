@@ -1,8 +1,11 @@
-pub mod ListLemmas
-pub mod SameLemmas
-pub mod TextLemmas
 pub mod CopyLemmas
-pub mod ChainLemmas
+mod PageLemmas
+mod VariableParts
+mod LinkParts
+mod ArithmeticParts
+mod ListParts
+mod TermParts
+mod TextParts
 mod SayableLemmas
 mod SaidLemmas
 mod SaidConnected

@@ -1,5 +1,7 @@
 pub mod Unplaced
-pub mod SameParts
+pub mod Copied
 pub mod Printing
 pub mod Words
+pub mod Page
+pub mod Parts
 pub mod Sayable

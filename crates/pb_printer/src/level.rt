@@ -1,6 +1,7 @@
 //! Where an expression stands, and whether it needs brackets there.
 
-ghost use Rattle.std.specs.Prelude.{◌≡◌};
+ghost use Rattle.std.specs.Prelude.{◌≡◌, false};
+ghost use Rattle.pb_printer.specs.Parts as parts;
 ghost use Rattle.pb_printer.specs.Words as words;
 
 use pb_ast::{Arithmetic, Comparison, Connective};
@@ -38,27 +39,22 @@ impl Level {
 #[derive(Clone, Copy, Debug)]
 pub struct Position {
     pub level: Level,
-    pub open: bool,
+    pub ends: bool,
 }
 
 impl Position {
-    /// Where any expression may stand: between brackets, behind a quantifier, as a whole.
-    pub const WHOLE: Position = Position {
-        level: Level::Implication,
-        open: true,
-    };
-
     /// Where no quantifier may end the expression.
-    pub fn closed(level: Level) -> Position {
-        Position { level, open: false }
+    pub fn closed(level: Level) -> Position
+        ensures { result ≡ record { level = level; ends = false } }
+    {
+        Position { level, ends: false }
     }
 
-    /// Where the last operand of a chain stands that stands here.
-    pub fn last(self, level: Level) -> Position {
-        Position {
-            level,
-            open: self.open,
-        }
+    /// Where the last operand of a chain stands, which a quantifier may end or not.
+    pub fn last(level: Level, ends: bool) -> Position
+        ensures { result ≡ record { level = level; ends = ends } }
+    {
+        Position { level, ends }
     }
 }
 
@@ -95,20 +91,31 @@ pub fn arithmetic_levels(operator: Arithmetic) -> (Level, Level)
     }
 }
 
-/// Operators of arithmetic that may stand in one chain.
-#[derive(Clone, Copy, Debug, PartialEq, Eq)]
-pub enum Group {
-    Additive,
-    Times,
-    Division,
+/// Whether an operator may stand in a chain with another.
+pub fn chains_with(operator: Arithmetic, other: Arithmetic) -> bool
+    ensures { result ≡ words.chains_with operator (words.arithmetic_word other).kind }
+{
+    match operator {
+        Arithmetic::Plus | Arithmetic::Minus => {
+            matches!(other, Arithmetic::Plus | Arithmetic::Minus)
+        }
+        Arithmetic::Times => matches!(other, Arithmetic::Times),
+        Arithmetic::Div | Arithmetic::Mod => matches!(other, Arithmetic::Div | Arithmetic::Mod),
+    }
 }
 
-/// With which operators one may stand in a chain.
-pub fn arithmetic_group(operator: Arithmetic) -> Group {
-    match operator {
-        Arithmetic::Plus | Arithmetic::Minus => Group::Additive,
-        Arithmetic::Times => Group::Times,
-        Arithmetic::Div | Arithmetic::Mod => Group::Division,
+/// Whether what an operator computes stands without brackets before another, where there is one.
+pub fn continues(before: Option<Arithmetic>, next: Arithmetic) -> bool
+    ensures { result ≡ parts.continues before next }
+{
+    match before {
+        None => true,
+        Some(operator) => {
+            chains_with(next, operator)
+                || arithmetic_levels(operator)
+                    .0
+                    .fits(arithmetic_levels(next).1)
+        }
     }
 }
 

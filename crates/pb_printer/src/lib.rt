@@ -1,17 +1,14 @@
 //! Prints texts, and copies data terms.
 //!
-//! A text is printed with brackets only where the grammar needs them to be read as the same tree. Whatever is printed
-//! has been read back and compared, so that it says the same but for places: `specs/Unplaced.antt` says what that is.
+//! A text is printed with brackets only where the grammar needs them to be read as the same tree: `specs/Words.antt` says
+//! what is written. What is printed of a text that was read is read back as that text but for places, and
+//! `specs/Unplaced.antt` says what that is.
 #![tactic(auto)]
 
-mod error;
 mod formula;
 mod laws;
 mod level;
 mod printing;
-mod same_formula;
-mod same_term;
-mod same_text;
 #[cfg(test)]
 mod stack_tests;
 mod term;
@@ -19,9 +16,9 @@ mod term_copy;
 #[cfg(test)]
 mod tests;
 mod text;
+mod variables;
 mod writer;
 
-pub use error::PrintError;
 pub use laws::{printed_text_is_read_back, printed_words_are_read_back};
 pub use printing::print;
 pub use term_copy::copy;

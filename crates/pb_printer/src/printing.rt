@@ -1,40 +1,25 @@
-//! Prints a text, and reads it back before it is handed out.
+//! Prints a text.
 
-ghost use Rattle.std.specs.Prelude.{IfOk};
+ghost use Rattle.std.specs.Prelude.{◌≡◌, ℕ, List, IfOk};
 ghost use Rattle.pb_ast.specs.Form.{spec_form};
+ghost use Rattle.pb_text.specs.Parsing.{IsReading};
 ghost use Rattle.pb_printer.specs.Printing.{ReadsAs};
+ghost use Rattle.pb_printer.specs.Words.{text_bytes};
 
-use crate::error::PrintError;
-use crate::same_text::same_text;
 use crate::text::write_text;
 use pb_ast::Spec;
-use pb_text::{TextError, parse};
-use std::alloc::Global;
-
-/// The longest text that is read, in bytes.
-const LONGEST_TEXT: usize = 67_108_864;
+use std::alloc::{AllocError, Global};
 
 /// The text of a tree, with brackets only where the grammar needs them to be read as the same tree.
 ///
-/// Ranges come first, each on its line, then sorts, equations and the initial instance. The text has been read back:
-/// it says the same but for places. `PrintError::Unreadable` tells that no text within the limits was found that does,
-/// as of a tree with a name that is a reserved word; a tree that was read is printed.
-pub fn print(alloc: Global, spec: &Spec) -> Result<Vec<u8>, PrintError>
-    ensures { IfOk result (λ v. ReadsAs v.items (spec_form spec.now)) }
+/// Ranges come first, each on its line, then sorts, equations and the initial instance. What is printed of a tree that
+/// was read is read back as that tree but for places.
+///
+/// # Errors
+/// Memory was refused.
+pub fn print(alloc: Global, spec: &Spec) -> Result<Vec<u8>, AllocError>
+    ensures written { IfOk result (λ text. text.items ≡ text_bytes (spec_form spec.now)) }
+    ensures read_back { IfOk result (λ text. (bytes : List ℕ) → IsReading bytes (spec_form spec.now) → ReadsAs text.items (spec_form spec.now)) }
 {
-    let text = write_text(alloc, spec)?.into_bytes();
-    if text.len() > LONGEST_TEXT {
-        return Err(PrintError::Unreadable);
-    }
-    match parse(alloc, &text) {
-        Ok(read) => {
-            if same_text(spec, &read) {
-                Ok(text)
-            } else {
-                Err(PrintError::Unreadable)
-            }
-        }
-        Err(TextError::Memory) => Err(PrintError::Memory),
-        Err(TextError::Refused { .. }) => Err(PrintError::Unreadable),
-    }
+    Ok(write_text(alloc, spec)?.into_bytes())
 }

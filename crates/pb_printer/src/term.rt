@@ -1,19 +1,24 @@
-//! Writes data terms, variables and instances.
+//! Writes data terms and instances.
 
-ghost use Rattle.std.specs.Prelude.{◌≡◌};
-ghost use Rattle.pb_printer.specs.Words.{term_side};
+ghost use Rattle.std.specs.Prelude.{◌≡◌, ◌∷◌, [], None};
+ghost use Rattle.std.specs.Result.{OnOk};
+ghost use Rattle.pb_ast.specs.Form.{argument_forms, arithmetic_links, instance_form, term_form, term_links};
+ghost use Rattle.pb_printer.specs.Page.{after, page};
+ghost use Rattle.pb_printer.specs.Parts as parts;
+ghost use Rattle.pb_printer.specs.Words as words;
 
 use crate::level::{
-    Level, Position, arithmetic_group, arithmetic_levels, arithmetic_token, comparison_levels,
-    comparison_token, connective_level, connective_token,
+    Level, Position, arithmetic_levels, arithmetic_token, chains_with, comparison_levels,
+    comparison_token, connective_level, connective_token, continues,
 };
+use crate::variables::write_quantifier;
 use crate::writer::Writer;
-use pb_ast::{Argument, ArithmeticLink, Connective, Instance, Quantifier, Term, Variables};
+use pb_ast::{Argument, Arithmetic, ArithmeticLink, Connective, Instance, Term, TermLink};
 use std::alloc::{AllocError, Global};
 
 /// The level of the operands of a chain of terms.
 fn operand_level(connective: Connective) -> Level
-    ensures { result ≡ term_side connective }
+    ensures { result ≡ words.term_side connective }
 {
     match connective {
         Connective::Implies => Level::Disjunction,
@@ -23,68 +28,67 @@ fn operand_level(connective: Connective) -> Level
 }
 
 /// Whether a term stands without brackets at a position.
-fn stands(term: &Term, position: Position) -> bool {
+fn stands(term: &Term, position: Position) -> bool
+    ensures { result ≡ words.stands (term_form term.now) position.level position.ends }
+{
     match term {
-        Term::Chain { connective, .. } => connective_level(*connective).fits(position.level),
+        Term::Chain {
+            connective,
+            first,
+            links,
+        } => match links.first() {
+            Some(_) => connective_level(*connective).fits(position.level),
+            None => stands(first, position),
+        },
         Term::Comparison { comparison, .. } => {
             comparison_levels(*comparison).0.fits(position.level)
         }
-        Term::Arithmetic { links, .. } => match links.first() {
+        Term::Arithmetic { first, links } => match links.last() {
             Some(link) => arithmetic_levels(link.operator).0.fits(position.level),
-            None => false,
+            None => stands(first, position),
         },
-        Term::Quantified { .. } => position.open,
+        Term::Quantified { .. } => position.ends,
         _ => true,
     }
 }
 
-/// Whether the operators of a chain go on with those of its first operand, so that they are one chain without brackets.
-fn continues(first: &Term, links: &[ArithmeticLink]) -> bool {
-    match (first, links.first()) {
-        (Term::Arithmetic { links: before, .. }, Some(next)) => match before.first() {
-            Some(link) => arithmetic_group(link.operator) == arithmetic_group(next.operator),
-            None => false,
+/// Whether an operator goes on with the chain that a term is, so that they are one chain without brackets.
+fn goes_on(operator: Arithmetic, term: &Term) -> bool
+    ensures { result ≡ words.goes_on operator (term_form term.now) }
+{
+    match term {
+        Term::Chain { first, links, .. } => match links.first() {
+            Some(_) => false,
+            None => goes_on(operator, first),
+        },
+        Term::Arithmetic { first, links } => match links.last() {
+            Some(link) => chains_with(operator, link.operator),
+            None => goes_on(operator, first),
         },
         _ => false,
     }
 }
 
-/// Variables with their sorts.
-pub fn write_variables(out: &mut Writer, variables: &[Variables]) -> Result<(), AllocError> {
-    for (index, group) in variables.iter().enumerate() {
-        if index > 0 {
-            out.close(",")?;
-        }
-        for (index, name) in group.names.iter().enumerate() {
-            if index > 0 {
-                out.close(",")?;
-            }
-            out.word(name.text.as_str())?;
-        }
-        out.close(":")?;
-        out.word(group.sort.text.as_str())?;
-    }
-    Ok(())
-}
-
-/// A quantifier with its variables.
-pub fn write_quantifier(
-    out: &mut Writer,
-    quantifier: Quantifier,
-    variables: &[Variables],
-) -> Result<(), AllocError> {
-    let word = match quantifier {
-        Quantifier::Forall => "forall",
-        Quantifier::Exists => "exists",
-    };
-    out.word(word)?;
-    write_variables(out, variables)?;
-    out.close(".")
-}
-
 /// `true` or `false`.
-pub fn write_truth(out: &mut Writer, value: bool) -> Result<(), AllocError> {
-    out.word(if value { "true" } else { "false" })
+pub fn write_truth(out: &mut Writer, value: bool) -> Result<(), AllocError>
+    ensures { OnOk result (page out.new ≡ after (words.truth_word value ∷ []) (page out.old)) }
+{
+    if value {
+        out.word("true")
+    } else {
+        out.word("false")
+    }
+}
+
+/// What stands before an argument: the bracket before the first, and commas before the others.
+fn write_separator(out: &mut Writer, index: usize) -> Result<(), AllocError>
+    ensures { OnOk result (page out.new ≡ after (parts.separator index ∷ []) (page out.old)) }
+{
+    if index == 0 {
+        out.open_list()
+    } else {
+        out.close(",")
+    }
 }
 
 /// Arguments in brackets, or nothing where there are none.
@@ -93,16 +97,15 @@ fn write_arguments(
     out: &mut Writer,
     alloc: Global,
     arguments: &[Argument],
-) -> Result<(), AllocError> {
+) -> Result<(), AllocError>
+    ensures { OnOk result (page out.new ≡ after (words.list_words (argument_forms arguments.now)) (page out.old)) }
+{
     if arguments.is_empty() {
         return Ok(());
     }
-    out.open_list()?;
     for (index, argument) in arguments.iter().enumerate() {
-        if index > 0 {
-            out.close(",")?;
-        }
-        write_term(out, alloc, &argument.term, Position::WHOLE)?;
+        write_separator(out, index)?;
+        write_plain(out, alloc, &argument.term, true)?;
     }
     out.close(")")
 }
@@ -112,9 +115,105 @@ pub fn write_instance(
     out: &mut Writer,
     alloc: Global,
     instance: &Instance,
-) -> Result<(), AllocError> {
+) -> Result<(), AllocError>
+    ensures { OnOk result (page out.new ≡ after (words.instance_words (instance_form instance.now)) (page out.old)) }
+{
     out.word(instance.name.text.as_str())?;
     write_arguments(out, alloc, &instance.arguments)
+}
+
+/// The links of a chain, behind its first operand, where a quantifier may end the last or not.
+#[cycle(terms)]
+fn write_links(
+    out: &mut Writer,
+    alloc: Global,
+    connective: Connective,
+    links: &[TermLink],
+    ends: bool,
+) -> Result<(), AllocError>
+    ensures { OnOk result (page out.new ≡ after (parts.link_words connective ends (term_links links.now)) (page out.old)) }
+{
+    let side = Position::closed(operand_level(connective));
+    for (index, link) in links.iter().enumerate() {
+        out.word(connective_token(connective))?;
+        if index + 1 == links.len() {
+            let last = Position::last(connective_level(connective), ends);
+            return write_term(out, alloc, &link.operand, last);
+        }
+        write_term(out, alloc, &link.operand, side)?;
+    }
+    Ok(())
+}
+
+/// An opening bracket, unless what is behind it stands without.
+fn open_bracket(out: &mut Writer, stands: bool) -> Result<(), AllocError>
+    ensures { OnOk result (page out.new ≡ after (parts.bracket stands words.open_word) (page out.old)) }
+{
+    if stands { Ok(()) } else { out.open("(") }
+}
+
+/// A closing bracket, unless what is before it stands without.
+fn close_bracket(out: &mut Writer, stands: bool) -> Result<(), AllocError>
+    ensures { OnOk result (page out.new ≡ after (parts.bracket stands words.close_word) (page out.old)) }
+{
+    if stands { Ok(()) } else { out.close(")") }
+}
+
+/// The brackets that open before a chain of arithmetic for the operators whose left sides need them.
+fn open_brackets(out: &mut Writer, links: &[ArithmeticLink]) -> Result<(), AllocError>
+    ensures { OnOk result (page out.new ≡ after (parts.opened None (arithmetic_links links.now)) (page out.old)) }
+{
+    let mut before = None;
+    for link in links {
+        open_bracket(out, continues(before, link.operator))?;
+        before = Some(link.operator);
+    }
+    Ok(())
+}
+
+/// The links of a chain of arithmetic, each behind the bracket that closes before it, if one does.
+#[cycle(terms)]
+fn write_operations(
+    out: &mut Writer,
+    alloc: Global,
+    links: &[ArithmeticLink],
+) -> Result<(), AllocError>
+    ensures { OnOk result (page out.new ≡ after (parts.computed_words None (arithmetic_links links.now)) (page out.old)) }
+{
+    let mut before = None;
+    for link in links {
+        close_bracket(out, continues(before, link.operator))?;
+        write_operation(out, alloc, link)?;
+        before = Some(link.operator);
+    }
+    Ok(())
+}
+
+/// An operator with its right side.
+#[cycle(terms)]
+fn write_operation(out: &mut Writer, alloc: Global, link: &ArithmeticLink) -> Result<(), AllocError>
+    ensures { OnOk result (page out.new ≡ after (parts.operation_words link.now.operator (term_form link.now.operand)) (page out.old)) }
+{
+    out.word(arithmetic_token(link.operator))?;
+    let side = arithmetic_levels(link.operator).1;
+    write_term(out, alloc, &link.operand, Position::closed(side))
+}
+
+/// The left side of an operator.
+#[cycle(terms)]
+fn write_left(
+    out: &mut Writer,
+    alloc: Global,
+    operator: Arithmetic,
+    first: &Term,
+) -> Result<(), AllocError>
+    ensures { OnOk result (page out.new ≡ after (parts.left_words operator (term_form first.now)) (page out.old)) }
+{
+    if goes_on(operator, first) {
+        return write_plain(out, alloc, first, false);
+    }
+    let side = arithmetic_levels(operator).1;
+    write_term(out, alloc, first, Position::closed(side))
 }
 
 /// A term, in brackets where it needs them at its position.
@@ -124,23 +223,27 @@ pub fn write_term(
     alloc: Global,
     term: &Term,
     position: Position,
-) -> Result<(), AllocError> {
+) -> Result<(), AllocError>
+    ensures { OnOk result (page out.new ≡ after (parts.placed_words (term_form term.now) position.level position.ends) (page out.old)) }
+{
     if stands(term, position) {
-        return write_plain(out, alloc, term, position);
+        return write_plain(out, alloc, term, position.ends);
     }
     out.open("(")?;
-    write_plain(out, alloc, term, Position::WHOLE)?;
+    write_plain(out, alloc, term, true)?;
     out.close(")")
 }
 
-/// A term without brackets around it.
+/// A term without brackets around it, which a quantifier may end or not.
 #[cycle(terms)]
-fn write_plain(
+pub fn write_plain(
     out: &mut Writer,
     alloc: Global,
     term: &Term,
-    position: Position,
-) -> Result<(), AllocError> {
+    ends: bool,
+) -> Result<(), AllocError>
+    ensures { OnOk result (page out.new ≡ after (words.term_words (term_form term.now) ends) (page out.old)) }
+{
     match term {
         Term::Constant { value, .. } => write_truth(out, *value),
         Term::Number { value, .. } => out.word(format!(in alloc; "{value}")?.as_str()),
@@ -157,47 +260,33 @@ fn write_plain(
             connective,
             first,
             links,
-        } => {
-            let level = operand_level(*connective);
-            write_term(out, alloc, first, Position::closed(level))?;
-            for (index, link) in links.iter().enumerate() {
-                out.word(connective_token(*connective))?;
-                let position = if index + 1 == links.len() {
-                    position.last(connective_level(*connective))
-                } else {
-                    Position::closed(level)
-                };
-                write_term(out, alloc, &link.operand, position)?;
+        } => match links.first() {
+            None => write_plain(out, alloc, first, ends),
+            Some(_) => {
+                let side = Position::closed(operand_level(*connective));
+                write_term(out, alloc, first, side)?;
+                write_links(out, alloc, *connective, links, ends)
             }
-            Ok(())
-        }
+        },
         Term::Comparison {
             comparison,
             left,
             right,
             ..
         } => {
-            let position = Position::closed(comparison_levels(*comparison).1);
-            write_term(out, alloc, left, position)?;
+            let side = Position::closed(comparison_levels(*comparison).1);
+            write_term(out, alloc, left, side)?;
             out.word(comparison_token(*comparison))?;
-            write_term(out, alloc, right, position)
+            write_term(out, alloc, right, side)
         }
-        Term::Arithmetic { first, links } => {
-            let level = match links.first() {
-                Some(link) => arithmetic_levels(link.operator).1,
-                None => Level::Unary,
-            };
-            if continues(first, links) {
-                write_plain(out, alloc, first, position)?;
-            } else {
-                write_term(out, alloc, first, Position::closed(level))?;
+        Term::Arithmetic { first, links } => match links.first() {
+            None => write_plain(out, alloc, first, ends),
+            Some(link) => {
+                open_brackets(out, links)?;
+                write_left(out, alloc, link.operator, first)?;
+                write_operations(out, alloc, links)
             }
-            for link in links {
-                out.word(arithmetic_token(link.operator))?;
-                write_term(out, alloc, &link.operand, Position::closed(level))?;
-            }
-            Ok(())
-        }
+        },
         Term::Application {
             function,
             arguments,
@@ -212,7 +301,7 @@ fn write_plain(
             ..
         } => {
             write_quantifier(out, *quantifier, variables)?;
-            write_term(out, alloc, body, Position::WHOLE)
+            write_plain(out, alloc, body, true)
         }
     }
 }

@@ -2,7 +2,7 @@
 
 ghost use Rattle.std.specs.Prelude.{◌≡◌, map, IfOk};
 ghost use Rattle.pb_ast.specs.Form.{named, variables_form, term_form, term_links, arithmetic_links};
-ghost use Rattle.pb_printer.specs.SameParts.{placed_argument};
+ghost use Rattle.pb_printer.specs.Copied.{placed_argument};
 
 use pb_ast::{Argument, ArithmeticLink, Name, Term, TermLink, Variables};
 use std::alloc::{AllocError, Global};

@@ -2,7 +2,7 @@
 
 ghost use Rattle.std.specs.Prelude.{◌<◌, length};
 
-use crate::{PrintError, copy, print};
+use crate::{copy, print};
 use pb_ast::{Formula, Spec, Term};
 use pb_text::parse;
 use std::alloc::Global;
@@ -110,13 +110,13 @@ fn drops_brackets_of_terms(rt: HostRuntime) -> Result<(), Fail> {
 }
 
 #[test]
-fn refuses_what_no_text_says(rt: HostRuntime) -> Result<(), Fail> {
-    let a = rt.alloc();
-    let mut spec = read(&rt, a, "pbes mu X = X; init X;")?;
-    spec.initial.name.text = "mu".to_owned(a)?;
-    let printed = print(a, &spec);
-    assert!(rt; matches!(printed, Err(PrintError::Unreadable)));
-    Ok(())
+fn joins_groups_of_one_sort(rt: HostRuntime) -> Result<(), Fail> {
+    prints(
+        &rt,
+        rt.alloc(),
+        "pbes mu X(n: Nat, m: Nat, b: Bool, k: Nat) = X(n, m, b, k); init X(0, 1, true, 2);",
+        "pbes\nmu X(n, m: Nat, b: Bool, k: Nat) = X(n, m, b, k);\ninit X(0, 1, true, 2);\n",
+    )
 }
 
 #[test]

@@ -1,7 +1,7 @@
 use Rattle.std.proofs.Common.{rules, ◌≡◌, ◌∙◌, map, ap}
 use Rattle.std.specs.Prelude.{box_value}
 use Rattle.pb_ast.specs.Form.{term_form, term_links, arithmetic_links, variables_form}
-use Rattle.pb_printer.specs.SameParts.{placed_argument}
+use Rattle.pb_printer.specs.Copied.{placed_argument}
 use Rattle.pb_printer.proofs.CopyLemmas.{chain-copied, arithmetic-copied, application-copied, quantified-copied}
 use Rattle.pb_printer.proofs.term_copy.+terms.Goals as goal
 

@@ -1,6 +1,6 @@
 use Rattle.std.proofs.Common.{◌≡◌, ◌++◌, drop, map}
 use Rattle.pb_ast.specs.Form.{term_links, arithmetic_links}
-use Rattle.pb_printer.specs.SameParts.{placed_argument}
+use Rattle.pb_printer.specs.Copied.{placed_argument}
 use Rattle.pb_printer.proofs.term_copy.+terms.Given as goal
 
 abbrev pub invariant-copy_links-loop-link : goal.invariant-copy_links-loop-link

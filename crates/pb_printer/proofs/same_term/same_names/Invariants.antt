@@ -1,6 +1,0 @@
-use Rattle.pb_printer.specs.SameParts.{unplaced_name_of}
-use Rattle.pb_printer.proofs.ListLemmas.{IsSameFrom}
-use Rattle.pb_printer.proofs.same_term.same_names.Given as goal
-
-abbrev pub invariant-loop-index : goal.invariant-loop-index
-invariant-loop-index l = IsSameFrom unplaced_name_of l.a l.b l.index
