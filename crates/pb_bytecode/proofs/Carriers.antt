@@ -6,7 +6,7 @@ use Rattle.std.proofs.Props.{props}
 use Rattle.std.proofs.lemmas.Bool.{lt-ltb}
 use Rattle.std.proofs.lemmas.Option.{unwrap_or-slice_get}
 use Rattle.pb_sorts.specs.Carrier.{IsRange}
-use Rattle.pb_bytecode.specs.declared.fault.Rule.TheVariants as rule
+use Rattle.pb_bytecode.specs.declared.fault.ModuleRule.TheVariants as rule
 use Rattle.pb_sorts.specs.declared.carrier.Carrier.{Carrier}
 use Rattle.pb_sorts.specs.declared.carrier.Carrier.TheVariants as carrier
 use Rattle.pb_sorts.specs.declared.carrier.Range.{Range}

@@ -12,7 +12,7 @@ use Rattle.std.proofs.lemmas.List.{length-map}
 use Rattle.std.proofs.Common.{Ok, Err, append_assoc}
 use Rattle.std.proofs.lemmas.List.{append-nil}
 use Rattle.std.proofs.Math.ListN.{drop_of_length-le}
-use Rattle.pb_bytecode.specs.declared.fault.Rule.TheVariants as rule
+use Rattle.pb_bytecode.specs.declared.fault.ModuleRule.TheVariants as rule
 use Rattle.pb_bytecode.specs.declared.fault.ReadError.{ReadError}
 use Rattle.pb_bytecode.specs.declared.fault.ReadError.TheVariants as errors
 use Rattle.pb_bytecode.specs.Reading.{◌>>=◌, Fails, Field, params_at, byte_at, value_at, values_at, initial_at}
@@ -92,7 +92,7 @@ value_read front cs c i bytes rest z total h same r so_far =
 
 pub value_fails : (e : ReadError) (front : List ℤ) (cs : List Carrier) (c : Carrier) (i : ℕ) (bytes : List ℕ) (total : Field (List ℤ)) → i < length cs → c ≡ get_or cs i c → Fails e (value_at c bytes) → with_front front (values_at (drop i cs) bytes) ≡ total → Fails e total
 value_fails errors.Memory front cs c i bytes total h same f so_far = tt
-value_fails (errors.Fault e) front cs c i bytes total h same f so_far =
+value_fails (errors.ModuleFault e) front cs c i bytes total h same f so_far =
     let f' : value_at (get_or cs i c) bytes ≡ Err e = ap (λ x. value_at x bytes) (sym same) ∙ f in
     sym so_far ∙ ap (with_front front) (values_fold cs c i bytes h) ∙ rw f' refl
 
@@ -112,7 +112,7 @@ initial_read es d bytes rest after e params values p lt same q =
 pub initial_fails : (error : ReadError) (es : List Equation) (d : Equation) (bytes rest : List ℕ) (e : ℕ) (params : List Carrier) → byte_at bytes ≡ Ok (e, rest) → e < length es → params ≡ (get_or es e d).params.items → Fails error (values_at params rest) → Fails error (initial_at (map equation_contents es) bytes)
 unfolding initial_at
 initial_fails errors.Memory es d bytes rest e params p lt same q = tt
-initial_fails (errors.Fault f) es d bytes rest e params p lt same q =
+initial_fails (errors.ModuleFault f) es d bytes rest e params p lt same q =
     let there : nat_lt e (length (map equation_contents es)) ≡ true = lt-ltb _ _ (rw length-map lt) in
     let q' : values_at (params_at (map equation_contents es) e) rest ≡ Err f = rw (params_here es e d lt, sym same) q in
     rw (p, there, q') refl

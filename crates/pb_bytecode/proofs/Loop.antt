@@ -24,7 +24,7 @@ module _ {A : Type 0} (item : List ℕ → Field A) where
   pub ends : (e : ReadError) (front : List A) (count i : ℕ) (bytes : List ℕ) (total : Field (List A)) → i < count → Fails e (item bytes)
       → with_front front (items_at item (count - i) bytes) ≡ total → Fails e total
   ends errors.Memory front count i bytes total lt h so_far = tt
-  ends (errors.Fault f) front count i bytes total lt h so_far =
+  ends (errors.ModuleFault f) front count i bytes total lt h so_far =
       let k : count - i ≡ suc (count - (i + 1)) = omega arith in
       let one : with_front front (items_at item (count - i) bytes) ≡ Err f = rw (k, h) refl in
       sym so_far ∙ one

@@ -1,6 +1,6 @@
 -- What a decoder answers.
 use Rattle.std.specs.Prelude.{◌≡◌, ℕ, ◌+◌, List, length, Result, Ok, Err}
-use Rattle.pb_bytecode.specs.declared.fault.Rule.{Rule}
+use Rattle.pb_bytecode.specs.declared.fault.ModuleRule.{ModuleRule}
 use Rattle.pb_bytecode.specs.declared.fault.ModuleError.{ModuleError}
 use Rattle.pb_bytecode.specs.declared.fault.ModuleError.TheVariants as errors
 use Rattle.pb_bytecode.specs.declared.module.Module.{Module}
@@ -13,7 +13,7 @@ abbrev pub module_contents : Module → Contents
 module_contents m = contents_of m.version m.sorts.items m.equations.items m.initial
 
 -- reading from the left meets this fault first, in the field that begins at this byte
-pub record FaultStands (bytes : List ℕ) (r : Rule) (byte : ℕ) : Type 0 where
+pub record FaultStands (bytes : List ℕ) (r : ModuleRule) (byte : ℕ) : Type 0 where
   pub left : ℕ
   pub first : all_of bytes ≡ Err (record { rule = r; left = left })
   pub place : byte + left ≡ length bytes
@@ -21,10 +21,10 @@ pub record FaultStands (bytes : List ℕ) (r : Rule) (byte : ℕ) : Type 0 where
 -- an error other than want of memory is the first fault
 abbrev pub IsFirstFault : List ℕ → ModuleError → Type 0
 IsFirstFault bytes errors.Memory = Unit {0}
-IsFirstFault bytes (errors.Fault r byte) = FaultStands bytes r byte
+IsFirstFault bytes (errors.ModuleFault r byte) = FaultStands bytes r byte
 
 -- this module, or want of memory
 abbrev pub IsModuleOf : Contents → Result Module ModuleError → Type 0
 IsModuleOf m (Ok decoded) = module_contents decoded ≡ m
 IsModuleOf m (Err errors.Memory) = Unit {0}
-IsModuleOf m (Err (errors.Fault r byte)) = ⊥
+IsModuleOf m (Err (errors.ModuleFault r byte)) = ⊥

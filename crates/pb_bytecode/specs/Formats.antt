@@ -1,11 +1,11 @@
 -- The codes of instructions, and what follows each of them.
 use Rattle.std.specs.Prelude.{ℕ, ◌==◌, List, [], ◌∷◌, true, false, Option, Some, None, slice_get, if◌then◌else◌}
-use Rattle.pb_code.specs.declared.instruction.Op.TheVariants as op
-use Rattle.pb_code.specs.declared.instruction.Arithmetic.TheVariants as arithmetic
-use Rattle.pb_code.specs.declared.instruction.Comparison.TheVariants as comparison
-use Rattle.pb_code.specs.declared.instruction.Connective.TheVariants as connective
-use Rattle.pb_code.specs.declared.instruction.Equality.TheVariants as equality
-use Rattle.pb_code.specs.declared.instruction.Leaf.TheVariants as leaf
+use Rattle.pb_bytecode_program.specs.declared.instruction.Op.TheVariants as op
+use Rattle.pb_bytecode_program.specs.declared.instruction.Arithmetic.TheVariants as arithmetic
+use Rattle.pb_bytecode_program.specs.declared.instruction.Comparison.TheVariants as comparison
+use Rattle.pb_bytecode_program.specs.declared.instruction.Connective.TheVariants as connective
+use Rattle.pb_bytecode_program.specs.declared.instruction.Equality.TheVariants as equality
+use Rattle.pb_bytecode_program.specs.declared.instruction.Leaf.TheVariants as leaf
 use Rattle.pb_bytecode.specs.declared.version.Version.{Version}
 use Rattle.pb_bytecode.specs.declared.version.Version.TheVariants as version
 use Rattle.pb_bytecode.specs.declared.format.Format.{Format}

@@ -9,8 +9,8 @@ use Rattle.pb_sorts.specs.Carrier.{values_of}
 use Rattle.pb_sorts.specs.Instance.{number_of}
 use Rattle.pb_sorts.specs.Layout.{carriers_of}
 use Rattle.pb_sorts.specs.declared.carrier.Carrier.{Carrier}
-use Rattle.pb_code.specs.Machine.{Program}
-use Rattle.pb_code.specs.Safety.{AreArguments, EndsWith}
+use Rattle.pb_bytecode_program.specs.Machine.{Program}
+use Rattle.pb_bytecode_program.specs.Safety.{AreArguments, EndsWith}
 use Rattle.pb_bytecode.specs.Contents.{EquationContents, Contents, counts}
 
 -- the carriers of each equation's parameters

@@ -10,16 +10,16 @@ use Rattle.pb_fixpoint.specs.declared.Sign.TheVariants.{Mu, Nu}
 use Rattle.pb_sorts.specs.Carrier.{values_of}
 use Rattle.pb_sorts.specs.declared.carrier.Carrier.{Carrier}
 use Rattle.pb_sorts.specs.declared.carrier.Carrier.TheVariants as carrier
-use Rattle.pb_code.specs.declared.instruction.Op.{Op}
-use Rattle.pb_code.specs.declared.instruction.Op.TheVariants as op
-use Rattle.pb_code.proofs.Ints.{le_true}
+use Rattle.pb_bytecode_program.specs.declared.instruction.Op.{Op}
+use Rattle.pb_bytecode_program.specs.declared.instruction.Op.TheVariants as op
+use Rattle.pb_bytecode_program.proofs.Ints.{le_true}
 use Rattle.pb_bytecode.specs.declared.version.Version.{Version}
 use Rattle.pb_bytecode.specs.declared.version.Version.TheVariants as version
 use Rattle.pb_bytecode.specs.declared.format.Format.{Format}
 use Rattle.pb_bytecode.specs.declared.format.Format.TheVariants as format
-use Rattle.pb_bytecode.specs.declared.fault.Rule.{Rule}
-use Rattle.pb_bytecode.specs.declared.fault.Rule.TheVariants as rule
-use Rattle.pb_bytecode.specs.declared.fault.Fault.{Fault}
+use Rattle.pb_bytecode.specs.declared.fault.ModuleRule.{ModuleRule}
+use Rattle.pb_bytecode.specs.declared.fault.ModuleRule.TheVariants as rule
+use Rattle.pb_bytecode.specs.declared.fault.ModuleFault.{ModuleFault}
 use Rattle.pb_bytecode.specs.declared.fault.ReadError.{ReadError}
 use Rattle.pb_bytecode.specs.declared.fault.ReadError.TheVariants as errors
 use Rattle.pb_bytecode.specs.Contents.{Text, SortContents, EquationContents, InitialContents, Contents, counts}
@@ -29,34 +29,34 @@ use Rattle.pb_bytecode.specs.Limits.{is_between, count_of, params_of, instance_c
 use Rattle.pb_bytecode.specs.Spelling.{mark}
 
 infixl 10 ◌>>=◌
-abbrev pub ◌>>=◌ : {A B : Type 0} → Result A Fault → (A → Result B Fault) → Result B Fault
+abbrev pub ◌>>=◌ : {A B : Type 0} → Result A ModuleFault → (A → Result B ModuleFault) → Result B ModuleFault
 (Ok x) >>= f = f x
 (Err e) >>= f = Err e
 
 -- what a function returned, seen by view, is what reading gives, unless memory ran out
-abbrev pub Fails : {Y : Type 0} → ReadError → Result Y Fault → Type 0
+abbrev pub Fails : {Y : Type 0} → ReadError → Result Y ModuleFault → Type 0
 Fails errors.Memory read = Unit {0}
-Fails (errors.Fault f) read = read ≡ Err f
+Fails (errors.ModuleFault f) read = read ≡ Err f
 
-abbrev pub Gives : {X Y : Type 0} → (X → Y) → Result X ReadError → Result Y Fault → Type 0
+abbrev pub Gives : {X Y : Type 0} → (X → Y) → Result X ReadError → Result Y ModuleFault → Type 0
 Gives view (Ok x) read = read ≡ Ok (view x)
 Gives view (Err e) read = Fails e read
 
 -- a value and the bytes behind it
 abbrev pub Field : Type 0 → Type 0
-Field A = Result (A × List ℕ) Fault
+Field A = Result (A × List ℕ) ModuleFault
 
 -- the input ends in a field, so that no byte is left
-abbrev pub truncated : Fault
+abbrev pub truncated : ModuleFault
 truncated = record { rule = rule.Truncated; left = 0 }
 
 -- the value, where there is one; else the fault stands where the field begins
-abbrev pub known : {A : Type 0} → Option A → Rule → List ℕ → List ℕ → Field A
+abbrev pub known : {A : Type 0} → Option A → ModuleRule → List ℕ → List ℕ → Field A
 known None r field rest = Err (record { rule = r; left = length field })
 known (Some x) r field rest = Ok (x, rest)
 
 -- a field whose value has to be one that f knows
-abbrev pub checked : {A B : Type 0} → (List ℕ → Field A) → (A → Option B) → Rule → List ℕ → Field B
+abbrev pub checked : {A B : Type 0} → (List ℕ → Field A) → (A → Option B) → ModuleRule → List ℕ → Field B
 checked read f r bytes = read bytes >>= λ x. known (f x.0) r bytes x.1
 
 -- the value, where it passes the test
@@ -265,7 +265,7 @@ contents_at bytes = do
   Ok (record { version = v.0; sorts = sorts.0; equations = equations.0; initial = initial.0 }, initial.1)
 
 -- all of the bytes
-unfoldable pub all_of : List ℕ → Result Contents Fault
+unfoldable pub all_of : List ℕ → Result Contents ModuleFault
 all_of bytes = do
   m ← contents_at bytes
   if length m.1 == 0 then Ok m.0 else Err (record { rule = rule.Trailing; left = length m.1 })

@@ -6,18 +6,18 @@ use Rattle.pb_fixpoint.specs.declared.Sign.{Sign}
 use Rattle.pb_fixpoint.specs.declared.Sign.TheVariants.{Mu, Nu}
 use Rattle.pb_sorts.specs.declared.carrier.Carrier.{Carrier}
 use Rattle.pb_sorts.specs.declared.carrier.Carrier.TheVariants as carrier
-use Rattle.pb_code.specs.declared.instruction.Op.{Op}
-use Rattle.pb_code.specs.declared.instruction.Op.TheVariants as op
-use Rattle.pb_code.specs.declared.instruction.Arithmetic.{Arithmetic}
-use Rattle.pb_code.specs.declared.instruction.Arithmetic.TheVariants as arithmetic
-use Rattle.pb_code.specs.declared.instruction.Comparison.{Comparison}
-use Rattle.pb_code.specs.declared.instruction.Comparison.TheVariants as comparison
-use Rattle.pb_code.specs.declared.instruction.Connective.{Connective}
-use Rattle.pb_code.specs.declared.instruction.Connective.TheVariants as connective
-use Rattle.pb_code.specs.declared.instruction.Equality.{Equality}
-use Rattle.pb_code.specs.declared.instruction.Equality.TheVariants as equality
-use Rattle.pb_code.specs.declared.instruction.Leaf.{Leaf}
-use Rattle.pb_code.specs.declared.instruction.Leaf.TheVariants as leaf
+use Rattle.pb_bytecode_program.specs.declared.instruction.Op.{Op}
+use Rattle.pb_bytecode_program.specs.declared.instruction.Op.TheVariants as op
+use Rattle.pb_bytecode_program.specs.declared.instruction.Arithmetic.{Arithmetic}
+use Rattle.pb_bytecode_program.specs.declared.instruction.Arithmetic.TheVariants as arithmetic
+use Rattle.pb_bytecode_program.specs.declared.instruction.Comparison.{Comparison}
+use Rattle.pb_bytecode_program.specs.declared.instruction.Comparison.TheVariants as comparison
+use Rattle.pb_bytecode_program.specs.declared.instruction.Connective.{Connective}
+use Rattle.pb_bytecode_program.specs.declared.instruction.Connective.TheVariants as connective
+use Rattle.pb_bytecode_program.specs.declared.instruction.Equality.{Equality}
+use Rattle.pb_bytecode_program.specs.declared.instruction.Equality.TheVariants as equality
+use Rattle.pb_bytecode_program.specs.declared.instruction.Leaf.{Leaf}
+use Rattle.pb_bytecode_program.specs.declared.instruction.Leaf.TheVariants as leaf
 use Rattle.pb_bytecode.specs.declared.version.Version.{Version}
 use Rattle.pb_bytecode.specs.declared.version.Version.TheVariants as version
 use Rattle.pb_bytecode.specs.Contents.{Text, SortContents, EquationContents, InitialContents, Contents}

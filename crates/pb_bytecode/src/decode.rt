@@ -8,7 +8,7 @@ ghost use Rattle.pb_bytecode.specs.Spelling.{spelling};
 ghost use Rattle.pb_bytecode.specs.Views.{contents_of};
 
 use crate::equation::Equation;
-use crate::fault::{ModuleError, ReadError, Rule};
+use crate::fault::{ModuleError, ModuleRule, ReadError};
 use crate::initial::Initial;
 use crate::module::Module;
 use crate::reading::{equations_at, fault, initial_at, sizes_of, sorts_at, truncated, u8_at};
@@ -26,10 +26,10 @@ fn mark_at(bytes: &[u8]) -> Result<&[u8], ReadError>
 {
     match bytes {
         [b'P', b'B', b'E', b'S', rest @ ..] => Ok(rest),
-        [b'P', b'B', b'E', _, ..] => Err(fault(Rule::Mark, &bytes[3..])),
-        [b'P', b'B', _, _, ..] => Err(fault(Rule::Mark, &bytes[2..])),
-        [b'P', _, _, _, ..] => Err(fault(Rule::Mark, &bytes[1..])),
-        [_, _, _, _, ..] => Err(fault(Rule::Mark, bytes)),
+        [b'P', b'B', b'E', _, ..] => Err(fault(ModuleRule::Mark, &bytes[3..])),
+        [b'P', b'B', _, _, ..] => Err(fault(ModuleRule::Mark, &bytes[2..])),
+        [b'P', _, _, _, ..] => Err(fault(ModuleRule::Mark, &bytes[1..])),
+        [_, _, _, _, ..] => Err(fault(ModuleRule::Mark, bytes)),
         _ => Err(truncated()),
     }
 }
@@ -42,7 +42,7 @@ fn version_at(bytes: &[u8]) -> Result<(Version, &[u8]), ReadError>
     match number {
         1 => Ok((Version::One, rest)),
         2 => Ok((Version::Two, rest)),
-        _ => Err(fault(Rule::Version, bytes)),
+        _ => Err(fault(ModuleRule::Version, bytes)),
     }
 }
 
@@ -63,7 +63,7 @@ fn fields(
     if rest.is_empty() {
         Ok((version, sorts, equations, initial))
     } else {
-        Err(fault(Rule::Trailing, rest))
+        Err(fault(ModuleRule::Trailing, rest))
     }
 }
 
@@ -87,8 +87,8 @@ pub fn decode(alloc: Global, bytes: &[u8]) -> Result<Module, ModuleError>
             initial,
         }),
         Err(ReadError::Memory) => Err(ModuleError::Memory),
-        Err(ReadError::Fault(fault)) => {
-            Err(ModuleError::Fault {
+        Err(ReadError::ModuleFault(fault)) => {
+            Err(ModuleError::ModuleFault {
                 rule: fault.rule,
                 byte: bytes.len() - fault.left,
             })

@@ -13,7 +13,7 @@ use crate::module::Module;
 use crate::name::Name;
 use crate::sort::Sort;
 use crate::version::Version;
-use pb_code::{Arithmetic, Comparison, Connective, Equality, Leaf, Op};
+use pb_bytecode_program::{Arithmetic, Comparison, Connective, Equality, Leaf, Op};
 use pb_fixpoint::Sign;
 use pb_sorts::Carrier;
 use std::alloc::{AllocError, Global};

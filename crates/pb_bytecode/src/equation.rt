@@ -1,7 +1,7 @@
 //! Equations of a module.
 
 use crate::name::Name;
-use pb_code::Op;
+use pb_bytecode_program::Op;
 use pb_fixpoint::Sign;
 use pb_sorts::Carrier;
 

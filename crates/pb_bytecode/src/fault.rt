@@ -7,7 +7,7 @@ use std::fmt;
 
 /// What is wrong with the bytes.
 #[derive(Clone, Copy, Debug, PartialEq, Eq)]
-pub enum Rule {
+pub enum ModuleRule {
     /// B01: the first bytes aren't the format's mark.
     Mark,
     /// B02: the version is neither 1 nor 2.
@@ -24,7 +24,7 @@ pub enum Rule {
     Initial,
 }
 
-impl Rule {
+impl ModuleRule {
     ghost use Rattle.pb_bytecode.specs.RuleNumber.{rule_number};
 
     /// The rule's number, as `B01`.
@@ -32,18 +32,18 @@ impl Rule {
         ensures { result.now ≡ rule_number self }
     {
         match self {
-            Rule::Mark => "B01",
-            Rule::Version => "B02",
-            Rule::Truncated => "B03",
-            Rule::UnknownOp => "B04",
-            Rule::Limit => "B05",
-            Rule::Trailing => "B06",
-            Rule::Initial => "B07",
+            ModuleRule::Mark => "B01",
+            ModuleRule::Version => "B02",
+            ModuleRule::Truncated => "B03",
+            ModuleRule::UnknownOp => "B04",
+            ModuleRule::Limit => "B05",
+            ModuleRule::Trailing => "B06",
+            ModuleRule::Initial => "B07",
         }
     }
 }
 
-impl fmt::Display for Rule {
+impl fmt::Display for ModuleRule {
     fn fmt<W: fmt::Write>(&self, f: &mut fmt::Formatter<W>) -> fmt::Result {
         f.write_str(self.number())
     }
@@ -51,8 +51,8 @@ impl fmt::Display for Rule {
 
 /// A fault, and how many bytes are left from the beginning of its field on.
 #[derive(Clone, Copy, Debug, PartialEq, Eq)]
-pub(crate) struct Fault {
-    pub(crate) rule: Rule,
+pub(crate) struct ModuleFault {
+    pub(crate) rule: ModuleRule,
     pub(crate) left: usize,
 }
 
@@ -60,7 +60,7 @@ pub(crate) struct Fault {
 #[derive(Debug, Drop)]
 pub(crate) enum ReadError {
     Memory,
-    Fault(Fault),
+    ModuleFault(ModuleFault),
 }
 
 impl From<AllocError> for ReadError {
@@ -86,14 +86,14 @@ pub enum ModuleError {
     Memory,
     /// The first fault from the left, and the byte at which its field begins, counted from 0. Where the input ends
     /// inside a field it is the input's length, and where the mark is wrong the first byte that differs.
-    Fault { rule: Rule, byte: usize },
+    ModuleFault { rule: ModuleRule, byte: usize },
 }
 
 impl fmt::Display for ModuleError {
     fn fmt<W: fmt::Write>(&self, f: &mut fmt::Formatter<W>) -> fmt::Result {
         match self {
             ModuleError::Memory => f.write_str("M01"),
-            ModuleError::Fault { rule, byte } => write!(f, "{rule} byte {byte}"),
+            ModuleError::ModuleFault { rule, byte } => write!(f, "{rule} byte {byte}"),
         }
     }
 }

@@ -3,7 +3,7 @@ ghost use Rattle.std.specs.Prelude.{◌≡◌};
 ghost use Rattle.pb_bytecode.specs.Formats.{format_of};
 
 use crate::version::Version;
-use pb_code::{Arithmetic, Comparison, Connective, Equality, Leaf, Op};
+use pb_bytecode_program::{Arithmetic, Comparison, Connective, Equality, Leaf, Op};
 
 /// What follows an instruction's code.
 #[derive(Clone, Copy, Debug)]

@@ -19,7 +19,7 @@ pub mod sort;
 pub mod version;
 
 pub use equation::Equation;
-pub use fault::{ModuleError, Rule};
+pub use fault::{ModuleError, ModuleRule};
 pub use initial::Initial;
 pub use module::Module;
 pub use name::Name;

@@ -3,7 +3,7 @@
 use crate::equation::Equation;
 use crate::module::Module;
 use crate::sort::Sort;
-use pb_code::{Arithmetic, Comparison, Connective, Equality, Leaf, Op};
+use pb_bytecode_program::{Arithmetic, Comparison, Connective, Equality, Leaf, Op};
 use pb_fixpoint::Sign;
 use pb_sorts::Carrier;
 use std::alloc::{AllocError, Global};

@@ -2,10 +2,10 @@
 
 use crate::decode::decode;
 use crate::encode::encode;
-use crate::fault::{ModuleError, Rule};
+use crate::fault::{ModuleError, ModuleRule};
 use crate::list::list;
 use crate::version::Version;
-use pb_code::{Arithmetic, Leaf, Op};
+use pb_bytecode_program::{Arithmetic, Leaf, Op};
 use std::alloc::Global;
 use std::process::Abort;
 use std::test::Fail;
@@ -41,10 +41,10 @@ const DIVIDES: [u8; 55] = [
     0x00, 0x00, 0x00, 0x00, 0x00, 0x00, 0x00,
 ];
 
-fn assert_fault(rt: &impl Abort, alloc: Global, bytes: &[u8], rule: Rule, byte: usize) {
+fn assert_fault(rt: &impl Abort, alloc: Global, bytes: &[u8], rule: ModuleRule, byte: usize) {
     match decode(alloc, bytes) {
         Ok(_) => assert!(rt; false, "read"),
-        Err(error) => assert_eq!(rt; error, ModuleError::Fault { rule, byte }),
+        Err(error) => assert_eq!(rt; error, ModuleError::ModuleFault { rule, byte }),
     }
 }
 
@@ -104,10 +104,22 @@ fn reads_what_only_a_verifier_refuses(rt: HostRuntime) -> Result<(), Fail> {
 #[test]
 fn input_that_ends_inside_a_field_is_truncated(rt: HostRuntime) {
     for length in 0..OTHERS.len() {
-        assert_fault(&rt, rt.alloc(), &OTHERS[..length], Rule::Truncated, length);
+        assert_fault(
+            &rt,
+            rt.alloc(),
+            &OTHERS[..length],
+            ModuleRule::Truncated,
+            length,
+        );
     }
     for length in 0..SMALL.len() {
-        assert_fault(&rt, rt.alloc(), &SMALL[..length], Rule::Truncated, length);
+        assert_fault(
+            &rt,
+            rt.alloc(),
+            &SMALL[..length],
+            ModuleRule::Truncated,
+            length,
+        );
     }
 }
 
@@ -115,10 +127,10 @@ fn input_that_ends_inside_a_field_is_truncated(rt: HostRuntime) {
 fn bytes_behind_the_module_are_refused(rt: HostRuntime) -> Result<(), Fail> {
     let mut twice = OTHERS.to_vec(rt.alloc())?;
     twice.extend_from_slice(&OTHERS)?;
-    assert_fault(&rt, rt.alloc(), &twice, Rule::Trailing, 61);
+    assert_fault(&rt, rt.alloc(), &twice, ModuleRule::Trailing, 61);
     let mut longer = SMALL.to_vec(rt.alloc())?;
     longer.push(0)?;
-    assert_fault(&rt, rt.alloc(), &longer, Rule::Trailing, 25);
+    assert_fault(&rt, rt.alloc(), &longer, ModuleRule::Trailing, 25);
     Ok(())
 }
 
@@ -126,19 +138,19 @@ fn bytes_behind_the_module_are_refused(rt: HostRuntime) -> Result<(), Fail> {
 fn fields_out_of_their_limits_are_refused(rt: HostRuntime) {
     let mut bytes = SMALL;
     bytes[0] = 0x51;
-    assert_fault(&rt, rt.alloc(), &bytes, Rule::Mark, 0);
+    assert_fault(&rt, rt.alloc(), &bytes, ModuleRule::Mark, 0);
     let mut bytes = SMALL;
     bytes[4] = 3;
-    assert_fault(&rt, rt.alloc(), &bytes, Rule::Version, 4);
+    assert_fault(&rt, rt.alloc(), &bytes, ModuleRule::Version, 4);
     let mut bytes = SMALL;
     bytes[7] = 2;
-    assert_fault(&rt, rt.alloc(), &bytes, Rule::Limit, 7);
+    assert_fault(&rt, rt.alloc(), &bytes, ModuleRule::Limit, 7);
     let mut bytes = SMALL;
     bytes[22] = 0x25;
-    assert_fault(&rt, rt.alloc(), &bytes, Rule::UnknownOp, 22);
+    assert_fault(&rt, rt.alloc(), &bytes, ModuleRule::UnknownOp, 22);
     let mut bytes = SMALL;
     bytes[24] = 1;
-    assert_fault(&rt, rt.alloc(), &bytes, Rule::Initial, 24);
+    assert_fault(&rt, rt.alloc(), &bytes, ModuleRule::Initial, 24);
 }
 
 #[test]
@@ -160,7 +172,7 @@ fn only_version_2_tests_slots(rt: HostRuntime) -> Result<(), Fail> {
     assert_eq!(rt; written.as_slice(), TESTED.as_slice());
     let mut bytes = TESTED;
     bytes[4] = 1;
-    assert_fault(&rt, rt.alloc(), &bytes, Rule::UnknownOp, 32);
+    assert_fault(&rt, rt.alloc(), &bytes, ModuleRule::UnknownOp, 32);
     Ok(())
 }
 
@@ -176,7 +188,7 @@ fn every_changed_byte_is_read_exactly_or_refused(rt: HostRuntime) -> Result<(), 
                     assert_eq!(rt; written.as_slice(), bytes.as_slice());
                 }
                 Err(ModuleError::Memory) => assert!(rt; false, "memory"),
-                Err(ModuleError::Fault { rule: _, byte }) => assert!(rt; byte <= bytes.len()),
+                Err(ModuleError::ModuleFault { rule: _, byte }) => assert!(rt; byte <= bytes.len()),
             }
         }
     }

@@ -1,11 +1,11 @@
 -- The arguments of a function, one by one.
 use Rattle.std.proofs.Common.{◌≡◌, ℕ, zero, suc, ◌<◌, ◌≤◌, List, [], ◌∷◌, length, get_or, arith, subst, sym, pos, refl}
-use Rattle.pb_ast.specs.declared.term.Argument.{Argument}
-use Rattle.pb_ast.specs.Form.{argument_forms, term_form}
-use Rattle.pb_syntax.specs.Syntax.{Name, Spec}
-use Rattle.pb_syntax.specs.Value.{Assignment, values, function_value}
-use Rattle.pb_syntax.specs.Erase.{erased_term, erased_arguments}
-use Rattle.pb_bounds.specs.Fits.{Fits, AllFit}
+use Rattle.pb_text_tree.specs.declared.term.Argument.{Argument}
+use Rattle.pb_text_tree.specs.Form.{argument_forms, term_form}
+use Rattle.pb_text_meaning.specs.Syntax.{Name, Spec}
+use Rattle.pb_text_meaning.specs.Value.{Assignment, values, function_value}
+use Rattle.pb_text_meaning.specs.Erase.{erased_term, erased_arguments}
+use Rattle.pb_text_meaning.specs.Fits.{Fits, AllFit}
 
 pub argument_fits : (S : Spec) (a : Assignment) (xs : List Argument) (k : ℕ) (x : Argument) → AllFit S a (erased_arguments (argument_forms xs)) → k < length xs → x ≡ get_or xs k x → Fits S a (erased_term (term_form x.term))
 argument_fits S a [] k x f lt at = absurd (omega arith)

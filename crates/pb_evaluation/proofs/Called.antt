@@ -12,13 +12,13 @@ use Rattle.pb_sorts.specs.Instance.{instances, is_instance, is_tuple_of, number_
 use Rattle.pb_sorts.proofs.Numbers.{number_of-slice_get, is_instance-slice_get}
 use Rattle.pb_sorts.proofs.Equations.{slice_get-carriers_of}
 use Rattle.pb_sorts.proofs.Reading.{is_within-other_length}
-use Rattle.pb_ast.specs.declared.term.Argument.{Argument}
-use Rattle.pb_ast.specs.Form.{argument_forms, term_form}
-use Rattle.pb_syntax.specs.Syntax.{Name, same_name, Equation, Spec}
-use Rattle.pb_syntax.specs.Value.{Assignment, value, values}
-use Rattle.pb_syntax.specs.Formula.{Instance, fits, call_truth}
-use Rattle.pb_syntax.specs.Formula as formula
-use Rattle.pb_syntax.specs.Erase.{erased_term, erased_arguments}
+use Rattle.pb_text_tree.specs.declared.term.Argument.{Argument}
+use Rattle.pb_text_tree.specs.Form.{argument_forms, term_form}
+use Rattle.pb_text_meaning.specs.Syntax.{Name, same_name, Equation, Spec}
+use Rattle.pb_text_meaning.specs.Value.{Assignment, value, values}
+use Rattle.pb_text_meaning.specs.Formula.{Instance, fits, call_truth}
+use Rattle.pb_text_meaning.specs.Formula as formula
+use Rattle.pb_text_meaning.specs.Erase.{erased_term, erased_arguments}
 use Rattle.pb_evaluation.proofs.Links.{drop_link, drop_end}
 use Rattle.pb_evaluation.specs.Environment.{all_carriers, environment_of, place_named, truth_at, truth_of}
 

@@ -2,15 +2,15 @@
 use Rattle.std.proofs.Common.{◌≡◌, ℕ, zero, suc, ◌+◌, ◌<◌, Bool, List, [], ◌∷◌, length, get_or, drop, refl, sym, ◌∙◌, ap, arith, subst}
 use Rattle.std.specs.Prelude.{⊤}
 use Rattle.pb_fixpoint.specs.Solution.{Environment}
-use Rattle.pb_ast.specs.declared.operator.Connective.{Connective}
-use Rattle.pb_ast.specs.declared.operator.Connective.TheVariants.{And, Or, Implies}
-use Rattle.pb_ast.specs.declared.formula.Link.{Link}
-use Rattle.pb_ast.specs.Form.{FormulaForm, formula_form, chained, link_forms}
-use Rattle.pb_syntax.specs.Syntax.{Formula, Spec}
-use Rattle.pb_syntax.specs.Value.{Assignment}
-use Rattle.pb_syntax.specs.Formula.{Instance, truth}
-use Rattle.pb_syntax.specs.Erase.{joined, erased_formula}
-use Rattle.pb_bounds.specs.Fits.{FormulaFits}
+use Rattle.pb_text_tree.specs.declared.operator.Connective.{Connective}
+use Rattle.pb_text_tree.specs.declared.operator.Connective.TheVariants.{And, Or, Implies}
+use Rattle.pb_text_tree.specs.declared.formula.Link.{Link}
+use Rattle.pb_text_tree.specs.Form.{FormulaForm, formula_form, chained, link_forms}
+use Rattle.pb_text_meaning.specs.Syntax.{Formula, Spec}
+use Rattle.pb_text_meaning.specs.Value.{Assignment}
+use Rattle.pb_text_meaning.specs.Formula.{Instance, truth}
+use Rattle.pb_text_meaning.specs.Erase.{joined, erased_formula}
+use Rattle.pb_text_meaning.specs.Fits.{FormulaFits}
 use Rattle.pb_evaluation.specs.Connective.{connected_truth}
 use Rattle.pb_evaluation.proofs.Links.{drop_link}
 

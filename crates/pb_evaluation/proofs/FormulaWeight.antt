@@ -2,10 +2,10 @@
 use Rattle.std.proofs.Common.{◌≡◌, ℕ, zero, suc, ◌+◌, ◌<◌, List, [], ◌∷◌, length, get_or, arith, refl, ◌∙◌, ap, Vec, Global, Box}
 use Rattle.std.specs.Prelude.{box_value}
 use mathlib.Core.Former.{Count}
-use Rattle.pb_ast.specs.declared.operator.Connective.{Connective}
-use Rattle.pb_ast.specs.declared.formula.Formula as formula
-use Rattle.pb_ast.specs.declared.formula.Formula.{Formula, Row_of-Link, end_of-Link, more_of-Link, items-the_row-Link, items_hidden-the_row-Link-0}
-use Rattle.pb_ast.specs.declared.formula.Link.{Link}
+use Rattle.pb_text_tree.specs.declared.operator.Connective.{Connective}
+use Rattle.pb_text_tree.specs.declared.formula.Formula as formula
+use Rattle.pb_text_tree.specs.declared.formula.Formula.{Formula, Row_of-Link, end_of-Link, more_of-Link, items-the_row-Link, items_hidden-the_row-Link-0}
+use Rattle.pb_text_tree.specs.declared.formula.Link.{Link}
 use Rattle.pb_evaluation.proofs.Weight.{groups_weight}
 
 abbrev mutual

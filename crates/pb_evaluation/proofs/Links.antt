@@ -1,16 +1,16 @@
 -- The value of chains, link by link, and why their operands fit.
 use Rattle.std.proofs.Common.{◌≡◌, ℕ, zero, suc, ◌+◌, ◌<◌, ◌≤◌, Bool, true, false, List, [], ◌∷◌, length, get_or, drop, refl, sym, ◌∙◌, ap, arith, add-one, subst}
 use Rattle.std.specs.Prelude.{⊤}
-use Rattle.pb_ast.specs.declared.operator.Connective.{Connective}
-use Rattle.pb_ast.specs.declared.operator.Connective.TheVariants.{And, Or, Implies}
-use Rattle.pb_ast.specs.declared.term.TermLink.{TermLink}
-use Rattle.pb_ast.specs.declared.term.ArithmeticLink.{ArithmeticLink}
-use Rattle.pb_ast.specs.Form.{TermForm, chained, calculated, term_form, term_links, arithmetic_links}
+use Rattle.pb_text_tree.specs.declared.operator.Connective.{Connective}
+use Rattle.pb_text_tree.specs.declared.operator.Connective.TheVariants.{And, Or, Implies}
+use Rattle.pb_text_tree.specs.declared.term.TermLink.{TermLink}
+use Rattle.pb_text_tree.specs.declared.term.ArithmeticLink.{ArithmeticLink}
+use Rattle.pb_text_tree.specs.Form.{TermForm, chained, calculated, term_form, term_links, arithmetic_links}
 use Rattle.pb_carriers.specs.Carrier.{Value, of_bool}
-use Rattle.pb_syntax.specs.Syntax.{Spec}
-use Rattle.pb_syntax.specs.Value.{Assignment, value, binary, is_true}
-use Rattle.pb_syntax.specs.Erase.{erased_term, of_connective, of_arithmetic}
-use Rattle.pb_bounds.specs.Fits.{Fits, IsBounded, DivisorFits}
+use Rattle.pb_text_meaning.specs.Syntax.{Spec}
+use Rattle.pb_text_meaning.specs.Value.{Assignment, value, binary, is_true}
+use Rattle.pb_text_meaning.specs.Erase.{erased_term, of_connective, of_arithmetic}
+use Rattle.pb_text_meaning.specs.Fits.{Fits, IsBounded, DivisorFits}
 use Rattle.pb_evaluation.specs.Connective.{connected_truth}
 
 -- the value of a form

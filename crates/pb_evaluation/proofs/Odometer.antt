@@ -6,13 +6,13 @@ use Rattle.std.proofs.Math.Seq.{take-append_seam}
 use Rattle.std.proofs.Math.Nat.{suc-mul, sub-zero}
 use Rattle.std.specs.List.{list_any}
 use Rattle.std.proofs.lemmas.Bool.{eqb-true, eqb-false}
-use Rattle.pb_ast.specs.declared.operator.Quantifier.{Quantifier}
-use Rattle.pb_ast.specs.declared.operator.Quantifier.TheVariants.{Forall, Exists}
+use Rattle.pb_text_tree.specs.declared.operator.Quantifier.{Quantifier}
+use Rattle.pb_text_tree.specs.declared.operator.Quantifier.TheVariants.{Forall, Exists}
 use Rattle.pb_carriers.specs.Carrier.{Carrier, Value, numbers_from}
-use Rattle.pb_syntax.specs.Syntax.{Variable, Spec}
-use Rattle.pb_syntax.specs.Sorts.{carrier_of}
-use Rattle.pb_syntax.specs.Value.{Assignment, of_values, quantified}
-use Rattle.pb_bounds.specs.Fits.{FitsFor}
+use Rattle.pb_text_meaning.specs.Syntax.{Variable, Spec}
+use Rattle.pb_text_meaning.specs.Sorts.{carrier_of}
+use Rattle.pb_text_meaning.specs.Value.{Assignment, of_values, quantified}
+use Rattle.pb_text_meaning.specs.Fits.{FitsFor}
 use Rattle.pb_evaluation.specs.declared.binding.Binding.{Binding}
 use Rattle.pb_evaluation.specs.Binding.{AreBindings, AreFirst, AreLast, AreNext, IsBinding, at_place, bound, value_at}
 use Rattle.pb_evaluation.specs.Quantifier.{deciding}

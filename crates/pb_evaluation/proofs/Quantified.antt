@@ -3,15 +3,15 @@ use Rattle.std.proofs.Common.{◌≡◌, ◌≢◌, ℕ, suc, ◌+◌, ◌-◌, 
 use Rattle.std.specs.Prelude.{◌+ℤ◌}
 use Rattle.std.specs.Bool.{beq}
 use Rattle.std.proofs.lemmas.Int.{ints}
-use Rattle.pb_ast.specs.declared.name.Name.{Name}
-use Rattle.pb_ast.specs.declared.variable.Variables.{Variables}
-use Rattle.pb_ast.specs.declared.operator.Quantifier.{Quantifier}
-use Rattle.pb_ast.specs.declared.operator.Quantifier.TheVariants.{Forall, Exists}
-use Rattle.pb_ast.specs.Form.{VariableForm, named, variables_form, variable_forms}
+use Rattle.pb_text_tree.specs.declared.name.Name.{Name}
+use Rattle.pb_text_tree.specs.declared.variable.Variables.{Variables}
+use Rattle.pb_text_tree.specs.declared.operator.Quantifier.{Quantifier}
+use Rattle.pb_text_tree.specs.declared.operator.Quantifier.TheVariants.{Forall, Exists}
+use Rattle.pb_text_tree.specs.Form.{VariableForm, named, variables_form, variable_forms}
 use Rattle.pb_carriers.specs.Carrier.{Value, numbers_from}
-use Rattle.pb_syntax.specs.Syntax.{Variable}
-use Rattle.pb_syntax.specs.Value.{of_values}
-use Rattle.pb_syntax.specs.Erase.{erased_variable, erased_variables}
+use Rattle.pb_text_meaning.specs.Syntax.{Variable}
+use Rattle.pb_text_meaning.specs.Value.{of_values}
+use Rattle.pb_text_meaning.specs.Erase.{erased_variable, erased_variables}
 use Rattle.pb_evaluation.specs.Quantifier.{deciding, variables_of}
 
 -- a quantifier over the numbers from place k up to place n, from low on

@@ -2,14 +2,14 @@
 use Rattle.std.proofs.Common.{◌≡◌, ℕ, zero, suc, ◌+◌, ◌<◌, List, [], ◌∷◌, length, get_or, arith, refl, ◌∙◌, ap, Vec, Global, Box}
 use Rattle.std.specs.Prelude.{box_value}
 use mathlib.Core.Former.{Count}
-use Rattle.pb_ast.specs.declared.operator.Connective.{Connective}
-use Rattle.pb_ast.specs.declared.name.Name.{Name}
-use Rattle.pb_ast.specs.declared.variable.Variables.{Variables}
-use Rattle.pb_ast.specs.declared.term.Term as term
-use Rattle.pb_ast.specs.declared.term.Term.{Term, Row_of-TermLink, end_of-TermLink, more_of-TermLink, items-the_row-TermLink, items_hidden-the_row-TermLink-0, Row_of-ArithmeticLink, end_of-ArithmeticLink, more_of-ArithmeticLink, items-the_row-ArithmeticLink, items_hidden-the_row-ArithmeticLink-1, Row_of-Argument, end_of-Argument, more_of-Argument, items-the_row-Argument, items_hidden-the_row-Argument-2}
-use Rattle.pb_ast.specs.declared.term.TermLink.{TermLink}
-use Rattle.pb_ast.specs.declared.term.ArithmeticLink.{ArithmeticLink}
-use Rattle.pb_ast.specs.declared.term.Argument.{Argument}
+use Rattle.pb_text_tree.specs.declared.operator.Connective.{Connective}
+use Rattle.pb_text_tree.specs.declared.name.Name.{Name}
+use Rattle.pb_text_tree.specs.declared.variable.Variables.{Variables}
+use Rattle.pb_text_tree.specs.declared.term.Term as term
+use Rattle.pb_text_tree.specs.declared.term.Term.{Term, Row_of-TermLink, end_of-TermLink, more_of-TermLink, items-the_row-TermLink, items_hidden-the_row-TermLink-0, Row_of-ArithmeticLink, end_of-ArithmeticLink, more_of-ArithmeticLink, items-the_row-ArithmeticLink, items_hidden-the_row-ArithmeticLink-1, Row_of-Argument, end_of-Argument, more_of-Argument, items-the_row-Argument, items_hidden-the_row-Argument-2}
+use Rattle.pb_text_tree.specs.declared.term.TermLink.{TermLink}
+use Rattle.pb_text_tree.specs.declared.term.ArithmeticLink.{ArithmeticLink}
+use Rattle.pb_text_tree.specs.declared.term.Argument.{Argument}
 
 -- groups of variables, each with its names
 abbrev pub groups_weight : List Variables → ℕ

@@ -1,9 +1,9 @@
 -- The variables that a quantifier binds, each at the value that stands at a place among those of its sort.
 use Rattle.std.specs.Prelude.{◌≡◌, ℕ, ◌+◌, ◌<◌, ◌≤◌, ◌+ℤ◌, pos, List, [], ◌∷◌, map, ◌⊎◌, ⊤}
 use Rattle.pb_carriers.specs.Carrier.{Value, numbers_from}
-use Rattle.pb_syntax.specs.Syntax.{Variable, Spec}
-use Rattle.pb_syntax.specs.Sorts.{carrier_of}
-use Rattle.pb_syntax.specs.Value.{Assignment}
+use Rattle.pb_text_meaning.specs.Syntax.{Variable, Spec}
+use Rattle.pb_text_meaning.specs.Sorts.{carrier_of}
+use Rattle.pb_text_meaning.specs.Value.{Assignment}
 use Rattle.pb_evaluation.specs.declared.binding.Binding.{Binding}
 
 abbrev pub value_at : Binding → Value

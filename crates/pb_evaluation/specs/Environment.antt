@@ -4,8 +4,8 @@ use Rattle.pb_fixpoint.specs.Solution.{Environment}
 use Rattle.pb_carriers.specs.Carrier.{Carrier, Tuple}
 use Rattle.pb_sorts.specs.Instance as numbered
 use Rattle.pb_sorts.specs.Instance.{is_instance, number_of}
-use Rattle.pb_syntax.specs.Syntax.{Name, same_name, Equation, Spec}
-use Rattle.pb_syntax.specs.Formula.{Instance, carriers_of}
+use Rattle.pb_text_meaning.specs.Syntax.{Name, same_name, Equation, Spec}
+use Rattle.pb_text_meaning.specs.Formula.{Instance, carriers_of}
 
 -- the carriers of each equation's parameters
 abbrev pub all_carriers : Spec → List (List Carrier)

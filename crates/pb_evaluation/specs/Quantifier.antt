@@ -1,9 +1,9 @@
 -- Quantifiers as they are evaluated.
 use Rattle.std.specs.Prelude.{ℕ, Bool, true, false, List, map, string_bytes}
-use Rattle.pb_ast.specs.declared.name.Name.{Name}
-use Rattle.pb_ast.specs.declared.operator.Quantifier.{Quantifier}
-use Rattle.pb_ast.specs.declared.operator.Quantifier.TheVariants.{Forall, Exists}
-use Rattle.pb_syntax.specs.Syntax.{Variable}
+use Rattle.pb_text_tree.specs.declared.name.Name.{Name}
+use Rattle.pb_text_tree.specs.declared.operator.Quantifier.{Quantifier}
+use Rattle.pb_text_tree.specs.declared.operator.Quantifier.TheVariants.{Forall, Exists}
+use Rattle.pb_text_meaning.specs.Syntax.{Variable}
 
 -- the truth for one value that decides a quantifier
 abbrev pub deciding : Quantifier → Bool

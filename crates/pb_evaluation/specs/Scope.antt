@@ -3,7 +3,7 @@ use Rattle.std.specs.Prelude.{[], ◌∷◌}
 use Rattle.pb_evaluation.specs.declared.scope.Scope.{Scope}
 use Rattle.pb_evaluation.specs.declared.scope.Scope.TheVariants.{Outermost, Bound', Quantified'}
 use Rattle.pb_evaluation.specs.Binding.{bound}
-use Rattle.pb_syntax.specs.Value.{Assignment}
+use Rattle.pb_text_meaning.specs.Value.{Assignment}
 
 abbrev pub assignment_of : Scope → Assignment
 assignment_of Outermost = []

@@ -4,20 +4,20 @@
 
 ghost use Rattle.std.specs.Prelude.{◌≡◌, ◌==◌, ◌++◌, List, true, false, Some, IfOk, MatchOption};
 ghost use Rattle.std.specs.List.{list_any};
-ghost use Rattle.pb_ast.specs.Form.{variable_forms};
-ghost use Rattle.pb_declarations.specs.View.{spec_of};
+ghost use Rattle.pb_text_tree.specs.Form.{variable_forms};
+ghost use Rattle.pb_typing_declarations.specs.View.{spec_of};
 ghost use Rattle.pb_carriers.specs.Carrier.{numbers_from};
-ghost use Rattle.pb_syntax.specs.Erase.{erased_variables};
-ghost use Rattle.pb_syntax.specs.Sorts.{carrier_of};
-ghost use Rattle.pb_syntax.specs.Syntax as syntax;
-ghost use Rattle.pb_syntax.specs.Syntax.{Spec, Variable};
-ghost use Rattle.pb_syntax.specs.Value.{Assignment, looked_up};
+ghost use Rattle.pb_text_meaning.specs.Erase.{erased_variables};
+ghost use Rattle.pb_text_meaning.specs.Sorts.{carrier_of};
+ghost use Rattle.pb_text_meaning.specs.Syntax as syntax;
+ghost use Rattle.pb_text_meaning.specs.Syntax.{Spec, Variable};
+ghost use Rattle.pb_text_meaning.specs.Value.{Assignment, looked_up};
 ghost use Rattle.pb_evaluation.specs.Binding.{AreBindings, AreFirst, AreLast, AreNext, bound, value_at};
 ghost use Rattle.pb_evaluation.specs.Quantifier.{variables_of};
 
 use crate::quantifier::{Numbers, sort_values};
-use pb_ast::{Name, Variables};
-use pb_declarations::Declarations;
+use pb_text_tree::{Name, Variables};
+use pb_typing_declarations::Declarations;
 use std::alloc::AllocError;
 
 /// A variable that a quantifier binds, at the value that stands at a place among those of its sort.

@@ -1,12 +1,12 @@
 //! The truth of a formula under a scope and an environment.
 
 ghost use Rattle.std.specs.Prelude.{◌≡◌, IfOk};
-ghost use Rattle.pb_ast.specs.Form.{FormulaForm, formula_form, instance_form, variable_forms};
-ghost use Rattle.pb_declarations.specs.View.{spec_of};
-ghost use Rattle.pb_syntax.specs.Erase.{erased_arguments, erased_formula, erased_variables};
-ghost use Rattle.pb_syntax.specs.Formula.{truth};
-ghost use Rattle.pb_syntax.specs.Value as meaning;
-ghost use Rattle.pb_bounds.specs.Fits.{AllFit, FitsFor, FormulaFits};
+ghost use Rattle.pb_text_tree.specs.Form.{FormulaForm, formula_form, instance_form, variable_forms};
+ghost use Rattle.pb_typing_declarations.specs.View.{spec_of};
+ghost use Rattle.pb_text_meaning.specs.Erase.{erased_arguments, erased_formula, erased_variables};
+ghost use Rattle.pb_text_meaning.specs.Formula.{truth};
+ghost use Rattle.pb_text_meaning.specs.Value as meaning;
+ghost use Rattle.pb_text_meaning.specs.Fits.{AllFit, FitsFor, FormulaFits};
 ghost use Rattle.pb_evaluation.specs.Environment.{environment_of};
 ghost use Rattle.pb_evaluation.specs.Scope.{assignment_of};
 
@@ -16,8 +16,8 @@ use crate::operation::{decided_by, is_true};
 use crate::quantifier::deciding;
 use crate::scope::Scope;
 use crate::term::value;
-use pb_ast::{Formula, Instance, Quantifier, Variables};
 use pb_sorts::Tuple;
+use pb_text_tree::{Formula, Instance, Quantifier, Variables};
 use std::alloc::AllocError;
 
 /// The truth of a formula (Groote and Willemse 2005).

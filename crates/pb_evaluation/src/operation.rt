@@ -1,15 +1,15 @@
 //! What operators and named functions give of whole numbers.
 
 ghost use Rattle.std.specs.Prelude.{◌≡◌, Bool, MatchOption};
-ghost use Rattle.pb_declarations.specs.View.{spec_of};
-ghost use Rattle.pb_syntax.specs.Erase.{of_arithmetic, of_comparison};
-ghost use Rattle.pb_syntax.specs.Value as meaning;
+ghost use Rattle.pb_typing_declarations.specs.View.{spec_of};
+ghost use Rattle.pb_text_meaning.specs.Erase.{of_arithmetic, of_comparison};
+ghost use Rattle.pb_text_meaning.specs.Value as meaning;
 ghost use Rattle.pb_carriers.specs.Carrier.{of_bool};
 ghost use Rattle.pb_evaluation.specs.Connective.{connected_truth};
-ghost use Rattle.pb_bounds.specs.Fits.{DivisorFits, IsBounded};
+ghost use Rattle.pb_text_meaning.specs.Fits.{DivisorFits, IsBounded};
 
-use pb_ast::{Arithmetic, Comparison, Connective};
-use pb_declarations::Declarations;
+use pb_text_tree::{Arithmetic, Comparison, Connective};
+use pb_typing_declarations::Declarations;
 
 /// Whether a value stands for true.
 pub(crate) fn is_true(value: i64) -> bool

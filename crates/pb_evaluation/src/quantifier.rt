@@ -1,15 +1,15 @@
 //! What a quantifier ranges over, and when its answer is known.
 
 ghost use Rattle.std.specs.Prelude.{◌≡◌, ◌≤◌, ◌≤ℤ◌, pos, negsuc, length};
-ghost use Rattle.pb_declarations.specs.View.{spec_of};
+ghost use Rattle.pb_typing_declarations.specs.View.{spec_of};
 ghost use Rattle.pb_carriers.specs.Carrier.{numbers_from};
 ghost use Rattle.pb_sorts.specs.Carrier.{values_of};
-ghost use Rattle.pb_syntax.specs.Sorts.{carrier_of};
+ghost use Rattle.pb_text_meaning.specs.Sorts.{carrier_of};
 ghost use Rattle.pb_evaluation.specs.Quantifier.{deciding};
 
-use pb_ast::Quantifier;
-use pb_declarations::Declarations;
 use pb_sorts::Carrier;
+use pb_text_tree::Quantifier;
+use pb_typing_declarations::Declarations;
 
 /// The truth for one value that decides a quantifier.
 pub(crate) fn deciding(quantifier: Quantifier) -> bool

@@ -1,12 +1,12 @@
 //! The variables in scope.
 
 ghost use Rattle.std.specs.Prelude.{◌≡◌};
-ghost use Rattle.pb_declarations.specs.View.{spec_of};
-ghost use Rattle.pb_syntax.specs.Value.{looked_up, named_value};
+ghost use Rattle.pb_typing_declarations.specs.View.{spec_of};
+ghost use Rattle.pb_text_meaning.specs.Value.{looked_up, named_value};
 ghost use Rattle.pb_evaluation.specs.Scope.{assignment_of};
 
 use crate::binding::{Binding, bound_value};
-use pb_declarations::Declarations;
+use pb_typing_declarations::Declarations;
 
 /// The variables in scope with their values, the innermost outside: an inner variable hides an outer one of its name.
 #[derive(Clone, Copy)]

@@ -1,11 +1,11 @@
 //! The value of a data term under a scope.
 
 ghost use Rattle.std.specs.Prelude.{◌≡◌, IfOk};
-ghost use Rattle.pb_ast.specs.Form.{TermForm, argument_forms, arithmetic_links, calculated, chained, term_form, term_links, variable_forms};
-ghost use Rattle.pb_declarations.specs.View.{spec_of};
-ghost use Rattle.pb_syntax.specs.Erase.{erased_arguments, erased_term, erased_variables};
-ghost use Rattle.pb_syntax.specs.Value as meaning;
-ghost use Rattle.pb_bounds.specs.Fits.{AllFit, Fits, FitsFor};
+ghost use Rattle.pb_text_tree.specs.Form.{TermForm, argument_forms, arithmetic_links, calculated, chained, term_form, term_links, variable_forms};
+ghost use Rattle.pb_typing_declarations.specs.View.{spec_of};
+ghost use Rattle.pb_text_meaning.specs.Erase.{erased_arguments, erased_term, erased_variables};
+ghost use Rattle.pb_text_meaning.specs.Value as meaning;
+ghost use Rattle.pb_text_meaning.specs.Fits.{AllFit, Fits, FitsFor};
 ghost use Rattle.pb_evaluation.specs.Scope.{assignment_of};
 
 use crate::binding::{advance, bindings_of, has_no_values};
@@ -14,8 +14,8 @@ use crate::operation::{
 };
 use crate::quantifier::deciding;
 use crate::scope::{Scope, named_value};
-use pb_ast::{Argument, ArithmeticLink, Connective, Quantifier, Term, TermLink, Variables};
-use pb_declarations::Declarations;
+use pb_text_tree::{Argument, ArithmeticLink, Connective, Quantifier, Term, TermLink, Variables};
+use pb_typing_declarations::Declarations;
 use std::alloc::AllocError;
 
 /// The value of a data term: false is 0 and true is 1, an enumerator is its place.

@@ -1,9 +1,9 @@
 //! Runs: one instruction after another, up to END.
 ghost use Rattle.std.specs.Prelude.{◌≡◌, ◌≤◌, IfOk, List, Some, slice_get, length, true};
-ghost use Rattle.pb_code.specs.Values.{Value};
-ghost use Rattle.pb_code.specs.Machine.{Program, start};
-ghost use Rattle.pb_code.specs.Safety.{AreArguments, arguments as tagged_arguments};
-ghost use Rattle.pb_code.specs.declared.instruction.Op.TheVariants as op;
+ghost use Rattle.pb_bytecode_program.specs.Values.{Value};
+ghost use Rattle.pb_bytecode_program.specs.Machine.{Program, start};
+ghost use Rattle.pb_bytecode_program.specs.Safety.{AreArguments, arguments as tagged_arguments};
+ghost use Rattle.pb_bytecode_program.specs.declared.instruction.Op.TheVariants as op;
 ghost use Rattle.pb_sorts.specs.Layout.{count_of};
 ghost use Rattle.pb_machine.specs.Mirror.{IsReady, Executes, Mirrors};
 ghost use Rattle.pb_machine.specs.Output.{CallsOf, CanRun, IsOutput};
@@ -12,7 +12,7 @@ use crate::code::Code;
 use crate::machine::Machine;
 use crate::results::truth;
 use crate::tree::Tree;
-use pb_code::Op;
+use pb_bytecode_program::Op;
 use pb_sorts::{Carrier, Layout, MAX_INSTANCES};
 use std::alloc::{AllocError, Global};
 

@@ -2,21 +2,21 @@
 use Rattle.std.proofs.Common.{◌≡◌, ℕ, zero, suc, ◌+◌, ◌<◌, ◌≤◌, true, List, [], ◌∷◌, ◌++◌, map, length, get_or, drop, refl, sym, ◌∙◌, ap, subst, arith, true≢false}
 use Rattle.std.specs.List.{All}
 use Rattle.std.proofs.lemmas.List.{append-nil, append_assoc}
-use Rattle.pb_ast.specs.declared.spec.Equation.{Equation}
-use Rattle.pb_ast.specs.Form.{SpecForm, equation_form}
-use Rattle.pb_syntax.specs.Syntax as syntax
-use Rattle.pb_syntax.specs.Syntax.{Spec}
-use Rattle.pb_syntax.specs.Erase.{erase, erased_equation}
-use Rattle.pb_declarations.specs.declared.fault.Fault.{Fault}
-use Rattle.pb_declarations.specs.declared.fault.TypeError.{TypeError}
-use Rattle.pb_declarations.specs.declared.fault.TypeError.TheVariants.{At}
-use Rattle.pb_declarations.specs.Declarations.{declaration_faults}
-use Rattle.pb_declarations.specs.Faults.{IsAmong}
-use Rattle.pb_declarations.specs.Shapes.{Shape}
-use Rattle.pb_declarations.specs.WellDeclared.{AreVariables}
-use Rattle.pb_shapes.specs.Faults.{faults}
-use Rattle.pb_shapes.specs.WellTyped.{AreProper, IsWellTyped, parameters_of}
-use Rattle.pb_shapes.proofs.Parts.{no_parts}
+use Rattle.pb_text_tree.specs.declared.spec.Equation.{Equation}
+use Rattle.pb_text_tree.specs.Form.{SpecForm, equation_form}
+use Rattle.pb_text_meaning.specs.Syntax as syntax
+use Rattle.pb_text_meaning.specs.Syntax.{Spec}
+use Rattle.pb_text_meaning.specs.Erase.{erase, erased_equation}
+use Rattle.pb_typing_declarations.specs.declared.fault.TypingFault.{TypingFault}
+use Rattle.pb_typing_declarations.specs.declared.fault.TypeError.{TypeError}
+use Rattle.pb_typing_declarations.specs.declared.fault.TypeError.TheVariants.{At}
+use Rattle.pb_typing_declarations.specs.Declarations.{declaration_faults}
+use Rattle.pb_typing_declarations.specs.Faults.{IsAmong}
+use Rattle.pb_typing_declarations.specs.Shapes.{Shape}
+use Rattle.pb_typing_declarations.specs.WellDeclared.{AreVariables}
+use Rattle.pb_typing_rules.specs.Faults.{faults}
+use Rattle.pb_typing_rules.specs.WellTyped.{AreProper, IsWellTyped, parameters_of}
+use Rattle.pb_typing_rules.proofs.Parts.{no_parts}
 use Rattle.pb_typing.specs.Typed.{is_faultless}
 use Rattle.pb_typing.proofs.Links.{links-drop, links-ended}
 use Rattle.pb_normal.specs.declared.normal.Equation as declared
@@ -27,13 +27,13 @@ use Rattle.pb_normal.specs.View.{formula_view, shapes_of}
 use Rattle.pb_normal.proofs.Equations.{no-faults, accepted-well-typed}
 use Rattle.pb_normal.proofs.Shaped.{variables-shaped, expanded-shaped}
 
-no-fault : (fs : List Fault) (e : TypeError) (f : Fault) → fs ≡ [] → e ≡ At f → IsAmong fs e → ⊥
+no-fault : (fs : List TypingFault) (e : TypeError) (f : TypingFault) → fs ≡ [] → e ≡ At f → IsAmong fs e → ⊥
 no-fault fs e f clear is h =
-    let h2 : IsAmong [] (At f) = subst (λ (x : TypeError). IsAmong [] x) is (subst (λ (gs : List Fault). IsAmong gs e) clear h) in
+    let h2 : IsAmong [] (At f) = subst (λ (x : TypeError). IsAmong [] x) is (subst (λ (gs : List TypingFault). IsAmong gs e) clear h) in
     absurd (omega (arith, h2.1))
 
 -- its declarations have no fault
-pub undeclared : (text : SpecForm) (e : TypeError) (f : Fault) → is_faultless text ≡ true → e ≡ At f → IsAmong (declaration_faults text) e → ⊥
+pub undeclared : (text : SpecForm) (e : TypeError) (f : TypingFault) → is_faultless text ≡ true → e ≡ At f → IsAmong (declaration_faults text) e → ⊥
 undeclared text e f faultless is h = no-fault (declaration_faults text) e f (no_parts (declaration_faults text) _ (no-faults (faults text) faultless)).0 is h
 
 abbrev pub erased : Equation → syntax.Equation

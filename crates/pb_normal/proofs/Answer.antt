@@ -4,13 +4,13 @@ use Rattle.std.proofs.lemmas.Option.{slice_get-get_or, unwrap_or-slice_get}
 use Rattle.pb_fixpoint.specs.Solution as fixpoint
 use Rattle.pb_fixpoint.specs.Solution.{Environment, solution, empty}
 use Rattle.pb_carriers.specs.Carrier.{Tuple, is_within, contains}
-use Rattle.pb_syntax.specs.Syntax.{same_name, Variable, Equation, Spec}
-use Rattle.pb_syntax.specs.Value.{values}
-use Rattle.pb_syntax.specs.Formula.{Instance, carriers_of, call_truth}
-use Rattle.pb_syntax.specs.Sorts.{carrier_of}
-use Rattle.pb_syntax.specs.Meaning.{equation_of, equations_of, answer}
-use Rattle.pb_shapes.specs.WellTyped.{IsWellTyped}
-use Rattle.pb_shapes.proofs.Values.{and_true}
+use Rattle.pb_text_meaning.specs.Syntax.{same_name, Variable, Equation, Spec}
+use Rattle.pb_text_meaning.specs.Value.{values}
+use Rattle.pb_text_meaning.specs.Formula.{Instance, carriers_of, call_truth}
+use Rattle.pb_text_meaning.specs.Sorts.{carrier_of}
+use Rattle.pb_text_meaning.specs.Meaning.{equation_of, equations_of, answer}
+use Rattle.pb_typing_rules.specs.WellTyped.{IsWellTyped}
+use Rattle.pb_typing_rules.proofs.Values.{and_true}
 use Rattle.pb_normal.specs.Normal.{truth}
 use Rattle.pb_normal.specs.Equations.{normal_equation, Hold, KeepsTruth}
 use Rattle.pb_normal.specs.Answer.{slots_of, equation_by, equations_by, answer_by, normal_equations}

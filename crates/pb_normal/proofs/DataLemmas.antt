@@ -2,18 +2,18 @@
 use Rattle.std.proofs.Common.{◌≡◌, ℕ, ◌+◌, ◌<◌, ◌≤◌, List, [], ◌∷◌, ◌++◌, map, length, get_or, drop, refl, sym, ◌∙◌, ap, Box, Vec, Global}
 use Rattle.std.specs.Prelude.{box_value}
 use Rattle.std.proofs.lemmas.List.{append-nil, append_assoc}
-use Rattle.pb_ast.specs.declared.operator.Arithmetic.{Arithmetic}
-use Rattle.pb_ast.specs.declared.operator.Connective.{Connective}
-use Rattle.pb_ast.specs.declared.name.Name.{Name}
-use Rattle.pb_ast.specs.declared.term.Term as ast
-use Rattle.pb_ast.specs.declared.term.TermLink.{TermLink}
-use Rattle.pb_ast.specs.declared.term.ArithmeticLink.{ArithmeticLink}
-use Rattle.pb_ast.specs.declared.term.Argument.{Argument}
-use Rattle.pb_ast.specs.Form as form
-use Rattle.pb_ast.specs.Form.{TermForm, named, argument_forms, arithmetic_links, term_form, term_links}
-use Rattle.pb_ast.proofs.FormLemmas.{term-chain, term-arithmetic, term-application}
-use Rattle.pb_syntax.specs.Syntax.{Spec}
-use Rattle.pb_syntax.specs.Erase.{erased_term, erased_arguments, of_connective}
+use Rattle.pb_text_tree.specs.declared.operator.Arithmetic.{Arithmetic}
+use Rattle.pb_text_tree.specs.declared.operator.Connective.{Connective}
+use Rattle.pb_text_tree.specs.declared.name.Name.{Name}
+use Rattle.pb_text_tree.specs.declared.term.Term as ast
+use Rattle.pb_text_tree.specs.declared.term.TermLink.{TermLink}
+use Rattle.pb_text_tree.specs.declared.term.ArithmeticLink.{ArithmeticLink}
+use Rattle.pb_text_tree.specs.declared.term.Argument.{Argument}
+use Rattle.pb_text_tree.specs.Form as form
+use Rattle.pb_text_tree.specs.Form.{TermForm, named, argument_forms, arithmetic_links, term_form, term_links}
+use Rattle.pb_text_tree.proofs.FormLemmas.{term-chain, term-arithmetic, term-application}
+use Rattle.pb_text_meaning.specs.Syntax.{Spec}
+use Rattle.pb_text_meaning.specs.Erase.{erased_term, erased_arguments, of_connective}
 use Rattle.pb_normal.specs.Normal as normal
 use Rattle.pb_normal.specs.Normal.{Binary}
 use Rattle.pb_normal.specs.Normalisation.{Slotting, slotted, slotted_all, applied}

@@ -1,18 +1,18 @@
 -- The normal form of each equation of a well-typed specification has the truth of the equation's right side.
 use Rattle.std.proofs.Common.{◌≡◌, zero, suc, true, List, [], ◌∷◌, length, refl, sym, ◌∙◌, arith, true≢false}
 use Rattle.std.specs.List.{All}
-use Rattle.pb_ast.specs.Form.{SpecForm}
-use Rattle.pb_syntax.specs.Syntax.{Equation, Spec}
-use Rattle.pb_syntax.specs.Erase.{erase}
-use Rattle.pb_syntax.specs.Meaning.{assigned}
-use Rattle.pb_syntax.specs.Positive.{IsPositive, ArePositive}
-use Rattle.pb_declarations.specs.declared.fault.Fault.{Fault}
-use Rattle.pb_declarations.proofs.ShapeLaws.{shape_carrier-sort_shape}
-use Rattle.pb_shapes.specs.Formula.{IsProper}
-use Rattle.pb_shapes.specs.Faults.{faults}
-use Rattle.pb_shapes.specs.WellTyped.{parameters_of, AreProper, IsWellTyped}
-use Rattle.pb_shapes.proofs.Fitting.{spec_positive}
-use Rattle.pb_shapes.proofs.WellTypedLemmas.{well_typed}
+use Rattle.pb_text_tree.specs.Form.{SpecForm}
+use Rattle.pb_text_meaning.specs.Syntax.{Equation, Spec}
+use Rattle.pb_text_meaning.specs.Erase.{erase}
+use Rattle.pb_text_meaning.specs.Meaning.{assigned}
+use Rattle.pb_text_meaning.specs.Positive.{IsPositive, ArePositive}
+use Rattle.pb_typing_declarations.specs.declared.fault.TypingFault.{TypingFault}
+use Rattle.pb_typing_declarations.proofs.ShapeLaws.{shape_carrier-sort_shape}
+use Rattle.pb_typing_rules.specs.Formula.{IsProper}
+use Rattle.pb_typing_rules.specs.Faults.{faults}
+use Rattle.pb_typing_rules.specs.WellTyped.{parameters_of, AreProper, IsWellTyped}
+use Rattle.pb_typing_rules.proofs.Fitting.{spec_positive}
+use Rattle.pb_typing_rules.proofs.WellTypedLemmas.{well_typed}
 use Rattle.pb_typing.specs.Typed.{is_none, is_faultless}
 use Rattle.pb_normal.specs.Expansion.{expanded}
 use Rattle.pb_normal.specs.Normalisation.{unslotted, with_slots}
@@ -43,7 +43,7 @@ equations-keep-truth spec h = rights-keep-truth spec spec.equations h.rights (sp
 
 -- ---- texts that typing accepts
 
-pub no-faults : (fs : List Fault) → is_none fs ≡ true → fs ≡ []
+pub no-faults : (fs : List TypingFault) → is_none fs ≡ true → fs ≡ []
 no-faults [] e = refl
 no-faults (f ∷ fs) e = absurd (true≢false (sym e))
 

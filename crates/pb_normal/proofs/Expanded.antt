@@ -1,13 +1,13 @@
 -- A formula whose data terms with quantifiers are read as formulas has the truth that it had.
 use Rattle.std.proofs.Common.{◌≡◌, Bool, true, false, not, ◌&&◌, ◌||◌, if◌then◌else◌, List, [], ◌∷◌, refl, sym, ◌∙◌, ap}
 use Rattle.pb_fixpoint.specs.Solution.{Environment}
-use Rattle.pb_ast.specs.declared.operator.Quantifier.{Quantifier}
-use Rattle.pb_ast.specs.declared.operator.Quantifier.TheVariants.{Forall, Exists}
+use Rattle.pb_text_tree.specs.declared.operator.Quantifier.{Quantifier}
+use Rattle.pb_text_tree.specs.declared.operator.Quantifier.TheVariants.{Forall, Exists}
 use Rattle.pb_carriers.specs.Carrier.{Value, Carrier, of_bool}
-use Rattle.pb_syntax.specs.Syntax.{Variable, Operator, Term, Formula, Spec}
-use Rattle.pb_syntax.specs.Sorts.{carrier_of}
-use Rattle.pb_syntax.specs.Value.{Assignment, of_values, quantified, is_true, value}
-use Rattle.pb_syntax.specs.Formula.{Instance, truth}
+use Rattle.pb_text_meaning.specs.Syntax.{Variable, Operator, Term, Formula, Spec}
+use Rattle.pb_text_meaning.specs.Sorts.{carrier_of}
+use Rattle.pb_text_meaning.specs.Value.{Assignment, of_values, quantified, is_true, value}
+use Rattle.pb_text_meaning.specs.Formula.{Instance, truth}
 use Rattle.pb_normal.specs.Expansion.{has_quantifier, connected, expanded_term, expanded}
 
 -- ---- quantifiers take equal predicates to equal truths

@@ -6,26 +6,26 @@ use Rattle.std.specs.declared.alloc.AllocError.{AllocError}
 use Rattle.std.proofs.lemmas.Iterator.Adapters.{position_from-zero}
 use Rattle.std.proofs.lemmas.List.{append-nil, append_assoc, length-drop}
 use Rattle.pb_sorts.specs.declared.carrier.Carrier.{Carrier}
-use Rattle.pb_ast.specs.declared.place.Place.{Place}
-use Rattle.pb_ast.specs.declared.operator.Connective.{Connective}
-use Rattle.pb_ast.specs.declared.operator.Connective.TheVariants.{And, Or, Implies}
-use Rattle.pb_ast.specs.declared.operator.Quantifier.{Quantifier}
-use Rattle.pb_ast.specs.declared.variable.Variables.{Variables}
-use Rattle.pb_ast.specs.declared.term.Argument.{Argument}
-use Rattle.pb_ast.specs.declared.formula.Formula as ast
-use Rattle.pb_ast.specs.declared.formula.Link.{Link}
-use Rattle.pb_ast.specs.Form as form
-use Rattle.pb_ast.specs.Form.{FormulaForm, formula_form, link_forms, argument_forms, term_form}
-use Rattle.pb_ast.proofs.FormLemmas.{formula-chain}
-use Rattle.pb_syntax.specs.Syntax as syntax
-use Rattle.pb_syntax.specs.Syntax.{Name, same_name, Variable, Equation, Spec}
-use Rattle.pb_syntax.specs.Erase.{erased_formula, erased_arguments, erased_term, joined}
-use Rattle.pb_declarations.specs.Agreement.{equation_place}
-use Rattle.pb_declarations.specs.Shapes.{Shape}
-use Rattle.pb_shapes.specs.Faults.{operand_parity}
-use Rattle.pb_shapes.specs.Scope.{Scope}
+use Rattle.pb_text_tree.specs.declared.place.Place.{Place}
+use Rattle.pb_text_tree.specs.declared.operator.Connective.{Connective}
+use Rattle.pb_text_tree.specs.declared.operator.Connective.TheVariants.{And, Or, Implies}
+use Rattle.pb_text_tree.specs.declared.operator.Quantifier.{Quantifier}
+use Rattle.pb_text_tree.specs.declared.variable.Variables.{Variables}
+use Rattle.pb_text_tree.specs.declared.term.Argument.{Argument}
+use Rattle.pb_text_tree.specs.declared.formula.Formula as ast
+use Rattle.pb_text_tree.specs.declared.formula.Link.{Link}
+use Rattle.pb_text_tree.specs.Form as form
+use Rattle.pb_text_tree.specs.Form.{FormulaForm, formula_form, link_forms, argument_forms, term_form}
+use Rattle.pb_text_tree.proofs.FormLemmas.{formula-chain}
+use Rattle.pb_text_meaning.specs.Syntax as syntax
+use Rattle.pb_text_meaning.specs.Syntax.{Name, same_name, Variable, Equation, Spec}
+use Rattle.pb_text_meaning.specs.Erase.{erased_formula, erased_arguments, erased_term, joined}
+use Rattle.pb_typing_declarations.specs.Agreement.{equation_place}
+use Rattle.pb_typing_declarations.specs.Shapes.{Shape}
+use Rattle.pb_typing_rules.specs.Faults.{operand_parity}
+use Rattle.pb_typing_rules.specs.Scope.{Scope}
 use Rattle.pb_typing.proofs.Links.{links-drop, links-ended}
-use Rattle.pb_shapes.specs.Term.{shape}
+use Rattle.pb_typing_rules.specs.Term.{shape}
 use Rattle.pb_typing.specs.View.{shape_view}
 use Rattle.pb_normal.specs.declared.formula.Argument as declared
 use Rattle.pb_normal.specs.declared.formula.Formula as code

@@ -2,22 +2,22 @@
 use Rattle.std.proofs.Common.{◌≡◌, ℕ, zero, suc, ◌+◌, Bool, true, false, not, ◌||◌, if◌then◌else◌, List, [], ◌∷◌, length, Option, Some, None, sym, subst, arith, true≢false}
 use Rattle.std.specs.List.{All}
 use Rattle.pb_carriers.specs.Carrier.{Value, Tuple, Carrier, is_within, contains}
-use Rattle.pb_syntax.specs.Syntax as syntax
-use Rattle.pb_syntax.specs.Syntax.{same_name, Variable, Operator, Terms, Equation, Spec}
-use Rattle.pb_syntax.specs.Sorts.{carrier_of}
-use Rattle.pb_syntax.specs.Value.{Assignment}
-use Rattle.pb_syntax.specs.Formula.{carriers_of, equation_named}
-use Rattle.pb_syntax.specs.Meaning.{assigned}
-use Rattle.pb_declarations.specs.Shapes.{sort_shape}
-use Rattle.pb_declarations.proofs.ShapeLaws.{shape_carrier-sort_shape}
-use Rattle.pb_shapes.specs.Shapes.{IsValueOf}
-use Rattle.pb_shapes.specs.Scope.{Scope, outermost, declare, bound, Within}
-use Rattle.pb_shapes.specs.Term.{shape, AreTyped}
-use Rattle.pb_shapes.specs.Formula.{IsProper}
-use Rattle.pb_shapes.specs.WellTyped.{parameters_of, AreProper, IsWellTyped}
-use Rattle.pb_shapes.proofs.Values.{and_true}
-use Rattle.pb_shapes.proofs.Names.{within_declared, sort_value}
-use Rattle.pb_shapes.proofs.Contained.{contained, called_typed}
+use Rattle.pb_text_meaning.specs.Syntax as syntax
+use Rattle.pb_text_meaning.specs.Syntax.{same_name, Variable, Operator, Terms, Equation, Spec}
+use Rattle.pb_text_meaning.specs.Sorts.{carrier_of}
+use Rattle.pb_text_meaning.specs.Value.{Assignment}
+use Rattle.pb_text_meaning.specs.Formula.{carriers_of, equation_named}
+use Rattle.pb_text_meaning.specs.Meaning.{assigned}
+use Rattle.pb_typing_declarations.specs.Shapes.{sort_shape}
+use Rattle.pb_typing_declarations.proofs.ShapeLaws.{shape_carrier-sort_shape}
+use Rattle.pb_typing_rules.specs.Shapes.{IsValueOf}
+use Rattle.pb_typing_rules.specs.Scope.{Scope, outermost, declare, bound, Within}
+use Rattle.pb_typing_rules.specs.Term.{shape, AreTyped}
+use Rattle.pb_typing_rules.specs.Formula.{IsProper}
+use Rattle.pb_typing_rules.specs.WellTyped.{parameters_of, AreProper, IsWellTyped}
+use Rattle.pb_typing_rules.proofs.Values.{and_true}
+use Rattle.pb_typing_rules.proofs.Names.{within_declared, sort_value}
+use Rattle.pb_typing_rules.proofs.Contained.{contained, called_typed}
 use Rattle.pb_normal.specs.Expansion.{has_quantifier, connected, expanded_term, expanded}
 use Rattle.pb_normal.specs.Normal.{Term, Argument, Formula, Slots, set, value}
 use Rattle.pb_normal.specs.Normalisation.{Slotting, unslotted, with_slot, with_slots, slotted, width, signed_test, is_universal, each, arguments, place_of, call, normal}

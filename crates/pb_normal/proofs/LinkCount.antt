@@ -1,6 +1,6 @@
 -- The links of a chain up to the last that has a quantifier.
 use Rattle.std.proofs.Common.{◌≡◌, ℕ, zero, suc, ◌<◌, ◌≤◌, Bool, true, false, cond, ◌||◌, List, [], ◌∷◌, length, get_or, drop, refl, sym, ◌∙◌, ap, arith}
-use Rattle.pb_ast.specs.declared.term.TermLink.{TermLink}
+use Rattle.pb_text_tree.specs.declared.term.TermLink.{TermLink}
 use Rattle.pb_normal.specs.Links.{links_have_quantifier, quantified_count}
 use Rattle.pb_normal.proofs.Quantifiers.{quantified}
 

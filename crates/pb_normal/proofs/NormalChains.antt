@@ -1,18 +1,18 @@
 -- Chains and quantifiers in normal form: what the code's flat nodes stand for.
 use Rattle.std.proofs.Common.{◌≡◌, ℕ, suc, ◌+◌, Bool, false, not, if◌then◌else◌, List, [], ◌∷◌, length, refl, sym, ◌∙◌, ap, arith, Some, true≢false}
 use Rattle.pb_sorts.specs.declared.carrier.Carrier.{Carrier}
-use Rattle.pb_ast.specs.declared.operator.Connective.{Connective}
-use Rattle.pb_ast.specs.declared.operator.Connective.TheVariants.{And, Or, Implies}
-use Rattle.pb_ast.specs.declared.formula.Link.{Link}
-use Rattle.pb_ast.specs.Form as form
-use Rattle.pb_ast.specs.Form.{FormulaForm, TermForm, formula_form, link_forms, term_form, term_links}
-use Rattle.pb_syntax.specs.Syntax as syntax
-use Rattle.pb_syntax.specs.Syntax.{Variable, Operator, Spec}
-use Rattle.pb_syntax.specs.Erase.{erased_formula}
-use Rattle.pb_declarations.specs.Shapes.{Shape, sort_shape}
-use Rattle.pb_declarations.specs.Entries.{carrier_shape}
-use Rattle.pb_shapes.specs.Faults.{operand_parity}
-use Rattle.pb_shapes.specs.Scope.{Scope}
+use Rattle.pb_text_tree.specs.declared.operator.Connective.{Connective}
+use Rattle.pb_text_tree.specs.declared.operator.Connective.TheVariants.{And, Or, Implies}
+use Rattle.pb_text_tree.specs.declared.formula.Link.{Link}
+use Rattle.pb_text_tree.specs.Form as form
+use Rattle.pb_text_tree.specs.Form.{FormulaForm, TermForm, formula_form, link_forms, term_form, term_links}
+use Rattle.pb_text_meaning.specs.Syntax as syntax
+use Rattle.pb_text_meaning.specs.Syntax.{Variable, Operator, Spec}
+use Rattle.pb_text_meaning.specs.Erase.{erased_formula}
+use Rattle.pb_typing_declarations.specs.Shapes.{Shape, sort_shape}
+use Rattle.pb_typing_declarations.specs.Entries.{carrier_shape}
+use Rattle.pb_typing_rules.specs.Faults.{operand_parity}
+use Rattle.pb_typing_rules.specs.Scope.{Scope}
 use Rattle.pb_normal.specs.Chains.{joins}
 use Rattle.pb_normal.specs.Expansion.{has_quantifier, expanded, expanded_term, connected}
 use Rattle.pb_normal.specs.Normal.{Formula, Join, Each}

@@ -3,9 +3,9 @@ use Rattle.std.proofs.Common.{◌≡◌, ℕ, suc, ◌+◌, ◌<◌, Bool, true,
 use Rattle.std.specs.List.{slice_get}
 use Rattle.std.specs.Option.{option_map}
 use Rattle.pb_carriers.specs.Carrier.{Value, Tuple}
-use Rattle.pb_syntax.specs.Syntax.{Name, same_name, Variable}
-use Rattle.pb_syntax.specs.Value.{Assignment, looked_up}
-use Rattle.pb_syntax.specs.Meaning.{assigned}
+use Rattle.pb_text_meaning.specs.Syntax.{Name, same_name, Variable}
+use Rattle.pb_text_meaning.specs.Value.{Assignment, looked_up}
+use Rattle.pb_text_meaning.specs.Meaning.{assigned}
 use Rattle.pb_normal.specs.Normal.{Slots}
 use Rattle.pb_normal.specs.Normalisation.{Slotting, unslotted, with_slot, with_slots}
 use Rattle.pb_normal.specs.Plain.{AreFree, Agree}

@@ -1,12 +1,12 @@
 -- In a well-typed formula whose data terms with quantifiers are read as formulas, no data term has a quantifier.
 use Rattle.std.proofs.Common.{◌≡◌, Bool, true, false, not, ◌||◌, if◌then◌else◌, refl, sym, ◌∙◌, ap, subst, true≢false}
-use Rattle.pb_syntax.specs.Syntax.{Operator, Term, Terms, Formula, Spec}
-use Rattle.pb_syntax.specs.Formula.{equation_named}
-use Rattle.pb_shapes.specs.Shapes.{OperatorKind, OfTruths, OfAlike, OfWholes, Computed, kind_of}
-use Rattle.pb_shapes.specs.Scope.{Scope, bound}
-use Rattle.pb_shapes.specs.Term.{passes, IsTyped, AreTyped}
-use Rattle.pb_shapes.specs.Formula.{IsProper}
-use Rattle.pb_shapes.proofs.Contained.{called_typed}
+use Rattle.pb_text_meaning.specs.Syntax.{Operator, Term, Terms, Formula, Spec}
+use Rattle.pb_text_meaning.specs.Formula.{equation_named}
+use Rattle.pb_typing_rules.specs.Shapes.{OperatorKind, OfTruths, OfAlike, OfWholes, Computed, kind_of}
+use Rattle.pb_typing_rules.specs.Scope.{Scope, bound}
+use Rattle.pb_typing_rules.specs.Term.{passes, IsTyped, AreTyped}
+use Rattle.pb_typing_rules.specs.Formula.{IsProper}
+use Rattle.pb_typing_rules.proofs.Contained.{called_typed}
 use Rattle.pb_normal.specs.Expansion.{has_quantifier, have_quantifier, connected, expanded_term, expanded}
 use Rattle.pb_normal.specs.Plain.{IsPlain}
 

@@ -1,7 +1,7 @@
 -- Reading data terms with quantifiers as formulas leaves each call under as many negations as before.
 use Rattle.std.proofs.Common.{Bool, true, false, not, ◌||◌, if◌then◌else◌}
-use Rattle.pb_syntax.specs.Syntax.{Operator, Term, Formula}
-use Rattle.pb_syntax.specs.Positive.{IsPositive}
+use Rattle.pb_text_meaning.specs.Syntax.{Operator, Term, Formula}
+use Rattle.pb_text_meaning.specs.Positive.{IsPositive}
 use Rattle.pb_normal.specs.Expansion.{has_quantifier, connected, expanded_term, expanded}
 
 choose-positive : (even c : Bool) (f g : Formula) → IsPositive even f → IsPositive even g → IsPositive even (if c then f else g)

@@ -1,13 +1,13 @@
 -- In a well-typed formula each variable of a quantifier, in data too, is of a sort that has values.
 use Rattle.std.proofs.Common.{◌≡◌, zero, suc, Bool, true, false, not, ◌||◌, if◌then◌else◌, List, [], ◌∷◌, arith}
 use Rattle.std.specs.List.{All}
-use Rattle.pb_syntax.specs.Syntax.{Variable, Operator, Term, Formula, Spec}
-use Rattle.pb_declarations.specs.Shapes.{end_of}
-use Rattle.pb_declarations.specs.WellDeclared.{has_shape}
-use Rattle.pb_shapes.specs.Shapes.{kind_of}
-use Rattle.pb_shapes.specs.Scope.{Scope, bound}
-use Rattle.pb_shapes.specs.Term.{passes, IsTyped}
-use Rattle.pb_shapes.specs.Formula.{IsProper}
+use Rattle.pb_text_meaning.specs.Syntax.{Variable, Operator, Term, Formula, Spec}
+use Rattle.pb_typing_declarations.specs.Shapes.{end_of}
+use Rattle.pb_typing_declarations.specs.WellDeclared.{has_shape}
+use Rattle.pb_typing_rules.specs.Shapes.{kind_of}
+use Rattle.pb_typing_rules.specs.Scope.{Scope, bound}
+use Rattle.pb_typing_rules.specs.Term.{passes, IsTyped}
+use Rattle.pb_typing_rules.specs.Formula.{IsProper}
 use Rattle.pb_normal.specs.Expansion.{has_quantifier, connected, expanded_term, expanded}
 use Rattle.pb_normal.specs.Loops.{AreShaped, IsShaped}
 

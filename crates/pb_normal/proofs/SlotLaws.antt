@@ -2,11 +2,11 @@
 use Rattle.std.proofs.Common.{◌≡◌, ℕ, zero, suc, ◌+◌, ◌<◌, ◌≤◌, ◌==◌, Bool, true, false, not, ◌&&◌, ◌||◌, if◌then◌else◌, List, [], ◌∷◌, ◌++◌, length, Option, Some, None, refl, sym, ◌∙◌, ap, subst, arith, tests, codes}
 use Rattle.std.specs.List.{All, range_with_len}
 use Rattle.std.specs.Prelude.{nat_lt, unwrap_or}
-use Rattle.pb_syntax.specs.Syntax as syntax
-use Rattle.pb_syntax.specs.Syntax.{Name, same_name, Variable, Terms, Equation, Spec}
-use Rattle.pb_declarations.specs.Enumerators.{Position, enumerator_of, recogniser_of}
-use Rattle.pb_shapes.specs.Scope.{Scope, bound}
-use Rattle.pb_shapes.specs.WellTyped.{parameters_of}
+use Rattle.pb_text_meaning.specs.Syntax as syntax
+use Rattle.pb_text_meaning.specs.Syntax.{Name, same_name, Variable, Terms, Equation, Spec}
+use Rattle.pb_typing_declarations.specs.Enumerators.{Position, enumerator_of, recogniser_of}
+use Rattle.pb_typing_rules.specs.Scope.{Scope, bound}
+use Rattle.pb_typing_rules.specs.WellTyped.{parameters_of}
 use Rattle.pb_normal.specs.Expansion.{expanded}
 use Rattle.pb_normal.specs.Normal.{Term, Argument, Formula}
 use Rattle.pb_normal.specs.Normalisation as made

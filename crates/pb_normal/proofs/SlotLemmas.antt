@@ -5,18 +5,18 @@ use Rattle.std.proofs.lemmas.List.{append_assoc, append-nil, length-append, leng
 use denote.Ref.{Bor}
 use Rattle.std.specs.HashMap.{IsEmpty, Updates}
 use Rattle.pb_sorts.specs.declared.carrier.Carrier.{Carrier}
-use Rattle.pb_ast.specs.declared.name.Name as ast
-use Rattle.pb_ast.specs.declared.variable.Variables.{Variables}
-use Rattle.pb_ast.specs.Form.{VariableForm, named, variable_forms}
-use Rattle.pb_syntax.specs.Syntax.{Name, same_name, Variable, Spec}
-use Rattle.pb_syntax.specs.Sorts.{or_else}
-use Rattle.pb_syntax.specs.Erase.{erased_variables}
-use Rattle.pb_declarations.specs.Shapes.{Shape, Unknown, sort_shape, end_of}
-use Rattle.pb_declarations.specs.Entries.{carrier_shape}
-use Rattle.pb_declarations.specs.Tables.{Table, looked_up}
-use Rattle.pb_declarations.specs.WellDeclared.{has_shape}
-use Rattle.pb_declarations.proofs.Filling.{none_in, put_in}
-use Rattle.pb_declarations.proofs.ShapeLaws.{known}
+use Rattle.pb_text_tree.specs.declared.name.Name as ast
+use Rattle.pb_text_tree.specs.declared.variable.Variables.{Variables}
+use Rattle.pb_text_tree.specs.Form.{VariableForm, named, variable_forms}
+use Rattle.pb_text_meaning.specs.Syntax.{Name, same_name, Variable, Spec}
+use Rattle.pb_text_meaning.specs.Sorts.{or_else}
+use Rattle.pb_text_meaning.specs.Erase.{erased_variables}
+use Rattle.pb_typing_declarations.specs.Shapes.{Shape, Unknown, sort_shape, end_of}
+use Rattle.pb_typing_declarations.specs.Entries.{carrier_shape}
+use Rattle.pb_typing_declarations.specs.Tables.{Table, looked_up}
+use Rattle.pb_typing_declarations.specs.WellDeclared.{has_shape}
+use Rattle.pb_typing_declarations.proofs.Filling.{none_in, put_in}
+use Rattle.pb_typing_declarations.proofs.ShapeLaws.{known}
 use Rattle.pb_typing.proofs.Links.{links-drop, links-ended}
 use Rattle.pb_normal.specs.Loops.{AreShaped, variable_shapes}
 use Rattle.pb_normal.specs.Normalisation.{Slotting, unslotted, with_slot, with_slots}

@@ -2,12 +2,12 @@
 use Rattle.std.proofs.Common.{◌≡◌, ℕ, pos, Bool, true, false, not, ◌||◌, if◌then◌else◌, List, [], ◌∷◌, map, Option, Some, None, refl, sym, ◌∙◌, ap, true≢false}
 use Rattle.std.specs.Prelude.{codes, unwrap_or, option_map, neg_ℤ}
 use Rattle.pb_carriers.specs.Carrier.{Value, of_bool}
-use Rattle.pb_syntax.specs.Syntax as syntax
-use Rattle.pb_syntax.specs.Syntax.{Name, same_name, Terms, Spec}
-use Rattle.pb_declarations.specs.Enumerators.{Position, enumerator_of, recogniser_of}
-use Rattle.pb_declarations.proofs.PlaceLaws.{enumerators-place_in, recognisers-place_in}
-use Rattle.pb_syntax.specs.Value as meaning
-use Rattle.pb_syntax.specs.Value.{Assignment, looked_up, is_true, is_place, binary, function_of_one, function_of_two, function_of_three, function_value, recognised, named_value, values}
+use Rattle.pb_text_meaning.specs.Syntax as syntax
+use Rattle.pb_text_meaning.specs.Syntax.{Name, same_name, Terms, Spec}
+use Rattle.pb_typing_declarations.specs.Enumerators.{Position, enumerator_of, recogniser_of}
+use Rattle.pb_typing_declarations.proofs.PlaceLaws.{enumerators-place_in, recognisers-place_in}
+use Rattle.pb_text_meaning.specs.Value as meaning
+use Rattle.pb_text_meaning.specs.Value.{Assignment, looked_up, is_true, is_place, binary, function_of_one, function_of_two, function_of_three, function_value, recognised, named_value, values}
 use Rattle.pb_normal.specs.Expansion.{has_quantifier, have_quantifier}
 use Rattle.pb_normal.specs.Normal.{Term, Slots, value}
 use Rattle.pb_normal.specs.Normalisation as made

@@ -5,18 +5,18 @@ use Rattle.std.specs.Option.{option_map}
 use Rattle.std.specs.Prelude.{unwrap_or}
 use Rattle.std.specs.Cmp.Lexicographic.{same_text}
 use Rattle.pb_fixpoint.specs.Solution.{Environment}
-use Rattle.pb_ast.specs.declared.operator.Quantifier.{Quantifier}
-use Rattle.pb_ast.specs.declared.operator.Quantifier.TheVariants.{Forall, Exists}
+use Rattle.pb_text_tree.specs.declared.operator.Quantifier.{Quantifier}
+use Rattle.pb_text_tree.specs.declared.operator.Quantifier.TheVariants.{Forall, Exists}
 use Rattle.pb_carriers.specs.Carrier.{Value, Carrier, of_bool}
-use Rattle.pb_syntax.specs.Syntax as syntax
-use Rattle.pb_syntax.specs.Syntax.{Name, same_name, Variable, Terms, Equation, Spec}
-use Rattle.pb_syntax.specs.Sorts.{carrier_of}
-use Rattle.pb_syntax.specs.Value.{Assignment, looked_up, of_values, quantified, is_true, values}
-use Rattle.pb_syntax.specs.Formula as meaning
-use Rattle.pb_syntax.specs.Formula.{Instance, equation_named, fits, call_truth}
-use Rattle.pb_syntax.specs.Positive.{IsPositive}
-use Rattle.pb_declarations.specs.Shapes.{shape_carrier, sort_shape}
-use Rattle.pb_shapes.specs.Scope.{Scope, bound}
+use Rattle.pb_text_meaning.specs.Syntax as syntax
+use Rattle.pb_text_meaning.specs.Syntax.{Name, same_name, Variable, Terms, Equation, Spec}
+use Rattle.pb_text_meaning.specs.Sorts.{carrier_of}
+use Rattle.pb_text_meaning.specs.Value.{Assignment, looked_up, of_values, quantified, is_true, values}
+use Rattle.pb_text_meaning.specs.Formula as meaning
+use Rattle.pb_text_meaning.specs.Formula.{Instance, equation_named, fits, call_truth}
+use Rattle.pb_text_meaning.specs.Positive.{IsPositive}
+use Rattle.pb_typing_declarations.specs.Shapes.{shape_carrier, sort_shape}
+use Rattle.pb_typing_rules.specs.Scope.{Scope, bound}
 use Rattle.pb_normal.specs.Normal.{Term, Argument, Formula, Slots, set, joined, quantifier, name_of, truth, value}
 use Rattle.pb_normal.specs.Normalisation as made
 use Rattle.pb_normal.specs.Normalisation.{Slotting, with_slot, slotted, width, signed_test, is_universal, each, arguments, place_of}

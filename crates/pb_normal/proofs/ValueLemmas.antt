@@ -2,18 +2,18 @@
 use Rattle.std.proofs.Common.{◌≡◌, ℕ, ◌+◌, Bool, true, false, cond, ◌||◌, List, [], ◌∷◌, ◌++◌, length, refl, sym, ◌∙◌, ap, subst, arith, true≢false}
 use Rattle.std.proofs.lemmas.List.{append-nil, length-append}
 use Rattle.pb_sorts.specs.declared.carrier.Carrier.{Carrier}
-use Rattle.pb_ast.specs.declared.operator.Connective.{Connective}
-use Rattle.pb_ast.specs.declared.operator.Connective.TheVariants.{And, Or, Implies}
-use Rattle.pb_ast.specs.declared.term.Term as ast
-use Rattle.pb_ast.specs.declared.term.TermLink.{TermLink}
-use Rattle.pb_ast.specs.Form as form
-use Rattle.pb_ast.specs.Form.{TermForm, term_form, term_links}
-use Rattle.pb_syntax.specs.Syntax as syntax
-use Rattle.pb_syntax.specs.Syntax.{Variable, Spec}
-use Rattle.pb_syntax.specs.Erase.{erased_term, of_connective, joined}
-use Rattle.pb_declarations.specs.Shapes.{Shape}
-use Rattle.pb_shapes.specs.Faults.{left_parity, operand_parity}
-use Rattle.pb_shapes.specs.Scope.{Scope}
+use Rattle.pb_text_tree.specs.declared.operator.Connective.{Connective}
+use Rattle.pb_text_tree.specs.declared.operator.Connective.TheVariants.{And, Or, Implies}
+use Rattle.pb_text_tree.specs.declared.term.Term as ast
+use Rattle.pb_text_tree.specs.declared.term.TermLink.{TermLink}
+use Rattle.pb_text_tree.specs.Form as form
+use Rattle.pb_text_tree.specs.Form.{TermForm, term_form, term_links}
+use Rattle.pb_text_meaning.specs.Syntax as syntax
+use Rattle.pb_text_meaning.specs.Syntax.{Variable, Spec}
+use Rattle.pb_text_meaning.specs.Erase.{erased_term, of_connective, joined}
+use Rattle.pb_typing_declarations.specs.Shapes.{Shape}
+use Rattle.pb_typing_rules.specs.Faults.{left_parity, operand_parity}
+use Rattle.pb_typing_rules.specs.Scope.{Scope}
 use Rattle.pb_normal.specs.Chains.{joins}
 use Rattle.pb_normal.specs.Expansion.{has_quantifier, expanded_term}
 use Rattle.pb_normal.specs.Links.{links_have_quantifier}

@@ -4,26 +4,26 @@ use Rattle.std.specs.declared.alloc.AllocError.{AllocError}
 use Rattle.std.specs.Prelude.{box_value}
 use Rattle.std.proofs.lemmas.List.{append-nil, append_assoc, get_or_append_left, length-drop}
 use Rattle.pb_sorts.specs.declared.carrier.Carrier.{Carrier}
-use Rattle.pb_ast.specs.declared.place.Place.{Place}
-use Rattle.pb_ast.specs.declared.operator.Arithmetic.{Arithmetic}
-use Rattle.pb_ast.specs.declared.operator.Arithmetic.TheVariants as arithmetic
-use Rattle.pb_ast.specs.declared.operator.Comparison.{Comparison}
-use Rattle.pb_ast.specs.declared.operator.Comparison.TheVariants as comparison
-use Rattle.pb_ast.specs.declared.operator.Connective.{Connective}
-use Rattle.pb_ast.specs.declared.operator.Quantifier.{Quantifier}
-use Rattle.pb_ast.specs.declared.variable.Variables.{Variables}
-use Rattle.pb_ast.specs.declared.term.Term as ast
-use Rattle.pb_ast.specs.declared.term.TermLink.{TermLink}
-use Rattle.pb_ast.specs.declared.term.ArithmeticLink.{ArithmeticLink}
-use Rattle.pb_ast.specs.Form as form
-use Rattle.pb_ast.specs.Form.{TermForm, term_form, term_links, arithmetic_links}
-use Rattle.pb_ast.proofs.FormLemmas.{term-chain, term-arithmetic}
-use Rattle.pb_syntax.specs.Syntax as syntax
-use Rattle.pb_syntax.specs.Syntax.{Variable, Spec}
-use Rattle.pb_syntax.specs.Erase.{erased_term, of_arithmetic, of_comparison}
-use Rattle.pb_declarations.specs.Shapes.{Shape}
-use Rattle.pb_shapes.specs.Faults.{operand_parity}
-use Rattle.pb_shapes.specs.Scope.{Scope, bound}
+use Rattle.pb_text_tree.specs.declared.place.Place.{Place}
+use Rattle.pb_text_tree.specs.declared.operator.Arithmetic.{Arithmetic}
+use Rattle.pb_text_tree.specs.declared.operator.Arithmetic.TheVariants as arithmetic
+use Rattle.pb_text_tree.specs.declared.operator.Comparison.{Comparison}
+use Rattle.pb_text_tree.specs.declared.operator.Comparison.TheVariants as comparison
+use Rattle.pb_text_tree.specs.declared.operator.Connective.{Connective}
+use Rattle.pb_text_tree.specs.declared.operator.Quantifier.{Quantifier}
+use Rattle.pb_text_tree.specs.declared.variable.Variables.{Variables}
+use Rattle.pb_text_tree.specs.declared.term.Term as ast
+use Rattle.pb_text_tree.specs.declared.term.TermLink.{TermLink}
+use Rattle.pb_text_tree.specs.declared.term.ArithmeticLink.{ArithmeticLink}
+use Rattle.pb_text_tree.specs.Form as form
+use Rattle.pb_text_tree.specs.Form.{TermForm, term_form, term_links, arithmetic_links}
+use Rattle.pb_text_tree.proofs.FormLemmas.{term-chain, term-arithmetic}
+use Rattle.pb_text_meaning.specs.Syntax as syntax
+use Rattle.pb_text_meaning.specs.Syntax.{Variable, Spec}
+use Rattle.pb_text_meaning.specs.Erase.{erased_term, of_arithmetic, of_comparison}
+use Rattle.pb_typing_declarations.specs.Shapes.{Shape}
+use Rattle.pb_typing_rules.specs.Faults.{operand_parity}
+use Rattle.pb_typing_rules.specs.Scope.{Scope, bound}
 use Rattle.pb_typing.proofs.Links.{links-drop}
 use Rattle.pb_normal.specs.declared.formula.Formula as code
 use Rattle.pb_normal.specs.Chains.{joins}

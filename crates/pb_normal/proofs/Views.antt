@@ -1,8 +1,8 @@
 -- The operands of a chain, as they stand in its node, are those of its vector.
 use Rattle.std.proofs.Common.{◌≡◌, Bool, refl, ◌∙◌, ap, ◌∷◌, Vec, Global, Box}
 use Rattle.std.specs.Prelude.{box_value}
-use Rattle.pb_ast.specs.declared.operator.Connective.{Connective}
-use Rattle.pb_syntax.specs.Erase.{of_connective}
+use Rattle.pb_text_tree.specs.declared.operator.Connective.{Connective}
+use Rattle.pb_text_meaning.specs.Erase.{of_connective}
 use Rattle.pb_normal.specs.Normal.{Binary, Join}
 use Rattle.pb_normal.specs.declared.term.Term as term
 use Rattle.pb_normal.specs.declared.term.Term.{Term, Row_of-Term, end_of-Term, more_of-Term, items-the_row-Term, items_hidden-the_row-Term-0, Row_of-Link, end_of-Link, more_of-Link, items-the_row-Link, items_hidden-the_row-Link-1}

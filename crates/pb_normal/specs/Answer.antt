@@ -4,10 +4,10 @@ use Rattle.std.specs.List.{slice_get}
 use Rattle.pb_fixpoint.specs.Solution as fixpoint
 use Rattle.pb_fixpoint.specs.Solution.{solution, empty}
 use Rattle.pb_carriers.specs.Carrier.{Tuple}
-use Rattle.pb_syntax.specs.Syntax.{Equation, Spec}
-use Rattle.pb_syntax.specs.Value.{values}
-use Rattle.pb_syntax.specs.Formula.{Instance, call_truth}
-use Rattle.pb_syntax.specs.Meaning.{equation_of}
+use Rattle.pb_text_meaning.specs.Syntax.{Equation, Spec}
+use Rattle.pb_text_meaning.specs.Value.{values}
+use Rattle.pb_text_meaning.specs.Formula.{Instance, call_truth}
+use Rattle.pb_text_meaning.specs.Meaning.{equation_of}
 use Rattle.pb_normal.specs.Normal.{Formula, Slots, truth}
 use Rattle.pb_normal.specs.Equations.{normal_equation}
 

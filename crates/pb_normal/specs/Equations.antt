@@ -3,10 +3,10 @@ use Rattle.std.specs.Prelude.{◌≡◌, ℕ, ◌<◌, true, length, Some}
 use Rattle.std.specs.List.{slice_get}
 use Rattle.pb_fixpoint.specs.Solution.{Environment}
 use Rattle.pb_carriers.specs.Carrier.{Tuple}
-use Rattle.pb_syntax.specs.Syntax.{Equation, Spec}
-use Rattle.pb_syntax.specs.Formula.{Instance}
-use Rattle.pb_syntax.specs.Meaning.{equation_of}
-use Rattle.pb_shapes.specs.WellTyped.{parameters_of}
+use Rattle.pb_text_meaning.specs.Syntax.{Equation, Spec}
+use Rattle.pb_text_meaning.specs.Formula.{Instance}
+use Rattle.pb_text_meaning.specs.Meaning.{equation_of}
+use Rattle.pb_typing_rules.specs.WellTyped.{parameters_of}
 use Rattle.pb_normal.specs.Expansion.{expanded}
 use Rattle.pb_normal.specs.Normal.{Formula, Slots, truth}
 use Rattle.pb_normal.specs.Normalisation.{normal, unslotted, with_slots}

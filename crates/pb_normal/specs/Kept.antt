@@ -2,11 +2,11 @@
 use Rattle.std.specs.Prelude.{◌≡◌, true, ⊤}
 use Rattle.std.specs.List.{All}
 use Rattle.pb_carriers.specs.Carrier.{Value, contains}
-use Rattle.pb_syntax.specs.Syntax.{Equation, Spec}
-use Rattle.pb_syntax.specs.Formula.{Instance}
-use Rattle.pb_syntax.specs.Meaning.{equation_of}
-use Rattle.pb_declarations.specs.Shapes.{shape_carrier}
-use Rattle.pb_shapes.specs.Shapes.{IsValueOf}
+use Rattle.pb_text_meaning.specs.Syntax.{Equation, Spec}
+use Rattle.pb_text_meaning.specs.Formula.{Instance}
+use Rattle.pb_text_meaning.specs.Meaning.{equation_of}
+use Rattle.pb_typing_declarations.specs.Shapes.{shape_carrier}
+use Rattle.pb_typing_rules.specs.Shapes.{IsValueOf}
 use Rattle.pb_normal.specs.Normal.{Argument, Formula, Test, Join, Each, Call, Slots, set, value}
 use Rattle.pb_normal.specs.Equations.{normal_equation, Hold}
 

@@ -1,10 +1,10 @@
 -- Quantifiers among the operands of chains.
 use Rattle.std.specs.Prelude.{ℕ, suc, Bool, if◌then◌else◌, List, [], ◌∷◌}
 use Rattle.std.specs.List.{list_any}
-use Rattle.pb_ast.specs.declared.term.TermLink.{TermLink}
-use Rattle.pb_ast.specs.declared.term.ArithmeticLink.{ArithmeticLink}
-use Rattle.pb_ast.specs.Form.{term_form}
-use Rattle.pb_syntax.specs.Erase.{erased_term}
+use Rattle.pb_text_tree.specs.declared.term.TermLink.{TermLink}
+use Rattle.pb_text_tree.specs.declared.term.ArithmeticLink.{ArithmeticLink}
+use Rattle.pb_text_tree.specs.Form.{term_form}
+use Rattle.pb_text_meaning.specs.Erase.{erased_term}
 use Rattle.pb_normal.specs.Expansion.{has_quantifier}
 
 abbrev pub links_have_quantifier : List TermLink → Bool

@@ -1,8 +1,8 @@
 -- The slots that the quantifiers of a formula take.
 use Rattle.std.specs.Prelude.{◌≡◌, true, ⊤, List, [], ◌∷◌, ◌++◌, map}
-use Rattle.pb_syntax.specs.Syntax.{Variable, Formula, Equation, Spec}
-use Rattle.pb_declarations.specs.Shapes.{Shape, end_of, sort_shape}
-use Rattle.pb_declarations.specs.WellDeclared.{has_shape}
+use Rattle.pb_text_meaning.specs.Syntax.{Variable, Formula, Equation, Spec}
+use Rattle.pb_typing_declarations.specs.Shapes.{Shape, end_of, sort_shape}
+use Rattle.pb_typing_declarations.specs.WellDeclared.{has_shape}
 use Rattle.pb_normal.specs.Expansion.{expanded}
 
 -- the shapes of variables, in order

@@ -4,13 +4,13 @@ use Rattle.std.specs.Ordering.{int_eq}
 use Rattle.std.specs.Int.{int_max, int_min}
 use Rattle.std.specs.List.{slice_get}
 use Rattle.pb_fixpoint.specs.Solution.{Environment}
-use Rattle.pb_ast.specs.declared.operator.Quantifier.{Quantifier}
-use Rattle.pb_ast.specs.declared.operator.Quantifier.TheVariants.{Forall, Exists}
+use Rattle.pb_text_tree.specs.declared.operator.Quantifier.{Quantifier}
+use Rattle.pb_text_tree.specs.declared.operator.Quantifier.TheVariants.{Forall, Exists}
 use Rattle.pb_carriers.specs.Carrier.{Value, of_bool}
-use Rattle.pb_syntax.specs.Syntax.{Name, Operator, Equation, Spec}
-use Rattle.pb_syntax.specs.Value.{is_true, binary, of_values}
-use Rattle.pb_syntax.specs.Formula.{Instance, call_truth}
-use Rattle.pb_declarations.specs.Shapes.{Shape, shape_carrier}
+use Rattle.pb_text_meaning.specs.Syntax.{Name, Operator, Equation, Spec}
+use Rattle.pb_text_meaning.specs.Value.{is_true, binary, of_values}
+use Rattle.pb_text_meaning.specs.Formula.{Instance, call_truth}
+use Rattle.pb_typing_declarations.specs.Shapes.{Shape, shape_carrier}
 
 -- a data term; an enumerator is given by its sort and its place there
 pub data Term : Type 0 where

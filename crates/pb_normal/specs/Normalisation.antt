@@ -1,13 +1,13 @@
 -- The positive normal form of a formula: negations are driven down to data (De Morgan), names become slots.
 use Rattle.std.specs.Prelude.{ℕ, suc, ◌+◌, Bool, true, false, not, ◌||◌, if◌then◌else◌, List, [], ◌∷◌, length, Option, Some, None, codes}
-use Rattle.pb_ast.specs.declared.operator.Quantifier.{Quantifier}
-use Rattle.pb_ast.specs.declared.operator.Quantifier.TheVariants.{Forall, Exists}
-use Rattle.pb_syntax.specs.Syntax as syntax
-use Rattle.pb_syntax.specs.Syntax.{Name, same_name, Variable, Terms, Equation, Spec}
-use Rattle.pb_declarations.specs.Shapes.{sort_shape}
-use Rattle.pb_declarations.specs.Enumerators.{Position, enumerator_of, recogniser_of}
-use Rattle.pb_shapes.specs.Scope.{Scope, bound}
-use Rattle.pb_shapes.specs.Term.{shape}
+use Rattle.pb_text_tree.specs.declared.operator.Quantifier.{Quantifier}
+use Rattle.pb_text_tree.specs.declared.operator.Quantifier.TheVariants.{Forall, Exists}
+use Rattle.pb_text_meaning.specs.Syntax as syntax
+use Rattle.pb_text_meaning.specs.Syntax.{Name, same_name, Variable, Terms, Equation, Spec}
+use Rattle.pb_typing_declarations.specs.Shapes.{sort_shape}
+use Rattle.pb_typing_declarations.specs.Enumerators.{Position, enumerator_of, recogniser_of}
+use Rattle.pb_typing_rules.specs.Scope.{Scope, bound}
+use Rattle.pb_typing_rules.specs.Term.{shape}
 use Rattle.pb_normal.specs.Normal.{Term, Number, Slot, Negative, Absolute, Successor, Predecessor, Binary, Maximum, Minimum, Choice, Recognised, Argument, Formula, Test, Join, Each, Call}
 
 -- ---- slots

@@ -1,8 +1,8 @@
 -- What is asked of a formula, of slots and of an assignment, so that the normal form keeps the truth.
 use Rattle.std.specs.Prelude.{◌≡◌, ℕ, ◌<◌, ⊤, Bool, true, false, not, Some}
 use Rattle.std.specs.Option.{option_map}
-use Rattle.pb_syntax.specs.Syntax.{Name, Formula}
-use Rattle.pb_syntax.specs.Value.{Assignment, looked_up}
+use Rattle.pb_text_meaning.specs.Syntax.{Name, Formula}
+use Rattle.pb_text_meaning.specs.Value.{Assignment, looked_up}
 use Rattle.pb_normal.specs.Expansion.{has_quantifier, have_quantifier}
 use Rattle.pb_normal.specs.Normal.{Slots}
 use Rattle.pb_normal.specs.Normalisation.{Slotting}

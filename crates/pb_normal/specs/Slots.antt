@@ -1,8 +1,8 @@
 -- The program's slots as the definitions name them.
 use Rattle.std.specs.Prelude.{ℕ, suc, List, [], ◌∷◌, string_bytes}
-use Rattle.pb_ast.specs.declared.name.Name.{Name}
-use Rattle.pb_syntax.specs.Sorts.{or_else}
-use Rattle.pb_declarations.specs.Tables.{Table, looked_up}
+use Rattle.pb_text_tree.specs.declared.name.Name.{Name}
+use Rattle.pb_text_meaning.specs.Sorts.{or_else}
+use Rattle.pb_typing_declarations.specs.Tables.{Table, looked_up}
 use Rattle.pb_normal.specs.declared.slots.Slots.{Slots}
 use Rattle.pb_normal.specs.declared.slots.Slots.TheVariants.{Outermost, Inner'}
 use Rattle.pb_normal.specs.Normalisation.{Slotting, unslotted, with_slot}

@@ -1,10 +1,10 @@
 -- The operands of a chain behind its last quantifier.
 use Rattle.std.specs.Prelude.{Bool, List, [], ◌∷◌}
-use Rattle.pb_ast.specs.declared.operator.Connective.{Connective}
-use Rattle.pb_ast.specs.declared.term.TermLink.{TermLink}
-use Rattle.pb_ast.specs.Form.{TermForm, chained, term_form, term_links}
-use Rattle.pb_syntax.specs.Syntax.{Spec}
-use Rattle.pb_syntax.specs.Erase.{erased_term}
+use Rattle.pb_text_tree.specs.declared.operator.Connective.{Connective}
+use Rattle.pb_text_tree.specs.declared.term.TermLink.{TermLink}
+use Rattle.pb_text_tree.specs.Form.{TermForm, chained, term_form, term_links}
+use Rattle.pb_text_meaning.specs.Syntax.{Spec}
+use Rattle.pb_text_meaning.specs.Erase.{erased_term}
 use Rattle.pb_normal.specs.Normal.{Formula}
 use Rattle.pb_normal.specs.Normalisation.{Slotting, slotted, signed_test}
 

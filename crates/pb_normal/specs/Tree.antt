@@ -1,15 +1,15 @@
 -- The parts of a syntax tree as the formulas that they are read as.
 use Rattle.std.specs.Prelude.{List}
-use Rattle.pb_ast.specs.declared.operator.Connective.{Connective}
-use Rattle.pb_ast.specs.declared.operator.Quantifier.{Quantifier}
-use Rattle.pb_ast.specs.declared.variable.Variables.{Variables}
-use Rattle.pb_ast.specs.declared.term.Term as ast
-use Rattle.pb_ast.specs.declared.term.TermLink.{TermLink}
-use Rattle.pb_ast.specs.declared.formula.Formula as predicate
-use Rattle.pb_ast.specs.declared.formula.Link.{Link}
-use Rattle.pb_ast.specs.Form.{TermForm, FormulaForm, chained, formula_form, link_forms, term_form, term_links, variable_forms}
-use Rattle.pb_syntax.specs.Syntax.{Term, Formula}
-use Rattle.pb_syntax.specs.Erase.{erased_formula, erased_term, erased_variables}
+use Rattle.pb_text_tree.specs.declared.operator.Connective.{Connective}
+use Rattle.pb_text_tree.specs.declared.operator.Quantifier.{Quantifier}
+use Rattle.pb_text_tree.specs.declared.variable.Variables.{Variables}
+use Rattle.pb_text_tree.specs.declared.term.Term as ast
+use Rattle.pb_text_tree.specs.declared.term.TermLink.{TermLink}
+use Rattle.pb_text_tree.specs.declared.formula.Formula as predicate
+use Rattle.pb_text_tree.specs.declared.formula.Link.{Link}
+use Rattle.pb_text_tree.specs.Form.{TermForm, FormulaForm, chained, formula_form, link_forms, term_form, term_links, variable_forms}
+use Rattle.pb_text_meaning.specs.Syntax.{Term, Formula}
+use Rattle.pb_text_meaning.specs.Erase.{erased_formula, erased_term, erased_variables}
 use Rattle.pb_normal.specs.Expansion.{expanded, expanded_term}
 
 -- a data term of kind Bool

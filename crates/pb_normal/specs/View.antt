@@ -2,10 +2,10 @@
 -- quantifier stands for one variable.
 use Rattle.std.specs.Prelude.{ℕ, suc, Bool, List, [], ◌∷◌, map, Some}
 use Rattle.pb_sorts.specs.declared.carrier.Carrier.{Carrier}
-use Rattle.pb_ast.specs.declared.operator.Arithmetic.{Arithmetic}
-use Rattle.pb_syntax.specs.Erase.{of_connective, of_comparison, of_arithmetic}
-use Rattle.pb_declarations.specs.Shapes.{Shape}
-use Rattle.pb_declarations.specs.Entries.{carrier_shape}
+use Rattle.pb_text_tree.specs.declared.operator.Arithmetic.{Arithmetic}
+use Rattle.pb_text_meaning.specs.Erase.{of_connective, of_comparison, of_arithmetic}
+use Rattle.pb_typing_declarations.specs.Shapes.{Shape}
+use Rattle.pb_typing_declarations.specs.Entries.{carrier_shape}
 use Rattle.pb_typing.specs.View.{shape_view}
 use Rattle.pb_normal.specs.Normal as normal
 use Rattle.pb_normal.specs.Normal.{Binary, Each, Join, Call, Test}

@@ -1,9 +1,9 @@
 //! Instances of predicate variables.
 
 ghost use Rattle.std.specs.Prelude.{◌≡◌, IfOk, map};
-ghost use Rattle.pb_ast.specs.Form.{argument_forms, instance_form};
-ghost use Rattle.pb_syntax.specs.Erase.{erased_arguments};
-ghost use Rattle.pb_declarations.specs.View.{spec_of};
+ghost use Rattle.pb_text_tree.specs.Form.{argument_forms, instance_form};
+ghost use Rattle.pb_text_meaning.specs.Erase.{erased_arguments};
+ghost use Rattle.pb_typing_declarations.specs.View.{spec_of};
 ghost use Rattle.pb_typing.specs.Scopes.{scope_view};
 ghost use Rattle.pb_normal.specs.Normalisation as normalisation;
 ghost use Rattle.pb_normal.specs.Slots.{slotting};
@@ -13,9 +13,9 @@ use crate::data::slot_term;
 use crate::formula::{Argument, Formula};
 use crate::slots::Slots;
 use crate::term::Term;
-use pb_ast::Instance;
-use pb_declarations::Declarations;
+use pb_text_tree::Instance;
 use pb_typing::{Scope, term_shape};
+use pb_typing_declarations::Declarations;
 use std::alloc::{AllocError, Global};
 
 /// An instance of the equation that has its name; false where none has.
@@ -48,7 +48,7 @@ fn normal_arguments<'t>(
     declarations: &Declarations<'_>,
     scope: &Scope<'_, 't>,
     slots: &Slots<'_, 't>,
-    arguments: &'t [pb_ast::Argument],
+    arguments: &'t [pb_text_tree::Argument],
 ) -> Result<Vec<Argument>, AllocError>
     ensures { IfOk result (λ normal. map argument_view normal.items ≡ normalisation.arguments (spec_of declarations.now) (slotting slots.now) (scope_view scope.now) (erased_arguments (argument_forms arguments.now))) }
 {

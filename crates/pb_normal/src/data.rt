@@ -1,9 +1,9 @@
 //! Data terms over slots.
 
 ghost use Rattle.std.specs.Prelude.{◌≡◌, ◌∷◌, IfOk};
-ghost use Rattle.pb_ast.specs.Form.{TermForm, argument_forms, arithmetic_links, calculated, chained, named, term_form, term_links};
-ghost use Rattle.pb_syntax.specs.Erase.{erased_arguments, erased_term};
-ghost use Rattle.pb_declarations.specs.View.{spec_of};
+ghost use Rattle.pb_text_tree.specs.Form.{TermForm, argument_forms, arithmetic_links, calculated, chained, named, term_form, term_links};
+ghost use Rattle.pb_text_meaning.specs.Erase.{erased_arguments, erased_term};
+ghost use Rattle.pb_typing_declarations.specs.View.{spec_of};
 ghost use Rattle.pb_normal.specs.Normalisation.{applied, slotted, slotted_all};
 ghost use Rattle.pb_normal.specs.Slots.{slotting};
 ghost use Rattle.pb_normal.specs.View.{term_view};
@@ -11,8 +11,8 @@ ghost use Rattle.pb_normal.specs.View.{term_view};
 use crate::function::{apply_one, apply_three, apply_two, name_term};
 use crate::slots::Slots;
 use crate::term::{Link, Term};
-use pb_ast::{Argument, ArithmeticLink, Connective, Name, TermLink};
-use pb_declarations::Declarations;
+use pb_text_tree::{Argument, ArithmeticLink, Connective, Name, TermLink};
+use pb_typing_declarations::Declarations;
 use std::alloc::{AllocError, Global};
 
 /// A data term over the slots of the variables in scope.
@@ -24,28 +24,28 @@ pub(crate) fn slot_term(
     alloc: Global,
     declarations: &Declarations<'_>,
     slots: &Slots<'_, '_>,
-    term: &pb_ast::Term,
+    term: &pb_text_tree::Term,
 ) -> Result<Term, AllocError>
     ensures { IfOk result (λ x. term_view x ≡ slotted (spec_of declarations.now) (slotting slots.now) (erased_term (term_form term.now))) }
 {
     match term {
-        pb_ast::Term::Constant { value, .. } => Ok(Term::Constant(*value)),
-        pb_ast::Term::Number { value, .. } => Ok(Term::Number(*value)),
-        pb_ast::Term::Name(name) => Ok(name_term(declarations, slots, &name.text)),
-        pb_ast::Term::Not { operand, .. } => {
+        pb_text_tree::Term::Constant { value, .. } => Ok(Term::Constant(*value)),
+        pb_text_tree::Term::Number { value, .. } => Ok(Term::Number(*value)),
+        pb_text_tree::Term::Name(name) => Ok(name_term(declarations, slots, &name.text)),
+        pb_text_tree::Term::Not { operand, .. } => {
             let operand = slot_term(alloc, declarations, slots, operand)?;
             Ok(Term::Not(Box::new(alloc, operand)?))
         }
-        pb_ast::Term::Negative { operand, .. } => {
+        pb_text_tree::Term::Negative { operand, .. } => {
             let operand = slot_term(alloc, declarations, slots, operand)?;
             Ok(Term::Negative(Box::new(alloc, operand)?))
         }
-        pb_ast::Term::Chain {
+        pb_text_tree::Term::Chain {
             connective,
             first,
             links,
         } => slot_chain(alloc, declarations, slots, *connective, first, links),
-        pb_ast::Term::Comparison {
+        pb_text_tree::Term::Comparison {
             comparison,
             left,
             right,
@@ -59,14 +59,14 @@ pub(crate) fn slot_term(
                 right: Box::new(alloc, right)?,
             })
         }
-        pb_ast::Term::Arithmetic { first, links } => {
+        pb_text_tree::Term::Arithmetic { first, links } => {
             slot_arithmetic(alloc, declarations, slots, first, links)
         }
-        pb_ast::Term::Application {
+        pb_text_tree::Term::Application {
             function,
             arguments,
         } => slot_application(alloc, declarations, slots, function, arguments),
-        pb_ast::Term::Quantified { .. } => Ok(Term::Constant(false)),
+        pb_text_tree::Term::Quantified { .. } => Ok(Term::Constant(false)),
     }
 }
 
@@ -77,7 +77,7 @@ pub(crate) fn slot_chain(
     declarations: &Declarations<'_>,
     slots: &Slots<'_, '_>,
     connective: Connective,
-    first: &pb_ast::Term,
+    first: &pb_text_tree::Term,
     links: &[TermLink],
 ) -> Result<Term, AllocError>
     ensures { IfOk result (λ x. term_view x ≡ slotted (spec_of declarations.now) (slotting slots.now) (erased_term (chained (TermForm.connected connective) (term_form first.now) (term_links links.now)))) }
@@ -101,7 +101,7 @@ fn slot_arithmetic(
     alloc: Global,
     declarations: &Declarations<'_>,
     slots: &Slots<'_, '_>,
-    first: &pb_ast::Term,
+    first: &pb_text_tree::Term,
     links: &[ArithmeticLink],
 ) -> Result<Term, AllocError>
     ensures { IfOk result (λ x. term_view x ≡ slotted (spec_of declarations.now) (slotting slots.now) (erased_term (calculated (term_form first.now) (arithmetic_links links.now)))) }

@@ -1,16 +1,16 @@
 //! Names in data: variables, enumerators and functions, over slots.
 
 ghost use Rattle.std.specs.Prelude.{◌≡◌, ◌||◌, IfOk, codes};
-ghost use Rattle.pb_syntax.specs.Syntax.{same_name};
-ghost use Rattle.pb_declarations.specs.Enumerators.{enumerator_of, recogniser_of};
-ghost use Rattle.pb_declarations.specs.View.{spec_of};
+ghost use Rattle.pb_text_meaning.specs.Syntax.{same_name};
+ghost use Rattle.pb_typing_declarations.specs.Enumerators.{enumerator_of, recogniser_of};
+ghost use Rattle.pb_typing_declarations.specs.View.{spec_of};
 ghost use Rattle.pb_normal.specs.Normalisation as normalisation;
 ghost use Rattle.pb_normal.specs.Slots.{slotting};
 ghost use Rattle.pb_normal.specs.View.{term_view};
 
 use crate::slots::{Slots, variable_slot};
 use crate::term::{Enumerator, Term};
-use pb_declarations::Declarations;
+use pb_typing_declarations::Declarations;
 use std::alloc::{AllocError, Global};
 
 /// A variable in scope, else an enumerator.

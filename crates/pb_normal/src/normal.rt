@@ -1,10 +1,10 @@
 //! The normal form of a text.
 
 ghost use Rattle.std.specs.Prelude.{◌≡◌, map, IfOk};
-ghost use Rattle.pb_ast.specs.Form.{equation_form, spec_form};
-ghost use Rattle.pb_syntax.specs.Erase.{erase, erased_equation};
-ghost use Rattle.pb_syntax.specs.Meaning.{answer};
-ghost use Rattle.pb_declarations.specs.View.{spec_of, text_of};
+ghost use Rattle.pb_text_tree.specs.Form.{equation_form, spec_form};
+ghost use Rattle.pb_text_meaning.specs.Erase.{erase, erased_equation};
+ghost use Rattle.pb_text_meaning.specs.Meaning.{answer};
+ghost use Rattle.pb_typing_declarations.specs.View.{spec_of, text_of};
 ghost use Rattle.pb_normal.specs.Answer.{answer_by, normal_equations};
 ghost use Rattle.pb_normal.specs.Equations.{normal_equation};
 ghost use Rattle.pb_normal.specs.Loops.{equation_loops, IsShapedEquation};
@@ -14,9 +14,9 @@ use crate::formula::Formula;
 use crate::operand::normal_formula;
 use crate::slots::Slots;
 use crate::variables::{carriers_from, declare_variables};
-use pb_declarations::{Declarations, TypeError};
 use pb_sorts::Carrier;
 use pb_typing::{Scope, Typed, variable_shapes};
+use pb_typing_declarations::{Declarations, TypeError};
 use std::alloc::{AllocError, Global};
 
 /// An accepted text with the right sides of its equations in positive normal form. Signs, names, parameters and the
@@ -76,7 +76,7 @@ fn read_declarations(alloc: Global, typed: &Typed) -> Result<Declarations<'_>, A
 fn normal_equation(
     alloc: Global,
     declarations: &Declarations<'_>,
-    equation: &pb_ast::Equation,
+    equation: &pb_text_tree::Equation,
 ) -> Result<Equation, AllocError>
     requires { IsShapedEquation (spec_of declarations.now) (erased_equation (equation_form equation.now)) }
     ensures right { IfOk result (λ X. formula_view X.right ≡ normal_equation (spec_of declarations.now) (erased_equation (equation_form equation.now))) }

@@ -1,7 +1,7 @@
 //! The normal form of formulas.
 
 ghost use Rattle.std.specs.Prelude.{◌≡◌, ◌++◌, length, IfOk, OnOk};
-ghost use Rattle.pb_declarations.specs.View.{spec_of};
+ghost use Rattle.pb_typing_declarations.specs.View.{spec_of};
 ghost use Rattle.pb_typing.specs.Scopes.{inner_view, scope_view};
 ghost use Rattle.pb_normal.specs.Loops.{IsShaped, loops};
 ghost use Rattle.pb_normal.specs.Normalisation.{normal};
@@ -16,10 +16,10 @@ use crate::slots::Slots;
 use crate::term::Term;
 use crate::value::{normal_value, test};
 use crate::variables::bind_variables;
-use pb_ast::{Connective, Link, Quantifier, Variables};
-use pb_declarations::Declarations;
 use pb_sorts::Carrier;
+use pb_text_tree::{Connective, Link, Quantifier, Variables};
 use pb_typing::{Scope, Shape, variable_shapes};
+use pb_typing_declarations::Declarations;
 use std::alloc::{AllocError, Global};
 use std::collections::HashMap;
 
@@ -36,21 +36,21 @@ pub(crate) fn normal_formula<'t>(
     slots: &Slots<'_, 't>,
     even: bool,
     carriers: &mut Vec<Carrier>,
-    formula: &'t pb_ast::Formula,
+    formula: &'t pb_text_tree::Formula,
 ) -> Result<Formula, AllocError>
     requires { IsShaped (spec_of declarations.now) (formula_of formula.now) }
     ensures form { IfOk result (λ f. formula_view f ≡ normal (spec_of declarations.now) even (slotting slots.now) (scope_view scope.now) (length carriers.old.items) (formula_of formula.now)) }
     ensures carriers { OnOk result (shapes_of carriers.new.items ≡ shapes_of carriers.old.items ++ loops (spec_of declarations.now) (formula_of formula.now)) }
 {
     match formula {
-        pb_ast::Formula::Constant { value, .. } => test(alloc, even, Term::Constant(*value)),
-        pb_ast::Formula::Value { term, .. } => {
+        pb_text_tree::Formula::Constant { value, .. } => test(alloc, even, Term::Constant(*value)),
+        pb_text_tree::Formula::Value { term, .. } => {
             normal_value(alloc, declarations, slots, even, carriers, term)
         }
-        pb_ast::Formula::Instance(instance) => {
+        pb_text_tree::Formula::Instance(instance) => {
             normal_call(alloc, declarations, scope, slots, instance)
         }
-        pb_ast::Formula::Negation { operand, .. } => normal_formula(
+        pb_text_tree::Formula::Negation { operand, .. } => normal_formula(
             alloc,
             declarations,
             scope,
@@ -59,7 +59,7 @@ pub(crate) fn normal_formula<'t>(
             carriers,
             operand,
         ),
-        pb_ast::Formula::Chain {
+        pb_text_tree::Formula::Chain {
             connective,
             first,
             links,
@@ -74,7 +74,7 @@ pub(crate) fn normal_formula<'t>(
             first,
             links,
         ),
-        pb_ast::Formula::Quantified {
+        pb_text_tree::Formula::Quantified {
             quantifier,
             variables,
             body,
@@ -104,7 +104,7 @@ fn normal_quantified<'t>(
     carriers: &mut Vec<Carrier>,
     quantifier: Quantifier,
     variables: &'t [Variables],
-    body: &'t pb_ast::Formula,
+    body: &'t pb_text_tree::Formula,
 ) -> Result<Formula, AllocError>
     requires { IsShaped (spec_of declarations.now) (quantified_formula quantifier variables.now body.now) }
     ensures form { IfOk result (λ f. formula_view f ≡ normal (spec_of declarations.now) even (slotting slots.now) (scope_view scope.now) (length carriers.old.items) (quantified_formula quantifier variables.now body.now)) }
@@ -143,7 +143,7 @@ fn normal_body<'a, 't>(
     table: &'a HashMap<&'t str, usize>,
     even: bool,
     carriers: &mut Vec<Carrier>,
-    body: &'t pb_ast::Formula,
+    body: &'t pb_text_tree::Formula,
 ) -> Result<Formula, AllocError>
     requires { IsShaped (spec_of declarations.now) (formula_of body.now) }
     ensures form { IfOk result (λ f. formula_view f ≡ normal (spec_of declarations.now) even (inner_slots table.now (slotting around.now)) (inner_view shapes.now (scope_view outer.now)) (length carriers.old.items) (formula_of body.now)) }
@@ -164,7 +164,7 @@ fn normal_chain<'t>(
     even: bool,
     carriers: &mut Vec<Carrier>,
     connective: Connective,
-    first: &'t pb_ast::Formula,
+    first: &'t pb_text_tree::Formula,
     links: &'t [Link],
 ) -> Result<Formula, AllocError>
     requires { IsShaped (spec_of declarations.now) (formula_chain_of connective first.now links.now) }

@@ -1,12 +1,12 @@
 //! Whether a data term has a quantifier.
 
 ghost use Rattle.std.specs.Prelude.{◌≡◌};
-ghost use Rattle.pb_ast.specs.Form.{TermForm, argument_forms, arithmetic_links, calculated, chained, term_form, term_links};
-ghost use Rattle.pb_syntax.specs.Erase.{erased_arguments, erased_term};
+ghost use Rattle.pb_text_tree.specs.Form.{TermForm, argument_forms, arithmetic_links, calculated, chained, term_form, term_links};
+ghost use Rattle.pb_text_meaning.specs.Erase.{erased_arguments, erased_term};
 ghost use Rattle.pb_normal.specs.Expansion.{has_quantifier, have_quantifier};
 ghost use Rattle.pb_normal.specs.Links.{arithmetic_have_quantifier, links_have_quantifier};
 
-use pb_ast::{Argument, ArithmeticLink, Term, TermLink};
+use pb_text_tree::{Argument, ArithmeticLink, Term, TermLink};
 
 /// Whether a quantifier stands somewhere in a data term.
 #[cycle(quantifiers)]

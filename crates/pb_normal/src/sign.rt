@@ -1,11 +1,11 @@
 //! What negations turn round (De Morgan).
 
 ghost use Rattle.std.specs.Prelude.{◌≡◌};
-ghost use Rattle.pb_shapes.specs.Faults as parity;
+ghost use Rattle.pb_typing_rules.specs.Faults as parity;
 ghost use Rattle.pb_normal.specs.Normalisation as normalisation;
 ghost use Rattle.pb_normal.specs.Chains.{joins};
 
-use pb_ast::{Connective, Quantifier};
+use pb_text_tree::{Connective, Quantifier};
 
 /// Whether a quantifier is for all values, where `even` says whether the negations around it are even in number.
 pub(crate) fn is_universal(quantifier: Quantifier, even: bool) -> bool

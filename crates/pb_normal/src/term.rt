@@ -1,6 +1,6 @@
 //! Data terms whose variables are slots.
 
-use pb_ast::{Arithmetic, Comparison, Connective};
+use pb_text_tree::{Arithmetic, Comparison, Connective};
 
 /// A data term. The slots hold the values of its variables, and an enumerator stands as its place in its struct.
 #[derive(Debug, Drop)]

@@ -2,10 +2,10 @@
 //! formula, and what has no quantifier is one test.
 
 ghost use Rattle.std.specs.Prelude.{◌≡◌, ◌++◌, length, true, IfOk, OnOk};
-ghost use Rattle.pb_ast.specs.Form.{term_form};
-ghost use Rattle.pb_syntax.specs.Erase.{erased_term};
-ghost use Rattle.pb_shapes.specs.Scope.{Scope};
-ghost use Rattle.pb_declarations.specs.View.{spec_of};
+ghost use Rattle.pb_text_tree.specs.Form.{term_form};
+ghost use Rattle.pb_text_meaning.specs.Erase.{erased_term};
+ghost use Rattle.pb_typing_rules.specs.Scope.{Scope};
+ghost use Rattle.pb_typing_declarations.specs.View.{spec_of};
 ghost use Rattle.pb_normal.specs.Expansion.{expanded_term, has_quantifier};
 ghost use Rattle.pb_normal.specs.Links.{quantified_count};
 ghost use Rattle.pb_normal.specs.Loops.{IsShaped, loops};
@@ -22,9 +22,9 @@ use crate::sign::{is_conjunctive, is_universal, operand_parity};
 use crate::slots::Slots;
 use crate::term::Term;
 use crate::variables::bind_variables;
-use pb_ast::{Connective, Quantifier, TermLink, Variables};
-use pb_declarations::Declarations;
 use pb_sorts::Carrier;
+use pb_text_tree::{Connective, Quantifier, TermLink, Variables};
+use pb_typing_declarations::Declarations;
 use std::alloc::{AllocError, Global};
 use std::collections::HashMap;
 
@@ -45,7 +45,7 @@ fn plain_test(
     declarations: &Declarations<'_>,
     slots: &Slots<'_, '_>,
     even: bool,
-    term: &pb_ast::Term,
+    term: &pb_text_tree::Term,
 ) -> Result<Formula, AllocError>
     ensures { IfOk result (λ f. formula_view f ≡ signed_test even (slotted (spec_of declarations.now) (slotting slots.now) (erased_term (term_form term.now)))) }
 {
@@ -65,7 +65,7 @@ pub(crate) fn normal_value<'t>(
     slots: &Slots<'_, 't>,
     even: bool,
     carriers: &mut Vec<Carrier>,
-    term: &'t pb_ast::Term,
+    term: &'t pb_text_tree::Term,
 ) -> Result<Formula, AllocError>
     requires { IsShaped (spec_of declarations.now) (value_of term.now) }
     ensures form { IfOk result (λ f. (scope : Scope) → formula_view f ≡ normal (spec_of declarations.now) even (slotting slots.now) scope (length carriers.old.items) (value_of term.now)) }
@@ -75,10 +75,10 @@ pub(crate) fn normal_value<'t>(
         return plain_test(alloc, declarations, slots, even, term);
     }
     match term {
-        pb_ast::Term::Not { operand, .. } => {
+        pb_text_tree::Term::Not { operand, .. } => {
             normal_value(alloc, declarations, slots, !even, carriers, operand)
         }
-        pb_ast::Term::Chain {
+        pb_text_tree::Term::Chain {
             connective,
             first,
             links,
@@ -92,14 +92,14 @@ pub(crate) fn normal_value<'t>(
             first,
             links,
         ),
-        pb_ast::Term::Arithmetic { first, links } => {
+        pb_text_tree::Term::Arithmetic { first, links } => {
             if links.is_empty() {
                 normal_value(alloc, declarations, slots, even, carriers, first)
             } else {
                 plain_test(alloc, declarations, slots, even, term)
             }
         }
-        pb_ast::Term::Quantified {
+        pb_text_tree::Term::Quantified {
             quantifier,
             variables,
             body,
@@ -114,12 +114,14 @@ pub(crate) fn normal_value<'t>(
             variables,
             body,
         ),
-        pb_ast::Term::Constant { .. }
-        | pb_ast::Term::Number { .. }
-        | pb_ast::Term::Name(_)
-        | pb_ast::Term::Negative { .. }
-        | pb_ast::Term::Comparison { .. }
-        | pb_ast::Term::Application { .. } => { plain_test(alloc, declarations, slots, even, term) }
+        pb_text_tree::Term::Constant { .. }
+        | pb_text_tree::Term::Number { .. }
+        | pb_text_tree::Term::Name(_)
+        | pb_text_tree::Term::Negative { .. }
+        | pb_text_tree::Term::Comparison { .. }
+        | pb_text_tree::Term::Application { .. } => {
+            plain_test(alloc, declarations, slots, even, term)
+        }
     }
 }
 
@@ -133,7 +135,7 @@ fn normal_quantified<'t>(
     carriers: &mut Vec<Carrier>,
     quantifier: Quantifier,
     variables: &'t [Variables],
-    body: &'t pb_ast::Term,
+    body: &'t pb_text_tree::Term,
 ) -> Result<Formula, AllocError>
     requires { IsShaped (spec_of declarations.now) (quantified_value quantifier variables.now body.now) }
     ensures form { IfOk result (λ f. (scope : Scope) → formula_view f ≡ normal (spec_of declarations.now) even (slotting slots.now) scope (length carriers.old.items) (quantified_value quantifier variables.now body.now)) }
@@ -159,7 +161,7 @@ fn normal_body<'a, 't>(
     table: &'a HashMap<&'t str, usize>,
     even: bool,
     carriers: &mut Vec<Carrier>,
-    body: &'t pb_ast::Term,
+    body: &'t pb_text_tree::Term,
 ) -> Result<Formula, AllocError>
     requires { IsShaped (spec_of declarations.now) (value_of body.now) }
     ensures form { IfOk result (λ f. (scope : Scope) → formula_view f ≡ normal (spec_of declarations.now) even (inner_slots table.now (slotting outer.now)) scope (length carriers.old.items) (value_of body.now)) }
@@ -178,7 +180,7 @@ fn normal_operands<'t>(
     even: bool,
     carriers: &mut Vec<Carrier>,
     connective: Connective,
-    first: &'t pb_ast::Term,
+    first: &'t pb_text_tree::Term,
     links: &'t [TermLink],
 ) -> Result<Formula, AllocError>
     requires shaped { IsShaped (spec_of declarations.now) (expanded_term (chain_of connective first.now links.now)) }

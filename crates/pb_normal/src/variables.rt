@@ -1,19 +1,19 @@
 //! Slots for lists of variables.
 
 ghost use Rattle.std.specs.Prelude.{◌≡◌, ◌≤◌, ◌++◌, drop, length, replicate, IfOk, OnOk};
-ghost use Rattle.pb_ast.specs.Form.{variable_forms};
-ghost use Rattle.pb_syntax.specs.Syntax as syntax;
-ghost use Rattle.pb_syntax.specs.Erase.{erased_variables};
-ghost use Rattle.pb_declarations.specs.Tables.{looked_up};
-ghost use Rattle.pb_declarations.specs.View.{spec_of};
+ghost use Rattle.pb_text_tree.specs.Form.{variable_forms};
+ghost use Rattle.pb_text_meaning.specs.Syntax as syntax;
+ghost use Rattle.pb_text_meaning.specs.Erase.{erased_variables};
+ghost use Rattle.pb_typing_declarations.specs.Tables.{looked_up};
+ghost use Rattle.pb_typing_declarations.specs.View.{spec_of};
 ghost use Rattle.pb_normal.specs.Loops.{AreShaped, variable_shapes};
 ghost use Rattle.pb_normal.specs.Normalisation.{unslotted, with_slots};
 ghost use Rattle.pb_normal.specs.Slots.{named_slots};
 ghost use Rattle.pb_normal.specs.View.{shapes_of};
 
-use pb_ast::{Name, Variables};
-use pb_declarations::Declarations;
 use pb_sorts::Carrier;
+use pb_text_tree::{Name, Variables};
+use pb_typing_declarations::Declarations;
 use std::alloc::{AllocError, Global};
 use std::collections::HashMap;
 

@@ -1,16 +1,16 @@
 -- What an accepted text has.
 use Rattle.std.proofs.Common.{◌≡◌, true, List, [], ◌∷◌, refl, true≢false, sym}
-use Rattle.pb_ast.specs.Form.{SpecForm}
-use Rattle.pb_syntax.specs.Erase.{erase}
-use Rattle.pb_declarations.specs.declared.fault.Fault.{Fault}
-use Rattle.pb_declarations.specs.Declarations.{declaration_faults}
-use Rattle.pb_shapes.specs.Faults.{faults}
-use Rattle.pb_shapes.specs.WellTyped.{IsWellTyped}
-use Rattle.pb_shapes.proofs.Parts.{no_parts}
-use Rattle.pb_shapes.proofs.WellTypedLemmas as laws
+use Rattle.pb_text_tree.specs.Form.{SpecForm}
+use Rattle.pb_text_meaning.specs.Erase.{erase}
+use Rattle.pb_typing_declarations.specs.declared.fault.TypingFault.{TypingFault}
+use Rattle.pb_typing_declarations.specs.Declarations.{declaration_faults}
+use Rattle.pb_typing_rules.specs.Faults.{faults}
+use Rattle.pb_typing_rules.specs.WellTyped.{IsWellTyped}
+use Rattle.pb_typing_rules.proofs.Parts.{no_parts}
+use Rattle.pb_typing_rules.proofs.WellTypedLemmas as laws
 use Rattle.pb_typing.specs.Typed.{is_none, is_faultless}
 
-none : (fs : List Fault) → is_none fs ≡ true → fs ≡ []
+none : (fs : List TypingFault) → is_none fs ≡ true → fs ≡ []
 none [] e = refl
 none (f ∷ fs) e = absurd (true≢false (sym e))
 

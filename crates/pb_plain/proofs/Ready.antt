@@ -1,9 +1,9 @@
 -- A text that is well typed is solvable.
 use Rattle.std.proofs.Common.{◌≡◌, ℕ, zero, suc, List, [], ◌∷◌, map, get_or, refl, sym, ◌∙◌, arith}
 use Rattle.pb_sorts.proofs.Places.{map_length}
-use Rattle.pb_syntax.specs.Syntax.{Equation, Spec}
-use Rattle.pb_shapes.specs.WellTyped.{IsWellTyped}
-use Rattle.pb_shapes.proofs.Fitting.{spec_fits, spec_positive}
+use Rattle.pb_text_meaning.specs.Syntax.{Equation, Spec}
+use Rattle.pb_typing_rules.specs.WellTyped.{IsWellTyped}
+use Rattle.pb_typing_rules.proofs.Fitting.{spec_fits, spec_positive}
 use Rattle.pb_plain.specs.Step.{IsSolvable}
 
 get_or-map : {A B : Type 0} (f : A → B) (xs : List A) (k : ℕ) (d : A) → get_or (map f xs) k (f d) ≡ f (get_or xs k d)

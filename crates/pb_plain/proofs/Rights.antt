@@ -4,23 +4,23 @@ use Rattle.std.specs.Prelude.{All, ◌==◌}
 use Rattle.std.proofs.lemmas.Bool.{eqb-true}
 use Rattle.std.specs.List.{slice_get}
 use Rattle.std.proofs.lemmas.Option.{slice_get_within, get_or_from_slice_get}
-use Rattle.pb_ast.specs.declared.name.Name as declared
-use Rattle.pb_ast.specs.declared.variable.Variables.{Variables}
-use Rattle.pb_ast.specs.declared.spec.Equation as declared_equation
-use Rattle.pb_ast.specs.declared.spec.Spec as declared_spec
-use Rattle.pb_ast.specs.Form.{SpecForm, VariableForm, equation_form, spec_form, named, variables_form, variable_forms}
+use Rattle.pb_text_tree.specs.declared.name.Name as declared
+use Rattle.pb_text_tree.specs.declared.variable.Variables.{Variables}
+use Rattle.pb_text_tree.specs.declared.spec.Equation as declared_equation
+use Rattle.pb_text_tree.specs.declared.spec.Spec as declared_spec
+use Rattle.pb_text_tree.specs.Form.{SpecForm, VariableForm, equation_form, spec_form, named, variables_form, variable_forms}
 use Rattle.pb_carriers.specs.Carrier as carriers
 use Rattle.pb_carriers.specs.Carrier.{Tuple, is_within}
 use Rattle.pb_sorts.specs.declared.carrier.Carrier.{Carrier}
 use Rattle.pb_sorts.specs.Instance as numbered
 use Rattle.pb_sorts.specs.Instance.{instances, is_instance, is_tuple_of, owns_number}
 use Rattle.pb_sorts.specs.Layout.{carriers_of}
-use Rattle.pb_syntax.specs.Syntax.{Variable, Equation, Spec}
-use Rattle.pb_syntax.specs.Value.{Assignment}
-use Rattle.pb_syntax.specs.Meaning.{assigned}
-use Rattle.pb_syntax.specs.Formula as formula
-use Rattle.pb_syntax.specs.Erase.{erase, erased_equation, erased_variables}
-use Rattle.pb_bounds.specs.Fits.{RightFits}
+use Rattle.pb_text_meaning.specs.Syntax.{Variable, Equation, Spec}
+use Rattle.pb_text_meaning.specs.Value.{Assignment}
+use Rattle.pb_text_meaning.specs.Meaning.{assigned}
+use Rattle.pb_text_meaning.specs.Formula as formula
+use Rattle.pb_text_meaning.specs.Erase.{erase, erased_equation, erased_variables}
+use Rattle.pb_text_meaning.specs.Fits.{RightFits}
 use Rattle.pb_sorts.proofs.Numbers.{owns_number-owns_instance}
 use Rattle.pb_sorts.proofs.Places.{slice_get-mapped, map_length}
 use Rattle.pb_sorts.proofs.Equations.{length-carriers_of}

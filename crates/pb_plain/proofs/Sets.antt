@@ -16,11 +16,11 @@ use Rattle.pb_sorts.specs.Instance.{instances, is_instance, is_tuple_of, number_
 use Rattle.pb_sorts.specs.Layout.{carriers_of}
 use Rattle.pb_sorts.proofs.Numbers.{HasNumber, number-is_instance, number_of-slice_get, owns_number-owns_instance}
 use Rattle.pb_sorts.proofs.Places.{slice_get-mapped}
-use Rattle.pb_syntax.specs.Syntax.{Name, same_name, Equation, Spec}
-use Rattle.pb_syntax.specs.Formula as formula
-use Rattle.pb_syntax.specs.Formula.{Instance, truth}
-use Rattle.pb_syntax.specs.Meaning.{equation_of}
-use Rattle.pb_syntax.specs.Names.{AreNamedApart}
+use Rattle.pb_text_meaning.specs.Syntax.{Name, same_name, Equation, Spec}
+use Rattle.pb_text_meaning.specs.Formula as formula
+use Rattle.pb_text_meaning.specs.Formula.{Instance, truth}
+use Rattle.pb_text_meaning.specs.Meaning.{equation_of}
+use Rattle.pb_text_meaning.specs.Names.{AreNamedApart}
 use Rattle.pb_evaluation.specs.Environment.{all_carriers, environment_of, place_named, truth_at, truth_of}
 use Rattle.pb_evaluation.proofs.Called.{counted}
 use Rattle.pb_plain.specs.Side.{side_of, joined}

@@ -12,13 +12,13 @@ use Rattle.pb_sorts.specs.Instance.{instances, number_of, size_of, tuples_of}
 use Rattle.pb_sorts.proofs.Equations.{length-carriers_of}
 use Rattle.pb_sorts.specs.Layout.{carriers_of, count_of}
 use Rattle.pb_sorts.proofs.Places.{slice_get-mapped, map_length}
-use Rattle.pb_syntax.specs.Syntax.{Equation, Spec, same_name}
-use Rattle.pb_syntax.specs.Formula as formula
-use Rattle.pb_syntax.specs.Formula.{Instance}
-use Rattle.pb_syntax.specs.Meaning.{equation_of, equations_of}
-use Rattle.pb_syntax.specs.Names.{AreNamedApart}
-use Rattle.pb_syntax.specs.Positive.{ArePositive}
-use Rattle.pb_syntax.proofs.Instances.{are_monotone, text_is_solved}
+use Rattle.pb_text_meaning.specs.Syntax.{Equation, Spec, same_name}
+use Rattle.pb_text_meaning.specs.Formula as formula
+use Rattle.pb_text_meaning.specs.Formula.{Instance}
+use Rattle.pb_text_meaning.specs.Meaning.{equation_of, equations_of}
+use Rattle.pb_text_meaning.specs.Names.{AreNamedApart}
+use Rattle.pb_text_meaning.specs.Positive.{ArePositive}
+use Rattle.pb_text_meaning.proofs.Instances.{are_monotone, text_is_solved}
 use Rattle.pb_evaluation.specs.Environment.{all_carriers, environment_of, place_named, truth_of}
 use Rattle.pb_plain.specs.Side.{side_of}
 use Rattle.pb_plain.specs.Bounds.{AreBounds}

@@ -1,10 +1,10 @@
 -- The values of parameters, by their names alone.
 use Rattle.std.specs.Prelude.{List, [], ◌∷◌, map, flat_map, string_bytes}
-use Rattle.pb_ast.specs.declared.name.Name as declared
-use Rattle.pb_ast.specs.declared.variable.Variables.{Variables}
+use Rattle.pb_text_tree.specs.declared.name.Name as declared
+use Rattle.pb_text_tree.specs.declared.variable.Variables.{Variables}
 use Rattle.pb_carriers.specs.Carrier.{Tuple}
-use Rattle.pb_syntax.specs.Syntax.{Name}
-use Rattle.pb_syntax.specs.Value.{Assignment}
+use Rattle.pb_text_meaning.specs.Syntax.{Name}
+use Rattle.pb_text_meaning.specs.Value.{Assignment}
 
 abbrev pub names_in : List declared.Name → List Name
 names_in names = map (λ (n : declared.Name). string_bytes n.text) names

@@ -6,12 +6,12 @@ use Rattle.pb_sorts.specs.declared.carrier.Carrier.{Carrier}
 use Rattle.pb_sorts.specs.Layout.{carriers_of}
 use Rattle.pb_sorts.specs.Instance as numbered
 use Rattle.pb_sorts.specs.Instance.{instances, owns_number}
-use Rattle.pb_syntax.specs.Syntax.{Equation, Spec}
-use Rattle.pb_syntax.specs.Formula.{Instance, truth}
-use Rattle.pb_syntax.specs.Meaning.{assigned}
-use Rattle.pb_syntax.specs.Names.{AreNamedApart}
-use Rattle.pb_syntax.specs.Positive.{ArePositive}
-use Rattle.pb_bounds.specs.Fits.{FormulaFits, RightFits}
+use Rattle.pb_text_meaning.specs.Syntax.{Equation, Spec}
+use Rattle.pb_text_meaning.specs.Formula.{Instance, truth}
+use Rattle.pb_text_meaning.specs.Meaning.{assigned}
+use Rattle.pb_text_meaning.specs.Names.{AreNamedApart}
+use Rattle.pb_text_meaning.specs.Positive.{ArePositive}
+use Rattle.pb_text_meaning.specs.Fits.{FormulaFits, RightFits}
 use Rattle.pb_evaluation.specs.Environment.{environment_of}
 use Rattle.pb_plain.specs.Side.{side_of, joined}
 

@@ -1,17 +1,17 @@
 //! The truth of a right side where its parameters have values.
 
 ghost use Rattle.std.specs.Prelude.{◌≡◌, ◌++◌, IfOk};
-ghost use Rattle.pb_ast.specs.Form.{formula_form};
-ghost use Rattle.pb_declarations.specs.View.{spec_of};
-ghost use Rattle.pb_syntax.specs.Erase.{erased_formula};
-ghost use Rattle.pb_syntax.specs.Formula.{truth};
-ghost use Rattle.pb_bounds.specs.Fits.{FormulaFits};
+ghost use Rattle.pb_text_tree.specs.Form.{formula_form};
+ghost use Rattle.pb_typing_declarations.specs.View.{spec_of};
+ghost use Rattle.pb_text_meaning.specs.Erase.{erased_formula};
+ghost use Rattle.pb_text_meaning.specs.Formula.{truth};
+ghost use Rattle.pb_text_meaning.specs.Fits.{FormulaFits};
 ghost use Rattle.pb_evaluation.specs.Environment.{environment_of};
 ghost use Rattle.pb_evaluation.specs.Scope.{assignment_of};
 ghost use Rattle.pb_plain.specs.Names.{named_with, names_in, names_of};
 
-use pb_ast::{Formula, Name, Variables};
 use pb_evaluation::{Environment, Scope, formula_truth};
+use pb_text_tree::{Formula, Name, Variables};
 use std::alloc::AllocError;
 
 /// The truth of a right side where these parameters have these values, in order.

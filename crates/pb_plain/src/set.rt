@@ -2,22 +2,22 @@
 
 ghost use Rattle.std.specs.Prelude.{◌≡◌, ◌<◌, ◌≤◌, ◌+◌, not, true, false, length, Some, IfOk, OnOk};
 ghost use Rattle.std.specs.List.{slice_get};
-ghost use Rattle.pb_ast.specs.Form.{equation_form, spec_form};
-ghost use Rattle.pb_declarations.specs.View.{spec_of, text_of};
+ghost use Rattle.pb_text_tree.specs.Form.{equation_form, spec_form};
+ghost use Rattle.pb_typing_declarations.specs.View.{spec_of, text_of};
 ghost use Rattle.pb_sorts.specs.Instance.{first_of, size_of};
 ghost use Rattle.pb_sorts.specs.Layout.{carriers_of, count_of};
-ghost use Rattle.pb_syntax.specs.Erase.{erased_equation};
-ghost use Rattle.pb_syntax.specs.Syntax as syntax;
+ghost use Rattle.pb_text_meaning.specs.Erase.{erased_equation};
+ghost use Rattle.pb_text_meaning.specs.Syntax as syntax;
 ghost use Rattle.pb_evaluation.specs.Environment.{all_carriers, environment_of};
 ghost use Rattle.pb_plain.specs.Side.{side_of};
 ghost use Rattle.pb_plain.specs.Step.{ChangesOnly, FitsAt, IsSolvable, JoinsRight, TakesSet, right_truth_at};
 
 use crate::right::right_truth;
-use pb_ast::{Equation, Spec};
-use pb_declarations::Declarations;
 use pb_evaluation::{Environment, Scope};
 use pb_fixpoint::Sign;
 use pb_sorts::Layout;
+use pb_text_tree::{Equation, Spec};
+use pb_typing_declarations::Declarations;
 use std::alloc::AllocError;
 
 /// The numbers of an equation's instances: those from `start` on, below `end`.

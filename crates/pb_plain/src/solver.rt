@@ -3,15 +3,15 @@
 ghost use Rattle.std.specs.Prelude.{◌≡◌, ◌≤◌, ◌<◌, not, true, false, length, drop, IfOk, OnOk, Some, [], vec_len};
 ghost use Rattle.std.specs.List.{slice_get};
 ghost use Rattle.pb_fixpoint.specs.Solution.{solution};
-ghost use Rattle.pb_ast.specs.Form.{spec_form};
-ghost use Rattle.pb_declarations.specs.Declarations.{declaration_faults};
-ghost use Rattle.pb_shapes.specs.WellTyped.{IsWellTyped};
-ghost use Rattle.pb_declarations.specs.View.{spec_of, text_of};
+ghost use Rattle.pb_text_tree.specs.Form.{spec_form};
+ghost use Rattle.pb_typing_declarations.specs.Declarations.{declaration_faults};
+ghost use Rattle.pb_typing_rules.specs.WellTyped.{IsWellTyped};
+ghost use Rattle.pb_typing_declarations.specs.View.{spec_of, text_of};
 ghost use Rattle.pb_sorts.specs.Layout.{carriers_of, count_of};
-ghost use Rattle.pb_syntax.specs.Erase.{erase};
-ghost use Rattle.pb_syntax.specs.Meaning.{answer, equations_of};
-ghost use Rattle.pb_syntax.specs.Syntax as syntax;
-ghost use Rattle.pb_bounds.specs.Fits.{AllFit};
+ghost use Rattle.pb_text_meaning.specs.Erase.{erase};
+ghost use Rattle.pb_text_meaning.specs.Meaning.{answer, equations_of};
+ghost use Rattle.pb_text_meaning.specs.Syntax as syntax;
+ghost use Rattle.pb_text_meaning.specs.Fits.{AllFit};
 ghost use Rattle.pb_evaluation.specs.Environment.{all_carriers, environment_of};
 ghost use Rattle.pb_plain.specs.Bounds.{AreBounds};
 ghost use Rattle.pb_plain.specs.Side.{side_of};
@@ -19,11 +19,11 @@ ghost use Rattle.pb_plain.specs.Step.{IsSolvable};
 
 use crate::set::{improve, same_set, take_set};
 use crate::system::System;
-use pb_ast::Spec;
-use pb_declarations::Declarations;
 use pb_evaluation::{Scope, instance_truth};
 use pb_fixpoint::Sign;
 use pb_sorts::Layout;
+use pb_text_tree::Spec;
+use pb_typing_declarations::Declarations;
 use std::alloc::{AllocError, Global};
 
 /// Brings an environment to the solution of the equations from `first` on under it.

@@ -1,14 +1,14 @@
 //! What the equations of a text are solved over: its declarations, and the numbers of its instances.
 
 ghost use Rattle.std.specs.Prelude.{◌≡◌, length};
-ghost use Rattle.pb_declarations.specs.View.{spec_of};
+ghost use Rattle.pb_typing_declarations.specs.View.{spec_of};
 ghost use Rattle.pb_sorts.specs.Layout.{carriers_of, count_of};
 ghost use Rattle.pb_evaluation.specs.Environment.{all_carriers};
 
-use pb_ast::Spec;
-use pb_declarations::Declarations;
 use pb_evaluation::Environment;
 use pb_sorts::Layout;
+use pb_text_tree::Spec;
+use pb_typing_declarations::Declarations;
 
 /// A text with what it declares, and the layout of its equations.
 #[derive(Clone, Copy)]

@@ -1,9 +1,9 @@
 //! The answer to a text that type checking has accepted.
 
 ghost use Rattle.std.specs.Prelude.{◌≡◌, IfOk};
-ghost use Rattle.pb_ast.specs.Form.{spec_form};
-ghost use Rattle.pb_syntax.specs.Erase.{erase};
-ghost use Rattle.pb_syntax.specs.Meaning.{answer};
+ghost use Rattle.pb_text_tree.specs.Form.{spec_form};
+ghost use Rattle.pb_text_meaning.specs.Erase.{erase};
+ghost use Rattle.pb_text_meaning.specs.Meaning.{answer};
 
 use crate::solver::solve_spec;
 use pb_typing::Typed;

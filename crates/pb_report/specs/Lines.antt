@@ -1,18 +1,18 @@
 -- The line that tells of a fault or a refusal, with its line feed.
 use Rattle.std.specs.Prelude.{ℕ, List, ◌++◌, codes, decimal}
-use Rattle.pb_ast.specs.declared.place.Place.{Place}
-use Rattle.pb_text.specs.declared.error.Rule as text_rule
-use Rattle.pb_text.specs.declared.error.Rule.TheVariants.{UnknownByte, UnexpectedToken, LargeNumber, LimitExceeded, RangeLine}
+use Rattle.pb_text_tree.specs.declared.place.Place.{Place}
+use Rattle.pb_text.specs.declared.error.TextRule as text_rule
+use Rattle.pb_text.specs.declared.error.TextRule.TheVariants.{UnknownByte, UnexpectedToken, LargeNumber, LimitExceeded, RangeLine}
 use Rattle.pb_text.specs.declared.error.TextError.{TextError}
 use Rattle.pb_text.specs.declared.error.TextError.TheVariants as text_error
-use Rattle.pb_declarations.specs.Rule.{rule_number}
-use Rattle.pb_declarations.specs.declared.fault.TypeError.{TypeError}
-use Rattle.pb_declarations.specs.declared.fault.TypeError.TheVariants as type_error
-use Rattle.pb_report.specs.declared.fault.Fault.{Fault}
-use Rattle.pb_report.specs.declared.fault.Fault.TheVariants.{U01, U02, E01, E02, M01}
+use Rattle.pb_typing_declarations.specs.TypingRule.{rule_number}
+use Rattle.pb_typing_declarations.specs.declared.fault.TypeError.{TypeError}
+use Rattle.pb_typing_declarations.specs.declared.fault.TypeError.TheVariants as type_error
+use Rattle.pb_report.specs.declared.fault.ProgramFault.{ProgramFault}
+use Rattle.pb_report.specs.declared.fault.ProgramFault.TheVariants.{U01, U02, E01, E02, M01}
 
 -- a fault of the whole run: its number
-abbrev pub line_of : Fault → List ℕ
+abbrev pub line_of : ProgramFault → List ℕ
 line_of U01 = codes "U01\n"
 line_of U02 = codes "U02\n"
 line_of E01 = codes "E01\n"
@@ -23,7 +23,7 @@ line_of M01 = codes "M01\n"
 abbrev pub line_at : List ℕ → Place → List ℕ
 line_at rule place = rule ++ (codes " line " ++ (decimal place.line ++ (codes " column " ++ (decimal place.column ++ codes "\n"))))
 
-abbrev pub text_rule_number : text_rule.Rule → List ℕ
+abbrev pub text_rule_number : text_rule.TextRule → List ℕ
 text_rule_number UnknownByte = codes "P01"
 text_rule_number UnexpectedToken = codes "P02"
 text_rule_number LargeNumber = codes "P03"

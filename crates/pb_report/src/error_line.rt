@@ -2,10 +2,10 @@
 ghost use Rattle.std.specs.Prelude.{◌≡◌, ℕ, List, IfOk, string_bytes};
 ghost use Rattle.pb_report.specs.Lines.{line_at, text_rule_number};
 
-use crate::fault::Fault;
-use pb_ast::Place;
-use pb_declarations::TypeError;
+use crate::fault::ProgramFault;
 use pb_text::TextError;
+use pb_text_tree::Place;
+use pb_typing_declarations::TypeError;
 use std::alloc::{AllocError, Global};
 
 /// An error that the program tells of by a line.
@@ -28,15 +28,15 @@ fn placed_line(alloc: Global, rule: &str, place: Place) -> Result<String, AllocE
     format!(in alloc; "{rule} line {line} column {column}\n")
 }
 
-fn text_rule_number(rule: pb_text::Rule) -> &'static str
+fn text_rule_number(rule: pb_text::TextRule) -> &'static str
     ensures { result.now ≡ text_rule_number rule }
 {
     match rule {
-        pb_text::Rule::UnknownByte => "P01",
-        pb_text::Rule::UnexpectedToken => "P02",
-        pb_text::Rule::LargeNumber => "P03",
-        pb_text::Rule::LimitExceeded => "P04",
-        pb_text::Rule::RangeLine => "P05",
+        pb_text::TextRule::UnknownByte => "P01",
+        pb_text::TextRule::UnexpectedToken => "P02",
+        pb_text::TextRule::LargeNumber => "P03",
+        pb_text::TextRule::LimitExceeded => "P04",
+        pb_text::TextRule::RangeLine => "P05",
     }
 }
 
@@ -52,7 +52,7 @@ impl ErrorLine for TextError {
                 text_rule_number(*rule),
                 *place,
             ),
-            TextError::Memory => String::from_str(alloc, Fault::M01.line()),
+            TextError::Memory => String::from_str(alloc, ProgramFault::M01.line()),
         }
     }
 }
@@ -65,7 +65,7 @@ impl ErrorLine for TypeError {
     fn error_line(&self, alloc: Global) -> Result<String, AllocError> {
         match self {
             TypeError::At(fault) => placed_line(alloc, fault.rule.number(), fault.place),
-            TypeError::Memory => String::from_str(alloc, Fault::M01.line()),
+            TypeError::Memory => String::from_str(alloc, ProgramFault::M01.line()),
         }
     }
 }

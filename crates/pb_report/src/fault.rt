@@ -4,7 +4,7 @@ ghost use Rattle.pb_report.specs.Lines.{line_of};
 
 /// A fault of the whole run.
 #[derive(Clone, Copy, Debug, PartialEq, Eq)]
-pub enum Fault {
+pub enum ProgramFault {
     /// The words of the command line ask for nothing that the program does.
     U01,
     /// The input is longer than its limit.
@@ -17,17 +17,17 @@ pub enum Fault {
     M01,
 }
 
-impl Fault {
+impl ProgramFault {
     /// The line of this fault: its number and a line feed.
     pub fn line(self) -> &'static str
         ensures { result.now ≡ line_of self }
     {
         match self {
-            Fault::U01 => "U01\n",
-            Fault::U02 => "U02\n",
-            Fault::E01 => "E01\n",
-            Fault::E02 => "E02\n",
-            Fault::M01 => "M01\n",
+            ProgramFault::U01 => "U01\n",
+            ProgramFault::U02 => "U02\n",
+            ProgramFault::E01 => "E01\n",
+            ProgramFault::E02 => "E02\n",
+            ProgramFault::M01 => "M01\n",
         }
     }
 }

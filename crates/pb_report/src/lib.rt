@@ -7,4 +7,4 @@ pub mod fault;
 
 pub use answer::{Answer, report};
 pub use error_line::ErrorLine;
-pub use fault::Fault;
+pub use fault::ProgramFault;

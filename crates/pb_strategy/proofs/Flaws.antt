@@ -1,13 +1,13 @@
 -- A vertex that meets the rules has no flaw, and the other way round.
 use Rattle.std.proofs.Common.{ℕ, inl, inr, arith}
 use Rattle.pb_game.specs.declared.Game.{Game}
-use Rattle.pb_certificate.specs.declared.Solution.{Solution}
-use Rattle.pb_certificate.specs.declared.Rule.{Rule}
-use Rattle.pb_certificate.specs.declared.Rule.TheVariants.{Length, NoSuccessor, LeavesRegion, Increases, NoDecrease}
+use Rattle.pb_game_certificate.specs.declared.Solution.{Solution}
+use Rattle.pb_game_certificate.specs.declared.CertificateRule.{CertificateRule}
+use Rattle.pb_game_certificate.specs.declared.CertificateRule.TheVariants.{Length, NoSuccessor, LeavesRegion, Increases, NoDecrease}
 use Rattle.pb_game.specs.Games.{priority_of, priority_count}
-use Rattle.pb_certificate.specs.Solutions.{winner_of, count_of, HasLengths}
-use Rattle.pb_certificate.specs.Certificates.{Decreases, IsSame, IsCertifiedAt}
-use Rattle.pb_certificate.specs.Flaws.{Fails}
+use Rattle.pb_game_certificate.specs.Solutions.{winner_of, count_of, HasLengths}
+use Rattle.pb_game_certificate.specs.Certificates.{Decreases, IsSame, IsCertifiedAt}
+use Rattle.pb_game_certificate.specs.Flaws.{Fails}
 use Rattle.pb_strategy.specs.Comparisons.{DontIncrease}
 
 -- the counts can't decrease both ways
@@ -26,7 +26,7 @@ no_increase g s v u (inl a) b = one_way _ _ _ _ _ a b
 no_increase g s v u (inr a) b = not_same _ _ _ _ _ b a
 
 -- a vertex that meets the rules fails none
-pub no_flaw : (g : Game) (s : Solution) (v : ℕ) → HasLengths g s → IsCertifiedAt g s v → (rule : Rule) → Fails g s v rule → ⊥
+pub no_flaw : (g : Game) (s : Solution) (v : ℕ) → HasLengths g s → IsCertifiedAt g s v → (rule : CertificateRule) → Fails g s v rule → ⊥
 no_flaw g s v lengths at Length f = f.1 lengths
 no_flaw g s v lengths at NoSuccessor f = f.missing (at.choice f.owner)
 no_flaw g s v lengths at LeavesRegion f = f.1.leaves (at.region f.0 f.1.kept)

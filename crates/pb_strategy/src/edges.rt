@@ -2,17 +2,17 @@
 
 ghost use Rattle.std.specs.Prelude.{◌≡◌, ◌≢◌, ℕ, ◌+◌, ◌%◌, ◌<◌, ◌≤◌, ◌↔◌, length, IsTrue, MatchBool, MatchOption};
 ghost use Rattle.pb_game.specs.Games.{vertex_count, owner_of, priority_count, HasEdge};
-ghost use Rattle.pb_certificate.specs.Solutions.{winner_of, choice_of, HasLengths};
-ghost use Rattle.pb_certificate.specs.Certificates.{IsCertifiedAt};
-ghost use Rattle.pb_certificate.specs.Flaws.{LeavesAlong, IncreasesAlong, StaysAlong, IsFirstRule};
+ghost use Rattle.pb_game_certificate.specs.Solutions.{winner_of, choice_of, HasLengths};
+ghost use Rattle.pb_game_certificate.specs.Certificates.{IsCertifiedAt};
+ghost use Rattle.pb_game_certificate.specs.Flaws.{LeavesAlong, IncreasesAlong, StaysAlong, IsFirstRule};
 ghost use Rattle.pb_strategy.specs.Comparisons.{Compares, DecreasesAlong, DontIncrease, EachKept};
 
-use pb_certificate::{Rule, Solution};
 use pb_game::Game;
+use pb_game_certificate::{CertificateRule, Solution};
 use std::cmp::Ordering;
 
 /// The first rule that fails at `v`.
-pub(crate) fn flaw_at(game: &Game, solution: &Solution, v: u32) -> Option<Rule>
+pub(crate) fn flaw_at(game: &Game, solution: &Solution, v: u32) -> Option<CertificateRule>
     requires lengths { HasLengths game.now solution.now }
     requires vertex { v < vertex_count game.now }
     ensures { MatchOption result (IsCertifiedAt game.now solution.now v) (λ rule. IsFirstRule game.now solution.now v rule) }
@@ -20,18 +20,18 @@ pub(crate) fn flaw_at(game: &Game, solution: &Solution, v: u32) -> Option<Rule>
     let winner = solution.winner(v);
     if game.owner(v) == winner {
         if !has_edge(game, v, solution.choice(v)) {
-            return Some(Rule::NoSuccessor);
+            return Some(CertificateRule::NoSuccessor);
         }
     }
     if leaves_region(game, solution, v) {
-        return Some(Rule::LeavesRegion);
+        return Some(CertificateRule::LeavesRegion);
     }
     if increases(game, solution, v) {
-        return Some(Rule::Increases);
+        return Some(CertificateRule::Increases);
     }
     if game.priority(v) % 2 != u32::from(winner) {
         if stays(game, solution, v) {
-            return Some(Rule::NoDecrease);
+            return Some(CertificateRule::NoDecrease);
         }
     }
     None

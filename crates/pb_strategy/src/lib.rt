@@ -7,15 +7,15 @@
 
 ghost use Rattle.std.specs.Prelude.{◌≡◌, ◌*◌, ◌<◌, ◌↔◌, length, IsTrue, IsOk, IfErr, IfOk};
 ghost use Rattle.pb_game.specs.Games.{vertex_count, priority_count};
-ghost use Rattle.pb_certificate.specs.Solutions.{winner_of, HasLengths};
-ghost use Rattle.pb_certificate.specs.Certificates.{IsCertificate};
-ghost use Rattle.pb_certificate.specs.Flaws.{IsFirstFlaw};
+ghost use Rattle.pb_game_certificate.specs.Solutions.{winner_of, HasLengths};
+ghost use Rattle.pb_game_certificate.specs.Certificates.{IsCertificate};
+ghost use Rattle.pb_game_certificate.specs.Flaws.{IsFirstFlaw};
 
 mod edges;
 
 use edges::flaw_at;
-use pb_certificate::{Flaw, Rule, Solution};
 use pb_game::Game;
+use pb_game_certificate::{CertificateRule, Flaw, Solution};
 
 /// A solution that is a certificate of its game.
 #[derive(Drop)]
@@ -26,7 +26,7 @@ pub struct Checked<'a> {
 }
 
 impl Checked<'_> {
-    ghost use Rattle.pb_game_solution.specs.Meaning.{IsSolvedAt};
+    ghost use Rattle.pb_game_meaning.specs.Meaning.{IsSolvedAt};
 
     /// Whether player 0 wins `v`. Of whatever Boolean equation system the game was built, this is the truth of the
     /// instance whose vertex `v` is (Groote and Willemse 2005).
@@ -54,7 +54,7 @@ pub fn check<'a>(game: &'a Game, solution: &'a Solution) -> Result<Checked<'a>, 
     if !has_lengths(game, solution) {
         return Err(Flaw {
             vertex: 0,
-            rule: Rule::Length,
+            rule: CertificateRule::Length,
         });
     }
     for vertex in 0..game.len() {

@@ -1,31 +1,31 @@
 -- Formulas are read rightly.
 use Rattle.std.proofs.Common.{◌≡◌, ℕ, zero, suc, ◌≤◌, Bool, true, false, cond, List, [], ◌∷◌, refl, sym, ap, ◌∙◌, subst, arith, inl, inr}
-use Rattle.pb_ast.specs.Form.{FormulaForm, TermForm, InstanceForm}
-use Rattle.pb_lexer.specs.declared.fault.Rule.TheVariants.{Unexpected, Limit}
-use Rattle.pb_lexer.specs.declared.kind.Kind.{Kind}
-use Rattle.pb_lexer.specs.declared.kind.Kind.TheVariants as k
-use Rattle.pb_lexer.specs.Kinds.{same_kind, is_last, is_limited}
-use Rattle.pb_lexer.specs.Grammar.{State, Within, Reads, Is, Nothing, One, First}
-use Rattle.pb_lexer.specs.Grammar as grammar
-use Rattle.pb_lexer.specs.Steps.{ends, head_kind, kind, Step, and_then, pure, take_token, expect, refuse, refusal, unless_next, connected}
-use Rattle.pb_lexer.specs.Steps as step
-use Rattle.pb_lexer.specs.Tokens.{Tok}
-use Rattle.pb_lexer.proofs.TokenLemmas.{kind-same, same-kind}
-use Rattle.pb_lexer.proofs.Correct.{st, Family, Stops, never, Answers, Correct, then-correct, pure-correct, HeadIs, take-correct, expect-correct, refused-here, unlike, first-correct, deeper, deeper-correct, alike-correct}
-use Rattle.pb_lexer.proofs.CorrectSeries.{going, Passes, head-at}
-use Rattle.pb_lexer.proofs.CorrectPlain.{Always, anywhere, then-plain, is-correct, leaf-correct, nothing-correct}
-use Rattle.pb_lexer.proofs.CorrectLeft.{unless_next-correct}
-use Rattle.pb_lexer.proofs.CorrectEither.{Not, connects, IsBelow, connected-correct}
-use Rattle.pb_lexer.specs.OpenGrammar.{Connected}
-use Rattle.pb_expressions.specs.Grammar.{Instance, IsTerm, Quantified, QuantifiedBy}
-use Rattle.pb_expressions.specs.Operators.{connected_by, is_quantifier}
-use Rattle.pb_expressions.specs.Reading.{is_open}
-use Rattle.pb_expressions.specs.Reading as expressions
+use Rattle.pb_text_tree.specs.Form.{FormulaForm, TermForm, InstanceForm}
+use Rattle.pb_text_lexer.specs.declared.fault.ReadingRule.TheVariants.{Unexpected, Limit}
+use Rattle.pb_text_lexer.specs.declared.kind.Kind.{Kind}
+use Rattle.pb_text_lexer.specs.declared.kind.Kind.TheVariants as k
+use Rattle.pb_text_lexer.specs.Kinds.{same_kind, is_last, is_limited}
+use Rattle.pb_text_lexer.specs.Grammar.{State, Within, Reads, Is, Nothing, One, First}
+use Rattle.pb_text_lexer.specs.Grammar as grammar
+use Rattle.pb_text_lexer.specs.Steps.{ends, head_kind, kind, Step, and_then, pure, take_token, expect, refuse, refusal, unless_next, connected}
+use Rattle.pb_text_lexer.specs.Steps as step
+use Rattle.pb_text_lexer.specs.Tokens.{Tok}
+use Rattle.pb_text_lexer.proofs.TokenLemmas.{kind-same, same-kind}
+use Rattle.pb_text_lexer.proofs.Correct.{st, Family, Stops, never, Answers, Correct, then-correct, pure-correct, HeadIs, take-correct, expect-correct, refused-here, unlike, first-correct, deeper, deeper-correct, alike-correct}
+use Rattle.pb_text_lexer.proofs.CorrectSeries.{going, Passes, head-at}
+use Rattle.pb_text_lexer.proofs.CorrectPlain.{Always, anywhere, then-plain, is-correct, leaf-correct, nothing-correct}
+use Rattle.pb_text_lexer.proofs.CorrectLeft.{unless_next-correct}
+use Rattle.pb_text_lexer.proofs.CorrectEither.{Not, connects, IsBelow, connected-correct}
+use Rattle.pb_text_lexer.specs.OpenGrammar.{Connected}
+use Rattle.pb_text_terms.specs.Grammar.{Instance, IsTerm, Quantified, QuantifiedBy}
+use Rattle.pb_text_terms.specs.Operators.{connected_by, is_quantifier}
+use Rattle.pb_text_terms.specs.Reading.{is_open}
+use Rattle.pb_text_terms.specs.Reading as expressions
 use Rattle.pb_text.specs.Grammar.{Begun, IsNode, IsFormula}
 use Rattle.pb_text.specs.Reading.{opening, begun, data_term, node, formula}
-use Rattle.pb_expressions.proofs.CorrectOperators.{term_goes}
-use Rattle.pb_expressions.proofs.CorrectTerm.{term-correct, instance-correct}
-use Rattle.pb_expressions.proofs.CorrectVariable.{quantified-correct, quantified-last}
+use Rattle.pb_text_terms.proofs.CorrectOperators.{term_goes}
+use Rattle.pb_text_terms.proofs.CorrectTerm.{term-correct, instance-correct}
+use Rattle.pb_text_terms.proofs.CorrectVariable.{quantified-correct, quantified-last}
 
 -- what goes on with a node: a bracket, behind a name
 abbrev pub node_goes : Kind → Bool

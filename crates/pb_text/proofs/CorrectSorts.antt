@@ -1,25 +1,25 @@
 -- Declarations of sorts are read rightly.
 use Rattle.std.proofs.Common.{◌≡◌, ℕ, suc, ◌<◌, Bool, true, false, List, [], ◌∷◌, ◌++◌, length, refl, sym, subst, arith, Some, None}
-use Rattle.pb_ast.specs.Form.{EnumeratorForm, SortForm, SortDeclarationForm, struct, alias}
-use Rattle.pb_lexer.specs.declared.kind.Kind.{Kind}
-use Rattle.pb_lexer.specs.declared.kind.Kind.TheVariants as k
-use Rattle.pb_lexer.specs.Kinds.{same_kind, is_last}
-use Rattle.pb_lexer.specs.Grammar.{State, Reads, Is, Nothing, One, First, Series, last, more}
-use Rattle.pb_lexer.specs.Grammar as grammar
-use Rattle.pb_lexer.specs.LeftGrammar.{Listed}
-use Rattle.pb_lexer.specs.Steps.{Step, pure, take_token, expect, refuse, unless_next, nothing_between}
-use Rattle.pb_lexer.specs.Steps as step
-use Rattle.pb_lexer.specs.Tokens.{Tok}
-use Rattle.pb_lexer.proofs.TokenLemmas.{kind-same, same-kind}
-use Rattle.pb_lexer.proofs.Correct.{st, Family, Stops, never, Took, Correct, then-correct, pure-correct, HeadIs, take-correct, expect-correct, first-correct, weaker-correct}
-use Rattle.pb_lexer.proofs.CorrectSeries.{going, Passes, head-at, passes-at, shorter, no-longer, series-correct}
-use Rattle.pb_lexer.proofs.CorrectPlain.{Always, anywhere, then-plain, is-correct, nothing-correct}
-use Rattle.pb_lexer.proofs.CorrectLeft.{unless_next-correct, extended-correct}
-use Rattle.pb_expressions.specs.Grammar.{Name}
-use Rattle.pb_expressions.specs.Reading.{name}
+use Rattle.pb_text_tree.specs.Form.{EnumeratorForm, SortForm, SortDeclarationForm, struct, alias}
+use Rattle.pb_text_lexer.specs.declared.kind.Kind.{Kind}
+use Rattle.pb_text_lexer.specs.declared.kind.Kind.TheVariants as k
+use Rattle.pb_text_lexer.specs.Kinds.{same_kind, is_last}
+use Rattle.pb_text_lexer.specs.Grammar.{State, Reads, Is, Nothing, One, First, Series, last, more}
+use Rattle.pb_text_lexer.specs.Grammar as grammar
+use Rattle.pb_text_lexer.specs.LeftGrammar.{Listed}
+use Rattle.pb_text_lexer.specs.Steps.{Step, pure, take_token, expect, refuse, unless_next, nothing_between}
+use Rattle.pb_text_lexer.specs.Steps as step
+use Rattle.pb_text_lexer.specs.Tokens.{Tok}
+use Rattle.pb_text_lexer.proofs.TokenLemmas.{kind-same, same-kind}
+use Rattle.pb_text_lexer.proofs.Correct.{st, Family, Stops, never, Took, Correct, then-correct, pure-correct, HeadIs, take-correct, expect-correct, first-correct, weaker-correct}
+use Rattle.pb_text_lexer.proofs.CorrectSeries.{going, Passes, head-at, passes-at, shorter, no-longer, series-correct}
+use Rattle.pb_text_lexer.proofs.CorrectPlain.{Always, anywhere, then-plain, is-correct, nothing-correct}
+use Rattle.pb_text_lexer.proofs.CorrectLeft.{unless_next-correct, extended-correct}
+use Rattle.pb_text_terms.specs.Grammar.{Name}
+use Rattle.pb_text_terms.specs.Reading.{name}
 use Rattle.pb_text.specs.Grammar.{Plain, Recognised, Enumerator, SortBy, SortDecl, SortPart, SortParts}
 use Rattle.pb_text.specs.Reading.{is_question, is_bar, is_name, is_sort, plain, recognised, enumerator, enumerators, sort_by, sort, declaration, declarations, sort_part, some_sort_parts, sort_parts}
-use Rattle.pb_expressions.proofs.CorrectVariable.{name-correct}
+use Rattle.pb_text_terms.proofs.CorrectVariable.{name-correct}
 
 -- ---- tokens that begin something
 

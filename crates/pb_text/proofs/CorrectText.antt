@@ -2,31 +2,31 @@
 use Rattle.std.proofs.Common.{◌≡◌, ℕ, zero, suc, ◌≤◌, Bool, true, false, cond, List, [], ◌∷◌, ◌++◌, refl, sym, ◌∙◌, ap, subst, arith, Ok, Err}
 use Rattle.pb_fixpoint.specs.declared.Sign.{Sign}
 use Rattle.pb_fixpoint.specs.declared.Sign.TheVariants as sign
-use Rattle.pb_ast.specs.Form.{VariableForm, InstanceForm, RangeForm, EquationForm, SpecForm}
-use Rattle.pb_ast.specs.declared.operator.Connective.TheVariants as connective
-use Rattle.pb_lexer.specs.declared.fault.Rule.TheVariants.{Unexpected, Limit}
-use Rattle.pb_lexer.specs.declared.fault.Refusal.{Refusal}
-use Rattle.pb_lexer.specs.declared.kind.Kind.{Kind}
-use Rattle.pb_lexer.specs.declared.kind.Kind.TheVariants as k
-use Rattle.pb_lexer.specs.Kinds.{same_kind, is_last, is_limited}
-use Rattle.pb_lexer.specs.Grammar.{State, Within, Reads, Is, Nothing, One, First, Series, Own}
-use Rattle.pb_lexer.specs.Grammar as grammar
-use Rattle.pb_lexer.specs.LeftGrammar.{Extended}
-use Rattle.pb_lexer.specs.Steps.{ends, Step, Outcome, and_then, pure, take_token, expect, refuse, refusal, kind, head_kind, alone, unless_next, nothing_between}
-use Rattle.pb_lexer.specs.Steps as step
-use Rattle.pb_lexer.specs.Tokens.{Tok}
-use Rattle.pb_lexer.proofs.TokenLemmas.{kind-same, same-kind}
-use Rattle.pb_lexer.proofs.Correct.{st, Family, Stops, never, stops-never, Took, Answers, Correct, move, then-correct, HeadIs, take-correct, expect-correct, refused-here, unlike, first-correct, weaker-correct, deeper, deeper-correct, alike-correct, own-correct}
-use Rattle.pb_lexer.proofs.CorrectSeries.{going, Passes, head-at}
-use Rattle.pb_lexer.proofs.CorrectPlain.{Always, anywhere, then-plain, is-correct, nothing-correct}
-use Rattle.pb_lexer.proofs.CorrectLeft.{unless_next-correct, extended-correct}
-use Rattle.pb_expressions.specs.Grammar.{Name, Variables, Instance, IsTerm}
-use Rattle.pb_expressions.specs.Reading.{name, variables, is_open, is_comma}
-use Rattle.pb_expressions.specs.Reading as expressions
+use Rattle.pb_text_tree.specs.Form.{VariableForm, InstanceForm, RangeForm, EquationForm, SpecForm}
+use Rattle.pb_text_tree.specs.declared.operator.Connective.TheVariants as connective
+use Rattle.pb_text_lexer.specs.declared.fault.ReadingRule.TheVariants.{Unexpected, Limit}
+use Rattle.pb_text_lexer.specs.declared.fault.Refusal.{Refusal}
+use Rattle.pb_text_lexer.specs.declared.kind.Kind.{Kind}
+use Rattle.pb_text_lexer.specs.declared.kind.Kind.TheVariants as k
+use Rattle.pb_text_lexer.specs.Kinds.{same_kind, is_last, is_limited}
+use Rattle.pb_text_lexer.specs.Grammar.{State, Within, Reads, Is, Nothing, One, First, Series, Own}
+use Rattle.pb_text_lexer.specs.Grammar as grammar
+use Rattle.pb_text_lexer.specs.LeftGrammar.{Extended}
+use Rattle.pb_text_lexer.specs.Steps.{ends, Step, Outcome, and_then, pure, take_token, expect, refuse, refusal, kind, head_kind, alone, unless_next, nothing_between}
+use Rattle.pb_text_lexer.specs.Steps as step
+use Rattle.pb_text_lexer.specs.Tokens.{Tok}
+use Rattle.pb_text_lexer.proofs.TokenLemmas.{kind-same, same-kind}
+use Rattle.pb_text_lexer.proofs.Correct.{st, Family, Stops, never, stops-never, Took, Answers, Correct, move, then-correct, HeadIs, take-correct, expect-correct, refused-here, unlike, first-correct, weaker-correct, deeper, deeper-correct, alike-correct, own-correct}
+use Rattle.pb_text_lexer.proofs.CorrectSeries.{going, Passes, head-at}
+use Rattle.pb_text_lexer.proofs.CorrectPlain.{Always, anywhere, then-plain, is-correct, nothing-correct}
+use Rattle.pb_text_lexer.proofs.CorrectLeft.{unless_next-correct, extended-correct}
+use Rattle.pb_text_terms.specs.Grammar.{Name, Variables, Instance, IsTerm}
+use Rattle.pb_text_terms.specs.Reading.{name, variables, is_open, is_comma}
+use Rattle.pb_text_terms.specs.Reading as expressions
 use Rattle.pb_text.specs.Grammar.{IsFormula, SortParts, SignOf, Declared, IsEquation, Equations, IsInitial, IsSpec, IsText}
 use Rattle.pb_text.specs.Reading.{level, sign_by, sign_of, declared, parameters, right_side, equation, begins_equation, equations, initial_instance, sort_parts, text, whole_text}
-use Rattle.pb_expressions.proofs.CorrectVariable.{name-correct, variables-correct}
-use Rattle.pb_expressions.proofs.CorrectTerm.{instance-correct}
+use Rattle.pb_text_terms.proofs.CorrectVariable.{name-correct, variables-correct}
+use Rattle.pb_text_terms.proofs.CorrectTerm.{instance-correct}
 use Rattle.pb_text.proofs.CorrectFormula.{node_goes, formula_goes, formulas-correct}
 use Rattle.pb_text.proofs.CorrectSorts.{passes-kind, head-of, other-stops, token-correct, many-correct, parts_go, sort_parts-correct}
 

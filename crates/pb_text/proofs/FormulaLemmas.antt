@@ -1,19 +1,19 @@
 -- A level of formulas is a chain, and what begins no formula.
 use Rattle.std.proofs.Common.{◌≡◌, ◌≢◌, ℕ, zero, suc, length, List, [], ◌∷◌, ◌++◌, refl, ap, Err}
 use Rattle.std.proofs.lemmas.List.{map-append}
-use Rattle.pb_ast.specs.declared.operator.Connective.{Connective}
-use Rattle.pb_ast.specs.declared.operator.Connective.TheVariants.{And, Or, Implies}
-use Rattle.pb_ast.specs.declared.formula.Link.{Link}
-use Rattle.pb_ast.specs.Form.{FormulaForm, TermForm, InstanceForm, link_form, link_forms}
-use Rattle.pb_lexer.specs.declared.fault.Rule.TheVariants.{Unexpected, Limit}
-use Rattle.pb_lexer.specs.declared.kind.Kind.{Kind}
-use Rattle.pb_lexer.specs.declared.kind.Kind.TheVariants as k
-use Rattle.pb_lexer.specs.Grammar.{State}
-use Rattle.pb_lexer.specs.Steps.{Step, refuse, refusal, kind, take_token, chain}
-use Rattle.pb_lexer.specs.Tokens.{Tok}
-use Rattle.pb_lexer.proofs.LoopLemmas.{placed}
-use Rattle.pb_expressions.specs.Operators.{symbol}
-use Rattle.pb_expressions.specs.Reading as expressions
+use Rattle.pb_text_tree.specs.declared.operator.Connective.{Connective}
+use Rattle.pb_text_tree.specs.declared.operator.Connective.TheVariants.{And, Or, Implies}
+use Rattle.pb_text_tree.specs.declared.formula.Link.{Link}
+use Rattle.pb_text_tree.specs.Form.{FormulaForm, TermForm, InstanceForm, link_form, link_forms}
+use Rattle.pb_text_lexer.specs.declared.fault.ReadingRule.TheVariants.{Unexpected, Limit}
+use Rattle.pb_text_lexer.specs.declared.kind.Kind.{Kind}
+use Rattle.pb_text_lexer.specs.declared.kind.Kind.TheVariants as k
+use Rattle.pb_text_lexer.specs.Grammar.{State}
+use Rattle.pb_text_lexer.specs.Steps.{Step, refuse, refusal, kind, take_token, chain}
+use Rattle.pb_text_lexer.specs.Tokens.{Tok}
+use Rattle.pb_text_lexer.proofs.LoopLemmas.{placed}
+use Rattle.pb_text_terms.specs.Operators.{symbol}
+use Rattle.pb_text_terms.specs.Reading as expressions
 use Rattle.pb_text.specs.Reading.{begun, data_term, node, formula, quantification, operand, level}
 
 -- a level is a chain of its operands

@@ -1,24 +1,24 @@
 -- From tokens to bytes.
 use Rattle.std.proofs.Common.{◌≡◌, ℕ, true, false, List, [], map, refl, sym, ◌∙◌, ap, subst, arith, Result, Ok, Err}
-use Rattle.pb_ast.specs.declared.place.Place.{Place}
-use Rattle.pb_ast.specs.declared.spec.Spec.{Spec}
-use Rattle.pb_ast.specs.Form.{RangeForm, SpecForm, spec_form, range_form}
-use Rattle.pb_lexer.specs.declared.fault.Rule.{Rule}
-use Rattle.pb_lexer.specs.declared.fault.Rule.TheVariants.{Unexpected, Limit}
-use Rattle.pb_lexer.specs.declared.fault.Refusal.{Refusal}
-use Rattle.pb_lexer.specs.declared.fault.Fault.{Fault}
-use Rattle.pb_lexer.specs.declared.fault.Fault.TheVariants.{Memory, At}
-use Rattle.pb_lexer.specs.declared.kind.Kind.{Kind}
-use Rattle.pb_lexer.specs.declared.kind.Kind.TheVariants.{Unknown, LargeNumber, RangeLine}
-use Rattle.pb_lexer.specs.Kinds.{is_defect}
-use Rattle.pb_lexer.specs.Lexing.{start, IsDefect}
-use Rattle.pb_lexer.specs.Remaining.{tokens_from, ranges_from}
-use Rattle.pb_lexer.specs.Grammar.{State, Within}
-use Rattle.pb_lexer.specs.Steps.{Outcome, Gives}
-use Rattle.pb_lexer.specs.Tokens.{Tok}
-use Rattle.pb_lexer.proofs.Correct.{st}
-use Rattle.pb_lexer.proofs.CutLemmas.{same-cut, stands, whole-cut}
-use Rattle.pb_lexer.proofs.RemainingLemmas.{tokens-end}
+use Rattle.pb_text_tree.specs.declared.place.Place.{Place}
+use Rattle.pb_text_tree.specs.declared.spec.Spec.{Spec}
+use Rattle.pb_text_tree.specs.Form.{RangeForm, SpecForm, spec_form, range_form}
+use Rattle.pb_text_lexer.specs.declared.fault.ReadingRule.{ReadingRule}
+use Rattle.pb_text_lexer.specs.declared.fault.ReadingRule.TheVariants.{Unexpected, Limit}
+use Rattle.pb_text_lexer.specs.declared.fault.Refusal.{Refusal}
+use Rattle.pb_text_lexer.specs.declared.fault.ReadingFault.{ReadingFault}
+use Rattle.pb_text_lexer.specs.declared.fault.ReadingFault.TheVariants.{Memory, At}
+use Rattle.pb_text_lexer.specs.declared.kind.Kind.{Kind}
+use Rattle.pb_text_lexer.specs.declared.kind.Kind.TheVariants.{Unknown, LargeNumber, RangeLine}
+use Rattle.pb_text_lexer.specs.Kinds.{is_defect}
+use Rattle.pb_text_lexer.specs.Lexing.{start, IsDefect}
+use Rattle.pb_text_lexer.specs.Remaining.{tokens_from, ranges_from}
+use Rattle.pb_text_lexer.specs.Grammar.{State, Within}
+use Rattle.pb_text_lexer.specs.Steps.{Outcome, Gives}
+use Rattle.pb_text_lexer.specs.Tokens.{Tok}
+use Rattle.pb_text_lexer.proofs.Correct.{st}
+use Rattle.pb_text_lexer.proofs.CutLemmas.{same-cut, stands, whole-cut}
+use Rattle.pb_text_lexer.proofs.RemainingLemmas.{tokens-end}
 use Rattle.pb_text.specs.Grammar.{IsText}
 use Rattle.pb_text.specs.Parsing.{IsReading, IsReadingWithin, IsRefusal, IsBroken, StandsBy, rule_of, NoReading, Stands, error_of}
 use Rattle.pb_text.specs.Reading.{whole_text}
@@ -42,7 +42,7 @@ of-cut bytes d n y h =
 pub only-reading : (bytes : List ℕ) (x : SpecForm) → IsRead 64 8192 (all_tokens bytes) (all_ranges bytes) x → (d n : ℕ) (y : SpecForm) → IsReadingWithin d n bytes y → y ≡ x
 only-reading bytes x r d n y h = r.only d n y (of-cut bytes d n y h)
 
-within-self : (rule : Rule) → Within rule 64 8192 64 8192
+within-self : (rule : ReadingRule) → Within rule 64 8192 64 8192
 within-self Unexpected = tt
 within-self Limit = (omega arith, omega arith)
 
@@ -51,7 +51,7 @@ no-reading bytes bad f y h =
     f.none 64 8192 f.more (all_ranges bytes) y (within-self bad.rule) (subst (λ (v : List Tok). IsText 64 8192 v (all_ranges bytes) y) f.cut (of-cut bytes 64 8192 y h))
 
 -- a refused token is no token, or it is refused by the grammar
-by-kind : (bytes : List ℕ) (rule : Rule) (kind : Kind) (place : Place) → (is_defect kind ≡ true → IsBroken bytes kind place) → (is_defect kind ≡ false → IsRefusal bytes rule place)
+by-kind : (bytes : List ℕ) (rule : ReadingRule) (kind : Kind) (place : Place) → (is_defect kind ≡ true → IsBroken bytes kind place) → (is_defect kind ≡ false → IsRefusal bytes rule place)
     → StandsBy (rule_of rule kind) bytes place
 by-kind bytes rule Unknown place broken refused = broken refl
 by-kind bytes rule LargeNumber place broken refused = broken refl
@@ -79,17 +79,17 @@ stands-by bytes bad f =
 
 -- ---- what reading the tokens of a text answers
 
-abbrev pub Answered : List ℕ → Result Spec Fault → Type 0
+abbrev pub Answered : List ℕ → Result Spec ReadingFault → Type 0
 Answered bytes (Ok s) = IsRead 64 8192 (all_tokens bytes) [] (spec_form s)
 Answered bytes (Err Memory) = Unit {0}
 Answered bytes (Err (At bad)) = IsFault 64 8192 (all_tokens bytes) bad
 
-answered-by : (bytes : List ℕ) (o : Outcome SpecForm) (result : Result Spec Fault) (z : State) → Gives spec_form o result z → Reading [] 64 (st (all_tokens bytes) 8192) o → Answered bytes result
+answered-by : (bytes : List ℕ) (o : Outcome SpecForm) (result : Result Spec ReadingFault) (z : State) → Gives spec_form o result z → Reading [] 64 (st (all_tokens bytes) 8192) o → Answered bytes result
 answered-by bytes o (Ok s) z is h = subst (λ (v : Outcome SpecForm). Reading [] 64 (st (all_tokens bytes) 8192) v) is h
 answered-by bytes o (Err Memory) z is h = tt
 answered-by bytes o (Err (At bad)) z is h = subst (λ (v : Outcome SpecForm). Reading [] 64 (st (all_tokens bytes) 8192) v) is h
 
-pub answered : (bytes : List ℕ) (s : State) (result : Result Spec Fault) (z : State) → s ≡ st (all_tokens bytes) 8192 → Gives spec_form (whole_text [] 64 s) result z → Answered bytes result
+pub answered : (bytes : List ℕ) (s : State) (result : Result Spec ReadingFault) (z : State) → s ≡ st (all_tokens bytes) 8192 → Gives spec_form (whole_text [] 64 s) result z → Answered bytes result
 answered bytes s result z is h =
     answered-by bytes (whole_text [] 64 (st (all_tokens bytes) 8192)) result z
     (subst (λ (v : State). Gives spec_form (whole_text [] 64 v) result z) is h)
@@ -102,10 +102,10 @@ ranged bytes s t a is same =
     let e : record (spec_form s) { ranges = all_ranges bytes } ≡ spec_form t = ap (λ (v : List RangeForm). record (spec_form s) { ranges = v }) (sym same) ∙ sym is in
     subst (λ (v : SpecForm). IsRead 64 8192 (all_tokens bytes) (all_ranges bytes) v) e (with-ranges (all_ranges bytes) 64 8192 (all_tokens bytes) (spec_form s) a)
 
-pub refused-is : (bytes : List ℕ) (fault : Fault) → Answered bytes (Err fault) → NoReading bytes (error_of fault)
+pub refused-is : (bytes : List ℕ) (fault : ReadingFault) → Answered bytes (Err fault) → NoReading bytes (error_of fault)
 refused-is bytes Memory h = tt
 refused-is bytes (At bad) h = no-reading bytes bad h
 
-pub stands-is : (bytes : List ℕ) (fault : Fault) → Answered bytes (Err fault) → Stands bytes (error_of fault)
+pub stands-is : (bytes : List ℕ) (fault : ReadingFault) → Answered bytes (Err fault) → Stands bytes (error_of fault)
 stands-is bytes Memory h = tt
 stands-is bytes (At bad) h = stands-by bytes bad h

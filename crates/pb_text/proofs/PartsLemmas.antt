@@ -1,13 +1,13 @@
 -- Sort parts that are read by a loop: what the loop has still to read, behind the declarations that it has.
 use Rattle.std.proofs.Common.{◌≡◌, ℕ, suc, Bool, true, false, cond, List, [], ◌++◌, length, refl, sym, ap, ◌∙◌, append_assoc, Ok, Err}
 use Rattle.std.proofs.lemmas.List.{append-nil, map-append}
-use Rattle.pb_ast.specs.Form.{SortDeclarationForm, sort_declaration_form}
-use Rattle.pb_ast.specs.declared.sort.SortDeclaration.{SortDeclaration}
+use Rattle.pb_text_tree.specs.Form.{SortDeclarationForm, sort_declaration_form}
+use Rattle.pb_text_tree.specs.declared.sort.SortDeclaration.{SortDeclaration}
 use Rattle.std.specs.Prelude.{map}
-use Rattle.pb_lexer.specs.declared.fault.Refusal.{Refusal}
-use Rattle.pb_lexer.specs.declared.fault.Rule.TheVariants.{Unexpected}
-use Rattle.pb_lexer.specs.Grammar.{State}
-use Rattle.pb_lexer.specs.Steps.{Step, Outcome, and_then, ◌>>=◌, pure, kind, refusal, series, extended, nothing_between}
+use Rattle.pb_text_lexer.specs.declared.fault.Refusal.{Refusal}
+use Rattle.pb_text_lexer.specs.declared.fault.ReadingRule.TheVariants.{Unexpected}
+use Rattle.pb_text_lexer.specs.Grammar.{State}
+use Rattle.pb_text_lexer.specs.Steps.{Step, Outcome, and_then, ◌>>=◌, pure, kind, refusal, series, extended, nothing_between}
 use Rattle.pb_text.specs.Reading.{is_name, is_sort, sort_part, some_sort_parts, sort_parts}
 
 abbrev parts_from : ℕ → Step (List SortDeclarationForm)

@@ -3,15 +3,15 @@
 use Rattle.std.specs.Prelude.{◌≡◌, ℕ, zero, suc, true, false, List, [], ◌∷◌, ◌++◌, Some, None}
 use Rattle.pb_fixpoint.specs.declared.Sign.{Sign}
 use Rattle.pb_fixpoint.specs.declared.Sign.TheVariants as sign
-use Rattle.pb_ast.specs.Form.{VariableForm, TermForm, FormulaForm, InstanceForm, EnumeratorForm, SortForm, struct, alias, SortDeclarationForm, RangeForm, EquationForm, SpecForm}
-use Rattle.pb_lexer.specs.declared.kind.Kind.{Kind}
-use Rattle.pb_lexer.specs.declared.kind.Kind.TheVariants as k
-use Rattle.pb_lexer.specs.Grammar.{Reads, ◌>>=◌, Is, Nothing, One, First, Series, Own}
-use Rattle.pb_lexer.specs.LeftGrammar.{Extended, Listed}
-use Rattle.pb_lexer.specs.OpenGrammar.{Connected}
-use Rattle.pb_lexer.specs.Tokens.{Tok}
-use Rattle.pb_expressions.specs.Operators.{connected_by}
-use Rattle.pb_expressions.specs.Grammar.{Name, Variables, Quantified, Instance, IsTerm}
+use Rattle.pb_text_tree.specs.Form.{VariableForm, TermForm, FormulaForm, InstanceForm, EnumeratorForm, SortForm, struct, alias, SortDeclarationForm, RangeForm, EquationForm, SpecForm}
+use Rattle.pb_text_lexer.specs.declared.kind.Kind.{Kind}
+use Rattle.pb_text_lexer.specs.declared.kind.Kind.TheVariants as k
+use Rattle.pb_text_lexer.specs.Grammar.{Reads, ◌>>=◌, Is, Nothing, One, First, Series, Own}
+use Rattle.pb_text_lexer.specs.LeftGrammar.{Extended, Listed}
+use Rattle.pb_text_lexer.specs.OpenGrammar.{Connected}
+use Rattle.pb_text_lexer.specs.Tokens.{Tok}
+use Rattle.pb_text_terms.specs.Operators.{connected_by}
+use Rattle.pb_text_terms.specs.Grammar.{Name, Variables, Quantified, Instance, IsTerm}
 
 -- ---- formulas
 

@@ -1,19 +1,19 @@
 -- What a text says, and where the fault of one stands that says nothing.
 use Rattle.std.specs.Prelude.{◌≡◌, ℕ, true, List, [], ◌∷◌, ◌++◌}
-use Rattle.pb_ast.specs.declared.place.Place.{Place}
-use Rattle.pb_ast.specs.Form.{RangeForm, SpecForm}
-use Rattle.pb_lexer.specs.declared.fault.Rule.TheVariants as refused
-use Rattle.pb_lexer.specs.declared.fault.Rule as token_rule
-use Rattle.pb_lexer.specs.declared.fault.Fault.{Fault}
-use Rattle.pb_lexer.specs.declared.fault.Fault.TheVariants as fault
-use Rattle.pb_lexer.specs.declared.kind.Kind.{Kind}
-use Rattle.pb_lexer.specs.declared.kind.Kind.TheVariants as k
-use Rattle.pb_lexer.specs.Grammar.{Within}
-use Rattle.pb_lexer.specs.Kinds.{is_limited}
-use Rattle.pb_lexer.specs.Lexing.{IsCut, IsDefect, Begins}
-use Rattle.pb_lexer.specs.Tokens.{Tok}
-use Rattle.pb_text.specs.declared.error.Rule.{Rule}
-use Rattle.pb_text.specs.declared.error.Rule.TheVariants as rule
+use Rattle.pb_text_tree.specs.declared.place.Place.{Place}
+use Rattle.pb_text_tree.specs.Form.{RangeForm, SpecForm}
+use Rattle.pb_text_lexer.specs.declared.fault.ReadingRule.TheVariants as refused
+use Rattle.pb_text_lexer.specs.declared.fault.ReadingRule as token_rule
+use Rattle.pb_text_lexer.specs.declared.fault.ReadingFault.{ReadingFault}
+use Rattle.pb_text_lexer.specs.declared.fault.ReadingFault.TheVariants as fault
+use Rattle.pb_text_lexer.specs.declared.kind.Kind.{Kind}
+use Rattle.pb_text_lexer.specs.declared.kind.Kind.TheVariants as k
+use Rattle.pb_text_lexer.specs.Grammar.{Within}
+use Rattle.pb_text_lexer.specs.Kinds.{is_limited}
+use Rattle.pb_text_lexer.specs.Lexing.{IsCut, IsDefect, Begins}
+use Rattle.pb_text_lexer.specs.Tokens.{Tok}
+use Rattle.pb_text.specs.declared.error.TextRule.{TextRule}
+use Rattle.pb_text.specs.declared.error.TextRule.TheVariants as rule
 use Rattle.pb_text.specs.declared.error.TextError.{TextError}
 use Rattle.pb_text.specs.declared.error.TextError.TheVariants as error
 use Rattle.pb_text.specs.Grammar.{IsText}
@@ -39,7 +39,7 @@ IsReading bytes x = IsReadingWithin depth_limit operator_limit bytes x
 
 -- The bytes begin with tokens, the last of which stands at this place: no text begins so, within the limits that the rule speaks of.
 -- Where the rule is a limit, that token is one at which a limit can be exceeded.
-pub record IsRefusal (bytes : List ℕ) (broken : token_rule.Rule) (place : Place) : Type 0 where
+pub record IsRefusal (bytes : List ℕ) (broken : token_rule.ReadingRule) (place : Place) : Type 0 where
   pub front : List Tok
   pub next : Tok
   pub begins : Begins bytes (front ++ next ∷ [])
@@ -53,7 +53,7 @@ pub record IsBroken (bytes : List ℕ) (kind : Kind) (place : Place) : Type 0 wh
   pub defect : IsDefect bytes front place kind
 
 -- what a refusal says of the bytes
-abbrev pub StandsBy : Rule → List ℕ → Place → Type 0
+abbrev pub StandsBy : TextRule → List ℕ → Place → Type 0
 StandsBy rule.UnknownByte bytes place = IsBroken bytes k.Unknown place
 StandsBy rule.UnexpectedToken bytes place = IsRefusal bytes refused.Unexpected place
 StandsBy rule.LargeNumber bytes place = IsBroken bytes k.LargeNumber place
@@ -61,14 +61,14 @@ StandsBy rule.LimitExceeded bytes place = IsRefusal bytes refused.Limit place
 StandsBy rule.RangeLine bytes place = IsBroken bytes k.RangeLine place
 
 -- the rule that a refused token breaks: its own, where it is no token
-abbrev pub rule_of : token_rule.Rule → Kind → Rule
+abbrev pub rule_of : token_rule.ReadingRule → Kind → TextRule
 rule_of broken k.Unknown = rule.UnknownByte
 rule_of broken k.LargeNumber = rule.LargeNumber
 rule_of broken k.RangeLine = rule.RangeLine
 rule_of refused.Unexpected kind = rule.UnexpectedToken
 rule_of refused.Limit kind = rule.LimitExceeded
 
-abbrev pub error_of : Fault → TextError
+abbrev pub error_of : ReadingFault → TextError
 error_of fault.Memory = error.Memory
 error_of (fault.At refusal) = error.Refused (rule_of refusal.rule refusal.kind) refusal.place
 

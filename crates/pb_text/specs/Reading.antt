@@ -2,19 +2,19 @@
 use Rattle.std.specs.Prelude.{ℕ, zero, suc, Bool, true, false, if◌then◌else◌, ◌||◌, List, [], ◌++◌, length, Some, None}
 use Rattle.pb_fixpoint.specs.declared.Sign.{Sign}
 use Rattle.pb_fixpoint.specs.declared.Sign.TheVariants as sign
-use Rattle.pb_ast.specs.declared.operator.Connective.{Connective}
-use Rattle.pb_ast.specs.declared.operator.Connective.TheVariants as connective
-use Rattle.pb_ast.specs.Form.{VariableForm, TermForm, FormulaForm, InstanceForm, EnumeratorForm, SortForm, struct, alias, SortDeclarationForm, RangeForm, EquationForm, SpecForm}
-use Rattle.pb_lexer.specs.declared.fault.Rule.TheVariants.{Unexpected, Limit}
-use Rattle.pb_lexer.specs.declared.kind.Kind.{Kind}
-use Rattle.pb_lexer.specs.declared.kind.Kind.TheVariants as k
-use Rattle.pb_lexer.specs.Kinds.{same_kind}
-use Rattle.pb_lexer.specs.Steps.{Step, alone, ◌>>=◌, pure, peek, refuse, take_token, expect, enter, series, connected, conjunction, disjunction, either, extended, unless_next, listed, nothing_between}
-use Rattle.pb_lexer.specs.Steps as step
-use Rattle.pb_lexer.specs.Tokens.{Tok}
-use Rattle.pb_expressions.specs.Operators.{connected_by, is_quantifier}
-use Rattle.pb_expressions.specs.Reading.{name, is_open, quantified, variables}
-use Rattle.pb_expressions.specs.Reading as expressions
+use Rattle.pb_text_tree.specs.declared.operator.Connective.{Connective}
+use Rattle.pb_text_tree.specs.declared.operator.Connective.TheVariants as connective
+use Rattle.pb_text_tree.specs.Form.{VariableForm, TermForm, FormulaForm, InstanceForm, EnumeratorForm, SortForm, struct, alias, SortDeclarationForm, RangeForm, EquationForm, SpecForm}
+use Rattle.pb_text_lexer.specs.declared.fault.ReadingRule.TheVariants.{Unexpected, Limit}
+use Rattle.pb_text_lexer.specs.declared.kind.Kind.{Kind}
+use Rattle.pb_text_lexer.specs.declared.kind.Kind.TheVariants as k
+use Rattle.pb_text_lexer.specs.Kinds.{same_kind}
+use Rattle.pb_text_lexer.specs.Steps.{Step, alone, ◌>>=◌, pure, peek, refuse, take_token, expect, enter, series, connected, conjunction, disjunction, either, extended, unless_next, listed, nothing_between}
+use Rattle.pb_text_lexer.specs.Steps as step
+use Rattle.pb_text_lexer.specs.Tokens.{Tok}
+use Rattle.pb_text_terms.specs.Operators.{connected_by, is_quantifier}
+use Rattle.pb_text_terms.specs.Reading.{name, is_open, quantified, variables}
+use Rattle.pb_text_terms.specs.Reading as expressions
 
 abbrev pub is_question : Kind → Bool
 is_question kind = same_kind kind k.Question

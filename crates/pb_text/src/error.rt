@@ -3,14 +3,14 @@
 ghost use Rattle.std.specs.Prelude.{◌≡◌};
 ghost use Rattle.pb_text.specs.Parsing as spec;
 
-use pb_ast::Place;
-use pb_lexer::fault::{Fault, Rule as Broken};
-use pb_lexer::kind::Kind;
+use pb_text_lexer::fault::{ReadingFault, ReadingRule};
+use pb_text_lexer::kind::Kind;
+use pb_text_tree::Place;
 use std::alloc::AllocError;
 
 /// Which rule a text breaks, with the number that a user sees.
 #[derive(Clone, Copy, Debug, PartialEq, Eq)]
-pub enum Rule {
+pub enum TextRule {
     /// P01: a byte that begins no token.
     UnknownByte,
     /// P02: a token with which no text goes on. The end of the text counts as a token.
@@ -27,32 +27,32 @@ pub enum Rule {
 #[derive(Clone, Copy, Debug)]
 pub enum TextError {
     Memory,
-    Refused { rule: Rule, place: Place },
+    Refused { rule: TextRule, place: Place },
 }
 
 /// The rule that a refused token breaks: its own, where it is no token.
-fn rule_of(broken: Broken, kind: Kind) -> Rule
+fn rule_of(broken: ReadingRule, kind: Kind) -> TextRule
     ensures { result ≡ spec.rule_of broken kind }
 {
     match (kind, broken) {
-        (Kind::Unknown, _) => Rule::UnknownByte,
-        (Kind::LargeNumber, _) => Rule::LargeNumber,
-        (Kind::RangeLine, _) => Rule::RangeLine,
-        (_, Broken::Unexpected) => Rule::UnexpectedToken,
-        (_, Broken::Limit) => Rule::LimitExceeded,
+        (Kind::Unknown, _) => TextRule::UnknownByte,
+        (Kind::LargeNumber, _) => TextRule::LargeNumber,
+        (Kind::RangeLine, _) => TextRule::RangeLine,
+        (_, ReadingRule::Unexpected) => TextRule::UnexpectedToken,
+        (_, ReadingRule::Limit) => TextRule::LimitExceeded,
     }
 }
 
-impl From<Fault> for TextError {
+impl From<ReadingFault> for TextError {
     ghost use Rattle.std.specs.Prelude.{◌≡◌};
     ghost use Rattle.pb_text.specs.Parsing.{error_of};
 
     ghost from_gives = { λ fault error. error ≡ error_of fault };
 
-    fn from(fault: Fault) -> TextError {
+    fn from(fault: ReadingFault) -> TextError {
         match fault {
-            Fault::Memory => TextError::Memory,
-            Fault::At(refusal) => TextError::Refused {
+            ReadingFault::Memory => TextError::Memory,
+            ReadingFault::At(refusal) => TextError::Refused {
                 rule: rule_of(refusal.rule, refusal.kind),
                 place: refusal.place,
             },

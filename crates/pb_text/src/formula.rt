@@ -2,22 +2,22 @@
 //! as brackets, negations and quantifiers nest.
 
 ghost use Rattle.std.specs.Prelude.{◌≡◌, ◌<◌, ◌≤◌, length, Ok, OnOk, IfOk};
-ghost use Rattle.pb_ast.specs.Form.{FormulaForm, formula_form, term_form, chained, link_forms};
-ghost use Rattle.pb_lexer.specs.Grammar.{State};
-ghost use Rattle.pb_lexer.specs.Steps as spec;
-ghost use Rattle.pb_lexer.specs.Steps.{Gives};
-ghost use Rattle.pb_expressions.specs.Operators as operators;
-ghost use Rattle.pb_expressions.specs.Reading as expressions;
+ghost use Rattle.pb_text_tree.specs.Form.{FormulaForm, formula_form, term_form, chained, link_forms};
+ghost use Rattle.pb_text_lexer.specs.Grammar.{State};
+ghost use Rattle.pb_text_lexer.specs.Steps as spec;
+ghost use Rattle.pb_text_lexer.specs.Steps.{Gives};
+ghost use Rattle.pb_text_terms.specs.Operators as operators;
+ghost use Rattle.pb_text_terms.specs.Reading as expressions;
 ghost use Rattle.pb_text.specs.Reading as reading;
 
 use crate::next::{open, unless};
-use pb_ast::{Connective, Formula, Link, Quantifier, Term};
-use pb_expressions::operator::{quantifier, symbol};
-use pb_expressions::term::{instance, term};
-use pb_expressions::variable::variables;
-use pb_lexer::fault::{Fault, Rule};
-use pb_lexer::input::Input;
-use pb_lexer::kind::{Kind, same_kind};
+use pb_text_lexer::fault::{ReadingFault, ReadingRule};
+use pb_text_lexer::input::Input;
+use pb_text_lexer::kind::{Kind, same_kind};
+use pb_text_terms::operator::{quantifier, symbol};
+use pb_text_terms::term::{instance, term};
+use pb_text_terms::variable::variables;
+use pb_text_tree::{Connective, Formula, Link, Quantifier, Term};
 use std::alloc::{AllocError, Global};
 
 /// The node of a chain, or its first operand where there is no other.
@@ -43,7 +43,7 @@ fn joined(
 
 /// The data term behind `val`, in which so many levels may open.
 #[tactic(auto, unfolding(crate::specs::Reading::data_term))]
-fn data_term(input: &mut Input<'_>, alloc: Global, depth: u32) -> Result<Term, Fault>
+fn data_term(input: &mut Input<'_>, alloc: Global, depth: u32) -> Result<Term, ReadingFault>
     ensures reads { Gives term_form (reading.data_term depth input.old) result input.new }
     ensures fewer { OnOk result (length input.new.tokens < length input.old.tokens) }
 {
@@ -54,7 +54,7 @@ fn data_term(input: &mut Input<'_>, alloc: Global, depth: u32) -> Result<Term, F
 #[cycle(formulas)]
 #[inline(never)]
 #[tactic(auto, unfolding(crate::specs::Reading::node))]
-fn negation(input: &mut Input<'_>, alloc: Global, depth: u32) -> Result<Formula, Fault>
+fn negation(input: &mut Input<'_>, alloc: Global, depth: u32) -> Result<Formula, ReadingFault>
     requires { spec.kind input.old ≡ Kind.Not }
     ensures reads { Gives formula_form (reading.node depth input.old) result input.new }
     ensures fewer { OnOk result (length input.new.tokens < length input.old.tokens) }
@@ -69,7 +69,7 @@ fn negation(input: &mut Input<'_>, alloc: Global, depth: u32) -> Result<Formula,
 #[cycle(formulas)]
 #[inline(never)]
 #[tactic(auto, unfolding(crate::specs::Reading::node))]
-fn bracketed(input: &mut Input<'_>, alloc: Global, depth: u32) -> Result<Formula, Fault>
+fn bracketed(input: &mut Input<'_>, alloc: Global, depth: u32) -> Result<Formula, ReadingFault>
     requires { spec.kind input.old ≡ Kind.Open }
     ensures reads { Gives formula_form (reading.node depth input.old) result input.new }
     ensures fewer { OnOk result (length input.new.tokens < length input.old.tokens) }
@@ -84,7 +84,7 @@ fn bracketed(input: &mut Input<'_>, alloc: Global, depth: u32) -> Result<Formula
 /// `val` and its data term.
 #[inline(never)]
 #[tactic(auto, unfolding(crate::specs::Reading::node))]
-fn value(input: &mut Input<'_>, alloc: Global, depth: u32) -> Result<Formula, Fault>
+fn value(input: &mut Input<'_>, alloc: Global, depth: u32) -> Result<Formula, ReadingFault>
     requires { spec.kind input.old ≡ Kind.Val }
     ensures reads { Gives formula_form (reading.node depth input.old) result input.new }
     ensures fewer { OnOk result (length input.new.tokens < length input.old.tokens) }
@@ -100,7 +100,7 @@ fn value(input: &mut Input<'_>, alloc: Global, depth: u32) -> Result<Formula, Fa
 /// A negation, a formula in brackets, a constant, a data term or an instance, in which so many levels may open.
 #[cycle(formulas)]
 #[tactic(auto, unfolding(crate::specs::Reading::node))]
-fn node(input: &mut Input<'_>, alloc: Global, depth: u32) -> Result<Formula, Fault>
+fn node(input: &mut Input<'_>, alloc: Global, depth: u32) -> Result<Formula, ReadingFault>
     ensures reads { Gives formula_form (reading.node depth input.old) result input.new }
     ensures fewer { OnOk result (length input.new.tokens < length input.old.tokens) }
 {
@@ -122,7 +122,7 @@ fn node(input: &mut Input<'_>, alloc: Global, depth: u32) -> Result<Formula, Fau
         }
         Kind::Val => value(input, alloc, depth),
         Kind::Name => Ok(Formula::Instance(instance(input, alloc, depth)?)),
-        _ => Err(input.refuse(Rule::Unexpected)),
+        _ => Err(input.refuse(ReadingRule::Unexpected)),
     }
 }
 
@@ -134,7 +134,7 @@ fn quantified(
     alloc: Global,
     quantifier: Quantifier,
     depth: u32,
-) -> Result<Formula, Fault>
+) -> Result<Formula, ReadingFault>
     requires { expressions.quantifier_of (spec.kind input.old) ≡ Some quantifier }
     ensures reads { Gives formula_form (reading.quantification depth input.old) result input.new }
     ensures fewer { OnOk result (length input.new.tokens < length input.old.tokens) }
@@ -159,7 +159,7 @@ fn operand(
     alloc: Global,
     connective: Connective,
     depth: u32,
-) -> Result<Formula, Fault>
+) -> Result<Formula, ReadingFault>
     ensures reads { Gives formula_form (reading.operand connective depth input.old) result input.new }
     ensures fewer { OnOk result (length input.new.tokens < length input.old.tokens) }
 {
@@ -182,7 +182,7 @@ fn chain_behind(
     connective: Connective,
     depth: u32,
     first: Formula,
-) -> Result<Formula, Fault>
+) -> Result<Formula, ReadingFault>
     ensures reads { (s : State) → reading.operand connective depth s ≡ Ok (formula_form first, input.old) → length input.old.tokens < length s.tokens → Gives formula_form (reading.level connective depth s) result input.new }
     ensures fewer { OnOk result (length input.new.tokens ≤ length input.old.tokens) }
 {
@@ -202,7 +202,7 @@ pub fn level(
     alloc: Global,
     connective: Connective,
     depth: u32,
-) -> Result<Formula, Fault>
+) -> Result<Formula, ReadingFault>
     ensures reads { Gives formula_form (reading.level connective depth input.old) result input.new }
     ensures fewer { OnOk result (length input.new.tokens < length input.old.tokens) }
 {

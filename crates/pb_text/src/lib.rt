@@ -13,5 +13,5 @@ mod system;
 mod tests;
 pub mod text;
 
-pub use error::{Rule, TextError};
+pub use error::{TextError, TextRule};
 pub use text::parse;

@@ -1,20 +1,20 @@
 //! What the next token must be, or must not be.
 
 ghost use Rattle.std.specs.Prelude.{◌≡◌, ◌<◌, true, false, length, OnOk, MatchResult};
-ghost use Rattle.pb_lexer.specs.Kinds.{same_kind};
-ghost use Rattle.pb_lexer.specs.Steps as spec;
-ghost use Rattle.pb_lexer.specs.Steps.{Gives};
-ghost use Rattle.pb_lexer.specs.Tokens.{tok};
+ghost use Rattle.pb_text_lexer.specs.Kinds.{same_kind};
+ghost use Rattle.pb_text_lexer.specs.Steps as spec;
+ghost use Rattle.pb_text_lexer.specs.Steps.{Gives};
+ghost use Rattle.pb_text_lexer.specs.Tokens.{tok};
 ghost use Rattle.pb_text.specs.Reading as reading;
 
-use pb_lexer::fault::{Fault, Rule};
-use pb_lexer::input::Input;
-use pb_lexer::kind::{Kind, same_kind};
-use pb_lexer::token::Token;
+use pb_text_lexer::fault::{ReadingFault, ReadingRule};
+use pb_text_lexer::input::Input;
+use pb_text_lexer::kind::{Kind, same_kind};
+use pb_text_lexer::token::Token;
 
 /// Takes an opening bracket, where so many levels may still open.
 #[tactic(auto, unfolding(crate::specs::Reading::opening))]
-pub fn open<'a>(input: &mut Input<'a>, depth: u32) -> Result<Token<'a>, Fault>
+pub fn open<'a>(input: &mut Input<'a>, depth: u32) -> Result<Token<'a>, ReadingFault>
     ensures reads { Gives tok (reading.opening (spec.enter depth) input.old) result input.new }
     ensures fewer { OnOk result (length input.new.tokens < length input.old.tokens) }
     ensures deeper { OnOk result (0 < depth) }
@@ -22,17 +22,17 @@ pub fn open<'a>(input: &mut Input<'a>, depth: u32) -> Result<Token<'a>, Fault>
     if same_kind(input.kind(), Kind::Open) {
         input.enter(depth)
     } else {
-        Err(input.refuse(Rule::Unexpected))
+        Err(input.refuse(ReadingRule::Unexpected))
     }
 }
 
 /// Refuses the next token if it is of this kind.
-pub fn unless(input: &Input<'_>, kind: Kind) -> Result<(), Fault>
+pub fn unless(input: &Input<'_>, kind: Kind) -> Result<(), ReadingFault>
     ensures { MatchResult result (λ u. same_kind (spec.kind input.now) kind ≡ false)
-        (λ e. (same_kind (spec.kind input.now) kind ≡ true) × (e ≡ Fault.At (spec.refusal Rule.Unexpected input.now.tokens))) }
+        (λ e. (same_kind (spec.kind input.now) kind ≡ true) × (e ≡ ReadingFault.At (spec.refusal ReadingRule.Unexpected input.now.tokens))) }
 {
     if same_kind(input.kind(), kind) {
-        Err(input.refuse(Rule::Unexpected))
+        Err(input.refuse(ReadingRule::Unexpected))
     } else {
         Ok(())
     }

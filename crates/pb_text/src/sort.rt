@@ -1,21 +1,21 @@
 //! Reads declarations of sorts.
 
 ghost use Rattle.std.specs.Prelude.{◌≡◌, ◌≤◌, ◌<◌, length, OnOk, map};
-ghost use Rattle.pb_ast.specs.Form.{enumerator_form, sort_form, sort_declaration_form};
-ghost use Rattle.pb_lexer.specs.Steps.{Gives};
+ghost use Rattle.pb_text_tree.specs.Form.{enumerator_form, sort_form, sort_declaration_form};
+ghost use Rattle.pb_text_lexer.specs.Steps.{Gives};
 ghost use Rattle.pb_text.specs.Reading as reading;
 
 use crate::next::unless;
-use pb_ast::{Enumerator, Sort, SortDeclaration};
-use pb_expressions::variable::name;
-use pb_lexer::fault::{Fault, Rule};
-use pb_lexer::input::Input;
-use pb_lexer::kind::{Kind, same_kind};
+use pb_text_lexer::fault::{ReadingFault, ReadingRule};
+use pb_text_lexer::input::Input;
+use pb_text_lexer::kind::{Kind, same_kind};
+use pb_text_terms::variable::name;
+use pb_text_tree::{Enumerator, Sort, SortDeclaration};
 use std::alloc::Global;
 
 /// A name, and perhaps a recogniser behind it.
 #[tactic(auto, unfolding(crate::specs::Reading::enumerator))]
-fn enumerator(input: &mut Input<'_>, alloc: Global) -> Result<Enumerator, Fault>
+fn enumerator(input: &mut Input<'_>, alloc: Global) -> Result<Enumerator, ReadingFault>
     ensures reads { Gives enumerator_form (reading.enumerator input.old) result input.new }
     ensures fewer { OnOk result (length input.new.tokens < length input.old.tokens) }
 {
@@ -36,7 +36,7 @@ fn enumerator(input: &mut Input<'_>, alloc: Global) -> Result<Enumerator, Fault>
 }
 
 /// Enumerators with `|` between them.
-fn enumerators(input: &mut Input<'_>, alloc: Global) -> Result<Vec<Enumerator>, Fault>
+fn enumerators(input: &mut Input<'_>, alloc: Global) -> Result<Vec<Enumerator>, ReadingFault>
     ensures reads { Gives (λ v. map enumerator_form v.items) (reading.enumerators input.old) result input.new }
     ensures fewer { OnOk result (length input.new.tokens < length input.old.tokens) }
 {
@@ -53,7 +53,7 @@ fn enumerators(input: &mut Input<'_>, alloc: Global) -> Result<Vec<Enumerator>, 
 
 /// What a sort is declared to be, a struct or another name, and `;`.
 #[tactic(auto, unfolding(crate::specs::Reading::sort))]
-fn sort(input: &mut Input<'_>, alloc: Global) -> Result<Sort, Fault>
+fn sort(input: &mut Input<'_>, alloc: Global) -> Result<Sort, ReadingFault>
     ensures reads { Gives sort_form (reading.sort input.old) result input.new }
     ensures fewer { OnOk result (length input.new.tokens < length input.old.tokens) }
 {
@@ -69,13 +69,13 @@ fn sort(input: &mut Input<'_>, alloc: Global) -> Result<Sort, Fault>
             input.expect(Kind::Semicolon)?;
             Ok(Sort::Alias(target))
         }
-        _ => Err(input.refuse(Rule::Unexpected)),
+        _ => Err(input.refuse(ReadingRule::Unexpected)),
     }
 }
 
 /// A name, `=`, and what the sort is declared to be.
 #[tactic(auto, unfolding(crate::specs::Reading::declaration))]
-fn declaration(input: &mut Input<'_>, alloc: Global) -> Result<SortDeclaration, Fault>
+fn declaration(input: &mut Input<'_>, alloc: Global) -> Result<SortDeclaration, ReadingFault>
     ensures reads { Gives sort_declaration_form (reading.declaration input.old) result input.new }
     ensures fewer { OnOk result (length input.new.tokens < length input.old.tokens) }
 {
@@ -86,7 +86,7 @@ fn declaration(input: &mut Input<'_>, alloc: Global) -> Result<SortDeclaration, 
 }
 
 /// One declaration or more.
-fn declarations(input: &mut Input<'_>, alloc: Global) -> Result<Vec<SortDeclaration>, Fault>
+fn declarations(input: &mut Input<'_>, alloc: Global) -> Result<Vec<SortDeclaration>, ReadingFault>
     ensures reads { Gives (λ v. map sort_declaration_form v.items) (reading.declarations input.old) result input.new }
     ensures fewer { OnOk result (length input.new.tokens < length input.old.tokens) }
 {
@@ -102,7 +102,7 @@ fn declarations(input: &mut Input<'_>, alloc: Global) -> Result<Vec<SortDeclarat
 
 /// `sort` and its declarations.
 #[tactic(auto, unfolding(crate::specs::Reading::sort_part))]
-fn sort_part(input: &mut Input<'_>, alloc: Global) -> Result<Vec<SortDeclaration>, Fault>
+fn sort_part(input: &mut Input<'_>, alloc: Global) -> Result<Vec<SortDeclaration>, ReadingFault>
     ensures reads { Gives (λ v. map sort_declaration_form v.items) (reading.sort_part input.old) result input.new }
     ensures fewer { OnOk result (length input.new.tokens < length input.old.tokens) }
 {
@@ -111,7 +111,10 @@ fn sort_part(input: &mut Input<'_>, alloc: Global) -> Result<Vec<SortDeclaration
 }
 
 /// Any number of sort parts.
-pub fn sort_parts(input: &mut Input<'_>, alloc: Global) -> Result<Vec<SortDeclaration>, Fault>
+pub fn sort_parts(
+    input: &mut Input<'_>,
+    alloc: Global,
+) -> Result<Vec<SortDeclaration>, ReadingFault>
     ensures { Gives (λ v. map sort_declaration_form v.items) (reading.sort_parts input.old) result input.new }
 {
     unless(input, Kind::Name)?;

@@ -1,20 +1,20 @@
 //! Reads equations and whole texts.
 
 ghost use Rattle.std.specs.Prelude.{◌≡◌, ◌<◌, ◌≤◌, length, OnOk, map, []};
-ghost use Rattle.pb_ast.specs.Form.{formula_form, variable_forms, equation_form, instance_form, range_form, spec_form};
-ghost use Rattle.pb_lexer.specs.Steps.{Gives};
+ghost use Rattle.pb_text_tree.specs.Form.{formula_form, variable_forms, equation_form, instance_form, range_form, spec_form};
+ghost use Rattle.pb_text_lexer.specs.Steps.{Gives};
 ghost use Rattle.pb_text.specs.Reading as reading;
 
 use crate::formula::level;
 use crate::next::unless;
 use crate::sort::sort_parts;
-use pb_ast::{Connective, Equation, Formula, Instance, Spec, Variables};
-use pb_expressions::term::instance;
-use pb_expressions::variable::{name, variables};
 use pb_fixpoint::Sign;
-use pb_lexer::fault::{Fault, Rule};
-use pb_lexer::input::Input;
-use pb_lexer::kind::{Kind, same_kind};
+use pb_text_lexer::fault::{ReadingFault, ReadingRule};
+use pb_text_lexer::input::Input;
+use pb_text_lexer::kind::{Kind, same_kind};
+use pb_text_terms::term::instance;
+use pb_text_terms::variable::{name, variables};
+use pb_text_tree::{Connective, Equation, Formula, Instance, Spec, Variables};
 use std::alloc::Global;
 
 /// How many levels of brackets, negations, signs and quantifiers may open.
@@ -29,7 +29,7 @@ fn begins_equation(kind: Kind) -> bool
 
 /// `mu` or `nu`.
 #[tactic(auto, unfolding(crate::specs::Reading::sign_of))]
-fn sign(input: &mut Input<'_>) -> Result<Sign, Fault>
+fn sign(input: &mut Input<'_>) -> Result<Sign, ReadingFault>
     ensures reads { Gives (λ x. x) (reading.sign_of input.old) result input.new }
     ensures fewer { OnOk result (length input.new.tokens < length input.old.tokens) }
 {
@@ -42,13 +42,13 @@ fn sign(input: &mut Input<'_>) -> Result<Sign, Fault>
             input.take();
             Ok(Sign::Nu)
         }
-        _ => Err(input.refuse(Rule::Unexpected)),
+        _ => Err(input.refuse(ReadingRule::Unexpected)),
     }
 }
 
 /// The parameters of an equation, in brackets, if it has any.
 #[tactic(auto, unfolding(crate::specs::Reading::parameters))]
-fn parameters(input: &mut Input<'_>, alloc: Global) -> Result<Vec<Variables>, Fault>
+fn parameters(input: &mut Input<'_>, alloc: Global) -> Result<Vec<Variables>, ReadingFault>
     ensures reads { Gives (λ v. variable_forms v.items) (reading.parameters 64 input.old) result input.new }
     ensures fewer { OnOk result (length input.new.tokens ≤ length input.old.tokens) }
 {
@@ -64,7 +64,7 @@ fn parameters(input: &mut Input<'_>, alloc: Global) -> Result<Vec<Variables>, Fa
 
 /// The right side of an equation, with all the operators that one may have.
 #[tactic(auto, unfolding(crate::specs::Reading::right_side))]
-fn right_side(input: &mut Input<'_>, alloc: Global) -> Result<Formula, Fault>
+fn right_side(input: &mut Input<'_>, alloc: Global) -> Result<Formula, ReadingFault>
     ensures reads { Gives formula_form (reading.right_side 64 input.old) result input.new }
     ensures fewer { OnOk result (length input.new.tokens < length input.old.tokens) }
 {
@@ -76,7 +76,7 @@ fn right_side(input: &mut Input<'_>, alloc: Global) -> Result<Formula, Fault>
 
 /// A sign, a name with its parameters, `=`, a formula and `;`.
 #[tactic(auto, unfolding(crate::specs::Reading::equation))]
-fn equation(input: &mut Input<'_>, alloc: Global) -> Result<Equation, Fault>
+fn equation(input: &mut Input<'_>, alloc: Global) -> Result<Equation, ReadingFault>
     ensures reads { Gives equation_form (reading.equation 64 input.old) result input.new }
     ensures fewer { OnOk result (length input.new.tokens < length input.old.tokens) }
 {
@@ -95,7 +95,7 @@ fn equation(input: &mut Input<'_>, alloc: Global) -> Result<Equation, Fault>
 }
 
 /// One equation or more.
-fn equations(input: &mut Input<'_>, alloc: Global) -> Result<Vec<Equation>, Fault>
+fn equations(input: &mut Input<'_>, alloc: Global) -> Result<Vec<Equation>, ReadingFault>
     ensures { Gives (λ v. map equation_form v.items) (reading.equations 64 input.old) result input.new }
 {
     let mut equations = Vec::new(alloc);
@@ -110,7 +110,7 @@ fn equations(input: &mut Input<'_>, alloc: Global) -> Result<Vec<Equation>, Faul
 
 /// The instance that is asked for, with all the operators that its arguments may have.
 #[tactic(auto, unfolding(crate::specs::Reading::initial_instance))]
-fn initial_instance(input: &mut Input<'_>, alloc: Global) -> Result<Instance, Fault>
+fn initial_instance(input: &mut Input<'_>, alloc: Global) -> Result<Instance, ReadingFault>
     ensures { Gives instance_form (reading.initial_instance 64 input.old) result input.new }
 {
     let allowed = input.operators();
@@ -121,7 +121,7 @@ fn initial_instance(input: &mut Input<'_>, alloc: Global) -> Result<Instance, Fa
 
 /// Sorts, `pbes`, equations, `init`, an instance and `;`, without ranges.
 #[tactic(auto, unfolding(crate::specs::Reading::text))]
-fn text(input: &mut Input<'_>, alloc: Global) -> Result<Spec, Fault>
+fn text(input: &mut Input<'_>, alloc: Global) -> Result<Spec, ReadingFault>
     ensures { Gives spec_form (reading.text [] 64 input.old) result input.new }
 {
     let sorts = sort_parts(input, alloc)?;
@@ -140,13 +140,13 @@ fn text(input: &mut Input<'_>, alloc: Global) -> Result<Spec, Fault>
 
 /// The text that all tokens are, without ranges.
 #[tactic(auto, unfolding(crate::specs::Reading::whole_text))]
-pub fn whole(input: &mut Input<'_>, alloc: Global) -> Result<Spec, Fault>
+pub fn whole(input: &mut Input<'_>, alloc: Global) -> Result<Spec, ReadingFault>
     ensures { Gives spec_form (reading.whole_text [] 64 input.old) result input.new }
 {
     let text = text(input, alloc)?;
     if same_kind(input.kind(), Kind::End) {
         Ok(text)
     } else {
-        Err(input.refuse(Rule::Unexpected))
+        Err(input.refuse(ReadingRule::Unexpected))
     }
 }

@@ -1,6 +1,6 @@
 //! Which texts are read and refused, and where; texts at the limits.
 
-use crate::error::{Rule, TextError};
+use crate::error::{TextError, TextRule};
 use crate::text::parse;
 use std::alloc::{AllocError, Global};
 use std::test::Fail;
@@ -14,13 +14,13 @@ enum Answer {
     TooLong,
 }
 
-fn number(rule: Rule) -> u32 {
+fn number(rule: TextRule) -> u32 {
     match rule {
-        Rule::UnknownByte => 1,
-        Rule::UnexpectedToken => 2,
-        Rule::LargeNumber => 3,
-        Rule::LimitExceeded => 4,
-        Rule::RangeLine => 5,
+        TextRule::UnknownByte => 1,
+        TextRule::UnexpectedToken => 2,
+        TextRule::LargeNumber => 3,
+        TextRule::LimitExceeded => 4,
+        TextRule::RangeLine => 5,
     }
 }
 

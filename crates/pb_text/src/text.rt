@@ -1,14 +1,14 @@
 //! From bytes to a syntax tree.
 
 ghost use Rattle.std.specs.Prelude.{◌≡◌, ◌≤◌, ℕ, length, IfOk, IfErr};
-ghost use Rattle.pb_ast.specs.Form.{SpecForm, spec_form};
+ghost use Rattle.pb_text_tree.specs.Form.{SpecForm, spec_form};
 ghost use Rattle.pb_text.specs.Parsing.{IsReading, IsReadingWithin, NoReading, Stands};
 
 use crate::error::TextError;
 use crate::system::whole;
-use pb_ast::Spec;
-use pb_lexer::input::Input;
-use pb_lexer::ranges::ranges;
+use pb_text_lexer::input::Input;
+use pb_text_lexer::ranges::ranges;
+use pb_text_tree::Spec;
 use std::alloc::Global;
 
 /// How many operators with two operands an equation, and the initial instance, may have.
@@ -18,9 +18,9 @@ const OPERATOR_LIMIT: u32 = 8192;
 ///
 /// Range lines may stand anywhere in it; the tree has them in order.
 ///
-/// A text that says nothing is refused at its least fault: `Rule::UnknownByte` (P01), `Rule::LargeNumber` (P03) or
-/// `Rule::RangeLine` (P05) where a token should stand and none does, `Rule::UnexpectedToken` (P02) at the first token
-/// with which no text goes on, `Rule::LimitExceeded` (P04) at a token that goes past a limit. Lines and columns count
+/// A text that says nothing is refused at its least fault: `TextRule::UnknownByte` (P01), `TextRule::LargeNumber` (P03) or
+/// `TextRule::RangeLine` (P05) where a token should stand and none does, `TextRule::UnexpectedToken` (P02) at the first token
+/// with which no text goes on, `TextRule::LimitExceeded` (P04) at a token that goes past a limit. Lines and columns count
 /// from 1, columns in bytes; the end of the text stands where its next byte would.
 pub fn parse(alloc: Global, bytes: &[u8]) -> Result<Spec, TextError>
     requires { length bytes.now ≤ 67108864 }

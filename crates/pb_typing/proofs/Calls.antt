@@ -2,29 +2,29 @@
 use Rattle.std.proofs.Common.{◌≡◌, ℕ, zero, suc, ◌+◌, ◌<◌, ◌≤◌, Bool, false, List, [], ◌∷◌, ◌++◌, map, length, get_or, drop, refl, sym, ◌∙◌, ap, subst, arith, Option, Some, None, string_bytes}
 use Rattle.std.specs.Prelude.{◌==◌}
 use Rattle.std.proofs.lemmas.List.{append_assoc}
-use Rattle.pb_ast.specs.declared.place.Place.{Place}
-use Rattle.pb_ast.specs.declared.name.Name as ast
-use Rattle.pb_ast.specs.declared.term.Argument.{Argument}
-use Rattle.pb_ast.specs.declared.variable.Variables.{Variables}
-use Rattle.pb_ast.specs.declared.spec.Equation as declared_equation
-use Rattle.pb_ast.specs.declared.spec.Spec as declared_spec
-use Rattle.pb_ast.specs.declared.formula.Instance as declared_instance
-use Rattle.pb_ast.specs.Form.{named, VariableForm, variable_forms, argument_forms, instance_form, equation_form, spec_form, term_form}
-use Rattle.pb_syntax.specs.Syntax.{Name, same_name, Equation, Spec}
-use Rattle.pb_syntax.specs.Formula.{equation_named}
-use Rattle.pb_syntax.specs.Erase.{erase, erased_arguments, erased_equation, erased_term, erased_variables}
-use Rattle.pb_declarations.specs.declared.fault.Rule.TheVariants as rule
-use Rattle.pb_declarations.specs.declared.fault.Fault.{Fault}
-use Rattle.pb_declarations.specs.declared.fault.TypeError.TheVariants.{At}
-use Rattle.pb_declarations.specs.Faults.{unless, IsAmong}
-use Rattle.pb_declarations.specs.Agreement.{equation_place}
-use Rattle.pb_declarations.specs.Shapes.{Shape, sort_shape}
-use Rattle.pb_shapes.specs.Shapes.{may_be_alike}
-use Rattle.pb_shapes.specs.Scope.{Scope}
-use Rattle.pb_shapes.specs.Term.{shape}
-use Rattle.pb_shapes.specs.Formula.{count}
-use Rattle.pb_shapes.specs.Faults.{term_faults, argument_faults, called_faults, instance_faults}
-use Rattle.pb_shapes.proofs.Parts.{among_right, among_left}
+use Rattle.pb_text_tree.specs.declared.place.Place.{Place}
+use Rattle.pb_text_tree.specs.declared.name.Name as ast
+use Rattle.pb_text_tree.specs.declared.term.Argument.{Argument}
+use Rattle.pb_text_tree.specs.declared.variable.Variables.{Variables}
+use Rattle.pb_text_tree.specs.declared.spec.Equation as declared_equation
+use Rattle.pb_text_tree.specs.declared.spec.Spec as declared_spec
+use Rattle.pb_text_tree.specs.declared.formula.Instance as declared_instance
+use Rattle.pb_text_tree.specs.Form.{named, VariableForm, variable_forms, argument_forms, instance_form, equation_form, spec_form, term_form}
+use Rattle.pb_text_meaning.specs.Syntax.{Name, same_name, Equation, Spec}
+use Rattle.pb_text_meaning.specs.Formula.{equation_named}
+use Rattle.pb_text_meaning.specs.Erase.{erase, erased_arguments, erased_equation, erased_term, erased_variables}
+use Rattle.pb_typing_declarations.specs.declared.fault.TypingRule.TheVariants as rule
+use Rattle.pb_typing_declarations.specs.declared.fault.TypingFault.{TypingFault}
+use Rattle.pb_typing_declarations.specs.declared.fault.TypeError.TheVariants.{At}
+use Rattle.pb_typing_declarations.specs.Faults.{unless, IsAmong}
+use Rattle.pb_typing_declarations.specs.Agreement.{equation_place}
+use Rattle.pb_typing_declarations.specs.Shapes.{Shape, sort_shape}
+use Rattle.pb_typing_rules.specs.Shapes.{may_be_alike}
+use Rattle.pb_typing_rules.specs.Scope.{Scope}
+use Rattle.pb_typing_rules.specs.Term.{shape}
+use Rattle.pb_typing_rules.specs.Formula.{count}
+use Rattle.pb_typing_rules.specs.Faults.{term_faults, argument_faults, called_faults, instance_faults}
+use Rattle.pb_typing_rules.proofs.Parts.{among_right, among_left}
 use Rattle.pb_typing.specs.Arguments.{parameter_count, each_faults}
 use Rattle.pb_typing.proofs.Links.{links-drop, links-ended}
 use Rattle.pb_typing.proofs.Unknown.{some_position, no_position, found_at, found_nowhere}
@@ -58,8 +58,8 @@ arguments-group S a group (n ∷ names) rest (x ∷ here) behind e =
     let kind = unless (may_be_alike (shape S a (erased_term (term_form x.term))) s) rule.WrongKind x.place in
     let more = each_faults S a here s in
     let left = argument_faults S a (argument_forms behind) (erased_variables rest) in
-    ap (λ (zs : List Fault). first ++ (kind ++ zs)) (arguments-group S a group names rest here behind (omega (arith, e)))
-    ∙ (ap (λ (zs : List Fault). first ++ zs) (sym (append_assoc kind more left)) ∙ sym (append_assoc first (kind ++ more) left))
+    ap (λ (zs : List TypingFault). first ++ (kind ++ zs)) (arguments-group S a group names rest here behind (omega (arith, e)))
+    ∙ (ap (λ (zs : List TypingFault). first ++ zs) (sym (append_assoc kind more left)) ∙ sym (append_assoc first (kind ++ more) left))
 
 -- in the code's words: the arguments that are left are those of a group and those behind them
 pub arguments_next : (S : Spec) (a : Scope) (groups : List Variables) (k : ℕ) (group : Variables) (left here behind : List Argument) (s : Shape) (sort : List ℕ)
@@ -128,7 +128,7 @@ pub equation_missed : (S : Spec) (x : Name) → equation_place S x ≡ None → 
 equation_missed S x e = found_nowhere (named_as x) S.equations (no_position (named_as x) S.equations e)
 
 -- the faults of a call whose equation is this one
-abbrev pub call_faults : Spec → Scope → List Argument → List Variables → Place → List Fault
+abbrev pub call_faults : Spec → Scope → List Argument → List Variables → Place → List TypingFault
 call_faults S a xs groups p = unless (length xs == parameter_count groups) rule.WrongCount p ++ argument_faults S a (argument_forms xs) (erased_variables (variable_forms groups))
 
 pub instance-called : (spec : declared_spec.Spec) (S : Spec) (even : Bool) (a : Scope) (i : declared_instance.Instance) (text : Name) (k : ℕ) (X : declared_equation.Equation) (xs : List Argument) (groups : List Variables)
@@ -143,7 +143,7 @@ instance-called spec S even a i text k X xs groups same text_is place at are gro
     let found : equation_named S.equations x ≡ Some (erased_equation (equation_form X)) = ap (λ (T : Spec). equation_named T.equations x) same ∙ equation_found spec x k X place_in_text at in
     let numbers : (count (erased_arguments (argument_forms i.arguments.items)) == length (erased_variables vs)) ≡ (length i.arguments.items == parameter_count X.parameters.items) =
     ap (λ n. n == length (erased_variables vs)) (length-erased i.arguments.items) ∙ ap (λ n. length i.arguments.items == n) (length-parameters X.parameters.items) in
-    ap (λ (zs : List Fault). zs ++ called_faults S a (argument_forms i.arguments.items) (equation_named S.equations x) p) passed
+    ap (λ (zs : List TypingFault). zs ++ called_faults S a (argument_forms i.arguments.items) (equation_named S.equations x) p) passed
     ∙ (ap (λ (o : Option Equation). called_faults S a (argument_forms i.arguments.items) o p) found
     ∙ (ap (λ (b : Bool). unless b rule.WrongCount p ++ argument_faults S a (argument_forms i.arguments.items) (erased_variables vs)) numbers
     ∙ (ap (λ (ys : List Argument). call_faults S a ys X.parameters.items p) (sym are) ∙ ap (λ (gs : List Variables). call_faults S a xs gs p) (sym groups_are))))

@@ -1,19 +1,19 @@
 -- Operations on two numbers: where no rule fails, and what comes out.
 use Rattle.std.proofs.Common.{◌≡◌, Bool, true, false, cond, ◌||◌, not, [], ◌++◌, refl, sym, ◌∙◌, ap, arith, Some, None, true≢false}
-use Rattle.pb_ast.specs.declared.place.Place.{Place}
-use Rattle.pb_ast.specs.declared.operator.Arithmetic.{Arithmetic}
-use Rattle.pb_ast.specs.declared.operator.Arithmetic.TheVariants as arithmetic
+use Rattle.pb_text_tree.specs.declared.place.Place.{Place}
+use Rattle.pb_text_tree.specs.declared.operator.Arithmetic.{Arithmetic}
+use Rattle.pb_text_tree.specs.declared.operator.Arithmetic.TheVariants as arithmetic
 use Rattle.pb_intervals.specs.Interval.{IntegerInterval, is_within, within, literals}
 use Rattle.pb_intervals.specs.Operation.{BinaryOperation, binary_interval}
-use Rattle.pb_syntax.specs.Erase.{of_arithmetic}
-use Rattle.pb_declarations.specs.declared.fault.Rule.TheVariants as rule
-use Rattle.pb_declarations.specs.Faults.{unless}
-use Rattle.pb_declarations.specs.declared.fault.TypeError.TheVariants.{At}
-use Rattle.pb_declarations.specs.Faults.{IsAmong}
-use Rattle.pb_declarations.specs.Shapes.{Shape, Unknown, Wholes}
-use Rattle.pb_shapes.specs.Shapes.{may_divide, binary_shape, binary_is_limited, of_interval, kind_of, Computed}
-use Rattle.pb_shapes.specs.Faults.{operator_faults}
-use Rattle.pb_shapes.proofs.Parts.{no_whole, unless_holds}
+use Rattle.pb_text_meaning.specs.Erase.{of_arithmetic}
+use Rattle.pb_typing_declarations.specs.declared.fault.TypingRule.TheVariants as rule
+use Rattle.pb_typing_declarations.specs.Faults.{unless}
+use Rattle.pb_typing_declarations.specs.declared.fault.TypeError.TheVariants.{At}
+use Rattle.pb_typing_declarations.specs.Faults.{IsAmong}
+use Rattle.pb_typing_declarations.specs.Shapes.{Shape, Unknown, Wholes}
+use Rattle.pb_typing_rules.specs.Shapes.{may_divide, binary_shape, binary_is_limited, of_interval, kind_of, Computed}
+use Rattle.pb_typing_rules.specs.Faults.{operator_faults}
+use Rattle.pb_typing_rules.proofs.Parts.{no_whole, unless_holds}
 use Rattle.pb_typing.specs.View.{operation_of}
 
 -- an interval within the limits, and one that isn't

@@ -2,18 +2,18 @@
 use Rattle.std.proofs.Common.{◌≡◌, ℕ, zero, suc, ◌+◌, ◌-◌, ◌<◌, Bool, List, [], ◌∷◌, ◌++◌, length, get_or, drop, sym, ◌∙◌, ap, arith, add-one, Vec, Box, Global}
 use Rattle.std.specs.Prelude.{box_value}
 use Rattle.std.proofs.lemmas.List.{append-nil}
-use Rattle.pb_ast.specs.declared.operator.Connective.{Connective}
-use Rattle.pb_ast.specs.declared.formula.Formula as ast
-use Rattle.pb_ast.specs.declared.formula.Link.{Link}
-use Rattle.pb_ast.specs.Form.{FormulaForm, formula_form, chained, link_forms}
-use Rattle.pb_ast.proofs.FormLemmas.{formula-chain}
-use Rattle.pb_syntax.specs.Syntax.{Spec}
-use Rattle.pb_declarations.specs.declared.fault.Fault.{Fault}
-use Rattle.pb_shapes.specs.Scope.{Scope}
-use Rattle.pb_shapes.specs.Faults.{formula_faults, left_parity, operand_parity}
+use Rattle.pb_text_tree.specs.declared.operator.Connective.{Connective}
+use Rattle.pb_text_tree.specs.declared.formula.Formula as ast
+use Rattle.pb_text_tree.specs.declared.formula.Link.{Link}
+use Rattle.pb_text_tree.specs.Form.{FormulaForm, formula_form, chained, link_forms}
+use Rattle.pb_text_tree.proofs.FormLemmas.{formula-chain}
+use Rattle.pb_text_meaning.specs.Syntax.{Spec}
+use Rattle.pb_typing_declarations.specs.declared.fault.TypingFault.{TypingFault}
+use Rattle.pb_typing_rules.specs.Scope.{Scope}
+use Rattle.pb_typing_rules.specs.Faults.{formula_faults, left_parity, operand_parity}
 use Rattle.pb_typing.proofs.Links.{links-drop}
 
-abbrev pub link_faults : Spec → Scope → Connective → Bool → List Link → List Fault
+abbrev pub link_faults : Spec → Scope → Connective → Bool → List Link → List TypingFault
 link_faults S a c even [] = []
 link_faults S a c even (link ∷ links) = formula_faults S (operand_parity c even (length links)) a (formula_form link.operand) ++ link_faults S a c even links
 
@@ -21,7 +21,7 @@ chained-faults : (S : Spec) (a : Scope) (c : Connective) (even : Bool) (first : 
     → formula_faults S even a (chained (FormulaForm.connected c) first (link_forms links)) ≡ formula_faults S (operand_parity c even (length links)) a first ++ link_faults S a c even links
 chained-faults S a c even first [] = sym (append-nil (formula_faults S even a first))
 chained-faults S a c even first (link ∷ links) =
-    ap (λ (xs : List Fault). formula_faults S (left_parity c even) a first ++ xs) (chained-faults S a c even (formula_form link.operand) links)
+    ap (λ (xs : List TypingFault). formula_faults S (left_parity c even) a first ++ xs) (chained-faults S a c even (formula_form link.operand) links)
 
 -- in the code's words: the first operand has the parity p, as n links stand behind it
 pub chain_first : (S : Spec) (a : Scope) (even : Bool) (chain operand : ast.Formula) (c : Connective) (first : Box ast.Formula Global) (links : Vec Link Global) (n : ℕ) (p : Bool)

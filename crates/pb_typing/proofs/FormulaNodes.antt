@@ -1,24 +1,24 @@
 -- What the parts of a formula say of the formula.
 use Rattle.std.proofs.Common.{◌≡◌, Bool, not, List, [], ◌++◌, sym, ◌∙◌, ap, subst, Result, MatchResult, Box, Vec, Global}
 use Rattle.std.specs.Prelude.{box_value}
-use Rattle.pb_ast.specs.declared.place.Place.{Place}
-use Rattle.pb_ast.specs.declared.operator.Quantifier.{Quantifier}
-use Rattle.pb_ast.specs.declared.variable.Variables.{Variables}
-use Rattle.pb_ast.specs.declared.term.Term.{Term}
-use Rattle.pb_ast.specs.declared.formula.Formula as ast
-use Rattle.pb_ast.specs.Form.{FormulaForm, term_form, formula_form, variable_forms}
-use Rattle.pb_syntax.specs.Syntax.{Spec}
-use Rattle.pb_syntax.specs.Erase.{erased_variables}
-use Rattle.pb_declarations.specs.declared.fault.Fault.{Fault}
-use Rattle.pb_declarations.specs.declared.fault.TypeError.{TypeError}
-use Rattle.pb_declarations.specs.Faults.{IsAmong}
-use Rattle.pb_declarations.specs.Declarations.{variables_faults}
-use Rattle.pb_shapes.specs.Scope.{Scope, bound}
-use Rattle.pb_shapes.specs.Faults.{formula_faults}
-use Rattle.pb_shapes.proofs.Parts.{among_left}
+use Rattle.pb_text_tree.specs.declared.place.Place.{Place}
+use Rattle.pb_text_tree.specs.declared.operator.Quantifier.{Quantifier}
+use Rattle.pb_text_tree.specs.declared.variable.Variables.{Variables}
+use Rattle.pb_text_tree.specs.declared.term.Term.{Term}
+use Rattle.pb_text_tree.specs.declared.formula.Formula as ast
+use Rattle.pb_text_tree.specs.Form.{FormulaForm, term_form, formula_form, variable_forms}
+use Rattle.pb_text_meaning.specs.Syntax.{Spec}
+use Rattle.pb_text_meaning.specs.Erase.{erased_variables}
+use Rattle.pb_typing_declarations.specs.declared.fault.TypingFault.{TypingFault}
+use Rattle.pb_typing_declarations.specs.declared.fault.TypeError.{TypeError}
+use Rattle.pb_typing_declarations.specs.Faults.{IsAmong}
+use Rattle.pb_typing_declarations.specs.Declarations.{variables_faults}
+use Rattle.pb_typing_rules.specs.Scope.{Scope, bound}
+use Rattle.pb_typing_rules.specs.Faults.{formula_faults}
+use Rattle.pb_typing_rules.proofs.Parts.{among_left}
 
 -- there is no fault, or one of them is answered
-abbrev pub Checks : List Fault → Result (Unit {0}) TypeError → Type 0
+abbrev pub Checks : List TypingFault → Result (Unit {0}) TypeError → Type 0
 Checks all r = MatchResult r (λ _. all ≡ []) (IsAmong all)
 
 pub node : (S : Spec) (even : Bool) (a : Scope) (f g : ast.Formula) (r : Result (Unit {0}) TypeError) → f ≡ g → Checks (formula_faults S even a (formula_form g)) r → Checks (formula_faults S even a (formula_form f)) r
@@ -49,5 +49,5 @@ quantified_body S even a inner f x p q vs body groups r is same groups_are none 
     subst (λ (z : ast.Formula). Checks (formula_faults S even b (formula_form z)) r) same (subst (λ (i : Scope). Checks (formula_faults S even i (formula_form x)) r) scope_is h) in
     let no_variables : variables_faults S (variable_forms vs.items) ≡ [] = subst (λ (gs : List Variables). variables_faults S (variable_forms gs) ≡ []) groups_are none in
     let whole : formula_faults S even a (formula_form (ast.Quantified p q vs body)) ≡ formula_faults S even b (formula_form (box_value body)) =
-    ap (λ (zs : List Fault). zs ++ formula_faults S even b (formula_form (box_value body))) no_variables in
-    subst (λ (g : ast.Formula). Checks (formula_faults S even a (formula_form g)) r) (sym is) (subst (λ (zs : List Fault). Checks zs r) (sym whole) here)
+    ap (λ (zs : List TypingFault). zs ++ formula_faults S even b (formula_form (box_value body))) no_variables in
+    subst (λ (g : ast.Formula). Checks (formula_faults S even a (formula_form g)) r) (sym is) (subst (λ (zs : List TypingFault). Checks zs r) (sym whole) here)

@@ -9,25 +9,25 @@ use Rattle.pb_carriers.specs.Carrier.{Value, contains}
 use Rattle.pb_sorts.specs.declared.carrier.Carrier.{Carrier}
 use Rattle.pb_sorts.specs.Carrier.{values_of}
 use Rattle.pb_sorts.proofs.Equations.{slice_get-carriers_of}
-use Rattle.pb_ast.specs.declared.term.Argument.{Argument}
-use Rattle.pb_ast.specs.Form.{ArgumentForms, no_arguments, argument, InstanceForm, argument_forms, term_form}
-use Rattle.pb_syntax.specs.Syntax.{Name, same_name, Variable, Equation, Spec}
-use Rattle.pb_syntax.specs.Sorts.{carrier_of}
-use Rattle.pb_syntax.specs.Value.{value}
-use Rattle.pb_syntax.specs.Formula.{carriers_of, equation_named}
-use Rattle.pb_syntax.specs.Erase.{erased_arguments, erased_term}
-use Rattle.pb_bounds.specs.Fits.{AllFit}
-use Rattle.pb_declarations.specs.declared.fault.Fault.{Fault}
-use Rattle.pb_declarations.specs.declared.fault.TypeError.TheVariants.{Memory, At}
-use Rattle.pb_declarations.specs.declared.fault.Rule.TheVariants.{OutsideCarrier}
-use Rattle.pb_declarations.specs.declared.fault.TypeError.{TypeError}
-use Rattle.pb_declarations.specs.Faults.{unless, IsAmong}
-use Rattle.pb_declarations.specs.Agreement.{equation_place}
-use Rattle.pb_shapes.specs.Faults.{and_then, instance_faults, parameters_named, value_faults}
-use Rattle.pb_shapes.specs.Scope.{outermost}
-use Rattle.pb_shapes.proofs.Contained.{all_fit, called_typed}
-use Rattle.pb_shapes.proofs.Exact.{instance_proper}
-use Rattle.pb_shapes.proofs.Parts.{among_left, among_right, no_whole}
+use Rattle.pb_text_tree.specs.declared.term.Argument.{Argument}
+use Rattle.pb_text_tree.specs.Form.{ArgumentForms, no_arguments, argument, InstanceForm, argument_forms, term_form}
+use Rattle.pb_text_meaning.specs.Syntax.{Name, same_name, Variable, Equation, Spec}
+use Rattle.pb_text_meaning.specs.Sorts.{carrier_of}
+use Rattle.pb_text_meaning.specs.Value.{value}
+use Rattle.pb_text_meaning.specs.Formula.{carriers_of, equation_named}
+use Rattle.pb_text_meaning.specs.Erase.{erased_arguments, erased_term}
+use Rattle.pb_text_meaning.specs.Fits.{AllFit}
+use Rattle.pb_typing_declarations.specs.declared.fault.TypingFault.{TypingFault}
+use Rattle.pb_typing_declarations.specs.declared.fault.TypeError.TheVariants.{Memory, At}
+use Rattle.pb_typing_declarations.specs.declared.fault.TypingRule.TheVariants.{OutsideCarrier}
+use Rattle.pb_typing_declarations.specs.declared.fault.TypeError.{TypeError}
+use Rattle.pb_typing_declarations.specs.Faults.{unless, IsAmong}
+use Rattle.pb_typing_declarations.specs.Agreement.{equation_place}
+use Rattle.pb_typing_rules.specs.Faults.{and_then, instance_faults, parameters_named, value_faults}
+use Rattle.pb_typing_rules.specs.Scope.{outermost}
+use Rattle.pb_typing_rules.proofs.Contained.{all_fit, called_typed}
+use Rattle.pb_typing_rules.proofs.Exact.{instance_proper}
+use Rattle.pb_typing_rules.proofs.Parts.{among_left, among_right, no_whole}
 use Rattle.pb_typing.specs.Typed.{IsLayout}
 
 abbrev first : List carriers.Carrier → carriers.Carrier
@@ -141,7 +141,7 @@ no_equation S x es e =
 
 -- ---- faults, and where there are none, other faults
 
-pub among_then : (xs ys : List Fault) (e : TypeError) → IsAmong xs e → IsAmong (and_then xs ys) e
+pub among_then : (xs ys : List TypingFault) (e : TypeError) → IsAmong xs e → IsAmong (and_then xs ys) e
 among_then [] ys Memory h = tt
 among_then [] ys (At fault) h = absurd (omega (arith, h.1))
 among_then (x ∷ xs) ys e h = h

@@ -4,21 +4,21 @@ use Rattle.std.specs.Prelude.{◌==◌}
 use Rattle.std.proofs.Math.Dec.{eqb-suc-zero}
 use Rattle.std.proofs.lemmas.Bool.{eqb-true}
 use Rattle.std.proofs.lemmas.List.{append-nil, append_assoc}
-use Rattle.pb_ast.specs.declared.operator.Connective.{Connective}
-use Rattle.pb_ast.specs.declared.operator.Connective.TheVariants.{And, Or, Implies}
-use Rattle.pb_ast.specs.declared.term.TermLink.{TermLink}
-use Rattle.pb_ast.specs.declared.term.ArithmeticLink.{ArithmeticLink}
-use Rattle.pb_ast.specs.Form.{TermForm, chained, calculated, term_form, term_links, arithmetic_links}
-use Rattle.pb_syntax.specs.Syntax.{Spec}
-use Rattle.pb_syntax.specs.Erase.{erased_term, of_connective}
-use Rattle.pb_declarations.specs.declared.fault.Rule.TheVariants as rule
-use Rattle.pb_declarations.specs.declared.fault.Fault.{Fault}
-use Rattle.pb_declarations.specs.Faults.{unless}
-use Rattle.pb_declarations.specs.Shapes.{Shape, Truths}
-use Rattle.pb_shapes.specs.Shapes.{may_be_truth, OperatorKind, kind_of, Computed, outcome, binary_shape}
-use Rattle.pb_shapes.specs.Scope.{Scope}
-use Rattle.pb_shapes.specs.Term.{shape}
-use Rattle.pb_shapes.specs.Faults.{operator_faults, term_faults}
+use Rattle.pb_text_tree.specs.declared.operator.Connective.{Connective}
+use Rattle.pb_text_tree.specs.declared.operator.Connective.TheVariants.{And, Or, Implies}
+use Rattle.pb_text_tree.specs.declared.term.TermLink.{TermLink}
+use Rattle.pb_text_tree.specs.declared.term.ArithmeticLink.{ArithmeticLink}
+use Rattle.pb_text_tree.specs.Form.{TermForm, chained, calculated, term_form, term_links, arithmetic_links}
+use Rattle.pb_text_meaning.specs.Syntax.{Spec}
+use Rattle.pb_text_meaning.specs.Erase.{erased_term, of_connective}
+use Rattle.pb_typing_declarations.specs.declared.fault.TypingRule.TheVariants as rule
+use Rattle.pb_typing_declarations.specs.declared.fault.TypingFault.{TypingFault}
+use Rattle.pb_typing_declarations.specs.Faults.{unless}
+use Rattle.pb_typing_declarations.specs.Shapes.{Shape, Truths}
+use Rattle.pb_typing_rules.specs.Shapes.{may_be_truth, OperatorKind, kind_of, Computed, outcome, binary_shape}
+use Rattle.pb_typing_rules.specs.Scope.{Scope}
+use Rattle.pb_typing_rules.specs.Term.{shape}
+use Rattle.pb_typing_rules.specs.Faults.{operator_faults, term_faults}
 use Rattle.pb_typing.specs.View.{operation_of, is_no_link}
 use Rattle.pb_typing.proofs.Computed.{kind_of-arithmetic}
 
@@ -32,7 +32,7 @@ abbrev pub operand_shape : Spec → Scope → TermLink → Shape
 operand_shape spec scope link = shape spec scope (erased_term (term_form link.operand))
 
 -- the faults behind an operand of this shape
-abbrev pub link_faults : Spec → Bool → Scope → Shape → List TermLink → List Fault
+abbrev pub link_faults : Spec → Bool → Scope → Shape → List TermLink → List TypingFault
 link_faults spec stands scope s [] = []
 link_faults spec stands scope s (link ∷ links) =
     unless (may_be_truth s) rule.WrongKind link.place
@@ -66,11 +66,11 @@ pub chained-faults : (spec : Spec) (stands : Bool) (scope : Scope) (c : Connecti
     → term_faults spec stands scope (chained (TermForm.connected c) first (term_links links)) ≡ term_faults spec stands scope first ++ link_faults spec stands scope (shape spec scope (erased_term first)) links
 chained-faults spec stands scope c first [] = sym (append-nil (term_faults spec stands scope first))
 chained-faults spec stands scope c first (l ∷ []) =
-    ap (λ (zs : List Fault). term_faults spec stands scope first ++ (unless (may_be_truth (shape spec scope (erased_term first))) rule.WrongKind l.place ++ (term_faults spec stands scope (term_form l.operand) ++ zs)))
+    ap (λ (zs : List TypingFault). term_faults spec stands scope first ++ (unless (may_be_truth (shape spec scope (erased_term first))) rule.WrongKind l.place ++ (term_faults spec stands scope (term_form l.operand) ++ zs)))
     (sym (append-nil (unless (may_be_truth (operand_shape spec scope l)) rule.WrongKind l.place)))
 chained-faults spec stands scope c first (l ∷ (m ∷ ls)) =
     let rest = chained (TermForm.connected c) (term_form l.operand) (term_links (m ∷ ls)) in
-    ap (λ (zs : List Fault). term_faults spec stands scope first ++ (unless (may_be_truth (shape spec scope (erased_term first))) rule.WrongKind l.place ++ zs))
+    ap (λ (zs : List TypingFault). term_faults spec stands scope first ++ (unless (may_be_truth (shape spec scope (erased_term first))) rule.WrongKind l.place ++ zs))
     (ap (λ (s : Shape). term_faults spec stands scope rest ++ unless (may_be_truth s) rule.WrongKind l.place) (chained-shape spec scope c (term_form l.operand) (m ∷ ls))
     ∙ (append-nil (term_faults spec stands scope rest) ∙ chained-faults spec stands scope c (term_form l.operand) (m ∷ ls)))
 
@@ -94,7 +94,7 @@ abbrev pub arithmetic_shape : Spec → Scope → ArithmeticLink → Shape
 arithmetic_shape spec scope link = shape spec scope (erased_term (term_form link.operand))
 
 -- the faults behind an operand of this shape
-abbrev pub arithmetic_faults : Spec → Scope → Shape → List ArithmeticLink → List Fault
+abbrev pub arithmetic_faults : Spec → Scope → Shape → List ArithmeticLink → List TypingFault
 arithmetic_faults spec scope s [] = []
 arithmetic_faults spec scope s (link ∷ links) =
     term_faults spec false scope (term_form link.operand)
@@ -141,7 +141,7 @@ calculated-faults spec stands scope first (l ∷ ls) =
     ∙ (ap (λ (u : Shape). term_faults spec false scope node ++ arithmetic_faults spec scope u ls) (computed-shape spec scope first l)
     ∙ (ap (λ (k : OperatorKind). (x ++ (y ++ operator_faults k s t l.place)) ++ arithmetic_faults spec scope b ls) (kind_of-arithmetic l.operator)
     ∙ (append_assoc x (y ++ of) (arithmetic_faults spec scope b ls)
-    ∙ (ap (λ (zs : List Fault). x ++ zs) (append_assoc y of (arithmetic_faults spec scope b ls))
+    ∙ (ap (λ (zs : List TypingFault). x ++ zs) (append_assoc y of (arithmetic_faults spec scope b ls))
     ∙ ap (λ (c : Bool). term_faults spec c scope first ++ (y ++ (of ++ arithmetic_faults spec scope b ls))) (sym (and-false stands))))))
   where
     and-false : (b : Bool) → (b && false) ≡ false

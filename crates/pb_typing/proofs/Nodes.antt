@@ -3,29 +3,29 @@ use Rattle.std.proofs.Common.{◌≡◌, suc, ◌<◌, ◌≤◌, Bool, true, fa
 use Rattle.std.specs.Prelude.{box_value, ◌⊎◌}
 use Rattle.std.proofs.Common.{inl, inr}
 use Rattle.std.proofs.Math.Path.{fun_ext}
-use Rattle.pb_ast.specs.declared.place.Place.{Place}
-use Rattle.pb_ast.specs.declared.operator.Comparison.{Comparison}
-use Rattle.pb_ast.specs.declared.operator.Quantifier.{Quantifier}
-use Rattle.pb_ast.specs.declared.variable.Variables.{Variables}
-use Rattle.pb_ast.specs.declared.term.Term as term
-use Rattle.pb_ast.specs.declared.term.Term.{Term}
-use Rattle.pb_ast.specs.declared.term.Argument.{Argument}
-use Rattle.pb_ast.specs.Form.{Named, term_form, argument_forms, variable_forms}
-use Rattle.pb_syntax.specs.Syntax.{Name, same_name, Variable, Spec}
-use Rattle.pb_syntax.specs.Erase.{erased_term, erased_arguments, erased_variables}
-use Rattle.pb_declarations.specs.declared.fault.Rule.TheVariants as rule
-use Rattle.pb_declarations.specs.declared.fault.Fault.{Fault}
-use Rattle.pb_declarations.specs.declared.fault.TypeError.{TypeError}
-use Rattle.pb_declarations.specs.Faults.{unless, IsAmong}
-use Rattle.pb_declarations.specs.Declarations.{variables_faults}
-use Rattle.pb_declarations.specs.Shapes as model
-use Rattle.pb_declarations.specs.Shapes.{Truths, sort_shape}
-use Rattle.pb_shapes.specs.Shapes.{may_be_truth}
-use Rattle.pb_shapes.specs.Functions.{Function, function_named, result_shape}
-use Rattle.pb_shapes.specs.Scope.{Scope, outermost, declare, bound, or_else}
-use Rattle.pb_shapes.specs.Term.{shape, shapes, applied_shape}
-use Rattle.pb_shapes.specs.Faults.{term_faults, terms_faults, function_faults}
-use Rattle.pb_shapes.proofs.Parts.{among_left, among_right}
+use Rattle.pb_text_tree.specs.declared.place.Place.{Place}
+use Rattle.pb_text_tree.specs.declared.operator.Comparison.{Comparison}
+use Rattle.pb_text_tree.specs.declared.operator.Quantifier.{Quantifier}
+use Rattle.pb_text_tree.specs.declared.variable.Variables.{Variables}
+use Rattle.pb_text_tree.specs.declared.term.Term as term
+use Rattle.pb_text_tree.specs.declared.term.Term.{Term}
+use Rattle.pb_text_tree.specs.declared.term.Argument.{Argument}
+use Rattle.pb_text_tree.specs.Form.{Named, term_form, argument_forms, variable_forms}
+use Rattle.pb_text_meaning.specs.Syntax.{Name, same_name, Variable, Spec}
+use Rattle.pb_text_meaning.specs.Erase.{erased_term, erased_arguments, erased_variables}
+use Rattle.pb_typing_declarations.specs.declared.fault.TypingRule.TheVariants as rule
+use Rattle.pb_typing_declarations.specs.declared.fault.TypingFault.{TypingFault}
+use Rattle.pb_typing_declarations.specs.declared.fault.TypeError.{TypeError}
+use Rattle.pb_typing_declarations.specs.Faults.{unless, IsAmong}
+use Rattle.pb_typing_declarations.specs.Declarations.{variables_faults}
+use Rattle.pb_typing_declarations.specs.Shapes as model
+use Rattle.pb_typing_declarations.specs.Shapes.{Truths, sort_shape}
+use Rattle.pb_typing_rules.specs.Shapes.{may_be_truth}
+use Rattle.pb_typing_rules.specs.Functions.{Function, function_named, result_shape}
+use Rattle.pb_typing_rules.specs.Scope.{Scope, outermost, declare, bound, or_else}
+use Rattle.pb_typing_rules.specs.Term.{shape, shapes, applied_shape}
+use Rattle.pb_typing_rules.specs.Faults.{term_faults, terms_faults, function_faults}
+use Rattle.pb_typing_rules.proofs.Parts.{among_left, among_right}
 use Rattle.pb_typing.specs.declared.shape.Shape.{Shape}
 use Rattle.pb_typing.specs.View.{Judges}
 
@@ -85,10 +85,10 @@ quantified_body S stands a inner t x p q vs body groups r is same groups_are f g
     subst (λ (z : Term). Judges (Body b z) Truths r) same (subst (λ (i : Scope). Judges (Body i x) Truths r) scope_is h) in
     let no_variables : variables_faults S (variable_forms vs.items) ≡ [] = subst (λ (gs : List Variables). variables_faults S (variable_forms gs) ≡ []) groups_are g in
     let whole : term_faults S stands a (term_form node) ≡ Body b (box_value body) =
-    ap (λ (zs : List Fault). zs ++ (variables_faults S (variable_forms vs.items) ++ Body b (box_value body))) f
-    ∙ ap (λ (zs : List Fault). zs ++ Body b (box_value body)) no_variables in
+    ap (λ (zs : List TypingFault). zs ++ (variables_faults S (variable_forms vs.items) ++ Body b (box_value body))) f
+    ∙ ap (λ (zs : List TypingFault). zs ++ Body b (box_value body)) no_variables in
     subst (λ (z : Term). Judges (term_faults S stands a (term_form z)) (shape S a (erased_term (term_form z))) r) (sym is)
-    (subst (λ (zs : List Fault). Judges zs Truths r) (sym whole) here)
+    (subst (λ (zs : List TypingFault). Judges zs Truths r) (sym whole) here)
 
 -- ---- arguments
 
@@ -115,7 +115,7 @@ three_arguments (u ∷ (v ∷ (w ∷ []))) x y z l b is at on = ap (λ (s : Argu
 three_arguments (u ∷ (v ∷ (w ∷ (s ∷ xs)))) x y z l b is at on = absurd (omega (arith, b))
 
 -- all faults of a function with its arguments
-abbrev pub application_faults : Spec → Scope → Named → List Argument → List Fault
+abbrev pub application_faults : Spec → Scope → Named → List Argument → List TypingFault
 application_faults S a f xs =
     terms_faults S a (argument_forms xs) ++ function_faults S (function_named S f.text) (shapes S a (erased_arguments (argument_forms xs))) f
 

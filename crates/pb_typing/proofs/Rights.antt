@@ -1,15 +1,15 @@
 -- The faults of right sides, equation by equation.
 use Rattle.std.proofs.Common.{◌≡◌, ℕ, zero, suc, ◌+◌, ◌<◌, ◌≤◌, true, List, [], ◌∷◌, ◌++◌, map, length, get_or, drop, refl, sym, ap, arith, add-one}
-use Rattle.pb_ast.specs.declared.spec.Equation.{Equation}
-use Rattle.pb_ast.specs.Form.{equation_form, formula_form}
-use Rattle.pb_syntax.specs.Syntax.{Spec}
-use Rattle.pb_syntax.specs.Erase.{erased_variables}
-use Rattle.pb_declarations.specs.declared.fault.Fault.{Fault}
-use Rattle.pb_shapes.specs.Scope.{bound, outermost}
-use Rattle.pb_shapes.specs.Faults.{formula_faults, right_faults}
+use Rattle.pb_text_tree.specs.declared.spec.Equation.{Equation}
+use Rattle.pb_text_tree.specs.Form.{equation_form, formula_form}
+use Rattle.pb_text_meaning.specs.Syntax.{Spec}
+use Rattle.pb_text_meaning.specs.Erase.{erased_variables}
+use Rattle.pb_typing_declarations.specs.declared.fault.TypingFault.{TypingFault}
+use Rattle.pb_typing_rules.specs.Scope.{bound, outermost}
+use Rattle.pb_typing_rules.specs.Faults.{formula_faults, right_faults}
 
 -- the right sides of these equations
-abbrev pub rights : Spec → List Equation → List Fault
+abbrev pub rights : Spec → List Equation → List TypingFault
 rights S E = right_faults S (map equation_form E)
 
 pub rights_next : (S : Spec) (E : List Equation) (k : ℕ) (X : Equation) → k < length E → X ≡ get_or E k X

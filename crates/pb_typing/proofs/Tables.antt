@@ -4,16 +4,16 @@ use Rattle.std.specs.Option.{option_map}
 use Rattle.std.proofs.Math.Path.{fun_ext}
 use denote.Ref.{Bor}
 use Rattle.std.specs.HashMap.{IsEmpty, Updates}
-use Rattle.pb_ast.specs.declared.name.Name as ast
-use Rattle.pb_ast.specs.declared.variable.Variables.{Variables}
-use Rattle.pb_ast.specs.Form.{VariableForm, named, variable_forms}
-use Rattle.pb_syntax.specs.Syntax.{Name, same_name, Spec}
-use Rattle.pb_syntax.specs.Erase.{erased_variables}
-use Rattle.pb_declarations.specs.Shapes as model
-use Rattle.pb_declarations.specs.Shapes.{sort_shape}
-use Rattle.pb_declarations.specs.Tables.{Table, looked_up}
-use Rattle.pb_declarations.proofs.Filling.{none_in, put_in}
-use Rattle.pb_shapes.specs.Scope.{Scope, outermost, declare, bound}
+use Rattle.pb_text_tree.specs.declared.name.Name as ast
+use Rattle.pb_text_tree.specs.declared.variable.Variables.{Variables}
+use Rattle.pb_text_tree.specs.Form.{VariableForm, named, variable_forms}
+use Rattle.pb_text_meaning.specs.Syntax.{Name, same_name, Spec}
+use Rattle.pb_text_meaning.specs.Erase.{erased_variables}
+use Rattle.pb_typing_declarations.specs.Shapes as model
+use Rattle.pb_typing_declarations.specs.Shapes.{sort_shape}
+use Rattle.pb_typing_declarations.specs.Tables.{Table, looked_up}
+use Rattle.pb_typing_declarations.proofs.Filling.{none_in, put_in}
+use Rattle.pb_typing_rules.specs.Scope.{Scope, outermost, declare, bound}
 use Rattle.pb_typing.specs.declared.shape.Shape.{Shape}
 use Rattle.pb_typing.specs.View.{shape_view}
 use Rattle.pb_typing.specs.Scopes.{table_view, looked_up_with}

@@ -4,16 +4,16 @@ use Rattle.std.specs.Prelude.{nat_lt, ◌==◌}
 use Rattle.std.specs.List.{position, prefix_len, find, list_any}
 use borrow.Author.Tests.{ltb-true}
 use Rattle.std.proofs.lemmas.Bool.Decides.{nat_tests}
-use Rattle.pb_ast.specs.Form.{Named}
-use Rattle.pb_syntax.specs.Syntax.{Name, same_name, Equation, Spec}
-use Rattle.pb_syntax.specs.Names.{is_declared}
-use Rattle.pb_declarations.specs.declared.fault.Rule.TheVariants as rule
-use Rattle.pb_declarations.specs.declared.fault.TypeError.TheVariants.{At}
-use Rattle.pb_declarations.specs.Faults.{unless, IsAmong}
-use Rattle.pb_declarations.specs.Agreement.{equation_place}
-use Rattle.pb_declarations.specs.Shapes.{Shape}
-use Rattle.pb_shapes.specs.Functions.{Function, arity}
-use Rattle.pb_shapes.specs.Faults.{unknown_faults, function_faults, kind_faults}
+use Rattle.pb_text_tree.specs.Form.{Named}
+use Rattle.pb_text_meaning.specs.Syntax.{Name, same_name, Equation, Spec}
+use Rattle.pb_text_meaning.specs.Names.{is_declared}
+use Rattle.pb_typing_declarations.specs.declared.fault.TypingRule.TheVariants as rule
+use Rattle.pb_typing_declarations.specs.declared.fault.TypeError.TheVariants.{At}
+use Rattle.pb_typing_declarations.specs.Faults.{unless, IsAmong}
+use Rattle.pb_typing_declarations.specs.Agreement.{equation_place}
+use Rattle.pb_typing_declarations.specs.Shapes.{Shape}
+use Rattle.pb_typing_rules.specs.Functions.{Function, arity}
+use Rattle.pb_typing_rules.specs.Faults.{unknown_faults, function_faults, kind_faults}
 
 -- the first place at which a test passes: there is one exactly where some element passes, and `find` gives what stands there
 below : {A : Type 0} (t : A → Bool) (xs : List A) → prefix_len (λ x. not (t x)) xs < length xs → list_any t xs ≡ true

@@ -2,11 +2,11 @@
 
 use Rattle.std.specs.Prelude.{List, [], ◌∷◌, Option, Some, if◌then◌else◌, string_bytes}
 use Rattle.std.specs.Option.{option_map}
-use Rattle.pb_ast.specs.declared.name.Name.{Name}
-use Rattle.pb_syntax.specs.Syntax as names
-use Rattle.pb_syntax.specs.Syntax.{same_name}
-use Rattle.pb_declarations.specs.Tables.{Table, looked_up}
-use Rattle.pb_shapes.specs.Scope.{Scope, outermost, or_else}
+use Rattle.pb_text_tree.specs.declared.name.Name.{Name}
+use Rattle.pb_text_meaning.specs.Syntax as names
+use Rattle.pb_text_meaning.specs.Syntax.{same_name}
+use Rattle.pb_typing_declarations.specs.Tables.{Table, looked_up}
+use Rattle.pb_typing_rules.specs.Scope.{Scope, outermost, or_else}
 use Rattle.pb_typing.specs.declared.shape.Shape.{Shape}
 use Rattle.pb_typing.specs.declared.scope.Scope as program
 use Rattle.pb_typing.specs.declared.scope.Scope.TheVariants.{Outermost, Inner'}

@@ -2,13 +2,13 @@
 use Rattle.std.specs.Prelude.{◌≡◌, Bool, true, false, List, [], ◌∷◌, map}
 use Rattle.pb_sorts.specs.declared.carrier.Carrier.{Carrier}
 use Rattle.pb_sorts.specs.Layout as layouts
-use Rattle.pb_ast.specs.Form.{SpecForm}
-use Rattle.pb_syntax.specs.Syntax.{Equation, Spec}
-use Rattle.pb_syntax.specs.Formula.{carriers_of}
-use Rattle.pb_declarations.specs.declared.fault.Fault.{Fault}
-use Rattle.pb_shapes.specs.Faults.{faults}
+use Rattle.pb_text_tree.specs.Form.{SpecForm}
+use Rattle.pb_text_meaning.specs.Syntax.{Equation, Spec}
+use Rattle.pb_text_meaning.specs.Formula.{carriers_of}
+use Rattle.pb_typing_declarations.specs.declared.fault.TypingFault.{TypingFault}
+use Rattle.pb_typing_rules.specs.Faults.{faults}
 
-abbrev pub is_none : List Fault → Bool
+abbrev pub is_none : List TypingFault → Bool
 is_none [] = true
 is_none (f ∷ fs) = false
 

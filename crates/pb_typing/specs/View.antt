@@ -1,14 +1,14 @@
 -- The program's shapes and functions, as the definitions name them.
 use Rattle.std.specs.Prelude.{◌≡◌, [], ◌∷◌, Bool, true, false, List, Result, MatchResult}
-use Rattle.pb_ast.specs.declared.term.ArithmeticLink.{ArithmeticLink}
-use Rattle.pb_ast.specs.declared.operator.Arithmetic.{Arithmetic}
-use Rattle.pb_ast.specs.declared.operator.Arithmetic.TheVariants as arithmetic
+use Rattle.pb_text_tree.specs.declared.term.ArithmeticLink.{ArithmeticLink}
+use Rattle.pb_text_tree.specs.declared.operator.Arithmetic.{Arithmetic}
+use Rattle.pb_text_tree.specs.declared.operator.Arithmetic.TheVariants as arithmetic
 use Rattle.pb_intervals.specs.Operation.{BinaryOperation, Sum, Difference, Product, Quotient, Remainder, Maximum, Minimum, Successor, Predecessor, AbsoluteValue}
-use Rattle.pb_declarations.specs.declared.fault.Fault.{Fault}
-use Rattle.pb_declarations.specs.declared.fault.TypeError.{TypeError}
-use Rattle.pb_declarations.specs.Faults.{IsAmong}
-use Rattle.pb_declarations.specs.Shapes as model
-use Rattle.pb_shapes.specs.Functions as functions
+use Rattle.pb_typing_declarations.specs.declared.fault.TypingFault.{TypingFault}
+use Rattle.pb_typing_declarations.specs.declared.fault.TypeError.{TypeError}
+use Rattle.pb_typing_declarations.specs.Faults.{IsAmong}
+use Rattle.pb_typing_declarations.specs.Shapes as model
+use Rattle.pb_typing_rules.specs.Functions as functions
 use Rattle.pb_typing.specs.declared.function.Function.{Function}
 use Rattle.pb_typing.specs.declared.function.Function.TheVariants as function
 use Rattle.pb_typing.specs.declared.shape.Shape.{Shape}
@@ -21,7 +21,7 @@ shape_view (code.Places sort count) = model.Places sort count
 shape_view (code.Wholes i) = model.Wholes i.low i.high
 
 -- there is no fault and this is the shape, or a fault is answered
-abbrev pub Judges : List Fault → model.Shape → Result Shape TypeError → Type 0
+abbrev pub Judges : List TypingFault → model.Shape → Result Shape TypeError → Type 0
 Judges all s result = MatchResult result (λ r. (all ≡ []) × (shape_view r ≡ s)) (IsAmong all)
 
 abbrev pub operation_of : Arithmetic → BinaryOperation

@@ -1,18 +1,18 @@
 //! The check of formulas.
 
 ghost use Rattle.std.specs.Prelude.{◌≡◌, [], MatchResult};
-ghost use Rattle.pb_ast.specs.Form.{formula_form, spec_form};
-ghost use Rattle.pb_shapes.specs.Faults.{formula_faults, operand_parity};
-ghost use Rattle.pb_declarations.specs.Faults.{IsAmong};
-ghost use Rattle.pb_declarations.specs.View.{spec_of, text_of};
+ghost use Rattle.pb_text_tree.specs.Form.{formula_form, spec_form};
+ghost use Rattle.pb_typing_rules.specs.Faults.{formula_faults, operand_parity};
+ghost use Rattle.pb_typing_declarations.specs.Faults.{IsAmong};
+ghost use Rattle.pb_typing_declarations.specs.View.{spec_of, text_of};
 ghost use Rattle.pb_typing.specs.Scopes.{inner_view, scope_view};
 
 use crate::instance::check_instance;
 use crate::scope::{Scope, variable_shapes};
 use crate::shape::Shape;
 use crate::term::check_truth;
-use pb_ast::{Connective, Formula, Spec};
-use pb_declarations::{Declarations, TypeError};
+use pb_text_tree::{Connective, Formula, Spec};
+use pb_typing_declarations::{Declarations, TypeError};
 use std::alloc::Global;
 use std::collections::HashMap;
 

@@ -2,17 +2,17 @@
 
 ghost use Rattle.std.specs.Prelude.{◌≡◌, [], ◌∷◌, ◌&&◌};
 ghost use Rattle.pb_intervals.specs.Operation as operations;
-ghost use Rattle.pb_shapes.specs.Faults.{kind_faults};
-ghost use Rattle.pb_shapes.specs.Functions as functions;
-ghost use Rattle.pb_shapes.specs.Functions.{arity};
-ghost use Rattle.pb_shapes.specs.Shapes.{binary_shape, hull, may_be_alike, may_be_truth, unary_shape};
+ghost use Rattle.pb_typing_rules.specs.Faults.{kind_faults};
+ghost use Rattle.pb_typing_rules.specs.Functions as functions;
+ghost use Rattle.pb_typing_rules.specs.Functions.{arity};
+ghost use Rattle.pb_typing_rules.specs.Shapes.{binary_shape, hull, may_be_alike, may_be_truth, unary_shape};
 ghost use Rattle.pb_typing.specs.View.{Judges, function_view, shape_view};
 
 use crate::operation::fault;
 use crate::shape::Shape;
-use pb_ast::Place;
-use pb_declarations::{Rule, TypeError, require};
 use pb_intervals::Interval;
+use pb_text_tree::Place;
+use pb_typing_declarations::{TypeError, TypingRule, require};
 
 /// A named function of data.
 #[derive(Clone, Copy, Debug, PartialEq, Eq)]
@@ -41,7 +41,11 @@ impl Function {
             Function::Predecessor => predecessor(shape, place),
             Function::AbsoluteValue => absolute_value(shape, place),
             Function::Recogniser(struct_shape) => {
-                require(struct_shape.may_be_alike(&shape), Rule::WrongKind, place)?;
+                require(
+                    struct_shape.may_be_alike(&shape),
+                    TypingRule::WrongKind,
+                    place,
+                )?;
                 Ok(Shape::Truths)
             }
             Function::Choice => Ok(Shape::Unknown),
@@ -114,7 +118,7 @@ fn choose(condition: Shape, left: Shape, right: Shape, place: Place) -> Result<S
     ensures { Judges (kind_faults functions.Choice (shape_view condition ∷ shape_view left ∷ shape_view right ∷ []) place) (hull (shape_view left) (shape_view right)) result }
 {
     let accepted = may_choose(&condition, &left, &right);
-    require(accepted, Rule::WrongKind, place)?;
+    require(accepted, TypingRule::WrongKind, place)?;
     Ok(left.hull(right))
 }
 
@@ -132,8 +136,8 @@ fn whole(shape: Shape, place: Place) -> Result<Shape, TypeError>
     match shape {
         Shape::Unknown => Ok(Shape::Unknown),
         Shape::Wholes(interval) => Ok(Shape::Wholes(interval)),
-        Shape::Truths => Err(fault(Rule::WrongKind, place)),
-        Shape::Places { .. } => Err(fault(Rule::WrongKind, place)),
+        Shape::Truths => Err(fault(TypingRule::WrongKind, place)),
+        Shape::Places { .. } => Err(fault(TypingRule::WrongKind, place)),
     }
 }
 
@@ -145,10 +149,10 @@ fn successor(shape: Shape, place: Place) -> Result<Shape, TypeError>
         Shape::Unknown => Ok(Shape::Unknown),
         Shape::Wholes(interval) => match interval.successor(Interval::literals()) {
             Some(interval) => Ok(Shape::Wholes(interval)),
-            None => Err(fault(Rule::LargeInterval, place)),
+            None => Err(fault(TypingRule::LargeInterval, place)),
         },
-        Shape::Truths => Err(fault(Rule::WrongKind, place)),
-        Shape::Places { .. } => Err(fault(Rule::WrongKind, place)),
+        Shape::Truths => Err(fault(TypingRule::WrongKind, place)),
+        Shape::Places { .. } => Err(fault(TypingRule::WrongKind, place)),
     }
 }
 
@@ -160,10 +164,10 @@ fn predecessor(shape: Shape, place: Place) -> Result<Shape, TypeError>
         Shape::Unknown => Ok(Shape::Unknown),
         Shape::Wholes(interval) => match interval.predecessor(Interval::literals()) {
             Some(interval) => Ok(Shape::Wholes(interval)),
-            None => Err(fault(Rule::LargeInterval, place)),
+            None => Err(fault(TypingRule::LargeInterval, place)),
         },
-        Shape::Truths => Err(fault(Rule::WrongKind, place)),
-        Shape::Places { .. } => Err(fault(Rule::WrongKind, place)),
+        Shape::Truths => Err(fault(TypingRule::WrongKind, place)),
+        Shape::Places { .. } => Err(fault(TypingRule::WrongKind, place)),
     }
 }
 
@@ -175,10 +179,10 @@ fn absolute_value(shape: Shape, place: Place) -> Result<Shape, TypeError>
         Shape::Unknown => Ok(Shape::Unknown),
         Shape::Wholes(interval) => match interval.absolute_value(Interval::literals()) {
             Some(interval) => Ok(Shape::Wholes(interval)),
-            None => Err(fault(Rule::LargeInterval, place)),
+            None => Err(fault(TypingRule::LargeInterval, place)),
         },
-        Shape::Truths => Err(fault(Rule::WrongKind, place)),
-        Shape::Places { .. } => Err(fault(Rule::WrongKind, place)),
+        Shape::Truths => Err(fault(TypingRule::WrongKind, place)),
+        Shape::Places { .. } => Err(fault(TypingRule::WrongKind, place)),
     }
 }
 
@@ -190,20 +194,20 @@ fn maximum(left: Shape, right: Shape, place: Place) -> Result<Shape, TypeError>
         Shape::Unknown => match right {
             Shape::Unknown => Ok(Shape::Unknown),
             Shape::Wholes(_) => Ok(Shape::Unknown),
-            Shape::Truths => Err(fault(Rule::WrongKind, place)),
-            Shape::Places { .. } => Err(fault(Rule::WrongKind, place)),
+            Shape::Truths => Err(fault(TypingRule::WrongKind, place)),
+            Shape::Places { .. } => Err(fault(TypingRule::WrongKind, place)),
         },
         Shape::Wholes(left) => match right {
             Shape::Unknown => Ok(Shape::Unknown),
             Shape::Wholes(right) => match left.maximum(right, Interval::literals()) {
                 Some(interval) => Ok(Shape::Wholes(interval)),
-                None => Err(fault(Rule::LargeInterval, place)),
+                None => Err(fault(TypingRule::LargeInterval, place)),
             },
-            Shape::Truths => Err(fault(Rule::WrongKind, place)),
-            Shape::Places { .. } => Err(fault(Rule::WrongKind, place)),
+            Shape::Truths => Err(fault(TypingRule::WrongKind, place)),
+            Shape::Places { .. } => Err(fault(TypingRule::WrongKind, place)),
         },
-        Shape::Truths => Err(fault(Rule::WrongKind, place)),
-        Shape::Places { .. } => Err(fault(Rule::WrongKind, place)),
+        Shape::Truths => Err(fault(TypingRule::WrongKind, place)),
+        Shape::Places { .. } => Err(fault(TypingRule::WrongKind, place)),
     }
 }
 
@@ -215,19 +219,19 @@ fn minimum(left: Shape, right: Shape, place: Place) -> Result<Shape, TypeError>
         Shape::Unknown => match right {
             Shape::Unknown => Ok(Shape::Unknown),
             Shape::Wholes(_) => Ok(Shape::Unknown),
-            Shape::Truths => Err(fault(Rule::WrongKind, place)),
-            Shape::Places { .. } => Err(fault(Rule::WrongKind, place)),
+            Shape::Truths => Err(fault(TypingRule::WrongKind, place)),
+            Shape::Places { .. } => Err(fault(TypingRule::WrongKind, place)),
         },
         Shape::Wholes(left) => match right {
             Shape::Unknown => Ok(Shape::Unknown),
             Shape::Wholes(right) => match left.minimum(right, Interval::literals()) {
                 Some(interval) => Ok(Shape::Wholes(interval)),
-                None => Err(fault(Rule::LargeInterval, place)),
+                None => Err(fault(TypingRule::LargeInterval, place)),
             },
-            Shape::Truths => Err(fault(Rule::WrongKind, place)),
-            Shape::Places { .. } => Err(fault(Rule::WrongKind, place)),
+            Shape::Truths => Err(fault(TypingRule::WrongKind, place)),
+            Shape::Places { .. } => Err(fault(TypingRule::WrongKind, place)),
         },
-        Shape::Truths => Err(fault(Rule::WrongKind, place)),
-        Shape::Places { .. } => Err(fault(Rule::WrongKind, place)),
+        Shape::Truths => Err(fault(TypingRule::WrongKind, place)),
+        Shape::Places { .. } => Err(fault(TypingRule::WrongKind, place)),
     }
 }

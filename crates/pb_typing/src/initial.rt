@@ -2,22 +2,22 @@
 
 ghost use Rattle.std.specs.Prelude.{◌≡◌, List, [], map, MatchResult};
 ghost use Rattle.pb_sorts.specs.Carrier.{values_of};
-ghost use Rattle.pb_syntax.specs.Syntax.{Variable};
-ghost use Rattle.pb_ast.specs.Form.{argument_forms, instance_form, spec_form};
-ghost use Rattle.pb_syntax.specs.Erase.{erased_arguments};
-ghost use Rattle.pb_syntax.specs.Formula.{carriers_of, equation_named};
-ghost use Rattle.pb_bounds.specs.Fits.{AllFit};
-ghost use Rattle.pb_declarations.specs.Faults.{IsAmong};
-ghost use Rattle.pb_declarations.specs.View.{spec_of, text_of};
-ghost use Rattle.pb_shapes.specs.Faults.{initial_faults, parameters_named, value_faults};
+ghost use Rattle.pb_text_meaning.specs.Syntax.{Variable};
+ghost use Rattle.pb_text_tree.specs.Form.{argument_forms, instance_form, spec_form};
+ghost use Rattle.pb_text_meaning.specs.Erase.{erased_arguments};
+ghost use Rattle.pb_text_meaning.specs.Formula.{carriers_of, equation_named};
+ghost use Rattle.pb_text_meaning.specs.Fits.{AllFit};
+ghost use Rattle.pb_typing_declarations.specs.Faults.{IsAmong};
+ghost use Rattle.pb_typing_declarations.specs.View.{spec_of, text_of};
+ghost use Rattle.pb_typing_rules.specs.Faults.{initial_faults, parameters_named, value_faults};
 ghost use Rattle.pb_typing.specs.Typed.{IsLayout};
 
 use crate::instance::check_instance;
 use crate::scope::Scope;
-use pb_ast::{Argument, Spec};
-use pb_declarations::{Declarations, Rule, TypeError, require};
 use pb_evaluation::value;
 use pb_sorts::{Carrier, Layout};
+use pb_text_tree::{Argument, Spec};
+use pb_typing_declarations::{Declarations, TypeError, TypingRule, require};
 use std::alloc::Global;
 
 /// Checks the initial instance: it is well typed, and each argument's value is in its parameter's carrier.
@@ -61,7 +61,7 @@ fn check_values(
             )?;
             require(
                 carrier.contains(value),
-                Rule::OutsideCarrier,
+                TypingRule::OutsideCarrier,
                 argument.place,
             )?;
             check_values(declarations, carriers, arguments)

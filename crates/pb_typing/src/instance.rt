@@ -1,11 +1,11 @@
 //! The check of instances of predicate variables.
 
 ghost use Rattle.std.specs.Prelude.{◌≡◌, ◌==◌, ◌++◌, [], length, MatchResult};
-ghost use Rattle.pb_ast.specs.Form.{argument_forms, instance_form, spec_form, variable_forms};
-ghost use Rattle.pb_syntax.specs.Erase.{erased_variables};
-ghost use Rattle.pb_shapes.specs.Faults.{argument_faults, instance_faults};
-ghost use Rattle.pb_declarations.specs.Faults.{IsAmong, unless};
-ghost use Rattle.pb_declarations.specs.View.{spec_of, text_of};
+ghost use Rattle.pb_text_tree.specs.Form.{argument_forms, instance_form, spec_form, variable_forms};
+ghost use Rattle.pb_text_meaning.specs.Erase.{erased_variables};
+ghost use Rattle.pb_typing_rules.specs.Faults.{argument_faults, instance_faults};
+ghost use Rattle.pb_typing_declarations.specs.Faults.{IsAmong, unless};
+ghost use Rattle.pb_typing_declarations.specs.View.{spec_of, text_of};
 ghost use Rattle.pb_typing.specs.Arguments.{each_faults, parameter_count};
 ghost use Rattle.pb_typing.specs.Scopes.{scope_view};
 ghost use Rattle.pb_typing.specs.View.{shape_view};
@@ -14,8 +14,8 @@ use crate::operation::fault;
 use crate::scope::{Scope, sort_shape};
 use crate::shape::Shape;
 use crate::term::check_term;
-use pb_ast::{Argument, Instance, Place, Spec, Variables};
-use pb_declarations::{Declarations, Rule, TypeError, require};
+use pb_text_tree::{Argument, Instance, Place, Spec, Variables};
+use pb_typing_declarations::{Declarations, TypeError, TypingRule, require};
 use std::alloc::Global;
 
 /// Checks a predicate variable with its arguments, where `even` says whether the negations around it are even in number.
@@ -33,7 +33,7 @@ pub(crate) fn check_instance<'t>(
         (IsAmong (instance_faults (spec_of declarations.now) even (scope_view scope.now) (instance_form instance.now))) }
 {
     let place = instance.name.place;
-    require(even, Rule::OddNegations, place)?;
+    require(even, TypingRule::OddNegations, place)?;
     match declarations.equation(&instance.name.text) {
         Some(index) => {
             let parameters = &spec.equations[index].parameters;
@@ -46,7 +46,7 @@ pub(crate) fn check_instance<'t>(
                 place,
             )
         }
-        None => Err(fault(Rule::UnknownName, place)),
+        None => Err(fault(TypingRule::UnknownName, place)),
     }
 }
 
@@ -60,11 +60,11 @@ fn check_call<'t>(
     place: Place,
 ) -> Result<(), TypeError>
     ensures { MatchResult result
-        (λ _. unless (length arguments.now == parameter_count parameters.now) Rule.WrongCount place ++ argument_faults (spec_of declarations.now) (scope_view scope.now) (argument_forms arguments.now) (erased_variables (variable_forms parameters.now)) ≡ [])
-        (IsAmong (unless (length arguments.now == parameter_count parameters.now) Rule.WrongCount place ++ argument_faults (spec_of declarations.now) (scope_view scope.now) (argument_forms arguments.now) (erased_variables (variable_forms parameters.now)))) }
+        (λ _. unless (length arguments.now == parameter_count parameters.now) TypingRule.WrongCount place ++ argument_faults (spec_of declarations.now) (scope_view scope.now) (argument_forms arguments.now) (erased_variables (variable_forms parameters.now)) ≡ [])
+        (IsAmong (unless (length arguments.now == parameter_count parameters.now) TypingRule.WrongCount place ++ argument_faults (spec_of declarations.now) (scope_view scope.now) (argument_forms arguments.now) (erased_variables (variable_forms parameters.now)))) }
 {
     let is_count = are_counted(parameters, arguments.len());
-    require(is_count, Rule::WrongCount, place)?;
+    require(is_count, TypingRule::WrongCount, place)?;
     check_arguments(alloc, declarations, scope, parameters, arguments)
 }
 
@@ -121,7 +121,7 @@ fn check_each<'t>(
     for argument in arguments {
         let shape = check_term(alloc, declarations, scope, false, &argument.term)?;
         let accepted = shape.may_be_alike(parameter);
-        require(accepted, Rule::WrongKind, argument.place)?;
+        require(accepted, TypingRule::WrongKind, argument.place)?;
     }
     Ok(())
 }

@@ -2,17 +2,17 @@
 
 ghost use Rattle.std.specs.Prelude.{◌≡◌, ◌||◌, List, Some, length, MatchResult, codes};
 ghost use Rattle.std.specs.Option.{option_map};
-ghost use Rattle.pb_ast.specs.Form.{named};
-ghost use Rattle.pb_syntax.specs.Syntax.{same_name};
-ghost use Rattle.pb_shapes.specs.Faults.{function_faults, name_faults, unknown_faults};
-ghost use Rattle.pb_shapes.specs.Functions.{arity, function_named};
-ghost use Rattle.pb_shapes.specs.Scope.{named_shape};
-ghost use Rattle.pb_shapes.specs.Shapes.{is_limited};
-ghost use Rattle.pb_shapes.specs.Term.{shape_or_unknown};
-ghost use Rattle.pb_declarations.specs.Enumerators.{position_shape};
-ghost use Rattle.pb_declarations.specs.Faults.{IsAmong, unless};
-ghost use Rattle.pb_declarations.specs.Shapes as model;
-ghost use Rattle.pb_declarations.specs.View.{spec_of};
+ghost use Rattle.pb_text_tree.specs.Form.{named};
+ghost use Rattle.pb_text_meaning.specs.Syntax.{same_name};
+ghost use Rattle.pb_typing_rules.specs.Faults.{function_faults, name_faults, unknown_faults};
+ghost use Rattle.pb_typing_rules.specs.Functions.{arity, function_named};
+ghost use Rattle.pb_typing_rules.specs.Scope.{named_shape};
+ghost use Rattle.pb_typing_rules.specs.Shapes.{is_limited};
+ghost use Rattle.pb_typing_rules.specs.Term.{shape_or_unknown};
+ghost use Rattle.pb_typing_declarations.specs.Enumerators.{position_shape};
+ghost use Rattle.pb_typing_declarations.specs.Faults.{IsAmong, unless};
+ghost use Rattle.pb_typing_declarations.specs.Shapes as model;
+ghost use Rattle.pb_typing_declarations.specs.View.{spec_of};
 ghost use Rattle.pb_typing.specs.Scopes.{scope_view};
 ghost use Rattle.pb_typing.specs.View.{Judges, function_view, shape_view};
 
@@ -20,8 +20,8 @@ use crate::function::Function;
 use crate::operation::fault;
 use crate::scope::{Scope, variable_shape};
 use crate::shape::Shape;
-use pb_ast::{Name, Place};
-use pb_declarations::{Declarations, Enumerator, Rule, TypeError, require};
+use pb_text_tree::{Name, Place};
+use pb_typing_declarations::{Declarations, Enumerator, TypeError, TypingRule, require};
 
 /// The shape of a variable in scope, else of an enumerator.
 pub(crate) fn name_shape(
@@ -67,10 +67,10 @@ fn struct_shape(enumerator: Option<Enumerator>) -> Option<Shape>
 
 /// A shape whose values are within 2^62.
 fn limited(shape: Shape, place: Place) -> Result<Shape, TypeError>
-    ensures { Judges (unless (is_limited (shape_view shape)) Rule.LargeInterval place) (shape_view shape) result }
+    ensures { Judges (unless (is_limited (shape_view shape)) TypingRule.LargeInterval place) (shape_view shape) result }
 {
     let accepted = shape.is_limited();
-    require(accepted, Rule::LargeInterval, place)?;
+    require(accepted, TypingRule::LargeInterval, place)?;
     Ok(shape)
 }
 
@@ -79,8 +79,8 @@ fn unknown(declarations: &Declarations<'_>, name: &Name) -> TypeError
     ensures { IsAmong (unknown_faults (spec_of declarations.now) (named name.now)) result }
 {
     match declarations.equation(&name.text) {
-        Some(_) => fault(Rule::PredicateInData, name.place),
-        None => fault(Rule::UnknownName, name.place),
+        Some(_) => fault(TypingRule::PredicateInData, name.place),
+        None => fault(TypingRule::UnknownName, name.place),
     }
 }
 
@@ -99,7 +99,7 @@ pub(crate) fn find_function(
             if function.arity() == count {
                 Ok(function)
             } else {
-                Err(fault(Rule::WrongCount, name.place))
+                Err(fault(TypingRule::WrongCount, name.place))
             }
         }
         None => Err(unknown(declarations, name)),

@@ -1,24 +1,24 @@
 //! Operators at the shapes of their operands.
 
 ghost use Rattle.std.specs.Prelude.{◌≡◌, true};
-ghost use Rattle.pb_syntax.specs.Erase.{of_comparison};
+ghost use Rattle.pb_text_meaning.specs.Erase.{of_comparison};
 ghost use Rattle.pb_intervals.specs.Interval.{within, literals};
 ghost use Rattle.pb_intervals.specs.Operation as operations;
-ghost use Rattle.pb_shapes.specs.Faults.{negative_faults, operator_faults};
-ghost use Rattle.pb_shapes.specs.Shapes.{Computed, binary_shape, kind_of, may_divide, unary_shape};
-ghost use Rattle.pb_declarations.specs.Shapes as model;
+ghost use Rattle.pb_typing_rules.specs.Faults.{negative_faults, operator_faults};
+ghost use Rattle.pb_typing_rules.specs.Shapes.{Computed, binary_shape, kind_of, may_divide, unary_shape};
+ghost use Rattle.pb_typing_declarations.specs.Shapes as model;
 ghost use Rattle.pb_typing.specs.View.{Judges, operation_of, shape_view};
 
 use crate::shape::Shape;
-use pb_ast::{Arithmetic, Comparison, Place};
-use pb_declarations::{Fault, Rule, TypeError, require};
 use pb_intervals::Interval;
+use pb_text_tree::{Arithmetic, Comparison, Place};
+use pb_typing_declarations::{TypeError, TypingFault, TypingRule, require};
 
 /// A rule that fails at a place.
-pub(crate) fn fault(rule: Rule, place: Place) -> TypeError
+pub(crate) fn fault(rule: TypingRule, place: Place) -> TypeError
     ensures { result ≡ TypeError.At (record { rule = rule; place = place }) }
 {
-    TypeError::At(Fault { rule, place })
+    TypeError::At(TypingFault { rule, place })
 }
 
 /// The negation of a number.
@@ -29,9 +29,9 @@ pub(crate) fn negative(shape: Shape, place: Place) -> Result<Shape, TypeError>
         Shape::Unknown => Ok(Shape::Unknown),
         Shape::Wholes(interval) => match interval.negation(Interval::literals()) {
             Some(interval) => Ok(Shape::Wholes(interval)),
-            None => Err(fault(Rule::LargeInterval, place)),
+            None => Err(fault(TypingRule::LargeInterval, place)),
         },
-        Shape::Truths | Shape::Places { .. } => Err(fault(Rule::WrongKind, place)),
+        Shape::Truths | Shape::Places { .. } => Err(fault(TypingRule::WrongKind, place)),
     }
 }
 
@@ -49,7 +49,7 @@ pub(crate) fn compare(
         Comparison::Less | Comparison::LessEqual | Comparison::Greater | Comparison::GreaterEqual =>
             left.may_be_whole() && right.may_be_whole(),
     };
-    require(accepted, Rule::WrongKind, place)?;
+    require(accepted, TypingRule::WrongKind, place)?;
     Ok(Shape::Truths)
 }
 
@@ -67,17 +67,17 @@ pub(crate) fn compute(
             Shape::Unknown => Ok(Shape::Unknown),
             Shape::Wholes(right) => {
                 let divides = may_divide(operator, right);
-                require(divides, Rule::Divisor, place)?;
+                require(divides, TypingRule::Divisor, place)?;
                 Ok(Shape::Unknown)
             }
-            Shape::Truths | Shape::Places { .. } => Err(fault(Rule::WrongKind, place)),
+            Shape::Truths | Shape::Places { .. } => Err(fault(TypingRule::WrongKind, place)),
         },
         Shape::Wholes(left) => match right {
             Shape::Unknown => Ok(Shape::Unknown),
             Shape::Wholes(right) => compute_intervals(operator, left, right, place),
-            Shape::Truths | Shape::Places { .. } => Err(fault(Rule::WrongKind, place)),
+            Shape::Truths | Shape::Places { .. } => Err(fault(TypingRule::WrongKind, place)),
         },
-        Shape::Truths | Shape::Places { .. } => Err(fault(Rule::WrongKind, place)),
+        Shape::Truths | Shape::Places { .. } => Err(fault(TypingRule::WrongKind, place)),
     }
 }
 
@@ -91,10 +91,10 @@ fn compute_intervals(
     ensures { Judges (operator_faults (Computed (operation_of operator)) (model.Wholes left.low left.high) (model.Wholes right.low right.high) place) (binary_shape (operation_of operator) (model.Wholes left.low left.high) (model.Wholes right.low right.high)) result }
 {
     let divides = may_divide(operator, right);
-    require(divides, Rule::Divisor, place)?;
+    require(divides, TypingRule::Divisor, place)?;
     match result_interval(operator, left, right) {
         Some(interval) => Ok(Shape::Wholes(interval)),
-        None => Err(fault(Rule::LargeInterval, place)),
+        None => Err(fault(TypingRule::LargeInterval, place)),
     }
 }
 

@@ -2,21 +2,21 @@
 
 ghost use Rattle.std.specs.Prelude.{◌≡◌, IfOk};
 ghost use Rattle.std.specs.Option.{option_map};
-ghost use Rattle.pb_ast.specs.Form.{variable_forms};
-ghost use Rattle.pb_syntax.specs.Syntax as syntax;
-ghost use Rattle.pb_syntax.specs.Erase.{erased_variables};
-ghost use Rattle.pb_shapes.specs.Scope as scopes;
-ghost use Rattle.pb_declarations.specs.Shapes.{sort_shape};
-ghost use Rattle.pb_declarations.specs.Tables.{looked_up};
-ghost use Rattle.pb_declarations.specs.View.{spec_of};
+ghost use Rattle.pb_text_tree.specs.Form.{variable_forms};
+ghost use Rattle.pb_text_meaning.specs.Syntax as syntax;
+ghost use Rattle.pb_text_meaning.specs.Erase.{erased_variables};
+ghost use Rattle.pb_typing_rules.specs.Scope as scopes;
+ghost use Rattle.pb_typing_declarations.specs.Shapes.{sort_shape};
+ghost use Rattle.pb_typing_declarations.specs.Tables.{looked_up};
+ghost use Rattle.pb_typing_declarations.specs.View.{spec_of};
 ghost use Rattle.pb_typing.specs.View.{shape_view};
 ghost use Rattle.pb_typing.specs.Scopes.{looked_up_with, scope_view, table_view};
 
 use crate::shape::Shape;
-use pb_ast::{Name, Variables};
-use pb_declarations::Declarations;
 use pb_intervals::Interval;
 use pb_sorts::Carrier;
+use pb_text_tree::{Name, Variables};
+use pb_typing_declarations::Declarations;
 use std::alloc::{AllocError, Global};
 use std::collections::HashMap;
 

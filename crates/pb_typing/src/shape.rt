@@ -1,7 +1,7 @@
 //! What is known of a data term's values: their kind, and the interval of whole numbers.
 
 ghost use Rattle.std.specs.Prelude.{◌≡◌};
-ghost use Rattle.pb_shapes.specs.Shapes as shapes;
+ghost use Rattle.pb_typing_rules.specs.Shapes as shapes;
 ghost use Rattle.pb_typing.specs.View.{shape_view};
 
 use pb_intervals::Interval;

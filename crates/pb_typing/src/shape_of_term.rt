@@ -1,14 +1,14 @@
 //! What is known of a data term's values, for any term: whether it is well typed isn't asked. It takes no memory.
 
 ghost use Rattle.std.specs.Prelude.{◌≡◌};
-ghost use Rattle.pb_ast.specs.Form.{TermForm, argument_forms, arithmetic_links, calculated, named, term_form};
+ghost use Rattle.pb_text_tree.specs.Form.{TermForm, argument_forms, arithmetic_links, calculated, named, term_form};
 ghost use Rattle.pb_intervals.specs.Operation as operations;
-ghost use Rattle.pb_syntax.specs.Erase.{erased_term};
-ghost use Rattle.pb_shapes.specs.Functions as functions;
-ghost use Rattle.pb_shapes.specs.Shapes.{binary_shape, literal_shape, of_interval, unary_shape};
-ghost use Rattle.pb_shapes.specs.Term.{shape};
-ghost use Rattle.pb_declarations.specs.Shapes as model;
-ghost use Rattle.pb_declarations.specs.View.{spec_of};
+ghost use Rattle.pb_text_meaning.specs.Erase.{erased_term};
+ghost use Rattle.pb_typing_rules.specs.Functions as functions;
+ghost use Rattle.pb_typing_rules.specs.Shapes.{binary_shape, literal_shape, of_interval, unary_shape};
+ghost use Rattle.pb_typing_rules.specs.Term.{shape};
+ghost use Rattle.pb_typing_declarations.specs.Shapes as model;
+ghost use Rattle.pb_typing_declarations.specs.View.{spec_of};
 ghost use Rattle.pb_typing.specs.Scopes.{scope_view};
 ghost use Rattle.pb_typing.specs.View.{function_view, operation_of, shape_view};
 
@@ -17,9 +17,9 @@ use crate::name::{function_named, known_shape};
 use crate::operation::{may_divide, result_interval};
 use crate::scope::Scope;
 use crate::shape::Shape;
-use pb_ast::{Argument, Arithmetic, ArithmeticLink, Name, Term};
-use pb_declarations::Declarations;
 use pb_intervals::Interval;
+use pb_text_tree::{Argument, Arithmetic, ArithmeticLink, Name, Term};
+use pb_typing_declarations::Declarations;
 
 /// What is known of a data term's values: its kind, and the interval of a whole number (interval arithmetic, Moore 1966).
 /// It is `Unknown` where a part has a fault that leaves the kind open.

@@ -1,22 +1,22 @@
 //! The check of a whole text.
 
 ghost use Rattle.std.specs.Prelude.{◌≡◌, ◌≢◌, [], true, MatchResult, OnOk, IfErr};
-ghost use Rattle.pb_ast.specs.Form.{equation_form, spec_form};
-ghost use Rattle.pb_syntax.specs.Erase.{erase, erased_variables};
-ghost use Rattle.pb_declarations.specs.Faults.{IsAmong};
-ghost use Rattle.pb_declarations.specs.View.{spec_of, text_of};
-ghost use Rattle.pb_shapes.specs.Faults.{faults, formula_faults, right_faults};
-ghost use Rattle.pb_shapes.specs.Scope.{bound, outermost};
-ghost use Rattle.pb_shapes.specs.WellTyped.{IsWellTyped};
+ghost use Rattle.pb_text_tree.specs.Form.{equation_form, spec_form};
+ghost use Rattle.pb_text_meaning.specs.Erase.{erase, erased_variables};
+ghost use Rattle.pb_typing_declarations.specs.Faults.{IsAmong};
+ghost use Rattle.pb_typing_declarations.specs.View.{spec_of, text_of};
+ghost use Rattle.pb_typing_rules.specs.Faults.{faults, formula_faults, right_faults};
+ghost use Rattle.pb_typing_rules.specs.Scope.{bound, outermost};
+ghost use Rattle.pb_typing_rules.specs.WellTyped.{IsWellTyped};
 ghost use Rattle.pb_typing.specs.Typed.{IsLayout};
 
 use crate::formula::check_formula;
 use crate::initial::check_initial;
 use crate::scope::{Scope, variable_shapes};
 use crate::typed::Typed;
-use pb_ast::{Equation, Spec};
-use pb_declarations::{Declarations, TypeError};
 use pb_sorts::Layout;
+use pb_text_tree::{Equation, Spec};
+use pb_typing_declarations::{Declarations, TypeError};
 use std::alloc::Global;
 
 /// Accepts a text exactly where it is well typed and positive within the limits (Groote and Mousavi 2014: kinds of

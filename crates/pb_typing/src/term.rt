@@ -1,15 +1,15 @@
 //! The check of data terms.
 
 ghost use Rattle.std.specs.Prelude.{◌≡◌, ◌&&◌, ◌++◌, [], MatchResult, false, pos, true};
-ghost use Rattle.pb_ast.specs.Form.{FormulaForm, TermForm, argument_forms, arithmetic_links, calculated, chained, named, term_form, term_links};
+ghost use Rattle.pb_text_tree.specs.Form.{FormulaForm, TermForm, argument_forms, arithmetic_links, calculated, chained, named, term_form, term_links};
 ghost use Rattle.pb_intervals.specs.Interval.{is_within, literals, singleton};
-ghost use Rattle.pb_syntax.specs.Erase.{erased_term};
-ghost use Rattle.pb_shapes.specs.Faults.{formula_faults, term_faults};
-ghost use Rattle.pb_shapes.specs.Shapes.{literal_shape, may_be_truth};
-ghost use Rattle.pb_shapes.specs.Term.{shape};
-ghost use Rattle.pb_declarations.specs.Faults.{IsAmong, unless};
-ghost use Rattle.pb_declarations.specs.Shapes as model;
-ghost use Rattle.pb_declarations.specs.View.{spec_of};
+ghost use Rattle.pb_text_meaning.specs.Erase.{erased_term};
+ghost use Rattle.pb_typing_rules.specs.Faults.{formula_faults, term_faults};
+ghost use Rattle.pb_typing_rules.specs.Shapes.{literal_shape, may_be_truth};
+ghost use Rattle.pb_typing_rules.specs.Term.{shape};
+ghost use Rattle.pb_typing_declarations.specs.Faults.{IsAmong, unless};
+ghost use Rattle.pb_typing_declarations.specs.Shapes as model;
+ghost use Rattle.pb_typing_declarations.specs.View.{spec_of};
 ghost use Rattle.pb_typing.specs.Scopes.{inner_view, scope_view};
 ghost use Rattle.pb_typing.specs.View.{Judges, is_no_link, shape_view};
 
@@ -17,9 +17,9 @@ use crate::name::{find_function, name_shape};
 use crate::operation::{compare, compute, fault, negative};
 use crate::scope::{Scope, variable_shapes};
 use crate::shape::Shape;
-use pb_ast::{Argument, ArithmeticLink, Connective, Name, Place, Term, TermLink};
-use pb_declarations::{Declarations, Rule, TypeError, require};
 use pb_intervals::Interval;
+use pb_text_tree::{Argument, ArithmeticLink, Connective, Name, Place, Term, TermLink};
+use pb_typing_declarations::{Declarations, TypeError, TypingRule, require};
 use std::alloc::Global;
 use std::collections::HashMap;
 
@@ -28,21 +28,21 @@ const MAX_LITERAL: u64 = 1 << 62;
 
 /// A literal.
 fn literal(number: u64, place: Place) -> Result<Shape, TypeError>
-    ensures { Judges (unless (is_within (singleton (pos number)) literals) Rule.LargeInterval place) (literal_shape number) result }
+    ensures { Judges (unless (is_within (singleton (pos number)) literals) TypingRule.LargeInterval place) (literal_shape number) result }
 {
     if number <= MAX_LITERAL {
         Ok(Shape::Wholes(Interval::singleton(number as i64)))
     } else {
-        Err(fault(Rule::LargeInterval, place))
+        Err(fault(TypingRule::LargeInterval, place))
     }
 }
 
 /// A Boolean that is made of a Boolean.
 fn truth(shape: Shape, place: Place) -> Result<Shape, TypeError>
-    ensures { Judges (unless (may_be_truth (shape_view shape)) Rule.WrongKind place) model.Truths result }
+    ensures { Judges (unless (may_be_truth (shape_view shape)) TypingRule.WrongKind place) model.Truths result }
 {
     let accepted = shape.may_be_truth();
-    require(accepted, Rule::WrongKind, place)?;
+    require(accepted, TypingRule::WrongKind, place)?;
     Ok(Shape::Truths)
 }
 
@@ -60,7 +60,7 @@ pub(crate) fn check_truth<'t>(
 {
     let shape = check_term(alloc, declarations, scope, true, term)?;
     let accepted = shape.may_be_truth();
-    require(accepted, Rule::WrongKind, place)
+    require(accepted, TypingRule::WrongKind, place)
 }
 
 /// Checks a data term, where `stands` says whether a quantifier may stand there: its shape, if no rule fails.
@@ -122,7 +122,7 @@ pub(crate) fn check_term<'t>(
             body,
             ..
         } => {
-            require(stands, Rule::QuantifierInData, *place)?;
+            require(stands, TypingRule::QuantifierInData, *place)?;
             declarations.check_variables(alloc, variables)?;
             let table = variable_shapes(alloc, declarations, variables)?;
             check_body(alloc, declarations, &*scope, stands, &table, body, *place)
@@ -141,7 +141,7 @@ fn check_body<'a, 't>(
     body: &'t Term,
     place: Place,
 ) -> Result<Shape, TypeError>
-    ensures { Judges (term_faults (spec_of declarations.now) stands (inner_view table.now (scope_view outer.now)) (term_form body.now) ++ unless (may_be_truth (shape (spec_of declarations.now) (inner_view table.now (scope_view outer.now)) (erased_term (term_form body.now)))) Rule.WrongKind place) model.Truths result }
+    ensures { Judges (term_faults (spec_of declarations.now) stands (inner_view table.now (scope_view outer.now)) (term_form body.now) ++ unless (may_be_truth (shape (spec_of declarations.now) (inner_view table.now (scope_view outer.now)) (erased_term (term_form body.now)))) TypingRule.WrongKind place) model.Truths result }
 {
     let scope = Scope::Inner(table, outer);
     let shape = check_term(alloc, declarations, &scope, stands, body)?;
@@ -163,10 +163,10 @@ fn check_chain<'t>(
 {
     let mut left = check_term(alloc, declarations, scope, stands, first)?;
     for (index, link) in links.iter().enumerate() {
-        require(left.may_be_truth(), Rule::WrongKind, link.place)?;
+        require(left.may_be_truth(), TypingRule::WrongKind, link.place)?;
         left = check_term(alloc, declarations, scope, stands, &link.operand)?;
         let accepted = index + 1 < links.len() || left.may_be_truth();
-        require(accepted, Rule::WrongKind, link.place)?;
+        require(accepted, TypingRule::WrongKind, link.place)?;
     }
     if links.is_empty() {
         Ok(left)

@@ -1,12 +1,12 @@
 //! Texts that are accepted.
 
 ghost use Rattle.std.specs.Prelude.{◌≡◌, true};
-ghost use Rattle.pb_ast.specs.Form.{spec_form};
-ghost use Rattle.pb_syntax.specs.Erase.{erase};
+ghost use Rattle.pb_text_tree.specs.Form.{spec_form};
+ghost use Rattle.pb_text_meaning.specs.Erase.{erase};
 ghost use Rattle.pb_typing.specs.Typed.{is_faultless, IsLayout};
 
-use pb_ast::Spec;
 use pb_sorts::Layout;
+use pb_text_tree::Spec;
 
 /// A text that is well typed and positive, within the limits, with the layout of its equations' instances.
 #[derive(Drop)]

@@ -2,13 +2,13 @@
 use Rattle.std.proofs.Common.{◌≡◌, ℕ, zero, suc, ◌<◌, ◌≤◌, List, [], ◌∷◌, length, map, Option, Some, None, refl, sym, ap, ◌∙◌, subst, arith, ⊎_elim}
 use Rattle.std.specs.Prelude.{slice_get, slice_set}
 use Rattle.std.proofs.lemmas.Bool.{cases_eq}
-use Rattle.pb_code.specs.Machine.{Program}
-use Rattle.pb_code.specs.Counts.{loops_around}
-use Rattle.pb_code.specs.Transfer.{AbstractState, Edge, Flow, transfer}
-use Rattle.pb_code.specs.Accepted.{Table, state_at, state_at_loop}
-use Rattle.pb_code.specs.declared.instruction.Op.{Op}
-use Rattle.pb_abstract_state.specs.Join.{join_states}
-use Rattle.pb_code.proofs.Monotone.{AllEdges}
+use Rattle.pb_bytecode_program.specs.Machine.{Program}
+use Rattle.pb_bytecode_program.specs.Counts.{loops_around}
+use Rattle.pb_bytecode_program.specs.Transfer.{AbstractState, Edge, Flow, transfer}
+use Rattle.pb_bytecode_program.specs.Accepted.{Table, state_at, state_at_loop}
+use Rattle.pb_bytecode_program.specs.declared.instruction.Op.{Op}
+use Rattle.pb_verifier_states.specs.Join.{join_states}
+use Rattle.pb_bytecode_program.proofs.Monotone.{AllEdges}
 use Rattle.pb_verifier.specs.Pass.{then_table, put, joined_at, merge_state, merge_edges, visited, Homes, innermost}
 use Rattle.pb_verifier.proofs.Merges.{set_same, set_long}
 

@@ -1,13 +1,13 @@
 -- From the parts of an equation's check to its acceptance.
 use Rattle.std.proofs.Common.{◌≡◌, Bool, true, false}
 use Rattle.std.specs.Prelude.{Result, Ok, Err, IsTrue}
-use Rattle.pb_code.specs.Machine.{Program}
-use Rattle.pb_structure.specs.Structure.{IsStructured, IsWithinLimits}
-use Rattle.pb_structure.specs.Views.{IsProgramOf}
-use Rattle.pb_structure.specs.declared.equation_code.EquationCode.{EquationCode}
-use Rattle.pb_structure.specs.Refusals.{OnRefusedBy}
-use Rattle.pb_structure.specs.declared.position_fault.StructureError.{StructureError}
-use Rattle.pb_structure.specs.declared.position_fault.StructureError.TheVariants as structure_error
+use Rattle.pb_bytecode_program.specs.Machine.{Program}
+use Rattle.pb_verifier_structure.specs.Structure.{IsStructured, IsWithinLimits}
+use Rattle.pb_verifier_structure.specs.Views.{IsProgramOf}
+use Rattle.pb_verifier_structure.specs.declared.equation_code.EquationCode.{EquationCode}
+use Rattle.pb_verifier_structure.specs.Refusals.{OnRefusedBy}
+use Rattle.pb_verifier_structure.specs.declared.position_fault.StructureError.{StructureError}
+use Rattle.pb_verifier_structure.specs.declared.position_fault.StructureError.TheVariants as structure_error
 use Rattle.pb_verifier.specs.Acceptance.{HasTable, StatesCounts}
 use Rattle.pb_verifier.specs.EquationErrors.{OnRuleBroken, WhereRule, error_of}
 use Rattle.pb_verifier.specs.Pass.{code_passes}

@@ -2,20 +2,20 @@
 use Rattle.std.proofs.Common.{◌≡◌, ℕ, ◌+◌, ◌<◌, ◌≤◌, List, [], ◌∷◌, length, Option, Some, None, refl, sym, ap, ◌∙◌, subst, arith, ⊎_elim}
 use Rattle.std.specs.Prelude.{slice_get, slice_set}
 use Rattle.std.proofs.lemmas.Bool.{cases_eq, cases_lt}
-use Rattle.pb_code.specs.Machine.{Program}
-use Rattle.pb_code.specs.Counts.{LoopEffect, Enters, Leaves, Straight, loop_effect, loops_after, loops_around}
-use Rattle.pb_code.specs.Transfer.{AbstractState, Edge, Flow, transfer}
-use Rattle.pb_code.specs.Accepted.{Table, state_at, state_at_loop, IsCovered, Leads, FlowIsCovered, HasValidTarget, entry, Accepted}
-use Rattle.pb_code.proofs.Places.{AllBelow, around_below, around_next}
-use Rattle.pb_code.specs.declared.instruction.Op.{Op}
-use Rattle.pb_code.specs.declared.instruction.Op.TheVariants as op
-use Rattle.pb_abstract_state.specs.Join.{join_states}
-use Rattle.pb_code.specs.Monotone.{IsCoveredAtLoop}
-use Rattle.pb_code.proofs.Monotone.{AllEdges}
-use Rattle.pb_abstract_state.proofs.Hulls.{state_same}
-use Rattle.pb_abstract_state.proofs.Covered.{flow_covered, solid_flow}
+use Rattle.pb_bytecode_program.specs.Machine.{Program}
+use Rattle.pb_bytecode_program.specs.Counts.{LoopEffect, Enters, Leaves, Straight, loop_effect, loops_after, loops_around}
+use Rattle.pb_bytecode_program.specs.Transfer.{AbstractState, Edge, Flow, transfer}
+use Rattle.pb_bytecode_program.specs.Accepted.{Table, state_at, state_at_loop, IsCovered, Leads, FlowIsCovered, HasValidTarget, entry, Accepted}
+use Rattle.pb_bytecode_program.proofs.Places.{AllBelow, around_below, around_next}
+use Rattle.pb_bytecode_program.specs.declared.instruction.Op.{Op}
+use Rattle.pb_bytecode_program.specs.declared.instruction.Op.TheVariants as op
+use Rattle.pb_verifier_states.specs.Join.{join_states}
+use Rattle.pb_bytecode_program.specs.Monotone.{IsCoveredAtLoop}
+use Rattle.pb_bytecode_program.proofs.Monotone.{AllEdges}
+use Rattle.pb_verifier_states.proofs.Hulls.{state_same}
+use Rattle.pb_verifier_states.proofs.Covered.{flow_covered, solid_flow}
 use Rattle.pb_verifier.specs.Pass.{then_table, put, joined_at, merge_state, merge_edges}
-use Rattle.pb_structure.specs.Structure.{IsStructured, IsWithinLimits}
+use Rattle.pb_verifier_structure.specs.Structure.{IsStructured, IsWithinLimits}
 use Rattle.pb_verifier.proofs.Targets.{TargetHolds, transfer_goes}
 use Rattle.pb_verifier.proofs.Merges.{IsBelow, AllSolid, Joined, AllFit, leads_further, covered_further, edges_joined, edges_refused, table_same, none_table, some_none, op_same, set_other}
 

@@ -10,16 +10,16 @@ use Rattle.pb_sorts.specs.Instance.{instances_from}
 use Rattle.pb_sorts.specs.Layout.{carriers_of, count_of}
 use Rattle.pb_sorts.specs.declared.carrier.Carrier.{Carrier}
 use Rattle.pb_sorts.proofs.InstancePlaces.{length-instances_from-cons}
-use Rattle.pb_code.proofs.Ints.{le_true}
-use Rattle.pb_code.specs.Monotone.{HasOrderedRange}
-use Rattle.pb_code.specs.declared.instruction.Op.{Op}
-use Rattle.pb_code.specs.declared.instruction.Op.TheVariants as op
+use Rattle.pb_bytecode_program.proofs.Ints.{le_true}
+use Rattle.pb_bytecode_program.specs.Monotone.{HasOrderedRange}
+use Rattle.pb_bytecode_program.specs.declared.instruction.Op.{Op}
+use Rattle.pb_bytecode_program.specs.declared.instruction.Op.TheVariants as op
 use Rattle.pb_bytecode.specs.declared.version.Version.{Version}
 use Rattle.pb_bytecode.specs.Contents.{EquationContents, Contents, counts}
 use Rattle.pb_bytecode.specs.Meaning.{parameters, program_of}
 use Rattle.pb_bytecode.specs.Names.{is_name}
 use Rattle.pb_bytecode.specs.Limits.{is_between, is_byte, is_i32, is_u16, is_u32, is_second, are_bounds, fits_sort, fits_carrier, fits_op, fits_equation, fits_initial, instance_count, fits}
-use Rattle.pb_structure.specs.Structure.{IsWithinLimits}
+use Rattle.pb_verifier_structure.specs.Structure.{IsWithinLimits}
 
 -- ---- parts of the limits
 

@@ -2,13 +2,13 @@
 use Rattle.std.proofs.Common.{◌≡◌, ℕ, zero, suc, ◌<◌, ◌≤◌, List, [], ◌∷◌, length, Option, Some, None, refl, sym, ap, ◌∙◌, subst, arith, ⊎_elim, inl, inr, ◌⊎◌}
 use Rattle.std.specs.Prelude.{slice_get, slice_set}
 use Rattle.std.proofs.lemmas.Bool.{cases_eq}
-use Rattle.pb_code.specs.Transfer.{AbstractState, Edge, Flow}
-use Rattle.pb_code.specs.Accepted.{Table, state_at, join_option, IsCovered, Leads, AllLead, FlowIsCovered}
-use Rattle.pb_code.specs.declared.instruction.Op.{Op}
-use Rattle.pb_code.proofs.Rules.{state_within}
-use Rattle.pb_abstract_state.specs.Join.{join_states}
-use Rattle.pb_abstract_state.proofs.Hulls.{state_same, join_covers, join_least, join_none}
-use Rattle.pb_abstract_state.proofs.Order.{through}
+use Rattle.pb_bytecode_program.specs.Transfer.{AbstractState, Edge, Flow}
+use Rattle.pb_bytecode_program.specs.Accepted.{Table, state_at, join_option, IsCovered, Leads, AllLead, FlowIsCovered}
+use Rattle.pb_bytecode_program.specs.declared.instruction.Op.{Op}
+use Rattle.pb_bytecode_program.proofs.Rules.{state_within}
+use Rattle.pb_verifier_states.specs.Join.{join_states}
+use Rattle.pb_verifier_states.proofs.Hulls.{state_same, join_covers, join_least, join_none}
+use Rattle.pb_verifier_states.proofs.Order.{through}
 use Rattle.pb_verifier.specs.Pass.{then_table, put, joined_at, merge_state, merge_edges}
 
 -- each known state is covered by what the other table has there

@@ -17,7 +17,7 @@ use Rattle.pb_verifier.specs.declared.verify_error.VerifyError.{VerifyError}
 use Rattle.pb_verifier.specs.declared.verify_error.VerifyError.TheVariants as error
 use Rattle.pb_bytecode.specs.declared.sort.Sort.{Sort}
 use Rattle.std.proofs.lemmas.List.{length-map}
-use Rattle.pb_structure.specs.Structure.{IsWithinLimits}
+use Rattle.pb_verifier_structure.specs.Structure.{IsWithinLimits}
 use Rattle.pb_verifier.proofs.Limits.{HasLayout, code_within_limits, has_layout}
 
 -- what the check of a module has at hand: counts of enumerators, the carriers of callees, and the equations

@@ -2,14 +2,14 @@
 use Rattle.std.proofs.lemmas.Option.{slice_get-get_or}
 use Rattle.std.proofs.Common.{◌≡◌, ℕ, zero, suc, ◌+◌, ◌<◌, ◌≤◌, ◌∙◌, get_or, Bool, true, false, List, [], ◌∷◌, length, drop, Option, Some, None, refl, sym, ap, arith}
 use Rattle.std.specs.Prelude.{Result, Ok, Err, OnOk, slice_get, slice_set}
-use Rattle.pb_code.specs.Counts.{loop_effect}
-use Rattle.pb_abstract_state.specs.Refusals.{OnRefused, OnRefusedBy}
-use Rattle.pb_abstract_state.specs.declared.flow_error.FlowError.{FlowError}
-use Rattle.pb_abstract_state.specs.declared.flow_error.FlowError.TheVariants.{Refused, Memory}
-use Rattle.pb_code.specs.Machine.{Program}
-use Rattle.pb_code.specs.Transfer.{AbstractState, transfer}
-use Rattle.pb_code.specs.Accepted.{Table, state_at}
-use Rattle.pb_code.specs.declared.instruction.Op.{Op}
+use Rattle.pb_bytecode_program.specs.Counts.{loop_effect}
+use Rattle.pb_verifier_states.specs.Refusals.{OnRefused, OnRefusedBy}
+use Rattle.pb_verifier_states.specs.declared.flow_error.FlowError.{FlowError}
+use Rattle.pb_verifier_states.specs.declared.flow_error.FlowError.TheVariants.{Refused, Memory}
+use Rattle.pb_bytecode_program.specs.Machine.{Program}
+use Rattle.pb_bytecode_program.specs.Transfer.{AbstractState, transfer}
+use Rattle.pb_bytecode_program.specs.Accepted.{Table, state_at}
+use Rattle.pb_bytecode_program.specs.declared.instruction.Op.{Op}
 use Rattle.pb_verifier.specs.Pass.{Homes, homes_after, innermost, merge_edges, passes, code_passes, opening, then_table, visited}
 
 -- what is known flows on

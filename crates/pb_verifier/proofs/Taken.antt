@@ -1,9 +1,9 @@
 -- A place whose state was taken out, and then written.
 use Rattle.std.proofs.Common.{◌≡◌, ℕ, zero, suc, ◌<◌, [], ◌∷◌, length, get_or, Option, Some, None, refl, sym, ap, arith}
 use Rattle.std.specs.Prelude.{slice_get, slice_set}
-use Rattle.pb_code.specs.Transfer.{AbstractState}
-use Rattle.pb_code.specs.Accepted.{Table}
-use Rattle.pb_abstract_state.specs.Join.{join_states}
+use Rattle.pb_bytecode_program.specs.Transfer.{AbstractState}
+use Rattle.pb_bytecode_program.specs.Accepted.{Table}
+use Rattle.pb_verifier_states.specs.Join.{join_states}
 use Rattle.pb_verifier.specs.Pass.{merge_state}
 
 set_twice : (t : Table) (to : ℕ) (x y : Option AbstractState) → slice_set (slice_set t to x) to y ≡ slice_set t to y

@@ -2,17 +2,17 @@
 use Rattle.std.proofs.Common.{ℕ, zero, suc, ◌+◌, Bool, true, false, cond, not, ◌&&◌, List, [], ◌∷◌, ◌++◌, length, Option, Some, None}
 use Rattle.std.specs.Prelude.{ℤ, int_le, int_lt, slice_get, nat_lt, nat_le, ◌==◌, reverse}
 use Rattle.std.specs.Prelude.{pos, neg_ℤ}
-use Rattle.pb_code.specs.Values.{fits64, is_inhabited, divides}
-use Rattle.pb_code.specs.Abstract.{abstraction_of, interval_of, absolute_interval, same_kind}
-use Rattle.pb_code.specs.Machine.{Program, carrier_of}
-use Rattle.pb_code.specs.Transfer
-use Rattle.pb_code.specs.Transfer.{AbstractState, Edge, Flow, transfer}
-use Rattle.pb_code.specs.declared.abstract_value.AbstractValue.{AbstractValue}
-use Rattle.pb_code.specs.declared.abstract_value.AbstractValue.TheVariants as abstract
+use Rattle.pb_bytecode_program.specs.Values.{fits64, is_inhabited, divides}
+use Rattle.pb_bytecode_program.specs.Abstract.{abstraction_of, interval_of, absolute_interval, same_kind}
+use Rattle.pb_bytecode_program.specs.Machine.{Program, carrier_of}
+use Rattle.pb_bytecode_program.specs.Transfer
+use Rattle.pb_bytecode_program.specs.Transfer.{AbstractState, Edge, Flow, transfer}
+use Rattle.pb_bytecode_program.specs.declared.abstract_value.AbstractValue.{AbstractValue}
+use Rattle.pb_bytecode_program.specs.declared.abstract_value.AbstractValue.TheVariants as abstract
 use Rattle.pb_sorts.specs.declared.carrier.Carrier.{Carrier}
-use Rattle.pb_code.specs.declared.instruction.Op.{Op}
-use Rattle.pb_code.specs.declared.instruction.Op.TheVariants as op
-use Rattle.pb_code.proofs.Monotone.{AllEdges}
+use Rattle.pb_bytecode_program.specs.declared.instruction.Op.{Op}
+use Rattle.pb_bytecode_program.specs.declared.instruction.Op.TheVariants as op
+use Rattle.pb_bytecode_program.proofs.Monotone.{AllEdges}
 
 -- where the rule is met, P holds of what flows
 abbrev pub MayHold : (ℕ → AbstractState → Type 0) → Flow → Type 0

@@ -3,19 +3,19 @@ use Rattle.std.proofs.Common.{◌≡◌, ℕ, zero, suc, ◌+◌, ◌<◌, ◌�
 use Rattle.std.specs.Prelude.{slice_get, slice_set}
 use Rattle.std.proofs.Math.ListN.{length-replicate}
 use Rattle.std.proofs.lemmas.Bool.{cases_eq}
-use Rattle.pb_code.specs.Machine.{Program}
-use Rattle.pb_code.specs.Counts.{LoopEffect, Enters, Leaves, Straight, loop_effect, loops_after, loops_around, static_steps, static_tokens}
-use Rattle.pb_code.specs.Transfer.{AbstractState}
-use Rattle.pb_code.specs.Abstract.{Covers, abstraction_of}
-use Rattle.pb_code.specs.Accepted.{Table, state_at, IsCovered, CoversEach, Leads, entry, Accepted}
-use Rattle.pb_code.proofs.Places.{AllBelow, around_below, around_next}
-use Rattle.pb_code.specs.declared.instruction.Op.{Op}
+use Rattle.pb_bytecode_program.specs.Machine.{Program}
+use Rattle.pb_bytecode_program.specs.Counts.{LoopEffect, Enters, Leaves, Straight, loop_effect, loops_after, loops_around, static_steps, static_tokens}
+use Rattle.pb_bytecode_program.specs.Transfer.{AbstractState}
+use Rattle.pb_bytecode_program.specs.Abstract.{Covers, abstraction_of}
+use Rattle.pb_bytecode_program.specs.Accepted.{Table, state_at, IsCovered, CoversEach, Leads, entry, Accepted}
+use Rattle.pb_bytecode_program.proofs.Places.{AllBelow, around_below, around_next}
+use Rattle.pb_bytecode_program.specs.declared.instruction.Op.{Op}
 use Rattle.pb_sorts.specs.declared.carrier.Carrier.{Carrier}
 use Rattle.pb_sorts.specs.declared.carrier.Carrier.TheVariants as carrier
 use lib.Signed.{≤ℤ_refl}
-use Rattle.pb_abstract_state.proofs.Hulls.{state_same}
+use Rattle.pb_verifier_states.proofs.Hulls.{state_same}
 use Rattle.pb_verifier.specs.Pass.{Homes, homes_after, visited, passes, passes_on, opening, code_passes, innermost}
-use Rattle.pb_structure.specs.Structure.{IsStructured, IsWithinLimits}
+use Rattle.pb_verifier_structure.specs.Structure.{IsStructured, IsWithinLimits}
 use Rattle.pb_verifier.proofs.Merges.{IsBelow, set_same, set_other, set_long, none_some}
 use Rattle.pb_verifier.proofs.Agreement.{Agrees, SameBehind, SameResult, visited_agrees, home_of}
 use Rattle.pb_verifier.proofs.Kept.{Kept, later_edges, kept_more, earlier_more, refused_at, below_more, then_visit}

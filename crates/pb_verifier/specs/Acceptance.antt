@@ -2,10 +2,10 @@
 use Rattle.std.specs.Prelude.{◌≡◌, ℕ, ◌≤◌, List, Some}
 use Rattle.std.specs.List.{slice_get}
 use Rattle.pb_sorts.specs.declared.carrier.Carrier.{Carrier}
-use Rattle.pb_code.specs.Machine.{Program}
-use Rattle.pb_code.specs.Counts.{static_steps, static_tokens}
-use Rattle.pb_code.specs.Accepted.{Accepted, Table}
-use Rattle.pb_code.specs.Safety.{IsSafe}
+use Rattle.pb_bytecode_program.specs.Machine.{Program}
+use Rattle.pb_bytecode_program.specs.Counts.{static_steps, static_tokens}
+use Rattle.pb_bytecode_program.specs.Accepted.{Accepted, Table}
+use Rattle.pb_bytecode_program.specs.Safety.{IsSafe}
 use Rattle.pb_bytecode.specs.Contents.{EquationContents, Contents}
 use Rattle.pb_bytecode.specs.Meaning.{parameters, program_of}
 

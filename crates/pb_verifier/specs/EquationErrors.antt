@@ -2,8 +2,8 @@
 use Rattle.std.specs.Prelude.{Result, Ok, Err}
 use Rattle.pb_verifier.specs.declared.equation_error.EquationError.{EquationError}
 use Rattle.pb_verifier.specs.declared.equation_error.EquationError.TheVariants as error
-use Rattle.pb_structure.specs.declared.position_fault.StructureError.{StructureError}
-use Rattle.pb_structure.specs.declared.position_fault.StructureError.TheVariants as structure_error
+use Rattle.pb_verifier_structure.specs.declared.position_fault.StructureError.{StructureError}
+use Rattle.pb_verifier_structure.specs.declared.position_fault.StructureError.TheVariants as structure_error
 
 -- a rule by position that is broken, or want of memory
 abbrev pub error_of : StructureError → EquationError

@@ -1,12 +1,12 @@
 -- One pass over code, from its first place to its last: what is known at each place flows to later ones, where it is
 -- joined with what flows there from elsewhere. What was known at a place is given up once it has flowed on.
 use Rattle.std.specs.Prelude.{ℕ, ◌+◌, Bool, true, false, List, [], ◌∷◌, length, replicate, Option, Some, None, slice_get, slice_set}
-use Rattle.pb_code.specs.Machine.{Program}
-use Rattle.pb_code.specs.Counts.{LoopEffect, Enters, Leaves, Straight, loop_effect}
-use Rattle.pb_code.specs.Transfer.{AbstractState, Edge, transfer}
-use Rattle.pb_code.specs.Accepted.{Table, state_at, entry}
-use Rattle.pb_code.specs.declared.instruction.Op.{Op}
-use Rattle.pb_abstract_state.specs.Join.{join_states}
+use Rattle.pb_bytecode_program.specs.Machine.{Program}
+use Rattle.pb_bytecode_program.specs.Counts.{LoopEffect, Enters, Leaves, Straight, loop_effect}
+use Rattle.pb_bytecode_program.specs.Transfer.{AbstractState, Edge, transfer}
+use Rattle.pb_bytecode_program.specs.Accepted.{Table, state_at, entry}
+use Rattle.pb_bytecode_program.specs.declared.instruction.Op.{Op}
+use Rattle.pb_verifier_states.specs.Join.{join_states}
 
 abbrev pub put : Table → ℕ → Option AbstractState → Option Table
 put t to None = None

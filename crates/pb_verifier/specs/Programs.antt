@@ -2,7 +2,7 @@
 -- have parameters of these carriers.
 use Rattle.std.specs.Prelude.{◌≡◌, ℕ, List, Some, slice_get}
 use Rattle.pb_sorts.specs.declared.carrier.Carrier.{Carrier}
-use Rattle.pb_code.specs.Machine.{Program}
+use Rattle.pb_bytecode_program.specs.Machine.{Program}
 use Rattle.pb_bytecode.specs.declared.equation.Equation.{Equation}
 use Rattle.pb_verifier.specs.Acceptance.{HasTable}
 

@@ -1,20 +1,20 @@
 //! The check of one equation's code: the rules by position, then the stated counts, then the pass.
 
 ghost use Rattle.std.specs.Prelude.{◌↔◌, IsTrue, OnOk, map, vec_items};
-ghost use Rattle.pb_code.specs.Machine.{Program};
-ghost use Rattle.pb_structure.specs.Structure.{IsStructured};
-ghost use Rattle.pb_structure.specs.Views.{IsProgramOf};
+ghost use Rattle.pb_bytecode_program.specs.Machine.{Program};
+ghost use Rattle.pb_verifier_structure.specs.Structure.{IsStructured};
+ghost use Rattle.pb_verifier_structure.specs.Views.{IsProgramOf};
 ghost use Rattle.pb_verifier.specs.Acceptance.{HasTable, StatesCounts};
 ghost use Rattle.pb_verifier.specs.EquationErrors.{OnRuleBroken};
 ghost use Rattle.pb_verifier.specs.Programs.{program_in};
-ghost use Rattle.pb_structure.specs.Structure.{IsWithinLimits};
+ghost use Rattle.pb_verifier_structure.specs.Structure.{IsWithinLimits};
 
 use crate::equation_error::EquationError;
 use crate::pass::pass;
-use pb_abstract_state::Rule;
 use pb_bytecode::Equation;
 use pb_sorts::Carrier;
-use pb_structure::{EquationCode, check_structure, static_counts};
+use pb_verifier_states::AcceptanceRule;
+use pb_verifier_structure::{EquationCode, check_structure, static_counts};
 use std::alloc::Global;
 
 /// At most how many steps an equation may state.
@@ -55,7 +55,7 @@ pub(crate) fn check_equation(
     check_structure(alloc, &code)?;
     if !are_enough(&code, equation.steps, equation.tokens) {
         return Err(EquationError::Refused {
-            rule: Rule::StatedCounts,
+            rule: AcceptanceRule::StatedCounts,
             place: 0,
         });
     }

@@ -1,14 +1,14 @@
 //! Why the code of an equation is refused.
 
-use pb_abstract_state::Rule;
-use pb_structure::StructureError;
+use pb_verifier_states::AcceptanceRule;
+use pb_verifier_structure::StructureError;
 use std::alloc::AllocError;
 
 /// Why the code of an equation is refused: a rule fails at a place, or memory is refused.
 #[derive(Clone, Copy, Debug, PartialEq, Eq)]
 pub(crate) enum EquationError {
     /// The rule, and the place of the instruction.
-    Refused { rule: Rule, place: usize },
+    Refused { rule: AcceptanceRule, place: usize },
     /// Out of memory.
     Memory,
 }

@@ -1,11 +1,11 @@
 //! The law of the pass. The function does nothing: the law stands on its contract.
 
 ghost use Rattle.std.specs.Prelude.{◌≡◌, ◌≤◌, true, false};
-ghost use Rattle.pb_code.specs.Accepted.{Accepted, Table};
-ghost use Rattle.pb_code.specs.Counts.{static_steps, static_tokens};
-ghost use Rattle.pb_code.specs.Machine.{Program};
+ghost use Rattle.pb_bytecode_program.specs.Accepted.{Accepted, Table};
+ghost use Rattle.pb_bytecode_program.specs.Counts.{static_steps, static_tokens};
+ghost use Rattle.pb_bytecode_program.specs.Machine.{Program};
 ghost use Rattle.pb_verifier.specs.Pass.{code_passes};
-ghost use Rattle.pb_structure.specs.Structure.{IsStructured, IsWithinLimits};
+ghost use Rattle.pb_verifier_structure.specs.Structure.{IsStructured, IsWithinLimits};
 
 /// Code that keeps the rules by position has an accepted table where the pass ends, and none where it refuses.
 pub fn pass_decides()

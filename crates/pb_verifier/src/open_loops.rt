@@ -1,11 +1,11 @@
 //! What was known at the starts of the loops around a place.
 
 ghost use Rattle.std.specs.Prelude.{◌≡◌, [], ◌∷◌, OnOk, Option};
-ghost use Rattle.pb_code.specs.Counts.{Leaves};
-ghost use Rattle.pb_code.specs.Transfer.{AbstractState as Known};
+ghost use Rattle.pb_bytecode_program.specs.Counts.{Leaves};
+ghost use Rattle.pb_bytecode_program.specs.Transfer.{AbstractState as Known};
 ghost use Rattle.pb_verifier.specs.Pass.{homes_after, innermost};
 
-use pb_abstract_state::AbstractState;
+use pb_verifier_states::AbstractState;
 use std::alloc::{AllocError, Global};
 use std::marker::Model;
 

@@ -1,25 +1,25 @@
 //! The pass over the code of an equation: each place's state flows on to later places, from the first place to the last.
 
 ghost use Rattle.std.specs.Prelude.{◌≡◌, ◌<◌, [], ◌∷◌, IfOk, List, None, OnOk, Some, ℕ, map, replicate, slice_set, true, false, vec_items, vec_len};
-ghost use Rattle.pb_abstract_state.specs.Refusals.{OnRefused};
-ghost use Rattle.pb_code.specs.Accepted.{state_at};
-ghost use Rattle.pb_code.specs.Counts.{Leaves, loop_effect};
-ghost use Rattle.pb_code.specs.Monotone.{HasOrderedRange};
-ghost use Rattle.pb_code.specs.Machine.{Program, carrier_of};
-ghost use Rattle.pb_code.specs.declared.instruction.Op.TheVariants as op;
+ghost use Rattle.pb_verifier_states.specs.Refusals.{OnRefused};
+ghost use Rattle.pb_bytecode_program.specs.Accepted.{state_at};
+ghost use Rattle.pb_bytecode_program.specs.Counts.{Leaves, loop_effect};
+ghost use Rattle.pb_bytecode_program.specs.Monotone.{HasOrderedRange};
+ghost use Rattle.pb_bytecode_program.specs.Machine.{Program, carrier_of};
+ghost use Rattle.pb_bytecode_program.specs.declared.instruction.Op.TheVariants as op;
 ghost use Rattle.pb_verifier.specs.EquationErrors.{OnRuleBroken};
 ghost use Rattle.pb_verifier.specs.Pass.{code_passes, homes_after, opening, visited};
 ghost use Rattle.pb_verifier.specs.Programs.{program_in};
-ghost use Rattle.pb_structure.specs.Structure.{IsWithinLimits};
+ghost use Rattle.pb_verifier_structure.specs.Structure.{IsWithinLimits};
 ghost use Rattle.pb_sorts.specs.declared.carrier.Carrier.{Carrier as carrier_type};
 
 use crate::equation_error::EquationError;
 use crate::open_loops::OpenLoops;
 use crate::visit::{visit, visit_loop, visit_next};
-use pb_abstract_state::{AbstractState, FlowError};
 use pb_bytecode::Equation;
-use pb_code::Op;
+use pb_bytecode_program::Op;
 use pb_sorts::Carrier;
+use pb_verifier_states::{AbstractState, FlowError};
 use std::alloc::{AllocError, Global};
 
 /// What is known in the midst of a pass: at the places to come, and at the starts of the loops around.

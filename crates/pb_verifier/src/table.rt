@@ -1,22 +1,22 @@
 //! What is known of the places to come.
 
 ghost use Rattle.std.specs.Prelude.{◌≡◌, ◌<◌, OnErr, OnOk, Some, None};
-ghost use Rattle.pb_abstract_state.specs.Edges.{edges_of};
+ghost use Rattle.pb_verifier_states.specs.Edges.{edges_of};
 ghost use Rattle.pb_verifier.specs.Pass.{merge_edges as merged_edges, merge_state as merged_state};
 
-use pb_abstract_state::{AbstractState, Edges, Rule};
+use pb_verifier_states::{AbstractState, AcceptanceRule, Edges};
 
 /// Joins a state into what is known at a place.
 pub(crate) fn merge(
     table: &mut Vec<Option<AbstractState>>,
     to: usize,
     state: AbstractState,
-) -> Result<(), Rule>
+) -> Result<(), AcceptanceRule>
     ensures ok { OnOk result (merged_state table.old.items to state ≡ Some table.new.items) }
     ensures err { OnErr result (merged_state table.old.items to state ≡ None) }
 {
     if to >= table.len() {
-        return Err(Rule::PastTheEnd);
+        return Err(AcceptanceRule::PastTheEnd);
     }
     match table[to].take() {
         None => {
@@ -24,7 +24,7 @@ pub(crate) fn merge(
             Ok(())
         }
         Some(known) => match known.join(&state) {
-            None => Err(Rule::WaysDiffer),
+            None => Err(AcceptanceRule::WaysDiffer),
             Some(joined) => {
                 table[to] = Some(joined);
                 Ok(())
@@ -38,7 +38,7 @@ pub(crate) fn merge_edges(
     table: &mut Vec<Option<AbstractState>>,
     place: usize,
     edges: Edges,
-) -> Result<(), Rule>
+) -> Result<(), AcceptanceRule>
     requires { place < 65536 }
     ensures ok { OnOk result (merged_edges table.old.items (edges_of place edges.next edges.jump) ≡ Some table.new.items) }
     ensures err { OnErr result (merged_edges table.old.items (edges_of place edges.next edges.jump) ≡ None) }

@@ -6,7 +6,7 @@ ghost use Rattle.pb_bytecode.specs.declared.equation.Equation.{Equation as equat
 ghost use Rattle.pb_verifier.specs.Acceptance.{HasTable, IsAccepted, IsVerified};
 ghost use Rattle.pb_verifier.specs.Programs.{program_in, HaveTables};
 ghost use Rattle.pb_verifier.specs.Refusals.{WhereRefused};
-ghost use Rattle.pb_structure.specs.Structure.{IsWithinLimits};
+ghost use Rattle.pb_verifier_structure.specs.Structure.{IsWithinLimits};
 
 use crate::equation::check_equation;
 use crate::equation_error::EquationError;

@@ -63,6 +63,6 @@ impl Verified {
         ensures safe { (k : ℕ) (e : EquationContents) → slice_get self.now.equations k ≡ Some e → RunsSafely (program_of self.now e) }
     {
         let _ = &self.module;
-        pb_code::accepted_is_safe();
+        pb_bytecode_program::accepted_is_safe();
     }
 }

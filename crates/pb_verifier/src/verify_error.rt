@@ -2,7 +2,7 @@
 
 ghost use Rattle.std.specs.Prelude.{◌≡◌};
 
-use pb_abstract_state::Rule;
+use pb_verifier_states::AcceptanceRule;
 use std::alloc::AllocError;
 use std::fmt;
 
@@ -12,7 +12,7 @@ pub enum VerifyError {
     /// `V01` to `V16`: the rule that is broken, by the instruction at a place of an equation's code. Equations and
     /// places count from 0. The stated counts (`V16`) are those of the equation, and are named at place 0.
     Refusal {
-        rule: Rule,
+        rule: AcceptanceRule,
         equation: usize,
         place: usize,
     },

@@ -1,19 +1,19 @@
 //! One place of the pass.
 
 ghost use Rattle.std.specs.Prelude.{◌≡◌, ◌<◌, None, OnOk, Option, Some, map, vec_items};
-ghost use Rattle.pb_code.specs.Monotone.{HasOrderedRange};
-ghost use Rattle.pb_abstract_state.specs.Refusals.{OnRefused};
-ghost use Rattle.pb_code.specs.Counts.{Straight, loop_effect};
-ghost use Rattle.pb_code.specs.Machine.{Program, carrier_of};
-ghost use Rattle.pb_code.specs.Transfer.{AbstractState as Known, transfer};
-ghost use Rattle.pb_code.specs.declared.instruction.Op.TheVariants as op;
+ghost use Rattle.pb_bytecode_program.specs.Monotone.{HasOrderedRange};
+ghost use Rattle.pb_verifier_states.specs.Refusals.{OnRefused};
+ghost use Rattle.pb_bytecode_program.specs.Counts.{Straight, loop_effect};
+ghost use Rattle.pb_bytecode_program.specs.Machine.{Program, carrier_of};
+ghost use Rattle.pb_bytecode_program.specs.Transfer.{AbstractState as Known, transfer};
+ghost use Rattle.pb_bytecode_program.specs.declared.instruction.Op.TheVariants as op;
 ghost use Rattle.pb_verifier.specs.Pass.{merge_edges as merged_edges, then_table};
 
 use crate::table::{merge, merge_edges};
-use pb_abstract_state::flow::flow;
-use pb_abstract_state::{AbstractState, FlowError, Rule};
-use pb_code::Op;
+use pb_bytecode_program::Op;
 use pb_sorts::Carrier;
+use pb_verifier_states::flow::flow;
+use pb_verifier_states::{AbstractState, AcceptanceRule, FlowError};
 use std::alloc::Global;
 
 /// Joins what flows from an instruction, other than the start and the end of a loop, into the table. `sorts` has the
@@ -52,7 +52,7 @@ pub(crate) fn visit_loop(
     ensures refused { OnRefused result ((p : Program) (home : Option Known) → carrier_of p slot ≡ carrier → then_table (transfer p home place (op.Loop slot) state.now) (merged_edges table.old.items) ≡ None) }
 {
     let Some(carrier) = carrier else {
-        return Err(FlowError::Refused(Rule::UnknownName));
+        return Err(FlowError::Refused(AcceptanceRule::UnknownName));
     };
     let body = state.enter_loop(alloc, slot, carrier)?;
     merge(table, place + 1, body)?;
@@ -71,7 +71,7 @@ pub(crate) fn visit_next(
     ensures refused { OnRefused result ((p : Program) → then_table (transfer p home place op.Next state.now) (merged_edges table.old.items) ≡ None) }
 {
     let Some(known) = home else {
-        return Err(FlowError::Refused(Rule::LoopStructure));
+        return Err(FlowError::Refused(AcceptanceRule::LoopStructure));
     };
     let after = state.leave_loop(known)?;
     merge(table, place + 1, after)?;

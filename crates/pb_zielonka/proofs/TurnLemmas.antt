@@ -2,9 +2,9 @@
 use Rattle.std.proofs.Common.{◌≡◌, ◌≢◌, ℕ, ◌+◌, ◌-◌, ◌^◌, ◌<◌, ◌≤◌, ◌%◌, inl, inr, arith, refl, sym, ◌∙◌, subst, Bool, true, false, List, length, get_or}
 use Rattle.std.proofs.lemmas.Bool.{cases_eq}
 use Rattle.pb_game.specs.declared.Game.{Game}
-use Rattle.pb_certificate.specs.declared.Solution.{Solution}
+use Rattle.pb_game_certificate.specs.declared.Solution.{Solution}
 use Rattle.pb_game.specs.Games.{vertex_count, owner_of, priority_of, priority_count}
-use Rattle.pb_certificate.specs.Solutions.{winner_of, count_of}
+use Rattle.pb_game_certificate.specs.Solutions.{winner_of, count_of}
 use Rattle.pb_zielonka.specs.declared.attractor.Attractor.{Attractor}
 use Rattle.pb_zielonka.specs.Regions.{IsIn, IsSubgame, size_of}
 use Rattle.pb_zielonka.specs.Changes.{IsSameAt, IsRaisedAt, IsClearedAt}

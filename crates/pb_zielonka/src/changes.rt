@@ -2,15 +2,15 @@
 
 ghost use Rattle.std.specs.Prelude.{◌≡◌, ◌≢◌, ℕ, ◌+◌, ◌*◌, ◌^◌, ◌<◌, ◌≤◌, length, slice_index};
 ghost use Rattle.pb_game.specs.Games.{vertex_count, priority_count};
-ghost use Rattle.pb_certificate.specs.Solutions.{HasLengths, winner_of, count_of};
+ghost use Rattle.pb_game_certificate.specs.Solutions.{HasLengths, winner_of, count_of};
 ghost use Rattle.pb_zielonka.specs.Regions.{IsIn, HasEdgeIn, IsSubgame};
 ghost use Rattle.pb_zielonka.specs.Changes.{IsSameAt, SetsWinner, SetsChoice, SetsCount, IsLostAt, IsNamedAt, IsClaimedAt, IsRaisedAt, IsClearedAt};
 
 use crate::attractor::Attractor;
-use pb_certificate::Solution;
 use pb_game::Game;
+use pb_game_certificate::Solution;
 
-#[tactic(auto, unfolding(pb_certificate::specs::Solutions::winner_of, pb_certificate::specs::Solutions::choice_of, pb_certificate::specs::Solutions::count_of))]
+#[tactic(auto, unfolding(pb_game_certificate::specs::Solutions::winner_of, pb_game_certificate::specs::Solutions::choice_of, pb_game_certificate::specs::Solutions::count_of))]
 fn set_winner(game: &Game, solution: &mut Solution, v: u32, player: u8)
     requires lengths { HasLengths game.now solution.old }
     requires vertex { v < vertex_count game.now }
@@ -21,7 +21,7 @@ fn set_winner(game: &Game, solution: &mut Solution, v: u32, player: u8)
     solution.winner[v as usize] = player;
 }
 
-#[tactic(auto, unfolding(pb_certificate::specs::Solutions::winner_of, pb_certificate::specs::Solutions::choice_of, pb_certificate::specs::Solutions::count_of))]
+#[tactic(auto, unfolding(pb_game_certificate::specs::Solutions::winner_of, pb_game_certificate::specs::Solutions::choice_of, pb_game_certificate::specs::Solutions::count_of))]
 fn set_choice(game: &Game, solution: &mut Solution, v: u32, choice: u32)
     requires lengths { HasLengths game.now solution.old }
     requires vertex { v < vertex_count game.now }

@@ -2,7 +2,7 @@
 
 ghost use Rattle.std.specs.Prelude.{◌≡◌, ℕ, ◌+◌, ◌<◌, ◌≤◌, length, IfOk};
 ghost use Rattle.pb_game.specs.Games.{vertex_count, priority_count, priority_of};
-ghost use Rattle.pb_certificate.specs.Solutions.{HasLengths};
+ghost use Rattle.pb_game_certificate.specs.Solutions.{HasLengths};
 ghost use Rattle.pb_zielonka.specs.Regions.{IsIn, IsSubgame};
 ghost use Rattle.pb_zielonka.specs.Turns.{IsClaimedFront, IsConceded};
 
@@ -10,8 +10,8 @@ use crate::attractor::attract;
 use crate::changes::{claim, lose};
 use crate::packed::PackedRegion;
 use crate::regions::{of_priority, without};
-use pb_certificate::Solution;
 use pb_game::Game;
+use pb_game_certificate::Solution;
 use std::alloc::{AllocError, Global};
 use std::thread::Threads;
 

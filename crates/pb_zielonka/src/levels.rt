@@ -2,7 +2,7 @@
 
 ghost use Rattle.std.specs.Prelude.{◌≡◌, ◌≢◌, ℕ, ◌+◌, ◌<◌, ◌≤◌, ◌%◌, OnOk};
 ghost use Rattle.pb_game.specs.Games.{vertex_count, priority_of, priority_count};
-ghost use Rattle.pb_certificate.specs.Solutions.{HasLengths, winner_of, count_of};
+ghost use Rattle.pb_game_certificate.specs.Solutions.{HasLengths, winner_of, count_of};
 ghost use Rattle.pb_zielonka.specs.Regions.{IsIn, IsSubgame};
 ghost use Rattle.pb_zielonka.specs.Levels.{IsCertifiedIn};
 ghost use Rattle.pb_zielonka.specs.Changes.{IsSameAt};
@@ -11,8 +11,8 @@ use crate::changes::{clear, win_rest};
 use crate::fronts::{claim_front, concede};
 use crate::packed::PackedRegion;
 use crate::regions::{greatest_in, is_empty, won_by};
-use pb_certificate::Solution;
 use pb_game::Game;
+use pb_game_certificate::Solution;
 use std::alloc::{AllocError, Global};
 use std::thread::Threads;
 

@@ -8,7 +8,7 @@
 #![tactic(auto)]
 
 ghost use Rattle.std.specs.Prelude.{◌≡◌, ◌<◌, ◌≤◌, IfOk};
-ghost use Rattle.pb_certificate.specs.Certificates.{IsCertificate};
+ghost use Rattle.pb_game_certificate.specs.Certificates.{IsCertificate};
 
 mod attractor;
 mod changes;
@@ -20,8 +20,8 @@ mod rounds;
 
 use levels::solve_below;
 use packed::PackedRegion;
-use pb_certificate::Solution;
 use pb_game::Game;
+use pb_game_certificate::Solution;
 use std::alloc::{AllocError, Global};
 use std::thread::Threads;
 

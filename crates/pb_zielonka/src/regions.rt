@@ -6,8 +6,8 @@ ghost use Rattle.pb_zielonka.specs.Regions.{IsIn, IsGreatestIn, IsWonPart};
 ghost use Rattle.pb_zielonka.specs.Attractors.{IsWithout};
 
 use crate::attractor::Attractor;
-use pb_certificate::Solution;
 use pb_game::Game;
+use pb_game_certificate::Solution;
 use std::alloc::{AllocError, Global};
 
 /// The least vertex of the region; none where it is empty.

@@ -1,9 +1,9 @@
 -- The line of a run with status 1 is that of a refusal.
 use Rattle.std.proofs.Common.{◌≡◌, ℕ, List, Option, refl, sym, subst, inl, inr}
-use Rattle.pb_report.specs.declared.fault.Fault as fault
-use Rattle.pb_report.specs.declared.fault.Fault.TheVariants.{U01, U02, E01, E02, M01}
+use Rattle.pb_report.specs.declared.fault.ProgramFault as fault
+use Rattle.pb_report.specs.declared.fault.ProgramFault.TheVariants.{U01, U02, E01, E02, M01}
 use Rattle.pbsolve.specs.declared.run_error.RunError.{RunError}
-use Rattle.pbsolve.specs.declared.run_error.RunError.TheVariants.{Fault, Text, Typing}
+use Rattle.pbsolve.specs.declared.run_error.RunError.TheVariants.{ProgramFault, Text, Typing}
 use Rattle.pbsolve.specs.declared.status.Status.{Status}
 use Rattle.pbsolve.specs.declared.status.Status.TheVariants.{Answered, Refused, Usage, OutOfMemory, Failed}
 use Rattle.pbsolve.specs.Status.{code_of}
@@ -16,8 +16,8 @@ refused_code Usage e = absurd (cc e)
 refused_code OutOfMemory e = absurd (cc e)
 refused_code Failed e = absurd (cc e)
 
-fault_line : (known : Option (List ℕ)) (f : fault.Fault) → IsRefusedBy known (Fault f) → status_of (Fault f) ≡ Refused
-    → IsRefusalLine known (error_line_of (Fault f))
+fault_line : (known : Option (List ℕ)) (f : fault.ProgramFault) → IsRefusedBy known (ProgramFault f) → status_of (ProgramFault f) ≡ Refused
+    → IsRefusalLine known (error_line_of (ProgramFault f))
 fault_line known U01 refused s = absurd (cc s)
 fault_line known U02 refused s = inl (refused, refl)
 fault_line known E01 refused s = absurd (cc s)
@@ -32,12 +32,12 @@ told_line known error told e line s =
 
 pub refusal_line : (known : Option (List ℕ)) (error told : RunError) → IsRefusedBy known error → IsToldAs error told
     → status_of told ≡ Refused → IsRefusalLine known (error_line_of told)
-refusal_line known (Fault f) told refused t s = told_line known (Fault f) told t (fault_line known f refused) s
+refusal_line known (ProgramFault f) told refused t s = told_line known (ProgramFault f) told t (fault_line known f refused) s
 refusal_line known (Text error) told refused t s = elim t [
   | inl e ↦ told_line known (Text error) told e (λ _. inr (inl (error, refused, refl))) s
-  | inr e ↦ told_line known (Fault M01) told e (fault_line known M01 tt) s
+  | inr e ↦ told_line known (ProgramFault M01) told e (fault_line known M01 tt) s
 ]
 refusal_line known (Typing error) told refused t s = elim t [
   | inl e ↦ told_line known (Typing error) told e (λ _. inr (inr (error, refused, refl))) s
-  | inr e ↦ told_line known (Fault M01) told e (fault_line known M01 tt) s
+  | inr e ↦ told_line known (ProgramFault M01) told e (fault_line known M01 tt) s
 ]

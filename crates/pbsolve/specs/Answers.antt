@@ -1,16 +1,16 @@
 -- What the answer to a text is, and what a refusal says of the text.
 use Rattle.std.specs.Prelude.{◌≡◌, Contains, ℕ, List, Bool, Option}
 use Rattle.pb_sorts.specs.Sink.{AppendsPrefix}
-use Rattle.pb_ast.specs.Form.{SpecForm}
+use Rattle.pb_text_tree.specs.Form.{SpecForm}
 use Rattle.pb_text.specs.Parsing.{IsReading, IsReadingWithin, Stands, NoReading}
 use Rattle.pb_text.specs.declared.error.TextError.{TextError}
 use Rattle.pb_text.specs.declared.error.TextError.TheVariants as text_error
-use Rattle.pb_shapes.specs.Faults.{faults}
-use Rattle.pb_shapes.specs.WellTyped.{IsWellTyped}
-use Rattle.pb_declarations.specs.declared.fault.TypeError.{TypeError}
-use Rattle.pb_declarations.specs.declared.fault.TypeError.TheVariants as type_error
-use Rattle.pb_syntax.specs.Erase.{erase}
-use Rattle.pb_syntax.specs.Meaning.{answer}
+use Rattle.pb_typing_rules.specs.Faults.{faults}
+use Rattle.pb_typing_rules.specs.WellTyped.{IsWellTyped}
+use Rattle.pb_typing_declarations.specs.declared.fault.TypeError.{TypeError}
+use Rattle.pb_typing_declarations.specs.declared.fault.TypeError.TheVariants as type_error
+use Rattle.pb_text_meaning.specs.Erase.{erase}
+use Rattle.pb_text_meaning.specs.Meaning.{answer}
 use Rattle.pb_report.specs.Report.{report_text}
 use Rattle.pbsolve.specs.declared.solve_error.SolveError.{SolveError}
 use Rattle.pbsolve.specs.declared.solve_error.SolveError.TheVariants as solve_error

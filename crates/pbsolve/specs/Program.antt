@@ -4,20 +4,20 @@ use Rattle.std.specs.Io.KnownBytes.{Appends}
 use Rattle.pb_sorts.specs.Sink.{AppendsPrefix}
 use Rattle.pb_sorts.specs.Source.{IsWhole, IsLongerThan}
 use Rattle.pb_text.specs.declared.error.TextError.{TextError}
-use Rattle.pb_declarations.specs.declared.fault.TypeError.{TypeError}
+use Rattle.pb_typing_declarations.specs.declared.fault.TypeError.{TypeError}
 use Rattle.pb_report.specs.Report.{report_text}
 use Rattle.pb_report.specs.Lines as lines
-use Rattle.pb_report.specs.declared.fault.Fault as fault
-use Rattle.pb_report.specs.declared.fault.Fault.TheVariants.{U01, U02, E01, E02, M01}
+use Rattle.pb_report.specs.declared.fault.ProgramFault as fault
+use Rattle.pb_report.specs.declared.fault.ProgramFault.TheVariants.{U01, U02, E01, E02, M01}
 use Rattle.pbsolve.specs.declared.input.TheConstants.{INPUT_LIMIT}
 use Rattle.pbsolve.specs.declared.run_error.RunError.{RunError}
-use Rattle.pbsolve.specs.declared.run_error.RunError.TheVariants.{Fault, Text, Typing}
+use Rattle.pbsolve.specs.declared.run_error.RunError.TheVariants.{ProgramFault, Text, Typing}
 use Rattle.pbsolve.specs.declared.status.Status.{Status}
 use Rattle.pbsolve.specs.declared.status.Status.TheVariants.{Refused, Usage, OutOfMemory, Failed}
 use Rattle.pbsolve.specs.Answers.{IsAnswer, IsRefusedText, IsRefusedType}
 
 -- how a run ends that has a fault, or an error
-abbrev pub fault_status : fault.Fault → Status
+abbrev pub fault_status : fault.ProgramFault → Status
 fault_status U01 = Usage
 fault_status U02 = Refused
 fault_status E01 = Failed
@@ -25,20 +25,20 @@ fault_status E02 = Failed
 fault_status M01 = OutOfMemory
 
 abbrev pub status_of : RunError → Status
-status_of (Fault f) = fault_status f
+status_of (ProgramFault f) = fault_status f
 status_of (Text error) = Refused
 status_of (Typing error) = Refused
 
 -- the line on standard error
 abbrev pub error_line_of : RunError → List ℕ
-error_line_of (Fault f) = lines.line_of f
+error_line_of (ProgramFault f) = lines.line_of f
 error_line_of (Text error) = lines.text_line error
 error_line_of (Typing error) = lines.type_line error
 
 -- an error at a place is told by its own line, or by M01 where there is no memory for it
 abbrev pub IsToldAs : RunError → RunError → Type 0
-IsToldAs (Fault f) told = told ≡ Fault f
-IsToldAs error told = (told ≡ error) ⊎ (told ≡ Fault M01)
+IsToldAs (ProgramFault f) told = told ≡ ProgramFault f
+IsToldAs error told = (told ≡ error) ⊎ (told ≡ ProgramFault M01)
 
 -- the line went out, or a part that begins it and then writing failed
 abbrev pub Tells : Option (List ℕ) → Option (List ℕ) → Bool → List ℕ → Type 0
@@ -55,11 +55,11 @@ Reports known old new =
 
 -- what an error of a run says of the input
 abbrev pub IsRefusedBy : Option (List ℕ) → RunError → Type 0
-IsRefusedBy known (Fault U02) = IsLongerThan INPUT_LIMIT known
-IsRefusedBy known (Fault U01) = Unit {0}
-IsRefusedBy known (Fault E01) = Unit {0}
-IsRefusedBy known (Fault E02) = Unit {0}
-IsRefusedBy known (Fault M01) = Unit {0}
+IsRefusedBy known (ProgramFault U02) = IsLongerThan INPUT_LIMIT known
+IsRefusedBy known (ProgramFault U01) = Unit {0}
+IsRefusedBy known (ProgramFault E01) = Unit {0}
+IsRefusedBy known (ProgramFault E02) = Unit {0}
+IsRefusedBy known (ProgramFault M01) = Unit {0}
 IsRefusedBy known (Text error) = ForInput known (λ bytes. IsRefusedText bytes error)
 IsRefusedBy known (Typing error) = ForInput known (λ bytes. IsRefusedType bytes error)
 

@@ -1,6 +1,6 @@
 //! The whole program: words, input, answer, exit status.
 ghost use Rattle.std.specs.Prelude.{◌≡◌, ◌≢◌, ◌≤◌, ◌⊎◌, true, codes, map, OnOk, IfErr, Err};
-ghost use Rattle.pb_report.specs.declared.fault.Fault.TheVariants as fault;
+ghost use Rattle.pb_report.specs.declared.fault.ProgramFault.TheVariants as fault;
 ghost use Rattle.pbsolve.specs.Answers.{ReportsPart};
 ghost use Rattle.pb_report.specs.Lines.{line_of};
 ghost use Rattle.pbsolve.specs.Words.{AskToSolve};
@@ -11,7 +11,7 @@ use crate::run_error::RunError;
 use crate::solve::solve_text;
 use crate::status::Status;
 use crate::words::{Request, request_of};
-use pb_report::{ErrorLine, Fault};
+use pb_report::{ErrorLine, ProgramFault};
 use pb_sorts::{Sink, Source, put};
 use std::alloc::Global;
 use std::convert::AsStr;
@@ -26,14 +26,14 @@ fn attempt<S: AsStr, R: Source, O: Sink>(
     ensures answered { OnOk result (Reports (R.left reader.old) (O.taken out.old) (O.taken out.new)) }
     ensures kept { OnOk result (O.has_failed out.new ≡ O.has_failed out.old) }
     ensures read { OnOk result (R.has_failed reader.new ≡ R.has_failed reader.old) }
-    ensures asked { AskToSolve (map S.text words.now) → result ≢ Err (RunError.Fault fault.U01) }
-    ensures usage { result ≡ Err (RunError.Fault fault.U01) → reader.new ≡ reader.old }
+    ensures asked { AskToSolve (map S.text words.now) → result ≢ Err (RunError.ProgramFault fault.U01) }
+    ensures usage { result ≡ Err (RunError.ProgramFault fault.U01) → reader.new ≡ reader.old }
     ensures refused { IfErr result (λ e. IsRefusedBy (R.left reader.old) e) }
-    ensures read_failed { result ≡ Err (RunError.Fault fault.E01) → R.has_failed reader.new ≡ true }
-    ensures read_refused { IfErr result (λ e. e ≢ RunError.Fault fault.E01 → R.has_failed reader.new ≡ R.has_failed reader.old) }
-    ensures write { result ≡ Err (RunError.Fault fault.E02) → ForInput (R.left reader.old) (λ bytes. ReportsPart bytes (O.taken out.old) (O.taken out.new)) }
-    ensures write_failed { result ≡ Err (RunError.Fault fault.E02) → O.has_failed out.new ≡ true }
-    ensures silent { IfErr result (λ e. e ≢ RunError.Fault fault.E02 → out.new ≡ out.old) }
+    ensures read_failed { result ≡ Err (RunError.ProgramFault fault.E01) → R.has_failed reader.new ≡ true }
+    ensures read_refused { IfErr result (λ e. e ≢ RunError.ProgramFault fault.E01 → R.has_failed reader.new ≡ R.has_failed reader.old) }
+    ensures write { result ≡ Err (RunError.ProgramFault fault.E02) → ForInput (R.left reader.old) (λ bytes. ReportsPart bytes (O.taken out.old) (O.taken out.new)) }
+    ensures write_failed { result ≡ Err (RunError.ProgramFault fault.E02) → O.has_failed out.new ≡ true }
+    ensures silent { IfErr result (λ e. e ≢ RunError.ProgramFault fault.E02 → out.new ≡ out.old) }
 {
     match request_of(alloc, words)? {
         Request::Solve => {
@@ -57,16 +57,16 @@ fn say<E: Sink>(line: &str, err: &mut E)
 /// Tells of a fault that stands at no place, which takes no memory, and answers how the run ended.
 ///
 /// It is what the program does where it can't even have its words: `U01` where they are no text.
-pub fn tell_fault<E: Sink>(fault: Fault, err: &mut E) -> Status
+pub fn tell_fault<E: Sink>(fault: ProgramFault, err: &mut E) -> Status
     ensures status { result ≡ fault_status fault }
     ensures line { Tells (E.taken err.old) (E.taken err.new) (E.has_failed err.new) (line_of fault) }
 {
     say(fault.line(), err);
     match fault {
-        Fault::U02 => Status::Refused,
-        Fault::U01 => Status::Usage,
-        Fault::M01 => Status::OutOfMemory,
-        Fault::E01 | Fault::E02 => Status::Failed,
+        ProgramFault::U02 => Status::Refused,
+        ProgramFault::U01 => Status::Usage,
+        ProgramFault::M01 => Status::OutOfMemory,
+        ProgramFault::E01 | ProgramFault::E02 => Status::Failed,
     }
 }
 
@@ -80,7 +80,7 @@ fn tell_refusal<L: ErrorLine, E: Sink>(alloc: Global, error: &L, err: &mut E) ->
             say(line.as_str(), err);
             Status::Refused
         }
-        Err(_) => tell_fault(Fault::M01, err),
+        Err(_) => tell_fault(ProgramFault::M01, err),
     }
 }
 
@@ -89,7 +89,7 @@ fn tell<E: Sink>(alloc: Global, error: &RunError, err: &mut E) -> Status
         × (result ≡ status_of told) × Tells (E.taken err.old) (E.taken err.new) (E.has_failed err.new) (error_line_of told) }
 {
     match error {
-        RunError::Fault(fault) => tell_fault(*fault, err),
+        RunError::ProgramFault(fault) => tell_fault(*fault, err),
         RunError::Text(error) => tell_refusal(alloc, error, err),
         RunError::Typing(error) => tell_refusal(alloc, error, err),
     }

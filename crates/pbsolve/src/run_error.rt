@@ -4,15 +4,15 @@ ghost use Rattle.std.specs.Prelude.{◌≡◌};
 use crate::input::InputError;
 use crate::solve_error::SolveError;
 use crate::words::WordsError;
-use pb_declarations::TypeError;
-use pb_report::Fault;
+use pb_report::ProgramFault;
 use pb_text::TextError;
+use pb_typing_declarations::TypeError;
 
 /// Why a run has no answer.
 #[derive(Debug, Drop)]
 pub(crate) enum RunError {
     /// A fault that stands at no place of the text.
-    Fault(Fault),
+    ProgramFault(ProgramFault),
     /// The text is not in the grammar, or passes a limit of it.
     Text(TextError),
     /// The text breaks a rule of typing.
@@ -26,8 +26,8 @@ impl From<WordsError> for RunError {
 
     fn from(error: WordsError) -> RunError {
         match error {
-            WordsError::Usage => RunError::Fault(Fault::U01),
-            WordsError::Memory => RunError::Fault(Fault::M01),
+            WordsError::Usage => RunError::ProgramFault(ProgramFault::U01),
+            WordsError::Memory => RunError::ProgramFault(ProgramFault::M01),
         }
     }
 }
@@ -39,9 +39,9 @@ impl From<InputError> for RunError {
 
     fn from(error: InputError) -> RunError {
         match error {
-            InputError::Failed => RunError::Fault(Fault::E01),
-            InputError::TooLong => RunError::Fault(Fault::U02),
-            InputError::Memory => RunError::Fault(Fault::M01),
+            InputError::Failed => RunError::ProgramFault(ProgramFault::E01),
+            InputError::TooLong => RunError::ProgramFault(ProgramFault::U02),
+            InputError::Memory => RunError::ProgramFault(ProgramFault::M01),
         }
     }
 }
@@ -55,8 +55,8 @@ impl From<SolveError> for RunError {
         match error {
             SolveError::Text(error) => RunError::Text(error),
             SolveError::Typing(error) => RunError::Typing(error),
-            SolveError::Memory(_) => RunError::Fault(Fault::M01),
-            SolveError::Write(_) => RunError::Fault(Fault::E02),
+            SolveError::Memory(_) => RunError::ProgramFault(ProgramFault::M01),
+            SolveError::Write(_) => RunError::ProgramFault(ProgramFault::E02),
         }
     }
 }

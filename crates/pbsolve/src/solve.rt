@@ -6,9 +6,9 @@ ghost use Rattle.pbsolve.specs.Answers.{IsAnswer, IsRefused, ReportsPart};
 
 use crate::input::INPUT_LIMIT;
 use crate::solve_error::SolveError;
-use pb_ast::Spec;
 use pb_report::{Answer, report};
 use pb_sorts::Sink;
+use pb_text_tree::Spec;
 use std::alloc::Global;
 
 /// Answers a text: reads it, checks it, solves its equations, and writes the report once the answer is known.

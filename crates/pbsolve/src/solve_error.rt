@@ -1,9 +1,9 @@
 //! The errors of the layers, joined: why a text has no answer.
 ghost use Rattle.std.specs.Prelude.{◌≡◌};
 
-use pb_declarations::TypeError;
 use pb_sorts::E02;
 use pb_text::TextError;
+use pb_typing_declarations::TypeError;
 use std::alloc::AllocError;
 use thiserror::Error;
 

@@ -1,7 +1,7 @@
 //! The program `pbsolve`: its library on the process's words and standard streams.
 #![tactic(auto)]
 
-use pb_report::Fault;
+use pb_report::ProgramFault;
 use pb_sorts::{In, Out};
 use std::io::ErrorKind;
 use std::process::ExitCode;
@@ -12,11 +12,11 @@ fn words(rt: &HostRuntime) -> io::Result<Vec<String>> {
 }
 
 // Why there are no words: no memory for them, or one that is no text.
-fn words_fault(error: &io::Error) -> Fault {
+fn words_fault(error: &io::Error) -> ProgramFault {
     if error.kind() == ErrorKind::OutOfMemory {
-        Fault::M01
+        ProgramFault::M01
     } else {
-        Fault::U01
+        ProgramFault::U01
     }
 }
 

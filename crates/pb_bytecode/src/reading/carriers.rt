@@ -4,7 +4,7 @@ ghost use Rattle.pb_sorts.specs.Carrier.{IsRange};
 ghost use Rattle.pb_bytecode.specs.Reading.{Gives, carrier_at, counted_at, enum_at, items_at, range_at};
 
 use super::numbers::{between_at, fault, i32_at, u8_at};
-use crate::fault::{ReadError, Rule};
+use crate::fault::{ModuleRule, ReadError};
 use pb_sorts::{Carrier, Enumeration, Range};
 use std::alloc::Global;
 
@@ -18,7 +18,7 @@ fn enum_at<'a>(sizes: &[u8], bytes: &'a [u8]) -> Result<(Carrier, &'a [u8]), Rea
         let count = sizes[sort as usize];
         Ok((Carrier::Enum(Enumeration { sort, count }), rest))
     } else {
-        Err(fault(Rule::Limit, bytes))
+        Err(fault(ModuleRule::Limit, bytes))
     }
 }
 
@@ -39,7 +39,7 @@ fn range_at(bytes: &[u8]) -> Result<(Carrier, &[u8]), ReadError>
     if lo <= hi {
         Ok((range_of(lo, hi), rest))
     } else {
-        Err(fault(Rule::Limit, second))
+        Err(fault(ModuleRule::Limit, second))
     }
 }
 

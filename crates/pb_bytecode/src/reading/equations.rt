@@ -9,7 +9,7 @@ use super::instructions::code_at;
 use super::names::name_at;
 use super::numbers::{between_at, fault, i64_at, u8_at, u32_at};
 use crate::equation::Equation;
-use crate::fault::{ReadError, Rule};
+use crate::fault::{ModuleRule, ReadError};
 use crate::initial::Initial;
 use crate::instances::has_few_instances;
 use crate::version::Version;
@@ -25,7 +25,7 @@ fn sign_at(bytes: &[u8]) -> Result<(Sign, &[u8]), ReadError>
     match code {
         0 => Ok((Sign::Mu, rest)),
         1 => Ok((Sign::Nu, rest)),
-        _ => Err(fault(Rule::Limit, bytes)),
+        _ => Err(fault(ModuleRule::Limit, bytes)),
     }
 }
 
@@ -93,7 +93,7 @@ pub(crate) fn equations_at<'a>(
     if has_few_instances(&equations) {
         Ok((equations, rest))
     } else {
-        Err(fault(Rule::Limit, rest))
+        Err(fault(ModuleRule::Limit, rest))
     }
 }
 
@@ -106,7 +106,7 @@ fn value_at<'a>(carrier: &Carrier, bytes: &'a [u8]) -> Result<(i64, &'a [u8]), R
     if carrier.contains(value) {
         Ok((value, rest))
     } else {
-        Err(fault(Rule::Initial, bytes))
+        Err(fault(ModuleRule::Initial, bytes))
     }
 }
 
@@ -138,7 +138,7 @@ pub(crate) fn initial_at<'a>(
 {
     let (equation, rest) = u8_at(bytes)?;
     if equation as usize >= equations.len() {
-        return Err(fault(Rule::Initial, bytes));
+        return Err(fault(ModuleRule::Initial, bytes));
     }
     let (values, rest) = values_at(alloc, &equations[equation as usize].params, rest)?;
     Ok((Initial { equation, values }, rest))

@@ -3,10 +3,10 @@ ghost use Rattle.std.specs.Prelude.{◌≡◌};
 ghost use Rattle.pb_bytecode.specs.Reading.{Gives, code_at, enumerator_at, items_at, op_at, operands_at, slot_test_at, test_at};
 
 use super::numbers::{between_at, bounds_at, fault, i64_at, u8_at, u16_at};
-use crate::fault::{ReadError, Rule};
+use crate::fault::{ModuleRule, ReadError};
 use crate::format::{Format, format_of};
 use crate::version::Version;
-use pb_code::Op;
+use pb_bytecode_program::Op;
 use std::alloc::Global;
 
 /// A sort and the place of one of its enumerators.
@@ -104,7 +104,7 @@ fn op_at<'a>(version: Version, sizes: &[u8], bytes: &'a [u8]) -> Result<(Op, &'a
     let (code, rest) = u8_at(bytes)?;
     match format_of(version, code) {
         Some(format) => operands_at(sizes, format, rest),
-        None => Err(fault(Rule::UnknownOp, bytes)),
+        None => Err(fault(ModuleRule::UnknownOp, bytes)),
     }
 }
 
@@ -140,7 +140,7 @@ pub(crate) fn code_at<'a>(
 {
     let (count, rest) = u16_at(bytes)?;
     if count == 0 {
-        return Err(fault(Rule::Limit, bytes));
+        return Err(fault(ModuleRule::Limit, bytes));
     }
     ops_at(alloc, version, sizes, count, rest)
 }

@@ -7,7 +7,7 @@ ghost use Rattle.pb_bytecode.specs.Reading.{Gives, counted_at, items_at, name_at
 ghost use Rattle.pb_bytecode.specs.Views.{sort_contents, text_of};
 
 use super::numbers::{between_at, fault, truncated, u8_at};
-use crate::fault::{ReadError, Rule};
+use crate::fault::{ModuleRule, ReadError};
 use crate::name::Name;
 use crate::sort::Sort;
 use std::alloc::{AllocError, Global};
@@ -55,7 +55,7 @@ pub(crate) fn name_at(alloc: Global, bytes: &[u8]) -> Result<(Name, &[u8]), Read
     }
     let (text, rest) = rest.split_at(len as usize);
     if !is_name(text) {
-        return Err(fault(Rule::Limit, bytes));
+        return Err(fault(ModuleRule::Limit, bytes));
     }
     match std::str::from_utf8(text) {
         Ok(text) => Ok((

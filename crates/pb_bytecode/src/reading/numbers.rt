@@ -4,13 +4,13 @@ ghost use Rattle.std.specs.Int.{w16, w32, w64};
 ghost use Rattle.pb_bytecode.specs.Reading.{Gives, bounds_at, between_at, byte_at, number_at, signed_at, truncated};
 ghost use Rattle.pb_bytecode.specs.declared.fault.ReadError.TheVariants as errors;
 
-use crate::fault::{Fault, ReadError, Rule};
+use crate::fault::{ModuleFault, ModuleRule, ReadError};
 
 /// A fault at the beginning of a field, `field` being the bytes from there on.
-pub(crate) fn fault(rule: Rule, field: &[u8]) -> ReadError
-    ensures { result ≡ errors.Fault (record { rule = rule; left = length field.now }) }
+pub(crate) fn fault(rule: ModuleRule, field: &[u8]) -> ReadError
+    ensures { result ≡ errors.ModuleFault (record { rule = rule; left = length field.now }) }
 {
-    ReadError::Fault(Fault {
+    ReadError::ModuleFault(ModuleFault {
         rule,
         left: field.len(),
     })
@@ -18,10 +18,10 @@ pub(crate) fn fault(rule: Rule, field: &[u8]) -> ReadError
 
 /// The input ends inside a field.
 pub(crate) fn truncated() -> ReadError
-    ensures { result ≡ errors.Fault truncated }
+    ensures { result ≡ errors.ModuleFault truncated }
 {
-    ReadError::Fault(Fault {
-        rule: Rule::Truncated,
+    ReadError::ModuleFault(ModuleFault {
+        rule: ModuleRule::Truncated,
         left: 0,
     })
 }
@@ -95,7 +95,7 @@ pub(crate) fn between_at(low: usize, end: usize, bytes: &[u8]) -> Result<(u8, &[
     if low <= byte as usize && (byte as usize) < end {
         Ok((byte, rest))
     } else {
-        Err(fault(Rule::Limit, bytes))
+        Err(fault(ModuleRule::Limit, bytes))
     }
 }
 
@@ -109,6 +109,6 @@ pub(crate) fn bounds_at(bytes: &[u8]) -> Result<((i32, i32), &[u8]), ReadError>
     if lo <= hi {
         Ok(((lo, hi), rest))
     } else {
-        Err(fault(Rule::Limit, second))
+        Err(fault(ModuleRule::Limit, second))
     }
 }

@@ -9,8 +9,8 @@ invariant_of-result c = record { within_limits = (all_takes c.args.bytes.now (co
 
 pub overflow_sub-result : goal.overflow_sub-result
 overflow_sub-result c =
-    let met : all_of c.args.bytes.now ≡ Err c.in-Err-Fault.fault = subst (λ e. Fails e (all_of c.args.bytes.now)) c.in-Err-Fault.field-0-is c.in-Err-Fault.ensures in
-    all_within c.args.bytes.now c.in-Err-Fault.fault (λ i. omega (arith, c.type_inv.bytes i)) met
+    let met : all_of c.args.bytes.now ≡ Err c.in-Err-ModuleFault.fault = subst (λ e. Fails e (all_of c.args.bytes.now)) c.in-Err-ModuleFault.field-0-is c.in-Err-ModuleFault.ensures in
+    all_within c.args.bytes.now c.in-Err-ModuleFault.fault (λ i. omega (arith, c.type_inv.bytes i)) met
 
 pub returns-in-Ok-clause-spelled : goal.returns-in-Ok-clause-spelled
 returns-in-Ok-clause-spelled c = (all_takes c.args.bytes.now (contents_of c.in-Ok.version c.in-Ok.sorts.items c.in-Ok.equations.items c.in-Ok.initial) (λ i. omega (arith, c.type_inv.bytes i)) c.in-Ok.ensures).0
@@ -18,13 +18,13 @@ returns-in-Ok-clause-spelled c = (all_takes c.args.bytes.now (contents_of c.in-O
 pub returns-in-Ok-clause-read : goal.returns-in-Ok-clause-read
 returns-in-Ok-clause-read c = λ m h e. read_one c.args.bytes.now (contents_of c.in-Ok.version c.in-Ok.sorts.items c.in-Ok.equations.items c.in-Ok.initial) m h e c.in-Ok.ensures
 
-pub returns-in-Err-Fault-clause-read : goal.returns-in-Err-Fault-clause-read
-returns-in-Err-Fault-clause-read c =
-    let met : all_of c.args.bytes.now ≡ Err c.in-Err-Fault.fault = subst (λ e. Fails e (all_of c.args.bytes.now)) c.in-Err-Fault.field-0-is c.in-Err-Fault.ensures in
-    λ m h e. read_none c.args.bytes.now c.in-Err-Fault.fault m h e met
+pub returns-in-Err-ModuleFault-clause-read : goal.returns-in-Err-ModuleFault-clause-read
+returns-in-Err-ModuleFault-clause-read c =
+    let met : all_of c.args.bytes.now ≡ Err c.in-Err-ModuleFault.fault = subst (λ e. Fails e (all_of c.args.bytes.now)) c.in-Err-ModuleFault.field-0-is c.in-Err-ModuleFault.ensures in
+    λ m h e. read_none c.args.bytes.now c.in-Err-ModuleFault.fault m h e met
 
-pub returns-in-Err-Fault-clause-fault : goal.returns-in-Err-Fault-clause-fault
-returns-in-Err-Fault-clause-fault c =
-    let met : all_of c.args.bytes.now ≡ Err c.in-Err-Fault.fault = subst (λ e. Fails e (all_of c.args.bytes.now)) c.in-Err-Fault.field-0-is c.in-Err-Fault.ensures in
-    let within = all_within c.args.bytes.now c.in-Err-Fault.fault (λ i. omega (arith, c.type_inv.bytes i)) met in
-    record { left = c.in-Err-Fault.fault.left; first = met; place = omega arith }
+pub returns-in-Err-ModuleFault-clause-fault : goal.returns-in-Err-ModuleFault-clause-fault
+returns-in-Err-ModuleFault-clause-fault c =
+    let met : all_of c.args.bytes.now ≡ Err c.in-Err-ModuleFault.fault = subst (λ e. Fails e (all_of c.args.bytes.now)) c.in-Err-ModuleFault.field-0-is c.in-Err-ModuleFault.ensures in
+    let within = all_within c.args.bytes.now c.in-Err-ModuleFault.fault (λ i. omega (arith, c.type_inv.bytes i)) met in
+    record { left = c.in-Err-ModuleFault.fault.left; first = met; place = omega arith }

@@ -1,7 +1,7 @@
 use Rattle.std.proofs.Common.{◌≡◌, List, ◌++◌, length, subst}
 use Rattle.std.specs.List.{flat_map}
 use Rattle.pb_sorts.specs.declared.carrier.Carrier.{Carrier}
-use Rattle.pb_code.specs.declared.instruction.Op.{Op}
+use Rattle.pb_bytecode_program.specs.declared.instruction.Op.{Op}
 use Rattle.pb_bytecode.specs.Spelling
 use Rattle.pb_bytecode.specs.Views.{text_of}
 use Rattle.pb_bytecode.proofs.Appending.{append_both}

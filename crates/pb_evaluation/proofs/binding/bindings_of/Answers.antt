@@ -1,9 +1,9 @@
 use Rattle.std.proofs.Common.{◌≡◌, ◌∙◌, ◌++◌, ◌+◌, ◌∷◌, List, ap, sym, drop, append_assoc}
-use Rattle.pb_ast.specs.declared.variable.Variables.{Variables}
-use Rattle.pb_ast.specs.Form.{variable_forms}
-use Rattle.pb_declarations.specs.View.{spec_of}
-use Rattle.pb_syntax.specs.Syntax.{Variable}
-use Rattle.pb_syntax.specs.Erase.{erased_variables}
+use Rattle.pb_text_tree.specs.declared.variable.Variables.{Variables}
+use Rattle.pb_text_tree.specs.Form.{variable_forms}
+use Rattle.pb_typing_declarations.specs.View.{spec_of}
+use Rattle.pb_text_meaning.specs.Syntax.{Variable}
+use Rattle.pb_text_meaning.specs.Erase.{erased_variables}
 use Rattle.pb_evaluation.specs.Quantifier.{variables_of}
 use Rattle.pb_evaluation.proofs.Links.{drop_link}
 use Rattle.pb_evaluation.proofs.Quantified.{first_group}

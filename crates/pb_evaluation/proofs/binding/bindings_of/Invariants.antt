@@ -1,7 +1,7 @@
 use Rattle.std.proofs.Common.{drop}
-use Rattle.pb_ast.specs.Form.{variable_forms}
-use Rattle.pb_declarations.specs.View.{spec_of}
-use Rattle.pb_syntax.specs.Erase.{erased_variables}
+use Rattle.pb_text_tree.specs.Form.{variable_forms}
+use Rattle.pb_typing_declarations.specs.View.{spec_of}
+use Rattle.pb_text_meaning.specs.Erase.{erased_variables}
 use Rattle.pb_evaluation.specs.Binding.{AreFirst}
 use Rattle.pb_evaluation.proofs.Odometer.{AreBindingsSoFar}
 use Rattle.pb_evaluation.proofs.binding.bindings_of.Given as goal

@@ -1,8 +1,8 @@
 use Rattle.std.proofs.Common.{◌≡◌, ◌∙◌, ◌-◌, ◌<◌, ◌≤◌, ℕ, zero, suc, List, [], ◌∷◌, length, take, slice_index_or, ap, sym, refl, arith, Some, Bool, SFits, w64, to_z-of_z}
 use Rattle.std.specs.Prelude.{if◌then◌else◌}
 use Rattle.pb_carriers.specs.Carrier.{Value}
-use Rattle.pb_syntax.specs.Syntax.{Name, same_name}
-use Rattle.pb_syntax.specs.Value.{Assignment, looked_up}
+use Rattle.pb_text_meaning.specs.Syntax.{Name, same_name}
+use Rattle.pb_text_meaning.specs.Value.{Assignment, looked_up}
 use Rattle.pb_evaluation.specs.declared.binding.Binding.{Binding}
 use Rattle.pb_evaluation.specs.Binding.{bound, value_at}
 use Rattle.pb_evaluation.proofs.binding.bound_value.Goals as goal

@@ -1,5 +1,5 @@
 use Rattle.std.proofs.Common.{◌≡◌, take}
-use Rattle.pb_syntax.specs.Value.{Assignment, looked_up}
+use Rattle.pb_text_meaning.specs.Value.{Assignment, looked_up}
 use Rattle.pb_evaluation.specs.Binding.{bound}
 use Rattle.pb_evaluation.proofs.binding.bound_value.Given as goal
 

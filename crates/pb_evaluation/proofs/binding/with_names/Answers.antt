@@ -1,6 +1,6 @@
 use Rattle.std.proofs.Common.{◌++◌, List, ◌+◌, ℕ, ap, subst, refl, drop, string_bytes}
-use Rattle.pb_ast.specs.declared.name.Name as declared
-use Rattle.pb_syntax.specs.Syntax.{Variable}
+use Rattle.pb_text_tree.specs.declared.name.Name as declared
+use Rattle.pb_text_meaning.specs.Syntax.{Variable}
 use Rattle.pb_evaluation.specs.Quantifier.{variables_of}
 use Rattle.pb_evaluation.proofs.Links.{drop_link, drop_end}
 use Rattle.pb_evaluation.proofs.Odometer.{AreBindingsSoFar, first_more, one_more, so_far_all}

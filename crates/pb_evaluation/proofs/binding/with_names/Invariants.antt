@@ -1,7 +1,7 @@
 use Rattle.std.proofs.Common.{◌≡◌, ◌++◌, List, drop}
 use Rattle.pb_carriers.specs.Carrier.{numbers_from}
-use Rattle.pb_syntax.specs.Syntax.{Name, Spec, Variable}
-use Rattle.pb_syntax.specs.Sorts.{carrier_of}
+use Rattle.pb_text_meaning.specs.Syntax.{Name, Spec, Variable}
+use Rattle.pb_text_meaning.specs.Sorts.{carrier_of}
 use Rattle.pb_evaluation.specs.Binding.{AreBindings, AreFirst}
 use Rattle.pb_evaluation.specs.Quantifier.{variables_of}
 use Rattle.pb_evaluation.proofs.Odometer.{AreBindingsSoFar}

@@ -1,13 +1,13 @@
 use Rattle.std.proofs.Common.{◌<◌, ◌∙◌, sym, ap, subst, refl, arith, not, List, length, Bool}
-use Rattle.pb_ast.specs.declared.formula.Formula.{Formula}
-use Rattle.pb_ast.specs.declared.formula.Link.{Link}
-use Rattle.pb_ast.specs.Form.{FormulaForm, formula_form, variable_forms}
-use Rattle.pb_ast.proofs.FormLemmas.{formula-chain}
-use Rattle.pb_declarations.specs.View.{spec_of}
-use Rattle.pb_syntax.specs.Erase.{erased_formula, erased_variables}
-use Rattle.pb_syntax.specs.Formula.{truth}
-use Rattle.pb_syntax.specs.Value as meaning
-use Rattle.pb_bounds.specs.Fits.{FormulaFits}
+use Rattle.pb_text_tree.specs.declared.formula.Formula.{Formula}
+use Rattle.pb_text_tree.specs.declared.formula.Link.{Link}
+use Rattle.pb_text_tree.specs.Form.{FormulaForm, formula_form, variable_forms}
+use Rattle.pb_text_tree.proofs.FormLemmas.{formula-chain}
+use Rattle.pb_typing_declarations.specs.View.{spec_of}
+use Rattle.pb_text_meaning.specs.Erase.{erased_formula, erased_variables}
+use Rattle.pb_text_meaning.specs.Formula.{truth}
+use Rattle.pb_text_meaning.specs.Value as meaning
+use Rattle.pb_text_meaning.specs.Fits.{FormulaFits}
 use Rattle.pb_evaluation.specs.Environment.{environment_of}
 use Rattle.pb_evaluation.specs.declared.binding.Binding.{Binding}
 use Rattle.pb_evaluation.specs.Binding.{AreLast, AreNext, bound}

@@ -1,8 +1,8 @@
 use Rattle.std.proofs.Common.{◌≡◌, ◌+◌, drop}
-use Rattle.pb_ast.specs.Form.{formula_form, variable_forms}
-use Rattle.pb_declarations.specs.View.{spec_of}
-use Rattle.pb_syntax.specs.Erase.{erased_formula, erased_variables}
-use Rattle.pb_syntax.specs.Formula.{truth}
+use Rattle.pb_text_tree.specs.Form.{formula_form, variable_forms}
+use Rattle.pb_typing_declarations.specs.View.{spec_of}
+use Rattle.pb_text_meaning.specs.Erase.{erased_formula, erased_variables}
+use Rattle.pb_text_meaning.specs.Formula.{truth}
 use Rattle.pb_evaluation.specs.Environment.{environment_of}
 use Rattle.pb_evaluation.specs.Scope.{assignment_of}
 use Rattle.pb_evaluation.proofs.FormulaWeight.{weight}

@@ -1,14 +1,14 @@
 use Rattle.std.proofs.Common.{◌≡◌, ◌<◌, ◌++◌, ◌∙◌, sym, ap, subst, arith, SFits, w64, to_z, of_z, to_z-of_z, List, ℕ, ℤ, length, get_or, string_bytes, Bool, true, false, IsTrue, refl, true≢false}
 use Rattle.std.proofs.lemmas.List.{length_push}
 use Rattle.std.proofs.lemmas.Option.{slice_get_within}
-use Rattle.pb_declarations.specs.View.{spec_of}
+use Rattle.pb_typing_declarations.specs.View.{spec_of}
 use Rattle.pb_sorts.specs.Instance.{instances}
 use Rattle.pb_sorts.specs.Layout.{carriers_of}
-use Rattle.pb_ast.specs.declared.term.Argument.{Argument}
-use Rattle.pb_ast.specs.Form.{argument_forms}
-use Rattle.pb_syntax.specs.Erase.{erased_arguments}
-use Rattle.pb_syntax.specs.Value as meaning
-use Rattle.pb_bounds.specs.Fits.{AllFit}
+use Rattle.pb_text_tree.specs.declared.term.Argument.{Argument}
+use Rattle.pb_text_tree.specs.Form.{argument_forms}
+use Rattle.pb_text_meaning.specs.Erase.{erased_arguments}
+use Rattle.pb_text_meaning.specs.Value as meaning
+use Rattle.pb_text_meaning.specs.Fits.{AllFit}
 use Rattle.pb_evaluation.specs.Environment.{all_carriers, place_named, truth_at}
 use Rattle.pb_evaluation.specs.Scope.{assignment_of}
 use Rattle.pb_evaluation.proofs.Arguments.{argument_fits}

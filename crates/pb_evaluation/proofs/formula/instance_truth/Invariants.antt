@@ -1,8 +1,8 @@
 use Rattle.std.proofs.Common.{◌≡◌, ◌++◌, drop, length}
-use Rattle.pb_ast.specs.Form.{argument_forms}
-use Rattle.pb_declarations.specs.View.{spec_of}
-use Rattle.pb_syntax.specs.Erase.{erased_arguments}
-use Rattle.pb_syntax.specs.Value as meaning
+use Rattle.pb_text_tree.specs.Form.{argument_forms}
+use Rattle.pb_typing_declarations.specs.View.{spec_of}
+use Rattle.pb_text_meaning.specs.Erase.{erased_arguments}
+use Rattle.pb_text_meaning.specs.Value as meaning
 use Rattle.pb_evaluation.specs.Scope.{assignment_of}
 use Rattle.pb_evaluation.proofs.formula.instance_truth.Given as goal
 

@@ -1,17 +1,17 @@
 use Rattle.std.proofs.Common.{◌≡◌, ◌∙◌, sym, ap, subst, arith, SFits, w64, to_z, to_z-of_z, not, List, ℕ, length, pos, ◌+◌, ◌<◌, drop, ℤ, IfOk, Bool, true, false, refl}
 use mir.Val.{bool_byte}
-use Rattle.pb_ast.specs.declared.term.Term.{Term}
-use Rattle.pb_ast.specs.declared.term.TermLink.{TermLink}
-use Rattle.pb_ast.specs.declared.term.ArithmeticLink.{ArithmeticLink}
-use Rattle.pb_ast.specs.declared.term.Argument.{Argument}
-use Rattle.pb_ast.specs.Form.{TermForm, argument_forms, arithmetic_links, calculated, chained, term_form, term_links, variable_forms}
-use Rattle.pb_ast.proofs.FormLemmas.{term-chain, term-arithmetic, term-application}
-use Rattle.pb_declarations.specs.View.{spec_of}
+use Rattle.pb_text_tree.specs.declared.term.Term.{Term}
+use Rattle.pb_text_tree.specs.declared.term.TermLink.{TermLink}
+use Rattle.pb_text_tree.specs.declared.term.ArithmeticLink.{ArithmeticLink}
+use Rattle.pb_text_tree.specs.declared.term.Argument.{Argument}
+use Rattle.pb_text_tree.specs.Form.{TermForm, argument_forms, arithmetic_links, calculated, chained, term_form, term_links, variable_forms}
+use Rattle.pb_text_tree.proofs.FormLemmas.{term-chain, term-arithmetic, term-application}
+use Rattle.pb_typing_declarations.specs.View.{spec_of}
 use Rattle.pb_carriers.specs.Carrier.{of_bool}
-use Rattle.pb_syntax.specs.Erase.{erased_arguments, erased_term, erased_variables, of_arithmetic}
-use Rattle.pb_syntax.specs.Value as meaning
-use Rattle.pb_bounds.specs.Fits.{AllFit, Fits, IsBounded}
-use Rattle.pb_bounds.proofs.Bounded.{fits_bounded}
+use Rattle.pb_text_meaning.specs.Erase.{erased_arguments, erased_term, erased_variables, of_arithmetic}
+use Rattle.pb_text_meaning.specs.Value as meaning
+use Rattle.pb_text_meaning.specs.Fits.{AllFit, Fits, IsBounded}
+use Rattle.pb_text_meaning.proofs.Bounded.{fits_bounded}
 use Rattle.pb_evaluation.specs.declared.binding.Binding.{Binding}
 use Rattle.pb_evaluation.specs.Binding.{AreLast, AreNext, bound}
 use Rattle.pb_evaluation.specs.Scope.{assignment_of}

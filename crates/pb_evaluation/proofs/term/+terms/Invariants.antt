@@ -1,8 +1,8 @@
 use Rattle.std.proofs.Common.{◌≡◌, ◌+◌, drop}
-use Rattle.pb_ast.specs.Form.{TermForm, arithmetic_links, calculated, chained, term_form, term_links, variable_forms}
-use Rattle.pb_declarations.specs.View.{spec_of}
-use Rattle.pb_syntax.specs.Erase.{erased_term, erased_variables}
-use Rattle.pb_syntax.specs.Value as meaning
+use Rattle.pb_text_tree.specs.Form.{TermForm, arithmetic_links, calculated, chained, term_form, term_links, variable_forms}
+use Rattle.pb_typing_declarations.specs.View.{spec_of}
+use Rattle.pb_text_meaning.specs.Erase.{erased_term, erased_variables}
+use Rattle.pb_text_meaning.specs.Value as meaning
 use Rattle.pb_evaluation.specs.Scope.{assignment_of}
 use Rattle.pb_evaluation.proofs.Weight.{weight, links_weight, arithmetic_weight, arguments_weight}
 use Rattle.pb_evaluation.proofs.Links.{value_of, chain_value, arithmetic_value, ArithmeticFits}

@@ -1,4 +1,4 @@
-use Rattle.pb_declarations.specs.View.{spec_of}
+use Rattle.pb_typing_declarations.specs.View.{spec_of}
 use Rattle.pb_typing.specs.Scopes.{scope_view}
 use Rattle.pb_normal.specs.Slots.{slotting}
 use Rattle.pb_normal.proofs.FormulaSteps.{argument_next, arguments_ended}

@@ -1,7 +1,7 @@
 use Rattle.std.proofs.Common.{ℕ, ◌∙◌, sym, ap, List, Option, string_bytes}
-use Rattle.pb_ast.specs.declared.term.Argument as ast
-use Rattle.pb_declarations.specs.Agreement.{equation_place}
-use Rattle.pb_declarations.specs.View.{spec_of}
+use Rattle.pb_text_tree.specs.declared.term.Argument as ast
+use Rattle.pb_typing_declarations.specs.Agreement.{equation_place}
+use Rattle.pb_typing_declarations.specs.View.{spec_of}
 use Rattle.pb_typing.specs.Scopes.{scope_view}
 use Rattle.pb_normal.specs.Normal as model
 use Rattle.pb_normal.specs.Normal.{Argument}

@@ -1,7 +1,7 @@
 use Rattle.std.proofs.Common.{◌≡◌, List, sym, ◌∙◌, ap, subst, arith, IfOk}
-use Rattle.pb_ast.specs.Form.{named, term_form}
-use Rattle.pb_syntax.specs.Erase.{of_connective}
-use Rattle.pb_declarations.specs.View.{spec_of}
+use Rattle.pb_text_tree.specs.Form.{named, term_form}
+use Rattle.pb_text_meaning.specs.Erase.{of_connective}
+use Rattle.pb_typing_declarations.specs.View.{spec_of}
 use Rattle.pb_normal.specs.Normal as normal
 use Rattle.pb_normal.specs.Normal.{Binary}
 use Rattle.pb_normal.specs.declared.term.Term.{Term}

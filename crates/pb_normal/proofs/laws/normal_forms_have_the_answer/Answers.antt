@@ -1,7 +1,7 @@
 use Rattle.std.proofs.Common.{ap}
 use Rattle.pb_fixpoint.specs.Solution.{Environment}
-use Rattle.pb_syntax.specs.Erase.{erase}
-use Rattle.pb_syntax.specs.Formula.{Instance}
+use Rattle.pb_text_meaning.specs.Erase.{erase}
+use Rattle.pb_text_meaning.specs.Formula.{Instance}
 use Rattle.pb_normal.proofs.Answer.{normal-solution, normal-answer}
 use Rattle.pb_normal.proofs.Equations.{accepted-well-typed}
 use Rattle.pb_normal.proofs.laws.normal_forms_have_the_answer.Goals as goal

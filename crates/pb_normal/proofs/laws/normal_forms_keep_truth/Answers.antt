@@ -1,5 +1,5 @@
 use Rattle.std.proofs.Common.{sym}
-use Rattle.pb_declarations.proofs.ShapeLaws.{shape_carrier-sort_shape}
+use Rattle.pb_typing_declarations.proofs.ShapeLaws.{shape_carrier-sort_shape}
 use Rattle.pb_normal.proofs.Truth.{normal-truth}
 use Rattle.pb_normal.proofs.laws.normal_forms_keep_truth.Goals as goal
 

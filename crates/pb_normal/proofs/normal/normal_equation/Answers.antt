@@ -1,8 +1,8 @@
 use Rattle.std.proofs.Common.{◌≡◌, ℕ, ◌++◌, List, length, drop, ◌∙◌, ap, arith, true}
 use Rattle.pb_sorts.specs.declared.carrier.Carrier.{Carrier}
-use Rattle.pb_ast.specs.declared.variable.Variables.{Variables}
-use Rattle.pb_declarations.specs.View.{spec_of}
-use Rattle.pb_shapes.specs.Scope.{Scope, bound, outermost}
+use Rattle.pb_text_tree.specs.declared.variable.Variables.{Variables}
+use Rattle.pb_typing_declarations.specs.View.{spec_of}
+use Rattle.pb_typing_rules.specs.Scope.{Scope, bound, outermost}
 use Rattle.pb_typing.specs.Scopes.{inner_view, table_view}
 use Rattle.pb_typing.proofs.Nodes.{inner_scope}
 use Rattle.pb_normal.specs.Loops.{variable_shapes}

@@ -1,8 +1,8 @@
 use Rattle.std.proofs.Common.{List, map, sym, ◌∙◌, ap, subst}
-use Rattle.pb_ast.specs.declared.spec.Equation.{Equation}
-use Rattle.pb_ast.specs.Form.{spec_form}
-use Rattle.pb_syntax.specs.Syntax.{Spec}
-use Rattle.pb_syntax.specs.Erase.{erase}
+use Rattle.pb_text_tree.specs.declared.spec.Equation.{Equation}
+use Rattle.pb_text_tree.specs.Form.{spec_form}
+use Rattle.pb_text_meaning.specs.Syntax.{Spec}
+use Rattle.pb_text_meaning.specs.Erase.{erase}
 use Rattle.pb_normal.specs.Answer.{answer_by}
 use Rattle.pb_normal.specs.Equations.{normal_equation}
 use Rattle.pb_normal.specs.Loops.{IsShapedEquation, equation_loops}

@@ -1,5 +1,5 @@
-use Rattle.pb_ast.specs.Form.{spec_form}
-use Rattle.pb_syntax.specs.Erase.{erase}
+use Rattle.pb_text_tree.specs.Form.{spec_form}
+use Rattle.pb_text_meaning.specs.Erase.{erase}
 use Rattle.pb_normal.proofs.Accepted.{AreDone}
 use Rattle.pb_normal.proofs.normal.normalise.Given as goal
 

@@ -1,4 +1,4 @@
-use Rattle.pb_ast.specs.Form.{spec_form}
+use Rattle.pb_text_tree.specs.Form.{spec_form}
 use Rattle.pb_normal.proofs.Accepted.{undeclared}
 use Rattle.pb_normal.proofs.normal.read_declarations.Goals as goal
 

@@ -1,7 +1,7 @@
 use Rattle.std.proofs.Common.{length, ◌∙◌, ap, subst, arith}
 use Rattle.std.specs.Prelude.{box_value}
-use Rattle.pb_declarations.specs.View.{spec_of}
-use Rattle.pb_shapes.specs.Scope.{Scope}
+use Rattle.pb_typing_declarations.specs.View.{spec_of}
+use Rattle.pb_typing_rules.specs.Scope.{Scope}
 use Rattle.pb_typing.specs.Scopes.{scope_view, table_view}
 use Rattle.pb_evaluation.proofs.FormulaWeight.{weight, weight-chain, links_weight, link_lighter}
 use Rattle.pb_typing.proofs.Nodes.{inner_scope}

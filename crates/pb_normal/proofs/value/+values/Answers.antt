@@ -1,12 +1,12 @@
 use Rattle.std.proofs.Common.{◌≡◌, ℕ, ◌<◌, ◌++◌, List, length, drop, sym, ◌∙◌, ap, subst, arith, true≢false, vec_len}
 use Rattle.std.specs.Prelude.{box_value, ◌==◌}
 use Rattle.std.proofs.lemmas.Bool.{eqb-true}
-use Rattle.pb_ast.specs.declared.term.TermLink.{TermLink}
-use Rattle.pb_ast.specs.Form.{term_form}
-use Rattle.pb_syntax.specs.Syntax as syntax
-use Rattle.pb_syntax.specs.Erase.{erased_term}
-use Rattle.pb_declarations.specs.View.{spec_of}
-use Rattle.pb_shapes.specs.Scope.{bound}
+use Rattle.pb_text_tree.specs.declared.term.TermLink.{TermLink}
+use Rattle.pb_text_tree.specs.Form.{term_form}
+use Rattle.pb_text_meaning.specs.Syntax as syntax
+use Rattle.pb_text_meaning.specs.Erase.{erased_term}
+use Rattle.pb_typing_declarations.specs.View.{spec_of}
+use Rattle.pb_typing_rules.specs.Scope.{bound}
 use Rattle.pb_evaluation.proofs.Weight.{weight, weight-chain, weight-arithmetic, links_weight, link_lighter}
 use Rattle.pb_normal.specs.declared.formula.Formula.{Formula}
 use Rattle.pb_normal.specs.Expansion.{expanded_term, has_quantifier}

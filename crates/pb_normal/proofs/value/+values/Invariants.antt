@@ -1,5 +1,5 @@
 use Rattle.std.proofs.Common.{◌+◌, ◌*◌}
-use Rattle.pb_declarations.specs.View.{spec_of}
+use Rattle.pb_typing_declarations.specs.View.{spec_of}
 use Rattle.pb_evaluation.proofs.Weight.{weight, links_weight}
 use Rattle.pb_normal.specs.Slots.{slotting}
 use Rattle.pb_normal.proofs.ValueSteps.{AreDone}

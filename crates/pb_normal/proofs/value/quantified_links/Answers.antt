@@ -1,5 +1,5 @@
 use Rattle.std.proofs.Common.{◌≡◌, ◌-◌, suc, ◌∙◌, sym, ap, subst, arith, ℕ, drop, true, false}
-use Rattle.pb_ast.specs.declared.term.TermLink.{TermLink}
+use Rattle.pb_text_tree.specs.declared.term.TermLink.{TermLink}
 use Rattle.pb_normal.proofs.Quantifiers.{quantified}
 use Rattle.pb_normal.specs.Links.{links_have_quantifier}
 use Rattle.pb_normal.proofs.LinkCount.{count_is, none_counted}

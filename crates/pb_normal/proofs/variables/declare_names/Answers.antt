@@ -1,6 +1,6 @@
 use Rattle.std.proofs.Common.{◌≡◌, ℕ, suc, ◌+◌, ◌++◌, List, length, drop, replicate, sym, ◌∙◌, ap, arith}
 use Rattle.pb_sorts.specs.declared.carrier.Carrier.{Carrier}
-use Rattle.pb_declarations.specs.Tables.{looked_up}
+use Rattle.pb_typing_declarations.specs.Tables.{looked_up}
 use Rattle.pb_normal.specs.Slots.{named_slots}
 use Rattle.pb_normal.proofs.SlotLemmas.{put_next, carriers_next, length-push}
 use Rattle.pb_normal.proofs.variables.declare_names.Goals as goal

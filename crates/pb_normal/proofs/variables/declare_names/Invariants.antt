@@ -1,5 +1,5 @@
 use Rattle.std.proofs.Common.{◌≡◌, ◌++◌, drop, length, replicate}
-use Rattle.pb_declarations.specs.Tables.{looked_up}
+use Rattle.pb_typing_declarations.specs.Tables.{looked_up}
 use Rattle.pb_normal.specs.Slots.{named_slots}
 use Rattle.pb_normal.proofs.variables.declare_names.Given as goal
 

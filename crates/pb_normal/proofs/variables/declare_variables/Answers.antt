@@ -1,8 +1,8 @@
 use Rattle.std.proofs.Common.{ℕ, ◌+◌, length, drop, Vec, Global, sym, ◌∙◌, ap, subst, refl}
 use Rattle.pb_sorts.specs.declared.carrier.Carrier.{Carrier}
-use Rattle.pb_declarations.specs.Tables.{Table, looked_up}
-use Rattle.pb_declarations.specs.View.{spec_of}
-use Rattle.pb_declarations.specs.Entries.{carrier_shape}
+use Rattle.pb_typing_declarations.specs.Tables.{Table, looked_up}
+use Rattle.pb_typing_declarations.specs.View.{spec_of}
+use Rattle.pb_typing_declarations.specs.Entries.{carrier_shape}
 use Rattle.pb_normal.specs.Normalisation.{Slotting}
 use Rattle.pb_normal.specs.View.{shapes_of}
 use Rattle.pb_normal.proofs.SlotLemmas.{AreLeft, groups_begun, groups_ended, shapes_ended, next_put, next_empty}

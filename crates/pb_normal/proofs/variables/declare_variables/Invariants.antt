@@ -1,5 +1,5 @@
 use Rattle.std.proofs.Common.{drop}
-use Rattle.pb_declarations.specs.View.{spec_of}
+use Rattle.pb_typing_declarations.specs.View.{spec_of}
 use Rattle.pb_normal.proofs.SlotLemmas.{AreLeft}
 use Rattle.pb_normal.proofs.variables.declare_variables.Given as goal
 

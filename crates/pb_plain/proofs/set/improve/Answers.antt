@@ -1,11 +1,11 @@
 use Rattle.std.proofs.Common.{◌≡◌, ◌+◌, ◌<◌, ◌∙◌, ℕ, List, Bool, true, false, not, arith, sym, subst, ap, get_or, refl, true≢false, ◌≤◌, length}
 use Rattle.std.specs.Bool.{beq}
-use Rattle.pb_ast.specs.Form.{equation_form}
-use Rattle.pb_declarations.specs.View.{spec_of, text_of}
+use Rattle.pb_text_tree.specs.Form.{equation_form}
+use Rattle.pb_typing_declarations.specs.View.{spec_of, text_of}
 use Rattle.pb_sorts.specs.Instance.{first_of, size_of}
 use Rattle.pb_sorts.specs.Layout.{carriers_of}
-use Rattle.pb_syntax.specs.Syntax as syntax
-use Rattle.pb_syntax.specs.Erase.{erased_equation}
+use Rattle.pb_text_meaning.specs.Syntax as syntax
+use Rattle.pb_text_meaning.specs.Erase.{erased_equation}
 use Rattle.pb_evaluation.specs.Environment.{environment_of}
 use Rattle.pb_plain.specs.Side.{side_of, joined}
 use Rattle.pb_plain.specs.Step.{right_truth_at}

@@ -1,7 +1,7 @@
 use Rattle.std.proofs.Common.{◌≡◌, ℕ, get_or, false}
-use Rattle.pb_ast.specs.Form.{equation_form}
-use Rattle.pb_declarations.specs.View.{spec_of}
-use Rattle.pb_syntax.specs.Erase.{erased_equation}
+use Rattle.pb_text_tree.specs.Form.{equation_form}
+use Rattle.pb_typing_declarations.specs.View.{spec_of}
+use Rattle.pb_text_meaning.specs.Erase.{erased_equation}
 use Rattle.pb_evaluation.specs.Environment.{environment_of}
 use Rattle.pb_plain.specs.Side.{side_of, joined}
 use Rattle.pb_plain.specs.Step.{right_truth_at}

@@ -1,11 +1,11 @@
 use Rattle.std.proofs.Common.{◌≡◌, ◌∙◌, Bool, List, ℤ, [], IfOk, sym, subst, ap}
-use Rattle.pb_ast.specs.declared.variable.Variables.{Variables}
-use Rattle.pb_ast.specs.Form.{equation_form, formula_form}
-use Rattle.pb_declarations.specs.View.{spec_of}
-use Rattle.pb_syntax.specs.Erase.{erased_equation, erased_formula}
-use Rattle.pb_syntax.specs.Formula.{truth}
-use Rattle.pb_syntax.specs.Value.{Assignment}
-use Rattle.pb_bounds.specs.Fits.{FormulaFits}
+use Rattle.pb_text_tree.specs.declared.variable.Variables.{Variables}
+use Rattle.pb_text_tree.specs.Form.{equation_form, formula_form}
+use Rattle.pb_typing_declarations.specs.View.{spec_of}
+use Rattle.pb_text_meaning.specs.Erase.{erased_equation, erased_formula}
+use Rattle.pb_text_meaning.specs.Formula.{truth}
+use Rattle.pb_text_meaning.specs.Value.{Assignment}
+use Rattle.pb_text_meaning.specs.Fits.{FormulaFits}
 use Rattle.pb_evaluation.specs.Environment.{environment_of}
 use Rattle.pb_plain.specs.Names.{named_with, names_of}
 use Rattle.pb_plain.specs.Step.{FitsAtInstance, right_truth}

@@ -3,13 +3,13 @@ use Rattle.std.specs.List.{each_same, slice_get}
 use Rattle.std.proofs.lemmas.Result.{on_ok_weaker}
 use Rattle.pb_fixpoint.specs.declared.Sign.{Sign}
 use Rattle.pb_fixpoint.specs.Solution.{solution}
-use Rattle.pb_ast.specs.Form.{equation_form}
-use Rattle.pb_declarations.specs.View.{spec_of, text_of}
+use Rattle.pb_text_tree.specs.Form.{equation_form}
+use Rattle.pb_typing_declarations.specs.View.{spec_of, text_of}
 use Rattle.pb_sorts.specs.Instance.{size_of}
 use Rattle.pb_sorts.specs.Layout.{carriers_of}
-use Rattle.pb_syntax.specs.Erase.{erased_equation}
-use Rattle.pb_syntax.specs.Meaning.{equation_of, equations_of}
-use Rattle.pb_syntax.specs.Syntax as syntax
+use Rattle.pb_text_meaning.specs.Erase.{erased_equation}
+use Rattle.pb_text_meaning.specs.Meaning.{equation_of, equations_of}
+use Rattle.pb_text_meaning.specs.Syntax as syntax
 use Rattle.pb_evaluation.specs.Environment.{environment_of}
 use Rattle.pb_plain.specs.Bounds.{AreBounds}
 use Rattle.pb_plain.specs.Side.{side_of}

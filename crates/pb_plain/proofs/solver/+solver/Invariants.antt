@@ -1,9 +1,9 @@
 use Rattle.std.proofs.Common.{◌≡◌, ◌+◌, ◌-◌, ◌*◌, drop, length, vec_len, Some}
 use Rattle.std.specs.List.{slice_get}
-use Rattle.pb_declarations.specs.View.{spec_of}
+use Rattle.pb_typing_declarations.specs.View.{spec_of}
 use Rattle.pb_sorts.specs.Layout.{count_of}
-use Rattle.pb_syntax.specs.Meaning.{equation_of, equations_of}
-use Rattle.pb_syntax.specs.Syntax as syntax
+use Rattle.pb_text_meaning.specs.Meaning.{equation_of, equations_of}
+use Rattle.pb_text_meaning.specs.Syntax as syntax
 use Rattle.pb_evaluation.specs.Environment.{environment_of}
 use Rattle.pb_plain.specs.Bounds.{AreBounds}
 use Rattle.pb_plain.specs.Side.{side_of}

@@ -1,12 +1,12 @@
 use Rattle.std.proofs.Common.{◌≡◌, [], sym, subst}
 use Rattle.std.specs.Prelude.{IfOk}
-use Rattle.pb_ast.specs.Form.{SpecForm, spec_form}
+use Rattle.pb_text_tree.specs.Form.{SpecForm, spec_form}
 use Rattle.pb_sorts.specs.Layout.{carriers_of}
-use Rattle.pb_bounds.specs.Fits.{AllFit}
-use Rattle.pb_syntax.specs.Erase.{erase}
-use Rattle.pb_syntax.specs.Meaning.{answer}
+use Rattle.pb_text_meaning.specs.Fits.{AllFit}
+use Rattle.pb_text_meaning.specs.Erase.{erase}
+use Rattle.pb_text_meaning.specs.Meaning.{answer}
 use Rattle.pb_evaluation.specs.Environment.{all_carriers}
-use Rattle.pb_shapes.proofs.Fitting.{spec_fits}
+use Rattle.pb_typing_rules.proofs.Fitting.{spec_fits}
 use Rattle.pb_plain.specs.Step.{IsSolvable}
 use Rattle.pb_plain.proofs.Ready.{solvable}
 use Rattle.pb_plain.proofs.solver.solve_spec.Goals as goal

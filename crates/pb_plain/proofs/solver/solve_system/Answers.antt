@@ -1,11 +1,11 @@
 use Rattle.std.proofs.Common.{◌≡◌, IfOk, ◌∙◌, List, [], Bool, true, false, sym, ap, subst}
 use Rattle.pb_fixpoint.specs.Solution.{Environment, solution}
-use Rattle.pb_ast.specs.Form.{FormulaForm, SpecForm, instance_form}
-use Rattle.pb_declarations.specs.declared.declarations.Declarations.{Declarations}
-use Rattle.pb_declarations.specs.View.{spec_of}
-use Rattle.pb_syntax.specs.Formula.{Instance, truth}
-use Rattle.pb_syntax.specs.Erase.{erased_formula}
-use Rattle.pb_syntax.specs.Meaning.{equations_of}
+use Rattle.pb_text_tree.specs.Form.{FormulaForm, SpecForm, instance_form}
+use Rattle.pb_typing_declarations.specs.declared.declarations.Declarations.{Declarations}
+use Rattle.pb_typing_declarations.specs.View.{spec_of}
+use Rattle.pb_text_meaning.specs.Formula.{Instance, truth}
+use Rattle.pb_text_meaning.specs.Erase.{erased_formula}
+use Rattle.pb_text_meaning.specs.Meaning.{equations_of}
 use Rattle.pb_evaluation.specs.Environment.{environment_of}
 use Rattle.pb_plain.specs.Bounds.{AreBounds}
 use Rattle.pb_plain.proofs.Turn.{lower_bounds, upper_bounds, none_true}

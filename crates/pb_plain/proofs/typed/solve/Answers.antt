@@ -1,4 +1,4 @@
-use Rattle.pb_ast.specs.Form.{spec_form}
+use Rattle.pb_text_tree.specs.Form.{spec_form}
 use Rattle.pb_plain.proofs.Accepted.{declared, well_typed}
 use Rattle.pb_plain.proofs.typed.solve.Goals as goal
 

@@ -1,12 +1,12 @@
 use Rattle.std.proofs.Common.{rules, arith, ◌≡◌, ◌<◌, ◌-◌, length, true, false, vec_len, ◌∙◌, sym, subst}
 use Rattle.std.proofs.lemmas.Result.{err_from_is_err_and}
-use Rattle.pb_ast.specs.Form.{FormulaForm, formula_form, link_forms}
-use Rattle.pb_lexer.specs.Kinds.{same_kind}
-use Rattle.pb_lexer.specs.Steps.{Outcome, Gives, kind, take_operator}
-use Rattle.pb_lexer.specs.Tokens.{tok}
-use Rattle.pb_lexer.proofs.LoopLemmas.{resumed-first, resumed-first-fails, resumed-end, resumed-more, resumed-operator-fails, resumed-operand-fails, fails-as}
-use Rattle.pb_expressions.specs.Operators.{symbol}
-use Rattle.pb_expressions.proofs.ReadLemmas.{on-fewer, resumed-alone-or-fails}
+use Rattle.pb_text_tree.specs.Form.{FormulaForm, formula_form, link_forms}
+use Rattle.pb_text_lexer.specs.Kinds.{same_kind}
+use Rattle.pb_text_lexer.specs.Steps.{Outcome, Gives, kind, take_operator}
+use Rattle.pb_text_lexer.specs.Tokens.{tok}
+use Rattle.pb_text_lexer.proofs.LoopLemmas.{resumed-first, resumed-first-fails, resumed-end, resumed-more, resumed-operator-fails, resumed-operand-fails, fails-as}
+use Rattle.pb_text_terms.specs.Operators.{symbol}
+use Rattle.pb_text_terms.proofs.ReadLemmas.{on-fewer, resumed-alone-or-fails}
 use Rattle.pb_text.specs.Reading.{operand, level}
 use Rattle.pb_text.proofs.FormulaLemmas.{level-chain, links-last, node-other}
 use Rattle.pb_text.proofs.formula.+formulas.Goals as goal

@@ -1,10 +1,10 @@
 use Rattle.std.proofs.Common.{ℕ, ◌≡◌, ◌+◌, ◌*◌, ◌-◌, ◌≤◌, ◌<◌, length, vec_len, Ok}
-use Rattle.pb_ast.specs.declared.operator.Connective.{Connective}
-use Rattle.pb_ast.specs.declared.operator.Connective.TheVariants.{And, Or, Implies}
-use Rattle.pb_ast.specs.Form.{FormulaForm, formula_form, link_forms}
-use Rattle.pb_lexer.specs.Grammar.{State}
-use Rattle.pb_lexer.proofs.LoopLemmas.{resumed}
-use Rattle.pb_expressions.specs.Operators.{symbol}
+use Rattle.pb_text_tree.specs.declared.operator.Connective.{Connective}
+use Rattle.pb_text_tree.specs.declared.operator.Connective.TheVariants.{And, Or, Implies}
+use Rattle.pb_text_tree.specs.Form.{FormulaForm, formula_form, link_forms}
+use Rattle.pb_text_lexer.specs.Grammar.{State}
+use Rattle.pb_text_lexer.proofs.LoopLemmas.{resumed}
+use Rattle.pb_text_terms.specs.Operators.{symbol}
 use Rattle.pb_text.specs.Reading.{operand, level}
 use Rattle.pb_text.proofs.formula.+formulas.Given as goal
 

@@ -1,6 +1,6 @@
 use Rattle.std.proofs.Common.{ap, ◌∙◌}
-use Rattle.pb_ast.specs.Form.{FormulaForm, formula_form, chained, link_forms}
-use Rattle.pb_ast.proofs.FormLemmas.{formula-chain}
+use Rattle.pb_text_tree.specs.Form.{FormulaForm, formula_form, chained, link_forms}
+use Rattle.pb_text_tree.proofs.FormLemmas.{formula-chain}
 use Rattle.pb_text.proofs.formula.joined.Goals as goal
 
 pub returns : goal.returns

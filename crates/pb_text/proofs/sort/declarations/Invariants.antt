@@ -1,7 +1,7 @@
 use Rattle.std.proofs.Common.{◌≡◌, ◌+◌, ◌-◌, ◌≤◌, suc, length, map, vec_len}
-use Rattle.pb_ast.specs.Form.{sort_declaration_form}
-use Rattle.pb_lexer.specs.Steps.{nothing_between}
-use Rattle.pb_lexer.proofs.LoopLemmas.{gathered}
+use Rattle.pb_text_tree.specs.Form.{sort_declaration_form}
+use Rattle.pb_text_lexer.specs.Steps.{nothing_between}
+use Rattle.pb_text_lexer.proofs.LoopLemmas.{gathered}
 use Rattle.pb_text.specs.Reading.{declaration, declarations, is_name}
 use Rattle.pb_text.proofs.sort.declarations.Given as goal
 

@@ -1,10 +1,10 @@
 use Rattle.std.proofs.Common.{rules, arith, ◌≡◌, ◌∙◌, ◌-◌, ◌∷◌, [], suc, true, false, length, vec_len, map}
 use Rattle.std.proofs.lemmas.Result.{err_from_is_err_and}
 use Rattle.std.proofs.lemmas.List.{map-append}
-use Rattle.pb_ast.specs.Form.{enumerator_form}
-use Rattle.pb_lexer.specs.Steps.{kind, take_token}
-use Rattle.pb_lexer.specs.Tokens.{tok}
-use Rattle.pb_lexer.proofs.LoopLemmas.{gathered-none, gathered-more, gathered-end, gathered-item-fails, fails-as}
+use Rattle.pb_text_tree.specs.Form.{enumerator_form}
+use Rattle.pb_text_lexer.specs.Steps.{kind, take_token}
+use Rattle.pb_text_lexer.specs.Tokens.{tok}
+use Rattle.pb_text_lexer.proofs.LoopLemmas.{gathered-none, gathered-more, gathered-end, gathered-item-fails, fails-as}
 use Rattle.pb_text.specs.Reading.{enumerator, enumerators, is_bar}
 use Rattle.pb_text.proofs.sort.enumerators.Goals as goal
 

@@ -1,7 +1,7 @@
 use Rattle.std.proofs.Common.{◌≡◌, ◌+◌, ◌-◌, ◌≤◌, suc, length, map, vec_len}
-use Rattle.pb_ast.specs.Form.{enumerator_form}
-use Rattle.pb_lexer.specs.Steps.{take_token}
-use Rattle.pb_lexer.proofs.LoopLemmas.{gathered}
+use Rattle.pb_text_tree.specs.Form.{enumerator_form}
+use Rattle.pb_text_lexer.specs.Steps.{take_token}
+use Rattle.pb_text_lexer.proofs.LoopLemmas.{gathered}
 use Rattle.pb_text.specs.Reading.{enumerator, enumerators, is_bar}
 use Rattle.pb_text.proofs.sort.enumerators.Given as goal
 

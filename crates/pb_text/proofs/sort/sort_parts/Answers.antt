@@ -1,8 +1,8 @@
 use Rattle.std.proofs.Common.{rules, arith, ℕ, ◌≡◌, ◌∙◌, ◌<◌, suc, ◌-◌, true, false, length, map, ap}
 use Rattle.std.proofs.lemmas.Result.{err_from_is_err_and}
-use Rattle.pb_ast.specs.Form.{sort_declaration_form}
-use Rattle.pb_lexer.specs.Steps.{kind}
-use Rattle.pb_lexer.proofs.LoopLemmas.{fails-as}
+use Rattle.pb_text_tree.specs.Form.{sort_declaration_form}
+use Rattle.pb_text_lexer.specs.Steps.{kind}
+use Rattle.pb_text_lexer.proofs.LoopLemmas.{fails-as}
 use Rattle.pb_text.specs.Reading.{is_name, is_sort, sort_part, sort_parts}
 use Rattle.pb_text.proofs.PartsLemmas.{kept, kept-none, parts-refused, kept-end, kept-more, kept-fails, declarations-append}
 use Rattle.pb_text.proofs.sort.sort_parts.Goals as goal

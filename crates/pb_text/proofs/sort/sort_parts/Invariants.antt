@@ -1,5 +1,5 @@
 use Rattle.std.proofs.Common.{ℕ, ◌≡◌, ◌<◌, length, map}
-use Rattle.pb_ast.specs.Form.{sort_declaration_form}
+use Rattle.pb_text_tree.specs.Form.{sort_declaration_form}
 use Rattle.pb_text.specs.Reading.{sort_parts}
 use Rattle.pb_text.proofs.PartsLemmas.{kept}
 use Rattle.pb_text.proofs.sort.sort_parts.Given as goal

@@ -1,7 +1,7 @@
 use Rattle.std.proofs.Common.{◌≡◌, ◌+◌, ◌-◌, ◌≤◌, suc, length, map, vec_len}
-use Rattle.pb_ast.specs.Form.{equation_form}
-use Rattle.pb_lexer.specs.Steps.{nothing_between}
-use Rattle.pb_lexer.proofs.LoopLemmas.{gathered}
+use Rattle.pb_text_tree.specs.Form.{equation_form}
+use Rattle.pb_text_lexer.specs.Steps.{nothing_between}
+use Rattle.pb_text_lexer.proofs.LoopLemmas.{gathered}
 use Rattle.pb_text.specs.Reading.{equation, equations, begins_equation}
 use Rattle.pb_text.proofs.system.equations.Given as goal
 

@@ -1,14 +1,14 @@
 use Rattle.std.proofs.Common.{◌∙◌, sym, ap, rules, arith, List}
-use Rattle.pb_ast.specs.declared.variable.Variables.{Variables}
-use Rattle.pb_ast.specs.declared.formula.Formula as ast
-use Rattle.pb_ast.specs.declared.formula.Link.{Link}
-use Rattle.pb_ast.specs.Form.{formula_form, variable_forms}
-use Rattle.pb_syntax.specs.Erase.{erased_variables}
-use Rattle.pb_shapes.specs.Faults.{formula_faults}
-use Rattle.pb_shapes.specs.Scope.{bound, outermost}
-use Rattle.pb_declarations.specs.Faults.{IsAmong}
-use Rattle.pb_declarations.specs.View.{spec_of}
-use Rattle.pb_shapes.proofs.Parts.{among_first, first_clear}
+use Rattle.pb_text_tree.specs.declared.variable.Variables.{Variables}
+use Rattle.pb_text_tree.specs.declared.formula.Formula as ast
+use Rattle.pb_text_tree.specs.declared.formula.Link.{Link}
+use Rattle.pb_text_tree.specs.Form.{formula_form, variable_forms}
+use Rattle.pb_text_meaning.specs.Erase.{erased_variables}
+use Rattle.pb_typing_rules.specs.Faults.{formula_faults}
+use Rattle.pb_typing_rules.specs.Scope.{bound, outermost}
+use Rattle.pb_typing_declarations.specs.Faults.{IsAmong}
+use Rattle.pb_typing_declarations.specs.View.{spec_of}
+use Rattle.pb_typing_rules.proofs.Parts.{among_first, first_clear}
 use Rattle.pb_typing.specs.Scopes.{scope_view, table_view, inner_view}
 use Rattle.pb_evaluation.proofs.FormulaWeight.{weight, weight-chain, links_weight, link_lighter}
 use Rattle.pb_typing.proofs.FormulaLinks.{link_faults, chain_first, chain_next}

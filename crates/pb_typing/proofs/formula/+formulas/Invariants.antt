@@ -1,7 +1,7 @@
 use Rattle.std.proofs.Common.{◌≡◌, ◌+◌, drop}
-use Rattle.pb_ast.specs.Form.{formula_form}
-use Rattle.pb_shapes.specs.Faults.{formula_faults}
-use Rattle.pb_declarations.specs.View.{spec_of}
+use Rattle.pb_text_tree.specs.Form.{formula_form}
+use Rattle.pb_typing_rules.specs.Faults.{formula_faults}
+use Rattle.pb_typing_declarations.specs.View.{spec_of}
 use Rattle.pb_typing.specs.Scopes.{scope_view}
 use Rattle.pb_evaluation.proofs.FormulaWeight.{weight}
 use Rattle.pb_typing.proofs.FormulaLinks.{link_faults}

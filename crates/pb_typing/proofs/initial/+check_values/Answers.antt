@@ -1,11 +1,11 @@
 use Rattle.std.proofs.Common.{◌∙◌, List, [], ap, subst, length, arith, rules, SFits, w64, to_z, of_z, to_z-of_z}
-use Rattle.pb_ast.specs.declared.term.Argument.{Argument}
-use Rattle.pb_ast.specs.Form.{argument_forms}
-use Rattle.pb_syntax.specs.Erase.{erased_arguments}
-use Rattle.pb_bounds.specs.Fits.{AllFit}
-use Rattle.pb_declarations.specs.Faults.{IsAmong}
-use Rattle.pb_declarations.specs.View.{spec_of}
-use Rattle.pb_shapes.specs.Faults.{value_faults}
+use Rattle.pb_text_tree.specs.declared.term.Argument.{Argument}
+use Rattle.pb_text_tree.specs.Form.{argument_forms}
+use Rattle.pb_text_meaning.specs.Erase.{erased_arguments}
+use Rattle.pb_text_meaning.specs.Fits.{AllFit}
+use Rattle.pb_typing_declarations.specs.Faults.{IsAmong}
+use Rattle.pb_typing_declarations.specs.View.{spec_of}
+use Rattle.pb_typing_rules.specs.Faults.{value_faults}
 use Rattle.pb_typing.proofs.InitialValues.{value_fault, value_clear}
 use Rattle.pb_typing.proofs.initial.+check_values.Goals as goal
 

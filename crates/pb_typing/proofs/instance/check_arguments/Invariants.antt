@@ -1,8 +1,8 @@
 use Rattle.std.proofs.Common.{◌≡◌, drop, length}
-use Rattle.pb_ast.specs.Form.{argument_forms, variable_forms}
-use Rattle.pb_syntax.specs.Erase.{erased_variables}
-use Rattle.pb_shapes.specs.Faults.{argument_faults}
-use Rattle.pb_declarations.specs.View.{spec_of}
+use Rattle.pb_text_tree.specs.Form.{argument_forms, variable_forms}
+use Rattle.pb_text_meaning.specs.Erase.{erased_variables}
+use Rattle.pb_typing_rules.specs.Faults.{argument_faults}
+use Rattle.pb_typing_declarations.specs.View.{spec_of}
 use Rattle.pb_typing.specs.Arguments.{parameter_count}
 use Rattle.pb_typing.specs.Scopes.{scope_view}
 use Rattle.pb_typing.proofs.instance.check_arguments.Given as goal

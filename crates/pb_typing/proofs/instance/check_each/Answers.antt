@@ -1,10 +1,10 @@
 use Rattle.std.proofs.Common.{◌∙◌, ap, subst, rules, Bool}
-use Rattle.pb_shapes.specs.Shapes.{may_be_alike}
-use Rattle.pb_declarations.specs.declared.fault.Rule.TheVariants as rule
-use Rattle.pb_declarations.specs.Faults.{unless, IsAmong}
-use Rattle.pb_declarations.specs.Shapes.{Shape}
-use Rattle.pb_declarations.specs.View.{spec_of}
-use Rattle.pb_shapes.proofs.Parts.{among_first, first_clear}
+use Rattle.pb_typing_rules.specs.Shapes.{may_be_alike}
+use Rattle.pb_typing_declarations.specs.declared.fault.TypingRule.TheVariants as rule
+use Rattle.pb_typing_declarations.specs.Faults.{unless, IsAmong}
+use Rattle.pb_typing_declarations.specs.Shapes.{Shape}
+use Rattle.pb_typing_declarations.specs.View.{spec_of}
+use Rattle.pb_typing_rules.proofs.Parts.{among_first, first_clear}
 use Rattle.pb_typing.specs.Arguments.{each_faults}
 use Rattle.pb_typing.specs.Scopes.{scope_view}
 use Rattle.pb_typing.specs.View.{shape_view}

@@ -1,11 +1,11 @@
 use Rattle.std.proofs.Common.{◌∙◌, sym, ap, subst, List}
-use Rattle.pb_ast.specs.Form.{instance_form}
-use Rattle.pb_syntax.specs.Erase.{erase}
-use Rattle.pb_shapes.specs.Faults.{instance_faults}
-use Rattle.pb_declarations.specs.declared.fault.Fault.{Fault}
-use Rattle.pb_declarations.specs.declared.fault.TypeError.{TypeError}
-use Rattle.pb_declarations.specs.Faults.{IsAmong}
-use Rattle.pb_declarations.specs.View.{spec_of}
+use Rattle.pb_text_tree.specs.Form.{instance_form}
+use Rattle.pb_text_meaning.specs.Erase.{erase}
+use Rattle.pb_typing_rules.specs.Faults.{instance_faults}
+use Rattle.pb_typing_declarations.specs.declared.fault.TypingFault.{TypingFault}
+use Rattle.pb_typing_declarations.specs.declared.fault.TypeError.{TypeError}
+use Rattle.pb_typing_declarations.specs.Faults.{IsAmong}
+use Rattle.pb_typing_declarations.specs.View.{spec_of}
 use Rattle.pb_typing.specs.Scopes.{scope_view}
 use Rattle.pb_typing.proofs.Calls.{instance-called, unknown_instance}
 use Rattle.pb_typing.proofs.FormulaNodes.{Checks}
@@ -16,7 +16,7 @@ returns-in-Some c =
     let S = spec_of c.args.declarations.now in
     let a = scope_view c.args.scope.now in
     let same = ap erase c.requires in
-    subst (λ (zs : List Fault). Checks zs c.check_call.result)
+    subst (λ (zs : List TypingFault). Checks zs c.check_call.result)
     (sym (instance-called c.args.spec.now S c.args.even a c.args.instance.now c.deref.result.now c.in-Some.index c.index.result.now c.deref-in-Some-2.result.now c.deref-in-Some.result.now
     same c.deref.ensures (sym c.equation.ensures ∙ c.in-Some.is) c.index.ensures c.deref-in-Some-2.ensures.value c.deref-in-Some.ensures.value c.in_ok-require.ensures))
     c.check_call.ensures

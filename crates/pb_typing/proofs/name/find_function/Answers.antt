@@ -1,12 +1,12 @@
 use Rattle.std.proofs.Common.{◌≡◌, ◌∙◌, sym, ap, subst, Option, Some}
 use Rattle.std.specs.Option.{option_map}
-use Rattle.pb_ast.specs.Form.{named}
-use Rattle.pb_declarations.specs.declared.fault.TypeError.{TypeError}
-use Rattle.pb_declarations.specs.Faults.{IsAmong}
-use Rattle.pb_declarations.specs.View.{spec_of}
-use Rattle.pb_shapes.specs.Faults.{function_faults}
-use Rattle.pb_shapes.specs.Functions as functions
-use Rattle.pb_shapes.specs.Functions.{function_named, arity}
+use Rattle.pb_text_tree.specs.Form.{named}
+use Rattle.pb_typing_declarations.specs.declared.fault.TypeError.{TypeError}
+use Rattle.pb_typing_declarations.specs.Faults.{IsAmong}
+use Rattle.pb_typing_declarations.specs.View.{spec_of}
+use Rattle.pb_typing_rules.specs.Faults.{function_faults}
+use Rattle.pb_typing_rules.specs.Functions as functions
+use Rattle.pb_typing_rules.specs.Functions.{function_named, arity}
 use Rattle.pb_typing.specs.declared.function.Function as code
 use Rattle.pb_typing.specs.View.{function_view}
 use Rattle.pb_typing.proofs.Unknown.{wrong_count}

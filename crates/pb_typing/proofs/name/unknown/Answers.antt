@@ -1,9 +1,9 @@
 use Rattle.std.proofs.Common.{◌∙◌, sym, subst}
-use Rattle.pb_ast.specs.Form.{named}
-use Rattle.pb_declarations.specs.declared.fault.TypeError.{TypeError}
-use Rattle.pb_declarations.specs.Faults.{IsAmong}
-use Rattle.pb_declarations.specs.View.{spec_of}
-use Rattle.pb_shapes.specs.Faults.{unknown_faults}
+use Rattle.pb_text_tree.specs.Form.{named}
+use Rattle.pb_typing_declarations.specs.declared.fault.TypeError.{TypeError}
+use Rattle.pb_typing_declarations.specs.Faults.{IsAmong}
+use Rattle.pb_typing_declarations.specs.View.{spec_of}
+use Rattle.pb_typing_rules.specs.Faults.{unknown_faults}
 use Rattle.pb_typing.proofs.Unknown.{predicate_in_data, unknown_name}
 use Rattle.pb_typing.proofs.name.unknown.Goals as goal
 

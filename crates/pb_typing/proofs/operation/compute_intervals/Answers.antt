@@ -1,11 +1,11 @@
 use Rattle.std.proofs.Common.{◌≡◌, ◌∙◌, sym, true, subst}
-use Rattle.pb_declarations.specs.declared.fault.TypeError.{TypeError}
-use Rattle.pb_declarations.specs.declared.fault.Rule.TheVariants as rule
-use Rattle.pb_declarations.specs.Faults.{IsAmong}
-use Rattle.pb_declarations.specs.Shapes.{Wholes}
-use Rattle.pb_shapes.specs.Shapes.{may_divide, Computed}
-use Rattle.pb_shapes.specs.Faults.{operator_faults}
-use Rattle.pb_shapes.proofs.Parts.{holds_unless}
+use Rattle.pb_typing_declarations.specs.declared.fault.TypeError.{TypeError}
+use Rattle.pb_typing_declarations.specs.declared.fault.TypingRule.TheVariants as rule
+use Rattle.pb_typing_declarations.specs.Faults.{IsAmong}
+use Rattle.pb_typing_declarations.specs.Shapes.{Wholes}
+use Rattle.pb_typing_rules.specs.Shapes.{may_divide, Computed}
+use Rattle.pb_typing_rules.specs.Faults.{operator_faults}
+use Rattle.pb_typing_rules.proofs.Parts.{holds_unless}
 use Rattle.pb_typing.specs.View.{operation_of}
 use Rattle.pb_typing.proofs.Computed.{computed, beyond}
 use Rattle.pb_typing.proofs.operation.compute_intervals.Goals as goal

@@ -1,6 +1,6 @@
 use Rattle.std.proofs.Common.{◌∙◌, sym, ap, arith}
-use Rattle.pb_shapes.specs.Scope.{Scope}
-use Rattle.pb_declarations.specs.View.{spec_of}
+use Rattle.pb_typing_rules.specs.Scope.{Scope}
+use Rattle.pb_typing_declarations.specs.View.{spec_of}
 use Rattle.pb_typing.specs.Scopes.{table_view}
 use Rattle.pb_typing.proofs.Tables.{groups_begun, group_put, groups_ended}
 use Rattle.pb_typing.proofs.scope.variable_shapes.Goals as goal

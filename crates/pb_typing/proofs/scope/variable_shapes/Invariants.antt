@@ -1,6 +1,6 @@
 use Rattle.std.proofs.Common.{◌≡◌, drop}
-use Rattle.pb_shapes.specs.Scope.{outermost}
-use Rattle.pb_declarations.specs.View.{spec_of}
+use Rattle.pb_typing_rules.specs.Scope.{outermost}
+use Rattle.pb_typing_declarations.specs.View.{spec_of}
 use Rattle.pb_typing.specs.Scopes.{table_view}
 use Rattle.pb_typing.proofs.Tables.{scope_of_groups}
 use Rattle.pb_typing.proofs.scope.variable_shapes.Given as goal

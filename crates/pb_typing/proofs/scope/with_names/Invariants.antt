@@ -1,5 +1,5 @@
 use Rattle.std.proofs.Common.{◌≡◌, drop}
-use Rattle.pb_declarations.specs.Tables.{looked_up}
+use Rattle.pb_typing_declarations.specs.Tables.{looked_up}
 use Rattle.pb_typing.specs.Scopes.{looked_up_with}
 use Rattle.pb_typing.proofs.scope.with_names.Given as goal
 

@@ -1,17 +1,17 @@
 use Rattle.std.proofs.Common.{◌≡◌, ◌∙◌, sym, ap, arith, refl, inr, Option, Some, List, [], ◌∷◌, length}
 use Rattle.std.specs.Prelude.{◌==◌, vec_len}
 use Rattle.std.specs.Option.{option_map}
-use Rattle.pb_ast.specs.declared.term.Term.{Term}
-use Rattle.pb_ast.specs.declared.term.Argument.{Argument}
-use Rattle.pb_ast.specs.declared.term.ArithmeticLink.{ArithmeticLink}
-use Rattle.pb_ast.specs.Form.{TermForm, named, argument_forms, arithmetic_links, calculated, term_form}
-use Rattle.pb_ast.proofs.FormLemmas.{term-chain, term-arithmetic, term-application}
-use Rattle.pb_syntax.specs.Erase.{erased_term}
-use Rattle.pb_shapes.specs.Functions as functions
-use Rattle.pb_shapes.specs.Functions.{function_named}
-use Rattle.pb_shapes.specs.Term.{shape}
-use Rattle.pb_declarations.specs.Shapes as model
-use Rattle.pb_declarations.specs.View.{spec_of}
+use Rattle.pb_text_tree.specs.declared.term.Term.{Term}
+use Rattle.pb_text_tree.specs.declared.term.Argument.{Argument}
+use Rattle.pb_text_tree.specs.declared.term.ArithmeticLink.{ArithmeticLink}
+use Rattle.pb_text_tree.specs.Form.{TermForm, named, argument_forms, arithmetic_links, calculated, term_form}
+use Rattle.pb_text_tree.proofs.FormLemmas.{term-chain, term-arithmetic, term-application}
+use Rattle.pb_text_meaning.specs.Erase.{erased_term}
+use Rattle.pb_typing_rules.specs.Functions as functions
+use Rattle.pb_typing_rules.specs.Functions.{function_named}
+use Rattle.pb_typing_rules.specs.Term.{shape}
+use Rattle.pb_typing_declarations.specs.Shapes as model
+use Rattle.pb_typing_declarations.specs.View.{spec_of}
 use Rattle.pb_typing.specs.declared.function.Function as code
 use Rattle.pb_typing.specs.Scopes.{scope_view}
 use Rattle.pb_typing.specs.View.{shape_view, function_view}

@@ -1,8 +1,8 @@
 use Rattle.std.proofs.Common.{◌≡◌, ◌+◌, drop}
-use Rattle.pb_ast.specs.Form.{arithmetic_links, calculated, term_form}
-use Rattle.pb_syntax.specs.Erase.{erased_term}
-use Rattle.pb_shapes.specs.Term.{shape}
-use Rattle.pb_declarations.specs.View.{spec_of}
+use Rattle.pb_text_tree.specs.Form.{arithmetic_links, calculated, term_form}
+use Rattle.pb_text_meaning.specs.Erase.{erased_term}
+use Rattle.pb_typing_rules.specs.Term.{shape}
+use Rattle.pb_typing_declarations.specs.View.{spec_of}
 use Rattle.pb_typing.specs.Scopes.{scope_view}
 use Rattle.pb_typing.specs.View.{shape_view}
 use Rattle.pb_evaluation.proofs.Weight.{weight, arithmetic_weight, arguments_weight}

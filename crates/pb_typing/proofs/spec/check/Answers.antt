@@ -1,6 +1,6 @@
 use Rattle.std.proofs.Common.{ap}
-use Rattle.pb_ast.specs.Form.{spec_form}
-use Rattle.pb_shapes.proofs.WellTypedLemmas.{well_typed, ill_typed}
+use Rattle.pb_text_tree.specs.Form.{spec_form}
+use Rattle.pb_typing_rules.proofs.WellTypedLemmas.{well_typed, ill_typed}
 use Rattle.pb_typing.specs.Typed.{is_none}
 use Rattle.pb_typing.proofs.spec.check.Goals as goal
 

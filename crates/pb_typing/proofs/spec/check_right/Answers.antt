@@ -1,12 +1,12 @@
 use Rattle.std.proofs.Common.{◌≡◌, ◌∙◌, [], true, ap, subst, List}
 use Rattle.std.specs.Prelude.{MatchResult}
-use Rattle.pb_ast.specs.declared.variable.Variables.{Variables}
-use Rattle.pb_ast.specs.Form.{formula_form, variable_forms}
-use Rattle.pb_syntax.specs.Erase.{erased_variables}
-use Rattle.pb_declarations.specs.Faults.{IsAmong}
-use Rattle.pb_declarations.specs.View.{spec_of}
-use Rattle.pb_shapes.specs.Faults.{formula_faults}
-use Rattle.pb_shapes.specs.Scope.{Scope, bound, outermost}
+use Rattle.pb_text_tree.specs.declared.variable.Variables.{Variables}
+use Rattle.pb_text_tree.specs.Form.{formula_form, variable_forms}
+use Rattle.pb_text_meaning.specs.Erase.{erased_variables}
+use Rattle.pb_typing_declarations.specs.Faults.{IsAmong}
+use Rattle.pb_typing_declarations.specs.View.{spec_of}
+use Rattle.pb_typing_rules.specs.Faults.{formula_faults}
+use Rattle.pb_typing_rules.specs.Scope.{Scope, bound, outermost}
 use Rattle.pb_typing.specs.Scopes.{table_view}
 use Rattle.pb_typing.proofs.Nodes.{inner_scope}
 use Rattle.pb_typing.proofs.spec.check_right.Goals as goal

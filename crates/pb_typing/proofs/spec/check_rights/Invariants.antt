@@ -1,5 +1,5 @@
 use Rattle.std.proofs.Common.{◌≡◌, drop}
-use Rattle.pb_declarations.specs.View.{spec_of}
+use Rattle.pb_typing_declarations.specs.View.{spec_of}
 use Rattle.pb_typing.proofs.Rights.{rights}
 use Rattle.pb_typing.proofs.spec.check_rights.Given as goal
 

@@ -1,11 +1,11 @@
 use Rattle.std.proofs.Common.{◌≡◌, ◌∙◌, [], ap, sym, subst, rules}
-use Rattle.pb_ast.specs.Form.{SpecForm, spec_form}
-use Rattle.pb_syntax.specs.Erase.{erase}
-use Rattle.pb_declarations.specs.declared.fault.TypeError.{TypeError}
-use Rattle.pb_declarations.specs.Declarations.{declaration_faults}
-use Rattle.pb_declarations.specs.Faults.{IsAmong}
-use Rattle.pb_shapes.specs.Faults.{faults, initial_faults, right_faults}
-use Rattle.pb_shapes.proofs.Parts.{among_left, among_right, no_whole}
+use Rattle.pb_text_tree.specs.Form.{SpecForm, spec_form}
+use Rattle.pb_text_meaning.specs.Erase.{erase}
+use Rattle.pb_typing_declarations.specs.declared.fault.TypeError.{TypeError}
+use Rattle.pb_typing_declarations.specs.Declarations.{declaration_faults}
+use Rattle.pb_typing_declarations.specs.Faults.{IsAmong}
+use Rattle.pb_typing_rules.specs.Faults.{faults, initial_faults, right_faults}
+use Rattle.pb_typing_rules.proofs.Parts.{among_left, among_right, no_whole}
 use Rattle.pb_typing.specs.Typed.{IsLayout}
 use Rattle.pb_typing.proofs.spec.check_spec.Goals as goal
 

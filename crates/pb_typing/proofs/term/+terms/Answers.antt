@@ -1,21 +1,21 @@
 use Rattle.std.proofs.Common.{◌≡◌, ◌∙◌, ◌++◌, ◌&&◌, sym, ap, subst, rules, arith, Bool, List, [], ◌∷◌}
-use Rattle.pb_ast.specs.declared.variable.Variables.{Variables}
-use Rattle.pb_ast.specs.declared.term.Term.{Term}
-use Rattle.pb_ast.specs.declared.term.TermLink.{TermLink}
-use Rattle.pb_ast.specs.declared.term.ArithmeticLink.{ArithmeticLink}
-use Rattle.pb_ast.specs.declared.term.Argument.{Argument}
-use Rattle.pb_ast.specs.Form.{TermForm, named, argument_forms, arithmetic_links, calculated, chained, term_form, term_links, variable_forms}
-use Rattle.pb_ast.proofs.FormLemmas.{term-chain, term-arithmetic, term-application}
-use Rattle.pb_syntax.specs.Erase.{erased_term, erased_arguments, erased_variables}
-use Rattle.pb_shapes.specs.Faults.{term_faults, operator_faults}
-use Rattle.pb_shapes.specs.Shapes.{Computed, may_be_truth}
-use Rattle.pb_shapes.specs.Scope.{bound, outermost}
-use Rattle.pb_shapes.specs.Term.{shape, shapes}
-use Rattle.pb_declarations.specs.declared.fault.Rule.TheVariants as rule
-use Rattle.pb_declarations.specs.Faults.{unless, IsAmong}
-use Rattle.pb_declarations.specs.Shapes as model
-use Rattle.pb_declarations.specs.View.{spec_of}
-use Rattle.pb_shapes.proofs.Parts.{among_left, among_right, among_first, first_clear}
+use Rattle.pb_text_tree.specs.declared.variable.Variables.{Variables}
+use Rattle.pb_text_tree.specs.declared.term.Term.{Term}
+use Rattle.pb_text_tree.specs.declared.term.TermLink.{TermLink}
+use Rattle.pb_text_tree.specs.declared.term.ArithmeticLink.{ArithmeticLink}
+use Rattle.pb_text_tree.specs.declared.term.Argument.{Argument}
+use Rattle.pb_text_tree.specs.Form.{TermForm, named, argument_forms, arithmetic_links, calculated, chained, term_form, term_links, variable_forms}
+use Rattle.pb_text_tree.proofs.FormLemmas.{term-chain, term-arithmetic, term-application}
+use Rattle.pb_text_meaning.specs.Erase.{erased_term, erased_arguments, erased_variables}
+use Rattle.pb_typing_rules.specs.Faults.{term_faults, operator_faults}
+use Rattle.pb_typing_rules.specs.Shapes.{Computed, may_be_truth}
+use Rattle.pb_typing_rules.specs.Scope.{bound, outermost}
+use Rattle.pb_typing_rules.specs.Term.{shape, shapes}
+use Rattle.pb_typing_declarations.specs.declared.fault.TypingRule.TheVariants as rule
+use Rattle.pb_typing_declarations.specs.Faults.{unless, IsAmong}
+use Rattle.pb_typing_declarations.specs.Shapes as model
+use Rattle.pb_typing_declarations.specs.View.{spec_of}
+use Rattle.pb_typing_rules.proofs.Parts.{among_left, among_right, among_first, first_clear}
 use Rattle.pb_typing.specs.Scopes.{scope_view, table_view, inner_view}
 use Rattle.pb_typing.specs.View.{Judges, shape_view, operation_of, is_no_link}
 use Rattle.pb_evaluation.proofs.Weight.{weight, weight-chain, weight-arithmetic, weight-application, links_weight, arithmetic_weight, arguments_weight, link_lighter, operand_lighter}

@@ -1,9 +1,9 @@
 use Rattle.std.proofs.Common.{rules, true}
-use Rattle.pb_ast.specs.Form.{FormulaForm, term_form}
-use Rattle.pb_shapes.specs.Faults.{formula_faults}
-use Rattle.pb_declarations.specs.Faults.{IsAmong}
-use Rattle.pb_declarations.specs.View.{spec_of}
-use Rattle.pb_shapes.proofs.Parts.{among_left}
+use Rattle.pb_text_tree.specs.Form.{FormulaForm, term_form}
+use Rattle.pb_typing_rules.specs.Faults.{formula_faults}
+use Rattle.pb_typing_declarations.specs.Faults.{IsAmong}
+use Rattle.pb_typing_declarations.specs.View.{spec_of}
+use Rattle.pb_typing_rules.proofs.Parts.{among_left}
 use Rattle.pb_typing.specs.Scopes.{scope_view}
 use Rattle.pb_typing.proofs.term.check_truth.Goals as goal
 

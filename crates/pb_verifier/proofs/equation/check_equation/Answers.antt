@@ -2,8 +2,8 @@ use Rattle.std.proofs.Common.{map, sym, length}
 use Rattle.std.specs.Prelude.{vec_items}
 use Rattle.std.proofs.lemmas.List.{length-map}
 use Rattle.std.proofs.lemmas.Result.{err_from_is_err_and}
-use Rattle.pb_structure.specs.Views.{IsProgramOf}
-use Rattle.pb_structure.specs.declared.equation_code.EquationCode.{EquationCode}
+use Rattle.pb_verifier_structure.specs.Views.{IsProgramOf}
+use Rattle.pb_verifier_structure.specs.declared.equation_code.EquationCode.{EquationCode}
 use Rattle.pb_verifier.specs.Programs.{program_in}
 use Rattle.pb_verifier.proofs.Steps.{where_ok}
 use Rattle.pb_verifier.proofs.Equations.{broken_structure, not_enough, enough, table_found, no_table, where_broken}

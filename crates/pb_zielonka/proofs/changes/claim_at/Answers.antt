@@ -1,6 +1,6 @@
 use Rattle.std.proofs.Common.{◌≡◌, ◌<◌, ◌-◌, ℕ, arith, get_or, ◌∙◌, subst, length}
 use Rattle.std.proofs.lemmas.List.{get_or_read}
-use Rattle.pb_certificate.specs.Solutions.{count_of}
+use Rattle.pb_game_certificate.specs.Solutions.{count_of}
 use Rattle.pb_zielonka.proofs.changes.claim_at.Goals as goal
 
 pub returns-then-top-gt0-clause-claimed : goal.returns-then-top-gt0-clause-claimed

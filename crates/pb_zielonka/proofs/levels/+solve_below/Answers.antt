@@ -1,7 +1,7 @@
 use Rattle.std.proofs.Common.{◌≡◌, ◌<◌, ◌+◌, ◌-◌, ◌%◌, ◌∙◌, ℕ, List, Bool, arith, rules, refl, sym, subst}
 use Rattle.pb_game.specs.Games.{vertex_count}
 use Rattle.pb_game.proofs.Laws.{is_game}
-use Rattle.pb_certificate.specs.Solutions.{winner_of}
+use Rattle.pb_game_certificate.specs.Solutions.{winner_of}
 use Rattle.pb_zielonka.specs.Regions.{IsIn, IsGreatestIn, size_of}
 use Rattle.pb_zielonka.specs.Changes.{IsRaisedAt, IsClearedAt}
 use Rattle.pb_zielonka.specs.Turns.{IsRemaining, IsClaimedFront}

@@ -1,6 +1,6 @@
 use Rattle.std.proofs.Common.{ℕ, ◌+◌, ◌*◌, ◌<◌, ◌≤◌}
 use Rattle.pb_game.specs.Games.{vertex_count}
-use Rattle.pb_certificate.specs.Solutions.{HasLengths}
+use Rattle.pb_game_certificate.specs.Solutions.{HasLengths}
 use Rattle.pb_zielonka.specs.Regions.{IsIn, size_of}
 use Rattle.pb_zielonka.specs.Changes.{IsSameAt}
 use Rattle.pb_zielonka.specs.Turns.{IsRemaining}

@@ -1,10 +1,10 @@
 use Rattle.std.proofs.Common.{◌≡◌, ℕ, List, sym, subst}
-use Rattle.pb_ast.specs.Form.{SpecForm, spec_form}
+use Rattle.pb_text_tree.specs.Form.{SpecForm, spec_form}
 use Rattle.pb_text.specs.Parsing.{IsReading, IsReadingWithin}
-use Rattle.pb_declarations.specs.declared.fault.TypeError.{TypeError}
-use Rattle.pb_declarations.specs.declared.fault.TypeError.TheVariants.{Memory, At}
-use Rattle.pb_declarations.specs.Faults.{IsAmong}
-use Rattle.pb_shapes.specs.Faults.{faults}
+use Rattle.pb_typing_declarations.specs.declared.fault.TypeError.{TypeError}
+use Rattle.pb_typing_declarations.specs.declared.fault.TypeError.TheVariants.{Memory, At}
+use Rattle.pb_typing_declarations.specs.Faults.{IsAmong}
+use Rattle.pb_typing_rules.specs.Faults.{faults}
 use Rattle.pbsolve.specs.declared.solve_error.SolveError.{SolveError}
 use Rattle.pbsolve.specs.Answers.{IsTheReading, IsRefused}
 use Rattle.pbsolve.specs.Errors.{type_refusal}

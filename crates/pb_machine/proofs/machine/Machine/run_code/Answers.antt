@@ -1,8 +1,8 @@
 use Rattle.std.proofs.Common.{◌≡◌, suc, ◌+◌, ◌-◌, ◌∙◌, true, false, length, refl, ap, subst, arith, rules, Fits, w64}
 use Rattle.std.proofs.lemmas.Option.{slice_get_within}
 use Rattle.pb_trees.specs.Tokens.{tree_tokens}
-use Rattle.pb_code.specs.Machine.{execute}
-use Rattle.pb_code.specs.declared.instruction.Op.{Op}
+use Rattle.pb_bytecode_program.specs.Machine.{execute}
+use Rattle.pb_bytecode_program.specs.declared.instruction.Op.{Op}
 use Rattle.pb_machine.specs.Mirror.{IsNoFault, WritesAtMost}
 use Rattle.pb_machine.proofs.Runs.{LeadsTo, next_step, instruction_same, if_ok_more, goes_on, has_ended}
 use Rattle.pb_machine.proofs.machine.Machine.run_code.Goals as goal

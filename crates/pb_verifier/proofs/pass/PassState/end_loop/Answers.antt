@@ -1,4 +1,4 @@
-use Rattle.pb_code.specs.declared.instruction.Op.TheVariants as op
+use Rattle.pb_bytecode_program.specs.declared.instruction.Op.TheVariants as op
 use Rattle.pb_verifier.proofs.Steps.{known_flows, where_ok, where_refused}
 use Rattle.pb_verifier.proofs.pass.PassState.end_loop.Goals as goal
 

@@ -1,6 +1,6 @@
 use Rattle.std.proofs.Common.{sym, refl}
 use Rattle.std.proofs.lemmas.Result.{err_from_is_err_and}
-use Rattle.pb_code.specs.declared.instruction.Op.TheVariants as op
+use Rattle.pb_bytecode_program.specs.declared.instruction.Op.TheVariants as op
 use Rattle.pb_verifier.specs.Pass.{innermost}
 use Rattle.pb_verifier.specs.Programs.{program_in}
 use Rattle.pb_verifier.proofs.Steps.{known_flows, where_refused_by}

@@ -1,6 +1,0 @@
-use Rattle.std.proofs.Common.{arith}
-use Rattle.pb_abstract_state.proofs.Ordered.{carriers_ordered}
-use Rattle.pb_abstract_state.proofs.state.AbstractState.entry.Goals as goal
-
-pub invariant_of-result : goal.invariant_of-result
-invariant_of-result c = (rw (c.new.ensures.items) (omega arith), rw (c.new.ensures.items) tt, rw (c.in_ok-params.ensures) (carriers_ordered c.args.params.now), rw (c.new-2.ensures.items) tt)

@@ -1,7 +1,0 @@
-use Rattle.std.proofs.Common.{◌≡◌, drop}
-use Rattle.pb_code.specs.Transfer.{abstract_slot}
-use Rattle.pb_abstract_state.proofs.state.slots.find_slot.Given as goal
-
--- the loops so far have other slots
-abbrev pub invariant-loop-around : goal.invariant-loop-around
-invariant-loop-around l = abstract_slot l.loops l.params l.slot ≡ abstract_slot (drop l.around-index l.loops) l.params l.slot

@@ -1,0 +1,193 @@
+-- Abstract states, and what each instruction does to one: its transfer function (abstract interpretation, Cousot and
+-- Cousot 1977), which has no value where the instruction's rule fails.
+use Rattle.std.specs.Prelude.{ℕ, zero, suc, ◌+◌, Bool, true, false, not, ◌&&◌, ◌||◌, List, [], ◌∷◌, ◌++◌, length, reverse, Option, Some, None, ℤ, pos, neg_ℤ, int_lt, int_le, ◌==◌, nat_lt, nat_le, if◌then◌else◌, slice_get}
+use Rattle.std.specs.Int.{int_min, int_max}
+use Rattle.pb_bytecode_program.specs.Values.{is_inhabited, divides, fits64}
+use Rattle.pb_bytecode_program.specs.Abstract.{abstraction_of, interval_of, absolute_interval, same_kind}
+use Rattle.pb_bytecode_program.specs.Machine.{Program, carrier_of}
+use Rattle.pb_bytecode_program.specs.declared.abstract_value.AbstractValue.{AbstractValue}
+use Rattle.pb_bytecode_program.specs.declared.abstract_value.AbstractValue.TheVariants as abstract
+use Rattle.pb_sorts.specs.declared.carrier.Carrier.{Carrier}
+use Rattle.pb_sorts.specs.declared.carrier.Carrier.TheVariants as carrier
+use Rattle.pb_bytecode_program.specs.declared.instruction.Op.{Op}
+use Rattle.pb_bytecode_program.specs.declared.instruction.Op.TheVariants as op
+
+-- what is known at a place: of the operands, of the slots, of the brackets and of the roots
+pub record AbstractState : Type 0 where
+  pub operands : List AbstractValue  -- above the floor, the topmost first
+  pub below : ℕ  -- how many operands are below the floor
+  pub params : List AbstractValue
+  pub loops : List (ℕ × AbstractValue)  -- the loops under way, the innermost first: each slot with its value
+  pub brackets : ℕ  -- how many are open
+  pub floor : ℕ  -- how many of them a body can't close
+  pub roots : ℕ
+
+-- where control flows, and with what
+pub record Edge : Type 0 where
+  pub to : ℕ
+  pub state : AbstractState
+
+-- None: the instruction's rule fails
+abbrev pub Flow : Type 0
+Flow = Option (List Edge)
+
+-- ---- operands
+
+abbrev pub abstract_pop : List AbstractValue → (AbstractValue → List AbstractValue → Flow) → Flow
+abstract_pop [] go = None
+abstract_pop (s ∷ ss) go = go s ss
+
+abbrev pub abstract_pop_int : List AbstractValue → (ℤ → ℤ → List AbstractValue → Flow) → Flow
+abstract_pop_int [] go = None
+abstract_pop_int (abstract.Int l h ∷ ss) go = go l h ss
+abstract_pop_int (abstract.Bool ∷ ss) go = None
+abstract_pop_int (abstract.Enum s n ∷ ss) go = None
+
+abbrev pub abstract_pop_bool : List AbstractValue → (List AbstractValue → Flow) → Flow
+abstract_pop_bool [] go = None
+abstract_pop_bool (abstract.Bool ∷ ss) go = go ss
+abstract_pop_bool (abstract.Int l h ∷ ss) go = None
+abstract_pop_bool (abstract.Enum s n ∷ ss) go = None
+
+abbrev pub to_next_place : ℕ → AbstractState → Flow
+to_next_place q k = Some (record { to = q + 1; state = k } ∷ [])
+
+abbrev pub abstract_push : ℕ → AbstractState → List AbstractValue → AbstractValue → Flow
+abstract_push q k ss s = if nat_lt (length ss + k.below) 32 then to_next_place q (record k { operands = s ∷ ss }) else None
+
+abbrev pub abstract_push_int : ℕ → AbstractState → List AbstractValue → ℤ × ℤ → Flow
+abstract_push_int q k ss i = if fits64 i.0 i.1 then abstract_push q k ss (abstract.Int i.0 i.1) else None
+
+-- each value that the abstract value stands for is one of the carrier
+abbrev pub accepts : AbstractValue → Carrier → Bool
+accepts abstract.Bool carrier.Bool = true
+accepts (abstract.Int l h) (carrier.Range range) = int_le range.lo l && int_le h range.hi
+accepts (abstract.Enum s n) (carrier.Enum enum) = (s == enum.sort) && nat_le n enum.count
+accepts _ _ = false
+
+abbrev pub abstract_pop_args : List Carrier → List AbstractValue → (List AbstractValue → Flow) → Flow
+abstract_pop_args [] ss go = go ss
+abstract_pop_args (c ∷ cs) [] go = None
+abstract_pop_args (c ∷ cs) (s ∷ ss) go = if accepts s c then abstract_pop_args cs ss go else None
+
+-- ---- slots
+
+abbrev pub abstract_slot : List (ℕ × AbstractValue) → List AbstractValue → ℕ → Option AbstractValue
+abstract_slot [] params i = slice_get params i
+abstract_slot (l ∷ ls) params i = if i == l.0 then Some l.1 else abstract_slot ls params i
+
+abbrev pub with_abstract_slot : Option AbstractValue → (AbstractValue → Flow) → Flow
+with_abstract_slot None go = None
+with_abstract_slot (Some s) go = go s
+
+abbrev pub with_interval : AbstractValue → (ℤ → ℤ → Flow) → Flow
+with_interval (abstract.Int l h) go = go l h
+with_interval abstract.Bool go = None
+with_interval (abstract.Enum s n) go = None
+
+abbrev pub set_param : List AbstractValue → ℕ → AbstractValue → List AbstractValue
+set_param [] i s = []
+set_param (x ∷ xs) zero s = s ∷ xs
+set_param (x ∷ xs) (suc i) s = x ∷ set_param xs i s
+
+abbrev pub among : List (ℕ × AbstractValue) → ℕ → Bool
+among [] i = false
+among (l ∷ ls) i = (i == l.0) || among ls i
+
+abbrev pub set_loop : List (ℕ × AbstractValue) → ℕ → AbstractValue → List (ℕ × AbstractValue)
+set_loop [] i s = []
+set_loop (l ∷ ls) i s = if i == l.0 then (l.0, s) ∷ ls else l ∷ set_loop ls i s
+
+abbrev pub set_slot : AbstractState → ℕ → AbstractValue → AbstractState
+set_slot k i s =
+    if among k.loops i then record k { loops = set_loop k.loops i s } else record k { params = set_param k.params i s }
+
+-- ---- brackets and roots
+
+abbrev pub abstract_root : ℕ → ℕ → (ℕ → Flow) → Flow
+abstract_root (suc n) roots go = go roots
+abstract_root zero zero go = go 1
+abstract_root zero (suc n) go = None
+
+abbrev pub abstract_close : ℕ → ℕ → (ℕ → Flow) → Flow
+abstract_close floor zero go = None
+abstract_close floor (suc n) go = if nat_le floor n then go n else None
+
+abbrev pub abstract_end : List (ℕ × AbstractValue) → ℕ → ℕ → Flow
+abstract_end [] zero (suc zero) = Some []
+abstract_end _ _ _ = None
+
+-- ---- loops
+
+abbrev pub abstract_loop : ℕ → AbstractState → ℕ → Option Carrier → Flow
+abstract_loop q k i None = None
+abstract_loop q k i (Some c) =
+    if nat_lt (length k.loops) 8 && not (among k.loops i) && is_inhabited c
+    then to_next_place q (record { operands = []; below = length k.operands + k.below; params = k.params; loops = (i, abstraction_of c) ∷ k.loops; brackets = k.brackets; floor = k.brackets; roots = k.roots })
+    else None
+
+-- home: what is known at the LOOP
+abbrev pub abstract_next : ℕ → AbstractState → List AbstractValue → Option AbstractState → Flow
+abstract_next q k ss None = None
+abstract_next q k (s ∷ ss) (Some home) = None
+abstract_next q k [] (Some home) = if (k.brackets == home.brackets) && (k.roots == home.roots) then to_next_place q home else None
+
+-- ---- one instruction
+
+abbrev pub when : Bool → Edge → List Edge
+when b e = if b then e ∷ [] else []
+
+-- goes on where the interval l..h meets lo..hi, and jumps where it isn't inside
+abbrev pub range_edges : ℕ → ℕ → ℤ → ℤ → ℤ → ℤ → AbstractState → AbstractState → Flow
+range_edges q to l h lo hi inside outside =
+    Some (when (int_le l hi && int_le lo h) (record { to = q + 1; state = inside })
+    ++ when (not (int_le lo l && int_le h hi)) (record { to = to; state = outside }))
+
+abbrev pub enum_fits : Option ℕ → ℕ → Bool
+enum_fits None i = false
+enum_fits (Some n) i = nat_lt i n
+
+abbrev pub count_or_zero : Option ℕ → ℕ
+count_or_zero None = 0
+count_or_zero (Some n) = n
+
+abbrev pub abstract_call : ℕ → AbstractState → Option (List Carrier) → Flow
+abstract_call q k None = None
+abstract_call q k (Some cs) =
+    abstract_pop_args (reverse cs) k.operands (λ ss. abstract_root k.brackets k.roots (λ r. to_next_place q (record k { operands = ss; roots = r })))
+
+-- what the instruction at place q does to what is known there
+abbrev pub transfer : Program → Option AbstractState → ℕ → Op → AbstractState → Flow
+transfer p home q op.End k = abstract_end k.loops k.brackets k.roots
+transfer p home q (op.PushInt z) k = abstract_push q k k.operands (abstract.Int z z)
+transfer p home q (op.PushBool b) k = abstract_push q k k.operands abstract.Bool
+transfer p home q (op.PushEnum s i) k =
+    if enum_fits (slice_get p.sorts s) i then abstract_push q k k.operands (abstract.Enum s (count_or_zero (slice_get p.sorts s))) else None
+transfer p home q (op.Get i) k = with_abstract_slot (abstract_slot k.loops k.params i) (λ s. abstract_push q k k.operands s)
+transfer p home q op.Pop k = abstract_pop k.operands (λ s ss. to_next_place q (record k { operands = ss }))
+transfer p home q (op.Arithmetic c) k =
+    abstract_pop_int k.operands (λ m n ss. abstract_pop_int ss (λ l h ts.
+    if divides c && int_lt m (pos 1) then None else abstract_push_int q k ts (interval_of c l h m n)))
+transfer p home q op.Negate k = abstract_pop_int k.operands (λ l h ss. abstract_push_int q k ss (neg_ℤ h, neg_ℤ l))
+transfer p home q op.Absolute k = abstract_pop_int k.operands (λ l h ss. abstract_push_int q k ss (absolute_interval l h))
+transfer p home q (op.Compare o) k = abstract_pop_int k.operands (λ m n ss. abstract_pop_int ss (λ l h ts. abstract_push q k ts abstract.Bool))
+transfer p home q (op.Equality wanted) k =
+    abstract_pop k.operands (λ t ss. abstract_pop ss (λ s ts. if same_kind s t then abstract_push q k ts abstract.Bool else None))
+transfer p home q op.Not k = abstract_pop_bool k.operands (λ ss. abstract_push q k ss abstract.Bool)
+transfer p home q (op.Logic c) k = abstract_pop_bool k.operands (λ ss. abstract_pop_bool ss (λ ts. abstract_push q k ts abstract.Bool))
+transfer p home q (op.Jump to) k = Some (record { to = to; state = k } ∷ [])
+transfer p home q (op.JumpIf on to) k =
+    abstract_pop_bool k.operands (λ ss.
+    Some (record { to = q + 1; state = record k { operands = ss } } ∷ record { to = to; state = record k { operands = ss } } ∷ []))
+transfer p home q (op.InRange lo hi to) k =
+    abstract_pop_int k.operands (λ l h ss. range_edges q to l h lo hi (record k { operands = abstract.Int (int_max l lo) (int_min h hi) ∷ ss }) (record k { operands = abstract.Int l h ∷ ss }))
+transfer p home q (op.SlotInRange i lo hi to) k =
+    with_abstract_slot (abstract_slot k.loops k.params i) (λ s. with_interval s (λ l h.
+    range_edges q to l h lo hi (set_slot k i (abstract.Int (int_max l lo) (int_min h hi))) k))
+transfer p home q (op.Loop i) k = abstract_loop q k i (carrier_of p i)
+transfer p home q op.Next k = abstract_next q k k.operands home
+transfer p home q (op.Open c) k =
+    if nat_lt k.brackets 32 then abstract_root k.brackets k.roots (λ r. to_next_place q (record k { brackets = k.brackets + 1; roots = r })) else None
+transfer p home q op.Close k = abstract_close k.floor k.brackets (λ n. to_next_place q (record k { brackets = n }))
+transfer p home q (op.Emit l) k = abstract_root k.brackets k.roots (λ r. to_next_place q (record k { roots = r }))
+transfer p home q (op.Call eq) k = abstract_call q k (slice_get p.callees eq)

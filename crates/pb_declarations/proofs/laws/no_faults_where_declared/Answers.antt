@@ -1,5 +1,0 @@
-use Rattle.pb_declarations.proofs.DeclaredLaw.{declared, faultless}
-use Rattle.pb_declarations.proofs.laws.no_faults_where_declared.Goals as goal
-
-pub returns : goal.returns
-returns c = λ text. (declared text, faultless text)

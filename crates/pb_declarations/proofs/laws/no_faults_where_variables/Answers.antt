@@ -1,5 +1,0 @@
-use Rattle.pb_declarations.proofs.ExactParts.{variables, variables_clear}
-use Rattle.pb_declarations.proofs.laws.no_faults_where_variables.Goals as goal
-
-pub returns : goal.returns
-returns c = λ S xs. (variables S xs, variables_clear S xs)

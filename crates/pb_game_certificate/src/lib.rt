@@ -1,0 +1,97 @@
+//! Certificates of a parity game's winners.
+//!
+//! A [`Solution`] names for each vertex the player who wins from there, that player's choice where it moves, and
+//! one count for each priority: a progress measure (Jurdzinski 2000). It is a certificate of its game where the
+//! five rules of [`CertificateRule`] hold, and then its winners are the winners of the game.
+#![tactic(auto)]
+
+ghost use Rattle.std.specs.Prelude.{◌≡◌, ◌+◌, ◌*◌, ◌^◌, ◌<◌, length};
+ghost use Rattle.pb_game.specs.Games.{vertex_count, priority_count};
+ghost use Rattle.pb_game_certificate.specs.Solutions.{winner_of, choice_of, count_of, HasLengths};
+
+use pb_game::Game;
+use std::fmt;
+
+/// For each vertex its winner (0 names player 0, any other byte player 1), the winner's choice, and one count
+/// for each priority. Vertex `v`'s counts stand from `v * (d + 1)`, where `d` is the game's greatest priority.
+#[derive(Drop)]
+pub struct Solution {
+    pub winner: Vec<u8>,
+    pub choice: Vec<u32>,
+    pub counts: Vec<u64>,
+}
+
+/// The rules of a certificate, in the order in which they are tried at a vertex.
+///
+/// An edge is kept where the winner of the vertex that it leaves doesn't move there, or chose it.
+#[derive(Clone, Copy, PartialEq, Eq, Debug)]
+pub enum CertificateRule {
+    /// K05: a list has a wrong length. It counts at vertex 0, before all others.
+    Length,
+    /// K01: the winner's choice is no successor.
+    NoSuccessor,
+    /// K02: a kept edge leaves the winner's region.
+    LeavesRegion,
+    /// K03: along a kept edge the counts of the loser's parity from the vertex's priority on increase.
+    Increases,
+    /// K04: the priority has the loser's parity, and along a kept edge those counts don't decrease.
+    NoDecrease,
+}
+
+impl fmt::Display for CertificateRule {
+    fn fmt<W: fmt::Write>(&self, f: &mut fmt::Formatter<W>) -> fmt::Result {
+        f.write_str(match self {
+            CertificateRule::Length => "K05",
+            CertificateRule::NoSuccessor => "K01",
+            CertificateRule::LeavesRegion => "K02",
+            CertificateRule::Increases => "K03",
+            CertificateRule::NoDecrease => "K04",
+        })
+    }
+}
+
+/// The least vertex at which a rule fails, and the first such rule.
+#[derive(Clone, Copy, PartialEq, Eq, Debug)]
+pub struct Flaw {
+    pub vertex: u32,
+    pub rule: CertificateRule,
+}
+
+impl fmt::Display for Flaw {
+    fn fmt<W: fmt::Write>(&self, f: &mut fmt::Formatter<W>) -> fmt::Result {
+        write!(f, "{} at vertex {}", self.rule, self.vertex)
+    }
+}
+
+impl Solution {
+    /// The player, 0 or 1, that wins `v`.
+    #[tactic(auto, unfolding(crate::specs::Solutions::winner_of))]
+    pub fn winner(&self, v: u32) -> u8
+        requires { v < length self.now.winner.items }
+        ensures value { result ≡ winner_of self.now v }
+        ensures player { result < 2 }
+    {
+        if self.winner[v as usize] == 0 { 0 } else { 1 }
+    }
+
+    /// The winner's choice at `v`.
+    #[tactic(auto, unfolding(crate::specs::Solutions::choice_of))]
+    pub fn choice(&self, v: u32) -> u32
+        requires { v < length self.now.choice.items }
+        ensures { result ≡ choice_of self.now v }
+    {
+        self.choice[v as usize]
+    }
+
+    /// The count of `v` at a priority.
+    #[tactic(auto, unfolding(crate::specs::Solutions::count_of))]
+    pub fn count(&self, game: &Game, v: u32, priority: u32) -> u64
+        requires lengths { HasLengths game.now self.now }
+        requires vertex { v < vertex_count game.now }
+        requires priority { priority < priority_count game.now }
+        ensures { result ≡ count_of game.now self.now v priority }
+    {
+        let width = game.greatest_priority() as usize + 1;
+        self.counts[v as usize * width + priority as usize]
+    }
+}

@@ -1,0 +1,28 @@
+//! What a certificate of the game of trees means: its winners are the truth values of the nested fixpoint solution.
+//! It ties the games of `pb_game` and the certificates of `pb_game_certificate`, which know nothing of equations, to the
+//! solution of `pb_fixpoint` over the trees of `pb_trees`. Definitions and laws alone: the definitions stand in
+//! `specs/`, and each law is the contract of a function that does nothing when it runs.
+#![tactic(auto)]
+
+ghost use Rattle.pb_game_meaning.specs.Examples.{AlternatingInstances, EachOther, GreatestFirst, GreatestOfItself, LeastFirst, LeastOfItself, NestedBracket, TrueOperand, WrongWinner};
+ghost use Rattle.pb_game_meaning.specs.Meaning.{WinnersAreSolved};
+
+/// In the game of a system's reached instances, each certificate gives player 0 exactly the vertices of the instances
+/// that are true in the system's nested solution (Groote and Willemse 2005). The rows of reached instances need only be
+/// closed under calls.
+pub fn winners_are_solved()
+    ensures { WinnersAreSolved }
+{}
+
+/// Small systems by hand: the game of each, a certificate of it, and the values of its instances.
+pub fn worked_examples()
+    ensures greatest_of_itself { GreatestOfItself }
+    ensures least_of_itself { LeastOfItself }
+    ensures wrong_winner { WrongWinner }
+    ensures least_first { LeastFirst }
+    ensures greatest_first { GreatestFirst }
+    ensures each_other { EachOther }
+    ensures alternating_instances { AlternatingInstances }
+    ensures nested_bracket { NestedBracket }
+    ensures true_operand { TrueOperand }
+{}

@@ -1,6 +1,0 @@
-use Rattle.std.proofs.Common.{◌≡◌, drop}
-use Rattle.pb_lexer.specs.Lexing.{two_bytes_among}
-use Rattle.pb_lexer.proofs.piece.two_byte_symbol.Given as goal
-
-abbrev pub invariant-loop-a : goal.invariant-loop-a
-invariant-loop-a l = two_bytes_among l.table l.first l.second ≡ two_bytes_among (drop l.a-index l.table) l.first l.second

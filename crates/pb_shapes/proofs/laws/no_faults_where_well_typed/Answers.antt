@@ -1,5 +1,0 @@
-use Rattle.pb_shapes.proofs.WellTypedLemmas.{well_typed, faultless}
-use Rattle.pb_shapes.proofs.laws.no_faults_where_well_typed.Goals as goal
-
-pub returns : goal.returns
-returns c = λ text. (well_typed text, faultless text)

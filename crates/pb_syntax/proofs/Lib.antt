@@ -1,2 +1,0 @@
-pub mod Positive
-pub mod Instances

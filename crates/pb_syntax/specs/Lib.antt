@@ -1,9 +1,0 @@
-pub mod Syntax
-pub mod Sorts
-pub mod Value
-pub mod Formula
-pub mod Meaning
-pub mod Positive
-pub mod Names
-pub mod Erase
-pub mod Examples

@@ -1,0 +1,530 @@
+-- Chains that group to the left, chains of unmixed operators and comparisons are read rightly.
+use Rattle.std.proofs.Common.{◌≡◌, ◌≢◌, ℕ, suc, ◌+◌, ◌-◌, ◌≤◌, ◌<◌, Bool, true, false, cond, ◌||◌, ◌==◌, ◌⊎◌, inl, inr, List, [], ◌∷◌, ◌++◌, length, refl, sym, ◌∙◌, ap, subst, append_assoc, arith, Ok, Err}
+use Rattle.std.proofs.lemmas.Bool.Decides.{eqb_tells}
+use Rattle.pb_text_lexer.specs.declared.kind.Kind.{Kind}
+use Rattle.pb_text_lexer.specs.declared.fault.ReadingRule.TheVariants.{Unexpected, Limit}
+use Rattle.pb_text_lexer.specs.declared.fault.Refusal.{Refusal}
+use Rattle.pb_text_lexer.specs.Kinds.{is_last, is_limited}
+use Rattle.pb_text_lexer.specs.Tokens.{Tok}
+use Rattle.pb_text_lexer.specs.Grammar.{State, Within, Reads, Is, Series, last, more}
+use Rattle.pb_text_lexer.specs.Grammar as grammar
+use Rattle.pb_text_lexer.specs.OpenGrammar.{Either}
+use Rattle.pb_text_lexer.specs.LeftGrammar.{OperatorOf, Extended, Link, Links, Linked, LeftChain, UnmixedChain, Comparison, grouped}
+use Rattle.pb_text_lexer.specs.Steps.{ends, head_kind, Step, Outcome, and_then, pure, peek, refuse, refusal, kind, take_from, take_token, take_operator, operator_of, extended, unless_next, nothing_between, link, links, linked, left_chain, unmixed_chain, comparison}
+use Rattle.pb_text_lexer.specs.Steps as step
+use Rattle.pb_text_lexer.proofs.TokenLemmas.{ends-behind}
+use Rattle.pb_text_lexer.proofs.Correct.{st, Family, Stops, never, stops-never, Took, Refused, Answers, Correct, move, one-took, refused-here, unlike, then-took, then-refused, then-correct, pure-correct}
+use Rattle.pb_text_lexer.proofs.CorrectSeries.{going, Passes, or-none, or-right, stops-less, stops-at, goes-at, passes-at, passes-move, passes-is, shorter, no-longer, series-correct}
+use Rattle.pb_text_lexer.proofs.CorrectPlain.{Always, anywhere, then-plain}
+
+-- ---- tests of the next token
+
+head-passes : (test : Kind → Bool) (ts : List Tok) → ends ts ≡ true → test (head_kind ts) ≡ true → Passes test ts
+head-passes test [] e same = cc
+head-passes test (t ∷ ts) e same = same
+
+passes-head : (test : Kind → Bool) (ts : List Tok) → Passes test ts → test (head_kind ts) ≡ true
+passes-head test [] h = absurd h
+passes-head test (t ∷ ts) h = h
+
+head-stops : (g test : Kind → Bool) (ts : List Tok) → Stops g ts → test (head_kind ts) ≡ false → Stops (going g test) ts
+head-stops g test [] h other = refl
+head-stops g test (t ∷ ts) h other = or-none (g t.kind) _ h other
+
+-- operators with two operands, behind which more tokens stand
+pub record AreOperators (test : Kind → Bool) : Type 0 where
+  pub not_last : (k : Kind) → test k ≡ true → is_last k ≡ false
+  pub limited : (k : Kind) → test k ≡ true → is_limited k ≡ true
+
+-- ---- one operator
+
+of-parts : (test : Kind → Bool) (t : Tok) (n : ℕ) (after : List Tok) (y : Tok) (w : State) → OperatorOf test (st (t ∷ after) n) y w → (y ≡ t) × (w.tokens ≡ after) × (n ≡ 1 + w.operators)
+of-parts test t n after y w r =
+    let e = r.0 in let p : y ≡ t = cc in let q : w.tokens ≡ after = cc in let c = r.2 in (p, q, omega arith)
+
+module _ (test : Kind → Bool) (depth : ℕ) (are : AreOperators test) where
+  of-taken : (t : Tok) (ts : List Tok) (n m : ℕ) → n ≡ suc m → ends (t ∷ ts) ≡ true → test t.kind ≡ true → Took (λ d. OperatorOf test) never depth (st (t ∷ ts) n) t (st ts m)
+  of-taken t ts n m count e head =
+      subst (λ (v : ℕ). Took (λ d. OperatorOf test) never depth (st (t ∷ ts) v) t (st ts m)) (omega arith)
+      (one-took (λ d. OperatorOf test) depth t ts 1 m t (ends-behind (t ∷ ts) e (are.not_last t.kind head)) (λ after. (refl, head, omega arith)) (λ d i after y w r. of-parts test t i after y w r))
+
+  of-counted : (ts : List Tok) (n : ℕ) (b : Bool) → ((b ≡ true) × (n ≡ 0)) ⊎ ((b ≡ false) × (n ≢ 0)) → ends ts ≡ true → Passes test ts
+      → Answers (λ d. OperatorOf test) never depth (st ts n) (cond b (refuse Limit (st ts n)) (take_from ts (n - 1)))
+  of-counted [] n b tells e head = absurd head
+  of-counted (t ∷ ts) n true tells e head =
+      refused-here (λ d. OperatorOf test) never depth (st (t ∷ ts) n) Limit e (λ q. are.limited t.kind head)
+      (λ d i u tail y w same within r over. none n i w.operators tells within.1 r.2)
+    where
+      none : (n i m : ℕ) → ((true ≡ true) × (n ≡ 0)) ⊎ ((true ≡ false) × (n ≢ 0)) → i ≤ n → i ≡ suc m → ⊥
+      none n i m (inl p) le is = let q = p.1 in omega arith
+      none n i m (inr p) le is = let q = p.0 in cc
+  of-counted (t ∷ ts) n false tells e head = of-taken t ts n (n - 1) (some n tells) e head
+    where
+      some : (n : ℕ) → ((false ≡ true) × (n ≡ 0)) ⊎ ((false ≡ false) × (n ≢ 0)) → n ≡ suc (n - 1)
+      some n (inl p) = let q = p.0 in cc
+      some n (inr p) = let q = p.1 in omega arith
+
+  of-tested : (s : State) (b : Bool) → test (kind s) ≡ b → ends s.tokens ≡ true → Answers (λ d. OperatorOf test) never depth s (cond b (take_operator s) (refuse Unexpected s))
+  unfolding take_operator take_token
+  of-tested s true same e = of-counted s.tokens s.operators (s.operators == 0) (eqb_tells s.operators 0) e (head-passes test s.tokens e same)
+  of-tested s false same e =
+      refused-here (λ d. OperatorOf test) never depth s Unexpected e (λ q. absurd (unlike q))
+      (λ d n u tail y w head within r over. other s.tokens u y w.tokens tail head same r.0 r.1)
+    where
+      other : (ts : List Tok) (u y : Tok) (ws tail : List Tok) → u.kind ≡ head_kind ts → test (head_kind ts) ≡ false → u ∷ tail ≡ y ∷ ws → test y.kind ≡ true → ⊥
+      other ts u y ws tail head same e is =
+          let p : u ≡ y = cc in
+          let q : y.kind ≡ head_kind ts = ap (λ v. v.kind) (sym p) ∙ head in
+          let r : test (head_kind ts) ≡ true = subst (λ (v : Kind). test v ≡ true) q is in cc
+
+  pub operator_of-correct : Correct Always (operator_of test) (λ d. OperatorOf test) never depth
+  unfolding operator_of
+  operator_of-correct s end u = of-tested s (test (kind s)) refl end
+
+pub operator_of-starts : (test : Kind → Bool) (s : State) (t : Tok) (z : State) → OperatorOf test s t z → Passes test s.tokens
+operator_of-starts test s t z r = passes-at test s.tokens z.tokens t r.0 r.1
+
+-- ---- a step behind which no token stands that passes the test
+
+module _ {X : Type 0} (fam : Family X) (g test : Kind → Bool) (depth : ℕ) where
+  stopped : (s : State) (x : X) (z : State) → Took fam g depth s x z → Stops (going g test) z.tokens → Took fam (going g test) depth s x z
+  stopped s x z a stops = record {
+    front = a.front;
+    used = a.used;
+    tokens = a.tokens;
+    operators = a.operators;
+    stops = stops;
+    ended = a.ended;
+    reads = a.reads;
+    only = λ d n after y w stop r over. a.only d n after y w (stops-less g test after stop) r (stops-less g test w.tokens over);
+  }
+
+  next-refused : (s : State) (x : X) (ts : List Tok) (n : ℕ) → Took fam g depth s x (st ts n) → Passes test ts → Refused fam (going g test) depth s (refusal Unexpected ts)
+  next-refused s x [] n a head = absurd head
+  next-refused s x (t ∷ ts) n a head = record {
+    front = a.front;
+    next = t;
+    more = ts;
+    tokens = a.tokens;
+    kind = refl;
+    place = refl;
+    limited = λ q. absurd (unlike q);
+    none = λ d i tail y w within r over.
+        let found = a.only d i (t ∷ tail) y w a.stops r (stops-less g test w.tokens over) in
+        goes-at g test w.tokens (passes-move test w.tokens (t ∷ tail) found.1 head) over;
+  }
+
+  refused-more : (s : State) (bad : Refusal) → Refused fam g depth s bad → Refused fam (going g test) depth s bad
+  refused-more s bad a = record {
+    front = a.front;
+    next = a.next;
+    more = a.more;
+    tokens = a.tokens;
+    kind = a.kind;
+    place = a.place;
+    limited = a.limited;
+    none = λ d n tail y w within r over. a.none d n tail y w within r (stops-less g test w.tokens over);
+  }
+
+  pub unless_next-correct : (P : List Tok → Type 0) (p : Step X) → Correct P p fam g depth → Correct P (unless_next test p) fam (going g test) depth
+  unless_next-correct P p right s end pre = went (p s) (right s end pre)
+    where
+      tested : (x : X) (z : State) (b : Bool) → test (kind z) ≡ b → Took fam g depth s x z → Answers fam (going g test) depth s (cond b (refuse Unexpected) (pure x) z)
+      tested x z true same a = next-refused s x z.tokens z.operators a (head-passes test z.tokens a.ended same)
+      tested x z false same a = stopped s x z a (head-stops g test z.tokens a.stops same)
+
+      went : (o : Outcome X) → Answers fam g depth s o → Answers fam (going g test) depth s (and_then o (λ x. step.◌>>=◌ peek (λ k. cond (test k) (refuse Unexpected) (pure x))))
+      went (Ok r) a = tested r.0 r.1 (test (kind r.1)) refl a
+      went (Err bad) a = refused-more s bad a
+
+-- ---- a thing, and more where the test holds of the next token
+
+module _ {X : Type 0} (item : Family X) (beyond : X → Family X) (g test : Kind → Bool) (depth : ℕ)
+    (apart : (k : Kind) → test k ≡ true → g k ≡ false)
+    (starts : (d : ℕ) (x : X) (m : State) (y : X) (z : State) → beyond x d m y z → Passes test m.tokens) where
+  abbrev many : Family X
+  many d = Extended (item d) (λ x. beyond x d)
+
+  abbrev longer : Family X
+  longer d = grammar.◌>>=◌ (item d) (λ x. beyond x d)
+
+  follow : (d : ℕ) (x : X) (m : State) (y : X) (z : State) → beyond x d m y z → Stops (going g test) z.tokens → Stops g m.tokens
+  follow d x m y z r over = stops-at g test m.tokens apart (starts d x m y z r)
+
+  -- where more follows, no item alone is what was read
+  not-alone : (s s1 : State) (x : X) (a : Took item g depth s x s1) (d n : ℕ) (ts : List Tok) (y : X) (w : State)
+      → Passes test ts → item d (st (a.front ++ ts) n) y w → Stops (going g test) w.tokens → ⊥
+  not-alone s s1 x a d n ts y w head r over =
+      let found = a.only d n ts y w (stops-at g test ts apart head) r (stops-less g test w.tokens over) in
+      goes-at g test w.tokens (passes-move test w.tokens ts found.1 head) over
+
+  more-took : (s s1 : State) (x y : X) (z : State) → Took item g depth s x s1 → Took (beyond x) (going g test) depth s1 y z → Took many (going g test) depth s y z
+  unfolding then-took
+  more-took s s1 x y z a b = record {
+    front = t.front;
+    used = t.used;
+    tokens = t.tokens;
+    operators = t.operators;
+    stops = t.stops;
+    ended = t.ended;
+    reads = λ after. inr (t.reads after);
+    only = λ d n after v w stop r over. only d n after v w stop r over;
+  }
+    where
+      t : Took longer (going g test) depth s y z
+      t = then-took item beyond g (going g test) depth follow s s1 x y z a b
+
+      only : (d n : ℕ) (after : List Tok) (v : X) (w : State) → Stops (going g test) after
+          → many d (st ((a.front ++ b.front) ++ after) n) v w → Stops (going g test) w.tokens
+          → (v ≡ y) × (w.tokens ≡ after) × (n ≡ a.used + b.used + w.operators)
+      only d n after v w stop (inr r) over = (then-took item beyond g (going g test) depth follow s s1 x y z a b).only d n after v w stop r over
+      only d n after v w stop (inl r) over = absurd (not-alone s s1 x a d n (b.front ++ after) v w
+          (starts depth x (st (b.front ++ after) s1.operators) y (st after z.operators) (b.reads after))
+          (move (item d) _ _ n n v w (append_assoc a.front b.front after) refl r) over)
+
+  more-refused : (s s1 : State) (x : X) (bad : Refusal) → Took item g depth s x s1 → Passes test s1.tokens
+      → Refused (beyond x) (going g test) depth s1 bad → Refused many (going g test) depth s bad
+  unfolding then-refused
+  more-refused s s1 x bad a head b = record {
+    front = a.front ++ b.front;
+    next = b.next;
+    more = b.more;
+    tokens = (then-refused item beyond g (going g test) depth follow s s1 x bad a b).tokens;
+    kind = b.kind;
+    place = b.place;
+    limited = b.limited;
+    none = λ d n tail v w within r over. none d n tail v w within r over;
+  }
+    where
+      none : (d n : ℕ) (tail : List Tok) (v : X) (w : State) → Within bad.rule depth s.operators d n
+          → many d (st ((a.front ++ b.front) ++ b.next ∷ tail) n) v w → Stops (going g test) w.tokens → ⊥
+      none d n tail v w within (inr r) over = (then-refused item beyond g (going g test) depth follow s s1 x bad a b).none d n tail v w within r over
+      none d n tail v w within (inl r) over = not-alone s s1 x a d n (b.front ++ b.next ∷ tail) v w
+          (passes-is test b.front b.next b.more tail s1.tokens b.tokens head)
+          (move (item d) _ _ n n v w (append_assoc a.front b.front (b.next ∷ tail)) refl r) over
+
+  item-refused : (s : State) (bad : Refusal) → Refused item g depth s bad → Refused many (going g test) depth s bad
+  item-refused s bad a = record {
+    front = a.front;
+    next = a.next;
+    more = a.more;
+    tokens = a.tokens;
+    kind = a.kind;
+    place = a.place;
+    limited = a.limited;
+    none = λ d n tail v w within r over. none d n tail v w within r over;
+  }
+    where
+      none : (d n : ℕ) (tail : List Tok) (v : X) (w : State) → Within bad.rule depth s.operators d n
+          → many d (st (a.front ++ a.next ∷ tail) n) v w → Stops (going g test) w.tokens → ⊥
+      none d n tail v w within (inl r) over = a.none d n tail v w within r (stops-less g test w.tokens over)
+      none d n tail v w within (inr r) over = a.none d n tail r.0 r.1 within r.2 (follow d r.0 r.1 v w r.3 over)
+
+  alone-took : (s s1 : State) (x : X) → Took item g depth s x s1 → Stops (going g test) s1.tokens → Took many (going g test) depth s x s1
+  alone-took s s1 x a stops = record {
+    front = a.front;
+    used = a.used;
+    tokens = a.tokens;
+    operators = a.operators;
+    stops = stops;
+    ended = a.ended;
+    reads = λ after. inl (a.reads after);
+    only = λ d n after v w stop r over. only d n after v w stop r over;
+  }
+    where
+      only : (d n : ℕ) (after : List Tok) (v : X) (w : State) → Stops (going g test) after
+          → many d (st (a.front ++ after) n) v w → Stops (going g test) w.tokens
+          → (v ≡ x) × (w.tokens ≡ after) × (n ≡ a.used + w.operators)
+      only d n after v w stop (inl r) over = a.only d n after v w (stops-less g test after stop) r (stops-less g test w.tokens over)
+      only d n after v w stop (inr r) over =
+          let found = a.only d n after r.0 r.1 (stops-less g test after stop) r.2 (follow d r.0 r.1 v w r.3 over) in
+          absurd (goes-at g test after (passes-move test after r.1.tokens (sym found.1) (starts d r.0 r.1 v w r.3)) stop)
+
+  pub extended-correct : (P : List Tok → Type 0) (p : Step X) → Correct P p item g depth
+      → (q : X → Step X) → ((x : X) → Correct (Passes test) (q x) (beyond x) (going g test) depth)
+      → Correct P (extended test p q) many (going g test) depth
+  extended-correct P p right-p q right-q s end pre = went (p s) (right-p s end pre)
+    where
+      followed : (s1 : State) (x : X) → Took item g depth s x s1 → Passes test s1.tokens → (o : Outcome X) → Answers (beyond x) (going g test) depth s1 o → Answers many (going g test) depth s o
+      followed s1 x a head (Ok r) b = more-took s s1 x r.0 r.1 a b
+      followed s1 x a head (Err bad) b = more-refused s s1 x bad a head b
+
+      tested : (x : X) (z : State) (b : Bool) → test (kind z) ≡ b → Took item g depth s x z → Answers many (going g test) depth s (cond b (q x) (pure x) z)
+      tested x z true same a = let head = head-passes test z.tokens a.ended same in followed z x a head (q x z) (right-q x z a.ended head)
+      tested x z false same a = alone-took s z x a (head-stops g test z.tokens a.stops same)
+
+      went : (o : Outcome X) → Answers item g depth s o → Answers many (going g test) depth s (and_then o (λ x. step.◌>>=◌ peek (λ k. cond (test k) (q x) (pure x))))
+      went (Ok r) a = tested r.0 r.1 (test (kind r.1)) refl a
+      went (Err bad) a = item-refused s bad a
+
+-- ---- one of two, by the first token
+
+module _ {X : Type 0} (fam other : Family X) (test test' g : Kind → Bool) (depth : ℕ)
+    (apart : (k : Kind) → test k ≡ true → test' k ≡ true → ⊥)
+    (starts : (d : ℕ) (s : State) (y : X) (z : State) → fam d s y z → Passes test s.tokens)
+    (starts' : (d : ℕ) (s : State) (y : X) (z : State) → other d s y z → Passes test' s.tokens) where
+  abbrev one-of : Family X
+  one-of d = Either (fam d) (other d)
+
+  not-both : (ts : List Tok) → Passes test ts → Passes test' ts → ⊥
+  not-both [] h e = h
+  not-both (t ∷ ts) h e = apart t.kind h e
+
+  left-took : (s : State) (x : X) (z : State) → Took fam g depth s x z → Took one-of g depth s x z
+  left-took s x z a = record {
+    front = a.front;
+    used = a.used;
+    tokens = a.tokens;
+    operators = a.operators;
+    stops = a.stops;
+    ended = a.ended;
+    reads = λ after. inl (a.reads after);
+    only = λ d n after y w stop r over. only d n after y w stop r over;
+  }
+    where
+      only : (d n : ℕ) (after : List Tok) (y : X) (w : State) → Stops g after → one-of d (st (a.front ++ after) n) y w → Stops g w.tokens
+          → (y ≡ x) × (w.tokens ≡ after) × (n ≡ a.used + w.operators)
+      only d n after y w stop (inl r) over = a.only d n after y w stop r over
+      only d n after y w stop (inr r) over = absurd (not-both (a.front ++ after) (starts depth (st (a.front ++ after) s.operators) x (st after z.operators) (a.reads after)) (starts' d _ y w r))
+
+  right-took : (s : State) (x : X) (z : State) → Took other g depth s x z → Took one-of g depth s x z
+  right-took s x z a = record {
+    front = a.front;
+    used = a.used;
+    tokens = a.tokens;
+    operators = a.operators;
+    stops = a.stops;
+    ended = a.ended;
+    reads = λ after. inr (a.reads after);
+    only = λ d n after y w stop r over. only d n after y w stop r over;
+  }
+    where
+      only : (d n : ℕ) (after : List Tok) (y : X) (w : State) → Stops g after → one-of d (st (a.front ++ after) n) y w → Stops g w.tokens
+          → (y ≡ x) × (w.tokens ≡ after) × (n ≡ a.used + w.operators)
+      only d n after y w stop (inr r) over = a.only d n after y w stop r over
+      only d n after y w stop (inl r) over = absurd (not-both (a.front ++ after) (starts d _ y w r) (starts' depth (st (a.front ++ after) s.operators) x (st after z.operators) (a.reads after)))
+
+  left-refused : (s : State) (bad : Refusal) → Passes test s.tokens → Refused fam g depth s bad → Refused one-of g depth s bad
+  left-refused s bad head a = record {
+    front = a.front;
+    next = a.next;
+    more = a.more;
+    tokens = a.tokens;
+    kind = a.kind;
+    place = a.place;
+    limited = a.limited;
+    none = λ d n tail y w within r over. none d n tail y w within r over;
+  }
+    where
+      none : (d n : ℕ) (tail : List Tok) (y : X) (w : State) → Within bad.rule depth s.operators d n → one-of d (st (a.front ++ a.next ∷ tail) n) y w → Stops g w.tokens → ⊥
+      none d n tail y w within (inl r) over = a.none d n tail y w within r over
+      none d n tail y w within (inr r) over = not-both _ (passes-is test a.front a.next a.more tail s.tokens a.tokens head) (starts' d _ y w r)
+
+  right-refused : (s : State) (bad : Refusal) → Passes test' s.tokens → Refused other g depth s bad → Refused one-of g depth s bad
+  right-refused s bad head a = record {
+    front = a.front;
+    next = a.next;
+    more = a.more;
+    tokens = a.tokens;
+    kind = a.kind;
+    place = a.place;
+    limited = a.limited;
+    none = λ d n tail y w within r over. none d n tail y w within r over;
+  }
+    where
+      none : (d n : ℕ) (tail : List Tok) (y : X) (w : State) → Within bad.rule depth s.operators d n → one-of d (st (a.front ++ a.next ∷ tail) n) y w → Stops g w.tokens → ⊥
+      none d n tail y w within (inr r) over = a.none d n tail y w within r over
+      none d n tail y w within (inl r) over = not-both _ (starts d _ y w r) (passes-is test' a.front a.next a.more tail s.tokens a.tokens head)
+
+  pub choice-correct : (p q : Step X) → Correct (Passes test) p fam g depth → Correct (Passes test') q other g depth
+      → Correct (Passes (λ k. test k || test' k)) (λ s. cond (test (kind s)) (p s) (q s)) one-of g depth
+  choice-correct p q right-p right-q s end pre = tested (test (kind s)) refl
+    where
+      as-left : (o : Outcome X) → Passes test s.tokens → Answers fam g depth s o → Answers one-of g depth s o
+      as-left (Ok r) h a = left-took s r.0 r.1 a
+      as-left (Err bad) h a = left-refused s bad h a
+
+      as-right : (o : Outcome X) → Passes test' s.tokens → Answers other g depth s o → Answers one-of g depth s o
+      as-right (Ok r) h a = right-took s r.0 r.1 a
+      as-right (Err bad) h a = right-refused s bad h a
+
+      or-other : (a b : Bool) → (a || b) ≡ true → a ≡ false → b ≡ true
+      or-other true b h e = cc
+      or-other false b h e = h
+
+      tested : (b : Bool) → test (kind s) ≡ b → Answers one-of g depth s (cond b (p s) (q s))
+      tested true same = let head = head-passes test s.tokens end same in as-left (p s) head (right-p s end head)
+      tested false same =
+          let head = head-passes test' s.tokens end (or-other (test (kind s)) (test' (kind s)) (passes-head (λ k. test k || test' k) s.tokens pre) same) in
+          as-right (q s) head (right-q s end head)
+
+-- ---- links
+
+module _ {X : Type 0} (item : Family X) (g test : Kind → Bool) (join : X → Tok → X → X) (depth : ℕ) (are : AreOperators test)
+    (apart : (k : Kind) → test k ≡ true → g k ≡ false) (p : Step X) (right-p : Correct Always p item g depth) where
+  follows : (d : ℕ) (y : X) (t : Tok) (m : State) (r : Tok × X) (z : State) → Is (t, y) m r z → Stops g z.tokens → Stops g m.tokens
+  follows d y t m r z h over = subst (λ (v : State). Stops g v.tokens) h.1 over
+
+  link-correct : Correct Always (link test p) (λ d. Link test (item d)) g depth
+  link-correct =
+      then-plain (λ d. OperatorOf test) (λ t d. grammar.◌>>=◌ (item d) (λ y. Is (t, y))) g depth Always (operator_of test) (λ t. step.◌>>=◌ p (λ y. pure (t, y)))
+      (operator_of-correct test depth are)
+      (λ t. then-correct item (λ y d. Is (t, y)) g g depth (λ d y m r z h over. follows d y t m r z h over) Always p (λ y. pure (t, y)) right-p (λ y. pure-correct (t, y) g depth))
+
+  abbrev link-at : Family (Tok × X)
+  link-at d = Link test (item d)
+
+  link-starts : (d : ℕ) (s : State) (y : Tok × X) (z : State) → link-at d s y z → Passes test s.tokens
+  link-starts d s y z r = operator_of-starts test s r.0 r.1 r.2
+
+  links-start : (d : ℕ) (s : State) (y : List (Tok × X)) (z : State) → Links test (item d) s y z → Passes test s.tokens
+  links-start d s y z (last r) = link-starts d s _ z r
+  links-start d s y z (more {m = m} r b rest) = link-starts d s _ m r
+
+  pub links-correct : Correct Always (links test p) (λ d. Links test (item d)) (going g test) depth
+  links-correct s end u =
+      series-correct link-at (λ d. Is {X = Unit {0}} tt) (λ x. x ∷ []) (λ x t xs. x ∷ xs) g test depth apart
+      (λ d m t o y z b r. subst (λ (v : State). Passes test v.tokens) b.1 (links-start d o y z r))
+      (link test p) link-correct nothing_between (λ s e pre. nothing s e)
+      (λ s0 s1 s2 x t a b. less s0.tokens s1.tokens s2.tokens a.front b.front (a.reads []).0 (a.reads []).1.tokens a.tokens b.tokens (a.reads []).2.0)
+      (suc (length s.tokens)) s (omega arith) end
+    where
+      nothing : (s : State) → ends s.tokens ≡ true → Answers (λ d. Is {X = Unit {0}} tt) never depth s (nothing_between s)
+      nothing s e = pure-correct tt never depth s e (stops-never s.tokens)
+
+      less : (ts us vs front behind_front : List Tok) (t : Tok) (rest : List Tok) → ts ≡ front ++ us → us ≡ behind_front ++ vs → front ++ [] ≡ t ∷ rest → length vs < length ts
+      less ts us vs front behind_front t rest h q r = let a = no-longer us behind_front vs q in let b = shorter ts front us rest t h r in omega arith
+
+  linked-follow : (d : ℕ) (x : X) (ls : List (Tok × X)) (m : State) (y : X) (z : State) → Is (grouped join x ls) m y z → Stops (going g test) z.tokens → Stops (going g test) m.tokens
+  linked-follow d x ls m y z h over = subst (λ (v : State). Stops (going g test) v.tokens) h.1 over
+
+  pub linked-correct : (x : X) → Correct Always (linked test join p x) (λ d. Linked test join (item d) x) (going g test) depth
+  linked-correct x =
+      then-correct (λ d. Links test (item d)) (λ ls d. Is (grouped join x ls)) (going g test) (going g test) depth (λ d ls m y z h over. linked-follow d x ls m y z h over)
+      Always (links test p) (λ ls. pure (grouped join x ls)) links-correct (λ ls. pure-correct (grouped join x ls) (going g test) depth)
+
+  pub linked-starts : (d : ℕ) (x : X) (s : State) (y : X) (z : State) → Linked test join (item d) x s y z → Passes test s.tokens
+  linked-starts d x s y z r = links-start d s r.0 r.1 r.2
+
+  -- operands grouped to the left
+  pub left_chain-correct : Correct Always (left_chain test join p) (λ d. LeftChain test join (item d)) (going g test) depth
+  left_chain-correct =
+      extended-correct item (λ x d. Linked test join (item d) x) g test depth apart (λ d x m y z r. linked-starts d x m y z r)
+      Always p right-p (linked test join p) (λ x. anywhere (Passes test) (linked test join p x) (λ d. Linked test join (item d) x) (going g test) depth (linked-correct x))
+
+  -- an operator and a second operand
+  abbrev second : X → Family X
+  second x d = grammar.◌>>=◌ (OperatorOf test) (λ t. grammar.◌>>=◌ (item d) (λ y. Is (join x t y)))
+
+  second-correct : (x : X) → Correct Always (step.◌>>=◌ (operator_of test) (λ t. step.◌>>=◌ p (λ y. pure (join x t y)))) (second x) g depth
+  second-correct x =
+      then-plain (λ d. OperatorOf test) (λ t d. grammar.◌>>=◌ (item d) (λ y. Is (join x t y))) g depth Always (operator_of test) (λ t. step.◌>>=◌ p (λ y. pure (join x t y)))
+      (operator_of-correct test depth are)
+      (λ t. then-correct item (λ y d. Is (join x t y)) g g depth (λ d y m r z h over. subst (λ (v : State). Stops g v.tokens) h.1 over) Always p (λ y. pure (join x t y)) right-p (λ y. pure-correct (join x t y) g depth))
+
+  -- one operand or two
+  pub comparison-correct : Correct Always (comparison test join p) (λ d. Comparison test join (item d)) (going g test) depth
+  comparison-correct =
+      extended-correct item second g test depth apart (λ d x m y z r. operator_of-starts test m r.0 r.1 r.2)
+      Always p right-p (λ x. unless_next test (step.◌>>=◌ (operator_of test) (λ t. step.◌>>=◌ p (λ y. pure (join x t y)))))
+      (λ x. anywhere (Passes test) (unless_next test (step.◌>>=◌ (operator_of test) (λ t. step.◌>>=◌ p (λ y. pure (join x t y))))) (second x) (going g test) depth
+      (unless_next-correct (second x) g test depth Always (step.◌>>=◌ (operator_of test) (λ t. step.◌>>=◌ p (λ y. pure (join x t y)))) (second-correct x)))
+
+-- ---- operators of one group or of the other
+
+-- what goes on with the same kinds
+same-stops : (g h : Kind → Bool) → ((k : Kind) → g k ≡ h k) → (ts : List Tok) → Stops g ts → Stops h ts
+same-stops g h same [] e = refl
+same-stops g h same (t ∷ ts) e = sym (same t.kind) ∙ e
+
+stops-same : (g h : Kind → Bool) → ((k : Kind) → g k ≡ h k) → (ts : List Tok) → Stops h ts → Stops g ts
+stops-same g h same [] e = refl
+stops-same g h same (t ∷ ts) e = same t.kind ∙ e
+
+pub going-alike-correct : {X : Type 0} (P : List Tok → Type 0) (p : Step X) (fam : Family X) (g h : Kind → Bool) (depth : ℕ) → ((k : Kind) → g k ≡ h k)
+    → Correct P p fam g depth → Correct P p fam h depth
+going-alike-correct {X} P p fam g h depth same a s end pre = went (p s) (a s end pre)
+  where
+    went : (o : Outcome X) → Answers fam g depth s o → Answers fam h depth s o
+    went (Ok r) t = record {
+      front = t.front;
+      used = t.used;
+      tokens = t.tokens;
+      operators = t.operators;
+      stops = same-stops g h same r.1.tokens t.stops;
+      ended = t.ended;
+      reads = t.reads;
+      only = λ d n after y w stop q over. t.only d n after y w (stops-same g h same after stop) q (stops-same g h same w.tokens over);
+    }
+    went (Err bad) t = record {
+      front = t.front;
+      next = t.next;
+      more = t.more;
+      tokens = t.tokens;
+      kind = t.kind;
+      place = t.place;
+      limited = t.limited;
+      none = λ d n tail y w within q over. t.none d n tail y w within q (stops-same g h same w.tokens over);
+    }
+
+left-alike : (a b c : Bool) → ((a || b) || c) ≡ (a || (b || c))
+left-alike true b c = refl
+left-alike false b c = refl
+
+right-alike : (a b c : Bool) → ((a || c) || b) ≡ (a || (b || c))
+right-alike true b c = refl
+right-alike false true true = refl
+right-alike false true false = refl
+right-alike false false true = refl
+right-alike false false false = refl
+
+module _ {X : Type 0} (item : Family X) (g test other : Kind → Bool) (join : X → Tok → X → X) (depth : ℕ) (are : AreOperators test) (others-are : AreOperators other)
+    (apart : (k : Kind) → test k ≡ true → g k ≡ false) (other-apart : (k : Kind) → other k ≡ true → g k ≡ false)
+    (unmixed : (k : Kind) → test k ≡ true → other k ≡ true → ⊥) (p : Step X) (right-p : Correct Always p item g depth) where
+  abbrev any : Kind → Bool
+  any k = test k || other k
+
+  any-apart : (k : Kind) → any k ≡ true → g k ≡ false
+  any-apart k h = by (test k) refl h
+    where
+      by : (b : Bool) → test k ≡ b → (b || other k) ≡ true → g k ≡ false
+      by true e h = apart k e
+      by false e h = other-apart k h
+
+  abbrev ones : X → Family X
+  ones x d = Linked test join (item d) x
+
+  abbrev others : X → Family X
+  others x d = Linked other join (item d) x
+
+  ones-correct : (x : X) → Correct (Passes test) (unless_next other (linked test join p x)) (ones x) (going g any) depth
+  ones-correct x =
+      anywhere (Passes test) (unless_next other (linked test join p x)) (ones x) (going g any) depth
+      (going-alike-correct Always (unless_next other (linked test join p x)) (ones x) (going (going g test) other) (going g any) depth (λ k. left-alike (g k) (test k) (other k))
+      (unless_next-correct (ones x) (going g test) other depth Always (linked test join p x) (linked-correct item g test join depth are apart p right-p x)))
+
+  others-correct : (x : X) → Correct (Passes other) (unless_next test (linked other join p x)) (others x) (going g any) depth
+  others-correct x =
+      anywhere (Passes other) (unless_next test (linked other join p x)) (others x) (going g any) depth
+      (going-alike-correct Always (unless_next test (linked other join p x)) (others x) (going (going g other) test) (going g any) depth (λ k. right-alike (g k) (test k) (other k))
+      (unless_next-correct (others x) (going g other) test depth Always (linked other join p x) (linked-correct item g other join depth others-are other-apart p right-p x)))
+
+  both-start : (d : ℕ) (x : X) (s : State) (y : X) (z : State) → Either (ones x d) (others x d) s y z → Passes any s.tokens
+  both-start d x s y z (inl r) = more-kinds s.tokens (linked-starts item g test join depth are apart p right-p d x s y z r)
+    where
+      more-kinds : (ts : List Tok) → Passes test ts → Passes any ts
+      more-kinds [] h = h
+      more-kinds (t ∷ ts) h = ap (λ v. v || other t.kind) h
+  both-start d x s y z (inr r) = more-kinds s.tokens (linked-starts item g other join depth others-are other-apart p right-p d x s y z r)
+    where
+      more-kinds : (ts : List Tok) → Passes other ts → Passes any ts
+      more-kinds [] h = h
+      more-kinds (t ∷ ts) h = ap (λ v. test t.kind || v) h ∙ or-right (test t.kind)
+
+  pub unmixed_chain-correct : Correct Always (unmixed_chain test other join p) (λ d. UnmixedChain test other join (item d)) (going g any) depth
+  unmixed_chain-correct =
+      extended-correct item (λ x d. Either (ones x d) (others x d)) g any depth any-apart both-start
+      Always p right-p (λ x s. cond (test (kind s)) (unless_next other (linked test join p x) s) (unless_next test (linked other join p x) s))
+      (λ x. choice-correct (ones x) (others x) test other (going g any) depth unmixed
+      (λ d. linked-starts item g test join depth are apart p right-p d x) (λ d. linked-starts item g other join depth others-are other-apart p right-p d x)
+      (unless_next other (linked test join p x)) (unless_next test (linked other join p x)) (ones-correct x) (others-correct x))

@@ -1,0 +1,12 @@
+use Rattle.std.proofs.Common.{◌≡◌, length}
+use Rattle.pb_text_lexer.specs.Remaining.{tokens_from, IsWithin}
+use Rattle.pb_text_lexer.proofs.lexer.first_token.Given as goal
+
+abbrev pub invariant-pieces : goal.invariant-pieces
+invariant-pieces l = record {
+  tokens : tokens_from l.rest 0 l.place ≡ tokens_from l.initial.rest 0 l.initial.place;
+  within : IsWithin l.place l.rest;
+}
+
+abbrev pub decreases-pieces : goal.decreases-pieces
+decreases-pieces l = length l.rest

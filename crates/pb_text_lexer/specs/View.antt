@@ -1,0 +1,10 @@
+-- What an `Input` shows, and what it keeps.
+use Rattle.pb_text_lexer.specs.declared.input.Input.TheInside.{Inside}
+use Rattle.pb_text_lexer.specs.Grammar.{State}
+use Rattle.pb_text_lexer.specs.Remaining.{remaining, IsWithin, HasDigits}
+
+abbrev pub state_of : Inside → State
+state_of i = record { tokens = remaining i.lexer; operators = i.operators }
+
+abbrev pub IsReady : Inside → Type 0
+IsReady i = IsWithin i.lexer.place i.lexer.rest.now × HasDigits i.lexer.token

@@ -1,0 +1,55 @@
+//! Bytes of a text: white space, letters, and how far names, lines and digits reach.
+
+ghost use Rattle.std.specs.Prelude.{◌≡◌, ◌≤◌, length};
+ghost use Rattle.pb_text_lexer.specs.Bytes as spec;
+
+/// Whether a byte is white space.
+#[inline(always)]
+pub fn is_blank(b: u8) -> bool
+    ensures { result ≡ spec.is_blank b }
+{
+    b == b' ' || b == b'\t' || b == b'\n' || b == b'\r'
+}
+
+/// Whether a name may begin with a byte.
+#[inline(always)]
+pub fn is_letter(b: u8) -> bool
+    ensures { result ≡ spec.is_letter b }
+{
+    b.is_ascii_alphabetic() || b == b'_'
+}
+
+/// Whether a name may go on with a byte.
+#[inline(always)]
+fn is_name_byte(b: u8) -> bool
+    ensures { result ≡ spec.is_name_byte b }
+{
+    is_letter(b) || b.is_ascii_digit() || b == b'\''
+}
+
+/// How many bytes at the front a name may have.
+#[inline(always)]
+pub fn name_len(bytes: &[u8]) -> usize
+    ensures value { result ≡ length (spec.name_bytes bytes.now) }
+    ensures fits { result ≤ length bytes.now }
+{
+    bytes.iter().take_while(|b| is_name_byte(**b)).count()
+}
+
+/// How many bytes stand on the line.
+#[inline(always)]
+pub fn line_len(bytes: &[u8]) -> usize
+    ensures value { result ≡ length (spec.line bytes.now) }
+    ensures fits { result ≤ length bytes.now }
+{
+    bytes.iter().take_while(|b| **b != b'\n').count()
+}
+
+/// How many digits stand at the front.
+#[inline(always)]
+pub fn digits_len(bytes: &[u8]) -> usize
+    ensures value { result ≡ length (spec.digits bytes.now) }
+    ensures fits { result ≤ length bytes.now }
+{
+    bytes.iter().take_while(|b| b.is_ascii_digit()).count()
+}

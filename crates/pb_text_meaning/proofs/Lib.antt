@@ -1,0 +1,3 @@
+pub mod Positive
+pub mod Instances
+pub mod Bounded

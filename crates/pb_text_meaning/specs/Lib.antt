@@ -1,0 +1,10 @@
+pub mod Syntax
+pub mod Sorts
+pub mod Value
+pub mod Formula
+pub mod Meaning
+pub mod Positive
+pub mod Names
+pub mod Erase
+pub mod Examples
+pub mod Fits

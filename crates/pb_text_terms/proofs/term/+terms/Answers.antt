@@ -1,0 +1,377 @@
+use Rattle.std.proofs.Common.{rules, ℕ, arith, ◌≡◌, ◌<◌, ◌-◌, suc, length, map, true, false, vec_len, ◌∙◌, ap, sym, subst, refl, Ok}
+use Rattle.std.proofs.lemmas.Result.{err_from_is_err_and}
+use Rattle.pb_text_tree.specs.Form.{TermForm, instance_form, named, term_form, term_links, arithmetic_links}
+use Rattle.pb_text_lexer.specs.declared.kind.Kind.TheVariants as k
+use Rattle.pb_text_lexer.specs.Kinds.{same_kind}
+use Rattle.pb_text_lexer.specs.Steps.{Outcome, Gives, kind, take_operator, take_token, nothing_between}
+use Rattle.pb_text_lexer.specs.Tokens.{tok}
+use Rattle.pb_text_lexer.proofs.LoopLemmas.{fails-as, gathered-more, gathered-end, gathered-item-fails, resumed-first, resumed-first-fails, resumed-more, resumed-end, resumed-operator-fails, resumed-operand-fails}
+use Rattle.pb_text_terms.specs.declared.operator.Operators.TheVariants.{Additive, Times, Division}
+use Rattle.pb_text_terms.specs.Operators.{symbol, is_equality, is_order, is_additive, is_times, is_division, is_quantifier, is_operator, compared_by, arithmetic_of}
+use Rattle.pb_text_terms.specs.Reading.{closed, unary, lowest, term, level, operand, equated, ordered, sum, product, placed, argument_pair, argument_list, instance, is_comma, is_open, operation, operations, operand_of, is_among}
+use Rattle.pb_text_terms.proofs.VariableLemmas.{mapped-last}
+use Rattle.pb_text_terms.proofs.ReadLemmas.{left-fails, left-alone, sign-fails, right-fails, right-goes-on, both-read, operation-fails, operation-operand-fails, operation-read, sum-first-fails, sum-alone, sum-fails, sum-read, product-first-fails, product-alone, times-fail, times-mixed, times-read, division-fails, division-mixed, division-read, arguments-fail, arguments-again, arguments-read, arguments-is, inner-fails, number-is, true-is, false-is, name-is, unary-other, lowest-node, placed-fails, placed-read, on-fewer, resumed-alone-or-fails, equated-first-fails, equated-alone-or-fails, equated-product-fails, equated-sum-fails, equated-ordered-fails}
+use Rattle.pb_text_terms.proofs.term.+terms.Goals as goal
+
+pub argument_list-returns-in_err-term-clause-reads : goal.argument_list-returns-in_err-term-clause-reads
+argument_list-returns-in_err-term-clause-reads t c =
+    let p = err_from_is_err_and c.from_residual-in_err-term.result c.from_residual-in_err-term.ensures.1 in
+    rw (p.1, p.2) (fails-as (term c.args.depth c.arguments.input) (argument_list (term c.args.depth) c.args.input.now) c.in_err-term.field-0.0 (λ bad e. c.arguments.invariant.reads ∙ gathered-item-fails (placed (term c.args.depth)) is_comma take_token (map argument_pair c.arguments.arguments.items) (suc (length c.args.input.now.tokens) - vec_len c.arguments.arguments) (length c.args.input.now.tokens - vec_len c.arguments.arguments) c.arguments.input bad (omega arith) (placed-fails (term c.args.depth) c.arguments.input bad e)) c.in_err-term.ensures.reads)
+
+pub argument_list-returns-then-not-same_kind-clause-reads : goal.argument_list-returns-then-not-same_kind-clause-reads
+argument_list-returns-then-not-same_kind-clause-reads t c =
+    let stops : is_comma (kind c.level.new.input) ≡ false = search rules in
+    let end = gathered-end (placed (term c.args.depth)) is_comma take_token (map argument_pair c.arguments.arguments.items) (suc (length c.args.input.now.tokens) - vec_len c.arguments.arguments) (length c.args.input.now.tokens - vec_len c.arguments.arguments) c.arguments.input c.level.new.input (c.place-place.result, term_form c.in_ok-term.term) (omega arith) (placed-read (term c.args.depth) c.arguments.input c.level.new.input c.place-place.result (term_form c.in_ok-term.term) c.place-place.ensures c.in_ok-term.ensures.reads) stops in
+    rw (c.in_ok-push.ensures.items, mapped-last) (c.arguments.invariant.reads ∙ end)
+
+pub argument_list-arguments-preserved : goal.argument_list-arguments-preserved
+argument_list-arguments-preserved t c =
+    let goes : is_comma (kind c.level.new.input) ≡ true = search rules in
+    let more = gathered-more (placed (term c.args.depth)) is_comma take_token (map argument_pair c.arguments.arguments.items) (suc (length c.args.input.now.tokens) - vec_len c.arguments.arguments) (suc (length c.args.input.now.tokens) - vec_len c.push.new.self) c.arguments.input c.level.new.input c.take.new.self
+    (c.place-place.result, term_form c.in_ok-term.term) (tok c.take.result) (omega (arith, c.in_ok-push.ensures.len, c.in_ok-term.ensures.fewer)) (placed-read (term c.args.depth) c.arguments.input c.level.new.input c.place-place.result (term_form c.in_ok-term.term) c.place-place.ensures c.in_ok-term.ensures.reads) goes c.take.ensures.reads in
+    record {
+      reads = rw (c.in_ok-push.ensures.items, mapped-last) (c.arguments.invariant.reads ∙ more);
+      room = omega (arith, c.in_ok-push.ensures.len, c.in_ok-term.ensures.fewer, c.take.ensures.fewer);
+    }
+
+pub equated_behind-returns-then-not-is_equality-clause-reads : goal.equated_behind-returns-then-not-is_equality-clause-reads
+unfolding equated
+equated_behind-returns-then-not-is_equality-clause-reads t c s h =
+    let other : is_equality (kind c.args.input.now) ≡ false = search rules in
+    left-alone is_equality compared_by (ordered (unary c.args.depth)) s c.args.input.now (term_form c.args.left) h other
+
+pub equated_behind-returns-in_err-sign-clause-reads : goal.equated_behind-returns-in_err-sign-clause-reads
+unfolding equated
+equated_behind-returns-in_err-sign-clause-reads t c s h =
+    let stands : is_equality (kind c.args.input.now) ≡ true = search rules in
+    let p = err_from_is_err_and c.from_residual.result c.from_residual.ensures.1 in
+    rw (p.1, p.2) (fails-as (take_operator c.args.input.now) (equated (unary c.args.depth) s) c.in_err-sign.field-0.0 (λ bad e. sign-fails is_equality compared_by (ordered (unary c.args.depth)) s c.args.input.now (term_form c.args.left) bad h stands e) c.in_err-sign.ensures.reads)
+
+pub equated_behind-returns-in_err-right-clause-reads : goal.equated_behind-returns-in_err-right-clause-reads
+unfolding equated
+equated_behind-returns-in_err-right-clause-reads t c s h =
+    let stands : is_equality (kind c.args.input.now) ≡ true = search rules in
+    let p = err_from_is_err_and c.from_residual-in_err-right.result c.from_residual-in_err-right.ensures.1 in
+    rw (p.1, p.2) (fails-as (ordered (unary c.args.depth) c.take_operator.new.self) (equated (unary c.args.depth) s) c.in_err-right.field-0.0 (λ bad e. right-fails is_equality compared_by (ordered (unary c.args.depth)) s c.args.input.now c.take_operator.new.self (term_form c.args.left) (tok c.in_ok-sign.sign) bad h stands c.in_ok-sign.ensures.reads e) c.in_err-right.ensures.reads)
+
+pub equated_behind-returns-then-is_equality-clause-reads : goal.equated_behind-returns-then-is_equality-clause-reads
+unfolding equated
+equated_behind-returns-then-is_equality-clause-reads t c s h =
+    let stands : is_equality (kind c.args.input.now) ≡ true = search rules in
+    let again : is_equality (kind c.ordered.new.input) ≡ true = search rules in
+    rw c.refuse.ensures (right-goes-on is_equality compared_by (ordered (unary c.args.depth)) s c.args.input.now c.take_operator.new.self c.ordered.new.input (term_form c.args.left) (term_form c.in_ok-right.right) (tok c.in_ok-sign.sign) h stands c.in_ok-sign.ensures.reads c.in_ok-right.ensures.reads again)
+
+pub equated_behind-returns-clause-reads : goal.equated_behind-returns-clause-reads
+unfolding equated
+equated_behind-returns-clause-reads t c s h =
+    let stands : is_equality (kind c.args.input.now) ≡ true = search rules in
+    let other : is_equality (kind c.ordered.new.input) ≡ false = search rules in
+    rw c.in_ok-compared.ensures (both-read is_equality compared_by (ordered (unary c.args.depth)) s c.args.input.now c.take_operator.new.self c.ordered.new.input (term_form c.args.left) (term_form c.in_ok-right.right) (tok c.in_ok-sign.sign) h stands c.in_ok-sign.ensures.reads c.in_ok-right.ensures.reads other)
+
+pub ordered-returns-in_err-left-clause-reads : goal.ordered-returns-in_err-left-clause-reads
+unfolding ordered
+ordered-returns-in_err-left-clause-reads t c =
+    let p = err_from_is_err_and c.from_residual.result c.from_residual.ensures.1 in
+    rw (p.1, p.2) (fails-as (sum (unary c.args.depth) c.args.input.now) (ordered (unary c.args.depth) c.args.input.now) c.in_err-left.field-0.0 (λ bad e. left-fails is_order compared_by (sum (unary c.args.depth)) c.args.input.now bad e) c.in_err-left.ensures.reads)
+
+pub ordered_behind-returns-then-not-is_order-clause-reads : goal.ordered_behind-returns-then-not-is_order-clause-reads
+unfolding ordered
+ordered_behind-returns-then-not-is_order-clause-reads t c s h =
+    let other : is_order (kind c.args.input.now) ≡ false = search rules in
+    left-alone is_order compared_by (sum (unary c.args.depth)) s c.args.input.now (term_form c.args.left) h other
+
+pub ordered_behind-returns-in_err-sign-clause-reads : goal.ordered_behind-returns-in_err-sign-clause-reads
+unfolding ordered
+ordered_behind-returns-in_err-sign-clause-reads t c s h =
+    let stands : is_order (kind c.args.input.now) ≡ true = search rules in
+    let p = err_from_is_err_and c.from_residual.result c.from_residual.ensures.1 in
+    rw (p.1, p.2) (fails-as (take_operator c.args.input.now) (ordered (unary c.args.depth) s) c.in_err-sign.field-0.0 (λ bad e. sign-fails is_order compared_by (sum (unary c.args.depth)) s c.args.input.now (term_form c.args.left) bad h stands e) c.in_err-sign.ensures.reads)
+
+pub ordered_behind-returns-in_err-right-clause-reads : goal.ordered_behind-returns-in_err-right-clause-reads
+unfolding ordered
+ordered_behind-returns-in_err-right-clause-reads t c s h =
+    let stands : is_order (kind c.args.input.now) ≡ true = search rules in
+    let p = err_from_is_err_and c.from_residual-in_err-right.result c.from_residual-in_err-right.ensures.1 in
+    rw (p.1, p.2) (fails-as (sum (unary c.args.depth) c.take_operator.new.self) (ordered (unary c.args.depth) s) c.in_err-right.field-0.0 (λ bad e. right-fails is_order compared_by (sum (unary c.args.depth)) s c.args.input.now c.take_operator.new.self (term_form c.args.left) (tok c.in_ok-sign.sign) bad h stands c.in_ok-sign.ensures.reads e) c.in_err-right.ensures.reads)
+
+pub ordered_behind-returns-then-is_order-clause-reads : goal.ordered_behind-returns-then-is_order-clause-reads
+unfolding ordered
+ordered_behind-returns-then-is_order-clause-reads t c s h =
+    let stands : is_order (kind c.args.input.now) ≡ true = search rules in
+    let again : is_order (kind c.sum.new.input) ≡ true = search rules in
+    rw c.refuse.ensures (right-goes-on is_order compared_by (sum (unary c.args.depth)) s c.args.input.now c.take_operator.new.self c.sum.new.input (term_form c.args.left) (term_form c.in_ok-right.right) (tok c.in_ok-sign.sign) h stands c.in_ok-sign.ensures.reads c.in_ok-right.ensures.reads again)
+
+pub ordered_behind-returns-clause-reads : goal.ordered_behind-returns-clause-reads
+unfolding ordered
+ordered_behind-returns-clause-reads t c s h =
+    let stands : is_order (kind c.args.input.now) ≡ true = search rules in
+    let other : is_order (kind c.sum.new.input) ≡ false = search rules in
+    rw c.in_ok-compared.ensures (both-read is_order compared_by (sum (unary c.args.depth)) s c.args.input.now c.take_operator.new.self c.sum.new.input (term_form c.args.left) (term_form c.in_ok-right.right) (tok c.in_ok-sign.sign) h stands c.in_ok-sign.ensures.reads c.in_ok-right.ensures.reads other)
+
+pub instance-returns-in_err-arguments-clause-reads : goal.instance-returns-in_err-arguments-clause-reads
+instance-returns-in_err-arguments-clause-reads t c =
+    let opens : is_open (kind c.name.new.input) ≡ true = search rules in
+    let p = err_from_is_err_and c.from_residual-in_err-arguments.result c.from_residual-in_err-arguments.ensures.1 in
+    rw (p.1, p.2) (fails-as (argument_list (term (c.args.depth - 1)) c.enter.new.self) (instance c.args.depth c.args.input.now) c.in_err-arguments.field-0.0 (λ bad e. arguments-fail c.args.depth c.in_ok-enter.ensures.deeper c.args.input.now c.name.new.input c.enter.new.self (named c.in_ok-name.name) (tok c.in_ok-enter.field-0) c.in_ok-name.ensures.reads opens c.in_ok-enter.ensures.reads bad e) c.in_err-arguments.ensures.reads)
+
+pub instance-returns-then-same_kind-clause-reads : goal.instance-returns-then-same_kind-clause-reads
+instance-returns-then-same_kind-clause-reads t c =
+    let opens : is_open (kind c.name.new.input) ≡ true = search rules in
+    let again : is_open (kind c.expect.new.self) ≡ true = search rules in
+    rw c.refuse.ensures (
+    arguments-again c.args.depth c.in_ok-enter.ensures.deeper c.args.input.now c.name.new.input c.enter.new.self (named c.in_ok-name.name) (tok c.in_ok-enter.field-0) c.in_ok-name.ensures.reads opens c.in_ok-enter.ensures.reads
+    c.argument_list.new.input c.expect.new.self (tok c.in_ok-expect.field-0) (map argument_pair c.in_ok-arguments.arguments.items) c.in_ok-arguments.ensures.reads c.in_ok-expect.ensures.reads again)
+
+pub instance-returns-clause-reads : goal.instance-returns-clause-reads
+instance-returns-clause-reads t c =
+    let opens : is_open (kind c.name.new.input) ≡ true = search rules in
+    let other : is_open (kind c.expect.new.self) ≡ false = search rules in
+    arguments-read c.args.depth c.in_ok-enter.ensures.deeper c.args.input.now c.name.new.input c.enter.new.self (named c.in_ok-name.name) (tok c.in_ok-enter.field-0) c.in_ok-name.ensures.reads opens c.in_ok-enter.ensures.reads
+    c.argument_list.new.input c.expect.new.self (tok c.in_ok-expect.field-0) (map argument_pair c.in_ok-arguments.arguments.items) c.in_ok-arguments.ensures.reads c.in_ok-expect.ensures.reads other
+    ∙ ap (λ v. Ok (record { name = named c.in_ok-name.name; arguments = v }, c.expect.new.self)) (arguments-is c.in_ok-arguments.arguments.items)
+
+pub level-returns-in_err-first-clause-reads : goal.level-returns-in_err-first-clause-reads
+level-returns-in_err-first-clause-reads t c =
+    let p = err_from_is_err_and c.from_residual.result c.from_residual.ensures.1 in
+    rw (p.1, p.2) (fails-as (operand TermForm.connected c.args.connective (lowest c.args.depth) c.args.input.now) (level TermForm.connected c.args.connective (lowest c.args.depth) c.args.input.now) c.in_err-first.field-0.0 (λ bad e. resumed-first-fails (symbol c.args.connective) (TermForm.connected c.args.connective) (operand TermForm.connected c.args.connective (lowest c.args.depth)) (length c.args.input.now.tokens) c.args.input.now bad e) c.in_err-first.ensures.reads)
+
+pub chain_behind-links-init : goal.chain_behind-links-init
+chain_behind-links-init t c =
+    record {
+      reads = λ s h fewer. rw (c.in_ok-links.ensures.items, c.in_ok-links.ensures.len) (resumed-first (symbol c.args.connective) (TermForm.connected c.args.connective) (operand TermForm.connected c.args.connective (lowest c.args.depth)) (length s.tokens) s c.args.input.now (term_form c.args.first) h);
+      room = omega (arith, c.in_ok-links.ensures.len);
+    }
+
+pub level-returns-then-not-same_kind-clause-reads : goal.level-returns-then-not-same_kind-clause-reads
+level-returns-then-not-same_kind-clause-reads t c =
+    let other : same_kind (kind c.operand-first.new.input) (symbol c.args.connective) ≡ false = search rules in
+    resumed-alone-or-fails (symbol c.args.connective) (TermForm.connected c.args.connective) (operand TermForm.connected c.args.connective (lowest c.args.depth)) term_form (length c.args.input.now.tokens)
+    c.args.input.now c.operand-first.new.input c.operand-first.result c.operand-first.ensures.reads other
+
+pub chain_behind-returns-in_err-place-clause-reads : goal.chain_behind-returns-in_err-place-clause-reads
+chain_behind-returns-in_err-place-clause-reads t c s h fewer =
+    let same : same_kind (kind c.links.input) (symbol c.args.connective) ≡ true = search rules in
+    let p = err_from_is_err_and c.from_residual-in_err-place.result c.from_residual-in_err-place.ensures.1 in
+    rw (p.1, p.2) (fails-as (take_operator c.links.input) (level TermForm.connected c.args.connective (lowest c.args.depth) s) c.in_err-place.field-0.0 (λ bad e. c.links.invariant.reads s h fewer ∙ resumed-operator-fails (symbol c.args.connective) (TermForm.connected c.args.connective) (operand TermForm.connected c.args.connective (lowest c.args.depth)) (length s.tokens - vec_len c.links.links) _ (term_links c.links.links.items) c.links.input bad same e) c.in_err-place.ensures.reads)
+
+pub chain_behind-returns-in_err-operand-clause-reads : goal.chain_behind-returns-in_err-operand-clause-reads
+chain_behind-returns-in_err-operand-clause-reads t c s h fewer =
+    let same : same_kind (kind c.links.input) (symbol c.args.connective) ≡ true = search rules in
+    let some : 0 < length s.tokens - vec_len c.links.links = omega arith in
+    let p = err_from_is_err_and c.from_residual-in_err-operand.result c.from_residual-in_err-operand.ensures.1 in
+    rw (p.1, p.2) (fails-as (operand TermForm.connected c.args.connective (lowest c.args.depth) c.take_operator.new.self) (level TermForm.connected c.args.connective (lowest c.args.depth) s) c.in_err-operand.field-0.0 (λ bad e. c.links.invariant.reads s h fewer ∙ resumed-operand-fails (symbol c.args.connective) (TermForm.connected c.args.connective) (operand TermForm.connected c.args.connective (lowest c.args.depth)) (length s.tokens - vec_len c.links.links) _ (term_links c.links.links.items) c.links.input c.take_operator.new.self (tok c.in_ok-place.field-0) bad some same c.in_ok-place.ensures.reads e) c.in_err-operand.ensures.reads)
+
+pub chain_behind-links-preserved : goal.chain_behind-links-preserved
+chain_behind-links-preserved t c =
+    let same : same_kind (kind c.links.input) (symbol c.args.connective) ≡ true = search rules in
+    record {
+      reads = λ s h fewer. rw (c.in_ok-push.ensures.items, mapped-last) (c.links.invariant.reads s h fewer ∙ resumed-more (symbol c.args.connective) (TermForm.connected c.args.connective) (operand TermForm.connected c.args.connective (lowest c.args.depth)) (length s.tokens - vec_len c.links.links) (length s.tokens - vec_len c.push.new.self) _ (term_links c.links.links.items) c.links.input c.take_operator.new.self c.operand.new.input
+          (tok c.in_ok-place.field-0) (term_form c.in_ok-operand.operand) (omega (arith, c.in_ok-push.ensures.len, c.links.invariant.room)) same c.in_ok-place.ensures.reads c.in_ok-operand.ensures.reads);
+      room = omega (arith, c.in_ok-place.ensures.fewer, c.in_ok-operand.ensures.fewer, c.in_ok-push.ensures.len);
+    }
+
+pub chain_behind-returns-clause-reads : goal.chain_behind-returns-clause-reads
+chain_behind-returns-clause-reads t c s h fewer =
+    let other : same_kind (kind c.links.input) (symbol c.args.connective) ≡ false = search rules in
+    rw c.in_ok-joined.ensures (c.links.invariant.reads s h fewer ∙ resumed-end (symbol c.args.connective) (TermForm.connected c.args.connective) (operand TermForm.connected c.args.connective (lowest c.args.depth)) (length s.tokens - vec_len c.links.links) _ (term_links c.links.links.items) c.links.input other)
+
+pub operand-returns-else-is_quantifier-clause-reads : goal.operand-returns-else-is_quantifier-clause-reads
+operand-returns-else-is_quantifier-clause-reads t c =
+    let other : is_quantifier (kind c.args.input.now) ≡ false = search rules in
+    rw c.in-And.is (rw (lowest-node c.args.depth c.args.input.now other) c.equated.ensures.reads)
+
+pub operations-returns-in_err-sign-clause-reads : goal.operations-returns-in_err-sign-clause-reads
+operations-returns-in_err-sign-clause-reads t c =
+    let p = err_from_is_err_and c.from_residual-in_err-sign.result c.from_residual-in_err-sign.ensures.1 in
+    rw (p.1, p.2) (fails-as (take_operator c.operations.input) (operations c.args.operators (operand_of c.args.operators (unary c.args.depth)) c.args.input.now) c.in_err-sign.field-0.0 (λ bad e. c.operations.invariant.reads ∙ gathered-item-fails (operation c.args.operators (operand_of c.args.operators (unary c.args.depth))) (is_among c.args.operators) nothing_between (arithmetic_links c.operations.links.items) (suc (length c.args.input.now.tokens) - vec_len c.operations.links) (length c.args.input.now.tokens - vec_len c.operations.links) c.operations.input bad (omega arith) (operation-fails c.args.operators (operand_of c.args.operators (unary c.args.depth)) c.operations.input bad c.operations.invariant.stands e)) c.in_err-sign.ensures.reads)
+
+pub operations-returns-in_err-operand-clause-reads : goal.operations-returns-in_err-operand-clause-reads
+operations-returns-in_err-operand-clause-reads t c =
+    let p = err_from_is_err_and c.from_residual-in_err-operand.result c.from_residual-in_err-operand.ensures.1 in
+    rw (p.1, p.2) (fails-as (operand_of c.args.operators (unary c.args.depth) c.take_operator.new.self) (operations c.args.operators (operand_of c.args.operators (unary c.args.depth)) c.args.input.now) c.in_err-operand.field-0.0 (λ bad e. c.operations.invariant.reads ∙ gathered-item-fails (operation c.args.operators (operand_of c.args.operators (unary c.args.depth))) (is_among c.args.operators) nothing_between (arithmetic_links c.operations.links.items) (suc (length c.args.input.now.tokens) - vec_len c.operations.links) (length c.args.input.now.tokens - vec_len c.operations.links) c.operations.input bad (omega arith) (operation-operand-fails c.args.operators (operand_of c.args.operators (unary c.args.depth)) c.operations.input c.take_operator.new.self (tok c.in_ok-sign.sign) bad c.operations.invariant.stands c.in_ok-sign.ensures.reads e)) c.in_err-operand.ensures.reads)
+
+pub operations-returns-then-not-is_among-clause-reads : goal.operations-returns-then-not-is_among-clause-reads
+operations-returns-then-not-is_among-clause-reads t c =
+    let stops : is_among c.args.operators (kind c.operand_of.new.input) ≡ false = search rules in
+    let end = gathered-end (operation c.args.operators (operand_of c.args.operators (unary c.args.depth))) (is_among c.args.operators) nothing_between (arithmetic_links c.operations.links.items) (suc (length c.args.input.now.tokens) - vec_len c.operations.links) (length c.args.input.now.tokens - vec_len c.operations.links) c.operations.input c.operand_of.new.input (arithmetic_of c.in_ok-sign.sign.kind, c.in_ok-sign.sign.place, term_form c.in_ok-operand.operand) (omega arith) (operation-read c.args.operators (operand_of c.args.operators (unary c.args.depth)) c.operations.input c.take_operator.new.self c.operand_of.new.input (tok c.in_ok-sign.sign) (term_form c.in_ok-operand.operand) c.operations.invariant.stands c.in_ok-sign.ensures.reads c.in_ok-operand.ensures.reads) stops in
+    rw (c.in_ok-push.ensures.items, mapped-last, c.arithmetic.ensures) (c.operations.invariant.reads ∙ end)
+
+pub operations-operations-preserved : goal.operations-operations-preserved
+operations-operations-preserved t c =
+    let goes : is_among c.args.operators (kind c.operand_of.new.input) ≡ true = search rules in
+    let more = gathered-more (operation c.args.operators (operand_of c.args.operators (unary c.args.depth))) (is_among c.args.operators) nothing_between (arithmetic_links c.operations.links.items) (suc (length c.args.input.now.tokens) - vec_len c.operations.links) (suc (length c.args.input.now.tokens) - vec_len c.push.new.self) c.operations.input c.operand_of.new.input c.operand_of.new.input (arithmetic_of c.in_ok-sign.sign.kind, c.in_ok-sign.sign.place, term_form c.in_ok-operand.operand) tt
+    (omega (arith, c.in_ok-push.ensures.len, c.in_ok-sign.ensures.fewer, c.in_ok-operand.ensures.fewer)) (operation-read c.args.operators (operand_of c.args.operators (unary c.args.depth)) c.operations.input c.take_operator.new.self c.operand_of.new.input (tok c.in_ok-sign.sign) (term_form c.in_ok-operand.operand) c.operations.invariant.stands c.in_ok-sign.ensures.reads c.in_ok-operand.ensures.reads) goes refl in
+    record {
+      reads = rw (c.in_ok-push.ensures.items, mapped-last, c.arithmetic.ensures) (c.operations.invariant.reads ∙ more);
+      room = omega (arith, c.in_ok-push.ensures.len, c.in_ok-sign.ensures.fewer, c.in_ok-operand.ensures.fewer);
+      stands = goes;
+    }
+
+pub product-returns-in_err-first-clause-reads : goal.product-returns-in_err-first-clause-reads
+product-returns-in_err-first-clause-reads t c =
+    let p = err_from_is_err_and c.from_residual.result c.from_residual.ensures.1 in
+    rw (p.1, p.2) (fails-as (unary c.args.depth c.args.input.now) (product (unary c.args.depth) c.args.input.now) c.in_err-first.field-0.0 (λ bad e. product-first-fails (unary c.args.depth) c.args.input.now bad e) c.in_err-first.ensures.reads)
+
+pub product_behind-returns-in_err-links-clause-reads : goal.product_behind-returns-in_err-links-clause-reads
+product_behind-returns-in_err-links-clause-reads t c s h =
+    let goes : is_times (kind c.args.input.now) ≡ true = search rules in
+    let p = err_from_is_err_and c.from_residual.result c.from_residual.ensures.1 in
+    rw (p.1, p.2) (fails-as (operations Times (unary c.args.depth) c.args.input.now) (product (unary c.args.depth) s) c.in_err-links.field-0.0 (λ bad e. times-fail (unary c.args.depth) s c.args.input.now (term_form c.args.first) bad h goes e) c.in_err-links.ensures.reads)
+
+pub product_behind-returns-then-is_among-2-clause-reads : goal.product_behind-returns-then-is_among-2-clause-reads
+product_behind-returns-then-is_among-2-clause-reads t c s h =
+    let goes : is_times (kind c.args.input.now) ≡ true = search rules in
+    let mixed : is_division (kind c.operations.new.input) ≡ true = search rules in
+    rw c.refuse.ensures (times-mixed (unary c.args.depth) s c.args.input.now c.operations.new.input (term_form c.args.first) (arithmetic_links c.in_ok-links.links.items) h goes c.in_ok-links.ensures.reads mixed)
+
+pub product_behind-returns-then-is_among-clause-reads : goal.product_behind-returns-then-is_among-clause-reads
+product_behind-returns-then-is_among-clause-reads t c s h =
+    let goes : is_times (kind c.args.input.now) ≡ true = search rules in
+    let unmixed : is_division (kind c.operations.new.input) ≡ false = search rules in
+    rw c.in_ok-calculated.ensures (times-read (unary c.args.depth) s c.args.input.now c.operations.new.input (term_form c.args.first) (arithmetic_links c.in_ok-links.links.items) h goes c.in_ok-links.ensures.reads unmixed)
+
+pub product_behind-returns-in_err-links-2-clause-reads : goal.product_behind-returns-in_err-links-2-clause-reads
+product_behind-returns-in_err-links-2-clause-reads t c s h =
+    let other : is_times (kind c.args.input.now) ≡ false = search rules in
+    let goes : is_division (kind c.args.input.now) ≡ true = search rules in
+    let p = err_from_is_err_and c.from_residual-in_err-links-2.result c.from_residual-in_err-links-2.ensures.1 in
+    rw (p.1, p.2) (fails-as (operations Division (unary c.args.depth) c.args.input.now) (product (unary c.args.depth) s) c.in_err-links-2.field-0.0 (λ bad e. division-fails (unary c.args.depth) s c.args.input.now (term_form c.args.first) bad h other goes e) c.in_err-links-2.ensures.reads)
+
+pub product_behind-returns-then-is_among-4-clause-reads : goal.product_behind-returns-then-is_among-4-clause-reads
+product_behind-returns-then-is_among-4-clause-reads t c s h =
+    let other : is_times (kind c.args.input.now) ≡ false = search rules in
+    let goes : is_division (kind c.args.input.now) ≡ true = search rules in
+    let mixed : is_times (kind c.operations-then-is_among-3.new.input) ≡ true = search rules in
+    rw c.refuse-then-is_among-4.ensures (division-mixed (unary c.args.depth) s c.args.input.now c.operations-then-is_among-3.new.input (term_form c.args.first) (arithmetic_links c.in_ok-links-2.links.items) h other goes c.in_ok-links-2.ensures.reads mixed)
+
+pub product_behind-returns-then-is_among-3-clause-reads : goal.product_behind-returns-then-is_among-3-clause-reads
+product_behind-returns-then-is_among-3-clause-reads t c s h =
+    let other : is_times (kind c.args.input.now) ≡ false = search rules in
+    let goes : is_division (kind c.args.input.now) ≡ true = search rules in
+    let unmixed : is_times (kind c.operations-then-is_among-3.new.input) ≡ false = search rules in
+    rw c.in_ok-calculated-2.ensures (division-read (unary c.args.depth) s c.args.input.now c.operations-then-is_among-3.new.input (term_form c.args.first) (arithmetic_links c.in_ok-links-2.links.items) h other goes c.in_ok-links-2.ensures.reads unmixed)
+
+pub product_behind-returns-clause-reads : goal.product_behind-returns-clause-reads
+product_behind-returns-clause-reads t c s h =
+    let other : is_times (kind c.args.input.now) ≡ false = search rules in
+    let other' : is_division (kind c.args.input.now) ≡ false = search rules in
+    product-alone (unary c.args.depth) s c.args.input.now (term_form c.args.first) h other other'
+
+pub sum-returns-in_err-first-clause-reads : goal.sum-returns-in_err-first-clause-reads
+sum-returns-in_err-first-clause-reads t c =
+    let p = err_from_is_err_and c.from_residual.result c.from_residual.ensures.1 in
+    rw (p.1, p.2) (fails-as (product (unary c.args.depth) c.args.input.now) (sum (unary c.args.depth) c.args.input.now) c.in_err-first.field-0.0 (λ bad e. sum-first-fails (unary c.args.depth) c.args.input.now bad e) c.in_err-first.ensures.reads)
+
+pub sum_behind-returns-then-not-is_among-clause-reads : goal.sum_behind-returns-then-not-is_among-clause-reads
+sum_behind-returns-then-not-is_among-clause-reads t c s h =
+    let other : is_additive (kind c.args.input.now) ≡ false = search rules in
+    sum-alone (unary c.args.depth) s c.args.input.now (term_form c.args.first) h other
+
+pub sum_behind-returns-in_err-links-clause-reads : goal.sum_behind-returns-in_err-links-clause-reads
+sum_behind-returns-in_err-links-clause-reads t c s h =
+    let goes : is_additive (kind c.args.input.now) ≡ true = search rules in
+    let p = err_from_is_err_and c.from_residual.result c.from_residual.ensures.1 in
+    rw (p.1, p.2) (fails-as (operations Additive (product (unary c.args.depth)) c.args.input.now) (sum (unary c.args.depth) s) c.in_err-links.field-0.0 (λ bad e. sum-fails (unary c.args.depth) s c.args.input.now (term_form c.args.first) bad h goes e) c.in_err-links.ensures.reads)
+
+pub sum_behind-returns-clause-reads : goal.sum_behind-returns-clause-reads
+sum_behind-returns-clause-reads t c s h =
+    let goes : is_additive (kind c.args.input.now) ≡ true = search rules in
+    rw c.in_ok-calculated.ensures (sum-read (unary c.args.depth) s c.args.input.now c.operations.new.input (term_form c.args.first) (arithmetic_links c.in_ok-links.links.items) h goes c.in_ok-links.ensures.reads)
+
+pub unary-returns-in_err-inner-in-Open-clause-reads : goal.unary-returns-in_err-inner-in-Open-clause-reads
+unary-returns-in_err-inner-in-Open-clause-reads t c =
+    let is : kind c.args.input.now ≡ k.Open = search rules in
+    let p = err_from_is_err_and c.from_residual-in_err-inner-in-Open.result c.from_residual-in_err-inner-in-Open.ensures.1 in
+    rw (p.1, p.2) (fails-as (term (c.args.depth - 1) c.enter-in-Open.new.self) (unary c.args.depth c.args.input.now) c.in_err-inner-in-Open.field-0.0 (λ bad e. inner-fails c.args.depth c.args.input.now c.enter-in-Open.new.self (tok c.in_ok-enter-in-Open.field-0) bad c.in_ok-enter-in-Open.ensures.deeper is c.in_ok-enter-in-Open.ensures.reads e) c.in_err-inner-in-Open.ensures.reads)
+
+pub unary-returns-in-Number-clause-reads : goal.unary-returns-in-Number-clause-reads
+unary-returns-in-Number-clause-reads t c =
+    let is : kind c.args.input.now ≡ k.Number = search rules in
+    subst (λ (o : Outcome TermForm). Gives term_form o c.closed-in-Number.result c.take.new.self)
+    (sym (number-is c.args.depth c.args.input.now c.take.new.self (tok c.take.result) is c.take.ensures.reads))
+    (subst (λ (n : ℕ). Gives term_form (closed (TermForm.number c.take.result.place n) c.take.new.self) c.closed-in-Number.result c.take.new.self) c.number-value.ensures c.closed-in-Number.ensures)
+
+pub unary-returns-in-True-clause-reads : goal.unary-returns-in-True-clause-reads
+unary-returns-in-True-clause-reads t c =
+    let is : kind c.args.input.now ≡ k.True = search rules in
+    subst (λ (o : Outcome TermForm). Gives term_form o c.closed-in-True.result c.take-in-True.new.self)
+    (sym (true-is c.args.depth c.args.input.now c.take-in-True.new.self (tok c.take-in-True.result) is c.take-in-True.ensures.reads)) c.closed-in-True.ensures
+
+pub unary-returns-in-False-clause-reads : goal.unary-returns-in-False-clause-reads
+unary-returns-in-False-clause-reads t c =
+    let is : kind c.args.input.now ≡ k.False = search rules in
+    subst (λ (o : Outcome TermForm). Gives term_form o c.closed-in-False.result c.take-in-False.new.self)
+    (sym (false-is c.args.depth c.args.input.now c.take-in-False.new.self (tok c.take-in-False.result) is c.take-in-False.ensures.reads)) c.closed-in-False.ensures
+
+pub unary-returns-in_ok-instance-in-Name-clause-reads : goal.unary-returns-in_ok-instance-in-Name-clause-reads
+unary-returns-in_ok-instance-in-Name-clause-reads t c =
+    let is : kind c.args.input.now ≡ k.Name = search rules in
+    rw c.applied.ensures (name-is c.args.depth c.args.input.now c.instance.new.input (instance_form c.in_ok-instance-in-Name.instance) is c.in_ok-instance-in-Name.ensures.reads)
+
+pub unary-returns-in_default : goal.unary-returns-in_default
+unary-returns-in_default t c =
+    rw c.refuse.ensures (record {
+      reads = unary-other c.args.depth c.args.input.now (λ q. c.in_default.not-Not (c.kind.ensures ∙ q)) (λ q. c.in_default.not-Minus (c.kind.ensures ∙ q)) (λ q. c.in_default.not-Open (c.kind.ensures ∙ q))
+          (λ q. c.in_default.not-Number (c.kind.ensures ∙ q)) (λ q. c.in_default.not-True (c.kind.ensures ∙ q)) (λ q. c.in_default.not-False (c.kind.ensures ∙ q)) (λ q. c.in_default.not-Name (c.kind.ensures ∙ q));
+      fewer = tt;
+    })
+
+pub product-returns-clause-reads : goal.product-returns-clause-reads
+product-returns-clause-reads t c = c.product_behind.ensures.reads c.args.input.now c.in_ok-first.ensures.reads
+
+pub product-returns-clause-fewer : goal.product-returns-clause-fewer
+product-returns-clause-fewer t c = on-fewer c.product_behind.result _ _ _ c.product_behind.ensures.fewer c.in_ok-first.ensures.fewer
+
+pub sum-returns-clause-reads : goal.sum-returns-clause-reads
+sum-returns-clause-reads t c = c.sum_behind.ensures.reads c.args.input.now c.in_ok-first.ensures.reads
+
+pub sum-returns-clause-fewer : goal.sum-returns-clause-fewer
+sum-returns-clause-fewer t c = on-fewer c.sum_behind.result _ _ _ c.sum_behind.ensures.fewer c.in_ok-first.ensures.fewer
+
+pub ordered-returns-clause-reads : goal.ordered-returns-clause-reads
+ordered-returns-clause-reads t c = c.ordered_behind.ensures.reads c.args.input.now c.in_ok-left.ensures.reads
+
+pub ordered-returns-clause-fewer : goal.ordered-returns-clause-fewer
+ordered-returns-clause-fewer t c = on-fewer c.ordered_behind.result _ _ _ c.ordered_behind.ensures.fewer c.in_ok-left.ensures.fewer
+
+pub equated-returns-clause-reads : goal.equated-returns-clause-reads
+equated-returns-clause-reads t c = c.operators_behind.ensures.reads c.args.input.now c.in_ok-operand.ensures.reads
+
+pub equated-returns-clause-fewer : goal.equated-returns-clause-fewer
+equated-returns-clause-fewer t c = on-fewer c.operators_behind.result _ _ _ c.operators_behind.ensures.fewer c.in_ok-operand.ensures.fewer
+
+pub equated-returns-in_err-operand-clause-reads : goal.equated-returns-in_err-operand-clause-reads
+equated-returns-in_err-operand-clause-reads t c =
+    let p = err_from_is_err_and c.from_residual.result c.from_residual.ensures.1 in
+    rw (p.1, p.2) (fails-as (unary c.args.depth c.args.input.now) (equated (unary c.args.depth) c.args.input.now) c.in_err-operand.field-0.0 (λ bad e. equated-first-fails c.args.depth c.args.input.now bad e) c.in_err-operand.ensures.reads)
+
+pub equated-returns-then-not-is_operator-clause-reads : goal.equated-returns-then-not-is_operator-clause-reads
+equated-returns-then-not-is_operator-clause-reads t c =
+    let other : is_operator (kind c.unary-operand.new.input) ≡ false = search rules in
+    equated-alone-or-fails c.args.depth c.args.input.now c.unary-operand.new.input c.unary-operand.result c.unary-operand.ensures.reads other
+
+pub operators_behind-returns-in_err-product-clause-reads : goal.operators_behind-returns-in_err-product-clause-reads
+operators_behind-returns-in_err-product-clause-reads t c s h =
+    let p = err_from_is_err_and c.from_residual.result c.from_residual.ensures.1 in
+    rw (p.1, p.2) (fails-as (product (unary c.args.depth) s) (equated (unary c.args.depth) s) c.in_err-product.field-0.0 (λ bad e. equated-product-fails c.args.depth s bad e) (c.in_err-product.ensures.reads s h))
+
+pub operators_behind-returns-in_err-sum-clause-reads : goal.operators_behind-returns-in_err-sum-clause-reads
+operators_behind-returns-in_err-sum-clause-reads t c s h =
+    let p = err_from_is_err_and c.from_residual-in_err-sum.result c.from_residual-in_err-sum.ensures.1 in
+    rw (p.1, p.2) (fails-as (sum (unary c.args.depth) s) (equated (unary c.args.depth) s) c.in_err-sum.field-0.0 (λ bad e. equated-sum-fails c.args.depth s bad e)
+    (c.in_err-sum.ensures.reads s (c.in_ok-product.ensures.reads s h)))
+
+pub operators_behind-returns-in_err-left-clause-reads : goal.operators_behind-returns-in_err-left-clause-reads
+operators_behind-returns-in_err-left-clause-reads t c s h =
+    let p = err_from_is_err_and c.from_residual-in_err-left.result c.from_residual-in_err-left.ensures.1 in
+    rw (p.1, p.2) (fails-as (ordered (unary c.args.depth) s) (equated (unary c.args.depth) s) c.in_err-left.field-0.0 (λ bad e. equated-ordered-fails c.args.depth s bad e)
+    (c.in_err-left.ensures.reads s (c.in_ok-sum.ensures.reads s (c.in_ok-product.ensures.reads s h))))
+
+pub operators_behind-returns-clause-reads : goal.operators_behind-returns-clause-reads
+operators_behind-returns-clause-reads t c s h = c.equated_behind.ensures.reads s (c.in_ok-left.ensures.reads s (c.in_ok-sum.ensures.reads s (c.in_ok-product.ensures.reads s h)))
+
+pub level-returns-clause-reads : goal.level-returns-clause-reads
+level-returns-clause-reads t c = c.chain_behind.ensures.reads c.args.input.now c.in_ok-first.ensures.reads c.in_ok-first.ensures.fewer
+
+pub level-returns-clause-fewer : goal.level-returns-clause-fewer
+level-returns-clause-fewer t c = on-fewer c.chain_behind.result _ _ _ c.chain_behind.ensures.fewer c.in_ok-first.ensures.fewer

@@ -1,0 +1,11 @@
+use Rattle.std.proofs.Common.{ap, Ok}
+use Rattle.pb_text_tree.specs.Form.{named}
+use Rattle.pb_text_terms.specs.Reading.{group}
+use Rattle.pb_text_terms.proofs.VariableLemmas.{names-of-sort}
+use Rattle.pb_text_terms.proofs.variable.group.Goals as goal
+
+pub returns-clause-reads : goal.returns-clause-reads
+unfolding group
+returns-clause-reads c =
+    rw (c.in_ok-names.ensures.reads, c.in_ok-expect.ensures.reads, c.in_ok-sort.ensures.reads)
+    (ap (λ v. Ok (v, c.name.new.input)) (names-of-sort (named c.in_ok-sort.sort) c.in_ok-names.names.items))

@@ -1,0 +1,301 @@
+-- The same of variables, of equations, of sorts and of ranges.
+use Rattle.std.proofs.Common.{◌≡◌, ℕ, ◌+◌, ◌<◌, ◌≤◌, ◌≤ℤ◌, ℤ, true, false, not, List, [], ◌∷◌, ◌++◌, length, map, refl, sym, ◌∙◌, ap, subst, arith, rules, tests}
+use Rattle.std.specs.Prelude.{All, flat_map, nat_le, nat_lt, int_le, Option, Some, None}
+use Rattle.std.proofs.lemmas.Grind.{flat_map-append}
+use Rattle.std.proofs.lemmas.List.{map-append}
+use Rattle.pb_text_tree.specs.declared.place.Place.{Place}
+use Rattle.pb_text_tree.specs.Form.{Named, VariableForm, EnumeratorForm, SortForm, struct, alias, SortDeclarationForm, RangeForm, EquationForm}
+use Rattle.pb_sorts.specs.declared.limits.TheConstants.{MAX_INSTANCES}
+use Rattle.pb_text_meaning.specs.Syntax.{Variable, Enumerator, SortDeclaration, Equation, Spec}
+use Rattle.pb_text_meaning.specs.Erase.{erased_variable, erased_variables, erased_enumerator, erased_recogniser, erased_sort, erased_declaration, erased_range, erased_equation}
+use Rattle.pb_typing_declarations.specs.declared.fault.TypingRule.TheVariants.{NameTwice, Limit, UnknownSort}
+use Rattle.pb_typing_declarations.specs.Faults.{unless, repeated, length_faults}
+use Rattle.pb_typing_declarations.specs.Shapes.{End, Shaped, Unranged, Undeclared, Endless, end_of, base_of, is_sort, is_built_in, number_behind}
+use Rattle.pb_typing_declarations.specs.Instances.{instance_count, all_instances}
+use Rattle.pb_typing_declarations.specs.Declarations.{is_integer, is_named_function, use_faults, variable_names, variable_faults, variables_faults, limit_faults, own_names, equation_faults, equations_faults_behind, recogniser_faults, recogniser_name, names_of_enumerator, enumerator_faults, enumerators_of_sort, all_enumerator_forms, struct_faults, structs_faults, definition_faults, sort_faults, range_faults, empty_faults}
+use Rattle.pb_typing_declarations.specs.WellDeclared.{AreApart, has_shape, AreVariables, IsDefined, structs_behind, IsRanged, enumerators, given, enumerator_names, every_enumerator}
+use Rattle.pb_typing_declarations.proofs.Parts.{no_parts, no_whole, holds_unless, unless_holds}
+use Rattle.pb_typing_declarations.proofs.Loops.{same_length}
+use Rattle.pb_typing_declarations.proofs.VariableLemmas.{few_names, limit_clear}
+use Rattle.pb_typing_declarations.proofs.Exact.{all_cons, all_head, all_tail, all_none, each, each_clear, not_true, true_not, texts, apart, apart_clear, map-map}
+
+at_most : (n m : ℕ) → nat_le n m ≡ true → n ≤ m
+at_most n m e = search (rules, tests)
+
+at_most_true : (n m : ℕ) → n ≤ m → nat_le n m ≡ true
+at_most_true n m h = search (rules, tests)
+
+below : (n m : ℕ) → nat_lt n m ≡ true → n < m
+below n m e = search (rules, tests)
+
+below_true : (n m : ℕ) → n < m → nat_lt n m ≡ true
+below_true n m h = search (rules, tests)
+
+-- ---- variables
+
+has_values : (e : End) (place : Place) → use_faults e place ≡ [] → has_shape e ≡ true
+has_values (Shaped h) place e = refl
+has_values (Unranged k) place e = cc
+has_values Undeclared place e = cc
+has_values Endless place e = cc
+
+use_clear : (e : End) (place : Place) → has_shape e ≡ true → use_faults e place ≡ []
+use_clear (Shaped h) place e = refl
+use_clear (Unranged k) place e = cc
+use_clear Undeclared place e = cc
+use_clear Endless place e = cc
+
+variable_texts : (xs : List VariableForm) → texts (variable_names xs) ≡ map (λ (x : Variable). x.name) (erased_variables xs)
+variable_texts xs = map-map (λ (x : Named). x.text) (λ (x : VariableForm). x.name) xs ∙ sym (map-map (λ (x : Variable). x.name) erased_variable xs)
+
+abbrev HasShape : Spec → Variable → Type 0
+HasShape S x = has_shape (end_of S x.sort) ≡ true
+
+pub variables : (S : Spec) (xs : List VariableForm) → variables_faults S xs ≡ [] → AreVariables S (erased_variables xs)
+variables S xs e =
+    let p = no_parts (repeated (variable_names xs)) (flat_map (variable_faults S) xs) e in
+    record {
+      apart = subst AreApart (variable_texts xs) (apart (variable_names xs) p.0);
+      shaped = each (variable_faults S) erased_variable (HasShape S) (λ x h. has_values (end_of S x.sort.text) x.sort.place h) xs p.1;
+    }
+
+pub variables_clear : (S : Spec) (xs : List VariableForm) → AreVariables S (erased_variables xs) → variables_faults S xs ≡ []
+variables_clear S xs h =
+    no_whole (repeated (variable_names xs)) _ (apart_clear (variable_names xs) (subst AreApart (sym (variable_texts xs)) h.apart))
+    (each_clear (variable_faults S) erased_variable (HasShape S) (λ x f. use_clear (end_of S x.sort.text) x.sort.place f) xs h.shaped)
+
+-- ---- equations
+
+abbrev pub ShortEquation : Equation → Type 0
+ShortEquation X = length X.name ≤ 64
+
+abbrev pub FewParameters : Equation → Type 0
+FewParameters X = length X.parameters ≤ 8
+
+abbrev pub Parameters : Spec → Equation → Type 0
+Parameters S X = AreVariables S X.parameters
+
+parameters_length : (xs : List VariableForm) → length (variable_names xs) ≡ length (erased_variables xs)
+parameters_length xs = same_length (λ (x : VariableForm). x.name) xs ∙ sym (same_length erased_variable xs)
+
+equation : (S : Spec) (X : EquationForm) → equation_faults S X ≡ [] → ShortEquation (erased_equation X) × FewParameters (erased_equation X) × Parameters S (erased_equation X)
+equation S X e =
+    let p = no_parts (length_faults X.name) _ e in
+    let q = no_parts (limit_faults 8 (variable_names X.parameters)) _ p.1 in
+    let few = few_names 8 (variable_names X.parameters) q.0 in
+    let same = parameters_length X.parameters in
+    (at_most _ _ (holds_unless _ _ _ p.0), omega (arith, few, same), variables S X.parameters q.1)
+
+equation_clear : (S : Spec) (X : EquationForm) → ShortEquation (erased_equation X) → FewParameters (erased_equation X) → Parameters S (erased_equation X) → equation_faults S X ≡ []
+equation_clear S X short few parameters =
+    let same = parameters_length X.parameters in
+    no_whole (length_faults X.name) _ (unless_holds _ _ _ (at_most_true _ _ short))
+    (no_whole (limit_faults 8 (variable_names X.parameters)) _ (limit_clear 8 (variable_names X.parameters) (omega (arith, few, same))) (variables_clear S X.parameters parameters))
+
+-- what no fault says of equations behind n instances
+pub record EquationsHold (S : Spec) (n : ℕ) (E : List EquationForm) : Type 0 where
+  pub short : All ShortEquation (map erased_equation E)
+  pub few : All FewParameters (map erased_equation E)
+  pub parameters : All (Parameters S) (map erased_equation E)
+  pub instances : n + all_instances S (map erased_equation E) ≤ MAX_INSTANCES
+
+pub equations : (S : Spec) (n : ℕ) (E : List EquationForm) → n ≤ MAX_INSTANCES → equations_faults_behind S n E ≡ [] → EquationsHold S n E
+equations S n [] low e = record { short = all_none ShortEquation; few = all_none FewParameters; parameters = all_none (Parameters S); instances = omega (arith, low) }
+equations S n (X ∷ E) low e =
+    let size = instance_count S (erased_equation X) in
+    let p = no_parts (equation_faults S X) _ e in
+    let q = no_parts (unless (nat_le (n + size) MAX_INSTANCES) Limit X.name.place) _ p.1 in
+    let first = equation S X p.0 in
+    let fits = at_most (n + size) MAX_INSTANCES (holds_unless _ _ _ q.0) in
+    let rest = equations S (n + size) E fits q.1 in
+    record {
+      short = all_cons ShortEquation (erased_equation X) (map erased_equation E) first.0 rest.short;
+      few = all_cons FewParameters (erased_equation X) (map erased_equation E) first.1 rest.few;
+      parameters = all_cons (Parameters S) (erased_equation X) (map erased_equation E) first.2 rest.parameters;
+      instances = omega (arith, rest.instances);
+    }
+
+pub equations_clear : (S : Spec) (n : ℕ) (E : List EquationForm) → EquationsHold S n E → equations_faults_behind S n E ≡ []
+equations_clear S n [] h = refl
+equations_clear S n (X ∷ E) h =
+    let size = instance_count S (erased_equation X) in
+    no_whole (equation_faults S X) _
+    (equation_clear S X (all_head ShortEquation (erased_equation X) (map erased_equation E) h.short) (all_head FewParameters (erased_equation X) (map erased_equation E) h.few) (all_head (Parameters S) (erased_equation X) (map erased_equation E) h.parameters))
+    (no_whole (unless (nat_le (n + size) MAX_INSTANCES) Limit X.name.place) _ (unless_holds _ _ _ (at_most_true _ _ (omega (arith, h.instances))))
+    (equations_clear S (n + size) E (record {
+      short = all_tail ShortEquation (erased_equation X) (map erased_equation E) h.short;
+      few = all_tail FewParameters (erased_equation X) (map erased_equation E) h.few;
+      parameters = all_tail (Parameters S) (erased_equation X) (map erased_equation E) h.parameters;
+      instances = omega (arith, h.instances);
+    })))
+
+-- ---- sorts
+
+abbrev pub NewSort : SortDeclaration → Type 0
+NewSort d = is_built_in d.name ≡ false
+
+abbrev pub Defined : Spec → SortDeclaration → Type 0
+Defined S d = IsDefined S d.name d.sort
+
+-- what no fault says of one sort, where n structs stand before it
+record SortHolds (S : Spec) (n : ℕ) (s : Named) (sort : SortForm) : Type 0 where
+  defined : IsDefined S s.text (erased_sort sort)
+  few : number_behind n (erased_sort sort) ≤ 255
+  enumerators : flat_map enumerator_faults (enumerators_of_sort sort) ≡ []
+
+one_sort : (S : Spec) (n : ℕ) (s : Named) (sort : SortForm) → n ≤ 255 → struct_faults n s.place sort ≡ [] → definition_faults S s sort ≡ [] → SortHolds S n s sort
+one_sort S n s (struct es) low e f =
+    let p = no_parts (unless (nat_lt n 255) Limit s.place) _ e in
+    let q = no_parts (unless (nat_lt 0 (length es)) Limit s.place) _ p.1 in
+    let r = no_parts (limit_faults 255 (own_names es)) _ q.1 in
+    let named = same_length (λ (e : EnumeratorForm). e.name) es in
+    let same = same_length erased_enumerator es in
+    let some = below 0 (length es) (holds_unless _ _ _ q.0) in
+    let most = few_names 255 (own_names es) r.0 in
+    let fits = below n 255 (holds_unless _ _ _ p.0) in
+    record { defined = (omega (arith, same, some), omega (arith, same, named, most)); few = omega (arith, fits); enumerators = r.1 }
+one_sort S n s (alias t) low e f =
+    let p = no_parts (unless (is_sort S t.text) UnknownSort t.place) _ f in
+    record { defined = (holds_unless _ _ _ p.0, not_true _ (holds_unless _ _ _ p.1)); few = low; enumerators = refl }
+
+one_sort_clear : (S : Spec) (n : ℕ) (s : Named) (sort : SortForm) → SortHolds S n s sort → (struct_faults n s.place sort ≡ []) × (definition_faults S s sort ≡ [])
+one_sort_clear S n s (struct es) h =
+    let same = same_length erased_enumerator es in
+    let named = same_length (λ (e : EnumeratorForm). e.name) es in (
+      no_whole (unless (nat_lt n 255) Limit s.place) _ (unless_holds _ _ _ (below_true n 255 (omega (arith, h.few))))
+          (no_whole (unless (nat_lt 0 (length es)) Limit s.place) _ (unless_holds _ _ _ (below_true 0 (length es) (omega (arith, same, h.defined.0))))
+          (no_whole (limit_faults 255 (own_names es)) _ (limit_clear 255 (own_names es) (omega (arith, same, named, h.defined.1))) h.enumerators)),
+      refl,
+    )
+one_sort_clear S n s (alias t) h =
+    (refl, no_whole (unless (is_sort S t.text) UnknownSort t.place) _ (unless_holds _ _ _ h.defined.0) (unless_holds _ _ _ (true_not _ h.defined.1)))
+
+pub record SortsHold (S : Spec) (n : ℕ) (ds : List SortDeclarationForm) : Type 0 where
+  pub new : All NewSort (map erased_declaration ds)
+  pub defined : All (Defined S) (map erased_declaration ds)
+  pub few : structs_behind n (map erased_declaration ds) ≤ 255
+  pub enumerators : flat_map enumerator_faults (all_enumerator_forms ds) ≡ []
+
+pub sorts : (S : Spec) (n : ℕ) (ds : List SortDeclarationForm) → n ≤ 255 → structs_faults n ds ≡ [] → flat_map (sort_faults S) ds ≡ [] → SortsHold S n ds
+sorts S n [] low e f = record { new = all_none NewSort; defined = all_none (Defined S); few = low; enumerators = refl }
+sorts S n (d ∷ ds) low e f =
+    let p = no_parts (struct_faults n d.name.place d.sort) _ e in
+    let q = no_parts (sort_faults S d) _ f in
+    let r = no_parts (unless (not (is_built_in d.name.text)) NameTwice d.name.place) _ q.0 in
+    let first = one_sort S n d.name d.sort low p.0 r.1 in
+    let rest = sorts S (number_behind n (erased_sort d.sort)) ds first.few p.1 q.1 in
+    record {
+      new = all_cons NewSort (erased_declaration d) (map erased_declaration ds) (not_true _ (holds_unless _ _ _ r.0)) rest.new;
+      defined = all_cons (Defined S) (erased_declaration d) (map erased_declaration ds) first.defined rest.defined;
+      few = rest.few;
+      enumerators = flat_map-append enumerator_faults (enumerators_of_sort d.sort) (all_enumerator_forms ds) ∙ no_whole _ _ first.enumerators rest.enumerators;
+    }
+
+-- numbers rise
+behind_one : (n : ℕ) (sort : SortForm) → n ≤ number_behind n (erased_sort sort)
+behind_one n (struct es) = omega arith
+behind_one n (alias t) = omega arith
+
+behind_all : (n : ℕ) (ds : List SortDeclarationForm) → n ≤ structs_behind n (map erased_declaration ds)
+behind_all n [] = omega arith
+behind_all n (d ∷ ds) =
+    let one = behind_one n d.sort in
+    let rest = behind_all (number_behind n (erased_sort d.sort)) ds in
+    omega (arith, one, rest)
+
+pub sorts_clear : (S : Spec) (n : ℕ) (ds : List SortDeclarationForm) → SortsHold S n ds → (structs_faults n ds ≡ []) × (flat_map (sort_faults S) ds ≡ [])
+sorts_clear S n [] h = (refl, refl)
+sorts_clear S n (d ∷ ds) h =
+    let behind = behind_all (number_behind n (erased_sort d.sort)) ds in
+    let parts = no_parts (flat_map enumerator_faults (enumerators_of_sort d.sort)) _ (sym (flat_map-append enumerator_faults (enumerators_of_sort d.sort) (all_enumerator_forms ds)) ∙ h.enumerators) in
+    let first = one_sort_clear S n d.name d.sort (record { defined = all_head (Defined S) (erased_declaration d) (map erased_declaration ds) h.defined; few = omega (arith, behind, h.few); enumerators = parts.0 }) in
+    let rest = sorts_clear S (number_behind n (erased_sort d.sort)) ds (record {
+      new = all_tail NewSort (erased_declaration d) (map erased_declaration ds) h.new;
+      defined = all_tail (Defined S) (erased_declaration d) (map erased_declaration ds) h.defined;
+      few = h.few;
+      enumerators = parts.1;
+    }) in (
+      no_whole (struct_faults n d.name.place d.sort) _ first.0 rest.0,
+      no_whole (sort_faults S d) _
+          (no_whole (unless (not (is_built_in d.name.text)) NameTwice d.name.place) _ (unless_holds _ _ _ (true_not _ (all_head NewSort (erased_declaration d) (map erased_declaration ds) h.new))) first.1)
+          rest.1,
+    )
+
+-- ---- enumerators
+
+pub enumerators-erased : (ds : List SortDeclarationForm) → every_enumerator (map erased_declaration ds) ≡ map erased_enumerator (all_enumerator_forms ds)
+enumerators-erased [] = refl
+enumerators-erased (d ∷ ds) =
+    ap (λ es. enumerators (erased_sort d.sort) ++ es) (enumerators-erased ds)
+    ∙ (ap (λ es. es ++ map erased_enumerator (all_enumerator_forms ds)) (one d.sort)
+    ∙ sym (map-append erased_enumerator (enumerators_of_sort d.sort) (all_enumerator_forms ds)))
+  where
+    one : (s : SortForm) → enumerators (erased_sort s) ≡ map erased_enumerator (enumerators_of_sort s)
+    one (struct es) = refl
+    one (alias t) = refl
+
+pub enumerator_texts : (es : List EnumeratorForm) → texts (flat_map names_of_enumerator es) ≡ flat_map enumerator_names (map erased_enumerator es)
+enumerator_texts [] = refl
+enumerator_texts (e ∷ es) =
+    map-append (λ (x : Named). x.text) (names_of_enumerator e) (flat_map names_of_enumerator es)
+    ∙ (ap (λ xs. xs ++ texts (flat_map names_of_enumerator es)) (one e.recogniser)
+    ∙ ap (λ xs. enumerator_names (erased_enumerator e) ++ xs) (enumerator_texts es))
+  where
+    one : (r : Option Named) → texts (e.name ∷ recogniser_name r) ≡ e.name.text ∷ given (erased_recogniser r)
+    one None = refl
+    one (Some x) = refl
+
+abbrev pub ShortName : Enumerator → Type 0
+ShortName e = length e.name ≤ 64
+
+abbrev pub NewFunction : Enumerator → Type 0
+NewFunction e = All (λ x. is_named_function x ≡ false) (given e.recogniser)
+
+recogniser : (r : Option Named) → recogniser_faults r ≡ [] → All (λ x. is_named_function x ≡ false) (given (erased_recogniser r))
+recogniser None e = all_none (λ x. is_named_function x ≡ false)
+recogniser (Some x) e = all_cons (λ y. is_named_function y ≡ false) x.text [] (not_true _ (holds_unless _ _ _ e)) (all_none (λ y. is_named_function y ≡ false))
+
+recogniser_clear : (r : Option Named) → All (λ x. is_named_function x ≡ false) (given (erased_recogniser r)) → recogniser_faults r ≡ []
+recogniser_clear None h = refl
+recogniser_clear (Some x) h = unless_holds _ _ _ (true_not _ (all_head (λ y. is_named_function y ≡ false) x.text [] h))
+
+pub short_names : (es : List EnumeratorForm) → flat_map enumerator_faults es ≡ [] → All ShortName (map erased_enumerator es)
+short_names = each enumerator_faults erased_enumerator ShortName (λ e h. at_most _ _ (holds_unless _ _ _ (no_parts (length_faults e.name) (recogniser_faults e.recogniser) h).0))
+
+pub new_functions : (es : List EnumeratorForm) → flat_map enumerator_faults es ≡ [] → All NewFunction (map erased_enumerator es)
+new_functions = each enumerator_faults erased_enumerator NewFunction (λ e h. recogniser e.recogniser (no_parts (length_faults e.name) (recogniser_faults e.recogniser) h).1)
+
+pub enumerators_clear : (es : List EnumeratorForm) → All ShortName (map erased_enumerator es) → All NewFunction (map erased_enumerator es) → flat_map enumerator_faults es ≡ []
+enumerators_clear [] h k = refl
+enumerators_clear (e ∷ es) h k =
+    no_whole (enumerator_faults e) _
+    (no_whole (length_faults e.name) _ (unless_holds _ _ _ (at_most_true _ _ (all_head ShortName (erased_enumerator e) (map erased_enumerator es) h)))
+    (recogniser_clear e.recogniser (all_head NewFunction (erased_enumerator e) (map erased_enumerator es) k)))
+    (enumerators_clear es (all_tail ShortName (erased_enumerator e) (map erased_enumerator es) h) (all_tail NewFunction (erased_enumerator e) (map erased_enumerator es) k))
+
+-- ---- ranges
+
+low_high : (a b : ℤ) → int_le a b ≡ true → a ≤ℤ b
+low_high a b e = search (rules, tests)
+
+low_high_true : (a b : ℤ) → a ≤ℤ b → int_le a b ≡ true
+low_high_true a b h = search (rules, tests)
+
+pub ranges : (S : Spec) (rs : List RangeForm) → flat_map empty_faults rs ≡ [] → flat_map (range_faults S) rs ≡ [] → All (IsRanged S) (map erased_range rs)
+ranges S [] e f = all_none (IsRanged S)
+ranges S (r ∷ rs) e f =
+    let p = no_parts (empty_faults r) _ e in
+    let q = no_parts (range_faults S r) _ f in
+    let s = no_parts (unless (is_integer (base_of S r.name)) UnknownSort r.place) _ q.0 in
+    all_cons (IsRanged S) (erased_range r) (map erased_range rs)
+    (record { integer = holds_unless _ _ _ s.0; least = holds_unless _ _ _ s.1; order = low_high r.low r.high (holds_unless _ _ _ p.0) })
+    (ranges S rs p.1 q.1)
+
+pub ranges_clear : (S : Spec) (rs : List RangeForm) → All (IsRanged S) (map erased_range rs) → (flat_map empty_faults rs ≡ []) × (flat_map (range_faults S) rs ≡ [])
+ranges_clear S [] h = (refl, refl)
+ranges_clear S (r ∷ rs) h =
+    let first = all_head (IsRanged S) (erased_range r) (map erased_range rs) h in
+    let rest = ranges_clear S rs (all_tail (IsRanged S) (erased_range r) (map erased_range rs) h) in (
+      no_whole (empty_faults r) _ (unless_holds _ _ _ (low_high_true r.low r.high first.order)) rest.0,
+      no_whole (range_faults S r) _ (no_whole (unless (is_integer (base_of S r.name)) UnknownSort r.place) _ (unless_holds _ _ _ first.integer) (unless_holds _ _ _ first.least)) rest.1,
+    )

@@ -1,0 +1,71 @@
+-- The carriers of equations without a fault have a layout.
+use Rattle.std.proofs.Common.{◌≡◌, ◌≤◌, ◌<◌, ◌∙◌, ◌+◌, ℕ, zero, suc, List, [], ◌∷◌, length, get_or, map, refl, ap, arith, rules, tests, Vec, Global}
+use Rattle.std.specs.Prelude.{All, vec_len, nat_le, true}
+use Rattle.pb_sorts.specs.declared.carrier.Carrier.{Carrier}
+use Rattle.pb_sorts.specs.declared.limits.TheConstants.{MAX_INSTANCES}
+use Rattle.pb_sorts.specs.Carrier.{values_of}
+use Rattle.pb_sorts.specs.Instance.{instances_from}
+use Rattle.pb_sorts.specs.Layout as layouts
+use Rattle.pb_sorts.specs.Layout.{lists_of, count_of}
+use Rattle.pb_sorts.proofs.InstancePlaces.{length-instances_from-cons}
+use Rattle.pb_text_tree.specs.Form.{EquationForm}
+use Rattle.pb_text_meaning.specs.Syntax.{Equation, Spec}
+use Rattle.pb_text_meaning.specs.Formula.{carriers_of}
+use Rattle.pb_text_meaning.specs.Erase.{erased_equation}
+use Rattle.pb_typing_declarations.specs.declared.fault.TypingRule.TheVariants.{Limit}
+use Rattle.pb_typing_declarations.specs.Faults.{unless}
+use Rattle.pb_typing_declarations.specs.Instances.{instance_count, all_instances}
+use Rattle.pb_typing_declarations.specs.Reading.{HasCarriers}
+use Rattle.pb_typing_declarations.specs.Declarations.{equation_faults, equations_faults_behind, equation_names, limit_faults}
+use Rattle.pb_typing_declarations.proofs.Parts.{no_parts, holds_unless}
+use Rattle.pb_typing_declarations.proofs.Loops.{same_length}
+use Rattle.pb_typing_declarations.proofs.VariableLemmas.{few_names}
+
+abbrev Parameters : Type 0
+Parameters = Vec Carrier Global
+
+-- ---- at most 64 lists
+
+pub few_lists : (S : Spec) (E : List EquationForm) (vs : List Parameters) → HasCarriers S 0 E (lists_of vs) → limit_faults 64 (equation_names E) ≡ [] → length vs ≤ 64
+few_lists S E vs has clear =
+    let few = few_names 64 (equation_names E) clear in
+    let names = same_length (λ (X : EquationForm). X.name) E in
+    let erased = same_length erased_equation E in
+    let sorts = same_length (λ (X : Equation). carriers_of S X.parameters) (map erased_equation E) in
+    let values = same_length (λ (cs : List Carrier). map values_of cs) (lists_of vs) in
+    let lists = same_length (λ (v : Parameters). v.items) vs in
+    let same : length (layouts.carriers_of (lists_of vs)) ≡ length (map (λ (X : Equation). carriers_of S X.parameters) (map erased_equation E)) = ap length has.values in
+    omega (arith, few, names, erased, sorts, values, lists, same)
+
+-- ---- of at most 8 carriers
+
+pub few_carriers : (vs : List Parameters) → All (λ (cs : List Carrier). length cs ≤ 8) (lists_of vs) → (k : ℕ) (d : Parameters) → k < length vs → vec_len (get_or vs k d) ≤ 8
+few_carriers [] h k d below = absurd (omega (arith, below))
+few_carriers (v ∷ vs) h zero d below = let few = h zero v.items (omega arith) in omega (arith, few, v.ok.0)
+few_carriers (v ∷ vs) h (suc k) d below = few_carriers vs (λ j e lt. h (suc j) e (omega (arith, lt))) k d (omega (arith, below))
+
+-- ---- with few instances
+
+at_most : (n m : ℕ) → nat_le n m ≡ true → n ≤ m
+at_most n m e = search (rules, tests)
+
+pub within : (S : Spec) (n : ℕ) (E : List EquationForm) → equations_faults_behind S n E ≡ [] → n ≤ MAX_INSTANCES → n + all_instances S (map erased_equation E) ≤ MAX_INSTANCES
+within S n [] e low = omega (arith, low)
+within S n (X ∷ E) e low =
+    let p = no_parts (equation_faults S X) _ e in
+    let q = no_parts (unless (nat_le (n + instance_count S (erased_equation X)) MAX_INSTANCES) Limit X.name.place) _ p.1 in
+    let first = at_most (n + instance_count S (erased_equation X)) MAX_INSTANCES (holds_unless _ _ _ q.0) in
+    let rest = within S (n + instance_count S (erased_equation X)) E q.1 first in
+    omega (arith, rest)
+
+counted : (m : ℕ) (S : Spec) (E : List Equation) → length (instances_from m (map (λ (X : Equation). carriers_of S X.parameters) E)) ≡ all_instances S E
+counted m S [] = refl
+counted m S (X ∷ E) =
+    length-instances_from-cons m (carriers_of S X.parameters) (map (λ (Y : Equation). carriers_of S Y.parameters) E)
+    ∙ ap (λ n. instance_count S X + n) (counted (suc m) S E)
+
+pub few_instances : (S : Spec) (E : List EquationForm) (ls : List (List Carrier)) → HasCarriers S 0 E ls → count_of ls ≤ MAX_INSTANCES
+few_instances S E ls has =
+    let count : count_of ls ≡ all_instances S (map erased_equation E) = ap (λ css. length (instances_from 0 css)) has.values ∙ counted 0 S (map erased_equation E) in
+    let low = within S 0 E has.clear (omega arith) in
+    omega (arith, count, low)

@@ -1,0 +1,40 @@
+-- Faults of parts and of the whole.
+use Rattle.std.proofs.Common.{◌≡◌, Bool, true, false, List, [], ◌∷◌, ◌++◌, refl, sym, ◌∙◌, ap, subst}
+use Rattle.std.proofs.lemmas.List.Elements.{Contains-append_left, Contains-append_right}
+use Rattle.pb_text_tree.specs.declared.place.Place.{Place}
+use Rattle.pb_typing_declarations.specs.declared.fault.TypingRule.{TypingRule}
+use Rattle.pb_typing_declarations.specs.declared.fault.TypingFault.{TypingFault}
+use Rattle.pb_typing_declarations.specs.declared.fault.TypeError.{TypeError}
+use Rattle.pb_typing_declarations.specs.declared.fault.TypeError.TheVariants.{Memory, At}
+use Rattle.pb_typing_declarations.specs.Faults.{unless, IsAmong}
+
+pub among_left : (xs ys : List TypingFault) (e : TypeError) → IsAmong xs e → IsAmong (xs ++ ys) e
+among_left xs ys Memory h = h
+among_left xs ys (At fault) h = Contains-append_left xs ys fault h
+
+pub among_right : (xs ys : List TypingFault) (e : TypeError) → IsAmong ys e → IsAmong (xs ++ ys) e
+among_right xs ys Memory h = h
+among_right xs ys (At fault) h = Contains-append_right xs ys fault h
+
+-- where the whole has no fault, neither part has one
+pub no_parts : (xs ys : List TypingFault) → xs ++ ys ≡ [] → (xs ≡ []) × (ys ≡ [])
+no_parts [] ys e = (refl, e)
+no_parts (x ∷ xs) ys e = cc
+
+pub no_whole : (xs ys : List TypingFault) → xs ≡ [] → ys ≡ [] → xs ++ ys ≡ []
+no_whole xs ys e f = ap (λ (zs : List TypingFault). zs ++ ys) e ∙ f
+
+pub holds_unless : (b : Bool) (rule : TypingRule) (place : Place) → unless b rule place ≡ [] → b ≡ true
+holds_unless true rule place e = refl
+holds_unless false rule place e = cc
+
+pub unless_holds : (b : Bool) (rule : TypingRule) (place : Place) → b ≡ true → unless b rule place ≡ []
+unless_holds b rule place e = ap (λ c. unless c rule place) e
+
+-- a fault of the first part of what is all is a fault of it all
+pub among_first : (all xs ys : List TypingFault) (e : TypeError) → all ≡ xs ++ ys → IsAmong xs e → IsAmong all e
+among_first all xs ys e is h = subst (λ (zs : List TypingFault). IsAmong zs e) (sym is) (among_left xs ys e h)
+
+-- where the first part has no fault, the second part is all
+pub first_clear : (all xs ys : List TypingFault) → all ≡ xs ++ ys → xs ≡ [] → all ≡ ys
+first_clear all xs ys is clear = is ∙ ap (λ (zs : List TypingFault). zs ++ ys) clear

@@ -1,0 +1,87 @@
+-- The faults and the entries of sorts, sort by sort.
+use Rattle.std.proofs.Common.{◌≡◌, ℕ, zero, suc, ◌+◌, ◌<◌, ◌≤◌, true, false, refl, List, [], ◌∷◌, ◌++◌, length, get_or, drop, map, sym, ◌∙◌, ap, arith, rules, tests, Vec, Global}
+use Rattle.std.specs.Prelude.{flat_map, nat_lt}
+use Rattle.std.proofs.lemmas.List.{map-append}
+use Rattle.pb_text_tree.specs.declared.place.Place.{Place}
+use Rattle.pb_text_tree.specs.declared.sort.Enumerator as ast
+use Rattle.pb_text_tree.specs.declared.sort.Sort as sort
+use Rattle.pb_text_tree.specs.declared.sort.Sort.TheVariants as sorts
+use Rattle.pb_text_tree.specs.declared.sort.SortDeclaration.{SortDeclaration}
+use Rattle.pb_text_tree.specs.Form.{SortForm, struct, alias, enumerator_form, sort_form, sort_declaration_form}
+use Rattle.pb_text_meaning.specs.Syntax.{Name}
+use Rattle.pb_text_meaning.specs.Erase.{erased_sort}
+use Rattle.pb_typing_declarations.specs.declared.entry.Entry.{Entry}
+use Rattle.pb_typing_declarations.specs.declared.definition.Definition as declared
+use Rattle.pb_typing_declarations.specs.declared.fault.TypingRule.TheVariants.{Limit}
+use Rattle.pb_typing_declarations.specs.declared.fault.TypingFault.{TypingFault}
+use Rattle.pb_typing_declarations.specs.Faults.{unless}
+use Rattle.pb_typing_declarations.specs.Shapes.{definition_of, number_behind}
+use Rattle.pb_typing_declarations.specs.Tables.{entry_names, entry_values}
+use Rattle.pb_typing_declarations.specs.Entries.{shown, struct_count, shown_entries}
+use Rattle.pb_typing_declarations.specs.Declarations.{limit_faults, own_names, struct_faults, structs_faults, enumerator_faults}
+use Rattle.pb_typing_declarations.proofs.Parts.{no_parts, holds_unless}
+use Rattle.pb_typing_declarations.proofs.Loops.{next, same_length, one_more, more}
+
+abbrev pub struct_parts : ℕ → Place → ℕ → List TypingFault → List TypingFault → List TypingFault
+struct_parts n place count few rest = unless (nat_lt n 255) Limit place ++ (unless (nat_lt 0 count) Limit place ++ (few ++ rest))
+
+abbrev pub count_faults : List ast.Enumerator → List TypingFault
+count_faults es = limit_faults 255 (own_names (map enumerator_form es))
+
+-- the faults of a struct in the code's words
+pub struct_whole : (n : ℕ) (place : Place) (s : sort.Sort) (es : Vec ast.Enumerator Global) (count : ℕ) → s ≡ sorts.Struct es → count ≡ length es.items
+    → struct_faults n place (sort_form s) ≡ struct_parts n place count (count_faults es.items) (flat_map enumerator_faults (map enumerator_form es.items))
+struct_whole n place s es count is are =
+    ap (λ (t : sort.Sort). struct_faults n place (sort_form t)) is
+    ∙ ap (λ (k : ℕ). struct_parts n place k (count_faults es.items) (flat_map enumerator_faults (map enumerator_form es.items))) (same_length enumerator_form es.items ∙ sym are)
+
+-- the fault of the enumerator that passes the limit
+pub count_at : (es : List ast.Enumerator) (limit : ℕ) (e : ast.Enumerator) → limit < length es → e ≡ get_or es limit e → limit_faults limit (own_names (map enumerator_form es)) ≡ unless false Limit e.name.place
+count_at [] limit e below at = absurd (omega (arith, below))
+count_at (f ∷ es) zero e below at = ap (λ (g : ast.Enumerator). unless false Limit g.name.place) (sym at)
+count_at (f ∷ es) (suc limit) e below at = count_at es limit e (omega (arith, below)) at
+
+-- and none where so many are enough
+pub count_clear : (es : List ast.Enumerator) (limit : ℕ) → length es ≤ limit → limit_faults limit (own_names (map enumerator_form es)) ≡ []
+count_clear [] limit few = refl
+count_clear (e ∷ es) zero few = absurd (omega (arith, few))
+count_clear (e ∷ es) (suc limit) few = count_clear es limit (omega (arith, few))
+
+-- the number of the next struct
+pub number_after : (n : ℕ) (d : SortForm) (definition : declared.Definition) → shown definition ≡ definition_of n (erased_sort d) → n + struct_count (shown definition) ≡ number_behind n (erased_sort d)
+number_after n (struct es) definition is = ap (λ v. n + struct_count v) is ∙ omega arith
+number_after n (alias t) definition is = ap (λ v. n + struct_count v) is ∙ omega arith
+
+below_limit : (n : ℕ) → nat_lt n 255 ≡ true → suc n ≤ 255
+below_limit n e = search (rules, tests)
+
+pub few_after : (n : ℕ) (place : Place) (d : SortForm) → n ≤ 255 → struct_faults n place d ≡ [] → number_behind n (erased_sort d) ≤ 255
+few_after n place (struct es) h e = below_limit n (holds_unless _ _ _ (no_parts (unless (nat_lt n 255) Limit place) _ e).0)
+few_after n place (alias t) h e = h
+
+-- the faults from the sort at k on
+pub faults_next : (ds : List SortDeclaration) (k n : ℕ) (d : SortDeclaration) → k < length ds → d ≡ get_or ds k d
+    → structs_faults n (map sort_declaration_form (drop k ds)) ≡ struct_faults n d.name.place (sort_form d.sort) ++ structs_faults (number_behind n (erased_sort (sort_form d.sort))) (map sort_declaration_form (drop (k + 1) ds))
+faults_next ds k n d below at = ap (λ (xs : List SortDeclaration). structs_faults n (map sort_declaration_form xs)) (next ds k d below at)
+
+-- ---- entries
+
+module _ {V : Type 0} where
+  pub names-pushed : (old new : List (Entry V)) (e : Entry V) → new ≡ old ++ (e ∷ []) → entry_names new ≡ entry_names old ++ (record { place = e.place; text = e.name.now } ∷ [])
+  names-pushed old new e is = ap entry_names is ∙ map-append (λ (f : Entry V). record { place = f.place; text = f.name.now }) old (e ∷ [])
+
+  pub values-pushed : (old new : List (Entry V)) (e : Entry V) → new ≡ old ++ (e ∷ []) → entry_values new ≡ entry_values old ++ ((e.name.now, e.value) ∷ [])
+  values-pushed old new e is = ap entry_values is ∙ map-append (λ (f : Entry V). (f.name.now, f.value)) old (e ∷ [])
+
+-- what is to come once the next is there
+pub grown : {X : Type 0} (all old new z : List X) (x : X) → all ≡ old ++ (x ∷ z) → new ≡ old ++ (x ∷ []) → all ≡ new ++ z
+grown all old new z x is put = is ∙ (one_more old x z ∙ ap (λ xs. xs ++ z) (sym put))
+
+pub grown_by : {X : Type 0} (all old new b z : List X) → all ≡ old ++ (b ++ z) → new ≡ old ++ b → all ≡ new ++ z
+grown_by all old new b z is put = is ∙ (more old b z ∙ ap (λ xs. xs ++ z) (sym put))
+
+pub shown-pushed : (old new : List (Entry declared.Definition)) (e : Entry declared.Definition) → new ≡ old ++ (e ∷ []) → shown_entries (entry_values new) ≡ shown_entries (entry_values old) ++ ((e.name.now, shown e.value) ∷ [])
+shown-pushed old new e is = ap shown_entries (values-pushed old new e is) ∙ map-append (λ (f : Name × declared.Definition). (f.0, shown f.1)) (entry_values old) ((e.name.now, e.value) ∷ [])
+
+pub pair_path : {A B : Type 0} {a b : A} {x y : B} → a ≡ b → x ≡ y → (let p : A × B = (a, x) in p) ≡ (let q : A × B = (b, y) in q)
+pair_path {A} {B} {a} {b} {x} {y} e f = ap (λ (u : A). let p : A × B = (u, x) in p) e ∙ ap (λ (v : B). let p : A × B = (b, v) in p) f

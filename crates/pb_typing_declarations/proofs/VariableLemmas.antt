@@ -1,0 +1,65 @@
+-- Variables by their entries.
+use Rattle.std.proofs.Common.{◌≡◌, ℕ, zero, suc, ◌<◌, ◌≤◌, true, false, rules, tests, List, get_or, [], ◌∷◌, length, map, refl, sym, ap, arith}
+use Rattle.std.specs.Prelude.{nat_lt}
+use denote.Ref.{Bor}
+use Rattle.pb_text_tree.specs.declared.name.Name.{Name}
+use Rattle.pb_text_tree.specs.Form.{Named, VariableForm}
+use Rattle.pb_sorts.specs.declared.carrier.Carrier.{Carrier}
+use Rattle.pb_sorts.specs.Carrier.{values_of}
+use Rattle.pb_text_meaning.specs.Syntax.{Variable, Spec}
+use Rattle.pb_text_meaning.specs.Sorts.{carrier_of}
+use Rattle.pb_text_meaning.specs.Formula.{carriers_of}
+use Rattle.pb_text_meaning.specs.Erase.{erased_variable, erased_variables}
+use Rattle.pb_typing_declarations.proofs.Loops.{same_length}
+use Rattle.pb_typing_declarations.specs.declared.entry.Entry.{Entry}
+use Rattle.pb_typing_declarations.specs.declared.fault.TypingRule.TheVariants.{Limit}
+use Rattle.pb_typing_declarations.specs.Faults.{unless}
+use Rattle.pb_typing_declarations.specs.Tables.{entry_names}
+use Rattle.pb_typing_declarations.specs.Variables.{variables_of}
+use Rattle.pb_typing_declarations.specs.Declarations.{variable_names, limit_faults}
+
+-- the names of variables are those of their entries
+pub names-variables_of : (es : List (Entry (Bor Name))) → entry_names es ≡ variable_names (variables_of es)
+names-variables_of [] = refl
+names-variables_of (e ∷ es) = ap (λ xs. record { place = e.place; text = e.name.now } ∷ xs) (names-variables_of es)
+
+-- at most so many where none passes the limit
+pub few_names : (limit : ℕ) (xs : List Named) → limit_faults limit xs ≡ [] → length xs ≤ limit
+few_names limit [] h = omega arith
+few_names zero (x ∷ xs) h = cc
+few_names (suc limit) (x ∷ xs) h = let rest = few_names limit xs h in omega (arith, rest)
+
+-- and the other way round
+pub limit_clear : (limit : ℕ) (xs : List Named) → length xs ≤ limit → limit_faults limit xs ≡ []
+limit_clear limit [] h = refl
+limit_clear zero (x ∷ xs) h = absurd (omega (arith, h))
+limit_clear (suc limit) (x ∷ xs) h = limit_clear limit xs (omega (arith, h))
+
+-- the fault of the one that passes the limit
+pub limit_at : {V : Type 0} (es : List (Entry V)) (limit : ℕ) (e : Entry V) → limit < length es → e ≡ get_or es limit e → limit_faults limit (entry_names es) ≡ unless false Limit e.place
+limit_at [] limit e below at = absurd (omega (arith, below))
+limit_at (f ∷ es) zero e below at = ap (λ (g : Entry _). unless false Limit g.place) (sym at)
+limit_at (f ∷ es) (suc limit) e below at = limit_at es limit e (omega (arith, below)) at
+
+pub entry_names-length : {V : Type 0} (es : List (Entry V)) → length (entry_names es) ≡ length es
+entry_names-length [] = refl
+entry_names-length (e ∷ es) = ap suc (entry_names-length es)
+
+-- ---- an equation's parameters
+
+-- as many carriers as names
+pub carriers_few : (S : Spec) (xs : List VariableForm) (carriers : List Carrier) (limit : ℕ) → map values_of carriers ≡ carriers_of S (erased_variables xs) → limit_faults limit (variable_names xs) ≡ [] → length carriers ≤ limit
+carriers_few S xs carriers limit are clear =
+    let few = few_names limit (variable_names xs) clear in
+    let names = same_length (λ (x : VariableForm). x.name) xs in
+    let variables = same_length erased_variable xs in
+    let sorts = same_length (λ (x : Variable). carrier_of S x.sort) (erased_variables xs) in
+    let values = same_length values_of carriers in
+    let same : length (map values_of carriers) ≡ length (carriers_of S (erased_variables xs)) = ap length are in
+    omega (arith, few, names, variables, sorts, values, same)
+
+pub below_length : (k n : ℕ) → true ≡ nat_lt k n → k < n
+below_length k n e = search (rules, tests)
+
+pub not_below_length : (k n : ℕ) → false ≡ nat_lt k n → n ≤ k
+not_below_length k n e = search (rules, tests)

@@ -1,0 +1,52 @@
+use Rattle.std.proofs.Common.{◌∙◌, ◌++◌, ◌≤◌, length, List, rules, arith, sym, ap, subst, map}
+use Rattle.std.proofs.lemmas.List.{append-nil}
+use denote.Ref.{Bor}
+use Rattle.pb_sorts.specs.Carrier.{values_of}
+use Rattle.pb_text_tree.specs.declared.name.Name.{Name}
+use Rattle.pb_text_tree.specs.Form.{Named, spec_form}
+use Rattle.pb_text_meaning.specs.Erase.{erase, erased_variables}
+use Rattle.pb_text_meaning.specs.Formula.{carriers_of}
+use Rattle.pb_typing_declarations.specs.declared.entry.Entry.{Entry}
+use Rattle.pb_typing_declarations.specs.Faults.{repeated, IsAmong}
+use Rattle.pb_typing_declarations.specs.Variables.{variable_of, variables_of}
+use Rattle.pb_typing_declarations.specs.Declarations.{variable_names, variable_faults, variables_faults}
+use Rattle.pb_typing_declarations.proofs.Parts.{among_left, among_right, no_whole}
+use Rattle.pb_typing_declarations.proofs.Loops.{among_item, all_clear, finished}
+use Rattle.pb_typing_declarations.proofs.VariableLemmas.{names-variables_of}
+use Rattle.pb_typing_declarations.proofs.tables.Tables.variable_carriers.Goals as goal
+
+pub returns-in_err-table : goal.returns-in_err-table
+returns-in_err-table c =
+    let S = erase (spec_form c.args.self.now.spec.now) in
+    let es = c.args.variables.now in
+    let e = c.in_err-table.field-0.0 in
+    let h : IsAmong (variables_faults S (variables_of es)) e =
+    among_left (repeated (variable_names (variables_of es))) _ e
+    (subst (λ (xs : List Named). IsAmong (repeated xs) e) (names-variables_of es) c.in_err-table.ensures) in
+    search rules
+
+pub returns-in_err-carrier : goal.returns-in_err-carrier
+returns-in_err-carrier c =
+    let S = erase (spec_form c.args.self.now.spec.now) in
+    let es = c.args.variables.now in
+    let e = c.in_err-carrier.field-0.0 in
+    let h : IsAmong (variables_faults S (variables_of es)) e =
+    among_right (repeated (variable_names (variables_of es))) _ e
+    (among_item (variable_faults S) variable_of es c.loop-variable.variable-index c.variable-item.result e c.loop-variable-test.true c.variable-item.is c.loop-variable.invariant.left c.in_err-carrier.ensures) in
+    search rules
+
+pub returns : goal.returns
+returns c =
+    let S = erase (spec_form c.args.self.now.spec.now) in
+    let es = c.args.variables.now in
+    let k = c.loop-variable.variable-index in
+    let end : length es ≤ k = omega (arith, c.loop-variable-test.false) in
+    let carriers = map values_of c.loop-variable.carriers.items in
+    record {
+      clear = no_whole (repeated (variable_names (variables_of es))) _
+          (ap repeated (sym (names-variables_of es)) ∙ c.in_ok-table.ensures.0)
+          (all_clear (variable_faults S) variable_of es k end c.loop-variable.invariant.left);
+      values = sym
+          (c.loop-variable.invariant.values
+          ∙ (ap (λ (xs : List (Entry (Bor Name))). carriers ++ carriers_of S (erased_variables (variables_of xs))) (finished es k end) ∙ append-nil carriers));
+    }

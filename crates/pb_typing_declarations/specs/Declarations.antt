@@ -1,0 +1,182 @@
+-- Where each rule of declarations fails: all faults of sorts, ranges, enumerators, recognisers, predicate variables and
+-- their parameters.
+use Rattle.std.specs.Prelude.{ℕ, ◌+◌, nat_le, nat_lt, Bool, true, false, not, ◌||◌, List, [], ◌∷◌, ◌++◌, map, flat_map, length, ℤ, pos, int_le, Option, Some, None, codes}
+use Rattle.std.specs.List.{slice_get}
+use Rattle.pb_text_tree.specs.declared.place.Place.{Place}
+use Rattle.pb_text_tree.specs.Form.{Named, VariableForm, EnumeratorForm, SortForm, struct, alias, SortDeclarationForm, RangeForm, EquationForm, SpecForm}
+use Rattle.pb_text_meaning.specs.Syntax.{Name, same_name, Spec}
+use Rattle.pb_text_meaning.specs.Erase.{erase, erased_sort, erased_equation}
+use Rattle.pb_typing_declarations.specs.declared.sorts.Integers.TheVariants as integers
+use Rattle.pb_typing_declarations.specs.declared.fault.TypingRule.TheVariants.{NameTwice, UnknownSort, MissingRange, Limit}
+use Rattle.pb_typing_declarations.specs.declared.fault.TypingFault.{TypingFault}
+use Rattle.pb_typing_declarations.specs.Faults.{unless, is_among, repeated, length_faults}
+use Rattle.pb_typing_declarations.specs.Shapes.{End, Shaped, Unranged, Undeclared, Endless, end_of, base_of, is_sort, is_built_in, number_behind}
+use Rattle.pb_typing_declarations.specs.Instances.{instance_count}
+use Rattle.pb_sorts.specs.declared.limits.TheConstants.{MAX_INSTANCES}
+
+-- ---- limits
+
+-- the one that comes after so many passes the limit
+abbrev pub limit_fault : Option Named → List TypingFault
+limit_fault None = []
+limit_fault (Some x) = unless false Limit x.place
+
+abbrev pub limit_faults : ℕ → List Named → List TypingFault
+limit_faults limit xs = limit_fault (slice_get xs limit)
+
+-- ---- enumerators and recognisers, in the order of the text
+
+abbrev pub recogniser_name : Option Named → List Named
+recogniser_name None = []
+recogniser_name (Some x) = x ∷ []
+
+abbrev pub names_of_enumerator : EnumeratorForm → List Named
+names_of_enumerator e = e.name ∷ recogniser_name e.recogniser
+
+abbrev pub enumerators_of_sort : SortForm → List EnumeratorForm
+enumerators_of_sort (struct es) = es
+enumerators_of_sort (alias target) = []
+
+abbrev pub all_enumerator_forms : List SortDeclarationForm → List EnumeratorForm
+all_enumerator_forms ds = flat_map (λ (d : SortDeclarationForm). enumerators_of_sort d.sort) ds
+
+-- the functions that are there
+abbrev pub is_numeric_function : Name → Bool
+is_numeric_function f = is_among (codes "succ" ∷ codes "pred" ∷ codes "max" ∷ codes "min" ∷ codes "abs" ∷ []) f
+
+abbrev pub is_conversion : Name → Bool
+is_conversion f = is_among (codes "Pos2Nat" ∷ codes "Pos2Int" ∷ codes "Nat2Int" ∷ []) f
+
+abbrev pub is_named_function : Name → Bool
+is_named_function f = same_name (codes "if") f || (is_numeric_function f || is_conversion f)
+
+abbrev pub recogniser_faults : Option Named → List TypingFault
+recogniser_faults None = []
+recogniser_faults (Some x) = unless (not (is_named_function x.text)) NameTwice x.place
+
+abbrev pub enumerator_faults : EnumeratorForm → List TypingFault
+enumerator_faults e = length_faults e.name ++ recogniser_faults e.recogniser
+
+-- ---- sorts
+
+abbrev pub is_endless : End → Bool
+is_endless Endless = true
+is_endless (Shaped h) = false
+is_endless (Unranged k) = false
+is_endless Undeclared = false
+
+-- an alias's target is a sort, and its chain has an end
+abbrev pub definition_faults : Spec → Named → SortForm → List TypingFault
+definition_faults spec s (struct es) = []
+definition_faults spec s (alias target) =
+    unless (is_sort spec target.text) UnknownSort target.place ++ unless (not (is_endless (base_of spec s.text))) UnknownSort s.place
+
+abbrev pub sort_faults : Spec → SortDeclarationForm → List TypingFault
+sort_faults spec d = unless (not (is_built_in d.name.text)) NameTwice d.name.place ++ definition_faults spec d.name d.sort
+
+abbrev pub own_names : List EnumeratorForm → List Named
+own_names es = map (λ (e : EnumeratorForm). e.name) es
+
+-- behind n structs: there are at most 255, and each has 1 to 255 enumerators
+abbrev pub struct_faults : ℕ → Place → SortForm → List TypingFault
+struct_faults n place (struct es) =
+    unless (nat_lt n 255) Limit place
+    ++ (unless (nat_lt 0 (length es)) Limit place
+    ++ (limit_faults 255 (own_names es)
+    ++ flat_map enumerator_faults es))
+struct_faults n place (alias target) = []
+
+abbrev pub structs_faults : ℕ → List SortDeclarationForm → List TypingFault
+structs_faults n [] = []
+structs_faults n (d ∷ ds) = struct_faults n d.name.place d.sort ++ structs_faults (number_behind n (erased_sort d.sort)) ds
+
+-- ---- ranges
+
+abbrev pub is_integer : End → Bool
+is_integer (Unranged k) = true
+is_integer (Shaped h) = false
+is_integer Undeclared = false
+is_integer Endless = false
+
+-- Pos begins at 1, Nat at 0
+abbrev pub may_begin_at : ℤ → End → Bool
+may_begin_at low (Unranged integers.Pos) = int_le (pos 1) low
+may_begin_at low (Unranged integers.Nat) = int_le (pos 0) low
+may_begin_at low (Unranged integers.Int) = true
+may_begin_at low (Shaped h) = true
+may_begin_at low Undeclared = true
+may_begin_at low Endless = true
+
+-- the range of an integer sort, which begins at its least value or above
+abbrev pub range_faults : Spec → RangeForm → List TypingFault
+range_faults spec r =
+    unless (is_integer (base_of spec r.name)) UnknownSort r.place
+    ++ unless (may_begin_at r.low (base_of spec r.name)) MissingRange r.place
+
+-- and isn't empty
+abbrev pub empty_faults : RangeForm → List TypingFault
+empty_faults r = unless (int_le r.low r.high) MissingRange r.place
+
+abbrev pub range_name : RangeForm → Named
+range_name r = record { place = r.place; text = r.name }
+
+-- ---- variables
+
+-- the sort of a variable has values
+abbrev pub use_faults : End → Place → List TypingFault
+use_faults (Shaped h) place = []
+use_faults (Unranged k) place = unless false MissingRange place
+use_faults Undeclared place = unless false UnknownSort place
+use_faults Endless place = unless false UnknownSort place
+
+abbrev pub variable_faults : Spec → VariableForm → List TypingFault
+variable_faults spec x = use_faults (end_of spec x.sort.text) x.sort.place
+
+abbrev pub variable_names : List VariableForm → List Named
+variable_names xs = map (λ (x : VariableForm). x.name) xs
+
+-- one list of variables: a quantifier's, or an equation's parameters
+abbrev pub variables_faults : Spec → List VariableForm → List TypingFault
+variables_faults spec xs = repeated (variable_names xs) ++ flat_map (variable_faults spec) xs
+
+-- ---- predicate variables
+
+abbrev pub equation_names : List EquationForm → List Named
+equation_names E = map (λ (X : EquationForm). X.name) E
+
+abbrev pub equation_faults : Spec → EquationForm → List TypingFault
+equation_faults spec X = length_faults X.name ++ (limit_faults 8 (variable_names X.parameters) ++ variables_faults spec X.parameters)
+
+-- behind so many instances: a predicate variable is as it must be, and its instances are within the limit
+abbrev pub equations_faults_behind : Spec → ℕ → List EquationForm → List TypingFault
+equations_faults_behind spec n [] = []
+equations_faults_behind spec n (X ∷ E) =
+    equation_faults spec X
+    ++ (unless (nat_le (n + instance_count spec (erased_equation X)) MAX_INSTANCES) Limit X.name.place
+    ++ equations_faults_behind spec (n + instance_count spec (erased_equation X)) E)
+
+-- ---- all
+
+abbrev pub sort_names : List SortDeclarationForm → List Named
+sort_names ds = map (λ (d : SortDeclarationForm). d.name) ds
+
+-- what is found as names are gathered
+abbrev pub tables_faults : SpecForm → List TypingFault
+tables_faults text =
+    structs_faults 0 text.sorts
+    ++ (flat_map empty_faults text.ranges
+    ++ (repeated (flat_map names_of_enumerator (all_enumerator_forms text.sorts))
+    ++ (repeated (sort_names text.sorts)
+    ++ (repeated (map range_name text.ranges)
+    ++ repeated (equation_names text.equations)))))
+
+-- what is found once all names are known
+abbrev pub checks_faults : SpecForm → List TypingFault
+checks_faults text =
+    flat_map (sort_faults (erase text)) text.sorts
+    ++ (flat_map (range_faults (erase text)) text.ranges
+    ++ (limit_faults 64 (equation_names text.equations)
+    ++ equations_faults_behind (erase text) 0 text.equations))
+
+abbrev pub declaration_faults : SpecForm → List TypingFault
+declaration_faults text = tables_faults text ++ checks_faults text

@@ -1,0 +1,14 @@
+pub mod Faults
+pub mod Shapes
+pub mod Enumerators
+pub mod Tables
+pub mod Entries
+pub mod Chains
+pub mod Variables
+pub mod View
+pub mod Agreement
+pub mod Reading
+pub mod Instances
+pub mod Declarations
+pub mod TypingRule
+pub mod WellDeclared

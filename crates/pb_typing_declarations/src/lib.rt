@@ -1,0 +1,25 @@
+//! What a text declares: its sorts with their ranges, enumerators and recognisers, and predicate variables with their
+//! parameters. It stands below whatever reads terms and formulas, which look names up here, and has the errors of all
+//! typing rules.
+#![tactic(auto)]
+
+mod chain;
+mod declarations;
+mod definition;
+mod ends;
+mod entry;
+mod fault;
+mod laws;
+mod range;
+mod sorts;
+mod table;
+mod tables;
+#[cfg(test)]
+mod tests;
+mod variables;
+
+pub use declarations::Declarations;
+pub use definition::{MAX_NAME_BYTES, is_named_function};
+pub use fault::{TypeError, TypingFault, TypingRule, require};
+pub use laws::{no_faults_where_declared, no_faults_where_variables, shapes_have_carriers};
+pub use sorts::{Enumerator, Integers};

@@ -1,0 +1,56 @@
+//! Range lines.
+
+ghost use Rattle.std.specs.Prelude.{◌≡◌, [], flat_map, map, MatchResult};
+ghost use Rattle.pb_text_tree.specs.Form.{range_form};
+ghost use Rattle.pb_text_meaning.specs.Erase.{erased_range};
+ghost use Rattle.pb_typing_declarations.specs.Faults.{IsAmong};
+ghost use Rattle.pb_typing_declarations.specs.Shapes.{range_bounds};
+ghost use Rattle.pb_typing_declarations.specs.Tables.{entry_names, entry_values};
+ghost use Rattle.pb_typing_declarations.specs.Entries.{range_shown};
+ghost use Rattle.pb_typing_declarations.specs.Reading.{AreRanges};
+ghost use Rattle.pb_typing_declarations.specs.Declarations.{empty_faults, range_name};
+
+use crate::entry::Entry;
+use crate::fault::{TypeError, TypingFault, TypingRule};
+use pb_sorts::Range;
+use std::alloc::Global;
+
+/// The ranges, if none is empty.
+pub(crate) fn read_ranges(
+    alloc: Global,
+    ranges: &[pb_text_tree::Range],
+) -> Result<Vec<Entry<'_, Range>>, TypeError>
+    ensures { MatchResult result
+        (λ entries. AreRanges (map range_form ranges.now) entries.items)
+        (IsAmong (flat_map empty_faults (map range_form ranges.now))) }
+{
+    let mut entries = Vec::new(alloc);
+    for range in ranges {
+        let value = read_range(range)?;
+        entries.push(Entry {
+            name: &range.name,
+            place: range.place,
+            value,
+        })?;
+    }
+    Ok(entries)
+}
+
+/// The bounds of a range that isn't empty.
+fn read_range(range: &pb_text_tree::Range) -> Result<Range, TypeError>
+    ensures { MatchResult result
+        (λ bounds. (empty_faults (range_form range.now) ≡ []) × (range_shown bounds ≡ (range.now.low, range.now.high)))
+        (IsAmong (empty_faults (range_form range.now))) }
+{
+    if range.low <= range.high {
+        Ok(Range {
+            lo: range.low,
+            hi: range.high,
+        })
+    } else {
+        Err(TypeError::At(TypingFault {
+            rule: TypingRule::MissingRange,
+            place: range.place,
+        }))
+    }
+}

@@ -1,0 +1,5 @@
+use Rattle.pb_typing_rules.proofs.WellTypedLemmas.{well_typed, faultless}
+use Rattle.pb_typing_rules.proofs.laws.no_faults_where_well_typed.Goals as goal
+
+pub returns : goal.returns
+returns c = λ text. (well_typed text, faultless text)

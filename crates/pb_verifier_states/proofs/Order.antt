@@ -1,0 +1,69 @@
+-- Covering is transitive, and what is covered at all covers itself.
+use Rattle.std.proofs.Common.{ℕ, List, [], ◌∷◌, refl, ◌∙◌, arith}
+use lib.Signed.{≤ℤ_refl}
+use Rattle.std.proofs.lemmas.Int.{ints}
+use Rattle.pb_bytecode_program.specs.Abstract.{Covers}
+use Rattle.pb_bytecode_program.specs.Transfer.{AbstractState}
+use Rattle.pb_bytecode_program.specs.Accepted.{CoversEach, CoversLoops, IsCovered}
+use Rattle.pb_bytecode_program.specs.declared.abstract_value.AbstractValue.{AbstractValue}
+use Rattle.pb_bytecode_program.specs.declared.abstract_value.AbstractValue.TheVariants as abstract
+
+covers_through : (s t u : AbstractValue) → Covers s t → Covers t u → Covers s u
+covers_through abstract.Bool abstract.Bool u c d = d
+covers_through abstract.Bool (abstract.Int l h) u c d = absurd c
+covers_through abstract.Bool (abstract.Enum a n) u c d = absurd c
+covers_through (abstract.Int l h) abstract.Bool u c d = absurd c
+covers_through (abstract.Int l h) (abstract.Enum a n) u c d = absurd c
+covers_through (abstract.Enum a n) abstract.Bool u c d = absurd c
+covers_through (abstract.Enum a n) (abstract.Int l h) u c d = absurd c
+covers_through (abstract.Int l h) (abstract.Int m k) abstract.Bool c d = absurd d
+covers_through (abstract.Int l h) (abstract.Int m k) (abstract.Enum a n) c d = absurd d
+covers_through (abstract.Int l h) (abstract.Int m k) (abstract.Int x y) c d = (let a = c.0 in let b = d.0 in omega (arith, ints), c.1, let a = c.2 in let b = d.2 in omega (arith, ints))
+covers_through (abstract.Enum a n) (abstract.Enum b m) abstract.Bool c d = absurd d
+covers_through (abstract.Enum a n) (abstract.Enum b m) (abstract.Int x y) c d = absurd d
+covers_through (abstract.Enum a n) (abstract.Enum b m) (abstract.Enum e k) c d = (c.0 ∙ d.0, let x = c.1 in let y = d.1 in omega arith)
+
+each_through : (s t u : List AbstractValue) → CoversEach s t → CoversEach t u → CoversEach s u
+each_through [] [] u c d = d
+each_through [] (y ∷ t) u c d = absurd c
+each_through (x ∷ s) [] u c d = absurd c
+each_through (x ∷ s) (y ∷ t) [] c d = absurd d
+each_through (x ∷ s) (y ∷ t) (z ∷ u) c d = (covers_through x y z c.0 d.0, each_through s t u c.1 d.1)
+
+loops_through : (s t u : List (ℕ × AbstractValue)) → CoversLoops s t → CoversLoops t u → CoversLoops s u
+loops_through [] [] u c d = d
+loops_through [] (y ∷ t) u c d = absurd c
+loops_through (x ∷ s) [] u c d = absurd c
+loops_through (x ∷ s) (y ∷ t) [] c d = absurd d
+loops_through (x ∷ s) (y ∷ t) (z ∷ u) c d = (c.0 ∙ d.0, covers_through x.1 y.1 z.1 c.1 d.1, loops_through s t u c.2 d.2)
+
+pub through : (k m n : AbstractState) → IsCovered k m → IsCovered m n → IsCovered k n
+through k m n c d = record {
+  operands = each_through k.operands m.operands n.operands c.operands d.operands;
+  below = c.below ∙ d.below;
+  params = each_through k.params m.params n.params c.params d.params;
+  loops = loops_through k.loops m.loops n.loops c.loops d.loops;
+  brackets = c.brackets ∙ d.brackets;
+  floor = c.floor ∙ d.floor;
+  roots = c.roots ∙ d.roots;
+}
+
+solid_one : (s t : AbstractValue) → Covers s t → Covers s s
+solid_one abstract.Bool t c = tt
+solid_one (abstract.Enum a n) t c = (refl, omega arith)
+solid_one (abstract.Int l h) abstract.Bool c = absurd c
+solid_one (abstract.Int l h) (abstract.Enum a n) c = absurd c
+solid_one (abstract.Int l h) (abstract.Int m k) c = (≤ℤ_refl l, c.1, ≤ℤ_refl h)
+
+solid_each : (s t : List AbstractValue) → CoversEach s t → CoversEach s s
+solid_each [] t c = tt
+solid_each (x ∷ s) [] c = absurd c
+solid_each (x ∷ s) (y ∷ t) c = (solid_one x y c.0, solid_each s t c.1)
+
+solid_loops : (s t : List (ℕ × AbstractValue)) → CoversLoops s t → CoversLoops s s
+solid_loops [] t c = tt
+solid_loops (x ∷ s) [] c = absurd c
+solid_loops (x ∷ s) (y ∷ t) c = (refl, solid_one x.1 y.1 c.1, solid_loops s t c.2)
+
+pub solid_left : (k m : AbstractState) → IsCovered k m → IsCovered k k
+solid_left k m c = record { operands = solid_each k.operands m.operands c.operands; below = refl; params = solid_each k.params m.params c.params; loops = solid_loops k.loops m.loops c.loops; brackets = refl; floor = refl; roots = refl }

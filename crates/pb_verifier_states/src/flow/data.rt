@@ -1,0 +1,123 @@
+//! What flows from the instructions on operands.
+
+ghost use Rattle.std.specs.Prelude.{◌≡◌, ◌&&◌, IfOk, int_lt, pos};
+ghost use Rattle.pb_verifier_states.specs.Flows.{Fails, GoesOn};
+ghost use Rattle.pb_verifier_states.specs.Refusals.{OnRefused};
+ghost use Rattle.pb_bytecode_program.specs.Values.{divides};
+ghost use Rattle.pb_bytecode_program.specs.declared.instruction.Op.TheVariants as op;
+
+use crate::flow_error::FlowError;
+use crate::interval::{absolute_values, negatives, results};
+use crate::rule::AcceptanceRule;
+use crate::state::AbstractState;
+use crate::value::{are_of_one_kind, numbers};
+use pb_bytecode_program::{AbstractValue, Arithmetic, Comparison, Connective, Equality};
+use pb_intervals::Interval;
+
+/// Pops an operand.
+pub fn pop(mut state: AbstractState) -> Result<AbstractState, FlowError>
+    ensures flows { IfOk result (GoesOn op.Pop state) }
+    ensures refused { OnRefused result (Fails op.Pop state) }
+{
+    state.pop()?;
+    Ok(state)
+}
+
+/// An operator on two numbers.
+pub fn arithmetic(
+    mut state: AbstractState,
+    operator: Arithmetic,
+) -> Result<AbstractState, FlowError>
+    ensures flows { IfOk result (GoesOn (op.Arithmetic operator) state) }
+    ensures refused { OnRefused result (Fails (op.Arithmetic operator) state) }
+{
+    let b = state.pop_int()?;
+    let a = state.pop_int()?;
+    if may_be_no_divisor(operator, b) {
+        return Err(FlowError::Refused(AcceptanceRule::Divisor));
+    }
+    let Some(interval) = results(operator, a, b) else {
+        return Err(FlowError::Refused(AcceptanceRule::Overflow));
+    };
+    state.push(numbers(interval))?;
+    Ok(state)
+}
+
+// Whether the second operand is a divisor that may be below 1.
+fn may_be_no_divisor(operator: Arithmetic, b: Interval) -> bool
+    ensures { result ≡ (divides operator && int_lt b.low (pos 1)) }
+{
+    matches!(operator, Arithmetic::Div | Arithmetic::Mod) && b.low() < 1
+}
+
+/// The negative of a number.
+pub fn negate(mut state: AbstractState) -> Result<AbstractState, FlowError>
+    ensures flows { IfOk result (GoesOn op.Negate state) }
+    ensures refused { OnRefused result (Fails op.Negate state) }
+{
+    let a = state.pop_int()?;
+    let Some(interval) = negatives(a) else {
+        return Err(FlowError::Refused(AcceptanceRule::Overflow));
+    };
+    state.push(numbers(interval))?;
+    Ok(state)
+}
+
+/// The absolute value of a number.
+pub fn absolute(mut state: AbstractState) -> Result<AbstractState, FlowError>
+    ensures flows { IfOk result (GoesOn op.Absolute state) }
+    ensures refused { OnRefused result (Fails op.Absolute state) }
+{
+    let a = state.pop_int()?;
+    let Some(interval) = absolute_values(a) else {
+        return Err(FlowError::Refused(AcceptanceRule::Overflow));
+    };
+    state.push(numbers(interval))?;
+    Ok(state)
+}
+
+/// Whether two numbers stand in an order.
+pub fn compare(mut state: AbstractState, order: Comparison) -> Result<AbstractState, FlowError>
+    ensures flows { IfOk result (GoesOn (op.Compare order) state) }
+    ensures refused { OnRefused result (Fails (op.Compare order) state) }
+{
+    state.pop_int()?;
+    state.pop_int()?;
+    state.push(AbstractValue::Bool)?;
+    Ok(state)
+}
+
+/// Whether two values of one kind are equal, or different.
+pub fn equality(mut state: AbstractState, wanted: Equality) -> Result<AbstractState, FlowError>
+    ensures flows { IfOk result (GoesOn (op.Equality wanted) state) }
+    ensures refused { OnRefused result (Fails (op.Equality wanted) state) }
+{
+    let b = state.pop()?;
+    let a = state.pop()?;
+    if !are_of_one_kind(a, b) {
+        return Err(FlowError::Refused(AcceptanceRule::WrongKind));
+    }
+    state.push(AbstractValue::Bool)?;
+    Ok(state)
+}
+
+/// The negation of a truth value.
+pub fn negation(mut state: AbstractState) -> Result<AbstractState, FlowError>
+    ensures flows { IfOk result (GoesOn op.Not state) }
+    ensures refused { OnRefused result (Fails op.Not state) }
+{
+    state.pop_bool()?;
+    state.push(AbstractValue::Bool)?;
+    Ok(state)
+}
+
+/// A conjunction or a disjunction of two truth values.
+pub fn logic(mut state: AbstractState, connective: Connective) -> Result<AbstractState, FlowError>
+    ensures flows { IfOk result (GoesOn (op.Logic connective) state) }
+    ensures refused { OnRefused result (Fails (op.Logic connective) state) }
+{
+    state.pop_bool()?;
+    state.pop_bool()?;
+    state.push(AbstractValue::Bool)?;
+    Ok(state)
+}

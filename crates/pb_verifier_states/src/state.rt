@@ -1,0 +1,182 @@
+//! Abstract states: what is known at a place of code, without running it.
+
+ghost use Rattle.std.specs.Prelude.{◌≡◌, ◌+◌, ◌≤◌, option_map, vec_items, IfOk, [], map, Some, None, true, if◌then◌else◌, length};
+ghost use Rattle.pb_bytecode_program.specs.Abstract.{abstraction_of};
+ghost use Rattle.pb_verifier_states.specs.Join.{hulls, join_states, loop_hulls};
+
+mod brackets;
+mod loops;
+mod operands;
+mod slots;
+
+use crate::value::{abstraction, hull};
+use pb_bytecode_program::AbstractValue;
+use pb_sorts::Carrier;
+use std::alloc::{AllocError, Global};
+use std::marker::Model;
+
+/// What is known at a place: of the operands above the floor of the innermost loop, of the slots, of the brackets and
+/// of the roots (abstract interpretation, Cousot and Cousot 1977). No interval is empty.
+#[derive(Drop)]
+pub struct AbstractState {
+    // The topmost first; there are at most 32 of them and of those below.
+    operands: Vec<AbstractValue>,
+    below: u8,
+    params: Vec<AbstractValue>,
+    // The slots of the loops around, the innermost first: there are at most 8.
+    loops: Vec<(u8, AbstractValue)>,
+    brackets: u8,
+    floor: u8,
+    roots: u8,
+}
+
+impl Model for AbstractState {
+    ghost use Rattle.std.specs.Prelude.{length, ◌+◌, ◌≤◌};
+    ghost use Rattle.pb_verifier_states.specs.Inhabited.{HaveOrderedEnds, LoopsHaveOrderedEnds};
+    ghost use Rattle.pb_bytecode_program.specs.Transfer.{AbstractState as Known};
+
+    ghost Value = { Known };
+
+    ghost view = { λ s. record { operands = s.operands.items; below = s.below; params = s.params.items; loops = s.loops.items; brackets = s.brackets; floor = s.floor; roots = s.roots } };
+
+    ghost invariant = { λ s. (length s.operands.items + s.below ≤ 32) × HaveOrderedEnds s.operands.items × HaveOrderedEnds s.params.items × LoopsHaveOrderedEnds s.loops.items };
+}
+
+impl AbstractState {
+    /// What is known at the first place of code with these parameters.
+    pub fn entry(alloc: Global, params: &[Carrier]) -> Result<AbstractState, AllocError>
+        ensures { IfOk result (λ s. s ≡ record { operands = []; below = 0; params = map abstraction_of params.now; loops = []; brackets = 0; floor = 0; roots = 0 }) }
+    {
+        let params = abstractions(alloc, params)?;
+        Ok(AbstractState {
+            operands: Vec::new(alloc),
+            below: 0,
+            params,
+            loops: Vec::new(alloc),
+            brackets: 0,
+            floor: 0,
+            roots: 0,
+        })
+    }
+
+    /// An equal state.
+    pub fn copy(&self, alloc: Global) -> Result<AbstractState, AllocError>
+        ensures { IfOk result (λ s. s ≡ self.now) }
+    {
+        Ok(AbstractState {
+            operands: Vec::from_slice(alloc, &self.operands)?,
+            below: self.below,
+            params: Vec::from_slice(alloc, &self.params)?,
+            loops: Vec::from_slice(alloc, &self.loops)?,
+            brackets: self.brackets,
+            floor: self.floor,
+            roots: self.roots,
+        })
+    }
+
+    /// The least state that covers both, made in place, or `None` where no state does.
+    pub fn join(self, other: &AbstractState) -> Option<AbstractState>
+        ensures { result ≡ join_states self other.now }
+    {
+        let AbstractState {
+            operands,
+            below,
+            params,
+            loops,
+            brackets,
+            floor,
+            roots,
+        } = self;
+        if below != other.below || brackets != other.brackets {
+            return None;
+        }
+        if floor != other.floor || roots != other.roots {
+            return None;
+        }
+        let operands = widened(operands, &other.operands)?;
+        let params = widened(params, &other.params)?;
+        let loops = widened_loops(loops, &other.loops)?;
+        Some(AbstractState {
+            operands,
+            below,
+            params,
+            loops,
+            brackets,
+            floor,
+            roots,
+        })
+    }
+}
+
+// What is known of values of the carriers.
+fn abstractions(alloc: Global, carriers: &[Carrier]) -> Result<Vec<AbstractValue>, AllocError>
+    ensures { IfOk result (λ v. v.items ≡ map abstraction_of carriers.now) }
+{
+    let mut values = Vec::with_capacity(alloc, carriers.len())?;
+    for carrier in carriers {
+        values.push(abstraction(*carrier))?;
+    }
+    Ok(values)
+}
+
+// The least values that cover both lists' values, made in place.
+fn widened(mut values: Vec<AbstractValue>, others: &[AbstractValue]) -> Option<Vec<AbstractValue>>
+    ensures { option_map vec_items result ≡ hulls values.items others.now }
+{
+    if widen_all(&mut values, others) {
+        Some(values)
+    } else {
+        None
+    }
+}
+
+// The same of the slots of loops.
+fn widened_loops(
+    mut loops: Vec<(u8, AbstractValue)>,
+    others: &[(u8, AbstractValue)],
+) -> Option<Vec<(u8, AbstractValue)>>
+    ensures { option_map vec_items result ≡ loop_hulls loops.items others.now }
+{
+    if widen_loops(&mut loops, others) {
+        Some(loops)
+    } else {
+        None
+    }
+}
+
+// Widens each value, in place, to the least one that covers the other list's value too.
+fn widen_all(values: &mut [AbstractValue], others: &[AbstractValue]) -> bool
+    ensures { hulls values.old others.now ≡ (if result then Some values.new else None) }
+{
+    if values.len() != others.len() {
+        return false;
+    }
+    for i in 0..values.len() {
+        match hull(values[i], others[i]) {
+            Some(wider) => values[i] = wider,
+            None => return false,
+        }
+    }
+    true
+}
+
+// The same of the slots of loops.
+fn widen_loops(loops: &mut [(u8, AbstractValue)], others: &[(u8, AbstractValue)]) -> bool
+    ensures { loop_hulls loops.old others.now ≡ (if result then Some loops.new else None) }
+{
+    if loops.len() != others.len() {
+        return false;
+    }
+    for i in 0..loops.len() {
+        let (slot, value) = loops[i];
+        let (other_slot, other_value) = others[i];
+        if slot != other_slot {
+            return false;
+        }
+        match hull(value, other_value) {
+            Some(wider) => loops[i] = (slot, wider),
+            None => return false,
+        }
+    }
+    true
+}
