@@ -296,6 +296,3 @@ fn wide_quotient(a: i64, b: i64) -> i128
 {
     i128::from(a.div_euclid(b))
 }
-
-#[cfg(test)]
-mod tests;

@@ -118,32 +118,3 @@ impl Carrier {
         least + place as i64
     }
 }
-
-#[cfg(test)]
-mod tests {
-    use super::*;
-    use std::test::Fail;
-
-    #[test]
-    fn ranges_are_not_empty_and_within_32_bits(rt: HostRuntime) {
-        assert_eq!(rt; Carrier::range(3, 2), Err(L01));
-        assert_eq!(rt; Carrier::range(0, 2_147_483_648), Err(L01));
-        assert_eq!(rt;
-            Carrier::range(3, 3),
-            Ok(Carrier::Range(Range { lo: 3, hi: 3 }))
-        );
-    }
-
-    #[test]
-    fn carriers_have_their_values(rt: HostRuntime) -> Result<(), Fail> {
-        let range = Carrier::range(-2, 1)?;
-        assert_eq!(rt; range.size(), 4);
-        assert!(rt; range.contains(-2) && range.contains(1));
-        assert!(rt; !range.contains(-3) && !range.contains(2));
-        assert_eq!(rt; Carrier::Bool.size(), 2);
-        let sort = Carrier::Enum(Enumeration { sort: 0, count: 3 });
-        assert_eq!(rt; sort.size(), 3);
-        assert!(rt; sort.contains(2) && !sort.contains(3));
-        Ok(())
-    }
-}

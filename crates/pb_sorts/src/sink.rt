@@ -107,28 +107,3 @@ pub fn put<S: Sink>(bytes: &[u8], writer: &mut S) -> Result<(), E02>
     }
     Ok(())
 }
-
-#[cfg(test)]
-mod tests {
-    use super::*;
-    use std::io::Cursor;
-    use std::test::Fail;
-
-    #[test]
-    fn puts_all_bytes_or_remembers_a_failure(rt: HostRuntime) -> Result<(), Fail> {
-        let mut bytes = [0u8; 6];
-        let mut whole = Out::new(Cursor::new(bytes.as_mut_slice()));
-        put(b"answer", &mut whole)?;
-        assert!(rt; !whole.failed());
-        drop(whole);
-        assert_eq!(rt; bytes.as_slice(), b"answer".as_slice());
-
-        let mut room = [0u8; 4];
-        let mut full = Out::new(Cursor::new(room.as_mut_slice()));
-        assert!(rt; put(b"answer", &mut full).is_err());
-        assert!(rt; full.failed());
-        drop(full);
-        assert_eq!(rt; room.as_slice(), b"answ".as_slice());
-        Ok(())
-    }
-}

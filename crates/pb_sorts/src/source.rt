@@ -84,20 +84,3 @@ impl<R: Read> Source for In<R> {
         self.failed
     }
 }
-
-#[cfg(test)]
-mod tests {
-    use super::*;
-    use std::test::Fail;
-
-    #[test]
-    fn reads_to_the_end(rt: HostRuntime) -> Result<(), Fail> {
-        let mut source = In::new(b"nu".as_slice());
-        let mut buffer = [0u8; 4];
-        assert_eq!(rt; source.read(&mut buffer)?, 2);
-        assert_eq!(rt; &buffer[..2], b"nu".as_slice());
-        assert_eq!(rt; source.read(&mut buffer)?, 0);
-        assert!(rt; !source.failed());
-        Ok(())
-    }
-}

@@ -57,17 +57,3 @@ pub(crate) fn tuple_at(alloc: Global, carriers: &[Carrier], count: u32, place: u
     }
     values
 }
-
-#[cfg(test)]
-mod tests {
-    use super::*;
-
-    #[test]
-    fn tuples_are_counted(rt: HostRuntime) {
-        assert_eq!(rt; count_tuples(&[]), Some(1));
-        assert_eq!(rt;
-            count_tuples(&[Carrier::Bool, Carrier::Bool, Carrier::Bool]),
-            Some(8)
-        );
-    }
-}

@@ -9,12 +9,8 @@ mod formula;
 mod laws;
 mod level;
 mod printing;
-#[cfg(test)]
-mod stack_tests;
 mod term;
 mod term_copy;
-#[cfg(test)]
-mod tests;
 mod text;
 mod variables;
 mod writer;

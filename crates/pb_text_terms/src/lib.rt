@@ -7,6 +7,4 @@
 
 pub mod operator;
 pub mod term;
-#[cfg(test)]
-mod tests;
 pub mod variable;

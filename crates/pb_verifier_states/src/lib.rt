@@ -16,6 +16,3 @@ pub use edges::Edges;
 pub use flow_error::FlowError;
 pub use rule::AcceptanceRule;
 pub use state::AbstractState;
-
-#[cfg(test)]
-mod tests;

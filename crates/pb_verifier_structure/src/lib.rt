@@ -13,6 +13,3 @@ pub use check::check_structure;
 pub use counts::{SATURATED, StaticCounts, static_counts};
 pub use equation_code::EquationCode;
 pub use position_fault::{PositionFault, StructureError};
-
-#[cfg(test)]
-mod tests;

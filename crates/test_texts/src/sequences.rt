@@ -24,13 +24,11 @@ fn joined(alloc: Global, first: &[u8], second: &[u8], third: &[u8]) -> Result<Ve
     Ok(text)
 }
 
-/// The beginning of a text, and the tokens of a number: its digits in base 16.
+/// The beginning of a text, and the tokens of a number: its digits in base 16, the highest first.
 fn front_of(alloc: Global, beginning: &[u8], number: u32) -> Result<Vec<u8>, AllocError> {
     let mut text = beginning.to_vec(alloc)?;
-    let mut rest = number;
-    for _ in 0..3u32 {
-        text.extend_from_slice(TOKENS[(rest % 16) as usize])?;
-        rest /= 16;
+    for digit in [number / 256, number / 16, number] {
+        text.extend_from_slice(TOKENS[(digit % 16) as usize])?;
     }
     Ok(text)
 }
@@ -64,19 +62,25 @@ fn check_front(rt: &impl Abort, alloc: Global, front: &[u8]) -> Result<(), Alloc
     Ok(())
 }
 
-/// Checks all texts with this beginning.
+/// Checks all texts with this beginning. Most that follow one another are refused at the same token, and what stands before
+/// it is checked once.
 fn check(rt: &impl Abort, alloc: Global, beginning: &[u8]) -> Result<(), AllocError> {
+    let mut checked = Vec::new(alloc);
     for number in 0..4096u32 {
-        let front = front_of(alloc, beginning, number)?;
+        let mut front = front_of(alloc, beginning, number)?;
         let text = joined(alloc, &front, b"; init X;", b"")?;
         match answered(alloc, &text) {
-            Answer::Read => check_front(rt, alloc, &front)?,
+            Answer::Read => {}
             Answer::Refused(rule, column) => {
                 assert_eq!(rt; rule, TextRule::UnexpectedToken);
                 let before = (column as usize).saturating_sub(1).min(text.len());
-                check_front(rt, alloc, &text[..before])?;
+                front = text[..before].to_vec(alloc)?;
             }
             Answer::Memory => assert!(rt; false),
+        }
+        if front.as_slice() != checked.as_slice() {
+            check_front(rt, alloc, &front)?;
+            checked = front;
         }
     }
     Ok(())

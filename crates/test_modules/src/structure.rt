@@ -1,0 +1,297 @@
+//! Small codes, one for each reason to refuse, and static counts that can be counted by hand.
+
+ghost use Rattle.std.specs.Prelude.{◌<◌, length};
+
+use pb_bytecode_program::{Connective, Leaf, Op};
+use pb_sorts::{Carrier, Range};
+use pb_verifier_states::AcceptanceRule;
+use pb_verifier_structure::{
+    EquationCode, PositionFault, SATURATED, StaticCounts, StructureError, check_structure,
+    static_counts,
+};
+use std::alloc::Global;
+use std::test::Fail;
+
+const NUMBERS: Carrier = Carrier::Range(Range { lo: 0, hi: 9 });
+
+/// What is found of code with one parameter, slot 0, and nine loop slots behind it, in a system of two equations.
+fn found(alloc: Global, instructions: &[Op]) -> Result<StaticCounts, StructureError>
+    requires { length instructions.now < 65536 }
+{
+    let code = EquationCode {
+        instructions,
+        params: &[Carrier::Bool],
+        loops: &[NUMBERS; 9],
+        equations: 2,
+    };
+    check_structure(alloc, &code)?;
+    Ok(static_counts(&code))
+}
+
+fn refusal(rule: AcceptanceRule, place: usize) -> Result<StaticCounts, StructureError> {
+    Err(StructureError::Refused(PositionFault { rule, place }))
+}
+
+const fn get(slot: u8) -> Op {
+    Op::Get { slot }
+}
+
+const fn start(slot: u8) -> Op {
+    Op::Loop { slot }
+}
+
+const fn jump(target: u16) -> Op {
+    Op::Jump { target }
+}
+
+const YES: Op = Op::Emit(Leaf::Yes);
+
+#[test]
+fn loops_pair_like_brackets(rt: HostRuntime) -> Result<(), Fail> {
+    let alloc = rt.alloc();
+    let nesting = |place| refusal(AcceptanceRule::LoopStructure, place);
+    // NEXT without a LOOP
+    assert_eq!(rt; found(alloc, &[YES, Op::Next, Op::End]), nesting(1));
+    assert_eq!(rt;
+        found(alloc, &[start(1), Op::Next, Op::Next, Op::End]),
+        nesting(2)
+    );
+    // END in a body, also in one that is never closed
+    assert_eq!(rt;
+        found(alloc, &[YES, start(1), Op::End, Op::Next]),
+        nesting(2)
+    );
+    assert_eq!(rt; found(alloc, &[start(1), Op::End]), nesting(1));
+    // a LOOP left unpaired, of which the first is named
+    assert_eq!(rt;
+        found(alloc, &[YES, start(1), start(2), Op::Next]),
+        nesting(1)
+    );
+    assert_eq!(rt; found(alloc, &[start(1), Op::Next, start(2)]), nesting(2));
+    // it comes before all else
+    assert_eq!(rt; found(alloc, &[get(77), jump(0), Op::Next]), nesting(2));
+    Ok(())
+}
+
+#[test]
+fn eight_loops_may_be_nested(rt: HostRuntime) -> Result<(), Fail> {
+    let alloc = rt.alloc();
+    let code = [
+        start(1),
+        start(2),
+        start(3),
+        start(4),
+        start(5),
+        start(6),
+        start(7),
+        start(8),
+        Op::Next,
+        Op::Next,
+        Op::Next,
+        Op::Next,
+        Op::Next,
+        Op::Next,
+        Op::Next,
+        Op::Next,
+    ];
+    // 10^8 and more steps are given as the count at which counting stops
+    let most = StaticCounts {
+        steps: SATURATED,
+        tokens: 0,
+    };
+    assert_eq!(rt; found(alloc, &code), Ok(most));
+    let deeper = [
+        start(1),
+        start(2),
+        start(3),
+        start(4),
+        start(5),
+        start(6),
+        start(7),
+        start(8),
+        start(9),
+        Op::Next,
+        Op::Next,
+        Op::Next,
+        Op::Next,
+        Op::Next,
+        Op::Next,
+        Op::Next,
+        Op::Next,
+        Op::Next,
+    ];
+    assert_eq!(rt;
+        found(alloc, &deeper),
+        refusal(AcceptanceRule::LoopStructure, 8)
+    );
+    Ok(())
+}
+
+#[test]
+fn names_are_there(rt: HostRuntime) -> Result<(), Fail> {
+    let alloc = rt.alloc();
+    let unknown = |place| refusal(AcceptanceRule::UnknownName, place);
+    let call = |equation| Op::Call { equation };
+    let test = |slot, target| Op::SlotInRange {
+        slot,
+        lo: 0,
+        hi: 1,
+        target,
+    };
+    // a slot that is none, or a loop's that isn't around
+    assert_eq!(rt; found(alloc, &[get(10), Op::End]), unknown(0));
+    assert_eq!(rt; found(alloc, &[get(1), Op::End]), unknown(0));
+    assert_eq!(rt;
+        found(alloc, &[start(1), Op::Next, get(1), Op::End]),
+        unknown(2)
+    );
+    assert_eq!(rt;
+        found(
+            alloc,
+            &[start(1), start(2), Op::Next, get(2), Op::Next, Op::End]
+        ),
+        unknown(3)
+    );
+    assert_eq!(rt; found(alloc, &[test(3, 1), Op::End]), unknown(0));
+    // its name comes before its target
+    assert_eq!(rt; found(alloc, &[test(3, 9), Op::End]), unknown(0));
+    // a LOOP of a parameter, of no slot, or of a slot that runs around it
+    assert_eq!(rt; found(alloc, &[start(0), Op::Next, Op::End]), unknown(0));
+    assert_eq!(rt; found(alloc, &[start(10), Op::Next, Op::End]), unknown(0));
+    assert_eq!(rt;
+        found(
+            alloc,
+            &[start(1), start(2), start(1), Op::Next, Op::Next, Op::Next]
+        ),
+        unknown(2)
+    );
+    // no such equation
+    assert_eq!(rt; found(alloc, &[call(2), Op::End]), unknown(0));
+    // what may be named
+    let fine = [
+        get(0),
+        test(0, 2),
+        start(1),
+        start(2),
+        get(1),
+        get(2),
+        test(2, 7),
+        Op::Next,
+        get(1),
+        Op::Next,
+    ];
+    assert!(rt; found(alloc, &fine).is_ok());
+    assert!(rt;
+        found(
+            alloc,
+            &[start(1), Op::Next, start(1), Op::Next, call(0), call(1)]
+        )
+        .is_ok()
+    );
+    Ok(())
+}
+
+#[test]
+fn targets_are_later_places_of_the_body(rt: HostRuntime) -> Result<(), Fail> {
+    let alloc = rt.alloc();
+    let jump_if = |target| Op::JumpIf {
+        condition: true,
+        target,
+    };
+    let in_range = |target| Op::InRange {
+        lo: 0,
+        hi: 1,
+        target,
+    };
+    let test = |target| Op::SlotInRange {
+        slot: 0,
+        lo: 0,
+        hi: 1,
+        target,
+    };
+    // past the last place
+    assert_eq!(rt;
+        found(alloc, &[jump(2), Op::End]),
+        refusal(AcceptanceRule::TargetOutside, 0)
+    );
+    assert_eq!(rt;
+        found(alloc, &[YES, test(2)]),
+        refusal(AcceptanceRule::TargetOutside, 1)
+    );
+    // not after the jump
+    assert_eq!(rt;
+        found(alloc, &[YES, jump_if(0)]),
+        refusal(AcceptanceRule::TargetNotLater, 1)
+    );
+    assert_eq!(rt;
+        found(alloc, &[YES, in_range(1)]),
+        refusal(AcceptanceRule::TargetNotLater, 1)
+    );
+    // into a body, out of one, and into the next one of the same slot
+    let elsewhere = |place| refusal(AcceptanceRule::TargetInOtherBody, place);
+    assert_eq!(rt;
+        found(alloc, &[jump(2), start(1), Op::Next, Op::End]),
+        elsewhere(0)
+    );
+    assert_eq!(rt;
+        found(alloc, &[start(1), jump(3), Op::Next, Op::End]),
+        elsewhere(1)
+    );
+    assert_eq!(rt;
+        found(
+            alloc,
+            &[start(1), jump(4), Op::Next, start(1), Op::Next, Op::End]
+        ),
+        elsewhere(1)
+    );
+    // the first place that breaks a rule is named
+    assert_eq!(rt;
+        found(alloc, &[jump(2), get(7), YES]),
+        refusal(AcceptanceRule::UnknownName, 1)
+    );
+    // to a LOOP, to its NEXT from inside, and behind an inner loop
+    assert!(rt; found(alloc, &[jump(1), start(1), jump(3), Op::Next, Op::End]).is_ok());
+    assert!(rt; found(alloc, &[start(1), jump(4), start(2), Op::Next, Op::Next]).is_ok());
+    Ok(())
+}
+
+#[test]
+fn bodies_count_as_often_as_they_run(rt: HostRuntime) -> Result<(), Fail> {
+    let alloc = rt.alloc();
+    // a call for each of ten values: 1 + 1 + 10 * 3 + 1 + 1 steps
+    let code = [
+        Op::Open(Connective::And),
+        start(1),
+        get(1),
+        Op::Call { equation: 0 },
+        Op::Next,
+        Op::Close,
+        Op::End,
+    ];
+    let counts = StaticCounts {
+        steps: 34,
+        tokens: 12,
+    };
+    assert_eq!(rt; found(alloc, &code), Ok(counts));
+    // nested loops multiply
+    let nested = [start(1), start(2), YES, Op::Next, Op::Next, Op::End];
+    let counts = StaticCounts {
+        steps: 1 + 10 + 100 + 100 + 10 + 1,
+        tokens: 100,
+    };
+    assert_eq!(rt; found(alloc, &nested), Ok(counts));
+    Ok(())
+}
+
+#[test]
+fn a_fault_is_printed_with_its_place(rt: HostRuntime) -> Result<(), Fail> {
+    let fault = PositionFault {
+        rule: AcceptanceRule::TargetOutside,
+        place: 3,
+    };
+    assert_eq!(rt;
+        format!(in rt.alloc(); "{fault}")?.as_str(),
+        "V05 at place 3"
+    );
+    Ok(())
+}

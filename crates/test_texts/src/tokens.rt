@@ -1,0 +1,291 @@
+//! Which tokens a text has.
+
+ghost use Rattle.std.specs.Prelude.{◌<◌, length};
+
+use pb_text_lexer::fault::{ReadingFault, ReadingRule};
+use pb_text_lexer::input::Input;
+use pb_text_lexer::kind::{Kind, is_last, same_kind};
+use pb_text_lexer::lexer::first_token;
+use pb_text_lexer::piece::{Piece, front_piece};
+use pb_text_lexer::ranges::ranges;
+use pb_text_tree::Place;
+use std::alloc::Global;
+use std::process::Abort;
+use std::test::Fail;
+
+/// The kinds of a text's tokens, the last one too.
+fn kinds(rt: &impl Abort, alloc: Global, text: &[u8]) -> Result<Vec<Kind>, Fail> {
+    assert!(rt; text.len() < 1000);
+    let mut input = Input::new(text, 0);
+    let mut kinds = Vec::new(alloc);
+    for _ in 0..1000 {
+        let kind = input.kind();
+        kinds.push(kind)?;
+        if is_last(kind) {
+            break;
+        }
+        input.take();
+    }
+    Ok(kinds)
+}
+
+#[test]
+fn cuts_words(rt: HostRuntime) -> Result<(), Fail> {
+    let text = b"sort struct pbes mu nu init val true false forall exists div mod act sorts _ X_1'";
+    let found = kinds(&rt, rt.alloc(), text)?;
+    let wanted = [
+        Kind::Sort,
+        Kind::Struct,
+        Kind::Pbes,
+        Kind::Mu,
+        Kind::Nu,
+        Kind::Init,
+        Kind::Val,
+        Kind::True,
+        Kind::False,
+        Kind::Forall,
+        Kind::Exists,
+        Kind::Div,
+        Kind::Mod,
+        Kind::Reserved,
+        Kind::Name,
+        Kind::Name,
+        Kind::Name,
+        Kind::End,
+    ];
+    assert_eq!(rt; found.as_slice(), wanted.as_slice());
+    Ok(())
+}
+
+#[test]
+fn cuts_unused_words(rt: HostRuntime) -> Result<(), Fail> {
+    let found = kinds(
+        &rt,
+        rt.alloc(),
+        b"cons map var eqn glob lambda whr end in act proc",
+    )?;
+    assert_eq!(rt; found.len(), 12);
+    for kind in &found[..11] {
+        assert_eq!(rt; *kind, Kind::Reserved);
+    }
+    Ok(())
+}
+
+#[test]
+fn cuts_the_longest_symbols(rt: HostRuntime) -> Result<(), Fail> {
+    let text = b"== != => <= >= && || ( ) , ; : . = ! | < > + - * ? ===|||";
+    let found = kinds(&rt, rt.alloc(), text)?;
+    let wanted = [
+        Kind::Equal,
+        Kind::NotEqual,
+        Kind::Implies,
+        Kind::LessOrEqual,
+        Kind::GreaterOrEqual,
+        Kind::And,
+        Kind::Or,
+        Kind::Open,
+        Kind::Close,
+        Kind::Comma,
+        Kind::Semicolon,
+        Kind::Colon,
+        Kind::Period,
+        Kind::Is,
+        Kind::Not,
+        Kind::Bar,
+        Kind::Less,
+        Kind::Greater,
+        Kind::Plus,
+        Kind::Minus,
+        Kind::Times,
+        Kind::Question,
+        Kind::Equal,
+        Kind::Is,
+        Kind::Or,
+        Kind::Bar,
+        Kind::End,
+    ];
+    assert_eq!(rt; found.as_slice(), wanted.as_slice());
+    Ok(())
+}
+
+#[test]
+fn cuts_numbers(rt: HostRuntime) -> Result<(), Fail> {
+    let found = kinds(
+        &rt,
+        rt.alloc(),
+        b"0 012 4611686018427387904 % &\n 4611686018427387905",
+    )?;
+    let wanted = [
+        Kind::Number,
+        Kind::Number,
+        Kind::Number,
+        Kind::Number,
+        Kind::LargeNumber,
+    ];
+    assert_eq!(rt; found.as_slice(), wanted.as_slice());
+    let found = kinds(&rt, rt.alloc(), b"99999999999999999999999999")?;
+    assert_eq!(rt; found.as_slice(), [Kind::LargeNumber].as_slice());
+    Ok(())
+}
+
+#[test]
+fn stops_where_no_token_stands(rt: HostRuntime) -> Result<(), Fail> {
+    let a = rt.alloc();
+    let found = kinds(&rt, a, b"X & X")?;
+    assert_eq!(rt; found.as_slice(), [Kind::Name, Kind::Unknown].as_slice());
+    let found = kinds(&rt, a, b"X\n%range\tInt 0")?;
+    assert_eq!(rt; found.as_slice(), [Kind::Name, Kind::RangeLine].as_slice());
+    let found = kinds(&rt, a, b"X\n%range\tInt 0 9")?;
+    assert_eq!(rt; found.as_slice(), [Kind::Name, Kind::End].as_slice());
+    let found = kinds(&rt, a, b"X %range Int 0 9\n%range\r\n%rang\xc3\xa9")?;
+    assert_eq!(rt; found.as_slice(), [Kind::Name, Kind::End].as_slice());
+    let found = kinds(&rt, a, b"X\xc3\xa9")?;
+    assert_eq!(rt; found.as_slice(), [Kind::Name, Kind::Unknown].as_slice());
+    Ok(())
+}
+
+#[test]
+fn places_tokens(rt: HostRuntime) -> Result<(), Fail> {
+    let first = first_token(b"% c\n\t Xy z", Place { line: 1, column: 1 });
+    assert_eq!(rt; first.token.text, "Xy");
+    assert_eq!(rt; first.token.place, Place { line: 2, column: 3 });
+    assert_eq!(rt; first.place, Place { line: 2, column: 5 });
+    assert!(rt; matches!(front_piece(first.place, first.rest), Piece::Blank(1)));
+    assert!(rt; same_kind(first.token.kind, Kind::Name));
+    Ok(())
+}
+
+/// The column of a refusal, or 0.
+fn column(fault: ReadingFault, rule: ReadingRule) -> u32 {
+    match fault {
+        ReadingFault::At(refusal) if refusal.rule == rule => refusal.place.column,
+        _ => 0,
+    }
+}
+
+#[test]
+fn takes_tokens(rt: HostRuntime) -> Result<(), Fail> {
+    let mut input = Input::new(b"X && && (", 1);
+    let name = input.expect(Kind::Name);
+    assert!(rt; name.is_ok());
+    let wrong = input.expect(Kind::Or);
+    assert_eq!(rt;
+        wrong.map_or_else(|fault| column(fault, ReadingRule::Unexpected), |_| 0),
+        3
+    );
+    if is_last(input.kind()) {
+        return Err(Fail::from("no operator"));
+    }
+    assert!(rt; input.take_operator().is_ok());
+    assert_eq!(rt; input.operators(), 0);
+    if is_last(input.kind()) {
+        return Err(Fail::from("no operator"));
+    }
+    let more = input.take_operator();
+    assert_eq!(rt;
+        more.map_or_else(|fault| column(fault, ReadingRule::Limit), |_| 0),
+        6
+    );
+    input.allow(1);
+    if is_last(input.kind()) {
+        return Err(Fail::from("no operator"));
+    }
+    assert!(rt; input.take_operator().is_ok());
+    if is_last(input.kind()) {
+        return Err(Fail::from("no bracket"));
+    }
+    let deep = input.enter(0);
+    assert_eq!(rt;
+        deep.map_or_else(|fault| column(fault, ReadingRule::Limit), |_| 0),
+        9
+    );
+    if is_last(input.kind()) {
+        return Err(Fail::from("no bracket"));
+    }
+    assert!(rt; input.enter(1).is_ok());
+    assert_eq!(rt;
+        column(
+            input.refuse(ReadingRule::Unexpected),
+            ReadingRule::Unexpected
+        ),
+        10
+    );
+    Ok(())
+}
+
+/// Whether a text is one range line that says nothing.
+fn is_refused(text: &[u8]) -> bool
+    requires { length text.now < 1000 }
+{
+    let token = Input::new(text, 0);
+    same_kind(token.kind(), Kind::RangeLine)
+}
+
+#[test]
+fn refuses_range_lines_that_say_nothing(rt: HostRuntime) {
+    assert!(rt; is_refused(b"%range"));
+    assert!(rt; is_refused(b"%range \n"));
+    assert!(rt; is_refused(b"%range Nat"));
+    assert!(rt; is_refused(b"%range Nat 0"));
+    assert!(rt; is_refused(b"%range Nat 0 9 9"));
+    assert!(rt; is_refused(b"%range Nat 9 0"));
+    assert!(rt; is_refused(b"%range Nat +1 9"));
+    assert!(rt; is_refused(b"%range Nat 0 -"));
+    assert!(rt; is_refused(b"%range Nat 0 2147483648"));
+    assert!(rt; is_refused(b"%range Nat -2147483649 0"));
+    assert!(rt; is_refused(b"%range Nat 0 99999999999999999999"));
+    assert!(rt; is_refused(b"%range Nat\r0 9"));
+    assert!(rt; is_refused(b"%range Nat 0 9\r\r"));
+    assert!(rt; is_refused(b"%range Nat 0 9\r \n"));
+    assert!(rt; is_refused(b"%range proc 0 9"));
+    assert!(rt; is_refused(b"%range 1 0 9"));
+    assert!(rt; is_refused(b"%range Nat 0 9 % nine"));
+}
+
+#[test]
+fn takes_other_comments(rt: HostRuntime) {
+    assert!(rt; !is_refused(b"%ranges"));
+    assert!(rt; !is_refused(b"%range\r\n"));
+    assert!(rt; !is_refused(b"% range"));
+    assert!(rt; !is_refused(b" %range"));
+    assert!(rt; !is_refused(b"%RANGE"));
+}
+
+/// The range lines of a text that begins with one.
+const RANGES: &str = "%range Nat 0 3\r\n\
+    mu X = %range Pos 1 2\n%range\tm' -2147483648 \t 2147483647\t\n\
+    X; % %range Int 0 1\n%range Int -007 -0";
+
+#[test]
+fn finds_ranges(rt: HostRuntime) -> Result<(), Fail> {
+    let text = RANGES.as_bytes();
+    assert!(rt; text.len() < 1000);
+    let found = ranges(rt.alloc(), text)?;
+    assert_eq!(rt; found.len(), 3);
+    let wanted = [
+        (1, "Nat", 0, 3),
+        (3, "m'", i32::MIN, i32::MAX),
+        (5, "Int", -7, 0),
+    ];
+    for (range, (line, name, low, high)) in found.iter().zip(wanted) {
+        assert_eq!(rt; range.place, Place { line, column: 1 });
+        assert_eq!(rt; range.name.as_str(), name);
+        assert_eq!(rt; range.low, low);
+        assert_eq!(rt; range.high, high);
+    }
+    Ok(())
+}
+
+#[test]
+fn gives_numbers_and_places(rt: HostRuntime) {
+    let mut input = Input::new(b"X 4611686018427387904 0", 0);
+    assert_eq!(rt; input.place(), Place { line: 1, column: 1 });
+    assert_eq!(rt; input.kind(), Kind::Name);
+    input.take();
+    assert_eq!(rt; input.place(), Place { line: 1, column: 3 });
+    assert_eq!(rt; input.kind(), Kind::Number);
+    assert_eq!(rt; input.number(), 1 << 62);
+    input.take();
+    assert_eq!(rt; input.kind(), Kind::Number);
+    assert_eq!(rt; input.number(), 0);
+}
