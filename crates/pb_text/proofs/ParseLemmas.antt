@@ -20,7 +20,7 @@ use Rattle.pb_text_lexer.proofs.Correct.{st}
 use Rattle.pb_text_lexer.proofs.CutLemmas.{same-cut, stands, whole-cut}
 use Rattle.pb_text_lexer.proofs.RemainingLemmas.{tokens-end}
 use Rattle.pb_text.specs.Grammar.{IsText}
-use Rattle.pb_text.specs.Parsing.{IsReading, IsReadingWithin, IsRefusal, IsBroken, StandsBy, rule_of, NoReading, Stands, error_of}
+use Rattle.pb_text.specs.Parsing.{IsReading, IsReadingWithin, AtMostOneReading, IsRefusal, IsBroken, StandsBy, rule_of, NoReading, Stands, error_of}
 use Rattle.pb_text.specs.Reading.{whole_text}
 use Rattle.pb_text.proofs.CorrectText.{IsFault, IsRead, Reading, whole-reads, with-ranges}
 
@@ -41,6 +41,20 @@ of-cut bytes d n y h =
 
 pub only-reading : (bytes : List ℕ) (x : SpecForm) → IsRead 64 8192 (all_tokens bytes) (all_ranges bytes) x → (d n : ℕ) (y : SpecForm) → IsReadingWithin d n bytes y → y ≡ x
 only-reading bytes x r d n y h = r.only d n y (of-cut bytes d n y h)
+
+within-these : (rule : ReadingRule) (d n : ℕ) → Within rule d n d n
+within-these Unexpected d n = tt
+within-these Limit d n = (omega arith, omega arith)
+
+-- where some reading is within the limits, reading the tokens gives it, and there is no other
+pub at_most_one : AtMostOneReading
+at_most_one bytes d n e m x y hx hy = by (whole_text (all_ranges bytes) d (st (all_tokens bytes) n)) (whole-reads (all_ranges bytes) d (st (all_tokens bytes) n) (tokens-end start bytes))
+  where
+    by : (o : Outcome SpecForm) → Reading (all_ranges bytes) d (st (all_tokens bytes) n) o → x ≡ y
+    by (Ok r) a = a.only d n x (of-cut bytes d n x hx) ∙ sym (a.only e m y (of-cut bytes e m y hy))
+    by (Err bad) f =
+        absurd (f.none d n f.more (all_ranges bytes) x (within-these bad.rule d n)
+        (subst (λ (v : List Tok). IsText d n v (all_ranges bytes) x) f.cut (of-cut bytes d n x hx)))
 
 within-self : (rule : ReadingRule) → Within rule 64 8192 64 8192
 within-self Unexpected = tt

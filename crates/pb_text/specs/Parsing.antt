@@ -37,6 +37,11 @@ pub record IsReadingWithin (depth operators : ℕ) (bytes : List ℕ) (x : SpecF
 abbrev pub IsReading : List ℕ → SpecForm → Type 0
 IsReading bytes x = IsReadingWithin depth_limit operator_limit bytes x
 
+-- bytes are at most one text, places included, whatever the limits
+abbrev pub AtMostOneReading : Type 0
+AtMostOneReading =
+    (bytes : List ℕ) (d n e m : ℕ) (x y : SpecForm) → IsReadingWithin d n bytes x → IsReadingWithin e m bytes y → x ≡ y
+
 -- The bytes begin with tokens, the last of which stands at this place: no text begins so, within the limits that the rule speaks of.
 -- Where the rule is a limit, that token is one at which a limit can be exceeded.
 pub record IsRefusal (bytes : List ℕ) (broken : token_rule.ReadingRule) (place : Place) : Type 0 where

@@ -6,11 +6,10 @@
 
 pub mod error;
 mod formula;
+pub mod laws;
 mod next;
 mod sort;
 mod system;
-#[cfg(test)]
-mod tests;
 pub mod text;
 
 pub use error::{TextError, TextRule};

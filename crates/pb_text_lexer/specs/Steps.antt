@@ -1,5 +1,5 @@
 -- The words of a grammar as functions, which compute what is read or the token that is refused.
-use Rattle.std.specs.Prelude.{◌≡◌, ℕ, zero, suc, ◌-◌, Bool, false, if◌then◌else◌, ◌==◌, ◌||◌, List, [], ◌∷◌, length, Result, Ok, Err}
+use Rattle.std.specs.Prelude.{◌≡◌, ℕ, zero, suc, ◌-◌, Bool, false, if◌then◌else◌, ◌==◌, ◌||◌, List, [], ◌∷◌, length, Result, Ok, Err, IfErr}
 use Rattle.pb_text_tree.specs.declared.place.Place.{Place}
 use Rattle.pb_text_lexer.specs.declared.kind.Kind.{Kind}
 use Rattle.pb_text_lexer.specs.declared.kind.Kind.TheVariants.{End, And, Or, Implies}
@@ -202,3 +202,7 @@ Fails read (At refused) = read ≡ Err refused
 abbrev pub Gives : {X Y : Type 0} → (X → Y) → Outcome Y → Result X ReadingFault → State → Type 0
 Gives view read (Ok x) new = read ≡ Ok (view x, new)
 Gives view read (Err e) new = Fails read e
+
+-- the one error is the refusal of the next token by this rule, so that memory is never wanted
+abbrev pub OnlyRefuses : {X : Type 0} → ReadingRule → State → Result X ReadingFault → Type 0
+OnlyRefuses rule s result = IfErr result (λ fault. fault ≡ At (refusal rule s.tokens))

@@ -7,7 +7,7 @@ ghost use Rattle.pb_text_lexer.specs.Kinds.{is_last};
 ghost use Rattle.pb_text_lexer.specs.Lexing.{start};
 ghost use Rattle.pb_text_lexer.specs.Remaining.{tokens_from};
 ghost use Rattle.pb_text_lexer.specs.Steps as spec;
-ghost use Rattle.pb_text_lexer.specs.Steps.{Gives};
+ghost use Rattle.pb_text_lexer.specs.Steps.{Gives, OnlyRefuses};
 ghost use Rattle.pb_text_lexer.specs.Tokens.{tok};
 
 use crate::digits::value_within;
@@ -112,11 +112,12 @@ impl<'a> Input<'a> {
 
     /// Takes the next token, which must be of this kind.
     ///
-    /// A token of another kind is refused as `ReadingRule::Unexpected`.
+    /// A token of another kind is refused as `ReadingRule::Unexpected`, which is the one error: no memory is asked for.
     #[tactic(auto, unfolding(crate::specs::Steps::expect))]
     pub fn expect(&mut self, kind: Kind) -> Result<Token<'a>, ReadingFault>
         requires { is_last kind ≡ false }
         ensures reads { Gives tok (spec.expect kind self.old) result self.new }
+        ensures refused { OnlyRefuses ReadingRule.Unexpected self.old result }
         ensures fewer { OnOk result (length self.new.tokens < length self.old.tokens) }
     {
         if same_kind(self.kind(), kind) {
@@ -128,11 +129,12 @@ impl<'a> Input<'a> {
 
     /// Takes the next token, an operator with two operands.
     ///
-    /// Where no more of these may come it is refused as `ReadingRule::Limit`.
+    /// Where no more of these may come it is refused as `ReadingRule::Limit`, which is the one error.
     #[tactic(auto, unfolding(crate::specs::Steps::take_operator))]
     pub fn take_operator(&mut self) -> Result<Token<'a>, ReadingFault>
         requires { is_last (spec.kind self.old) ≡ false }
         ensures reads { Gives tok (spec.take_operator self.old) result self.new }
+        ensures refused { OnlyRefuses ReadingRule.Limit self.old result }
         ensures fewer { OnOk result (length self.new.tokens < length self.old.tokens) }
     {
         if self.operators == 0 {
@@ -144,10 +146,11 @@ impl<'a> Input<'a> {
 
     /// Takes the next token, which opens a level, where so many levels may still open.
     ///
-    /// Where none may, it is refused as `ReadingRule::Limit`.
+    /// Where none may, it is refused as `ReadingRule::Limit`, which is the one error.
     pub fn enter(&mut self, depth: u32) -> Result<Token<'a>, ReadingFault>
         requires { is_last (spec.kind self.old) ≡ false }
         ensures reads { Gives tok (spec.enter depth self.old) result self.new }
+        ensures refused { OnlyRefuses ReadingRule.Limit self.old result }
         ensures fewer { OnOk result (length self.new.tokens < length self.old.tokens) }
         ensures deeper { OnOk result (0 < depth) }
     {

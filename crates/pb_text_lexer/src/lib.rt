@@ -15,7 +15,5 @@ pub mod lexer;
 pub mod piece;
 pub mod range_line;
 pub mod ranges;
-#[cfg(test)]
-mod tests;
 pub mod token;
 pub mod word;

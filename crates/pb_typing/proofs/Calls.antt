@@ -15,6 +15,7 @@ use Rattle.pb_text_meaning.specs.Formula.{equation_named}
 use Rattle.pb_text_meaning.specs.Erase.{erase, erased_arguments, erased_equation, erased_term, erased_variables}
 use Rattle.pb_typing_declarations.specs.declared.fault.TypingRule.TheVariants as rule
 use Rattle.pb_typing_declarations.specs.declared.fault.TypingFault.{TypingFault}
+use Rattle.pb_typing_declarations.specs.declared.fault.TypeError.{TypeError}
 use Rattle.pb_typing_declarations.specs.declared.fault.TypeError.TheVariants.{At}
 use Rattle.pb_typing_declarations.specs.Faults.{unless, IsAmong}
 use Rattle.pb_typing_declarations.specs.Agreement.{equation_place}
@@ -24,7 +25,7 @@ use Rattle.pb_typing_rules.specs.Scope.{Scope}
 use Rattle.pb_typing_rules.specs.Term.{shape}
 use Rattle.pb_typing_rules.specs.Formula.{count}
 use Rattle.pb_typing_rules.specs.Faults.{term_faults, argument_faults, called_faults, instance_faults}
-use Rattle.pb_typing_rules.proofs.Parts.{among_right, among_left}
+use Rattle.pb_typing_rules.proofs.Parts.{among_left}
 use Rattle.pb_typing.specs.Arguments.{parameter_count, each_faults}
 use Rattle.pb_typing.proofs.Links.{links-drop, links-ended}
 use Rattle.pb_typing.proofs.Unknown.{some_position, no_position, found_at, found_nowhere}
@@ -131,22 +132,38 @@ equation_missed S x e = found_nowhere (named_as x) S.equations (no_position (nam
 abbrev pub call_faults : Spec → Scope → List Argument → List Variables → Place → List TypingFault
 call_faults S a xs groups p = unless (length xs == parameter_count groups) rule.WrongCount p ++ argument_faults S a (argument_forms xs) (erased_variables (variable_forms groups))
 
+-- the faults of an instance whose equation is this one
+pub instance-named : (spec : declared_spec.Spec) (S : Spec) (even : Bool) (a : Scope) (i : declared_instance.Instance) (text : Name) (k : ℕ) (X : declared_equation.Equation)
+    → S ≡ erase (spec_form spec) → text ≡ string_bytes i.name.text → equation_place S text ≡ Some k → X ≡ get_or spec.equations.items k X
+    → instance_faults S even a (instance_form i) ≡ called_faults S even a (argument_forms i.arguments.items) (Some (erased_equation (equation_form X))) i.name.place
+instance-named spec S even a i text k X same text_is place at =
+    let x = string_bytes i.name.text in
+    let place_in_text : equation_place (erase (spec_form spec)) x ≡ Some k = ap (λ (T : Spec). equation_place T x) (sym same) ∙ (ap (equation_place S) (sym text_is) ∙ place) in
+    let found : equation_named S.equations x ≡ Some (erased_equation (equation_form X)) = ap (λ (T : Spec). equation_named T.equations x) same ∙ equation_found spec x k X place_in_text at in
+    ap (λ (o : Option Equation). called_faults S even a (argument_forms i.arguments.items) o i.name.place) found
+
 pub instance-called : (spec : declared_spec.Spec) (S : Spec) (even : Bool) (a : Scope) (i : declared_instance.Instance) (text : Name) (k : ℕ) (X : declared_equation.Equation) (xs : List Argument) (groups : List Variables)
     → S ≡ erase (spec_form spec) → text ≡ string_bytes i.name.text → equation_place S text ≡ Some k → X ≡ get_or spec.equations.items k X → xs ≡ i.arguments.items → groups ≡ X.parameters.items
     → unless even rule.OddNegations i.name.place ≡ []
     → instance_faults S even a (instance_form i) ≡ call_faults S a xs groups i.name.place
 instance-called spec S even a i text k X xs groups same text_is place at are groups_are passed =
-    let x = string_bytes i.name.text in
     let p = i.name.place in
     let vs = variable_forms X.parameters.items in
-    let place_in_text : equation_place (erase (spec_form spec)) x ≡ Some k = ap (λ (T : Spec). equation_place T x) (sym same) ∙ (ap (equation_place S) (sym text_is) ∙ place) in
-    let found : equation_named S.equations x ≡ Some (erased_equation (equation_form X)) = ap (λ (T : Spec). equation_named T.equations x) same ∙ equation_found spec x k X place_in_text at in
-    let numbers : (count (erased_arguments (argument_forms i.arguments.items)) == length (erased_variables vs)) ≡ (length i.arguments.items == parameter_count X.parameters.items) =
+    let es = argument_forms i.arguments.items in
+    let numbers : (count (erased_arguments es) == length (erased_variables vs)) ≡ (length i.arguments.items == parameter_count X.parameters.items) =
     ap (λ n. n == length (erased_variables vs)) (length-erased i.arguments.items) ∙ ap (λ n. length i.arguments.items == n) (length-parameters X.parameters.items) in
-    ap (λ (zs : List TypingFault). zs ++ called_faults S a (argument_forms i.arguments.items) (equation_named S.equations x) p) passed
-    ∙ (ap (λ (o : Option Equation). called_faults S a (argument_forms i.arguments.items) o p) found
-    ∙ (ap (λ (b : Bool). unless b rule.WrongCount p ++ argument_faults S a (argument_forms i.arguments.items) (erased_variables vs)) numbers
+    instance-named spec S even a i text k X same text_is place at
+    ∙ (ap (λ (zs : List TypingFault). zs ++ (unless (count (erased_arguments es) == length (erased_variables vs)) rule.WrongCount p ++ argument_faults S a es (erased_variables vs))) passed
+    ∙ (ap (λ (b : Bool). unless b rule.WrongCount p ++ argument_faults S a es (erased_variables vs)) numbers
     ∙ (ap (λ (ys : List Argument). call_faults S a ys X.parameters.items p) (sym are) ∙ ap (λ (gs : List Variables). call_faults S a xs gs p) (sym groups_are))))
+
+-- an instance under an odd number of negations
+pub odd_instance : (spec : declared_spec.Spec) (S : Spec) (even : Bool) (a : Scope) (i : declared_instance.Instance) (text : Name) (k : ℕ) (X : declared_equation.Equation) (e : TypeError)
+    → S ≡ erase (spec_form spec) → text ≡ string_bytes i.name.text → equation_place S text ≡ Some k → X ≡ get_or spec.equations.items k X
+    → IsAmong (unless even rule.OddNegations i.name.place) e → IsAmong (instance_faults S even a (instance_form i)) e
+odd_instance spec S even a i text k X e same text_is place at odd =
+    subst (λ (zs : List TypingFault). IsAmong zs e) (sym (instance-named spec S even a i text k X same text_is place at))
+    (among_left (unless even rule.OddNegations i.name.place) _ e odd)
 
 pub unknown_instance : (S : Spec) (even : Bool) (a : Scope) (i : declared_instance.Instance) (text : Name) → text ≡ string_bytes i.name.text → equation_place S text ≡ None
     → IsAmong (instance_faults S even a (instance_form i)) (At (record { rule = rule.UnknownName; place = i.name.place }))
@@ -154,6 +171,5 @@ unknown_instance S even a i text text_is place =
     let x = string_bytes i.name.text in
     let none = equation_missed S x (ap (equation_place S) (sym text_is) ∙ place) in
     let e = At (record { rule = rule.UnknownName; place = i.name.place }) in
-    among_right (unless even rule.OddNegations i.name.place) _ e
-    (subst (λ (o : Option Equation). IsAmong (called_faults S a (argument_forms i.arguments.items) o i.name.place) e) (sym none)
-    (among_left (unless false rule.UnknownName i.name.place) _ e (0, omega arith, refl)))
+    subst (λ (o : Option Equation). IsAmong (called_faults S even a (argument_forms i.arguments.items) o i.name.place) e) (sym none)
+    (among_left (unless false rule.UnknownName i.name.place) _ e (0, omega arith, refl))

@@ -128,7 +128,7 @@ carriers_there S layout x k cs laid at there =
     same_parameters S (equation_named S.equations x) (map values_of cs)
     (ap (carriers_at S) (found (λ X. same_name X.name x) S.equations k at)
     ∙ (sym (mapped S S.equations k)
-    ∙ (ap (λ (css : List (List carriers.Carrier)). slice_get css k) (sym laid) ∙ slice_get-carriers_of layout k cs there)))
+    ∙ (ap (λ (css : List (List carriers.Carrier)). slice_get css k) (sym laid.values) ∙ slice_get-carriers_of layout k cs there)))
 
 -- where no equation has the name, no value is out of its carrier
 no_values : (S : Spec) (es : ArgumentForms) → value_faults S es [] ≡ []

@@ -6,6 +6,8 @@ use Rattle.pb_text_tree.specs.Form.{SpecForm}
 use Rattle.pb_text_meaning.specs.Syntax.{Equation, Spec}
 use Rattle.pb_text_meaning.specs.Formula.{carriers_of}
 use Rattle.pb_typing_declarations.specs.declared.fault.TypingFault.{TypingFault}
+use Rattle.pb_typing_declarations.specs.Entries.{shapes_of}
+use Rattle.pb_typing_declarations.specs.Shapes.{variable_shapes}
 use Rattle.pb_typing_rules.specs.Faults.{faults}
 
 abbrev pub is_none : List TypingFault → Bool
@@ -16,6 +18,8 @@ is_none (f ∷ fs) = false
 abbrev pub is_faultless : SpecForm → Bool
 is_faultless text = is_none (faults text)
 
--- the layout has the carriers of each equation's parameters
-abbrev pub IsLayout : Spec → List (List Carrier) → Type 0
-IsLayout spec layout = layouts.carriers_of layout ≡ map (λ (X : Equation). carriers_of spec X.parameters) spec.equations
+-- the layout has the carriers of each equation's parameters: their values, and what they are, the Booleans, a struct by
+-- its number or a range
+pub record IsLayout (spec : Spec) (layout : List (List Carrier)) : Type 0 where
+  pub values : layouts.carriers_of layout ≡ map (λ (X : Equation). carriers_of spec X.parameters) spec.equations
+  pub shapes : map shapes_of layout ≡ map (λ (X : Equation). variable_shapes spec X.parameters) spec.equations

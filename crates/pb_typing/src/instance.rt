@@ -19,6 +19,7 @@ use pb_typing_declarations::{Declarations, TypeError, TypingRule, require};
 use std::alloc::Global;
 
 /// Checks a predicate variable with its arguments, where `even` says whether the negations around it are even in number.
+/// A name that no equation declares is no predicate variable, so that it breaks no rule of negations.
 pub(crate) fn check_instance<'t>(
     alloc: Global,
     declarations: &Declarations<'_>,
@@ -33,10 +34,10 @@ pub(crate) fn check_instance<'t>(
         (IsAmong (instance_faults (spec_of declarations.now) even (scope_view scope.now) (instance_form instance.now))) }
 {
     let place = instance.name.place;
-    require(even, TypingRule::OddNegations, place)?;
     match declarations.equation(&instance.name.text) {
         Some(index) => {
             let parameters = &spec.equations[index].parameters;
+            require(even, TypingRule::OddNegations, place)?;
             check_call(
                 alloc,
                 declarations,

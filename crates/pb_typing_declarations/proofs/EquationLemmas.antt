@@ -7,6 +7,7 @@ use Rattle.pb_sorts.specs.Carrier.{values_of}
 use Rattle.pb_sorts.specs.Layout as layouts
 use Rattle.pb_sorts.specs.Layout.{lists_of}
 use Rattle.pb_carriers.specs.Carrier as carriers
+use Rattle.pb_typing_declarations.specs.Entries.{shapes_of}
 
 abbrev Parameters : Type 0
 Parameters = Vec Carrier Global
@@ -19,6 +20,12 @@ lists_pushed old new v is =
     ap (λ (vs : List Parameters). layouts.carriers_of (lists_of vs)) is
     ∙ (ap layouts.carriers_of (map-append (λ (u : Parameters). u.items) old (v ∷ []))
     ∙ map-append (λ (cs : List Carrier). map values_of cs) (lists_of old) (v.items ∷ []))
+
+pub shapes_pushed : (old new : List Parameters) (v : Parameters) → new ≡ old ++ (v ∷ []) → map shapes_of (lists_of new) ≡ map shapes_of (lists_of old) ++ (shapes_of v.items ∷ [])
+shapes_pushed old new v is =
+    ap (λ (vs : List Parameters). map shapes_of (lists_of vs)) is
+    ∙ (ap (λ (ls : List (List Carrier)). map shapes_of ls) (map-append (λ (u : Parameters). u.items) old (v ∷ []))
+    ∙ map-append shapes_of (lists_of old) (v.items ∷ []))
 
 abbrev Short : List Carrier → Type 0
 Short cs = length cs ≤ 8

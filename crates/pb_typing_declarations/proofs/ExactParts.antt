@@ -1,5 +1,5 @@
 -- The same of variables, of equations, of sorts and of ranges.
-use Rattle.std.proofs.Common.{◌≡◌, ℕ, ◌+◌, ◌<◌, ◌≤◌, ◌≤ℤ◌, ℤ, true, false, not, List, [], ◌∷◌, ◌++◌, length, map, refl, sym, ◌∙◌, ap, subst, arith, rules, tests}
+use Rattle.std.proofs.Common.{◌≡◌, ℕ, suc, ◌+◌, ◌<◌, ◌≤◌, ◌≤ℤ◌, ℤ, true, false, not, List, [], ◌∷◌, ◌++◌, length, map, refl, sym, ◌∙◌, ap, subst, arith, rules, tests}
 use Rattle.std.specs.Prelude.{All, flat_map, nat_le, nat_lt, int_le, Option, Some, None}
 use Rattle.std.proofs.lemmas.Grind.{flat_map-append}
 use Rattle.std.proofs.lemmas.List.{map-append}
@@ -12,9 +12,10 @@ use Rattle.pb_typing_declarations.specs.declared.fault.TypingRule.TheVariants.{N
 use Rattle.pb_typing_declarations.specs.Faults.{unless, repeated, length_faults}
 use Rattle.pb_typing_declarations.specs.Shapes.{End, Shaped, Unranged, Undeclared, Endless, end_of, base_of, is_sort, is_built_in, number_behind}
 use Rattle.pb_typing_declarations.specs.Instances.{instance_count, all_instances}
-use Rattle.pb_typing_declarations.specs.Declarations.{is_integer, is_named_function, use_faults, variable_names, variable_faults, variables_faults, limit_faults, own_names, equation_faults, equations_faults_behind, recogniser_faults, recogniser_name, names_of_enumerator, enumerator_faults, enumerators_of_sort, all_enumerator_forms, struct_faults, structs_faults, definition_faults, sort_faults, range_faults, empty_faults}
+use Rattle.pb_typing_declarations.specs.Declarations.{stays_within, is_integer, is_named_function, use_faults, variable_names, variable_faults, variables_faults, limit_faults, own_names, equation_faults, equations_faults_behind, recogniser_faults, recogniser_name, names_of_enumerator, enumerator_faults, enumerators_of_sort, all_enumerator_forms, struct_faults, structs_faults, definition_faults, sort_faults, range_faults, empty_faults}
 use Rattle.pb_typing_declarations.specs.WellDeclared.{AreApart, has_shape, AreVariables, IsDefined, structs_behind, IsRanged, enumerators, given, enumerator_names, every_enumerator}
 use Rattle.pb_typing_declarations.proofs.Parts.{no_parts, no_whole, holds_unless, unless_holds}
+use Rattle.pb_typing_declarations.proofs.Passing.{stays, one_more_stays}
 use Rattle.pb_typing_declarations.proofs.Loops.{same_length}
 use Rattle.pb_typing_declarations.proofs.VariableLemmas.{few_names, limit_clear}
 use Rattle.pb_typing_declarations.proofs.Exact.{all_cons, all_head, all_tail, all_none, each, each_clear, not_true, true_not, texts, apart, apart_clear, map-map}
@@ -104,9 +105,9 @@ equations S n [] low e = record { short = all_none ShortEquation; few = all_none
 equations S n (X ∷ E) low e =
     let size = instance_count S (erased_equation X) in
     let p = no_parts (equation_faults S X) _ e in
-    let q = no_parts (unless (nat_le (n + size) MAX_INSTANCES) Limit X.name.place) _ p.1 in
+    let q = no_parts (unless (stays_within MAX_INSTANCES n (n + size)) Limit X.name.place) _ p.1 in
     let first = equation S X p.0 in
-    let fits = at_most (n + size) MAX_INSTANCES (holds_unless _ _ _ q.0) in
+    let fits = at_most (n + size) MAX_INSTANCES (sym (stays MAX_INSTANCES n (n + size) low) ∙ holds_unless _ _ _ q.0) in
     let rest = equations S (n + size) E fits q.1 in
     record {
       short = all_cons ShortEquation (erased_equation X) (map erased_equation E) first.0 rest.short;
@@ -121,7 +122,8 @@ equations_clear S n (X ∷ E) h =
     let size = instance_count S (erased_equation X) in
     no_whole (equation_faults S X) _
     (equation_clear S X (all_head ShortEquation (erased_equation X) (map erased_equation E) h.short) (all_head FewParameters (erased_equation X) (map erased_equation E) h.few) (all_head (Parameters S) (erased_equation X) (map erased_equation E) h.parameters))
-    (no_whole (unless (nat_le (n + size) MAX_INSTANCES) Limit X.name.place) _ (unless_holds _ _ _ (at_most_true _ _ (omega (arith, h.instances))))
+    (no_whole (unless (stays_within MAX_INSTANCES n (n + size)) Limit X.name.place) _
+    (unless_holds _ _ _ (stays MAX_INSTANCES n (n + size) (omega (arith, h.instances)) ∙ at_most_true _ _ (omega (arith, h.instances))))
     (equations_clear S (n + size) E (record {
       short = all_tail ShortEquation (erased_equation X) (map erased_equation E) h.short;
       few = all_tail FewParameters (erased_equation X) (map erased_equation E) h.few;
@@ -145,14 +147,14 @@ record SortHolds (S : Spec) (n : ℕ) (s : Named) (sort : SortForm) : Type 0 whe
 
 one_sort : (S : Spec) (n : ℕ) (s : Named) (sort : SortForm) → n ≤ 255 → struct_faults n s.place sort ≡ [] → definition_faults S s sort ≡ [] → SortHolds S n s sort
 one_sort S n s (struct es) low e f =
-    let p = no_parts (unless (nat_lt n 255) Limit s.place) _ e in
+    let p = no_parts (unless (stays_within 255 n (suc n)) Limit s.place) _ e in
     let q = no_parts (unless (nat_lt 0 (length es)) Limit s.place) _ p.1 in
     let r = no_parts (limit_faults 255 (own_names es)) _ q.1 in
     let named = same_length (λ (e : EnumeratorForm). e.name) es in
     let same = same_length erased_enumerator es in
     let some = below 0 (length es) (holds_unless _ _ _ q.0) in
     let most = few_names 255 (own_names es) r.0 in
-    let fits = below n 255 (holds_unless _ _ _ p.0) in
+    let fits = below n 255 (sym (one_more_stays 255 n low) ∙ holds_unless _ _ _ p.0) in
     record { defined = (omega (arith, same, some), omega (arith, same, named, most)); few = omega (arith, fits); enumerators = r.1 }
 one_sort S n s (alias t) low e f =
     let p = no_parts (unless (is_sort S t.text) UnknownSort t.place) _ f in
@@ -162,7 +164,8 @@ one_sort_clear : (S : Spec) (n : ℕ) (s : Named) (sort : SortForm) → SortHold
 one_sort_clear S n s (struct es) h =
     let same = same_length erased_enumerator es in
     let named = same_length (λ (e : EnumeratorForm). e.name) es in (
-      no_whole (unless (nat_lt n 255) Limit s.place) _ (unless_holds _ _ _ (below_true n 255 (omega (arith, h.few))))
+      no_whole (unless (stays_within 255 n (suc n)) Limit s.place) _
+          (unless_holds _ _ _ (one_more_stays 255 n (omega (arith, h.few)) ∙ below_true n 255 (omega (arith, h.few))))
           (no_whole (unless (nat_lt 0 (length es)) Limit s.place) _ (unless_holds _ _ _ (below_true 0 (length es) (omega (arith, same, h.defined.0))))
           (no_whole (limit_faults 255 (own_names es)) _ (limit_clear 255 (own_names es) (omega (arith, same, named, h.defined.1))) h.enumerators)),
       refl,

@@ -1,5 +1,5 @@
 -- The carriers of equations without a fault have a layout.
-use Rattle.std.proofs.Common.{◌≡◌, ◌≤◌, ◌<◌, ◌∙◌, ◌+◌, ℕ, zero, suc, List, [], ◌∷◌, length, get_or, map, refl, ap, arith, rules, tests, Vec, Global}
+use Rattle.std.proofs.Common.{◌≡◌, ◌≤◌, ◌<◌, ◌∙◌, ◌+◌, ℕ, zero, suc, List, [], ◌∷◌, length, get_or, map, refl, sym, ap, arith, rules, tests, Vec, Global}
 use Rattle.std.specs.Prelude.{All, vec_len, nat_le, true}
 use Rattle.pb_sorts.specs.declared.carrier.Carrier.{Carrier}
 use Rattle.pb_sorts.specs.declared.limits.TheConstants.{MAX_INSTANCES}
@@ -16,8 +16,9 @@ use Rattle.pb_typing_declarations.specs.declared.fault.TypingRule.TheVariants.{L
 use Rattle.pb_typing_declarations.specs.Faults.{unless}
 use Rattle.pb_typing_declarations.specs.Instances.{instance_count, all_instances}
 use Rattle.pb_typing_declarations.specs.Reading.{HasCarriers}
-use Rattle.pb_typing_declarations.specs.Declarations.{equation_faults, equations_faults_behind, equation_names, limit_faults}
+use Rattle.pb_typing_declarations.specs.Declarations.{stays_within, equation_faults, equations_faults_behind, equation_names, limit_faults}
 use Rattle.pb_typing_declarations.proofs.Parts.{no_parts, holds_unless}
+use Rattle.pb_typing_declarations.proofs.Passing.{stays}
 use Rattle.pb_typing_declarations.proofs.Loops.{same_length}
 use Rattle.pb_typing_declarations.proofs.VariableLemmas.{few_names}
 
@@ -53,8 +54,9 @@ pub within : (S : Spec) (n : ℕ) (E : List EquationForm) → equations_faults_b
 within S n [] e low = omega (arith, low)
 within S n (X ∷ E) e low =
     let p = no_parts (equation_faults S X) _ e in
-    let q = no_parts (unless (nat_le (n + instance_count S (erased_equation X)) MAX_INSTANCES) Limit X.name.place) _ p.1 in
-    let first = at_most (n + instance_count S (erased_equation X)) MAX_INSTANCES (holds_unless _ _ _ q.0) in
+    let q = no_parts (unless (stays_within MAX_INSTANCES n (n + instance_count S (erased_equation X))) Limit X.name.place) _ p.1 in
+    let first = at_most (n + instance_count S (erased_equation X)) MAX_INSTANCES
+    (sym (stays MAX_INSTANCES n (n + instance_count S (erased_equation X)) low) ∙ holds_unless _ _ _ q.0) in
     let rest = within S (n + instance_count S (erased_equation X)) E q.1 first in
     omega (arith, rest)
 

@@ -1,6 +1,7 @@
 pub mod Parts
 pub mod Filling
 pub mod Loops
+pub mod Passing
 pub mod Structs
 pub mod Agreeing
 pub mod ChainLemmas

@@ -19,6 +19,7 @@ at_parameters : (S : Spec) (X : EquationForm) (r : Result (Vec Carrier Global) T
 at_parameters S X (Ok carriers) short few h = record {
   clear = no_whole (length_faults X.name) _ short (no_whole (limit_faults 8 (variable_names X.parameters)) _ few h.clear);
   values = h.values;
+  shapes = h.shapes;
   few = carriers_few S X.parameters carriers.items 8 h.values few;
 }
 at_parameters S X (Err e) short few h =

@@ -1,5 +1,5 @@
 -- The faults and the entries of sorts, sort by sort.
-use Rattle.std.proofs.Common.{◌≡◌, ℕ, zero, suc, ◌+◌, ◌<◌, ◌≤◌, true, false, refl, List, [], ◌∷◌, ◌++◌, length, get_or, drop, map, sym, ◌∙◌, ap, arith, rules, tests, Vec, Global}
+use Rattle.std.proofs.Common.{◌≡◌, ℕ, zero, suc, ◌+◌, ◌<◌, ◌≤◌, Bool, true, false, refl, List, [], ◌∷◌, ◌++◌, length, get_or, drop, map, sym, ◌∙◌, ap, arith, rules, tests, Vec, Global}
 use Rattle.std.specs.Prelude.{flat_map, nat_lt}
 use Rattle.std.proofs.lemmas.List.{map-append}
 use Rattle.pb_text_tree.specs.declared.place.Place.{Place}
@@ -18,8 +18,9 @@ use Rattle.pb_typing_declarations.specs.Faults.{unless}
 use Rattle.pb_typing_declarations.specs.Shapes.{definition_of, number_behind}
 use Rattle.pb_typing_declarations.specs.Tables.{entry_names, entry_values}
 use Rattle.pb_typing_declarations.specs.Entries.{shown, struct_count, shown_entries}
-use Rattle.pb_typing_declarations.specs.Declarations.{limit_faults, own_names, struct_faults, structs_faults, enumerator_faults}
+use Rattle.pb_typing_declarations.specs.Declarations.{stays_within, limit_faults, own_names, struct_faults, structs_faults, enumerator_faults}
 use Rattle.pb_typing_declarations.proofs.Parts.{no_parts, holds_unless}
+use Rattle.pb_typing_declarations.proofs.Passing.{one_more_stays}
 use Rattle.pb_typing_declarations.proofs.Loops.{next, same_length, one_more, more}
 
 abbrev pub struct_parts : ℕ → Place → ℕ → List TypingFault → List TypingFault → List TypingFault
@@ -29,11 +30,12 @@ abbrev pub count_faults : List ast.Enumerator → List TypingFault
 count_faults es = limit_faults 255 (own_names (map enumerator_form es))
 
 -- the faults of a struct in the code's words
-pub struct_whole : (n : ℕ) (place : Place) (s : sort.Sort) (es : Vec ast.Enumerator Global) (count : ℕ) → s ≡ sorts.Struct es → count ≡ length es.items
+pub struct_whole : (n : ℕ) (place : Place) (s : sort.Sort) (es : Vec ast.Enumerator Global) (count : ℕ) → n ≤ 255 → s ≡ sorts.Struct es → count ≡ length es.items
     → struct_faults n place (sort_form s) ≡ struct_parts n place count (count_faults es.items) (flat_map enumerator_faults (map enumerator_form es.items))
-struct_whole n place s es count is are =
+struct_whole n place s es count low is are =
     ap (λ (t : sort.Sort). struct_faults n place (sort_form t)) is
-    ∙ ap (λ (k : ℕ). struct_parts n place k (count_faults es.items) (flat_map enumerator_faults (map enumerator_form es.items))) (same_length enumerator_form es.items ∙ sym are)
+    ∙ (ap (λ (b : Bool). unless b Limit place ++ (unless (nat_lt 0 (length (map enumerator_form es.items))) Limit place ++ (count_faults es.items ++ flat_map enumerator_faults (map enumerator_form es.items)))) (one_more_stays 255 n low)
+    ∙ ap (λ (k : ℕ). struct_parts n place k (count_faults es.items) (flat_map enumerator_faults (map enumerator_form es.items))) (same_length enumerator_form es.items ∙ sym are))
 
 -- the fault of the enumerator that passes the limit
 pub count_at : (es : List ast.Enumerator) (limit : ℕ) (e : ast.Enumerator) → limit < length es → e ≡ get_or es limit e → limit_faults limit (own_names (map enumerator_form es)) ≡ unless false Limit e.name.place
@@ -56,7 +58,8 @@ below_limit : (n : ℕ) → nat_lt n 255 ≡ true → suc n ≤ 255
 below_limit n e = search (rules, tests)
 
 pub few_after : (n : ℕ) (place : Place) (d : SortForm) → n ≤ 255 → struct_faults n place d ≡ [] → number_behind n (erased_sort d) ≤ 255
-few_after n place (struct es) h e = below_limit n (holds_unless _ _ _ (no_parts (unless (nat_lt n 255) Limit place) _ e).0)
+few_after n place (struct es) h e =
+    below_limit n (sym (one_more_stays 255 n h) ∙ holds_unless _ _ _ (no_parts (unless (stays_within 255 n (suc n)) Limit place) _ e).0)
 few_after n place (alias t) h e = h
 
 -- the faults from the sort at k on

@@ -1,6 +1,6 @@
 -- Where each rule of declarations fails: all faults of sorts, ranges, enumerators, recognisers, predicate variables and
 -- their parameters.
-use Rattle.std.specs.Prelude.{ℕ, ◌+◌, nat_le, nat_lt, Bool, true, false, not, ◌||◌, List, [], ◌∷◌, ◌++◌, map, flat_map, length, ℤ, pos, int_le, Option, Some, None, codes}
+use Rattle.std.specs.Prelude.{ℕ, suc, ◌+◌, nat_le, nat_lt, Bool, true, false, not, ◌||◌, List, [], ◌∷◌, ◌++◌, map, flat_map, length, ℤ, pos, int_le, Option, Some, None, codes}
 use Rattle.std.specs.List.{slice_get}
 use Rattle.pb_text_tree.specs.declared.place.Place.{Place}
 use Rattle.pb_text_tree.specs.Form.{Named, VariableForm, EnumeratorForm, SortForm, struct, alias, SortDeclarationForm, RangeForm, EquationForm, SpecForm}
@@ -23,6 +23,10 @@ limit_fault (Some x) = unless false Limit x.place
 
 abbrev pub limit_faults : ℕ → List Named → List TypingFault
 limit_faults limit xs = limit_fault (slice_get xs limit)
+
+-- The limit isn't passed here: what stands before is beyond it already, or what is counted with this is still within.
+abbrev pub stays_within : ℕ → ℕ → ℕ → Bool
+stays_within limit before counted = nat_lt limit before || nat_le counted limit
 
 -- ---- enumerators and recognisers, in the order of the text
 
@@ -77,10 +81,10 @@ sort_faults spec d = unless (not (is_built_in d.name.text)) NameTwice d.name.pla
 abbrev pub own_names : List EnumeratorForm → List Named
 own_names es = map (λ (e : EnumeratorForm). e.name) es
 
--- behind n structs: there are at most 255, and each has 1 to 255 enumerators
+-- behind n structs: the 256th passes the limit, and each has 1 to 255 enumerators
 abbrev pub struct_faults : ℕ → Place → SortForm → List TypingFault
 struct_faults n place (struct es) =
-    unless (nat_lt n 255) Limit place
+    unless (stays_within 255 n (suc n)) Limit place
     ++ (unless (nat_lt 0 (length es)) Limit place
     ++ (limit_faults 255 (own_names es)
     ++ flat_map enumerator_faults es))
@@ -147,12 +151,12 @@ equation_names E = map (λ (X : EquationForm). X.name) E
 abbrev pub equation_faults : Spec → EquationForm → List TypingFault
 equation_faults spec X = length_faults X.name ++ (limit_faults 8 (variable_names X.parameters) ++ variables_faults spec X.parameters)
 
--- behind so many instances: a predicate variable is as it must be, and its instances are within the limit
+-- behind so many instances: a predicate variable is as it must be, and its instances don't pass the limit
 abbrev pub equations_faults_behind : Spec → ℕ → List EquationForm → List TypingFault
 equations_faults_behind spec n [] = []
 equations_faults_behind spec n (X ∷ E) =
     equation_faults spec X
-    ++ (unless (nat_le (n + instance_count spec (erased_equation X)) MAX_INSTANCES) Limit X.name.place
+    ++ (unless (stays_within MAX_INSTANCES n (n + instance_count spec (erased_equation X))) Limit X.name.place
     ++ equations_faults_behind spec (n + instance_count spec (erased_equation X)) E)
 
 -- ---- all

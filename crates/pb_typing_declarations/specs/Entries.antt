@@ -46,6 +46,12 @@ carrier_shape (Some carrier.Bool) = Truths
 carrier_shape (Some (carrier.Enum e)) = Places e.sort e.count
 carrier_shape (Some (carrier.Range r)) = Wholes r.lo r.hi
 
+abbrev pub shape_of : carriers.Carrier → Shape
+shape_of c = carrier_shape (Some c)
+
+abbrev pub shapes_of : List carriers.Carrier → List Shape
+shapes_of cs = map shape_of cs
+
 abbrev pub end_shown : chains.End → End
 end_shown (chain.Carrier c) = Shaped (carrier_shape (Some c))
 end_shown (chain.Unranged k) = Unranged k

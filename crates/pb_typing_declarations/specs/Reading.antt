@@ -6,7 +6,7 @@ use Rattle.pb_typing_declarations.specs.declared.entry.Entry.{Entry}
 use Rattle.pb_typing_declarations.specs.declared.definition.Definition.{Definition}
 use Rattle.pb_typing_declarations.specs.declared.definition.DataName.{DataName}
 use Rattle.pb_typing_declarations.specs.declared.definition.Definitions.{Definitions}
-use Rattle.pb_typing_declarations.specs.Shapes.{definition_of, definitions_from, range_bounds, end_of}
+use Rattle.pb_typing_declarations.specs.Shapes.{definition_of, definitions_from, range_bounds, end_of, sort_shape, variable_shapes}
 use Rattle.pb_sorts.specs.declared.carrier.Range.{Range}
 use Rattle.pb_sorts.specs.declared.carrier.Carrier.{Carrier}
 use Rattle.pb_sorts.specs.declared.limits.TheConstants.{MAX_INSTANCES}
@@ -21,7 +21,7 @@ use Rattle.pb_typing_declarations.specs.declared.fault.TypingRule.TheVariants.{L
 use Rattle.pb_typing_declarations.specs.Faults.{unless}
 use Rattle.pb_typing_declarations.specs.Enumerators.{Position}
 use Rattle.pb_typing_declarations.specs.Tables.{entry_names, entry_values}
-use Rattle.pb_typing_declarations.specs.Entries.{shown, shown_entries, range_shown, data_of_recogniser, data_from, data_in, all_data}
+use Rattle.pb_typing_declarations.specs.Entries.{shape_of, shapes_of, shown, shown_entries, range_shown, data_of_recogniser, data_from, data_in, all_data}
 use Rattle.pb_typing_declarations.specs.Declarations.{struct_faults, structs_faults, recogniser_faults, recogniser_name, enumerator_faults, names_of_enumerator, enumerators_of_sort, all_enumerator_forms, empty_faults, range_name, equation_names, use_faults, variables_faults, equation_faults, equations_faults_behind}
 
 -- new entries are old ones and then these names with these values
@@ -70,14 +70,17 @@ pub record AreEquations (E : List EquationForm) (entries : List (Entry ℕ)) : T
 pub record IsCarrier (S : Spec) (sort : Named) (carrier : Carrier) : Type 0 where
   pub clear : use_faults (end_of S sort.text) sort.place ≡ []
   pub values : values_of carrier ≡ carrier_of S sort.text
+  pub shape : shape_of carrier ≡ sort_shape S sort.text
 
 pub record HasVariables (S : Spec) (xs : List VariableForm) (carriers : List Carrier) : Type 0 where
   pub clear : variables_faults S xs ≡ []
   pub values : map values_of carriers ≡ carriers_of S (erased_variables xs)
+  pub shapes : shapes_of carriers ≡ variable_shapes S (erased_variables xs)
 
 pub record HasParameters (S : Spec) (X : EquationForm) (carriers : List Carrier) : Type 0 where
   pub clear : equation_faults S X ≡ []
   pub values : map values_of carriers ≡ carriers_of S (erased_variables X.parameters)
+  pub shapes : shapes_of carriers ≡ variable_shapes S (erased_variables X.parameters)
   pub few : length carriers ≤ 8
 
 -- a sum of instances
@@ -90,4 +93,5 @@ pub record AddsInstances (count : ℕ) (carriers : List (List ℤ)) (place : Pla
 pub record HasCarriers (S : Spec) (n : ℕ) (E : List EquationForm) (carriers : List (List Carrier)) : Type 0 where
   pub clear : equations_faults_behind S n E ≡ []
   pub values : layouts.carriers_of carriers ≡ map (λ (X : Equation). carriers_of S X.parameters) (map erased_equation E)
+  pub shapes : map shapes_of carriers ≡ map (λ (X : Equation). variable_shapes S X.parameters) (map erased_equation E)
   pub few : All (λ (cs : List Carrier). length cs ≤ 8) carriers

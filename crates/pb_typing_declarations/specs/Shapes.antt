@@ -1,7 +1,7 @@
 -- What values a sort has: its kind, and for whole numbers their interval.
 use Rattle.std.specs.Prelude.{ℕ, zero, suc, ℤ, pos, Bool, true, false, if◌then◌else◌, ◌||◌, List, [], ◌∷◌, length, map, Option, Some, None, codes, is_some}
 use Rattle.pb_carriers.specs.Carrier.{Carrier, of_bool, numbers_from, interval}
-use Rattle.pb_text_meaning.specs.Syntax.{Name, same_name, Sort, Struct, Alias, SortDeclaration, Range, Spec}
+use Rattle.pb_text_meaning.specs.Syntax.{Name, same_name, Variable, Sort, Struct, Alias, SortDeclaration, Range, Spec}
 use Rattle.pb_typing_declarations.specs.declared.sorts.Integers.{Integers}
 use Rattle.pb_typing_declarations.specs.declared.sorts.Integers.TheVariants as integers
 
@@ -102,6 +102,10 @@ end_shape Endless = Unknown
 -- an alias's own range wins over its target's
 abbrev pub sort_shape : Spec → Name → Shape
 sort_shape spec s = end_shape (end_of spec s)
+
+-- the shapes of variables' sorts
+abbrev pub variable_shapes : Spec → List Variable → List Shape
+variable_shapes spec xs = map (λ (x : Variable). sort_shape spec x.sort) xs
 
 abbrev pub is_built_in : Name → Bool
 is_built_in s = same_name s (codes "Bool") || (same_name s (codes "Pos") || (same_name s (codes "Nat") || same_name s (codes "Int")))

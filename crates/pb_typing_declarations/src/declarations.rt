@@ -9,9 +9,9 @@ ghost use Rattle.pb_text_meaning.specs.Syntax.{same_name, Equation};
 ghost use Rattle.pb_text_meaning.specs.Sorts.{carrier_of, is_recogniser, place_in};
 ghost use Rattle.pb_text_meaning.specs.Formula.{carriers_of};
 ghost use Rattle.pb_typing_declarations.specs.Faults.{IsAmong};
-ghost use Rattle.pb_typing_declarations.specs.Shapes.{sort_shape};
+ghost use Rattle.pb_typing_declarations.specs.Shapes.{sort_shape, variable_shapes};
 ghost use Rattle.pb_typing_declarations.specs.Enumerators.{enumerator_of, recogniser_of};
-ghost use Rattle.pb_typing_declarations.specs.Entries.{carrier_shape};
+ghost use Rattle.pb_typing_declarations.specs.Entries.{carrier_shape, shapes_of};
 ghost use Rattle.pb_typing_declarations.specs.Agreement.{equation_place};
 ghost use Rattle.pb_typing_declarations.specs.Declarations.{variables_faults, declaration_faults};
 
@@ -95,9 +95,11 @@ impl<'a> Declarations<'a> {
         Ok(())
     }
 
-    /// The layout of the equations' instances. The only error is want of memory.
+    /// The layout of the equations' instances, each parameter with its sort's carrier: the Booleans, a struct by its
+    /// number, or a range. The only error is want of memory.
     pub fn layout(&self, alloc: Global) -> Result<Layout, TypeError>
         ensures carriers { IfOk result (λ layout. layouts.carriers_of layout ≡ map (λ (X : Equation). carriers_of (spec_of self.now) X.parameters) (spec_of self.now).equations) }
+        ensures shapes { IfOk result (λ layout. map shapes_of layout ≡ map (λ (X : Equation). variable_shapes (spec_of self.now) X.parameters) (spec_of self.now).equations) }
         ensures memory { IfErr result (λ error. error ≡ TypeError.Memory) }
     {
         let carriers = self.tables.carriers(alloc, &self.tables.spec.equations)?;

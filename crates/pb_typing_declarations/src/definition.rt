@@ -108,6 +108,7 @@ fn read_definition<'a>(
     number: usize,
     declaration: &'a SortDeclaration,
 ) -> Result<Definition<'a>, TypeError>
+    requires { number ≤ 255 }
     ensures { MatchResult result
         (λ definition. IsDefinition number (sort_declaration_form declaration.now) names.old.items names.new.items definition)
         (IsAmong (struct_faults number declaration.now.name.place (sort_form declaration.now.sort))) }

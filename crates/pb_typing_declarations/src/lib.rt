@@ -14,8 +14,6 @@ mod range;
 mod sorts;
 mod table;
 mod tables;
-#[cfg(test)]
-mod tests;
 mod variables;
 
 pub use declarations::Declarations;

@@ -204,25 +204,29 @@ arguments_clear spec scope (argument p x es) [] h = no_whole _ _ (term_clear spe
 arguments_clear spec scope (argument p x es) (y ∷ ys) h =
     no_whole _ _ (term_clear spec false scope x h.0) (no_whole _ _ (unless_holds _ _ _ h.1) (arguments_clear spec scope es ys h.2))
 
-called_of_clear : (spec : Spec) (scope : Scope) (es : ArgumentForms) (X : Option Equation) (p : Place) → called_faults spec scope es X p ≡ [] → IsCalled spec scope (erased_arguments es) X
-called_of_clear spec scope es None p e = let q = no_parts _ _ e in true≢false (sym (holds_unless _ _ _ q.0))
-called_of_clear spec scope es (Some X) p e =
+called_of_clear : (spec : Spec) (even : Bool) (scope : Scope) (es : ArgumentForms) (X : Option Equation) (p : Place) →
+    called_faults spec even scope es X p ≡ [] → (even ≡ true) × IsCalled spec scope (erased_arguments es) X
+called_of_clear spec even scope es None p e = let q = no_parts _ _ e in absurd (true≢false (sym (holds_unless _ _ _ q.0)))
+called_of_clear spec even scope es (Some X) p e =
     let q = no_parts _ _ e in
-    (eqb-true (count (erased_arguments es)) (length X.parameters) (holds_unless _ _ _ q.0), arguments_of_clear spec scope es X.parameters q.1)
+    let r = no_parts _ _ q.1 in (
+      holds_unless _ _ _ q.0,
+      (eqb-true (count (erased_arguments es)) (length X.parameters) (holds_unless _ _ _ r.0), arguments_of_clear spec scope es X.parameters r.1),
+    )
 
-called_clear : (spec : Spec) (scope : Scope) (es : ArgumentForms) (X : Option Equation) (p : Place) → IsCalled spec scope (erased_arguments es) X → called_faults spec scope es X p ≡ []
-called_clear spec scope es None p h = absurd h
-called_clear spec scope es (Some X) p h =
-    no_whole _ _ (unless_holds _ _ _ (eq-eqb (count (erased_arguments es)) (length X.parameters) h.0)) (arguments_clear spec scope es X.parameters h.1)
+called_clear : (spec : Spec) (even : Bool) (scope : Scope) (es : ArgumentForms) (X : Option Equation) (p : Place) →
+    even ≡ true → IsCalled spec scope (erased_arguments es) X → called_faults spec even scope es X p ≡ []
+called_clear spec even scope es None p is h = absurd h
+called_clear spec even scope es (Some X) p is h =
+    no_whole _ _ (unless_holds _ _ _ is)
+    (no_whole _ _ (unless_holds _ _ _ (eq-eqb (count (erased_arguments es)) (length X.parameters) h.0)) (arguments_clear spec scope es X.parameters h.1))
 
 pub instance_proper : (spec : Spec) (even : Bool) (scope : Scope) (i : InstanceForm) → instance_faults spec even scope i ≡ [] → IsProper spec even scope (Formula.Call i.name.text (erased_arguments i.arguments))
-instance_proper spec even scope i e =
-    let q = no_parts _ _ e in
-    (holds_unless _ _ _ q.0, called_of_clear spec scope i.arguments (equation_named spec.equations i.name.text) i.name.place q.1)
+instance_proper spec even scope i e = called_of_clear spec even scope i.arguments (equation_named spec.equations i.name.text) i.name.place e
 
 pub instance_clear : (spec : Spec) (even : Bool) (scope : Scope) (i : InstanceForm) → IsProper spec even scope (Formula.Call i.name.text (erased_arguments i.arguments)) → instance_faults spec even scope i ≡ []
 instance_clear spec even scope i h =
-    no_whole _ _ (unless_holds _ _ _ h.0) (called_clear spec scope i.arguments (equation_named spec.equations i.name.text) i.name.place h.1)
+    called_clear spec even scope i.arguments (equation_named spec.equations i.name.text) i.name.place h.0 h.1
 
 join_proper : (spec : Spec) (c : Connective) (even : Bool) (scope : Scope) (p : Place) (f g : FormulaForm)
     → IsProper spec (left_parity c even) scope (erased_formula f) → IsProper spec even scope (erased_formula g) → IsProper spec even scope (erased_formula (FormulaForm.connected c p f g))

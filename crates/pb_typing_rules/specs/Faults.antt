@@ -101,15 +101,16 @@ argument_faults spec scope (argument p e es) (x ∷ xs) =
     ++ (unless (may_be_alike (shape spec scope (erased_term e)) (sort_shape spec x.sort)) rule.WrongKind p
     ++ argument_faults spec scope es xs)
 
-abbrev pub called_faults : Spec → Scope → ArgumentForms → Option Equation → Place → List TypingFault
-called_faults spec scope es None p = unless false rule.UnknownName p ++ argument_faults spec scope es []
-called_faults spec scope es (Some X) p =
-    unless (count (erased_arguments es) == length X.parameters) rule.WrongCount p ++ argument_faults spec scope es X.parameters
+-- a predicate variable that is declared stands under an even number of negations, and has its arguments; one that isn't is only unknown
+abbrev pub called_faults : Spec → Bool → Scope → ArgumentForms → Option Equation → Place → List TypingFault
+called_faults spec even scope es None p = unless false rule.UnknownName p ++ argument_faults spec scope es []
+called_faults spec even scope es (Some X) p =
+    unless even rule.OddNegations p
+    ++ (unless (count (erased_arguments es) == length X.parameters) rule.WrongCount p ++ argument_faults spec scope es X.parameters)
 
 abbrev pub instance_faults : Spec → Bool → Scope → InstanceForm → List TypingFault
 instance_faults spec even scope i =
-    unless even rule.OddNegations i.name.place
-    ++ called_faults spec scope i.arguments (equation_named spec.equations i.name.text) i.name.place
+    called_faults spec even scope i.arguments (equation_named spec.equations i.name.text) i.name.place
 
 -- whether the negations around a left operand are even in number: the left side of => counts as negated
 abbrev pub left_parity : Connective → Bool → Bool

@@ -45,5 +45,6 @@ pub returns : goal.returns
 returns c =
     let t = spec_form c.args.spec.now in (
       none_of _ t c.in_ok-declarations.ensures.text c.in_ok-declarations.ensures.checked c.in_ok-check_rights.ensures c.in_ok-check_initial.ensures,
-      subst (λ (v : SpecForm). IsLayout (erase v) c.in_ok-layout.layout) c.in_ok-declarations.ensures.text c.in_ok-layout.ensures.carriers,
+      subst (λ (v : SpecForm). IsLayout (erase v) c.in_ok-layout.layout) c.in_ok-declarations.ensures.text
+          (record { values = c.in_ok-layout.ensures.carriers; shapes = c.in_ok-layout.ensures.shapes }),
     )

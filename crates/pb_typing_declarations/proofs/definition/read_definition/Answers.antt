@@ -20,7 +20,7 @@ returns-in_err-require-in-Struct-2 c =
     let whole = struct_faults n place (sort_form c.args.declaration.now.sort) in
     let h : IsAmong whole e =
     among_same whole (struct_parts n place count (count_faults E.items) (flat_map enumerator_faults (map enumerator_form E.items))) e
-    (struct_whole n place c.args.declaration.now.sort E count c.in-Struct.is (omega (arith, c.len-count.ensures, E.ok.0)))
+    (struct_whole n place c.args.declaration.now.sort E count c.requires c.in-Struct.is (omega (arith, c.len-count.ensures, E.ok.0)))
     (among_right (unless (nat_lt n 255) Limit place) _ e (among_left (unless (nat_lt 0 count) Limit place) _ e c.in_err-require-in-Struct-2.ensures)) in
     search rules
 
@@ -34,7 +34,7 @@ returns-in_err-check_count-in-Struct c =
     let whole = struct_faults n place (sort_form c.args.declaration.now.sort) in
     let h : IsAmong whole e =
     among_same whole (struct_parts n place count (count_faults E.items) (flat_map enumerator_faults (map enumerator_form E.items))) e
-    (struct_whole n place c.args.declaration.now.sort E count c.in-Struct.is (omega (arith, c.len-count.ensures, E.ok.0)))
+    (struct_whole n place c.args.declaration.now.sort E count c.requires c.in-Struct.is (omega (arith, c.len-count.ensures, E.ok.0)))
     (among_right (unless (nat_lt n 255) Limit place) _ e (among_right (unless (nat_lt 0 count) Limit place) _ e
     (among_left (count_faults E.items) _ e
     (subst (λ (es : List Enumerator). IsAmong (count_faults es) e) c.deref.ensures.value c.in_err-check_count-in-Struct.ensures)))) in
@@ -50,7 +50,7 @@ returns-in_err-push_enumerators-in-Struct c =
     let whole = struct_faults n place (sort_form c.args.declaration.now.sort) in
     let h : IsAmong whole e =
     among_same whole (struct_parts n place count (count_faults E.items) (flat_map enumerator_faults (map enumerator_form E.items))) e
-    (struct_whole n place c.args.declaration.now.sort E count c.in-Struct.is (omega (arith, c.len-count.ensures, E.ok.0)))
+    (struct_whole n place c.args.declaration.now.sort E count c.requires c.in-Struct.is (omega (arith, c.len-count.ensures, E.ok.0)))
     (among_right (unless (nat_lt n 255) Limit place) _ e (among_right (unless (nat_lt 0 count) Limit place) _ e
     (among_right (count_faults E.items) _ e
     (subst (λ (es : List Enumerator). IsAmong (flat_map enumerator_faults (map enumerator_form es)) e) c.deref-in-Struct.ensures.value c.in_err-push_enumerators-in-Struct.ensures)))) in

@@ -8,6 +8,8 @@ use Rattle.pb_text_tree.specs.Form.{spec_form, equation_form}
 use Rattle.pb_text_meaning.specs.Syntax.{Equation}
 use Rattle.pb_text_meaning.specs.Erase.{erase, erased_equation}
 use Rattle.pb_text_meaning.specs.Formula.{carriers_of}
+use Rattle.pb_typing_declarations.specs.Shapes.{variable_shapes}
+use Rattle.pb_typing_declarations.specs.Entries.{shapes_of}
 use Rattle.pb_typing_declarations.specs.Declarations.{equations_faults_behind}
 use Rattle.pb_typing_declarations.proofs.tables.Tables.carriers.Given as goal
 
@@ -20,5 +22,7 @@ invariant-loop-equation l =
       left : equations_faults_behind S 0 (map equation_form l.equations) ≡ equations_faults_behind S l.count (map equation_form (drop l.equation-index l.equations));
       values : map (λ (X : Equation). carriers_of S X.parameters) (map erased_equation (map equation_form l.equations))
           ≡ layouts.carriers_of (lists_of l.carriers.items) ++ map (λ (X : Equation). carriers_of S X.parameters) (map erased_equation (map equation_form (drop l.equation-index l.equations)));
+      shapes : map (λ (X : Equation). variable_shapes S X.parameters) (map erased_equation (map equation_form l.equations))
+          ≡ map shapes_of (lists_of l.carriers.items) ++ map (λ (X : Equation). variable_shapes S X.parameters) (map erased_equation (map equation_form (drop l.equation-index l.equations)));
       short : All (λ (cs : List Carrier). length cs ≤ 8) (lists_of l.carriers.items);
     }

@@ -2,7 +2,7 @@ use Rattle.std.proofs.Common.{◌≡◌, ◌∙◌, sym, ap, string_bytes}
 use Rattle.std.specs.Prelude.{Some}
 use Rattle.pb_text_tree.specs.Form.{spec_form}
 use Rattle.pb_text_meaning.specs.Erase.{erase}
-use Rattle.pb_typing_declarations.specs.Shapes.{End, Shaped, end_of}
+use Rattle.pb_typing_declarations.specs.Shapes.{End, Shaped, end_of, end_shape}
 use Rattle.pb_typing_declarations.specs.Entries.{carrier_shape, end_shown}
 use Rattle.pb_typing_declarations.specs.Declarations.{use_faults}
 use Rattle.pb_typing_declarations.proofs.ShapeLaws.{carrier_is}
@@ -17,4 +17,5 @@ returns-in-Carrier c =
     record {
       clear = ap (λ (e : End). use_faults e sort.place) (sym is);
       values = carrier_is S (string_bytes sort.text) c.in-Carrier.carrier is;
+      shape = ap end_shape is;
     }

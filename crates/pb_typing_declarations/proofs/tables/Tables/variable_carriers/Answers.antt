@@ -8,6 +8,8 @@ use Rattle.pb_text_meaning.specs.Erase.{erase, erased_variables}
 use Rattle.pb_text_meaning.specs.Formula.{carriers_of}
 use Rattle.pb_typing_declarations.specs.declared.entry.Entry.{Entry}
 use Rattle.pb_typing_declarations.specs.Faults.{repeated, IsAmong}
+use Rattle.pb_typing_declarations.specs.Entries.{shapes_of}
+use Rattle.pb_typing_declarations.specs.Shapes.{variable_shapes}
 use Rattle.pb_typing_declarations.specs.Variables.{variable_of, variables_of}
 use Rattle.pb_typing_declarations.specs.Declarations.{variable_names, variable_faults, variables_faults}
 use Rattle.pb_typing_declarations.proofs.Parts.{among_left, among_right, no_whole}
@@ -42,6 +44,7 @@ returns c =
     let k = c.loop-variable.variable-index in
     let end : length es ≤ k = omega (arith, c.loop-variable-test.false) in
     let carriers = map values_of c.loop-variable.carriers.items in
+    let shapes = shapes_of c.loop-variable.carriers.items in
     record {
       clear = no_whole (repeated (variable_names (variables_of es))) _
           (ap repeated (sym (names-variables_of es)) ∙ c.in_ok-table.ensures.0)
@@ -49,4 +52,7 @@ returns c =
       values = sym
           (c.loop-variable.invariant.values
           ∙ (ap (λ (xs : List (Entry (Bor Name))). carriers ++ carriers_of S (erased_variables (variables_of xs))) (finished es k end) ∙ append-nil carriers));
+      shapes = sym
+          (c.loop-variable.invariant.shapes
+          ∙ (ap (λ (xs : List (Entry (Bor Name))). shapes ++ variable_shapes S (erased_variables (variables_of xs))) (finished es k end) ∙ append-nil shapes));
     }
