@@ -1,0 +1,5 @@
+mod Tokens
+mod Meets
+mod Keeps
+mod Texts
+mod Modules
