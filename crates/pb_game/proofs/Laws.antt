@@ -51,6 +51,7 @@ is_game g = record {
   small = g.well_formed.small;
   owners = g.well_formed.player;
   greatest = λ v h. greatest_of-upper g.priorities.items v (omega (arith, g.well_formed.priority));
+  few_priorities = omega (arith, g.well_formed.maximum, g.well_formed.few);
   successor = first_successor g;
   closed = successors_closed g;
   rising = λ v h. g.well_formed.rows.rising v h;

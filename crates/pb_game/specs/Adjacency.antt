@@ -31,12 +31,13 @@ abbrev pub greatest_of : List ℕ → ℕ
 greatest_of [] = 0
 greatest_of (x ∷ xs) = max x (greatest_of xs)
 
--- a parity game of at most 2 ^ 24 vertices, each of which has a successor, with the predecessors of each vertex
+-- a parity game of at most 2 ^ 24 vertices and 256 priorities, each vertex with a successor, and with its predecessors
 pub record IsFlatGame (owners priorities : List ℕ) (greatest : ℕ) (places successors predecessor_places predecessors : List ℕ) : Type 0 where
   pub small : length owners ≤ 2 ^ 24
   pub player : (v : ℕ) → v < length owners → slice_index owners v < 2
   pub priority : length priorities ≡ length owners
   pub maximum : greatest ≡ greatest_of priorities
+  pub few : greatest < 256
   pub rows : IsRows (length owners) places successors
   pub total : (v : ℕ) → v < length owners → slice_index places v < slice_index places (v + 1)
   pub reverse_rows : IsRows (length owners) predecessor_places predecessors

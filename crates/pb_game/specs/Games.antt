@@ -41,6 +41,7 @@ pub record IsGame (g : Game) : Type 0 where
   pub small : vertex_count g ≤ 2 ^ 24
   pub owners : (v : ℕ) → v < vertex_count g → owner_of g v < 2
   pub greatest : (v : ℕ) → v < vertex_count g → priority_of g v ≤ greatest_priority g
+  pub few_priorities : priority_count g ≤ 256
   pub successor : (v : ℕ) → v < vertex_count g → (u : ℕ) × HasEdge g v u
   pub closed : (v u : ℕ) → v < vertex_count g → HasEdge g v u → u < vertex_count g
   pub rising : (v : ℕ) → v < vertex_count g → IsStrictlyIncreasing (successors_of g v)

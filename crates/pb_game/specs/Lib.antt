@@ -2,3 +2,4 @@ pub mod Adjacency
 pub mod Games
 pub mod Parts
 pub mod Transpose
+pub mod ErrorNumber

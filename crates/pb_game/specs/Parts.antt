@@ -4,7 +4,7 @@ use Rattle.std.specs.List.Sorted.{IsStrictlyIncreasing}
 use Rattle.pb_game.specs.declared.Game.{Game}
 use Rattle.pb_game.specs.declared.parts.Parts.{Parts}
 use Rattle.pb_game.specs.declared.parts.GameError.{GameError}
-use Rattle.pb_game.specs.declared.parts.GameError.TheVariants.{Memory, TooManyVertices, Owners, Priorities, Places, Successors}
+use Rattle.pb_game.specs.declared.parts.GameError.TheVariants.{Memory, TooManyVertices, Owners, Priorities, Places, Successors, TooManyPriorities}
 use Rattle.pb_game.specs.Adjacency.{row}
 use Rattle.pb_game.specs.Games.{vertex_count, owner_of, priority_of, successors_of}
 
@@ -32,6 +32,10 @@ pub record HasSuccessors (p : Parts) : Type 0 where
   pub closed : All (λ u. u < length p.owners.items) p.successors.items
   pub rising : (v : ℕ) → v < length p.owners.items → IsStrictlyIncreasing (row p.places.items p.successors.items v)
 
+-- each priority is one of the 256 from 0 on
+abbrev pub HasFewPriorities : Parts → Type 0
+HasFewPriorities p = All (λ priority. priority < 256) p.priorities.items
+
 -- parts that make a game
 pub record AreGame (p : Parts) : Type 0 where
   pub few : HasFewVertices p
@@ -39,8 +43,9 @@ pub record AreGame (p : Parts) : Type 0 where
   pub priorities : HasPriorities p
   pub places : HasPlaces p
   pub successors : HasSuccessors p
+  pub few_priorities : HasFewPriorities p
 
--- the first of the five that fails, in this order
+-- the first of the six that fails, in this order
 abbrev pub Refuses : Parts → GameError → Type 0
 Refuses p (Memory _) = ⊤
 Refuses p TooManyVertices = ¬ HasFewVertices p
@@ -48,6 +53,8 @@ Refuses p Owners = HasFewVertices p × ¬ HasOwners p
 Refuses p Priorities = HasFewVertices p × HasOwners p × ¬ HasPriorities p
 Refuses p Places = HasFewVertices p × HasOwners p × HasPriorities p × ¬ HasPlaces p
 Refuses p Successors = HasFewVertices p × HasOwners p × HasPriorities p × HasPlaces p × ¬ HasSuccessors p
+Refuses p TooManyPriorities =
+    HasFewVertices p × HasOwners p × HasPriorities p × HasPlaces p × HasSuccessors p × ¬ HasFewPriorities p
 
 -- the game has the parts' vertices
 pub record IsGameOf (p : Parts) (g : Game) : Type 0 where

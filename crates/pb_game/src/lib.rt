@@ -6,7 +6,7 @@
 //! vertex its predecessors, which attractors are computed by.
 #![tactic(auto)]
 
-ghost use Rattle.std.specs.Prelude.{◌≡◌, ℕ, ◌<◌, ◌≤◌, length, slice_index, IfOk, IfErr, IsTrue, ◌↔◌};
+ghost use Rattle.std.specs.Prelude.{◌≡◌, ℕ, ◌<◌, ◌≤◌, length, slice_index, IfOk, IfErr, IsTrue, Contains, ◌↔◌};
 ghost use Rattle.pb_game.specs.Adjacency.{IsFlatGame};
 
 mod adjacency;
@@ -18,7 +18,7 @@ pub use parts::{GameError, Parts};
 use predecessors::{Predecessors, transpose};
 use std::alloc::Global;
 
-/// A parity game of at most 2^24 vertices, which are the numbers below [`Game::len`].
+/// A parity game of at most 2^24 vertices, which are the numbers below [`Game::len`], and 256 priorities.
 #[derive(Drop)]
 pub struct Game {
     owners: Vec<u8>,
@@ -32,11 +32,14 @@ pub struct Game {
 }
 
 impl Game {
-    ghost use Rattle.pb_game.specs.Games.{vertex_count, owner_of, priority_of, greatest_priority, successors_of, predecessors_of, IsGame};
+    ghost use Rattle.pb_game.specs.Games.{vertex_count, owner_of, priority_of, greatest_priority, successors_of, predecessors_of, HasEdge, IsGame};
     ghost use Rattle.pb_game.specs.Parts.{IsGameOf, Refuses};
 
     /// The greatest number of vertices, 2^24.
     pub const LIMIT: usize = 16777216;
+
+    /// The greatest number of priorities, 256: each is below.
+    pub const PRIORITY_LIMIT: u32 = 256;
 
     /// The game of these parts.
     ///
@@ -121,11 +124,12 @@ impl Game {
         row_of(&self.places, &self.successors, v as usize)
     }
 
-    /// The predecessors of `v`, rising.
+    /// The predecessors of `v`, rising: exactly the vertices that have `v` among their successors.
     #[tactic(auto, unfolding(crate::specs::Games::vertex_count, crate::specs::Games::predecessors_of))]
     pub fn predecessors(&self, v: u32) -> &[u32]
         requires { v < vertex_count self.now }
         ensures list { result.now ≡ predecessors_of self.now v }
+        ensures exact { (u : ℕ) → u < vertex_count self.now → Contains result.now u ↔ HasEdge self.now u v }
         ensures closed { (k : ℕ) → k < length result.now → slice_index result.now k < vertex_count self.now }
     {
         row_of(&self.predecessor_places, &self.predecessors, v as usize)

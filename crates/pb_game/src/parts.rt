@@ -7,7 +7,7 @@ ghost use Rattle.pb_game.specs.declared.parts.GameError.TheVariants.{Memory};
 
 use crate::adjacency::row_of;
 use std::alloc::AllocError;
-use thiserror::Error;
+use std::fmt;
 
 /// The parts of a game, by vertex: owners (0 or 1), priorities, and where a vertex's successors begin in the
 /// list of all successors. Behind the last place stands the number of all successors.
@@ -19,28 +19,57 @@ pub struct Parts {
     pub successors: Vec<u32>,
 }
 
-/// Why parts make no game.
-#[derive(Debug, Drop, Error)]
+/// Why parts make no game. Each error shows as its number.
+#[derive(Debug, Drop)]
 pub enum GameError {
-    #[error("no memory")]
+    /// M01: memory was refused.
     Memory(AllocError),
-    /// More than 2^24 vertices.
-    #[error("G01: too many vertices")]
+    /// G01: more than 2^24 vertices.
     TooManyVertices,
-    /// An owner is neither 0 nor 1.
-    #[error("an owner is no player")]
+    /// G02: an owner is neither 0 nor 1.
     Owners,
-    /// The vertices and the priorities differ in number.
-    #[error("not one priority for each vertex")]
+    /// G03: the vertices and the priorities differ in number.
     Priorities,
-    /// The places are not one more than the vertices, don't begin at 0, don't rise from vertex to vertex (each
+    /// G04: the places are not one more than the vertices, don't begin at 0, don't rise from vertex to vertex (each
     /// vertex has a successor), or don't end behind the last successor.
-    #[error("the places don't divide the successors")]
     Places,
-    /// A successor is no vertex, or the successors of a vertex don't rise.
-    #[error("the successors of a vertex aren't rising vertices")]
+    /// G05: a successor is no vertex, or the successors of a vertex don't rise.
     Successors,
+    /// G06: a priority is 256 or more.
+    TooManyPriorities,
 }
+
+impl GameError {
+    ghost use Rattle.pb_game.specs.ErrorNumber.{error_number};
+
+    /// The error's number, as `G01`.
+    pub fn number(&self) -> &'static str
+        ensures { result.now ≡ error_number self.now }
+    {
+        match self {
+            GameError::Memory(_) => "M01",
+            GameError::TooManyVertices => "G01",
+            GameError::Owners => "G02",
+            GameError::Priorities => "G03",
+            GameError::Places => "G04",
+            GameError::Successors => "G05",
+            GameError::TooManyPriorities => "G06",
+        }
+    }
+}
+
+impl fmt::Display for GameError {
+    ghost use Rattle.std.specs.Prelude.{Some};
+    ghost use Rattle.pb_game.specs.ErrorNumber.{error_number};
+
+    ghost output = { λ error. Some (error_number error) };
+
+    fn fmt<W: fmt::Write>(&self, f: &mut fmt::Formatter<W>) -> fmt::Result {
+        f.write_str(self.number())
+    }
+}
+
+impl std::error::Error for GameError {}
 
 impl From<AllocError> for GameError {
     ghost from_gives = { λ error made. made ≡ Memory error };
@@ -72,6 +101,13 @@ impl Parts {
         }
         if !self.has_successors() {
             return Err(GameError::Successors);
+        }
+        if !self
+            .priorities
+            .iter()
+            .all(|&priority| priority < crate::Game::PRIORITY_LIMIT)
+        {
+            return Err(GameError::TooManyPriorities);
         }
         Ok(())
     }

@@ -1,3 +1,4 @@
 pub mod Solutions
 pub mod Certificates
 pub mod Flaws
+pub mod FlawText

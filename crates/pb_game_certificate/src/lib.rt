@@ -38,19 +38,35 @@ pub enum CertificateRule {
     NoDecrease,
 }
 
-impl fmt::Display for CertificateRule {
-    fn fmt<W: fmt::Write>(&self, f: &mut fmt::Formatter<W>) -> fmt::Result {
-        f.write_str(match self {
+impl CertificateRule {
+    ghost use Rattle.pb_game_certificate.specs.FlawText.{rule_number};
+
+    /// The rule's number, as `K01`.
+    pub fn number(self) -> &'static str
+        ensures { result.now ≡ rule_number self }
+    {
+        match self {
             CertificateRule::Length => "K05",
             CertificateRule::NoSuccessor => "K01",
             CertificateRule::LeavesRegion => "K02",
             CertificateRule::Increases => "K03",
             CertificateRule::NoDecrease => "K04",
-        })
+        }
     }
 }
 
-/// The least vertex at which a rule fails, and the first such rule.
+impl fmt::Display for CertificateRule {
+    ghost use Rattle.std.specs.Prelude.{Some};
+    ghost use Rattle.pb_game_certificate.specs.FlawText.{rule_number};
+
+    ghost output = { λ rule. Some (rule_number rule) };
+
+    fn fmt<W: fmt::Write>(&self, f: &mut fmt::Formatter<W>) -> fmt::Result {
+        f.write_str(self.number())
+    }
+}
+
+/// The least vertex at which a rule fails, and the first such rule. It shows as `K04 vertex 2`.
 #[derive(Clone, Copy, PartialEq, Eq, Debug)]
 pub struct Flaw {
     pub vertex: u32,
@@ -58,8 +74,13 @@ pub struct Flaw {
 }
 
 impl fmt::Display for Flaw {
+    ghost use Rattle.std.specs.Prelude.{Some};
+    ghost use Rattle.pb_game_certificate.specs.FlawText.{flaw_text};
+
+    ghost output = { λ flaw. Some (flaw_text flaw) };
+
     fn fmt<W: fmt::Write>(&self, f: &mut fmt::Formatter<W>) -> fmt::Result {
-        write!(f, "{} at vertex {}", self.rule, self.vertex)
+        write!(f, "{} vertex {}", self.rule, self.vertex)
     }
 }
 

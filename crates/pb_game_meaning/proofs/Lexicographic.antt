@@ -9,7 +9,7 @@ IsLess (x ∷ xs) (y ∷ ys) = (x < y) ⊎ ((x ≡ y) × IsLess xs ys)
 abbrev pub IsAtMost : List ℕ → List ℕ → Type 0
 IsAtMost xs ys = IsLess xs ys ⊎ (xs ≡ ys)
 
-less-trans : (xs ys zs : List ℕ) → IsLess xs ys → IsLess ys zs → IsLess xs zs
+pub less-trans : (xs ys zs : List ℕ) → IsLess xs ys → IsLess ys zs → IsLess xs zs
 less-trans [] ys zs h k = absurd h
 less-trans (x ∷ xs) [] zs h k = absurd h
 less-trans (x ∷ xs) (y ∷ ys) [] h k = absurd k

@@ -1,12 +1,12 @@
-mod Players
-mod Lexicographic
-mod Priorities
+pub mod Players
+pub mod Lexicographic
+pub mod Priorities
 mod Assigned
-mod Arena
-mod Standing
-mod Counts
-mod Local
-mod Certified
+pub mod Arena
+pub mod Standing
+pub mod Counts
+pub mod Local
+pub mod Certified
 mod Tested
 pub mod Winners
 mod Listed

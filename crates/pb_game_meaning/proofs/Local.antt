@@ -1,5 +1,5 @@
 -- The truth of a bracket from that of what its kept edges lead to.
-use Rattle.std.proofs.Common.{◌≡◌, ℕ, suc, ◌+◌, Bool, true, false, not, List, Some, refl, sym, ap, ◌∙◌, subst, inl, inr}
+use Rattle.std.proofs.Common.{◌≡◌, ℕ, suc, ◌+◌, ◌<◌, ◌≤◌, Bool, true, false, not, List, Some, refl, sym, ap, ◌∙◌, subst, inl, inr, arith}
 use Rattle.std.specs.Prelude.{Contains, slice_get}
 use Rattle.pb_fixpoint.specs.Solution.{Environment}
 use Rattle.pb_trees.specs.Tree.{Connective, Conjunction, Disjunction, Leaf, Yes, No, Cut, Call, Operands, End, LeafThen, BracketThen, LeafCalls, OperandsCall, of_none, leaf_truth, operands_truth}
@@ -15,13 +15,13 @@ pub record KeptEdge (vertices : List Vertex) (winner choice : ℕ → ℕ) (v w 
   pub edge : Contains vertex.successors w
   pub chosen : vertex.owner ≡ winner v → choice v ≡ w
 
--- S has vertices that the player who wants b wins, closed under kept edges from priority 0; where it has an instance's
--- vertex, t has b
+-- S has vertices that the player who wants b wins, closed under kept edges from inner vertices, which the brackets inside
+-- trees are; where it has an instance's vertex, t has b
 module _ (b : Bool) (vertices : List Vertex) (winner choice : ℕ → ℕ)
     (chosen : (v : ℕ) (x : Vertex) → slice_get vertices v ≡ Some x → x.owner ≡ winner v → Contains x.successors (choice v))
-    (at : ℕ → ℕ) (Reached : ℕ → Type 0) (S : ℕ → Type 0) (t : Environment ℕ)
+    (at : ℕ → ℕ) (Reached : ℕ → Type 0) (IsInner : ℕ → Type 0) (S : ℕ → Type 0) (t : Environment ℕ)
     (won : (v : ℕ) → S v → winner v ≡ player b)
-    (closed : (v w : ℕ) (x : Vertex) → S v → slice_get vertices v ≡ Some x → x.priority ≡ 0 → KeptEdge vertices winner choice v w → S w)
+    (closed : (v w : ℕ) (x : Vertex) → S v → IsInner v → slice_get vertices v ≡ Some x → x.priority ≡ 0 → KeptEdge vertices winner choice v w → S w)
     (calls : (n : ℕ) → Reached n → S (at n) → t n ≡ b)
     (false_sink : S 0 → b ≡ false) (true_sink : S 1 → b ≡ true) where
   pub leaf-value : (l : Leaf) → LeafCalls Reached l → S (target at l) → leaf_truth t l ≡ b
@@ -82,10 +82,14 @@ module _ (b : Bool) (vertices : List Vertex) (winner choice : ℕ → ℕ)
           subst (λ j. operands_truth t j f ≡ b) (sym theirs)
           (others f (suc v) values (subst (λ j. (w : ℕ) → Among (bracket_successors at j f (suc v)) w → S w) theirs all))
 
-  pub values : (f : Operands) (n : ℕ) → OperandsCall Reached f → StandAt vertices n (inner_vertices at f n) → Values f n
-  values End n h stand = record { one = λ w among s. absurd among; all = λ _. of_none-choosing (not b) ∙ not_not b }
-  values (LeafThen l after) n h stand =
-      let later : Values after n = values after n h.1 stand in
+  -- the vertices of f's brackets are inner ones
+  abbrev pub AreInner : Operands → ℕ → Type 0
+  AreInner f n = (k : ℕ) → n ≤ k → k < n + brackets f → IsInner k
+
+  pub values : (f : Operands) (n : ℕ) → OperandsCall Reached f → AreInner f n → StandAt vertices n (inner_vertices at f n) → Values f n
+  values End n h inner stand = record { one = λ w among s. absurd among; all = λ _. of_none-choosing (not b) ∙ not_not b }
+  values (LeafThen l after) n h inner stand =
+      let later : Values after n = values after n h.1 inner stand in
       record {
         one = λ w among s. elim among [
           | inl e ↦ joined_left b (leaf_truth t l) (operands_truth t (choosing b) after) (leaf-value l h.0 (subst S (sym e) s))
@@ -93,12 +97,12 @@ module _ (b : Bool) (vertices : List Vertex) (winner choice : ℕ → ℕ)
         ];
         all = λ s. joined_both b (leaf_truth t l) (operands_truth t (choosing (not b)) after) (leaf-value l h.0 (s (target at l) (inl refl))) (later.all (λ w among. s w (inr among)));
       }
-  values (BracketThen c inside after) n h stand =
+  values (BracketThen c inside after) n h inner stand =
       let st : BracketStands vertices at c inside after n = bracket_stands vertices at c inside after n stand in
-      let in_it : Values inside (suc n) = values inside (suc n) h.0 st.within in
-      let later : Values after (suc (n + brackets inside)) = values after (suc (n + brackets inside)) h.1 st.behind in
+      let in_it : Values inside (suc n) = values inside (suc n) h.0 (λ k l m. inner k (omega arith) (omega arith)) st.within in
+      let later : Values after (suc (n + brackets inside)) = values after (suc (n + brackets inside)) h.1 (λ k l m. inner k (omega arith) (omega arith)) st.behind in
       let value : S n → operands_truth t c inside ≡ b = λ s.
-      bracket-value c inside n 0 in_it st.vertex (won n s) (λ w kept. closed n w (bracket_vertex at 0 c inside (suc n)) s st.vertex refl kept) in
+      bracket-value c inside n 0 in_it st.vertex (won n s) (λ w kept. closed n w (bracket_vertex at 0 c inside (suc n)) s (inner n (omega arith) (omega arith)) st.vertex refl kept) in
       record {
         one = λ w among s. elim among [
           | inl e ↦ joined_left b (operands_truth t c inside) (operands_truth t (choosing b) after) (value (subst S (sym e) s))

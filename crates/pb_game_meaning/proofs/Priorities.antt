@@ -23,7 +23,7 @@ parity_before Mu Nu p h = odd_after p h
 parity_before Nu Mu p h = even_after p h
 parity_before Nu Nu p h = h
 
-first_parity : (s : Signature) (signatures : List Signature) → first_priority (s ∷ signatures) % 2 ≡ player (begins s.sign)
+pub first_parity : (s : Signature) (signatures : List Signature) → first_priority (s ∷ signatures) % 2 ≡ player (begins s.sign)
 first_parity s [] = parity_last s.sign
 first_parity s (u ∷ signatures) = parity_before s.sign u.sign (first_priority (u ∷ signatures)) (first_parity u signatures)
 

@@ -23,10 +23,10 @@ within (y ∷ ys) zero x h = omega arith
 within (y ∷ ys) (suc k) x h = let below = within ys k x h in omega arith
 
 module _ (g : Game) (s : Solution) (vertices : List Vertex) (has : HasVertices g vertices) (is : IsCertificate g s) where
-  at_vertex : (v : ℕ) (x : Vertex) → slice_get vertices v ≡ Some x → IsCertifiedAt g s v
+  pub at_vertex : (v : ℕ) (x : Vertex) → slice_get vertices v ≡ Some x → IsCertifiedAt g s v
   at_vertex v x h = is.vertices v (let below = within vertices v x h in let count = has.count in omega arith)
 
-  kept_there : (v w : ℕ) → (k : KeptEdge vertices (winner_of s) (choice_of s) v w) → IsKept g s v w
+  pub kept_there : (v w : ℕ) → (k : KeptEdge vertices (winner_of s) (choice_of s) v w) → IsKept g s v w
   kept_there v w k =
       let there = has.each v k.vertex k.stands in
       record {
@@ -34,7 +34,7 @@ module _ (g : Game) (s : Solution) (vertices : List Vertex) (has : HasVertices g
         choice = λ own. k.chosen (sym there.owner ∙ own);
       }
 
-  certified : IsCertified vertices (winner_of s) (choice_of s) (count_of g s) (priority_count g)
+  pub certified : IsCertified vertices (winner_of s) (choice_of s) (count_of g s) (priority_count g)
   certified = record {
     chosen = λ v x h own.
         let there = has.each v x h in
@@ -46,7 +46,7 @@ module _ (g : Game) (s : Solution) (vertices : List Vertex) (has : HasVertices g
   }
 
 -- a winner's number is that of the player whom the test names
-winner_is : (s : Solution) (v : ℕ) → winner_of s v ≡ player (winner_of s v == 0)
+pub winner_is : (s : Solution) (v : ℕ) → winner_of s v ≡ player (winner_of s v == 0)
 unfolding winner_of
 winner_is s v = elim (cases_Bool (slice_index s.winner.items v == 0)) [
   | inl yes' ↦ rw yes' refl

@@ -1,7 +1,14 @@
 -- A round over the predecessors of the last frontier takes in what one over all vertices does.
 use Rattle.std.proofs.Common.{◌≡◌, ◌≢◌, ℕ, zero, suc, ◌+◌, ◌-◌, ◌<◌, ◌⊎◌, inl, inr, arith, refl, sym, ap, ◌∙◌, subst, Bool, true, false, List, [], ◌∷◌, ◌++◌, length, get_or, replicate, map}
 use Rattle.std.specs.Prelude.{Result, Ok, Err, OnOk}
+use Rattle.std.specs.Prelude.{◌==◌, IsSorted}
 use Rattle.std.specs.Bool.{OnFalse}
+use Rattle.std.specs.Ordering.{nat_cmp}
+use Rattle.std.specs.List.{AllByRecursion, IsDistinct}
+use Rattle.std.specs.List.Sorted.{IsStrictlyIncreasing}
+use Rattle.std.proofs.lemmas.Bool.Decides.{nat_tests}
+use Rattle.std.proofs.lemmas.List.Sorted.{IsNonDecreasingBy-from_sort}
+use Rattle.std.proofs.lemmas.Map.Keys.{IsDistinct-IsPermutation, IsStrictlyIncreasing-from_distinct}
 use Rattle.std.specs.List.{AllZip}
 use Rattle.std.specs.List.Sorted.{IsPermutation}
 use Rattle.std.proofs.lemmas.List.Sorted.{IsPermutation-sym, Contains-permutation}
@@ -105,6 +112,62 @@ frontier_push old new next v last free wr f = record {
         })
   ];
 }
+
+-- one element more, which is none of the others
+all_push : (P : ℕ → Type 0) (xs : List ℕ) (v : ℕ) → AllByRecursion P xs → P v → AllByRecursion P (xs ++ v ∷ [])
+all_push P [] v all p = (p, tt)
+all_push P (x ∷ xs) v all p = (all.0, all_push P xs v all.1 p)
+
+distinct_push : (xs : List ℕ) (v : ℕ) → IsDistinct (λ x y. x == y) xs → ((k : ℕ) → k < length xs → get_or xs k 0 ≢ v) →
+    IsDistinct (λ x y. x == y) (xs ++ v ∷ [])
+unfolding IsDistinct
+distinct_push [] v apart new = (tt, tt)
+distinct_push (x ∷ xs) v apart new =
+    let other : (x == v) ≡ false = let ne = new 0 (omega arith) in grind (arith, nat_tests, ne) in (
+      all_push (λ y. (x == y) ≡ false) xs v apart.0 other,
+      distinct_push xs v apart.1 (λ k h. new (suc k) (omega arith)),
+    )
+
+-- a round that has taken in nothing yet
+pub search_start : (g : Game) (region : List Bool) (player : ℕ) (a : Attractor) (passed next : List ℕ) → next ≡ [] →
+    IsForcing g region player a.rank.items a.choice.items a.rounds → ArePassed g region player a.rank.items a.rounds passed →
+    IsSearch g region player a passed next
+unfolding IsDistinct
+search_start g region player a passed next none forcing known = record {
+  forcing = record {
+    ranks = forcing.ranks;
+    choices = forcing.choices;
+    within = forcing.within;
+    bounded = λ v. omega (arith, forcing.bounded v);
+    own_edge = forcing.own_edge;
+    own = forcing.own;
+    other = forcing.other;
+  };
+  known = known;
+  frontier = record {
+    ranked = λ k h. absurd (omega (arith, ap length none, h));
+    all = λ v h. absurd (omega (arith, h, forcing.bounded v));
+  };
+  once = rw none tt;
+}
+
+-- what a round takes in has no rank yet, so that its list doesn't have it
+pub once_push : (old next : List ℕ) (v last : ℕ) → get_or old v 0 ≡ 0 → IsFrontier old (last + 1) next → IsDistinct (λ x y. x == y) next →
+    IsDistinct (λ x y. x == y) (next ++ v ∷ [])
+once_push old next v last free f apart = distinct_push next v apart (λ k h e.
+    (let ranked : get_or old (get_or next k 0) 0 ≡ last + 1 = f.ranked k h in
+    let z : get_or old (get_or next k 0) 0 ≡ 0 = subst (λ (x : ℕ). get_or old x 0 ≡ 0) (sym e) free in
+    omega arith))
+
+same_flips : (x y : ℕ) → (x == y) ≡ (y == x)
+same_flips x y = elim (cases_eq x y) [
+  | inl e ↦ rw e refl
+  | inr ne ↦ let a : (x == y) ≡ false = grind (arith, nat_tests) in let b : (y == x) ≡ false = grind (arith, nat_tests) in a ∙ sym b
+]
+
+-- a sorted list without repetition rises
+pub rises : (xs : List ℕ) → IsSorted nat_cmp xs → IsDistinct (λ x y. x == y) xs → IsStrictlyIncreasing xs
+rises xs sorted apart = IsStrictlyIncreasing-from_distinct xs (IsNonDecreasingBy-from_sort (λ n. n) xs sorted) apart
 
 later : (rank ys : List ℕ) (last y : ℕ) → ((k : ℕ) → k < length ys → get_or rank (get_or ys k 0) 0 ≢ last) → get_or rank y 0 ≢ last →
     (k : ℕ) → k < length (y ∷ ys) → get_or rank (get_or (y ∷ ys) k 0) 0 ≢ last
@@ -310,4 +373,5 @@ search_permuted g region player a passed next next' s p = record {
         subst (λ (x : ℕ). get_or a.rank.items x 0 ≡ a.rounds + 1) back.1.there (s.frontier.ranked back.0 back.1.within);
     all = λ v h. Contains-permutation next next' v p (s.frontier.all v h);
   };
+  once = IsDistinct-IsPermutation (λ v u. v == u) same_flips next next' p s.once;
 }

@@ -1,5 +1,6 @@
 -- Rounds of an attractor over the predecessors of the last frontier.
-use Rattle.std.specs.Prelude.{◌≡◌, ◌≢◌, ℕ, ◌+◌, ◌<◌, Bool, List, length, slice_index, Contains}
+use Rattle.std.specs.Prelude.{◌≡◌, ◌≢◌, ℕ, ◌+◌, ◌<◌, Bool, List, length, slice_index, Contains, ◌==◌}
+use Rattle.std.specs.List.{IsDistinct}
 use Rattle.pb_game.specs.declared.Game.{Game}
 use Rattle.pb_game.specs.Games.{vertex_count, owner_of, successors_of, HasEdge}
 use Rattle.pb_zielonka.specs.declared.attractor.Attractor.{Attractor}
@@ -42,6 +43,7 @@ pub record IsSearch (g : Game) (region : List Bool) (player : ℕ) (a : Attracto
   pub forcing : IsForcing g region player a.rank.items a.choice.items (a.rounds + 1)
   pub known : ArePassed g region player a.rank.items a.rounds passed
   pub frontier : IsFrontier a.rank.items (a.rounds + 1) next
+  pub once : IsDistinct (λ v u. v == u) next
 
 -- a vertex that the next round takes in: the player moves to what was taken in, or each move of the opponent leads there
 pub record IsTakenBy (g : Game) (region : List Bool) (player : ℕ) (rank : List ℕ) (last v choice : ℕ) : Type 0 where

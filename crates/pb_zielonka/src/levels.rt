@@ -21,8 +21,8 @@ use std::thread::Threads;
 /// The player of the greatest priority attracts its vertices, and the rest is solved. Where the opponent wins a
 /// part of the rest, it wins what it attracts from the whole, and the level goes on with what is left; else the
 /// player wins all that is left. The second recursive call of the algorithm is this loop, so that the depth of
-/// each call, counted from 1, is at most one more than the number of priorities. While a recursive call runs, the
-/// level's regions are packed.
+/// each call, counted from 1, is at most one more than the number of priorities, which are at most 256. While a
+/// recursive call runs, the level's regions are packed.
 pub(crate) fn solve_below(
     rt: &(impl Threads + Sync),
     alloc: Global,
@@ -34,7 +34,7 @@ pub(crate) fn solve_below(
 ) -> Result<(), AllocError>
     requires lengths { HasLengths game.now solution.old }
     requires region { IsSubgame game.now region.now }
-    requires small { priority_count game.now ≤ 4294967296 }
+    requires small { priority_count game.now ≤ 256 }
     requires limit { limit ≤ priority_count game.now }
     requires priorities { (v : ℕ) → IsIn region.now v → priority_of game.now v < limit }
     requires depth { depth + limit ≤ priority_count game.now + 1 }

@@ -6,6 +6,7 @@
 ghost use Rattle.std.specs.Prelude.{◌≡◌, ◌≢◌, ℕ, ◌+◌, ◌^◌, ◌<◌, ◌≤◌, length, slice_index, slice_index_or, true, false, OnOk, IfOk, []};
 ghost use Rattle.std.specs.Bool.{OnFalse};
 ghost use Rattle.std.specs.Prelude.{IsPermutation, IsSorted};
+ghost use Rattle.std.specs.List.Sorted.{IsStrictlyIncreasing};
 ghost use Rattle.std.specs.Ordering.{nat_cmp};
 ghost use Rattle.pb_game.specs.Games.{vertex_count, owner_of, successors_of, HasEdge};
 ghost use Rattle.pb_zielonka.specs.Regions.{IsIn};
@@ -300,7 +301,8 @@ fn arrange(vertices: &mut Vec<u32>)
     }
 }
 
-/// The round after the rounds so far: it takes in what a look at all vertices would, and lists it by rising number.
+/// The round after the rounds so far: it takes in what a look at all vertices would, and lists it by rising number,
+/// each vertex once.
 pub(crate) fn take_round(
     rt: &(impl Threads + Sync),
     alloc: Global,
@@ -323,7 +325,7 @@ pub(crate) fn take_round(
     ensures round { OnOk result (IsRound game.now region.now player attractor.old attractor.new) }
     ensures grows { OnOk result (Grows attractor.old.rank.items attractor.new.rank.items attractor.old.rounds) }
     ensures search { OnOk result (IsSearch game.now region.now player attractor.new passed.new next.new.items) }
-    ensures rising { OnOk result (IsSorted nat_cmp next.new.items) }
+    ensures rising { OnOk result (IsStrictlyIncreasing next.new.items) }
 {
     look(
         rt, alloc, game, region, player, attractor, passed, frontier, next,

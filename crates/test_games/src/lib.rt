@@ -3,6 +3,8 @@
 #![tactic(auto)]
 
 #[cfg(test)]
+mod deep_recursion;
+#[cfg(test)]
 mod measures;
 #[cfg(test)]
 mod tests;

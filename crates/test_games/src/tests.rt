@@ -168,7 +168,7 @@ fn equal_counts_are_a_flaw(rt: HostRuntime) -> Result<(), Fail> {
     };
     assert_eq!(rt; check(&game, &solution).err(), Some(flaw));
     let text = format!(in alloc; "{flaw}")?;
-    assert_eq!(rt; text.as_str(), "K04 at vertex 2");
+    assert_eq!(rt; text.as_str(), "K04 vertex 2");
     Ok(())
 }
 
@@ -242,7 +242,7 @@ fn predecessors_rise(rt: HostRuntime) -> Result<(), Fail> {
 #[test]
 fn chains(rt: HostRuntime) -> Result<(), Fail> {
     let alloc = rt.alloc();
-    for length in [10_000u32, 1 << 20] {
+    for length in [10_000u32, 1 << 18] {
         let mut builder = Builder::with_sinks(alloc)?;
         for v in 2..length.wrapping_add(2) {
             builder.push(0, 1, &[v - 1])?;

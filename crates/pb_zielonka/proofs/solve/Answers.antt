@@ -25,3 +25,6 @@ returns bound c =
     whole_certificate c.args.game.now c.in_ok-region.region c.solve_below.new.solution (is_game c.args.game.now) e c.solve_below.ensures.lengths
     (subst (λ (x : ℕ). (v : ℕ) → IsIn c.in_ok-region.region v → IsCertifiedIn c.args.game.now c.in_ok-region.region c.solve_below.new.solution (x + 1) v)
     c.greatest_priority.ensures c.in_ok-solve_below.ensures.certified)
+
+pub solve_below-requires-clause-small : goal.solve_below-requires-clause-small
+solve_below-requires-clause-small bound c _ _ = (is_game c.args.game.now).few_priorities

@@ -1,8 +1,9 @@
-use Rattle.std.proofs.Common.{◌≡◌, ℕ, List, rules, length, refl, subst}
+use Rattle.std.proofs.Common.{◌≡◌, ℕ, List, rules, arith, ◌<◌, length, refl, subst}
 use Rattle.pb_game.specs.Adjacency.{IsRows, IsReverse}
 use Rattle.pb_game.specs.Games.{vertex_count, owner_of, priority_of, successors_of}
 use Rattle.pb_game.specs.Parts.{AreGame}
 use Rattle.pb_game.proofs.Checking.{parts_rows, game_rows, game_total}
+use Rattle.pb_game.proofs.Greatest.{greatest_of-below}
 use Rattle.pb_game.proofs.Laws.{is_game}
 use Rattle.pb_game.proofs.Game.from_parts.Goals as goal
 
@@ -31,6 +32,7 @@ invariant_of-result c =
         player = λ v h. g.owners v 0 h;
         priority = g.priorities;
         maximum = c.greatest-greatest.ensures;
+        few = omega (arith, c.greatest-greatest.ensures, greatest_of-below p.priorities.items 256 (omega arith) (λ k h. g.few_priorities k 0 h));
         rows = parts_rows p g.places g.successors;
         total = game_total p g.places;
         reverse_rows = rows;

@@ -1,6 +1,8 @@
-use Rattle.std.proofs.Common.{List, ℕ, ◌≡◌, ◌<◌, length, get_or, sym, subst, rules}
+use Rattle.std.proofs.Common.{List, ℕ, ◌≡◌, ◌↔◌, ◌<◌, length, get_or, sym, subst, rules}
+use Rattle.std.specs.Prelude.{Contains}
 use Rattle.pb_game.specs.Adjacency.{row}
-use Rattle.pb_game.specs.Games.{vertex_count}
+use Rattle.pb_game.specs.Games.{vertex_count, predecessors_of, HasEdge}
+use Rattle.pb_game.proofs.Laws.{is_game}
 use Rattle.pb_game.proofs.Game.predecessors.Goals as goal
 
 pub returns-clause-closed : goal.returns-clause-closed
@@ -10,3 +12,10 @@ returns-clause-closed c =
     let e : c.row_of.result.now ≡ row g.predecessor_places.items g.predecessors.items c.args.v = search rules in
     subst (λ (xs : List ℕ). (k : ℕ) → k < length xs → get_or xs k 0 < length g.owners.items) (sym e)
     (g.well_formed.reverse_rows.closed c.args.v c.requires)
+
+pub returns-clause-exact : goal.returns-clause-exact
+unfolding vertex_count predecessors_of
+returns-clause-exact c =
+    let g = c.args.self.now in
+    let e : c.row_of.result.now ≡ row g.predecessor_places.items g.predecessors.items c.args.v = search rules in
+    λ u below. subst (λ (xs : List ℕ). Contains xs u ↔ HasEdge g u c.args.v) (sym e) ((is_game g).predecessor u c.args.v below c.requires)

@@ -2,7 +2,7 @@ use Rattle.std.proofs.Common.{◌≡◌, ◌<◌, ◌+◌, length, get_or, arith
 use Rattle.pb_zielonka.specs.Regions.{IsIn}
 use Rattle.pb_zielonka.specs.Rounds.{IsTakenBy}
 use Rattle.pb_zielonka.proofs.Forcing.{grow, written}
-use Rattle.pb_zielonka.proofs.RoundLemmas.{grows_write, known_later, frontier_push}
+use Rattle.pb_zielonka.proofs.RoundLemmas.{grows_write, known_later, frontier_push, once_push}
 use Rattle.pb_zielonka.proofs.rounds.visit.Goals as goal
 
 pub returns-in_ok-push-in-Taken-clause-search : goal.returns-in_ok-push-in-Taken-clause-search
@@ -22,5 +22,6 @@ returns-in_ok-push-in-Taken-clause-search c =
     record {
       forcing = grow g region c.args.player _ _ _ _ a.rounds v c.in-Taken.choice f c.requires.started inside free wr wc t.own_edge t.own t.other;
       known = known_later g region c.args.player _ _ a.rounds c.args.passed.now (grows_write _ _ v a.rounds free wr) c.requires.search.known;
+      once = rw c.in_ok-push-in-Taken.ensures.items (once_push a.rank.items _ v a.rounds free c.requires.search.frontier c.requires.search.once);
       frontier = rw c.in_ok-push-in-Taken.ensures.items (frontier_push _ _ _ v a.rounds free wr c.requires.search.frontier);
     }

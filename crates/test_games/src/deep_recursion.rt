@@ -1,0 +1,60 @@
+//! The depth of the solver's recursion, which is that of a game's priorities: the most that a game can have are solved
+//! within the stack of a thread.
+
+use pb_game::{Game, GameError, Parts};
+use pb_strategy::check;
+use pb_zielonka::solve;
+use std::alloc::Global;
+use std::process::Abort;
+use std::test::Fail;
+use std::thread;
+use std::thread::Threads;
+
+/// So many vertices, each with a priority of its own and an edge to itself.
+fn loops(alloc: Global, priorities: u32) -> Result<Parts, Fail> {
+    let mut parts = Parts {
+        owners: Vec::new(alloc),
+        priorities: Vec::new(alloc),
+        places: vec![in alloc; 0usize]?,
+        successors: Vec::new(alloc),
+    };
+    for v in 0..priorities {
+        parts.owners.push(0)?;
+        parts.priorities.push(v)?;
+        parts.successors.push(v)?;
+        let place = parts.successors.len();
+        parts.places.push(place)?;
+    }
+    Ok(parts)
+}
+
+/// How many vertices of the game player 0 wins, where there was memory to solve it.
+fn count_won<R: Threads + Sync>(rt: &R, alloc: Global, game: &Game) -> Option<u32> {
+    let solution = solve(rt, alloc, game).ok()?;
+    let checked = check(game, &solution).ok()?;
+    let mut won = 0u32;
+    for v in 0..game.len() {
+        won = won.wrapping_add(u32::from(checked.truth(v)));
+    }
+    Some(won)
+}
+
+/// Player 0 wins each vertex of even priority.
+#[test]
+fn all_priorities_within_two_megabytes(rt: HostRuntime) -> Result<(), Fail> {
+    let alloc = rt.alloc();
+    let game = Game::from_parts(alloc, loops(alloc, 256)?)?;
+    let solver = thread::Builder::new()
+        .stack_size(2 << 20)
+        .spawn(&rt, move || count_won(&rt, alloc, &game))?;
+    assert_eq!(rt; solver.join(&rt), Some(128));
+    Ok(())
+}
+
+#[test]
+fn one_priority_more_is_refused(rt: HostRuntime) -> Result<(), Fail> {
+    let alloc = rt.alloc();
+    let refused = Game::from_parts(alloc, loops(alloc, 257)?);
+    assert!(rt; matches!(refused, Err(GameError::TooManyPriorities)));
+    Ok(())
+}
