@@ -1,5 +1,5 @@
 -- What an accepted text has, and the normal forms of its equations, one by one.
-use Rattle.std.proofs.Common.{◌≡◌, ℕ, zero, suc, ◌+◌, ◌<◌, ◌≤◌, true, List, [], ◌∷◌, ◌++◌, map, length, get_or, drop, refl, sym, ◌∙◌, ap, subst, arith, true≢false}
+use Rattle.std.proofs.Common.{◌≡◌, ℕ, zero, suc, ◌+◌, ◌<◌, ◌≤◌, true, List, [], ◌∷◌, ◌++◌, map, length, get_or, drop, refl, sym, ◌∙◌, ap, subst, arith}
 use Rattle.std.specs.List.{All}
 use Rattle.std.proofs.lemmas.List.{append-nil, append_assoc}
 use Rattle.pb_text_tree.specs.declared.spec.Equation.{Equation}
@@ -15,7 +15,7 @@ use Rattle.pb_typing_declarations.specs.Faults.{IsAmong}
 use Rattle.pb_typing_declarations.specs.Shapes.{Shape}
 use Rattle.pb_typing_declarations.specs.WellDeclared.{AreVariables}
 use Rattle.pb_typing_rules.specs.Faults.{faults}
-use Rattle.pb_typing_rules.specs.WellTyped.{AreProper, IsWellTyped, parameters_of}
+use Rattle.pb_typing_rules.specs.WellTyped.{AreProper, parameters_of}
 use Rattle.pb_typing_rules.proofs.Parts.{no_parts}
 use Rattle.pb_typing.specs.Typed.{is_faultless}
 use Rattle.pb_typing.proofs.Links.{links-drop, links-ended}

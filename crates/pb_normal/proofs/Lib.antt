@@ -20,3 +20,9 @@ pub mod Sequences
 mod Answer
 mod Kept
 mod SlotLaws
+pub mod Structs
+mod LoopSlots
+mod Bounds
+mod SmallForms
+mod Calls
+mod InitialPlace

@@ -13,3 +13,10 @@ pub mod Tree
 pub mod Answer
 pub mod Kept
 pub mod SlotOrder
+pub mod Text
+pub mod FormulaSet
+pub mod Structs
+pub mod Bounds
+pub mod Small
+pub mod Calls
+pub mod InitialPlace

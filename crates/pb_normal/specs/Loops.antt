@@ -24,6 +24,10 @@ loops spec (Formula.Call X es) = []
 abbrev pub equation_loops : Spec → Equation → List Shape
 equation_loops spec X = loops spec (expanded X.right)
 
+-- those of each equation
+abbrev pub all_loops : Spec → List (List Shape)
+all_loops spec = map (equation_loops spec) spec.equations
+
 -- each variable is of a sort that has values
 abbrev pub AreShaped : Spec → List Variable → Type 0
 AreShaped spec [] = ⊤

@@ -1,6 +1,7 @@
 -- The slots that the quantifiers of a normal form take, and those that it reads.
-use Rattle.std.specs.Prelude.{◌≡◌, ℕ, ◌==◌, Bool, true, false, ◌&&◌, ◌||◌, List, [], ◌∷◌, ◌++◌}
+use Rattle.std.specs.Prelude.{◌≡◌, ℕ, suc, ◌==◌, Bool, true, false, ◌&&◌, ◌||◌, List, [], ◌∷◌, ◌++◌}
 use Rattle.std.specs.List.{All}
+use Rattle.pb_typing_declarations.specs.Shapes.{Shape}
 use Rattle.pb_normal.specs.Normal.{Term, Number, Slot, Negative, Absolute, Successor, Predecessor, Binary, Maximum, Minimum, Choice, Recognised, Argument, Formula, Test, Join, Each, Call}
 
 -- the slots of quantifiers, in order
@@ -9,6 +10,18 @@ quantified_slots (Test x) = []
 quantified_slots (Join m f g) = quantified_slots f ++ quantified_slots g
 quantified_slots (Each m s shape f) = s ∷ quantified_slots f
 quantified_slots (Call X es) = []
+
+-- those slots, each with the shape of its values
+abbrev pub quantifiers : Formula → List (ℕ × Shape)
+quantifiers (Test x) = []
+quantifiers (Join m f g) = quantifiers f ++ quantifiers g
+quantifiers (Each m s shape f) = (s, shape) ∷ quantifiers f
+quantifiers (Call X es) = []
+
+-- shapes with the slots from n on
+abbrev pub numbered : ℕ → List Shape → List (ℕ × Shape)
+numbered n [] = []
+numbered n (s ∷ ss) = (n, s) ∷ numbered (suc n) ss
 
 -- each slot that a term reads has a value
 abbrev pub reads_only : (ℕ → Bool) → Term → Bool

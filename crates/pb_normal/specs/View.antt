@@ -94,3 +94,7 @@ formula_views = map formula_view
 -- the right sides of equations, in order
 abbrev pub right_views : List declared_equation.Equation → List normal.Formula
 right_views = map (λ (X : declared_equation.Equation). formula_view X.right)
+
+-- the shapes of the slots behind the parameters, equation by equation
+abbrev pub loop_shapes : List declared_equation.Equation → List (List Shape)
+loop_shapes = map (λ (X : declared_equation.Equation). shapes_of X.loops.items)

@@ -6,7 +6,9 @@ mod call;
 mod data;
 pub mod formula;
 mod function;
+mod initial;
 pub mod laws;
+pub mod limits;
 pub mod normal;
 mod operand;
 mod quantifier;
@@ -17,5 +19,6 @@ mod value;
 mod variables;
 
 pub use formula::{Argument, Formula};
+pub use initial::{Initial, initial_instance};
 pub use normal::{Equation, Normal, normalise};
 pub use term::{Enumerator, Link, Term};

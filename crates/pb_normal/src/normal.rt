@@ -1,14 +1,16 @@
 //! The normal form of a text.
 
-ghost use Rattle.std.specs.Prelude.{◌≡◌, map, IfOk};
+ghost use Rattle.std.specs.Prelude.{◌≡◌, IfOk};
 ghost use Rattle.pb_text_tree.specs.Form.{equation_form, spec_form};
-ghost use Rattle.pb_text_meaning.specs.Erase.{erase, erased_equation};
+ghost use Rattle.pb_text_meaning.specs.Erase.{erased_equation};
 ghost use Rattle.pb_text_meaning.specs.Meaning.{answer};
 ghost use Rattle.pb_typing_declarations.specs.View.{spec_of, text_of};
 ghost use Rattle.pb_normal.specs.Answer.{answer_by, normal_equations};
 ghost use Rattle.pb_normal.specs.Equations.{normal_equation};
-ghost use Rattle.pb_normal.specs.Loops.{equation_loops, IsShapedEquation};
-ghost use Rattle.pb_normal.specs.View.{formula_view, right_views, shapes_of};
+ghost use Rattle.pb_normal.specs.FormulaSet.{formulas-prop, shapes-prop};
+ghost use Rattle.pb_normal.specs.Loops.{all_loops, equation_loops, IsShapedEquation};
+ghost use Rattle.pb_normal.specs.Text.{said};
+ghost use Rattle.pb_normal.specs.View.{formula_view, loop_shapes, right_views, shapes_of};
 
 use crate::formula::Formula;
 use crate::operand::normal_formula;
@@ -26,6 +28,10 @@ pub struct Normal<'a> {
     pub typed: &'a Typed,
     /// The equations in the order of the text.
     pub equations: Vec<Equation>,
+    // Each right side is the positive normal form of the text's.
+    pub ghost rights: { right_views equations.items ≡ normal_equations (said typed.now) } by { formulas-prop _ _ },
+    // The slots behind the parameters are those of the quantified variables, in order.
+    pub ghost loops: { loop_shapes equations.items ≡ all_loops (said typed.now) } by { shapes-prop _ _ },
 }
 
 /// The right side of an equation over slots: its parameters have the first slots, and the variables of its quantifiers
@@ -46,11 +52,11 @@ pub fn normalise(alloc: Global, typed: &Typed) -> Result<Normal<'_>, AllocError>
     // It borrows the text.
     ensures text { IfOk result (λ normal. normal.typed.now ≡ typed.now) }
     // Each right side is the positive normal form of the text's.
-    ensures rights { IfOk result (λ normal. right_views normal.equations.items ≡ normal_equations (erase (spec_form typed.now.spec))) }
+    ensures rights { IfOk result (λ normal. right_views normal.equations.items ≡ normal_equations (said typed.now)) }
     // They have the answer of the text.
-    ensures answer { IfOk result (λ normal. answer_by (erase (spec_form typed.now.spec)) (right_views normal.equations.items) ≡ answer (erase (spec_form typed.now.spec))) }
+    ensures answer { IfOk result (λ normal. answer_by (said typed.now) (right_views normal.equations.items) ≡ answer (said typed.now)) }
     // The slots behind the parameters are those of the quantified variables, in order.
-    ensures loops { IfOk result (λ normal. map (λ X. shapes_of X.loops.items) normal.equations.items ≡ map (equation_loops (erase (spec_form typed.now.spec))) (erase (spec_form typed.now.spec)).equations) }
+    ensures loops { IfOk result (λ normal. loop_shapes normal.equations.items ≡ all_loops (said typed.now)) }
 {
     let declarations = read_declarations(alloc, typed)?;
     let mut equations = Vec::new(alloc);
@@ -62,7 +68,10 @@ pub fn normalise(alloc: Global, typed: &Typed) -> Result<Normal<'_>, AllocError>
 }
 
 /// What an accepted text declares.
-fn read_declarations(alloc: Global, typed: &Typed) -> Result<Declarations<'_>, AllocError>
+pub(crate) fn read_declarations(
+    alloc: Global,
+    typed: &Typed,
+) -> Result<Declarations<'_>, AllocError>
     ensures { IfOk result (λ declarations. text_of declarations ≡ spec_form typed.now.spec) }
 {
     match Declarations::read(alloc, &typed.spec) {

@@ -1,6 +1,6 @@
 //! Small right sides, each with its normal form, written out by hand.
 
-use crate::texts::shown;
+use crate::texts::{initial_shown, shown};
 use std::test::Fail;
 
 /// A quantifier in data is one of the formula.
@@ -72,5 +72,19 @@ fn enumerators(rt: HostRuntime) -> Result<(), Fail> {
         "sort D = struct a?is_a | b; pbes nu X(d: D) = val(b == d) || val(is_a(d)); init X(a);";
     let found = shown(alloc, text.as_bytes())?;
     assert_eq!(rt; found.as_str(), NAMES);
+    Ok(())
+}
+
+/// An enumerator is its place, and true is 1.
+#[test]
+fn initial_instances(rt: HostRuntime) -> Result<(), Fail> {
+    let alloc = rt.alloc();
+    let text =
+        "%range Nat 0 3\nsort D = struct a | b; pbes mu Y = false; nu X(n: Nat, d: D, c: Bool) = val(c); init X(1 + 2, b, true);";
+    let found = initial_shown(alloc, text.as_bytes())?;
+    assert_eq!(rt;
+        found.as_str(),
+        "Initial { equation: 1, values: [3, 1, 1] }"
+    );
     Ok(())
 }

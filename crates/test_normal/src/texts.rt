@@ -1,6 +1,6 @@
 //! The normal form of a text, for the tests beside this one.
 
-use pb_normal::normalise;
+use pb_normal::{initial_instance, normalise};
 use std::alloc::Global;
 use std::test::Fail;
 
@@ -19,6 +19,21 @@ pub fn shown(alloc: Global, text: &[u8]) -> Result<String, Fail> {
         if let Some(equation) = normal.equations.first() {
             shown = format!(in alloc; "{:?}", equation)?;
         }
+    }
+    Ok(shown)
+}
+
+/// The instance that a text asks for, as it is shown; of a text that isn't accepted, nothing.
+pub fn initial_shown(alloc: Global, text: &[u8]) -> Result<String, Fail> {
+    let mut shown = String::new(alloc);
+    if text.len() > MAX_LENGTH {
+        return Ok(shown);
+    }
+    let spec = pb_text::parse(alloc, text)?;
+    if let Ok(typed) = pb_typing::check(alloc, spec) {
+        let normal = normalise(alloc, &typed)?;
+        let initial = initial_instance(alloc, &normal)?;
+        shown = format!(in alloc; "{:?}", initial)?;
     }
     Ok(shown)
 }

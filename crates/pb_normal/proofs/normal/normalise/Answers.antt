@@ -6,6 +6,7 @@ use Rattle.pb_text_meaning.specs.Erase.{erase}
 use Rattle.pb_normal.specs.Answer.{answer_by}
 use Rattle.pb_normal.specs.Equations.{normal_equation}
 use Rattle.pb_normal.specs.Loops.{IsShapedEquation, equation_loops}
+use Rattle.pb_normal.specs.Text.{said}
 use Rattle.pb_normal.proofs.Accepted.{erased, all_erased, accepted_shaped, done_begun, done_next, shaped_at, rights_ended, loops_ended}
 use Rattle.pb_normal.proofs.Answer.{normal-answer}
 use Rattle.pb_normal.proofs.Equations.{accepted-well-typed}
@@ -33,19 +34,23 @@ loop-equation-preserved c =
     (c.in_ok-normal.ensures.loops ∙ ap (λ (S : Spec). equation_loops S (erased X)) same)
     c.loop-equation.invariant
 
-pub returns-clause-rights : goal.returns-clause-rights
-returns-clause-rights c =
-    let S = erase (spec_form c.args.typed.now.spec) in
+pub invariant_of-result-clause-rights : goal.invariant_of-result-clause-rights
+invariant_of-result-clause-rights c =
+    let S = said c.args.typed.now in
     rights_ended S c.deref-equation-items.result.now c.loop-equation.equation-index c.loop-equation.equations.items c.loop-equation-test.false c.loop-equation.invariant
     ∙ ap (λ (xs : List Equation). map (normal_equation S) (all_erased xs)) c.deref-equation-items.ensures.value
 
-pub returns-clause-loops : goal.returns-clause-loops
-returns-clause-loops c =
-    let S = erase (spec_form c.args.typed.now.spec) in
+pub invariant_of-result-clause-loops : goal.invariant_of-result-clause-loops
+invariant_of-result-clause-loops c =
+    let S = said c.args.typed.now in
     loops_ended S c.deref-equation-items.result.now c.loop-equation.equation-index c.loop-equation.equations.items c.loop-equation-test.false c.loop-equation.invariant
     ∙ ap (λ (xs : List Equation). map (equation_loops S) (all_erased xs)) c.deref-equation-items.ensures.value
 
 pub returns-clause-answer : goal.returns-clause-answer
 returns-clause-answer c =
     let text = spec_form c.args.typed.now.spec in
-    ap (answer_by (erase text)) (returns-clause-rights c) ∙ normal-answer (erase text) (accepted-well-typed text c.args.typed.now.faultless)
+    let S = erase text in
+    let rights =
+    rights_ended S c.deref-equation-items.result.now c.loop-equation.equation-index c.loop-equation.equations.items c.loop-equation-test.false c.loop-equation.invariant
+    ∙ ap (λ (xs : List Equation). map (normal_equation S) (all_erased xs)) c.deref-equation-items.ensures.value in
+    ap (answer_by S) rights ∙ normal-answer S (accepted-well-typed text c.args.typed.now.faultless)

@@ -1,0 +1,49 @@
+-- The initial instance of a well-typed specification.
+use Rattle.std.proofs.Common.{◌≡◌, ℕ, ◌<◌, Bool, true, cond, [], length, Option, Some, None, sym, ◌∙◌, ap, arith, true≢false}
+use Rattle.std.specs.Prelude.{unwrap_or}
+use Rattle.std.specs.List.{slice_get}
+use Rattle.std.proofs.lemmas.List.Folds.{find_at}
+use Rattle.std.proofs.lemmas.Option.{slice_get_within}
+use Rattle.pb_text_meaning.specs.Syntax.{same_name, Equation, Spec}
+use Rattle.pb_text_meaning.specs.Formula.{equation_named, fits}
+use Rattle.pb_text_meaning.specs.Fits.{AllFit}
+use Rattle.pb_typing_declarations.specs.Agreement.{equation_place}
+use Rattle.pb_typing_rules.specs.WellTyped.{IsWellTyped}
+use Rattle.pb_typing_rules.proofs.Fitting.{spec_fits}
+use Rattle.pb_normal.specs.InitialPlace.{initial_place, initial_values, HasInitial}
+use Rattle.pb_normal.proofs.Bounds.{is-below}
+
+by_equation : (spec : Spec) (o : Option Equation) → slice_get spec.equations (initial_place spec) ≡ o → fits spec o (initial_values spec) ≡ true → HasInitial spec
+by_equation spec None e h = absurd (true≢false (sym h))
+by_equation spec (Some X) e h = record { equation = X; there = e; within = h }
+
+pub initial-there : (spec : Spec) → IsWellTyped spec → HasInitial spec
+initial-there spec h =
+    by_equation spec (equation_named spec.equations spec.initial) (sym (find_at (λ (X : Equation). same_name X.name spec.initial) spec.equations)) h.values
+
+-- its equation is found at its place
+pub initial-found : (spec : Spec) → IsWellTyped spec → equation_place spec spec.initial ≡ Some (initial_place spec)
+initial-found spec h =
+    let p = initial-there spec h in
+    let below = slice_get_within spec.equations (initial_place spec) p.equation p.there in
+    ap (λ (b : Bool). cond b (Some (initial_place spec)) None) (is-below (initial_place spec) (length spec.equations) below)
+
+-- and so at any place that is found
+pub initial-at : (spec : Spec) (k : ℕ) → IsWellTyped spec → equation_place spec spec.initial ≡ Some k → k ≡ initial_place spec
+initial-at spec k h e = ap (λ (o : Option ℕ). unwrap_or o 0) (sym e ∙ initial-found spec h)
+
+-- which a byte holds
+pub initial-small : (spec : Spec) (k : ℕ) → IsWellTyped spec → equation_place spec spec.initial ≡ Some k → k < 64
+initial-small spec k h e =
+    let p = initial-there spec h in
+    let below = slice_get_within spec.equations (initial_place spec) p.equation p.there in
+    let few = h.declarations.few_equations in
+    let at = initial-at spec k h e in
+    omega (arith, below, few, at)
+
+pub not-found : (spec : Spec) → IsWellTyped spec → equation_place spec spec.initial ≡ None → ⊥
+not-found spec h e = let none : Some (initial_place spec) ≡ None = sym (initial-found spec h) ∙ e in cc
+
+-- its arguments fit
+pub initial-fits : (spec : Spec) → IsWellTyped spec → AllFit spec [] spec.arguments
+initial-fits spec h = (spec_fits spec h).initial
