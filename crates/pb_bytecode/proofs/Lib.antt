@@ -9,3 +9,4 @@ pub mod NameLaws
 pub mod OpLaws
 pub mod ModuleLaws
 pub mod Appending
+pub mod InstanceCounts

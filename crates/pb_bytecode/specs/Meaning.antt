@@ -43,6 +43,10 @@ AreTrees m trees =
     (k : ℕ) (e : EquationContents) (values : Tuple) → slice_get m.equations k ≡ Some e → AreArguments e.params values →
     EndsWith (program_of m e) values (trees (number_at m k values))
 
+-- the number of the initial instance
+abbrev pub initial_of : Contents → ℕ
+initial_of m = number_at m m.initial.equation m.initial.values
+
 -- the answer: the truth of the initial instance in the nested solution of the equations, the instances having these trees
 abbrev pub answer : Contents → (ℕ → Tree) → Bool
-answer m trees = solved (map signature_of m.equations) trees (number_at m m.initial.equation m.initial.values)
+answer m trees = solved (map signature_of m.equations) trees (initial_of m)

@@ -25,6 +25,3 @@ pub use module::Module;
 pub use name::Name;
 pub use sort::Sort;
 pub use version::Version;
-
-#[cfg(test)]
-mod tests;

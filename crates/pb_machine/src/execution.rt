@@ -11,10 +11,9 @@ ghost use Rattle.pb_machine.specs.Output.{CallsOf, CanRun, IsOutput};
 use crate::code::Code;
 use crate::machine::Machine;
 use crate::results::truth;
-use crate::tree::Tree;
 use pb_bytecode_program::Op;
 use pb_sorts::{Carrier, Layout, MAX_INSTANCES};
-use std::alloc::{AllocError, Global};
+use std::alloc::AllocError;
 
 impl Machine {
     /// Takes an operand away.
@@ -112,28 +111,27 @@ impl Machine {
         Ok(())
     }
 
-    /// The tree with which the run of this code on these arguments ends: exactly the tokens that the tagged machine has
-    /// written at its END. Instances that the code calls are numbered by the layout.
+    /// Runs this code on these arguments. The output is then that of the tagged machine at its END: the tokens of the
+    /// tree with which it ends. Instances that the code calls are numbered by the layout.
     ///
     /// # Errors
     /// Memory was refused: for the slots and the tokens that the code states, which are reserved before the run and
-    /// kept for later runs, or for the tree.
+    /// kept for later runs.
     pub(crate) fn run_code(
         &mut self,
-        alloc: Global,
         layout: &Layout,
         code: &Code,
         arguments: &[i64],
-    ) -> Result<Tree, AllocError>
+    ) -> Result<(), AllocError>
         requires { (p : Program) × CanRun p layout.now code.now.instructions.now code.now.loops.now code.now.steps code.now.tokens arguments.now }
-        ensures { IfOk result (λ tree. (p : Program) → CanRun p layout.now code.now.instructions.now code.now.loops.now code.now.steps code.now.tokens arguments.now → IsOutput p arguments.now tree) }
+        ensures { IfOk result (λ _. (p : Program) → CanRun p layout.now code.now.instructions.now code.now.loops.now code.now.steps code.now.tokens arguments.now → IsOutput p arguments.now self.new.output.items) }
     {
         self.begin(code, arguments)?;
         let _known = layout.count();
         for turn in 0..code.steps {
             let op = code.instruction(self.place);
             if !self.execute(layout, code.loops, op) {
-                return Tree::copied(alloc, &self.output);
+                return Ok(());
             }
         }
         unreachable!()

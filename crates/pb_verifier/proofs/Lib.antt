@@ -8,3 +8,4 @@ pub mod Steps
 pub mod Limits
 pub mod Modules
 pub mod Equations
+pub mod Initials

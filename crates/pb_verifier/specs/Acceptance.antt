@@ -1,13 +1,14 @@
 -- Accepted modules, and what is promised of them.
-use Rattle.std.specs.Prelude.{◌≡◌, ℕ, ◌≤◌, List, Some}
+use Rattle.std.specs.Prelude.{◌≡◌, ℕ, ◌<◌, ◌≤◌, List, Some}
 use Rattle.std.specs.List.{slice_get}
+use Rattle.pb_sorts.specs.Layout.{count_of}
 use Rattle.pb_sorts.specs.declared.carrier.Carrier.{Carrier}
 use Rattle.pb_bytecode_program.specs.Machine.{Program}
 use Rattle.pb_bytecode_program.specs.Counts.{static_steps, static_tokens}
 use Rattle.pb_bytecode_program.specs.Accepted.{Accepted, Table}
 use Rattle.pb_bytecode_program.specs.Safety.{IsSafe}
 use Rattle.pb_bytecode.specs.Contents.{EquationContents, Contents}
-use Rattle.pb_bytecode.specs.Meaning.{parameters, program_of}
+use Rattle.pb_bytecode.specs.Meaning.{initial_of, parameters, program_of}
 
 -- a table of abstract states accepts the code, which states counts that are large enough and within the limits
 pub record HasTable (p : Program) : Type 0 where
@@ -22,6 +23,11 @@ pub record IsAccepted (m : Contents) : Type 0 where
 pub record IsVerified (m : Contents) (layout : List (List Carrier)) : Type 0 where
   pub accepted : IsAccepted m
   pub laid_out : layout ≡ parameters m
+
+-- the number of the initial instance, which is one of the layout's
+pub record IsInitial (m : Contents) (number : ℕ) : Type 0 where
+  pub same : number ≡ initial_of m
+  pub inside : number < count_of (parameters m)
 
 -- the steps and tokens are at least the static counts and within the limits
 pub record StatesCounts (p : Program) (steps tokens : ℕ) : Type 0 where

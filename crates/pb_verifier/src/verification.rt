@@ -2,8 +2,9 @@
 
 ghost use Rattle.std.specs.Prelude.{◌≡◌, IfErr, IfOk, OnOk, Some, ℕ, map, slice_get, vec_items};
 ghost use Rattle.pb_bytecode.specs.Decoded.{module_contents};
+ghost use Rattle.pb_bytecode.specs.Meaning.{parameters};
 ghost use Rattle.pb_bytecode.specs.declared.equation.Equation.{Equation as equation_type};
-ghost use Rattle.pb_verifier.specs.Acceptance.{HasTable, IsAccepted, IsVerified};
+ghost use Rattle.pb_verifier.specs.Acceptance.{HasTable, IsAccepted, IsInitial, IsVerified};
 ghost use Rattle.pb_verifier.specs.Programs.{program_in, HaveTables};
 ghost use Rattle.pb_verifier.specs.Refusals.{WhereRefused};
 ghost use Rattle.pb_verifier_structure.specs.Structure.{IsWithinLimits};
@@ -14,8 +15,8 @@ use crate::module_tables::{enumerator_counts, layout_of, parameter_carriers};
 use crate::verified::Verified;
 use crate::verify_error::VerifyError;
 use pb_bytecode::{Equation, Module};
-use pb_sorts::{Carrier, Layout};
-use std::alloc::Global;
+use pb_sorts::{Carrier, Instance, Layout, Tuple};
+use std::alloc::{AllocError, Global};
 
 // Checks the code of each equation, in order.
 fn check_equations(
@@ -44,16 +45,33 @@ fn check_equations(
     Ok(())
 }
 
-// Checks the module, and gives the layout of its instances.
-fn check(alloc: Global, module: &Module) -> Result<Layout, VerifyError>
-    ensures verified { IfOk result (IsVerified (module_contents «module».now)) }
+// The number of the initial instance. Up to eight values take no memory.
+fn initial_number(alloc: Global, module: &Module, layout: &Layout) -> Result<u32, AllocError>
+    requires { layout.now ≡ parameters (module_contents «module».now) }
+    ensures { IfOk result (IsInitial (module_contents «module».now)) }
+{
+    let instance = Instance {
+        equation: module.initial.equation,
+        values: Tuple::from_slice(alloc, &module.initial.values)?,
+    };
+    match layout.number(&instance) {
+        Some(number) => Ok(number),
+        None => unreachable!(),
+    }
+}
+
+// Checks the module, and gives the layout of its instances and the number of the initial one.
+fn check(alloc: Global, module: &Module) -> Result<(Layout, u32), VerifyError>
+    ensures verified { IfOk result (λ found. IsVerified (module_contents «module».now) found.0) }
+    ensures initial { IfOk result (λ found. IsInitial (module_contents «module».now) found.1) }
     ensures refused { IfErr result (λ error. WhereRefused error (IsAccepted (module_contents «module».now) → ⊥)) }
 {
     let sorts = enumerator_counts(alloc, &module.sorts)?;
     let callees = parameter_carriers(alloc, &module.equations)?;
     check_equations(alloc, &sorts, &callees, &module.equations)?;
     let layout = layout_of(alloc, &callees)?;
-    Ok(layout)
+    let initial = initial_number(alloc, module, &layout)?;
+    Ok((layout, initial))
 }
 
 /// Verifies a module: it is accepted where the code of each equation keeps the rules by position, states counts that are
@@ -76,7 +94,7 @@ pub fn verify(alloc: Global, module: Module) -> Result<Verified, (Module, Verify
     ensures refused { IfErr result (λ refusal. WhereRefused refusal.1 (IsAccepted (module_contents «module») → ⊥)) }
 {
     match check(alloc, &module) {
-        Ok(layout) => Ok(Verified::new(module, layout)),
+        Ok((layout, initial)) => Ok(Verified::new(module, layout, initial)),
         Err(error) => Err((module, error)),
     }
 }

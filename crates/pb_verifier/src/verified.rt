@@ -1,44 +1,51 @@
 //! Verified modules.
 
-ghost use Rattle.std.specs.Prelude.{◌≡◌, Some, ℕ};
+ghost use Rattle.std.specs.Prelude.{◌≡◌, ◌<◌, Some, ℕ};
 ghost use Rattle.std.specs.List.{slice_get};
+ghost use Rattle.pb_sorts.specs.Layout.{count_of};
 ghost use Rattle.pb_bytecode.specs.Contents.{EquationContents};
 ghost use Rattle.pb_bytecode.specs.Decoded.{module_contents};
-ghost use Rattle.pb_bytecode.specs.Meaning.{parameters, program_of};
+ghost use Rattle.pb_bytecode.specs.Meaning.{initial_of, parameters, program_of};
 
 use pb_bytecode::Module;
 use pb_sorts::Layout;
 use std::marker::Model;
 
-/// A module whose code is accepted (`specs/Acceptance.antt`), with the layout of its instances. Contracts see what the
-/// module says.
+/// A module whose code is accepted (`specs/Acceptance.antt`), with the layout of its instances and the number of the
+/// initial one. Contracts see what the module says.
 #[derive(Drop)]
 pub struct Verified {
     module: Module,
     layout: Layout,
+    initial: u32,
 }
 
 impl Model for Verified {
     ghost use Rattle.pb_bytecode.specs.Contents.{Contents};
     ghost use Rattle.pb_bytecode.specs.Decoded.{module_contents};
-    ghost use Rattle.pb_verifier.specs.Acceptance.{IsVerified};
+    ghost use Rattle.pb_verifier.specs.Acceptance.{IsInitial, IsVerified};
 
     ghost Value = { Contents };
 
     ghost view = { λ verified. module_contents verified.module };
 
-    ghost invariant = { λ verified. IsVerified (module_contents verified.module) verified.layout };
+    ghost invariant = { λ verified. IsVerified (module_contents verified.module) verified.layout × IsInitial (module_contents verified.module) verified.initial };
 }
 
 impl Verified {
-    ghost use Rattle.pb_verifier.specs.Acceptance.{IsAccepted, IsVerified, RunsSafely};
+    ghost use Rattle.pb_verifier.specs.Acceptance.{IsAccepted, IsInitial, IsVerified, RunsSafely};
 
     /// A module whose code was found to be accepted.
-    pub(crate) fn new(module: Module, layout: Layout) -> Verified
-        requires { IsVerified (module_contents «module») layout }
+    pub(crate) fn new(module: Module, layout: Layout, initial: u32) -> Verified
+        requires accepted { IsVerified (module_contents «module») layout }
+        requires initial { IsInitial (module_contents «module») initial }
         ensures { result ≡ module_contents «module» }
     {
-        Verified { module, layout }
+        Verified {
+            module,
+            layout,
+            initial,
+        }
     }
 
     /// The module, which is the one that was verified.
@@ -53,6 +60,14 @@ impl Verified {
         ensures { result.now ≡ parameters self.now }
     {
         &self.layout
+    }
+
+    /// The number of the initial instance, whose truth is the module's answer.
+    pub fn initial(&self) -> u32
+        ensures number { result ≡ initial_of self.now }
+        ensures inside { result < count_of (parameters self.now) }
+    {
+        self.initial
     }
 
     /// The law of verified modules, for crates above to call where they need it: the code of each equation, run on any

@@ -39,3 +39,9 @@ returns-clause-verified c =
     let o = is_of c.args.module.now c.deref.result.now c.deref-2.result.now c.deref-5.result.now c.in_ok-sorts.sorts.items c.deref-3.result.now c.in_ok-callees.callees.items c.deref-4.result.now c.deref.ensures.value c.deref-2.ensures.value c.in_ok-sorts.ensures c.in_ok-callees.ensures c.deref-3.ensures.value c.deref-4.ensures.value c.deref-5.ensures.value in
     verified_by c.args.module.now c.deref-3.result.now (map vec_items c.deref-4.result.now) c.in_ok-layout.layout c.deref-5.result.now o c.in_ok-check_equations.ensures.accepted
     (c.in_ok-layout.ensures ∙ ap (map vec_items) (c.deref-6.ensures.value ∙ sym c.deref-4.ensures.value))
+
+pub initial_number-requires : goal.initial_number-requires
+initial_number-requires c =
+    let o = is_of c.args.module.now c.deref.result.now c.deref-2.result.now c.deref-5.result.now c.in_ok-sorts.sorts.items c.deref-3.result.now c.in_ok-callees.callees.items c.deref-4.result.now c.deref.ensures.value c.deref-2.ensures.value c.in_ok-sorts.ensures c.in_ok-callees.ensures c.deref-3.ensures.value c.deref-4.ensures.value c.deref-5.ensures.value in
+    (verified_by c.args.module.now c.deref-3.result.now (map vec_items c.deref-4.result.now) c.in_ok-layout.layout c.deref-5.result.now o c.in_ok-check_equations.ensures.accepted
+    (c.in_ok-layout.ensures ∙ ap (map vec_items) (c.deref-6.ensures.value ∙ sym c.deref-4.ensures.value))).laid_out

@@ -1,10 +1,10 @@
-use Rattle.std.proofs.Common.{◌≡◌, suc, ◌+◌, ◌-◌, ◌∙◌, true, false, length, refl, ap, subst, arith, rules, Fits, w64}
+use Rattle.std.proofs.Common.{◌≡◌, suc, ◌+◌, ◌-◌, true, false, length, refl, ap, subst, arith, rules, Fits, w64}
 use Rattle.std.proofs.lemmas.Option.{slice_get_within}
 use Rattle.pb_trees.specs.Tokens.{tree_tokens}
 use Rattle.pb_bytecode_program.specs.Machine.{execute}
 use Rattle.pb_bytecode_program.specs.declared.instruction.Op.{Op}
 use Rattle.pb_machine.specs.Mirror.{IsNoFault, WritesAtMost}
-use Rattle.pb_machine.proofs.Runs.{LeadsTo, next_step, instruction_same, if_ok_more, goes_on, has_ended}
+use Rattle.pb_machine.proofs.Runs.{LeadsTo, next_step, instruction_same, goes_on, has_ended}
 use Rattle.pb_machine.proofs.machine.Machine.run_code.Goals as goal
 
 pub instruction-op-requires : goal.instruction-op-requires
@@ -35,7 +35,7 @@ execute-requires-clause-ready c =
     (p, r.calls, r.same_code.same_loops, record { state = u.state; within = omega arith; mirrors = u.mirrors; fine = fine; short = short })
 
 pub returns-then-not-execute : goal.returns-then-not-execute
-returns-then-not-execute c = if_ok_more _ _ c.copied.result c.copied.ensures (λ tree e p r.
+returns-then-not-execute c p r =
     let u = c.loop-turn.invariant p r in
     let count : c.args.code.now.steps - c.loop-turn.turn ≡ suc (c.args.code.now.steps - (c.loop-turn.turn + 1)) = omega arith in
     let s = next_step p c.loop-turn.self _ _ c.args.arguments.now count r.runnable u in
@@ -44,7 +44,7 @@ returns-then-not-execute c = if_ok_more _ _ c.copied.result c.copied.ensures (λ
     let short = subst (λ (i : Op). WritesAtMost p.stated_tokens (execute p i u.state)) same s.short in
     let leads = subst (λ (i : Op). LeadsTo p (c.args.code.now.steps - (c.loop-turn.turn + 1)) (tree_tokens u.tree) (execute p i u.state)) same s.leads in
     let ended = has_ended p (c.args.code.now.steps - (c.loop-turn.turn + 1)) (tree_tokens u.tree) c.execute.new.self _ false refl (c.if-not-execute.ensures p r.calls r.same_code.same_loops u.state u.mirrors fine short) leads in
-    record { tree = u.tree; ends = u.ends; written = e ∙ c.deref.ensures.value ∙ ended })
+    record { tree = u.tree; ends = u.ends; written = ended }
 
 pub loop-turn-preserved : goal.loop-turn-preserved
 loop-turn-preserved c p r =

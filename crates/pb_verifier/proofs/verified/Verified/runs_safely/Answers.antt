@@ -5,7 +5,7 @@ use Rattle.pb_verifier.proofs.verified.Verified.runs_safely.Goals as goal
 
 pub returns-clause-safe : goal.returns-clause-safe
 returns-clause-safe c k e at =
-    let all : IsAccepted c.args.self.now = subst IsAccepted c.self.view_is c.self.invariant.accepted in
+    let all : IsAccepted c.args.self.now = subst IsAccepted c.self.view_is c.self.invariant.0.accepted in
     let code = all.codes k e at in
     let a = code.accepted in
     record {

@@ -7,8 +7,8 @@ use Rattle.pb_sorts.specs.declared.carrier.Carrier.{Carrier}
 use Rattle.pb_bytecode.specs.Meaning.{program_of}
 use Rattle.pb_bytecode.specs.Views.{equation_contents}
 use Rattle.pb_machine.proofs.ModuleInstances.{equation_there, declared_at, values_within, can_run_at, output_at, meant}
-use Rattle.pb_machine.proofs.Runs.{if_ok_more}
-use Rattle.pb_machine.proofs.machine.Machine.run.Goals as goal
+use Rattle.pb_machine.specs.Output.{IsOutput}
+use Rattle.pb_machine.proofs.machine.Machine.run_kept.Goals as goal
 
 pub index-equation-requires : goal.index-equation-requires
 index-equation-requires c =
@@ -28,24 +28,18 @@ run_code-requires c =
       can_run_at m c.args.number i (equation_contents held) at declared c.layout-layout.result.now c.deref.result.now c.deref-2.result.now c.deref-3.result.now c.layout-layout.ensures (c.runs_safely.ensures.safe i.equation (equation_contents held) declared) c.deref.ensures.value c.deref-2.ensures.value c.deref-3.ensures,
     )
 
-pub returns-clause-output : goal.returns-clause-output
-returns-clause-output c =
+pub returns : goal.returns
+returns c =
     let m = c.args.verified.now in
     let i = instance_of c.instance-instance.result in
     let held = c.index-equation.result.now in
+    let tokens = c.deref-4.result.now in
     let at = subst (λ (x : List (List Carrier)). slice_get (instances (carriers_of x)) c.args.number ≡ Some i) c.layout-layout.ensures c.instance-instance.ensures in
     let there = equation_there m c.module.result.now c.args.number i c.module.ensures at in
     let declared = declared_at m c.module.result.now i.equation held c.module.ensures (slice_get-get_or c.module.result.now.equations.items i.equation held there ∙ ap Some (sym c.index-equation.ensures)) in
     let can = can_run_at m c.args.number i (equation_contents held) at declared c.layout-layout.result.now c.deref.result.now c.deref-2.result.now c.deref-3.result.now c.layout-layout.ensures (c.runs_safely.ensures.safe i.equation (equation_contents held) declared) c.deref.ensures.value c.deref-2.ensures.value c.deref-3.ensures in
-    if_ok_more _ _ c.run_code.result c.run_code.ensures (λ tree f. record { instance = i; numbered = at; equation = equation_contents held; declared = declared; output = output_at (program_of m (equation_contents held)) c.deref-3.result.now i.values tree c.deref-3.ensures (f (program_of m (equation_contents held)) can) })
-
-pub returns-clause-meaning : goal.returns-clause-meaning
-returns-clause-meaning c =
-    let m = c.args.verified.now in
-    let i = instance_of c.instance-instance.result in
-    let held = c.index-equation.result.now in
-    let at = subst (λ (x : List (List Carrier)). slice_get (instances (carriers_of x)) c.args.number ≡ Some i) c.layout-layout.ensures c.instance-instance.ensures in
-    let there = equation_there m c.module.result.now c.args.number i c.module.ensures at in
-    let declared = declared_at m c.module.result.now i.equation held c.module.ensures (slice_get-get_or c.module.result.now.equations.items i.equation held there ∙ ap Some (sym c.index-equation.ensures)) in
-    let can = can_run_at m c.args.number i (equation_contents held) at declared c.layout-layout.result.now c.deref.result.now c.deref-2.result.now c.deref-3.result.now c.layout-layout.ensures (c.runs_safely.ensures.safe i.equation (equation_contents held) declared) c.deref.ensures.value c.deref-2.ensures.value c.deref-3.ensures in
-    if_ok_more _ _ c.run_code.result c.run_code.ensures (λ tree f trees all. meant m c.args.number i (equation_contents held) tree trees at declared (values_within m c.args.number i (equation_contents held) at declared) (output_at (program_of m (equation_contents held)) c.deref-3.result.now i.values tree c.deref-3.ensures (f (program_of m (equation_contents held)) can)) all)
+    let output = output_at (program_of m (equation_contents held)) c.deref-3.result.now i.values tokens c.deref-3.ensures (subst (IsOutput (program_of m (equation_contents held)) c.deref-3.result.now) (sym c.deref-4.ensures.value) (c.in_ok-run_code.ensures (program_of m (equation_contents held)) can)) in
+    record {
+      output = record { instance = i; numbered = at; equation = equation_contents held; declared = declared; output = output };
+      meaning = λ trees all. meant m c.args.number i (equation_contents held) tokens trees at declared (values_within m c.args.number i (equation_contents held) at declared) output all;
+    }

@@ -1,0 +1,55 @@
+-- The initial instance of a module is one of its instances.
+use Rattle.std.proofs.Common.{◌≡◌, ℕ, zero, suc, Bool, true, false, List, [], ◌∷◌, map, Some, sym, ap, ◌∙◌, subst}
+use Rattle.std.proofs.lemmas.Option.{slice_get_within}
+use Rattle.std.specs.Prelude.{◌&&◌, nat_le, length, slice_get}
+use Rattle.std.specs.List.{list_all}
+use Rattle.pb_carriers.specs.Carrier.{Tuple, is_within}
+use Rattle.pb_sorts.specs.Carrier.{values_of}
+use Rattle.pb_sorts.specs.Instance.{Instance, instances, is_instance, is_tuple_of}
+use Rattle.pb_sorts.specs.Layout.{carriers_of}
+use Rattle.pb_sorts.specs.declared.carrier.Carrier.{Carrier}
+use Rattle.pb_sorts.proofs.Numbers.{number_of-slice_get}
+use Rattle.pb_bytecode.specs.Contents.{EquationContents, Contents, counts}
+use Rattle.pb_bytecode.specs.Limits.{fits, fits_sort, fits_equation, is_tuple, is_between, is_byte, instance_count, params_of, is_i64}
+use Rattle.pb_bytecode.specs.Meaning.{parameters}
+use Rattle.pb_verifier.specs.Acceptance.{IsInitial}
+
+second : (a b : Bool) → (a && b) ≡ true → b ≡ true
+second true b h = h
+second false b h = cc
+
+values_fit : (es : List EquationContents) (k : ℕ) (values : Tuple) → is_tuple (params_of (slice_get es k)) values ≡ true → is_tuple_of (slice_get (carriers_of (map (λ (e : EquationContents). e.params) es)) k) values ≡ true
+values_fit [] k values h = cc
+values_fit (e ∷ es) zero values h = second (list_all is_i64 values) (is_within (map values_of e.params) values) h
+values_fit (e ∷ es) (suc k) values h = values_fit es k values h
+
+initial_fits : (m : Contents) → fits m ≡ true → is_tuple_of (slice_get (carriers_of (parameters m)) m.initial.equation) m.initial.values ≡ true
+initial_fits m h =
+    let sorts = is_between 0 256 (length m.sorts) && list_all fits_sort m.sorts in
+    let equations = is_between 1 65 (length m.equations) && list_all (fits_equation m.version (counts m.sorts)) m.equations in
+    let few = nat_le (instance_count m.equations) 4194304 in
+    let initial = is_tuple (params_of (slice_get m.equations m.initial.equation)) m.initial.values in
+    values_fit m.equations m.initial.equation m.initial.values
+    (second (is_byte m.initial.equation) initial
+    (second few (is_byte m.initial.equation && initial)
+    (second equations (few && (is_byte m.initial.equation && initial))
+    (second sorts (equations && (few && (is_byte m.initial.equation && initial))) h))))
+
+-- the initial instance, with values that are equal
+abbrev pub with_values : Contents → Tuple → Instance
+with_values m values = record { equation = m.initial.equation; values = values }
+
+module _ (m : Contents) (laid : List (List Carrier)) (values : Tuple) (laid_out : laid ≡ parameters m) (valued : values ≡ m.initial.values) where
+  pub initial_is_instance : fits m ≡ true → is_instance (carriers_of laid) (with_values m values) ≡ true
+  initial_is_instance h =
+      subst (λ (x : List (List Carrier)). is_instance (carriers_of x) (with_values m values) ≡ true) (sym laid_out)
+      (subst (λ (v : Tuple). is_instance (carriers_of (parameters m)) (with_values m v) ≡ true) (sym valued) (initial_fits m h))
+
+  pub initial_number_is : (n : ℕ) → slice_get (instances (carriers_of laid)) n ≡ Some (with_values m values) → IsInitial m n
+  initial_number_is n at =
+      let here = subst (λ (x : List (List Carrier)). slice_get (instances (carriers_of x)) n ≡ Some (with_values m values)) laid_out at in
+      let there = here ∙ ap (λ (v : Tuple). Some (with_values m v)) valued in
+      record {
+        same = number_of-slice_get (parameters m) n (with_values m m.initial.values) there;
+        inside = slice_get_within (instances (carriers_of (parameters m))) n (with_values m m.initial.values) there;
+      }
