@@ -1,0 +1,15 @@
+use Rattle.std.proofs.Common.{◌≡◌, length, ap, ◌∙◌, arith}
+use Rattle.std.specs.Prelude.{slice_get}
+use Rattle.pb_instances.specs.Rule.{mark_of}
+use Rattle.pb_instances.specs.Seats.{module_of, workers_of, view_of}
+use Rattle.pb_instances.proofs.Seating.{fresh_low}
+use Rattle.pb_exploration.proofs.Lists.{get_last}
+use Rattle.test_exploration.proofs.alone.work_branded.Goals as goal
+
+pub work-rows-requires-clause-free : goal.work-rows-requires-clause-free
+work-rows-requires-clause-free g c m two =
+    let t = c.in_ok-table.table in let items = c.in-Some.ensures.items in let front = c.pop.new.self.items in let seat = c.in-Some.seat in
+    let fresh = c.in_ok-table.ensures.seats (length front) seat (ap (λ l. slice_get l (length front)) items ∙ get_last front seat) in
+    let low = fresh_low (module_of t) (length front) (workers_of t) m in
+    let e : mark_of (view_of seat) m ≡ _ = ap (λ v. mark_of v m) fresh.1 in
+    absurd (omega arith)

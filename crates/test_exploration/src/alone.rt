@@ -1,0 +1,47 @@
+//! One worker alone.
+ghost use Rattle.std.specs.Prelude.{◌≡◌, IfOk};
+ghost use Rattle.pb_sorts.specs.Layout.{count_of};
+ghost use Rattle.pb_bytecode.specs.Meaning.{parameters};
+ghost use Rattle.pb_instances.specs.Explored.{IsEnd};
+ghost use Rattle.pb_instances.specs.Seats.{words_of};
+
+use crate::steps::close;
+use pb_exploration::{Hints, Limit, NoGate, work};
+use pb_instances::{Statuses, Table};
+use pb_rows::Rows;
+use pb_verifier::Verified;
+use std::alloc::{AllocError, Global};
+use std::marker::Brand;
+
+/// What one worker does alone, the hints having a brand.
+fn work_branded<B: Limit>(
+    alloc: Global,
+    verified: &Verified,
+) -> Result<(Result<Rows, AllocError>, Statuses), AllocError>
+    requires { B.limit ≡ count_of (parameters verified.now) }
+    ensures { IfOk result (λ done. IsEnd verified.now (words_of done.1)) }
+{
+    let (table, mut seats) = Table::start(alloc, verified, 1)?;
+    let mut hints = Hints::<B>::start(alloc, verified.initial(), 1)?;
+    let Some(mut seat) = seats.pop() else {
+        return Err(AllocError);
+    };
+    let Some(mut own) = hints.pop() else {
+        return Err(AllocError);
+    };
+    let rows = work(alloc, verified, &table, &mut seat, &mut own, 0, &NoGate);
+    Ok((rows, close(alloc, verified, table)))
+}
+
+/// What one worker does alone: its rows, or that it was refused memory, and the statuses at its end.
+///
+/// # Errors
+/// Memory was refused before its work began.
+pub fn work_alone(
+    alloc: Global,
+    verified: &Verified,
+) -> Result<(Result<Rows, AllocError>, Statuses), AllocError>
+    ensures { IfOk result (λ done. IsEnd verified.now (words_of done.1)) }
+{
+    work_branded::<Brand>(alloc, verified)
+}

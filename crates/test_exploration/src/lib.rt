@@ -1,0 +1,10 @@
+//! Tests of exploration, on one small module: steps of the reference, words that two seats step on, one worker alone
+//! with and without memory, and two workers that overlap. The helpers keep the conditions of what they call.
+#![tactic(auto)]
+
+pub mod alone;
+pub mod modules;
+pub mod overlap;
+pub mod steps;
+#[cfg(test)]
+mod tests;

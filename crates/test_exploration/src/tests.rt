@@ -1,0 +1,251 @@
+//! The tests.
+ghost use Rattle.std.specs.Prelude.{◌≡◌};
+ghost use Rattle.pb_machine.specs.InstanceTree.{IsTreeAt};
+ghost use Rattle.pb_instances.specs.Seats.{module_of, IsSeatOf};
+
+use crate::alone::work_alone;
+use crate::modules::all_others;
+use crate::overlap::Overlap;
+use crate::steps::{close, finish, give_back, mark, status, take, three_statuses};
+use pb_exploration::{Core, Event, Explored, NoGate, StepError, explore};
+use pb_instances::{Marked, Seat, Status, Step, Table};
+use pb_machine::Machine;
+use pb_rows::IndexedRows;
+use pb_trees::Token;
+use pb_verifier::Verified;
+use std::process::Abort;
+use std::test::Fail;
+
+fn event(worker: u32, step: Step) -> Event {
+    Event { worker, step }
+}
+
+/// Whether these are the three instances by rising number, each calling the two others.
+fn are_all_others(rows: &IndexedRows) -> bool {
+    let calls: [[u32; 2]; 3] = [[1, 2], [0, 2], [0, 1]];
+    if rows.len() != 3 {
+        return false;
+    }
+    for (place, [low, high]) in calls.iter().copied().enumerate() {
+        let tree = [
+            Token::And,
+            Token::Call(low),
+            Token::Call(high),
+            Token::Close,
+        ];
+        if rows.number(place) != place as u32 || rows.tokens(place) != tree.as_slice() {
+            return false;
+        }
+    }
+    true
+}
+
+// Two workers take turns at the reference.
+#[test]
+fn reference_steps(rt: HostRuntime) -> Result<(), Fail> {
+    let alloc = rt.alloc();
+    let module = all_others(alloc)?;
+    let mut core = Core::start(alloc, &module, 2)?;
+    let refused = Err(StepError::NotAllowed);
+    assert_eq!(rt; core.apply(event(0, Step::Take(0))), Ok(()));
+    assert_eq!(rt; core.apply(event(1, Step::Take(0))), refused);
+    assert_eq!(rt; core.apply(event(1, Step::Mark(1))), refused);
+    assert_eq!(rt; core.apply(event(0, Step::Mark(1))), Ok(()));
+    assert_eq!(rt; core.apply(event(0, Step::Mark(1))), refused);
+    assert_eq!(rt; core.apply(event(0, Step::Finish(0))), refused);
+    assert_eq!(rt; core.apply(event(0, Step::Mark(2))), Ok(()));
+    assert_eq!(rt; core.apply(event(0, Step::Finish(0))), Ok(()));
+    assert_eq!(rt; core.apply(event(1, Step::Take(1))), Ok(()));
+    assert_eq!(rt; core.apply(event(0, Step::GiveBack(1))), refused);
+    assert_eq!(rt; core.apply(event(1, Step::GiveBack(1))), Ok(()));
+    assert_eq!(rt; core.apply(event(0, Step::Take(1))), Ok(()));
+    assert_eq!(rt; core.apply(event(0, Step::Finish(1))), Ok(()));
+    assert_eq!(rt; core.apply(event(0, Step::Take(2))), Ok(()));
+    assert_eq!(rt; core.settled(), false);
+    assert_eq!(rt; core.apply(event(0, Step::Finish(2))), Ok(()));
+    assert_eq!(rt; core.settled(), true);
+    assert_eq!(rt; core.apply(event(0, Step::Take(3))), refused);
+    assert_eq!(rt; core.apply(event(2, Step::Take(0))), refused);
+    Ok(())
+}
+
+// What users see of events and of refused ones.
+#[test]
+fn events_are_shown(rt: HostRuntime) -> Result<(), Fail> {
+    let alloc = rt.alloc();
+    let shown = format!(in alloc; "{}", event(1, Step::GiveBack(2)))?;
+    assert_eq!(rt; shown.as_str(), "worker 1: give back 2");
+    let refused = format!(in alloc; "{} {}", StepError::NotAllowed, StepError::OutOfMemory)?;
+    assert_eq!(rt; refused.as_str(), "I01 M01");
+    Ok(())
+}
+
+/// The first seat takes instance 0, marks what it calls, and finishes it, before the eyes of the second.
+fn first_is_finished(
+    rt: &impl Abort,
+    module: &Verified,
+    table: &Table,
+    a: &mut Seat,
+    b: &mut Seat,
+    tree: &[Token],
+)
+    requires contents { module_of table.now ≡ module.now }
+    requires seats { IsSeatOf table.now a.old × IsSeatOf table.now b.old }
+    requires tree { IsTreeAt (module_of table.now) 0 tree.now }
+    ensures { IsSeatOf table.now a.new × IsSeatOf table.now b.new }
+{
+    if !take(module, table, a, 0) {
+        panic!(rt; "the first instance is not pending");
+    }
+    assert!(rt; !take(module, table, b, 0));
+    assert_eq!(rt; mark(table, a, 0, tree, 1), Some(Marked::New));
+    assert_eq!(rt; mark(table, a, 0, tree, 1), Some(Marked::Known));
+    assert_eq!(rt; mark(table, a, 0, tree, 2), Some(Marked::New));
+    assert_eq!(rt; status(module, table, b, 1), Some(Status::Pending));
+    finish(table, a, 0, tree);
+}
+
+/// The second seat takes instance 1, marks a call that is known, and gives the instance back.
+fn second_is_given_back(
+    rt: &impl Abort,
+    module: &Verified,
+    table: &Table,
+    a: &mut Seat,
+    b: &mut Seat,
+    tree: &[Token],
+)
+    requires contents { module_of table.now ≡ module.now }
+    requires seats { IsSeatOf table.now a.old × IsSeatOf table.now b.old }
+    requires tree { IsTreeAt (module_of table.now) 1 tree.now }
+    ensures { IsSeatOf table.now a.new × IsSeatOf table.now b.new }
+{
+    assert_eq!(rt; status(module, table, b, 0), Some(Status::Done));
+    if !take(module, table, b, 1) {
+        panic!(rt; "the second instance is not pending");
+    }
+    assert_eq!(rt; status(module, table, a, 1), Some(Status::Taken));
+    assert_eq!(rt; mark(table, b, 1, tree, 1), Some(Marked::Known));
+    give_back(table, b, 1, tree);
+}
+
+/// The first seat takes instance 1 in its turn, and finishes it.
+fn second_is_finished(
+    rt: &impl Abort,
+    module: &Verified,
+    table: &Table,
+    seat: &mut Seat,
+    tree: &[Token],
+)
+    requires seat { IsSeatOf table.now seat.old × (module_of table.now ≡ module.now) }
+    requires tree { IsTreeAt (module_of table.now) 1 tree.now }
+    ensures { IsSeatOf table.now seat.new }
+{
+    if !take(module, table, seat, 1) {
+        panic!(rt; "the second instance is not pending again");
+    }
+    assert_eq!(rt; mark(table, seat, 1, tree, 1), Some(Marked::Known));
+    assert_eq!(rt; mark(table, seat, 1, tree, 2), Some(Marked::Known));
+    finish(table, seat, 1, tree);
+}
+
+// Two seats step on the words in turn.
+#[test]
+fn two_seats(rt: HostRuntime) -> Result<(), Fail> {
+    let alloc = rt.alloc();
+    let module = all_others(alloc)?;
+    if module.layout().count() != 3 {
+        panic!(rt; "the module has other instances");
+    }
+    let mut machine = Machine::new(alloc);
+    let first = machine.run(alloc, &module, 0)?;
+    let second = machine.run(alloc, &module, 1)?;
+    let (table, mut seats) = Table::start(alloc, &module, 2)?;
+    let (Some(mut b), Some(mut a)) = (seats.pop(), seats.pop()) else {
+        panic!(rt; "no two seats");
+    };
+    let tree = [Token::And, Token::Call(1), Token::Call(2), Token::Close];
+    assert_eq!(rt; first.tokens(), tree.as_slice());
+    first_is_finished(&rt, &module, &table, &mut a, &mut b, first.tokens());
+    let tree = [Token::And, Token::Call(0), Token::Call(2), Token::Close];
+    assert_eq!(rt; second.tokens(), tree.as_slice());
+    second_is_given_back(&rt, &module, &table, &mut a, &mut b, second.tokens());
+    second_is_finished(&rt, &module, &table, &mut a, second.tokens());
+    let statuses = close(alloc, &module, table);
+    let wanted = [Status::Done, Status::Done, Status::Pending];
+    assert_eq!(rt; three_statuses(&module, &statuses), Some(wanted));
+    assert!(rt; !statuses.settled());
+    Ok(())
+}
+
+// One worker alone finds all three instances, from the initial one as its only hint, and words that are settled give
+// the same rows.
+#[test]
+fn one_worker(rt: HostRuntime) -> Result<(), Fail> {
+    let alloc = rt.alloc();
+    let module = all_others(alloc)?;
+    let (worked, statuses) = work_alone(alloc, &module)?;
+    let rows = worked?;
+    assert_eq!(rt; rows.len(), 3);
+    let mut seen = [false; 3];
+    for place in 0..rows.len() {
+        if let Some(flag) = seen.get_mut(rows.number(place) as usize) {
+            *flag = true;
+        }
+    }
+    assert_eq!(rt; seen, [true; 3]);
+    assert_eq!(rt; three_statuses(&module, &statuses), Some([Status::Done; 3]));
+    if !statuses.settled() {
+        panic!(rt; "something is open");
+    }
+    let gathered = Explored::gather(alloc, &module, &statuses)?;
+    assert!(rt; are_all_others(gathered.rows()));
+    Ok(())
+}
+
+// After refused memory nothing is taken: the seat gave back what it held and kept what it marked, be it at its first,
+// its second or its third instance. `--fail-alloc` makes the requests fail in turn.
+#[test]
+fn worker_without_memory(rt: HostRuntime) -> Result<(), Fail> {
+    let alloc = rt.alloc();
+    let module = all_others(alloc)?;
+    let (worked, statuses) = work_alone(alloc, &module)?;
+    let found = three_statuses(&module, &statuses);
+    if worked.is_ok() {
+        assert_eq!(rt; found, Some([Status::Done; 3]));
+        return Ok(());
+    }
+    let allowed = [
+        Some([Status::Pending, Status::Unseen, Status::Unseen]),
+        Some([Status::Done, Status::Pending, Status::Pending]),
+        Some([Status::Done, Status::Done, Status::Pending]),
+        Some([Status::Done, Status::Pending, Status::Done]),
+    ];
+    assert!(rt; allowed.contains(&found));
+    Ok(())
+}
+
+// Any number of workers finds the same rows.
+#[test]
+fn many_workers(rt: HostRuntime) -> Result<(), Fail> {
+    let alloc = rt.alloc();
+    let module = all_others(alloc)?;
+    for workers in [1u32, 2, 16] {
+        let explored = explore(&rt, alloc, &module, workers, &NoGate)?;
+        assert!(rt; are_all_others(explored.rows()));
+    }
+    Ok(())
+}
+
+// Two workers overlap: each takes an instance that one of them discovered, and the three are taken once each.
+#[test]
+fn workers_overlap(rt: HostRuntime) -> Result<(), Fail> {
+    let alloc = rt.alloc();
+    let module = all_others(alloc)?;
+    let gate = Overlap::new();
+    let explored = explore(&rt, alloc, &module, 2, &gate)?;
+    assert!(rt; are_all_others(explored.rows()));
+    assert!(rt; !gate.has_expired());
+    assert_eq!(rt; [gate.taken(0), gate.taken(1), gate.taken(2)], [1u32, 1, 1]);
+    assert!(rt; gate.both_took());
+    Ok(())
+}
