@@ -1,14 +1,14 @@
-mod Flat
-mod Wins
-mod Joins
-mod Equality
-mod Terms
-mod Numbered
-mod Formulas
-mod Calls
-mod Slots
-mod Whole
-mod FullCalls
-mod Equations
-mod Known
-mod System
+pub mod Flat
+pub mod Wins
+pub mod Joins
+pub mod Equality
+pub mod Terms
+pub mod Numbered
+pub mod Formulas
+pub mod Calls
+pub mod Slots
+pub mod Whole
+pub mod FullCalls
+pub mod Equations
+pub mod Known
+pub mod System

@@ -114,7 +114,7 @@ module _ (spec : Spec) (typed : IsWellTyped spec)
         are-same E (suc k) (first + tuple_count (carriers_of spec X.parameters)) next (λ b. let move : suc k + b ≡ k + suc b = omega arith in ap (slice_get spec.equations) move ∙ behind (suc b)),
       )
 
-  solutions-match : (i : Instance) → is_instance spec i ≡ true → solution (equations_of spec) empty i ≡ solved (map (signature_of spec) spec.equations) trees (number_in spec i)
+  pub solutions-match : (i : Instance) → is_instance spec i ≡ true → solution (equations_of spec) empty i ≡ solved (map (signature_of spec) spec.equations) trees (number_in spec i)
   solutions-match i e =
       ap (λ (t : Environment Instance). t i) (same-solution Instance Equation (equation_of spec) holds_there spec.equations all-alike empty)
       ∙ solution-matches ℕ Instance (is_instance spec) (number_in spec) (numbered 0 (map (signature_of spec) spec.equations) trees) (map made spec.equations)

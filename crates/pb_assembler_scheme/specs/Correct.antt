@@ -1,5 +1,5 @@
 -- What the scheme's code of an equation decides.
-use Rattle.std.specs.Prelude.{◌≡◌, ◌≢◌, ⊤, ℕ, suc, List, [], ◌∷◌, ◌++◌, length, map, Option, Some, None}
+use Rattle.std.specs.Prelude.{◌≡◌, ◌≢◌, ⊤, ℕ, suc, List, [], ◌∷◌, length, map, Option, Some, None}
 use Rattle.std.specs.List.{slice_get, position_or_len}
 use Rattle.pb_fixpoint.specs.Solution.{Environment}
 use Rattle.pb_fixpoint.specs.Transfer.{Matches}
@@ -20,16 +20,10 @@ use Rattle.pb_bytecode_program.specs.Counts.{static_steps, static_tokens}
 use Rattle.pb_bytecode_program.specs.Safety.{arguments}
 use Rattle.pb_normal.specs.Normal.{Argument, Formula, Test, Join, Each, Call, truth}
 use Rattle.pb_normal.specs.Answer.{slots_of}
+pub use Rattle.pb_normal.specs.SlotOrder.{quantifiers}
 use Rattle.pb_assembler_scheme.specs.Scheme.{equation_code}
 
 -- ---- programs of the scheme
-
--- the slot of each quantifier and the shape of its values, in order
-abbrev pub quantifiers : Formula → List (ℕ × Shape)
-quantifiers (Test t) = []
-quantifiers (Join m f g) = quantifiers f ++ quantifiers g
-quantifiers (Each m s shape f) = (s, shape) ∷ quantifiers f
-quantifiers (Call equation xs) = []
 
 -- slots with the shapes of their carriers, the first slot being n
 abbrev pub slots_from : ℕ → List Carrier → List (ℕ × Shape)

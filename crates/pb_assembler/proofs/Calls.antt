@@ -1,0 +1,97 @@
+-- Emitting arguments, one in front of the others, and calls.
+use Rattle.std.proofs.Common.{◌≡◌, ℕ, Bool, true, cond, List, [], ◌∷◌, ◌++◌, length, map, Option, Some, None, refl, sym, subst, arith}
+use Rattle.std.specs.Prelude.{ℤ, unwrap_or}
+use Rattle.std.specs.List.{slice_set}
+use Rattle.pb_sorts.specs.declared.carrier.Carrier.{Carrier}
+use Rattle.pb_text_meaning.specs.Syntax.{Operator}
+use Rattle.pb_typing.specs.View.{shape_view}
+use Rattle.pb_bytecode_program.specs.declared.instruction.Leaf.TheVariants as leaf
+use Rattle.pb_bytecode_program.specs.declared.instruction.Op.TheVariants as op
+use Rattle.pb_normal.specs.declared.formula.Argument.{Argument}
+use Rattle.pb_normal.specs.Normal as normal
+use Rattle.pb_normal.specs.Normal.{Term, Number, Slot, Negative, Absolute, Successor, Predecessor, Binary, Maximum, Minimum, Choice, Recognised}
+use Rattle.pb_normal.specs.View.{argument_view, term_view}
+use Rattle.pb_assembler_scheme.specs.Pieces.{Piece, Plain, Then, Block, Leave}
+use Rattle.pb_assembler_scheme.specs.Scheme.{data_piece, binary_piece, tested_range, any_tested, guarded, arguments_piece, call_piece}
+use Rattle.pb_assembler_accepted.proofs.Positions.{HasNoLeave}
+use Rattle.pb_assembler.specs.Draft.{Draft, Places}
+use Rattle.pb_assembler.specs.Emitted.{Emits, nowhere, block_end, called_piece}
+use Rattle.pb_assembler.proofs.Emitting.{emits_then, emits_anywhere, block_emitted}
+
+binary_stays : (o : Operator) (x y : Piece) → HasNoLeave x → HasNoLeave y → HasNoLeave (binary_piece o x y)
+binary_stays Operator.And x y a b = (b, (a, tt))
+binary_stays Operator.Or x y a b = (b, (a, tt))
+binary_stays Operator.Implies x y a b = (b, ((a, tt), tt))
+binary_stays Operator.Equal x y a b = (a, (b, tt))
+binary_stays Operator.NotEqual x y a b = (a, (b, tt))
+binary_stays Operator.Less x y a b = (a, (b, tt))
+binary_stays Operator.LessEqual x y a b = (a, (b, tt))
+binary_stays Operator.Greater x y a b = (a, (b, tt))
+binary_stays Operator.GreaterEqual x y a b = (a, (b, tt))
+binary_stays Operator.Plus x y a b = (a, (b, tt))
+binary_stays Operator.Minus x y a b = (a, (b, tt))
+binary_stays Operator.Times x y a b = (a, (b, tt))
+binary_stays Operator.Div x y a b = (a, (b, tt))
+binary_stays Operator.Mod x y a b = (a, (b, tt))
+
+data_stays : (t : Term) → HasNoLeave (data_piece t)
+data_stays (Term.Truth b) = tt
+data_stays (Number n) = tt
+data_stays (Term.Enumerator s i) = tt
+data_stays (Slot s) = tt
+data_stays (Term.Not x) = (data_stays x, tt)
+data_stays (Negative x) = (data_stays x, tt)
+data_stays (Absolute x) = (data_stays x, tt)
+data_stays (Successor x) = (data_stays x, (tt, tt))
+data_stays (Predecessor x) = (data_stays x, (tt, tt))
+data_stays (Binary o x y) = binary_stays o (data_piece x) (data_piece y) (data_stays x) (data_stays y)
+data_stays (Maximum x y) = (data_stays x, (data_stays y, tt))
+data_stays (Minimum x y) = (data_stays x, (data_stays y, tt))
+data_stays (Choice c x y) = (data_stays c, (data_stays x, data_stays y))
+data_stays (Recognised s i x) = (data_stays x, (tt, tt))
+
+pub nothing : {X : Type 0} (xs : List X) → length xs ≡ 0 → xs ≡ []
+nothing [] e = refl
+nothing (x ∷ xs) e = absurd (omega (arith, e))
+
+-- an argument without a parameter
+pub argument_alone : (equation : ℕ) (l : Option ℕ) (Cs : List Carrier) (Xs : List Argument) (X : Argument) (xs : List Argument) (d d1 d2 : Draft)
+    → Cs ≡ [] → Xs ≡ X ∷ xs
+    → Emits (data_piece (term_view X.term)) nowhere d d1 → Emits (arguments_piece [] (map argument_view xs) (called_piece equation l)) (block_end l) d1 d2
+    → Emits (arguments_piece Cs (map argument_view Xs) (called_piece equation l)) (block_end l) d d2
+argument_alone equation l Cs Xs X xs d d1 d2 none one hx hs =
+    let x = data_piece (term_view X.term) in
+    let rest = arguments_piece [] (map argument_view xs) (called_piece equation l) in
+    subst (λ (cs : List Carrier). Emits (arguments_piece cs (map argument_view Xs) (called_piece equation l)) (block_end l) d d2) (sym none)
+    (subst (λ (zs : List Argument). Emits (arguments_piece [] (map argument_view zs) (called_piece equation l)) (block_end l) d d2) (sym one)
+    (emits_then x rest (block_end l) d d1 d2 (emits_anywhere x (data_stays (term_view X.term)) nowhere (block_end l) d d1 hx) hs))
+
+-- an argument with its parameter
+pub argument_first : (equation : ℕ) (l : Option ℕ) (Cs : List Carrier) (Xs : List Argument) (C : Carrier) (cs : List Carrier) (X : Argument) (xs : List Argument) (r : Option (ℤ × ℤ)) (later : Bool) (d d1 d2 : Draft)
+    → Cs ≡ C ∷ cs → Xs ≡ X ∷ xs → r ≡ tested_range C (shape_view X.shape) → later ≡ any_tested cs (map argument_view xs)
+    → Emits (data_piece (term_view X.term)) nowhere d d1 → Emits (guarded r later (arguments_piece cs (map argument_view xs) (called_piece equation l))) (block_end l) d1 d2
+    → Emits (arguments_piece Cs (map argument_view Xs) (called_piece equation l)) (block_end l) d d2
+argument_first equation l Cs Xs C cs X xs r later d d1 d2 more one known behind hx hs =
+    let x = data_piece (term_view X.term) in
+    let rest = arguments_piece cs (map argument_view xs) (called_piece equation l) in
+    subst (λ (zs : List Carrier). Emits (arguments_piece zs (map argument_view Xs) (called_piece equation l)) (block_end l) d d2) (sym more)
+    (subst (λ (zs : List Argument). Emits (arguments_piece (C ∷ cs) (map argument_view zs) (called_piece equation l)) (block_end l) d d2) (sym one)
+    (subst (λ (q : Option (ℤ × ℤ)). Emits (Then x (guarded q (any_tested cs (map argument_view xs)) rest)) (block_end l) d d2) known
+    (subst (λ (b : Bool). Emits (Then x (guarded r b rest)) (block_end l) d d2) behind
+    (emits_then x (guarded r later rest) (block_end l) d d1 d2 (emits_anywhere x (data_stays (term_view X.term)) nowhere (block_end l) d d1 hx) hs))))
+
+-- what is taken off behind an argument
+pub popped : (x : Piece) (l : Option ℕ) (d d1 d2 : Draft) → Emits x (block_end l) d d1 → Emits (Plain op.Pop) nowhere d1 d2 → Emits (Then x (Plain op.Pop)) (block_end l) d d2
+popped x l d d1 d2 h k = emits_then x (Plain op.Pop) (block_end l) d d1 d2 h (emits_anywhere (Plain op.Pop) tt nowhere (block_end l) d1 d2 k)
+
+-- a call with a cut
+pub cut_emitted : (equation : ℕ) (cs : List Carrier) (xs : List normal.Argument) (d d1 d2 d3 d4 : Draft) (l : ℕ)
+    → true ≡ any_tested cs xs → l ≡ length d.places → d1 ≡ record d { places = d.places ++ None ∷ [] }
+    → Emits (arguments_piece cs xs (called_piece equation (Some l))) (block_end (Some l)) d1 d2 → Emits (Plain (op.Emit leaf.Cut)) nowhere d2 d3
+    → d4 ≡ record d3 { places = slice_set d3.places l (Some (length d3.ops)) } → Emits (call_piece equation cs xs) nowhere d d4
+cut_emitted equation cs xs d d1 d2 d3 d4 l some n e1 h k e4 =
+    let x = arguments_piece cs xs (Then (Plain (op.Call equation)) Leave) in
+    let cut = Plain (op.Emit leaf.Cut) in
+    let at : Places → ℕ = λ M. unwrap_or (M l) 0 in
+    subst (λ (b : Bool). Emits (cond b (Block (Then x cut)) (arguments_piece cs xs (Plain (op.Call equation)))) nowhere d d4) some
+    (block_emitted (Then x cut) d d1 d3 d4 l n e1 (emits_then x cut at d1 d2 d3 h (emits_anywhere cut tt nowhere at d2 d3 k)) e4 nowhere)

@@ -1,0 +1,63 @@
+-- What is known of a builder's labels.
+use Rattle.std.proofs.Common.{◌≡◌, ℕ, zero, suc, ◌<◌, ◌≤◌, Bool, true, false, List, [], ◌∷◌, ◌++◌, length, get_or, Option, Some, None, refl, sym, ap, ◌∙◌, subst, arith, true≢false}
+use Rattle.std.specs.Prelude.{is_some, unwrap_or}
+use Rattle.std.specs.List.{slice_set, list_all}
+use Rattle.std.proofs.lemmas.Bool.{and_parts, and_from, lt-ltb, le-leb, ltb-true, leb-true}
+use Rattle.std.proofs.lemmas.List.Folds.{list_all-append, list_all_at}
+use Rattle.std.proofs.lemmas.Option.{slice_get-get_or}
+use Rattle.pb_bytecode_program.specs.declared.instruction.Op.{Op}
+use Rattle.pb_assembler.specs.Draft.{Labelled, is_label, is_within, names_labels, are_within, place_of, joined, with_target, resolved_op}
+
+pub append_one : {X : Type 0} (p : X → Bool) → (xs : List X) (y : X) → list_all p xs ≡ true → p y ≡ true → list_all p (xs ++ y ∷ []) ≡ true
+append_one p xs y h k = list_all-append p xs (y ∷ []) ∙ and_from _ _ h (and_from _ _ k refl)
+
+implied : {X : Type 0} (p q : X → Bool) → ((x : X) → p x ≡ true → q x ≡ true) → (xs : List X) → list_all p xs ≡ true → list_all q xs ≡ true
+implied p q f [] h = refl
+implied p q f (x ∷ xs) h = let two = and_parts (p x) (list_all p xs) h in and_from _ _ (f x two.0) (implied p q f xs two.1)
+
+label_more : (n m : ℕ) → n ≤ m → (o : Option ℕ) → is_label n o ≡ true → is_label m o ≡ true
+label_more n m le None h = refl
+label_more n m le (Some l) h = let a = ltb-true l n h in lt-ltb l m (omega arith)
+
+within_more : (n m : ℕ) → n ≤ m → (o : Option ℕ) → is_within n o ≡ true → is_within m o ≡ true
+within_more n m le None h = refl
+within_more n m le (Some q) h = let a = leb-true q n h in le-leb q m (omega arith)
+
+pub names_more : (n m : ℕ) (ops : List Labelled) → n ≤ m → names_labels n ops ≡ true → names_labels m ops ≡ true
+names_more n m ops le h = implied (λ (o : Labelled). is_label n o.1) (λ (o : Labelled). is_label m o.1) (λ o k. label_more n m le o.1 k) ops h
+
+pub are_within_more : (n m : ℕ) (places : List (Option ℕ)) → n ≤ m → are_within n places ≡ true → are_within m places ≡ true
+are_within_more n m places le h = implied (is_within n) (is_within m) (λ o k. within_more n m le o k) places h
+
+pub set_within : (n : ℕ) (places : List (Option ℕ)) (i : ℕ) → are_within n places ≡ true → are_within n (slice_set places i (Some n)) ≡ true
+set_within n [] i h = refl
+set_within n (x ∷ xs) zero h = let two = and_parts (is_within n x) (are_within n xs) h in and_from _ _ (le-leb n n (omega arith)) two.1
+set_within n (x ∷ xs) (suc i) h = let two = and_parts (is_within n x) (are_within n xs) h in and_from _ _ two.0 (set_within n xs i two.1)
+
+pub set_length : (places : List (Option ℕ)) (i : ℕ) (o : Option ℕ) → length (slice_set places i o) ≡ length places
+set_length [] i o = refl
+set_length (x ∷ xs) zero o = refl
+set_length (x ∷ xs) (suc i) o = ap suc (set_length xs i o)
+
+-- ---- one of them
+
+pub one_of : {X : Type 0} (p : X → Bool) → (xs : List X) (i : ℕ) (d : X) → i < length xs → list_all p xs ≡ true → p (get_or xs i d) ≡ true
+one_of p xs i d below h = by (p (get_or xs i d)) refl
+  where
+    by : (b : Bool) → p (get_or xs i d) ≡ b → b ≡ true
+    by true e = refl
+    by false e = absurd (true≢false (sym h ∙ list_all_at p xs i d below e))
+
+pub below_label : (n l : ℕ) (o : Option ℕ) → o ≡ Some l → is_label n o ≡ true → l < n
+below_label n l o e h = ltb-true l n (subst (λ k. is_label n k ≡ true) e h)
+
+pub within_place : (n q : ℕ) (o : Option ℕ) → o ≡ Some q → is_within n o ≡ true → q ≤ n
+within_place n q o e h = leb-true q n (subst (λ k. is_within n k ≡ true) e h)
+
+pub no_place : (o : Option ℕ) → o ≡ None → is_some o ≡ true → ⊥
+no_place o e h = true≢false (sym h ∙ ap is_some e)
+
+pub resolved_one : (places : List (Option ℕ)) (op : Op) (label : Option ℕ) (l q : ℕ) → label ≡ Some l → l < length places → get_or places l None ≡ Some q → with_target op q ≡ resolved_op (place_of places) (op, label)
+resolved_one places op label l q e below at =
+    ap (with_target op) (sym (ap (λ o. unwrap_or (joined o) 0) (slice_get-get_or places l None below) ∙ ap (λ o. unwrap_or o 0) at))
+    ∙ sym (ap (λ (o : Option ℕ). resolved_op (place_of places) (op, o)) e)

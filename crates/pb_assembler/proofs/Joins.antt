@@ -1,0 +1,255 @@
+-- Chains of formulas, operand by operand, and quantifiers, slot by slot.
+use Rattle.std.proofs.Common.{◌≡◌, ℕ, zero, suc, ◌+◌, ◌<◌, Bool, true, false, not, List, [], ◌∷◌, ◌++◌, length, get_or, ◌≤◌, Option, Some, None, IfSome, refl, sym, ap, ◌∙◌, subst, arith, true≢false, Vec, Global, Box, inl, inr}
+use Rattle.std.proofs.lemmas.Bool.{and_parts, ltb-true}
+use Rattle.std.specs.Prelude.{nat_lt, box_value}
+use Rattle.std.specs.List.{slice_get}
+use mathlib.Core.Bool.{beq}
+use Rattle.pb_sorts.specs.declared.carrier.Carrier.{Carrier}
+use Rattle.pb_sorts.specs.Layout.{lists_of}
+use Rattle.pb_normal.specs.Normal as normal
+use Rattle.pb_normal.specs.Normal.{Term, Test, Join, Each, Call}
+use Rattle.pb_normal.specs.declared.formula.Formula as formula
+use Rattle.pb_normal.specs.declared.formula.Formula.{Formula}
+use Rattle.pb_normal.specs.View.{chained, nested, formula_view, formula_views}
+use Rattle.pb_bytecode_program.specs.declared.instruction.Op.TheVariants as op
+use Rattle.pb_assembler_scheme.specs.Pieces.{Piece, Plain, Then, Unless, Choose, Repeat}
+use Rattle.pb_assembler_scheme.specs.Scheme.{data_piece, test_of, tested_piece, join_piece, under, bracketed, deciding, connective_of, formula_piece, parameters}
+use Rattle.pb_assembler.specs.Draft.{Draft, Labelled}
+use Rattle.pb_assembler.specs.Emitted.{Emits, nowhere}
+use Rattle.pb_assembler.specs.Operands.{Guarded, early_test, guarded_by, IsLeft}
+use Rattle.pb_normal.specs.Small.{is_small, is_small_formula}
+use Rattle.pb_assembler.proofs.Emitting.{emits_then, emits_repeat, adds_from}
+use Rattle.pb_assembler.proofs.FormulaWeight.{weight, formulas_weight, positive, join_is}
+use Rattle.pb_assembler.proofs.Calls.{nothing}
+
+-- ---- the first test decides
+
+module _ (callees : List (List Carrier)) where
+  -- the code of a chain is that of its test, which guards the chain that is left
+  abbrev pub IsDecided : (m a : Bool) → normal.Formula → Guarded → Type 0
+  IsDecided m a f r = formula_piece callees a f ≡ tested_piece m a r.0 (formula_piece callees a (chained (Join m) r.1.0 r.1.1))
+
+  pub decided : (m a : Bool) (f : normal.Formula) (gs : List normal.Formula) → IfSome (early_test f gs) (IsDecided m a (chained (Join m) f gs))
+  decided m a f [] = tt
+  decided m a f (g ∷ gs) = by (test_of f) (test_of g) refl refl gs
+    where
+      by : (u v : Option Term) → u ≡ test_of f → v ≡ test_of g → (gs : List normal.Formula) → IfSome (guarded_by u v f g gs) (IsDecided m a (chained (Join m) f (g ∷ gs)))
+      by (Some t) v e k gs =
+          let R = chained (Join m) g gs in
+          ap (λ o. join_piece m a o (test_of R) (formula_piece callees a f) (formula_piece callees a R) (formula_piece callees m f) (formula_piece callees m R)) (sym e)
+      by None (Some t) e k [] =
+          ap (λ o. join_piece m a o (test_of g) (formula_piece callees a f) (formula_piece callees a g) (formula_piece callees m f) (formula_piece callees m g)) (sym e)
+          ∙ ap (λ o. join_piece m a None o (formula_piece callees a f) (formula_piece callees a g) (formula_piece callees m f) (formula_piece callees m g)) (sym k)
+      by None (Some t) e k (h ∷ hs) = tt
+      by None None e k gs = tt
+
+  -- where no test comes first, the operands stand one behind the other
+  pub undecided : (m a : Bool) (f g : normal.Formula) (gs : List normal.Formula) → early_test f (g ∷ gs) ≡ None
+      → formula_piece callees a (chained (Join m) f (g ∷ gs)) ≡ under m a (Then (formula_piece callees m f) (formula_piece callees m (chained (Join m) g gs)))
+  undecided m a f g gs n = by (test_of f) (test_of g) refl refl gs n
+    where
+      by : (u v : Option Term) → u ≡ test_of f → v ≡ test_of g → (gs : List normal.Formula) → guarded_by u v f g gs ≡ None
+          → formula_piece callees a (chained (Join m) f (g ∷ gs)) ≡ under m a (Then (formula_piece callees m f) (formula_piece callees m (chained (Join m) g gs)))
+      by (Some t) v e k gs n = cc
+      by None (Some t) e k [] n = cc
+      by None (Some t) e k (h ∷ hs) n =
+          let R = chained (Join m) g (h ∷ hs) in
+          ap (λ o. join_piece m a o None (formula_piece callees a f) (formula_piece callees a R) (formula_piece callees m f) (formula_piece callees m R)) (sym e)
+      by None None e k [] n =
+          ap (λ o. join_piece m a o (test_of g) (formula_piece callees a f) (formula_piece callees a g) (formula_piece callees m f) (formula_piece callees m g)) (sym e)
+          ∙ ap (λ o. join_piece m a None o (formula_piece callees a f) (formula_piece callees a g) (formula_piece callees m f) (formula_piece callees m g)) (sym k)
+      by None None e k (h ∷ hs) n =
+          let R = chained (Join m) g (h ∷ hs) in
+          ap (λ o. join_piece m a o None (formula_piece callees a f) (formula_piece callees a R) (formula_piece callees m f) (formula_piece callees m R)) (sym e)
+
+under_own : (m : Bool) (x : Piece) → under m m x ≡ x
+under_own true x = refl
+under_own false x = refl
+
+under_other : (a : Bool) (x : Piece) → under (not a) a x ≡ bracketed (not a) x
+under_other true x = refl
+under_other false x = refl
+
+pub tested_own : (m : Bool) (t : Term) (x : Piece) → tested_piece m m t x ≡ Then (data_piece t) (Choose m (Plain (op.Emit (deciding m))) x)
+tested_own true t x = refl
+tested_own false t x = refl
+
+pub tested_other : (a : Bool) (t : Term) (x : Piece) → tested_piece (not a) a t x ≡ Then (data_piece t) (Unless a x)
+tested_other true t x = refl
+tested_other false t x = refl
+
+-- a chain of one operand, and one of several
+pub alone : (t x : Formula) (c : Bool) (first : Box Formula Global) (v : Vec Formula Global) → t ≡ formula.Join c first v → x ≡ box_value first → length v.items ≡ 0 → formula_view x ≡ formula_view t
+alone t x c first v is same none = join_is t x c first v [] is same (sym (nothing v.items none))
+
+pub several : (t : Formula) (c : Bool) (first : Box Formula Global) (v : Vec Formula Global) → t ≡ formula.Join c first v → 0 < length v.items → None ≡ test_of (formula_view t)
+several t c first v is some = by v.items some ∙ ap test_of (join_is t (box_value first) c first v v.items is refl refl)
+  where
+    by : (fs : List Formula) → 0 < length fs → None ≡ test_of (chained (Join c) (formula_view (box_value first)) (formula_views fs))
+    by [] l = absurd (omega arith)
+    by (f ∷ fs) l = refl
+
+pub no_test : (m : Bool) (s : ℕ) (cs : List Carrier) (f : normal.Formula) → 0 < length cs → None ≡ test_of (nested m s cs f)
+no_test m s [] f l = absurd (omega arith)
+no_test m s (c ∷ cs) f l = refl
+
+-- ---- numbers stay small, and work less
+
+small_test : (f : normal.Formula) → is_small_formula f ≡ true → IfSome (test_of f) (λ t. is_small t ≡ true)
+small_test (Test t) h = h
+small_test (Join m f g) h = tt
+small_test (Each m s shape f) h = tt
+small_test (Call X xs) h = tt
+
+abbrev pub AreSmall : Bool → Guarded → Type 0
+AreSmall m r = (is_small r.0 ≡ true) × (is_small_formula (chained (Join m) r.1.0 r.1.1) ≡ true)
+
+small_parts : (m : Bool) (f : normal.Formula) (gs : List normal.Formula) → is_small_formula (chained (Join m) f gs) ≡ true → IfSome (early_test f gs) (AreSmall m)
+small_parts m f [] h = tt
+small_parts m f (g ∷ gs) h =
+    let both = and_parts (is_small_formula f) (is_small_formula (chained (Join m) g gs)) h in
+    by (test_of f) (test_of g) refl refl gs both.0 both.1
+  where
+    by : (u v : Option Term) → u ≡ test_of f → v ≡ test_of g → (gs : List normal.Formula) → is_small_formula f ≡ true → is_small_formula (chained (Join m) g gs) ≡ true → IfSome (guarded_by u v f g gs) (AreSmall m)
+    by (Some t) v e k gs h i = (subst (λ o. IfSome o (λ t. is_small t ≡ true)) (sym e) (small_test f h), i)
+    by None (Some t) e k [] h i = (subst (λ o. IfSome o (λ t. is_small t ≡ true)) (sym k) (small_test g i), h)
+    by None (Some t) e k (x ∷ xs) h i = tt
+    by None None e k gs h i = tt
+
+pub small_first : (m : Bool) (f : normal.Formula) (gs : List normal.Formula) → is_small_formula (chained (Join m) f gs) ≡ true → is_small_formula f ≡ true
+small_first m f [] h = h
+small_first m f (g ∷ gs) h = (and_parts (is_small_formula f) (is_small_formula (chained (Join m) g gs)) h).0
+
+pub small_rest : (m : Bool) (f g : normal.Formula) (gs : List normal.Formula) → is_small_formula (chained (Join m) f (g ∷ gs)) ≡ true → is_small_formula (chained (Join m) g gs) ≡ true
+small_rest m f g gs h = (and_parts (is_small_formula f) (is_small_formula (chained (Join m) g gs)) h).1
+
+pub left_weighs : (first : Formula) (rest : List Formula) (f : Formula) (gs : List Formula) → IsLeft first rest f gs → (length gs < length rest) × (weight f + formulas_weight gs < weight first + formulas_weight rest)
+left_weighs first rest f gs (inl e) =
+    let p = positive first in (omega (arith, ap (λ (zs : List Formula). length zs) e), omega (arith, p, ap formulas_weight e))
+left_weighs first rest f gs (inr (same, none, some)) =
+    let p = more rest some in (omega (arith, ap (λ (zs : List Formula). length zs) none, some), omega (arith, p, ap weight same, ap formulas_weight none))
+  where
+    more : (xs : List Formula) → 0 < length xs → 0 < formulas_weight xs
+    more [] l = absurd (omega arith)
+    more (x ∷ xs) l = let p = positive x in omega arith
+
+-- ---- one step along a chain, in the code's words
+
+pub test_step : (callees : List (List Carrier)) (m a : Bool) (f : normal.Formula) (gs : List normal.Formula) (o : Option Guarded) (r : Guarded) → o ≡ Some r → o ≡ early_test f gs → IsDecided callees m a (chained (Join m) f gs) r
+test_step callees m a f gs o r is told = subst (λ q. IfSome q (IsDecided callees m a (chained (Join m) f gs))) (sym told ∙ is) (decided callees m a f gs)
+
+pub test_small : (m : Bool) (f : normal.Formula) (gs : List normal.Formula) (o : Option Guarded) (r : Guarded) → o ≡ Some r → o ≡ early_test f gs → is_small_formula (chained (Join m) f gs) ≡ true
+    → (is_small r.0 ≡ true) × (is_small_formula (chained (Join m) r.1.0 r.1.1) ≡ true)
+test_small m f gs o r is told h = subst (λ q. IfSome q (AreSmall m)) (sym told ∙ is) (small_parts m f gs h)
+
+pub next_own : (callees : List (List Carrier)) (m : Bool) (f : Formula) (gs : List Formula) (g : Formula) (hs : List Formula) → gs ≡ g ∷ hs → early_test (formula_view f) (formula_views gs) ≡ None
+    → formula_piece callees m (chained (Join m) (formula_view f) (formula_views gs)) ≡ Then (formula_piece callees m (formula_view f)) (formula_piece callees m (chained (Join m) (formula_view g) (formula_views hs)))
+next_own callees m f gs g hs e n =
+    ap (λ (zs : List Formula). formula_piece callees m (chained (Join m) (formula_view f) (formula_views zs))) e
+    ∙ undecided callees m m (formula_view f) (formula_view g) (formula_views hs) (sym (ap (λ (zs : List Formula). early_test (formula_view f) (formula_views zs)) e) ∙ n)
+    ∙ under_own m _
+
+pub all_other : (callees : List (List Carrier)) (a : Bool) (f : normal.Formula) (gs : List normal.Formula) → 0 < length gs → early_test f gs ≡ None
+    → formula_piece callees a (chained (Join (not a)) f gs) ≡ bracketed (not a) (formula_piece callees (not a) (chained (Join (not a)) f gs))
+all_other callees a f [] l n = absurd (omega arith)
+all_other callees a f (g ∷ gs) l n =
+    undecided callees (not a) a f g gs n ∙ under_other a _
+    ∙ ap (bracketed (not a)) (sym (undecided callees (not a) (not a) f g gs n ∙ under_own (not a) _))
+
+-- ---- quantifiers
+
+-- loops over as many slots, from s on
+abbrev pub repeated : ℕ → ℕ → Piece → Piece
+repeated s zero y = y
+repeated s (suc k) y = repeated s k (Repeat (s + k) y)
+
+repeated_front : (s k : ℕ) (y : Piece) → Repeat s (repeated (suc s) k y) ≡ repeated s (suc k) y
+repeated_front s zero y = ap (λ i. Repeat i y) (omega arith)
+repeated_front s (suc k) y = repeated_front s k (Repeat (suc s + k) y) ∙ ap (λ i. repeated s (suc k) (Repeat i y)) (omega arith)
+
+pub each_repeated : (callees : List (List Carrier)) (m : Bool) (s : ℕ) (cs : List Carrier) (f : normal.Formula) → formula_piece callees m (nested m s cs f) ≡ repeated s (length cs) (formula_piece callees m f)
+each_repeated callees m s [] f = refl
+each_repeated callees m s (c ∷ cs) f =
+    under_own m (Repeat s (formula_piece callees m (nested m (suc s) cs f)))
+    ∙ ap (Repeat s) (each_repeated callees m (suc s) cs f)
+    ∙ repeated_front s (length cs) (formula_piece callees m f)
+
+differ : (m a : Bool) (x : Piece) → beq m a ≡ false → under m a x ≡ bracketed m x
+differ true true x n = absurd (true≢false n)
+differ true false x n = refl
+differ false true x n = refl
+differ false false x n = absurd (true≢false n)
+
+pub each_other : (callees : List (List Carrier)) (m a : Bool) (s : ℕ) (cs : List Carrier) (f : normal.Formula) → beq m a ≡ false → 0 < length cs
+    → formula_piece callees a (nested m s cs f) ≡ bracketed m (formula_piece callees m (nested m s cs f))
+each_other callees m a s [] f n l = absurd (omega arith)
+each_other callees m a s (c ∷ cs) f n l =
+    differ m a (Repeat s (formula_piece callees m (nested m (suc s) cs f))) n
+    ∙ ap (bracketed m) (sym (under_own m (Repeat s (formula_piece callees m (nested m (suc s) cs f)))))
+
+pub small_body : (m : Bool) (s : ℕ) (cs : List Carrier) (f : normal.Formula) → is_small_formula (nested m s cs f) ≡ true → is_small_formula f ≡ true
+small_body m s [] f h = h
+small_body m s (c ∷ cs) f h = small_body m (suc s) cs f (and_parts (nat_lt s 256) (is_small_formula (nested m (suc s) cs f)) h).1
+
+pub small_slot : (m : Bool) (s : ℕ) (cs : List Carrier) (f : normal.Formula) (k : ℕ) → k < length cs → is_small_formula (nested m s cs f) ≡ true → s + k < 256
+small_slot m s [] f k l h = absurd (omega arith)
+small_slot m s (c ∷ cs) f zero l h = let a = ltb-true s 256 (and_parts (nat_lt s 256) (is_small_formula (nested m (suc s) cs f)) h).0 in omega (arith, a)
+small_slot m s (c ∷ cs) f (suc k) l h = let a = small_slot m (suc s) cs f k (omega arith) (and_parts (nat_lt s 256) (is_small_formula (nested m (suc s) cs f)) h).1 in omega (arith, a)
+
+-- one more instruction
+abbrev pub plus : Draft → Labelled → Draft
+plus d o = record d { ops = d.ops ++ o ∷ [] }
+
+-- so many ends of loops
+abbrev pub Closes : ℕ → Draft → Draft → Type 0
+Closes zero d d' = d' ≡ d
+Closes (suc k) d d' = Closes k (plus d (op.Next, None)) d'
+
+pub closes_more : (k : ℕ) (d d1 d2 : Draft) → Closes k d d1 → d2 ≡ plus d1 (op.Next, None) → Closes (suc k) d d2
+closes_more zero d d1 d2 c e = e ∙ ap (λ (x : Draft). plus x (op.Next, None)) c
+closes_more (suc k) d d1 d2 c e = closes_more k (plus d (op.Next, None)) d1 d2 c e
+
+-- loops are begun: a body and their ends make the whole
+abbrev pub Begins : ℕ → ℕ → Draft → Draft → Type 0
+Begins s k d0 d = (y : Piece) (d1 d2 : Draft) → Emits y nowhere d d1 → Closes k d1 d2 → Emits (repeated s k y) nowhere d0 d2
+
+pub begins_none : (s : ℕ) (d : Draft) → Begins s 0 d d
+begins_none s d = λ y d1 d2 h c. subst (λ (x : Draft). Emits y nowhere d x) (sym c) h
+
+pub begins_more : (s k : ℕ) (d0 d d' : Draft) → Begins s k d0 d → d' ≡ plus d (op.Loop (s + k), None) → Begins s (suc k) d0 d'
+begins_more s k d0 d d' b e = λ y d1 d2 h c.
+    b (Repeat (s + k) y) (plus d1 (op.Next, None)) d2
+    (emits_repeat (s + k) y nowhere d d' d1 (plus d1 (op.Next, None)) (adds_from d d' (op.Loop (s + k), None) e) h (adds_from d1 (plus d1 (op.Next, None)) (op.Next, None) refl)) c
+
+-- an opened bracket, its content, and its end
+pub bracket_emitted : (m : Bool) (x : Piece) (d d1 d2 d3 : Draft) → Emits (Plain (op.Open (connective_of m))) nowhere d d1 → Emits x nowhere d1 d2 → Emits (Plain op.Close) nowhere d2 d3 → Emits (bracketed m x) nowhere d d3
+bracket_emitted m x d d1 d2 d3 h hx k =
+    emits_then (Plain (op.Open (connective_of m))) (Then x (Plain op.Close)) nowhere d d1 d3 h (emits_then x (Plain op.Close) nowhere d1 d2 d3 hx k)
+
+pub other_kind : (m a : Bool) → beq m a ≡ false → m ≡ not a
+other_kind true true n = absurd (true≢false n)
+other_kind true false n = refl
+other_kind false true n = refl
+other_kind false false n = absurd (true≢false n)
+
+pub untested : (callees : List (List Carrier)) (a : Bool) (f : normal.Formula) (gs : List Formula) → 0 < length gs → early_test f (formula_views gs) ≡ None
+    → formula_piece callees a (chained (Join (not a)) f (formula_views gs)) ≡ bracketed (not a) (formula_piece callees (not a) (chained (Join (not a)) f (formula_views gs)))
+untested callees a f [] l n = absurd (omega arith)
+untested callees a f (g ∷ gs) l n = all_other callees a f (formula_view g ∷ formula_views gs) (omega arith) n
+
+-- a call's parameters
+pub there : (cs : List (Vec Carrier Global)) (i : ℕ) (x : Vec Carrier Global) → i < length cs → x ≡ get_or cs i x → parameters (slice_get (lists_of cs) i) ≡ x.items
+there [] i x l e = absurd (omega arith)
+there (c ∷ cs) zero x l e = ap (λ (v : Vec Carrier Global). v.items) (sym e)
+there (c ∷ cs) (suc i) x l e = there cs i x (omega arith) e
+
+pub not_there : (cs : List (Vec Carrier Global)) (i : ℕ) → length cs ≤ i → parameters (slice_get (lists_of cs) i) ≡ []
+not_there [] i l = refl
+not_there (c ∷ cs) zero l = absurd (omega arith)
+not_there (c ∷ cs) (suc i) l = not_there cs i (omega arith)
+
+pub same_kind : (m a : Bool) → beq m a ≡ true → m ≡ a
+same_kind true true e = refl
+same_kind true false e = absurd (true≢false (sym e))
+same_kind false true e = absurd (true≢false (sym e))
+same_kind false false e = refl

@@ -1,0 +1,117 @@
+-- The first equation whose code exceeds a limit.
+use Rattle.std.proofs.Common.{◌≡◌, ℕ, suc, ◌+◌, ◌<◌, ◌≤◌, List, [], ◌∷◌, length, Option, Some, None, refl, sym, ap, ◌∙◌, subst, arith, ⊎_elim, Vec, Global}
+use Rattle.std.specs.List.{slice_get}
+use Rattle.std.proofs.lemmas.Bool.{cases_lt}
+use Rattle.std.proofs.lemmas.Option.{slice_get_within}
+use Rattle.pb_sorts.specs.declared.carrier.Carrier.{Carrier}
+use Rattle.pb_text_meaning.specs.Syntax as syntax
+use Rattle.pb_text_meaning.specs.Syntax.{Spec}
+use Rattle.pb_bytecode.specs.Contents.{EquationContents, Contents}
+use Rattle.pb_bytecode.specs.Meaning.{program_of}
+use Rattle.pb_bytecode_program.specs.Machine.{Program}
+use Rattle.pb_normal.specs.Equations.{normal_equation}
+use Rattle.pb_normal.specs.Normal.{Formula}
+use Rattle.pb_normal.specs.View.{formula_view}
+use Rattle.pb_normal.specs.declared.normal.Equation.{Equation}
+use Rattle.pb_assembler_scheme.specs.Scheme.{parameters}
+use Rattle.pb_assembler_accepted.specs.Limits.{KeepsLimits}
+use Rattle.pb_assembler_accepted.specs.Made.{IsMadeOf}
+use Rattle.pb_assembler_modules.specs.Module.{AreEquationsOf, IsCompiledModule, KeepLimits, KeepsAllLimits}
+use Rattle.pb_assembler_modules.proofs.Modules.{made}
+use Rattle.pb_assembler.specs.declared.limit.Limit.{Limit}
+use Rattle.pb_assembler.specs.declared.limit.Measures.{Measures}
+use Rattle.pb_assembler.specs.Excess.{AreMeasures, ExceedsFirst, IsFirstExcess, first_excess}
+use Rattle.pb_assembler.specs.MeasureFormulas.{callees_of}
+use Rattle.pb_assembler.specs.MeasureEquations.{AreMeasuresOf, AreNormalForms, EachKeepsLimits, IsProgram}
+use Rattle.pb_assembler.proofs.Measured.{kept}
+use Rattle.pb_assembler.proofs.MeasureMade.{form_at, text_at, parameters_at, program, program_made, made_is_program}
+
+-- ---- one equation
+
+-- its programs keep the limits
+abbrev pub Keeps : List (List Carrier) → Equation → Type 0
+Keeps callees e = (p : Program) → IsProgram callees e p → KeepsLimits p (formula_view e.right)
+
+-- its programs exceed this limit first
+abbrev pub Exceeds : List (List Carrier) → Equation → Limit → Type 0
+Exceeds callees e l = (p : Program) → IsProgram callees e p → ExceedsFirst p (formula_view e.right) l
+
+pub keeps : (callees : List (List Carrier)) (e : Equation) (m : Measures) (o : Option Limit) → AreMeasuresOf m callees e → o ≡ first_excess m → o ≡ None → Keeps callees e
+keeps callees e m o h f g p made = kept m p (formula_view e.right) (h p made) (sym f ∙ g)
+
+abbrev measures : (i o b n l s k : ℕ) → Measures
+measures i o b n l s k = record { instructions = i; operands = o; brackets = b; nesting = n; slots = l; steps = s; tokens = k }
+
+-- measures are determined by the program and its right side
+same_measures : (m n : Measures) (p : Program) (f : Formula) → AreMeasures m p f → AreMeasures n p f → m ≡ n
+same_measures m n p f a b =
+    ap (λ x. measures x m.operands m.brackets m.nesting m.slots m.steps m.tokens) (a.instructions ∙ sym b.instructions)
+    ∙ ap (λ x. measures n.instructions x m.brackets m.nesting m.slots m.steps m.tokens) (a.operands ∙ sym b.operands)
+    ∙ ap (λ x. measures n.instructions n.operands x m.nesting m.slots m.steps m.tokens) (a.brackets ∙ sym b.brackets)
+    ∙ ap (λ x. measures n.instructions n.operands n.brackets x m.slots m.steps m.tokens) (a.nesting ∙ sym b.nesting)
+    ∙ ap (λ x. measures n.instructions n.operands n.brackets n.nesting x m.steps m.tokens) (a.slots ∙ sym b.slots)
+    ∙ ap (λ x. measures n.instructions n.operands n.brackets n.nesting n.slots x m.tokens) (a.steps ∙ sym b.steps)
+    ∙ ap (λ x. measures n.instructions n.operands n.brackets n.nesting n.slots n.steps x) (a.tokens ∙ sym b.tokens)
+
+pub exceeds : (callees : List (List Carrier)) (e : Equation) (m : Measures) (o : Option Limit) (l : Limit) → AreMeasuresOf m callees e → o ≡ first_excess m → o ≡ Some l → Exceeds callees e l
+exceeds callees e m o l h f g p made n a =
+    ap first_excess (same_measures n m p (formula_view e.right) a (h p made)) ∙ sym f ∙ g
+
+-- ---- the equations up to a place
+
+abbrev pub KeepTo : List (List Carrier) → List Equation → ℕ → Type 0
+KeepTo callees es n = (j : ℕ) (e : Equation) → j < n → slice_get es j ≡ Some e → Keeps callees e
+
+pub keep_none : (callees : List (List Carrier)) (es : List Equation) → KeepTo callees es 0
+keep_none callees es j e l at = absurd (omega arith)
+
+pub keep_more : (callees : List (List Carrier)) (es : List Equation) (n m : ℕ) (d : Equation) → m ≡ n + 1 → slice_get es n ≡ Some d → KeepTo callees es n → Keeps callees d → KeepTo callees es m
+keep_more callees es n m d f here h k j e l at =
+    ⊎_elim (λ (less : j < n). h j e less at) (λ (more : n ≤ j).
+    let same : j ≡ n = omega arith in
+    let found : Some d ≡ Some e = sym here ∙ ap (slice_get es) (sym same) ∙ at in
+    let equal : d ≡ e = cc in
+    subst (λ (x : Equation). Keeps callees x) equal k) (cases_lt j n)
+
+-- ---- texts
+
+module _ (spec : Spec) (cs : List (Vec Carrier Global)) (es : List Equation) (forms : AreNormalForms spec cs es) where
+  keep_text : (n : ℕ) → KeepTo (callees_of cs) es n → (j : ℕ) (X : syntax.Equation) → j < n → slice_get spec.equations j ≡ Some X → (p : Program) → IsMadeOf spec X p → KeepsLimits p (normal_equation spec X)
+  keep_text n h j X l at p made =
+      let form = form_at spec spec.equations es forms.rights forms.loops j X at in
+      subst (λ (f : Formula). KeepsLimits p f) form.2.right (h j form.0 l form.1 p (made_is_program spec cs X form.0 p forms.parameters form.2 made))
+
+  pub all_keep : (n : ℕ) → length es ≤ n → KeepTo (callees_of cs) es n → EachKeepsLimits spec
+  all_keep n long h k X at =
+      let form = form_at spec spec.equations es forms.rights forms.loops k X at in
+      let below : k < length es = slice_get_within es k form.0 form.1 in
+      keep_text n h k X (omega arith) at
+
+  pub first_found : (k : ℕ) (e : Equation) (l : Limit) → slice_get es k ≡ Some e → Exceeds (callees_of cs) e l → KeepTo (callees_of cs) es k → IsFirstExcess spec l k
+  first_found k e l at over h =
+      let text = text_at spec spec.equations es forms.rights forms.loops k e at in
+      let X = text.0 in
+      let callees = callees_of cs in
+      let params = parameters (slice_get callees k) in
+      let p = program spec callees params e.loops.items X in
+      let made : IsMadeOf spec X p = program_made spec callees params e.loops.items X forms.parameters (parameters_at spec callees spec.equations forms.parameters k X text.1) text.2.loops in
+      record {
+        equation = X;
+        there = text.1;
+        program = p;
+        made = made;
+        exceeds = subst (λ (f : Formula). ExceedsFirst p f l) text.2.right (over p (made_is_program spec cs X e p forms.parameters text.2 made));
+        earlier = λ j Y less here q is. keep_text k h j Y less here q is;
+      }
+
+-- a module that is made of a text keeps the limits that all its equations' code keeps
+module _ (spec : Spec) (m : Contents) (compiled : IsCompiledModule spec m) where
+  module_kept : (E : List syntax.Equation) (es : List EquationContents) → AreEquationsOf spec m E es
+      → ((k : ℕ) (X : syntax.Equation) → slice_get E k ≡ Some X → (p : Program) → IsMadeOf spec X p → KeepsLimits p (normal_equation spec X)) → KeepLimits spec m E es
+  module_kept [] [] h keep = tt
+  module_kept [] (e ∷ es) h keep = tt
+  module_kept (X ∷ E) [] h keep = tt
+  module_kept (X ∷ E) (e ∷ es) h keep = (keep 0 X refl (program_of m e) (made spec m compiled X e h.0), module_kept E es h.1 (λ k Y at. keep (suc k) Y at))
+
+  pub module_keeps : EachKeepsLimits spec → KeepsAllLimits spec m
+  module_keeps keep = module_kept spec.equations m.equations compiled.equations keep

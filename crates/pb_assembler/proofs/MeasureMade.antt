@@ -1,0 +1,140 @@
+-- A program of each of a text's equations, and what is known of all of them.
+use Rattle.std.proofs.Common.{◌≡◌, ℕ, zero, suc, ◌+◌, ◌*◌, List, [], ◌∷◌, map, length, Option, Some, None, refl, sym, ap, ◌∙◌, subst, Vec, Global}
+use Rattle.std.specs.List.{slice_get}
+use Rattle.std.specs.Prelude.{nat_lt, cond, ◌-◌}
+use Rattle.std.proofs.lemmas.List.{length-map}
+use Rattle.pb_sorts.specs.declared.carrier.Carrier.{Carrier}
+use Rattle.pb_text_meaning.specs.Syntax as syntax
+use Rattle.pb_text_meaning.specs.Syntax.{Variable, Spec}
+use Rattle.pb_typing_declarations.specs.Shapes.{Shape, sort_shape}
+use Rattle.pb_typing_declarations.specs.Entries.{carrier_shape}
+use Rattle.pb_bytecode_program.specs.Machine.{Program, carrier_of}
+use Rattle.pb_bytecode_program.specs.Counts.{LoopEffect, Enters, Leaves, Straight, loop_effect, size_of, multiplier, cost_by, cost_of, one_step, tokens_of, static_steps, static_tokens}
+use Rattle.pb_bytecode_program.specs.declared.instruction.Op.{Op}
+use Rattle.pb_normal.specs.Equations.{normal_equation}
+use Rattle.pb_normal.specs.Loops.{equation_loops, variable_shapes}
+use Rattle.pb_normal.specs.Normal.{Formula}
+use Rattle.pb_normal.specs.View.{formula_view, right_views, shapes_of}
+use Rattle.pb_normal.specs.declared.normal.Equation.{Equation}
+use Rattle.pb_assembler_scheme.specs.Scheme.{equation_code, parameters}
+use Rattle.pb_assembler_scheme.specs.Correct.{IsCompiled, quantifiers, slots_from}
+use Rattle.pb_assembler_accepted.specs.Made.{struct_counts, parameter_shapes, IsMadeOf}
+use Rattle.pb_assembler.specs.MeasureFormulas.{callees_of}
+use Rattle.pb_assembler.specs.MeasureEquations.{IsProgram}
+use Rattle.pb_assembler.proofs.MeasureSlots.{equation_quantifiers, slots_long}
+
+-- ---- static counts do not depend on what a program states
+
+module _ (p q : Program) (params : p.params ≡ q.params) (loops : p.loops ≡ q.loops) where
+  carrier_same : (s : ℕ) → carrier_of p s ≡ carrier_of q s
+  carrier_same s =
+      ap (λ (cs : List Carrier). cond (nat_lt s (length cs)) None (slice_get p.loops (s - length cs))) params
+      ∙ ap (λ (cs : List Carrier). cond (nat_lt s (length q.params)) None (slice_get cs (s - length q.params))) loops
+
+  pub cost_same : (cost : Op → ℕ) (is : List Op) (ws : List ℕ) → cost_of p cost is ws ≡ cost_of q cost is ws
+  cost_same cost [] ws = refl
+  cost_same cost (i ∷ is) ws = by (loop_effect i) ws (cost_same cost is)
+    where
+      by : (e : LoopEffect) (vs : List ℕ) → ((us : List ℕ) → cost_of p cost is us ≡ cost_of q cost is us) → cost_by p e (cost i) vs (cost_of p cost is) ≡ cost_by q e (cost i) vs (cost_of q cost is)
+      by (Enters s) vs h =
+          ap (λ n. multiplier vs * cost i + n)
+          (ap (λ (o : Option Carrier). cost_of p cost is (multiplier vs * size_of o ∷ vs)) (carrier_same s) ∙ h (multiplier vs * size_of (carrier_of q s) ∷ vs))
+      by Leaves [] h = refl
+      by Leaves (v ∷ vs) h = ap (λ n. v * cost i + n) (h vs)
+      by Straight vs h = ap (λ n. multiplier vs * cost i + n) (h vs)
+
+-- ---- programs that state their counts
+
+-- with exactly its static counts
+abbrev pub stated : Program → Program
+stated p = record p { stated_steps = static_steps p; stated_tokens = static_tokens p }
+
+pub steps_stated : (p : Program) → static_steps (stated p) ≡ static_steps p
+steps_stated p = cost_same (stated p) p refl refl one_step p.code []
+
+pub tokens_stated : (p : Program) → static_tokens (stated p) ≡ static_tokens p
+tokens_stated p = cost_same (stated p) p refl refl tokens_of p.code []
+
+pub stated_compiled : (p : Program) (f : Formula) → p.code ≡ equation_code p.callees f → quantifiers f ≡ slots_from (length p.params) p.loops → IsCompiled (stated p) f
+stated_compiled p f code slots = record { code = code; slots = slots; steps = sym (steps_stated p); tokens = sym (tokens_stated p) }
+
+-- ---- the equations of a text, and those of its normal form
+
+-- the normal form of an equation
+pub record IsNormalForm (spec : Spec) (X : syntax.Equation) (e : Equation) : Type 0 where
+  pub right : formula_view e.right ≡ normal_equation spec X
+  pub loops : shapes_of e.loops.items ≡ equation_loops spec X
+
+module _ (spec : Spec) where
+  abbrev AreRights : List syntax.Equation → List Equation → Type 0
+  AreRights E es = right_views es ≡ map (normal_equation spec) E
+
+  abbrev HaveLoops : List syntax.Equation → List Equation → Type 0
+  HaveLoops E es = map (λ (e : Equation). shapes_of e.loops.items) es ≡ map (equation_loops spec) E
+
+  pub form_at : (E : List syntax.Equation) (es : List Equation) → AreRights E es → HaveLoops E es → (k : ℕ) (X : syntax.Equation) → slice_get E k ≡ Some X
+      → (e : Equation) × (slice_get es k ≡ Some e) × IsNormalForm spec X e
+  form_at [] es r l k X at = cc
+  form_at (Y ∷ E) [] r l k X at = cc
+  form_at (Y ∷ E) (d ∷ es) r l zero X at = (d, refl, record { right = cc; loops = cc })
+  form_at (Y ∷ E) (d ∷ es) r l (suc k) X at =
+      let rest : AreRights E es = cc in
+      let more : HaveLoops E es = cc in
+      form_at E es rest more k X at
+
+  pub text_at : (E : List syntax.Equation) (es : List Equation) → AreRights E es → HaveLoops E es → (k : ℕ) (e : Equation) → slice_get es k ≡ Some e
+      → (X : syntax.Equation) × (slice_get E k ≡ Some X) × IsNormalForm spec X e
+  text_at E [] r l k e at = cc
+  text_at [] (d ∷ es) r l k e at = cc
+  text_at (Y ∷ E) (d ∷ es) r l zero e at = (Y, refl, record { right = cc; loops = cc })
+  text_at (Y ∷ E) (d ∷ es) r l (suc k) e at =
+      let rest : AreRights E es = cc in
+      let more : HaveLoops E es = cc in
+      text_at E es rest more k e at
+
+  pub parameters_at : (cs : List (List Carrier)) (E : List syntax.Equation) → map shapes_of cs ≡ parameter_shapes spec E → (k : ℕ) (X : syntax.Equation) → slice_get E k ≡ Some X
+      → shapes_of (parameters (slice_get cs k)) ≡ variable_shapes spec X.parameters
+  parameters_at cs [] e k X at = cc
+  parameters_at [] (Y ∷ E) e k X at = cc
+  parameters_at (c ∷ cs) (Y ∷ E) e zero X at = cc
+  parameters_at (c ∷ cs) (Y ∷ E) e (suc k) X at = let rest : map shapes_of cs ≡ parameter_shapes spec E = cc in parameters_at cs E rest k X at
+
+  -- ---- a program of an equation
+
+  module _ (callees : List (List Carrier)) (params loops : List Carrier) (X : syntax.Equation) where
+    abbrev bare : Program
+    bare = record {
+      sorts = struct_counts spec.sorts;
+      callees = callees;
+      params = params;
+      loops = loops;
+      stated_steps = 0;
+      stated_tokens = 0;
+      code = equation_code callees (normal_equation spec X);
+    }
+
+    abbrev pub program : Program
+    program = stated bare
+
+    pub program_made : map shapes_of callees ≡ parameter_shapes spec spec.equations → shapes_of params ≡ variable_shapes spec X.parameters → shapes_of loops ≡ equation_loops spec X → IsMadeOf spec X program
+    program_made calls mine each =
+        let long : length X.parameters ≡ length params =
+        sym (length-map X.parameters (λ (x : Variable). sort_shape spec x.sort)) ∙ sym (ap length mine) ∙ length-map params (λ (c : Carrier). carrier_shape (Some c)) in
+        record {
+          compiled = stated_compiled bare (normal_equation spec X) refl (equation_quantifiers spec X loops each ∙ ap (λ n. slots_from n loops) long);
+          sorts = refl;
+          params = mine;
+          callees = calls;
+        }
+
+  -- ---- all programs that are made of an equation
+
+  pub made_is_program : (cs : List (Vec Carrier Global)) (X : syntax.Equation) (e : Equation) (p : Program) → map shapes_of (callees_of cs) ≡ parameter_shapes spec spec.equations → IsNormalForm spec X e → IsMadeOf spec X p → IsProgram (callees_of cs) e p
+  made_is_program cs X e p calls form made = record {
+    compiled = subst (λ (f : Formula). IsCompiled p f) (sym form.right) made.compiled;
+    loops =
+        sym (slots_long (length p.params) p.loops)
+        ∙ ap (λ (qs : List (ℕ × Shape)). length qs) (sym made.compiled.slots ∙ equation_quantifiers spec X e.loops.items form.loops)
+        ∙ slots_long (length X.parameters) e.loops.items;
+    callees = made.callees ∙ sym calls;
+  }

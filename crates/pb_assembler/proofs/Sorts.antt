@@ -1,0 +1,90 @@
+-- The sorts of a module, declaration by declaration, and their enumerators' names.
+use Rattle.std.proofs.Common.{◌≡◌, ℕ, ◌+◌, ◌<◌, ◌≤◌, Bool, true, List, [], ◌∷◌, ◌++◌, map, length, get_or, drop, refl, sym, ap, ◌∙◌, subst, arith, string_bytes}
+use Rattle.std.specs.List.{list_all}
+use Rattle.std.proofs.lemmas.Bool.{and_parts}
+use Rattle.std.proofs.lemmas.List.{append_assoc, append-nil, length-map, map_push}
+use Rattle.pb_text_tree.specs.declared.sort.Enumerator as tree
+use Rattle.pb_text_tree.specs.declared.sort.SortDeclaration.{SortDeclaration}
+use Rattle.pb_text_tree.specs.Form.{enumerator_form, sort_declaration_form, sort_form}
+use Rattle.pb_text_meaning.specs.Erase.{erased_declaration, erased_enumerator, erased_sort}
+use Rattle.pb_text_meaning.specs.Syntax as syntax
+use Rattle.pb_typing.proofs.Links.{links-drop, links-ended}
+use Rattle.pb_bytecode.specs.Contents.{SortContents}
+use Rattle.pb_bytecode.specs.Names.{is_name}
+use Rattle.pb_bytecode.specs.Views.{sort_contents}
+use Rattle.pb_bytecode.specs.declared.sort.Sort as bytecode
+use Rattle.pb_assembler_modules.specs.Module.{with_names, struct_names}
+use Rattle.pb_assembler.specs.Compiled.{IsSort, AreSorts}
+use Rattle.pb_assembler.proofs.Names.{enumerators_named}
+
+-- ---- what is made of a list, element by element
+
+pub made_next : {X Y : Type 0} (f : X → Y) (xs : List X) (k : ℕ) (x : X) (y : Y) (done more : List Y) → k < length xs → x ≡ get_or xs k x → more ≡ done ++ y ∷ [] → y ≡ f x
+    → done ++ map f (drop k xs) ≡ map f xs → more ++ map f (drop (k + 1) xs) ≡ map f xs
+made_next {X = X} {Y = Y} f xs k x y done more below at pushed is h =
+    ap (λ (ys : List Y). ys ++ map f (drop (k + 1) xs)) pushed
+    ∙ append_assoc done (y ∷ []) (map f (drop (k + 1) xs))
+    ∙ ap (λ (z : Y). done ++ z ∷ map f (drop (k + 1) xs)) is
+    ∙ ap (λ (zs : List X). done ++ map f zs) (sym (links-drop xs k x below at))
+    ∙ h
+
+pub made_all : {X Y : Type 0} (f : X → Y) (xs : List X) (k : ℕ) (done : List Y) → length xs ≤ k → done ++ map f (drop k xs) ≡ map f xs → done ≡ map f xs
+made_all {X = X} f xs k done end h = sym (append-nil done) ∙ ap (λ (zs : List X). done ++ map f zs) (sym (links-ended xs k end)) ∙ h
+
+pub all_next : {X : Type 0} (p : X → Bool) (xs : List X) (k : ℕ) (x : X) → k < length xs → x ≡ get_or xs k x → list_all p (drop k xs) ≡ true → (p x ≡ true) × (list_all p (drop (k + 1) xs) ≡ true)
+all_next {X = X} p xs k x below at h = and_parts (p x) (list_all p (drop (k + 1) xs)) (subst (λ (zs : List X). list_all p zs ≡ true) (links-drop xs k x below at) h)
+
+-- ---- declarations
+
+abbrev pub erased_all : List SortDeclaration → List syntax.SortDeclaration
+erased_all ds = map erased_declaration (map sort_declaration_form ds)
+
+pub record AreMade (all left : List SortDeclaration) (done : List bytecode.Sort) : Type 0 where
+  pub fit : AreSorts (erased_all left)
+  pub names : map sort_contents done ++ struct_names (erased_all left) ≡ struct_names (erased_all all)
+
+names_erased : (es : List tree.Enumerator) → map (λ (e : syntax.Enumerator). e.name) (map erased_enumerator (map enumerator_form es)) ≡ map (λ (e : tree.Enumerator). string_bytes e.name.text) es
+names_erased [] = refl
+names_erased (e ∷ es) = ap (λ (ns : SortContents). string_bytes e.name.text ∷ ns) (names_erased es)
+
+module _ (all : List SortDeclaration) (k : ℕ) (d : SortDeclaration) (below : k < length all) (at : d ≡ get_or all k d) where
+  split : drop k all ≡ d ∷ drop (k + 1) all
+  split = links-drop all k d below at
+
+  pub fits_next : (done : List bytecode.Sort) → AreMade all (drop k all) done → IsSort (erased_sort (sort_form d.sort))
+  fits_next done h = (subst (λ (ds : List SortDeclaration). AreSorts (erased_all ds)) split h.fit).0
+
+  -- a struct's enumerators have names, and are few
+  pub struct_fits : (done : List bytecode.Sort) (es : List tree.Enumerator) → IsSort (syntax.Sort.Struct (map erased_enumerator (map enumerator_form es))) → (length es ≤ 255) × (list_all (λ (e : tree.Enumerator). is_name (string_bytes e.name.text)) es ≡ true)
+  struct_fits done es h =
+      let few = h.0 in
+      (omega (arith, few, length-map (map enumerator_form es) erased_enumerator, length-map es enumerator_form), sym (enumerators_named es) ∙ h.1)
+
+  pub struct_next : (done more : List bytecode.Sort) (es : List tree.Enumerator) (s : bytecode.Sort) → erased_sort (sort_form d.sort) ≡ syntax.Sort.Struct (map erased_enumerator (map enumerator_form es))
+      → sort_contents s ≡ map (λ (e : tree.Enumerator). string_bytes e.name.text) es → more ≡ done ++ s ∷ [] → AreMade all (drop k all) done → AreMade all (drop (k + 1) all) more
+  struct_next done more es s is names pushed h =
+      let rest = struct_names (erased_all (drop (k + 1) all)) in record {
+        fit = (subst (λ (ds : List SortDeclaration). AreSorts (erased_all ds)) split h.fit).1;
+        names =
+            ap (λ (ss : List bytecode.Sort). map sort_contents ss ++ rest) pushed
+            ∙ ap (λ (ss : List SortContents). ss ++ rest) (map_push sort_contents done s)
+            ∙ append_assoc (map sort_contents done) (sort_contents s ∷ []) rest
+            ∙ ap (λ (ns : SortContents). map sort_contents done ++ ns ∷ rest) (names ∙ sym (names_erased es))
+            ∙ ap (λ (t : syntax.Sort). map sort_contents done ++ with_names t rest) (sym is)
+            ∙ ap (λ (ds : List SortDeclaration). map sort_contents done ++ struct_names (erased_all ds)) (sym split)
+            ∙ h.names;
+      }
+
+  pub alias_next : (done : List bytecode.Sort) (target : List ℕ) → erased_sort (sort_form d.sort) ≡ syntax.Sort.Alias target → AreMade all (drop k all) done → AreMade all (drop (k + 1) all) done
+  alias_next done target is h =
+      let rest = struct_names (erased_all (drop (k + 1) all)) in record {
+        fit = (subst (λ (ds : List SortDeclaration). AreSorts (erased_all ds)) split h.fit).1;
+        names =
+            ap (λ (t : syntax.Sort). map sort_contents done ++ with_names t rest) (sym is)
+            ∙ ap (λ (ds : List SortDeclaration). map sort_contents done ++ struct_names (erased_all ds)) (sym split)
+            ∙ h.names;
+      }
+
+pub made_sorts : (all : List SortDeclaration) (k : ℕ) (done : List bytecode.Sort) → length all ≤ k → AreMade all (drop k all) done → map sort_contents done ≡ struct_names (erased_all all)
+made_sorts all k done end h =
+    sym (append-nil (map sort_contents done)) ∙ ap (λ (ds : List SortDeclaration). map sort_contents done ++ struct_names (erased_all ds)) (sym (links-ended all k end)) ∙ h.names

@@ -1,0 +1,60 @@
+use Rattle.std.proofs.Common.{◌∙◌, refl, true, false, sym, ap, Option, Some, None, option_map, map, ◌∷◌, [], ◌++◌, SFits, w32, to_z, of_z, to_z-of_z, arith}
+use Rattle.std.specs.Prelude.{ℤ}
+use Rattle.pb_bytecode_program.specs.declared.instruction.Op.TheVariants as op
+use Rattle.pb_assembler.specs.Draft.{Draft}
+use Rattle.pb_sorts.specs.declared.carrier.Range.{Range}
+use Rattle.pb_normal.specs.View.{argument_view}
+use Rattle.pb_assembler_scheme.specs.Scheme.{arguments_piece}
+use Rattle.pb_assembler.specs.Emitted.{block_end, called_piece}
+use Rattle.pb_assembler.specs.declared.builder.Label.{Label}
+use Rattle.pb_assembler.proofs.Calls.{argument_alone, argument_first, nothing, popped}
+use Rattle.pb_assembler.proofs.Emitting.{adds_from, guard_emitted, on_ok}
+use Rattle.pb_assembler.proofs.call.+calls.Goals as goal
+
+pub emit_arguments-returns-in_default-split_first : goal.emit_arguments-returns-in_default-split_first
+emit_arguments-returns-in_default-split_first t c =
+    let l = option_map (λ (l : Label). l.number) c.args.end in
+    on_ok c.emit_arguments.result _ _ c.emit_arguments.ensures (λ h.
+    argument_alone c.args.equation l c.args.carriers.now c.args.arguments.now c.in-Some.argument.now c.in-Some.arguments.now c.args.builder.now c.emit_term.new.builder c.emit_arguments.new.builder
+    (nothing c.args.carriers.now c.in_default-split_first.ensures.cases) c.in-Some.ensures.cases.0 c.in_ok-emit_term.ensures h)
+
+pub emit_arguments-returns-in-Some-tested_range : goal.emit_arguments-returns-in-Some-tested_range
+emit_arguments-returns-in-Some-tested_range t c =
+    let l = option_map (λ (l : Label). l.number) c.args.end in
+    let bounds : Option Range → Option (ℤ × ℤ) = option_map (λ (r : Range). (r.lo, r.hi)) in
+    on_ok c.emit_tested.result _ _ c.emit_tested.ensures (λ h.
+    argument_first c.args.equation l c.args.carriers.now c.args.arguments.now c.in-Some-split_first.carrier.now c.in-Some-split_first.carriers.now c.in-Some.argument.now c.in-Some.arguments.now
+    (bounds (Some c.in-Some-tested_range.range)) _ c.args.builder.now c.emit_term.new.builder c.emit_tested.new.builder
+    c.in-Some-split_first.ensures.cases.0 c.in-Some.ensures.cases.0 (ap bounds (sym c.in-Some-tested_range.is) ∙ c.tested_range.ensures) refl c.in_ok-emit_term.ensures h)
+
+pub emit_arguments-returns-in_ok-emit_plain-in-None : goal.emit_arguments-returns-in_ok-emit_plain-in-None
+emit_arguments-returns-in_ok-emit_plain-in-None t c =
+    let l = option_map (λ (l : Label). l.number) c.args.end in
+    let bounds : Option Range → Option (ℤ × ℤ) = option_map (λ (r : Range). (r.lo, r.hi)) in
+    let rest = arguments_piece c.in-Some-split_first.carriers.now (map argument_view c.in-Some.arguments.now) (called_piece c.args.equation l) in
+    argument_first c.args.equation l c.args.carriers.now c.args.arguments.now c.in-Some-split_first.carrier.now c.in-Some-split_first.carriers.now c.in-Some.argument.now c.in-Some.arguments.now
+    (bounds None) true c.args.builder.now c.emit_term.new.builder c.emit_plain.new.builder
+    c.in-Some-split_first.ensures.cases.0 c.in-Some.ensures.cases.0 (ap bounds (sym c.in-None.is) ∙ c.tested_range.ensures) (sym c.if-any_tested.true ∙ c.any_tested.ensures) c.in_ok-emit_term.ensures
+    (popped rest l c.emit_term.new.builder (c.emit_arguments-in-None).new.builder c.emit_plain.new.builder (c.in_ok-emit_arguments-in-None).ensures (c.in_ok-emit_plain-in-None).ensures)
+
+pub emit_arguments-returns-else-any_tested : goal.emit_arguments-returns-else-any_tested
+emit_arguments-returns-else-any_tested t c =
+    let l = option_map (λ (l : Label). l.number) c.args.end in
+    let bounds : Option Range → Option (ℤ × ℤ) = option_map (λ (r : Range). (r.lo, r.hi)) in
+    argument_first c.args.equation l c.args.carriers.now c.args.arguments.now c.in-Some-split_first.carrier.now c.in-Some-split_first.carriers.now c.in-Some.argument.now c.in-Some.arguments.now
+    (bounds None) false c.args.builder.now c.emit_term.new.builder (c.emit_arguments-in-None).new.builder
+    c.in-Some-split_first.ensures.cases.0 c.in-Some.ensures.cases.0 (ap bounds (sym c.in-None.is) ∙ c.tested_range.ensures) (sym c.if-any_tested.false ∙ c.any_tested.ensures) c.in_ok-emit_term.ensures
+    (c.in_ok-emit_arguments-in-None).ensures
+
+pub emit_tested-returns : goal.emit_tested-returns
+emit_tested-returns t c =
+    let l = option_map (λ (l : Label). l.number) c.args.end in
+    let rest = arguments_piece c.args.carriers.now (map argument_view c.args.arguments.now) (called_piece c.args.equation l) in
+    let low : SFits w32 c.args.range.lo = record { sfits = omega arith } in
+    let high : SFits w32 c.args.range.hi = record { sfits = omega arith } in
+    let d = c.label.new.self in
+    let made : ℤ → ℤ → Draft = λ lo hi. record d { ops = d.ops ++ (op.InRange lo hi 0, Some c.in_ok-outside.outside.number) ∷ [] } in
+    let added = c.in_ok-emit.ensures.ok ∙ ap (λ i. made i (to_z w32 (of_z w32 c.args.range.hi))) (to_z-of_z low) ∙ ap (λ i. made c.args.range.lo i) (to_z-of_z high) in
+    on_ok (c.emit-2).result _ _ (c.emit-2).ensures.ok (λ h.
+    guard_emitted c.args.range.lo c.args.range.hi rest (block_end l) 0 c.args.builder.now c.label.new.self c.emit.new.self c.emit_arguments.new.builder c.place.new.self (c.emit-2).new.self
+    c.in_ok-outside.outside.number c.in_ok-outside.ensures.label c.in_ok-outside.ensures.ok added c.in_ok-emit_arguments.ensures c.place.ensures (adds_from c.place.new.self (c.emit-2).new.self _ h))

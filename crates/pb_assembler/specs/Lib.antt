@@ -1,0 +1,10 @@
+pub mod Draft
+pub mod Emitted
+pub mod Excess
+pub mod MeasureTerms
+pub mod MeasureEquations
+pub mod MeasureFormulas
+pub mod Operands
+pub mod Reached
+pub mod Refusal
+pub mod Compiled

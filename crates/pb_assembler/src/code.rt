@@ -1,0 +1,40 @@
+//! Code of whole equations.
+
+ghost use Rattle.std.specs.Prelude.{◌≡◌, ◌≤◌, true, length, IfOk};
+ghost use Rattle.pb_sorts.specs.Layout.{lists_of};
+ghost use Rattle.pb_normal.specs.View.{formula_view};
+ghost use Rattle.pb_assembler_scheme.specs.Scheme.{equation_code};
+ghost use Rattle.pb_normal.specs.Small.{is_small_formula};
+
+use crate::builder::Builder;
+use crate::emission::emit_plain;
+use crate::formula::{connective_of, emit_formula};
+use crate::measure_equation::outermost;
+use pb_bytecode_program::Op;
+use pb_normal::Formula;
+use pb_sorts::Carrier;
+use std::alloc::{AllocError, Global};
+
+/// The code of an equation with this right side, where the equations have these parameters: its outermost bracket is of
+/// the kind of its head. So many instructions are expected.
+///
+/// # Errors
+/// Memory was refused.
+pub(crate) fn equation_code(
+    alloc: Global,
+    callees: &[Vec<Carrier>],
+    right: &Formula,
+    instructions: usize,
+) -> Result<Vec<Op>, AllocError>
+    requires small { is_small_formula (formula_view right.now) ≡ true }
+    requires few { length (equation_code (lists_of callees.now) (formula_view right.now)) ≤ 65535 }
+    ensures { IfOk result (λ code. code.items ≡ equation_code (lists_of callees.now) (formula_view right.now)) }
+{
+    let kind = outermost(right);
+    let mut builder = Builder::with_capacity(alloc, instructions)?;
+    emit_plain(&mut builder, Op::Open(connective_of(kind)))?;
+    emit_formula(&mut builder, callees, kind, right)?;
+    emit_plain(&mut builder, Op::Close)?;
+    emit_plain(&mut builder, Op::End)?;
+    builder.finish(alloc)
+}

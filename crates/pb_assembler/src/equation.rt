@@ -1,0 +1,87 @@
+//! The equations of a module.
+
+ghost use Rattle.std.specs.Prelude.{◌≡◌, ◌++◌, ◌∷◌, [], true, map, IfOk, OnOk};
+ghost use Rattle.std.specs.List.{list_all};
+ghost use Rattle.pb_sorts.specs.Layout.{lists_of};
+ghost use Rattle.pb_text_tree.specs.Form.{equation_form};
+ghost use Rattle.pb_bytecode.specs.Views.{equation_contents};
+ghost use Rattle.pb_assembler.specs.Compiled.{all_compiled, compiled_contents, has_fitting_carriers, has_fitting_fields, AreReady, IsReady};
+
+use crate::code::equation_code;
+use crate::measure_equation::measure;
+use crate::name::copy_name;
+use pb_bytecode::Equation;
+use pb_sorts::Carrier;
+use std::alloc::{AllocError, Global};
+
+/// Adds a carrier.
+fn push_carrier(carriers: &mut Vec<Carrier>, carrier: Carrier) -> Result<(), AllocError>
+    ensures pushed { OnOk result (carriers.new.items ≡ carriers.old.items ++ carrier ∷ []) }
+    ensures fits { has_fitting_fields carrier ≡ true }
+{
+    carriers.push(carrier)?;
+    Ok(())
+}
+
+/// The same carriers.
+fn copy_carriers(alloc: Global, carriers: &[Carrier]) -> Result<Vec<Carrier>, AllocError>
+    ensures same { IfOk result (λ copies. copies.items ≡ carriers.now) }
+    ensures fit { IfOk result (λ copies. list_all has_fitting_fields copies.items ≡ true) }
+{
+    let mut copies = Vec::with_capacity(alloc, carriers.len())?;
+    for carrier in carriers {
+        push_carrier(&mut copies, *carrier)?;
+    }
+    Ok(copies)
+}
+
+/// An equation of a text, whose normal form is given, with the carriers of its parameters and exactly its static counts.
+fn compile_equation(
+    alloc: Global,
+    callees: &[Vec<Carrier>],
+    params: &[Carrier],
+    text: &pb_text_tree::Equation,
+    normal: &pb_normal::Equation,
+) -> Result<Equation, AllocError>
+    requires { IsReady (lists_of callees.now) params.now (equation_form text.now) normal.now }
+    ensures contents { IfOk result (λ X. equation_contents X ≡ compiled_contents (lists_of callees.now) params.now (equation_form text.now) normal.now) }
+    ensures fields { IfOk result (λ X. has_fitting_carriers (equation_contents X) ≡ true) }
+{
+    let measures = measure(callees, normal);
+    let name = copy_name(alloc, &text.name.text)?;
+    let params = copy_carriers(alloc, params)?;
+    let loops = copy_carriers(alloc, &normal.loops)?;
+    let instructions = measures.instructions as usize;
+    let code = equation_code(alloc, callees, &normal.right, instructions)?;
+    Ok(Equation {
+        sign: text.sign,
+        name,
+        params,
+        loops,
+        steps: measures.steps,
+        tokens: measures.tokens,
+        code,
+    })
+}
+
+/// The equations of a text, whose normal forms are given, with the carriers of their parameters.
+///
+/// # Errors
+/// Memory was refused.
+pub(crate) fn compile_equations(
+    alloc: Global,
+    callees: &[Vec<Carrier>],
+    texts: &[pb_text_tree::Equation],
+    normals: &[pb_normal::Equation],
+) -> Result<Vec<Equation>, AllocError>
+    requires { AreReady (lists_of callees.now) (lists_of callees.now) (map equation_form texts.now) normals.now }
+    ensures contents { IfOk result (λ equations. map equation_contents equations.items ≡ all_compiled (lists_of callees.now) (lists_of callees.now) (map equation_form texts.now) normals.now) }
+    ensures fields { IfOk result (λ equations. list_all has_fitting_carriers (map equation_contents equations.items) ≡ true) }
+{
+    let mut equations = Vec::with_capacity(alloc, normals.len())?;
+    for (place, normal) in normals.iter().enumerate() {
+        let equation = compile_equation(alloc, callees, &callees[place], &texts[place], normal)?;
+        equations.push(equation)?;
+    }
+    Ok(equations)
+}

@@ -1,0 +1,315 @@
+//! Code of formulas.
+
+ghost use Rattle.std.specs.Prelude.{◌≡◌, not, true, length, map, option_map, Option, None, IfSome, OnOk};
+ghost use Rattle.pb_sorts.specs.Layout.{lists_of};
+ghost use Rattle.pb_normal.specs.Normal.{Join};
+ghost use Rattle.pb_normal.specs.View.{chained, formula_view, formula_views, nested, term_view};
+ghost use Rattle.pb_assembler_scheme.specs.Scheme.{connective_of, deciding, formula_piece, test_of, test_piece};
+ghost use Rattle.pb_assembler.specs.Emitted.{Emits, nowhere};
+ghost use Rattle.pb_assembler.specs.Operands.{early_test, IsLeft};
+ghost use Rattle.pb_normal.specs.Small.{is_small, is_small_formula};
+
+use crate::builder::Builder;
+use crate::call::emit_call;
+use crate::emission::emit_plain;
+use crate::term::emit_term;
+use pb_bytecode_program::{Connective, Leaf, Op};
+use pb_normal::{Formula, Term};
+use pb_sorts::Carrier;
+use std::alloc::AllocError;
+
+/// The leaf that decides a bracket of this kind.
+fn deciding(kind: bool) -> Leaf
+    ensures { result ≡ deciding kind }
+{
+    if kind { Leaf::No } else { Leaf::Yes }
+}
+
+/// The connective of a bracket of this kind.
+pub(crate) fn connective_of(kind: bool) -> Connective
+    ensures { result ≡ connective_of kind }
+{
+    if kind {
+        Connective::And
+    } else {
+        Connective::Or
+    }
+}
+
+/// The test that a formula is, if it is one.
+fn as_test(formula: &Formula) -> Option<&Term>
+    ensures { option_map (λ t. term_view t.now) result ≡ test_of (formula_view formula.now) }
+{
+    match formula {
+        Formula::Test(term) => Some(term),
+        Formula::Join { first, rest, .. } => {
+            if rest.is_empty() {
+                as_test(first)
+            } else {
+                None
+            }
+        }
+        Formula::Each { carriers, body, .. } => {
+            if carriers.is_empty() {
+                as_test(body)
+            } else {
+                None
+            }
+        }
+        Formula::Call { .. } => None,
+    }
+}
+
+/// The test that decides first whether the other operands run, and those operands, where an operand of the first pair is
+/// a test.
+fn early_test<'a>(
+    first: &'a Formula,
+    rest: &'a [Formula],
+) -> Option<(&'a Term, &'a Formula, &'a [Formula])>
+    ensures views { option_map (λ r. (term_view r.0.now, (formula_view r.1.now, formula_views r.2.now))) result ≡ early_test (formula_view first.now) (formula_views rest.now) }
+    ensures left { IfSome result (λ r. IsLeft first.now rest.now r.1.now r.2.now) }
+{
+    let Some((next, others)) = rest.split_first() else {
+        return None;
+    };
+    if let Some(test) = as_test(first) {
+        return Some((test, next, others));
+    }
+    if !others.is_empty() {
+        return None;
+    }
+    match as_test(next) {
+        Some(test) => Some((test, first, others)),
+        None => None,
+    }
+}
+
+/// The code of a formula under a bracket of the kind `around`, conjunctive or not, where the equations have these
+/// parameters.
+///
+/// # Errors
+/// Memory was refused.
+#[cycle(formulas)]
+pub(crate) fn emit_formula(
+    builder: &mut Builder,
+    callees: &[Vec<Carrier>],
+    around: bool,
+    formula: &Formula,
+) -> Result<(), AllocError>
+    requires { is_small_formula (formula_view formula.now) ≡ true }
+    ensures { OnOk result (Emits (formula_piece (lists_of callees.now) around (formula_view formula.now)) nowhere builder.old builder.new) }
+{
+    match formula {
+        Formula::Test(term) => emit_test(builder, around, term),
+        Formula::Join {
+            conjunctive,
+            first,
+            rest,
+        } => {
+            if *conjunctive == around {
+                emit_inside(builder, callees, around, first, rest)
+            } else {
+                emit_outside(builder, callees, around, first, rest)
+            }
+        }
+        Formula::Each {
+            universal,
+            slot,
+            carriers,
+            body,
+        } => {
+            let first = *slot;
+            let slots = Slots { first, carriers };
+            emit_each(builder, callees, around, *universal, slots, body)
+        }
+        Formula::Call {
+            equation,
+            arguments,
+        } => match callees.get(*equation) {
+            Some(carriers) => emit_call(builder, *equation, carriers, arguments),
+            None => emit_call(builder, *equation, &[], arguments),
+        },
+    }
+}
+
+/// A test alone.
+fn emit_test(builder: &mut Builder, around: bool, test: &Term) -> Result<(), AllocError>
+    requires { is_small (term_view test.now) ≡ true }
+    ensures { OnOk result (Emits (test_piece around (term_view test.now)) nowhere builder.old builder.new) }
+{
+    emit_term(builder, test)?;
+    let passed = builder.label()?;
+    let jump = Op::JumpIf {
+        condition: around,
+        target: 0,
+    };
+    builder.emit(jump, Some(passed))?;
+    emit_plain(builder, Op::Emit(deciding(around)))?;
+    builder.place(passed);
+    Ok(())
+}
+
+/// The slots from `first` on, which have these carriers.
+#[derive(Clone, Copy)]
+struct Slots<'a> {
+    first: usize,
+    carriers: &'a [Carrier],
+}
+
+/// Quantifiers over the values of slots.
+#[cycle(formulas)]
+fn emit_each(
+    builder: &mut Builder,
+    callees: &[Vec<Carrier>],
+    around: bool,
+    universal: bool,
+    slots: Slots<'_>,
+    body: &Formula,
+) -> Result<(), AllocError>
+    requires { is_small_formula (nested universal slots.first slots.carriers.now (formula_view body.now)) ≡ true }
+    ensures { OnOk result (Emits (formula_piece (lists_of callees.now) around (nested universal slots.entry.first slots.entry.carriers.now (formula_view body.now))) nowhere builder.old builder.new) }
+{
+    if slots.carriers.is_empty() {
+        return emit_formula(builder, callees, around, body);
+    }
+    if universal == around {
+        return emit_loops(
+            builder,
+            callees,
+            universal,
+            slots.first,
+            slots.carriers,
+            body,
+        );
+    }
+    emit_plain(builder, Op::Open(connective_of(universal)))?;
+    emit_loops(
+        builder,
+        callees,
+        universal,
+        slots.first,
+        slots.carriers,
+        body,
+    )?;
+    emit_plain(builder, Op::Close)
+}
+
+/// Quantifiers over the values of slots, from `slot` on, in a bracket of their kind.
+#[cycle(formulas)]
+fn emit_loops(
+    builder: &mut Builder,
+    callees: &[Vec<Carrier>],
+    universal: bool,
+    slot: usize,
+    carriers: &[Carrier],
+    body: &Formula,
+) -> Result<(), AllocError>
+    requires { is_small_formula (nested universal slot carriers.now (formula_view body.now)) ≡ true }
+    ensures { OnOk result (Emits (formula_piece (lists_of callees.now) universal (nested universal slot carriers.now (formula_view body.now))) nowhere builder.old builder.new) }
+{
+    let count = carriers.len();
+    let mut begun = 0;
+    while begun < count {
+        let slot = (slot + begun) as u8;
+        builder.emit(Op::Loop { slot }, None)?;
+        begun += 1;
+    }
+    emit_formula(builder, callees, universal, body)?;
+    let mut ended = 0;
+    while ended < count {
+        builder.emit(Op::Next, None)?;
+        ended += 1;
+    }
+    Ok(())
+}
+
+/// Operands joined in a bracket of their kind.
+#[cycle(formulas)]
+fn emit_inside(
+    builder: &mut Builder,
+    callees: &[Vec<Carrier>],
+    kind: bool,
+    first: &Formula,
+    rest: &[Formula],
+) -> Result<(), AllocError>
+    requires { is_small_formula (chained (Join kind) (formula_view first.now) (formula_views rest.now)) ≡ true }
+    ensures { OnOk result (Emits (formula_piece (lists_of callees.now) kind (chained (Join kind) (formula_view first.now) (formula_views rest.now))) nowhere builder.old builder.new) }
+{
+    let last = builder.label()?;
+    let mut left = first;
+    let mut behind = rest;
+    while let Some((next, others)) = behind.split_first() {
+        if let Some((test, guarded, more)) = early_test(left, behind) {
+            emit_term(builder, test)?;
+            let passed = builder.label()?;
+            let jump = Op::JumpIf {
+                condition: kind,
+                target: 0,
+            };
+            builder.emit(jump, Some(passed))?;
+            emit_plain(builder, Op::Emit(deciding(kind)))?;
+            builder.emit(Op::Jump { target: 0 }, Some(last))?;
+            builder.place(passed);
+            left = guarded;
+            behind = more;
+        } else {
+            emit_formula(builder, callees, kind, left)?;
+            left = next;
+            behind = others;
+        }
+    }
+    emit_formula(builder, callees, kind, left)?;
+    builder.place(last);
+    Ok(())
+}
+
+/// Operands joined in a bracket of the other kind, `around`: the tests before all other operands need no bracket.
+#[cycle(formulas)]
+fn emit_outside(
+    builder: &mut Builder,
+    callees: &[Vec<Carrier>],
+    around: bool,
+    first: &Formula,
+    rest: &[Formula],
+) -> Result<(), AllocError>
+    requires { is_small_formula (chained (Join (not around)) (formula_view first.now) (formula_views rest.now)) ≡ true }
+    ensures { OnOk result (Emits (formula_piece (lists_of callees.now) around (chained (Join (not around)) (formula_view first.now) (formula_views rest.now))) nowhere builder.old builder.new) }
+{
+    let last = builder.label()?;
+    let mut left = first;
+    let mut behind = rest;
+    while let Some((test, guarded, more)) = early_test(left, behind) {
+        emit_term(builder, test)?;
+        let jump = Op::JumpIf {
+            condition: around,
+            target: 0,
+        };
+        builder.emit(jump, Some(last))?;
+        left = guarded;
+        behind = more;
+    }
+    emit_untested(builder, callees, around, left, behind)?;
+    builder.place(last);
+    Ok(())
+}
+
+/// The same, where no test comes first.
+#[cycle(formulas)]
+fn emit_untested(
+    builder: &mut Builder,
+    callees: &[Vec<Carrier>],
+    around: bool,
+    first: &Formula,
+    rest: &[Formula],
+) -> Result<(), AllocError>
+    requires small { is_small_formula (chained (Join (not around)) (formula_view first.now) (formula_views rest.now)) ≡ true }
+    requires untested { early_test (formula_view first.now) (formula_views rest.now) ≡ None }
+    ensures { OnOk result (Emits (formula_piece (lists_of callees.now) around (chained (Join (not around)) (formula_view first.now) (formula_views rest.now))) nowhere builder.old builder.new) }
+{
+    if rest.is_empty() {
+        return emit_formula(builder, callees, around, first);
+    }
+    emit_plain(builder, Op::Open(connective_of(!around)))?;
+    emit_inside(builder, callees, !around, first, rest)?;
+    emit_plain(builder, Op::Close)
+}

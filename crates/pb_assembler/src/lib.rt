@@ -1,0 +1,33 @@
+//! The compiler, from normal forms to modules. What the code of each equation takes of the machine's limits is counted
+//! before any code is made; then code with labels is made piece by piece, and its targets are resolved at the end.
+//! `specs/Excess.antt` says which texts are refused, and `specs/Emitted.antt` what it is to have emitted a piece.
+#![tactic(auto)]
+
+pub mod builder;
+mod call;
+mod code;
+pub mod compile_error;
+pub mod compiler;
+mod declared;
+mod emission;
+mod equation;
+mod first_excess;
+mod formula;
+mod initial;
+pub mod limit;
+mod measure_equation;
+mod measure_formula;
+mod measure_load;
+pub mod measure_places;
+mod measure_tally;
+mod measure_term;
+mod name;
+mod operator;
+mod parameter;
+mod sort;
+mod term;
+
+pub use builder::{Builder, Label};
+pub use compile_error::CompileError;
+pub use compiler::compile;
+pub use limit::{Limit, Measures};

@@ -1,0 +1,71 @@
+//! How much the code of an equation takes of what the machine limits.
+
+ghost use Rattle.std.specs.Prelude.{◌≡◌};
+ghost use Rattle.pb_normal.specs.View.{formula_view};
+ghost use Rattle.pb_assembler_scheme.specs.Scheme.{head};
+ghost use Rattle.pb_assembler.specs.MeasureFormulas.{callees_of};
+ghost use Rattle.pb_assembler.specs.MeasureEquations.{AreMeasuresOf, equation_measures};
+
+use crate::limit::Measures;
+use crate::measure_formula::measure_formula;
+use crate::measure_load::add;
+use crate::measure_tally::Tally;
+use pb_normal::{Equation, Formula};
+use pb_sorts::Carrier;
+
+/// The measures of an equation's code, given those of its right side and how many loop slots there are.
+fn bounded(tally: Tally, slots: usize) -> Measures
+    ensures { result ≡ equation_measures tally slots }
+{
+    Measures {
+        instructions: add(tally.instructions, 3).min(65_536),
+        operands: tally.operands.min(33),
+        brackets: add(tally.brackets, 1).min(33),
+        nesting: tally.nesting.min(9),
+        slots: slots.min(241) as u32,
+        steps: add(tally.steps, 3),
+        tokens: add(tally.tokens, 2).min(100_001),
+    }
+}
+
+/// Whether the outermost bracket of a formula's code is conjunctive.
+#[cycle(heads)]
+pub(crate) fn outermost(formula: &Formula) -> bool
+    ensures { result ≡ head (formula_view formula.now) }
+{
+    match formula {
+        Formula::Test(_) | Formula::Call { .. } => false,
+        Formula::Join {
+            conjunctive,
+            first,
+            rest,
+        } => {
+            if rest.is_empty() {
+                outermost(first)
+            } else {
+                *conjunctive
+            }
+        }
+        Formula::Each {
+            universal,
+            carriers,
+            body,
+            ..
+        } => {
+            if carriers.is_empty() {
+                outermost(body)
+            } else {
+                *universal
+            }
+        }
+    }
+}
+
+/// How much the code of an equation takes, where the equations have these parameters. It is counted before any code is
+/// made, in one pass over the normal form.
+pub(crate) fn measure(callees: &[Vec<Carrier>], equation: &Equation) -> Measures
+    ensures { AreMeasuresOf result (callees_of callees.now) equation.now }
+{
+    let tally = measure_formula(callees, outermost(&equation.right), &equation.right);
+    bounded(tally, equation.loops.len())
+}

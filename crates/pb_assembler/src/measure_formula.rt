@@ -1,0 +1,263 @@
+//! How much the code of formulas takes.
+
+ghost use Rattle.std.specs.Prelude.{◌≡◌, ◌<◌, ◌||◌, ℕ, Bool, None, drop, length, map};
+ghost use Rattle.std.specs.List.{slice_get};
+ghost use Rattle.pb_normal.specs.Normal.{Call, Join};
+ghost use Rattle.pb_normal.specs.View.{argument_view, chained, formula_view, formula_views, nested};
+ghost use Rattle.pb_assembler_scheme.specs.Scheme.{any_tested, parameters, test_of};
+ghost use Rattle.pb_typing.specs.View.{shape_view};
+ghost use Rattle.pb_assembler.specs.MeasureTerms.{capped_load};
+ghost use Rattle.pb_assembler.specs.MeasureFormulas.{arguments_load, call_tally, callees_of, capped_tally, form_chain, formula_tally, is_tested, kind_at, kind_behind, kind_by, leading_tests, load_by};
+
+use crate::measure_load::Load;
+use crate::measure_tally::{
+    Tally, after, argument_load, ended_call, is_tested, looped, nothing, test_tally, tested_tally,
+    under_tally,
+};
+use crate::measure_term::measure_term;
+use pb_normal::{Argument, Formula};
+use pb_sorts::Carrier;
+
+/// Whether an argument at a place is tested for its parameter's range.
+fn tested_at(carriers: &[Carrier], place: usize, argument: &Argument) -> bool
+    ensures { result ≡ is_tested (slice_get carriers.now place) (argument_view argument.now).shape }
+{
+    match carriers.get(place) {
+        Some(carrier) => is_tested(carrier, &argument.shape),
+        None => false,
+    }
+}
+
+fn either(a: bool, b: bool) -> bool
+    ensures { result ≡ (a || b) }
+{
+    a || b
+}
+
+/// Whether an argument is tested, and how much the code of all arguments takes.
+fn measure_arguments(carriers: &[Carrier], arguments: &[Argument]) -> (bool, Load)
+    ensures tested { result.0 ≡ any_tested carriers.now (map argument_view arguments.now) }
+    ensures load { result.1 ≡ capped_load (arguments_load carriers.now (map argument_view arguments.now)) }
+{
+    let mut any = false;
+    let mut load = nothing();
+    let mut left = arguments.len();
+    while left > 0 {
+        left -= 1;
+        let argument = &arguments[left];
+        let tested = tested_at(carriers, left, argument);
+        let own = measure_term(&argument.term);
+        load = argument_load(tested, any, own, load);
+        any = either(tested, any);
+    }
+    (any, load)
+}
+
+/// How much the code of a call takes.
+fn measure_call(callees: &[Vec<Carrier>], equation: usize, arguments: &[Argument]) -> Tally
+    ensures { result ≡ capped_tally (call_tally (parameters (slice_get (callees_of callees.now) equation)) (map argument_view arguments.now)) }
+{
+    if equation < callees.len() {
+        let (any, load) = measure_arguments(&callees[equation], arguments);
+        ended_call(any, load)
+    } else {
+        let (any, load) = measure_arguments(&[], arguments);
+        ended_call(any, load)
+    }
+}
+
+/// How much the code of a test's term takes, where a formula is one test.
+#[cycle(loads)]
+fn test_load(formula: &Formula) -> Option<Load>
+    ensures { result ≡ load_by (test_of (formula_view formula.now)) }
+{
+    match formula {
+        Formula::Test(term) => Some(measure_term(term)),
+        Formula::Join { first, rest, .. } => {
+            if rest.is_empty() {
+                test_load(first)
+            } else {
+                None
+            }
+        }
+        Formula::Each { carriers, body, .. } => {
+            if carriers.is_empty() {
+                test_load(body)
+            } else {
+                None
+            }
+        }
+        Formula::Call { .. } => None,
+    }
+}
+
+/// The kind of the bracket that is open behind an operand of a chain.
+fn kind_behind(conjunctive: bool, around: bool, operand: &Formula) -> bool
+    ensures { result ≡ kind_behind conjunctive around (formula_view operand.now) }
+{
+    match test_load(operand) {
+        Some(_) => around,
+        None => conjunctive,
+    }
+}
+
+/// How many operands are tests, up to the first that is none.
+fn leading_tests(operands: &[Formula]) -> usize
+    ensures { result ≡ leading_tests operands.now }
+{
+    let mut count = 0;
+    while count < operands.len() {
+        match test_load(&operands[count]) {
+            Some(_) => {}
+            None => return count,
+        }
+        count += 1;
+    }
+    count
+}
+
+/// The kind of the bracket that is open in front of an operand at a place.
+fn kind_at(conjunctive: bool, kind: bool, leading: usize, place: usize) -> bool
+    ensures { result ≡ kind_at conjunctive kind leading place }
+{
+    if place <= leading { kind } else { conjunctive }
+}
+
+/// How much the code of a formula takes, in a bracket of this kind.
+#[cycle(formulas)]
+pub(crate) fn measure_formula(callees: &[Vec<Carrier>], around: bool, formula: &Formula) -> Tally
+    ensures { result ≡ capped_tally (formula_tally (callees_of callees.now) around (formula_view formula.now)) }
+{
+    match formula {
+        Formula::Test(term) => test_tally(measure_term(term)),
+        Formula::Join {
+            conjunctive,
+            first,
+            rest,
+        } => measure_join(callees, *conjunctive, around, first, rest),
+        Formula::Each {
+            universal,
+            carriers,
+            body,
+            ..
+        } => measure_each(callees, *universal, around, carriers, body),
+        Formula::Call {
+            equation,
+            arguments,
+        } => measure_call(callees, *equation, arguments),
+    }
+}
+
+/// A quantifier over variables of these carriers.
+#[cycle(formulas)]
+fn measure_each(
+    callees: &[Vec<Carrier>],
+    universal: bool,
+    around: bool,
+    carriers: &[Carrier],
+    body: &Formula,
+) -> Tally
+    ensures { (slot : ℕ) → result ≡ capped_tally (formula_tally (callees_of callees.now) around (nested universal slot carriers.now (formula_view body.now))) }
+{
+    if carriers.is_empty() {
+        return measure_formula(callees, around, body);
+    }
+    let mut tally = measure_formula(callees, universal, body);
+    let mut left = carriers.len();
+    while left > 0 {
+        left -= 1;
+        let count = carriers[left].size();
+        tally = looped(count, tally);
+    }
+    under_tally(universal, around, tally)
+}
+
+/// An operand of a chain in front of those from a place on, which are measured.
+#[cycle(formulas)]
+fn measure_link(
+    callees: &[Vec<Carrier>],
+    conjunctive: bool,
+    around: bool,
+    operand: &Formula,
+    operands: &[Formula],
+    place: usize,
+    rest: Tally,
+) -> Tally
+    requires some { place < length operands.now }
+    requires rest { rest ≡ capped_tally (formula_tally (callees_of callees.now) (kind_behind conjunctive around (formula_view operand.now)) (form_chain conjunctive (drop place operands.now))) }
+    ensures { result ≡ capped_tally (formula_tally (callees_of callees.now) around (Join conjunctive (formula_view operand.now) (form_chain conjunctive (drop place operands.now)))) }
+{
+    match test_load(operand) {
+        Some(load) => tested_tally(conjunctive, around, load, rest),
+        None => measure_untested(callees, conjunctive, around, operand, operands, place, rest),
+    }
+}
+
+/// An operand of a chain that is no test.
+#[cycle(formulas)]
+fn measure_untested(
+    callees: &[Vec<Carrier>],
+    conjunctive: bool,
+    around: bool,
+    operand: &Formula,
+    operands: &[Formula],
+    place: usize,
+    rest: Tally,
+) -> Tally
+    requires some { place < length operands.now }
+    requires untested { None ≡ load_by (test_of (formula_view operand.now)) }
+    requires rest { rest ≡ capped_tally (formula_tally (callees_of callees.now) (kind_behind conjunctive around (formula_view operand.now)) (form_chain conjunctive (drop place operands.now))) }
+    ensures { result ≡ capped_tally (formula_tally (callees_of callees.now) around (Join conjunctive (formula_view operand.now) (form_chain conjunctive (drop place operands.now)))) }
+{
+    match last_test(operands, place) {
+        Some(load) => {
+            let own = measure_formula(callees, around, operand);
+            tested_tally(conjunctive, around, load, own)
+        }
+        None => {
+            let own = measure_formula(callees, conjunctive, operand);
+            let both = after(own, rest);
+            under_tally(conjunctive, around, both)
+        }
+    }
+}
+
+/// Operands of one connective, the last one first.
+#[cycle(formulas)]
+fn measure_join(
+    callees: &[Vec<Carrier>],
+    conjunctive: bool,
+    around: bool,
+    first: &Formula,
+    rest: &[Formula],
+) -> Tally
+    ensures { result ≡ capped_tally (formula_tally (callees_of callees.now) around (chained (Join conjunctive) (formula_view first.now) (formula_views rest.now))) }
+{
+    if rest.is_empty() {
+        return measure_formula(callees, around, first);
+    }
+    let kind = kind_behind(conjunctive, around, first);
+    let leading = leading_tests(rest);
+    let mut left = rest.len() - 1;
+    let last = kind_at(conjunctive, kind, leading, left);
+    let mut tally = measure_formula(callees, last, &rest[left]);
+    while left > 0 {
+        let behind = left;
+        left -= 1;
+        let own = kind_at(conjunctive, kind, leading, left);
+        tally = measure_link(callees, conjunctive, own, &rest[left], rest, behind, tally);
+    }
+    measure_link(callees, conjunctive, around, first, rest, 0, tally)
+}
+
+/// The load of the operand at a place, where it is the last one and a test.
+fn last_test(operands: &[Formula], place: usize) -> Option<Load>
+    requires { place < length operands.now }
+    ensures { (conjunctive : Bool) → result ≡ load_by (test_of (form_chain conjunctive (drop place operands.now))) }
+{
+    if operands.len() - place > 1 {
+        None
+    } else {
+        test_load(&operands[place])
+    }
+}

@@ -1,0 +1,210 @@
+//! How much the code of formulas takes, counted no further than just above a million.
+
+ghost use Rattle.std.specs.Prelude.{◌≡◌, ◌*◌, ◌&&◌, int_le, is_some};
+ghost use Rattle.pb_assembler_scheme.specs.Scheme.{tested_range};
+ghost use Rattle.pb_typing.specs.View.{shape_view};
+ghost use Rattle.pb_assembler.specs.MeasureTerms.{capped, capped_load};
+ghost use Rattle.pb_assembler.specs.MeasureFormulas.{after, argument_load, bracketed_tally, capped_tally, deciding, ended_call, looped, nothing, passing, test_tally, tested_tally, under_tally};
+
+use crate::measure_load::{Load, add};
+use pb_intervals::Interval;
+use pb_sorts::{Carrier, Range};
+use pb_typing::Shape;
+
+/// How many instructions, steps and tokens a formula's code has, and how many operands, brackets and loops it holds open
+/// at most.
+#[derive(Clone, Copy, Debug, PartialEq, Eq)]
+pub(crate) struct Tally {
+    pub instructions: u32,
+    pub operands: u32,
+    pub brackets: u32,
+    pub nesting: u32,
+    pub steps: u32,
+    pub tokens: u32,
+}
+
+/// A product.
+fn times(count: u64, each: u32) -> u32
+    ensures { result ≡ capped (count * each) }
+{
+    count.saturating_mul(each as u64).min(1_000_001) as u32
+}
+
+/// A test alone.
+pub(crate) fn test_tally(load: Load) -> Tally
+    ensures { result ≡ capped_tally (test_tally load) }
+{
+    let length = add(load.instructions, 2);
+    Tally {
+        instructions: length,
+        operands: load.operands.min(1_000_001),
+        brackets: 0,
+        nesting: 0,
+        steps: length,
+        tokens: 1,
+    }
+}
+
+/// A test that passes over what follows.
+fn passing(load: Load, rest: Tally) -> Tally
+    ensures { result ≡ capped_tally (passing load rest) }
+{
+    Tally {
+        instructions: add(add(load.instructions, rest.instructions), 1),
+        operands: load.operands.max(rest.operands).min(1_000_001),
+        brackets: rest.brackets.min(1_000_001),
+        nesting: rest.nesting.min(1_000_001),
+        steps: add(add(load.instructions, rest.steps), 1),
+        tokens: rest.tokens.min(1_000_001),
+    }
+}
+
+/// A test that writes the deciding leaf in place of what follows.
+fn deciding(load: Load, rest: Tally) -> Tally
+    ensures { result ≡ capped_tally (deciding load rest) }
+{
+    Tally {
+        instructions: add(add(load.instructions, rest.instructions), 3),
+        operands: load.operands.max(rest.operands).min(1_000_001),
+        brackets: rest.brackets.min(1_000_001),
+        nesting: rest.nesting.min(1_000_001),
+        steps: add(add(load.instructions, rest.steps), 3),
+        tokens: add(rest.tokens, 1),
+    }
+}
+
+/// A test joined with what follows under the bracket that is open.
+pub(crate) fn tested_tally(conjunctive: bool, around: bool, load: Load, rest: Tally) -> Tally
+    ensures { result ≡ capped_tally (tested_tally conjunctive around load rest) }
+{
+    match (conjunctive, around) {
+        (true, true) | (false, false) => deciding(load, rest),
+        (true, false) | (false, true) => passing(load, rest),
+    }
+}
+
+fn bracketed(tally: Tally) -> Tally
+    ensures { result ≡ capped_tally (bracketed_tally tally) }
+{
+    Tally {
+        instructions: add(tally.instructions, 2),
+        operands: tally.operands.min(1_000_001),
+        brackets: add(tally.brackets, 1),
+        nesting: tally.nesting.min(1_000_001),
+        steps: add(tally.steps, 2),
+        tokens: add(tally.tokens, 2),
+    }
+}
+
+fn same(tally: Tally) -> Tally
+    ensures { result ≡ capped_tally tally }
+{
+    Tally {
+        instructions: tally.instructions.min(1_000_001),
+        operands: tally.operands.min(1_000_001),
+        brackets: tally.brackets.min(1_000_001),
+        nesting: tally.nesting.min(1_000_001),
+        steps: tally.steps.min(1_000_001),
+        tokens: tally.tokens.min(1_000_001),
+    }
+}
+
+/// What joins, in a bracket of its own unless one of its kind is open already.
+pub(crate) fn under_tally(conjunctive: bool, around: bool, tally: Tally) -> Tally
+    ensures { result ≡ capped_tally (under_tally conjunctive around tally) }
+{
+    match (conjunctive, around) {
+        (true, true) | (false, false) => same(tally),
+        (true, false) | (false, true) => bracketed(tally),
+    }
+}
+
+/// One behind the other.
+pub(crate) fn after(first: Tally, second: Tally) -> Tally
+    ensures { result ≡ capped_tally (after first second) }
+{
+    Tally {
+        instructions: add(first.instructions, second.instructions),
+        operands: first.operands.max(second.operands).min(1_000_001),
+        brackets: first.brackets.max(second.brackets).min(1_000_001),
+        nesting: first.nesting.max(second.nesting).min(1_000_001),
+        steps: add(first.steps, second.steps),
+        tokens: add(first.tokens, second.tokens),
+    }
+}
+
+/// In a loop over so many values.
+#[tactic(auto, using(crate::proofs::MeasureTallies::steps_capped))]
+pub(crate) fn looped(count: u64, body: Tally) -> Tally
+    ensures { result ≡ capped_tally (looped count body) }
+{
+    Tally {
+        instructions: add(body.instructions, 2),
+        operands: body.operands.min(1_000_001),
+        brackets: body.brackets.min(1_000_001),
+        nesting: add(body.nesting, 1),
+        steps: add(times(count, add(body.steps, 1)), 1),
+        tokens: times(count, body.tokens),
+    }
+}
+
+/// Whether an interval lies within a range.
+fn is_inside(range: &Range, known: &Interval) -> bool
+    ensures { result ≡ (int_le range.now.lo known.now.low && int_le known.now.high range.now.hi) }
+{
+    range.lo as i64 <= known.low() && known.high() <= range.hi as i64
+}
+
+/// Whether an argument is tested for its parameter's range.
+pub(crate) fn is_tested(carrier: &Carrier, known: &Shape) -> bool
+    ensures { result ≡ is_some (tested_range carrier.now (shape_view known.now)) }
+{
+    match (carrier, known) {
+        (Carrier::Range(range), Shape::Wholes(known)) => { !is_inside(range, known) }
+        _ => false,
+    }
+}
+
+/// An argument in front of those that follow it.
+pub(crate) fn argument_load(tested: bool, later: bool, load: Load, rest: Load) -> Load
+    ensures { result ≡ capped_load (argument_load tested later load rest) }
+{
+    let more = match (tested, later) {
+        (true, _) => 2,
+        (false, true) => 1,
+        (false, false) => 0,
+    };
+    Load {
+        instructions: add(add(load.instructions, rest.instructions), more),
+        operands: load.operands.max(add(rest.operands, 1)).min(1_000_001),
+    }
+}
+
+/// No argument.
+pub(crate) fn nothing() -> Load
+    ensures { result ≡ nothing }
+{
+    Load {
+        instructions: 0,
+        operands: 0,
+    }
+}
+
+/// The arguments of a call, and the call.
+pub(crate) fn ended_call(any: bool, load: Load) -> Tally
+    ensures { result ≡ capped_tally (ended_call any load) }
+{
+    let (length, tokens) = if any {
+        (add(load.instructions, 3), 2)
+    } else {
+        (add(load.instructions, 1), 1)
+    };
+    Tally {
+        instructions: length,
+        operands: load.operands.min(1_000_001),
+        brackets: 0,
+        nesting: 0,
+        steps: length,
+        tokens,
+    }
+}

@@ -1,0 +1,13 @@
+use Rattle.std.proofs.Common.{subst}
+use Rattle.pb_bytecode.specs.Decoded.{module_contents}
+use Rattle.pb_verifier.specs.Acceptance.{IsAccepted}
+use Rattle.pb_verifier.specs.Refusals.{WhereRefused}
+use Rattle.pb_verifier.specs.declared.verify_error.VerifyError.{VerifyError}
+use Rattle.pb_assembler_modules.proofs.verification.verify_compiled.Goals as goal
+
+pub unreachable-requires : goal.unreachable-requires
+unreachable-requires c =
+    let m = module_contents c.args.«module» in
+    let h = c.requires in
+    let refused = subst (λ (e : VerifyError). WhereRefused e (IsAccepted m → ⊥)) c.in-Err-default-Refusal.field-0-1-is c.in-Err-default-Refusal.ensures.refused in
+    refused (c.compiled_modules_are_accepted.ensures.well_typed h.0 h.1 m h.2 h.3)
