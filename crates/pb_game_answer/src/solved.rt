@@ -1,0 +1,72 @@
+//! Games of reached instances with their winners.
+ghost use Rattle.pb_game_certificate.specs.Certificates.{IsCertificate};
+
+use pb_game_certificate::Solution;
+use pb_game_of_trees::TreeGame;
+use pb_strategy::{Checked, check};
+use std::alloc::{AllocError, Global};
+use std::thread::Threads;
+
+/// A game of reached instances with a certificate of its winners.
+#[derive(Drop)]
+pub struct Solved {
+    pub built: TreeGame,
+    pub solution: Solution,
+    pub ghost certificate: { ∥ IsCertificate built.game solution ∥₁ },
+}
+
+impl Solved {
+    ghost use Rattle.std.specs.Prelude.{◌≡◌, ◌<◌, ℕ, IfOk, List, Some, length, slice_get};
+    ghost use Rattle.pb_trees.specs.Tree.{Tree};
+    ghost use Rattle.pb_trees.specs.Equations.{Signature, solved};
+    ghost use Rattle.pb_trees.specs.Rows.{Row, IsReached};
+    ghost use Rattle.pb_game.specs.Games.{vertex_count};
+    ghost use Rattle.pb_game_meaning.specs.Meaning.{IsSolvedAt};
+    ghost use Rattle.pb_game_of_trees.specs.TreeGame.{IsTreeGame};
+
+    /// The game with its winners.
+    pub fn new(
+        rt: &(impl Threads + Sync),
+        alloc: Global,
+        built: TreeGame,
+    ) -> Result<Solved, AllocError>
+        ensures { IfOk result (λ solved. solved.built ≡ built) }
+    {
+        let solution = pb_zielonka::solve(rt, alloc, &built.game)?;
+        match check(&built.game, &solution) {
+            Ok(_) => {}
+            Err(_) => unreachable!(),
+        }
+        Ok(Solved { built, solution })
+    }
+
+    /// The truth of the instance whose vertex this is.
+    fn truth_at(&self, vertex: u32) -> bool
+        requires { vertex < vertex_count self.now.built.game }
+        ensures { IsSolvedAt self.now.built.game vertex result }
+    {
+        Checked {
+            game: &self.built.game,
+            solution: &self.solution,
+        }
+        .truth(vertex)
+    }
+
+    /// The truth of the initial instance.
+    pub fn truth(&self) -> bool
+        requires { (signatures : List Signature) × (trees : ℕ → Tree) × (reached : List Row) × (initial : ℕ) × IsTreeGame signatures trees reached initial self.now.built × IsReached reached initial }
+        ensures { (signatures : List Signature) (trees : ℕ → Tree) (reached : List Row) (initial : ℕ) → IsTreeGame signatures trees reached initial self.now.built → IsReached reached initial → result ≡ solved signatures trees initial }
+    {
+        pb_trees::games_of_rows_are_total();
+        self.truth_at(self.built.start)
+    }
+
+    /// The truth of a row's instance.
+    pub fn row_truth(&self, k: usize) -> bool
+        requires { (signatures : List Signature) × (trees : ℕ → Tree) × (reached : List Row) × (initial : ℕ) × IsTreeGame signatures trees reached initial self.now.built × (k < length reached) }
+        ensures { (signatures : List Signature) (trees : ℕ → Tree) (reached : List Row) (initial : ℕ) (row : Row) → IsTreeGame signatures trees reached initial self.now.built → slice_get reached k ≡ Some row → result ≡ solved signatures trees row.number }
+    {
+        pb_trees::games_of_rows_are_total();
+        self.truth_at(self.built.vertices[k])
+    }
+}

@@ -1,0 +1,13 @@
+pub mod Rising
+pub mod Opened
+pub mod First
+pub mod Reading
+pub mod Rows
+pub mod Reached
+pub mod Closing
+pub mod EquationLevels
+pub mod LowPriorities
+pub mod Sums
+pub mod PartsOf
+pub mod Vertices
+pub mod Built

@@ -1,0 +1,25 @@
+use Rattle.std.proofs.Common.{◌≡◌, ℕ, suc, List, [], ◌∷◌, ◌++◌, ◌∙◌, ap, subst, arith, append-nil}
+use Rattle.pb_trees.specs.Game.{Vertex, targets, bracket_vertex, inner_vertices}
+use Rattle.pb_game_of_trees.specs.Draft.{IsDraft}
+use Rattle.pb_game_of_trees.specs.Builder.{connective, rest_vertices}
+use Rattle.pb_game_of_trees.proofs.builder.Builder.open_root.Goals as goal
+
+pub returns : goal.returns
+returns c = λ at f behind limit is.
+    let k = connective c.args.bracket in
+    let p = c.args.priority in
+    let m = c.args.self.now.next in
+    let n = c.finish.new.self.next in
+    let done = c.in_ok-finish.ensures [] [] (targets at f m) (rest_vertices at (f ∷ []) m ++ behind) (record { targets = is.targets; starts = is.starts }) is.draft in
+    let same = done.next in
+    let e : m ≡ suc n = omega arith in
+    let all = is.reaches in
+    let vertices : bracket_vertex at p k f m ∷ (rest_vertices at (f ∷ []) m ++ behind) ≡ bracket_vertex at p k f (suc n) ∷ (inner_vertices at f (suc n) ++ behind) =
+    ap (λ (xs : List Vertex). bracket_vertex at p k f m ∷ (xs ++ behind)) (append-nil (inner_vertices at f m))
+    ∙ ap (λ (x : ℕ). bracket_vertex at p k f x ∷ (inner_vertices at f x ++ behind)) e in
+    record {
+      targets = done.targets;
+      starts = done.starts;
+      draft = subst (IsDraft c.finish.new.self.draft) vertices done.draft;
+      reaches = omega arith;
+    }

@@ -1,0 +1,142 @@
+use Rattle.std.proofs.Common.{ℕ, List, length, slice_index, ◌≡◌, sym, ap, ◌∙◌, subst, arith}
+use Rattle.std.proofs.lemmas.List.{get_or_read, length-map}
+use Rattle.pb_trees.specs.Game.{game_vertices}
+use Rattle.pb_rows.specs.Reached.{rows_of}
+use Rattle.pb_game_of_trees.specs.Draft.{IsDraft}
+use Rattle.pb_game_of_trees.specs.Places.{numbers}
+use Rattle.pb_game_of_trees.specs.Equations.{equations_of, plain}
+use Rattle.pb_game_of_trees.proofs.Reached.{found_row, reached_of}
+use Rattle.pb_game_of_trees.proofs.Vertices.{IsTable, table_at, vertices_are, fewer_rows, length-vertices_from}
+use Rattle.pb_game_of_trees.proofs.Built.{count_vertices, number_below, reached_below, call_below, built, makes_game}
+use Rattle.pb_game_of_trees.proofs.tree_game.TreeGame.of_size.Goals as goal
+
+pub vertices_of_rows-requires : goal.vertices_of_rows-requires
+vertices_of_rows-requires c =
+    let sigs = equations_of c.args.signatures.now in
+    let rows = c.args.rows.now in
+    let trees = c.requires.reached.0 in
+    let reached = rows_of trees rows in
+    let are = reached_of trees sigs rows c.requires.reached.1.are in
+    (reached, are.held, omega (arith, c.requires.small, c.requires.size reached are.held))
+
+pub vertices_by_number-requires-clause-lengths : goal.vertices_by_number-requires-clause-lengths
+vertices_by_number-requires-clause-lengths c =
+    let sigs = equations_of c.args.signatures.now in
+    let rows = c.args.rows.now in
+    let trees = c.requires.reached.0 in
+    let reached = rows_of trees rows in
+    let are = reached_of trees sigs rows c.requires.reached.1.are in
+    count_vertices sigs trees rows reached are c.deref.result.now (c.deref.ensures.value ∙ c.in_ok-vertices.ensures reached are.held)
+
+pub vertices_by_number-requires-clause-within : goal.vertices_by_number-requires-clause-within
+vertices_by_number-requires-clause-within c =
+    let sigs = equations_of c.args.signatures.now in
+    let rows = c.args.rows.now in
+    let trees = c.requires.reached.0 in
+    let reached = rows_of trees rows in
+    let are = reached_of trees sigs rows c.requires.reached.1.are in
+    (reached, are.held, are.rising, λ k l. omega (arith, number_below sigs trees rows reached are k l, c.count_instances-numbers.ensures))
+
+pub draft_of-requires-clause-rows : goal.draft_of-requires-clause-rows
+draft_of-requires-clause-rows c =
+    let sigs = equations_of c.args.signatures.now in
+    let rows = c.args.rows.now in
+    let trees = c.requires.reached.0 in
+    let reached = rows_of trees rows in
+    let are = reached_of trees sigs rows c.requires.reached.1.are in
+    let table = c.in_ok-by_number.ensures reached are.held in (
+      reached,
+      are.held,
+      c.requires.size reached are.held,
+      call_below sigs trees rows reached are (length c.deref-3.result.now)
+          (ap length c.deref-3.ensures.value ∙ (table.0 ∙ c.count_instances-numbers.ensures)),
+    )
+
+pub into_parts-requires : goal.into_parts-requires
+into_parts-requires c =
+    let sigs = equations_of c.args.signatures.now in
+    let rows = c.args.rows.now in
+    let trees = c.requires.reached.0 in
+    let reached = rows_of trees rows in
+    let are = reached_of trees sigs rows c.requires.reached.1.are in
+    let table = c.in_ok-by_number.ensures reached are.held in
+    let is_table : IsTable c.deref-3.result.now reached = record {
+      at = λ k l. ap (λ (ts : List ℕ). slice_index ts (slice_index (numbers reached) k)) c.deref-3.ensures.value
+          ∙ (table.1 k l ∙ ap (λ (ts : List ℕ). slice_index ts k) (c.deref.ensures.value ∙ c.in_ok-vertices.ensures reached are.held));
+    } in
+    let vertices = game_vertices sigs reached in
+    let draft : IsDraft c.in_ok-draft.draft vertices = subst (IsDraft c.in_ok-draft.draft)
+    (built sigs trees rows reached are c.deref-3.result.now c.deref-2.result.now is_table (c.deref-2.ensures.value ∙ c.in_ok-levels.ensures))
+    (c.in_ok-draft.ensures reached are.held) in
+    (vertices, draft)
+
+pub game_of-requires : goal.game_of-requires
+game_of-requires c =
+    let sigs = equations_of c.args.signatures.now in
+    let rows = c.args.rows.now in
+    let trees = c.requires.reached.0 in
+    let reached = rows_of trees rows in
+    let are = reached_of trees sigs rows c.requires.reached.1.are in
+    let table = c.in_ok-by_number.ensures reached are.held in
+    let is_table : IsTable c.deref-3.result.now reached = record {
+      at = λ k l. ap (λ (ts : List ℕ). slice_index ts (slice_index (numbers reached) k)) c.deref-3.ensures.value
+          ∙ (table.1 k l ∙ ap (λ (ts : List ℕ). slice_index ts k) (c.deref.ensures.value ∙ c.in_ok-vertices.ensures reached are.held));
+    } in
+    let vertices = game_vertices sigs reached in
+    let draft : IsDraft c.in_ok-draft.draft vertices = subst (IsDraft c.in_ok-draft.draft)
+    (built sigs trees rows reached are c.deref-3.result.now c.deref-2.result.now is_table (c.deref-2.ensures.value ∙ c.in_ok-levels.ensures))
+    (c.in_ok-draft.ensures reached are.held) in
+    let parts = c.into_parts.ensures vertices draft in
+    let fits = c.requires.small in
+    let size = c.requires.size reached are.held in (
+      vertices,
+      parts,
+      makes_game sigs trees rows reached are c.games_of_rows_are_total.ensures.total (omega (arith, length-map c.args.signatures.now plain, c.requires.few)) (omega arith),
+    )
+
+pub index-start-requires : goal.index-start-requires
+index-start-requires c =
+    let sigs = equations_of c.args.signatures.now in
+    let rows = c.args.rows.now in
+    let trees = c.requires.reached.0 in
+    let reached = rows_of trees rows in
+    let are = reached_of trees sigs rows c.requires.reached.1.are in
+    let table = c.in_ok-by_number.ensures reached are.held in
+    omega (arith, reached_below sigs trees rows reached are c.args.initial (found_row trees rows c.args.initial c.requires.reached.1.found), table.0, c.count_instances-numbers.ensures, c.in_ok-by_number.by_number.ok.0)
+
+pub invariant_of-result : goal.invariant_of-result
+invariant_of-result c =
+    let sigs = equations_of c.args.signatures.now in
+    let rows = c.args.rows.now in
+    let trees = c.requires.reached.0 in
+    let reached = rows_of trees rows in
+    let are = reached_of trees sigs rows c.requires.reached.1.are in
+    let count : length c.in_ok-vertices.vertices.items ≡ length reached = ap length (c.in_ok-vertices.ensures reached are.held) ∙ length-vertices_from reached 2 in
+    record { few = omega (arith, count, fewer_rows reached 2, c.requires.small, c.requires.size reached are.held) }
+
+pub returns : goal.returns
+returns c = λ trees from.
+    let sigs = equations_of c.args.signatures.now in
+    let rows = c.args.rows.now in
+    let reached = rows_of trees rows in
+    let are = reached_of trees sigs rows from.are in
+    let is = found_row trees rows c.args.initial from.found in
+    let table = c.in_ok-by_number.ensures reached are.held in
+    let is_table : IsTable c.deref-3.result.now reached = record {
+      at = λ k l. ap (λ (ts : List ℕ). slice_index ts (slice_index (numbers reached) k)) c.deref-3.ensures.value
+          ∙ (table.1 k l ∙ ap (λ (ts : List ℕ). slice_index ts k) (c.deref.ensures.value ∙ c.in_ok-vertices.ensures reached are.held));
+    } in
+    let vertices = game_vertices sigs reached in
+    let draft : IsDraft c.in_ok-draft.draft vertices = subst (IsDraft c.in_ok-draft.draft)
+    (built sigs trees rows reached are c.deref-3.result.now c.deref-2.result.now is_table (c.deref-2.ensures.value ∙ c.in_ok-levels.ensures))
+    (c.in_ok-draft.ensures reached are.held) in
+    let parts = c.into_parts.ensures vertices draft in
+    record {
+      game = record { reached = are.are; vertices = c.in_ok-game.ensures vertices parts };
+      vertices = c.in_ok-vertices.ensures reached are.held ∙ vertices_are reached are.rising;
+      start =
+          let within = reached_below sigs trees rows reached are c.args.initial is in
+          get_or_read c.in_ok-by_number.by_number.items c.args.initial c.index-start.result.now (omega (arith, within, table.0, c.count_instances-numbers.ensures)) c.index-start.ensures 0
+          ∙ (ap (λ (ts : List ℕ). slice_index ts c.args.initial) (sym c.deref-3.ensures.value)
+          ∙ table_at c.deref-3.result.now reached is_table are.rising c.args.initial is);
+    }

@@ -1,0 +1,34 @@
+-- Where the vertices of rows stand.
+use Rattle.std.specs.Prelude.{◌≡◌, ℕ, suc, ◌+◌, ◌<◌, Bool, true, false, List, [], ◌∷◌, map, Contains}
+use Rattle.pb_trees.specs.declared.Token.{Token}
+use Rattle.pb_trees.specs.declared.Token.TheVariants.{Close}
+use Rattle.pb_trees.specs.Tree.{TreeCalls}
+use Rattle.pb_trees.specs.Rows.{Row}
+use Rattle.pb_trees.specs.Game.{inner}
+use Rattle.pb_rows.specs.Row as in_memory
+use Rattle.pb_game_of_trees.specs.Held.{Hold}
+
+-- the vertex behind those of the rows, which begin at next
+abbrev pub vertex_behind : List Row → ℕ → ℕ
+vertex_behind [] next = next
+vertex_behind (row ∷ rows) next = vertex_behind rows (suc (next + inner row.tree))
+
+-- the vertex of each row
+abbrev pub vertices_from : List Row → ℕ → List ℕ
+vertices_from [] next = []
+vertices_from (row ∷ rows) next = next ∷ vertices_from rows (suc (next + inner row.tree))
+
+abbrev pub numbers : List Row → List ℕ
+numbers rows = map (λ (row : Row). row.number) rows
+
+abbrev pub is_closing : Token → Bool
+is_closing Close = true
+is_closing _ = false
+
+-- the rows' trees call numbers below
+abbrev pub CallBelow : ℕ → List Row → Type 0
+CallBelow count rows = (row : Row) → Contains rows row → TreeCalls (λ n. n < count) row.tree
+
+-- a game of these rows has so many vertices
+abbrev pub IsSizeOf : List in_memory.Row → ℕ → Type 0
+IsSizeOf rows size = (plain : List Row) → Hold rows plain → size ≡ vertex_behind plain 2

@@ -1,0 +1,80 @@
+//! The vertices of a game from some vertex to the last one, as flat lists that begin with the last one. A vertex that is
+//! put before them goes to the end of each list, so nothing moves until all lists are turned round at the end.
+ghost use Rattle.std.specs.Prelude.{◌≡◌, ◌∷◌, ◌-◌, ◌≤◌, All, IfOk, OnOk, List, [], map, reverse};
+ghost use Rattle.pb_trees.specs.Game.{Vertex, rising};
+ghost use Rattle.pb_game_of_trees.specs.Draft.{IsDraft, ArePartsOf};
+
+use crate::falling::push_falling;
+use pb_game::Parts;
+use std::alloc::{AllocError, Global};
+
+#[derive(Drop)]
+pub(crate) struct Draft {
+    pub owners: Vec<u8>,
+    pub priorities: Vec<u32>,
+    /// For each vertex how many edges leave it and those behind it, and before these 0.
+    pub edges: Vec<usize>,
+    pub successors: Vec<u32>,
+}
+
+impl Draft {
+    /// No vertices, with room for so many and their edges.
+    pub fn with_capacity(alloc: Global, vertices: usize, edges: usize) -> Result<Draft, AllocError>
+        requires { vertices ≤ 16777216 }
+        ensures { IfOk result (λ draft. IsDraft draft []) }
+    {
+        let mut sums = Vec::with_capacity(alloc, vertices + 1)?;
+        sums.push(0)?;
+        Ok(Draft {
+            owners: Vec::with_capacity(alloc, vertices)?,
+            priorities: Vec::with_capacity(alloc, vertices)?,
+            edges: sums,
+            successors: Vec::with_capacity(alloc, edges)?,
+        })
+    }
+
+    /// Puts a vertex before the others. Its targets come in reverse.
+    pub fn put(&mut self, owner: u8, priority: u32, targets: &mut [u32]) -> Result<(), AllocError>
+        ensures { OnOk result ((vertices : List Vertex) → IsDraft self.old vertices → IsDraft self.new (record { owner = owner; priority = priority; successors = rising (reverse targets.old) } ∷ vertices)) }
+    {
+        push_falling(&mut self.successors, targets)?;
+        self.edges.push(self.successors.len())?;
+        self.priorities.push(priority)?;
+        self.owners.push(owner)?;
+        Ok(())
+    }
+
+    /// The lists from the first vertex on.
+    pub fn into_parts(self) -> Parts
+        requires { (vertices : List Vertex) × IsDraft self vertices }
+        ensures { (vertices : List Vertex) → IsDraft self vertices → ArePartsOf result vertices }
+    {
+        let Draft {
+            mut owners,
+            mut priorities,
+            edges: mut places,
+            mut successors,
+        } = self;
+        owners.reverse();
+        priorities.reverse();
+        successors.reverse();
+        places.reverse();
+        subtract_from(successors.len(), &mut places);
+        Parts {
+            owners,
+            priorities,
+            places,
+            successors,
+        }
+    }
+}
+
+/// Replaces each number by how far it is below the total.
+fn subtract_from(total: usize, numbers: &mut [usize])
+    requires { All (λ n. n ≤ total) numbers.old }
+    ensures { numbers.new ≡ map (λ n. total - n) numbers.old }
+{
+    for number in numbers.iter_mut() {
+        *number = total - *number;
+    }
+}

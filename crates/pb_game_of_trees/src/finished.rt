@@ -1,0 +1,25 @@
+//! The game of flat lists.
+ghost use Rattle.std.specs.Prelude.{IfOk, List};
+ghost use Rattle.pb_trees.specs.Game.{Vertex};
+ghost use Rattle.pb_game_meaning.specs.Vertices.{HasVertices};
+ghost use Rattle.pb_game_of_trees.specs.Draft.{ArePartsOf, MakeGame};
+
+use pb_game::{Game, GameError, Parts};
+use std::alloc::{AllocError, Global};
+
+/// The game of parts that stand for the vertices of a game.
+pub(crate) fn game_of(alloc: Global, parts: Parts) -> Result<Game, AllocError>
+    requires { (vertices : List Vertex) × ArePartsOf parts vertices × MakeGame vertices }
+    ensures { IfOk result (λ game. (vertices : List Vertex) → ArePartsOf parts vertices → HasVertices game vertices) }
+{
+    match Game::from_parts(alloc, parts) {
+        Ok(game) => Ok(game),
+        Err(GameError::Memory(error)) => Err(error),
+        Err(GameError::TooManyVertices) => unreachable!(),
+        Err(GameError::Owners) => unreachable!(),
+        Err(GameError::Priorities) => unreachable!(),
+        Err(GameError::Places) => unreachable!(),
+        Err(GameError::Successors) => unreachable!(),
+        Err(GameError::TooManyPriorities) => unreachable!(),
+    }
+}

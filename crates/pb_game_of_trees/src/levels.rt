@@ -1,0 +1,89 @@
+//! The priorities of equations.
+ghost use Rattle.std.specs.Prelude.{◌≡◌, ◌<◌, IfOk, length, map};
+ghost use Rattle.pb_trees.specs.Equations.{total};
+ghost use Rattle.pb_trees.specs.Game.{last_priority, priority_before};
+ghost use Rattle.pb_game_of_trees.specs.Levels.{levels_from, priority_in};
+ghost use Rattle.pb_game_of_trees.specs.Equations.{plain};
+
+use crate::signature::Signature;
+use pb_fixpoint::Sign;
+use std::alloc::{AllocError, Global};
+
+/// The numbers of an equation's instances end before `end`, and they have this priority.
+#[derive(Clone, Copy)]
+pub(crate) struct Level {
+    pub end: u32,
+    pub priority: u32,
+}
+
+/// The priority of last equations of one sign.
+fn last_priority(sign: Sign) -> u32
+    ensures { result ≡ last_priority sign }
+{
+    match sign {
+        Sign::Nu => 0,
+        Sign::Mu => 1,
+    }
+}
+
+/// The priority of an equation before one of the sign `next` and this priority.
+fn priority_before(sign: Sign, next: Sign, priority: u32) -> u32
+    requires { priority < 4294967295 }
+    ensures { result ≡ priority_before sign next priority }
+{
+    match (sign, next) {
+        (Sign::Mu, Sign::Mu) => priority,
+        (Sign::Nu, Sign::Nu) => priority,
+        (Sign::Mu, Sign::Nu) => priority + 1,
+        (Sign::Nu, Sign::Mu) => priority + 1,
+    }
+}
+
+/// How many instances the equations have.
+pub(crate) fn count_instances(signatures: &[Signature]) -> u32
+    requires { total (map plain signatures.now) < 4294967296 }
+    ensures { result ≡ total (map plain signatures.now) }
+{
+    let mut count = 0;
+    for signature in signatures {
+        count += signature.size;
+    }
+    count
+}
+
+/// The level of each equation, in order.
+pub(crate) fn levels(alloc: Global, signatures: &[Signature]) -> Result<Vec<Level>, AllocError>
+    requires few { length signatures.now < 4294967296 }
+    requires numbers { total (map plain signatures.now) < 4294967296 }
+    ensures { IfOk result (λ levels. levels.items ≡ levels_from 0 (map plain signatures.now)) }
+{
+    let mut levels = Vec::with_capacity(alloc, signatures.len())?;
+    let mut end = count_instances(signatures);
+    let mut priority = 0;
+    let mut k = signatures.len();
+    while k > 0 {
+        k -= 1;
+        let sign = signatures[k].sign;
+        priority = if k + 1 < signatures.len() {
+            priority_before(sign, signatures[k + 1].sign, priority)
+        } else {
+            last_priority(sign)
+        };
+        levels.push(Level { end, priority })?;
+        end -= signatures[k].size;
+    }
+    levels.reverse();
+    Ok(levels)
+}
+
+/// The priority of the instance with this number.
+pub(crate) fn priority_at(levels: &[Level], number: u32) -> u32
+    ensures { result ≡ priority_in levels.now number }
+{
+    for level in levels {
+        if number < level.end {
+            return level.priority;
+        }
+    }
+    0
+}

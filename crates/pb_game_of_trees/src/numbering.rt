@@ -1,0 +1,42 @@
+//! The vertices of instances.
+ghost use Rattle.std.specs.Prelude.{◌≡◌, ◌≤◌, ◌<◌, ℕ, IfOk, List, length, slice_index};
+ghost use Rattle.std.specs.List.Sorted.{IsStrictlyIncreasing};
+ghost use Rattle.pb_trees.specs.Rows.{Row as plain_row};
+ghost use Rattle.pb_game_of_trees.specs.Held.{Hold};
+ghost use Rattle.pb_game_of_trees.specs.Places.{vertex_behind, vertices_from, numbers};
+
+use crate::size::inner_brackets;
+use pb_rows::IndexedRows;
+use std::alloc::{AllocError, Global};
+
+/// The vertex of each row.
+pub(crate) fn vertices_of_rows(alloc: Global, rows: &IndexedRows) -> Result<Vec<u32>, AllocError>
+    requires { (plain : List plain_row) × Hold rows.now plain × (vertex_behind plain 2 ≤ 16777216) }
+    ensures { IfOk result (λ vertices. (plain : List plain_row) → Hold rows.now plain → vertices.items ≡ vertices_from plain 2) }
+{
+    let mut vertices = Vec::with_capacity(alloc, rows.len())?;
+    let mut next: u32 = 2;
+    for k in 0..rows.len() {
+        vertices.push(next)?;
+        next += inner_brackets(rows.tokens(k)) as u32 + 1;
+    }
+    Ok(vertices)
+}
+
+/// The vertex of each number of a row; of the other numbers below `count` 0.
+pub(crate) fn vertices_by_number(
+    alloc: Global,
+    rows: &IndexedRows,
+    vertices: &[u32],
+    count: usize,
+) -> Result<Vec<u32>, AllocError>
+    requires lengths { length vertices.now ≡ length rows.now }
+    requires within { (plain : List plain_row) × Hold rows.now plain × IsStrictlyIncreasing (numbers plain) × ((k : ℕ) → k < length plain → slice_index (numbers plain) k < count) }
+    ensures { IfOk result (λ table. (plain : List plain_row) → Hold rows.now plain → (length table.items ≡ count) × ((k : ℕ) → k < length plain → slice_index table.items (slice_index (numbers plain) k) ≡ slice_index vertices.now k)) }
+{
+    let mut table = vec![in alloc; 0u32; count]?;
+    for k in 0..rows.len() {
+        table[rows.number(k) as usize] = vertices[k];
+    }
+    Ok(table)
+}

@@ -1,0 +1,54 @@
+//! The vertices of all rows, from the last row to the first.
+ghost use Rattle.std.specs.Prelude.{◌≡◌, ◌∷◌, ◌≤◌, ◌<◌, IfOk, List, Contains, length, slice_index};
+ghost use Rattle.pb_trees.specs.Rows.{Row as plain_row};
+ghost use Rattle.pb_trees.specs.Tree.{TreeCalls};
+ghost use Rattle.pb_trees.specs.Game.{row_vertices, false_sink, true_sink};
+ghost use Rattle.pb_game_of_trees.specs.Held.{Hold};
+ghost use Rattle.pb_game_of_trees.specs.Draft.{IsDraft};
+ghost use Rattle.pb_game_of_trees.specs.Levels.{priority_in};
+ghost use Rattle.pb_game_of_trees.specs.Places.{vertex_behind, CallBelow};
+
+use crate::builder::Builder;
+use crate::draft::Draft;
+use crate::levels::{Level, priority_at};
+use crate::size::Size;
+use pb_rows::IndexedRows;
+use std::alloc::{AllocError, Global};
+
+/// The vertices of a game of this size. `vertices` has the vertex of each instance by its number.
+pub(crate) fn draft_of(
+    alloc: Global,
+    levels: &[Level],
+    rows: &IndexedRows,
+    vertices: &[u32],
+    size: Size,
+) -> Result<Draft, AllocError>
+    requires small { size.vertices ≤ 16777216 }
+    requires rows { (plain : List plain_row) × Hold rows.now plain × (size.vertices ≡ vertex_behind plain 2) × CallBelow (length vertices.now) plain }
+    ensures { IfOk result (λ draft. (plain : List plain_row) → Hold rows.now plain → IsDraft draft (false_sink ∷ (true_sink ∷ row_vertices (slice_index vertices.now) (priority_in levels.now) plain 2))) }
+{
+    let mut builder = Builder {
+        draft: Draft::with_capacity(alloc, size.vertices, size.edges)?,
+        next: size.vertices as u32,
+        targets: Vec::new(alloc),
+        starts: Vec::new(alloc),
+    };
+    let mut k = rows.len();
+    while k > 0 {
+        k -= 1;
+        builder.put_tree(
+            vertices,
+            rows.tokens(k),
+            priority_at(levels, rows.number(k)),
+        )?;
+    }
+    let Builder {
+        mut draft,
+        next: _,
+        targets: _,
+        starts: _,
+    } = builder;
+    draft.put(0, 0, &mut [1])?;
+    draft.put(0, 1, &mut [0])?;
+    Ok(draft)
+}

@@ -1,0 +1,64 @@
+//! The size of a game, before it is built.
+ghost use Rattle.std.specs.Prelude.{◌≡◌, ◌≤◌, ◌<◌, count_by, length, IfSome, MatchOption, List};
+ghost use Rattle.pb_trees.specs.Rows.{Row as plain_row};
+ghost use Rattle.pb_trees.specs.Tree.{Tree};
+ghost use Rattle.pb_trees.specs.Tokens.{tree_tokens};
+ghost use Rattle.pb_trees.specs.Game.{inner};
+ghost use Rattle.pb_game_of_trees.specs.Held.{Hold};
+ghost use Rattle.pb_game_of_trees.specs.Places.{vertex_behind, is_closing};
+
+use pb_game::Game;
+use pb_rows::IndexedRows;
+use pb_trees::Token;
+
+/// How many vertices a game has, and about how many edges.
+#[derive(Clone, Copy)]
+pub(crate) struct Size {
+    pub vertices: usize,
+    pub edges: usize,
+}
+
+/// Whether a token closes a bracket.
+fn is_closing(token: Token) -> bool
+    ensures { result ≡ is_closing token }
+{
+    match token {
+        Token::Close => true,
+        _ => false,
+    }
+}
+
+/// How many tokens close a bracket.
+fn count_closing(tokens: &[Token]) -> usize
+    ensures count { result ≡ count_by is_closing tokens.now }
+    ensures bound { result ≤ length tokens.now }
+{
+    tokens.iter().filter(|token| is_closing(**token)).count()
+}
+
+/// How many brackets there are inside a tree, its root not counted.
+pub(crate) fn inner_brackets(tokens: &[Token]) -> usize
+    ensures inner { (tree : Tree) → tokens.now ≡ tree_tokens tree → result ≡ inner tree }
+    ensures bound { result ≤ length tokens.now }
+{
+    count_closing(tokens).saturating_sub(1)
+}
+
+/// The size of the game of these rows; none where it has more vertices than a game may have.
+pub(crate) fn size_of(rows: &IndexedRows) -> Option<Size>
+    ensures size { (plain : List plain_row) → Hold rows.now plain → MatchOption result (16777216 < vertex_behind plain 2) (λ size. size.vertices ≡ vertex_behind plain 2) }
+    ensures small { IfSome result (λ size. size.vertices ≤ 16777216) }
+{
+    let mut vertices = 2;
+    let mut edges: usize = 2;
+    for k in 0..rows.len() {
+        let tokens = rows.tokens(k);
+        let inner = inner_brackets(tokens);
+        vertices += inner + 1;
+        if vertices > Game::LIMIT {
+            return None;
+        }
+        edges = edges.saturating_add(tokens.len().saturating_sub(inner + 1).max(1));
+    }
+    Some(Size { vertices, edges })
+}

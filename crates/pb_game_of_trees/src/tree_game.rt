@@ -1,0 +1,134 @@
+//! The game of a system's reached instances.
+ghost use Rattle.std.specs.Prelude.{◌≡◌, ◌≤◌, vec_len};
+ghost use Rattle.pb_game_of_trees.specs.declared.tree_game.BuildError.TheVariants.{Memory};
+
+use crate::finished::game_of;
+use crate::levels::{count_instances, levels};
+use crate::numbering::{vertices_by_number, vertices_of_rows};
+use crate::row_loop::draft_of;
+use crate::signature::Signature;
+use crate::size::{Size, size_of};
+use pb_game::Game;
+use pb_rows::IndexedRows;
+use std::alloc::{AllocError, Global};
+use thiserror::Error;
+
+/// Why no game was built.
+#[derive(Debug, Drop, Error)]
+pub enum BuildError {
+    #[error("no memory")]
+    Memory(AllocError),
+    /// `G01`: the game would have more than 2^24 vertices.
+    #[error("G01")]
+    TooManyVertices,
+}
+
+impl From<AllocError> for BuildError {
+    ghost from_gives = { λ error made. made ≡ Memory error };
+
+    fn from(error: AllocError) -> Self {
+        BuildError::Memory(error)
+    }
+}
+
+/// The game of the reached instances of a system, with the vertices of the instances.
+#[derive(Drop)]
+pub struct TreeGame {
+    pub game: Game,
+    /// The vertex of each row.
+    pub vertices: Vec<u32>,
+    /// The vertex of the initial instance.
+    pub start: u32,
+    pub ghost few: { vec_len vertices ≤ 16777216 },
+}
+
+impl TreeGame {
+    ghost use Rattle.std.specs.Prelude.{◌≤◌, ◌<◌, IfOk, Err, length, slice_index};
+    ghost use Rattle.pb_trees.specs.Equations.{total};
+    ghost use Rattle.pb_game.specs.Games.{vertex_count};
+    ghost use Rattle.pb_game_of_trees.specs.Equations.{equations_of};
+    ghost use Rattle.pb_game_of_trees.specs.TreeGame.{HaveTrees, IsGameOf, IsRefusedExactly};
+    ghost use Rattle.pb_game_of_trees.specs.Places.{IsSizeOf};
+
+    /// The game of the reached instances of these equations, where `initial` is one of them. How many vertices it has is
+    /// found before anything of that size is made.
+    ///
+    /// # Errors
+    /// `TooManyVertices` exactly where there would be more than 2^24; else `Memory`.
+    pub fn build(
+        alloc: Global,
+        signatures: &[Signature],
+        rows: &IndexedRows,
+        initial: u32,
+    ) -> Result<TreeGame, BuildError>
+        requires few { length signatures.now < 256 }
+        requires numbers { total (equations_of signatures.now) < 4294967296 }
+        requires reached { HaveTrees (equations_of signatures.now) rows.now initial }
+        ensures game { IfOk result (IsGameOf (equations_of signatures.now) rows.now initial) }
+        ensures too_many { IsRefusedExactly (result ≡ Err BuildError.TooManyVertices) (equations_of signatures.now) rows.now }
+    {
+        match size_of(rows) {
+            None => Err(BuildError::TooManyVertices),
+            Some(size) => Ok(TreeGame::of_size(alloc, signatures, rows, initial, size)?),
+        }
+    }
+
+    /// The game, of a size that is known.
+    fn of_size(
+        alloc: Global,
+        signatures: &[Signature],
+        rows: &IndexedRows,
+        initial: u32,
+        size: Size,
+    ) -> Result<TreeGame, AllocError>
+        requires few { length signatures.now < 256 }
+        requires numbers { total (equations_of signatures.now) < 4294967296 }
+        requires small { size.vertices ≤ 16777216 }
+        requires reached { HaveTrees (equations_of signatures.now) rows.now initial }
+        requires size { IsSizeOf rows.now size.vertices }
+        ensures { IfOk result (IsGameOf (equations_of signatures.now) rows.now initial) }
+    {
+        let vertices = vertices_of_rows(alloc, rows)?;
+        let numbers = count_instances(signatures) as usize;
+        let by_number = vertices_by_number(alloc, rows, &vertices, numbers)?;
+        let levels = levels(alloc, signatures)?;
+        let draft = draft_of(alloc, &levels, rows, &by_number, size)?;
+        pb_trees::games_of_rows_are_total();
+        let game = game_of(alloc, draft.into_parts())?;
+        let start = by_number[initial as usize];
+        Ok(TreeGame {
+            game,
+            vertices,
+            start,
+        })
+    }
+
+    /// How many vertices the game has.
+    pub fn len(&self) -> u32
+        ensures { result ≡ vertex_count self.now.game }
+    {
+        self.game.len()
+    }
+
+    /// The vertex of the initial instance.
+    pub fn start(&self) -> u32
+        ensures { result ≡ self.now.start }
+    {
+        self.start
+    }
+
+    /// How many reached instances there are.
+    pub fn instances(&self) -> u32
+        ensures { result ≡ length self.now.vertices.items }
+    {
+        self.vertices.len() as u32
+    }
+
+    /// The vertex of a reached instance, by the place of its row.
+    pub fn vertex(&self, place: u32) -> u32
+        requires { place < length self.now.vertices.items }
+        ensures { result ≡ slice_index self.now.vertices.items place }
+    {
+        self.vertices[place as usize]
+    }
+}

@@ -1,0 +1,7 @@
+//! Tests of what is printed about modules: reports, games and solutions, from the bytes of a module to the text.
+#![tactic(auto)]
+
+pub mod modules;
+pub mod printing;
+#[cfg(test)]
+mod tests;

@@ -1,0 +1,82 @@
+//! From the bytes of a module to what is printed about it.
+ghost use Rattle.std.specs.Prelude.{IfOk};
+ghost use Rattle.pb_game_answer.specs.Explored.{AreModuleRows};
+
+use pb_bytecode::decode::decode;
+use pb_exploration::{Explored, NoGate, explore};
+use pb_game_answer::{build, solve};
+use pb_machine::instances_have_trees;
+use pb_report_texts::game_text::game_text;
+use pb_report_texts::solution_text::solution_text;
+use pb_report_texts::{Answer, WriteError, report};
+use pb_sorts::Sink;
+use pb_verifier::{Verified, VerifyError, verify};
+use std::alloc::{AllocError, Global};
+use std::test::Fail;
+use std::thread::Threads;
+
+/// The module of these bytes, which is accepted.
+fn verified(alloc: Global, bytes: &[u8]) -> Result<Verified, Fail> {
+    match verify(alloc, decode(alloc, bytes)?) {
+        Ok(verified) => Ok(verified),
+        Err((_module, error)) => Ok(Err::<Verified, VerifyError>(error)?),
+    }
+}
+
+/// The reached instances of a module, by one worker.
+fn explored<R: Threads + Sync>(
+    rt: &R,
+    alloc: Global,
+    verified: &Verified,
+) -> Result<Explored, AllocError>
+    ensures { IfOk result (AreModuleRows verified.now) }
+{
+    let explored = explore(rt, alloc, verified, 1, &NoGate)?;
+    Ok(explored)
+}
+
+/// Prints the report of the module of these bytes, and answers how the writing went.
+pub fn print_report<R: Threads + Sync, S: Sink>(
+    rt: &R,
+    alloc: Global,
+    bytes: &[u8],
+    sink: &mut S,
+) -> Result<Result<(), WriteError>, Fail> {
+    let module = verified(alloc, bytes)?;
+    instances_have_trees(&module);
+    let explored = explored(rt, alloc, &module)?;
+    let rows = explored.rows();
+    let solved = solve(rt, alloc, &module, rows)?;
+    let answer = Answer::of_solved(&solved, rows);
+    Ok(report(alloc, &answer, sink))
+}
+
+/// Prints the game of the module of these bytes, and answers how the writing went.
+pub fn print_game<R: Threads + Sync, S: Sink>(
+    rt: &R,
+    alloc: Global,
+    bytes: &[u8],
+    sink: &mut S,
+) -> Result<Result<(), WriteError>, Fail> {
+    let module = verified(alloc, bytes)?;
+    instances_have_trees(&module);
+    let explored = explored(rt, alloc, &module)?;
+    let rows = explored.rows();
+    let built = build(alloc, &module, rows)?;
+    Ok(game_text(alloc, &module, &built, rows, sink))
+}
+
+/// Prints the solution of the module of these bytes, and answers how the writing went.
+pub fn print_solution<R: Threads + Sync, S: Sink>(
+    rt: &R,
+    alloc: Global,
+    bytes: &[u8],
+    sink: &mut S,
+) -> Result<Result<(), WriteError>, Fail> {
+    let module = verified(alloc, bytes)?;
+    instances_have_trees(&module);
+    let explored = explored(rt, alloc, &module)?;
+    let rows = explored.rows();
+    let solved = solve(rt, alloc, &module, rows)?;
+    Ok(solution_text(alloc, &module, &solved, rows, sink))
+}
