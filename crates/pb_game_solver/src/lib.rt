@@ -1,0 +1,75 @@
+//! The solvers of parity games, and one call for all of them.
+//!
+//! [`solve`] answers with a certificate, whichever [`Solver`] is asked for. Lifting (Jurdzinski 2000) may have no
+//! answer, and then Zielonka's algorithm (Zielonka 1998), which always has one, answers in its place. A game has one
+//! partition into winning regions, so all solvers name the same winners; their strategies and measures may differ.
+#![tactic(auto)]
+
+ghost use Rattle.std.specs.Prelude.{◌≡◌, ◌<◌, IfOk};
+ghost use Rattle.pb_game_certificate.specs.Certificates.{IsCertificate};
+ghost use Rattle.pb_game_solver.specs.Winners.{NamesTheWinners};
+ghost use Rattle.pb_game_solver.specs.Lifting.{IsLiftedOrNone};
+ghost use Rattle.pb_game_solver.specs.declared.solver.Solver.TheVariants.{Lift};
+
+mod solver;
+
+use pb_exploration::Gate;
+use pb_game::Game;
+use pb_game_certificate::Solution;
+use pb_lifting::{LiftError, lift};
+use pb_strategy::check;
+pub use solver::Solver;
+use std::alloc::{AllocError, Global};
+use std::thread::Threads;
+
+/// The winners of all vertices, with a certificate. The workers are those of lifting, and the gate sees each of
+/// their lifts; Zielonka's algorithm takes neither.
+///
+/// # Errors
+///
+/// Memory alone: where lifting has more ranks than a word, or the checker refuses its solution, Zielonka's algorithm
+/// answers.
+pub fn solve<G: Gate + Sync, R: Threads + Sync>(
+    rt: &R,
+    alloc: Global,
+    game: &Game,
+    solver: Solver,
+    workers: u32,
+    gate: &G,
+) -> Result<Solution, AllocError>
+    requires workers { 0 < workers }
+    ensures certificate { IfOk result (λ s. IsCertificate game.now s) }
+    ensures winners { IfOk result (NamesTheWinners game.now) }
+    ensures lifted { solver ≡ Lift → IfOk result (IsLiftedOrNone game.now) }
+{
+    match solver {
+        Solver::Zielonka => pb_zielonka::solve(rt, alloc, game),
+        Solver::Lift => lift_or_solve(rt, alloc, game, workers, gate),
+    }
+}
+
+/// The solution of lifting where it has one, and else that of Zielonka's algorithm.
+fn lift_or_solve<G: Gate + Sync, R: Threads + Sync>(
+    rt: &R,
+    alloc: Global,
+    game: &Game,
+    workers: u32,
+    gate: &G,
+) -> Result<Solution, AllocError>
+    requires workers { 0 < workers }
+    ensures certificate { IfOk result (λ s. IsCertificate game.now s) }
+    ensures lifted { IfOk result (IsLiftedOrNone game.now) }
+{
+    match lift(rt, alloc, game, workers, gate) {
+        Ok(solution) => {
+            let certified = check(game, &solution).is_ok();
+            if certified {
+                Ok(solution)
+            } else {
+                pb_zielonka::solve(rt, alloc, game)
+            }
+        }
+        Err(LiftError::TooManyRanks) => pb_zielonka::solve(rt, alloc, game),
+        Err(LiftError::Memory) => Err(AllocError),
+    }
+}

@@ -1,0 +1,190 @@
+//! The solution that the final words of both players say.
+
+ghost use Rattle.std.specs.Prelude.{◌≡◌, ◌≢◌, ℕ, ◌<◌, ◌≤◌, ◌↔◌, IsTrue, MatchOption, IfOk, OnOk, Some, length, slice_index, ◌==◌, if◌then◌else◌};
+ghost use Rattle.pb_game.specs.Games.{vertex_count, priority_count, HasEdge};
+ghost use Rattle.pb_lifting.specs.Scales.{IsScaleOf};
+ghost use Rattle.pb_lifting.specs.Measures.{top_of};
+ghost use Rattle.pb_lifting.specs.Solutions.{Meets, IsMeeting, IsLeastSuccessor, IsChoice, winner_by, count_by_rank, lesser_of, AddsRow, AddsMeasured, AddsWinner, IsSolutionOf, AreMeasured};
+
+use crate::measured::Measured;
+use crate::scale::Scale;
+use pb_game::Game;
+use pb_game_certificate::Solution;
+use std::alloc::{AllocError, Global};
+
+/// The solution that the final words of both players say.
+pub(crate) fn solution_of(
+    alloc: Global,
+    game: &Game,
+    zero: &Measured,
+    one: &Measured,
+) -> Result<Solution, AllocError>
+    requires zero { AreMeasured game.now 0 zero.now }
+    requires one { AreMeasured game.now 1 one.now }
+    ensures { IfOk result (λ s. IsSolutionOf game.now zero.now.words.items one.now.words.items s) }
+{
+    let mut solution = Solution {
+        winner: Vec::new(alloc),
+        choice: Vec::new(alloc),
+        counts: Vec::new(alloc),
+    };
+    for v in 0..game.len() {
+        push_at(game, zero, one, v, &mut solution)?;
+    }
+    Ok(solution)
+}
+
+/// Puts the entries of `v` behind the others.
+fn push_at(
+    game: &Game,
+    zero: &Measured,
+    one: &Measured,
+    v: u32,
+    solution: &mut Solution,
+) -> Result<(), AllocError>
+    requires zero { AreMeasured game.now 0 zero.now }
+    requires one { AreMeasured game.now 1 one.now }
+    requires vertex { v < vertex_count game.now }
+    ensures { OnOk result (AddsWinner game.now zero.now one.now v solution.old solution.new) }
+{
+    if wins_zero(game, zero, v) {
+        push_vertex(game, 0, zero, v, solution)
+    } else {
+        push_vertex(game, 1, one, v, solution)
+    }
+}
+
+/// Whether player 0 wins `v`.
+fn wins_zero(game: &Game, zero: &Measured, v: u32) -> bool
+    requires zero { AreMeasured game.now 0 zero.now }
+    requires vertex { v < vertex_count game.now }
+    ensures { IsTrue result ↔ (winner_by game.now zero.now.words.items v ≡ 0) }
+{
+    zero.words[v as usize] != zero.scale.top(game, 0)
+}
+
+/// Puts the entries of `v`, which this player wins, behind the others.
+fn push_vertex(
+    game: &Game,
+    player: u8,
+    measured: &Measured,
+    v: u32,
+    solution: &mut Solution,
+) -> Result<(), AllocError>
+    requires measured { AreMeasured game.now player measured.now }
+    requires vertex { v < vertex_count game.now }
+    ensures { OnOk result (AddsMeasured game.now player measured.now v solution.old solution.new) }
+{
+    let rank = measured.words[v as usize];
+    let choice = choice_at(game, player, measured, v);
+    solution.winner.push(player)?;
+    solution.choice.push(choice)?;
+    push_counts(game, player, &measured.scale, rank, &mut solution.counts)
+}
+
+/// Puts a vertex's counts behind the others.
+fn push_counts(
+    game: &Game,
+    player: u8,
+    scale: &Scale,
+    rank: u64,
+    counts: &mut Vec<u64>,
+) -> Result<(), AllocError>
+    requires units { IsScaleOf game.now player scale.now }
+    ensures { OnOk result (AddsRow game.now player rank counts.old.items counts.new.items) }
+{
+    for priority in 0..=game.greatest_priority() {
+        counts.push(count_at(game, player, scale, rank, priority))?;
+    }
+    Ok(())
+}
+
+/// The count of a rank at a priority, and 0 where the rank is top.
+fn count_at(game: &Game, player: u8, scale: &Scale, rank: u64, priority: u32) -> u64
+    requires units { IsScaleOf game.now player scale.now }
+    requires priority { priority < priority_count game.now }
+    ensures { result ≡ count_by_rank game.now player rank priority }
+{
+    if rank == scale.top(game, player) {
+        return 0;
+    }
+    scale.count(game, player, rank, priority)
+}
+
+/// The choice at `v`, which this player wins.
+fn choice_at(game: &Game, player: u8, measured: &Measured, v: u32) -> u32
+    requires measured { AreMeasured game.now player measured.now }
+    requires vertex { v < vertex_count game.now }
+    ensures { IsChoice game.now player measured.now.words.items v result }
+{
+    if game.owner(v) != player {
+        return least_successor(game, v);
+    }
+    match least_meeting(game, player, measured, v) {
+        Some(u) => u,
+        None => least_successor(game, v),
+    }
+}
+
+/// The least successor of `v`.
+fn least_successor(game: &Game, v: u32) -> u32
+    requires vertex { v < vertex_count game.now }
+    ensures { IsLeastSuccessor game.now v result }
+{
+    let successors = game.successors(v);
+    let mut least = successors[0];
+    for target in successors {
+        if *target < least {
+            least = *target;
+        }
+    }
+    least
+}
+
+/// The least successor to which an edge from `v` meets the edge condition.
+fn least_meeting(game: &Game, player: u8, measured: &Measured, v: u32) -> Option<u32>
+    requires measured { AreMeasured game.now player measured.now }
+    requires vertex { v < vertex_count game.now }
+    ensures { IsMeeting game.now player measured.now.words.items v result }
+{
+    let mut least: Option<u32> = None;
+    for target in game.successors(v) {
+        if meets(game, player, measured, v, *target) {
+            least = lesser(least, *target);
+        }
+    }
+    least
+}
+
+/// The lesser of a vertex and another, where there is one.
+fn lesser(least: Option<u32>, u: u32) -> Option<u32>
+    ensures { result ≡ Some (lesser_of least u) }
+{
+    match least {
+        Some(w) => Some(w.min(u)),
+        None => Some(u),
+    }
+}
+
+/// Whether an edge from `v` to `u` meets the edge condition.
+fn meets(game: &Game, player: u8, measured: &Measured, v: u32, u: u32) -> bool
+    requires measured { AreMeasured game.now player measured.now }
+    requires vertex { v < vertex_count game.now }
+    requires to { u < vertex_count game.now }
+    ensures { IsTrue result ↔ Meets game.now player measured.now.words.items v u }
+{
+    let top = measured.scale.top(game, player);
+    let rank = measured.words[u as usize];
+    if rank >= top {
+        return false;
+    }
+    let own = counted_rank(measured.words[v as usize], top);
+    measured.scale.asked(game, player, v, rank) <= own
+}
+
+/// A rank with the counts of this one: those of top are all 0.
+fn counted_rank(rank: u64, top: u64) -> u64
+    ensures { result ≡ (if rank == top then 0 else rank) }
+{
+    if rank == top { 0 } else { rank }
+}
