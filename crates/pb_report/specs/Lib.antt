@@ -1,3 +1,1 @@
-pub mod Report
 pub mod Lines
-pub use Rattle.pb_sorts.specs.Sink

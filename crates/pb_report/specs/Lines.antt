@@ -8,6 +8,14 @@ use Rattle.pb_text.specs.declared.error.TextError.TheVariants as text_error
 use Rattle.pb_typing_declarations.specs.TypingRule.{rule_number}
 use Rattle.pb_typing_declarations.specs.declared.fault.TypeError.{TypeError}
 use Rattle.pb_typing_declarations.specs.declared.fault.TypeError.TheVariants as type_error
+use Rattle.pb_assembler.specs.declared.limit.Limit.{Limit}
+use Rattle.pb_assembler.specs.declared.limit.Limit.TheVariants.{Instructions, Operands, Brackets, Loops, Steps, Tokens}
+use Rattle.pb_bytecode.specs.RuleNumber as module_rule
+use Rattle.pb_bytecode.specs.declared.fault.ModuleError.{ModuleError}
+use Rattle.pb_bytecode.specs.declared.fault.ModuleError.TheVariants as module_error
+use Rattle.pb_verifier_states.specs.RuleNumber as acceptance_rule
+use Rattle.pb_verifier.specs.declared.verify_error.VerifyError.{VerifyError}
+use Rattle.pb_verifier.specs.declared.verify_error.VerifyError.TheVariants as verify_error
 use Rattle.pb_report.specs.declared.fault.ProgramFault.{ProgramFault}
 use Rattle.pb_report.specs.declared.fault.ProgramFault.TheVariants.{U01, U02, E01, E02, M01}
 
@@ -39,3 +47,35 @@ text_line text_error.Memory = line_of M01
 abbrev pub type_line : TypeError → List ℕ
 type_line (type_error.At fault) = line_at (rule_number fault.rule) fault.place
 type_line type_error.Memory = line_of M01
+
+-- ---- modules: bytes, equations and the places of their code are counted from 0
+
+abbrev pub limit_number : Limit → List ℕ
+limit_number Instructions = codes "C01"
+limit_number Operands = codes "C02"
+limit_number Brackets = codes "C03"
+limit_number Loops = codes "C04"
+limit_number Steps = codes "C05"
+limit_number Tokens = codes "C06"
+
+-- a limit, and the equation whose code exceeds it
+abbrev pub limit_line : Limit → ℕ → List ℕ
+limit_line limit equation = limit_number limit ++ (codes " equation " ++ (decimal equation ++ codes "\n"))
+
+-- a rule, and the byte at which a field breaks it
+abbrev pub byte_line : List ℕ → ℕ → List ℕ
+byte_line rule byte = rule ++ (codes " byte " ++ (decimal byte ++ codes "\n"))
+
+-- a rule, and the equation and the place of its code that break it
+abbrev pub code_line : List ℕ → ℕ → ℕ → List ℕ
+code_line rule equation place = rule ++ (codes " equation " ++ (decimal equation ++ (codes " place " ++ (decimal place ++ codes "\n"))))
+
+-- why bytes are no module
+abbrev pub module_line : ModuleError → List ℕ
+module_line (module_error.ModuleFault rule byte) = byte_line (module_rule.rule_number rule) byte
+module_line module_error.Memory = line_of M01
+
+-- why a module is not accepted
+abbrev pub verify_line : VerifyError → List ℕ
+verify_line (verify_error.Refusal rule equation place) = code_line (acceptance_rule.rule_number rule) equation place
+verify_line verify_error.Memory = line_of M01

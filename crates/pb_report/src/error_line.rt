@@ -1,11 +1,13 @@
 //! Errors that have a line of their own: which rule was broken, and where.
 ghost use Rattle.std.specs.Prelude.{◌≡◌, ℕ, List, IfOk, string_bytes};
-ghost use Rattle.pb_report.specs.Lines.{line_at, text_rule_number};
+ghost use Rattle.pb_report.specs.Lines.{line_at, byte_line, code_line, text_rule_number};
 
 use crate::fault::ProgramFault;
+use pb_bytecode::ModuleError;
 use pb_text::TextError;
 use pb_text_tree::Place;
 use pb_typing_declarations::TypeError;
+use pb_verifier::VerifyError;
 use std::alloc::{AllocError, Global};
 
 /// An error that the program tells of by a line.
@@ -26,6 +28,20 @@ fn placed_line(alloc: Global, rule: &str, place: Place) -> Result<String, AllocE
     let line = place.line;
     let column = place.column;
     format!(in alloc; "{rule} line {line} column {column}\n")
+}
+
+// The number of a rule of module bytes and a byte.
+fn byte_line(alloc: Global, rule: &str, byte: usize) -> Result<String, AllocError>
+    ensures { IfOk result (λ s. string_bytes s ≡ byte_line rule.now byte) }
+{
+    format!(in alloc; "{rule} byte {byte}\n")
+}
+
+// The number of a rule of code, and the place of an equation and of an instruction in its code.
+fn code_line(alloc: Global, rule: &str, equation: usize, place: usize) -> Result<String, AllocError>
+    ensures { IfOk result (λ s. string_bytes s ≡ code_line rule.now equation place) }
+{
+    format!(in alloc; "{rule} equation {equation} place {place}\n")
 }
 
 fn text_rule_number(rule: pb_text::TextRule) -> &'static str
@@ -66,6 +82,36 @@ impl ErrorLine for TypeError {
         match self {
             TypeError::At(fault) => placed_line(alloc, fault.rule.number(), fault.place),
             TypeError::Memory => String::from_str(alloc, ProgramFault::M01.line()),
+        }
+    }
+}
+
+impl ErrorLine for ModuleError {
+    ghost use Rattle.pb_report.specs.Lines.{module_line};
+
+    ghost line = { module_line };
+
+    fn error_line(&self, alloc: Global) -> Result<String, AllocError> {
+        match self {
+            ModuleError::ModuleFault { rule, byte } => byte_line(alloc, rule.number(), *byte),
+            ModuleError::Memory => String::from_str(alloc, ProgramFault::M01.line()),
+        }
+    }
+}
+
+impl ErrorLine for VerifyError {
+    ghost use Rattle.pb_report.specs.Lines.{verify_line};
+
+    ghost line = { verify_line };
+
+    fn error_line(&self, alloc: Global) -> Result<String, AllocError> {
+        match self {
+            VerifyError::Refusal {
+                rule,
+                equation,
+                place,
+            } => code_line(alloc, rule.number(), *equation, *place),
+            VerifyError::Memory => String::from_str(alloc, ProgramFault::M01.line()),
         }
     }
 }

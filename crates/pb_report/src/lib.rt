@@ -1,10 +1,10 @@
-//! The texts that the program writes: the report of an answer, and the line that tells of a fault.
+//! The lines that tell of a fault of the program, or of why its input is refused.
 #![tactic(auto)]
 
-pub mod answer;
 pub mod error_line;
 pub mod fault;
+mod limit;
 
-pub use answer::{Answer, report};
 pub use error_line::ErrorLine;
 pub use fault::ProgramFault;
+pub use limit::limit_line;

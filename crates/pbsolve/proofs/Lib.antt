@@ -1,2 +1,2 @@
-mod CommandLine
 mod Refusals
+mod Texts

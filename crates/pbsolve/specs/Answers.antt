@@ -1,51 +1,49 @@
--- What the answer to a text is, and what a refusal says of the text.
-use Rattle.std.specs.Prelude.{◌≡◌, Contains, ℕ, List, Bool, Option}
-use Rattle.pb_sorts.specs.Sink.{AppendsPrefix}
+-- What the answer to a text is, and what its module is.
+use Rattle.std.specs.Prelude.{◌≡◌, ℕ, List}
 use Rattle.pb_text_tree.specs.Form.{SpecForm}
-use Rattle.pb_text.specs.Parsing.{IsReading, IsReadingWithin, Stands, NoReading}
-use Rattle.pb_text.specs.declared.error.TextError.{TextError}
-use Rattle.pb_text.specs.declared.error.TextError.TheVariants as text_error
-use Rattle.pb_typing_rules.specs.Faults.{faults}
+use Rattle.pb_text.specs.Parsing.{IsReading, IsReadingWithin}
 use Rattle.pb_typing_rules.specs.WellTyped.{IsWellTyped}
-use Rattle.pb_typing_declarations.specs.declared.fault.TypeError.{TypeError}
-use Rattle.pb_typing_declarations.specs.declared.fault.TypeError.TheVariants as type_error
 use Rattle.pb_text_meaning.specs.Erase.{erase}
 use Rattle.pb_text_meaning.specs.Meaning.{answer}
-use Rattle.pb_report.specs.Report.{report_text}
-use Rattle.pbsolve.specs.declared.solve_error.SolveError.{SolveError}
-use Rattle.pbsolve.specs.declared.solve_error.SolveError.TheVariants as solve_error
+use Rattle.pb_bytecode.specs.Contents.{Contents}
+use Rattle.pb_bytecode.specs.Spelling.{spelling}
+use Rattle.pb_verifier.specs.Acceptance.{IsAccepted}
+use Rattle.pb_assembler_modules.specs.Module.{IsCompiledModule, KeepsAllLimits}
+use Rattle.pb_report_texts.specs.declared.answer.Answer.{Answer}
+use Rattle.pb_solution.specs.Answers.{IsAnswerOf}
 
 -- the bytes say this within the limits, and they say nothing else, whatever the limits
 pub record IsTheReading (bytes : List ℕ) (x : SpecForm) : Type 0 where
   pub reading : IsReading bytes x
   pub only : (depth operators : ℕ) (y : SpecForm) → IsReadingWithin depth operators bytes y → y ≡ x
 
--- The answer to a text: what it says is well typed, and its initial instance has this truth in the solution.
-pub record IsAnswer (bytes : List ℕ) (truth : Bool) : Type 0 where
+-- The module of a text: what the text says is well typed, and the module is what the compile scheme makes of it, with code
+-- that keeps the machine's limits.
+pub record IsModuleOfText (bytes : List ℕ) (m : Contents) : Type 0 where
   pub text : SpecForm
   pub read : IsTheReading bytes text
   pub typed : IsWellTyped (erase text)
-  pub solved : truth ≡ answer (erase text)
+  pub compiled : IsCompiledModule (erase text) m
+  pub kept : KeepsAllLimits (erase text) m
 
--- a part that begins the report of the answer, and isn't the whole of it, went out
-pub record ReportsPart (bytes : List ℕ) (old new : Option (List ℕ)) : Type 0 where
-  pub truth : Bool
-  pub answered : IsAnswer bytes truth
-  pub written : AppendsPrefix old new (report_text truth)
+-- the module that bytes spell, with code that is accepted
+pub record IsModuleOfCode (bytes : List ℕ) (m : Contents) : Type 0 where
+  pub spelled : bytes ≡ spelling m
+  pub accepted : IsAccepted m
 
--- the bytes have no reading within the limits, and the rule is broken at its place
-abbrev pub IsRefusedText : List ℕ → TextError → Type 0
-IsRefusedText bytes text_error.Memory = ⊥
-IsRefusedText bytes (text_error.Refused rule place) = NoReading bytes (text_error.Refused rule place) × Stands bytes (text_error.Refused rule place)
+-- The answer to a text: what it says is well typed, and its initial instance has this truth in the solution. The counts are
+-- those of the reached instances of its module.
+pub record IsAnswer (bytes : List ℕ) (a : Answer) : Type 0 where
+  pub text : SpecForm
+  pub read : IsTheReading bytes text
+  pub typed : IsWellTyped (erase text)
+  pub solved : a.truth ≡ answer (erase text)
+  pub contents : Contents
+  pub of_text : IsModuleOfText bytes contents
+  pub counted : IsAnswerOf contents a
 
--- what the bytes say breaks the rule at its place
-abbrev pub IsRefusedType : List ℕ → TypeError → Type 0
-IsRefusedType bytes type_error.Memory = ⊥
-IsRefusedType bytes (type_error.At fault) = (x : SpecForm) × IsTheReading bytes x × Contains (faults x) fault
-
--- what an error says of the text
-abbrev pub IsRefused : List ℕ → SolveError → Type 0
-IsRefused bytes (solve_error.Text error) = IsRefusedText bytes error
-IsRefused bytes (solve_error.Typing error) = IsRefusedType bytes error
-IsRefused bytes (solve_error.Memory error) = Unit {0}
-IsRefused bytes (solve_error.Write error) = Unit {0}
+-- the answer to a module that bytes spell
+pub record IsAnswerOfCode (bytes : List ℕ) (a : Answer) : Type 0 where
+  pub contents : Contents
+  pub of_code : IsModuleOfCode bytes contents
+  pub answered : IsAnswerOf contents a

@@ -1,9 +1,9 @@
 pub mod Errors
-pub mod Words
 pub mod Answers
+pub mod Refusals
+pub mod Outputs
 pub mod Program
 pub mod Status
 pub use Rattle.pb_sorts.specs.Sink
 pub use Rattle.pb_sorts.specs.Source
-pub use Rattle.pb_report.specs.Report
 pub use Rattle.pb_report.specs.Lines

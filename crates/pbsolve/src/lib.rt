@@ -1,16 +1,20 @@
 //! The solver's calls, and the whole program over readers and writers.
 #![tactic(auto)]
 
+mod code;
+mod compile;
 mod input;
+mod module;
 mod program;
 mod run_error;
 mod solve;
 mod solve_error;
 mod status;
-mod words;
 
+pub use code::{list_code, solve_code, verify_code};
+pub use compile::compile_text;
 pub use input::INPUT_LIMIT;
 pub use program::{run, tell_fault};
-pub use solve::solve_text;
+pub use solve::{game_of, solution_of, solve_text};
 pub use solve_error::SolveError;
 pub use status::Status;

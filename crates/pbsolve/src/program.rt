@@ -1,46 +1,87 @@
 //! The whole program: words, input, answer, exit status.
-ghost use Rattle.std.specs.Prelude.{◌≡◌, ◌≢◌, ◌≤◌, ◌⊎◌, true, codes, map, OnOk, IfErr, Err};
+ghost use Rattle.std.specs.Prelude.{◌≡◌, ◌≢◌, ◌≤◌, ◌⊎◌, true, codes, length, map, OnOk, IfErr, Err};
+ghost use Rattle.std.specs.Io.KnownBytes.{Appends};
+ghost use Rattle.pb_sorts.specs.Sink.{AppendsPrefix};
 ghost use Rattle.pb_report.specs.declared.fault.ProgramFault.TheVariants as fault;
-ghost use Rattle.pbsolve.specs.Answers.{ReportsPart};
 ghost use Rattle.pb_report.specs.Lines.{line_of};
-ghost use Rattle.pbsolve.specs.Words.{AskToSolve};
-ghost use Rattle.pbsolve.specs.Program.{fault_status, status_of, error_line_of, IsRefusedBy, IsToldAs, Tells, ForInput, Reports, Refuses};
+ghost use Rattle.pb_command_line.specs.Words.{AskPlainly};
+ghost use Rattle.pbsolve.specs.Outputs.{Outputs, IsRefusedFor};
+ghost use Rattle.pbsolve.specs.Program.{fault_status, status_of, error_line_of, Answers, IsRefusedBy, IsToldAs, Tells, Refuses};
 
-use crate::input::read_input;
+use crate::code::{list_code, solve_code, verify_code};
+use crate::compile::compile_text;
+use crate::input::{INPUT_LIMIT, read_input};
 use crate::run_error::RunError;
-use crate::solve::solve_text;
+use crate::solve::{game_of, solution_of, solve_text};
+use crate::solve_error::SolveError;
 use crate::status::Status;
-use crate::words::{Request, request_of};
+use pb_command_line::{Command, Request, request_of};
+use pb_exploration::Gate;
 use pb_report::{ErrorLine, ProgramFault};
 use pb_sorts::{Sink, Source, put};
 use std::alloc::Global;
 use std::convert::AsStr;
+use std::thread::Threads;
+
+// What a request asks for, of these bytes.
+fn answer<R: Threads + Sync, G: Gate + Sync, O: Sink>(
+    rt: &R,
+    alloc: Global,
+    request: Request,
+    bytes: &[u8],
+    gate: &G,
+    out: &mut O,
+) -> Result<(), SolveError>
+    requires { length bytes.now ≤ INPUT_LIMIT }
+    ensures answered { OnOk result (Outputs request.command bytes.now (Appends (O.taken out.old) (O.taken out.new))) }
+    ensures kept { OnOk result (O.has_failed out.new ≡ O.has_failed out.old) }
+    ensures refused { IfErr result (IsRefusedFor request.command bytes.now) }
+    ensures silent { IfErr result (λ e. e ≢ SolveError.Write (record {}) → out.new ≡ out.old) }
+    ensures write { result ≡ Err (SolveError.Write (record {})) → Outputs request.command bytes.now (AppendsPrefix (O.taken out.old) (O.taken out.new)) }
+    ensures write_failed { result ≡ Err (SolveError.Write (record {})) → O.has_failed out.new ≡ true }
+{
+    let workers = request.workers;
+    match request.command {
+        Command::Solve => {
+            solve_text(rt, alloc, bytes, workers, gate, out)?;
+            Ok(())
+        }
+        Command::Game => game_of(rt, alloc, bytes, workers, gate, out),
+        Command::Solution => solution_of(rt, alloc, bytes, workers, gate, out),
+        Command::Compile => compile_text(alloc, bytes, out),
+        Command::Verify => verify_code(alloc, bytes, out),
+        Command::List => list_code(alloc, bytes, out),
+        Command::SolveCode => {
+            solve_code(rt, alloc, bytes, workers, gate, out)?;
+            Ok(())
+        }
+    }
+}
 
 // Everything but the line on standard error.
-fn attempt<S: AsStr, R: Source, O: Sink>(
+fn attempt<T: Threads + Sync, S: AsStr, R: Source, G: Gate + Sync, O: Sink>(
+    rt: &T,
     alloc: Global,
     words: &[S],
     reader: &mut R,
+    gate: &G,
     out: &mut O,
 ) -> Result<(), RunError>
-    ensures answered { OnOk result (Reports (R.left reader.old) (O.taken out.old) (O.taken out.new)) }
+    ensures answered { OnOk result (Answers (map S.text words.now) (R.left reader.old) (Appends (O.taken out.old) (O.taken out.new))) }
     ensures kept { OnOk result (O.has_failed out.new ≡ O.has_failed out.old) }
     ensures read { OnOk result (R.has_failed reader.new ≡ R.has_failed reader.old) }
-    ensures asked { AskToSolve (map S.text words.now) → result ≢ Err (RunError.ProgramFault fault.U01) }
+    ensures asked { AskPlainly (map S.text words.now) → result ≢ Err (RunError.ProgramFault fault.U01) }
     ensures usage { result ≡ Err (RunError.ProgramFault fault.U01) → reader.new ≡ reader.old }
-    ensures refused { IfErr result (λ e. IsRefusedBy (R.left reader.old) e) }
+    ensures refused { IfErr result (λ e. IsRefusedBy (map S.text words.now) (R.left reader.old) e) }
     ensures read_failed { result ≡ Err (RunError.ProgramFault fault.E01) → R.has_failed reader.new ≡ true }
     ensures read_refused { IfErr result (λ e. e ≢ RunError.ProgramFault fault.E01 → R.has_failed reader.new ≡ R.has_failed reader.old) }
-    ensures write { result ≡ Err (RunError.ProgramFault fault.E02) → ForInput (R.left reader.old) (λ bytes. ReportsPart bytes (O.taken out.old) (O.taken out.new)) }
+    ensures write { result ≡ Err (RunError.ProgramFault fault.E02) → Answers (map S.text words.now) (R.left reader.old) (AppendsPrefix (O.taken out.old) (O.taken out.new)) }
     ensures write_failed { result ≡ Err (RunError.ProgramFault fault.E02) → O.has_failed out.new ≡ true }
     ensures silent { IfErr result (λ e. e ≢ RunError.ProgramFault fault.E02 → out.new ≡ out.old) }
 {
-    match request_of(alloc, words)? {
-        Request::Solve => {
-            let text = read_input(alloc, reader)?;
-            solve_text(alloc, text.as_slice(), out)?;
-        }
-    }
+    let request = request_of(alloc, words)?;
+    let input = read_input(alloc, reader)?;
+    answer(rt, alloc, request, input.as_slice(), gate, out)?;
     Ok(())
 }
 
@@ -90,31 +131,33 @@ fn tell<E: Sink>(alloc: Global, error: &RunError, err: &mut E) -> Status
 {
     match error {
         RunError::ProgramFault(fault) => tell_fault(*fault, err),
-        RunError::Text(error) => tell_refusal(alloc, error, err),
-        RunError::Typing(error) => tell_refusal(alloc, error, err),
+        RunError::Refused(error) => tell_refusal(alloc, error, err),
     }
 }
 
 /// Runs the program, and answers its exit status.
 ///
 /// `words` are those of the command line, the program's name first; `reader`, `out` and `err` stand for standard
-/// input, output and error. Statuses: 0 answered; 1 the input is refused; 2 the words ask for nothing that the
-/// program does; 3 a request for memory was refused; 4 reading or writing failed. With a status that isn't 0 one
-/// line on `err` says why, by the number of the fault or the rule and, where there is one, the place.
-pub fn run<S: AsStr, R: Source, O: Sink, E: Sink>(
+/// input, output and error, and `gate` sees each attempt of a worker to take an instance. Statuses: 0 answered; 1 the input
+/// is refused; 2 the words ask for nothing that the program does; 3 a request for memory was refused; 4 reading or writing
+/// failed. With a status that isn't 0 one line on `err` says why, by the number of the fault or the rule and, where there is
+/// one, the place.
+pub fn run<T: Threads + Sync, S: AsStr, R: Source, G: Gate + Sync, O: Sink, E: Sink>(
+    rt: &T,
     alloc: Global,
     words: &[S],
     reader: &mut R,
+    gate: &G,
     out: &mut O,
     err: &mut E,
 ) -> u8
     ensures statuses { result ≤ 4 }
 
-    // The command `solve` is understood.
-    ensures asked { AskToSolve (map S.text words.now) → result ≢ 2 }
+    // Each command is understood.
+    ensures asked { AskPlainly (map S.text words.now) → result ≢ 2 }
 
-    // Answered: the report went out, and nothing on standard error.
-    ensures answered { result ≡ 0 → Reports (R.left reader.old) (O.taken out.old) (O.taken out.new) }
+    // Answered: what the command writes for the input went out, and nothing on standard error.
+    ensures answered { result ≡ 0 → Answers (map S.text words.now) (R.left reader.old) (Appends (O.taken out.old) (O.taken out.new)) }
     ensures quiet { result ≡ 0 → (err.new ≡ err.old) × (O.has_failed out.new ≡ O.has_failed out.old) }
 
     // But for status 4 no read failed.
@@ -122,17 +165,17 @@ pub fn run<S: AsStr, R: Source, O: Sink, E: Sink>(
 
     // Refused, or not understood, or no memory: nothing went out, and a line tells which.
     ensures silent { 1 ≤ result → result ≤ 3 → out.new ≡ out.old }
-    ensures refused { result ≡ 1 → Refuses (R.left reader.old) (E.taken err.old) (E.taken err.new) (E.has_failed err.new) }
+    ensures refused { result ≡ 1 → Refuses (map S.text words.now) (R.left reader.old) (E.taken err.old) (E.taken err.new) (E.has_failed err.new) }
     ensures usage { result ≡ 2 → (reader.new ≡ reader.old) × Tells (E.taken err.old) (E.taken err.new) (E.has_failed err.new) (codes "U01\n") }
     ensures memory { result ≡ 3 → Tells (E.taken err.old) (E.taken err.new) (E.has_failed err.new) (codes "M01\n") }
 
     // Reading failed, with nothing written, or writing failed.
     ensures failed { result ≡ 4 →
         ((R.has_failed reader.new ≡ true) × (out.new ≡ out.old) × Tells (E.taken err.old) (E.taken err.new) (E.has_failed err.new) (codes "E01\n"))
-        ⊎ ((O.has_failed out.new ≡ true) × ForInput (R.left reader.old) (λ bytes. ReportsPart bytes (O.taken out.old) (O.taken out.new))
+        ⊎ ((O.has_failed out.new ≡ true) × Answers (map S.text words.now) (R.left reader.old) (AppendsPrefix (O.taken out.old) (O.taken out.new))
         × Tells (E.taken err.old) (E.taken err.new) (E.has_failed err.new) (codes "E02\n")) }
 {
-    match attempt(alloc, words, reader, out) {
+    match attempt(rt, alloc, words, reader, gate, out) {
         Ok(()) => u8::from(Status::Answered),
         Err(error) => u8::from(tell(alloc, &error, err)),
     }

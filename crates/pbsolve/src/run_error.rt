@@ -3,20 +3,16 @@ ghost use Rattle.std.specs.Prelude.{◌≡◌};
 
 use crate::input::InputError;
 use crate::solve_error::SolveError;
-use crate::words::WordsError;
+use pb_command_line::WordsError;
 use pb_report::ProgramFault;
-use pb_text::TextError;
-use pb_typing_declarations::TypeError;
 
 /// Why a run has no answer.
 #[derive(Debug, Drop)]
 pub(crate) enum RunError {
-    /// A fault that stands at no place of the text.
+    /// A fault of the whole run.
     ProgramFault(ProgramFault),
-    /// The text is not in the grammar, or passes a limit of it.
-    Text(TextError),
-    /// The text breaks a rule of typing.
-    Typing(TypeError),
+    /// The input is refused. It never holds want of memory, nor a write that failed.
+    Refused(SolveError),
 }
 
 impl From<WordsError> for RunError {
@@ -53,10 +49,9 @@ impl From<SolveError> for RunError {
 
     fn from(error: SolveError) -> RunError {
         match error {
-            SolveError::Text(error) => RunError::Text(error),
-            SolveError::Typing(error) => RunError::Typing(error),
             SolveError::Memory(_) => RunError::ProgramFault(ProgramFault::M01),
             SolveError::Write(_) => RunError::ProgramFault(ProgramFault::E02),
+            refused => RunError::Refused(refused),
         }
     }
 }

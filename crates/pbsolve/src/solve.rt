@@ -1,58 +1,111 @@
-//! From a text to its answer.
-ghost use Rattle.std.specs.Prelude.{◌≡◌, ◌≢◌, ◌≤◌, true, length, IfOk, OnOk, IfErr, Err};
+//! From texts to answers.
+ghost use Rattle.std.specs.Prelude.{◌≡◌, ◌≢◌, ◌≤◌, ◌<◌, true, length, IfOk, OnOk, IfErr, Err};
 ghost use Rattle.std.specs.Io.KnownBytes.{Appends};
-ghost use Rattle.pb_report.specs.Report.{report_text};
-ghost use Rattle.pbsolve.specs.Answers.{IsAnswer, IsRefused, ReportsPart};
+ghost use Rattle.pb_sorts.specs.Sink.{AppendsPrefix};
+ghost use Rattle.pb_command_line.specs.declared.command.Command.TheVariants.{Solve, Game, Solution};
+ghost use Rattle.pb_report_texts.specs.Report.{report_text};
+ghost use Rattle.pbsolve.specs.Answers.{IsAnswer};
+ghost use Rattle.pbsolve.specs.Refusals.{IsRefused};
+ghost use Rattle.pbsolve.specs.Outputs.{Outputs};
 
+use crate::compile::verified_text;
 use crate::input::INPUT_LIMIT;
+use crate::module::{write_game, write_report, write_solution};
 use crate::solve_error::SolveError;
-use pb_report::{Answer, report};
+use pb_assembler_modules::laws::compiled_modules_have_the_answer;
+use pb_exploration::Gate;
+use pb_machine::instances_have_trees;
+use pb_report_texts::Answer;
 use pb_sorts::Sink;
-use pb_text_tree::Spec;
 use std::alloc::Global;
+use std::thread::Threads;
 
-/// Answers a text: reads it, checks it, solves its equations, and writes the report once the answer is known.
+/// Answers a text: reads it, checks it, compiles it to a module, explores that by so many workers, solves the game of what
+/// they reached, and writes the report once the answer is known.
 ///
-/// The text is that of a fixpoint equation system (Groote and Willemse 2005; Groote and Mousavi 2014). `Text` and
-/// `Typing` say which rule it breaks and where, `Memory` comes where a request for memory was refused, and `Write`
-/// where the report could not be written whole.
-pub fn solve_text<S: Sink>(
+/// The text is that of a fixpoint equation system (Groote and Willemse 2005; Groote and Mousavi 2014), and the answer is the
+/// truth of its initial instance in the nested fixpoint solution. `gate` sees each attempt of a worker to take an instance.
+///
+/// # Errors
+/// `Text` and `Typing` say which rule the text breaks and where, `Limit` which limit of the machine the code of which
+/// equation exceeds. `TooManyVertices` comes where the game would have more than 2^24 vertices, `Memory` where a request for
+/// memory was refused, and `Write` where the report could not be written whole. No other error comes.
+pub fn solve_text<R: Threads + Sync, G: Gate + Sync, S: Sink>(
+    rt: &R,
     alloc: Global,
     bytes: &[u8],
+    workers: u32,
+    gate: &G,
     writer: &mut S,
 ) -> Result<Answer, SolveError>
-    requires { length bytes.now ≤ INPUT_LIMIT }
+    requires input { length bytes.now ≤ INPUT_LIMIT }
+    requires workers { (0 < workers) × (workers ≤ 16) }
 
     // The answer is the truth of the initial instance in the solution of what the text says, and is reported.
-    ensures answer { IfOk result (λ answer. IsAnswer bytes.now answer.truth) }
-    ensures report { IfOk result (λ answer. Appends (S.taken writer.old) (S.taken writer.new) (report_text answer.truth)) }
+    ensures answer { IfOk result (IsAnswer bytes.now) }
+    ensures report { IfOk result (λ answer. Appends (S.taken writer.old) (S.taken writer.new) (report_text answer)) }
     ensures kept { OnOk result (S.has_failed writer.new ≡ S.has_failed writer.old) }
 
     // What a refusal says of the text.
-    ensures refused { IfErr result (λ e. IsRefused bytes.now e) }
+    ensures refused { IfErr result (IsRefused bytes.now) }
 
     // Nothing is written before the answer is known.
     ensures silent { IfErr result (λ e. e ≢ SolveError.Write (record {}) → writer.new ≡ writer.old) }
-    ensures write { result ≡ Err (SolveError.Write (record {})) → ReportsPart bytes.now (S.taken writer.old) (S.taken writer.new) }
+    ensures write { result ≡ Err (SolveError.Write (record {})) → Outputs Solve bytes.now (AppendsPrefix (S.taken writer.old) (S.taken writer.new)) }
     ensures write_failed { result ≡ Err (SolveError.Write (record {})) → S.has_failed writer.new ≡ true }
 {
-    let answer = answer_of(alloc, bytes)?;
-    report(&answer, writer).map_err(SolveError::Write)?;
-    Ok(answer)
+    let verified = verified_text(alloc, bytes)?;
+    instances_have_trees(&verified);
+    compiled_modules_have_the_answer();
+    write_report(rt, alloc, &verified, workers, gate, writer)
 }
 
-// Everything but the report.
-fn answer_of(alloc: Global, bytes: &[u8]) -> Result<Answer, SolveError>
-    requires { length bytes.now ≤ INPUT_LIMIT }
-    ensures answer { IfOk result (λ answer. IsAnswer bytes.now answer.truth) }
-    ensures refused { IfErr result (λ e. IsRefused bytes.now e) }
-    ensures silent { IfErr result (λ e. e ≢ SolveError.Write (record {})) }
+/// Writes the parity game of a text's reached instances, in the form that PGSolver reads.
+///
+/// # Errors
+/// As with `solve_text`.
+pub fn game_of<R: Threads + Sync, G: Gate + Sync, S: Sink>(
+    rt: &R,
+    alloc: Global,
+    bytes: &[u8],
+    workers: u32,
+    gate: &G,
+    writer: &mut S,
+) -> Result<(), SolveError>
+    requires input { length bytes.now ≤ INPUT_LIMIT }
+    requires workers { (0 < workers) × (workers ≤ 16) }
+    ensures game { OnOk result (Outputs Game bytes.now (Appends (S.taken writer.old) (S.taken writer.new))) }
+    ensures kept { OnOk result (S.has_failed writer.new ≡ S.has_failed writer.old) }
+    ensures refused { IfErr result (IsRefused bytes.now) }
+    ensures silent { IfErr result (λ e. e ≢ SolveError.Write (record {}) → writer.new ≡ writer.old) }
+    ensures write { result ≡ Err (SolveError.Write (record {})) → Outputs Game bytes.now (AppendsPrefix (S.taken writer.old) (S.taken writer.new)) }
+    ensures write_failed { result ≡ Err (SolveError.Write (record {})) → S.has_failed writer.new ≡ true }
 {
-    let spec = pb_text::parse(alloc, bytes)?;
-    let typed = match pb_typing::check(alloc, spec) {
-        Ok(typed) => typed,
-        Err((_spec, error)) => return Err(SolveError::from(error)),
-    };
-    let truth = pb_plain::solve(alloc, &typed).map_err(SolveError::Memory)?;
-    Ok(Answer { truth })
+    let verified = verified_text(alloc, bytes)?;
+    write_game(rt, alloc, &verified, workers, gate, writer)
+}
+
+/// Writes the truth of each reached instance of a text in its solution: a line for each, by rising number.
+///
+/// # Errors
+/// As with `solve_text`.
+pub fn solution_of<R: Threads + Sync, G: Gate + Sync, S: Sink>(
+    rt: &R,
+    alloc: Global,
+    bytes: &[u8],
+    workers: u32,
+    gate: &G,
+    writer: &mut S,
+) -> Result<(), SolveError>
+    requires input { length bytes.now ≤ INPUT_LIMIT }
+    requires workers { (0 < workers) × (workers ≤ 16) }
+    ensures solution { OnOk result (Outputs Solution bytes.now (Appends (S.taken writer.old) (S.taken writer.new))) }
+    ensures kept { OnOk result (S.has_failed writer.new ≡ S.has_failed writer.old) }
+    ensures refused { IfErr result (IsRefused bytes.now) }
+    ensures silent { IfErr result (λ e. e ≢ SolveError.Write (record {}) → writer.new ≡ writer.old) }
+    ensures write { result ≡ Err (SolveError.Write (record {})) → Outputs Solution bytes.now (AppendsPrefix (S.taken writer.old) (S.taken writer.new)) }
+    ensures write_failed { result ≡ Err (SolveError.Write (record {})) → S.has_failed writer.new ≡ true }
+{
+    let verified = verified_text(alloc, bytes)?;
+    write_solution(rt, alloc, &verified, workers, gate, writer)
 }

@@ -1,6 +1,7 @@
 //! The program `pbsolve`: its library on the process's words and standard streams.
 #![tactic(auto)]
 
+use pb_exploration::NoGate;
 use pb_report::ProgramFault;
 use pb_sorts::{In, Out};
 use std::io::ErrorKind;
@@ -25,9 +26,11 @@ fn main(rt: HostRuntime) -> ExitCode {
     let mut err = Out::new(rt.stderr());
     let code = match words(&rt) {
         Ok(words) => pbsolve::run(
+            &rt,
             rt.alloc(),
             words.as_slice(),
             &mut In::new(rt.reader()),
+            &NoGate,
             &mut out,
             &mut err,
         ),

@@ -5,15 +5,18 @@
 //! be answered `M01`, with nothing on standard output; all others are answered as ever.
 #![tactic(auto)]
 
+use pb_exploration::NoGate;
 use pb_sorts::{In, Out};
+use std::alloc::Global;
 use std::io;
 use std::io::{Cursor, Read};
+use std::thread::Threads;
 
 /// The request that is refused.
 const REFUSED: u32 = 2000;
 
 /// The runs ask for memory less often than this.
-const LAST: u32 = 460;
+const LAST: u32 = 1040;
 
 /// A text, and what the program is to say of it.
 struct Case {
@@ -27,13 +30,13 @@ const CASES: [Case; 4] = [
     Case {
         text: b"pbes mu X = Y; nu Y = (X && !(!Y)) || true; init X;",
         status: 0,
-        out: b"answer true\n",
+        out: b"answer true\ninstances 2\ncut 0\nvertices 4\n",
         err: b"",
     },
     Case {
         text: b"%range Nat 0 3\nsort D = struct a?is_a | b; M = Nat; pbes nu X(d: D, n: M) = (forall m: M . val(m < n || is_a(d)) => X(d, m)) && val(exists e: D . e != d); mu Y(n: Nat) = val(max(n, 1) div 2 == 0 && -n mod 2 == if(n > 0, 1, 0)) || Y(pred(n)); init Y(3);",
         status: 0,
-        out: b"answer true\n",
+        out: b"answer true\ninstances 3\ncut 0\nvertices 5\n",
         err: b"",
     },
     Case {
@@ -79,14 +82,14 @@ fn is_text(bytes: &[u8], text: &[u8]) -> bool {
 }
 
 /// Runs the program on one text.
-fn answer_to(rt: &HostRuntime, case: &Case) -> Answer {
+fn answer_to<T: Threads + Sync>(rt: &T, alloc: Global, case: &Case) -> Answer {
     let mut out_bytes = [0u8; 64];
     let mut err_bytes = [0u8; 64];
     let mut reader = In::new(case.text);
     let mut out = Out::new(Cursor::new(out_bytes.as_mut_slice()));
     let mut err = Out::new(Cursor::new(err_bytes.as_mut_slice()));
     let words = ["pbsolve", "solve"];
-    let status = pbsolve::run(rt.alloc(), &words, &mut reader, &mut out, &mut err);
+    let status = pbsolve::run(rt, alloc, &words, &mut reader, &NoGate, &mut out, &mut err);
     drop(out);
     drop(err);
     if status == case.status && is_text(&out_bytes, case.out) && is_text(&err_bytes, case.err) {
@@ -111,7 +114,7 @@ fn main(rt: HostRuntime) -> io::Result<()> {
     let mut is_right = true;
     let mut is_refused = false;
     for case in &CASES {
-        match answer_to(&rt, case) {
+        match answer_to(&rt, rt.alloc(), case) {
             Answer::Given => {}
             Answer::OutOfMemory => {
                 is_right = is_right && !is_refused;

@@ -1,25 +1,28 @@
 //! Texts with the answer or the refusal that they have, worked out by hand.
-use super::{ROOM, run_on};
-use pb_sorts::In;
+use super::{asked, report};
 use std::alloc::{AllocError, Global};
 use std::test::Fail;
 
-const SOLVE: [&str; 2] = ["pbsolve", "solve"];
+const ONE: &str = "answer true\ninstances 1\ncut 0\nvertices 3\n";
 
 #[test]
 fn answers(rt: HostRuntime) -> Result<(), Fail> {
-    for (text, truth) in [
-        ("pbes nu X = X; init X;", "true"),
-        ("pbes mu X = X; init X;", "false"),
-        ("pbes mu X = Y; nu Y = X; init X;", "false"),
-        ("pbes nu Y = X; mu X = Y; init X;", "true"),
-        ("pbes mu X = !(!X); init X;", "false"),
-        ("pbes nu X = (X && Y) || Y; mu Y = Y; init X;", "false"),
-        ("pbes nu X = (X => false) => X; init X;", "true"),
+    for (text, truth, counts) in [
+        ("pbes nu X = X; init X;", true, (1, 0, 3)),
+        ("pbes mu X = X; init X;", false, (1, 0, 3)),
+        ("pbes mu X = Y; nu Y = X; init X;", false, (2, 0, 4)),
+        ("pbes nu Y = X; mu X = Y; init X;", true, (2, 0, 4)),
+        ("pbes mu X = !(!X); init X;", false, (1, 0, 3)),
+        (
+            "pbes nu X = (X && Y) || Y; mu Y = Y; init X;",
+            false,
+            (2, 0, 5),
+        ),
+        ("pbes nu X = (X => false) => X; init X;", true, (1, 0, 3)),
     ] {
-        let outcome = run_on(rt.alloc(), &SOLVE, &mut In::new(text.as_bytes()), ROOM);
+        let outcome = asked(&rt, rt.alloc(), "solve", text.as_bytes());
         assert_eq!(rt; outcome.status, 0, "{text}");
-        let wanted = format!(in rt.alloc(); "answer {truth}\n")?;
+        let wanted = report(rt.alloc(), truth, counts)?;
         assert_eq!(rt; outcome.out.bytes(), wanted.as_str().as_bytes(), "{text}");
         assert_eq!(rt; outcome.err.bytes(), b"".as_slice(), "{text}");
     }
@@ -41,7 +44,7 @@ fn refuses_texts(rt: HostRuntime) -> Result<(), Fail> {
         ("pbes nu X = X; nu X = X; init X;", "T02 line 1 column 19\n"),
         ("pbes nu X = Z; init X;", "T01 line 1 column 13\n"),
     ] {
-        let outcome = run_on(rt.alloc(), &SOLVE, &mut In::new(text.as_bytes()), ROOM);
+        let outcome = asked(&rt, rt.alloc(), "solve", text.as_bytes());
         assert_eq!(rt; outcome.status, 1, "{text}");
         assert_eq!(rt; outcome.out.bytes(), b"".as_slice(), "{text}");
         assert_eq!(rt; outcome.err.bytes(), line.as_bytes(), "{text}");
@@ -66,22 +69,12 @@ fn bracketed(alloc: Global, depth: usize) -> Result<String, AllocError> {
 #[test]
 fn nests_to_the_limit(rt: HostRuntime) -> Result<(), Fail> {
     let deepest = bracketed(rt.alloc(), 64)?;
-    let outcome = run_on(
-        rt.alloc(),
-        &SOLVE,
-        &mut In::new(deepest.as_str().as_bytes()),
-        ROOM,
-    );
+    let outcome = asked(&rt, rt.alloc(), "solve", deepest.as_str().as_bytes());
     assert_eq!(rt; outcome.status, 0);
-    assert_eq!(rt; outcome.out.bytes(), b"answer true\n".as_slice());
+    assert_eq!(rt; outcome.out.bytes(), ONE.as_bytes());
 
     let too_deep = bracketed(rt.alloc(), 65)?;
-    let outcome = run_on(
-        rt.alloc(),
-        &SOLVE,
-        &mut In::new(too_deep.as_str().as_bytes()),
-        ROOM,
-    );
+    let outcome = asked(&rt, rt.alloc(), "solve", too_deep.as_str().as_bytes());
     assert_eq!(rt; outcome.status, 1);
     assert_eq!(rt; outcome.out.bytes(), b"".as_slice());
     assert_eq!(rt; outcome.err.bytes(), b"P04 line 1 column 77\n".as_slice());
@@ -103,17 +96,12 @@ fn declares_to_the_limit(rt: HostRuntime) -> Result<(), Fail> {
     let longest = "Xaaaaaaaaaaaaaaaaaaaaaaaaaaaaaaaaaaaaaaaaaaaaaaaaaaaaaaaaaaaaaaa";
     let too_long = format!(in rt.alloc(); "{longest}a")?;
     for (first, equations, status, out, err) in [
-        (longest, 64, 0, "answer true\n", ""),
+        (longest, 64, 0, ONE, ""),
         (too_long.as_str(), 1, 1, "", "T12 line 1 column 9\n"),
         ("X", 65, 1, "", "T12 line 1 column 958\n"),
     ] {
         let text = many(rt.alloc(), first, equations)?;
-        let outcome = run_on(
-            rt.alloc(),
-            &SOLVE,
-            &mut In::new(text.as_str().as_bytes()),
-            ROOM,
-        );
+        let outcome = asked(&rt, rt.alloc(), "solve", text.as_str().as_bytes());
         assert_eq!(rt; outcome.status, status, "{first}");
         assert_eq!(rt; outcome.out.bytes(), out.as_bytes(), "{first}");
         assert_eq!(rt; outcome.err.bytes(), err.as_bytes(), "{first}");

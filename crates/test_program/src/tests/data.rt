@@ -1,93 +1,109 @@
 //! Texts over data with the answer or the refusal that they have, worked out by hand.
-use super::{ROOM, run_on};
-use pb_sorts::In;
+use super::{asked, report};
 use std::test::Fail;
-
-const SOLVE: [&str; 2] = ["pbsolve", "solve"];
 
 #[test]
 fn answers_over_data(rt: HostRuntime) -> Result<(), Fail> {
-    for (text, truth) in [
+    for (text, truth, counts) in [
         (
             "%range Int 0 9\npbes mu X(n: Int) = val(n == 0) || X(n - 1); init X(9);",
-            "true",
+            true,
+            (10, 0, 12),
         ),
         (
             "%range Int 0 3\npbes nu X(n: Int) = X(n + 1); init X(0);",
-            "false",
+            false,
+            (4, 1, 6),
         ),
         (
             "sort D = struct a | b | c; pbes nu X(d: D) = forall e: D . val(e != d) => X(e); init X(a);",
-            "true",
+            true,
+            (3, 0, 5),
         ),
         (
             "sort S = struct s0 | s1; pbes nu X(s: S) = Y(s); mu Y(s: S) = (val(s == s0) && X(s1)) || (val(s == s1) && Y(s0)); init X(s0);",
-            "true",
+            true,
+            (4, 0, 6),
         ),
         (
             "%range Pos 1 4\npbes mu X(n: Pos) = val(4 div n == 2) || X(n); init X(2);",
-            "true",
+            true,
+            (1, 0, 3),
         ),
         (
             "%range Int 2147483000 2147483647\npbes nu X(n: Int) = val(n * n > 0) && X(n); init X(2147483000);",
-            "true",
+            true,
+            (1, 0, 3),
         ),
         (
             "%range Int 1 4\npbes nu X(n: Int) = val((2 * n) div 3 == 1) && X(n); init X(2);",
-            "true",
+            true,
+            (1, 0, 3),
         ),
         (
             "sort D = struct a | b; pbes nu X(d: D) = val(exists e: D . e != d) && X(d); init X(a);",
-            "true",
+            true,
+            (1, 0, 4),
         ),
         (
             "pbes nu X = val(-7 div 2 == -4 && -7 mod 2 == 1) && X; init X;",
-            "true",
+            true,
+            (1, 0, 3),
         ),
         (
             "pbes nu X = val(4611686018427387904 > 0) && X; init X;",
-            "true",
+            true,
+            (1, 0, 3),
         ),
         (
             "pbes nu A = F && E; mu F = F; mu E = A || E; init E;",
-            "false",
+            false,
+            (3, 0, 5),
         ),
         (
             "sort D = struct a?is_a | b?is_b; pbes nu X(d: D) = val(is_a(d)) && X(b) || val(is_b(d)) && X(a); init X(a);",
-            "true",
+            true,
+            (2, 0, 4),
         ),
         (
             "%range Int 0 1\npbes nu X(n, m: Int) = X(n + 1, m - 1); init X(0, 1);",
-            "false",
+            false,
+            (2, 1, 4),
         ),
         (
             "%range Int 0 1023\npbes nu X(n, m: Int) = X(n, m); init X(0, 0);",
-            "true",
+            true,
+            (1, 0, 3),
         ),
         (
             "%range Int 0 1023\npbes nu X(n, m: Int, b: Bool) = X(n, m, b); init X(0, 0, true);",
-            "true",
+            true,
+            (1, 0, 3),
         ),
         (
             "%range Int 0 4194303\npbes nu X(n: Int) = X(n); init X(4194303);",
-            "true",
+            true,
+            (1, 0, 3),
         ),
         (
             "%range Int 0 2\npbes nu X = forall n: Int . exists m, k: Int . val(n + m == 2 && k == m + m - m); init X;",
-            "true",
+            true,
+            (1, 0, 6),
         ),
         (
             "%range Int 0 2\npbes nu X = exists m, n: Int . forall k: Int . val(n == 2 && m == 2 && k + n == m); init X;",
-            "false",
+            false,
+            (1, 0, 12),
         ),
         (
             "%range Int 0 2\npbes nu X = val(forall n, m: Int . exists n: Int . n == m) && X; init X;",
-            "true",
+            true,
+            (1, 0, 12),
         ),
     ] {
-        let outcome = run_on(rt.alloc(), &SOLVE, &mut In::new(text.as_bytes()), ROOM);
+        let outcome = asked(&rt, rt.alloc(), "solve", text.as_bytes());
         assert_eq!(rt; outcome.status, 0, "{text}");
-        let wanted = format!(in rt.alloc(); "answer {truth}\n")?;
+        let wanted = report(rt.alloc(), truth, counts)?;
         assert_eq!(rt; outcome.out.bytes(), wanted.as_str().as_bytes(), "{text}");
         assert_eq!(rt; outcome.err.bytes(), b"".as_slice(), "{text}");
     }
@@ -146,7 +162,7 @@ fn refuses_data(rt: HostRuntime) -> Result<(), Fail> {
             "T12 line 2 column 9\n",
         ),
     ] {
-        let outcome = run_on(rt.alloc(), &SOLVE, &mut In::new(text.as_bytes()), ROOM);
+        let outcome = asked(&rt, rt.alloc(), "solve", text.as_bytes());
         assert_eq!(rt; outcome.status, 1, "{text}");
         assert_eq!(rt; outcome.out.bytes(), b"".as_slice(), "{text}");
         assert_eq!(rt; outcome.err.bytes(), line.as_bytes(), "{text}");

@@ -1,7 +1,6 @@
 //! Texts at the limits of nesting and of operators, and with long lists of variables, on a stack of 2 MB: what a text
 //! makes the program recurse by is its nesting, never the length of its chains or lists.
-use super::{ROOM, run_on};
-use pb_sorts::In;
+use super::asked;
 use std::alloc::{AllocError, Global};
 use std::test::Fail;
 use std::thread;
@@ -25,30 +24,54 @@ struct Shape {
     tail: &'static str,
 }
 
-// Formulas.
-const FORMULAS: [(&str, usize, &str, usize, &str); 7] = [
-    ("(", 64, "X&&", 8_192, ")"),
-    ("(", 64, "X||", 8_192, ")"),
-    ("(", 63, "!X=>", 8_192, ")"),
-    ("(X||", 64, "X&&", 8_128, ")"),
-    ("!", 64, "X&&", 8_192, ""),
-    ("exists b: Bool . ", 64, "X&&", 8_192, ""),
-    ("exists b: Bool . ", 63, "!X=>", 8_192, ""),
+// What the program says of a system whose one instance has one vertex, or has a bracket inside, and where it has too many
+// loops, operands or instructions for the machine.
+const ONE: &str = "answer true\ninstances 1\ncut 0\nvertices 3\n";
+
+const BRACKET: &str = "answer true\ninstances 1\ncut 0\nvertices 4\n";
+
+const LOOPS: &str = "C04 equation 0\n";
+
+const OPERANDS: &str = "C02 equation 0\n";
+
+const INSTRUCTIONS: &str = "C01 equation 0\n";
+
+// Formulas, with what the program says.
+const FORMULAS: [(&str, usize, &str, usize, &str, &str); 7] = [
+    ("(", 64, "X&&", 8_192, ")", ONE),
+    ("(", 64, "X||", 8_192, ")", ONE),
+    ("(", 63, "!X=>", 8_192, ")", ONE),
+    ("(X||", 64, "X&&", 8_128, ")", BRACKET),
+    ("!", 64, "X&&", 8_192, "", ONE),
+    ("exists b: Bool . ", 64, "X&&", 8_192, "", LOOPS),
+    ("exists b: Bool . ", 63, "!X=>", 8_192, "", LOOPS),
 ];
 
+// A data term that is nested and chained, with what the program says.
+type TermRow = (
+    &'static str,
+    usize,
+    &'static str,
+    usize,
+    &'static str,
+    &'static str,
+    &'static str,
+    &'static str,
+);
+
 // Data terms, of which `val(` is a level and the connective before it an operator, as is a comparison.
-const TERMS: [(&str, usize, &str, usize, &str, &str, &str); 11] = [
-    ("(", 63, "true&&", 8_191, "true", ")", ")"),
-    ("(", 63, "false||", 8_191, "true", ")", ")"),
-    ("(", 63, "true=>", 8_191, "true", ")", ")"),
-    ("(", 63, "1+", 8_190, "1", ")", ">0)"),
-    ("(", 63, "1*", 8_190, "1", ")", ">0)"),
-    ("(", 63, "8 div ", 8_190, "1", ")", ">=0)"),
-    ("-", 63, "", 0, "1", "", "<2)"),
-    ("!", 63, "", 0, "false", "", ")"),
-    ("exists b: Bool . ", 63, "b=>", 8_191, "b", "", ")"),
-    ("max(1,", 63, "1+", 8_190, "1", ")", ">0)"),
-    ("if(true,", 63, "1-", 8_190, "1", ",1)", "<1)"),
+const TERMS: [TermRow; 11] = [
+    ("(", 63, "true&&", 8_191, "true", ")", ")", ONE),
+    ("(", 63, "false||", 8_191, "true", ")", ")", ONE),
+    ("(", 63, "true=>", 8_191, "true", ")", ")", ONE),
+    ("(", 63, "1+", 8_190, "1", ")", ">0)", ONE),
+    ("(", 63, "1*", 8_190, "1", ")", ">0)", ONE),
+    ("(", 63, "8 div ", 8_190, "1", ")", ">=0)", ONE),
+    ("-", 63, "", 0, "1", "", "<2)", ONE),
+    ("!", 63, "", 0, "false", "", ")", ONE),
+    ("exists b: Bool . ", 63, "b=>", 8_191, "b", "", ")", LOOPS),
+    ("max(1,", 63, "1+", 8_190, "1", ")", ">0)", OPERANDS),
+    ("if(true,", 63, "1-", 8_190, "1", ",1)", "<1)", ONE),
 ];
 
 // A system of one equation with such a right side.
@@ -81,24 +104,32 @@ fn with_variables(alloc: Global, before: &str, after: &str) -> Result<String, Al
     Ok(text)
 }
 
-// Whether the program answers true.
-fn is_true(alloc: Global, text: &str) -> bool {
-    let words = ["pbsolve", "solve"];
-    let outcome = run_on(alloc, &words, &mut In::new(text.as_bytes()), ROOM);
-    outcome.status == 0 && outcome.out.bytes() == b"answer true\n".as_slice()
+// Whether the program says this, on either writer.
+fn says<T: Threads + Sync>(rt: &T, alloc: Global, text: &str, wanted: &str) -> bool {
+    let outcome = asked(rt, alloc, "solve", text.as_bytes());
+    if outcome.status == 0 {
+        outcome.out.bytes() == wanted.as_bytes()
+    } else {
+        outcome.out.bytes().is_empty() && outcome.err.bytes() == wanted.as_bytes()
+    }
 }
 
 // The same on a small stack.
-fn is_true_on_a_small_stack(rt: &impl Threads, alloc: Global, text: String) -> Result<bool, Fail> {
+fn says_on_a_small_stack<T: Threads + Sync + Send + Copy + 'static>(
+    rt: T,
+    alloc: Global,
+    text: String,
+    wanted: &'static str,
+) -> Result<bool, Fail> {
     let child = thread::Builder::new()
         .stack_size(STACK)
-        .spawn(rt, move || is_true(alloc, text.as_str()))?;
-    Ok(child.join(rt))
+        .spawn(&rt, move || says(&rt, alloc, text.as_str(), wanted))?;
+    Ok(child.join(&rt))
 }
 
 #[test]
 fn formulas_on_a_small_stack(rt: HostRuntime) -> Result<(), Fail> {
-    for (open, levels, link, links, close) in FORMULAS {
+    for (open, levels, link, links, close, wanted) in FORMULAS {
         let shape = Shape {
             head: "",
             open,
@@ -110,7 +141,7 @@ fn formulas_on_a_small_stack(rt: HostRuntime) -> Result<(), Fail> {
             tail: "",
         };
         let text = system(rt.alloc(), &shape)?;
-        let holds = is_true_on_a_small_stack(&rt, rt.alloc(), text)?;
+        let holds = says_on_a_small_stack(rt, rt.alloc(), text, wanted)?;
         assert!(rt;
             holds,
             "{} of {} with {}",
@@ -122,7 +153,7 @@ fn formulas_on_a_small_stack(rt: HostRuntime) -> Result<(), Fail> {
 
 #[test]
 fn terms_on_a_small_stack(rt: HostRuntime) -> Result<(), Fail> {
-    for (open, levels, link, links, last, close, tail) in TERMS {
+    for (open, levels, link, links, last, close, tail, wanted) in TERMS {
         let shape = Shape {
             head: "X&&val(",
             open,
@@ -134,7 +165,7 @@ fn terms_on_a_small_stack(rt: HostRuntime) -> Result<(), Fail> {
             tail,
         };
         let text = system(rt.alloc(), &shape)?;
-        let holds = is_true_on_a_small_stack(&rt, rt.alloc(), text)?;
+        let holds = says_on_a_small_stack(rt, rt.alloc(), text, wanted)?;
         assert!(rt;
             holds,
             "{} of {} with {}",
@@ -162,7 +193,7 @@ fn variables_on_a_small_stack(rt: HostRuntime) -> Result<(), Fail> {
         ),
     ] {
         let text = with_variables(rt.alloc(), before, after)?;
-        let holds = is_true_on_a_small_stack(&rt, rt.alloc(), text)?;
+        let holds = says_on_a_small_stack(rt, rt.alloc(), text, INSTRUCTIONS)?;
         assert!(rt; holds, "{before}");
     }
     Ok(())

@@ -11,9 +11,9 @@ const SOLVE: [&str; 2] = ["pbsolve", "solve"];
 
 const TEXT: &[u8] = b"pbes nu X = X; init X;";
 
-const REPORT: &[u8] = b"answer true\n";
+const REPORT: &[u8] = b"answer true\ninstances 1\ncut 0\nvertices 3\n";
 
-const WRONG_WORDS: [&[&str]; 8] = [
+const WRONG_WORDS: [&[&str]; 22] = [
     &[],
     &["pbsolve"],
     &["pbsolve", "frobnicate"],
@@ -22,6 +22,20 @@ const WRONG_WORDS: [&[&str]; 8] = [
     &["pbsolve", "solve", "--help"],
     &["pbsolve", "solve", "more"],
     &["pbsolve", "solve", "solve"],
+    &["pbsolve", "solve", "--frob"],
+    &["pbsolve", "--workers", "2", "solve"],
+    &["pbsolve", "solve", "--workers"],
+    &["pbsolve", "solve", "--workers", ""],
+    &["pbsolve", "solve", "--workers", "0"],
+    &["pbsolve", "solve", "--workers", "17"],
+    &["pbsolve", "solve", "--workers", "-1"],
+    &["pbsolve", "solve", "--workers", "1.0"],
+    &["pbsolve", "solve", "--workers", "two"],
+    &["pbsolve", "solve", "--workers", "99999999999999999999"],
+    &["pbsolve", "solve", "--workers", "1", "--workers", "1"],
+    &["pbsolve", "compile", "--workers", "1"],
+    &["pbsolve", "verify", "--workers", "1"],
+    &["pbsolve", "list", "--workers", "1"],
 ];
 
 #[test]
@@ -29,7 +43,7 @@ fn refuses_words(rt: HostRuntime) -> Result<(), Fail> {
     for words in WRONG_WORDS {
         // The words come first: this reader would fail.
         let mut reader = In::new(Broken);
-        let outcome = run_on(rt.alloc(), words, &mut reader, ROOM);
+        let outcome = run_on(&rt, rt.alloc(), words, &mut reader, ROOM);
         assert_eq!(rt; outcome.status, 2);
         assert_eq!(rt; outcome.out.bytes(), b"".as_slice());
         assert_eq!(rt; outcome.err.bytes(), b"U01\n".as_slice());
@@ -40,7 +54,7 @@ fn refuses_words(rt: HostRuntime) -> Result<(), Fail> {
 #[test]
 fn fails_at_each_byte_written(rt: HostRuntime) -> Result<(), Fail> {
     for budget in 0..=REPORT.len() {
-        let outcome = run_on(rt.alloc(), &SOLVE, &mut In::new(TEXT), budget);
+        let outcome = run_on(&rt, rt.alloc(), &SOLVE, &mut In::new(TEXT), budget);
         assert_eq!(rt; outcome.out.bytes(), &REPORT[..budget]);
         if budget < REPORT.len() {
             assert_eq!(rt; outcome.status, 4);
@@ -57,7 +71,7 @@ fn fails_at_each_byte_written(rt: HostRuntime) -> Result<(), Fail> {
 fn fails_at_each_byte_read(rt: HostRuntime) -> Result<(), Fail> {
     for left in 0..=TEXT.len() {
         let mut reader = In::new(Failing { bytes: TEXT, left });
-        let outcome = run_on(rt.alloc(), &SOLVE, &mut reader, ROOM);
+        let outcome = run_on(&rt, rt.alloc(), &SOLVE, &mut reader, ROOM);
         assert_eq!(rt; outcome.status, 4);
         assert_eq!(rt; outcome.out.bytes(), b"".as_slice());
         assert_eq!(rt; outcome.err.bytes(), b"E01\n".as_slice());
@@ -75,7 +89,7 @@ fn takes_input_up_to_the_limit(rt: HostRuntime) -> Result<(), Fail> {
         (INPUT_LIMIT as u64 + 1, b"U02\n".as_slice()),
     ] {
         let mut reader = In::new(io::repeat(b'%').take(length));
-        let outcome = run_on(rt.alloc(), &SOLVE, &mut reader, ROOM);
+        let outcome = run_on(&rt, rt.alloc(), &SOLVE, &mut reader, ROOM);
         assert_eq!(rt; outcome.status, 1);
         assert_eq!(rt; outcome.out.bytes(), b"".as_slice());
         assert_eq!(rt; outcome.err.bytes(), line);

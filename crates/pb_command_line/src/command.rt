@@ -1,0 +1,58 @@
+//! The commands of the program.
+ghost use Rattle.std.specs.Prelude.{◌≡◌, Some, IfSome};
+ghost use Rattle.pb_command_line.specs.Words.{command_name};
+
+/// What the program can be asked for.
+#[derive(Clone, Copy, Debug, PartialEq, Eq)]
+pub enum Command {
+    /// The report of a text.
+    Solve,
+    /// The game of a text's reached instances.
+    Game,
+    /// The truth of each reached instance of a text.
+    Solution,
+    /// The module of a text.
+    Compile,
+    /// Whether a module is accepted.
+    Verify,
+    /// The listing of a module.
+    List,
+    /// The report of a module.
+    SolveCode,
+}
+
+impl Command {
+    ghost use Rattle.pb_command_line.specs.declared.command.Command.{Command};
+
+    /// The word that asks for it.
+    pub fn name(self) -> &'static str
+        ensures { result.now ≡ command_name self }
+    {
+        match self {
+            Command::Solve => "solve",
+            Command::Game => "game",
+            Command::Solution => "solution",
+            Command::Compile => "compile",
+            Command::Verify => "verify",
+            Command::List => "list",
+            Command::SolveCode => "solve-code",
+        }
+    }
+
+    /// The command for which a word asks.
+    pub(crate) fn named(name: &str) -> Option<Command>
+        ensures named { IfSome result (λ command. name.now ≡ command_name command) }
+        ensures every { (command : Command) → name.now ≡ command_name command → result ≡ Some command }
+    {
+        match name {
+            "solve" => Some(Command::Solve),
+            "game" => Some(Command::Game),
+            "solution" => Some(Command::Solution),
+            "compile" => Some(Command::Compile),
+            "verify" => Some(Command::Verify),
+            "list" => Some(Command::List),
+            "solve-code" => Some(Command::SolveCode),
+            _ => None,
+        }
+    }
+}

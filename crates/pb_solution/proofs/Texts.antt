@@ -1,0 +1,32 @@
+-- A text that was written for the rows in memory is that of the module's reached instances.
+use Rattle.std.proofs.Common.{◌≡◌, ℕ, Bool, List, Option, subst}
+use Rattle.std.specs.Prelude.{Result, Ok, Err}
+use Rattle.pb_trees.specs.Tree.{Tree}
+use Rattle.pb_rows.specs.Row.{Row}
+use Rattle.pb_bytecode.specs.Contents.{Contents}
+use Rattle.pb_bytecode.specs.Meaning.{AreTrees}
+use Rattle.pb_exploration.specs.Rows.{AreExplored}
+use Rattle.pb_game_answer.specs.Explored.{HaveTrees}
+use Rattle.pb_report_texts.specs.declared.buffer.WriteError.{WriteError}
+use Rattle.pb_report_texts.specs.declared.buffer.WriteError.TheVariants.{Memory, Failed}
+use Rattle.pb_report_texts.specs.Sending.{Writes}
+use Rattle.pb_solution.specs.Texts.{ForReached, Sends}
+
+-- the text of the rows in memory went out so, whichever trees the instances have
+abbrev WritesAny : {T : Type 0} → Contents → ((ℕ → Tree) → List Row → List ℕ) → List Row → Result T WriteError → Option (List ℕ) → Option (List ℕ) → Bool → Bool → Type 0
+WritesAny m text rows r old new fb fa = (trees : ℕ → Tree) → AreTrees m trees → Writes r old new fb fa (text trees rows)
+
+sent_found : {T : Type 0} (m : Contents) (found : List Row) → AreExplored m found → HaveTrees m → (text : (ℕ → Tree) → List Row → List ℕ)
+    → (r : Result T WriteError) (old new : Option (List ℕ)) (fb fa : Bool) → WritesAny m text found r old new fb fa
+    → Sends (ForReached m text) r old new fb fa
+sent_found m found explored some text (Ok x) old new fb fa w =
+    ((λ trees have. (found, explored trees have, (w trees have).0)), (w some.0 some.1).1)
+sent_found m found explored some text (Err (Memory e)) old new fb fa w = w some.0 some.1
+sent_found m found explored some text (Err (Failed e)) old new fb fa w =
+    ((λ trees have. (found, explored trees have, (w trees have).0)), (w some.0 some.1).1)
+
+pub sent : {T : Type 0} (m : Contents) (found rows : List Row) → rows ≡ found → AreExplored m found → HaveTrees m
+    → (text : (ℕ → Tree) → List Row → List ℕ) → (r : Result T WriteError) (old new : Option (List ℕ)) (fb fa : Bool)
+    → WritesAny m text rows r old new fb fa → Sends (ForReached m text) r old new fb fa
+sent m found rows same explored some text r old new fb fa w =
+    sent_found m found explored some text r old new fb fa (subst (λ (x : List Row). WritesAny m text x r old new fb fa) same w)

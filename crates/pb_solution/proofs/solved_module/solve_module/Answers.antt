@@ -1,0 +1,15 @@
+use Rattle.std.proofs.Common.{◌≡◌, ap, Result, Err}
+use Rattle.pb_game_answer.specs.declared.solved.Solved.{Solved}
+use Rattle.pb_game_of_trees.specs.declared.tree_game.BuildError.{BuildError}
+use Rattle.pb_game_of_trees.specs.declared.tree_game.BuildError.TheVariants.{TooManyVertices}
+use Rattle.pb_solution.proofs.Rows.{module_rows, too_large}
+use Rattle.pb_solution.proofs.solved_module.solve_module.Goals as goal
+
+pub solve-requires-clause-rows : goal.solve-requires-clause-rows
+solve-requires-clause-rows g c _ _ = module_rows _ _ _ c.rows.ensures c.in_ok-explored.ensures
+
+pub returns-in-Err-clause-too_many : goal.returns-in-Err-clause-too_many
+returns-in-Err-clause-too_many g c is =
+    let same : c.in-Err.error ≡ TooManyVertices = cc is in
+    too_large _ _ _ c.rows.ensures c.in_ok-explored.ensures
+    (c.in-Err.ensures.too_many (ap (λ (e : BuildError). let r : Result Solved BuildError = Err e in r) same))

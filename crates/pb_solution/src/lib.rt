@@ -1,0 +1,7 @@
+//! From a verified module to its answer: its reached instances are explored, their game is built and solved, and what the
+//! winners say is the truth of the instances in the nested solution of the module's equations.
+#![tactic(auto)]
+
+pub mod solved_module;
+
+pub use solved_module::{SolvedModule, solve_module};

@@ -1,0 +1,104 @@
+//! Verified modules that are solved.
+ghost use Rattle.std.specs.Prelude.{◌≡◌, ◌<◌, ◌≤◌, IfOk, IfErr, Err};
+ghost use Rattle.pb_game_of_trees.specs.declared.tree_game.BuildError.TheVariants.{TooManyVertices};
+ghost use Rattle.pb_report_texts.specs.Sending.{IsOutOfMemory};
+ghost use Rattle.pb_solution.specs.Answers.{IsSolutionOf, IsAnswerOf, IsTooLarge};
+ghost use Rattle.pb_solution.specs.Texts.{ForGameText, ForSolutionText, Sends};
+
+use pb_exploration::{Explored, Gate, explore};
+use pb_game_answer::{Solved, solve};
+use pb_game_of_trees::BuildError;
+use pb_machine::instances_have_trees;
+use pb_report_texts::game_text::game_text;
+use pb_report_texts::solution_text::solution_text;
+use pb_report_texts::{Answer, WriteError};
+use pb_sorts::Sink;
+use pb_verifier::Verified;
+use std::alloc::Global;
+use std::thread::Threads;
+
+/// The reached instances of a module, with their solved game.
+#[derive(Drop)]
+pub struct SolvedModule {
+    pub explored: Explored,
+    pub solved: Solved,
+}
+
+/// Solves a verified module: so many workers explore its reached instances, and the game of these is solved (Mader 1997;
+/// Zielonka 1998) with a certificate of its winners, which is checked.
+///
+/// # Errors
+/// `TooManyVertices` where the game would have more than 2^24 vertices; else `Memory`.
+pub fn solve_module<R: Threads + Sync, G: Gate + Sync>(
+    rt: &R,
+    alloc: Global,
+    verified: &Verified,
+    workers: u32,
+    gate: &G,
+) -> Result<SolvedModule, BuildError>
+    requires { (0 < workers) × (workers ≤ 16) }
+    ensures solved { IfOk result (IsSolutionOf verified.now) }
+    ensures too_many { result ≡ Err TooManyVertices → IsTooLarge verified.now }
+{
+    instances_have_trees(verified);
+    let explored = explore(rt, alloc, verified, workers, gate)?;
+    match solve(rt, alloc, verified, explored.rows()) {
+        Ok(solved) => Ok(SolvedModule { explored, solved }),
+        Err(error) => Err(error),
+    }
+}
+
+impl SolvedModule {
+    /// The answer: the truth of the initial instance in the nested solution of the module's equations (Groote and Willemse
+    /// 2005), how many instances were reached, how many of these meet a cut, and how many vertices the game has.
+    pub fn answer(&self, verified: &Verified) -> Answer
+        requires { IsSolutionOf verified.now self.now }
+        ensures { IsAnswerOf verified.now result }
+    {
+        instances_have_trees(verified);
+        let _few = self.solved.built.game.len();
+        Answer::of_solved(&self.solved, self.explored.rows())
+    }
+
+    /// Appends the game of the reached instances, in the form that PGSolver reads.
+    ///
+    /// # Errors
+    /// `Memory` before the first byte. After `Failed` a part that begins the text, and not the whole of it, went out.
+    pub fn write_game<S: Sink>(
+        &self,
+        alloc: Global,
+        verified: &Verified,
+        sink: &mut S,
+    ) -> Result<(), WriteError>
+        requires { IsSolutionOf verified.now self.now }
+        ensures text { Sends (ForGameText verified.now) result (S.taken sink.old) (S.taken sink.new) (S.has_failed sink.old) (S.has_failed sink.new) }
+        ensures silent { IfErr result (λ e. IsOutOfMemory e → sink.new ≡ sink.old) }
+    {
+        instances_have_trees(verified);
+        game_text(
+            alloc,
+            verified,
+            &self.solved.built,
+            self.explored.rows(),
+            sink,
+        )
+    }
+
+    /// Appends the truth of each reached instance: a line for each, by rising number.
+    ///
+    /// # Errors
+    /// As with `write_game`.
+    pub fn write_solution<S: Sink>(
+        &self,
+        alloc: Global,
+        verified: &Verified,
+        sink: &mut S,
+    ) -> Result<(), WriteError>
+        requires { IsSolutionOf verified.now self.now }
+        ensures text { Sends (ForSolutionText verified.now) result (S.taken sink.old) (S.taken sink.new) (S.has_failed sink.old) (S.has_failed sink.new) }
+        ensures silent { IfErr result (λ e. IsOutOfMemory e → sink.new ≡ sink.old) }
+    {
+        instances_have_trees(verified);
+        solution_text(alloc, verified, &self.solved, self.explored.rows(), sink)
+    }
+}

@@ -1,0 +1,86 @@
+-- What an error says of the input.
+use Rattle.std.specs.Prelude.{◌≡◌, Contains, ℕ, List}
+use Rattle.pb_text_tree.specs.Form.{SpecForm}
+use Rattle.pb_text.specs.Parsing.{Stands, NoReading}
+use Rattle.pb_text.specs.declared.error.TextError.{TextError}
+use Rattle.pb_text.specs.declared.error.TextError.TheVariants as text_error
+use Rattle.pb_typing_rules.specs.Faults.{faults}
+use Rattle.pb_typing_rules.specs.WellTyped.{IsWellTyped}
+use Rattle.pb_typing_declarations.specs.declared.fault.TypeError.{TypeError}
+use Rattle.pb_typing_declarations.specs.declared.fault.TypeError.TheVariants as type_error
+use Rattle.pb_text_meaning.specs.Erase.{erase}
+use Rattle.pb_assembler.specs.declared.limit.Limit.{Limit}
+use Rattle.pb_assembler.specs.Excess.{IsFirstExcess}
+use Rattle.pb_bytecode.specs.declared.fault.ModuleError.{ModuleError}
+use Rattle.pb_bytecode.specs.declared.fault.ModuleError.TheVariants as module_error
+use Rattle.pb_bytecode.specs.Contents.{Contents}
+use Rattle.pb_bytecode.specs.Decoded.{FaultStands}
+use Rattle.pb_bytecode.specs.Spelling.{spelling}
+use Rattle.pb_verifier.specs.Acceptance.{IsAccepted}
+use Rattle.pb_verifier.specs.declared.verify_error.VerifyError.{VerifyError}
+use Rattle.pb_verifier.specs.declared.verify_error.VerifyError.TheVariants as verify_error
+use Rattle.pb_solution.specs.Answers.{IsTooLarge}
+use Rattle.pbsolve.specs.declared.solve_error.SolveError.{SolveError}
+use Rattle.pbsolve.specs.declared.solve_error.SolveError.TheVariants as solve_error
+use Rattle.pbsolve.specs.Answers.{IsTheReading, IsModuleOfText, IsModuleOfCode}
+
+-- the bytes have no reading within the limits, and the rule is broken at its place
+abbrev pub IsRefusedText : List ℕ → TextError → Type 0
+IsRefusedText bytes text_error.Memory = ⊥
+IsRefusedText bytes (text_error.Refused rule place) = NoReading bytes (text_error.Refused rule place) × Stands bytes (text_error.Refused rule place)
+
+-- what the bytes say breaks the rule at its place
+abbrev pub IsRefusedType : List ℕ → TypeError → Type 0
+IsRefusedType bytes type_error.Memory = ⊥
+IsRefusedType bytes (type_error.At fault) = (x : SpecForm) × IsTheReading bytes x × Contains (faults x) fault
+
+-- what the bytes say is well typed, and its first equation whose code exceeds a limit is this one, with this as its first
+pub record IsOverLimit (bytes : List ℕ) (limit : Limit) (equation : ℕ) : Type 0 where
+  pub text : SpecForm
+  pub read : IsTheReading bytes text
+  pub typed : IsWellTyped (erase text)
+  pub exceeds : IsFirstExcess (erase text) limit equation
+
+-- reading the bytes as a module meets this fault first
+abbrev pub IsRefusedCode : List ℕ → ModuleError → Type 0
+IsRefusedCode bytes module_error.Memory = ⊥
+IsRefusedCode bytes (module_error.ModuleFault rule byte) = FaultStands bytes rule byte
+
+-- the bytes spell a module whose code is not accepted
+abbrev pub IsUnaccepted : List ℕ → VerifyError → Type 0
+IsUnaccepted bytes verify_error.Memory = ⊥
+IsUnaccepted bytes (verify_error.Refusal rule equation place) =
+    (m : Contents) × (bytes ≡ spelling m) × (IsAccepted m → ⊥)
+
+-- what an error says of a verified module
+abbrev pub IsRefusedModule : Contents → SolveError → Type 0
+IsRefusedModule m solve_error.TooManyVertices = IsTooLarge m
+IsRefusedModule m (solve_error.Memory error) = Unit {0}
+IsRefusedModule m (solve_error.Write error) = Unit {0}
+IsRefusedModule m (solve_error.Text error) = ⊥
+IsRefusedModule m (solve_error.Typing error) = ⊥
+IsRefusedModule m (solve_error.Limit limit equation) = ⊥
+IsRefusedModule m (solve_error.Module error) = ⊥
+IsRefusedModule m (solve_error.Acceptance error) = ⊥
+
+-- what an error says of a text; its module is never refused
+abbrev pub IsRefused : List ℕ → SolveError → Type 0
+IsRefused bytes (solve_error.Text error) = IsRefusedText bytes error
+IsRefused bytes (solve_error.Typing error) = IsRefusedType bytes error
+IsRefused bytes (solve_error.Limit limit equation) = IsOverLimit bytes limit equation
+IsRefused bytes solve_error.TooManyVertices = (m : Contents) × IsModuleOfText bytes m × IsTooLarge m
+IsRefused bytes (solve_error.Module error) = ⊥
+IsRefused bytes (solve_error.Acceptance error) = ⊥
+IsRefused bytes (solve_error.Memory error) = Unit {0}
+IsRefused bytes (solve_error.Write error) = Unit {0}
+
+-- what an error says of the bytes of a module
+abbrev pub IsRefusedBytes : List ℕ → SolveError → Type 0
+IsRefusedBytes bytes (solve_error.Module error) = IsRefusedCode bytes error
+IsRefusedBytes bytes (solve_error.Acceptance error) = IsUnaccepted bytes error
+IsRefusedBytes bytes solve_error.TooManyVertices = (m : Contents) × IsModuleOfCode bytes m × IsTooLarge m
+IsRefusedBytes bytes (solve_error.Text error) = ⊥
+IsRefusedBytes bytes (solve_error.Typing error) = ⊥
+IsRefusedBytes bytes (solve_error.Limit limit equation) = ⊥
+IsRefusedBytes bytes (solve_error.Memory error) = Unit {0}
+IsRefusedBytes bytes (solve_error.Write error) = Unit {0}

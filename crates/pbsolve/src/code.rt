@@ -1,0 +1,98 @@
+//! Modules that bytes spell: whether they are accepted, what they say, and their answers.
+ghost use Rattle.std.specs.Prelude.{◌≡◌, ◌≢◌, ◌≤◌, ◌<◌, true, IfOk, OnOk, IfErr, Err};
+ghost use Rattle.std.specs.Io.KnownBytes.{Appends};
+ghost use Rattle.pb_sorts.specs.Sink.{AppendsPrefix};
+ghost use Rattle.pb_command_line.specs.declared.command.Command.TheVariants.{Verify, List, SolveCode};
+ghost use Rattle.pb_report_texts.specs.Report.{report_text};
+ghost use Rattle.pbsolve.specs.Answers.{IsAnswerOfCode, IsModuleOfCode};
+ghost use Rattle.pbsolve.specs.Refusals.{IsRefusedBytes};
+ghost use Rattle.pbsolve.specs.Outputs.{Outputs};
+
+use crate::module::write_report;
+use crate::solve_error::SolveError;
+use pb_bytecode::decode::decode;
+use pb_bytecode::list::list;
+use pb_exploration::Gate;
+use pb_report_texts::Answer;
+use pb_sorts::{Sink, put};
+use pb_verifier::{Verified, verify};
+use std::alloc::Global;
+use std::thread::Threads;
+
+// The module that bytes spell, verified.
+fn verified_code(alloc: Global, bytes: &[u8]) -> Result<Verified, SolveError>
+    ensures module { IfOk result (IsModuleOfCode bytes.now) }
+    ensures refused { IfErr result (IsRefusedBytes bytes.now) }
+    ensures unwritten { IfErr result (λ e. e ≢ SolveError.Write (record {})) }
+{
+    let module = decode(alloc, bytes)?;
+    match verify(alloc, module) {
+        Ok(verified) => Ok(verified),
+        Err((_module, error)) => Err(SolveError::from(error)),
+    }
+}
+
+/// Answers a module, given by its bytes, as `solve_text` answers a text: the truth of its initial instance in the nested
+/// fixpoint solution of its equations, whose right sides are the trees with which the runs of its code end.
+///
+/// # Errors
+/// `Module` says what is wrong with the bytes and where, `Acceptance` which rule the code breaks and where. Others are as
+/// with `solve_text`, but for `Text`, `Typing` and `Limit`, which never come.
+pub fn solve_code<R: Threads + Sync, G: Gate + Sync, S: Sink>(
+    rt: &R,
+    alloc: Global,
+    bytes: &[u8],
+    workers: u32,
+    gate: &G,
+    writer: &mut S,
+) -> Result<Answer, SolveError>
+    requires { (0 < workers) × (workers ≤ 16) }
+    ensures answer { IfOk result (IsAnswerOfCode bytes.now) }
+    ensures report { IfOk result (λ answer. Appends (S.taken writer.old) (S.taken writer.new) (report_text answer)) }
+    ensures kept { OnOk result (S.has_failed writer.new ≡ S.has_failed writer.old) }
+    ensures refused { IfErr result (IsRefusedBytes bytes.now) }
+    ensures silent { IfErr result (λ e. e ≢ SolveError.Write (record {}) → writer.new ≡ writer.old) }
+    ensures write { result ≡ Err (SolveError.Write (record {})) → Outputs SolveCode bytes.now (AppendsPrefix (S.taken writer.old) (S.taken writer.new)) }
+    ensures write_failed { result ≡ Err (SolveError.Write (record {})) → S.has_failed writer.new ≡ true }
+{
+    let verified = verified_code(alloc, bytes)?;
+    write_report(rt, alloc, &verified, workers, gate, writer)
+}
+
+/// Verifies a module, given by its bytes, and writes `accepted` and a line feed.
+///
+/// # Errors
+/// `Module` says what is wrong with the bytes and where, `Acceptance` which rule the code breaks and where; `Memory` comes
+/// where a request for memory was refused, and `Write` where the text could not be written whole.
+pub fn verify_code<S: Sink>(alloc: Global, bytes: &[u8], writer: &mut S) -> Result<(), SolveError>
+    ensures accepted { OnOk result (Outputs Verify bytes.now (Appends (S.taken writer.old) (S.taken writer.new))) }
+    ensures kept { OnOk result (S.has_failed writer.new ≡ S.has_failed writer.old) }
+    ensures refused { IfErr result (IsRefusedBytes bytes.now) }
+    ensures silent { IfErr result (λ e. e ≢ SolveError.Write (record {}) → writer.new ≡ writer.old) }
+    ensures write { result ≡ Err (SolveError.Write (record {})) → Outputs Verify bytes.now (AppendsPrefix (S.taken writer.old) (S.taken writer.new)) }
+    ensures write_failed { result ≡ Err (SolveError.Write (record {})) → S.has_failed writer.new ≡ true }
+{
+    let _verified = verified_code(alloc, bytes)?;
+    put(b"accepted\n", writer).map_err(SolveError::Write)
+}
+
+/// Lists a module, given by its bytes, whose code need not be accepted.
+///
+/// # Errors
+/// `Module` says what is wrong with the bytes and where; `Memory` comes where a request for memory was refused, and `Write`
+/// where the listing could not be written whole.
+pub fn list_code<S: Sink>(alloc: Global, bytes: &[u8], writer: &mut S) -> Result<(), SolveError>
+    ensures listed { OnOk result (Outputs List bytes.now (Appends (S.taken writer.old) (S.taken writer.new))) }
+    ensures kept { OnOk result (S.has_failed writer.new ≡ S.has_failed writer.old) }
+    ensures refused { IfErr result (IsRefusedBytes bytes.now) }
+    ensures silent { IfErr result (λ e. e ≢ SolveError.Write (record {}) → writer.new ≡ writer.old) }
+    ensures write { result ≡ Err (SolveError.Write (record {})) → Outputs List bytes.now (AppendsPrefix (S.taken writer.old) (S.taken writer.new)) }
+    ensures write_failed { result ≡ Err (SolveError.Write (record {})) → S.has_failed writer.new ≡ true }
+{
+    let module = decode(alloc, bytes)?;
+    let listing = list(alloc, &module)?;
+    match put(listing.as_slice(), writer) {
+        Ok(()) => Ok(()),
+        Err(failed) => Err(SolveError::Write(failed)),
+    }
+}

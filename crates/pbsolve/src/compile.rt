@@ -1,0 +1,88 @@
+//! From texts to their modules.
+ghost use Rattle.std.specs.Prelude.{◌≡◌, ◌≢◌, ◌≤◌, true, length, IfOk, IfErr, OnOk, Err};
+ghost use Rattle.std.specs.Io.KnownBytes.{Appends};
+ghost use Rattle.pb_sorts.specs.Sink.{AppendsPrefix};
+ghost use Rattle.pb_text_tree.specs.Form.{spec_form};
+ghost use Rattle.pb_text_meaning.specs.Erase.{erase};
+ghost use Rattle.pb_typing_rules.specs.WellTyped.{IsWellTyped};
+ghost use Rattle.pb_bytecode.specs.Decoded.{module_contents};
+ghost use Rattle.pb_command_line.specs.declared.command.Command.TheVariants.{Compile};
+ghost use Rattle.pbsolve.specs.Answers.{IsTheReading, IsModuleOfText};
+ghost use Rattle.pbsolve.specs.Outputs.{Outputs};
+ghost use Rattle.pbsolve.specs.Refusals.{IsRefused};
+
+use crate::input::INPUT_LIMIT;
+use crate::solve_error::SolveError;
+use pb_assembler::{CompileError, compile};
+use pb_assembler_modules::verify_compiled;
+use pb_bytecode::Module;
+use pb_bytecode::encode::encode;
+use pb_normal::normalise;
+use pb_sorts::{Sink, put};
+use pb_text_names::names_of_texts_are_names_of_modules;
+use pb_typing::Typed;
+use pb_verifier::Verified;
+use std::alloc::Global;
+
+// What a text says, which is well typed.
+fn typed(alloc: Global, bytes: &[u8]) -> Result<Typed, SolveError>
+    requires { length bytes.now ≤ INPUT_LIMIT }
+    ensures read { IfOk result (λ typed. IsTheReading bytes.now (spec_form typed.spec) × IsWellTyped (erase (spec_form typed.spec))) }
+    ensures refused { IfErr result (IsRefused bytes.now) }
+    ensures unwritten { IfErr result (λ e. e ≢ SolveError.Write (record {})) }
+{
+    let spec = pb_text::parse(alloc, bytes)?;
+    match pb_typing::check(alloc, spec) {
+        Ok(typed) => Ok(typed),
+        Err((_spec, error)) => Err(SolveError::from(error)),
+    }
+}
+
+// The module of a text.
+fn compiled(alloc: Global, bytes: &[u8]) -> Result<Module, SolveError>
+    requires { length bytes.now ≤ INPUT_LIMIT }
+    ensures module { IfOk result (λ m. IsModuleOfText bytes.now (module_contents m)) }
+    ensures refused { IfErr result (IsRefused bytes.now) }
+    ensures unwritten { IfErr result (λ e. e ≢ SolveError.Write (record {})) }
+{
+    let typed = typed(alloc, bytes)?;
+    let normal = normalise(alloc, &typed)?;
+    names_of_texts_are_names_of_modules();
+    match compile(alloc, &normal) {
+        Ok(module) => Ok(module),
+        Err(CompileError::Limit { limit, equation }) => Err(SolveError::Limit { limit, equation }),
+        Err(CompileError::Name) => unreachable!(),
+        Err(CompileError::Memory(refused)) => Err(SolveError::Memory(refused)),
+    }
+}
+
+// The module of a text, verified: a compiled module is always accepted.
+pub(crate) fn verified_text(alloc: Global, bytes: &[u8]) -> Result<Verified, SolveError>
+    requires { length bytes.now ≤ INPUT_LIMIT }
+    ensures module { IfOk result (IsModuleOfText bytes.now) }
+    ensures refused { IfErr result (IsRefused bytes.now) }
+    ensures unwritten { IfErr result (λ e. e ≢ SolveError.Write (record {})) }
+{
+    let module = compiled(alloc, bytes)?;
+    let verified = verify_compiled(alloc, module)?;
+    Ok(verified)
+}
+
+/// Compiles a text, and writes the bytes of its module.
+///
+/// # Errors
+/// `Text`, `Typing` and `Limit` say which rule the text breaks, or which limit its code exceeds, and where; `Memory` comes
+/// where a request for memory was refused, and `Write` where the bytes could not be written whole.
+pub fn compile_text<S: Sink>(alloc: Global, bytes: &[u8], writer: &mut S) -> Result<(), SolveError>
+    requires { length bytes.now ≤ INPUT_LIMIT }
+    ensures module { OnOk result (Outputs Compile bytes.now (Appends (S.taken writer.old) (S.taken writer.new))) }
+    ensures kept { OnOk result (S.has_failed writer.new ≡ S.has_failed writer.old) }
+    ensures refused { IfErr result (IsRefused bytes.now) }
+    ensures silent { IfErr result (λ e. e ≢ SolveError.Write (record {}) → writer.new ≡ writer.old) }
+    ensures write { result ≡ Err (SolveError.Write (record {})) → Outputs Compile bytes.now (AppendsPrefix (S.taken writer.old) (S.taken writer.new)) }
+    ensures write_failed { result ≡ Err (SolveError.Write (record {})) → S.has_failed writer.new ≡ true }
+{
+    let module = compiled(alloc, bytes)?;
+    let spelled = encode(alloc, &module)?;
+    put(spelled.as_slice(), writer).map_err(SolveError::Write)
+}
