@@ -1,5 +1,5 @@
 -- Formulas are read rightly.
-use Rattle.std.proofs.Common.{◌≡◌, ℕ, zero, suc, ◌≤◌, Bool, true, false, cond, List, [], ◌∷◌, refl, sym, ap, ◌∙◌, subst, arith, inl, inr}
+use Rattle.std.proofs.Common.{◌≡◌, ℕ, zero, suc, ◌≤◌, Bool, true, false, cond, List, [], ◌∷◌, refl, sym, ap, ◌∙◌, subst, arith, ◌⊎◌, inl, inr}
 use Rattle.pb_text_tree.specs.Form.{FormulaForm, TermForm, InstanceForm}
 use Rattle.pb_text_lexer.specs.declared.fault.ReadingRule.TheVariants.{Unexpected, Limit}
 use Rattle.pb_text_lexer.specs.declared.kind.Kind.{Kind}
@@ -11,12 +11,13 @@ use Rattle.pb_text_lexer.specs.Steps.{ends, head_kind, kind, Step, and_then, pur
 use Rattle.pb_text_lexer.specs.Steps as step
 use Rattle.pb_text_lexer.specs.Tokens.{Tok}
 use Rattle.pb_text_lexer.proofs.TokenLemmas.{kind-same, same-kind}
-use Rattle.pb_text_lexer.proofs.Correct.{st, Family, Stops, never, Answers, Correct, then-correct, pure-correct, HeadIs, take-correct, expect-correct, refused-here, unlike, first-correct, deeper, deeper-correct, alike-correct}
+use Rattle.pb_text_lexer.proofs.Correct.{st, Family, Stops, never, readable-is, readable-one, some-token, Answers, Answering, Correct, then-correct, pure-correct, HeadIs, take-correct, expect-correct, refused-here, unlike, Free, Readable, goes-free, readable-free, free-to, free-then, free-one}
+use Rattle.pb_text_lexer.proofs.CorrectFamilies.{readable-first, readable-deeper, Nowhere, first-correct, deeper, deeper-correct, alike-correct}
 use Rattle.pb_text_lexer.proofs.CorrectSeries.{going, Passes, head-at}
 use Rattle.pb_text_lexer.proofs.CorrectPlain.{Always, anywhere, then-plain, is-correct, leaf-correct, nothing-correct}
 use Rattle.pb_text_lexer.proofs.CorrectLeft.{unless_next-correct}
 use Rattle.pb_text_lexer.proofs.CorrectEither.{Not, connects, IsBelow, connected-correct}
-use Rattle.pb_text_lexer.specs.OpenGrammar.{Connected}
+use Rattle.pb_text_lexer.specs.OpenGrammar.{last, Connected}
 use Rattle.pb_text_terms.specs.Grammar.{Instance, IsTerm, Quantified, QuantifiedBy}
 use Rattle.pb_text_terms.specs.Operators.{connected_by, is_quantifier}
 use Rattle.pb_text_terms.specs.Reading.{is_open}
@@ -25,7 +26,8 @@ use Rattle.pb_text.specs.Grammar.{Begun, IsNode, IsFormula}
 use Rattle.pb_text.specs.Reading.{opening, begun, data_term, node, formula}
 use Rattle.pb_text_terms.proofs.CorrectOperators.{term_goes}
 use Rattle.pb_text_terms.proofs.CorrectTerm.{term-correct, instance-correct}
-use Rattle.pb_text_terms.proofs.CorrectVariable.{quantified-correct, quantified-last}
+use Rattle.pb_text_terms.proofs.CorrectVariable.{head-kind-is, quantified-correct, quantified-last}
+use Rattle.pb_text_terms.proofs.TermStarts.{readable-term}
 
 -- what goes on with a node: a bracket, behind a name
 abbrev pub node_goes : Kind → Bool
@@ -47,6 +49,20 @@ from-node : (d : ℕ) (s : State) (y : FormulaForm) (z : State) → IsNode d s y
 from-node zero s y z r = r
 from-node (suc d) s y z r = r
 
+abbrev quantifieds : Family FormulaForm
+quantifieds d = Quantified FormulaForm.quantified (deeper IsFormula d)
+
+abbrev connecteds : Family FormulaForm
+connecteds d = Connected (connected_by FormulaForm.connected) (IsNode d) (quantifieds d)
+
+to-formula : (d : ℕ) (s : State) (y : FormulaForm) (z : State) → connecteds d s y z → IsFormula d s y z
+to-formula zero s y z r = r
+to-formula (suc d) s y z r = r
+
+from-formula : (d : ℕ) (s : State) (y : FormulaForm) (z : State) → IsFormula d s y z → connecteds d s y z
+from-formula zero s y z r = r
+from-formula (suc d) s y z r = r
+
 starts : (N F : Reads FormulaForm) (T : Reads TermForm) (kind : Kind) (s : State) (y : FormulaForm) (z : State) → Begun N F T kind s y z → HeadIs kind s.tokens
 starts N F T k.Not s y z r = head-at k.Not s.tokens r.1.tokens r.0 r.2.0 r.2.1
 starts N F T k.Open s y z r = head-at k.Open s.tokens r.1.tokens r.0 r.2.0 r.2.1
@@ -59,6 +75,28 @@ starts N F T k.Name s y z r = name-starts T s r.0 r.1 r.2
     name-starts T s x m (inl q) = head-at k.Name s.tokens q.2.1.tokens q.2.0 q.2.2.0 q.2.2.1
     name-starts T s x m (inr q) = head-at k.Name s.tokens q.2.2.1.tokens q.2.2.0 q.2.2.2.0 q.2.2.2.1
 starts N F T _ s y z r = absurd r
+
+-- ---- formulas that are always there
+
+abbrev true-node : Family FormulaForm
+true-node d = kinds d k.True
+
+readable-true : (level : ℕ) → Readable true-node level
+readable-true level =
+    free-then (λ d. One k.True) (λ word d. Is (FormulaForm.constant word.place true)) level [] (readable-one k.True level) (λ word. readable-is (FormulaForm.constant word.place true) level)
+
+readable-node : (level : ℕ) → Readable IsNode level
+readable-node level =
+    free-to (λ d. First (kinds d)) IsNode (λ x. x) level level (to-node level) []
+    (readable-first kinds never 0 (λ d kind. starts (deeper IsNode d) (deeper IsFormula d) (deeper IsTerm d) kind) k.True level (readable-true level))
+
+readable-formula : (level : ℕ) → Readable IsFormula level
+readable-formula level = free-to IsNode IsFormula (λ x. x) level level single [] (readable-node level)
+  where
+    single : (s : State) (y : FormulaForm) (z : State) → IsNode level s y z → IsFormula level s y z
+    single s y z r = to-formula level s y z (last (last (last (inl r))))
+
+-- ---- tokens at which a limit can be exceeded
 
 -- a limit can be exceeded at a token of this kind
 head-limited : (kind : Kind) (ts : List Tok) → HeadIs kind ts → is_limited kind ≡ true → is_limited (head_kind ts) ≡ true
@@ -108,10 +146,36 @@ opens-not s t m r = head s.tokens r.0
     head : (ts : List Tok) → ts ≡ t ∷ m.tokens → is_open (head_kind ts) ≡ true
     head ts e = subst (λ (v : List Tok). is_open (head_kind v) ≡ true) (sym e) (subst (λ (v : Kind). is_open v ≡ true) (sym r.1) (same-kind k.Open))
 
+-- where a level may open, a negation's operand goes on, a formula in brackets, and a term in them
+free-not : (t : Tok) → t.kind ≡ k.Not → Free (λ d. kinds d k.Not) 1 (t ∷ [])
+free-not t is =
+    free-then (λ d. One k.Not) (λ sign d. grammar.◌>>=◌ (deeper IsNode d) (λ operand. Is (FormulaForm.negation sign.place operand))) 1 (t ∷ []) (free-one k.Not 1 t is) (λ sign.
+    free-then (deeper IsNode) (λ operand d. Is (FormulaForm.negation sign.place operand)) 1 [] (readable-deeper IsNode 0 (readable-node 0))
+    (λ operand. readable-is (FormulaForm.negation sign.place operand) 1))
+
+free-bracket : (t : Tok) → t.kind ≡ k.Open → Free (λ d. kinds d k.Open) 1 (t ∷ [])
+free-bracket t is =
+    free-then (λ d. One k.Open) (λ open_bracket d. grammar.◌>>=◌ (deeper IsFormula d) (λ inner. grammar.◌>>=◌ (One k.Close) (λ close_bracket. Is inner))) 1 (t ∷ []) (free-one k.Open 1 t is) (λ open_bracket.
+    free-then (deeper IsFormula) (λ inner d. grammar.◌>>=◌ (One k.Close) (λ close_bracket. Is inner)) 1 [] (readable-deeper IsFormula 0 (readable-formula 0)) (λ inner.
+    free-then (λ d. One k.Close) (λ close_bracket d. Is inner) 1 [] (readable-one k.Close 1) (λ close_bracket. readable-is inner 1)))
+
+free-term : (word : Tok) (t : Tok) → t.kind ≡ k.Open → Free (in_brackets word) 1 (t ∷ [])
+free-term word t is =
+    free-then (λ d. One k.Open) (λ open_bracket d. grammar.◌>>=◌ (deeper IsTerm d) (λ x. grammar.◌>>=◌ (One k.Close) (λ close_bracket. Is (FormulaForm.val word.place x)))) 1 (t ∷ [])
+    (free-one k.Open 1 t is) (λ open_bracket.
+    free-then (deeper IsTerm) (λ x d. grammar.◌>>=◌ (One k.Close) (λ close_bracket. Is (FormulaForm.val word.place x))) 1 [] (readable-deeper IsTerm 0 (readable-term 0)) (λ x.
+    free-then (λ d. One k.Close) (λ close_bracket d. Is (FormulaForm.val word.place x)) 1 [] (readable-one k.Close 1) (λ close_bracket. readable-is (FormulaForm.val word.place x) 1)))
+
+readable-term-in : (word : Tok) → Readable (in_brackets word) 1
+readable-term-in word = readable-free (in_brackets word) 1 (some-token k.Open ∷ []) (free-term word (some-token k.Open) refl)
+
 -- no bracket may open
 opening-last : (word : Tok) (q : Tok → Step FormulaForm) → Correct Always (step.◌>>=◌ (opening (refuse Limit)) q) (in_brackets word) never 0
 unfolding opening
-opening-last word q s end u = go s.tokens s.operators end
+opening-last word q = record {
+  answers = λ s end u. go s.tokens s.operators end;
+  some = readable-term-in word;
+}
   where
     differs : (t u : Tok) (tail : List Tok) (n : ℕ) (m : State) → u.kind ≡ t.kind → is_open t.kind ≡ false → (y : Tok) → One k.Open (st (u ∷ tail) n) y m → ⊥
     differs t u tail n m head other y r =
@@ -121,24 +185,31 @@ opening-last word q s end u = go s.tokens s.operators end
         → Answers (in_brackets word) never 0 (st (t ∷ ts) n) (and_then (cond b (refuse Limit (st (t ∷ ts) n)) (refuse Unexpected (st (t ∷ ts) n))) q)
     at t ts n true same e =
         refused-here (in_brackets word) never 0 (st (t ∷ ts) n) Limit e (λ x. ap is_limited (kind-same t.kind k.Open same)) (λ d m v tail y w head within r over. no-level-val word d (st (v ∷ tail) m) y w within.0 r)
+        (λ v is. goes-free (in_brackets word) 1 (suc n) (v ∷ []) (free-term word v (is ∙ kind-same t.kind k.Open same)))
     at t ts n false other e =
         refused-here (in_brackets word) never 0 (st (t ∷ ts) n) Unexpected e (λ x. absurd (unlike x)) (λ d m v tail y w head within r over. differs t v tail m r.1 head other r.0 r.2)
+        (λ v is. goes-free (in_brackets word) 1 (suc n) [] (readable-term-in word))
 
     go : (ts : List Tok) (n : ℕ) → ends ts ≡ true → Answers (in_brackets word) never 0 (st ts n) (step.◌>>=◌ (opening (refuse Limit)) q (st ts n))
     go [] n e = cc
     go (t ∷ ts) n e = at t ts n (is_open t.kind) refl e
 
-at-last : (kind : Kind) → Correct (HeadIs kind) (begun (refuse Limit) (refuse Limit) (refuse Limit) (refuse Limit) (expressions.instance 0) kind) (λ d. kinds d kind) node_goes 0
-at-last k.Not = λ s end h. refused-here (λ d. kinds d k.Not) node_goes 0 s Limit end (λ q. head-limited k.Not s.tokens h refl) (λ d n t tail y w head within r over. no-level-not d n (st (t ∷ tail) n) y w within.0 r)
-at-last k.Open = λ s end h. refused-here (λ d. kinds d k.Open) node_goes 0 s Limit end (λ q. head-limited k.Open s.tokens h refl) (λ d n t tail y w head within r over. no-level-open d n (st (t ∷ tail) n) y w within.0 r)
-at-last k.True = leaf k.True (λ t. FormulaForm.constant t.place true) 0 refl
-at-last k.False = leaf k.False (λ t. FormulaForm.constant t.place false) 0 refl
-at-last k.Val =
+valued-last : Correct (HeadIs k.Val) (begun (refuse Limit) (refuse Limit) (refuse Limit) (refuse Limit) (expressions.instance 0) k.Val) (λ d. kinds d k.Val) node_goes 0
+valued-last =
     closed-correct (HeadIs k.Val) _ (λ d. kinds d k.Val) 0
     (then-plain (λ d. One k.Val) in_brackets never 0 (HeadIs k.Val) take_token _ (take-correct k.Val 0 refl)
     (λ word. opening-last word (λ open_bracket. step.◌>>=◌ (refuse Limit) (λ x. step.◌>>=◌ (expect k.Close) (λ close_bracket. pure (FormulaForm.val word.place x))))))
-at-last k.Name = instances 0
-at-last kind = nothing-correct kind node_goes 0
+
+at-last : (kind : Kind) → Answering (HeadIs kind) (begun (refuse Limit) (refuse Limit) (refuse Limit) (refuse Limit) (expressions.instance 0) kind) (λ d. kinds d kind) node_goes 0 ⊎ Nowhere (begun (refuse Limit) (refuse Limit) (refuse Limit) (refuse Limit) (expressions.instance 0) kind) (λ d. kinds d kind)
+at-last k.Not = inl (λ s end h. refused-here (λ d. kinds d k.Not) node_goes 0 s Limit end (λ q. head-limited k.Not s.tokens h refl) (λ d n t tail y w head within r over. no-level-not d n (st (t ∷ tail) n) y w within.0 r)
+    (λ t is. goes-free (λ d. kinds d k.Not) 1 (suc s.operators) (t ∷ []) (free-not t (is ∙ head-kind-is k.Not s.tokens h))))
+at-last k.Open = inl (λ s end h. refused-here (λ d. kinds d k.Open) node_goes 0 s Limit end (λ q. head-limited k.Open s.tokens h refl) (λ d n t tail y w head within r over. no-level-open d n (st (t ∷ tail) n) y w within.0 r)
+    (λ t is. goes-free (λ d. kinds d k.Open) 1 (suc s.operators) (t ∷ []) (free-bracket t (is ∙ head-kind-is k.Open s.tokens h))))
+at-last k.True = inl (leaf k.True (λ t. FormulaForm.constant t.place true) 0 refl).answers
+at-last k.False = inl (leaf k.False (λ t. FormulaForm.constant t.place false) 0 refl).answers
+at-last k.Val = inl valued-last.answers
+at-last k.Name = inl (instances 0).answers
+at-last kind = inr nothing-correct
 
 -- ---- where a level may open
 
@@ -176,53 +247,48 @@ module _ (depth : ℕ) (right-node : Correct Always (node depth) IsNode node_goe
       then-correct (deeper IsTerm) (λ x d. grammar.◌>>=◌ (One k.Close) (λ close_bracket. Is (FormulaForm.val word.place x))) term_goes never (suc depth)
       (λ d x m y z r over. term-closes m.tokens r.1.tokens r.0 r.2.0 r.2.1) Always (data_term depth) _ inner-term (λ x. closing term_goes (FormulaForm.val word.place x)))
 
-  at-each : (kind : Kind) → Correct (HeadIs kind) (begun take_token (node depth) (formula depth) (data_term depth) (expressions.instance (suc depth)) kind) (λ d. kinds d kind) node_goes (suc depth)
-  at-each k.Not =
+  negated : Correct (HeadIs k.Not) (begun take_token (node depth) (formula depth) (data_term depth) (expressions.instance (suc depth)) k.Not) (λ d. kinds d k.Not) node_goes (suc depth)
+  negated =
       then-plain (λ d. One k.Not) (λ sign d. grammar.◌>>=◌ (deeper IsNode d) (λ operand. Is (FormulaForm.negation sign.place operand))) node_goes (suc depth)
       (HeadIs k.Not) take_token (λ sign. step.◌>>=◌ (node depth) (λ operand. pure (FormulaForm.negation sign.place operand))) (take-correct k.Not (suc depth) refl)
       (λ sign. said-correct (deeper IsNode) (λ operand. FormulaForm.negation sign.place operand) node_goes (suc depth) Always (node depth) inner-node)
-  at-each k.Open =
+
+  bracketed : Correct (HeadIs k.Open) (begun take_token (node depth) (formula depth) (data_term depth) (expressions.instance (suc depth)) k.Open) (λ d. kinds d k.Open) node_goes (suc depth)
+  bracketed =
       closed-correct (HeadIs k.Open) _ (λ d. kinds d k.Open) (suc depth)
       (then-plain (λ d. One k.Open) (λ open_bracket d. grammar.◌>>=◌ (deeper IsFormula d) (λ inner. grammar.◌>>=◌ (One k.Close) (λ close_bracket. Is inner))) never (suc depth)
       (HeadIs k.Open) take_token (λ open_bracket. step.◌>>=◌ (formula depth) (λ inner. step.◌>>=◌ (expect k.Close) (λ close_bracket. pure inner))) (take-correct k.Open (suc depth) refl)
       (λ open_bracket. then-correct (deeper IsFormula) (λ inner d. grammar.◌>>=◌ (One k.Close) (λ close_bracket. Is inner)) formula_goes never (suc depth)
       (λ d x m y z r over. closes m.tokens r.1.tokens r.0 r.2.0 r.2.1) Always (formula depth) _ inner-formula (λ inner. closing formula_goes inner)))
-  at-each k.True = leaf k.True (λ t. FormulaForm.constant t.place true) (suc depth) refl
-  at-each k.False = leaf k.False (λ t. FormulaForm.constant t.place false) (suc depth) refl
-  at-each k.Val =
+
+  valued : Correct (HeadIs k.Val) (begun take_token (node depth) (formula depth) (data_term depth) (expressions.instance (suc depth)) k.Val) (λ d. kinds d k.Val) node_goes (suc depth)
+  valued =
       closed-correct (HeadIs k.Val) _ (λ d. kinds d k.Val) (suc depth)
       (then-plain (λ d. One k.Val) in_brackets never (suc depth) (HeadIs k.Val) take_token _ (take-correct k.Val (suc depth) refl) open-correct)
-  at-each k.Name = instances (suc depth)
-  at-each kind = nothing-correct kind node_goes (suc depth)
+
+  at-each : (kind : Kind) → Answering (HeadIs kind) (begun take_token (node depth) (formula depth) (data_term depth) (expressions.instance (suc depth)) kind) (λ d. kinds d kind) node_goes (suc depth) ⊎ Nowhere (begun take_token (node depth) (formula depth) (data_term depth) (expressions.instance (suc depth)) kind) (λ d. kinds d kind)
+  at-each k.Not = inl negated.answers
+  at-each k.Open = inl bracketed.answers
+  at-each k.True = inl (leaf k.True (λ t. FormulaForm.constant t.place true) (suc depth) refl).answers
+  at-each k.False = inl (leaf k.False (λ t. FormulaForm.constant t.place false) (suc depth) refl).answers
+  at-each k.Val = inl valued.answers
+  at-each k.Name = inl (instances (suc depth)).answers
+  at-each kind = inr nothing-correct
 
 node-last : Correct Always (node 0) IsNode node_goes 0
 unfolding node
 node-last =
     alike-correct Always (node 0) (λ d. First (kinds d)) IsNode node_goes 0 to-node from-node
-    (first-correct kinds node_goes 0 (λ d kind. starts (deeper IsNode d) (deeper IsFormula d) (deeper IsTerm d) kind) (begun (refuse Limit) (refuse Limit) (refuse Limit) (refuse Limit) (expressions.instance 0)) at-last)
+    (first-correct kinds node_goes 0 (λ d kind. starts (deeper IsNode d) (deeper IsFormula d) (deeper IsTerm d) kind) (begun (refuse Limit) (refuse Limit) (refuse Limit) (refuse Limit) (expressions.instance 0)) at-last k.True (readable-true 1))
 
 node-over : (depth : ℕ) → Correct Always (node depth) IsNode node_goes depth → Correct Always (formula depth) IsFormula formula_goes depth → Correct Always (node (suc depth)) IsNode node_goes (suc depth)
 unfolding node
 node-over depth n f =
     alike-correct Always (node (suc depth)) (λ d. First (kinds d)) IsNode node_goes (suc depth) to-node from-node
     (first-correct kinds node_goes (suc depth) (λ d kind. starts (deeper IsNode d) (deeper IsFormula d) (deeper IsTerm d) kind)
-    (begun take_token (node depth) (formula depth) (data_term depth) (expressions.instance (suc depth))) (at-each depth n f))
+    (begun take_token (node depth) (formula depth) (data_term depth) (expressions.instance (suc depth))) (at-each depth n f) k.True (readable-true (suc (suc depth))))
 
 -- ---- the connectives
-
-abbrev quantifieds : Family FormulaForm
-quantifieds d = Quantified FormulaForm.quantified (deeper IsFormula d)
-
-abbrev connecteds : Family FormulaForm
-connecteds d = Connected (connected_by FormulaForm.connected) (IsNode d) (quantifieds d)
-
-to-formula : (d : ℕ) (s : State) (y : FormulaForm) (z : State) → connecteds d s y z → IsFormula d s y z
-to-formula zero s y z r = r
-to-formula (suc d) s y z r = r
-
-from-formula : (d : ℕ) (s : State) (y : FormulaForm) (z : State) → IsFormula d s y z → connecteds d s y z
-from-formula zero s y z r = r
-from-formula (suc d) s y z r = r
 
 -- a node begins with no quantifier, and a quantified formula with one
 node-starts : (d : ℕ) (s : State) (y : FormulaForm) (z : State) → IsNode d s y z → Passes (Not is_quantifier) s.tokens
@@ -257,7 +323,7 @@ below : IsBelow node_goes
 unfolding same_kind
 below = record { conjunction = refl; disjunction = refl; implication = refl }
 
-connections-correct : (depth : ℕ) (n q : Step FormulaForm) → Correct Always n IsNode node_goes depth → Correct (Passes is_quantifier) q quantifieds formula_goes depth
+connections-correct : (depth : ℕ) (n q : Step FormulaForm) → Correct Always n IsNode node_goes depth → Answering (Passes is_quantifier) q quantifieds formula_goes depth
     → Correct Always (connected (connected_by FormulaForm.connected) is_quantifier n q) IsFormula formula_goes depth
 connections-correct depth n q right-n right-q =
     alike-correct Always (connected (connected_by FormulaForm.connected) is_quantifier n q) connecteds IsFormula formula_goes depth to-formula from-formula
@@ -270,14 +336,14 @@ pub record AreCorrect (depth : ℕ) : Type 0 where
 
 formulas-last : Correct Always (formula 0) IsFormula formula_goes 0
 unfolding node formula
-formulas-last = connections-correct 0 (node 0) (expressions.quantified FormulaForm.quantified (refuse Limit) (refuse Limit)) node-last (quantified-last FormulaForm.quantified IsFormula formula_goes (refuse Limit))
+formulas-last = connections-correct 0 (node 0) (expressions.quantified FormulaForm.quantified (refuse Limit) (refuse Limit)) node-last (quantified-last FormulaForm.quantified IsFormula formula_goes (readable-formula 0) (refuse Limit)).answers
 
 formulas-over : (depth : ℕ) → Correct Always (node (suc depth)) IsNode node_goes (suc depth) → Correct Always (formula depth) IsFormula formula_goes depth
     → Correct Always (formula (suc depth)) IsFormula formula_goes (suc depth)
 unfolding node formula
 formulas-over depth n f =
     connections-correct (suc depth) (node (suc depth)) (expressions.quantified FormulaForm.quantified take_token (formula depth)) n
-    (quantified-correct FormulaForm.quantified IsFormula formula_goes depth (formula depth) f)
+    (quantified-correct FormulaForm.quantified IsFormula formula_goes depth (formula depth) f).answers
 
 pub formulas-correct : (depth : ℕ) → AreCorrect depth
 formulas-correct zero = record { nodes = node-last; formulas = formulas-last }

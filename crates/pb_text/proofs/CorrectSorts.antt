@@ -1,5 +1,5 @@
 -- Declarations of sorts are read rightly.
-use Rattle.std.proofs.Common.{◌≡◌, ℕ, suc, ◌<◌, Bool, true, false, List, [], ◌∷◌, ◌++◌, length, refl, sym, subst, arith, Some, None}
+use Rattle.std.proofs.Common.{◌≡◌, ℕ, suc, ◌<◌, Bool, true, false, List, [], ◌∷◌, ◌++◌, length, refl, sym, subst, arith, Some, None, ◌⊎◌, inl, inr}
 use Rattle.pb_text_tree.specs.Form.{EnumeratorForm, SortForm, SortDeclarationForm, struct, alias}
 use Rattle.pb_text_lexer.specs.declared.kind.Kind.{Kind}
 use Rattle.pb_text_lexer.specs.declared.kind.Kind.TheVariants as k
@@ -7,12 +7,13 @@ use Rattle.pb_text_lexer.specs.Kinds.{same_kind, is_last}
 use Rattle.pb_text_lexer.specs.Grammar.{State, Reads, Is, Nothing, One, First, Series, last, more}
 use Rattle.pb_text_lexer.specs.Grammar as grammar
 use Rattle.pb_text_lexer.specs.LeftGrammar.{Listed}
-use Rattle.pb_text_lexer.specs.Steps.{Step, pure, take_token, expect, refuse, unless_next, nothing_between}
+use Rattle.pb_text_lexer.specs.Steps.{ends, Step, pure, take_token, expect, refuse, unless_next, nothing_between}
 use Rattle.pb_text_lexer.specs.Steps as step
 use Rattle.pb_text_lexer.specs.Tokens.{Tok}
 use Rattle.pb_text_lexer.proofs.TokenLemmas.{kind-same, same-kind}
-use Rattle.pb_text_lexer.proofs.Correct.{st, Family, Stops, never, Took, Correct, then-correct, pure-correct, HeadIs, take-correct, expect-correct, first-correct, weaker-correct}
-use Rattle.pb_text_lexer.proofs.CorrectSeries.{going, Passes, head-at, passes-at, shorter, no-longer, series-correct}
+use Rattle.pb_text_lexer.proofs.Correct.{st, Family, Stops, never, Took, Answers, Answering, Correct, then-correct, pure-correct, HeadIs, take-correct, expect-correct}
+use Rattle.pb_text_lexer.proofs.CorrectFamilies.{Nowhere, first-correct, weaker-correct}
+use Rattle.pb_text_lexer.proofs.CorrectSeries.{going, Passes, head-at, passes-at, shorter, no-longer, readable-series, series-correct}
 use Rattle.pb_text_lexer.proofs.CorrectPlain.{Always, anywhere, then-plain, is-correct, nothing-correct}
 use Rattle.pb_text_lexer.proofs.CorrectLeft.{unless_next-correct, extended-correct}
 use Rattle.pb_text_terms.specs.Grammar.{Name}
@@ -49,18 +50,26 @@ module _ {X : Type 0} (item : Family X) (g test : Kind → Bool) (depth : ℕ) (
   many-start end join d s y z (last {z = m} {x = x} r) = starts d s x m r
   many-start end join d s y z (more {m = m} {x = x} r op rest) = starts d s x m r
 
-  pub many-correct : {Y : Type 0} (end : X → Y) (join : X → Unit {0} → Y → Y) (p : Step X) → Correct Always p item g depth
-      → Correct Always (λ s. step.series p test nothing_between end join (suc (length s.tokens)) s) (λ d. Series (item d) (Is {X = Unit {0}} tt) end join) (going g test) depth
-  many-correct end join p right s ended u =
+  many-answers : {Y : Type 0} (end : X → Y) (join : X → Unit {0} → Y → Y) (p : Step X) → Correct Always p item g depth → (s : State) → ends s.tokens ≡ true
+      → Answers (λ d. Series (item d) (Is {X = Unit {0}} tt) end join) (going g test) depth s (step.series p test nothing_between end join (suc (length s.tokens)) s)
+  many-answers end join p right s ended =
       series-correct item (λ d. Is {X = Unit {0}} tt) end join g test depth apart
       (λ d m t o y z between rest. subst (λ (v : State). Passes test v.tokens) between.1 (many-start end join d o y z rest))
-      p right nothing_between (anywhere (Passes test) nothing_between (λ d. Is {X = Unit {0}} tt) never depth (is-correct tt depth))
+      p right.answers nothing_between (anywhere (Passes test) nothing_between (λ d. Is {X = Unit {0}} tt) never depth (is-correct tt depth)).answers
+      (λ m bad is. right.some)
       (λ s0 s1 s2 x t a b. fewer s0 s1 s2 x t a b) (suc (length s.tokens)) s (omega arith) ended
     where
       fewer : (s0 s1 s2 : State) (x : X) (t : Unit {0}) → Took item g depth s0 x s1 → Took (λ d. Is {X = Unit {0}} tt) never depth s1 t s2 → length s2.tokens < length s0.tokens
       fewer s0 s1 s2 x t a b =
           let p = some-taken test s0.tokens a.front s1.tokens a.tokens (starts depth (st (a.front ++ []) s0.operators) x (st [] s1.operators) (a.reads [])) in
           let q = no-longer s1.tokens b.front s2.tokens b.tokens in omega arith
+
+  pub many-correct : {Y : Type 0} (end : X → Y) (join : X → Unit {0} → Y → Y) (p : Step X) → Correct Always p item g depth
+      → Correct Always (λ s. step.series p test nothing_between end join (suc (length s.tokens)) s) (λ d. Series (item d) (Is {X = Unit {0}} tt) end join) (going g test) depth
+  many-correct end join p right = record {
+    answers = λ s ended u. many-answers end join p right s ended;
+    some = readable-series item (λ d. Is {X = Unit {0}} tt) end join (suc depth) right.some;
+  }
 
 -- ---- enumerators
 
@@ -90,18 +99,22 @@ enumerator-correct : (depth : ℕ) → Correct Always enumerator (λ d. Enumerat
 unfolding enumerator
 enumerator-correct depth =
     extended-correct (λ d. Plain) (λ x d. Recognised x) never is_question depth (λ k h. refl) recognised-starts
-    Always plain (plain-correct depth) recognised (recognised-correct depth)
+    Always plain (plain-correct depth) recognised (λ x. (recognised-correct depth x).answers)
 
 bar-apart : (kind : Kind) → is_bar kind ≡ true → going never is_question kind ≡ false
 unfolding same_kind
 bar-apart kind h = subst (λ (v : Kind). going never is_question v ≡ false) (sym (kind-same kind k.Bar h)) refl
 
 enumerators-correct : (depth : ℕ) → Correct Always enumerators (λ d. Listed Enumerator (One k.Bar)) (going (going never is_question) is_bar) depth
-enumerators-correct depth s ended u =
-    series-correct (λ d. Enumerator) (λ d. One k.Bar) (λ x. x ∷ []) (λ x t xs. x ∷ xs) (going never is_question) is_bar depth bar-apart
-    (λ d m t o y z between rest. passes-kind k.Bar m.tokens o.tokens t between.0 between.1)
-    enumerator (enumerator-correct depth) take_token (weaker-correct (HeadIs k.Bar) (Passes is_bar) take_token (λ d. One k.Bar) never depth (head-of k.Bar) (take-correct k.Bar depth refl))
-    (λ s0 s1 s2 x t a b. less s0.tokens s1.tokens s2.tokens a.front b.front t a.tokens b.tokens (b.reads []).0) (suc (length s.tokens)) s (omega arith) ended
+enumerators-correct depth = record {
+  answers = λ s ended u.
+      series-correct (λ d. Enumerator) (λ d. One k.Bar) (λ x. x ∷ []) (λ x t xs. x ∷ xs) (going never is_question) is_bar depth bar-apart
+      (λ d m t o y z between rest. passes-kind k.Bar m.tokens o.tokens t between.0 between.1)
+      enumerator (enumerator-correct depth).answers take_token (weaker-correct (HeadIs k.Bar) (Passes is_bar) take_token (λ d. One k.Bar) never depth (head-of k.Bar) (take-correct k.Bar depth refl)).answers
+      (λ m bad is. (enumerator-correct depth).some)
+      (λ s0 s1 s2 x t a b. less s0.tokens s1.tokens s2.tokens a.front b.front t a.tokens b.tokens (b.reads []).0) (suc (length s.tokens)) s (omega arith) ended;
+  some = readable-series (λ d. Enumerator) (λ d. One k.Bar) (λ x. x ∷ []) (λ x t xs. x ∷ xs) (suc depth) (enumerator-correct depth).some;
+}
   where
     less : (ts us vs front behind_front : List Tok) (t : Tok) → ts ≡ front ++ us → us ≡ behind_front ++ vs → behind_front ++ [] ≡ t ∷ [] → length vs < length ts
     less ts us vs front behind_front t p q r =
@@ -127,21 +140,27 @@ pub token-correct : {X : Type 0} (kind : Kind) (depth : ℕ) (x : X) → is_last
 token-correct kind depth x ne =
     then-plain (λ d. One kind) (λ t d. Is x) never depth Always (expect kind) (λ t. pure x) (expect-correct kind depth ne) (λ t. is-correct x depth)
 
-at-sort : (depth : ℕ) (kind : Kind) → Correct (HeadIs kind) (sort_by kind) (λ d. SortBy kind) never depth
-at-sort depth k.Struct =
+struct-correct : (depth : ℕ) → Correct (HeadIs k.Struct) (sort_by k.Struct) (λ d. SortBy k.Struct) never depth
+struct-correct depth =
     then-plain (λ d. One k.Struct) (λ word d. grammar.◌>>=◌ (Listed Enumerator (One k.Bar)) (λ found. grammar.◌>>=◌ (One k.Semicolon) (λ semicolon. Is (struct found)))) never depth
     (HeadIs k.Struct) take_token _ (take-correct k.Struct depth refl) (λ word.
     then-correct (λ d. Listed Enumerator (One k.Bar)) (λ found d. grammar.◌>>=◌ (One k.Semicolon) (λ semicolon. Is (struct found))) struct_goes never depth
     (λ d x m y z r over. other-stops struct_goes k.Semicolon m.tokens r.1.tokens r.0 semicolon-off r.2.0 r.2.1) Always enumerators _ (enumerators-correct depth)
     (λ found. anywhere (Stops struct_goes) _ _ never depth (token-correct k.Semicolon depth (struct found) refl)))
-at-sort depth k.Name =
+
+alias-correct : (depth : ℕ) → Correct (HeadIs k.Name) (sort_by k.Name) (λ d. SortBy k.Name) never depth
+alias-correct depth =
     then-plain (λ d. Name) (λ target d. grammar.◌>>=◌ (One k.Semicolon) (λ semicolon. Is (alias target))) never depth
     (HeadIs k.Name) name _ (anywhere (HeadIs k.Name) name (λ d. Name) never depth (name-correct depth)) (λ target. token-correct k.Semicolon depth (alias target) refl)
-at-sort depth kind = nothing-correct kind never depth
+
+at-sort : (depth : ℕ) (kind : Kind) → Answering (HeadIs kind) (sort_by kind) (λ d. SortBy kind) never depth ⊎ Nowhere (sort_by kind) (λ d. SortBy kind)
+at-sort depth k.Struct = inl (struct-correct depth).answers
+at-sort depth k.Name = inl (alias-correct depth).answers
+at-sort depth kind = inr nothing-correct
 
 sort-correct : (depth : ℕ) → Correct Always sort (λ d. First SortBy) never depth
 unfolding sort
-sort-correct depth = first-correct (λ d. SortBy) never depth (λ d. sort-starts) sort_by (at-sort depth)
+sort-correct depth = first-correct (λ d. SortBy) never depth (λ d. sort-starts) sort_by (at-sort depth) k.Name (alias-correct depth).some
 
 declaration-correct : (depth : ℕ) → Correct Always declaration (λ d. SortDecl) never depth
 unfolding declaration
@@ -190,4 +209,4 @@ sort_parts-correct depth =
     extended-correct (λ d. Is []) (λ none d. some_parts d) (going never is_name) is_sort depth sort-apart
     (λ d none s y z r. many-start (λ d. SortPart) (going never is_name) is_sort depth sort-apart part-starts (λ sorts. sorts) (λ sorts u rest. sorts ++ rest) d s y z r)
     Always (unless_next is_name (pure [])) (unless_next-correct (λ d. Is []) never is_name depth Always (pure []) (is-correct [] depth))
-    (λ none. some_sort_parts) (λ none. anywhere (Passes is_sort) some_sort_parts some_parts parts_go depth (some-parts-correct depth))
+    (λ none. some_sort_parts) (λ none. (anywhere (Passes is_sort) some_sort_parts some_parts parts_go depth (some-parts-correct depth)).answers)

@@ -1,5 +1,5 @@
 -- Equations and whole texts are read rightly.
-use Rattle.std.proofs.Common.{◌≡◌, ℕ, zero, suc, ◌≤◌, Bool, true, false, cond, List, [], ◌∷◌, ◌++◌, refl, sym, ◌∙◌, ap, subst, arith, Ok, Err}
+use Rattle.std.proofs.Common.{◌≡◌, ℕ, zero, suc, ◌≤◌, Bool, true, false, cond, List, [], ◌∷◌, ◌++◌, refl, sym, ◌∙◌, ap, subst, append_assoc, arith, Ok, Err, ◌⊎◌, inl, inr}
 use Rattle.pb_fixpoint.specs.declared.Sign.{Sign}
 use Rattle.pb_fixpoint.specs.declared.Sign.TheVariants as sign
 use Rattle.pb_text_tree.specs.Form.{VariableForm, InstanceForm, RangeForm, EquationForm, SpecForm}
@@ -9,23 +9,25 @@ use Rattle.pb_text_lexer.specs.declared.fault.Refusal.{Refusal}
 use Rattle.pb_text_lexer.specs.declared.kind.Kind.{Kind}
 use Rattle.pb_text_lexer.specs.declared.kind.Kind.TheVariants as k
 use Rattle.pb_text_lexer.specs.Kinds.{same_kind, is_last, is_limited}
-use Rattle.pb_text_lexer.specs.Grammar.{State, Within, Reads, Is, Nothing, One, First, Series, Own}
+use Rattle.pb_text_lexer.specs.Grammar.{State, Within, going_on, Reads, Is, Nothing, One, First, Series, Own}
 use Rattle.pb_text_lexer.specs.Grammar as grammar
 use Rattle.pb_text_lexer.specs.LeftGrammar.{Extended}
 use Rattle.pb_text_lexer.specs.Steps.{ends, Step, Outcome, and_then, pure, take_token, expect, refuse, refusal, kind, head_kind, alone, unless_next, nothing_between}
 use Rattle.pb_text_lexer.specs.Steps as step
 use Rattle.pb_text_lexer.specs.Tokens.{Tok}
 use Rattle.pb_text_lexer.proofs.TokenLemmas.{kind-same, same-kind}
-use Rattle.pb_text_lexer.proofs.Correct.{st, Family, Stops, never, stops-never, Took, Answers, Correct, move, then-correct, HeadIs, take-correct, expect-correct, refused-here, unlike, first-correct, weaker-correct, deeper, deeper-correct, alike-correct, own-correct}
+use Rattle.pb_text_lexer.proofs.Correct.{st, Family, Stops, never, stops-never, GoesOn, goes-ended, readable-is, readable-one, some-token, Took, Answers, Answering, Correct, move, then-correct, HeadIs, take-correct, expect-correct, refused-here, unlike, Free, Readable, goes-free, readable-free, free-to, free-then, free-one}
+use Rattle.pb_text_lexer.proofs.CorrectFamilies.{Nowhere, first-correct, weaker-correct, deeper, deeper-correct, alike-correct, own-correct}
 use Rattle.pb_text_lexer.proofs.CorrectSeries.{going, Passes, head-at}
 use Rattle.pb_text_lexer.proofs.CorrectPlain.{Always, anywhere, then-plain, is-correct, nothing-correct}
-use Rattle.pb_text_lexer.proofs.CorrectLeft.{unless_next-correct, extended-correct}
+use Rattle.pb_text_lexer.proofs.CorrectLeft.{unless_next-answers, extended-correct}
 use Rattle.pb_text_terms.specs.Grammar.{Name, Variables, Instance, IsTerm}
 use Rattle.pb_text_terms.specs.Reading.{name, variables, is_open, is_comma}
 use Rattle.pb_text_terms.specs.Reading as expressions
 use Rattle.pb_text.specs.Grammar.{IsFormula, SortParts, SignOf, Declared, IsEquation, Equations, IsInitial, IsSpec, IsText}
+use Rattle.pb_text.specs.Parsing.{BeginsText}
 use Rattle.pb_text.specs.Reading.{level, sign_by, sign_of, declared, parameters, right_side, equation, begins_equation, equations, initial_instance, sort_parts, text, whole_text}
-use Rattle.pb_text_terms.proofs.CorrectVariable.{name-correct, variables-correct}
+use Rattle.pb_text_terms.proofs.CorrectVariable.{head-kind-is, name-correct, variables-correct}
 use Rattle.pb_text_terms.proofs.CorrectTerm.{instance-correct}
 use Rattle.pb_text.proofs.CorrectFormula.{node_goes, formula_goes, formulas-correct}
 use Rattle.pb_text.proofs.CorrectSorts.{passes-kind, head-of, other-stops, token-correct, many-correct, parts_go, sort_parts-correct}
@@ -40,6 +42,7 @@ pub record IsFault (depth operators : ℕ) (tokens : List Tok) (bad : Refusal) :
   pub place : bad.place ≡ next.place
   pub limited : bad.rule ≡ Limit → is_limited next.kind ≡ true
   pub none : (d n : ℕ) (tail : List Tok) (ranges : List RangeForm) (y : SpecForm) → Within bad.rule depth operators d n → IsText d n (front ++ next ∷ tail) ranges y → ⊥
+  pub goes_on : BeginsText (suc depth) (suc operators) (front ++ going_on bad.rule next)
 
 -- the tokens are this text, within the limits, and no other, within any
 pub record IsRead (depth operators : ℕ) (tokens : List Tok) (ranges : List RangeForm) (x : SpecForm) : Type 0 where
@@ -57,14 +60,20 @@ sign-starts k.Mu s y z r = head-at k.Mu s.tokens r.1.tokens r.0 r.2.0 r.2.1
 sign-starts k.Nu s y z r = head-at k.Nu s.tokens r.1.tokens r.0 r.2.0 r.2.1
 sign-starts _ s y z r = absurd r
 
-at-sign : (depth : ℕ) (kind : Kind) → Correct (HeadIs kind) (sign_by kind) (λ d. SignOf kind) never depth
-at-sign depth k.Mu = then-plain (λ d. One k.Mu) (λ t d. Is sign.Mu) never depth (HeadIs k.Mu) take_token (λ t. pure sign.Mu) (take-correct k.Mu depth refl) (λ t. is-correct sign.Mu depth)
-at-sign depth k.Nu = then-plain (λ d. One k.Nu) (λ t d. Is sign.Nu) never depth (HeadIs k.Nu) take_token (λ t. pure sign.Nu) (take-correct k.Nu depth refl) (λ t. is-correct sign.Nu depth)
-at-sign depth kind = nothing-correct kind never depth
+mu-correct : (depth : ℕ) → Correct (HeadIs k.Mu) (sign_by k.Mu) (λ d. SignOf k.Mu) never depth
+mu-correct depth = then-plain (λ d. One k.Mu) (λ t d. Is sign.Mu) never depth (HeadIs k.Mu) take_token (λ t. pure sign.Mu) (take-correct k.Mu depth refl) (λ t. is-correct sign.Mu depth)
+
+nu-correct : (depth : ℕ) → Correct (HeadIs k.Nu) (sign_by k.Nu) (λ d. SignOf k.Nu) never depth
+nu-correct depth = then-plain (λ d. One k.Nu) (λ t d. Is sign.Nu) never depth (HeadIs k.Nu) take_token (λ t. pure sign.Nu) (take-correct k.Nu depth refl) (λ t. is-correct sign.Nu depth)
+
+at-sign : (depth : ℕ) (kind : Kind) → Answering (HeadIs kind) (sign_by kind) (λ d. SignOf kind) never depth ⊎ Nowhere (sign_by kind) (λ d. SignOf kind)
+at-sign depth k.Mu = inl (mu-correct depth).answers
+at-sign depth k.Nu = inl (nu-correct depth).answers
+at-sign depth kind = inr nothing-correct
 
 sign-correct : (depth : ℕ) → Correct Always sign_of (λ d. First SignOf) never depth
 unfolding sign_of
-sign-correct depth = first-correct (λ d. SignOf) never depth (λ d. sign-starts) sign_by (at-sign depth)
+sign-correct depth = first-correct (λ d. SignOf) never depth (λ d. sign-starts) sign_by (at-sign depth) k.Mu (mu-correct depth).some
 
 -- ---- parameters
 
@@ -91,12 +100,24 @@ no-level : (d : ℕ) (s : State) (y : List VariableForm) (z : State) → d ≤ 0
 no-level zero s y z le r = r
 no-level (suc d) s y z le r = omega arith
 
+-- where a level may open, variables in brackets go on
+some-variables : Readable (deeper (λ d. Variables)) 1
+some-variables = let c = (variables-correct 0).some in record { tail = c.tail; value = c.value; reads = c.reads }
+
+free-declared : (t : Tok) → t.kind ≡ k.Open → Free Declared 1 (t ∷ [])
+free-declared t is =
+    free-to in_brackets Declared (λ x. x) 1 1 (to-declared 1) (t ∷ [])
+    (free-then (λ d. One k.Open) (λ open_bracket d. grammar.◌>>=◌ (deeper (λ d. Variables) d) (λ found. grammar.◌>>=◌ (One k.Close) (λ close_bracket. Is found))) 1 (t ∷ []) (free-one k.Open 1 t is) (λ open_bracket.
+    free-then (deeper (λ d. Variables)) (λ found d. grammar.◌>>=◌ (One k.Close) (λ close_bracket. Is found)) 1 [] some-variables (λ found.
+    free-then (λ d. One k.Close) (λ close_bracket d. Is found) 1 [] (readable-one k.Close 1) (λ close_bracket. readable-is found 1))))
+
 declared-correct : (depth : ℕ) → Correct (HeadIs k.Open) (declared depth) Declared never depth
-declared-correct zero = λ s end h. refused-here Declared never 0 s Limit end (λ q. limited s.tokens h) (λ d n t tail y w head within r over. no-level d (st (t ∷ tail) n) y w within.0 r)
-  where
-    limited : (ts : List Tok) → HeadIs k.Open ts → is_limited (head_kind ts) ≡ true
-    limited [] h = absurd h
-    limited (t ∷ ts) h = ap is_limited h
+declared-correct zero = record {
+  answers = λ s end h.
+      refused-here Declared never 0 s Limit end (λ q. ap is_limited (head-kind-is k.Open s.tokens h)) (λ d n t tail y w head within r over. no-level d (st (t ∷ tail) n) y w within.0 r)
+      (λ t is. goes-free Declared 1 (suc s.operators) (t ∷ []) (free-declared t (is ∙ head-kind-is k.Open s.tokens h)));
+  some = readable-free Declared 1 (some-token k.Open ∷ []) (free-declared (some-token k.Open) refl);
+}
 declared-correct (suc depth) =
     alike-correct (HeadIs k.Open) (declared (suc depth)) in_brackets Declared never (suc depth) to-declared from-declared
     (then-plain (λ d. One k.Open) (λ open_bracket d. grammar.◌>>=◌ (deeper (λ d. Variables) d) (λ found. grammar.◌>>=◌ (One k.Close) (λ close_bracket. Is found))) never (suc depth)
@@ -114,8 +135,8 @@ unfolding parameters
 parameters-correct depth =
     extended-correct (λ d. Is []) (λ none d. Declared d) never is_open depth (λ kind h. refl) declared-starts Always (pure []) (is-correct [] depth)
     (λ none. unless_next is_open (declared depth))
-    (λ none. unless_next-correct Declared never is_open depth (Passes is_open) (declared depth)
-    (weaker-correct (HeadIs k.Open) (Passes is_open) (declared depth) Declared never depth (head-of k.Open) (declared-correct depth)))
+    (λ none. unless_next-answers Declared never is_open depth (Passes is_open) (declared depth)
+    (weaker-correct (HeadIs k.Open) (Passes is_open) (declared depth) Declared never depth (head-of k.Open) (declared-correct depth)).answers)
 
 -- ---- equations
 
@@ -243,7 +264,7 @@ with-ranges rs depth operators tokens x a = record {
 
 pub whole-reads : (ranges : List RangeForm) (depth : ℕ) (s : State) → ends s.tokens ≡ true → Reading ranges depth s (whole_text ranges depth s)
 unfolding whole_text
-whole-reads ranges depth s ended = at-text (text ranges depth s) (text-correct ranges depth s ended tt)
+whole-reads ranges depth s ended = at-text (text ranges depth s) ((text-correct ranges depth).answers s ended tt)
   where
     end-only : (ts : List Tok) → ends ts ≡ true → same_kind (step.head_kind ts) k.End ≡ true → (t : Tok) × (ts ≡ t ∷ []) × (t.kind ≡ k.End)
     end-only [] e same = cc
@@ -271,6 +292,20 @@ whole-reads ranges depth s ended = at-text (text ranges depth s) (text-correct r
           (move (IsSpec ranges d) s.tokens (a.front ++ t ∷ []) n n y (st (r.1 ∷ []) r.0) (a.tokens ∙ ap (λ v. a.front ++ v) is) refl r.2) (stops-never (r.1 ∷ []))).0;
     }
 
+    begins : (ts : List Tok) → GoesOn (IsSpec ranges) (suc depth) (suc s.operators) ts → BeginsText (suc depth) (suc s.operators) ts
+    begins ts a = record {
+      tail = a.tail ++ some-token k.End ∷ [];
+      ranges = ranges;
+      text = a.value;
+      says = (
+        a.left,
+        some-token k.End,
+        move (IsSpec ranges (suc depth)) ((ts ++ a.tail) ++ some-token k.End ∷ []) (ts ++ (a.tail ++ some-token k.End ∷ [])) (suc s.operators) (suc s.operators) a.value (st (some-token k.End ∷ []) a.left)
+            (append_assoc ts a.tail (some-token k.End ∷ [])) refl (a.reads (some-token k.End ∷ [])),
+        refl,
+      );
+    }
+
     not-end : (x : SpecForm) (z : State) → Took (IsSpec ranges) never depth s x z → (ts : List Tok) → z.tokens ≡ ts → ends ts ≡ true → same_kind (step.head_kind ts) k.End ≡ false
         → IsFault depth s.operators s.tokens (refusal Unexpected ts)
     not-end x z a [] is e other = cc
@@ -282,6 +317,7 @@ whole-reads ranges depth s ended = at-text (text ranges depth s) (text-correct r
       kind = refl;
       place = refl;
       limited = λ q. absurd (unlike q);
+      goes_on = begins (a.front ++ []) (goes-ended (IsSpec ranges) (suc depth) (suc s.operators) (suc z.operators) a.front x a.one_more);
       none = λ d n tail us y within r.
           let same = other-ranges ranges us d _ y _ r.2 in
           is-end t r.1 tail [] (a.only d n (t ∷ tail) (record y { ranges = ranges }) (st (r.1 ∷ []) r.0) (stops-never (t ∷ tail)) same (stops-never (r.1 ∷ []))).1 r.3 other;
@@ -303,6 +339,7 @@ whole-reads ranges depth s ended = at-text (text ranges depth s) (text-correct r
       kind = a.kind;
       place = a.place;
       limited = a.limited;
+      goes_on = begins (a.front ++ going_on bad.rule a.next) a.goes_on;
       none = λ d n tail us y within r.
           let same = other-ranges ranges us d _ y _ r.2 in a.none d n tail (record y { ranges = ranges }) (st (r.1 ∷ []) r.0) within same (stops-never (r.1 ∷ []));
     }

@@ -1,5 +1,6 @@
 -- From tokens to bytes.
-use Rattle.std.proofs.Common.{◌≡◌, ℕ, true, false, List, [], map, refl, sym, ◌∙◌, ap, subst, arith, Result, Ok, Err}
+use Rattle.std.proofs.Common.{◌≡◌, ℕ, true, false, List, [], ◌++◌, map, refl, sym, ◌∙◌, ap, subst, arith, Result, Ok, Err}
+use Rattle.std.proofs.lemmas.List.{append-nil}
 use Rattle.pb_text_tree.specs.declared.place.Place.{Place}
 use Rattle.pb_text_tree.specs.declared.spec.Spec.{Spec}
 use Rattle.pb_text_tree.specs.Form.{RangeForm, SpecForm, spec_form, range_form}
@@ -10,17 +11,17 @@ use Rattle.pb_text_lexer.specs.declared.fault.ReadingFault.{ReadingFault}
 use Rattle.pb_text_lexer.specs.declared.fault.ReadingFault.TheVariants.{Memory, At}
 use Rattle.pb_text_lexer.specs.declared.kind.Kind.{Kind}
 use Rattle.pb_text_lexer.specs.declared.kind.Kind.TheVariants.{Unknown, LargeNumber, RangeLine}
-use Rattle.pb_text_lexer.specs.Kinds.{is_defect}
+use Rattle.pb_text_lexer.specs.Kinds.{is_defect, is_limited}
 use Rattle.pb_text_lexer.specs.Lexing.{start, IsDefect}
 use Rattle.pb_text_lexer.specs.Remaining.{tokens_from, ranges_from}
-use Rattle.pb_text_lexer.specs.Grammar.{State, Within}
+use Rattle.pb_text_lexer.specs.Grammar.{State, Within, going_on}
 use Rattle.pb_text_lexer.specs.Steps.{Outcome, Gives}
 use Rattle.pb_text_lexer.specs.Tokens.{Tok}
 use Rattle.pb_text_lexer.proofs.Correct.{st}
 use Rattle.pb_text_lexer.proofs.CutLemmas.{same-cut, stands, whole-cut}
 use Rattle.pb_text_lexer.proofs.RemainingLemmas.{tokens-end}
 use Rattle.pb_text.specs.Grammar.{IsText}
-use Rattle.pb_text.specs.Parsing.{IsReading, IsReadingWithin, AtMostOneReading, IsRefusal, IsBroken, StandsBy, rule_of, NoReading, Stands, error_of}
+use Rattle.pb_text.specs.Parsing.{IsReading, IsReadingWithin, AtMostOneReading, BeginsNextText, IsRefusal, IsBroken, StandsBy, rule_of, NoReading, Stands, error_of}
 use Rattle.pb_text.specs.Reading.{whole_text}
 use Rattle.pb_text.proofs.CorrectText.{IsFault, IsRead, Reading, whole-reads, with-ranges}
 
@@ -73,6 +74,18 @@ by-kind bytes rule RangeLine place broken refused = broken refl
 by-kind bytes Unexpected _ place broken refused = refused refl
 by-kind bytes Limit _ place broken refused = refused refl
 
+-- what is no token exceeds no limit
+no-limit : (kind : Kind) → is_limited kind ≡ true → is_defect kind ≡ true → ⊥
+no-limit Unknown h e = cc
+no-limit LargeNumber h e = cc
+no-limit RangeLine h e = cc
+no-limit _ h e = cc
+
+before : (rule : ReadingRule) (front : List Tok) (next : Tok) → (rule ≡ Limit → is_limited next.kind ≡ true) → is_defect next.kind ≡ true
+    → BeginsNextText (front ++ going_on rule next) → BeginsNextText front
+before Unexpected front next limited broken goes = subst (λ (v : List Tok). BeginsNextText v) (append-nil front) goes
+before Limit front next limited broken goes = absurd (no-limit next.kind (limited refl) broken)
+
 pub stands-by : (bytes : List ℕ) (bad : Refusal) → IsFault 64 8192 (all_tokens bytes) bad → StandsBy (rule_of bad.rule bad.kind) bytes bad.place
 stands-by bytes bad f =
     let s = stands bytes f.front f.more f.next f.cut in
@@ -81,6 +94,7 @@ stands-by bytes bad f =
       front = f.front;
       defect = subst (λ (v : Place). IsDefect bytes f.front v bad.kind) (sym f.place)
           (subst (λ (v : Kind). IsDefect bytes f.front f.next.place v) (sym f.kind) (s.defect (ap is_defect (sym f.kind) ∙ h)));
+      goes_on = before bad.rule f.front f.next f.limited (ap is_defect (sym f.kind) ∙ h) f.goes_on;
     })
     (λ h. record {
       front = f.front;
@@ -88,6 +102,7 @@ stands-by bytes bad f =
       begins = s.sound (ap is_defect (sym f.kind) ∙ h);
       stands = sym f.place;
       limited = f.limited;
+      goes_on = f.goes_on;
       none = f.none;
     })
 

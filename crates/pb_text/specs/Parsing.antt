@@ -1,5 +1,5 @@
 -- What a text says, and where the fault of one stands that says nothing.
-use Rattle.std.specs.Prelude.{◌≡◌, ℕ, true, List, [], ◌∷◌, ◌++◌}
+use Rattle.std.specs.Prelude.{◌≡◌, ℕ, suc, true, List, [], ◌∷◌, ◌++◌}
 use Rattle.pb_text_tree.specs.declared.place.Place.{Place}
 use Rattle.pb_text_tree.specs.Form.{RangeForm, SpecForm}
 use Rattle.pb_text_lexer.specs.declared.fault.ReadingRule.TheVariants as refused
@@ -8,7 +8,7 @@ use Rattle.pb_text_lexer.specs.declared.fault.ReadingFault.{ReadingFault}
 use Rattle.pb_text_lexer.specs.declared.fault.ReadingFault.TheVariants as fault
 use Rattle.pb_text_lexer.specs.declared.kind.Kind.{Kind}
 use Rattle.pb_text_lexer.specs.declared.kind.Kind.TheVariants as k
-use Rattle.pb_text_lexer.specs.Grammar.{Within}
+use Rattle.pb_text_lexer.specs.Grammar.{Within, going_on}
 use Rattle.pb_text_lexer.specs.Kinds.{is_limited}
 use Rattle.pb_text_lexer.specs.Lexing.{IsCut, IsDefect, Begins}
 use Rattle.pb_text_lexer.specs.Tokens.{Tok}
@@ -42,8 +42,21 @@ abbrev pub AtMostOneReading : Type 0
 AtMostOneReading =
     (bytes : List ℕ) (d n e m : ℕ) (x y : SpecForm) → IsReadingWithin d n bytes x → IsReadingWithin e m bytes y → x ≡ y
 
--- The bytes begin with tokens, the last of which stands at this place: no text begins so, within the limits that the rule speaks of.
--- Where the rule is a limit, that token is one at which a limit can be exceeded.
+-- some text begins with these tokens, where so many levels may open, and so many operators come
+pub record BeginsText (depth operators : ℕ) (tokens : List Tok) : Type 0 where
+  pub tail : List Tok
+  pub ranges : List RangeForm
+  pub text : SpecForm
+  pub says : IsText depth operators (tokens ++ tail) ranges text
+
+-- with one level and one operator more than the limits allow
+abbrev pub BeginsNextText : List Tok → Type 0
+BeginsNextText tokens = BeginsText (suc depth_limit) (suc operator_limit) tokens
+
+-- The bytes begin with tokens, the last of which stands at this place. No text begins so, within the limits that the rule speaks of;
+-- some text begins with the tokens before that one, so it is the first with which none goes on. Where the rule is a limit, it is a token
+-- at which a limit can be exceeded, and with one level and one operator more some text begins with it too: so the tokens before it
+-- bring the levels or the operators to their limit.
 pub record IsRefusal (bytes : List ℕ) (broken : token_rule.ReadingRule) (place : Place) : Type 0 where
   pub front : List Tok
   pub next : Tok
@@ -51,11 +64,13 @@ pub record IsRefusal (bytes : List ℕ) (broken : token_rule.ReadingRule) (place
   pub stands : next.place ≡ place
   pub limited : broken ≡ refused.Limit → is_limited next.kind ≡ true
   pub none : (d n : ℕ) (tail : List Tok) (ranges : List RangeForm) (x : SpecForm) → Within broken depth_limit operator_limit d n → IsText d n (front ++ next ∷ tail) ranges x → ⊥
+  pub goes_on : BeginsNextText (front ++ going_on broken next)
 
--- the bytes are cut into tokens up to this place, where no token stands, nor the end
+-- The bytes are cut into tokens up to this place, where no token stands, nor the end. Some text begins with those tokens.
 pub record IsBroken (bytes : List ℕ) (kind : Kind) (place : Place) : Type 0 where
   pub front : List Tok
   pub defect : IsDefect bytes front place kind
+  pub goes_on : BeginsNextText front
 
 -- what a refusal says of the bytes
 abbrev pub StandsBy : TextRule → List ℕ → Place → Type 0

@@ -30,7 +30,9 @@ pub fn parse(alloc: Global, bytes: &[u8]) -> Result<Spec, TextError>
     ensures only { IfOk result (λ s. (d n : ℕ) (x : SpecForm) → IsReadingWithin d n bytes.now x → x ≡ spec_form s) }
     // Only where they say nothing within the limits, or memory runs out, is there no text.
     ensures refused { IfErr result (λ e. NoReading bytes.now e) }
-    // The fault stands at its place, and nothing that is no token stands before it.
+    // The fault stands at its place, and nothing that is no token stands before it. Some text begins with the tokens
+    // before it, so P02 stands at the first with which none goes on. At P04 none begins with that token within the limits,
+    // and with one level and one operator more some does.
     ensures stands { IfErr result (λ e. Stands bytes.now e) }
 {
     let mut input = Input::new(bytes, OPERATOR_LIMIT);

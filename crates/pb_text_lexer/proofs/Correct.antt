@@ -1,13 +1,15 @@
 -- When a parser is right for a relation: what it reads is read so, nothing else is, and where it refuses nothing is.
-use Rattle.std.proofs.Common.{◌≡◌, ◌≢◌, ℕ, zero, suc, ◌+◌, ◌-◌, ◌≤◌, Bool, true, false, cond, List, [], ◌∷◌, ◌++◌, refl, sym, ◌∙◌, ap, subst, append_assoc, zero-add, ◌==◌, ◌⊎◌, inl, inr, arith, Ok, Err}
+use Rattle.std.proofs.Common.{◌≡◌, ◌≢◌, ℕ, suc, ◌+◌, ◌-◌, ◌≤◌, Bool, true, false, cond, List, [], ◌∷◌, ◌++◌, refl, sym, ◌∙◌, ap, subst, append_assoc, zero-add, ◌==◌, ◌⊎◌, inl, inr, arith, Ok, Err}
 use Rattle.std.proofs.lemmas.Bool.Decides.{eqb_tells}
+use Rattle.std.proofs.lemmas.List.{append-nil}
 use Rattle.pb_text_lexer.specs.declared.kind.Kind.{Kind}
 use Rattle.pb_text_lexer.specs.declared.fault.ReadingRule.{ReadingRule}
 use Rattle.pb_text_lexer.specs.declared.fault.ReadingRule.TheVariants.{Unexpected, Limit}
 use Rattle.pb_text_lexer.specs.declared.fault.Refusal.{Refusal}
 use Rattle.pb_text_lexer.specs.Kinds.{same_kind, is_last, is_limited}
-use Rattle.pb_text_lexer.specs.Tokens.{Tok}
-use Rattle.pb_text_lexer.specs.Grammar.{State, Within, Reads, Is, Nothing, One, Operator, First, by_first}
+use Rattle.pb_text_lexer.specs.Lexing.{start}
+use Rattle.pb_text_lexer.specs.Tokens.{Tok, token_at}
+use Rattle.pb_text_lexer.specs.Grammar.{State, Within, going_on, Reads, Is, Nothing, One, Operator, First, by_first}
 use Rattle.pb_text_lexer.specs.Grammar as grammar
 use Rattle.pb_text_lexer.specs.Steps.{ends, head_kind, Step, Outcome, and_then, pure, peek, take_token, take_from, take_operator, expect, refuse, refusal, kind}
 use Rattle.pb_text_lexer.specs.Steps as step
@@ -35,6 +37,23 @@ pub stops-never : (ts : List Tok) → Stops never ts
 stops-never [] = refl
 stops-never (t ∷ ts) = refl
 
+-- what begins with these tokens is read so, if it goes on rightly, where so many levels and operators are allowed
+pub record GoesOn {X : Type 0} (fam : Family X) (level operators : ℕ) (ts : List Tok) : Type 0 where
+  pub tail : List Tok
+  pub value : X
+  pub left : ℕ
+  pub reads : (after : List Tok) → fam level (st ((ts ++ tail) ++ after) operators) value (st after left)
+
+-- the same without an operator
+pub record Free {X : Type 0} (fam : Family X) (level : ℕ) (ts : List Tok) : Type 0 where
+  pub tail : List Tok
+  pub value : X
+  pub reads : (n : ℕ) (after : List Tok) → fam level (st ((ts ++ tail) ++ after) n) value (st after n)
+
+-- something is read so
+abbrev pub Readable : {X : Type 0} → Family X → ℕ → Type 0
+Readable fam level = Free fam level []
+
 pub record Took {X : Type 0} (fam : Family X) (g : Kind → Bool) (depth : ℕ) (s : State) (x : X) (z : State) : Type 0 where
   pub front : List Tok
   pub used : ℕ
@@ -45,6 +64,7 @@ pub record Took {X : Type 0} (fam : Family X) (g : Kind → Bool) (depth : ℕ) 
   pub reads : (after : List Tok) → fam depth (st (front ++ after) s.operators) x (st after z.operators)
   pub only : (d n : ℕ) (after : List Tok) (y : X) (w : State) → Stops g after → fam d (st (front ++ after) n) y w → Stops g w.tokens
       → (y ≡ x) × (w.tokens ≡ after) × (n ≡ used + w.operators)
+  pub one_more : (after : List Tok) → fam (suc depth) (st (front ++ after) (suc s.operators)) x (st after (suc z.operators))
 
 pub record Refused {X : Type 0} (fam : Family X) (g : Kind → Bool) (depth : ℕ) (s : State) (bad : Refusal) : Type 0 where
   pub front : List Tok
@@ -56,14 +76,20 @@ pub record Refused {X : Type 0} (fam : Family X) (g : Kind → Bool) (depth : �
   pub limited : bad.rule ≡ Limit → is_limited next.kind ≡ true
   pub none : (d n : ℕ) (tail : List Tok) (y : X) (w : State) → Within bad.rule depth s.operators d n
       → fam d (st (front ++ next ∷ tail) n) y w → Stops g w.tokens → ⊥
+  pub goes_on : GoesOn fam (suc depth) (suc s.operators) (front ++ going_on bad.rule next)
 
 abbrev pub Answers : {X : Type 0} → Family X → (Kind → Bool) → ℕ → State → Outcome X → Type 0
 Answers fam g depth s (Ok r) = Took fam g depth s r.0 r.1
 Answers fam g depth s (Err bad) = Refused fam g depth s bad
 
 -- from each state whose tokens end rightly and meet P
-abbrev pub Correct : {X : Type 0} → (List Tok → Type 0) → Step X → Family X → (Kind → Bool) → ℕ → Type 0
-Correct P p fam g depth = (s : State) → ends s.tokens ≡ true → P s.tokens → Answers fam g depth s (p s)
+abbrev pub Answering : {X : Type 0} → (List Tok → Type 0) → Step X → Family X → (Kind → Bool) → ℕ → Type 0
+Answering P p fam g depth = (s : State) → ends s.tokens ≡ true → P s.tokens → Answers fam g depth s (p s)
+
+-- so it answers, and there is something to be read, with one level more
+pub record Correct {X : Type 0} (P : List Tok → Type 0) (p : Step X) (fam : Family X) (g : Kind → Bool) (depth : ℕ) : Type 0 where
+  pub answers : Answering P p fam g depth
+  pub some : Readable fam (suc depth)
 
 -- ---- one thing and then another
 
@@ -78,6 +104,82 @@ same-head g (f ∷ fs) t a b ts e h = subst (λ (v : List Tok). Stops g v) e h
 pub within-less : (rule : ReadingRule) (depth d n m used a b : ℕ) → n ≡ used + m → a ≡ used + b → Within rule depth a d n → Within rule depth b d m
 within-less Unexpected depth d n m used a b p q h = tt
 within-less Limit depth d n m used a b p q h = (h.0, omega arith)
+
+-- ---- what goes on
+
+pub goes-free : {X : Type 0} (fam : Family X) (level n : ℕ) (ts : List Tok) → Free fam level ts → GoesOn fam level n ts
+goes-free fam level n ts a = record { tail = a.tail; value = a.value; left = n; reads = λ after. a.reads n after }
+
+pub readable-free : {X : Type 0} (fam : Family X) (level : ℕ) (ts : List Tok) → Free fam level ts → Readable fam level
+readable-free fam level ts a = record { tail = ts ++ a.tail; value = a.value; reads = a.reads }
+
+-- what relates the same of another value
+pub free-to : {X Y : Type 0} (fam : Family X) (fam' : Family Y) (f : X → Y) (level level' : ℕ) → ((s : State) (x : X) (z : State) → fam level s x z → fam' level' s (f x) z)
+    → (ts : List Tok) → Free fam level ts → Free fam' level' ts
+free-to fam fam' f level level' to ts a = record { tail = a.tail; value = f a.value; reads = λ n after. to _ _ _ (a.reads n after) }
+
+pub goes-to : {X Y : Type 0} (fam : Family X) (fam' : Family Y) (f : X → Y) (level level' n : ℕ) → ((s : State) (x : X) (z : State) → fam level s x z → fam' level' s (f x) z)
+    → (ts : List Tok) → GoesOn fam level n ts → GoesOn fam' level' n ts
+goes-to fam fam' f level level' n to ts a = record { tail = a.tail; value = f a.value; left = a.left; reads = λ after. to _ _ _ (a.reads after) }
+
+pub readable-is : {X : Type 0} (x : X) (level : ℕ) → Readable (λ d. Is x) level
+readable-is x level = record { tail = []; value = x; reads = λ n after. (refl, refl) }
+
+-- a token of a kind, wherever it stands
+abbrev pub some-token : Kind → Tok
+some-token k = token_at start k []
+
+pub free-one : (k : Kind) (level : ℕ) (t : Tok) → t.kind ≡ k → Free (λ d. One k) level (t ∷ [])
+free-one k level t is = record { tail = []; value = t; reads = λ n after. (refl, is, refl) }
+
+pub readable-one : (k : Kind) (level : ℕ) → Readable (λ d. One k) level
+readable-one k level = readable-free (λ d. One k) level (some-token k ∷ []) (free-one k level (some-token k) refl)
+
+-- behind the last token
+pub goes-ended : {X : Type 0} (fam : Family X) (level n m : ℕ) (ts : List Tok) (x : X) → ((after : List Tok) → fam level (st (ts ++ after) n) x (st after m)) → GoesOn fam level n (ts ++ [])
+goes-ended fam level n m ts x reads = record {
+  tail = [];
+  value = x;
+  left = m;
+  reads = λ after. move (fam level) (ts ++ after) (((ts ++ []) ++ []) ++ after) n n x (st after m) (ap (λ v. v ++ after) (sym (append-nil (ts ++ []) ∙ append-nil ts))) refl (reads after);
+}
+
+module _ {X Y : Type 0} (famR : Family X) (famS : X → Family Y) (level : ℕ) where
+  abbrev both-of : Family Y
+  both-of d = grammar.◌>>=◌ (famR d) (λ x. famS x d)
+
+  regroup : (ts us vs after : List Tok) → (ts ++ us) ++ (vs ++ after) ≡ (ts ++ (us ++ vs)) ++ after
+  regroup ts us vs after = sym (append_assoc (ts ++ us) vs after) ∙ ap (λ v. v ++ after) (append_assoc ts us vs)
+
+  pub free-then : (ts : List Tok) → Free famR level ts → ((x : X) → Readable (famS x) level) → Free both-of level ts
+  free-then ts a rest =
+      let b = rest a.value in record {
+        tail = a.tail ++ b.tail;
+        value = b.value;
+        reads = λ n after. move (both-of level) ((ts ++ a.tail) ++ (b.tail ++ after)) _ n n b.value (st after n) (regroup ts a.tail b.tail after) refl
+            (a.value, st (b.tail ++ after) n, a.reads n (b.tail ++ after), b.reads n after);
+      }
+
+  pub goes-first : (ts : List Tok) (n : ℕ) → GoesOn famR level n ts → ((x : X) → Readable (famS x) level) → GoesOn both-of level n ts
+  goes-first ts n a rest =
+      let b = rest a.value in record {
+        tail = a.tail ++ b.tail;
+        value = b.value;
+        left = a.left;
+        reads = λ after. move (both-of level) ((ts ++ a.tail) ++ (b.tail ++ after)) _ n n b.value (st after a.left) (regroup ts a.tail b.tail after) refl
+            (a.value, st (b.tail ++ after) a.left, a.reads (b.tail ++ after), b.reads a.left after);
+      }
+
+  pub goes-then : (ts us vs : List Tok) (n m : ℕ) (x : X) → ((after : List Tok) → famR level (st (ts ++ after) n) x (st after m)) → GoesOn (famS x) level m (us ++ vs)
+      → GoesOn both-of level n ((ts ++ us) ++ vs)
+  goes-then ts us vs n m x first b = record {
+    tail = b.tail;
+    value = b.value;
+    left = b.left;
+    reads = λ after. move (both-of level) (ts ++ (((us ++ vs) ++ b.tail) ++ after)) _ n n b.value (st after b.left)
+        (sym (append_assoc ts ((us ++ vs) ++ b.tail) after) ∙ ap (λ v. v ++ after) (sym (append_assoc ts (us ++ vs) b.tail) ∙ ap (λ v. v ++ b.tail) (sym (append_assoc ts us vs)))) refl
+        (x, st (((us ++ vs) ++ b.tail) ++ after) m, first (((us ++ vs) ++ b.tail) ++ after), b.reads after);
+  }
 
 module _ {X Y : Type 0} (famR : Family X) (famS : X → Family Y) (g h : Kind → Bool) (depth : ℕ)
     (follow : (d : ℕ) (x : X) (m : State) (y : Y) (z : State) → famS x d m y z → Stops h z.tokens → Stops g m.tokens) where
@@ -95,6 +197,8 @@ module _ {X Y : Type 0} (famR : Family X) (famS : X → Family Y) (g h : Kind �
     reads = λ after. move (both depth) _ _ _ _ y (st after z.operators) (sym (append_assoc a.front b.front after)) refl
         (x, st (b.front ++ after) m.operators, a.reads (b.front ++ after), b.reads after);
     only = λ d n after v w stop r over. only d n after v w stop (move (both d) _ _ _ _ v w (append_assoc a.front b.front after) refl r) over;
+    one_more = λ after. move (both (suc depth)) _ _ _ _ y (st after (suc z.operators)) (sym (append_assoc a.front b.front after)) refl
+        (x, st (b.front ++ after) (suc m.operators), a.one_more (b.front ++ after), b.one_more after);
   }
     where
       last : (d n : ℕ) (after : List Tok) (v : Y) (w m' : State) (x' : X) → Stops h after → Stops h w.tokens
@@ -122,6 +226,7 @@ module _ {X Y : Type 0} (famR : Family X) (famS : X → Family Y) (g h : Kind �
     place = b.place;
     limited = b.limited;
     none = λ d n tail v w within r over. none d n tail v w within (move (both d) _ _ _ _ v w (append_assoc a.front b.front (b.next ∷ tail)) refl r) over;
+    goes_on = goes-then famR famS (suc depth) a.front b.front (going_on bad.rule b.next) (suc s.operators) (suc m.operators) x a.one_more b.goes_on;
   }
     where
       last : (d n : ℕ) (tail : List Tok) (v : Y) (w m' : State) (x' : X) → Within bad.rule depth s.operators d n → Stops h w.tokens
@@ -136,8 +241,8 @@ module _ {X Y : Type 0} (famR : Family X) (famS : X → Family Y) (g h : Kind �
           let found = a.only d n (b.front ++ b.next ∷ tail) r.0 r.1 (same-head g b.front b.next b.more tail m.tokens b.tokens a.stops) r.2 (follow d r.0 r.1 v w r.3 over) in
           last d n tail v w r.1 r.0 within over found.0 found.1 found.2 r.3
 
-  pub first-refused : (s : State) (bad : Refusal) → Refused famR g depth s bad → Refused both h depth s bad
-  first-refused s bad a = record {
+  pub first-refused : (s : State) (bad : Refusal) → ((x : X) → Readable (famS x) (suc depth)) → Refused famR g depth s bad → Refused both h depth s bad
+  first-refused s bad rest a = record {
     front = a.front;
     next = a.next;
     more = a.more;
@@ -146,27 +251,32 @@ module _ {X Y : Type 0} (famR : Family X) (famS : X → Family Y) (g h : Kind �
     place = a.place;
     limited = a.limited;
     none = λ d n tail v w within r over. a.none d n tail r.0 r.1 within r.2 (follow d r.0 r.1 v w r.3 over);
+    goes_on = goes-first famR famS (suc depth) (a.front ++ going_on bad.rule a.next) (suc s.operators) a.goes_on rest;
   }
 
-  pub then-correct : (P : List Tok → Type 0) (p : Step X) (q : X → Step Y) → Correct P p famR g depth
-      → ((x : X) → Correct (Stops g) (q x) (famS x) h depth) → Correct P (step.◌>>=◌ p q) both h depth
-  then-correct P p q a b s end pre = step (p s) (a s end pre)
+  pub then-answers : (P : List Tok → Type 0) (p : Step X) (q : X → Step Y) → Answering P p famR g depth
+      → ((x : X) → Correct (Stops g) (q x) (famS x) h depth) → Answering P (step.◌>>=◌ p q) both h depth
+  then-answers P p q a b s end pre = step (p s) (a s end pre)
     where
       second : (m : State) (x : X) → Took famR g depth s x m → (o : Outcome Y) → Answers (famS x) h depth m o → Answers both h depth s o
       second m x t (Ok r) u = then-took s m x r.0 r.1 t u
       second m x t (Err bad) u = then-refused s m x bad t u
 
       step : (o : Outcome X) → Answers famR g depth s o → Answers both h depth s (and_then o q)
-      step (Ok r) t = second r.1 r.0 t (q r.0 r.1) (b r.0 r.1 t.ended t.stops)
-      step (Err bad) t = first-refused s bad t
+      step (Ok r) t = second r.1 r.0 t (q r.0 r.1) ((b r.0).answers r.1 t.ended t.stops)
+      step (Err bad) t = first-refused s bad (λ x. (b x).some) t
+
+  pub then-correct : (P : List Tok → Type 0) (p : Step X) (q : X → Step Y) → Correct P p famR g depth
+      → ((x : X) → Correct (Stops g) (q x) (famS x) h depth) → Correct P (step.◌>>=◌ p q) both h depth
+  then-correct P p q a b = record { answers = then-answers P p q a.answers b; some = free-then famR famS (suc depth) [] a.some (λ x. (b x).some) }
 
 -- ---- a value at no token; a token; a refusal; by the first token
 
 pub pure-correct : {X : Type 0} (x : X) (g : Kind → Bool) (depth : ℕ) → Correct (Stops g) (pure x) (λ d. Is x) g depth
-pure-correct {X} x g depth s end stop = took
+pure-correct {X} x g depth = record { answers = λ s end stop. took s end stop; some = readable-is x (suc depth) }
   where
-    took : Took (λ d. Is x) g depth s x s
-    took = record {
+    took : (s : State) → ends s.tokens ≡ true → Stops g s.tokens → Took (λ d. Is x) g depth s x s
+    took s end stop = record {
       front = [];
       used = 0;
       tokens = refl;
@@ -175,11 +285,12 @@ pure-correct {X} x g depth s end stop = took
       ended = end;
       reads = λ after. (refl, refl);
       only = λ d n after y w stops r over. (r.0, ap (λ v. v.tokens) r.1, (let p : w.operators ≡ n = ap (λ v. v.operators) r.1 in omega arith));
+      one_more = λ after. (refl, refl);
     }
 
 -- a relation on the next token alone
 pub one-took : {X : Type 0} (fam : Family X) (depth : ℕ) (t : Tok) (ts : List Tok) (used n : ℕ) (x : X) → ends ts ≡ true
-    → ((after : List Tok) → fam depth (st (t ∷ after) (used + n)) x (st after n))
+    → ((d m : ℕ) (after : List Tok) → fam d (st (t ∷ after) (used + m)) x (st after m))
     → ((d m : ℕ) (after : List Tok) (y : X) (w : State) → fam d (st (t ∷ after) m) y w → (y ≡ x) × (w.tokens ≡ after) × (m ≡ used + w.operators))
     → Took fam never depth (st (t ∷ ts) (used + n)) x (st ts n)
 one-took fam depth t ts used n x end reads only = record {
@@ -189,8 +300,9 @@ one-took fam depth t ts used n x end reads only = record {
   operators = refl;
   stops = stops-never ts;
   ended = end;
-  reads = reads;
+  reads = λ after. reads depth n after;
   only = λ d m after y w stop r over. only d m after y w r;
+  one_more = λ after. move (fam (suc depth)) (t ∷ after) (t ∷ after) (used + suc n) (suc (used + n)) x (st after (suc n)) refl (omega arith) (reads (suc depth) (suc n) after);
 }
 
 pub unlike : Unexpected ≡ Limit → ⊥
@@ -199,15 +311,17 @@ unlike e = cc
 pub refused-here : {X : Type 0} (fam : Family X) (g : Kind → Bool) (depth : ℕ) (s : State) (rule : ReadingRule) → ends s.tokens ≡ true → (rule ≡ Limit → is_limited (head_kind s.tokens) ≡ true)
     → ((d n : ℕ) (t : Tok) (tail : List Tok) (y : X) (w : State) → t.kind ≡ head_kind s.tokens → Within rule depth s.operators d n
     → fam d (st (t ∷ tail) n) y w → Stops g w.tokens → ⊥)
+    → ((t : Tok) → t.kind ≡ head_kind s.tokens → GoesOn fam (suc depth) (suc s.operators) (going_on rule t))
     → Refused fam g depth s (refusal rule s.tokens)
-refused-here {X} fam g depth s rule end limited none = go s.tokens end limited none
+refused-here {X} fam g depth s rule end limited none goes = go s.tokens end limited none goes
   where
     go : (ts : List Tok) → ends ts ≡ true → (rule ≡ Limit → is_limited (head_kind ts) ≡ true)
         → ((d n : ℕ) (t : Tok) (tail : List Tok) (y : X) (w : State) → t.kind ≡ head_kind ts → Within rule depth s.operators d n
         → fam d (st (t ∷ tail) n) y w → Stops g w.tokens → ⊥)
+        → ((t : Tok) → t.kind ≡ head_kind ts → GoesOn fam (suc depth) (suc s.operators) (going_on rule t))
         → Refused fam g depth (st ts s.operators) (refusal rule ts)
-    go [] e lim f = cc
-    go (t ∷ ts) e lim f = record {
+    go [] e lim f goes = cc
+    go (t ∷ ts) e lim f goes = record {
       front = [];
       next = t;
       more = ts;
@@ -216,6 +330,7 @@ refused-here {X} fam g depth s rule end limited none = go s.tokens end limited n
       place = refl;
       limited = lim;
       none = λ d n tail y w within r over. f d n t tail y w refl within r over;
+      goes_on = goes t refl;
     }
 
 one-parts : (k : Kind) (t : Tok) (n : ℕ) (after : List Tok) (y : Tok) (w : State) → One k (st (t ∷ after) n) y w → (y ≡ t) × (w.tokens ≡ after) × (n ≡ 0 + w.operators)
@@ -229,25 +344,25 @@ HeadIs k (t ∷ ts) = t.kind ≡ k
 
 pub take-correct : (k : Kind) (depth : ℕ) → is_last k ≡ false → Correct (HeadIs k) take_token (λ d. One k) never depth
 unfolding take_token
-take-correct k depth ne s end head = go s.tokens s.operators end head
+take-correct k depth ne = record { answers = λ s end head. go s.tokens s.operators end head; some = readable-one k (suc depth) }
   where
     go : (ts : List Tok) (n : ℕ) → ends ts ≡ true → HeadIs k ts → Answers (λ d. One k) never depth (st ts n) (take_from ts n)
     go [] n e head = absurd head
     go (t ∷ ts) n e head =
         subst (λ (v : ℕ). Took (λ d. One k) never depth (st (t ∷ ts) v) t (st ts n)) (zero-add n)
-        (one-took (λ d. One k) depth t ts 0 n t (ends-behind (t ∷ ts) e (ap is_last head ∙ ne)) (λ after. (refl, head, sym (zero-add n))) (λ d m after y w r. one-parts k t m after y w r))
+        (one-took (λ d. One k) depth t ts 0 n t (ends-behind (t ∷ ts) e (ap is_last head ∙ ne)) (λ d m after. (refl, head, sym (zero-add m))) (λ d m after y w r. one-parts k t m after y w r))
 
 pub expect-correct : (k : Kind) (depth : ℕ) → is_last k ≡ false → Correct (λ ts. Unit {0}) (expect k) (λ d. One k) never depth
 unfolding expect
-expect-correct k depth ne s end u = go s.tokens s.operators end
+expect-correct k depth ne = record { answers = λ s end u. go s.tokens s.operators end; some = readable-one k (suc depth) }
   where
     decided : (ts : List Tok) (n : ℕ) (b : Bool) → ends ts ≡ true → same_kind (head_kind ts) k ≡ b
         → Answers (λ d. One k) never depth (st ts n) (cond b (take_token (st ts n)) (refuse Unexpected (st ts n)))
     decided [] n b e same = cc
-    decided (t ∷ ts) n true e same = take-correct k depth ne (st (t ∷ ts) n) e (kind-same t.kind k same)
+    decided (t ∷ ts) n true e same = (take-correct k depth ne).answers (st (t ∷ ts) n) e (kind-same t.kind k same)
     decided (t ∷ ts) n false e same =
         refused-here (λ d. One k) never depth (st (t ∷ ts) n) Unexpected e (λ q. absurd (unlike q))
-        (λ d m u tail y w head within r over. different u y w.tokens tail head same r.0 r.1)
+        (λ d m u tail y w head within r over. different u y w.tokens tail head same r.0 r.1) (λ u is. goes-free (λ d. One k) (suc depth) (suc n) [] (readable-one k (suc depth)))
       where
         different : (u y : Tok) (ws tail : List Tok) → u.kind ≡ t.kind → same_kind t.kind k ≡ false → u ∷ tail ≡ y ∷ ws → y.kind ≡ k → ⊥
         different u y ws tail head same e is =
@@ -261,14 +376,14 @@ operator-parts : (k : Kind) (t : Tok) (n : ℕ) (after : List Tok) (y : Tok) (w 
 operator-parts k t n after y w r =
     let e = r.0 in let p : y ≡ t = cc in let q : w.tokens ≡ after = cc in let c = r.2 in (p, q, omega arith)
 
-pub operator-correct : (k : Kind) (depth : ℕ) → is_last k ≡ false → is_limited k ≡ true → Correct (HeadIs k) take_operator (λ d. Operator k) never depth
+pub operator-answers : (k : Kind) (depth : ℕ) → is_last k ≡ false → is_limited k ≡ true → Answering (HeadIs k) take_operator (λ d. Operator k) never depth
 unfolding take_operator take_token
-operator-correct k depth ne lim s end head = go s.tokens s.operators (s.operators == 0) (eqb_tells s.operators 0) end head
+operator-answers k depth ne lim s end head = go s.tokens s.operators (s.operators == 0) (eqb_tells s.operators 0) end head
   where
     taken : (t : Tok) (ts : List Tok) (n m : ℕ) → n ≡ suc m → ends (t ∷ ts) ≡ true → t.kind ≡ k → Took (λ d. Operator k) never depth (st (t ∷ ts) n) t (st ts m)
     taken t ts n m count e head =
         subst (λ (v : ℕ). Took (λ d. Operator k) never depth (st (t ∷ ts) v) t (st ts m)) (omega arith)
-        (one-took (λ d. Operator k) depth t ts 1 m t (ends-behind (t ∷ ts) e (ap is_last head ∙ ne)) (λ after. (refl, head, omega arith)) (λ d i after y w r. operator-parts k t i after y w r))
+        (one-took (λ d. Operator k) depth t ts 1 m t (ends-behind (t ∷ ts) e (ap is_last head ∙ ne)) (λ d i after. (refl, head, (omega arith))) (λ d i after y w r. operator-parts k t i after y w r))
 
     go : (ts : List Tok) (n : ℕ) (b : Bool) → ((b ≡ true) × (n ≡ 0)) ⊎ ((b ≡ false) × (n ≢ 0)) → ends ts ≡ true → HeadIs k ts
         → Answers (λ d. Operator k) never depth (st ts n) (cond b (refuse Limit (st ts n)) (take_from ts (n - 1)))
@@ -276,6 +391,7 @@ operator-correct k depth ne lim s end head = go s.tokens s.operators (s.operator
     go (t ∷ ts) n true tells e head =
         refused-here (λ d. Operator k) never depth (st (t ∷ ts) n) Limit e (λ q. ap is_limited head ∙ lim)
         (λ d i u tail y w same within r over. none n i w.operators tells within.1 r.2)
+        (λ u same. record { tail = []; value = u; left = n; reads = λ after. (refl, same ∙ head, refl) })
       where
         none : (n i m : ℕ) → ((true ≡ true) × (n ≡ 0)) ⊎ ((true ≡ false) × (n ≢ 0)) → i ≤ n → i ≡ suc m → ⊥
         none n i m (inl p) le is = let q = p.1 in omega arith
@@ -285,167 +401,3 @@ operator-correct k depth ne lim s end head = go s.tokens s.operators (s.operator
         some : (n : ℕ) → ((false ≡ true) × (n ≡ 0)) ⊎ ((false ≡ false) × (n ≢ 0)) → n ≡ suc (n - 1)
         some n (inl p) = let q = p.0 in cc
         some n (inr p) = let q = p.1 in omega arith
-
--- ---- by the first token; other families
-
--- a list that goes on in the same way up to its next token begins alike
-pub head-is : (k : Kind) (front : List Tok) (t : Tok) (a b ts : List Tok) → ts ≡ front ++ t ∷ a → HeadIs k ts → HeadIs k (front ++ t ∷ b)
-head-is k [] t a b ts e h = subst (λ (v : List Tok). HeadIs k v) e h
-head-is k (f ∷ fs) t a b ts e h = subst (λ (v : List Tok). HeadIs k v) e h
-
-pub from-first : {X : Type 0} (R : Kind → Reads X) (k : Kind) (ts : List Tok) (n : ℕ) (y : X) (w : State) → HeadIs k ts → First R (st ts n) y w → R k (st ts n) y w
-from-first R k [] n y w h r = absurd h
-from-first R k (t ∷ ts) n y w h r = subst (λ (v : Kind). R v (st (t ∷ ts) n) y w) h r
-
-pub to-first : {X : Type 0} (R : Kind → Reads X) (k : Kind) (ts : List Tok) (n : ℕ) (y : X) (w : State) → HeadIs k ts → R k (st ts n) y w → First R (st ts n) y w
-to-first R k [] n y w h r = absurd h
-to-first R k (t ∷ ts) n y w h r = subst (λ (v : Kind). R v (st (t ∷ ts) n) y w) (sym h) r
-
-module _ {X : Type 0} (fam : ℕ → Kind → Reads X) (g : Kind → Bool) (depth : ℕ)
-    (starts : (d : ℕ) (k : Kind) (s : State) (y : X) (z : State) → fam d k s y z → HeadIs k s.tokens) where
-  abbrev firsts : Family X
-  firsts d = First (fam d)
-
-  first-took : (k : Kind) (s : State) (x : X) (z : State) → Took (λ d. fam d k) g depth s x z → Took firsts g depth s x z
-  first-took k s x z a = record {
-    front = a.front;
-    used = a.used;
-    tokens = a.tokens;
-    operators = a.operators;
-    stops = a.stops;
-    ended = a.ended;
-    reads = λ after. to-first (fam depth) k _ _ x (st after z.operators) (here after) (a.reads after);
-    only = λ d n after y w stop r over. a.only d n after y w stop (from-first (fam d) k _ n y w (here after) r) over;
-  }
-    where
-      here : (after : List Tok) → HeadIs k (a.front ++ after)
-      here after = starts depth k (st (a.front ++ after) s.operators) x (st after z.operators) (a.reads after)
-
-  first-none : (k : Kind) (s : State) (bad : Refusal) → HeadIs k s.tokens → Refused (λ d. fam d k) g depth s bad → Refused firsts g depth s bad
-  first-none k s bad h a = record {
-    front = a.front;
-    next = a.next;
-    more = a.more;
-    tokens = a.tokens;
-    kind = a.kind;
-    place = a.place;
-    limited = a.limited;
-    none = λ d n tail y w within r over.
-        a.none d n tail y w within (from-first (fam d) k _ n y w (head-is k a.front a.next a.more tail s.tokens a.tokens h) r) over;
-  }
-
-  pub first-correct : (f : Kind → Step X) → ((k : Kind) → Correct (HeadIs k) (f k) (λ d. fam d k) g depth)
-      → Correct (λ ts. Unit {0}) (step.◌>>=◌ peek f) firsts g depth
-  first-correct f each s end u = go (kind s) (here s.tokens end)
-    where
-      here : (ts : List Tok) → ends ts ≡ true → HeadIs (head_kind ts) ts
-      here [] e = cc
-      here (t ∷ ts) e = refl
-
-      wrap : (k : Kind) → HeadIs k s.tokens → (o : Outcome X) → Answers (λ d. fam d k) g depth s o → Answers firsts g depth s o
-      wrap k h (Ok r) t = first-took k s r.0 r.1 t
-      wrap k h (Err bad) t = first-none k s bad h t
-
-      go : (k : Kind) → HeadIs k s.tokens → Answers firsts g depth s (f k s)
-      go k h = wrap k h (f k s) (each k s end h)
-
--- one level less
-abbrev pub deeper : {X : Type 0} → Family X → Family X
-deeper fam zero = Nothing
-deeper fam (suc d) = fam d
-
-pub deeper-correct : {X : Type 0} (P : List Tok → Type 0) (p : Step X) (fam : Family X) (g : Kind → Bool) (depth : ℕ)
-    → Correct P p fam g depth → Correct P p (deeper fam) g (suc depth)
-deeper-correct {X} P p fam g depth a s end pre = go (p s) (a s end pre)
-  where
-    only : (front : List Tok) (used : ℕ) (x : X)
-        → ((d n : ℕ) (after : List Tok) (y : X) (w : State) → Stops g after → fam d (st (front ++ after) n) y w → Stops g w.tokens → (y ≡ x) × (w.tokens ≡ after) × (n ≡ used + w.operators))
-        → (d n : ℕ) (after : List Tok) (y : X) (w : State) → Stops g after → deeper fam d (st (front ++ after) n) y w → Stops g w.tokens → (y ≡ x) × (w.tokens ≡ after) × (n ≡ used + w.operators)
-    only front used x f zero n after y w stop r over = absurd r
-    only front used x f (suc d) n after y w stop r over = f d n after y w stop r over
-
-    less : (rule : ReadingRule) (d n : ℕ) → Within rule (suc depth) s.operators (suc d) n → Within rule depth s.operators d n
-    less Unexpected d n w = tt
-    less Limit d n w = let p = w.0 in (omega arith, w.1)
-
-    none : (rule : ReadingRule) (front : List Tok) (next : Tok)
-        → ((d n : ℕ) (tail : List Tok) (y : X) (w : State) → Within rule depth s.operators d n → fam d (st (front ++ next ∷ tail) n) y w → Stops g w.tokens → ⊥)
-        → (d n : ℕ) (tail : List Tok) (y : X) (w : State) → Within rule (suc depth) s.operators d n → deeper fam d (st (front ++ next ∷ tail) n) y w → Stops g w.tokens → ⊥
-    none rule front next f zero n tail y w within r over = r
-    none rule front next f (suc d) n tail y w within r over = f d n tail y w (less rule d n within) r over
-
-    go : (o : Outcome X) → Answers fam g depth s o → Answers (deeper fam) g (suc depth) s o
-    go (Ok r) t = record { front = t.front; used = t.used; tokens = t.tokens; operators = t.operators; stops = t.stops; ended = t.ended; reads = t.reads; only = only t.front t.used r.0 t.only }
-    go (Err bad) t = record {
-      front = t.front;
-      next = t.next;
-      more = t.more;
-      tokens = t.tokens;
-      kind = t.kind;
-      place = t.place;
-      limited = t.limited;
-      none = none bad.rule t.front t.next t.none;
-    }
-
--- two families that relate the same
-pub alike-correct : {X : Type 0} (P : List Tok → Type 0) (p : Step X) (fam fam' : Family X) (g : Kind → Bool) (depth : ℕ)
-    → ((d : ℕ) (s : State) (y : X) (z : State) → fam d s y z → fam' d s y z)
-    → ((d : ℕ) (s : State) (y : X) (z : State) → fam' d s y z → fam d s y z)
-    → Correct P p fam g depth → Correct P p fam' g depth
-alike-correct {X} P p fam fam' g depth to from a s end pre = go (p s) (a s end pre)
-  where
-    go : (o : Outcome X) → Answers fam g depth s o → Answers fam' g depth s o
-    go (Ok r) t = record {
-      front = t.front;
-      used = t.used;
-      tokens = t.tokens;
-      operators = t.operators;
-      stops = t.stops;
-      ended = t.ended;
-      reads = λ after. to depth _ _ _ (t.reads after);
-      only = λ d n after y w stop q over. t.only d n after y w stop (from d _ y w q) over;
-    }
-    go (Err bad) t = record {
-      front = t.front;
-      next = t.next;
-      more = t.more;
-      tokens = t.tokens;
-      kind = t.kind;
-      place = t.place;
-      limited = t.limited;
-      none = λ d n tail y w within q over. t.none d n tail y w within (from d _ y w q) over;
-    }
-
-pub weaker-correct : {X : Type 0} (P Q : List Tok → Type 0) (p : Step X) (fam : Family X) (g : Kind → Bool) (depth : ℕ)
-    → ((ts : List Tok) → Q ts → P ts) → Correct P p fam g depth → Correct Q p fam g depth
-weaker-correct P Q p fam g depth h a s end pre = a s end (h s.tokens pre)
-
--- what is read inside with all the operators that are allowed, and takes none of them from what follows
-abbrev pub own : {X : Type 0} → Family X → Family X
-own fam d s x z = (m : ℕ) × fam d s x (st z.tokens m) × (z.operators ≡ s.operators)
-
-pub own-correct : {X : Type 0} (P : List Tok → Type 0) (p : Step X) (fam : Family X) (g : Kind → Bool) (depth : ℕ)
-    → Correct P p fam g depth → Correct P (step.alone p) (own fam) g depth
-own-correct {X} P p fam g depth a s end pre = go (p s) (a s end pre)
-  where
-    go : (o : Outcome X) → Answers fam g depth s o → Answers (own fam) g depth s (step.with_operators s.operators o)
-    go (Ok r) t = record {
-      front = t.front;
-      used = 0;
-      tokens = t.tokens;
-      operators = sym (zero-add s.operators);
-      stops = t.stops;
-      ended = t.ended;
-      reads = λ after. (r.1.operators, t.reads after, refl);
-      only = λ d n after y w stop q over. (let f = t.only d n after y (st w.tokens q.0) stop q.1 over in (f.0, f.1, (let e = q.2 in omega arith)));
-    }
-    go (Err bad) t = record {
-      front = t.front;
-      next = t.next;
-      more = t.more;
-      tokens = t.tokens;
-      kind = t.kind;
-      place = t.place;
-      limited = t.limited;
-      none = λ d n tail y w within q over. t.none d n tail y (st w.tokens q.0) within q.1 over;
-    }

@@ -6,12 +6,12 @@ use Rattle.pb_text_lexer.specs.declared.fault.ReadingRule.TheVariants.{Limit}
 use Rattle.pb_text_lexer.specs.declared.fault.Refusal.{Refusal}
 use Rattle.pb_text_lexer.specs.Kinds.{same_kind, is_last, is_limited}
 use Rattle.pb_text_lexer.specs.Tokens.{Tok}
-use Rattle.pb_text_lexer.specs.Grammar.{State, Within, Operator}
+use Rattle.pb_text_lexer.specs.Grammar.{State, Within, going_on, Operator}
 use Rattle.pb_text_lexer.specs.OpenGrammar.{Chained, last, more}
 use Rattle.pb_text_lexer.specs.Steps.{ends, head_kind, Step, Outcome, and_then, pure, take_operator, series, chain, kind}
 use Rattle.pb_text_lexer.specs.Steps as step
 use Rattle.pb_text_lexer.proofs.TokenLemmas.{kind-same, same-kind}
-use Rattle.pb_text_lexer.proofs.Correct.{st, Family, Stops, never, stops-never, Took, Refused, Answers, HeadIs, move, within-less, operator-correct}
+use Rattle.pb_text_lexer.proofs.Correct.{st, Family, Stops, never, stops-never, Readable, GoesOn, free-to, goes-to, Took, Refused, Answers, HeadIs, move, within-less, operator-answers}
 use Rattle.pb_text_lexer.proofs.CorrectSeries.{shorter, no-longer, going, Passes, or-none, stops-less, stops-at, goes-at, passes-at, passes-move, passes-is}
 
 abbrev pub is_symbol : Kind → Kind → Bool
@@ -50,6 +50,8 @@ pub record Opened {X : Type 0} (famO famC : Family X) (g conn : Kind → Bool) (
   pub closes : Passes conn z.tokens → (after : List Tok) → famC depth (st (front ++ after) s.operators) x (st after z.operators)
   pub only_open : Only famO (Stops conn) (Like g conn z.tokens) front used x
   pub only_closed : Only famC (Stops g) (Like g conn z.tokens) front used x
+  pub one_more : (after : List Tok) → famO (suc depth) (st (front ++ after) (suc s.operators)) x (st after (suc z.operators))
+  pub one_more_closed : Passes conn z.tokens → (after : List Tok) → famC (suc depth) (st (front ++ after) (suc s.operators)) x (st after (suc z.operators))
 
 pub record RefusedOpen {X : Type 0} (famO famC : Family X) (g conn : Kind → Bool) (depth : ℕ) (s : State) (bad : Refusal) : Type 0 where
   pub front : List Tok
@@ -61,13 +63,15 @@ pub record RefusedOpen {X : Type 0} (famO famC : Family X) (g conn : Kind → Bo
   pub limited : bad.rule ≡ Limit → is_limited next.kind ≡ true
   pub none_open : None famO (Stops conn) bad.rule depth s.operators front next
   pub none_closed : None famC (Stops g) bad.rule depth s.operators front next
+  pub goes_on : GoesOn famO (suc depth) (suc s.operators) (front ++ going_on bad.rule next)
 
 abbrev pub AnswersOpen : {X : Type 0} → Family X → Family X → (Kind → Bool) → (Kind → Bool) → ℕ → State → Outcome X → Type 0
 AnswersOpen famO famC g conn depth s (Ok r) = Opened famO famC g conn depth s r.0 r.1
 AnswersOpen famO famC g conn depth s (Err bad) = RefusedOpen famO famC g conn depth s bad
 
-abbrev pub CorrectOpen : {X : Type 0} → Step X → Family X → Family X → (Kind → Bool) → (Kind → Bool) → ℕ → Type 0
-CorrectOpen p famO famC g conn depth = (s : State) → ends s.tokens ≡ true → AnswersOpen famO famC g conn depth s (p s)
+pub record CorrectOpen {X : Type 0} (p : Step X) (famO famC : Family X) (g conn : Kind → Bool) (depth : ℕ) : Type 0 where
+  pub answers : (s : State) → ends s.tokens ≡ true → AnswersOpen famO famC g conn depth s (p s)
+  pub some : Readable famO (suc depth)
 
 -- ---- a chain, by the family L of its last operand and what W says may follow it
 
@@ -215,6 +219,48 @@ module _ {X : Type 0} (c : Kind) (join : X → Tok → X → X) (famC famO : Fam
   like-on : (us : List Tok) → Passes (is_symbol c) us → (ts : List Tok) → Passes (is_symbol c) ts → Like g conn us ts
   like-on us head ts h = record { stops = stops-at g (is_symbol c) ts (λ k e. ap g (kind-same k c e) ∙ apart) h; fits = λ e. absurd (conn-on us head e) }
 
+  last-open : (d : ℕ) (s : State) (x : X) (z : State) → famO d s x z → opens d s x z
+  last-open d s x z r = last r
+
+  -- a closed operand and the connective, as they are read with one level and one operator more
+  abbrev Operand : List Tok → State → X → State → Type 0
+  Operand ts s x s1 = (after : List Tok) → famC (suc depth) (st (ts ++ after) (suc s.operators)) x (st after (suc s1.operators))
+
+  -- what goes on behind the connective, with which a chain goes on
+  goes-more : (s s1 s2 : State) (ts us vs ws : List Tok) (x : X) (t : Tok) → Operand ts s x s1
+      → ((after : List Tok) → Operator c (st (us ++ after) (suc s1.operators)) t (st after (suc s2.operators)))
+      → GoesOn opens (suc depth) (suc s2.operators) (vs ++ ws) → GoesOn opens (suc depth) (suc s.operators) ((ts ++ (us ++ vs)) ++ ws)
+  goes-more s s1 s2 ts us vs ws x t a b r = record {
+    tail = r.tail;
+    value = join x t r.value;
+    left = r.left;
+    reads = λ after. move (opens (suc depth)) (ts ++ (us ++ (((vs ++ ws) ++ r.tail) ++ after))) _ _ _ (join x t r.value) (st after r.left) (regroup after) refl
+        (more (a (us ++ (((vs ++ ws) ++ r.tail) ++ after))) (b (((vs ++ ws) ++ r.tail) ++ after)) (r.reads after));
+  }
+    where
+      regroup : (after : List Tok) → ts ++ (us ++ (((vs ++ ws) ++ r.tail) ++ after)) ≡ (((ts ++ (us ++ vs)) ++ ws) ++ r.tail) ++ after
+      regroup after =
+          ap (λ u. ts ++ u) (sym (append_assoc us ((vs ++ ws) ++ r.tail) after) ∙ ap (λ u. u ++ after) (sym (append_assoc us (vs ++ ws) r.tail) ∙ ap (λ u. u ++ r.tail) (sym (append_assoc us vs ws))))
+          ∙ sym (append_assoc ts (((us ++ vs) ++ ws) ++ r.tail) after)
+          ∙ ap (λ u. u ++ after) (sym (append_assoc ts ((us ++ vs) ++ ws) r.tail) ∙ ap (λ u. u ++ r.tail) (sym (append_assoc ts (us ++ vs) ws)))
+
+  -- a connective with which it goes on, and then an operand
+  goes-connective : (s s1 : State) (ts us vs : List Tok) (x : X) → Operand ts s x s1 → GoesOn (λ d. Operator c) (suc depth) (suc s1.operators) (us ++ vs) → Readable famO (suc depth)
+      → GoesOn opens (suc depth) (suc s.operators) ((ts ++ us) ++ vs)
+  goes-connective s s1 ts us vs x a b o = record {
+    tail = b.tail ++ o.tail;
+    value = join x b.value o.value;
+    left = b.left;
+    reads = λ after. move (opens (suc depth)) (ts ++ (((us ++ vs) ++ b.tail) ++ (o.tail ++ after))) _ _ _ (join x b.value o.value) (st after b.left) (regroup after) refl
+        (more (a (((us ++ vs) ++ b.tail) ++ (o.tail ++ after))) (b.reads (o.tail ++ after)) (last (o.reads b.left after)));
+  }
+    where
+      regroup : (after : List Tok) → ts ++ (((us ++ vs) ++ b.tail) ++ (o.tail ++ after)) ≡ (((ts ++ us) ++ vs) ++ (b.tail ++ o.tail)) ++ after
+      regroup after =
+          ap (λ u. ts ++ u) (sym (append_assoc ((us ++ vs) ++ b.tail) o.tail after) ∙ ap (λ u. u ++ after) (append_assoc (us ++ vs) b.tail o.tail))
+          ∙ sym (append_assoc ts ((us ++ vs) ++ (b.tail ++ o.tail)) after)
+          ∙ ap (λ u. u ++ after) (sym (append_assoc ts (us ++ vs) (b.tail ++ o.tail)) ∙ ap (λ u. u ++ (b.tail ++ o.tail)) (sym (append_assoc ts us vs)))
+
   last-opened : (s s1 : State) (x : X) → Opened famO famC g conn depth s x s1 → Stops gg s1.tokens → Opened opens closeds gg conn depth s x s1
   last-opened s s1 x a stops = record {
     front = a.front;
@@ -227,6 +273,8 @@ module _ {X : Type 0} (c : Kind) (join : X → Tok → X → X) (famC famO : Fam
     closes = λ pass after. last (a.closes pass after);
     only_open = last_only c join famC famO g (Stops conn) (Stops conn) depth apart itself conn-on (Like g conn s1.tokens) (Like gg conn s1.tokens) a.front a.used x (into s1.tokens) (λ ts l. l.stops) a.only_open a.only_closed;
     only_closed = last_only c join famC famC g (Stops g) (Stops gg) depth apart less on-closed (Like g conn s1.tokens) (Like gg conn s1.tokens) a.front a.used x (into s1.tokens) (λ ts l. l.stops) a.only_closed a.only_closed;
+    one_more = λ after. last (a.one_more after);
+    one_more_closed = λ pass after. last (a.one_more_closed pass after);
   }
 
   more-opened : (s s1 s2 z : State) (x v : X) (t : Tok) → Opened famO famC g conn depth s x s1 → Passes (is_symbol c) s1.tokens
@@ -244,6 +292,10 @@ module _ {X : Type 0} (c : Kind) (join : X → Tok → X → X) (famC famO : Fam
         (more (a.closes (passes-conn s1.tokens head) (b.front ++ (r.front ++ after))) (b.reads (r.front ++ after)) (r.closes pass after));
     only_open = more_only c join famC famO g (Stops conn) (Stops conn) depth apart itself conn-on (Like g conn s1.tokens) (Like gg conn z.tokens) s1 s2 x v t a.front r.front a.used r.used (like-on s1.tokens head) a.only_open a.only_closed b r.only_open;
     only_closed = more_only c join famC famC g (Stops g) (Stops gg) depth apart less on-closed (Like g conn s1.tokens) (Like gg conn z.tokens) s1 s2 x v t a.front r.front a.used r.used (like-on s1.tokens head) a.only_closed a.only_closed b r.only_closed;
+    one_more = λ after. move (opens (suc depth)) (a.front ++ (b.front ++ (r.front ++ after))) _ _ _ _ (st after (suc z.operators)) (regroup after) refl
+        (more (a.one_more_closed (passes-conn s1.tokens head) (b.front ++ (r.front ++ after))) (b.one_more (r.front ++ after)) (r.one_more after));
+    one_more_closed = λ pass after. move (closeds (suc depth)) (a.front ++ (b.front ++ (r.front ++ after))) _ _ _ _ (st after (suc z.operators)) (regroup after) refl
+        (more (a.one_more_closed (passes-conn s1.tokens head) (b.front ++ (r.front ++ after))) (b.one_more (r.front ++ after)) (r.one_more_closed pass after));
   }
     where
       regroup : (after : List Tok) → a.front ++ (b.front ++ (r.front ++ after)) ≡ (a.front ++ (b.front ++ r.front)) ++ after
@@ -260,11 +312,12 @@ module _ {X : Type 0} (c : Kind) (join : X → Tok → X → X) (famC famO : Fam
     limited = a.limited;
     none_open = operand-none c join famC famO g (Stops conn) (Stops conn) depth apart itself conn-on bad.rule s.operators a.front a.next a.none_open a.none_closed;
     none_closed = operand-none c join famC famC g (Stops g) (Stops gg) depth apart less on-closed bad.rule s.operators a.front a.next a.none_closed a.none_closed;
+    goes_on = goes-to famO opens (λ v. v) (suc depth) (suc depth) (suc s.operators) (last-open (suc depth)) (a.front ++ going_on bad.rule a.next) a.goes_on;
   }
 
-  operator-refused : (s s1 : State) (x : X) (bad : Refusal) → Opened famO famC g conn depth s x s1 → Passes (is_symbol c) s1.tokens
+  operator-refused : (s s1 : State) (x : X) (bad : Refusal) → Readable famO (suc depth) → Opened famO famC g conn depth s x s1 → Passes (is_symbol c) s1.tokens
       → Refused (λ d. Operator c) never depth s1 bad → RefusedOpen opens closeds gg conn depth s bad
-  operator-refused s s1 x bad a head b = record {
+  operator-refused s s1 x bad some a head b = record {
     front = a.front ++ b.front;
     next = b.next;
     more_tokens = b.more;
@@ -274,6 +327,7 @@ module _ {X : Type 0} (c : Kind) (join : X → Tok → X → X) (famC famO : Fam
     limited = b.limited;
     none_open = operator-none c join famC famO g (Stops conn) (Stops conn) depth apart itself conn-on (Like g conn s1.tokens) s s1 x bad a.front a.used a.operators (like-on s1.tokens head) head a.only_open a.only_closed b;
     none_closed = operator-none c join famC famC g (Stops g) (Stops gg) depth apart less on-closed (Like g conn s1.tokens) s s1 x bad a.front a.used a.operators (like-on s1.tokens head) head a.only_closed a.only_closed b;
+    goes_on = goes-connective s s1 a.front b.front (going_on bad.rule b.next) x (a.one_more_closed (passes-conn s1.tokens head)) b.goes_on some;
   }
 
   rest-refused : (s s1 s2 : State) (x : X) (t : Tok) (bad : Refusal) → Opened famO famC g conn depth s x s1 → Passes (is_symbol c) s1.tokens
@@ -288,6 +342,7 @@ module _ {X : Type 0} (c : Kind) (join : X → Tok → X → X) (famC famO : Fam
     limited = r.limited;
     none_open = rest-none c join famC famO g (Stops conn) (Stops conn) depth apart itself conn-on (Like g conn s1.tokens) s s1 s2 x t bad.rule a.front r.front a.used r.next a.operators (like-on s1.tokens head) a.only_open a.only_closed b r.none_open;
     none_closed = rest-none c join famC famC g (Stops g) (Stops gg) depth apart less on-closed (Like g conn s1.tokens) s s1 s2 x t bad.rule a.front r.front a.used r.next a.operators (like-on s1.tokens head) a.only_closed a.only_closed b r.none_closed;
+    goes_on = goes-more s s1 s2 a.front b.front r.front (going_on bad.rule r.next) x t (a.one_more_closed (passes-conn s1.tokens head)) b.one_more r.goes_on;
   }
 
   fewer-left : (s s1 s2 : State) (x : X) (t : Tok) → Opened famO famC g conn depth s x s1 → Took (λ d. Operator c) never depth s1 t s2 → length s2.tokens < length s.tokens
@@ -302,7 +357,7 @@ module _ {X : Type 0} (c : Kind) (join : X → Tok → X → X) (famC famO : Fam
         empty : (ts : List Tok) → length ts ≤ 0 → ends ts ≡ true → ⊥
         empty [] le e = cc
         empty (t ∷ ts) le e = omega arith
-    open-chain-correct (suc n) s le ended = at-item (open-chain-correct n) (op s) (right-op s ended)
+    open-chain-correct (suc n) s le ended = at-item (open-chain-correct n) (op s) (right-op.answers s ended)
       where
         ends-with : (s1 : State) (x : X) (t : Tok) (s2 : State) → Opened famO famC g conn depth s x s1 → Passes (is_symbol c) s1.tokens → Took (λ d. Operator c) never depth s1 t s2
             → (o : Outcome X) → AnswersOpen opens closeds gg conn depth s2 o → AnswersOpen opens closeds gg conn depth s (and_then o (λ y. pure (join x t y)))
@@ -318,7 +373,7 @@ module _ {X : Type 0} (c : Kind) (join : X → Tok → X → X) (famC famO : Fam
             → AnswersOpen opens closeds gg conn depth s (and_then o (λ t. step.◌>>=◌ (chain c join op n) (λ y. pure (join x t y))))
         at-operator s1 x a head again (Ok r) b =
             ends-with s1 x r.0 r.1 a head b (chain c join op n r.1) (again r.1 (fewer (length r.1.tokens) le (fewer-left s s1 r.1 x r.0 a b)) b.ended)
-        at-operator s1 x a head again (Err bad) b = operator-refused s s1 x bad a head b
+        at-operator s1 x a head again (Err bad) b = operator-refused s s1 x bad right-op.some a head b
 
         head-of : (ts : List Tok) → ends ts ≡ true → is_symbol c (head_kind ts) ≡ true → Passes (is_symbol c) ts
         head-of [] e same = cc
@@ -334,7 +389,7 @@ module _ {X : Type 0} (c : Kind) (join : X → Tok → X → X) (famC famO : Fam
             → AnswersOpen opens closeds gg conn depth s (cond b (step.◌>>=◌ take_operator (λ t. step.◌>>=◌ (chain c join op n) (λ y. pure (join x t y)))) (pure x) s1)
         at-kind s1 x a again true same =
             let head = head-of s1.tokens a.ended same in
-            at-operator s1 x a head again (take_operator s1) (operator-correct c depth not-last limited s1 a.ended (head-of-passes c s1.tokens head))
+            at-operator s1 x a head again (take_operator s1) (operator-answers c depth not-last limited s1 a.ended (head-of-passes c s1.tokens head))
         at-kind s1 x a again false other = last-opened s s1 x a (stops-of s1.tokens a.stops other)
 
         at-item : ((s2 : State) → length s2.tokens ≤ n → ends s2.tokens ≡ true → AnswersOpen opens closeds gg conn depth s2 (chain c join op n s2))
@@ -342,3 +397,10 @@ module _ {X : Type 0} (c : Kind) (join : X → Tok → X → X) (famC famO : Fam
             → AnswersOpen opens closeds gg conn depth s (and_then o (λ x. step.◌>>=◌ step.peek (λ kind. cond (is_symbol c kind) (step.◌>>=◌ take_operator (λ t. step.◌>>=◌ (chain c join op n) (λ y. pure (join x t y)))) (pure x))))
         at-item again (Ok r) a = at-kind r.1 r.0 a again (is_symbol c (kind r.1)) refl
         at-item again (Err bad) a = operand-refused s bad a
+
+    -- a chain of any length
+    pub open-chains-correct : CorrectOpen (λ s. chain c join op (suc (length s.tokens)) s) opens closeds gg conn depth
+    open-chains-correct = record {
+      answers = λ s ended. open-chain-correct (suc (length s.tokens)) s (omega arith) ended;
+      some = free-to famO opens (λ v. v) (suc depth) (suc depth) (last-open (suc depth)) [] right-op.some;
+    }

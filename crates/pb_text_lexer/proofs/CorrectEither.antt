@@ -1,16 +1,16 @@
 -- A level whose last operand may be a quantifier, and the three levels of connectives over it.
-use Rattle.std.proofs.Common.{◌≡◌, ℕ, suc, ◌+◌, Bool, true, false, cond, if◌then◌else◌, ◌||◌, inl, inr, List, [], ◌∷◌, ◌++◌, length, refl, ap, ◌∙◌, arith, Ok, Err}
+use Rattle.std.proofs.Common.{◌≡◌, ℕ, suc, ◌+◌, Bool, true, false, cond, if◌then◌else◌, ◌||◌, inl, inr, List, [], ◌∷◌, ◌++◌, refl, ap, ◌∙◌, Ok, Err}
 use Rattle.pb_text_lexer.specs.declared.kind.Kind.{Kind}
 use Rattle.pb_text_lexer.specs.declared.kind.Kind.TheVariants.{And, Or, Implies}
 use Rattle.pb_text_lexer.specs.declared.fault.Refusal.{Refusal}
 use Rattle.pb_text_lexer.specs.Kinds.{same_kind}
 use Rattle.pb_text_lexer.specs.Tokens.{Tok}
-use Rattle.pb_text_lexer.specs.Grammar.{State, Within}
+use Rattle.pb_text_lexer.specs.Grammar.{State, Within, going_on}
 use Rattle.pb_text_lexer.specs.OpenGrammar.{Either, Conjunction, Disjunction, Implication, Connected}
 use Rattle.pb_text_lexer.specs.Steps.{ends, head_kind, Step, Outcome, kind, either, conjunction, disjunction, connected}
-use Rattle.pb_text_lexer.proofs.Correct.{st, Family, Stops, Took, Refused, Answers, Correct}
+use Rattle.pb_text_lexer.proofs.Correct.{st, Family, Stops, free-to, goes-to, Took, Refused, Answers, Answering, Correct}
 use Rattle.pb_text_lexer.proofs.CorrectSeries.{going, Passes, passes-is, or-left, or-right, or-none}
-use Rattle.pb_text_lexer.proofs.CorrectChained.{is_symbol, Like, Opened, RefusedOpen, AnswersOpen, CorrectOpen, open-chain-correct}
+use Rattle.pb_text_lexer.proofs.CorrectChained.{is_symbol, Like, Opened, RefusedOpen, AnswersOpen, CorrectOpen, open-chains-correct}
 
 -- ---- the lowest level: an operand, or a quantifier, by the first token
 
@@ -26,6 +26,12 @@ module _ {X : Type 0} (node quant : Family X) (g conn is_quant : Kind → Bool) 
     (quant-starts : (d : ℕ) (s : State) (y : X) (z : State) → quant d s y z → Passes is_quant s.tokens) where
   abbrev pub both : Family X
   both d = Either (node d) (quant d)
+
+  left : (d : ℕ) (s : State) (x : X) (z : State) → node d s x z → both d s x z
+  left d s x z r = inl r
+
+  right : (d : ℕ) (s : State) (x : X) (z : State) → quant d s x z → both d s x z
+  right d s x z r = inr r
 
   stops-too : (ts : List Tok) → Stops conn ts → Stops g ts
   stops-too [] h = refl
@@ -43,6 +49,8 @@ module _ {X : Type 0} (node quant : Family X) (g conn is_quant : Kind → Bool) 
     closes = λ pass after. absurd (conflict z.tokens pass a.stops);
     only_open = λ d n after y w like r over. at d n after y w like r over;
     only_closed = λ d n after y w like r over. absurd (both-ways is_quant _ (begins after) (node-starts d _ y w r));
+    one_more = λ after. inr (a.one_more after);
+    one_more_closed = λ pass after. absurd (conflict z.tokens pass a.stops);
   }
     where
       conflict : (ts : List Tok) → Passes conn ts → Stops conn ts → ⊥
@@ -69,6 +77,8 @@ module _ {X : Type 0} (node quant : Family X) (g conn is_quant : Kind → Bool) 
     closes = λ pass after. a.reads after;
     only_open = λ d n after y w like r over. at d n after y w like.stops r (stops-too w.tokens over);
     only_closed = λ d n after y w like r over. a.only d n after y w like.stops r over;
+    one_more = λ after. inl (a.one_more after);
+    one_more_closed = λ pass after. a.one_more after;
   }
     where
       begins : (after : List Tok) → Passes (Not is_quant) (a.front ++ after)
@@ -90,6 +100,7 @@ module _ {X : Type 0} (node quant : Family X) (g conn is_quant : Kind → Bool) 
     limited = a.limited;
     none_open = λ d n tail y w inside r over. at d n tail y w inside r over;
     none_closed = λ d n tail y w inside r over. both-ways is_quant _ (begins tail) (node-starts d _ y w r);
+    goes_on = goes-to quant both (λ v. v) (suc depth) (suc depth) (suc s.operators) (right (suc depth)) (a.front ++ going_on bad.rule a.next) a.goes_on;
   }
     where
       begins : (tail : List Tok) → Passes is_quant (a.front ++ a.next ∷ tail)
@@ -110,6 +121,7 @@ module _ {X : Type 0} (node quant : Family X) (g conn is_quant : Kind → Bool) 
     limited = a.limited;
     none_open = λ d n tail y w inside r over. at d n tail y w inside r (stops-too w.tokens over);
     none_closed = λ d n tail y w inside r over. a.none d n tail y w inside r over;
+    goes_on = goes-to node both (λ v. v) (suc depth) (suc depth) (suc s.operators) (left (suc depth)) (a.front ++ going_on bad.rule a.next) a.goes_on;
   }
     where
       begins : (tail : List Tok) → Passes (Not is_quant) (a.front ++ a.next ∷ tail)
@@ -119,25 +131,25 @@ module _ {X : Type 0} (node quant : Family X) (g conn is_quant : Kind → Bool) 
       at d n tail y w inside (inl r) over = a.none d n tail y w inside r over
       at d n tail y w inside (inr r) over = both-ways is_quant _ (quant-starts d _ y w r) (begins tail)
 
-  pub either-correct : (n q : Step X) → Correct (λ ts. Unit {0}) n node g depth → Correct (Passes is_quant) q quant conn depth
+  pub either-correct : (n q : Step X) → Correct (λ ts. Unit {0}) n node g depth → Answering (Passes is_quant) q quant conn depth
       → CorrectOpen (either is_quant n q) both node g conn depth
-  either-correct n q right-n right-q s ended = at (is_quant (kind s)) refl
+  either-correct n q right-n right-q = record { answers = λ s ended. at s ended (is_quant (kind s)) refl; some = free-to node both (λ v. v) (suc depth) (suc depth) (left (suc depth)) [] right-n.some }
     where
-      as-node : (o : Outcome X) → Passes (Not is_quant) s.tokens → Answers node g depth s o → AnswersOpen both node g conn depth s o
-      as-node (Ok r) h a = node-opened s r.0 r.1 a
-      as-node (Err bad) h a = node-refused s bad h a
+      as-node : (s : State) (o : Outcome X) → Passes (Not is_quant) s.tokens → Answers node g depth s o → AnswersOpen both node g conn depth s o
+      as-node s (Ok r) h a = node-opened s r.0 r.1 a
+      as-node s (Err bad) h a = node-refused s bad h a
 
-      as-quant : (o : Outcome X) → Passes is_quant s.tokens → Answers quant conn depth s o → AnswersOpen both node g conn depth s o
-      as-quant (Ok r) h a = quant-opened s r.0 r.1 a
-      as-quant (Err bad) h a = quant-refused s bad h a
+      as-quant : (s : State) (o : Outcome X) → Passes is_quant s.tokens → Answers quant conn depth s o → AnswersOpen both node g conn depth s o
+      as-quant s (Ok r) h a = quant-opened s r.0 r.1 a
+      as-quant s (Err bad) h a = quant-refused s bad h a
 
       passes : (test : Kind → Bool) (ts : List Tok) → ends ts ≡ true → test (head_kind ts) ≡ true → Passes test ts
       passes test [] e h = cc
       passes test (t ∷ ts) e h = h
 
-      at : (b : Bool) → is_quant (kind s) ≡ b → AnswersOpen both node g conn depth s (cond b (q s) (n s))
-      at true h = let head = passes is_quant s.tokens ended h in as-quant (q s) head (right-q s ended head)
-      at false h = as-node (n s) (passes (Not is_quant) s.tokens ended (ap (λ b. if◌then◌else◌ b false true) h)) (right-n s ended tt)
+      at : (s : State) → ends s.tokens ≡ true → (b : Bool) → is_quant (kind s) ≡ b → AnswersOpen both node g conn depth s (cond b (q s) (n s))
+      at s ended true h = let head = passes is_quant s.tokens ended h in as-quant s (q s) head (right-q s ended head)
+      at s ended false h = as-node s (n s) (passes (Not is_quant) s.tokens ended (ap (λ b. if◌then◌else◌ b false true) h)) (right-n.answers s ended tt)
 
 -- At the top all connectives are what goes on with a chain, and an open level is read as any other.
 pub top-correct : {X : Type 0} (famO famC : Family X) (g : Kind → Bool) (depth : ℕ) (s : State) (o : Outcome X) → AnswersOpen famO famC g g depth s o → Answers famO g depth s o
@@ -150,6 +162,7 @@ top-correct famO famC g depth s (Ok r) a = record {
   ended = a.ended;
   reads = a.reads;
   only = λ d n after y w stop q over. a.only_open d n after y w (record { stops = stop; fits = λ h. stop }) q over;
+  one_more = a.one_more;
 }
 top-correct famO famC g depth s (Err bad) a = record {
   front = a.front;
@@ -160,6 +173,7 @@ top-correct famO famC g depth s (Err bad) a = record {
   place = a.place;
   limited = a.limited;
   none = a.none_open;
+  goes_on = a.goes_on;
 }
 
 -- ---- the three levels
@@ -199,26 +213,29 @@ module _ {X : Type 0} (join : Kind → X → Tok → X → X) (node quant : Fami
   implies-apart = or-none (going g (is_symbol And) Implies) false (or-none (g Implies) false below.implication refl) refl
 
   -- three levels over a node and a quantifier
-  pub connected-correct : (n q : Step X) → Correct (λ ts. Unit {0}) n node g depth → Correct (Passes is_quant) q quant (connects g) depth
+  pub connected-correct : (n q : Step X) → Correct (λ ts. Unit {0}) n node g depth → Answering (Passes is_quant) q quant (connects g) depth
       → Correct (λ ts. Unit {0}) (connected join is_quant n q) (λ d. Connected join (node d) (quant d)) (connects g) depth
-  connected-correct n q right-n right-q s ended u =
-      top-correct (λ d. Connected join (node d) (quant d)) (λ d. Implication join (node d) (node d)) (connects g) depth s (connected join is_quant n q s) (implications s ended)
+  connected-correct n q right-n right-q = record {
+    answers = λ s ended u.
+        top-correct (λ d. Connected join (node d) (quant d)) (λ d. Implication join (node d) (node d)) (connects g) depth s (connected join is_quant n q s) (implications.answers s ended);
+    some = implications.some;
+  }
     where
       lowest : CorrectOpen (either is_quant n q) (λ d. Either (node d) (quant d)) node g (connects g) depth
       lowest = either-correct node quant g (connects g) is_quant depth less node-starts quant-starts n q right-n right-q
 
       conjunctions : CorrectOpen (conjunction join (either is_quant n q)) (λ d. Conjunction join (node d) (Either (node d) (quant d))) (λ d. Conjunction join (node d) (node d))
           (going g (is_symbol And)) (connects g) depth
-      conjunctions s ended = open-chain-correct And (join And) node (λ d. Either (node d) (quant d)) g (connects g) depth below.conjunction refl refl on-and
-          (either is_quant n q) lowest (suc (length s.tokens)) s (omega arith) ended
+      conjunctions = open-chains-correct And (join And) node (λ d. Either (node d) (quant d)) g (connects g) depth below.conjunction refl refl on-and
+          (either is_quant n q) lowest
 
       disjunctions : CorrectOpen (disjunction join (either is_quant n q)) (λ d. Disjunction join (node d) (Either (node d) (quant d))) (λ d. Disjunction join (node d) (node d))
           (going (going g (is_symbol And)) (is_symbol Or)) (connects g) depth
-      disjunctions s ended = open-chain-correct Or (join Or) (λ d. Conjunction join (node d) (node d)) (λ d. Conjunction join (node d) (Either (node d) (quant d)))
+      disjunctions = open-chains-correct Or (join Or) (λ d. Conjunction join (node d) (node d)) (λ d. Conjunction join (node d) (Either (node d) (quant d)))
           (going g (is_symbol And)) (connects g) depth or-apart refl refl on-or
-          (conjunction join (either is_quant n q)) conjunctions (suc (length s.tokens)) s (omega arith) ended
+          (conjunction join (either is_quant n q)) conjunctions
 
       implications : CorrectOpen (connected join is_quant n q) (λ d. Connected join (node d) (quant d)) (λ d. Implication join (node d) (node d)) (connects g) (connects g) depth
-      implications s ended = open-chain-correct Implies (join Implies) (λ d. Disjunction join (node d) (node d)) (λ d. Disjunction join (node d) (Either (node d) (quant d)))
+      implications = open-chains-correct Implies (join Implies) (λ d. Disjunction join (node d) (node d)) (λ d. Disjunction join (node d) (Either (node d) (quant d)))
           (going (going g (is_symbol And)) (is_symbol Or)) (connects g) depth implies-apart refl refl on-implies
-          (disjunction join (either is_quant n q)) disjunctions (suc (length s.tokens)) s (omega arith) ended
+          (disjunction join (either is_quant n q)) disjunctions

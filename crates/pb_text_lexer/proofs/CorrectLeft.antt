@@ -6,16 +6,16 @@ use Rattle.pb_text_lexer.specs.declared.fault.ReadingRule.TheVariants.{Unexpecte
 use Rattle.pb_text_lexer.specs.declared.fault.Refusal.{Refusal}
 use Rattle.pb_text_lexer.specs.Kinds.{is_last, is_limited}
 use Rattle.pb_text_lexer.specs.Tokens.{Tok}
-use Rattle.pb_text_lexer.specs.Grammar.{State, Within, Reads, Is, Series, last, more}
+use Rattle.pb_text_lexer.specs.Grammar.{State, Within, going_on, Reads, Is, Series, last, more}
 use Rattle.pb_text_lexer.specs.Grammar as grammar
 use Rattle.pb_text_lexer.specs.OpenGrammar.{Either}
 use Rattle.pb_text_lexer.specs.LeftGrammar.{OperatorOf, Extended, Link, Links, Linked, LeftChain, UnmixedChain, Comparison, grouped}
 use Rattle.pb_text_lexer.specs.Steps.{ends, head_kind, Step, Outcome, and_then, pure, peek, refuse, refusal, kind, take_from, take_token, take_operator, operator_of, extended, unless_next, nothing_between, link, links, linked, left_chain, unmixed_chain, comparison}
 use Rattle.pb_text_lexer.specs.Steps as step
 use Rattle.pb_text_lexer.proofs.TokenLemmas.{ends-behind}
-use Rattle.pb_text_lexer.proofs.Correct.{st, Family, Stops, never, stops-never, Took, Refused, Answers, Correct, move, one-took, refused-here, unlike, then-took, then-refused, then-correct, pure-correct}
+use Rattle.pb_text_lexer.proofs.Correct.{st, Family, Stops, never, GoesOn, free-to, goes-to, goes-ended, some-token, Took, Refused, Answers, Answering, Correct, move, one-took, refused-here, unlike, then-took, then-refused, then-answers, then-correct, pure-correct}
 use Rattle.pb_text_lexer.proofs.CorrectSeries.{going, Passes, or-none, or-right, stops-less, stops-at, goes-at, passes-at, passes-move, passes-is, shorter, no-longer, series-correct}
-use Rattle.pb_text_lexer.proofs.CorrectPlain.{Always, anywhere, then-plain}
+use Rattle.pb_text_lexer.proofs.CorrectPlain.{Always, anywhere, then-plain-answers, is-correct}
 
 -- ---- tests of the next token
 
@@ -33,6 +33,8 @@ head-stops g test (t ∷ ts) h other = or-none (g t.kind) _ h other
 
 -- operators with two operands, behind which more tokens stand
 pub record AreOperators (test : Kind → Bool) : Type 0 where
+  pub one : Kind
+  pub passes : test one ≡ true
   pub not_last : (k : Kind) → test k ≡ true → is_last k ≡ false
   pub limited : (k : Kind) → test k ≡ true → is_limited k ≡ true
 
@@ -46,7 +48,7 @@ module _ (test : Kind → Bool) (depth : ℕ) (are : AreOperators test) where
   of-taken : (t : Tok) (ts : List Tok) (n m : ℕ) → n ≡ suc m → ends (t ∷ ts) ≡ true → test t.kind ≡ true → Took (λ d. OperatorOf test) never depth (st (t ∷ ts) n) t (st ts m)
   of-taken t ts n m count e head =
       subst (λ (v : ℕ). Took (λ d. OperatorOf test) never depth (st (t ∷ ts) v) t (st ts m)) (omega arith)
-      (one-took (λ d. OperatorOf test) depth t ts 1 m t (ends-behind (t ∷ ts) e (are.not_last t.kind head)) (λ after. (refl, head, omega arith)) (λ d i after y w r. of-parts test t i after y w r))
+      (one-took (λ d. OperatorOf test) depth t ts 1 m t (ends-behind (t ∷ ts) e (are.not_last t.kind head)) (λ d i after. (refl, head, (omega arith))) (λ d i after y w r. of-parts test t i after y w r))
 
   of-counted : (ts : List Tok) (n : ℕ) (b : Bool) → ((b ≡ true) × (n ≡ 0)) ⊎ ((b ≡ false) × (n ≢ 0)) → ends ts ≡ true → Passes test ts
       → Answers (λ d. OperatorOf test) never depth (st ts n) (cond b (refuse Limit (st ts n)) (take_from ts (n - 1)))
@@ -54,6 +56,7 @@ module _ (test : Kind → Bool) (depth : ℕ) (are : AreOperators test) where
   of-counted (t ∷ ts) n true tells e head =
       refused-here (λ d. OperatorOf test) never depth (st (t ∷ ts) n) Limit e (λ q. are.limited t.kind head)
       (λ d i u tail y w same within r over. none n i w.operators tells within.1 r.2)
+      (λ u same. record { tail = []; value = u; left = n; reads = λ after. (refl, ap test same ∙ head, refl) })
     where
       none : (n i m : ℕ) → ((true ≡ true) × (n ≡ 0)) ⊎ ((true ≡ false) × (n ≢ 0)) → i ≤ n → i ≡ suc m → ⊥
       none n i m (inl p) le is = let q = p.1 in omega arith
@@ -64,12 +67,15 @@ module _ (test : Kind → Bool) (depth : ℕ) (are : AreOperators test) where
       some n (inl p) = let q = p.0 in cc
       some n (inr p) = let q = p.1 in omega arith
 
+  some-operator : (n : ℕ) → GoesOn (λ d. OperatorOf test) (suc depth) (suc n) []
+  some-operator n = record { tail = some-token are.one ∷ []; value = some-token are.one; left = n; reads = λ after. (refl, are.passes, refl) }
+
   of-tested : (s : State) (b : Bool) → test (kind s) ≡ b → ends s.tokens ≡ true → Answers (λ d. OperatorOf test) never depth s (cond b (take_operator s) (refuse Unexpected s))
   unfolding take_operator take_token
   of-tested s true same e = of-counted s.tokens s.operators (s.operators == 0) (eqb_tells s.operators 0) e (head-passes test s.tokens e same)
   of-tested s false same e =
       refused-here (λ d. OperatorOf test) never depth s Unexpected e (λ q. absurd (unlike q))
-      (λ d n u tail y w head within r over. other s.tokens u y w.tokens tail head same r.0 r.1)
+      (λ d n u tail y w head within r over. other s.tokens u y w.tokens tail head same r.0 r.1) (λ t is. some-operator s.operators)
     where
       other : (ts : List Tok) (u y : Tok) (ws tail : List Tok) → u.kind ≡ head_kind ts → test (head_kind ts) ≡ false → u ∷ tail ≡ y ∷ ws → test y.kind ≡ true → ⊥
       other ts u y ws tail head same e is =
@@ -77,9 +83,9 @@ module _ (test : Kind → Bool) (depth : ℕ) (are : AreOperators test) where
           let q : y.kind ≡ head_kind ts = ap (λ v. v.kind) (sym p) ∙ head in
           let r : test (head_kind ts) ≡ true = subst (λ (v : Kind). test v ≡ true) q is in cc
 
-  pub operator_of-correct : Correct Always (operator_of test) (λ d. OperatorOf test) never depth
+  pub operator_of-answers : Answering Always (operator_of test) (λ d. OperatorOf test) never depth
   unfolding operator_of
-  operator_of-correct s end u = of-tested s (test (kind s)) refl end
+  operator_of-answers s end u = of-tested s (test (kind s)) refl end
 
 pub operator_of-starts : (test : Kind → Bool) (s : State) (t : Tok) (z : State) → OperatorOf test s t z → Passes test s.tokens
 operator_of-starts test s t z r = passes-at test s.tokens z.tokens t r.0 r.1
@@ -97,6 +103,7 @@ module _ {X : Type 0} (fam : Family X) (g test : Kind → Bool) (depth : ℕ) wh
     ended = a.ended;
     reads = a.reads;
     only = λ d n after y w stop r over. a.only d n after y w (stops-less g test after stop) r (stops-less g test w.tokens over);
+    one_more = a.one_more;
   }
 
   next-refused : (s : State) (x : X) (ts : List Tok) (n : ℕ) → Took fam g depth s x (st ts n) → Passes test ts → Refused fam (going g test) depth s (refusal Unexpected ts)
@@ -112,6 +119,7 @@ module _ {X : Type 0} (fam : Family X) (g test : Kind → Bool) (depth : ℕ) wh
     none = λ d i tail y w within r over.
         let found = a.only d i (t ∷ tail) y w a.stops r (stops-less g test w.tokens over) in
         goes-at g test w.tokens (passes-move test w.tokens (t ∷ tail) found.1 head) over;
+    goes_on = goes-ended fam (suc depth) (suc s.operators) (suc n) a.front x a.one_more;
   }
 
   refused-more : (s : State) (bad : Refusal) → Refused fam g depth s bad → Refused fam (going g test) depth s bad
@@ -124,18 +132,22 @@ module _ {X : Type 0} (fam : Family X) (g test : Kind → Bool) (depth : ℕ) wh
     place = a.place;
     limited = a.limited;
     none = λ d n tail y w within r over. a.none d n tail y w within r (stops-less g test w.tokens over);
+    goes_on = a.goes_on;
   }
 
-  pub unless_next-correct : (P : List Tok → Type 0) (p : Step X) → Correct P p fam g depth → Correct P (unless_next test p) fam (going g test) depth
-  unless_next-correct P p right s end pre = went (p s) (right s end pre)
+  pub unless_next-answers : (P : List Tok → Type 0) (p : Step X) → Answering P p fam g depth → Answering P (unless_next test p) fam (going g test) depth
+  unless_next-answers P p right s end pre = went s (p s) (right s end pre)
     where
-      tested : (x : X) (z : State) (b : Bool) → test (kind z) ≡ b → Took fam g depth s x z → Answers fam (going g test) depth s (cond b (refuse Unexpected) (pure x) z)
-      tested x z true same a = next-refused s x z.tokens z.operators a (head-passes test z.tokens a.ended same)
-      tested x z false same a = stopped s x z a (head-stops g test z.tokens a.stops same)
+      tested : (s : State) (x : X) (z : State) (b : Bool) → test (kind z) ≡ b → Took fam g depth s x z → Answers fam (going g test) depth s (cond b (refuse Unexpected) (pure x) z)
+      tested s x z true same a = next-refused s x z.tokens z.operators a (head-passes test z.tokens a.ended same)
+      tested s x z false same a = stopped s x z a (head-stops g test z.tokens a.stops same)
 
-      went : (o : Outcome X) → Answers fam g depth s o → Answers fam (going g test) depth s (and_then o (λ x. step.◌>>=◌ peek (λ k. cond (test k) (refuse Unexpected) (pure x))))
-      went (Ok r) a = tested r.0 r.1 (test (kind r.1)) refl a
-      went (Err bad) a = refused-more s bad a
+      went : (s : State) (o : Outcome X) → Answers fam g depth s o → Answers fam (going g test) depth s (and_then o (λ x. step.◌>>=◌ peek (λ k. cond (test k) (refuse Unexpected) (pure x))))
+      went s (Ok r) a = tested s r.0 r.1 (test (kind r.1)) refl a
+      went s (Err bad) a = refused-more s bad a
+
+  pub unless_next-correct : (P : List Tok → Type 0) (p : Step X) → Correct P p fam g depth → Correct P (unless_next test p) fam (going g test) depth
+  unless_next-correct P p right = record { answers = λ s end pre. unless_next-answers P p right.answers s end pre; some = right.some }
 
 -- ---- a thing, and more where the test holds of the next token
 
@@ -147,6 +159,12 @@ module _ {X : Type 0} (item : Family X) (beyond : X → Family X) (g test : Kind
 
   abbrev longer : Family X
   longer d = grammar.◌>>=◌ (item d) (λ x. beyond x d)
+
+  alone : (d : ℕ) (s : State) (x : X) (z : State) → item d s x z → many d s x z
+  alone d s x z r = inl r
+
+  with-more : (d : ℕ) (s : State) (x : X) (z : State) → longer d s x z → many d s x z
+  with-more d s x z r = inr r
 
   follow : (d : ℕ) (x : X) (m : State) (y : X) (z : State) → beyond x d m y z → Stops (going g test) z.tokens → Stops g m.tokens
   follow d x m y z r over = stops-at g test m.tokens apart (starts d x m y z r)
@@ -169,6 +187,7 @@ module _ {X : Type 0} (item : Family X) (beyond : X → Family X) (g test : Kind
     ended = t.ended;
     reads = λ after. inr (t.reads after);
     only = λ d n after v w stop r over. only d n after v w stop r over;
+    one_more = λ after. inr ((then-took item beyond g (going g test) depth follow s s1 x y z a b).one_more after);
   }
     where
       t : Took longer (going g test) depth s y z
@@ -194,6 +213,7 @@ module _ {X : Type 0} (item : Family X) (beyond : X → Family X) (g test : Kind
     place = b.place;
     limited = b.limited;
     none = λ d n tail v w within r over. none d n tail v w within r over;
+    goes_on = goes-to longer many (λ v. v) (suc depth) (suc depth) (suc s.operators) (with-more (suc depth)) ((a.front ++ b.front) ++ going_on bad.rule b.next) (then-refused item beyond g (going g test) depth follow s s1 x bad a b).goes_on;
   }
     where
       none : (d n : ℕ) (tail : List Tok) (v : X) (w : State) → Within bad.rule depth s.operators d n
@@ -213,6 +233,7 @@ module _ {X : Type 0} (item : Family X) (beyond : X → Family X) (g test : Kind
     place = a.place;
     limited = a.limited;
     none = λ d n tail v w within r over. none d n tail v w within r over;
+    goes_on = goes-to item many (λ v. v) (suc depth) (suc depth) (suc s.operators) (alone (suc depth)) (a.front ++ going_on bad.rule a.next) a.goes_on;
   }
     where
       none : (d n : ℕ) (tail : List Tok) (v : X) (w : State) → Within bad.rule depth s.operators d n
@@ -230,6 +251,7 @@ module _ {X : Type 0} (item : Family X) (beyond : X → Family X) (g test : Kind
     ended = a.ended;
     reads = λ after. inl (a.reads after);
     only = λ d n after v w stop r over. only d n after v w stop r over;
+    one_more = λ after. inl (a.one_more after);
   }
     where
       only : (d n : ℕ) (after : List Tok) (v : X) (w : State) → Stops (going g test) after
@@ -241,21 +263,21 @@ module _ {X : Type 0} (item : Family X) (beyond : X → Family X) (g test : Kind
           absurd (goes-at g test after (passes-move test after r.1.tokens (sym found.1) (starts d r.0 r.1 v w r.3)) stop)
 
   pub extended-correct : (P : List Tok → Type 0) (p : Step X) → Correct P p item g depth
-      → (q : X → Step X) → ((x : X) → Correct (Passes test) (q x) (beyond x) (going g test) depth)
+      → (q : X → Step X) → ((x : X) → Answering (Passes test) (q x) (beyond x) (going g test) depth)
       → Correct P (extended test p q) many (going g test) depth
-  extended-correct P p right-p q right-q s end pre = went (p s) (right-p s end pre)
+  extended-correct P p right-p q right-q = record { answers = λ s end pre. went s (p s) (right-p.answers s end pre); some = free-to item many (λ v. v) (suc depth) (suc depth) (alone (suc depth)) [] right-p.some }
     where
-      followed : (s1 : State) (x : X) → Took item g depth s x s1 → Passes test s1.tokens → (o : Outcome X) → Answers (beyond x) (going g test) depth s1 o → Answers many (going g test) depth s o
-      followed s1 x a head (Ok r) b = more-took s s1 x r.0 r.1 a b
-      followed s1 x a head (Err bad) b = more-refused s s1 x bad a head b
+      followed : (s s1 : State) (x : X) → Took item g depth s x s1 → Passes test s1.tokens → (o : Outcome X) → Answers (beyond x) (going g test) depth s1 o → Answers many (going g test) depth s o
+      followed s s1 x a head (Ok r) b = more-took s s1 x r.0 r.1 a b
+      followed s s1 x a head (Err bad) b = more-refused s s1 x bad a head b
 
-      tested : (x : X) (z : State) (b : Bool) → test (kind z) ≡ b → Took item g depth s x z → Answers many (going g test) depth s (cond b (q x) (pure x) z)
-      tested x z true same a = let head = head-passes test z.tokens a.ended same in followed z x a head (q x z) (right-q x z a.ended head)
-      tested x z false same a = alone-took s z x a (head-stops g test z.tokens a.stops same)
+      tested : (s : State) (x : X) (z : State) (b : Bool) → test (kind z) ≡ b → Took item g depth s x z → Answers many (going g test) depth s (cond b (q x) (pure x) z)
+      tested s x z true same a = let head = head-passes test z.tokens a.ended same in followed s z x a head (q x z) (right-q x z a.ended head)
+      tested s x z false same a = alone-took s z x a (head-stops g test z.tokens a.stops same)
 
-      went : (o : Outcome X) → Answers item g depth s o → Answers many (going g test) depth s (and_then o (λ x. step.◌>>=◌ peek (λ k. cond (test k) (q x) (pure x))))
-      went (Ok r) a = tested r.0 r.1 (test (kind r.1)) refl a
-      went (Err bad) a = item-refused s bad a
+      went : (s : State) (o : Outcome X) → Answers item g depth s o → Answers many (going g test) depth s (and_then o (λ x. step.◌>>=◌ peek (λ k. cond (test k) (q x) (pure x))))
+      went s (Ok r) a = tested s r.0 r.1 (test (kind r.1)) refl a
+      went s (Err bad) a = item-refused s bad a
 
 -- ---- one of two, by the first token
 
@@ -265,6 +287,12 @@ module _ {X : Type 0} (fam other : Family X) (test test' g : Kind → Bool) (dep
     (starts' : (d : ℕ) (s : State) (y : X) (z : State) → other d s y z → Passes test' s.tokens) where
   abbrev one-of : Family X
   one-of d = Either (fam d) (other d)
+
+  left : (d : ℕ) (s : State) (x : X) (z : State) → fam d s x z → one-of d s x z
+  left d s x z r = inl r
+
+  right : (d : ℕ) (s : State) (x : X) (z : State) → other d s x z → one-of d s x z
+  right d s x z r = inr r
 
   not-both : (ts : List Tok) → Passes test ts → Passes test' ts → ⊥
   not-both [] h e = h
@@ -280,6 +308,7 @@ module _ {X : Type 0} (fam other : Family X) (test test' g : Kind → Bool) (dep
     ended = a.ended;
     reads = λ after. inl (a.reads after);
     only = λ d n after y w stop r over. only d n after y w stop r over;
+    one_more = λ after. inl (a.one_more after);
   }
     where
       only : (d n : ℕ) (after : List Tok) (y : X) (w : State) → Stops g after → one-of d (st (a.front ++ after) n) y w → Stops g w.tokens
@@ -297,6 +326,7 @@ module _ {X : Type 0} (fam other : Family X) (test test' g : Kind → Bool) (dep
     ended = a.ended;
     reads = λ after. inr (a.reads after);
     only = λ d n after y w stop r over. only d n after y w stop r over;
+    one_more = λ after. inr (a.one_more after);
   }
     where
       only : (d n : ℕ) (after : List Tok) (y : X) (w : State) → Stops g after → one-of d (st (a.front ++ after) n) y w → Stops g w.tokens
@@ -314,6 +344,7 @@ module _ {X : Type 0} (fam other : Family X) (test test' g : Kind → Bool) (dep
     place = a.place;
     limited = a.limited;
     none = λ d n tail y w within r over. none d n tail y w within r over;
+    goes_on = goes-to fam one-of (λ v. v) (suc depth) (suc depth) (suc s.operators) (left (suc depth)) (a.front ++ going_on bad.rule a.next) a.goes_on;
   }
     where
       none : (d n : ℕ) (tail : List Tok) (y : X) (w : State) → Within bad.rule depth s.operators d n → one-of d (st (a.front ++ a.next ∷ tail) n) y w → Stops g w.tokens → ⊥
@@ -330,33 +361,34 @@ module _ {X : Type 0} (fam other : Family X) (test test' g : Kind → Bool) (dep
     place = a.place;
     limited = a.limited;
     none = λ d n tail y w within r over. none d n tail y w within r over;
+    goes_on = goes-to other one-of (λ v. v) (suc depth) (suc depth) (suc s.operators) (right (suc depth)) (a.front ++ going_on bad.rule a.next) a.goes_on;
   }
     where
       none : (d n : ℕ) (tail : List Tok) (y : X) (w : State) → Within bad.rule depth s.operators d n → one-of d (st (a.front ++ a.next ∷ tail) n) y w → Stops g w.tokens → ⊥
       none d n tail y w within (inr r) over = a.none d n tail y w within r over
       none d n tail y w within (inl r) over = not-both _ (starts d _ y w r) (passes-is test' a.front a.next a.more tail s.tokens a.tokens head)
 
-  pub choice-correct : (p q : Step X) → Correct (Passes test) p fam g depth → Correct (Passes test') q other g depth
-      → Correct (Passes (λ k. test k || test' k)) (λ s. cond (test (kind s)) (p s) (q s)) one-of g depth
-  choice-correct p q right-p right-q s end pre = tested (test (kind s)) refl
+  pub choice-answers : (p q : Step X) → Answering (Passes test) p fam g depth → Answering (Passes test') q other g depth
+      → Answering (Passes (λ k. test k || test' k)) (λ s. cond (test (kind s)) (p s) (q s)) one-of g depth
+  choice-answers p q right-p right-q s end pre = tested s end pre (test (kind s)) refl
     where
-      as-left : (o : Outcome X) → Passes test s.tokens → Answers fam g depth s o → Answers one-of g depth s o
-      as-left (Ok r) h a = left-took s r.0 r.1 a
-      as-left (Err bad) h a = left-refused s bad h a
+      as-left : (s : State) (o : Outcome X) → Passes test s.tokens → Answers fam g depth s o → Answers one-of g depth s o
+      as-left s (Ok r) h a = left-took s r.0 r.1 a
+      as-left s (Err bad) h a = left-refused s bad h a
 
-      as-right : (o : Outcome X) → Passes test' s.tokens → Answers other g depth s o → Answers one-of g depth s o
-      as-right (Ok r) h a = right-took s r.0 r.1 a
-      as-right (Err bad) h a = right-refused s bad h a
+      as-right : (s : State) (o : Outcome X) → Passes test' s.tokens → Answers other g depth s o → Answers one-of g depth s o
+      as-right s (Ok r) h a = right-took s r.0 r.1 a
+      as-right s (Err bad) h a = right-refused s bad h a
 
       or-other : (a b : Bool) → (a || b) ≡ true → a ≡ false → b ≡ true
       or-other true b h e = cc
       or-other false b h e = h
 
-      tested : (b : Bool) → test (kind s) ≡ b → Answers one-of g depth s (cond b (p s) (q s))
-      tested true same = let head = head-passes test s.tokens end same in as-left (p s) head (right-p s end head)
-      tested false same =
+      tested : (s : State) → ends s.tokens ≡ true → Passes (λ k. test k || test' k) s.tokens → (b : Bool) → test (kind s) ≡ b → Answers one-of g depth s (cond b (p s) (q s))
+      tested s end pre true same = let head = head-passes test s.tokens end same in as-left s (p s) head (right-p s end head)
+      tested s end pre false same =
           let head = head-passes test' s.tokens end (or-other (test (kind s)) (test' (kind s)) (passes-head (λ k. test k || test' k) s.tokens pre) same) in
-          as-right (q s) head (right-q s end head)
+          as-right s (q s) head (right-q s end head)
 
 -- ---- links
 
@@ -365,10 +397,10 @@ module _ {X : Type 0} (item : Family X) (g test : Kind → Bool) (join : X → T
   follows : (d : ℕ) (y : X) (t : Tok) (m : State) (r : Tok × X) (z : State) → Is (t, y) m r z → Stops g z.tokens → Stops g m.tokens
   follows d y t m r z h over = subst (λ (v : State). Stops g v.tokens) h.1 over
 
-  link-correct : Correct Always (link test p) (λ d. Link test (item d)) g depth
-  link-correct =
-      then-plain (λ d. OperatorOf test) (λ t d. grammar.◌>>=◌ (item d) (λ y. Is (t, y))) g depth Always (operator_of test) (λ t. step.◌>>=◌ p (λ y. pure (t, y)))
-      (operator_of-correct test depth are)
+  link-answers : Answering Always (link test p) (λ d. Link test (item d)) g depth
+  link-answers =
+      then-plain-answers (λ d. OperatorOf test) (λ t d. grammar.◌>>=◌ (item d) (λ y. Is (t, y))) g depth Always (operator_of test) (λ t. step.◌>>=◌ p (λ y. pure (t, y)))
+      (operator_of-answers test depth are)
       (λ t. then-correct item (λ y d. Is (t, y)) g g depth (λ d y m r z h over. follows d y t m r z h over) Always p (λ y. pure (t, y)) right-p (λ y. pure-correct (t, y) g depth))
 
   abbrev link-at : Family (Tok × X)
@@ -381,16 +413,17 @@ module _ {X : Type 0} (item : Family X) (g test : Kind → Bool) (join : X → T
   links-start d s y z (last r) = link-starts d s _ z r
   links-start d s y z (more {m = m} r b rest) = link-starts d s _ m r
 
-  pub links-correct : Correct Always (links test p) (λ d. Links test (item d)) (going g test) depth
-  links-correct s end u =
+  pub links-answers : Answering Always (links test p) (λ d. Links test (item d)) (going g test) depth
+  links-answers s end u =
       series-correct link-at (λ d. Is {X = Unit {0}} tt) (λ x. x ∷ []) (λ x t xs. x ∷ xs) g test depth apart
       (λ d m t o y z b r. subst (λ (v : State). Passes test v.tokens) b.1 (links-start d o y z r))
-      (link test p) link-correct nothing_between (λ s e pre. nothing s e)
+      (link test p) link-answers nothing_between (anywhere (Passes test) nothing_between (λ d. Is {X = Unit {0}} tt) never depth (is-correct tt depth)).answers
+      (λ m bad is. absurd (unlike-error is))
       (λ s0 s1 s2 x t a b. less s0.tokens s1.tokens s2.tokens a.front b.front (a.reads []).0 (a.reads []).1.tokens a.tokens b.tokens (a.reads []).2.0)
       (suc (length s.tokens)) s (omega arith) end
     where
-      nothing : (s : State) → ends s.tokens ≡ true → Answers (λ d. Is {X = Unit {0}} tt) never depth s (nothing_between s)
-      nothing s e = pure-correct tt never depth s e (stops-never s.tokens)
+      unlike-error : {A E : Type 0} {a : A} {e : E} → Ok a ≡ Err e → ⊥
+      unlike-error h = cc
 
       less : (ts us vs front behind_front : List Tok) (t : Tok) (rest : List Tok) → ts ≡ front ++ us → us ≡ behind_front ++ vs → front ++ [] ≡ t ∷ rest → length vs < length ts
       less ts us vs front behind_front t rest h q r = let a = no-longer us behind_front vs q in let b = shorter ts front us rest t h r in omega arith
@@ -398,10 +431,10 @@ module _ {X : Type 0} (item : Family X) (g test : Kind → Bool) (join : X → T
   linked-follow : (d : ℕ) (x : X) (ls : List (Tok × X)) (m : State) (y : X) (z : State) → Is (grouped join x ls) m y z → Stops (going g test) z.tokens → Stops (going g test) m.tokens
   linked-follow d x ls m y z h over = subst (λ (v : State). Stops (going g test) v.tokens) h.1 over
 
-  pub linked-correct : (x : X) → Correct Always (linked test join p x) (λ d. Linked test join (item d) x) (going g test) depth
-  linked-correct x =
-      then-correct (λ d. Links test (item d)) (λ ls d. Is (grouped join x ls)) (going g test) (going g test) depth (λ d ls m y z h over. linked-follow d x ls m y z h over)
-      Always (links test p) (λ ls. pure (grouped join x ls)) links-correct (λ ls. pure-correct (grouped join x ls) (going g test) depth)
+  pub linked-answers : (x : X) → Answering Always (linked test join p x) (λ d. Linked test join (item d) x) (going g test) depth
+  linked-answers x =
+      then-answers (λ d. Links test (item d)) (λ ls d. Is (grouped join x ls)) (going g test) (going g test) depth (λ d ls m y z h over. linked-follow d x ls m y z h over)
+      Always (links test p) (λ ls. pure (grouped join x ls)) links-answers (λ ls. pure-correct (grouped join x ls) (going g test) depth)
 
   pub linked-starts : (d : ℕ) (x : X) (s : State) (y : X) (z : State) → Linked test join (item d) x s y z → Passes test s.tokens
   linked-starts d x s y z r = links-start d s r.0 r.1 r.2
@@ -410,16 +443,16 @@ module _ {X : Type 0} (item : Family X) (g test : Kind → Bool) (join : X → T
   pub left_chain-correct : Correct Always (left_chain test join p) (λ d. LeftChain test join (item d)) (going g test) depth
   left_chain-correct =
       extended-correct item (λ x d. Linked test join (item d) x) g test depth apart (λ d x m y z r. linked-starts d x m y z r)
-      Always p right-p (linked test join p) (λ x. anywhere (Passes test) (linked test join p x) (λ d. Linked test join (item d) x) (going g test) depth (linked-correct x))
+      Always p right-p (linked test join p) (λ x s end pre. linked-answers x s end tt)
 
   -- an operator and a second operand
   abbrev second : X → Family X
   second x d = grammar.◌>>=◌ (OperatorOf test) (λ t. grammar.◌>>=◌ (item d) (λ y. Is (join x t y)))
 
-  second-correct : (x : X) → Correct Always (step.◌>>=◌ (operator_of test) (λ t. step.◌>>=◌ p (λ y. pure (join x t y)))) (second x) g depth
-  second-correct x =
-      then-plain (λ d. OperatorOf test) (λ t d. grammar.◌>>=◌ (item d) (λ y. Is (join x t y))) g depth Always (operator_of test) (λ t. step.◌>>=◌ p (λ y. pure (join x t y)))
-      (operator_of-correct test depth are)
+  second-answers : (x : X) → Answering Always (step.◌>>=◌ (operator_of test) (λ t. step.◌>>=◌ p (λ y. pure (join x t y)))) (second x) g depth
+  second-answers x =
+      then-plain-answers (λ d. OperatorOf test) (λ t d. grammar.◌>>=◌ (item d) (λ y. Is (join x t y))) g depth Always (operator_of test) (λ t. step.◌>>=◌ p (λ y. pure (join x t y)))
+      (operator_of-answers test depth are)
       (λ t. then-correct item (λ y d. Is (join x t y)) g g depth (λ d y m r z h over. subst (λ (v : State). Stops g v.tokens) h.1 over) Always p (λ y. pure (join x t y)) right-p (λ y. pure-correct (join x t y) g depth))
 
   -- one operand or two
@@ -427,8 +460,7 @@ module _ {X : Type 0} (item : Family X) (g test : Kind → Bool) (join : X → T
   comparison-correct =
       extended-correct item second g test depth apart (λ d x m y z r. operator_of-starts test m r.0 r.1 r.2)
       Always p right-p (λ x. unless_next test (step.◌>>=◌ (operator_of test) (λ t. step.◌>>=◌ p (λ y. pure (join x t y)))))
-      (λ x. anywhere (Passes test) (unless_next test (step.◌>>=◌ (operator_of test) (λ t. step.◌>>=◌ p (λ y. pure (join x t y))))) (second x) (going g test) depth
-      (unless_next-correct (second x) g test depth Always (step.◌>>=◌ (operator_of test) (λ t. step.◌>>=◌ p (λ y. pure (join x t y)))) (second-correct x)))
+      (λ x s end pre. unless_next-answers (second x) g test depth Always (step.◌>>=◌ (operator_of test) (λ t. step.◌>>=◌ p (λ y. pure (join x t y)))) (second-answers x) s end tt)
 
 -- ---- operators of one group or of the other
 
@@ -441,12 +473,12 @@ stops-same : (g h : Kind → Bool) → ((k : Kind) → g k ≡ h k) → (ts : Li
 stops-same g h same [] e = refl
 stops-same g h same (t ∷ ts) e = same t.kind ∙ e
 
-pub going-alike-correct : {X : Type 0} (P : List Tok → Type 0) (p : Step X) (fam : Family X) (g h : Kind → Bool) (depth : ℕ) → ((k : Kind) → g k ≡ h k)
-    → Correct P p fam g depth → Correct P p fam h depth
-going-alike-correct {X} P p fam g h depth same a s end pre = went (p s) (a s end pre)
+pub going-alike-answers : {X : Type 0} (P : List Tok → Type 0) (p : Step X) (fam : Family X) (g h : Kind → Bool) (depth : ℕ) → ((k : Kind) → g k ≡ h k)
+    → Answering P p fam g depth → Answering P p fam h depth
+going-alike-answers {X} P p fam g h depth same a s end pre = went s (p s) (a s end pre)
   where
-    went : (o : Outcome X) → Answers fam g depth s o → Answers fam h depth s o
-    went (Ok r) t = record {
+    went : (s : State) (o : Outcome X) → Answers fam g depth s o → Answers fam h depth s o
+    went s (Ok r) t = record {
       front = t.front;
       used = t.used;
       tokens = t.tokens;
@@ -455,8 +487,9 @@ going-alike-correct {X} P p fam g h depth same a s end pre = went (p s) (a s end
       ended = t.ended;
       reads = t.reads;
       only = λ d n after y w stop q over. t.only d n after y w (stops-same g h same after stop) q (stops-same g h same w.tokens over);
+      one_more = t.one_more;
     }
-    went (Err bad) t = record {
+    went s (Err bad) t = record {
       front = t.front;
       next = t.next;
       more = t.more;
@@ -465,6 +498,7 @@ going-alike-correct {X} P p fam g h depth same a s end pre = went (p s) (a s end
       place = t.place;
       limited = t.limited;
       none = λ d n tail y w within q over. t.none d n tail y w within q (stops-same g h same w.tokens over);
+      goes_on = t.goes_on;
     }
 
 left-alike : (a b c : Bool) → ((a || b) || c) ≡ (a || (b || c))
@@ -497,17 +531,15 @@ module _ {X : Type 0} (item : Family X) (g test other : Kind → Bool) (join : X
   abbrev others : X → Family X
   others x d = Linked other join (item d) x
 
-  ones-correct : (x : X) → Correct (Passes test) (unless_next other (linked test join p x)) (ones x) (going g any) depth
-  ones-correct x =
-      anywhere (Passes test) (unless_next other (linked test join p x)) (ones x) (going g any) depth
-      (going-alike-correct Always (unless_next other (linked test join p x)) (ones x) (going (going g test) other) (going g any) depth (λ k. left-alike (g k) (test k) (other k))
-      (unless_next-correct (ones x) (going g test) other depth Always (linked test join p x) (linked-correct item g test join depth are apart p right-p x)))
+  ones-answers : (x : X) → Answering (Passes test) (unless_next other (linked test join p x)) (ones x) (going g any) depth
+  ones-answers x s end pre =
+      going-alike-answers Always (unless_next other (linked test join p x)) (ones x) (going (going g test) other) (going g any) depth (λ k. left-alike (g k) (test k) (other k))
+      (unless_next-answers (ones x) (going g test) other depth Always (linked test join p x) (linked-answers item g test join depth are apart p right-p x)) s end tt
 
-  others-correct : (x : X) → Correct (Passes other) (unless_next test (linked other join p x)) (others x) (going g any) depth
-  others-correct x =
-      anywhere (Passes other) (unless_next test (linked other join p x)) (others x) (going g any) depth
-      (going-alike-correct Always (unless_next test (linked other join p x)) (others x) (going (going g other) test) (going g any) depth (λ k. right-alike (g k) (test k) (other k))
-      (unless_next-correct (others x) (going g other) test depth Always (linked other join p x) (linked-correct item g other join depth others-are other-apart p right-p x)))
+  others-answers : (x : X) → Answering (Passes other) (unless_next test (linked other join p x)) (others x) (going g any) depth
+  others-answers x s end pre =
+      going-alike-answers Always (unless_next test (linked other join p x)) (others x) (going (going g other) test) (going g any) depth (λ k. right-alike (g k) (test k) (other k))
+      (unless_next-answers (others x) (going g other) test depth Always (linked other join p x) (linked-answers item g other join depth others-are other-apart p right-p x)) s end tt
 
   both-start : (d : ℕ) (x : X) (s : State) (y : X) (z : State) → Either (ones x d) (others x d) s y z → Passes any s.tokens
   both-start d x s y z (inl r) = more-kinds s.tokens (linked-starts item g test join depth are apart p right-p d x s y z r)
@@ -525,6 +557,6 @@ module _ {X : Type 0} (item : Family X) (g test other : Kind → Bool) (join : X
   unmixed_chain-correct =
       extended-correct item (λ x d. Either (ones x d) (others x d)) g any depth any-apart both-start
       Always p right-p (λ x s. cond (test (kind s)) (unless_next other (linked test join p x) s) (unless_next test (linked other join p x) s))
-      (λ x. choice-correct (ones x) (others x) test other (going g any) depth unmixed
+      (λ x. choice-answers (ones x) (others x) test other (going g any) depth unmixed
       (λ d. linked-starts item g test join depth are apart p right-p d x) (λ d. linked-starts item g other join depth others-are other-apart p right-p d x)
-      (unless_next other (linked test join p x)) (unless_next test (linked other join p x)) (ones-correct x) (others-correct x))
+      (unless_next other (linked test join p x)) (unless_next test (linked other join p x)) (ones-answers x) (others-answers x))

@@ -1,14 +1,15 @@
 -- Steps behind which anything may stand, and steps that are right wherever they begin.
-use Rattle.std.proofs.Common.{◌≡◌, ℕ, Bool, false, List}
+use Rattle.std.proofs.Common.{◌≡◌, ℕ, Bool, false, List, refl}
 use Rattle.pb_text_lexer.specs.declared.fault.ReadingRule.TheVariants.{Unexpected}
 use Rattle.pb_text_lexer.specs.declared.kind.Kind.{Kind}
 use Rattle.pb_text_lexer.specs.Kinds.{is_last}
 use Rattle.pb_text_lexer.specs.Tokens.{Tok}
 use Rattle.pb_text_lexer.specs.Grammar.{State, Reads, Is, Nothing, One}
 use Rattle.pb_text_lexer.specs.Grammar as grammar
-use Rattle.pb_text_lexer.specs.Steps.{Step, pure, take_token, refuse}
+use Rattle.pb_text_lexer.specs.Steps.{head_kind, Step, pure, take_token, refuse}
 use Rattle.pb_text_lexer.specs.Steps as step
-use Rattle.pb_text_lexer.proofs.Correct.{Family, Stops, never, stops-never, Correct, then-correct, pure-correct, HeadIs, take-correct, refused-here, unlike, weaker-correct}
+use Rattle.pb_text_lexer.proofs.Correct.{Family, Stops, never, stops-never, Answering, Correct, then-answers, then-correct, pure-correct, HeadIs, take-correct}
+use Rattle.pb_text_lexer.proofs.CorrectFamilies.{Nowhere, weaker-correct}
 
 abbrev pub Always : List Tok → Type 0
 Always ts = Unit {0}
@@ -34,5 +35,13 @@ leaf-correct kind f depth ne =
     then-plain (λ d. One kind) (λ t d. Is (f t)) never depth (HeadIs kind) take_token (λ t. pure (f t)) (take-correct kind depth ne) (λ t. is-correct (f t) depth)
 
 -- a kind of token with which nothing begins
-pub nothing-correct : {X : Type 0} (kind : Kind) (g : Kind → Bool) (depth : ℕ) → Correct (HeadIs kind) (refuse Unexpected) (λ d. Nothing {X = X}) g depth
-nothing-correct kind g depth s end h = refused-here (λ d. Nothing) g depth s Unexpected end (λ q. absurd (unlike q)) (λ d n t tail y w head within r over. r)
+pub nothing-correct : {X : Type 0} → Nowhere (refuse Unexpected) (λ d. Nothing {X = X})
+nothing-correct = record { refuses = refl; none = λ d s y z r. r }
+
+-- the same where the first begins with an operator, so that an operator at least is needed to read it
+pub then-plain-answers : {X Y : Type 0} (famR : Family X) (famS : X → Family Y) (g : Kind → Bool) (depth : ℕ) (P : List Tok → Type 0) (p : Step X) (q : X → Step Y)
+    → Answering P p famR never depth → ((x : X) → Correct Always (q x) (famS x) g depth)
+    → Answering P (step.◌>>=◌ p q) (λ d. grammar.◌>>=◌ (famR d) (λ x. famS x d)) g depth
+then-plain-answers famR famS g depth P p q a b =
+    then-answers famR famS never g depth (λ d x m y z r over. stops-never m.tokens) P p q a
+    (λ x. anywhere (Stops never) (q x) (famS x) g depth (b x))

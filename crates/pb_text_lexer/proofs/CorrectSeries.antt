@@ -3,11 +3,11 @@ use Rattle.std.proofs.Common.{◌≡◌, ℕ, zero, suc, ◌+◌, ◌≤◌, ◌
 use Rattle.pb_text_lexer.specs.declared.kind.Kind.{Kind}
 use Rattle.pb_text_lexer.specs.declared.fault.Refusal.{Refusal}
 use Rattle.pb_text_lexer.specs.Tokens.{Tok}
-use Rattle.pb_text_lexer.specs.Grammar.{State, Within, Reads, Is, Series, last, more}
+use Rattle.pb_text_lexer.specs.Grammar.{State, Within, going_on, Reads, Is, Series, last, more}
 use Rattle.pb_text_lexer.specs.Grammar as grammar
 use Rattle.pb_text_lexer.specs.Steps.{ends, head_kind, Step, Outcome, and_then, pure, kind, series}
 use Rattle.pb_text_lexer.specs.Steps as step
-use Rattle.pb_text_lexer.proofs.Correct.{st, Family, Stops, never, stops-never, Took, Refused, Answers, Correct, move, then-took, then-refused, first-refused, pure-correct, HeadIs}
+use Rattle.pb_text_lexer.proofs.Correct.{st, Family, Stops, never, stops-never, Readable, free-to, readable-is, free-then, goes-to, Took, Refused, Answers, Answering, move, then-took, then-refused, first-refused, pure-correct, HeadIs}
 
 -- what goes on with a series: what goes on with an item, and what passes the test
 abbrev pub going : (Kind → Bool) → (Kind → Bool) → Kind → Bool
@@ -63,6 +63,15 @@ shorter ts (f ∷ fs) us vs t e h = let p = ap length e in let q = length-append
 pub no-longer : (ts front us : List Tok) → ts ≡ front ++ us → length us ≤ length ts
 no-longer ts front us e = let p = ap length e in let q = length-append {A = Tok} front us in omega arith
 
+-- ---- a series of one item
+
+module _ {X T Y : Type 0} (item : Family X) (between : Family T) (end : X → Y) (join : X → T → Y → Y) where
+  last-of : (d : ℕ) (s : State) (x : X) (z : State) → item d s x z → Series (item d) (between d) end join s (end x) z
+  last-of d s x z r = last r
+
+  pub readable-series : (level : ℕ) → Readable item level → Readable (λ d. Series (item d) (between d) end join) level
+  readable-series level a = free-to item (λ d. Series (item d) (between d) end join) end level level (last-of level) [] a
+
 module _ {X T Y : Type 0} (item : Family X) (between : Family T) (end : X → Y) (join : X → T → Y → Y) (g test : Kind → Bool) (depth : ℕ)
     (apart : (k : Kind) → test k ≡ true → g k ≡ false)
     (starts : (d : ℕ) (m : State) (t : T) (o : State) (y : Y) (z : State) → between d m t o → Series (item d) (between d) end join o y z → Passes test m.tokens) where
@@ -116,6 +125,7 @@ module _ {X T Y : Type 0} (item : Family X) (between : Family T) (end : X → Y)
     ended = t.ended;
     reads = λ after. join-longer depth _ y (st after z.operators) (t.reads after);
     only = λ d n after v w stop r over. only d n after v w stop (split d _ v w r) over;
+    one_more = λ after. join-longer (suc depth) _ y _ ((then-took item behind g (going g test) depth follow s s1 x y z a b).one_more after);
   }
     where
       t : Took longer (going g test) depth s y z
@@ -141,6 +151,7 @@ module _ {X T Y : Type 0} (item : Family X) (between : Family T) (end : X → Y)
     place = b.place;
     limited = b.limited;
     none = λ d n tail v w within r over. none d n tail v w within (split d _ v w r) over;
+    goes_on = goes-to longer many (λ v. v) (suc depth) (suc depth) (suc s.operators) (join-longer (suc depth)) ((a.front ++ b.front) ++ going_on bad.rule b.next) (then-refused item behind g (going g test) depth follow s s1 x bad a b).goes_on;
   }
     where
       none : (d n : ℕ) (tail : List Tok) (v : Y) (w : State) → Within bad.rule depth s.operators d n
@@ -160,6 +171,7 @@ module _ {X T Y : Type 0} (item : Family X) (between : Family T) (end : X → Y)
     place = a.place;
     limited = a.limited;
     none = λ d n tail v w within r over. none d n tail v w within (split d _ v w r) over;
+    goes_on = goes-to item many end (suc depth) (suc depth) (suc s.operators) (λ s x z r. last r) (a.front ++ going_on bad.rule a.next) a.goes_on;
   }
     where
       none : (d n : ℕ) (tail : List Tok) (v : Y) (w : State) → Within bad.rule depth s.operators d n
@@ -177,6 +189,7 @@ module _ {X T Y : Type 0} (item : Family X) (between : Family T) (end : X → Y)
     ended = a.ended;
     reads = λ after. last (a.reads after);
     only = λ d n after v w stop r over. only d n after v w stop (split d _ v w r) over;
+    one_more = λ after. last (a.one_more after);
   }
     where
       only : (d n : ℕ) (after : List Tok) (v : Y) (w : State) → Stops (going g test) after
@@ -189,7 +202,9 @@ module _ {X T Y : Type 0} (item : Family X) (between : Family T) (end : X → Y)
           let found = a.only d n after r.0 r.1 (stops-less g test after stop) r.2 (follow d r.0 r.1 v w r.3 over) in
           absurd (goes-at g test after (passes-move test after r.1.tokens (sym found.1) (behind-starts d r.0 r.1 v w r.3)) stop)
 
-  module _ (p : Step X) (right-p : Correct (λ ts. Unit {0}) p item g depth) (q : Step T) (right-q : Correct (Passes test) q between never depth)
+  -- where what stands between is refused there is something to be read
+  module _ (p : Step X) (right-p : Answering (λ ts. Unit {0}) p item g depth) (q : Step T) (right-q : Answering (Passes test) q between never depth)
+      (some : (s : State) (bad : Refusal) → q s ≡ Err bad → Readable item (suc depth))
       (consumes : (s s1 s2 : State) (x : X) (t : T) → Took item g depth s x s1 → Took between never depth s1 t s2 → length s2.tokens < length s.tokens) where
     pub series-correct : (n : ℕ) (s : State) → length s.tokens ≤ n → ends s.tokens ≡ true → Answers many (going g test) depth s (series p test q end join n s)
     unfolding series
@@ -200,6 +215,9 @@ module _ {X T Y : Type 0} (item : Family X) (between : Family T) (end : X → Y)
         empty (t ∷ ts) le e = omega arith
     series-correct (suc n) s le ended = at-item (series-correct n) (p s) (right-p s ended tt)
       where
+        some-right : (x : X) (t : T) → Readable item (suc depth) → Readable (right x t) (suc depth)
+        some-right x t a = free-then many (closing x t) (suc depth) [] (readable-series item between end join (suc depth) a) (λ y. readable-is (join x t y) (suc depth))
+
         no-more : (x : X) (t : T) (d : ℕ) (u : Y) (m : State) (y : Y) (z : State) → closing x t u d m y z → Stops (going g test) z.tokens → Stops (going g test) m.tokens
         no-more x t d u m y z h over = subst (λ (v : State). Stops (going g test) v.tokens) h.1 over
 
@@ -209,23 +227,23 @@ module _ {X T Y : Type 0} (item : Family X) (between : Family T) (end : X → Y)
             more-took s s1 x (join x t r.0) r.1 a
             (then-took between (right x) never (going g test) depth (λ d u m y z h over. stops-never m.tokens) s1 s2 t (join x t r.0) r.1 b
             (then-took many (closing x t) (going g test) (going g test) depth (no-more x t) s2 r.1 r.0 (join x t r.0) r.1 rest
-            (pure-correct (join x t r.0) (going g test) depth r.1 rest.ended rest.stops)))
+            ((pure-correct (join x t r.0) (going g test) depth).answers r.1 rest.ended rest.stops)))
         ends-with s1 x t s2 a head b (Err bad) rest =
             more-refused s s1 x bad a head
             (then-refused between (right x) never (going g test) depth (λ d u m y z h over. stops-never m.tokens) s1 s2 t bad b
-            (first-refused many (closing x t) (going g test) (going g test) depth (no-more x t) s2 bad rest))
+            (first-refused many (closing x t) (going g test) (going g test) depth (no-more x t) s2 bad (λ y. readable-is (join x t y) (suc depth)) rest))
 
         fewer : (i j : ℕ) → length s.tokens ≤ suc n → i < length s.tokens → i ≤ n
         fewer i j a b = omega arith
 
         at-between : (s1 : State) (x : X) → Took item g depth s x s1 → Passes test s1.tokens
             → ((s2 : State) → length s2.tokens ≤ n → ends s2.tokens ≡ true → Answers many (going g test) depth s2 (series p test q end join n s2))
-            → (o : Outcome T) → Answers between never depth s1 o
+            → (o : Outcome T) → q s1 ≡ o → Answers between never depth s1 o
             → Answers many (going g test) depth s (and_then o (λ t. step.◌>>=◌ (series p test q end join n) (λ y. pure (join x t y))))
-        at-between s1 x a head again (Ok r) b =
+        at-between s1 x a head again (Ok r) is b =
             ends-with s1 x r.0 r.1 a head b (series p test q end join n r.1) (again r.1 (fewer (length r.1.tokens) 0 le (consumes s s1 r.1 x r.0 a b)) b.ended)
-        at-between s1 x a head again (Err bad) b =
-            more-refused s s1 x bad a head (first-refused between (right x) never (going g test) depth (λ d u m y z h over. stops-never m.tokens) s1 bad b)
+        at-between s1 x a head again (Err bad) is b =
+            more-refused s s1 x bad a head (first-refused between (right x) never (going g test) depth (λ d u m y z h over. stops-never m.tokens) s1 bad (λ t. some-right x t (some s1 bad is)) b)
 
         head-of : (ts : List Tok) → ends ts ≡ true → test (head_kind ts) ≡ true → Passes test ts
         head-of [] e same = cc
@@ -241,7 +259,7 @@ module _ {X T Y : Type 0} (item : Family X) (between : Family T) (end : X → Y)
             → Answers many (going g test) depth s (cond b (step.◌>>=◌ q (λ t. step.◌>>=◌ (series p test q end join n) (λ y. pure (join x t y)))) (pure (end x)) s1)
         at-kind s1 x a again true same =
             let head = head-of s1.tokens a.ended same in
-            at-between s1 x a head again (q s1) (right-q s1 a.ended head)
+            at-between s1 x a head again (q s1) refl (right-q s1 a.ended head)
         at-kind s1 x a again false other = last-took s s1 x a (stops-of s1.tokens a.stops other)
 
         at-item : ((s2 : State) → length s2.tokens ≤ n → ends s2.tokens ≡ true → Answers many (going g test) depth s2 (series p test q end join n s2))

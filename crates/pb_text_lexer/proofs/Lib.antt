@@ -4,6 +4,7 @@ pub mod RemainingLemmas
 pub mod TokenLemmas
 pub mod CutLemmas
 pub mod Correct
+pub mod CorrectFamilies
 pub mod CorrectSeries
 pub mod CorrectChained
 pub mod CorrectEither

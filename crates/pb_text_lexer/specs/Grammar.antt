@@ -57,3 +57,8 @@ Own R s x z = (m : ℕ) × R s x (record { tokens = z.tokens; operators = m }) �
 abbrev pub Within : ReadingRule → ℕ → ℕ → ℕ → ℕ → Type 0
 Within Unexpected depth operators d n = Unit {0}
 Within Limit depth operators d n = (d ≤ depth) × (n ≤ operators)
+
+-- At a refused token: the token with which, within some limits, a text goes on. Where a limit is exceeded it is that one.
+abbrev pub going_on : ReadingRule → Tok → List Tok
+going_on Unexpected next = []
+going_on Limit next = next ∷ []

@@ -6,22 +6,23 @@ use Rattle.pb_text_lexer.specs.declared.fault.ReadingRule.TheVariants.{Limit}
 use Rattle.pb_text_lexer.specs.declared.kind.Kind.{Kind}
 use Rattle.pb_text_lexer.specs.declared.kind.Kind.TheVariants as k
 use Rattle.pb_text_lexer.specs.Kinds.{is_limited}
-use Rattle.pb_text_lexer.specs.Grammar.{State, Is, Nothing, One}
+use Rattle.pb_text_lexer.specs.Grammar.{State, going_on, Is, Nothing, One}
 use Rattle.pb_text_lexer.specs.Grammar as grammar
 use Rattle.pb_text_lexer.specs.LeftGrammar.{Listed}
 use Rattle.pb_text_lexer.specs.Steps.{head_kind, head_place, Step, Outcome, and_then, pure, take_token, expect, refuse, unless_next, place}
 use Rattle.pb_text_lexer.specs.Steps as step
 use Rattle.pb_text_lexer.specs.Tokens.{Tok}
-use Rattle.pb_text_lexer.proofs.Correct.{st, Family, Stops, never, Took, Answers, Correct, then-correct, HeadIs, take-correct, expect-correct, refused-here, deeper, deeper-correct, weaker-correct}
-use Rattle.pb_text_lexer.proofs.CorrectSeries.{Passes}
+use Rattle.pb_text_lexer.proofs.Correct.{st, Family, Stops, never, readable-is, readable-one, Took, Answers, Answering, Correct, then-correct, HeadIs, take-correct, expect-correct, refused-here, Free, Readable, goes-free, free-then, free-one}
+use Rattle.pb_text_lexer.proofs.CorrectFamilies.{readable-deeper, deeper, deeper-correct, weaker-correct}
+use Rattle.pb_text_lexer.proofs.CorrectSeries.{Passes, readable-series}
 use Rattle.pb_text_lexer.proofs.CorrectPlain.{Always, anywhere, then-plain, is-correct}
-use Rattle.pb_text_lexer.proofs.CorrectLeft.{unless_next-correct, extended-correct}
+use Rattle.pb_text_lexer.proofs.CorrectLeft.{unless_next-answers, extended-correct}
 use Rattle.pb_text_lexer.proofs.CorrectChained.{is-symbol-at, head-of-passes}
 use Rattle.pb_text_terms.specs.Grammar.{Name, Placed, arguments_of, Arguments, Instance, IsTerm}
 use Rattle.pb_text_terms.specs.Reading.{name, is_open, placed, argument_list, arguments, instance, term}
-use Rattle.pb_text_terms.proofs.CorrectVariable.{name-correct, said-correct, listed-correct, stops-at-kind}
+use Rattle.pb_text_terms.proofs.CorrectVariable.{head-kind-is, name-correct, said-correct, listed-correct, stops-at-kind}
 use Rattle.pb_text_terms.proofs.CorrectOperators.{comma-apart, list-closes, list_goes, term_goes, unary_goes}
-use Rattle.pb_text_terms.proofs.TermStarts.{deeper-some}
+use Rattle.pb_text_terms.proofs.TermStarts.{deeper-some, readable-term}
 
 -- ---- the place of the first token
 
@@ -29,12 +30,23 @@ head-of : (front : List Tok) (a b : List Tok) → Passes (λ kind. true) (front 
 head-of [] a b some = absurd some
 head-of (f ∷ fs) a b some = refl
 
+readable-placed : {X : Type 0} (fam : Family X) (level : ℕ) → ((d : ℕ) (s : State) (y : X) (z : State) → fam d s y z → Passes (λ kind. true) s.tokens)
+    → Readable fam level → Readable (λ d. Placed (fam d)) level
+readable-placed fam level some a = record {
+  tail = a.tail;
+  value = (head_place (a.tail ++ []), a.value);
+  reads = λ n after. (a.reads n after, head-of a.tail [] after (some level _ a.value _ (a.reads n [])));
+}
+
 pub placed-correct : {X : Type 0} (fam : Family X) (g : Kind → Bool) (depth : ℕ) → ((d : ℕ) (s : State) (y : X) (z : State) → fam d s y z → Passes (λ kind. true) s.tokens)
     → (p : Step X) → Correct Always p fam g depth → Correct Always (placed p) (λ d. Placed (fam d)) g depth
-placed-correct {X} fam g depth some p right s end u = went (p s) (right s end u)
+placed-correct {X} fam g depth some p right = record {
+  answers = λ s end u. went s (p s) (right.answers s end u);
+  some = readable-placed fam (suc depth) some right.some;
+}
   where
-    took : (x : X) (z : State) → Took fam g depth s x z → Took (λ d. Placed (fam d)) g depth s (place s, x) z
-    took x z a = record {
+    took : (s : State) (x : X) (z : State) → Took fam g depth s x z → Took (λ d. Placed (fam d)) g depth s (place s, x) z
+    took s x z a = record {
       front = a.front;
       used = a.used;
       tokens = a.tokens;
@@ -43,6 +55,7 @@ placed-correct {X} fam g depth some p right s end u = went (p s) (right s end u)
       ended = a.ended;
       reads = λ after. (a.reads after, stands after);
       only = λ d n after y w stop r over. only d n after y w stop r over;
+      one_more = λ after. (a.one_more after, stands after);
     }
       where
         stands : (after : List Tok) → place s ≡ head_place (a.front ++ after)
@@ -54,9 +67,9 @@ placed-correct {X} fam g depth some p right s end u = went (p s) (right s end u)
             let found = a.only d n after y.1 w stop r.0 over in
             (ap (λ v. (y.0, v)) found.0 ∙ ap (λ v. (v, x)) (r.1 ∙ sym (stands after)), found.1, found.2)
 
-    went : (o : Outcome X) → Answers fam g depth s o → Answers (λ d. Placed (fam d)) g depth s (and_then o (λ x. pure (place s, x)))
-    went (Ok r) a = took r.0 r.1 a
-    went (Err bad) a = record {
+    went : (s : State) (o : Outcome X) → Answers fam g depth s o → Answers (λ d. Placed (fam d)) g depth s (and_then o (λ x. pure (place s, x)))
+    went s (Ok r) a = took s r.0 r.1 a
+    went s (Err bad) a = record {
       front = a.front;
       next = a.next;
       more = a.more;
@@ -65,6 +78,12 @@ placed-correct {X} fam g depth some p right s end u = went (p s) (right s end u)
       place = a.place;
       limited = a.limited;
       none = λ d n tail y w within r over. a.none d n tail y.1 w within r.0 over;
+      goes_on = let c = a.goes_on in record {
+        tail = c.tail;
+        value = (head_place (((a.front ++ going_on bad.rule a.next) ++ c.tail) ++ []), c.value);
+        left = c.left;
+        reads = λ after. (c.reads after, head-of ((a.front ++ going_on bad.rule a.next) ++ c.tail) [] after (some (suc depth) _ c.value _ (c.reads [])));
+      };
     }
 
 -- ---- names with arguments
@@ -99,7 +118,7 @@ alone-correct : (depth : ℕ) → Correct Always (step.◌>>=◌ name (λ found.
 alone-correct depth = said-correct (λ d. Name) (λ found. record { name = found; arguments = no_arguments }) never depth Always name (name-correct depth)
 
 -- names and what may follow them, whose correctness is shown for one number of levels
-module _ (depth : ℕ) (q : InstanceForm → Step InstanceForm) (right-q : (i : InstanceForm) → Correct (Passes is_open) (q i) (beyond i) unary_goes depth) where
+module _ (depth : ℕ) (q : InstanceForm → Step InstanceForm) (right-q : (i : InstanceForm) → Answering (Passes is_open) (q i) (beyond i) unary_goes depth) where
   named-correct : Correct Always (step.extended is_open (step.◌>>=◌ name (λ found. pure (record { name = found; arguments = no_arguments }))) q) instances unary_goes depth
   named-correct =
       extended-correct alone beyond never is_open depth (λ kind h. refl) beyond-starts Always (step.◌>>=◌ name (λ found. pure (record { name = found; arguments = no_arguments })))
@@ -114,11 +133,23 @@ no-arguments i zero s y w le r = none r.2.3.0 r.2.1 r.2.3.1 r.2.3.2
     none xs s z (grammar.more r b rest) = r.0
 no-arguments i (suc d) s y w le r = omega arith
 
+-- where a level may open, arguments go on
+free-arguments : (i : InstanceForm) (t : Tok) → t.kind ≡ k.Open → Free (beyond i) 1 (t ∷ [])
+free-arguments i t is =
+    free-then (λ d. Arguments (deeper IsTerm d)) (λ found d. Is (record { name = i.name; arguments = found })) 1 (t ∷ [])
+    (free-then (λ d. One k.Open) (λ open_bracket d. grammar.◌>>=◌ (Listed (Placed (deeper IsTerm d)) (One k.Comma)) (λ found. grammar.◌>>=◌ (One k.Close) (λ close_bracket. Is (arguments_of found)))) 1 (t ∷ [])
+    (free-one k.Open 1 t is) (λ open_bracket.
+    free-then (λ d. Listed (Placed (deeper IsTerm d)) (One k.Comma)) (λ found d. grammar.◌>>=◌ (One k.Close) (λ close_bracket. Is (arguments_of found))) 1 []
+    (readable-series (λ d. Placed (deeper IsTerm d)) (λ d. One k.Comma) (λ x. x ∷ []) (λ x u xs. x ∷ xs) 1 (readable-placed (deeper IsTerm) 1 deeper-some (readable-deeper IsTerm 0 (readable-term 0)))) (λ found.
+    free-then (λ d. One k.Close) (λ close_bracket d. Is (arguments_of found)) 1 [] (readable-one k.Close 1) (λ close_bracket. readable-is (arguments_of found) 1))))
+    (λ found. readable-is (record { name = i.name; arguments = found }) 1)
+
 pub instance-last : Correct Always (instance 0) instances unary_goes 0
 instance-last =
     named-correct 0 (λ i. unless_next is_open (step.◌>>=◌ (arguments (refuse Limit) (refuse Limit)) (λ found. pure (record { name = i.name; arguments = found }))))
     (λ i s end h. refused-here (beyond i) unary_goes 0 s Limit end (λ q. head-limited k.Open s.tokens (head-of-passes k.Open s.tokens h) refl)
-    (λ d n t tail y w head within r over. no-arguments i d (st (t ∷ tail) n) y w within.0 r))
+    (λ d n t tail y w head within r over. no-arguments i d (st (t ∷ tail) n) y w within.0 r)
+    (λ t is. goes-free (beyond i) 1 (suc s.operators) (t ∷ []) (free-arguments i t (is ∙ head-kind-is k.Open s.tokens (head-of-passes k.Open s.tokens h)))))
 
 module _ (depth : ℕ) (right-term : Correct Always (term depth) IsTerm term_goes depth) where
   pub inner-term : Correct Always (term depth) (deeper IsTerm) term_goes (suc depth)
@@ -137,5 +168,5 @@ module _ (depth : ℕ) (right-term : Correct Always (term depth) IsTerm term_goe
   pub instance-over : Correct Always (instance (suc depth)) instances unary_goes (suc depth)
   instance-over =
       named-correct (suc depth) (λ i. unless_next is_open (step.◌>>=◌ (arguments take_token (term depth)) (λ found. pure (record { name = i.name; arguments = found }))))
-      (λ i. unless_next-correct (beyond i) never is_open (suc depth) (Passes is_open) (step.◌>>=◌ (arguments take_token (term depth)) (λ found. pure (record { name = i.name; arguments = found })))
-      (said-correct (λ d. Arguments (deeper IsTerm d)) (λ found. record { name = i.name; arguments = found }) never (suc depth) (Passes is_open) (arguments take_token (term depth)) arguments-correct))
+      (λ i. unless_next-answers (beyond i) never is_open (suc depth) (Passes is_open) (step.◌>>=◌ (arguments take_token (term depth)) (λ found. pure (record { name = i.name; arguments = found })))
+      (said-correct (λ d. Arguments (deeper IsTerm d)) (λ found. record { name = i.name; arguments = found }) never (suc depth) (Passes is_open) (arguments take_token (term depth)) arguments-correct).answers)

@@ -39,7 +39,7 @@ term_goes = connects equated_goes
 -- ---- operators
 
 times-are : AreOperators is_times
-times-are = record { not_last = last; limited = limit }
+times-are = record { one = k.Times; passes = refl; not_last = last; limited = limit }
   where
     last : (kind : Kind) → is_times kind ≡ true → is_last kind ≡ false
     last k.Times h = refl
@@ -50,7 +50,7 @@ times-are = record { not_last = last; limited = limit }
     limit _ h = cc
 
 divisions-are : AreOperators is_division
-divisions-are = record { not_last = last; limited = limit }
+divisions-are = record { one = k.Div; passes = refl; not_last = last; limited = limit }
   where
     last : (kind : Kind) → is_division kind ≡ true → is_last kind ≡ false
     last k.Div h = refl
@@ -63,7 +63,7 @@ divisions-are = record { not_last = last; limited = limit }
     limit _ h = cc
 
 additives-are : AreOperators is_additive
-additives-are = record { not_last = last; limited = limit }
+additives-are = record { one = k.Plus; passes = refl; not_last = last; limited = limit }
   where
     last : (kind : Kind) → is_additive kind ≡ true → is_last kind ≡ false
     last k.Plus h = refl
@@ -76,7 +76,7 @@ additives-are = record { not_last = last; limited = limit }
     limit _ h = cc
 
 orders-are : AreOperators is_order
-orders-are = record { not_last = last; limited = limit }
+orders-are = record { one = k.Less; passes = refl; not_last = last; limited = limit }
   where
     last : (kind : Kind) → is_order kind ≡ true → is_last kind ≡ false
     last k.Less h = refl
@@ -93,7 +93,7 @@ orders-are = record { not_last = last; limited = limit }
     limit _ h = cc
 
 equalities-are : AreOperators is_equality
-equalities-are = record { not_last = last; limited = limit }
+equalities-are = record { one = k.Equal; passes = refl; not_last = last; limited = limit }
   where
     last : (kind : Kind) → is_equality kind ≡ true → is_last kind ≡ false
     last k.Equal h = refl

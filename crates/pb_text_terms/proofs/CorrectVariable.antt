@@ -1,5 +1,5 @@
 -- Names, lists with commas, variables and quantifiers are read rightly.
-use Rattle.std.proofs.Common.{◌≡◌, ℕ, zero, suc, ◌≤◌, ◌<◌, Bool, true, false, List, [], ◌∷◌, ◌++◌, length, map, refl, sym, ap, ◌∙◌, subst, arith}
+use Rattle.std.proofs.Common.{◌≡◌, ℕ, zero, suc, ◌≤◌, ◌<◌, Bool, true, false, List, [], ◌∷◌, ◌++◌, length, map, refl, sym, ap, ◌∙◌, subst, arith, ◌⊎◌, inl, inr}
 use Rattle.std.specs.Prelude.{flat_map}
 use Rattle.pb_text_tree.specs.declared.place.Place.{Place}
 use Rattle.pb_text_tree.specs.declared.operator.Quantifier.{Quantifier}
@@ -12,12 +12,13 @@ use Rattle.pb_text_lexer.specs.Kinds.{same_kind, is_limited}
 use Rattle.pb_text_lexer.specs.Grammar.{State, Within, Reads, Is, One, First}
 use Rattle.pb_text_lexer.specs.Grammar as grammar
 use Rattle.pb_text_lexer.specs.LeftGrammar.{Listed}
-use Rattle.pb_text_lexer.specs.Steps.{head_kind, Step, pure, peek, take_token, expect, refuse, listed}
+use Rattle.pb_text_lexer.specs.Steps.{ends, head_kind, Step, pure, peek, take_token, expect, refuse, listed}
 use Rattle.pb_text_lexer.specs.Steps as step
 use Rattle.pb_text_lexer.specs.Tokens.{Tok}
 use Rattle.pb_text_lexer.proofs.TokenLemmas.{kind-same}
-use Rattle.pb_text_lexer.proofs.Correct.{st, Family, Stops, never, Correct, then-correct, pure-correct, HeadIs, take-correct, expect-correct, refused-here, first-correct, deeper, deeper-correct, weaker-correct}
-use Rattle.pb_text_lexer.proofs.CorrectSeries.{going, Passes, head-at, passes-at, shorter, no-longer, series-correct}
+use Rattle.pb_text_lexer.proofs.Correct.{st, Family, Stops, never, readable-is, readable-one, Answers, Answering, Correct, then-correct, pure-correct, HeadIs, take-correct, expect-correct, refused-here, Free, Readable, goes-free, readable-free, free-then, free-one, some-token}
+use Rattle.pb_text_lexer.proofs.CorrectFamilies.{readable-deeper, Nowhere, first-correct, deeper, deeper-correct, weaker-correct}
+use Rattle.pb_text_lexer.proofs.CorrectSeries.{going, Passes, head-at, passes-at, shorter, no-longer, readable-series, series-correct}
 use Rattle.pb_text_lexer.proofs.CorrectPlain.{Always, anywhere, then-plain, is-correct, nothing-correct}
 use Rattle.pb_text_lexer.proofs.CorrectChained.{is-symbol-at, head-of-passes}
 use Rattle.pb_text_terms.specs.Operators.{is_quantifier}
@@ -36,20 +37,28 @@ pub said-correct : {X Y : Type 0} (fam : Family X) (f : X → Y) (g : Kind → B
 said-correct fam f g depth P p a =
     then-correct fam (λ x d. Is (f x)) g g depth (λ d x m y z h over. subst (λ (v : State). Stops g v.tokens) h.1 over) P p (λ x. pure (f x)) a (λ x. pure-correct (f x) g depth)
 
--- things with commas between them
-pub listed-correct : {X : Type 0} (item : Family X) (g : Kind → Bool) (depth : ℕ) → g k.Comma ≡ false → (p : Step X) → Correct Always p item g depth
-    → Correct Always (λ s. listed p is_comma take_token (suc (length s.tokens)) s) (λ d. Listed (item d) (One k.Comma)) (going g is_comma) depth
-listed-correct item g depth apart p right-p s end u =
+listed-answers : {X : Type 0} (item : Family X) (g : Kind → Bool) (depth : ℕ) → g k.Comma ≡ false → (p : Step X) → Correct Always p item g depth
+    → (s : State) → ends s.tokens ≡ true → Answers (λ d. Listed (item d) (One k.Comma)) (going g is_comma) depth s (listed p is_comma take_token (suc (length s.tokens)) s)
+listed-answers item g depth apart p right-p s end =
     series-correct item (λ d. One k.Comma) (λ x. x ∷ []) (λ x t xs. x ∷ xs) g is_comma depth
     (λ kind h. ap g (kind-same kind k.Comma h) ∙ apart)
     (λ d m t o y z r rest. passes-at is_comma m.tokens o.tokens t r.0 (is-symbol-at k.Comma t.kind r.1))
-    p right-p take_token (weaker-correct (HeadIs k.Comma) (Passes is_comma) take_token (λ d. One k.Comma) never depth (head-of-passes k.Comma) (take-correct k.Comma depth refl))
+    p right-p.answers take_token (weaker-correct (HeadIs k.Comma) (Passes is_comma) take_token (λ d. One k.Comma) never depth (head-of-passes k.Comma) (take-correct k.Comma depth refl)).answers
+    (λ m bad is. right-p.some)
     (λ s0 s1 s2 x t a b. less s0.tokens s1.tokens s2.tokens a.front b.front t a.tokens b.tokens (b.reads []).0)
     (suc (length s.tokens)) s (omega arith) end
   where
     less : (ts us vs front behind_front : List Tok) (t : Tok) → ts ≡ front ++ us → us ≡ behind_front ++ vs → behind_front ++ [] ≡ t ∷ [] → length vs < length ts
     less ts us vs front behind_front t p q r =
         let a = no-longer ts front us p in let b = shorter us behind_front vs [] t q r in omega arith
+
+-- things with commas between them
+pub listed-correct : {X : Type 0} (item : Family X) (g : Kind → Bool) (depth : ℕ) → g k.Comma ≡ false → (p : Step X) → Correct Always p item g depth
+    → Correct Always (λ s. listed p is_comma take_token (suc (length s.tokens)) s) (λ d. Listed (item d) (One k.Comma)) (going g is_comma) depth
+listed-correct item g depth apart p right-p = record {
+  answers = λ s end u. listed-answers item g depth apart p right-p s end;
+  some = readable-series item (λ d. One k.Comma) (λ x. x ∷ []) (λ x t xs. x ∷ xs) (suc depth) right-p.some;
+}
 
 -- ---- variables
 
@@ -87,6 +96,11 @@ variables-correct depth =
 
 -- ---- quantifiers
 
+-- the kind of the first token
+pub head-kind-is : (kind : Kind) (ts : List Tok) → HeadIs kind ts → head_kind ts ≡ kind
+head-kind-is kind [] h = absurd h
+head-kind-is kind (t ∷ ts) h = h
+
 module _ {X : Type 0} (made : Quantifier → Place → List VariableForm → X → X) (fam : Family X) (g : Kind → Bool) where
   abbrev kinds : ℕ → Kind → Reads X
   kinds d kind = QuantifiedBy made (deeper fam d) kind
@@ -108,20 +122,28 @@ module _ {X : Type 0} (made : Quantifier → Place → List VariableForm → X �
       Always (expect k.Period) _ (expect-correct k.Period (suc depth) refl) (λ period.
       said-correct (deeper fam) (λ body. bound found body) g (suc depth) Always p (deeper-correct Always p fam g depth right))))
 
-  at-each : (depth : ℕ) (p : Step X) → Correct Always p fam g depth → (kind : Kind) → Correct (HeadIs kind) (quantified_by made take_token p (quantifier_of kind)) (λ d. kinds d kind) g (suc depth)
-  at-each depth p right k.Forall =
+  forall-correct : (depth : ℕ) (p : Step X) → Correct Always p fam g depth
+      → Correct (HeadIs k.Forall) (quantified_by made take_token p (quantifier_of k.Forall)) (λ d. kinds d k.Forall) g (suc depth)
+  forall-correct depth p right =
       then-plain (λ d. One k.Forall) (λ word d. Binding (made Forall word.place) (deeper fam d)) g (suc depth) (HeadIs k.Forall) take_token (λ word. binding (made Forall word.place) p)
       (take-correct k.Forall (suc depth) refl) (λ word. binding-correct (made Forall word.place) depth p right)
-  at-each depth p right k.Exists =
+
+  exists-correct : (depth : ℕ) (p : Step X) → Correct Always p fam g depth
+      → Correct (HeadIs k.Exists) (quantified_by made take_token p (quantifier_of k.Exists)) (λ d. kinds d k.Exists) g (suc depth)
+  exists-correct depth p right =
       then-plain (λ d. One k.Exists) (λ word d. Binding (made Exists word.place) (deeper fam d)) g (suc depth) (HeadIs k.Exists) take_token (λ word. binding (made Exists word.place) p)
       (take-correct k.Exists (suc depth) refl) (λ word. binding-correct (made Exists word.place) depth p right)
-  at-each depth p right kind = nothing-correct kind g (suc depth)
+
+  at-each : (depth : ℕ) (p : Step X) → Correct Always p fam g depth → (kind : Kind) → Answering (HeadIs kind) (quantified_by made take_token p (quantifier_of kind)) (λ d. kinds d kind) g (suc depth) ⊎ Nowhere (quantified_by made take_token p (quantifier_of kind)) (λ d. kinds d kind)
+  at-each depth p right k.Forall = inl (forall-correct depth p right).answers
+  at-each depth p right k.Exists = inl (exists-correct depth p right).answers
+  at-each depth p right kind = inr nothing-correct
 
   -- a quantifier over a body that stands a level deeper
   pub quantified-correct : (depth : ℕ) (p : Step X) → Correct Always p fam g depth → Correct (Passes is_quantifier) (quantified made take_token p) (λ d. Quantified made (deeper fam d)) g (suc depth)
   quantified-correct depth p right =
       anywhere (Passes is_quantifier) (quantified made take_token p) (λ d. Quantified made (deeper fam d)) g (suc depth)
-      (first-correct kinds g (suc depth) starts (λ kind. quantified_by made take_token p (quantifier_of kind)) (at-each depth p right))
+      (first-correct kinds g (suc depth) starts (λ kind. quantified_by made take_token p (quantifier_of kind)) (at-each depth p right) k.Forall (forall-correct depth p right).some)
 
   -- where no level may open
   no-level : (kind : Kind) → is_quantifier kind ≡ true → (d : ℕ) (s : State) (y : X) (w : State) → d ≤ 0 → kinds d kind s y w → ⊥
@@ -135,12 +157,35 @@ module _ {X : Type 0} (made : Quantifier → Place → List VariableForm → X �
   head-limited kind [] h lim = absurd h
   head-limited kind (t ∷ ts) h lim = ap is_limited h ∙ lim
 
-  at-last : (p : Step X) (kind : Kind) → Correct (HeadIs kind) (quantified_by made (refuse Limit) p (quantifier_of kind)) (λ d. kinds d kind) g 0
-  at-last p k.Forall = λ s end h. refused-here (λ d. kinds d k.Forall) g 0 s Limit end (λ q. head-limited k.Forall s.tokens h refl) (λ d n t tail y w head within r over. no-level k.Forall refl d (st (t ∷ tail) n) y w within.0 r)
-  at-last p k.Exists = λ s end h. refused-here (λ d. kinds d k.Exists) g 0 s Limit end (λ q. head-limited k.Exists s.tokens h refl) (λ d n t tail y w head within r over. no-level k.Exists refl d (st (t ∷ tail) n) y w within.0 r)
-  at-last p kind = nothing-correct kind g 0
+  -- where a level may open, a body goes on behind variables
+  readable-binding : (bound : List VariableForm → X → X) (level : ℕ) → Readable fam level → Readable (λ d. Binding bound (deeper fam d)) (suc level)
+  readable-binding bound level some =
+      free-then (λ d. Variables) (bodies bound) (suc level) [] (variables-correct level).some
+      (λ found. free-then (λ d. One k.Period) (λ period d. grammar.◌>>=◌ (deeper fam d) (λ body. Is (bound found body))) (suc level) [] (readable-one k.Period (suc level))
+      (λ period. free-then (deeper fam) (λ body d. Is (bound found body)) (suc level) [] (readable-deeper fam level some) (λ body. readable-is (bound found body) (suc level))))
 
-  pub quantified-last : (p : Step X) → Correct (Passes is_quantifier) (quantified made (refuse Limit) p) (λ d. Quantified made (deeper fam d)) g 0
-  quantified-last p =
+  free-forall : (level : ℕ) → Readable fam level → (t : Tok) → t.kind ≡ k.Forall → Free (λ d. kinds d k.Forall) (suc level) (t ∷ [])
+  free-forall level some t is =
+      free-then (λ d. One k.Forall) (λ word d. Binding (made Forall word.place) (deeper fam d)) (suc level) (t ∷ []) (free-one k.Forall (suc level) t is)
+      (λ word. readable-binding (made Forall word.place) level some)
+
+  free-exists : (level : ℕ) → Readable fam level → (t : Tok) → t.kind ≡ k.Exists → Free (λ d. kinds d k.Exists) (suc level) (t ∷ [])
+  free-exists level some t is =
+      free-then (λ d. One k.Exists) (λ word d. Binding (made Exists word.place) (deeper fam d)) (suc level) (t ∷ []) (free-one k.Exists (suc level) t is)
+      (λ word. readable-binding (made Exists word.place) level some)
+
+  readable-forall : (level : ℕ) → Readable fam level → Readable (λ d. kinds d k.Forall) (suc level)
+  readable-forall level some =
+      readable-free (λ d. kinds d k.Forall) (suc level) (some-token k.Forall ∷ []) (free-forall level some (some-token k.Forall) refl)
+
+  at-last : Readable fam 0 → (p : Step X) (kind : Kind) → Answering (HeadIs kind) (quantified_by made (refuse Limit) p (quantifier_of kind)) (λ d. kinds d kind) g 0 ⊎ Nowhere (quantified_by made (refuse Limit) p (quantifier_of kind)) (λ d. kinds d kind)
+  at-last some p k.Forall = inl (λ s end h. refused-here (λ d. kinds d k.Forall) g 0 s Limit end (λ q. head-limited k.Forall s.tokens h refl) (λ d n t tail y w head within r over. no-level k.Forall refl d (st (t ∷ tail) n) y w within.0 r)
+      (λ t is. goes-free (λ d. kinds d k.Forall) 1 (suc s.operators) (t ∷ []) (free-forall 0 some t (is ∙ head-kind-is k.Forall s.tokens h))))
+  at-last some p k.Exists = inl (λ s end h. refused-here (λ d. kinds d k.Exists) g 0 s Limit end (λ q. head-limited k.Exists s.tokens h refl) (λ d n t tail y w head within r over. no-level k.Exists refl d (st (t ∷ tail) n) y w within.0 r)
+      (λ t is. goes-free (λ d. kinds d k.Exists) 1 (suc s.operators) (t ∷ []) (free-exists 0 some t (is ∙ head-kind-is k.Exists s.tokens h))))
+  at-last some p kind = inr nothing-correct
+
+  pub quantified-last : Readable fam 0 → (p : Step X) → Correct (Passes is_quantifier) (quantified made (refuse Limit) p) (λ d. Quantified made (deeper fam d)) g 0
+  quantified-last some p =
       anywhere (Passes is_quantifier) (quantified made (refuse Limit) p) (λ d. Quantified made (deeper fam d)) g 0
-      (first-correct kinds g 0 starts (λ kind. quantified_by made (refuse Limit) p (quantifier_of kind)) (at-last p))
+      (first-correct kinds g 0 starts (λ kind. quantified_by made (refuse Limit) p (quantifier_of kind)) (at-last some p) k.Forall (readable-forall 0 some))

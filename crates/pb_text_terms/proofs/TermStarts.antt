@@ -3,11 +3,12 @@ use Rattle.std.proofs.Common.{◌≡◌, ℕ, zero, suc, Bool, true, List, [], �
 use Rattle.pb_text_tree.specs.Form.{TermForm, InstanceForm}
 use Rattle.pb_text_lexer.specs.declared.kind.Kind.{Kind}
 use Rattle.pb_text_lexer.specs.declared.kind.Kind.TheVariants as k
-use Rattle.pb_text_lexer.specs.Grammar.{State, Reads, First}
+use Rattle.pb_text_lexer.specs.Grammar.{State, Reads, Is, One, First}
 use Rattle.pb_text_lexer.specs.OpenGrammar.{Chained, last, more, Connected}
 use Rattle.pb_text_lexer.specs.LeftGrammar.{Extended}
 use Rattle.pb_text_lexer.specs.Tokens.{Tok}
-use Rattle.pb_text_lexer.proofs.Correct.{st, Family, HeadIs, deeper}
+use Rattle.pb_text_lexer.proofs.Correct.{st, Family, never, readable-is, readable-one, HeadIs, Readable, free-to, free-then}
+use Rattle.pb_text_lexer.proofs.CorrectFamilies.{readable-first, deeper}
 use Rattle.pb_text_lexer.proofs.CorrectSeries.{Passes, head-at}
 use Rattle.pb_text_lexer.proofs.CorrectEither.{Not}
 use Rattle.pb_text_terms.specs.Operators.{connected_by, is_quantifier}
@@ -133,3 +134,23 @@ term-some d s y z r =
 pub deeper-some : (d : ℕ) (s : State) (y : TermForm) (z : State) → deeper IsTerm d s y z → Passes (λ kind. true) s.tokens
 deeper-some zero s y z r = absurd r
 deeper-some (suc d) s y z r = term-some d s y z r
+
+-- ---- a term that is always there
+
+abbrev true-term : Family TermForm
+true-term d = Begun (deeper IsUnary d) (deeper IsTerm d) k.True
+
+pub readable-true : (level : ℕ) → Readable true-term level
+readable-true level =
+    free-then (λ d. One k.True) (λ word d. Is (TermForm.constant word.place true)) level [] (readable-one k.True level) (λ word. readable-is (TermForm.constant word.place true) level)
+
+pub readable-unary : (level : ℕ) → Readable IsUnary level
+readable-unary level =
+    free-to (λ d. First (kinds d)) IsUnary (λ x. x) level level (to-unary level) []
+    (readable-first kinds never 0 (λ d kind. starts (deeper IsUnary d) (deeper IsTerm d) kind) k.True level (readable-true level))
+
+pub readable-term : (level : ℕ) → Readable IsTerm level
+readable-term level = free-to IsUnary IsTerm (λ x. x) level level single [] (readable-unary level)
+  where
+    single : (s : State) (y : TermForm) (z : State) → IsUnary level s y z → IsTerm level s y z
+    single s y z r = to-term level s y z (last (last (last (inl (inl (inl (inl (inl r))))))))
