@@ -23,6 +23,7 @@ use Rattle.pb_typing_declarations.specs.declared.fault.TypingRule.TheVariants.{O
 use Rattle.pb_typing_declarations.specs.declared.fault.TypeError.{TypeError}
 use Rattle.pb_typing_declarations.specs.Faults.{unless, IsAmong}
 use Rattle.pb_typing_declarations.specs.Agreement.{equation_place}
+use Rattle.pb_typing_declarations.specs.WellDeclared.{HaveEnds}
 use Rattle.pb_typing_rules.specs.Faults.{and_then, instance_faults, parameters_named, value_faults}
 use Rattle.pb_typing_rules.specs.Scope.{outermost}
 use Rattle.pb_typing_rules.proofs.Contained.{all_fit, called_typed}
@@ -147,7 +148,7 @@ among_then [] ys (At fault) h = absurd (omega (arith, h.1))
 among_then (x ∷ xs) ys e h = h
 
 -- each data term of an instance without faults fits, where no variable is in scope
-pub arguments_fit : (S : Spec) (i : InstanceForm) → instance_faults S true outermost i ≡ [] → AllFit S [] (erased_arguments i.arguments)
-arguments_fit S i e =
-    let proper = instance_proper S true outermost i e in
+pub arguments_fit : (S : Spec) (i : InstanceForm) → HaveEnds S → instance_faults S true outermost i ≡ [] → AllFit S [] (erased_arguments i.arguments)
+arguments_fit S i ends e =
+    let proper = instance_proper S ends true outermost i e in
     all_fit S outermost [] (erased_arguments i.arguments) (λ x. tt) (called_typed S outermost (erased_arguments i.arguments) (equation_named S.equations i.name.text) proper.1)

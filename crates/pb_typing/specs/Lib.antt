@@ -1,4 +1,5 @@
 pub mod View
+pub mod Found
 pub mod Scopes
 pub mod Arguments
 pub mod Typed

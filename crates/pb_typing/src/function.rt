@@ -6,13 +6,14 @@ ghost use Rattle.pb_typing_rules.specs.Faults.{kind_faults};
 ghost use Rattle.pb_typing_rules.specs.Functions as functions;
 ghost use Rattle.pb_typing_rules.specs.Functions.{arity};
 ghost use Rattle.pb_typing_rules.specs.Shapes.{binary_shape, hull, may_be_alike, may_be_truth, unary_shape};
-ghost use Rattle.pb_typing.specs.View.{Judges, function_view, shape_view};
+ghost use Rattle.pb_typing.specs.Found.{Finds};
+ghost use Rattle.pb_typing.specs.View.{function_view, shape_view};
 
 use crate::operation::fault;
 use crate::shape::Shape;
 use pb_intervals::Interval;
 use pb_text_tree::Place;
-use pb_typing_declarations::{TypeError, TypingRule, require};
+use pb_typing_declarations::{TypingFault, TypingRule, require};
 
 /// A named function of data.
 #[derive(Clone, Copy, Debug, PartialEq, Eq)]
@@ -32,8 +33,8 @@ pub(crate) enum Function {
 
 impl Function {
     /// A function of one argument, at its shape. A function of more gives what is unknown.
-    pub(crate) fn apply_one(self, shape: Shape, place: Place) -> Result<Shape, TypeError>
-        ensures { Judges (kind_faults (function_view self) (shape_view shape ∷ []) place) (functions.shape_of_one (function_view self) (shape_view shape)) result }
+    pub(crate) fn apply_one(self, shape: Shape, place: Place) -> Result<Shape, TypingFault>
+        ensures { Finds (kind_faults (function_view self) (shape_view shape ∷ []) place) (functions.shape_of_one (function_view self) (shape_view shape)) result }
     {
         match self {
             Function::Conversion => whole(shape, place),
@@ -60,8 +61,8 @@ impl Function {
         left: Shape,
         right: Shape,
         place: Place,
-    ) -> Result<Shape, TypeError>
-        ensures { Judges (kind_faults (function_view self) (shape_view left ∷ shape_view right ∷ []) place) (functions.shape_of_two (function_view self) (shape_view left) (shape_view right)) result }
+    ) -> Result<Shape, TypingFault>
+        ensures { Finds (kind_faults (function_view self) (shape_view left ∷ shape_view right ∷ []) place) (functions.shape_of_two (function_view self) (shape_view left) (shape_view right)) result }
     {
         match self {
             Function::Maximum => maximum(left, right, place),
@@ -82,8 +83,8 @@ impl Function {
         left: Shape,
         right: Shape,
         place: Place,
-    ) -> Result<Shape, TypeError>
-        ensures { Judges (kind_faults (function_view self) (shape_view condition ∷ shape_view left ∷ shape_view right ∷ []) place) (functions.shape_of_three (function_view self) (shape_view condition) (shape_view left) (shape_view right)) result }
+    ) -> Result<Shape, TypingFault>
+        ensures { Finds (kind_faults (function_view self) (shape_view condition ∷ shape_view left ∷ shape_view right ∷ []) place) (functions.shape_of_three (function_view self) (shape_view condition) (shape_view left) (shape_view right)) result }
     {
         match self {
             Function::Choice => choose(condition, left, right, place),
@@ -114,8 +115,8 @@ impl Function {
 }
 
 /// One of two values, as a condition says.
-fn choose(condition: Shape, left: Shape, right: Shape, place: Place) -> Result<Shape, TypeError>
-    ensures { Judges (kind_faults functions.Choice (shape_view condition ∷ shape_view left ∷ shape_view right ∷ []) place) (hull (shape_view left) (shape_view right)) result }
+fn choose(condition: Shape, left: Shape, right: Shape, place: Place) -> Result<Shape, TypingFault>
+    ensures { Finds (kind_faults functions.Choice (shape_view condition ∷ shape_view left ∷ shape_view right ∷ []) place) (hull (shape_view left) (shape_view right)) result }
 {
     let accepted = may_choose(&condition, &left, &right);
     require(accepted, TypingRule::WrongKind, place)?;
@@ -130,8 +131,8 @@ fn may_choose(condition: &Shape, left: &Shape, right: &Shape) -> bool
 }
 
 /// A number that is kept.
-fn whole(shape: Shape, place: Place) -> Result<Shape, TypeError>
-    ensures { Judges (kind_faults functions.Conversion (shape_view shape ∷ []) place) (functions.kept (shape_view shape)) result }
+fn whole(shape: Shape, place: Place) -> Result<Shape, TypingFault>
+    ensures { Finds (kind_faults functions.Conversion (shape_view shape ∷ []) place) (functions.kept (shape_view shape)) result }
 {
     match shape {
         Shape::Unknown => Ok(Shape::Unknown),
@@ -142,8 +143,8 @@ fn whole(shape: Shape, place: Place) -> Result<Shape, TypeError>
 }
 
 /// One more than a number.
-fn successor(shape: Shape, place: Place) -> Result<Shape, TypeError>
-    ensures { Judges (kind_faults (functions.OfOne operations.Successor) (shape_view shape ∷ []) place) (unary_shape operations.Successor (shape_view shape)) result }
+fn successor(shape: Shape, place: Place) -> Result<Shape, TypingFault>
+    ensures { Finds (kind_faults (functions.OfOne operations.Successor) (shape_view shape ∷ []) place) (unary_shape operations.Successor (shape_view shape)) result }
 {
     match shape {
         Shape::Unknown => Ok(Shape::Unknown),
@@ -157,8 +158,8 @@ fn successor(shape: Shape, place: Place) -> Result<Shape, TypeError>
 }
 
 /// One less than a number.
-fn predecessor(shape: Shape, place: Place) -> Result<Shape, TypeError>
-    ensures { Judges (kind_faults (functions.OfOne operations.Predecessor) (shape_view shape ∷ []) place) (unary_shape operations.Predecessor (shape_view shape)) result }
+fn predecessor(shape: Shape, place: Place) -> Result<Shape, TypingFault>
+    ensures { Finds (kind_faults (functions.OfOne operations.Predecessor) (shape_view shape ∷ []) place) (unary_shape operations.Predecessor (shape_view shape)) result }
 {
     match shape {
         Shape::Unknown => Ok(Shape::Unknown),
@@ -172,8 +173,8 @@ fn predecessor(shape: Shape, place: Place) -> Result<Shape, TypeError>
 }
 
 /// The absolute value of a number.
-fn absolute_value(shape: Shape, place: Place) -> Result<Shape, TypeError>
-    ensures { Judges (kind_faults (functions.OfOne operations.AbsoluteValue) (shape_view shape ∷ []) place) (unary_shape operations.AbsoluteValue (shape_view shape)) result }
+fn absolute_value(shape: Shape, place: Place) -> Result<Shape, TypingFault>
+    ensures { Finds (kind_faults (functions.OfOne operations.AbsoluteValue) (shape_view shape ∷ []) place) (unary_shape operations.AbsoluteValue (shape_view shape)) result }
 {
     match shape {
         Shape::Unknown => Ok(Shape::Unknown),
@@ -187,8 +188,8 @@ fn absolute_value(shape: Shape, place: Place) -> Result<Shape, TypeError>
 }
 
 /// The greater of two numbers.
-fn maximum(left: Shape, right: Shape, place: Place) -> Result<Shape, TypeError>
-    ensures { Judges (kind_faults (functions.OfTwo operations.Maximum) (shape_view left ∷ shape_view right ∷ []) place) (binary_shape operations.Maximum (shape_view left) (shape_view right)) result }
+fn maximum(left: Shape, right: Shape, place: Place) -> Result<Shape, TypingFault>
+    ensures { Finds (kind_faults (functions.OfTwo operations.Maximum) (shape_view left ∷ shape_view right ∷ []) place) (binary_shape operations.Maximum (shape_view left) (shape_view right)) result }
 {
     match left {
         Shape::Unknown => match right {
@@ -212,8 +213,8 @@ fn maximum(left: Shape, right: Shape, place: Place) -> Result<Shape, TypeError>
 }
 
 /// The lesser of two numbers.
-fn minimum(left: Shape, right: Shape, place: Place) -> Result<Shape, TypeError>
-    ensures { Judges (kind_faults (functions.OfTwo operations.Minimum) (shape_view left ∷ shape_view right ∷ []) place) (binary_shape operations.Minimum (shape_view left) (shape_view right)) result }
+fn minimum(left: Shape, right: Shape, place: Place) -> Result<Shape, TypingFault>
+    ensures { Finds (kind_faults (functions.OfTwo operations.Minimum) (shape_view left ∷ shape_view right ∷ []) place) (binary_shape operations.Minimum (shape_view left) (shape_view right)) result }
 {
     match left {
         Shape::Unknown => match right {

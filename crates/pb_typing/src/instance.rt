@@ -47,7 +47,7 @@ pub(crate) fn check_instance<'t>(
                 place,
             )
         }
-        None => Err(fault(TypingRule::UnknownName, place)),
+        None => Err(TypeError::At(fault(TypingRule::UnknownName, place))),
     }
 }
 

@@ -1,6 +1,6 @@
 //! Names in data: variables, enumerators and functions.
 
-ghost use Rattle.std.specs.Prelude.{◌≡◌, ◌||◌, List, Some, length, MatchResult, codes};
+ghost use Rattle.std.specs.Prelude.{◌≡◌, ◌||◌, List, Some, length, Contains, MatchResult, codes};
 ghost use Rattle.std.specs.Option.{option_map};
 ghost use Rattle.pb_text_tree.specs.Form.{named};
 ghost use Rattle.pb_text_meaning.specs.Syntax.{same_name};
@@ -10,26 +10,27 @@ ghost use Rattle.pb_typing_rules.specs.Scope.{named_shape};
 ghost use Rattle.pb_typing_rules.specs.Shapes.{is_limited};
 ghost use Rattle.pb_typing_rules.specs.Term.{shape_or_unknown};
 ghost use Rattle.pb_typing_declarations.specs.Enumerators.{position_shape};
-ghost use Rattle.pb_typing_declarations.specs.Faults.{IsAmong, unless};
+ghost use Rattle.pb_typing_declarations.specs.Faults.{unless};
 ghost use Rattle.pb_typing_declarations.specs.Shapes as model;
 ghost use Rattle.pb_typing_declarations.specs.View.{spec_of};
 ghost use Rattle.pb_typing.specs.Scopes.{scope_view};
-ghost use Rattle.pb_typing.specs.View.{Judges, function_view, shape_view};
+ghost use Rattle.pb_typing.specs.Found.{Finds};
+ghost use Rattle.pb_typing.specs.View.{function_view, shape_view};
 
 use crate::function::Function;
 use crate::operation::fault;
 use crate::scope::{Scope, variable_shape};
 use crate::shape::Shape;
 use pb_text_tree::{Name, Place};
-use pb_typing_declarations::{Declarations, Enumerator, TypeError, TypingRule, require};
+use pb_typing_declarations::{Declarations, Enumerator, TypingFault, TypingRule, require};
 
 /// The shape of a variable in scope, else of an enumerator.
 pub(crate) fn name_shape(
     declarations: &Declarations<'_>,
     scope: &Scope<'_, '_>,
     name: &Name,
-) -> Result<Shape, TypeError>
-    ensures { Judges (name_faults (spec_of declarations.now) (named_shape (spec_of declarations.now) (scope_view scope.now) (named name.now).text) (named name.now))
+) -> Result<Shape, TypingFault>
+    ensures { Finds (name_faults (spec_of declarations.now) (named_shape (spec_of declarations.now) (scope_view scope.now) (named name.now).text) (named name.now))
         (shape_or_unknown (named_shape (spec_of declarations.now) (scope_view scope.now) (named name.now).text)) result }
 {
     match known_shape(declarations, scope, &name.text) {
@@ -66,8 +67,8 @@ fn struct_shape(enumerator: Option<Enumerator>) -> Option<Shape>
 }
 
 /// A shape whose values are within 2^62.
-fn limited(shape: Shape, place: Place) -> Result<Shape, TypeError>
-    ensures { Judges (unless (is_limited (shape_view shape)) TypingRule.LargeInterval place) (shape_view shape) result }
+fn limited(shape: Shape, place: Place) -> Result<Shape, TypingFault>
+    ensures { Finds (unless (is_limited (shape_view shape)) TypingRule.LargeInterval place) (shape_view shape) result }
 {
     let accepted = shape.is_limited();
     require(accepted, TypingRule::LargeInterval, place)?;
@@ -75,8 +76,8 @@ fn limited(shape: Shape, place: Place) -> Result<Shape, TypeError>
 }
 
 /// What is wrong with a name in data that stands for nothing there.
-fn unknown(declarations: &Declarations<'_>, name: &Name) -> TypeError
-    ensures { IsAmong (unknown_faults (spec_of declarations.now) (named name.now)) result }
+fn unknown(declarations: &Declarations<'_>, name: &Name) -> TypingFault
+    ensures { Contains (unknown_faults (spec_of declarations.now) (named name.now)) result }
 {
     match declarations.equation(&name.text) {
         Some(_) => fault(TypingRule::PredicateInData, name.place),
@@ -89,10 +90,10 @@ pub(crate) fn find_function(
     declarations: &Declarations<'_>,
     name: &Name,
     count: usize,
-) -> Result<Function, TypeError>
+) -> Result<Function, TypingFault>
     ensures { MatchResult result
         (λ f. (function_named (spec_of declarations.now) (named name.now).text ≡ Some (function_view f)) × (arity (function_view f) ≡ count))
-        (λ e. (ss : List model.Shape) → length ss ≡ count → IsAmong (function_faults (spec_of declarations.now) (function_named (spec_of declarations.now) (named name.now).text) ss (named name.now)) e) }
+        (λ e. (ss : List model.Shape) → length ss ≡ count → Contains (function_faults (spec_of declarations.now) (function_named (spec_of declarations.now) (named name.now).text) ss (named name.now)) e) }
 {
     match function_named(declarations, &name.text) {
         Some(function) => {

@@ -7,23 +7,24 @@ ghost use Rattle.pb_intervals.specs.Operation as operations;
 ghost use Rattle.pb_typing_rules.specs.Faults.{negative_faults, operator_faults};
 ghost use Rattle.pb_typing_rules.specs.Shapes.{Computed, binary_shape, kind_of, may_divide, unary_shape};
 ghost use Rattle.pb_typing_declarations.specs.Shapes as model;
-ghost use Rattle.pb_typing.specs.View.{Judges, operation_of, shape_view};
+ghost use Rattle.pb_typing.specs.Found.{Finds};
+ghost use Rattle.pb_typing.specs.View.{operation_of, shape_view};
 
 use crate::shape::Shape;
 use pb_intervals::Interval;
 use pb_text_tree::{Arithmetic, Comparison, Place};
-use pb_typing_declarations::{TypeError, TypingFault, TypingRule, require};
+use pb_typing_declarations::{TypingFault, TypingRule, require};
 
 /// A rule that fails at a place.
-pub(crate) fn fault(rule: TypingRule, place: Place) -> TypeError
-    ensures { result ≡ TypeError.At (record { rule = rule; place = place }) }
+pub(crate) fn fault(rule: TypingRule, place: Place) -> TypingFault
+    ensures { result ≡ record { rule = rule; place = place } }
 {
-    TypeError::At(TypingFault { rule, place })
+    TypingFault { rule, place }
 }
 
 /// The negation of a number.
-pub(crate) fn negative(shape: Shape, place: Place) -> Result<Shape, TypeError>
-    ensures { Judges (negative_faults (shape_view shape) place) (unary_shape operations.Negation (shape_view shape)) result }
+pub(crate) fn negative(shape: Shape, place: Place) -> Result<Shape, TypingFault>
+    ensures { Finds (negative_faults (shape_view shape) place) (unary_shape operations.Negation (shape_view shape)) result }
 {
     match shape {
         Shape::Unknown => Ok(Shape::Unknown),
@@ -41,8 +42,8 @@ pub(crate) fn compare(
     left: Shape,
     right: Shape,
     place: Place,
-) -> Result<Shape, TypeError>
-    ensures { Judges (operator_faults (kind_of (of_comparison comparison)) (shape_view left) (shape_view right) place) model.Truths result }
+) -> Result<Shape, TypingFault>
+    ensures { Finds (operator_faults (kind_of (of_comparison comparison)) (shape_view left) (shape_view right) place) model.Truths result }
 {
     let accepted = match comparison {
         Comparison::Equal | Comparison::NotEqual => left.may_be_alike(&right),
@@ -59,8 +60,8 @@ pub(crate) fn compute(
     left: Shape,
     right: Shape,
     place: Place,
-) -> Result<Shape, TypeError>
-    ensures { Judges (operator_faults (Computed (operation_of operator)) (shape_view left) (shape_view right) place) (binary_shape (operation_of operator) (shape_view left) (shape_view right)) result }
+) -> Result<Shape, TypingFault>
+    ensures { Finds (operator_faults (Computed (operation_of operator)) (shape_view left) (shape_view right) place) (binary_shape (operation_of operator) (shape_view left) (shape_view right)) result }
 {
     match left {
         Shape::Unknown => match right {
@@ -87,8 +88,8 @@ fn compute_intervals(
     left: Interval,
     right: Interval,
     place: Place,
-) -> Result<Shape, TypeError>
-    ensures { Judges (operator_faults (Computed (operation_of operator)) (model.Wholes left.low left.high) (model.Wholes right.low right.high) place) (binary_shape (operation_of operator) (model.Wholes left.low left.high) (model.Wholes right.low right.high)) result }
+) -> Result<Shape, TypingFault>
+    ensures { Finds (operator_faults (Computed (operation_of operator)) (model.Wholes left.low left.high) (model.Wholes right.low right.high) place) (binary_shape (operation_of operator) (model.Wholes left.low left.high) (model.Wholes right.low right.high)) result }
 {
     let divides = may_divide(operator, right);
     require(divides, TypingRule::Divisor, place)?;

@@ -10,6 +10,7 @@ ghost use Rattle.pb_typing_rules.specs.Term.{shape};
 ghost use Rattle.pb_typing_declarations.specs.Faults.{IsAmong, unless};
 ghost use Rattle.pb_typing_declarations.specs.Shapes as model;
 ghost use Rattle.pb_typing_declarations.specs.View.{spec_of};
+ghost use Rattle.pb_typing.specs.Found.{Finds};
 ghost use Rattle.pb_typing.specs.Scopes.{inner_view, scope_view};
 ghost use Rattle.pb_typing.specs.View.{Judges, is_no_link, shape_view};
 
@@ -19,7 +20,7 @@ use crate::scope::{Scope, variable_shapes};
 use crate::shape::Shape;
 use pb_intervals::Interval;
 use pb_text_tree::{Argument, ArithmeticLink, Connective, Name, Place, Term, TermLink};
-use pb_typing_declarations::{Declarations, TypeError, TypingRule, require};
+use pb_typing_declarations::{Declarations, TypeError, TypingFault, TypingRule, require};
 use std::alloc::Global;
 use std::collections::HashMap;
 
@@ -27,8 +28,8 @@ use std::collections::HashMap;
 const MAX_LITERAL: u64 = 1 << 62;
 
 /// A literal.
-fn literal(number: u64, place: Place) -> Result<Shape, TypeError>
-    ensures { Judges (unless (is_within (singleton (pos number)) literals) TypingRule.LargeInterval place) (literal_shape number) result }
+fn literal(number: u64, place: Place) -> Result<Shape, TypingFault>
+    ensures { Finds (unless (is_within (singleton (pos number)) literals) TypingRule.LargeInterval place) (literal_shape number) result }
 {
     if number <= MAX_LITERAL {
         Ok(Shape::Wholes(Interval::singleton(number as i64)))
@@ -38,8 +39,8 @@ fn literal(number: u64, place: Place) -> Result<Shape, TypeError>
 }
 
 /// A Boolean that is made of a Boolean.
-fn truth(shape: Shape, place: Place) -> Result<Shape, TypeError>
-    ensures { Judges (unless (may_be_truth (shape_view shape)) TypingRule.WrongKind place) model.Truths result }
+fn truth(shape: Shape, place: Place) -> Result<Shape, TypingFault>
+    ensures { Finds (unless (may_be_truth (shape_view shape)) TypingRule.WrongKind place) model.Truths result }
 {
     let accepted = shape.may_be_truth();
     require(accepted, TypingRule::WrongKind, place)?;
@@ -60,7 +61,8 @@ pub(crate) fn check_truth<'t>(
 {
     let shape = check_term(alloc, declarations, scope, true, term)?;
     let accepted = shape.may_be_truth();
-    require(accepted, TypingRule::WrongKind, place)
+    require(accepted, TypingRule::WrongKind, place)?;
+    Ok(())
 }
 
 /// Checks a data term, where `stands` says whether a quantifier may stand there: its shape, if no rule fails.
@@ -76,15 +78,15 @@ pub(crate) fn check_term<'t>(
 {
     match term {
         Term::Constant { .. } => Ok(Shape::Truths),
-        Term::Number { place, value } => literal(*value, *place),
-        Term::Name(name) => name_shape(declarations, scope, name),
+        Term::Number { place, value } => Ok(literal(*value, *place)?),
+        Term::Name(name) => Ok(name_shape(declarations, scope, name)?),
         Term::Not { place, operand } => {
             let shape = check_term(alloc, declarations, scope, stands, operand)?;
-            truth(shape, *place)
+            Ok(truth(shape, *place)?)
         }
         Term::Negative { place, operand } => {
             let shape = check_term(alloc, declarations, scope, false, operand)?;
-            negative(shape, *place)
+            Ok(negative(shape, *place)?)
         }
         Term::Chain {
             connective,
@@ -107,7 +109,7 @@ pub(crate) fn check_term<'t>(
         } => {
             let left = check_term(alloc, declarations, scope, false, left)?;
             let right = check_term(alloc, declarations, scope, false, right)?;
-            compare(*comparison, left, right, *place)
+            Ok(compare(*comparison, left, right, *place)?)
         }
         Term::Arithmetic { first, links } => {
             check_arithmetic(alloc, declarations, scope, stands, first, links)
@@ -145,7 +147,7 @@ fn check_body<'a, 't>(
 {
     let scope = Scope::Inner(table, outer);
     let shape = check_term(alloc, declarations, &scope, stands, body)?;
-    truth(shape, place)
+    Ok(truth(shape, place)?)
 }
 
 /// Checks operands of one connective.
@@ -219,18 +221,18 @@ fn check_application<'t>(
     match arguments {
         [x] => {
             let shape = check_term(alloc, declarations, scope, false, &x.term)?;
-            function.apply_one(shape, name.place)
+            Ok(function.apply_one(shape, name.place)?)
         }
         [x, y] => {
             let left = check_term(alloc, declarations, scope, false, &x.term)?;
             let right = check_term(alloc, declarations, scope, false, &y.term)?;
-            function.apply_two(left, right, name.place)
+            Ok(function.apply_two(left, right, name.place)?)
         }
         [condition, x, y] => {
             let condition = check_term(alloc, declarations, scope, false, &condition.term)?;
             let left = check_term(alloc, declarations, scope, false, &x.term)?;
             let right = check_term(alloc, declarations, scope, false, &y.term)?;
-            function.apply_three(condition, left, right, name.place)
+            Ok(function.apply_three(condition, left, right, name.place)?)
         }
         _ => unreachable!(),
     }

@@ -11,6 +11,7 @@ use Rattle.pb_typing_declarations.proofs.Loops.{same_length}
 use Rattle.pb_typing_declarations.proofs.VariableLemmas.{few_names, limit_clear}
 use Rattle.pb_typing_declarations.proofs.ReadParts as part
 use Rattle.pb_typing_declarations.proofs.Exact.{apart, apart_clear, map-map, texts}
+use Rattle.pb_typing_declarations.proofs.DeclaredEnds.{sorts_have_ends}
 use Rattle.pb_typing_declarations.proofs.ExactParts.{equations, equations_clear, sorts, sorts_clear, ranges, ranges_clear, enumerators-erased, enumerator_texts, short_names, new_functions, enumerators_clear, ShortName, NewFunction}
 
 -- names as they stand in the text and in what it says
@@ -41,7 +42,8 @@ declared t e =
     let h = no_parts (part.ranges t) _ g.1 in
     let i = no_parts (part.too_many t) _ h.1 in
     let s = sorts (erase t) 0 t.sorts (omega arith) a.0 g.0 in
-    let x = equations (erase t) 0 t.equations (omega arith) i.1 in
+    let ends = sorts_have_ends t g.0 in
+    let x = equations (erase t) 0 t.equations ends (omega arith) i.1 in
     let few = few_names 64 (equation_names t.equations) i.0 in
     let same = equation_length t.equations in
     record {
@@ -50,7 +52,7 @@ declared t e =
       defined = s.defined;
       few_structs = s.few;
       ranges = subst AreApart (range_texts t.ranges) (apart (map range_name t.ranges) f.0);
-      ranged = ranges (erase t) t.ranges b.0 h.0;
+      ranged = ranges (erase t) t.ranges ends b.0 h.0;
       enumerators = subst AreApart (data_texts t.sorts) (apart (flat_map names_of_enumerator (all_enumerator_forms t.sorts)) c.0);
       short_enumerators = subst (λ (es : List Enumerator). All ShortName es) (sym (enumerators-erased t.sorts)) (short_names (all_enumerator_forms t.sorts) s.enumerators);
       new_functions = subst (λ (es : List Enumerator). All NewFunction es) (sym (enumerators-erased t.sorts)) (new_functions (all_enumerator_forms t.sorts) s.enumerators);

@@ -1,5 +1,5 @@
 -- The same of variables, of equations, of sorts and of ranges.
-use Rattle.std.proofs.Common.{◌≡◌, ℕ, suc, ◌+◌, ◌<◌, ◌≤◌, ◌≤ℤ◌, ℤ, true, false, not, List, [], ◌∷◌, ◌++◌, length, map, refl, sym, ◌∙◌, ap, subst, arith, rules, tests}
+use Rattle.std.proofs.Common.{◌≡◌, ℕ, suc, ◌+◌, ◌<◌, ◌≤◌, ◌≤ℤ◌, ℤ, Bool, true, false, not, ◌||◌, true≢false, List, [], ◌∷◌, ◌++◌, length, map, refl, sym, ◌∙◌, ap, subst, arith, rules, tests}
 use Rattle.std.specs.Prelude.{All, flat_map, nat_le, nat_lt, int_le, Option, Some, None}
 use Rattle.std.proofs.lemmas.Grind.{flat_map-append}
 use Rattle.std.proofs.lemmas.List.{map-append}
@@ -12,8 +12,8 @@ use Rattle.pb_typing_declarations.specs.declared.fault.TypingRule.TheVariants.{N
 use Rattle.pb_typing_declarations.specs.Faults.{unless, repeated, length_faults}
 use Rattle.pb_typing_declarations.specs.Shapes.{End, Shaped, Unranged, Undeclared, Endless, end_of, base_of, is_sort, is_built_in, number_behind}
 use Rattle.pb_typing_declarations.specs.Instances.{instance_count, all_instances}
-use Rattle.pb_typing_declarations.specs.Declarations.{stays_within, is_integer, is_named_function, use_faults, variable_names, variable_faults, variables_faults, limit_faults, own_names, equation_faults, equations_faults_behind, recogniser_faults, recogniser_name, names_of_enumerator, enumerator_faults, enumerators_of_sort, all_enumerator_forms, struct_faults, structs_faults, definition_faults, sort_faults, range_faults, empty_faults}
-use Rattle.pb_typing_declarations.specs.WellDeclared.{AreApart, has_shape, AreVariables, IsDefined, structs_behind, IsRanged, enumerators, given, enumerator_names, every_enumerator}
+use Rattle.pb_typing_declarations.specs.Declarations.{stays_within, is_integer, is_named_function, is_faulty, end_faults, variable_names, variable_faults, variables_faults, limit_faults, own_names, equation_faults, equations_faults_behind, recogniser_faults, recogniser_name, names_of_enumerator, enumerator_faults, enumerators_of_sort, all_enumerator_forms, struct_faults, structs_faults, definition_faults, sort_faults, range_faults, empty_faults}
+use Rattle.pb_typing_declarations.specs.WellDeclared.{AreApart, has_shape, AreVariables, HaveEnds, IsDefined, structs_behind, IsRanged, enumerators, given, enumerator_names, every_enumerator}
 use Rattle.pb_typing_declarations.proofs.Parts.{no_parts, no_whole, holds_unless, unless_holds}
 use Rattle.pb_typing_declarations.proofs.Passing.{stays, one_more_stays}
 use Rattle.pb_typing_declarations.proofs.Loops.{same_length}
@@ -34,17 +34,17 @@ below_true n m h = search (rules, tests)
 
 -- ---- variables
 
-has_values : (e : End) (place : Place) → use_faults e place ≡ [] → has_shape e ≡ true
-has_values (Shaped h) place e = refl
-has_values (Unranged k) place e = cc
-has_values Undeclared place e = cc
-has_values Endless place e = cc
+has_values : (declared : Bool) (e : End) (place : Place) → is_faulty declared e ≡ false → end_faults declared e place ≡ [] → has_shape e ≡ true
+has_values declared (Shaped h) place f e = refl
+has_values declared (Unranged k) place f e = cc
+has_values declared Undeclared place f e = absurd (true≢false (sym (holds_unless _ _ _ e) ∙ f))
+has_values declared Endless place f e = absurd (true≢false (sym (holds_unless _ _ _ e) ∙ f))
 
-use_clear : (e : End) (place : Place) → has_shape e ≡ true → use_faults e place ≡ []
-use_clear (Shaped h) place e = refl
-use_clear (Unranged k) place e = cc
-use_clear Undeclared place e = cc
-use_clear Endless place e = cc
+use_clear : (declared : Bool) (e : End) (place : Place) → has_shape e ≡ true → end_faults declared e place ≡ []
+use_clear declared (Shaped h) place e = refl
+use_clear declared (Unranged k) place e = cc
+use_clear declared Undeclared place e = cc
+use_clear declared Endless place e = cc
 
 variable_texts : (xs : List VariableForm) → texts (variable_names xs) ≡ map (λ (x : Variable). x.name) (erased_variables xs)
 variable_texts xs = map-map (λ (x : Named). x.text) (λ (x : VariableForm). x.name) xs ∙ sym (map-map (λ (x : Variable). x.name) erased_variable xs)
@@ -52,18 +52,18 @@ variable_texts xs = map-map (λ (x : Named). x.text) (λ (x : VariableForm). x.n
 abbrev HasShape : Spec → Variable → Type 0
 HasShape S x = has_shape (end_of S x.sort) ≡ true
 
-pub variables : (S : Spec) (xs : List VariableForm) → variables_faults S xs ≡ [] → AreVariables S (erased_variables xs)
-variables S xs e =
+pub variables : (S : Spec) (xs : List VariableForm) → HaveEnds S → variables_faults S xs ≡ [] → AreVariables S (erased_variables xs)
+variables S xs ends e =
     let p = no_parts (repeated (variable_names xs)) (flat_map (variable_faults S) xs) e in
     record {
       apart = subst AreApart (variable_texts xs) (apart (variable_names xs) p.0);
-      shaped = each (variable_faults S) erased_variable (HasShape S) (λ x h. has_values (end_of S x.sort.text) x.sort.place h) xs p.1;
+      shaped = each (variable_faults S) erased_variable (HasShape S) (λ x h. has_values (is_sort S x.sort.text) (end_of S x.sort.text) x.sort.place (ends.ends x.sort.text) h) xs p.1;
     }
 
 pub variables_clear : (S : Spec) (xs : List VariableForm) → AreVariables S (erased_variables xs) → variables_faults S xs ≡ []
 variables_clear S xs h =
     no_whole (repeated (variable_names xs)) _ (apart_clear (variable_names xs) (subst AreApart (sym (variable_texts xs)) h.apart))
-    (each_clear (variable_faults S) erased_variable (HasShape S) (λ x f. use_clear (end_of S x.sort.text) x.sort.place f) xs h.shaped)
+    (each_clear (variable_faults S) erased_variable (HasShape S) (λ x f. use_clear (is_sort S x.sort.text) (end_of S x.sort.text) x.sort.place f) xs h.shaped)
 
 -- ---- equations
 
@@ -79,13 +79,13 @@ Parameters S X = AreVariables S X.parameters
 parameters_length : (xs : List VariableForm) → length (variable_names xs) ≡ length (erased_variables xs)
 parameters_length xs = same_length (λ (x : VariableForm). x.name) xs ∙ sym (same_length erased_variable xs)
 
-equation : (S : Spec) (X : EquationForm) → equation_faults S X ≡ [] → ShortEquation (erased_equation X) × FewParameters (erased_equation X) × Parameters S (erased_equation X)
-equation S X e =
+equation : (S : Spec) (X : EquationForm) → HaveEnds S → equation_faults S X ≡ [] → ShortEquation (erased_equation X) × FewParameters (erased_equation X) × Parameters S (erased_equation X)
+equation S X ends e =
     let p = no_parts (length_faults X.name) _ e in
     let q = no_parts (limit_faults 8 (variable_names X.parameters)) _ p.1 in
     let few = few_names 8 (variable_names X.parameters) q.0 in
     let same = parameters_length X.parameters in
-    (at_most _ _ (holds_unless _ _ _ p.0), omega (arith, few, same), variables S X.parameters q.1)
+    (at_most _ _ (holds_unless _ _ _ p.0), omega (arith, few, same), variables S X.parameters ends q.1)
 
 equation_clear : (S : Spec) (X : EquationForm) → ShortEquation (erased_equation X) → FewParameters (erased_equation X) → Parameters S (erased_equation X) → equation_faults S X ≡ []
 equation_clear S X short few parameters =
@@ -100,15 +100,15 @@ pub record EquationsHold (S : Spec) (n : ℕ) (E : List EquationForm) : Type 0 w
   pub parameters : All (Parameters S) (map erased_equation E)
   pub instances : n + all_instances S (map erased_equation E) ≤ MAX_INSTANCES
 
-pub equations : (S : Spec) (n : ℕ) (E : List EquationForm) → n ≤ MAX_INSTANCES → equations_faults_behind S n E ≡ [] → EquationsHold S n E
-equations S n [] low e = record { short = all_none ShortEquation; few = all_none FewParameters; parameters = all_none (Parameters S); instances = omega (arith, low) }
-equations S n (X ∷ E) low e =
+pub equations : (S : Spec) (n : ℕ) (E : List EquationForm) → HaveEnds S → n ≤ MAX_INSTANCES → equations_faults_behind S n E ≡ [] → EquationsHold S n E
+equations S n [] ends low e = record { short = all_none ShortEquation; few = all_none FewParameters; parameters = all_none (Parameters S); instances = omega (arith, low) }
+equations S n (X ∷ E) ends low e =
     let size = instance_count S (erased_equation X) in
     let p = no_parts (equation_faults S X) _ e in
     let q = no_parts (unless (stays_within MAX_INSTANCES n (n + size)) Limit X.name.place) _ p.1 in
-    let first = equation S X p.0 in
+    let first = equation S X ends p.0 in
     let fits = at_most (n + size) MAX_INSTANCES (sym (stays MAX_INSTANCES n (n + size) low) ∙ holds_unless _ _ _ q.0) in
-    let rest = equations S (n + size) E fits q.1 in
+    let rest = equations S (n + size) E ends fits q.1 in
     record {
       short = all_cons ShortEquation (erased_equation X) (map erased_equation E) first.0 rest.short;
       few = all_cons FewParameters (erased_equation X) (map erased_equation E) first.1 rest.few;
@@ -284,15 +284,21 @@ low_high a b e = search (rules, tests)
 low_high_true : (a b : ℤ) → a ≤ℤ b → int_le a b ≡ true
 low_high_true a b h = search (rules, tests)
 
-pub ranges : (S : Spec) (rs : List RangeForm) → flat_map empty_faults rs ≡ [] → flat_map (range_faults S) rs ≡ [] → All (IsRanged S) (map erased_range rs)
-ranges S [] e f = all_none (IsRanged S)
-ranges S (r ∷ rs) e f =
+integer_there : (e : End) (f : Bool) → f ≡ false → (is_integer e || f) ≡ true → is_integer e ≡ true
+integer_there (Unranged k) f clear h = refl
+integer_there (Shaped s) f clear h = absurd (true≢false (sym h ∙ clear))
+integer_there Undeclared f clear h = absurd (true≢false (sym h ∙ clear))
+integer_there Endless f clear h = absurd (true≢false (sym h ∙ clear))
+
+pub ranges : (S : Spec) (rs : List RangeForm) → HaveEnds S → flat_map empty_faults rs ≡ [] → flat_map (range_faults S) rs ≡ [] → All (IsRanged S) (map erased_range rs)
+ranges S [] ends e f = all_none (IsRanged S)
+ranges S (r ∷ rs) ends e f =
     let p = no_parts (empty_faults r) _ e in
     let q = no_parts (range_faults S r) _ f in
-    let s = no_parts (unless (is_integer (base_of S r.name)) UnknownSort r.place) _ q.0 in
+    let s = no_parts (unless (is_integer (base_of S r.name) || is_faulty (is_sort S r.name) (base_of S r.name)) UnknownSort r.place) _ q.0 in
     all_cons (IsRanged S) (erased_range r) (map erased_range rs)
-    (record { integer = holds_unless _ _ _ s.0; least = holds_unless _ _ _ s.1; order = low_high r.low r.high (holds_unless _ _ _ p.0) })
-    (ranges S rs p.1 q.1)
+    (record { integer = integer_there (base_of S r.name) _ (ends.bases r.name) (holds_unless _ _ _ s.0); least = holds_unless _ _ _ s.1; order = low_high r.low r.high (holds_unless _ _ _ p.0) })
+    (ranges S rs ends p.1 q.1)
 
 pub ranges_clear : (S : Spec) (rs : List RangeForm) → All (IsRanged S) (map erased_range rs) → (flat_map empty_faults rs ≡ []) × (flat_map (range_faults S) rs ≡ [])
 ranges_clear S [] h = (refl, refl)
@@ -300,5 +306,5 @@ ranges_clear S (r ∷ rs) h =
     let first = all_head (IsRanged S) (erased_range r) (map erased_range rs) h in
     let rest = ranges_clear S rs (all_tail (IsRanged S) (erased_range r) (map erased_range rs) h) in (
       no_whole (empty_faults r) _ (unless_holds _ _ _ (low_high_true r.low r.high first.order)) rest.0,
-      no_whole (range_faults S r) _ (no_whole (unless (is_integer (base_of S r.name)) UnknownSort r.place) _ (unless_holds _ _ _ first.integer) (unless_holds _ _ _ first.least)) rest.1,
+      no_whole (range_faults S r) _ (no_whole (unless (is_integer (base_of S r.name) || is_faulty (is_sort S r.name) (base_of S r.name)) UnknownSort r.place) _ (unless_holds _ _ _ (ap (λ b. b || is_faulty (is_sort S r.name) (base_of S r.name)) first.integer)) (unless_holds _ _ _ first.least)) rest.1,
     )

@@ -11,6 +11,7 @@ pub mod ParameterLemmas
 pub mod EquationLemmas
 pub mod LayoutLemmas
 pub mod Exact
+pub mod DeclaredEnds
 pub mod ExactParts
 pub mod DeclaredLaw
 pub mod DataNames

@@ -1,5 +1,5 @@
 -- Where a limit isn't passed, and nothing before it did so.
-use Rattle.std.proofs.Common.{◌≡◌, ℕ, suc, ◌<◌, ◌≤◌, Bool, true, false, ◌||◌, sym, ◌∙◌, ap, inl, inr, arith, rules, tests, refl}
+use Rattle.std.proofs.Common.{◌≡◌, ℕ, suc, ◌<◌, ◌≤◌, Bool, true, false, ◌||◌, sym, ◌∙◌, ap, inl, inr, arith, rules, tests}
 use Rattle.std.specs.Prelude.{nat_le, nat_lt}
 use Rattle.std.proofs.lemmas.Bool.{cases_lt}
 use Rattle.pb_typing_declarations.specs.Declarations.{stays_within}

@@ -94,6 +94,13 @@ abbrev pub structs_faults : ℕ → List SortDeclarationForm → List TypingFaul
 structs_faults n [] = []
 structs_faults n (d ∷ ds) = struct_faults n d.name.place d.sort ++ structs_faults (number_behind n (erased_sort d.sort)) ds
 
+-- a declared sort whose chain has no end that is a sort: it fails where it is declared, and its uses don't fail for that
+abbrev pub is_faulty : Bool → End → Bool
+is_faulty declared (Shaped h) = false
+is_faulty declared (Unranged k) = false
+is_faulty declared Undeclared = declared
+is_faulty declared Endless = declared
+
 -- ---- ranges
 
 abbrev pub is_integer : End → Bool
@@ -114,7 +121,7 @@ may_begin_at low Endless = true
 -- the range of an integer sort, which begins at its least value or above
 abbrev pub range_faults : Spec → RangeForm → List TypingFault
 range_faults spec r =
-    unless (is_integer (base_of spec r.name)) UnknownSort r.place
+    unless (is_integer (base_of spec r.name) || is_faulty (is_sort spec r.name) (base_of spec r.name)) UnknownSort r.place
     ++ unless (may_begin_at r.low (base_of spec r.name)) MissingRange r.place
 
 -- and isn't empty
@@ -126,15 +133,19 @@ range_name r = record { place = r.place; text = r.name }
 
 -- ---- variables
 
+-- what a sort with this end lacks: a range, or its declaration
+abbrev pub end_faults : Bool → End → Place → List TypingFault
+end_faults declared (Shaped h) place = []
+end_faults declared (Unranged k) place = unless false MissingRange place
+end_faults declared Undeclared place = unless declared UnknownSort place
+end_faults declared Endless place = unless declared UnknownSort place
+
 -- the sort of a variable has values
-abbrev pub use_faults : End → Place → List TypingFault
-use_faults (Shaped h) place = []
-use_faults (Unranged k) place = unless false MissingRange place
-use_faults Undeclared place = unless false UnknownSort place
-use_faults Endless place = unless false UnknownSort place
+abbrev pub use_faults : Spec → Named → List TypingFault
+use_faults spec s = end_faults (is_sort spec s.text) (end_of spec s.text) s.place
 
 abbrev pub variable_faults : Spec → VariableForm → List TypingFault
-variable_faults spec x = use_faults (end_of spec x.sort.text) x.sort.place
+variable_faults spec x = use_faults spec x.sort
 
 abbrev pub variable_names : List VariableForm → List Named
 variable_names xs = map (λ (x : VariableForm). x.name) xs

@@ -6,7 +6,7 @@ use Rattle.pb_typing_declarations.specs.declared.entry.Entry.{Entry}
 use Rattle.pb_typing_declarations.specs.declared.definition.Definition.{Definition}
 use Rattle.pb_typing_declarations.specs.declared.definition.DataName.{DataName}
 use Rattle.pb_typing_declarations.specs.declared.definition.Definitions.{Definitions}
-use Rattle.pb_typing_declarations.specs.Shapes.{definition_of, definitions_from, range_bounds, end_of, sort_shape, variable_shapes}
+use Rattle.pb_typing_declarations.specs.Shapes.{definition_of, definitions_from, range_bounds, sort_shape, variable_shapes}
 use Rattle.pb_sorts.specs.declared.carrier.Range.{Range}
 use Rattle.pb_sorts.specs.declared.carrier.Carrier.{Carrier}
 use Rattle.pb_sorts.specs.declared.limits.TheConstants.{MAX_INSTANCES}
@@ -68,7 +68,7 @@ pub record AreEquations (E : List EquationForm) (entries : List (Entry ℕ)) : T
 -- ---- carriers
 
 pub record IsCarrier (S : Spec) (sort : Named) (carrier : Carrier) : Type 0 where
-  pub clear : use_faults (end_of S sort.text) sort.place ≡ []
+  pub clear : use_faults S sort ≡ []
   pub values : values_of carrier ≡ carrier_of S sort.text
   pub shape : shape_of carrier ≡ sort_shape S sort.text
 

@@ -6,7 +6,7 @@ use Rattle.std.specs.Coded.{le_prop}
 use Rattle.pb_sorts.specs.declared.limits.TheConstants.{MAX_INSTANCES}
 use Rattle.pb_text_meaning.specs.Syntax.{Name, Variable, Enumerator, Sort, Struct, Alias, SortDeclaration, Range, Equation, Spec}
 use Rattle.pb_typing_declarations.specs.Shapes.{End, Shaped, Unranged, Undeclared, Endless, end_of, base_of, is_sort, is_built_in, number_behind}
-use Rattle.pb_typing_declarations.specs.Declarations.{is_endless, is_integer, may_begin_at, is_named_function}
+use Rattle.pb_typing_declarations.specs.Declarations.{is_endless, is_faulty, is_integer, may_begin_at, is_named_function}
 use Rattle.pb_typing_declarations.specs.Instances.{all_instances}
 
 -- no name stands twice
@@ -19,6 +19,11 @@ AreApart xs = AllPairs (λ (x y : Name). x ≢ y) xs
 abbrev pub IsDefined : Spec → Name → Sort → Type 0
 IsDefined spec s (Struct es) = (0 < length es) × (length es ≤ 255)
 IsDefined spec s (Alias target) = (is_sort spec target ≡ true) × (is_endless (base_of spec s) ≡ false)
+
+-- each sort that is declared has an end, with its ranges and without
+pub record HaveEnds (spec : Spec) : Type 0 where
+  pub ends : (s : Name) → is_faulty (is_sort spec s) (end_of spec s) ≡ false
+  pub bases : (s : Name) → is_faulty (is_sort spec s) (base_of spec s) ≡ false
 
 -- how many structs stand in a list, where n stand before it
 abbrev pub structs_behind : ℕ → List SortDeclaration → ℕ

@@ -1,6 +1,6 @@
 //! What sorts and enumerators are declared to be, in the order of the text.
 
-ghost use Rattle.std.specs.Prelude.{◌≡◌, ◌≤◌, [], nat_le, map, flat_map, length, MatchResult};
+ghost use Rattle.std.specs.Prelude.{◌≡◌, ◌≤◌, [], nat_le, map, flat_map, length, Contains, MatchResult};
 ghost use Rattle.pb_text_tree.specs.Form.{enumerator_form, sort_declaration_form, sort_form, recogniser_form, named};
 ghost use Rattle.pb_typing_declarations.specs.Faults.{IsAmong};
 ghost use Rattle.pb_typing_declarations.specs.Declarations.{limit_faults, own_names, struct_faults, structs_faults, recogniser_faults, enumerator_faults, is_named_function, is_numeric_function, is_conversion};
@@ -132,17 +132,17 @@ fn read_definition<'a>(
 }
 
 /// Whether a struct has few enough enumerators; the fault stands at the one that passes the limit.
-fn check_count(enumerators: &[pb_text_tree::Enumerator]) -> Result<(), TypeError>
+fn check_count(enumerators: &[pb_text_tree::Enumerator]) -> Result<(), TypingFault>
     ensures { MatchResult result
         (λ _. (limit_faults 255 (own_names (map enumerator_form enumerators.now)) ≡ []) × (length enumerators.now ≤ 255))
-        (IsAmong (limit_faults 255 (own_names (map enumerator_form enumerators.now)))) }
+        (Contains (limit_faults 255 (own_names (map enumerator_form enumerators.now)))) }
 {
     match enumerators.get(MAX_ENUMERATION) {
         None => Ok(()),
-        Some(enumerator) => Err(TypeError::At(TypingFault {
+        Some(enumerator) => Err(TypingFault {
             rule: TypingRule::Limit,
             place: enumerator.name.place,
-        })),
+        }),
     }
 }
 

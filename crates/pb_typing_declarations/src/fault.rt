@@ -1,7 +1,7 @@
 //! What can be wrong with a text that was read, and where.
 
-ghost use Rattle.std.specs.Prelude.{◌≡◌, [], MatchResult};
-ghost use Rattle.pb_typing_declarations.specs.Faults.{unless, IsAmong};
+ghost use Rattle.std.specs.Prelude.{◌≡◌, [], Contains, MatchResult};
+ghost use Rattle.pb_typing_declarations.specs.Faults.{unless};
 
 use pb_text_tree::Place;
 use std::alloc::{AllocError, AllocFailed};
@@ -116,13 +116,23 @@ impl<T: Drop> From<AllocFailed<T>> for TypeError {
     }
 }
 
+impl From<TypingFault> for TypeError {
+    ghost use Rattle.pb_typing_declarations.specs.declared.fault.TypeError.TheVariants.{At};
+
+    ghost from_gives = { λ fault result. result ≡ At fault };
+
+    fn from(fault: TypingFault) -> Self {
+        TypeError::At(fault)
+    }
+}
+
 /// The rule fails at the place unless the test holds.
-pub fn require(test: bool, rule: TypingRule, place: Place) -> Result<(), TypeError>
-    ensures { MatchResult result (λ _. unless test rule place ≡ []) (IsAmong (unless test rule place)) }
+pub fn require(test: bool, rule: TypingRule, place: Place) -> Result<(), TypingFault>
+    ensures { MatchResult result (λ _. unless test rule place ≡ []) (Contains (unless test rule place)) }
 {
     if test {
         Ok(())
     } else {
-        Err(TypeError::At(TypingFault { rule, place }))
+        Err(TypingFault { rule, place })
     }
 }

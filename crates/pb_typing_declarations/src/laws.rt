@@ -7,16 +7,22 @@ ghost use Rattle.pb_text_meaning.specs.Sorts.{carrier_of};
 ghost use Rattle.pb_text_meaning.specs.Erase.{erase, erased_variables};
 ghost use Rattle.pb_typing_declarations.specs.Shapes.{Unknown, end_of, shape_carrier, sort_shape};
 ghost use Rattle.pb_typing_declarations.specs.Declarations.{declaration_faults, variables_faults};
-ghost use Rattle.pb_typing_declarations.specs.WellDeclared.{AreVariables, IsDeclared, has_shape};
+ghost use Rattle.pb_typing_declarations.specs.WellDeclared.{AreVariables, HaveEnds, IsDeclared, has_shape};
 
 /// A text's declarations have no fault exactly where what it says is declared as it must be.
 pub fn no_faults_where_declared()
     ensures { (text : SpecForm) → (declaration_faults text ≡ []) ↔ IsDeclared (erase text) }
 {}
 
-/// One list of variables has no fault exactly where its names are apart and each sort has values.
+/// Where declarations are as they must be, the chain of each declared sort has an end.
+pub fn declared_sorts_have_ends()
+    ensures { (S : Spec) → IsDeclared S → HaveEnds S }
+{}
+
+/// Where each declared sort has an end, one list of variables has no fault exactly where its names are apart and each sort
+/// has values. A sort without an end fails where it is declared.
 pub fn no_faults_where_variables()
-    ensures { (S : Spec) (xs : List VariableForm) → (variables_faults S xs ≡ []) ↔ AreVariables S (erased_variables xs) }
+    ensures { (S : Spec) (xs : List VariableForm) → HaveEnds S → (variables_faults S xs ≡ []) ↔ AreVariables S (erased_variables xs) }
 {}
 
 /// A sort's carrier is that of its shape, and a sort that has values has a shape that is known.

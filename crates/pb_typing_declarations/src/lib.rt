@@ -19,5 +19,8 @@ mod variables;
 pub use declarations::Declarations;
 pub use definition::{MAX_NAME_BYTES, is_named_function};
 pub use fault::{TypeError, TypingFault, TypingRule, require};
-pub use laws::{no_faults_where_declared, no_faults_where_variables, shapes_have_carriers};
+pub use laws::{
+    declared_sorts_have_ends, no_faults_where_declared, no_faults_where_variables,
+    shapes_have_carriers,
+};
 pub use sorts::{Enumerator, Integers};

@@ -1,6 +1,6 @@
 //! Range lines.
 
-ghost use Rattle.std.specs.Prelude.{◌≡◌, [], flat_map, map, MatchResult};
+ghost use Rattle.std.specs.Prelude.{◌≡◌, [], flat_map, map, Contains, MatchResult};
 ghost use Rattle.pb_text_tree.specs.Form.{range_form};
 ghost use Rattle.pb_text_meaning.specs.Erase.{erased_range};
 ghost use Rattle.pb_typing_declarations.specs.Faults.{IsAmong};
@@ -37,10 +37,10 @@ pub(crate) fn read_ranges(
 }
 
 /// The bounds of a range that isn't empty.
-fn read_range(range: &pb_text_tree::Range) -> Result<Range, TypeError>
+fn read_range(range: &pb_text_tree::Range) -> Result<Range, TypingFault>
     ensures { MatchResult result
         (λ bounds. (empty_faults (range_form range.now) ≡ []) × (range_shown bounds ≡ (range.now.low, range.now.high)))
-        (IsAmong (empty_faults (range_form range.now))) }
+        (Contains (empty_faults (range_form range.now))) }
 {
     if range.low <= range.high {
         Ok(Range {
@@ -48,9 +48,9 @@ fn read_range(range: &pb_text_tree::Range) -> Result<Range, TypeError>
             hi: range.high,
         })
     } else {
-        Err(TypeError::At(TypingFault {
+        Err(TypingFault {
             rule: TypingRule::MissingRange,
             place: range.place,
-        }))
+        })
     }
 }

@@ -1,6 +1,6 @@
 //! Look-up tables of what a text declares, and the check of its declarations by them.
 
-ghost use Rattle.std.specs.Prelude.{◌≡◌, ◌+◌, ◌≤◌, nat_le, [], None, map, flat_map, MatchResult, IfOk};
+ghost use Rattle.std.specs.Prelude.{◌≡◌, ◌+◌, ◌≤◌, nat_le, [], None, map, flat_map, Contains, MatchResult, IfOk};
 ghost use Rattle.pb_carriers.specs.Carrier.{tuple_count};
 ghost use Rattle.pb_sorts.specs.Carrier.{values_of};
 ghost use Rattle.pb_sorts.specs.Layout.{lists_of};
@@ -15,6 +15,7 @@ ghost use Rattle.pb_typing_declarations.specs.Chains.{AreChains};
 ghost use Rattle.pb_typing_declarations.specs.Variables.{variables_of};
 ghost use Rattle.pb_typing_declarations.specs.Agreement.{Agree, equation_place};
 ghost use Rattle.pb_typing_declarations.specs.Reading.{AreEquations, IsCarrier, HasVariables, HasParameters, AddsInstances, HasCarriers};
+ghost use Rattle.pb_typing_declarations.specs.WellDeclared.{HaveEnds};
 ghost use Rattle.pb_typing_declarations.specs.Declarations.{tables_faults, checks_faults, sort_faults, range_faults, limit_faults, use_faults, variables_faults, equation_faults, equations_faults_behind};
 
 use crate::chain::{End, is_built_in};
@@ -119,10 +120,10 @@ impl<'a> Tables<'a> {
         Ok(())
     }
 
-    fn check_sorts(&self, alloc: Global, sorts: &[SortDeclaration]) -> Result<(), TypeError>
+    fn check_sorts(&self, alloc: Global, sorts: &[SortDeclaration]) -> Result<(), TypingFault>
         ensures { MatchResult result
             (λ _. flat_map (sort_faults (erase (spec_form self.now.spec.now))) (map sort_declaration_form sorts.now) ≡ [])
-            (IsAmong (flat_map (sort_faults (erase (spec_form self.now.spec.now))) (map sort_declaration_form sorts.now))) }
+            (Contains (flat_map (sort_faults (erase (spec_form self.now.spec.now))) (map sort_declaration_form sorts.now))) }
     {
         for declaration in sorts {
             self.check_sort(alloc, declaration)?;
@@ -131,10 +132,10 @@ impl<'a> Tables<'a> {
     }
 
     /// A sort isn't a built-in one; an alias's target is a sort, and its chain has an end.
-    fn check_sort(&self, alloc: Global, declaration: &SortDeclaration) -> Result<(), TypeError>
+    fn check_sort(&self, alloc: Global, declaration: &SortDeclaration) -> Result<(), TypingFault>
         ensures { MatchResult result
             (λ _. sort_faults (erase (spec_form self.now.spec.now)) (sort_declaration_form declaration.now) ≡ [])
-            (IsAmong (sort_faults (erase (spec_form self.now.spec.now)) (sort_declaration_form declaration.now))) }
+            (Contains (sort_faults (erase (spec_form self.now.spec.now)) (sort_declaration_form declaration.now))) }
     {
         let name = &declaration.name;
         require(!is_built_in(&name.text), TypingRule::NameTwice, name.place)?;
@@ -158,10 +159,11 @@ impl<'a> Tables<'a> {
         is_built_in(name) || self.definitions.contains_key(name)
     }
 
-    fn check_ranges(&self, alloc: Global, ranges: &[pb_text_tree::Range]) -> Result<(), TypeError>
+    fn check_ranges(&self, alloc: Global, ranges: &[pb_text_tree::Range]) -> Result<(), TypingFault>
+        requires { HaveEnds (erase (spec_form self.now.spec.now)) }
         ensures { MatchResult result
             (λ _. flat_map (range_faults (erase (spec_form self.now.spec.now))) (map range_form ranges.now) ≡ [])
-            (IsAmong (flat_map (range_faults (erase (spec_form self.now.spec.now))) (map range_form ranges.now))) }
+            (Contains (flat_map (range_faults (erase (spec_form self.now.spec.now))) (map range_form ranges.now))) }
     {
         for range in ranges {
             self.check_range(alloc, range)?;
@@ -170,10 +172,11 @@ impl<'a> Tables<'a> {
     }
 
     /// A range is that of an integer sort, and doesn't begin below the sort's least value.
-    fn check_range(&self, alloc: Global, range: &pb_text_tree::Range) -> Result<(), TypeError>
+    fn check_range(&self, alloc: Global, range: &pb_text_tree::Range) -> Result<(), TypingFault>
+        requires { HaveEnds (erase (spec_form self.now.spec.now)) }
         ensures { MatchResult result
             (λ _. range_faults (erase (spec_form self.now.spec.now)) (range_form range.now) ≡ [])
-            (IsAmong (range_faults (erase (spec_form self.now.spec.now)) (range_form range.now))) }
+            (Contains (range_faults (erase (spec_form self.now.spec.now)) (range_form range.now))) }
     {
         let base = self.base(alloc, &range.name);
         require(base.is_integer(), TypingRule::UnknownSort, range.place)?;
@@ -191,6 +194,7 @@ impl<'a> Tables<'a> {
         alloc: Global,
         equations: &[Equation],
     ) -> Result<Vec<Vec<Carrier>>, TypeError>
+        requires { HaveEnds (erase (spec_form self.now.spec.now)) }
         ensures { MatchResult result
             (λ carriers. HasCarriers (erase (spec_form self.now.spec.now)) 0 (map equation_form equations.now) (lists_of carriers.items))
             (IsAmong (equations_faults_behind (erase (spec_form self.now.spec.now)) 0 (map equation_form equations.now))) }
@@ -207,6 +211,7 @@ impl<'a> Tables<'a> {
 
     /// The carriers of an equation's parameters, if its predicate variable is as it must be.
     fn parameters(&self, alloc: Global, equation: &Equation) -> Result<Vec<Carrier>, TypeError>
+        requires { HaveEnds (erase (spec_form self.now.spec.now)) }
         ensures { MatchResult result
             (λ carriers. HasParameters (erase (spec_form self.now.spec.now)) (equation_form equation.now) carriers.items)
             (IsAmong (equation_faults (erase (spec_form self.now.spec.now)) (equation_form equation.now))) }
@@ -224,6 +229,7 @@ impl<'a> Tables<'a> {
         alloc: Global,
         variables: &[Entry<'_, &'_ Name>],
     ) -> Result<Vec<Carrier>, TypeError>
+        requires { HaveEnds (erase (spec_form self.now.spec.now)) }
         ensures { MatchResult result
             (λ carriers. HasVariables (erase (spec_form self.now.spec.now)) (variables_of variables.now) carriers.items)
             (IsAmong (variables_faults (erase (spec_form self.now.spec.now)) (variables_of variables.now))) }
@@ -238,36 +244,37 @@ impl<'a> Tables<'a> {
     }
 
     /// The carrier of a variable's sort.
-    fn variable_carrier(&self, sort: &Name) -> Result<Carrier, TypeError>
+    fn variable_carrier(&self, sort: &Name) -> Result<Carrier, TypingFault>
+        requires { HaveEnds (erase (spec_form self.now.spec.now)) }
         ensures { MatchResult result
             (λ carrier. IsCarrier (erase (spec_form self.now.spec.now)) (named sort.now) carrier)
-            (IsAmong (use_faults (end_of (erase (spec_form self.now.spec.now)) (named sort.now).text) sort.now.place)) }
+            (Contains (use_faults (erase (spec_form self.now.spec.now)) (named sort.now))) }
     {
         let rule = match self.end(&sort.text) {
             End::Carrier(carrier) => return Ok(carrier),
             End::Unranged(_) => TypingRule::MissingRange,
             End::Undeclared | End::Endless => TypingRule::UnknownSort,
         };
-        Err(TypeError::At(TypingFault {
+        Err(TypingFault {
             rule,
             place: sort.place,
-        }))
+        })
     }
 }
 
 /// So many instances and those of one more predicate variable, if they are within the limit.
-fn add_instances(count: u32, parameters: &[Carrier], place: Place) -> Result<u32, TypeError>
+fn add_instances(count: u32, parameters: &[Carrier], place: Place) -> Result<u32, TypingFault>
     requires { count ≤ MAX_INSTANCES }
     ensures { MatchResult result
         (λ sum. AddsInstances count (map values_of parameters.now) place sum)
-        (IsAmong (unless (nat_le (count + tuple_count (map values_of parameters.now)) MAX_INSTANCES) TypingRule.Limit place)) }
+        (Contains (unless (nat_le (count + tuple_count (map values_of parameters.now)) MAX_INSTANCES) TypingRule.Limit place)) }
 {
     match count_tuples(parameters) {
         Some(size) if count + size <= MAX_INSTANCES => Ok(count + size),
-        _ => Err(TypeError::At(TypingFault {
+        _ => Err(TypingFault {
             rule: TypingRule::Limit,
             place,
-        })),
+        }),
     }
 }
 
@@ -290,16 +297,16 @@ fn equation_entries(
 }
 
 /// Whether there are at most so many; the fault stands at the one that passes the limit.
-fn check_limit<V: Copy>(entries: &[Entry<'_, V>], limit: usize) -> Result<(), TypeError>
+fn check_limit<V: Copy>(entries: &[Entry<'_, V>], limit: usize) -> Result<(), TypingFault>
     ensures { MatchResult result
         (λ _. limit_faults limit (entry_names entries.now) ≡ [])
-        (IsAmong (limit_faults limit (entry_names entries.now))) }
+        (Contains (limit_faults limit (entry_names entries.now))) }
 {
     match entries.get(limit) {
         None => Ok(()),
-        Some(entry) => Err(TypeError::At(TypingFault {
+        Some(entry) => Err(TypingFault {
             rule: TypingRule::Limit,
             place: entry.place,
-        })),
+        }),
     }
 }

@@ -1,16 +1,13 @@
 -- The value of a well-typed term is one of the term's shape, and each value on the way is within the limits.
-use Rattle.std.proofs.Common.{◌≡◌, ℕ, Bool, true, false, List, [], ◌∷◌, refl, sym, ap, subst, arith, ℤ, pos, Option, Some, None}
+use Rattle.std.proofs.Common.{Bool, true, false, List, [], ◌∷◌, arith, pos, Option, Some, None}
 use Rattle.std.proofs.lemmas.Int.{ints}
 use Rattle.pb_intervals.specs.Interval.{singleton}
 use Rattle.pb_intervals.specs.Operation.{Negation}
-use Rattle.pb_carriers.specs.Carrier.{of_bool}
-use Rattle.pb_text_meaning.specs.Syntax.{Name, Variable, Operator, Term, Terms, Formula, Equation, Spec}
-use Rattle.pb_text_meaning.specs.Value.{Assignment, value, values, is_true, quantified}
+use Rattle.pb_text_meaning.specs.Syntax.{Variable, Term, Terms, Formula, Equation, Spec}
+use Rattle.pb_text_meaning.specs.Value.{Assignment, value, values}
 use Rattle.pb_text_meaning.specs.Formula.{equation_named}
-use Rattle.pb_text_meaning.specs.Fits.{IsBounded, DivisorFits, FitsFor, Fits, AllFit, FormulaFits}
-use Rattle.pb_typing_declarations.specs.Shapes.{Shape, Truths}
-use Rattle.pb_typing_rules.specs.Shapes.{IsValueOf, kind_of}
-use Rattle.pb_typing_rules.specs.Functions.{function_named}
+use Rattle.pb_text_meaning.specs.Fits.{Fits, AllFit, FormulaFits}
+use Rattle.pb_typing_rules.specs.Shapes.{kind_of}
 use Rattle.pb_typing_rules.specs.Scope.{Scope, bound, Within}
 use Rattle.pb_typing_rules.specs.Term.{shape, shapes, IsTyped, AreTyped, passes}
 use Rattle.pb_typing_rules.specs.Formula.{AreArguments, IsCalled, IsProper}

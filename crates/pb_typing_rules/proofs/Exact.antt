@@ -1,6 +1,5 @@
 -- Terms and formulas: what is well typed has no fault, and what has none is well typed.
-use Rattle.std.proofs.Common.{◌≡◌, ℕ, Bool, true, false, not, ◌&&◌, List, [], ◌∷◌, ◌++◌, length, refl, sym, ◌∙◌, ap, subst, Option, Some, None, eq-eqb, eqb-true, true≢false}
-use Rattle.std.specs.Prelude.{◌==◌}
+use Rattle.std.proofs.Common.{◌≡◌, Bool, true, false, not, ◌&&◌, List, [], ◌∷◌, ◌++◌, length, refl, sym, ◌∙◌, ap, subst, Option, Some, None, eq-eqb, eqb-true, true≢false}
 use Rattle.pb_text_tree.specs.declared.place.Place.{Place}
 use Rattle.pb_text_tree.specs.declared.operator.Connective.{Connective}
 use Rattle.pb_text_tree.specs.declared.operator.Connective.TheVariants.{And, Or, Implies}
@@ -8,23 +7,21 @@ use Rattle.pb_text_tree.specs.declared.operator.Comparison.{Comparison}
 use Rattle.pb_text_tree.specs.declared.operator.Comparison.TheVariants as comparison
 use Rattle.pb_text_tree.specs.declared.operator.Arithmetic.{Arithmetic}
 use Rattle.pb_text_tree.specs.declared.operator.Arithmetic.TheVariants as arithmetic
-use Rattle.pb_text_tree.specs.Form.{Named, VariableForm, TermForm, ArgumentForms, no_arguments, argument, InstanceForm, FormulaForm}
-use Rattle.pb_intervals.specs.Operation.{Negation}
+use Rattle.pb_text_tree.specs.Form.{Named, TermForm, ArgumentForms, no_arguments, argument, InstanceForm, FormulaForm}
 use Rattle.pb_text_meaning.specs.Syntax.{Variable, Formula, Equation, Spec}
 use Rattle.pb_text_meaning.specs.Names.{is_declared}
 use Rattle.pb_text_meaning.specs.Formula.{equation_named}
 use Rattle.pb_text_meaning.specs.Erase.{of_connective, of_comparison, of_arithmetic, erased_variables, erased_term, erased_arguments, erased_formula}
 use Rattle.pb_typing_declarations.specs.declared.fault.TypingRule.TheVariants as rule
 use Rattle.pb_typing_declarations.specs.Faults.{unless}
-use Rattle.pb_typing_declarations.specs.Shapes.{Shape, sort_shape}
-use Rattle.pb_typing_declarations.specs.Declarations.{variables_faults}
-use Rattle.pb_typing_declarations.specs.WellDeclared.{AreVariables}
-use Rattle.pb_typing_rules.specs.Shapes.{may_be_truth, may_be_whole, may_be_alike, OperatorKind, kind_of, accepts, divisor_is_positive, outcome_is_limited}
-use Rattle.pb_typing_rules.specs.Functions.{Function, function_named, arity, takes, result_is_limited}
+use Rattle.pb_typing_declarations.specs.Shapes.{Shape}
+use Rattle.pb_typing_declarations.specs.WellDeclared.{HaveEnds}
+use Rattle.pb_typing_rules.specs.Shapes.{may_be_truth, OperatorKind, kind_of}
+use Rattle.pb_typing_rules.specs.Functions.{Function, function_named, arity}
 use Rattle.pb_typing_rules.specs.Scope.{Scope, bound, named_shape}
 use Rattle.pb_typing_rules.specs.Term.{shape, shapes, passes, IsNamed, IsApplied, IsOperation, IsTyped, AreTyped}
 use Rattle.pb_typing_rules.specs.Formula.{count, AreArguments, IsCalled, IsProper}
-use Rattle.pb_typing_rules.specs.Faults.{unknown_faults, name_faults, negative_faults, operator_faults, function_faults, term_faults, terms_faults, argument_faults, called_faults, instance_faults, left_parity, formula_faults}
+use Rattle.pb_typing_rules.specs.Faults.{unknown_faults, name_faults, operator_faults, function_faults, term_faults, terms_faults, argument_faults, called_faults, instance_faults, left_parity, formula_faults}
 use Rattle.pb_typing_rules.proofs.Parts.{no_parts, no_whole, holds_unless, unless_holds}
 use Rattle.pb_typing_rules.proofs.Declared.{variables_clear, clear_variables}
 
@@ -109,54 +106,54 @@ typed_from : (spec : Spec) (scope : Scope) (x : TermForm) (a b : Bool) → a ≡
 typed_from spec scope x a b e h = subst (λ (c : Bool). IsTyped spec c scope (erased_term x)) e h
 
 mutual
-  pub typed : (spec : Spec) (stands : Bool) (scope : Scope) (x : TermForm) → term_faults spec stands scope x ≡ [] → IsTyped spec stands scope (erased_term x)
-  typed spec stands scope (TermForm.constant p b) e = tt
-  typed spec stands scope (TermForm.number p n) e = holds_unless _ _ _ e
-  typed spec stands scope (TermForm.name x) e = named_of_clear spec (named_shape spec scope x.text) x e
-  typed spec stands scope (TermForm.not p x) e =
-      let q = no_parts _ _ e in (typed spec stands scope x q.0, holds_unless _ _ _ q.1)
-  typed spec stands scope (TermForm.negative p x) e =
+  pub typed : (spec : Spec) (ends : HaveEnds spec) (stands : Bool) (scope : Scope) (x : TermForm) → term_faults spec stands scope x ≡ [] → IsTyped spec stands scope (erased_term x)
+  typed spec ends stands scope (TermForm.constant p b) e = tt
+  typed spec ends stands scope (TermForm.number p n) e = holds_unless _ _ _ e
+  typed spec ends stands scope (TermForm.name x) e = named_of_clear spec (named_shape spec scope x.text) x e
+  typed spec ends stands scope (TermForm.not p x) e =
+      let q = no_parts _ _ e in (typed spec ends stands scope x q.0, holds_unless _ _ _ q.1)
+  typed spec ends stands scope (TermForm.negative p x) e =
       let q = no_parts _ _ e in
       let r = no_parts _ _ q.1 in
-      (typed spec false scope x q.0, holds_unless _ _ _ r.0, holds_unless _ _ _ r.1)
-  typed spec stands scope (TermForm.connected c p x y) e =
+      (typed spec ends false scope x q.0, holds_unless _ _ _ r.0, holds_unless _ _ _ r.1)
+  typed spec ends stands scope (TermForm.connected c p x y) e =
       let q = no_parts _ _ e in
       let r = no_parts _ _ q.1 in
       let u = no_parts _ _ r.1 in (
-        typed_at spec scope x (passes (kind_of (of_connective c)) stands) stands (passes-connective c stands) (typed spec stands scope x q.0),
-        typed_at spec scope y (passes (kind_of (of_connective c)) stands) stands (passes-connective c stands) (typed spec stands scope y u.0),
+        typed_at spec scope x (passes (kind_of (of_connective c)) stands) stands (passes-connective c stands) (typed spec ends stands scope x q.0),
+        typed_at spec scope y (passes (kind_of (of_connective c)) stands) stands (passes-connective c stands) (typed spec ends stands scope y u.0),
         connective_operation c _ _ (holds_unless _ _ _ r.0) (holds_unless _ _ _ u.1),
       )
-  typed spec stands scope (TermForm.compared c p x y) e =
+  typed spec ends stands scope (TermForm.compared c p x y) e =
       let q = no_parts _ _ e in
       let r = no_parts _ _ q.1 in (
-        typed_at spec scope x (passes (kind_of (of_comparison c)) stands) false (passes-comparison c stands) (typed spec false scope x q.0),
-        typed_at spec scope y (passes (kind_of (of_comparison c)) stands) false (passes-comparison c stands) (typed spec false scope y r.0),
+        typed_at spec scope x (passes (kind_of (of_comparison c)) stands) false (passes-comparison c stands) (typed spec ends false scope x q.0),
+        typed_at spec scope y (passes (kind_of (of_comparison c)) stands) false (passes-comparison c stands) (typed spec ends false scope y r.0),
         operation_of_clear (kind_of (of_comparison c)) (shape spec scope (erased_term x)) (shape spec scope (erased_term y)) p r.1,
       )
-  typed spec stands scope (TermForm.computed o p x y) e =
+  typed spec ends stands scope (TermForm.computed o p x y) e =
       let q = no_parts _ _ e in
       let r = no_parts _ _ q.1 in (
-        typed_at spec scope x (passes (kind_of (of_arithmetic o)) stands) false (passes-arithmetic o stands) (typed spec false scope x q.0),
-        typed_at spec scope y (passes (kind_of (of_arithmetic o)) stands) false (passes-arithmetic o stands) (typed spec false scope y r.0),
+        typed_at spec scope x (passes (kind_of (of_arithmetic o)) stands) false (passes-arithmetic o stands) (typed spec ends false scope x q.0),
+        typed_at spec scope y (passes (kind_of (of_arithmetic o)) stands) false (passes-arithmetic o stands) (typed spec ends false scope y r.0),
         operation_of_clear (kind_of (of_arithmetic o)) (shape spec scope (erased_term x)) (shape spec scope (erased_term y)) p r.1,
       )
-  typed spec stands scope (TermForm.application f xs) e =
+  typed spec ends stands scope (TermForm.application f xs) e =
       let q = no_parts _ _ e in
-      (all_typed spec scope xs q.0, applied_of_clear spec (function_named spec f.text) (shapes spec scope (erased_arguments xs)) f q.1)
-  typed spec stands scope (TermForm.quantified q p xs x) e =
+      (all_typed spec ends scope xs q.0, applied_of_clear spec (function_named spec f.text) (shapes spec scope (erased_arguments xs)) f q.1)
+  typed spec ends stands scope (TermForm.quantified q p xs x) e =
       let r = no_parts _ _ e in
       let u = no_parts _ _ r.1 in
       let v = no_parts _ _ u.1 in (
         holds_unless _ _ _ r.0,
-        clear_variables spec xs u.0,
-        typed spec stands (bound spec (erased_variables xs) scope) x v.0,
+        clear_variables spec xs ends u.0,
+        typed spec ends stands (bound spec (erased_variables xs) scope) x v.0,
         holds_unless _ _ _ v.1,
       )
 
-  pub all_typed : (spec : Spec) (scope : Scope) (xs : ArgumentForms) → terms_faults spec scope xs ≡ [] → AreTyped spec scope (erased_arguments xs)
-  all_typed spec scope no_arguments e = tt
-  all_typed spec scope (argument p x xs) e = let q = no_parts _ _ e in (typed spec false scope x q.0, all_typed spec scope xs q.1)
+  pub all_typed : (spec : Spec) (ends : HaveEnds spec) (scope : Scope) (xs : ArgumentForms) → terms_faults spec scope xs ≡ [] → AreTyped spec scope (erased_arguments xs)
+  all_typed spec ends scope no_arguments e = tt
+  all_typed spec ends scope (argument p x xs) e = let q = no_parts _ _ e in (typed spec ends false scope x q.0, all_typed spec ends scope xs q.1)
 
 mutual
   pub term_clear : (spec : Spec) (stands : Bool) (scope : Scope) (x : TermForm) → IsTyped spec stands scope (erased_term x) → term_faults spec stands scope x ≡ []
@@ -190,13 +187,13 @@ mutual
 
 -- ---- formulas
 
-arguments_of_clear : (spec : Spec) (scope : Scope) (es : ArgumentForms) (xs : List Variable) → argument_faults spec scope es xs ≡ [] → AreArguments spec scope (erased_arguments es) xs
-arguments_of_clear spec scope no_arguments xs e = tt
-arguments_of_clear spec scope (argument p x es) [] e = let q = no_parts _ _ e in (typed spec false scope x q.0, arguments_of_clear spec scope es [] q.1)
-arguments_of_clear spec scope (argument p x es) (y ∷ ys) e =
+arguments_of_clear : (spec : Spec) (ends : HaveEnds spec) (scope : Scope) (es : ArgumentForms) (xs : List Variable) → argument_faults spec scope es xs ≡ [] → AreArguments spec scope (erased_arguments es) xs
+arguments_of_clear spec ends scope no_arguments xs e = tt
+arguments_of_clear spec ends scope (argument p x es) [] e = let q = no_parts _ _ e in (typed spec ends false scope x q.0, arguments_of_clear spec ends scope es [] q.1)
+arguments_of_clear spec ends scope (argument p x es) (y ∷ ys) e =
     let q = no_parts _ _ e in
     let r = no_parts _ _ q.1 in
-    (typed spec false scope x q.0, holds_unless _ _ _ r.0, arguments_of_clear spec scope es ys r.1)
+    (typed spec ends false scope x q.0, holds_unless _ _ _ r.0, arguments_of_clear spec ends scope es ys r.1)
 
 arguments_clear : (spec : Spec) (scope : Scope) (es : ArgumentForms) (xs : List Variable) → AreArguments spec scope (erased_arguments es) xs → argument_faults spec scope es xs ≡ []
 arguments_clear spec scope no_arguments xs h = refl
@@ -204,14 +201,14 @@ arguments_clear spec scope (argument p x es) [] h = no_whole _ _ (term_clear spe
 arguments_clear spec scope (argument p x es) (y ∷ ys) h =
     no_whole _ _ (term_clear spec false scope x h.0) (no_whole _ _ (unless_holds _ _ _ h.1) (arguments_clear spec scope es ys h.2))
 
-called_of_clear : (spec : Spec) (even : Bool) (scope : Scope) (es : ArgumentForms) (X : Option Equation) (p : Place) →
+called_of_clear : (spec : Spec) (ends : HaveEnds spec) (even : Bool) (scope : Scope) (es : ArgumentForms) (X : Option Equation) (p : Place) →
     called_faults spec even scope es X p ≡ [] → (even ≡ true) × IsCalled spec scope (erased_arguments es) X
-called_of_clear spec even scope es None p e = let q = no_parts _ _ e in absurd (true≢false (sym (holds_unless _ _ _ q.0)))
-called_of_clear spec even scope es (Some X) p e =
+called_of_clear spec ends even scope es None p e = let q = no_parts _ _ e in absurd (true≢false (sym (holds_unless _ _ _ q.0)))
+called_of_clear spec ends even scope es (Some X) p e =
     let q = no_parts _ _ e in
     let r = no_parts _ _ q.1 in (
       holds_unless _ _ _ q.0,
-      (eqb-true (count (erased_arguments es)) (length X.parameters) (holds_unless _ _ _ r.0), arguments_of_clear spec scope es X.parameters r.1),
+      (eqb-true (count (erased_arguments es)) (length X.parameters) (holds_unless _ _ _ r.0), arguments_of_clear spec ends scope es X.parameters r.1),
     )
 
 called_clear : (spec : Spec) (even : Bool) (scope : Scope) (es : ArgumentForms) (X : Option Equation) (p : Place) →
@@ -221,8 +218,8 @@ called_clear spec even scope es (Some X) p is h =
     no_whole _ _ (unless_holds _ _ _ is)
     (no_whole _ _ (unless_holds _ _ _ (eq-eqb (count (erased_arguments es)) (length X.parameters) h.0)) (arguments_clear spec scope es X.parameters h.1))
 
-pub instance_proper : (spec : Spec) (even : Bool) (scope : Scope) (i : InstanceForm) → instance_faults spec even scope i ≡ [] → IsProper spec even scope (Formula.Call i.name.text (erased_arguments i.arguments))
-instance_proper spec even scope i e = called_of_clear spec even scope i.arguments (equation_named spec.equations i.name.text) i.name.place e
+pub instance_proper : (spec : Spec) (ends : HaveEnds spec) (even : Bool) (scope : Scope) (i : InstanceForm) → instance_faults spec even scope i ≡ [] → IsProper spec even scope (Formula.Call i.name.text (erased_arguments i.arguments))
+instance_proper spec ends even scope i e = called_of_clear spec ends even scope i.arguments (equation_named spec.equations i.name.text) i.name.place e
 
 pub instance_clear : (spec : Spec) (even : Bool) (scope : Scope) (i : InstanceForm) → IsProper spec even scope (Formula.Call i.name.text (erased_arguments i.arguments)) → instance_faults spec even scope i ≡ []
 instance_clear spec even scope i h =
@@ -240,15 +237,15 @@ proper_parts spec And even scope p f g h = h
 proper_parts spec Or even scope p f g h = h
 proper_parts spec Implies even scope p f g h = h
 
-pub proper : (spec : Spec) (even : Bool) (scope : Scope) (f : FormulaForm) → formula_faults spec even scope f ≡ [] → IsProper spec even scope (erased_formula f)
-proper spec even scope (FormulaForm.constant p b) e = tt
-proper spec even scope (FormulaForm.val p x) e = let q = no_parts _ _ e in (typed spec true scope x q.0, holds_unless _ _ _ q.1)
-proper spec even scope (FormulaForm.instance i) e = instance_proper spec even scope i e
-proper spec even scope (FormulaForm.negation p f) e = proper spec (not even) scope f e
-proper spec even scope (FormulaForm.connected c p f g) e =
-    let q = no_parts _ _ e in join_proper spec c even scope p f g (proper spec (left_parity c even) scope f q.0) (proper spec even scope g q.1)
-proper spec even scope (FormulaForm.quantified q p xs f) e =
-    let r = no_parts _ _ e in (clear_variables spec xs r.0, proper spec even (bound spec (erased_variables xs) scope) f r.1)
+pub proper : (spec : Spec) (ends : HaveEnds spec) (even : Bool) (scope : Scope) (f : FormulaForm) → formula_faults spec even scope f ≡ [] → IsProper spec even scope (erased_formula f)
+proper spec ends even scope (FormulaForm.constant p b) e = tt
+proper spec ends even scope (FormulaForm.val p x) e = let q = no_parts _ _ e in (typed spec ends true scope x q.0, holds_unless _ _ _ q.1)
+proper spec ends even scope (FormulaForm.instance i) e = instance_proper spec ends even scope i e
+proper spec ends even scope (FormulaForm.negation p f) e = proper spec ends (not even) scope f e
+proper spec ends even scope (FormulaForm.connected c p f g) e =
+    let q = no_parts _ _ e in join_proper spec c even scope p f g (proper spec ends (left_parity c even) scope f q.0) (proper spec ends even scope g q.1)
+proper spec ends even scope (FormulaForm.quantified q p xs f) e =
+    let r = no_parts _ _ e in (clear_variables spec xs ends r.0, proper spec ends even (bound spec (erased_variables xs) scope) f r.1)
 
 pub formula_clear : (spec : Spec) (even : Bool) (scope : Scope) (f : FormulaForm) → IsProper spec even scope (erased_formula f) → formula_faults spec even scope f ≡ []
 formula_clear spec even scope (FormulaForm.constant p b) h = refl

@@ -1,5 +1,5 @@
 -- Each term of a well-typed specification fits, and each right side is positive.
-use Rattle.std.proofs.Common.{◌≡◌, ℕ, zero, suc, Bool, true, false, not, ◌&&◌, List, [], ◌∷◌, length, get_or, refl, sym, ap, subst, arith, Option, Some, None, true≢false}
+use Rattle.std.proofs.Common.{◌≡◌, zero, suc, Bool, true, not, List, [], ◌∷◌, sym, arith, true≢false}
 use Rattle.std.specs.Prelude.{All}
 use Rattle.pb_carriers.specs.Carrier.{Tuple, is_within, contains}
 use Rattle.pb_text_meaning.specs.Syntax.{Variable, Formula, Equation, Spec}
@@ -8,7 +8,7 @@ use Rattle.pb_text_meaning.specs.Value.{Assignment}
 use Rattle.pb_text_meaning.specs.Formula.{carriers_of, equation_named}
 use Rattle.pb_text_meaning.specs.Meaning.{assigned}
 use Rattle.pb_text_meaning.specs.Positive.{IsPositive, ArePositive}
-use Rattle.pb_text_meaning.specs.Fits.{FormulaFits, RightFits, SpecFits}
+use Rattle.pb_text_meaning.specs.Fits.{RightFits, SpecFits}
 use Rattle.pb_typing_declarations.specs.Shapes.{sort_shape}
 use Rattle.pb_typing_rules.specs.Scope.{Scope, outermost, declare, bound, Within}
 use Rattle.pb_typing_rules.specs.Formula.{IsProper}

@@ -1,15 +1,14 @@
 -- The shape of what a named function gives has the function's value.
-use Rattle.std.proofs.Common.{◌≡◌, ℕ, zero, suc, Bool, true, false, cond, ◌&&◌, ◌||◌, not, List, [], ◌∷◌, length, refl, sym, ◌∙◌, ap, subst, arith, ℤ, pos, ◌+ℤ◌, ◌-ℤ◌, unsigned_abs, int_le, true≢false, Option, Some, None, codes}
+use Rattle.std.proofs.Common.{◌≡◌, Bool, true, false, cond, ◌||◌, not, List, [], ◌∷◌, refl, sym, ap, arith, ℤ, pos, ◌+ℤ◌, ◌-ℤ◌, unsigned_abs, int_le, true≢false, Option, Some, None, codes}
 use Rattle.std.specs.Int.{int_max, int_min}
-use Rattle.std.proofs.lemmas.Int.{ints}
-use Rattle.pb_intervals.specs.Operation.{UnaryOperation, BinaryOperation, Successor, Predecessor, AbsoluteValue, Maximum, Minimum, divides}
+use Rattle.pb_intervals.specs.Operation.{BinaryOperation, Successor, Predecessor, AbsoluteValue, Maximum, Minimum, divides}
 use Rattle.pb_carriers.specs.Carrier.{of_bool}
-use Rattle.pb_text_meaning.specs.Syntax.{Name, same_name, Terms, Spec}
-use Rattle.pb_text_meaning.specs.Value.{is_true, recognised, is_place, function_of_one, function_of_two, function_of_three, function_value}
+use Rattle.pb_text_meaning.specs.Syntax.{Name, same_name, Spec}
+use Rattle.pb_text_meaning.specs.Value.{is_true, function_value}
 use Rattle.pb_typing_declarations.specs.Shapes.{Shape, Unknown, Truths, Places, Wholes}
 use Rattle.pb_typing_declarations.specs.Enumerators.{recogniser_shape}
 use Rattle.pb_typing_rules.specs.Shapes.{may_be_truth, may_be_whole, may_be_alike, hull, may_divide}
-use Rattle.pb_typing_rules.specs.Functions.{Function, Choice, Conversion, OfOne, OfTwo, Recogniser, recogniser, function_named, arity, kept, takes, result_shape, result_is_limited}
+use Rattle.pb_typing_rules.specs.Functions.{Function, Choice, Conversion, OfOne, OfTwo, Recogniser, recogniser, function_named, kept}
 use Rattle.pb_typing_rules.specs.Term.{applied_shape, IsApplied}
 use Rattle.pb_typing_rules.proofs.Values.{Contained, and_true, truth_value}
 use Rattle.pb_typing_rules.proofs.Operations.{unary_contained, binary_contained, hull_left, hull_right}

@@ -1,5 +1,5 @@
 -- The value of a name is one of the name's shape.
-use Rattle.std.proofs.Common.{◌≡◌, ℕ, zero, suc, ◌+◌, ◌<◌, Bool, true, false, cond, List, [], ◌∷◌, ◌++◌, length, refl, sym, ◌∙◌, ap, subst, arith, ℤ, pos, ◌≤ℤ◌, ◌-ℤ◌, Option, Some, None, true≢false}
+use Rattle.std.proofs.Common.{◌≡◌, ℕ, suc, ◌+◌, ◌<◌, Bool, true, false, cond, List, [], ◌∷◌, ◌++◌, length, refl, sym, subst, arith, ℤ, pos, Option, Some, None}
 use Rattle.std.specs.Prelude.{unwrap_or, ⊤}
 use Rattle.std.specs.Option.{option_map}
 use Rattle.std.proofs.lemmas.Int.{ints}
@@ -9,9 +9,9 @@ use Rattle.pb_text_meaning.specs.Sorts as sorts
 use Rattle.pb_text_meaning.specs.Value.{Assignment, looked_up, named_value}
 use Rattle.pb_carriers.specs.Carrier.{contains}
 use Rattle.pb_text_meaning.specs.Fits.{FitsFor}
-use Rattle.pb_typing_declarations.specs.Shapes.{Shape, Unknown, Truths, Places, Wholes, first, number_behind, sort_shape, shape_carrier}
+use Rattle.pb_typing_declarations.specs.Shapes.{Shape, Places, first, number_behind, sort_shape}
 use Rattle.pb_typing_declarations.specs.Enumerators.{Position, positioned, enumerators_from, enumerators_in, all_enumerators, enumerator_of, position_shape, enumerator_shape}
-use Rattle.pb_typing_rules.specs.Shapes.{IsValueOf, is_limited}
+use Rattle.pb_typing_rules.specs.Shapes.{IsValueOf}
 use Rattle.pb_typing_rules.specs.Scope.{Scope, declare, bound, or_else, named_shape, Agree, Within}
 use Rattle.pb_typing_rules.specs.Term.{shape_or_unknown, IsNamed}
 use Rattle.pb_typing_rules.proofs.Declared.{shape_is_carrier}

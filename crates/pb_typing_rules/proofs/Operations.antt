@@ -1,19 +1,17 @@
 -- The shape of an operation has the operation's value.
-use Rattle.std.proofs.Common.{◌≡◌, ℕ, Bool, true, false, cond, ◌&&◌, ◌||◌, not, refl, sym, ◌∙◌, ap, subst, arith, ℤ, pos, neg_ℤ, ◌-ℤ◌, ◌≤ℤ◌, int_le, true≢false, inl, inr, Option, Some, None}
+use Rattle.std.proofs.Common.{◌≡◌, ℕ, Bool, true, false, cond, ◌&&◌, ◌||◌, not, refl, sym, subst, arith, ℤ, pos, ◌≤ℤ◌, int_le, true≢false, inl, inr}
 use Rattle.std.specs.Prelude.{◌==◌, max}
 use Rattle.std.proofs.lemmas.Int.{ints}
-use Rattle.std.proofs.Common.{eqb-true}
-use Rattle.pb_intervals.specs.Interval as intervals
-use Rattle.pb_intervals.specs.Interval.{IntegerInterval, Includes, is_within, within, literals}
-use Rattle.pb_intervals.specs.Operation.{UnaryOperation, BinaryOperation, Sum, Difference, Product, Quotient, Remainder, Maximum, Minimum, Negation, unary_value, binary_value, unary_interval, binary_interval, divides}
+use Rattle.pb_intervals.specs.Interval.{is_within, within, literals}
+use Rattle.pb_intervals.specs.Operation.{UnaryOperation, BinaryOperation, Sum, Difference, Product, Quotient, Remainder, unary_value, binary_value, unary_interval, binary_interval, divides}
 use Rattle.pb_intervals.specs.Laws.{IsDefined}
 use Rattle.pb_intervals.proofs.Ends.{le_true}
 use Rattle.pb_intervals.proofs.Sound.{unary_sound, binary_sound, hull_sound}
 use Rattle.pb_text_meaning.specs.Syntax.{Operator}
 use Rattle.pb_text_meaning.specs.Value.{binary}
-use Rattle.pb_text_meaning.specs.Fits.{IsBounded, DivisorFits}
+use Rattle.pb_text_meaning.specs.Fits.{DivisorFits}
 use Rattle.pb_typing_declarations.specs.Shapes.{Shape, Unknown, Truths, Places, Wholes}
-use Rattle.pb_typing_rules.specs.Shapes.{may_be_truth, may_be_whole, may_be_alike, IsValueOf, interval, of_interval, hull, unary_shape, unary_is_limited, may_divide, binary_shape, binary_is_limited, OperatorKind, OfTruths, OfAlike, OfWholes, Computed, kind_of, accepts, outcome, divisor_is_positive, outcome_is_limited}
+use Rattle.pb_typing_rules.specs.Shapes.{may_be_whole, may_be_alike, IsValueOf, interval, of_interval, hull, unary_shape, unary_is_limited, may_divide, binary_shape, binary_is_limited, kind_of, outcome}
 use Rattle.pb_typing_rules.specs.Term.{IsOperation}
 use Rattle.pb_typing_rules.proofs.Values.{Contained, and_true, whole_value, truth_value}
 

@@ -1,10 +1,8 @@
 -- Values of a shape, and values within the limits.
-use Rattle.std.proofs.Common.{◌≡◌, ◌^◌, ℕ, zero, suc, Bool, true, false, cond, ◌&&◌, ◌||◌, not, List, [], ◌∷◌, refl, sym, ◌∙◌, ap, subst, arith, ℤ, pos, negsuc, neg_ℤ, ◌-ℤ◌, ◌+ℤ◌, ◌≤ℤ◌, ◌<ℤ◌, int_le, int_eq, true≢false, Option, Some, None}
+use Rattle.std.proofs.Common.{◌≡◌, Bool, true, false, cond, ◌&&◌, ◌||◌, [], ◌∷◌, refl, sym, ◌∙◌, ap, subst, arith, ℤ, pos, negsuc, ◌-ℤ◌, ◌+ℤ◌, ◌≤ℤ◌, ◌<ℤ◌, int_le, int_eq, true≢false, Some, None}
 use Rattle.std.proofs.lemmas.Int.{ints}
-use Rattle.std.specs.Bool.{Decides}
 use Rattle.std.proofs.lemmas.Bool.Decides.{Decides-int_eq}
-use Rattle.pb_carriers.specs.Carrier.{Carrier, contains, of_bool, numbers_from, at_least_none}
-use Rattle.pb_carriers.specs.Carrier as carriers
+use Rattle.pb_carriers.specs.Carrier.{contains, of_bool, at_least_none}
 use Rattle.pb_sorts.proofs.Intervals.{contains-numbers_from}
 use Rattle.pb_intervals.specs.Interval.{IntegerInterval, Includes, is_within, within, literals}
 use Rattle.pb_intervals.proofs.Ends.{le_true}

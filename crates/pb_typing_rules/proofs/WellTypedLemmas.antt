@@ -1,30 +1,31 @@
 -- Whole texts: no fault exactly where what the text says is well typed.
-use Rattle.std.proofs.Common.{◌≡◌, ◌≢◌, ℕ, zero, suc, Bool, true, false, ◌&&◌, List, [], ◌∷◌, ◌++◌, map, length, refl, sym, ◌∙◌, ap, subst, arith, Option, Some, None, true≢false}
+use Rattle.std.proofs.Common.{◌≡◌, ◌≢◌, Bool, true, false, ◌&&◌, List, [], ◌∷◌, map, length, refl, sym, ◌∙◌, ap, subst, arith, Option, Some, None, true≢false}
 use Rattle.std.specs.List.{Contains}
-use Rattle.pb_text_tree.specs.Form.{Named, ArgumentForms, no_arguments, argument, InstanceForm, EquationForm, SpecForm}
+use Rattle.pb_text_tree.specs.Form.{ArgumentForms, no_arguments, argument, EquationForm, SpecForm}
 use Rattle.pb_carriers.specs.Carrier.{is_within, contains}
-use Rattle.pb_text_meaning.specs.Syntax.{Variable, Formula, Equation, Spec}
+use Rattle.pb_text_meaning.specs.Syntax.{Variable, Equation, Spec}
 use Rattle.pb_text_meaning.specs.Sorts.{carrier_of}
 use Rattle.pb_text_meaning.specs.Value.{value, values}
-use Rattle.pb_text_meaning.specs.Formula.{carriers_of, equation_named, fits, is_instance}
+use Rattle.pb_text_meaning.specs.Formula.{carriers_of, equation_named, fits}
 use Rattle.pb_text_meaning.specs.Erase.{erase, erased_equation, erased_term, erased_arguments, erased_variables}
 use Rattle.pb_typing_declarations.specs.declared.fault.TypingFault.{TypingFault}
 use Rattle.pb_typing_declarations.specs.declared.fault.TypeError.{TypeError}
 use Rattle.pb_typing_declarations.specs.declared.fault.TypeError.TheVariants.{Memory, At}
-use Rattle.pb_typing_declarations.specs.Faults.{unless, IsAmong}
+use Rattle.pb_typing_declarations.specs.Faults.{IsAmong}
 use Rattle.pb_typing_declarations.specs.Declarations.{declaration_faults}
+use Rattle.pb_typing_declarations.specs.WellDeclared.{HaveEnds}
 use Rattle.pb_typing_rules.specs.Scope.{outermost, bound}
-use Rattle.pb_typing_rules.specs.Formula.{count, IsCalled, IsProper}
-use Rattle.pb_typing_rules.specs.Faults.{instance_faults, right_faults, value_faults, parameters_named, and_then, initial_faults, faults}
+use Rattle.pb_typing_rules.specs.Formula.{count, IsCalled}
+use Rattle.pb_typing_rules.specs.Faults.{instance_faults, right_faults, value_faults, parameters_named, and_then, faults}
 use Rattle.pb_typing_rules.specs.WellTyped.{AreProper, IsWellTyped}
-use Rattle.pb_typing_rules.proofs.Declared.{clear_declarations, declarations_clear}
+use Rattle.pb_typing_rules.proofs.Declared.{clear_declarations, declarations_clear, declared_ends}
 use Rattle.pb_typing_rules.proofs.Parts.{no_parts, no_whole, holds_unless, unless_holds}
 use Rattle.pb_typing_rules.proofs.Exact.{proper, formula_clear, instance_proper, instance_clear}
 
-rights_proper : (spec : Spec) (E : List EquationForm) → right_faults spec E ≡ [] → AreProper spec (map erased_equation E)
-rights_proper spec [] e = tt
-rights_proper spec (X ∷ E) e =
-    let q = no_parts _ _ e in (proper spec true (bound spec (erased_variables X.parameters) outermost) X.right q.0, rights_proper spec E q.1)
+rights_proper : (spec : Spec) (E : List EquationForm) → HaveEnds spec → right_faults spec E ≡ [] → AreProper spec (map erased_equation E)
+rights_proper spec [] ends e = tt
+rights_proper spec (X ∷ E) ends e =
+    let q = no_parts _ _ e in (proper spec ends true (bound spec (erased_variables X.parameters) outermost) X.right q.0, rights_proper spec E ends q.1)
 
 rights_clear : (spec : Spec) (E : List EquationForm) → AreProper spec (map erased_equation E) → right_faults spec E ≡ []
 rights_clear spec [] h = refl
@@ -77,10 +78,11 @@ well_typed text e =
     let q = no_parts (declaration_faults text) _ e in
     let r = no_parts (right_faults spec text.equations) _ q.1 in
     let u = and_then_parts (instance_faults spec true outermost i) _ r.1 in
-    let initial = instance_proper spec true outermost i u.0 in
+    let ends = declared_ends text q.0 in
+    let initial = instance_proper spec ends true outermost i u.0 in
     record {
       declarations = clear_declarations text q.0;
-      rights = rights_proper spec text.equations r.0;
+      rights = rights_proper spec text.equations ends r.0;
       initial = initial;
       values = instance_of_clear spec i.arguments (equation_named spec.equations i.name.text) initial.1 u.1;
     }

@@ -1,5 +1,5 @@
 -- Where each rule fails: all faults of terms and formulas, with their places.
-use Rattle.std.specs.Prelude.{◌≡◌, ℕ, zero, suc, pos, Bool, true, false, not, ◌==◌, List, [], ◌∷◌, ◌++◌, length, Option, Some, None}
+use Rattle.std.specs.Prelude.{ℕ, zero, suc, pos, Bool, true, false, not, ◌==◌, List, [], ◌∷◌, ◌++◌, length, Option, Some, None}
 use Rattle.pb_text_tree.specs.declared.place.Place.{Place}
 use Rattle.pb_text_tree.specs.declared.operator.Connective.{Connective}
 use Rattle.pb_text_tree.specs.declared.operator.Connective.TheVariants.{And, Or, Implies}

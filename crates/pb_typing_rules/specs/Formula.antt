@@ -1,6 +1,6 @@
 -- Which formulas are well typed and positive.
-use Rattle.std.specs.Prelude.{◌≡◌, ℕ, zero, suc, Bool, true, false, not, ◌==◌, ⊤, List, [], ◌∷◌, length, Option, Some, None}
-use Rattle.pb_text_meaning.specs.Syntax.{Variable, Term, Terms, Formula, Equation, Spec}
+use Rattle.std.specs.Prelude.{◌≡◌, ℕ, suc, Bool, true, false, not, ⊤, List, [], ◌∷◌, length, Option, Some, None}
+use Rattle.pb_text_meaning.specs.Syntax.{Variable, Terms, Formula, Equation, Spec}
 use Rattle.pb_text_meaning.specs.Formula.{equation_named}
 use Rattle.pb_typing_declarations.specs.Shapes.{sort_shape}
 use Rattle.pb_typing_declarations.specs.WellDeclared.{AreVariables}

@@ -1,8 +1,8 @@
 -- The named functions of data: how many arguments of which kinds each takes, and the shape of what it gives.
-use Rattle.std.specs.Prelude.{ℕ, Bool, true, false, ◌&&◌, ◌||◌, if◌then◌else◌, List, [], ◌∷◌, Option, Some, None, codes}
+use Rattle.std.specs.Prelude.{ℕ, Bool, true, ◌&&◌, ◌||◌, if◌then◌else◌, List, [], ◌∷◌, Option, Some, None, codes}
 use Rattle.pb_text_meaning.specs.Syntax.{Name, same_name, Spec}
 use Rattle.pb_intervals.specs.Operation.{UnaryOperation, Successor, Predecessor, AbsoluteValue, BinaryOperation, Maximum, Minimum}
-use Rattle.pb_typing_declarations.specs.Shapes.{Shape, Unknown, Truths, Places, Wholes}
+use Rattle.pb_typing_declarations.specs.Shapes.{Shape, Unknown, Truths, Wholes}
 use Rattle.pb_typing_declarations.specs.Enumerators.{recogniser_shape}
 use Rattle.pb_typing_rules.specs.Shapes.{may_be_truth, may_be_whole, may_be_alike, hull, unary_shape, unary_is_limited, binary_shape, binary_is_limited}
 

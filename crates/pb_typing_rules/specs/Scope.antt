@@ -1,5 +1,5 @@
 -- The variables in scope.
-use Rattle.std.specs.Prelude.{ℤ, Bool, true, false, if◌then◌else◌, ⊤, List, [], ◌∷◌, Option, Some, None}
+use Rattle.std.specs.Prelude.{ℤ, if◌then◌else◌, ⊤, List, [], ◌∷◌, Option, Some, None}
 use Rattle.pb_text_meaning.specs.Syntax.{Name, same_name, Variable, Spec}
 use Rattle.pb_text_meaning.specs.Value.{Assignment, looked_up}
 use Rattle.pb_typing_declarations.specs.Shapes.{Shape, sort_shape}

@@ -1,6 +1,6 @@
 -- The kind and interval of a data term, and which terms are well typed.
-use Rattle.std.specs.Prelude.{◌≡◌, ℕ, pos, Bool, true, false, not, ◌==◌, ⊤, List, [], ◌∷◌, length, Option, Some, None}
-use Rattle.pb_text_meaning.specs.Syntax.{Name, Variable, Operator, Term, Terms, Spec}
+use Rattle.std.specs.Prelude.{◌≡◌, pos, Bool, true, false, ⊤, List, [], ◌∷◌, length, Option, Some, None}
+use Rattle.pb_text_meaning.specs.Syntax.{Term, Terms, Spec}
 use Rattle.pb_intervals.specs.Interval.{is_within, singleton, literals}
 use Rattle.pb_intervals.specs.Operation.{Negation}
 use Rattle.pb_typing_declarations.specs.Shapes.{Shape, Unknown, Truths}

@@ -1,5 +1,5 @@
 -- Which specifications may be solved: the relation on what a text says, without places.
-use Rattle.std.specs.Prelude.{◌≡◌, Bool, true, ⊤, List, [], ◌∷◌}
+use Rattle.std.specs.Prelude.{◌≡◌, true, ⊤, List, [], ◌∷◌}
 use Rattle.pb_text_meaning.specs.Syntax.{Formula, Equation, Spec}
 use Rattle.pb_text_meaning.specs.Value.{values}
 use Rattle.pb_text_meaning.specs.Formula.{is_instance}

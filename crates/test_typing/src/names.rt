@@ -6,7 +6,7 @@ use pb_typing_declarations::TypingRule;
 use std::test::Fail;
 
 /// Each text, and what the check answers.
-const NAMES: [(&[u8], Answer); 37] = [
+const NAMES: [(&[u8], Answer); 40] = [
     (
         b"pbes nu X = val(z); init X;",
         Refused(TypingRule::UnknownName, 1, 17),
@@ -110,6 +110,18 @@ const NAMES: [(&[u8], Answer); 37] = [
     (
         b"sort A = A; pbes nu X = X; init X;",
         Refused(TypingRule::UnknownSort, 1, 6),
+    ),
+    (
+        b"sort A = B; pbes nu X = exists n: A . X; init X;",
+        Refused(TypingRule::UnknownSort, 1, 10),
+    ),
+    (
+        b"sort A = A; pbes nu X = exists n: A . X; init X;",
+        Refused(TypingRule::UnknownSort, 1, 6),
+    ),
+    (
+        b"%range A 0 1\nsort A = B; pbes nu X = X; init X;",
+        Refused(TypingRule::UnknownSort, 2, 10),
     ),
     (
         b"sort B = Nat; A = A; pbes nu X = X; init X;",

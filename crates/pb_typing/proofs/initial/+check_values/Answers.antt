@@ -3,6 +3,7 @@ use Rattle.pb_text_tree.specs.declared.term.Argument.{Argument}
 use Rattle.pb_text_tree.specs.Form.{argument_forms}
 use Rattle.pb_text_meaning.specs.Erase.{erased_arguments}
 use Rattle.pb_text_meaning.specs.Fits.{AllFit}
+use Rattle.pb_typing_declarations.specs.declared.fault.TypeError.TheVariants.{At}
 use Rattle.pb_typing_declarations.specs.Faults.{IsAmong}
 use Rattle.pb_typing_declarations.specs.View.{spec_of}
 use Rattle.pb_typing_rules.specs.Faults.{value_faults}
@@ -14,8 +15,8 @@ returns-in_err-require-in-Some-Some t c = λ xs m.
     let S = spec_of c.args.declarations.now in
     let s = c.in-Some-Some in
     let fits : SFits w64 c.in_ok-value-in-Some-Some.value = record { sfits = omega arith } in
-    let h : IsAmong (value_faults S (argument_forms c.args.arguments.now) xs) c.in_err-require-in-Some-Some.field-0.0 =
-    value_fault S s.carrier.now s.carriers.now s.argument.now s.arguments.now c.args.arguments.now c.args.carriers.now xs (to_z w64 (of_z w64 c.in_ok-value-in-Some-Some.value)) c.contains.result c.in_err-require-in-Some-Some.field-0.0
+    let h : IsAmong (value_faults S (argument_forms c.args.arguments.now) xs) (At c.in_err-require-in-Some-Some.field-0.0) =
+    value_fault S s.carrier.now s.carriers.now s.argument.now s.arguments.now c.args.arguments.now c.args.carriers.now xs (to_z w64 (of_z w64 c.in_ok-value-in-Some-Some.value)) c.contains.result (At c.in_err-require-in-Some-Some.field-0.0)
     s.ensures.cases.0 s.ensures'.cases.0 m (to_z-of_z fits ∙ c.in_ok-value-in-Some-Some.ensures) c.contains.ensures c.in_err-require-in-Some-Some.ensures in
     search rules
 

@@ -8,7 +8,8 @@ use Rattle.pb_text_meaning.specs.Fits.{AllFit}
 use Rattle.pb_typing_declarations.specs.declared.fault.TypingFault.{TypingFault}
 use Rattle.pb_typing_declarations.specs.Agreement.{equation_place}
 use Rattle.pb_typing_declarations.specs.Faults.{IsAmong}
-use Rattle.pb_typing_declarations.specs.View.{spec_of}
+use Rattle.pb_typing_declarations.specs.View.{spec_of, text_of}
+use Rattle.pb_typing_declarations.proofs.DeclaredEnds.{faultless_ends}
 use Rattle.pb_typing_rules.specs.Faults.{and_then, initial_faults, parameters_named, value_faults}
 use Rattle.pb_typing.proofs.InitialValues.{among_then, arguments_fit, carriers_there, no_equation}
 use Rattle.pb_typing.proofs.initial.check_initial.Goals as goal
@@ -23,7 +24,7 @@ pub check_values-requires : goal.check_values-requires
 check_values-requires c =
     let S = spec_of c.args.declarations.now in
     subst (λ (es : List Argument). AllFit S [] (erased_arguments (argument_forms es))) (sym c.deref-in-Some.ensures.value)
-    (arguments_fit S (instance_form c.args.spec.now.initial) c.in_ok-check_instance.ensures)
+    (arguments_fit S (instance_form c.args.spec.now.initial) (faultless_ends (text_of c.args.declarations.now) c.args.declarations.now.faultless) c.in_ok-check_instance.ensures)
 
 pub returns-in-Some : goal.returns-in-Some
 returns-in-Some c =

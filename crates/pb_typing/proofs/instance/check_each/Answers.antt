@@ -1,6 +1,7 @@
 use Rattle.std.proofs.Common.{◌∙◌, ap, subst, rules, Bool}
 use Rattle.pb_typing_rules.specs.Shapes.{may_be_alike}
 use Rattle.pb_typing_declarations.specs.declared.fault.TypingRule.TheVariants as rule
+use Rattle.pb_typing_declarations.specs.declared.fault.TypeError.TheVariants.{At}
 use Rattle.pb_typing_declarations.specs.Faults.{unless, IsAmong}
 use Rattle.pb_typing_declarations.specs.Shapes.{Shape}
 use Rattle.pb_typing_declarations.specs.View.{spec_of}
@@ -31,9 +32,9 @@ returns-in_err-require c =
     let x = c.argument-item.result in
     let whole = each_faults S a c.args.arguments.now s in
     let same = c.may_be_alike-accepted.ensures ∙ ap (λ (h : Shape). may_be_alike h s) c.in_ok-shape.ensures.1 in
-    let here = subst (λ (b : Bool). IsAmong (unless b rule.WrongKind x.place) c.in_err-require.field-0.0) same c.in_err-require.ensures in
-    let h : IsAmong whole c.in_err-require.field-0.0 =
-    among_first whole _ _ c.in_err-require.field-0.0
+    let here = subst (λ (b : Bool). IsAmong (unless b rule.WrongKind x.place) (At c.in_err-require.field-0.0)) same c.in_err-require.ensures in
+    let h : IsAmong whole (At c.in_err-require.field-0.0) =
+    among_first whole _ _ (At c.in_err-require.field-0.0)
     (first_clear whole _ _ (c.loop-argument.invariant ∙ each_next S a c.args.arguments.now c.loop-argument.argument-index x s c.loop-argument-test.true c.argument-item.is) c.in_ok-shape.ensures.0)
     here in
     search rules

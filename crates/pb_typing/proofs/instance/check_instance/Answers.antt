@@ -3,7 +3,7 @@ use Rattle.pb_text_tree.specs.Form.{instance_form}
 use Rattle.pb_text_meaning.specs.Erase.{erase}
 use Rattle.pb_typing_rules.specs.Faults.{instance_faults}
 use Rattle.pb_typing_declarations.specs.declared.fault.TypingFault.{TypingFault}
-use Rattle.pb_typing_declarations.specs.declared.fault.TypeError.{TypeError}
+use Rattle.pb_typing_declarations.specs.declared.fault.TypeError.TheVariants.{At}
 use Rattle.pb_typing_declarations.specs.Faults.{IsAmong}
 use Rattle.pb_typing_declarations.specs.View.{spec_of}
 use Rattle.pb_typing.specs.Scopes.{scope_view}
@@ -25,7 +25,7 @@ pub returns-in_err-require-in-Some : goal.returns-in_err-require-in-Some
 returns-in_err-require-in-Some c =
     let S = spec_of c.args.declarations.now in
     let a = scope_view c.args.scope.now in
-    let e = c.in_err-require-in-Some.field-0.0 in
+    let e = At c.in_err-require-in-Some.field-0.0 in
     let h : IsAmong (instance_faults S c.args.even a (instance_form c.args.instance.now)) e =
     odd_instance c.args.spec.now S c.args.even a c.args.instance.now c.deref.result.now c.in-Some.index c.index.result.now e
     (ap erase c.requires) c.deref.ensures (sym c.equation.ensures ∙ c.in-Some.is) c.index.ensures c.in_err-require-in-Some.ensures in
@@ -35,5 +35,5 @@ pub returns-in-None : goal.returns-in-None
 returns-in-None c =
     let S = spec_of c.args.declarations.now in
     let a = scope_view c.args.scope.now in
-    subst (λ (e : TypeError). IsAmong (instance_faults S c.args.even a (instance_form c.args.instance.now)) e) (sym c.fault.ensures)
+    subst (λ (e : TypingFault). IsAmong (instance_faults S c.args.even a (instance_form c.args.instance.now)) (At e)) (sym c.fault.ensures)
     (unknown_instance S c.args.even a c.args.instance.now c.deref.result.now c.deref.ensures (sym c.equation.ensures ∙ c.in-None.is))

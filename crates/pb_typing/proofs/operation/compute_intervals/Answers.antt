@@ -1,7 +1,7 @@
 use Rattle.std.proofs.Common.{◌≡◌, ◌∙◌, sym, true, subst}
-use Rattle.pb_typing_declarations.specs.declared.fault.TypeError.{TypeError}
+use Rattle.std.specs.Prelude.{Contains}
+use Rattle.pb_typing_declarations.specs.declared.fault.TypingFault.{TypingFault}
 use Rattle.pb_typing_declarations.specs.declared.fault.TypingRule.TheVariants as rule
-use Rattle.pb_typing_declarations.specs.Faults.{IsAmong}
 use Rattle.pb_typing_declarations.specs.Shapes.{Wholes}
 use Rattle.pb_typing_rules.specs.Shapes.{may_divide, Computed}
 use Rattle.pb_typing_rules.specs.Faults.{operator_faults}
@@ -20,5 +20,5 @@ pub returns-in-None : goal.returns-in-None
 returns-in-None c =
     let d : may_divide (operation_of c.args.operator) (Wholes c.args.right.low c.args.right.high) ≡ true =
     sym c.may_divide-divides.ensures ∙ holds_unless c.may_divide-divides.result rule.Divisor c.args.place c.in_ok-require.ensures in
-    let P : TypeError → Type 0 = λ e. IsAmong (operator_faults (Computed (operation_of c.args.operator)) (Wholes c.args.left.low c.args.left.high) (Wholes c.args.right.low c.args.right.high) c.args.place) e in
+    let P : TypingFault → Type 0 = λ e. Contains (operator_faults (Computed (operation_of c.args.operator)) (Wholes c.args.left.low c.args.left.high) (Wholes c.args.right.low c.args.right.high) c.args.place) e in
     subst P (sym c.fault.ensures) (beyond (operation_of c.args.operator) c.args.left c.args.right c.args.place d (sym c.in-None.is ∙ c.result_interval.ensures))

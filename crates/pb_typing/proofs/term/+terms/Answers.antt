@@ -12,6 +12,7 @@ use Rattle.pb_typing_rules.specs.Shapes.{Computed, may_be_truth}
 use Rattle.pb_typing_rules.specs.Scope.{bound, outermost}
 use Rattle.pb_typing_rules.specs.Term.{shape, shapes}
 use Rattle.pb_typing_declarations.specs.declared.fault.TypingRule.TheVariants as rule
+use Rattle.pb_typing_declarations.specs.declared.fault.TypeError.TheVariants.{At}
 use Rattle.pb_typing_declarations.specs.Faults.{unless, IsAmong}
 use Rattle.pb_typing_declarations.specs.Shapes as model
 use Rattle.pb_typing_declarations.specs.View.{spec_of}
@@ -30,8 +31,8 @@ check_application-returns-in_err-function t c =
     let S = spec_of c.args.declarations.now in
     let a = scope_view c.args.scope.now in
     let xs = c.args.arguments.now in
-    let h : IsAmong (application_faults S a (named c.args.name.now) xs) c.in_err-function.field-0.0 =
-    among_right _ _ c.in_err-function.field-0.0 (c.in_err-function.ensures (shapes S a (erased_arguments (argument_forms xs))) (length-shapes S a xs)) in
+    let h : IsAmong (application_faults S a (named c.args.name.now) xs) (At c.in_err-function.field-0.0) =
+    among_right _ _ (At c.in_err-function.field-0.0) (c.in_err-function.ensures (shapes S a (erased_arguments (argument_forms xs))) (length-shapes S a xs)) in
     search rules
 
 pub check_application-returns-in_err-shape-in-len1 : goal.check_application-returns-in_err-shape-in-len1
@@ -177,8 +178,8 @@ check_arithmetic-returns-in_err-left-2 t c =
     let next = ap (arithmetic_faults S a (shape_view c.loop-link.left)) (links-drop c.args.links.now c.loop-link.link-index link c.loop-link-test.true c.link-item.is) in
     let checked = c.in_ok-right.ensures in
     let rest = first_clear whole _ _ (c.loop-link.invariant.left ∙ next) checked.0 in
-    let here = subst (λ (s : model.Shape). IsAmong (operator_faults (Computed (operation_of link.operator)) (shape_view c.loop-link.left) s link.place) (c.in_err-left-2).field-0.0) checked.1 (c.in_err-left-2).ensures in
-    let h : IsAmong whole (c.in_err-left-2).field-0.0 = among_first whole _ _ (c.in_err-left-2).field-0.0 rest here in
+    let here = subst (λ (s : model.Shape). IsAmong (operator_faults (Computed (operation_of link.operator)) (shape_view c.loop-link.left) s link.place) (At (c.in_err-left-2).field-0.0)) checked.1 (c.in_err-left-2).ensures in
+    let h : IsAmong whole (At (c.in_err-left-2).field-0.0) = among_first whole _ _ (At (c.in_err-left-2).field-0.0) rest here in
     search rules
 
 -- ---- nodes

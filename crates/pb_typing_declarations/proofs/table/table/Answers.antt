@@ -2,6 +2,7 @@ use Rattle.std.proofs.Common.{◌++◌, ◌+◌, Bool, List, [], drop, rules, sy
 use Rattle.std.specs.Prelude.{Option}
 use Rattle.pb_text_meaning.specs.Syntax.{Name}
 use Rattle.pb_typing_declarations.specs.declared.fault.TypingRule.TheVariants.{NameTwice}
+use Rattle.pb_typing_declarations.specs.declared.fault.TypeError.TheVariants.{At}
 use Rattle.pb_typing_declarations.specs.Faults.{unless, repeated, IsAmong}
 use Rattle.pb_typing_declarations.specs.Shapes.{first}
 use Rattle.pb_typing_declarations.specs.Tables.{entry_names, entry_values, looked_up}
@@ -24,8 +25,8 @@ returns-in_err-require g c =
     let e = c.entry-item.result in
     let whole = repeated (entry_names E) in
     let rest = seen_repeated (seen_too e.name.now (has old)) (entry_names (drop (c.loop-entry.entry-index + 1) E)) in
-    let h : IsAmong whole c.in_err-require.field-0.0 =
-    among_first whole _ rest _
+    let h : IsAmong whole (At c.in_err-require.field-0.0) =
+    among_first whole _ rest (At c.in_err-require.field-0.0)
     (c.loop-entry.invariant.left ∙ (ap (seen_repeated (has old)) (names-drop E c.loop-entry.entry-index e c.loop-entry-test.true c.entry-item.is)
     ∙ ap (λ (b : Bool). unless b NameTwice e.place ++ rest) (sym (is_new c.is_none.result c.in_ok-earlier.earlier (looked_up old e.name.now) c.is_none.ensures c.in_ok-earlier.ensures.old))))
     c.in_err-require.ensures in

@@ -8,9 +8,13 @@ use Rattle.pb_sorts.specs.Layout.{lists_of, count_of}
 use Rattle.pb_typing_declarations.specs.declared.fault.TypeError.TheVariants.{Memory}
 use Rattle.pb_typing_declarations.specs.Declarations.{limit_faults, equation_names, equations_faults_behind}
 use Rattle.pb_typing_declarations.specs.View.{spec_of, text_of}
+use Rattle.pb_typing_declarations.proofs.DeclaredEnds.{faultless_ends}
 use Rattle.pb_typing_declarations.proofs.ReadParts.{among_none, equations_clear, few_clear}
 use Rattle.pb_typing_declarations.proofs.LayoutLemmas.{few_lists, few_carriers, few_instances}
 use Rattle.pb_typing_declarations.proofs.declarations.Declarations.layout.Goals as goal
+
+pub carriers-requires : goal.carriers-requires
+carriers-requires c = faultless_ends (text_of c.args.self.now) c.args.self.now.faultless
 
 pub returns-in_err-carriers-clause-memory : goal.returns-in_err-carriers-clause-memory
 returns-in_err-carriers-clause-memory c =
