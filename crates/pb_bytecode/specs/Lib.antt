@@ -3,6 +3,7 @@ pub mod Names
 pub mod Formats
 pub mod Limits
 pub mod Spelling
+pub mod Listing
 pub mod Reading
 pub mod Views
 pub mod Decoded

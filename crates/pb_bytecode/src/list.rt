@@ -1,37 +1,92 @@
-//! The listing of a module, for people to read.
+//! The listing of a module, for people to read. `specs/Listing.antt` says what is written.
+ghost use Rattle.std.specs.Prelude.{◌≡◌, ◌<◌, ◌+◌, ◌^◌, ◌++◌, length, map, string_bytes, OnOk, IfOk};
+ghost use Rattle.std.specs.Fmt.{signed_decimal};
+ghost use Rattle.std.specs.List.{AllByRecursion};
+ghost use Rattle.pb_bytecode.specs.Countable.{HasCountableParts};
+ghost use Rattle.pb_bytecode.specs.Decoded.{module_contents};
+ghost use Rattle.pb_bytecode.specs.Listing.{equation_lines, head_line, initial_line, line_end, listing, numbered, op_line, op_name, operand_words, sign_name, slot_line, slot_lines, sort_line, stated_lines};
+ghost use Rattle.pb_bytecode.specs.Views.{equation_contents, initial_contents, sort_contents, text_of};
 
 use crate::equation::Equation;
+use crate::initial::Initial;
 use crate::module::Module;
+use crate::name::Name;
 use crate::sort::Sort;
 use pb_bytecode_program::{Arithmetic, Comparison, Connective, Equality, Leaf, Op};
 use pb_fixpoint::Sign;
 use pb_sorts::Carrier;
 use std::alloc::{AllocError, Global};
 
-fn list_sort(text: &mut String, index: usize, sort: &Sort) -> Result<(), AllocError> {
-    write!(text, "sort {index}")?;
-    for name in &sort.enumerators {
+/// Names, each behind a space, and the line's end.
+fn list_names(text: &mut String, names: &[Name]) -> Result<(), AllocError>
+    ensures { OnOk result (string_bytes text.new ≡ string_bytes text.old ++ line_end (map text_of names.now)) }
+{
+    for name in names {
         write!(text, " {}", name.text.as_str())?;
     }
-    writeln!(text, "")
+    writeln!(text)
 }
 
-/// A slot's line: a word, the slot's number and its carrier.
+fn list_sort(text: &mut String, index: usize, sort: &Sort) -> Result<(), AllocError>
+    ensures { OnOk result (string_bytes text.new ≡ string_bytes text.old ++ sort_line index (sort_contents sort.now)) }
+{
+    write!(text, "sort {index}")?;
+    list_names(text, &sort.enumerators)
+}
+
+fn list_sorts(text: &mut String, sorts: &[Sort]) -> Result<(), AllocError>
+    ensures { OnOk result (string_bytes text.new ≡ string_bytes text.old ++ numbered sort_line 0 (map sort_contents sorts.now)) }
+{
+    for (index, sort) in sorts.iter().enumerate() {
+        list_sort(text, index, sort)?;
+    }
+    Ok(())
+}
+
+/// A slot's line: its kind, its number and its carrier.
 fn list_slot(
     text: &mut String,
-    word: &str,
+    kind: &str,
     slot: usize,
     carrier: &Carrier,
-) -> Result<(), AllocError> {
+) -> Result<(), AllocError>
+    ensures { OnOk result (string_bytes text.new ≡ string_bytes text.old ++ slot_line kind.now slot carrier.now) }
+{
     match carrier {
-        Carrier::Bool => writeln!(text, "{word} {slot} Bool"),
-        Carrier::Enum(enumeration) => writeln!(text, "{word} {slot} Enum {}", enumeration.sort),
-        Carrier::Range(range) => writeln!(text, "{word} {slot} Range {} {}", range.lo, range.hi),
+        Carrier::Bool => writeln!(text, "{kind} {slot} Bool"),
+        Carrier::Enum(enumeration) => writeln!(text, "{kind} {slot} Enum {}", enumeration.sort),
+        Carrier::Range(range) => writeln!(text, "{kind} {slot} Range {} {}", range.lo, range.hi),
     }
+}
+
+/// Slots of one kind, which are numbered from `first` on.
+fn list_slots(
+    text: &mut String,
+    kind: &str,
+    first: usize,
+    carriers: &[Carrier],
+) -> Result<(), AllocError>
+    requires { first + length carriers.now < 2 ^ 64 }
+    ensures { OnOk result (string_bytes text.new ≡ string_bytes text.old ++ numbered (slot_line kind.now) first carriers.now) }
+{
+    for (index, carrier) in carriers.iter().enumerate() {
+        list_slot(text, kind, first + index, carrier)?;
+    }
+    Ok(())
+}
+
+fn list_all_slots(text: &mut String, equation: &Equation) -> Result<(), AllocError>
+    requires { HasCountableParts equation.now }
+    ensures { OnOk result (string_bytes text.new ≡ string_bytes text.old ++ slot_lines (equation_contents equation.now)) }
+{
+    list_slots(text, "param", 0, &equation.params)?;
+    list_slots(text, "loop", equation.params.len(), &equation.loops)
 }
 
 /// The name of an instruction.
-fn op_name(op: &Op) -> &'static str {
+fn op_name(op: &Op) -> &'static str
+    ensures { result.now ≡ op_name op.now }
+{
     match op {
         Op::End => "END",
         Op::PushInt(_) => "INT",
@@ -80,12 +135,14 @@ fn op_name(op: &Op) -> &'static str {
     }
 }
 
-/// An instruction's line: its place, its name and its operands.
-fn list_op(text: &mut String, place: usize, op: &Op) -> Result<(), AllocError> {
-    write!(text, "{place} {}", op_name(op))?;
+/// What stands in the code behind an instruction, each behind a space, and the line's end.
+fn list_operands(text: &mut String, op: &Op) -> Result<(), AllocError>
+    ensures { OnOk result (string_bytes text.new ≡ string_bytes text.old ++ line_end (operand_words op.now)) }
+{
     match op {
         Op::PushInt(number) => writeln!(text, " {number}"),
-        Op::PushBool(truth) => writeln!(text, " {}", u8::from(*truth)),
+        Op::PushBool(false) => writeln!(text, " 0"),
+        Op::PushBool(true) => writeln!(text, " 1"),
         Op::PushEnum { sort, index } => writeln!(text, " {sort} {index}"),
         Op::Get { slot } | Op::Loop { slot } => writeln!(text, " {slot}"),
         Op::Jump { target } | Op::JumpIf { target, .. } => writeln!(text, " {target}"),
@@ -97,33 +154,88 @@ fn list_op(text: &mut String, place: usize, op: &Op) -> Result<(), AllocError> {
             target,
         } => writeln!(text, " {slot} {lo} {hi} {target}"),
         Op::Call { equation } => writeln!(text, " {equation}"),
-        _ => writeln!(text, ""),
+        _ => writeln!(text),
     }
 }
 
-fn list_equation(text: &mut String, index: usize, equation: &Equation) -> Result<(), AllocError> {
-    let sign = match equation.sign {
-        Sign::Mu => "mu",
-        Sign::Nu => "nu",
-    };
-    writeln!(
-        text,
-        "equation {index} {sign} {}",
-        equation.name.text.as_str()
-    )?;
-    for (slot, carrier) in equation.params.iter().enumerate() {
-        list_slot(text, "param", slot, carrier)?;
-    }
-    for (slot, carrier) in equation.loops.iter().enumerate() {
-        let after = equation.params.len().saturating_add(slot);
-        list_slot(text, "loop", after, carrier)?;
-    }
-    writeln!(text, "steps {}", equation.steps)?;
-    writeln!(text, "tokens {}", equation.tokens)?;
-    for (place, op) in equation.code.iter().enumerate() {
+/// An instruction's line: its place, its name and its operands.
+fn list_op(text: &mut String, place: usize, op: &Op) -> Result<(), AllocError>
+    ensures { OnOk result (string_bytes text.new ≡ string_bytes text.old ++ op_line place op.now) }
+{
+    write!(text, "{place} {}", op_name(op))?;
+    list_operands(text, op)
+}
+
+fn list_code(text: &mut String, code: &[Op]) -> Result<(), AllocError>
+    ensures { OnOk result (string_bytes text.new ≡ string_bytes text.old ++ numbered op_line 0 code.now) }
+{
+    for (place, op) in code.iter().enumerate() {
         list_op(text, place, op)?;
     }
     Ok(())
+}
+
+fn sign_name(sign: Sign) -> &'static str
+    ensures { result.now ≡ sign_name sign }
+{
+    match sign {
+        Sign::Mu => "mu",
+        Sign::Nu => "nu",
+    }
+}
+
+/// An equation's first line: its sign and its predicate variable.
+fn list_head(text: &mut String, index: usize, equation: &Equation) -> Result<(), AllocError>
+    ensures { OnOk result (string_bytes text.new ≡ string_bytes text.old ++ head_line index (equation_contents equation.now)) }
+{
+    let sign = sign_name(equation.sign);
+    let name = equation.name.text.as_str();
+    writeln!(text, "equation {index} {sign} {name}")
+}
+
+/// The stated counts of steps and tokens.
+fn list_stated(text: &mut String, equation: &Equation) -> Result<(), AllocError>
+    ensures { OnOk result (string_bytes text.new ≡ string_bytes text.old ++ stated_lines (equation_contents equation.now)) }
+{
+    writeln!(text, "steps {}", equation.steps)?;
+    writeln!(text, "tokens {}", equation.tokens)
+}
+
+fn list_equation(text: &mut String, index: usize, equation: &Equation) -> Result<(), AllocError>
+    requires { HasCountableParts equation.now }
+    ensures { OnOk result (string_bytes text.new ≡ string_bytes text.old ++ equation_lines index (equation_contents equation.now)) }
+{
+    list_head(text, index, equation)?;
+    list_all_slots(text, equation)?;
+    list_stated(text, equation)?;
+    list_code(text, &equation.code)
+}
+
+fn list_equations(text: &mut String, equations: &[Equation]) -> Result<(), AllocError>
+    requires { AllByRecursion HasCountableParts equations.now }
+    ensures { OnOk result (string_bytes text.new ≡ string_bytes text.old ++ numbered equation_lines 0 (map equation_contents equations.now)) }
+{
+    for (index, equation) in equations.iter().enumerate() {
+        list_equation(text, index, equation)?;
+    }
+    Ok(())
+}
+
+/// Numbers, each behind a space, and the line's end.
+fn list_values(text: &mut String, values: &[i64]) -> Result<(), AllocError>
+    ensures { OnOk result (string_bytes text.new ≡ string_bytes text.old ++ line_end (map signed_decimal values.now)) }
+{
+    for value in values {
+        write!(text, " {value}")?;
+    }
+    writeln!(text)
+}
+
+fn list_initial(text: &mut String, initial: &Initial) -> Result<(), AllocError>
+    ensures { OnOk result (string_bytes text.new ≡ string_bytes text.old ++ initial_line (initial_contents initial.now)) }
+{
+    write!(text, "init {}", initial.equation)?;
+    list_values(text, &initial.values)
 }
 
 /// The listing of a module: a line for each sort, then for each equation its slots, stated counts and instructions,
@@ -131,18 +243,12 @@ fn list_equation(text: &mut String, index: usize, equation: &Equation) -> Result
 ///
 /// # Errors
 /// Where memory ran out.
-pub fn list(alloc: Global, module: &Module) -> Result<Vec<u8>, AllocError> {
+pub fn list(alloc: Global, module: &Module) -> Result<Vec<u8>, AllocError>
+    ensures { IfOk result (λ bytes. bytes.items ≡ listing (module_contents module.now)) }
+{
     let mut text = String::new(alloc);
-    for (index, sort) in module.sorts.iter().enumerate() {
-        list_sort(&mut text, index, sort)?;
-    }
-    for (index, equation) in module.equations.iter().enumerate() {
-        list_equation(&mut text, index, equation)?;
-    }
-    write!(text, "init {}", module.initial.equation)?;
-    for value in &module.initial.values {
-        write!(text, " {value}")?;
-    }
-    writeln!(text, "")?;
+    list_sorts(&mut text, &module.sorts)?;
+    list_equations(&mut text, &module.equations)?;
+    list_initial(&mut text, &module.initial)?;
     Ok(text.into_bytes())
 }
