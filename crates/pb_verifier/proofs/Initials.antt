@@ -1,8 +1,9 @@
 -- The initial instance of a module is one of its instances.
-use Rattle.std.proofs.Common.{◌≡◌, ℕ, zero, suc, Bool, true, false, List, [], ◌∷◌, map, Some, sym, ap, ◌∙◌, subst}
+use Rattle.std.proofs.Common.{◌≡◌, ℕ, zero, suc, true, List, [], ◌∷◌, map, Some, sym, ap, ◌∙◌, subst}
 use Rattle.std.proofs.lemmas.Option.{slice_get_within}
 use Rattle.std.specs.Prelude.{◌&&◌, nat_le, length, slice_get}
 use Rattle.std.specs.List.{list_all}
+use Rattle.std.proofs.lemmas.Bool.{and_parts}
 use Rattle.pb_carriers.specs.Carrier.{Tuple, is_within}
 use Rattle.pb_sorts.specs.Carrier.{values_of}
 use Rattle.pb_sorts.specs.Instance.{Instance, instances, is_instance, is_tuple_of}
@@ -14,13 +15,9 @@ use Rattle.pb_bytecode.specs.Limits.{fits, fits_sort, fits_equation, is_tuple, i
 use Rattle.pb_bytecode.specs.Meaning.{parameters}
 use Rattle.pb_verifier.specs.Acceptance.{IsInitial}
 
-second : (a b : Bool) → (a && b) ≡ true → b ≡ true
-second true b h = h
-second false b h = cc
-
 values_fit : (es : List EquationContents) (k : ℕ) (values : Tuple) → is_tuple (params_of (slice_get es k)) values ≡ true → is_tuple_of (slice_get (carriers_of (map (λ (e : EquationContents). e.params) es)) k) values ≡ true
 values_fit [] k values h = cc
-values_fit (e ∷ es) zero values h = second (list_all is_i64 values) (is_within (map values_of e.params) values) h
+values_fit (e ∷ es) zero values h = (and_parts (list_all is_i64 values) (is_within (map values_of e.params) values) h).1
 values_fit (e ∷ es) (suc k) values h = values_fit es k values h
 
 initial_fits : (m : Contents) → fits m ≡ true → is_tuple_of (slice_get (carriers_of (parameters m)) m.initial.equation) m.initial.values ≡ true
@@ -30,10 +27,10 @@ initial_fits m h =
     let few = nat_le (instance_count m.equations) 4194304 in
     let initial = is_tuple (params_of (slice_get m.equations m.initial.equation)) m.initial.values in
     values_fit m.equations m.initial.equation m.initial.values
-    (second (is_byte m.initial.equation) initial
-    (second few (is_byte m.initial.equation && initial)
-    (second equations (few && (is_byte m.initial.equation && initial))
-    (second sorts (equations && (few && (is_byte m.initial.equation && initial))) h))))
+    ((and_parts (is_byte m.initial.equation) initial
+    ((and_parts few (is_byte m.initial.equation && initial)
+    ((and_parts equations (few && (is_byte m.initial.equation && initial))
+    ((and_parts sorts (equations && (few && (is_byte m.initial.equation && initial))) h).1)).1)).1)).1)
 
 -- the initial instance, with values that are equal
 abbrev pub with_values : Contents → Tuple → Instance

@@ -16,10 +16,6 @@ use Rattle.pb_verifier.specs.Pass.{Homes, homes_after, innermost, merge_edges, p
 pub known_flows : (p : Program) (q : ℕ) (i : Op) (o : Option AbstractState) (k : AbstractState) (home : Option AbstractState) (homes : Homes) (t : Table) (u : Option Table) → o ≡ Some k → home ≡ innermost homes → then_table (transfer p home q i k) (merge_edges t) ≡ u → visited p q i o homes t ≡ u
 known_flows p q i o k home homes t u e h r = rw (e, sym h) r
 
--- nothing is known
-pub unknown_passes : (p : Program) (q : ℕ) (i : Op) (o : Option AbstractState) (homes : Homes) (t : Table) → o ≡ None → visited p q i o homes t ≡ Some t
-unknown_passes p q i o homes t e = rw e refl
-
 -- ---- what follows of results
 
 pub where_ok : {E : Type 0} {P Q : Type 0} → (r : Result (Unit {0}) E) → (P → Q) → OnOk r P → OnOk r Q

@@ -16,6 +16,7 @@ use lib.Signed.{≤ℤ_refl}
 use Rattle.pb_verifier_states.proofs.Hulls.{state_same}
 use Rattle.pb_verifier.specs.Pass.{Homes, homes_after, visited, passes, passes_on, opening, code_passes, innermost}
 use Rattle.pb_verifier_structure.specs.Structure.{IsStructured, IsWithinLimits}
+use Rattle.pb_verifier_structure.proofs.Around.{start_around}
 use Rattle.pb_verifier.proofs.Merges.{IsBelow, set_same, set_other, set_long, none_some}
 use Rattle.pb_verifier.proofs.Agreement.{Agrees, SameBehind, SameResult, visited_agrees, home_of}
 use Rattle.pb_verifier.proofs.Kept.{Kept, later_edges, kept_more, earlier_more, refused_at, below_more, then_visit}
@@ -140,10 +141,6 @@ open_known p r k l e =
     (λ (same : r ≡ 0). (same, sym (state_same _ _ (sym (set_same (replicate (length p.code) None) 0 None (entry p) (first_there (length p.code) l)) ∙ ap (state_at (opening p)) (sym same) ∙ e))))
     (λ (differ : r ≡ 0 → ⊥). absurd (none_some k (sym (nothing_known (length p.code) r) ∙ sym (set_other (replicate (length p.code) None) 0 r (entry p) differ) ∙ e)))
     (cases_eq r 0)
-
-start_around : (code : List Op) → loops_around code 0 ≡ []
-start_around [] = refl
-start_around (i ∷ is) = refl
 
 opening_kept : (p : Program) → IsWithinLimits p → Kept p (opening p) 0
 opening_kept p l =

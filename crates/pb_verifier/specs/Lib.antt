@@ -3,3 +3,5 @@ pub mod Programs
 pub mod EquationErrors
 pub mod Acceptance
 pub mod Refusals
+pub mod Names
+pub mod ErrorText

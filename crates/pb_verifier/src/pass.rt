@@ -10,12 +10,13 @@ ghost use Rattle.pb_bytecode_program.specs.declared.instruction.Op.TheVariants a
 ghost use Rattle.pb_verifier.specs.EquationErrors.{OnRuleBroken};
 ghost use Rattle.pb_verifier.specs.Pass.{code_passes, homes_after, opening, visited};
 ghost use Rattle.pb_verifier.specs.Programs.{program_in};
+ghost use Rattle.pb_verifier.specs.Names.{program_with};
 ghost use Rattle.pb_verifier_structure.specs.Structure.{IsWithinLimits};
 ghost use Rattle.pb_sorts.specs.declared.carrier.Carrier.{Carrier as carrier_type};
 
 use crate::equation_error::EquationError;
 use crate::open_loops::OpenLoops;
-use crate::visit::{visit, visit_loop, visit_next};
+use crate::visit::{Names, visit, visit_loop, visit_next};
 use pb_bytecode::Equation;
 use pb_bytecode_program::Op;
 use pb_sorts::Carrier;
@@ -82,32 +83,23 @@ impl PassState {
     fn step(
         &mut self,
         alloc: Global,
-        sorts: &[u8],
-        callees: &[Vec<Carrier>],
+        names: &Names<'_>,
         equation: &Equation,
         place: usize,
         instruction: Op,
     ) -> Result<(), FlowError>
         requires bounds { HasOrderedRange instruction }
         requires small { place < 65536 }
-        ensures flows { OnOk result (visited (program_in sorts.now (map vec_items callees.now) equation.now) place instruction (state_at self.old.table.items place) self.old.open (slice_set self.old.table.items place None) ≡ Some self.new.table.items) }
+        ensures flows { OnOk result (visited (program_with names.now equation.now) place instruction (state_at self.old.table.items place) self.old.open (slice_set self.old.table.items place None) ≡ Some self.new.table.items) }
         ensures open { OnOk result (self.new.open ≡ homes_after (loop_effect instruction) (state_at self.old.table.items place) self.old.open) }
-        ensures refused { OnRefused result (visited (program_in sorts.now (map vec_items callees.now) equation.now) place instruction (state_at self.old.table.items place) self.old.open (slice_set self.old.table.items place None) ≡ None) }
+        ensures refused { OnRefused result (visited (program_with names.now equation.now) place instruction (state_at self.old.table.items place) self.old.open (slice_set self.old.table.items place None) ≡ None) }
     {
         let known = take_state(&mut self.table, place);
         match instruction {
             Op::Loop { slot } => self.start_loop(alloc, equation, slot, place, known),
             Op::Next => self.end_loop(place, known),
             _ => match known {
-                Some(state) => visit(
-                    state,
-                    alloc,
-                    sorts,
-                    callees,
-                    place,
-                    instruction,
-                    &mut self.table,
-                ),
+                Some(state) => visit(state, alloc, names, place, instruction, &mut self.table),
                 None => Ok(()),
             },
         }
@@ -171,9 +163,10 @@ pub(crate) fn pass(
     ensures passes { OnOk result (code_passes (program_in sorts.now (map vec_items callees.now) equation.now) ≡ true) }
     ensures refused { OnRuleBroken result (code_passes (program_in sorts.now (map vec_items callees.now) equation.now) ≡ false) }
 {
+    let names = Names { sorts, callees };
     let mut pass = PassState::opening(alloc, equation)?;
     for (place, instruction) in equation.code.iter().enumerate() {
-        match pass.step(alloc, sorts, callees, equation, place, *instruction) {
+        match pass.step(alloc, &names, equation, place, *instruction) {
             Ok(()) => {}
             Err(FlowError::Refused(rule)) => return Err(EquationError::Refused { rule, place }),
             Err(FlowError::Memory) => return Err(EquationError::Memory),

@@ -1,12 +1,13 @@
 //! One place of the pass.
 
-ghost use Rattle.std.specs.Prelude.{◌≡◌, ◌<◌, None, OnOk, Option, Some, map, vec_items};
+ghost use Rattle.std.specs.Prelude.{◌≡◌, ◌<◌, None, OnOk, Option, Some};
 ghost use Rattle.pb_bytecode_program.specs.Monotone.{HasOrderedRange};
 ghost use Rattle.pb_verifier_states.specs.Refusals.{OnRefused};
 ghost use Rattle.pb_bytecode_program.specs.Counts.{Straight, loop_effect};
 ghost use Rattle.pb_bytecode_program.specs.Machine.{Program, carrier_of};
 ghost use Rattle.pb_bytecode_program.specs.Transfer.{AbstractState as Known, transfer};
 ghost use Rattle.pb_bytecode_program.specs.declared.instruction.Op.TheVariants as op;
+ghost use Rattle.pb_verifier.specs.Names.{FlowsTo};
 ghost use Rattle.pb_verifier.specs.Pass.{merge_edges as merged_edges, then_table};
 
 use crate::table::{merge, merge_edges};
@@ -16,13 +17,19 @@ use pb_verifier_states::flow::flow;
 use pb_verifier_states::{AbstractState, AcceptanceRule, FlowError};
 use std::alloc::Global;
 
-/// Joins what flows from an instruction, other than the start and the end of a loop, into the table. `sorts` has the
-/// counts of enumerators, `callees` the carriers of each equation's parameters.
+/// What the instructions of a module may name: its sorts, by how many enumerators each has, and its equations, by the
+/// carriers of their parameters.
+#[derive(Clone, Copy)]
+pub(crate) struct Names<'a> {
+    pub sorts: &'a [u8],
+    pub callees: &'a [Vec<Carrier>],
+}
+
+/// Joins what flows from an instruction, other than the start and the end of a loop, into the table.
 pub(crate) fn visit(
     state: AbstractState,
     alloc: Global,
-    sorts: &[u8],
-    callees: &[Vec<Carrier>],
+    names: &Names<'_>,
     place: usize,
     instruction: Op,
     table: &mut Vec<Option<AbstractState>>,
@@ -30,10 +37,10 @@ pub(crate) fn visit(
     requires straight { loop_effect instruction ≡ Straight }
     requires bounds { HasOrderedRange instruction }
     requires small { place < 65536 }
-    ensures ok { OnOk result ((p : Program) (home : Option Known) → p.sorts ≡ sorts.now → p.callees ≡ map vec_items callees.now → then_table (transfer p home place instruction state) (merged_edges table.old.items) ≡ Some table.new.items) }
-    ensures refused { OnRefused result ((p : Program) (home : Option Known) → p.sorts ≡ sorts.now → p.callees ≡ map vec_items callees.now → then_table (transfer p home place instruction state) (merged_edges table.old.items) ≡ None) }
+    ensures ok { OnOk result (FlowsTo names.now place instruction state table.old.items (Some table.new.items)) }
+    ensures refused { OnRefused result (FlowsTo names.now place instruction state table.old.items None) }
 {
-    let edges = flow(state, alloc, sorts, callees, instruction)?;
+    let edges = flow(state, alloc, names.sorts, names.callees, instruction)?;
     merge_edges(table, place, edges)?;
     Ok(())
 }

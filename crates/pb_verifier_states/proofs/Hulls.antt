@@ -1,6 +1,6 @@
 -- The join of two states covers both, and each state that covers both covers it: it is their least upper bound.
-use Rattle.std.proofs.Common.{◌≡◌, ℕ, zero, suc, ◌+◌, Bool, true, false, cond, List, [], ◌∷◌, ◌++◌, length, drop, max, Option, Some, None, refl, sym, ap, ◌∙◌, subst, arith, append_assoc, add-one, ◌⊎◌, inl, inr, ⊎_elim}
-use Rattle.std.specs.Prelude.{◌==◌, slice_get, ◌&&◌}
+use Rattle.std.proofs.Common.{◌≡◌, ℕ, suc, ◌+◌, Bool, true, false, cond, List, [], ◌∷◌, ◌++◌, length, max, Option, Some, None, refl, sym, ap, ◌∙◌, subst, arith, ◌⊎◌, inl, inr, ⊎_elim}
+use Rattle.std.specs.Prelude.{◌==◌, ◌&&◌}
 use Rattle.std.specs.Int.{int_min, int_max}
 use Rattle.std.proofs.lemmas.Int.{ints, clamps}
 use Rattle.std.proofs.lemmas.Bool.{eqb-true, eq-eqb, cond-true, and_parts, and_from}
@@ -41,15 +41,6 @@ hulls_length [] [] h = absurd (h refl)
 hulls_length [] (t ∷ ts) h = refl
 hulls_length (s ∷ ss) [] h = refl
 hulls_length (s ∷ ss) (t ∷ ts) h = ap (with_first (hull_of s t)) (hulls_length ss ts (λ e. h (ap suc e))) ∙ no_rest (hull_of s t)
-
-pub drop_get : (xs : List AbstractValue) (i : ℕ) (x : AbstractValue) → slice_get xs i ≡ Some x → drop i xs ≡ x ∷ drop (i + 1) xs
-drop_get [] i x h = cc
-drop_get (y ∷ xs) zero x h = let e : y ≡ x = cc in ap (λ (z : AbstractValue). z ∷ xs) e
-drop_get (y ∷ xs) (suc i) x h = rw add-one at (drop_get xs i x (h)) ∙ (let z : i + 1 ≡ suc i = omega arith in let w : suc (suc i) ≡ suc i + 1 = omega arith in ap (λ m. x ∷ drop m (y ∷ xs)) w)
-
-pub prefixed_more : (out : List AbstractValue) (s : AbstractValue) (r : Option (List AbstractValue)) → prefixed out (with_first (Some s) r) ≡ prefixed (out ++ s ∷ []) r
-prefixed_more out s None = refl
-prefixed_more out s (Some ss) = ap Some (sym (append_assoc out (s ∷ []) ss))
 
 some_same : {X : Type 0} → (x y : X) → Some x ≡ Some y → x ≡ y
 some_same x y e = cc

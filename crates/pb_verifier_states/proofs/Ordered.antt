@@ -23,21 +23,6 @@ ordered_at [] i v h e = cc
 ordered_at (x ∷ vs) zero v h e = let same : x ≡ v = cc in rw same at (h.0)
 ordered_at (x ∷ vs) (suc i) v h e = ordered_at vs i v h.1 e
 
-pub loop_ordered_at : (ls : List (ℕ × AbstractValue)) (i : ℕ) (l : ℕ × AbstractValue) → LoopsHaveOrderedEnds ls → slice_get ls i ≡ Some l → HasOrderedEnds l.1
-loop_ordered_at [] i l h e = cc
-loop_ordered_at (x ∷ ls) zero l h e = let same : x ≡ l = cc in rw same at (h.0)
-loop_ordered_at (x ∷ ls) (suc i) l h e = loop_ordered_at ls i l h.1 e
-
-pub ordered_set : (vs : List AbstractValue) (i : ℕ) (v : AbstractValue) → HaveOrderedEnds vs → HasOrderedEnds v → HaveOrderedEnds (slice_set vs i v)
-ordered_set [] i v h o = tt
-ordered_set (x ∷ vs) zero v h o = (o, h.1)
-ordered_set (x ∷ vs) (suc i) v h o = (h.0, ordered_set vs i v h.1 o)
-
-pub loop_ordered_set : (ls : List (ℕ × AbstractValue)) (i : ℕ) (l : ℕ × AbstractValue) → LoopsHaveOrderedEnds ls → HasOrderedEnds l.1 → LoopsHaveOrderedEnds (slice_set ls i l)
-loop_ordered_set [] i l h o = tt
-loop_ordered_set (x ∷ ls) zero l h o = (o, h.1)
-loop_ordered_set (x ∷ ls) (suc i) l h o = (h.0, loop_ordered_set ls i l h.1 o)
-
 -- a carrier's type says that it isn't empty
 pub carrier_inhabited : (c : Carrier) → is_inhabited c ≡ true
 carrier_inhabited carrier.Bool = refl

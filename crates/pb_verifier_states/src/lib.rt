@@ -8,11 +8,13 @@ pub mod flow;
 pub mod flow_error;
 pub mod interval;
 pub mod laws;
+pub mod limits;
 pub mod rule;
 pub mod state;
 pub mod value;
 
 pub use edges::Edges;
 pub use flow_error::FlowError;
+pub use limits::MAX_LOOPS;
 pub use rule::AcceptanceRule;
 pub use state::AbstractState;

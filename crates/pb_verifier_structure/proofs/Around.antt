@@ -4,6 +4,7 @@ use Rattle.std.specs.Prelude.{slice_get}
 use Rattle.pb_bytecode_program.specs.Counts.{LoopEffect, Enters, Leaves, Straight, loop_effect, loops_after, loops_around}
 use Rattle.pb_bytecode_program.specs.declared.instruction.Op.{Op}
 use Rattle.pb_bytecode_program.proofs.Places.{AllBelow, around_below, around_next}
+use Rattle.pb_bytecode_program.proofs.Rules.{instruction_at}
 use Rattle.pb_verifier_structure.specs.Nesting.{innermost_of, NestsAt}
 
 -- each of these places is a LOOP that the others are around
@@ -17,11 +18,6 @@ chained_turn code Leaves q h [] e g = tt
 chained_turn code Leaves q h (x ∷ st) e g = g.1
 chained_turn code Straight q h st e g = g
 
-got : (code : List Op) (q : ℕ) → q < length code → (i : Op) × (slice_get code q ≡ Some i)
-got [] q h = absurd (omega arith)
-got (j ∷ code) zero h = (j, refl)
-got (j ∷ code) (suc q) h = got code q (omega arith)
-
 pub start_around : (code : List Op) → loops_around code 0 ≡ []
 start_around [] = refl
 start_around (i ∷ is) = refl
@@ -29,7 +25,7 @@ start_around (i ∷ is) = refl
 pub chained_around : (code : List Op) (q : ℕ) → q ≤ length code → Chained code (loops_around code q)
 chained_around code zero h = subst (Chained code) (sym (start_around code)) tt
 chained_around code (suc q) h =
-    let g = got code q (omega arith) in
+    let g = instruction_at code q (omega arith) in
     let before = chained_around code q (omega arith) in
     let next : loops_around code (suc q) ≡ loops_after (loop_effect g.0) q (loops_around code q) = (let z : suc q ≡ q + 1 = omega arith in ap (loops_around code) z) ∙ around_next code q g.0 g.1 in
     subst (Chained code) (sym next) (chained_turn code (loop_effect g.0) q before (loops_around code q) refl before)

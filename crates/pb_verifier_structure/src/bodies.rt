@@ -11,11 +11,8 @@ ghost use Rattle.pb_verifier_structure.specs.Refusals.{OnRefused};
 
 use crate::position_fault::{StructureError, broken};
 use pb_bytecode_program::Op;
-use pb_verifier_states::AcceptanceRule;
+use pb_verifier_states::{AcceptanceRule, MAX_LOOPS};
 use std::alloc::Global;
-
-/// How many loops may be nested.
-const MAX_NESTING: usize = 8;
 
 /// The place of the innermost LOOP around each place of the code.
 #[derive(Drop)]
@@ -53,7 +50,7 @@ impl Bodies {
             innermost.push(around)?;
             match *instruction {
                 Op::Loop { slot: _ } => {
-                    if depth == MAX_NESTING {
+                    if depth == MAX_LOOPS {
                         return Err(broken(AcceptanceRule::LoopStructure, place));
                     }
                     if depth == 0 {

@@ -5,14 +5,12 @@ ghost use Rattle.pb_verifier_states.specs.Refusals.{OnRefused};
 ghost use Rattle.pb_bytecode_program.specs.Transfer.{abstract_loop, abstract_next, to_next_place};
 
 use crate::flow_error::FlowError;
+use crate::limits::MAX_LOOPS;
 use crate::rule::AcceptanceRule;
 use crate::state::AbstractState;
 use crate::value::abstraction;
 use pb_sorts::Carrier;
 use std::alloc::Global;
-
-/// How many loops may be nested.
-const MAX_LOOPS: usize = 8;
 
 impl AbstractState {
     /// What is known at the first place of a loop's body, the slot being of the carrier.

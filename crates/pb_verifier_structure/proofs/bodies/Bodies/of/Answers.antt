@@ -2,7 +2,7 @@ use Rattle.std.proofs.Common.{◌<◌, length, sym, ◌∙◌, arith}
 use Rattle.pb_verifier_structure.proofs.Around.{outer}
 use Rattle.pb_verifier_structure.proofs.Nests.{start, enters, leaves, ends, passes_on, deeper_refused, alone_refused, end_refused, nested}
 use Rattle.pb_verifier_structure.proofs.bodies.Bodies.of.Goals as goal
-use Rattle.pb_verifier_structure.proofs.bodies.Bodies.of.Goals.{in-Loop+else-depth-eq-MAX_NESTING, in-Next+in-Some, in-End+else-is_some, in_default}
+use Rattle.pb_verifier_structure.proofs.bodies.Bodies.of.Goals.{in-Loop+else-depth-eq-MAX_LOOPS, in-Next+in-Some, in-End+else-is_some, in_default}
 
 pub loop-place-init : goal.loop-place-init
 loop-place-init c = rw (c.in_ok-innermost.ensures.items) (start c.args.code.now)
@@ -13,14 +13,14 @@ loop-place-preserved c =
     let h = c.loop-place.invariant in
     let within : c.loop-place.place < length code = c.loop-place-test.true in
     rw (c.in_ok-push.ensures.items) (elim c.match-instruction.branch [
-      | in-Loop+else-depth-eq-MAX_NESTING w ↦ rw (w.around-is, w.depth-is) (enters code c.loop-place.place _ _ _ h w.in-Loop.slot within w.in-Loop.is w.if-depth-eq-MAX_NESTING.false)
+      | in-Loop+else-depth-eq-MAX_LOOPS w ↦ rw (w.around-is, w.depth-is) (enters code c.loop-place.place _ _ _ h w.in-Loop.slot within w.in-Loop.is w.if-depth-eq-MAX_LOOPS.false)
       | in-Next+in-Some w ↦ rw (w.around-is, w.depth-is) (leaves code c.loop-place.place _ _ _ h w.in-Some.home _ within w.in-Next.is w.in-Some.is (rw (c.in_ok-push.ensures.items) at w.index.ensures))
       | in-End+else-is_some w ↦ rw (w.around-is, w.depth-is) (ends code c.loop-place.place _ _ _ h within w.in-End.is w.if-is_some.ensures)
       | in_default w ↦ rw (w.around-is, w.depth-is) (passes_on code c.loop-place.place _ _ _ h within w.in_default.not-Loop w.in_default.not-Next w.in_default.not-End)
     ])
 
-pub returns-then-depth-eq-MAX_NESTING-clause-refused : goal.returns-then-depth-eq-MAX_NESTING-clause-refused
-returns-then-depth-eq-MAX_NESTING-clause-refused c = rw (c.broken.ensures) (deeper_refused c.args.code.now c.loop-place.place _ _ _ c.loop-place.invariant c.in-Loop.slot c.loop-place-test.true c.in-Loop.is c.if-depth-eq-MAX_NESTING.true)
+pub returns-then-depth-eq-MAX_LOOPS-clause-refused : goal.returns-then-depth-eq-MAX_LOOPS-clause-refused
+returns-then-depth-eq-MAX_LOOPS-clause-refused c = rw (c.broken.ensures) (deeper_refused c.args.code.now c.loop-place.place _ _ _ c.loop-place.invariant c.in-Loop.slot c.loop-place-test.true c.in-Loop.is c.if-depth-eq-MAX_LOOPS.true)
 
 pub returns-in_default-around-clause-refused : goal.returns-in_default-around-clause-refused
 returns-in_default-around-clause-refused c = let x = c.in_default-around in rw (c.broken-in_default-around.ensures) (alone_refused c.args.code.now c.loop-place.place _ _ _ c.loop-place.invariant c.loop-place-test.true c.in-Next.is c.in_default-around.is)

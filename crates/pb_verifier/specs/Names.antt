@@ -1,0 +1,20 @@
+-- What flows from an instruction, in each program that has the names.
+use Rattle.std.specs.Prelude.{◌≡◌, ℕ, Option, map, vec_items}
+use Rattle.pb_bytecode_program.specs.declared.instruction.Op.{Op}
+use Rattle.pb_bytecode_program.specs.Accepted.{Table}
+use Rattle.pb_bytecode_program.specs.Machine.{Program}
+use Rattle.pb_bytecode_program.specs.Transfer.{AbstractState, transfer}
+use Rattle.pb_bytecode.specs.declared.equation.Equation.{Equation}
+use Rattle.pb_verifier.specs.declared.visit.Names.{Names}
+use Rattle.pb_verifier.specs.Pass.{merge_edges, then_table}
+use Rattle.pb_verifier.specs.Programs.{program_in}
+
+-- joined into the table, what flows from the instruction gives this table, or none where they don't join
+abbrev pub FlowsTo : Names → ℕ → Op → AbstractState → Table → Option Table → Type 0
+FlowsTo names place i state old new = (p : Program) (home : Option AbstractState) →
+    p.sorts ≡ names.sorts.now → p.callees ≡ map vec_items names.callees.now →
+    then_table (transfer p home place i state) (merge_edges old) ≡ new
+
+-- the code of an equation as a program that has the names
+abbrev pub program_with : Names → Equation → Program
+program_with names e = program_in names.sorts.now (map vec_items names.callees.now) e

@@ -1,0 +1,4 @@
+//! Limits that code keeps wherever it is.
+
+/// How many loops may be nested.
+pub const MAX_LOOPS: usize = 8;
