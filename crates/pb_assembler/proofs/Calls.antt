@@ -3,7 +3,6 @@ use Rattle.std.proofs.Common.{◌≡◌, ℕ, Bool, true, cond, List, [], ◌∷
 use Rattle.std.specs.Prelude.{ℤ, unwrap_or}
 use Rattle.std.specs.List.{slice_set}
 use Rattle.pb_sorts.specs.declared.carrier.Carrier.{Carrier}
-use Rattle.pb_text_meaning.specs.Syntax.{Operator}
 use Rattle.pb_typing.specs.View.{shape_view}
 use Rattle.pb_bytecode_program.specs.declared.instruction.Leaf.TheVariants as leaf
 use Rattle.pb_bytecode_program.specs.declared.instruction.Op.TheVariants as op
@@ -12,27 +11,12 @@ use Rattle.pb_normal.specs.Normal as normal
 use Rattle.pb_normal.specs.Normal.{Term, Number, Slot, Negative, Absolute, Successor, Predecessor, Binary, Maximum, Minimum, Choice, Recognised}
 use Rattle.pb_normal.specs.View.{argument_view, term_view}
 use Rattle.pb_assembler_scheme.specs.Pieces.{Piece, Plain, Then, Block, Leave}
-use Rattle.pb_assembler_scheme.specs.Scheme.{data_piece, binary_piece, tested_range, any_tested, guarded, arguments_piece, call_piece}
+use Rattle.pb_assembler_scheme.specs.Scheme.{data_piece, tested_range, any_tested, guarded, arguments_piece, call_piece}
 use Rattle.pb_assembler_accepted.proofs.Positions.{HasNoLeave}
+use Rattle.pb_assembler_accepted.proofs.Sites.{binary_stays}
 use Rattle.pb_assembler.specs.Draft.{Draft, Places}
 use Rattle.pb_assembler.specs.Emitted.{Emits, nowhere, block_end, called_piece}
 use Rattle.pb_assembler.proofs.Emitting.{emits_then, emits_anywhere, block_emitted}
-
-binary_stays : (o : Operator) (x y : Piece) → HasNoLeave x → HasNoLeave y → HasNoLeave (binary_piece o x y)
-binary_stays Operator.And x y a b = (b, (a, tt))
-binary_stays Operator.Or x y a b = (b, (a, tt))
-binary_stays Operator.Implies x y a b = (b, ((a, tt), tt))
-binary_stays Operator.Equal x y a b = (a, (b, tt))
-binary_stays Operator.NotEqual x y a b = (a, (b, tt))
-binary_stays Operator.Less x y a b = (a, (b, tt))
-binary_stays Operator.LessEqual x y a b = (a, (b, tt))
-binary_stays Operator.Greater x y a b = (a, (b, tt))
-binary_stays Operator.GreaterEqual x y a b = (a, (b, tt))
-binary_stays Operator.Plus x y a b = (a, (b, tt))
-binary_stays Operator.Minus x y a b = (a, (b, tt))
-binary_stays Operator.Times x y a b = (a, (b, tt))
-binary_stays Operator.Div x y a b = (a, (b, tt))
-binary_stays Operator.Mod x y a b = (a, (b, tt))
 
 data_stays : (t : Term) → HasNoLeave (data_piece t)
 data_stays (Term.Truth b) = tt

@@ -31,20 +31,10 @@ chain_step o (y ∷ []) i x l e = absurd (omega arith)
 chain_step o (y ∷ z ∷ zs) zero x l e = ap (λ (t : Term). Binary (of_connective o) (term_view t) (chain_from o (z ∷ zs))) (sym e)
 chain_step o (y ∷ z ∷ zs) (suc i) x l e = chain_step o (z ∷ zs) i x (omega arith) e
 
-pub chain_last : (o : Connective) (xs : List Term) (i : ℕ) (x : Term) → suc i ≡ length xs → x ≡ get_or xs i x → chain_from o (drop i xs) ≡ term_view x
-chain_last o [] i x l e = absurd (omega arith)
-chain_last o (y ∷ []) zero x l e = ap term_view (sym e)
-chain_last o (y ∷ []) (suc i) x l e = absurd (omega arith)
-chain_last o (y ∷ z ∷ zs) zero x l e = absurd (omega arith)
-chain_last o (y ∷ z ∷ zs) (suc i) x l e = chain_last o (z ∷ zs) i x (omega arith) e
-
 pub chain_all : (o : Connective) (first : normal.Term) (xs : List Term) (k : ℕ) → k ≡ 0 → 0 < length xs → chained (Binary (of_connective o)) first (term_views xs) ≡ Binary (of_connective o) first (chain_from o (drop k xs))
 chain_all o first [] k z l = absurd (omega arith)
 chain_all o first (x ∷ xs) zero z l = refl
 chain_all o first (x ∷ xs) (suc k) z l = absurd (omega arith)
-
-pub chain_none : (o : Connective) (first : normal.Term) (xs : List Term) → xs ≡ [] → chained (Binary (of_connective o)) first (term_views xs) ≡ first
-chain_none o first xs e = ap (λ (ys : List Term). chained (Binary (of_connective o)) first (term_views ys)) e
 
 pub small_first : (o : Connective) (first : normal.Term) (xs : List Term) → is_small (chained (Binary (of_connective o)) first (term_views xs)) ≡ true → is_small first ≡ true
 small_first o first [] h = h

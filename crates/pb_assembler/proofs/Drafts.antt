@@ -1,12 +1,10 @@
 -- What is known of a builder's labels.
-use Rattle.std.proofs.Common.{◌≡◌, ℕ, zero, suc, ◌<◌, ◌≤◌, Bool, true, false, List, [], ◌∷◌, ◌++◌, length, get_or, Option, Some, None, refl, sym, ap, ◌∙◌, subst, arith, true≢false}
-use Rattle.std.specs.Prelude.{is_some, unwrap_or}
+use Rattle.std.proofs.Common.{◌≡◌, ℕ, zero, suc, ◌<◌, ◌≤◌, Bool, true, false, List, [], ◌∷◌, ◌++◌, length, get_or, Option, Some, None, refl, sym, ap, ◌∙◌, arith, true≢false}
+use Rattle.std.specs.Prelude.{is_some}
 use Rattle.std.specs.List.{slice_set, list_all}
 use Rattle.std.proofs.lemmas.Bool.{and_parts, and_from, lt-ltb, le-leb, ltb-true, leb-true}
 use Rattle.std.proofs.lemmas.List.Folds.{list_all-append, list_all_at}
-use Rattle.std.proofs.lemmas.Option.{slice_get-get_or}
-use Rattle.pb_bytecode_program.specs.declared.instruction.Op.{Op}
-use Rattle.pb_assembler.specs.Draft.{Labelled, is_label, is_within, names_labels, are_within, place_of, joined, with_target, resolved_op}
+use Rattle.pb_assembler.specs.Draft.{Labelled, is_label, is_within, names_labels, are_within}
 
 pub append_one : {X : Type 0} (p : X → Bool) → (xs : List X) (y : X) → list_all p xs ≡ true → p y ≡ true → list_all p (xs ++ y ∷ []) ≡ true
 append_one p xs y h k = list_all-append p xs (y ∷ []) ∙ and_from _ _ h (and_from _ _ k refl)
@@ -48,16 +46,5 @@ one_of p xs i d below h = by (p (get_or xs i d)) refl
     by true e = refl
     by false e = absurd (true≢false (sym h ∙ list_all_at p xs i d below e))
 
-pub below_label : (n l : ℕ) (o : Option ℕ) → o ≡ Some l → is_label n o ≡ true → l < n
-below_label n l o e h = ltb-true l n (subst (λ k. is_label n k ≡ true) e h)
-
-pub within_place : (n q : ℕ) (o : Option ℕ) → o ≡ Some q → is_within n o ≡ true → q ≤ n
-within_place n q o e h = leb-true q n (subst (λ k. is_within n k ≡ true) e h)
-
 pub no_place : (o : Option ℕ) → o ≡ None → is_some o ≡ true → ⊥
 no_place o e h = true≢false (sym h ∙ ap is_some e)
-
-pub resolved_one : (places : List (Option ℕ)) (op : Op) (label : Option ℕ) (l q : ℕ) → label ≡ Some l → l < length places → get_or places l None ≡ Some q → with_target op q ≡ resolved_op (place_of places) (op, label)
-resolved_one places op label l q e below at =
-    ap (with_target op) (sym (ap (λ o. unwrap_or (joined o) 0) (slice_get-get_or places l None below) ∙ ap (λ o. unwrap_or o 0) at))
-    ∙ sym (ap (λ (o : Option ℕ). resolved_op (place_of places) (op, o)) e)

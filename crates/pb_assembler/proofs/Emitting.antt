@@ -1,5 +1,5 @@
 -- Emitting the parts of a piece, with the labels of its jumps, emits the piece.
-use Rattle.std.proofs.Common.{◌≡◌, ℕ, zero, suc, ◌+◌, ◌<◌, ◌≤◌, Bool, true, List, [], ◌∷◌, ◌++◌, length, Option, Some, None, refl, sym, ap, ◌∙◌, arith, append_assoc, append-nil, length-append}
+use Rattle.std.proofs.Common.{◌≡◌, ℕ, zero, suc, ◌+◌, ◌<◌, ◌≤◌, Bool, true, List, [], ◌∷◌, ◌++◌, length, Option, Some, None, refl, sym, ap, ◌∙◌, arith, append_assoc, length-append}
 use Rattle.std.specs.Prelude.{ℤ, unwrap_or, Result, Ok, Err, OnOk}
 use Rattle.std.specs.List.{slice_get, slice_set}
 use Rattle.std.proofs.lemmas.Option.{slice_get_within}
@@ -90,12 +90,6 @@ pub added_code : (d d' : Draft) (o : Labelled) (M : Places) → Adds d d' o → 
 added_code d d' o M a = ap (resolved M) a.ops ∙ map-append (resolved_op M) d.ops (o ∷ [])
 
 -- ---- pieces
-
-pub emits_empty : (e : Places → ℕ) (d : Draft) → Emits Empty e d d
-emits_empty e d = record { grown = omega arith; kept = λ l h. refl; settled = refl; code = λ M k. sym (append-nil (resolved M d.ops)) }
-
-pub emits_plain : (i : Op) (e : Places → ℕ) (d d' : Draft) → Adds d d' (i, None) → Emits (Plain i) e d d'
-emits_plain i e d d' a = let f = adds_follows d d' (i, None) a in record { grown = f.grown; kept = f.kept; settled = ap open_labels a.places; code = λ M k. added_code d d' (i, None) M a }
 
 pub emits_then : (x y : Piece) (e : Places → ℕ) (d d1 d2 : Draft) → Emits x e d d1 → Emits y e d1 d2 → Emits (Then x y) e d d2
 emits_then x y e d d1 d2 hx hy =
@@ -208,10 +202,6 @@ emits_block x e d d1 d2 d3 l m h s =
           let at : unwrap_or (M l) 0 ≡ end (length d.ops) x = place_at M l (length d2.ops) (k3 l (length d2.ops) s.placed) ∙ n2 in
           ap (resolved M) s.ops ∙ h.code M k2 ∙ ap (λ (is : List Labelled). resolved M is ++ flat (length is) (unwrap_or (M l) 0) x) m.ops ∙ ap (λ k. resolved M d.ops ++ flat (length d.ops) k x) at;
     }
-
--- a jump to the label of the block around
-pub emits_leave : (to l : ℕ) (d d' : Draft) → Adds d d' (op.Jump to, Some l) → Emits Leave (λ M. unwrap_or (M l) 0) d d'
-emits_leave to l d d' a = let f = adds_follows d d' (op.Jump to, Some l) a in record { grown = f.grown; kept = f.kept; settled = ap open_labels a.places; code = λ M k. added_code d d' (op.Jump to, Some l) M a }
 
 -- a label, the range's test, the part, the label's place, POP
 pub emits_guard : (lo hi : ℤ) (x : Piece) (e : Places → ℕ) (to : ℕ) (d d1 d2 d3 d4 d5 : Draft) (l : ℕ) → Makes d d1 l → Adds d1 d2 (op.InRange lo hi to, Some l) → Emits x e d2 d3 → Sets d3 d4 l → Adds d4 d5 (op.Pop, None) → Emits (Guard lo hi x) e d d5

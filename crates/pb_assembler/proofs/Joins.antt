@@ -213,9 +213,6 @@ closes_more (suc k) d d1 d2 c e = closes_more k (plus d (op.Next, None)) d1 d2 c
 abbrev pub Begins : ℕ → ℕ → Draft → Draft → Type 0
 Begins s k d0 d = (y : Piece) (d1 d2 : Draft) → Emits y nowhere d d1 → Closes k d1 d2 → Emits (repeated s k y) nowhere d0 d2
 
-pub begins_none : (s : ℕ) (d : Draft) → Begins s 0 d d
-begins_none s d = λ y d1 d2 h c. subst (λ (x : Draft). Emits y nowhere d x) (sym c) h
-
 pub begins_more : (s k : ℕ) (d0 d d' : Draft) → Begins s k d0 d → d' ≡ plus d (op.Loop (s + k), None) → Begins s (suc k) d0 d'
 begins_more s k d0 d d' b e = λ y d1 d2 h c.
     b (Repeat (s + k) y) (plus d1 (op.Next, None)) d2

@@ -7,15 +7,14 @@ use Rattle.pb_sorts.specs.declared.carrier.Carrier.{Carrier}
 use Rattle.pb_sorts.specs.declared.carrier.Carrier.TheVariants as carriers
 use Rattle.pb_typing_declarations.specs.Entries.{carrier_shape}
 use Rattle.pb_normal.specs.Normal as normal
-use Rattle.pb_normal.specs.Normal.{Join, Each}
+use Rattle.pb_normal.specs.Normal.{Join}
 use Rattle.pb_normal.specs.declared.formula.Formula.{Formula}
-use Rattle.pb_normal.specs.View.{chained, formula_view, formula_views, nested}
+use Rattle.pb_normal.specs.View.{formula_view, nested}
 use Rattle.pb_assembler_scheme.specs.Scheme.{test_of}
 use Rattle.pb_assembler.specs.declared.measure_load.Load.{Load}
 use Rattle.pb_assembler.specs.declared.measure_tally.Tally.{Tally}
 use Rattle.pb_assembler.specs.MeasureTerms.{capped_load, term_load}
 use Rattle.pb_assembler.specs.MeasureFormulas.{after, capped_tally, form_chain, formula_tally, join_tally, kind_at, kind_by, leading_tests, load_by, looped, loops_tally, more_tests, shape_size, tested_tally, under_tally}
-use Rattle.pb_assembler.proofs.MeasureFormulaLemmas.{only_one}
 use Rattle.pb_assembler.proofs.MeasureTallies.{tested_by, under_by, after_by}
 
 -- ---- loops
@@ -42,20 +41,10 @@ nested_tally callees u around s (c ∷ cs) f l =
     ap (λ n. under_tally u around (looped n (formula_tally callees u (nested u (suc s) cs f)))) (carrier_count c)
     ∙ ap (λ (x : Tally). under_tally u around (looped (length (values_of c)) x)) (nested_own callees u (suc s) cs f)
 
-pub nested_none : (callees : List (List Carrier)) (u around : Bool) (s : ℕ) (cs : List Carrier) (f : normal.Formula) → length cs ≡ 0 → formula_tally callees around (nested u s cs f) ≡ formula_tally callees around f
-nested_none callees u around s [] f l = refl
-nested_none callees u around s (c ∷ cs) f l = absurd (omega arith)
-
 pub loops_step : (cs : List Carrier) (k : ℕ) (c : Carrier) (x : Tally) → k < length cs → c ≡ get_or cs k c → loops_tally (drop k cs) x ≡ looped (length (values_of c)) (loops_tally (drop (suc k) cs) x)
 loops_step [] k c x l e = absurd (omega arith)
 loops_step (d ∷ ds) zero c x l e = ap (λ (b : Carrier). looped (length (values_of b)) (loops_tally ds x)) (sym e)
 loops_step (d ∷ ds) (suc k) c x l e = loops_step ds k c x (omega arith) e
-
-pub no_loops : (cs : List Carrier) (k : ℕ) (x : Tally) → k ≡ length cs → loops_tally (drop k cs) x ≡ x
-no_loops [] zero x e = refl
-no_loops [] (suc k) x e = refl
-no_loops (c ∷ cs) zero x e = absurd (omega arith)
-no_loops (c ∷ cs) (suc k) x e = no_loops cs k x (omega arith)
 
 pub all_loops : (cs : List Carrier) (k : ℕ) (x : Tally) → k ≡ 0 → loops_tally (drop k cs) x ≡ loops_tally cs x
 all_loops cs zero x e = refl
@@ -99,9 +88,6 @@ kind_step m kind (g ∷ gs) (suc k) f l e = by (test_of (formula_view g)) (kind_
     by (Some t) rest = same (suc k) (leading_tests gs) ∙ rest ∙ ap (kind_by (test_of (formula_view f)) m) (sym (same k (leading_tests gs)))
     by None rest = ap (λ b. cond b kind m) (le_none (suc k)) ∙ own (test_of (formula_view f)) ∙ ap (λ b. kind_by (test_of (formula_view f)) m (cond b kind m)) (sym (le_none k))
 
-pub kind_first : (m kind : Bool) (n k : ℕ) → k ≡ 0 → kind_at m kind n k ≡ kind
-kind_first m kind n k e = ap (λ b. cond b kind m) (le-leb k n (omega (arith, e)))
-
 pub link_step : (m : Bool) (fs : List Formula) (k : ℕ) (f : Formula) → suc k < length fs → f ≡ get_or fs k f → Join m (formula_view f) (form_chain m (drop (suc k) fs)) ≡ form_chain m (drop k fs)
 link_step m [] k f l e = absurd (omega arith)
 link_step m (g ∷ []) k f l e = absurd (omega arith)
@@ -114,13 +100,6 @@ link_last m (g ∷ []) zero f l e = ap formula_view (sym e)
 link_last m (g ∷ []) (suc k) f l e = absurd (omega arith)
 link_last m (g ∷ h ∷ hs) zero f l e = absurd (omega arith)
 link_last m (g ∷ h ∷ hs) (suc k) f l e = link_last m (h ∷ hs) k f (omega arith) e
-
-pub link_all : (m : Bool) (f : normal.Formula) (fs : List Formula) → 0 < length fs → Join m f (form_chain m fs) ≡ chained (Join m) f (formula_views fs)
-link_all m f [] l = absurd (omega arith)
-link_all m f (g ∷ gs) l = refl
-
-pub link_none : (m : Bool) (f : normal.Formula) (fs : List Formula) → length fs ≡ 0 → f ≡ chained (Join m) f (formula_views fs)
-link_none m f fs l = sym (only_one m f fs l)
 
 pub link_many : (m : Bool) (fs : List Formula) (k : ℕ) → suc k < length fs → None ≡ load_by (test_of (form_chain m (drop k fs)))
 link_many m [] k l = absurd (omega arith)

@@ -62,9 +62,6 @@ exceeds callees e m o l h f g p made n a =
 abbrev pub KeepTo : List (List Carrier) → List Equation → ℕ → Type 0
 KeepTo callees es n = (j : ℕ) (e : Equation) → j < n → slice_get es j ≡ Some e → Keeps callees e
 
-pub keep_none : (callees : List (List Carrier)) (es : List Equation) → KeepTo callees es 0
-keep_none callees es j e l at = absurd (omega arith)
-
 pub keep_more : (callees : List (List Carrier)) (es : List Equation) (n m : ℕ) (d : Equation) → m ≡ n + 1 → slice_get es n ≡ Some d → KeepTo callees es n → Keeps callees d → KeepTo callees es m
 keep_more callees es n m d f here h k j e l at =
     ⊎_elim (λ (less : j < n). h j e less at) (λ (more : n ≤ j).

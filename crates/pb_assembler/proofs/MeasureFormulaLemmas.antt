@@ -1,5 +1,5 @@
 -- Formulas as their nodes have them, measured part by part.
-use Rattle.std.proofs.Common.{◌≡◌, ℕ, zero, suc, ◌+◌, ◌<◌, ◌≤◌, Bool, false, ◌||◌, List, [], ◌∷◌, length, map, get_or, drop, None, refl, sym, ap, ◌∙◌, arith, Vec, Global, Box}
+use Rattle.std.proofs.Common.{◌≡◌, ℕ, zero, suc, ◌+◌, ◌<◌, Bool, false, ◌||◌, List, [], ◌∷◌, length, map, get_or, drop, None, refl, sym, ap, ◌∙◌, arith, Vec, Global, Box}
 use Rattle.std.specs.Prelude.{box_value, is_some}
 use Rattle.std.specs.List.{slice_get}
 use mathlib.Core.Former.{Count}
@@ -9,10 +9,11 @@ use Rattle.pb_normal.specs.Normal.{Join, Each}
 use Rattle.pb_normal.specs.declared.formula.Argument.{Argument}
 use Rattle.pb_normal.specs.declared.formula.Formula as formula
 use Rattle.pb_normal.specs.declared.formula.Formula.{Formula, Row_of-Formula, end_of-Formula, more_of-Formula, items-the_row-Formula, items_hidden-the_row-Formula-0}
-use Rattle.pb_normal.specs.View.{argument_view, chained, formula_view, formula_views, formulas_in, nested, term_view}
-use Rattle.pb_assembler_scheme.specs.Scheme.{any_tested, parameters, tested_range, test_of}
+use Rattle.pb_normal.specs.View.{argument_view, chained, formula_view, formula_views, nested, term_view}
+use Rattle.pb_normal.proofs.Views.{formula-join}
+use Rattle.pb_assembler_scheme.specs.Scheme.{any_tested, tested_range, test_of}
 use Rattle.pb_assembler.specs.MeasureTerms.{term_load}
-use Rattle.pb_assembler.specs.MeasureFormulas.{arguments_load, argument_load, callees_of, is_tested, load_by, nothing}
+use Rattle.pb_assembler.specs.MeasureFormulas.{arguments_load, argument_load, is_tested, load_by, nothing}
 
 -- ---- arguments
 
@@ -56,16 +57,6 @@ pub none_loaded : (cs : List Carrier) → arguments_load cs [] ≡ nothing
 none_loaded [] = refl
 none_loaded (c ∷ cs) = refl
 
-pub callee_at : (vs : List (Vec Carrier Global)) (k : ℕ) (v : Vec Carrier Global) → k < length vs → v ≡ get_or vs k v → parameters (slice_get (callees_of vs) k) ≡ v.items
-callee_at [] k v l e = absurd (omega arith)
-callee_at (w ∷ ws) zero v l e = ap (λ (u : Vec Carrier Global). u.items) (sym e)
-callee_at (w ∷ ws) (suc k) v l e = callee_at ws k v (omega arith) e
-
-pub no_callee : (vs : List (Vec Carrier Global)) (k : ℕ) → length vs ≤ k → parameters (slice_get (callees_of vs) k) ≡ []
-no_callee [] k l = refl
-no_callee (w ∷ ws) zero l = absurd (omega arith)
-no_callee (w ∷ ws) (suc k) l = no_callee ws k (omega arith)
-
 -- ---- nodes
 
 abbrev mutual
@@ -87,10 +78,6 @@ forms-items : (n : _) (row : Row_of-Formula n) → forms_row row ≡ forms_weigh
 forms-items n end_of-Formula = refl
 forms-items n (more_of-Formula f row) = ap (λ w. weight f + w) (forms-items _ row)
 
-views-items : (n : _) (row : Row_of-Formula n) → formulas_in row ≡ formula_views (items-the_row-Formula n row)
-views-items n end_of-Formula = refl
-views-items n (more_of-Formula f row) = ap (λ v. formula_view f ∷ v) (views-items _ row)
-
 abbrev form_row_in : Formula → (n : Count) × Row_of-Formula n
 form_row_in (formula.Join' m p first shape row) = (_, row)
 form_row_in _ = (_, end_of-Formula)
@@ -99,11 +86,6 @@ pub weight-join : (m : Bool) (first : Box Formula Global) (v : Vec Formula Globa
 weight-join m first v =
     let row = form_row_in (formula.Join m first v) in
     ap (λ w. 4 + (weight (box_value first) + w)) (forms-items row.0 row.1 ∙ ap forms_weight (items_hidden-the_row-Formula-0 v))
-
-pub view-join : (m : Bool) (first : Box Formula Global) (v : Vec Formula Global) → formula_view (formula.Join m first v) ≡ chained (Join m) (formula_view (box_value first)) (formula_views v.items)
-view-join m first v =
-    let row = form_row_in (formula.Join m first v) in
-    ap (chained (Join m) (formula_view (box_value first))) (views-items row.0 row.1 ∙ ap formula_views (items_hidden-the_row-Formula-0 v))
 
 pub form_lighter : (fs : List Formula) (k : ℕ) (f : Formula) → k < length fs → f ≡ get_or fs k f → weight f < forms_weight fs + 1
 form_lighter [] k f lt at = absurd (omega arith)
@@ -115,7 +97,7 @@ pub join_is : (x f : Formula) (m : Bool) (first : Box Formula Global) (v : Vec F
 join_is x f m first v rest is same are =
     ap (λ (y : Formula). chained (Join m) (formula_view y) (formula_views rest)) same
     ∙ ap (λ (ls : List Formula). chained (Join m) (formula_view (box_value first)) (formula_views ls)) are
-    ∙ sym (ap formula_view is ∙ view-join m first v)
+    ∙ sym (ap formula_view is ∙ formula-join m first v)
 
 -- ---- which formulas are one test
 
@@ -128,10 +110,10 @@ only_one m f [] l = refl
 only_one m f (g ∷ gs) l = absurd (omega arith)
 
 pub join_none : (x : Formula) (m : Bool) (first : Box Formula Global) (v : Vec Formula Global) → x ≡ formula.Join m first v → 0 < length v.items → None ≡ load_by (test_of (formula_view x))
-join_none x m first v is some = sym (ap (λ (y : Formula). load_by (test_of (formula_view y))) is ∙ ap (λ y. load_by (test_of y)) (view-join m first v) ∙ ap load_by (more_none m (formula_view (box_value first)) v.items some))
+join_none x m first v is some = sym (ap (λ (y : Formula). load_by (test_of (formula_view y))) is ∙ ap (λ y. load_by (test_of y)) (formula-join m first v) ∙ ap load_by (more_none m (formula_view (box_value first)) v.items some))
 
 pub join_one : (x f : Formula) (m : Bool) (first : Box Formula Global) (v : Vec Formula Global) → x ≡ formula.Join m first v → f ≡ box_value first → length v.items ≡ 0 → formula_view f ≡ formula_view x
-join_one x f m first v is same none = sym (ap formula_view is ∙ view-join m first v ∙ only_one m (formula_view (box_value first)) v.items none ∙ sym (ap formula_view same))
+join_one x f m first v is same none = sym (ap formula_view is ∙ formula-join m first v ∙ only_one m (formula_view (box_value first)) v.items none ∙ sym (ap formula_view same))
 
 each_more : (u : Bool) (s : ℕ) (cs : List Carrier) (f : normal.Formula) → 0 < length cs → test_of (nested u s cs f) ≡ None
 each_more u s [] f l = absurd (omega arith)

@@ -7,15 +7,15 @@ use Rattle.pb_normal.specs.Normal.{Join}
 use Rattle.pb_normal.specs.declared.formula.Formula as formula
 use Rattle.pb_normal.specs.declared.formula.Formula.{Formula}
 use Rattle.pb_normal.specs.View.{chained, formula_view, formula_views, nested}
+use Rattle.pb_normal.proofs.Views.{formula-join}
 use Rattle.pb_assembler_scheme.specs.Scheme.{head}
-use Rattle.pb_assembler.proofs.MeasureFormulaLemmas.{view-join}
 
 chain_head : (m : Bool) (f : normal.Formula) (fs : List Formula) → 0 < length fs → head (chained (Join m) f (formula_views fs)) ≡ m
 chain_head m f [] l = absurd (omega arith)
 chain_head m f (g ∷ gs) l = refl
 
 pub join_head : (x : Formula) (m : Bool) (first : Box Formula Global) (v : Vec Formula Global) → x ≡ formula.Join m first v → 0 < length v.items → m ≡ head (formula_view x)
-join_head x m first v is some = sym (ap (λ (y : Formula). head (formula_view y)) is ∙ ap head (view-join m first v) ∙ chain_head m (formula_view (box_value first)) v.items some)
+join_head x m first v is some = sym (ap (λ (y : Formula). head (formula_view y)) is ∙ ap head (formula-join m first v) ∙ chain_head m (formula_view (box_value first)) v.items some)
 
 nested_head : (u : Bool) (s : ℕ) (cs : List Carrier) (f : normal.Formula) → 0 < length cs → head (nested u s cs f) ≡ u
 nested_head u s [] f l = absurd (omega arith)

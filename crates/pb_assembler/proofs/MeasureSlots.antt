@@ -1,19 +1,18 @@
 -- The quantifiers of a normal form take the slots behind the parameters, with the carriers of the text's variables.
-use Rattle.std.proofs.Common.{◌≡◌, ℕ, suc, ◌+◌, Bool, true, false, not, List, [], ◌∷◌, ◌++◌, length, Option, Some, None, refl, sym, ap, ◌∙◌, arith, length-append}
-use Rattle.std.proofs.lemmas.List.{length-map}
+use Rattle.std.proofs.Common.{◌≡◌, ℕ, suc, ◌+◌, Bool, true, List, [], ◌∷◌, ◌++◌, length, Some, refl, sym, ap, ◌∙◌, arith}
 use Rattle.pb_sorts.specs.declared.carrier.Carrier.{Carrier}
 use Rattle.pb_text_meaning.specs.Syntax as syntax
 use Rattle.pb_text_meaning.specs.Syntax.{Variable, Equation, Spec}
 use Rattle.pb_typing_declarations.specs.Shapes.{Shape, sort_shape}
 use Rattle.pb_typing_declarations.specs.Entries.{carrier_shape}
-use Rattle.pb_typing_rules.specs.Scope.{Scope, bound}
 use Rattle.pb_typing_rules.specs.WellTyped.{parameters_of}
 use Rattle.pb_normal.specs.Equations.{normal_equation}
 use Rattle.pb_normal.specs.Expansion.{expanded}
 use Rattle.pb_normal.specs.Loops.{variable_shapes, loops, equation_loops}
-use Rattle.pb_normal.specs.Normal.{Term, Argument, Formula}
-use Rattle.pb_normal.specs.Normalisation.{Slotting, unslotted, with_slot, with_slots, slotted, width, signed_test, is_universal, each, arguments, place_of, call, normal}
+use Rattle.pb_normal.specs.Normal.{Formula}
+use Rattle.pb_normal.specs.Normalisation.{Slotting, unslotted, with_slot, with_slots, width, each, normal}
 use Rattle.pb_normal.specs.View.{shapes_of}
+use Rattle.pb_normal.proofs.LoopSlots.{normal-quantifiers, length-loops}
 use Rattle.pb_assembler_scheme.specs.Correct.{quantifiers, slots_from}
 
 -- shapes with the slots from n on
@@ -25,27 +24,6 @@ numbered_append : (n m : ℕ) (ss ts : List Shape) → m ≡ n + length ss → n
 numbered_append n m [] ts e = let f : n ≡ m = omega arith in ap (λ k. numbered k ts) f
 numbered_append n m (s ∷ ss) ts e = ap (λ (xs : List (ℕ × Shape)). (n, s) ∷ xs) (numbered_append (suc n) m ss ts (omega arith))
 
-loops_long : (spec : Spec) (f : syntax.Formula) → length (loops spec f) ≡ width f
-loops_long spec (syntax.Formula.Truth b) = refl
-loops_long spec (syntax.Formula.Val x) = refl
-loops_long spec (syntax.Formula.Not f) = loops_long spec f
-loops_long spec (syntax.Formula.And f g) = length-append (loops spec f) (loops spec g) ∙ ap (λ n. n + length (loops spec g)) (loops_long spec f) ∙ ap (λ n. width f + n) (loops_long spec g)
-loops_long spec (syntax.Formula.Or f g) = length-append (loops spec f) (loops spec g) ∙ ap (λ n. n + length (loops spec g)) (loops_long spec f) ∙ ap (λ n. width f + n) (loops_long spec g)
-loops_long spec (syntax.Formula.Implies f g) = length-append (loops spec f) (loops spec g) ∙ ap (λ n. n + length (loops spec g)) (loops_long spec f) ∙ ap (λ n. width f + n) (loops_long spec g)
-loops_long spec (syntax.Formula.Quantified q xs f) =
-    length-append (variable_shapes spec xs) (loops spec f)
-    ∙ ap (λ n. n + length (loops spec f)) (length-map xs (λ (x : Variable). sort_shape spec x.sort))
-    ∙ ap (λ n. length xs + n) (loops_long spec f)
-loops_long spec (syntax.Formula.Call X es) = refl
-
-test_quantifiers : (even : Bool) (x : Term) → quantifiers (signed_test even x) ≡ []
-test_quantifiers true x = refl
-test_quantifiers false x = refl
-
-call_quantifiers : (o : Option ℕ) (es : List Argument) → quantifiers (call o es) ≡ []
-call_quantifiers None es = refl
-call_quantifiers (Some X) es = refl
-
 each_quantifiers : (spec : Spec) (m : Bool) (xs : List Variable) (body : Slotting → ℕ → Formula) (ts : List Shape) → ((c : Slotting) (n : ℕ) → quantifiers (body c n) ≡ numbered n ts)
     → (c : Slotting) (n : ℕ) → quantifiers (each spec m xs c n body) ≡ numbered n (variable_shapes spec xs ++ ts)
 each_quantifiers spec m [] body ts says c n = says c n
@@ -55,21 +33,7 @@ join_quantifiers : (spec : Spec) (f g : syntax.Formula) (n : ℕ) (xs ys : List 
 join_quantifiers spec f g n xs ys h i =
     ap (λ (zs : List (ℕ × Shape)). zs ++ ys) h
     ∙ ap (λ (zs : List (ℕ × Shape)). numbered n (loops spec f) ++ zs) i
-    ∙ sym (numbered_append n (n + width f) (loops spec f) (loops spec g) (ap (λ k. n + k) (sym (loops_long spec f))))
-
-normal_quantifiers : (spec : Spec) (f : syntax.Formula) (even : Bool) (scope : Scope) (c : Slotting) (n : ℕ) → quantifiers (normal spec even c scope n f) ≡ numbered n (loops spec f)
-normal_quantifiers spec (syntax.Formula.Truth b) even scope c n = test_quantifiers even (Term.Truth b)
-normal_quantifiers spec (syntax.Formula.Val x) even scope c n = test_quantifiers even (slotted spec c x)
-normal_quantifiers spec (syntax.Formula.Not f) even scope c n = normal_quantifiers spec f (not even) scope c n
-normal_quantifiers spec (syntax.Formula.And f g) even scope c n =
-    join_quantifiers spec f g n _ _ (normal_quantifiers spec f even scope c n) (normal_quantifiers spec g even scope c (n + width f))
-normal_quantifiers spec (syntax.Formula.Or f g) even scope c n =
-    join_quantifiers spec f g n _ _ (normal_quantifiers spec f even scope c n) (normal_quantifiers spec g even scope c (n + width f))
-normal_quantifiers spec (syntax.Formula.Implies f g) even scope c n =
-    join_quantifiers spec f g n _ _ (normal_quantifiers spec f (not even) scope c n) (normal_quantifiers spec g even scope c (n + width f))
-normal_quantifiers spec (syntax.Formula.Quantified q xs f) even scope c n =
-    each_quantifiers spec (is_universal q even) xs (λ d m. normal spec even d (bound spec xs scope) m f) (loops spec f) (normal_quantifiers spec f even (bound spec xs scope)) c n
-normal_quantifiers spec (syntax.Formula.Call X es) even scope c n = call_quantifiers (place_of 0 spec.equations X) (arguments spec c scope es)
+    ∙ sym (numbered_append n (n + width f) (loops spec f) (loops spec g) (ap (λ k. n + k) (sym (length-loops spec f))))
 
 slots_numbered : (n : ℕ) (cs : List Carrier) → numbered n (shapes_of cs) ≡ slots_from n cs
 slots_numbered n [] = refl
@@ -77,7 +41,7 @@ slots_numbered n (c ∷ cs) = ap (λ (qs : List (ℕ × Shape)). (n, carrier_sha
 
 pub equation_quantifiers : (spec : Spec) (X : Equation) (cs : List Carrier) → shapes_of cs ≡ equation_loops spec X → quantifiers (normal_equation spec X) ≡ slots_from (length X.parameters) cs
 equation_quantifiers spec X cs e =
-    normal_quantifiers spec (expanded X.right) true (parameters_of spec X) (with_slots X.parameters 0 unslotted) (length X.parameters)
+    normal-quantifiers spec (expanded X.right) true (parameters_of spec X) (with_slots X.parameters 0 unslotted) (length X.parameters)
     ∙ ap (numbered (length X.parameters)) (sym e)
     ∙ slots_numbered (length X.parameters) cs
 

@@ -14,7 +14,7 @@ use Rattle.pb_assembler.specs.declared.measure_load.Load.{Load}
 use Rattle.pb_assembler.specs.declared.measure_tally.Tally.{Tally}
 use Rattle.pb_assembler.specs.MeasureTerms.{capped, capped_load}
 use Rattle.pb_assembler.proofs.MeasureLoads.{load_of}
-use Rattle.pb_assembler.specs.MeasureFormulas.{capped_tally, test_tally, passing, deciding, tested_tally, bracketed_tally, under_tally, after, looped, argument_load, ended_call}
+use Rattle.pb_assembler.specs.MeasureFormulas.{capped_tally, passing, deciding, tested_tally, bracketed_tally, under_tally, after, looped, argument_load}
 
 -- ---- products
 
@@ -56,9 +56,6 @@ tally_of : (i o b n s t i' o' b' n' s' t' : ℕ) → i ≡ i' → o ≡ o' → b
 tally_of i o b n s t i' o' b' n' s' t' ei eo eb en es et =
     ap (λ k. tally k o b n s t) ei ∙ ap (λ k. tally i' k b n s t) eo ∙ ap (λ k. tally i' o' k n s t) eb ∙ ap (λ k. tally i' o' b' k s t) en ∙ ap (λ k. tally i' o' b' n' k t) es ∙ ap (tally i' o' b' n' s') et
 
-pub test_capped : (l : Load) → capped_tally (test_tally (capped_load l)) ≡ capped_tally (test_tally l)
-test_capped l = tally_of _ _ _ _ _ _ _ _ _ _ _ _ (omega arith) (omega arith) refl refl (omega arith) refl
-
 deciding_capped : (l : Load) (x : Tally) → capped_tally (deciding (capped_load l) (capped_tally x)) ≡ capped_tally (deciding l x)
 deciding_capped l x = tally_of _ _ _ _ _ _ _ _ _ _ _ _ (omega arith) (omega arith) (omega arith) (omega arith) (omega arith) (omega arith)
 
@@ -98,9 +95,6 @@ looped_capped n x = tally_of _ _ _ _ _ _ _ _ _ _ _ _ (omega arith) (omega arith)
 
 -- ---- with equations for the parts
 
-pub test_by : (r l : Load) → r ≡ capped_load l → capped_tally (test_tally r) ≡ capped_tally (test_tally l)
-test_by r l e = ap (λ (k : Load). capped_tally (test_tally k)) e ∙ test_capped l
-
 pub tested_by : (m around : Bool) (r l : Load) (y x : Tally) → r ≡ capped_load l → y ≡ capped_tally x → capped_tally (tested_tally m around r y) ≡ capped_tally (tested_tally m around l x)
 tested_by m around r l y x e f = ap (λ (k : Load). capped_tally (tested_tally m around k y)) e ∙ ap (λ (k : Tally). capped_tally (tested_tally m around (capped_load l) k)) f ∙ tested_capped m around l x
 
@@ -123,10 +117,3 @@ argument_by a b c d r s l m e f g h =
     ∙ ap (λ (k : Load). capped_load (argument_load b d k s)) g
     ∙ ap (λ (k : Load). capped_load (argument_load b d (capped_load l) k)) h
     ∙ argument_capped b d l m
-
-call_capped : (any : Bool) (l : Load) → capped_tally (ended_call any (capped_load l)) ≡ capped_tally (ended_call any l)
-call_capped true l = tally_of _ _ _ _ _ _ _ _ _ _ _ _ (omega arith) (omega arith) refl refl (omega arith) refl
-call_capped false l = tally_of _ _ _ _ _ _ _ _ _ _ _ _ (omega arith) (omega arith) refl refl (omega arith) refl
-
-pub call_by : (a b : Bool) (r l : Load) → a ≡ b → r ≡ capped_load l → capped_tally (ended_call a r) ≡ capped_tally (ended_call b l)
-call_by a b r l e f = ap (λ k. capped_tally (ended_call k r)) e ∙ ap (λ (k : Load). capped_tally (ended_call b k)) f ∙ call_capped b l

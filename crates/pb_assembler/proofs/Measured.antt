@@ -1,7 +1,7 @@
 -- Measures that stop just above the limits tell whether the limits are kept.
 use Rattle.std.proofs.Common.{◌≡◌, ℕ, ◌≤◌, Bool, true, false, ◌||◌, cond, Option, Some, None, refl, sym, ◌∙◌, arith, ⊎_elim, true≢false}
 use Rattle.std.specs.Prelude.{nat_lt}
-use Rattle.std.proofs.lemmas.Bool.{cases_lt, lt-ltb}
+use Rattle.std.proofs.lemmas.Bool.{cases_lt, lt-ltb, or_parts}
 use Rattle.pb_bytecode_program.specs.Machine.{Program}
 use Rattle.pb_normal.specs.Normal.{Formula}
 use Rattle.pb_assembler_accepted.specs.Limits.{KeepsLimits}
@@ -17,10 +17,6 @@ step : (b : Bool) (l : Limit) (o : Option Limit) → cond b (Some l) o ≡ None 
 step true l o e = cc
 step false l o e = (refl, e)
 
-neither : (a b : Bool) → (a || b) ≡ false → (a ≡ false) × (b ≡ false)
-neither true b e = absurd (true≢false e)
-neither false b e = (refl, e)
-
 -- no limit is exceeded exactly where all are kept
 pub kept : (m : Measures) (p : Program) (f : Formula) → AreMeasures m p f → first_excess m ≡ None → KeepsLimits p f
 kept m p f a e =
@@ -30,7 +26,7 @@ kept m p f a e =
     let s4 = step (nat_lt 8 m.nesting || nat_lt 240 m.slots) limit.Loops _ s3.1 in
     let s5 = step (nat_lt 1000000 m.steps) limit.Steps _ s4.1 in
     let s6 = step (nat_lt 100000 m.tokens) limit.Tokens _ s5.1 in
-    let two = neither (nat_lt 8 m.nesting) (nat_lt 240 m.slots) s4.0 in
+    let two = or_parts (nat_lt 8 m.nesting) (nat_lt 240 m.slots) s4.0 in
     record {
       instructions = let x = not_below 65535 m.instructions s1.0 in let y = a.instructions in omega (arith, x, y);
       operands = let x = not_below 32 m.operands s2.0 in let y = a.operands in omega (arith, x, y);

@@ -1,6 +1,6 @@
 -- Carriers of parameters, group by group and equation by equation.
-use Rattle.std.proofs.Common.{◌≡◌, ℕ, zero, suc, ◌+◌, ◌<◌, ◌≤◌, List, [], ◌∷◌, ◌++◌, map, length, get_or, drop, replicate, refl, sym, ap, ◌∙◌, subst, Vec, Global, Some, string_bytes}
-use Rattle.std.proofs.lemmas.List.{append_assoc, append-nil}
+use Rattle.std.proofs.Common.{◌≡◌, ℕ, ◌+◌, ◌<◌, List, [], ◌∷◌, ◌++◌, map, length, get_or, drop, replicate, refl, sym, ap, ◌∙◌, subst, Vec, Global, Some, string_bytes}
+use Rattle.std.proofs.lemmas.List.{append_assoc}
 use Rattle.pb_sorts.specs.declared.carrier.Carrier.{Carrier}
 use Rattle.pb_sorts.specs.Layout.{lists_of}
 use Rattle.pb_text_tree.specs.declared.name.Name as tree
@@ -13,9 +13,10 @@ use Rattle.pb_text_meaning.specs.Syntax.{Spec}
 use Rattle.pb_typing_declarations.specs.Shapes.{Shape, Unknown, sort_shape}
 use Rattle.pb_typing_declarations.specs.Entries.{carrier_shape}
 use Rattle.pb_typing_declarations.proofs.ShapeLaws.{known}
-use Rattle.pb_typing.proofs.Links.{links-drop, links-ended}
+use Rattle.pb_typing.proofs.Links.{links-drop}
 use Rattle.pb_normal.specs.Loops.{AreShaped, variable_shapes}
 use Rattle.pb_normal.specs.View.{shapes_of}
+use Rattle.pb_normal.proofs.SlotLemmas.{shapes-replicate, shapes-append}
 use Rattle.pb_assembler_accepted.specs.Made.{parameter_shapes}
 use Rattle.pb_assembler.specs.Compiled.{AreShapedParameters}
 
@@ -43,14 +44,6 @@ group_none : (S : Spec) (group : Variables) (rest : List Variables) (names : Lis
 group_none S group rest [] none h = refl
 group_none S group rest (x ∷ names) none h = absurd (known S (string_bytes group.sort.text) h.0 (sym none))
 
-shapes_append : (xs ys : List Carrier) → shapes_of (xs ++ ys) ≡ shapes_of xs ++ shapes_of ys
-shapes_append [] ys = refl
-shapes_append (x ∷ xs) ys = ap (λ (ss : List Shape). carrier_shape (Some x) ∷ ss) (shapes_append xs ys)
-
-shapes_replicate : (n : ℕ) (c : Carrier) → shapes_of (replicate n c) ≡ replicate n (carrier_shape (Some c))
-shapes_replicate zero c = refl
-shapes_replicate (suc n) c = ap (λ (ss : List Shape). carrier_shape (Some c) ∷ ss) (shapes_replicate n c)
-
 -- ---- group by group
 
 -- the groups that are left have, behind the carriers so far, those of all
@@ -67,9 +60,9 @@ next_some S all k group carrier old new below at shape grown h =
     let more = variable_shapes S (variables_of rest) in record {
       carriers =
           ap (λ (cs : List Carrier). shapes_of cs ++ more) grown
-          ∙ ap (λ (ss : List Shape). ss ++ more) (shapes_append old (replicate n carrier))
+          ∙ ap (λ (ss : List Shape). ss ++ more) (shapes-append old (replicate n carrier))
           ∙ append_assoc (shapes_of old) (shapes_of (replicate n carrier)) more
-          ∙ ap (λ (ss : List Shape). shapes_of old ++ (ss ++ more)) (shapes_replicate n carrier)
+          ∙ ap (λ (ss : List Shape). shapes_of old ++ (ss ++ more)) (shapes-replicate n carrier)
           ∙ ap (λ (s : Shape). shapes_of old ++ (replicate n s ++ more)) shape
           ∙ ap (λ (ss : List Shape). shapes_of old ++ ss) (sym (group_shapes S group rest group.names.items))
           ∙ ap (λ (gs : List Variables). shapes_of old ++ variable_shapes S (variables_of gs)) (sym left)
@@ -90,10 +83,6 @@ next_none S all k group cs below at none h =
       shaped = group_rest S group rest group.names.items shaped;
     }
 
-pub none_left : (S : Spec) (all : List Variables) (k : ℕ) (cs : List Carrier) → length all ≤ k → AreLeft S all (drop k all) cs → shapes_of cs ≡ variable_shapes S (variables_of all)
-none_left S all k cs end h =
-    sym (append-nil (shapes_of cs)) ∙ ap (λ (gs : List Variables). shapes_of cs ++ variable_shapes S (variables_of gs)) (sym (links-ended all k end)) ∙ h.carriers
-
 -- ---- equation by equation
 
 abbrev pub erased_all : List Equation → List syntax.Equation
@@ -102,29 +91,3 @@ erased_all xs = map erased_equation (map equation_form xs)
 pub record AreOf (S : Spec) (all left : List Equation) (now : List (Vec Carrier Global)) : Type 0 where
   pub shapes : map shapes_of (lists_of now) ++ parameter_shapes S (erased_all left) ≡ parameter_shapes S (erased_all all)
   pub shaped : AreShapedParameters S (map equation_form left)
-
-shapes_push : (now : List (Vec Carrier Global)) (v : Vec Carrier Global) → map shapes_of (lists_of (now ++ v ∷ [])) ≡ map shapes_of (lists_of now) ++ shapes_of v.items ∷ []
-shapes_push [] v = refl
-shapes_push (w ∷ now) v = ap (λ (ss : List (List Shape)). shapes_of w.items ∷ ss) (shapes_push now v)
-
-pub next_equation : (S : Spec) (all : List Equation) (k : ℕ) (X : Equation) (v : Vec Carrier Global) (old new : List (Vec Carrier Global)) → k < length all → X ≡ get_or all k X → new ≡ old ++ v ∷ []
-    → shapes_of v.items ≡ variable_shapes S (variables_of X.parameters.items) → AreOf S all (drop k all) old → AreOf S all (drop (k + 1) all) new
-next_equation S all k X v old new below at pushed shapes h =
-    let left = links-drop all k X below at in
-    let rest = parameter_shapes S (erased_all (drop (k + 1) all)) in record {
-      shapes =
-          ap (λ (vs : List (Vec Carrier Global)). map shapes_of (lists_of vs) ++ rest) pushed
-          ∙ ap (λ (ss : List (List Shape)). ss ++ rest) (shapes_push old v)
-          ∙ append_assoc (map shapes_of (lists_of old)) (shapes_of v.items ∷ []) rest
-          ∙ ap (λ (ss : List Shape). map shapes_of (lists_of old) ++ ss ∷ rest) shapes
-          ∙ ap (λ (xs : List Equation). map shapes_of (lists_of old) ++ parameter_shapes S (erased_all xs)) (sym left)
-          ∙ h.shapes;
-      shaped = (subst (λ (xs : List Equation). AreShapedParameters S (map equation_form xs)) left h.shaped).1;
-    }
-
-pub shaped_next : (S : Spec) (all : List Equation) (k : ℕ) (X : Equation) (now : List (Vec Carrier Global)) → k < length all → X ≡ get_or all k X → AreOf S all (drop k all) now → AreShaped S (variables_of X.parameters.items)
-shaped_next S all k X now below at h = (subst (λ (xs : List Equation). AreShapedParameters S (map equation_form xs)) (links-drop all k X below at) h.shaped).0
-
-pub no_equation_left : (S : Spec) (all : List Equation) (k : ℕ) (now : List (Vec Carrier Global)) → length all ≤ k → AreOf S all (drop k all) now → map shapes_of (lists_of now) ≡ parameter_shapes S (erased_all all)
-no_equation_left S all k now end h =
-    sym (append-nil (map shapes_of (lists_of now))) ∙ ap (λ (xs : List Equation). map shapes_of (lists_of now) ++ parameter_shapes S (erased_all xs)) (sym (links-ended all k end)) ∙ h.shapes

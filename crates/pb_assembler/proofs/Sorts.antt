@@ -1,14 +1,13 @@
 -- The sorts of a module, declaration by declaration, and their enumerators' names.
-use Rattle.std.proofs.Common.{◌≡◌, ℕ, ◌+◌, ◌<◌, ◌≤◌, Bool, true, List, [], ◌∷◌, ◌++◌, map, length, get_or, drop, refl, sym, ap, ◌∙◌, subst, arith, string_bytes}
+use Rattle.std.proofs.Common.{◌≡◌, ℕ, ◌+◌, ◌<◌, ◌≤◌, true, List, [], ◌∷◌, ◌++◌, map, length, get_or, drop, refl, sym, ap, ◌∙◌, subst, arith, string_bytes}
 use Rattle.std.specs.List.{list_all}
-use Rattle.std.proofs.lemmas.Bool.{and_parts}
-use Rattle.std.proofs.lemmas.List.{append_assoc, append-nil, length-map, map_push}
+use Rattle.std.proofs.lemmas.List.{append_assoc, length-map, map_push}
 use Rattle.pb_text_tree.specs.declared.sort.Enumerator as tree
 use Rattle.pb_text_tree.specs.declared.sort.SortDeclaration.{SortDeclaration}
 use Rattle.pb_text_tree.specs.Form.{enumerator_form, sort_declaration_form, sort_form}
 use Rattle.pb_text_meaning.specs.Erase.{erased_declaration, erased_enumerator, erased_sort}
 use Rattle.pb_text_meaning.specs.Syntax as syntax
-use Rattle.pb_typing.proofs.Links.{links-drop, links-ended}
+use Rattle.pb_typing.proofs.Links.{links-drop}
 use Rattle.pb_bytecode.specs.Contents.{SortContents}
 use Rattle.pb_bytecode.specs.Names.{is_name}
 use Rattle.pb_bytecode.specs.Views.{sort_contents}
@@ -18,21 +17,6 @@ use Rattle.pb_assembler.specs.Compiled.{IsSort, AreSorts}
 use Rattle.pb_assembler.proofs.Names.{enumerators_named}
 
 -- ---- what is made of a list, element by element
-
-pub made_next : {X Y : Type 0} (f : X → Y) (xs : List X) (k : ℕ) (x : X) (y : Y) (done more : List Y) → k < length xs → x ≡ get_or xs k x → more ≡ done ++ y ∷ [] → y ≡ f x
-    → done ++ map f (drop k xs) ≡ map f xs → more ++ map f (drop (k + 1) xs) ≡ map f xs
-made_next {X = X} {Y = Y} f xs k x y done more below at pushed is h =
-    ap (λ (ys : List Y). ys ++ map f (drop (k + 1) xs)) pushed
-    ∙ append_assoc done (y ∷ []) (map f (drop (k + 1) xs))
-    ∙ ap (λ (z : Y). done ++ z ∷ map f (drop (k + 1) xs)) is
-    ∙ ap (λ (zs : List X). done ++ map f zs) (sym (links-drop xs k x below at))
-    ∙ h
-
-pub made_all : {X Y : Type 0} (f : X → Y) (xs : List X) (k : ℕ) (done : List Y) → length xs ≤ k → done ++ map f (drop k xs) ≡ map f xs → done ≡ map f xs
-made_all {X = X} f xs k done end h = sym (append-nil done) ∙ ap (λ (zs : List X). done ++ map f zs) (sym (links-ended xs k end)) ∙ h
-
-pub all_next : {X : Type 0} (p : X → Bool) (xs : List X) (k : ℕ) (x : X) → k < length xs → x ≡ get_or xs k x → list_all p (drop k xs) ≡ true → (p x ≡ true) × (list_all p (drop (k + 1) xs) ≡ true)
-all_next {X = X} p xs k x below at h = and_parts (p x) (list_all p (drop (k + 1) xs)) (subst (λ (zs : List X). list_all p zs ≡ true) (links-drop xs k x below at) h)
 
 -- ---- declarations
 
@@ -84,7 +68,3 @@ module _ (all : List SortDeclaration) (k : ℕ) (d : SortDeclaration) (below : k
             ∙ ap (λ (ds : List SortDeclaration). map sort_contents done ++ struct_names (erased_all ds)) (sym split)
             ∙ h.names;
       }
-
-pub made_sorts : (all : List SortDeclaration) (k : ℕ) (done : List bytecode.Sort) → length all ≤ k → AreMade all (drop k all) done → map sort_contents done ≡ struct_names (erased_all all)
-made_sorts all k done end h =
-    sym (append-nil (map sort_contents done)) ∙ ap (λ (ds : List SortDeclaration). map sort_contents done ++ struct_names (erased_all ds)) (sym (links-ended all k end)) ∙ h.names

@@ -1,51 +1,24 @@
 -- What is known of an accepted text.
-use Rattle.std.proofs.Common.{◌≡◌, zero, suc, true, List, [], ◌∷◌, map, refl, sym, subst, arith, true≢false}
+use Rattle.std.proofs.Common.{◌≡◌, zero, suc, true, List, [], ◌∷◌, map, arith}
 use Rattle.std.specs.List.{All}
 use Rattle.pb_text_tree.specs.Form.{EquationForm, SpecForm}
 use Rattle.pb_text_meaning.specs.Erase.{erase, erased_equation}
-use Rattle.pb_text_meaning.specs.Syntax.{Equation, Variable, SortDeclaration, Spec, Sort, Struct, Alias}
-use Rattle.pb_typing_declarations.specs.declared.fault.TypeError.{TypeError}
-use Rattle.pb_typing_declarations.specs.declared.fault.TypeError.TheVariants.{At}
-use Rattle.pb_typing_declarations.specs.declared.fault.TypingFault.{TypingFault}
-use Rattle.pb_typing_declarations.specs.Declarations.{declaration_faults}
-use Rattle.pb_typing_declarations.specs.Faults.{IsAmong}
-use Rattle.pb_typing_declarations.specs.Shapes.{end_of}
-use Rattle.pb_typing_declarations.specs.WellDeclared.{AreVariables, IsDefined, IsDeclared, has_shape}
-use Rattle.pb_typing_rules.specs.Faults.{faults}
-use Rattle.pb_typing_rules.specs.WellTyped.{IsWellTyped}
-use Rattle.pb_typing_rules.proofs.Parts.{no_parts}
-use Rattle.pb_typing_rules.proofs.WellTypedLemmas.{well_typed}
-use Rattle.pb_typing.specs.Typed.{is_faultless, is_none}
-use Rattle.pb_normal.specs.Loops.{AreShaped}
+use Rattle.pb_text_meaning.specs.Syntax.{Equation, SortDeclaration, Spec, Sort, Struct, Alias}
+use Rattle.pb_typing_declarations.specs.WellDeclared.{AreVariables, IsDefined}
+use Rattle.pb_typing.specs.Typed.{is_faultless}
 use Rattle.pb_assembler.specs.Compiled.{AreShapedParameters, IsSort, AreSorts}
 use Rattle.pb_text_names.specs.ModuleNames.{has_enumerator_names}
 use Rattle.std.specs.List.{list_all}
 use Rattle.std.proofs.lemmas.Bool.{and_parts}
-
-no_faults : (fs : List TypingFault) → is_none fs ≡ true → fs ≡ []
-no_faults [] e = refl
-no_faults (f ∷ fs) e = absurd (true≢false (sym e))
-
-pub accepted_is_well_typed : (text : SpecForm) → is_faultless text ≡ true → IsWellTyped (erase text)
-accepted_is_well_typed text e = well_typed text (no_faults (faults text) e)
-
--- its declarations have no fault
-pub undeclared : (text : SpecForm) (e : TypeError) (f : TypingFault) → is_faultless text ≡ true → e ≡ At f → IsAmong (declaration_faults text) e → ⊥
-undeclared text e f faultless is h =
-    let clear : declaration_faults text ≡ [] = (no_parts (declaration_faults text) _ (no_faults (faults text) faultless)).0 in
-    let none : IsAmong [] (At f) = subst (λ (x : TypeError). IsAmong [] x) is (subst (λ (gs : List TypingFault). IsAmong gs e) clear h) in
-    absurd (omega (arith, none.1))
-
-variables_shaped : (spec : Spec) (xs : List Variable) → All (λ (x : Variable). has_shape (end_of spec x.sort) ≡ true) xs → AreShaped spec xs
-variables_shaped spec [] all = tt
-variables_shaped spec (x ∷ xs) all = (all zero x (omega arith), variables_shaped spec xs (λ k d b. all (suc k) d (omega arith)))
+use Rattle.pb_normal.proofs.Shaped.{variables-shaped}
+use Rattle.pb_normal.proofs.Equations.{accepted-well-typed}
 
 parameters_shaped : (spec : Spec) (E : List EquationForm) → All (λ (X : Equation). AreVariables spec X.parameters) (map erased_equation E) → AreShapedParameters spec E
 parameters_shaped spec [] all = tt
-parameters_shaped spec (X ∷ E) all = (variables_shaped spec (erased_equation X).parameters (all zero (erased_equation X) (omega arith)).shaped, parameters_shaped spec E (λ k d b. all (suc k) d (omega arith)))
+parameters_shaped spec (X ∷ E) all = (variables-shaped spec (erased_equation X).parameters (all zero (erased_equation X) (omega arith)).shaped, parameters_shaped spec E (λ k d b. all (suc k) d (omega arith)))
 
 pub accepted_shaped : (text : SpecForm) → is_faultless text ≡ true → AreShapedParameters (erase text) text.equations
-accepted_shaped text e = parameters_shaped (erase text) text.equations (accepted_is_well_typed text e).declarations.parameters
+accepted_shaped text e = parameters_shaped (erase text) text.equations (accepted-well-typed text e).declarations.parameters
 
 -- its structs are few, where their names are such as a module may have
 sorts_ready : (spec : Spec) (ds : List SortDeclaration) → All (λ (d : SortDeclaration). IsDefined spec d.name d.sort) ds → list_all has_enumerator_names ds ≡ true → AreSorts ds
@@ -59,4 +32,4 @@ sorts_ready spec (d ∷ ds) all named =
     by (Alias t) h n = tt
 
 pub accepted_sorts : (text : SpecForm) → is_faultless text ≡ true → list_all has_enumerator_names (erase text).sorts ≡ true → AreSorts (erase text).sorts
-accepted_sorts text e named = sorts_ready (erase text) (erase text).sorts (accepted_is_well_typed text e).declarations.defined named
+accepted_sorts text e named = sorts_ready (erase text) (erase text).sorts (accepted-well-typed text e).declarations.defined named

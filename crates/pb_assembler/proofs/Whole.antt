@@ -6,7 +6,7 @@ use Rattle.std.proofs.lemmas.List.{length-map}
 use Rattle.std.proofs.lemmas.Bool.{and_parts, and_from, le-leb}
 use Rattle.std.proofs.lemmas.Option.{slice_get_within, get_or_from_slice_get}
 use Rattle.pb_carriers.specs.Carrier as carriers
-use Rattle.pb_carriers.specs.Carrier.{Tuple, is_within}
+use Rattle.pb_carriers.specs.Carrier.{is_within}
 use Rattle.pb_sorts.specs.Carrier.{values_of}
 use Rattle.pb_sorts.specs.declared.carrier.Carrier.{Carrier}
 use Rattle.pb_sorts.specs.Layout.{lists_of}
@@ -15,7 +15,6 @@ use Rattle.pb_text_tree.specs.Form.{EquationForm, SpecForm, equation_form}
 use Rattle.pb_text_meaning.specs.Erase.{erase, erased_equation}
 use Rattle.pb_text_meaning.specs.Formula.{carriers_of}
 use Rattle.pb_text_meaning.specs.Syntax as syntax
-use Rattle.pb_text_meaning.specs.Syntax.{Spec}
 use Rattle.pb_typing.specs.Typed.{is_faultless}
 use Rattle.pb_bytecode.specs.Contents.{SortContents, EquationContents, InitialContents, Contents, counts}
 use Rattle.pb_bytecode.specs.Limits.{is_byte, is_i64, fits_sort, fits_equation, instance_count, params_of, is_tuple, fits_initial, fits}
@@ -29,6 +28,7 @@ use Rattle.pb_normal.specs.Loops.{equation_loops}
 use Rattle.pb_normal.specs.Structs.{struct_counts, AreFew, HasDeclaredShapes}
 use Rattle.pb_normal.specs.View.{right_views, shapes_of}
 use Rattle.pb_normal.specs.declared.normal.Equation.{Equation}
+use Rattle.pb_normal.proofs.Equations.{accepted-well-typed}
 use Rattle.pb_assembler_accepted.specs.Made.{parameter_shapes}
 use Rattle.pb_assembler_modules.specs.Module.{struct_names, AreEquationsOf, IsCompiledModule, KeepsAllLimits}
 use Rattle.pb_assembler_modules.proofs.Modules.{counted as counted_structs}
@@ -38,7 +38,6 @@ use Rattle.pb_text_names.specs.ModuleNames.{has_enumerator_names, has_names}
 use Rattle.pb_assembler.proofs.Fits.{AreKnown, sorts_fit, between, callees_fit, equations_fit, compiled_long, instances_same, compiled_at}
 use Rattle.pb_assembler.proofs.MeasureExcess.{module_keeps}
 use Rattle.pb_assembler.proofs.Ready.{AreSound, AreFormsOf, ready, compiled_params, are_equations}
-use Rattle.pb_assembler.proofs.Texts.{accepted_is_well_typed}
 
 of_each : {X : Type 0} (P : X → Type 0) (xs : List X) → All P xs → (k : ℕ) (x : X) → slice_get xs k ≡ Some x → P x
 of_each P xs all k x at = subst P (get_or_from_slice_get xs k x x at) (all k x (slice_get_within xs k x at))
@@ -92,7 +91,7 @@ module _ (text : SpecForm) (faultless : is_faultless text ≡ true) (callees : L
       few_here = subst AreFew counted few
 
       known : AreKnown (erase text) (map erased_equation text.equations)
-      known = record { shapes = shapes; bounds = bounds; parameters = (accepted_is_well_typed text faultless).declarations.few_parameters }
+      known = record { shapes = shapes; bounds = bounds; parameters = (accepted-well-typed text faultless).declarations.few_parameters }
 
       all_fields : list_all has_fitting_carriers (all_compiled callees callees text.equations es) ≡ true
       all_fields = subst (λ (cs : List EquationContents). list_all has_fitting_carriers cs ≡ true) equations fields
@@ -110,7 +109,7 @@ module _ (text : SpecForm) (faultless : is_faultless text ≡ true) (callees : L
       instances_within : nat_le (instance_count Q) 4194304 ≡ true
       instances_within =
           let e = ap instance_count equations ∙ instances_same (erase text) callees text.equations callees es params all_ready in
-          let d = (accepted_is_well_typed text faultless).declarations.few_instances in
+          let d = (accepted-well-typed text faultless).declarations.few_instances in
           le-leb (instance_count Q) 4194304 (omega (arith, e, d))
 
       initial_within : fits_initial Q I ≡ true
@@ -126,7 +125,7 @@ module _ (text : SpecForm) (faultless : is_faultless text ≡ true) (callees : L
           let sort_count = length-map S (λ (names : SortContents). length names) in
           let sorts_few = few_here.structs in
           let long = ap length equations ∙ compiled_long (erase text) callees text.equations callees es all_ready in
-          let few_equations = (accepted_is_well_typed text faultless).declarations.few_equations in
+          let few_equations = (accepted-well-typed text faultless).declarations.few_equations in
           let some = slice_get_within (erase text).equations (initial_place (erase text)) there.equation there.there in
           and_from _ _ (and_from _ _ (between 0 256 (length S) (omega arith) (omega (arith, sort_count, sorts_few))) sorts_within)
           (and_from _ _ (and_from _ _ (between 1 65 (length Q) (omega (arith, long, some)) (omega (arith, long, few_equations))) equations_within)

@@ -172,24 +172,30 @@ fn measure_each(
     under_tally(universal, around, tally)
 }
 
+/// The connective of a chain, and the kind of the bracket that is open in front of one of its operands.
+#[derive(Clone, Copy)]
+struct Chain {
+    conjunctive: bool,
+    around: bool,
+}
+
 /// An operand of a chain in front of those from a place on, which are measured.
 #[cycle(formulas)]
 fn measure_link(
     callees: &[Vec<Carrier>],
-    conjunctive: bool,
-    around: bool,
+    chain: Chain,
     operand: &Formula,
     operands: &[Formula],
     place: usize,
     rest: Tally,
 ) -> Tally
     requires some { place < length operands.now }
-    requires rest { rest ≡ capped_tally (formula_tally (callees_of callees.now) (kind_behind conjunctive around (formula_view operand.now)) (form_chain conjunctive (drop place operands.now))) }
-    ensures { result ≡ capped_tally (formula_tally (callees_of callees.now) around (Join conjunctive (formula_view operand.now) (form_chain conjunctive (drop place operands.now)))) }
+    requires rest { rest ≡ capped_tally (formula_tally (callees_of callees.now) (kind_behind chain.conjunctive chain.around (formula_view operand.now)) (form_chain chain.conjunctive (drop place operands.now))) }
+    ensures { result ≡ capped_tally (formula_tally (callees_of callees.now) chain.around (Join chain.conjunctive (formula_view operand.now) (form_chain chain.conjunctive (drop place operands.now)))) }
 {
     match test_load(operand) {
-        Some(load) => tested_tally(conjunctive, around, load, rest),
-        None => measure_untested(callees, conjunctive, around, operand, operands, place, rest),
+        Some(load) => tested_tally(chain.conjunctive, chain.around, load, rest),
+        None => measure_untested(callees, chain, operand, operands, place, rest),
     }
 }
 
@@ -197,8 +203,7 @@ fn measure_link(
 #[cycle(formulas)]
 fn measure_untested(
     callees: &[Vec<Carrier>],
-    conjunctive: bool,
-    around: bool,
+    chain: Chain,
     operand: &Formula,
     operands: &[Formula],
     place: usize,
@@ -206,18 +211,18 @@ fn measure_untested(
 ) -> Tally
     requires some { place < length operands.now }
     requires untested { None ≡ load_by (test_of (formula_view operand.now)) }
-    requires rest { rest ≡ capped_tally (formula_tally (callees_of callees.now) (kind_behind conjunctive around (formula_view operand.now)) (form_chain conjunctive (drop place operands.now))) }
-    ensures { result ≡ capped_tally (formula_tally (callees_of callees.now) around (Join conjunctive (formula_view operand.now) (form_chain conjunctive (drop place operands.now)))) }
+    requires rest { rest ≡ capped_tally (formula_tally (callees_of callees.now) (kind_behind chain.conjunctive chain.around (formula_view operand.now)) (form_chain chain.conjunctive (drop place operands.now))) }
+    ensures { result ≡ capped_tally (formula_tally (callees_of callees.now) chain.around (Join chain.conjunctive (formula_view operand.now) (form_chain chain.conjunctive (drop place operands.now)))) }
 {
     match last_test(operands, place) {
         Some(load) => {
-            let own = measure_formula(callees, around, operand);
-            tested_tally(conjunctive, around, load, own)
+            let own = measure_formula(callees, chain.around, operand);
+            tested_tally(chain.conjunctive, chain.around, load, own)
         }
         None => {
-            let own = measure_formula(callees, conjunctive, operand);
+            let own = measure_formula(callees, chain.conjunctive, operand);
             let both = after(own, rest);
-            under_tally(conjunctive, around, both)
+            under_tally(chain.conjunctive, chain.around, both)
         }
     }
 }
@@ -245,9 +250,17 @@ fn measure_join(
         let behind = left;
         left -= 1;
         let own = kind_at(conjunctive, kind, leading, left);
-        tally = measure_link(callees, conjunctive, own, &rest[left], rest, behind, tally);
+        let chain = Chain {
+            conjunctive,
+            around: own,
+        };
+        tally = measure_link(callees, chain, &rest[left], rest, behind, tally);
     }
-    measure_link(callees, conjunctive, around, first, rest, 0, tally)
+    let chain = Chain {
+        conjunctive,
+        around,
+    };
+    measure_link(callees, chain, first, rest, 0, tally)
 }
 
 /// The load of the operand at a place, where it is the last one and a test.

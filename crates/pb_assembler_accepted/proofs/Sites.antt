@@ -20,7 +20,7 @@ use Rattle.pb_assembler_accepted.proofs.Positions.{Loops, HasNoLeave, IsInScope}
 
 -- ---- nothing leaves
 
-binary_stays : (o : Operator) (x y : Piece) → HasNoLeave x → HasNoLeave y → HasNoLeave (binary_piece o x y)
+pub binary_stays : (o : Operator) (x y : Piece) → HasNoLeave x → HasNoLeave y → HasNoLeave (binary_piece o x y)
 binary_stays Operator.And x y a b = (b, (a, tt))
 binary_stays Operator.Or x y a b = (b, (a, tt))
 binary_stays Operator.Implies x y a b = (b, ((a, tt), tt))

@@ -3,7 +3,7 @@ use Rattle.std.proofs.Common.{◌≡◌, ℕ, suc, ◌+◌, Bool, true, false, c
 use Rattle.std.specs.Prelude.{ℤ, int_le, is_some, reverse}
 use Rattle.std.specs.List.{slice_get}
 use Rattle.std.proofs.lemmas.List.{reverse-append}
-use Rattle.std.proofs.lemmas.Bool.{and_from}
+use Rattle.std.proofs.lemmas.Bool.{and_from, or_right}
 use Rattle.pb_carriers.specs.Carrier as carriers
 use Rattle.pb_intervals.specs.Interval as intervals
 use Rattle.pb_sorts.specs.declared.carrier.Carrier.{Carrier}
@@ -16,7 +16,7 @@ use Rattle.pb_typing_declarations.specs.Shapes.{Shape, Unknown, Truths, Places, 
 use Rattle.pb_typing_rules.specs.Shapes.{interval}
 use Rattle.pb_bytecode_program.specs.Values.{Value, IntValue, untagged}
 use Rattle.pb_bytecode_program.specs.Machine
-use Rattle.pb_bytecode_program.specs.Machine.{Program, State, Outcome, Continues, Ends, Faults, MachineFault, argument_fault}
+use Rattle.pb_bytecode_program.specs.Machine.{Program, State, Outcome, MachineFault, argument_fault}
 use Rattle.pb_bytecode_program.specs.declared.instruction.Leaf.TheVariants as leaf
 use Rattle.pb_bytecode_program.specs.declared.instruction.Op.TheVariants as op
 use Rattle.pb_bytecode_program.proofs.Ints.{from_le}
@@ -63,10 +63,6 @@ fails-range (carrier.Range r) (Wholes l h) tested e z out = by (intervals.is_wit
     by : (b : Bool) → cond b None (Some (r.lo, r.hi)) ≡ Some tested → holds (carrier.Range r) z ≡ false
     by true k = cc
     by false k = let same : (r.lo, r.hi) ≡ tested = cc in outside-range r z (ap (λ (p : ℤ × ℤ). int_le p.0 z && int_le z p.1) same ∙ out)
-
-later_true : (b c : Bool) → c ≡ true → (b || c) ≡ true
-later_true true c h = refl
-later_true false c h = h
 
 and_false : (b c : Bool) → c ≡ false → (b && c) ≡ false
 and_false true c h = h
@@ -146,7 +142,7 @@ module _ (p : Program) (Q : List Token → Type 0) where
         (λ t' w. takes_off st _ (IntValue z) h.2 (miss some (and_false (holds c (value a x.term)) _ w))))
         (λ f. takes_off st _ (IntValue z) h.2 (miss some (ap (λ b. b && within cs (argument_values a xs)) (ap (holds c) (sym k) ∙ fails-range c x.shape r eo z f))))))
     behind c cs x xs run l st q ag v k None eo true el h hit miss =
-        let some : any_tested (c ∷ cs) (x ∷ xs) ≡ true = later_true (is_some (tested_range c x.shape)) (any_tested cs xs) el in
+        let some : any_tested (c ∷ cs) (x ∷ xs) ≡ true = or_right (is_some (tested_range c x.shape)) (any_tested cs xs) el in
         run (put p Q st q (v ∷ st.operands)) l h.0 ag
         (λ s vs there ev n. hit s (v ∷ vs) there (ap (λ (u : ℤ). u ∷ map untagged vs) k ∙ ap (λ (us : List ℤ). value a x.term ∷ us) ev) (λ f. absurd (true≢false (sym some ∙ f))))
         (λ t w. takes_off st _ v h.1 (miss some (and_false (holds c (value a x.term)) _ w)))

@@ -1,10 +1,10 @@
 -- The truth of an instance, by its number.
-use Rattle.std.proofs.Common.{◌≡◌, ℕ, zero, suc, ◌+◌, ◌<◌, ◌≤◌, Bool, true, false, cond, ◌&&◌, List, [], ◌∷◌, ◌++◌, map, length, get_or, drop, Option, Some, None, refl, sym, ◌∙◌, ap, arith, find, append_assoc, append-nil}
+use Rattle.std.proofs.Common.{◌≡◌, ℕ, zero, suc, ◌+◌, ◌<◌, ◌≤◌, Bool, true, false, cond, ◌&&◌, List, [], ◌∷◌, ◌++◌, map, length, get_or, drop, Option, Some, refl, sym, ◌∙◌, ap, arith, find, append_assoc, append-nil}
 use Rattle.std.specs.Prelude.{position, slice_index_or}
 use Rattle.std.specs.List.{slice_get}
 use Rattle.std.proofs.lemmas.List.Quantifiers.{position-Some}
 use Rattle.pb_carriers.specs.Carrier as carriers
-use Rattle.pb_carriers.specs.Carrier.{Tuple, Value, is_within}
+use Rattle.pb_carriers.specs.Carrier.{Tuple, Value}
 use Rattle.pb_sorts.specs.declared.carrier.Carrier.{Carrier}
 use Rattle.pb_sorts.specs.Layout.{carriers_of}
 use Rattle.pb_sorts.specs.Instance as numbered
@@ -45,10 +45,6 @@ and_twice : (a b : Bool) → (a && (a && b)) ≡ (a && b)
 and_twice true b = refl
 and_twice false b = refl
 
-and_none : (a : Bool) → (a && false) ≡ false
-and_none true = refl
-and_none false = refl
-
 abbrev at_place : ℕ → Tuple → numbered.Instance
 at_place k vs = record { equation = k; values = vs }
 
@@ -58,11 +54,6 @@ called S truths x vs k e =
     let here = is_tuple_of (slice_get (all_carriers S) k) vs in
     ap (λ (b : Bool). b && truth_of (all_carriers S) truths (place_named S.equations x) vs) (fits_there S (λ X. same_name X.name x) S.equations vs k e)
     ∙ (ap (λ (o : Option ℕ). here && truth_of (all_carriers S) truths o vs) e ∙ and_twice here (slice_index_or truths (number_of (all_carriers S) (at_place k vs)) false))
-
-pub not_called : (S : Spec) (truths : List Bool) (x : Name) (vs : Tuple) → place_named S.equations x ≡ None → call_truth S (environment_of S truths) (record { name = x; values = vs }) ≡ false
-not_called S truths x vs e =
-    let i : Instance = record { name = x; values = vs } in
-    ap (λ (o : Option ℕ). formula.is_instance S i && truth_of (all_carriers S) truths o vs) e ∙ and_none (formula.is_instance S i)
 
 -- ---- numbers
 

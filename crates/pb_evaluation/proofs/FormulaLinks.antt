@@ -1,5 +1,5 @@
 -- The truth of a chain, link by link, and why its operands fit.
-use Rattle.std.proofs.Common.{◌≡◌, ℕ, zero, suc, ◌+◌, ◌<◌, Bool, List, [], ◌∷◌, length, get_or, drop, refl, sym, ◌∙◌, ap, arith, subst}
+use Rattle.std.proofs.Common.{◌≡◌, ℕ, zero, suc, ◌<◌, Bool, List, [], ◌∷◌, length, get_or, refl, sym, ◌∙◌, ap, arith, subst}
 use Rattle.std.specs.Prelude.{⊤}
 use Rattle.pb_fixpoint.specs.Solution.{Environment}
 use Rattle.pb_text_tree.specs.declared.operator.Connective.{Connective}
@@ -12,7 +12,6 @@ use Rattle.pb_text_meaning.specs.Formula.{Instance, truth}
 use Rattle.pb_text_meaning.specs.Erase.{joined, erased_formula}
 use Rattle.pb_text_meaning.specs.Fits.{FormulaFits}
 use Rattle.pb_evaluation.specs.Connective.{connected_truth}
-use Rattle.pb_evaluation.proofs.Links.{drop_link}
 
 -- the truth of a form
 abbrev pub truth_of : Spec → Assignment → Environment Instance → FormulaForm → Bool
@@ -53,8 +52,3 @@ pub link_fits : (S : Spec) (a : Assignment) (links : List Link) (k : ℕ) (link 
 link_fits S a [] k link f lt at = absurd (omega arith)
 link_fits S a (l ∷ links) zero link f lt at = subst (λ (m : Link). FormulaFits S a (erased_formula (formula_form m.operand))) (sym at) f.0
 link_fits S a (l ∷ links) (suc k) link f lt at = link_fits S a links k link f.1 (omega arith) at
-
--- the links from a place on
-pub chain_truth-drop : (S : Spec) (a : Assignment) (t : Environment Instance) (c : Connective) (x : Bool) (links : List Link) (k : ℕ) (link : Link) → k < length links → link ≡ get_or links k link
-    → chain_truth S a t c x (drop k links) ≡ connected_truth c x (chain_truth S a t c (truth_of S a t (formula_form link.operand)) (drop (k + 1) links))
-chain_truth-drop S a t c x links k link lt at = ap (chain_truth S a t c x) (drop_link links k link lt at)

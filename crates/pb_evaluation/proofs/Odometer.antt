@@ -76,12 +76,6 @@ none-join : (q : Quantifier) (x : Bool) → join q (not (deciding q)) x ≡ x
 none-join Forall x = refl
 none-join Exists x = refl
 
-pub join-decided : (q : Quantifier) (x y : Bool) → x ≡ deciding q → join q x y ≡ x
-join-decided Forall true y e = cc
-join-decided Forall false y e = refl
-join-decided Exists true y e = refl
-join-decided Exists false y e = cc
-
 pub join-undecided : (q : Quantifier) (x y : Bool) → x ≢ deciding q → join q x y ≡ y
 join-undecided Forall true y ne = refl
 join-undecided Forall false y ne = absurd (ne refl)
@@ -336,9 +330,6 @@ goes_on S q xs bs cs p a holds now is undecided next = record {
   same = sym (stepped S q xs bs cs p a now.are now.within next)
       ∙ (sym (join-undecided q (p (bound bs a)) (after S q xs bs p a) (λ e. undecided (is ∙ e))) ∙ now.same);
 }
-
-pub is_decided : (S : Spec) (q : Quantifier) (xs : List Variable) (bs : List Binding) (p : Assignment → Bool) (a : Assignment) (holds : Bool) → IsUnderWay S q xs bs p a → holds ≡ p (bound bs a) → holds ≡ deciding q → holds ≡ quantified S q xs p a
-is_decided S q xs bs p a holds now is e = is ∙ (sym (join-decided q (p (bound bs a)) (after S q xs bs p a) (sym is ∙ e)) ∙ now.same)
 
 pub is_ended : (S : Spec) (q : Quantifier) (xs : List Variable) (bs : List Binding) (p : Assignment → Bool) (a : Assignment) (holds : Bool) → IsUnderWay S q xs bs p a → holds ≡ p (bound bs a) → AreLast bs → holds ≡ quantified S q xs p a
 is_ended S q xs bs p a holds now is last =

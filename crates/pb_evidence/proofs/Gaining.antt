@@ -67,9 +67,6 @@ pub record IsKeptBefore (g : Game) (s : Solution) (v k u : ℕ) : Type 0 where
   pub there : get_or (successors_of g v) place 0 ≡ u
   pub kept : IsKept g s v u
 
-pub kept_none : (g : Game) (s : Solution) (v : ℕ) (f : Found) → IsFound f → Gains (IsKeptBefore g s v 0) f f
-kept_none g s v f is = gains_none (IsKeptBefore g s v 0) f is (λ u h. let none = h.before in omega arith)
-
 later : (g : Game) (s : Solution) (v k u : ℕ) → IsKeptBefore g s v k u → IsKeptBefore g s v (k + 1) u
 later g s v k u h = record { place = h.place; before = (let b = h.before in omega arith); there = h.there; kept = h.kept }
 

@@ -2,7 +2,6 @@
 use Rattle.std.proofs.Common.{◌≡◌, ℕ, ◌+◌, ◌<◌, ◌≤◌, Bool, List, [], ◌∷◌, ◌++◌, length, get_or, inl, inr, sym, ap, ◌∙◌, subst, arith}
 use Rattle.std.specs.Prelude.{Contains}
 use Rattle.std.proofs.lemmas.Bool.{cases_eq}
-use Rattle.std.proofs.lemmas.List.Sums.{count_by-le-length}
 use Rattle.pb_game.specs.declared.Game.{Game}
 use Rattle.pb_game.specs.Games.{vertex_count}
 use Rattle.pb_game_certificate.specs.declared.Solution.{Solution}
@@ -23,10 +22,6 @@ pub record IsSearching (g : Game) (s : Solution) (marks : List Bool) (v k : ℕ)
   pub some : (u : ℕ) → Contains f.vertices.items u → LeadsTo g s marks v u
   pub first : (u : ℕ) → IsKept g s v u → Contains f.vertices.items u
   pub done : (j : ℕ) → j < k → IsOpen g marks (get_or f.vertices.items j 0) → (w : ℕ) → IsKept g s (get_or f.vertices.items j 0) w → Contains f.vertices.items w
-
--- as many are found as are marked
-pub few_found : (f : Found) → IsFound f → length f.vertices.items ≤ length f.marks.items
-few_found f is = let counted = is.counted in omega (arith, count_by-le-length (λ (b : Bool). b) f.marks.items)
 
 module _ (g : Game) (s : Solution) (marks : List Bool) (v : ℕ) where
   pub search_start : (old new : Found) → old.vertices.items ≡ [] → length old.marks.items ≡ vertex_count g →

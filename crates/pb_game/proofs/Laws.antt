@@ -15,7 +15,7 @@ first_successor g v h =
     let xs = row g.places.items g.successors.items v in
     (get_or xs 0 0, contains_at xs (get_or xs 0 0) 0 (record { within = omega (arith, size, g.well_formed.total v h); there = refl }))
 
-successors_closed : (g : Game) (v u : ℕ) → v < vertex_count g → HasEdge g v u → u < vertex_count g
+pub successors_closed : (g : Game) (v u : ℕ) → v < vertex_count g → HasEdge g v u → u < vertex_count g
 unfolding vertex_count successors_of
 successors_closed g v u h edge =
     let k = contains_place (row g.places.items g.successors.items v) u edge in

@@ -60,12 +60,6 @@ pub player-other : (b : Bool) → player (not b) ≢ player b
 player-other true h = cc
 player-other false h = cc
 
-pub player-same : (a b : Bool) → player a ≡ player b → a ≡ b
-player-same true true h = refl
-player-same true false h = cc
-player-same false true h = cc
-player-same false false h = refl
-
 -- of no operands, the player's own bracket has the other value, and the other player's has the player's
 pub of_none-choosing : (b : Bool) → of_none (choosing b) ≡ not b
 of_none-choosing true = refl

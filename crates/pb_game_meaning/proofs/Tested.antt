@@ -4,7 +4,6 @@ use Rattle.std.specs.Prelude.{Contains, slice_get, nat_lt, ◌==◌, if◌then�
 use Rattle.std.proofs.lemmas.Bool.{false≢true, and_parts, or_cases, cases_Bool, cases_lt, lt-ltb, le-ltb, ltb-true, eqb-true, eqb-false, eq-eqb, cond-true}
 use Rattle.pb_trees.specs.Game.{Vertex}
 use Rattle.pb_game_certificate.specs.Certificates.{Decreases, IsSame, IsProgress}
-use Rattle.pb_game_meaning.proofs.Lexicographic.{IsLess}
 use Rattle.pb_trees.proofs.Members.{Among, among_of_contains, contains_of_among}
 use Rattle.pb_game_meaning.proofs.Counts.{losing_counts}
 
@@ -20,14 +19,6 @@ is_equal [] [] = true
 is_equal [] (y ∷ ys) = false
 is_equal (x ∷ xs) [] = false
 is_equal (x ∷ xs) (y ∷ ys) = x == y && is_equal xs ys
-
-less_of_test : (xs ys : List ℕ) → is_less xs ys ≡ true → IsLess xs ys
-less_of_test [] ys h = false≢true h
-less_of_test (x ∷ xs) [] h = false≢true h
-less_of_test (x ∷ xs) (y ∷ ys) h = elim (or_cases (nat_lt x y) (x == y && is_less xs ys) h) [
-  | inl l ↦ inl (ltb-true x y l)
-  | inr e ↦ let both = and_parts (x == y) (is_less xs ys) e in inr (eqb-true x y both.0, less_of_test xs ys both.1)
-]
 
 module _ (from to : ℕ → ℕ) (winner p : ℕ) where
   -- with one priority more, at which the counts are equal where it is the loser's

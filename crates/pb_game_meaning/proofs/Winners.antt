@@ -1,9 +1,10 @@
 -- A certificate of a game of rows is one over the list of its vertices, and so its winners are the solution's values.
-use Rattle.std.proofs.Common.{◌≡◌, ℕ, zero, suc, ◌<◌, List, [], ◌∷◌, length, Some, refl, sym, ap, ◌∙◌, subst, inl, inr, arith}
+use Rattle.std.proofs.Common.{◌≡◌, ℕ, List, Some, refl, sym, ap, ◌∙◌, subst, inl, inr, arith}
 use Rattle.std.specs.Prelude.{Contains, slice_get, slice_index, ◌==◌}
 use Rattle.std.proofs.lemmas.Bool.{cases_Bool}
 use Rattle.std.proofs.Math.Bool.{Bool-set}
 use Rattle.std.proofs.Math.Logic.{∥∥₁_elim}
+use Rattle.std.proofs.lemmas.Option.{slice_get_within}
 use Rattle.pb_game.specs.declared.Game.{Game}
 use Rattle.pb_game.specs.Games.{priority_count}
 use Rattle.pb_game_certificate.specs.declared.Solution.{Solution}
@@ -17,14 +18,9 @@ use Rattle.pb_game_meaning.proofs.Players.{player}
 use Rattle.pb_game_meaning.proofs.Local.{KeptEdge}
 use Rattle.pb_game_meaning.proofs.Certified.{IsCertified, value_at}
 
-within : {A : Type 0} (xs : List A) (k : ℕ) (x : A) → slice_get xs k ≡ Some x → k < length xs
-within [] k x h = cc
-within (y ∷ ys) zero x h = omega arith
-within (y ∷ ys) (suc k) x h = let below = within ys k x h in omega arith
-
 module _ (g : Game) (s : Solution) (vertices : List Vertex) (has : HasVertices g vertices) (is : IsCertificate g s) where
   pub at_vertex : (v : ℕ) (x : Vertex) → slice_get vertices v ≡ Some x → IsCertifiedAt g s v
-  at_vertex v x h = is.vertices v (let below = within vertices v x h in let count = has.count in omega arith)
+  at_vertex v x h = is.vertices v (let below = slice_get_within vertices v x h in let count = has.count in omega arith)
 
   pub kept_there : (v w : ℕ) → (k : KeptEdge vertices (winner_of s) (choice_of s) v w) → IsKept g s v w
   kept_there v w k =

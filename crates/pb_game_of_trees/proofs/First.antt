@@ -116,13 +116,6 @@ tree_first : (tree : Tree) (t : Token) → slice_get (tree_tokens tree) 0 ≡ So
 tree_first (Single l) t e = let same : leaf_token l ≡ t = cc in sym (role-leaf l) ∙ ap role same
 tree_first (Root c f) t e = let same : opening c ≡ t = cc in sym (role-opening c) ∙ ap role same
 
-closes_no_tree : (tree : Tree) → tree_role tree ≡ Closes → ⊥
-closes_no_tree (Single l) h = cc
-closes_no_tree (Root c f) h = cc
-
-pub never_closes : (tree : Tree) → slice_get (tree_tokens tree) 0 ≡ Some token.Close → ⊥
-never_closes tree e = closes_no_tree tree (tree_first tree token.Close e)
-
 pub record IsRoot (c : Connective) (tree : Tree) : Type 0 where
   pub operands : Operands
   pub is : tree ≡ Root c operands

@@ -1,7 +1,5 @@
 -- The rows that the program holds, one after the other.
-use Rattle.std.proofs.Common.{◌≡◌, ℕ, zero, suc, ◌+◌, ◌-◌, ◌<◌, ◌≤◌, List, [], ◌∷◌, ◌++◌, length, get_or, take, drop, count_by, Contains, map, refl, sym, ap, ◌∙◌, subst, add-one, inl, inr, arith}
-use Rattle.std.specs.List.Sorted.{IsStrictlyIncreasing}
-use Rattle.std.proofs.lemmas.Bool.{cases_eq}
+use Rattle.std.proofs.Common.{◌≡◌, ℕ, zero, suc, ◌+◌, ◌-◌, ◌<◌, ◌≤◌, List, [], ◌∷◌, ◌++◌, length, get_or, take, drop, count_by, Contains, map, refl, sym, ap, ◌∙◌, subst, arith}
 use Rattle.std.proofs.lemmas.List.{get_or-map}
 use Rattle.pb_trees.specs.Rows.{Row}
 use Rattle.pb_trees.specs.Tree.{Tree}
@@ -73,15 +71,6 @@ pub number_at : (rows : List in_memory.Row) (plain : List Row) (k : ℕ) (d : in
     (get_or rows k d).number ≡ get_or (numbers plain) k 0
 number_at rows plain k d hold l =
     sym (ap (λ (ns : List ℕ). get_or ns k 0) (numbers_of rows plain hold) ∙ get_or-map number rows k d 0 l)
-
-pub rising_far : (xs : List ℕ) → IsStrictlyIncreasing xs → (i j : ℕ) → i < j → j < length xs → get_or xs i 0 < get_or xs j 0
-rising_far xs h i zero l m = absurd (omega arith)
-rising_far xs h i (suc j) l m =
-    let step : get_or xs j 0 < get_or xs (suc j) 0 = rw (add-one j) at (h j (omega arith)) in
-    elim (cases_eq i j) [
-      | inl e ↦ let first : get_or xs i 0 ≡ get_or xs j 0 = ap (λ (k : ℕ). get_or xs k 0) e in omega arith
-      | inr ne ↦ let earlier = rising_far xs h i j (omega arith) (omega arith) in omega arith
-    ]
 
 -- ---- from the last row to the first
 

@@ -4,12 +4,12 @@ use Rattle.std.specs.Prelude.{◌==◌}
 use Rattle.std.specs.List.Sorted.{IsStrictlyIncreasing}
 use Rattle.std.proofs.lemmas.Bool.{cases_Bool, eqb-true, eqb-false, cond-true, cond-false}
 use Rattle.std.proofs.lemmas.List.{get_or-map, length-map, get_or_default, same_lists}
+use Rattle.pb_game.proofs.Rising.{rising_lt}
 use Rattle.pb_trees.specs.Tree.{Connective, Leaf, Yes, No, Cut, Call, Operands, End, LeafThen, BracketThen, Tree, Single, Root, LeafCalls, OperandsCall, TreeCalls}
 use Rattle.pb_trees.specs.Rows.{Row, IsReached}
 use Rattle.pb_trees.specs.Game.{Vertex, brackets, inner, vertex_from, vertex_of, target, targets, rising_or, sink_of, owner_of, bracket_vertex, inner_vertices, tree_vertices, row_vertices}
 use Rattle.pb_trees.proofs.Lengths.{length-tree_vertices}
 use Rattle.pb_game_of_trees.specs.Places.{vertex_behind, vertices_from, numbers}
-use Rattle.pb_game_of_trees.proofs.Rows.{rising_far}
 
 -- ---- vertices of numbers
 
@@ -43,7 +43,7 @@ vertex_from-at (row ∷ rows) next zero r l = elim (cases_Bool (row.number == ro
 vertex_from-at (row ∷ rows) next (suc k) r l =
     let n = get_or (numbers rows) k 0 in
     let size : length (numbers rows) ≡ length rows = length-map rows (λ (x : Row). x.number) in
-    let less : row.number < n = rising_far (numbers (row ∷ rows)) r 0 (suc k) (omega arith) (omega arith) in
+    let less : row.number < n = rising_lt (numbers (row ∷ rows)) r 0 (suc k) (omega arith) (omega arith) in
     elim (cases_Bool (row.number == n)) [
       | inl e ↦ let same : row.number ≡ n = eqb-true row.number n e in absurd (omega arith)
       | inr e ↦

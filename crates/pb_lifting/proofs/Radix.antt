@@ -1,5 +1,5 @@
 -- Mixed radix: comparing ranks is comparing their counts, the highest priority first.
-use Rattle.std.proofs.Common.{◌≡◌, ◌≢◌, ◌⊎◌, ℕ, zero, suc, ◌+◌, ◌-◌, ◌*◌, ◌/◌, ◌%◌, ◌<◌, ◌≤◌, ◌==◌, if◌then◌else◌, List, [], ◌∷◌, ◌++◌, length, length-append, sym, refl, ap, ◌∙◌, subst, inl, inr, ⊎_elim, div-add-mod', mul-pos, mul_assoc, mul_comm, add-mul, add_assoc, one-mul, arith}
+use Rattle.std.proofs.Common.{◌≡◌, ◌≢◌, ◌⊎◌, ℕ, zero, suc, ◌+◌, ◌-◌, ◌*◌, ◌/◌, ◌%◌, ◌<◌, ◌≤◌, ◌==◌, if◌then◌else◌, [], ◌∷◌, length, length-append, sym, refl, ap, ◌∙◌, subst, inl, inr, ⊎_elim, div-add-mod', mul-pos, mul_assoc, mul_comm, add-mul, add_assoc, one-mul, arith}
 use Rattle.std.proofs.lemmas.Nat.{mul-le, mul-add-lt, mod-mul-add, div-mul-add, div_below, le-div, mod_below}
 use Rattle.std.proofs.Math.Nat.{mul-add-div_right}
 use Rattle.std.specs.Prelude.{slice_index}
@@ -7,6 +7,7 @@ use mathlib.Core.Logic.{dite}
 use native.Mathlib.Decide.{ℕ_discrete}
 use Rattle.pb_game_certificate.specs.Certificates.{Decreases, IsSame, IsProgress}
 use Rattle.pb_lifting.specs.Radix.{unit, units, count_in, step_up}
+use Rattle.pb_lifting.proofs.Lists.{push_front, push_here}
 
 -- the counts can't decrease both ways
 one_way : (f t : ℕ → ℕ) (w p limit : ℕ) → Decreases f t w p limit → Decreases t f w p limit → ⊥
@@ -70,17 +71,6 @@ apart a b ne = ⊎_elim (λ (l : a ≤ b). inl (omega arith)) (λ (l : b < a). i
     le_or_lt (suc a) zero = inr (omega arith)
     le_or_lt (suc a) (suc b) = ⊎_elim (λ h. inl (omega arith)) (λ h. inr (omega arith)) (le_or_lt a b)
 
-at_front : (xs : List ℕ) (x q : ℕ) → q < length xs → slice_index (xs ++ x ∷ []) q ≡ slice_index xs q
-at_front [] x q h = absurd (omega arith)
-at_front (y ∷ ys) x zero h = refl
-at_front (y ∷ ys) x (suc q) h = at_front ys x q (omega arith)
-
-at_end : (xs : List ℕ) (x q : ℕ) → q ≡ length xs → slice_index (xs ++ x ∷ []) q ≡ x
-at_end [] x zero h = refl
-at_end [] x (suc q) h = absurd (omega arith)
-at_end (y ∷ ys) x zero h = absurd (omega arith)
-at_end (y ∷ ys) x (suc q) h = at_end ys x q (omega arith)
-
 pub units_length : (base : ℕ → ℕ) (w : ℕ) → length (units base w) ≡ w + 1
 units_length base zero = refl
 units_length base (suc w) = let r = units_length base w in omega (arith, length-append (units base w) (unit base (suc w) ∷ []))
@@ -88,8 +78,8 @@ units_length base (suc w) = let r = units_length base w in omega (arith, length-
 pub units_at : (base : ℕ → ℕ) (w q : ℕ) → q ≤ w → slice_index (units base w) q ≡ unit base q
 units_at base zero q h = let e : q ≡ 0 = omega arith in ap (slice_index (1 ∷ [])) e ∙ sym (ap (unit base) e)
 units_at base (suc w) q h = let l = units_length base w in dite (ℕ_discrete q (suc w))
-    (λ e. at_end (units base w) (unit base (suc w)) q (omega arith) ∙ sym (ap (unit base) e))
-    (λ ne. at_front (units base w) (unit base (suc w)) q (omega arith) ∙ units_at base w q (omega arith))
+    (λ e. push_here (units base w) (unit base (suc w)) q (omega arith) ∙ sym (ap (unit base) e))
+    (λ ne. push_front (units base w) (unit base (suc w)) q (omega arith) ∙ units_at base w q (omega arith))
 
 -- the bases are positive, and 1 where the priority has the player's parity
 module _ (base : ℕ → ℕ) (player width : ℕ) (positive : (q : ℕ) → 0 < base q) (one : (q : ℕ) → q % 2 ≡ player → base q ≡ 1) where

@@ -1,8 +1,9 @@
 -- In a well-typed specification the numbers, slots, callees and enumerators of each normal form are bounded.
-use Rattle.std.proofs.Common.{◌≡◌, ℕ, zero, suc, ◌+◌, ◌<◌, ◌≤◌, ◌^◌, Bool, true, false, not, ◌&&◌, ◌||◌, if◌then◌else◌, List, [], ◌∷◌, length, Option, Some, None, pos, int_le, refl, ◌∙◌, ap, arith, tests, codes}
+use Rattle.std.proofs.Common.{◌≡◌, ℕ, zero, suc, ◌+◌, ◌<◌, ◌≤◌, ◌^◌, Bool, true, false, not, ◌&&◌, ◌||◌, if◌then◌else◌, List, [], ◌∷◌, length, Option, Some, None, pos, int_le, refl, arith, tests, codes}
 use Rattle.std.specs.Prelude.{nat_lt, nat_le}
 use Rattle.std.specs.List.{All}
 use Rattle.std.proofs.lemmas.Int.{ints}
+use Rattle.std.proofs.lemmas.Bool.{and_from}
 use Rattle.pb_intervals.specs.Interval.{is_within, singleton, literals}
 use Rattle.pb_intervals.proofs.Ends.{le_true}
 use Rattle.pb_text_meaning.specs.Syntax as syntax
@@ -28,9 +29,6 @@ use Rattle.pb_normal.proofs.LoopSlots.{length-loops}
 use Rattle.pb_normal.proofs.Parameters.{free-parameters}
 use Rattle.pb_normal.proofs.Structs.{enumerator_known, recogniser_known, position-there}
 use Rattle.pb_normal.proofs.Truth.{more-free, free-with}
-
-pub both : (b c : Bool) → b ≡ true → c ≡ true → b && c ≡ true
-both b c h k = ap (λ d. d && c) h ∙ k
 
 pub is-below : (s n : ℕ) → s < n → nat_lt s n ≡ true
 is-below s n h = grind (arith, tests)
@@ -83,7 +81,7 @@ module _ (spec : Spec) (slots : ℕ) where
   recognised-fits : (f : Name) (o : Option Position) (x : Term) → recogniser_of spec f ≡ o → Fits x → Fits (made.recognised o x)
   recognised-fits f None x e h = refl
   recognised-fits f (Some p) x e h =
-      both (has_enumerator (struct_counts spec.sorts) p.sort p.place) (is_bounded bounds x) (position-there (struct_counts spec.sorts) p (recogniser_known spec f p e)) h
+      and_from (has_enumerator (struct_counts spec.sorts) p.sort p.place) (is_bounded bounds x) (position-there (struct_counts spec.sorts) p (recogniser_known spec f p e)) h
 
   one-fits : (f : Name) (x : Term) → Fits x → Fits (applied_to_one spec f x)
   one-fits f x h =
@@ -95,13 +93,13 @@ module _ (spec : Spec) (slots : ℕ) where
 
   two-fits : (f : Name) (x y : Term) → Fits x → Fits y → Fits (applied_to_two f x y)
   two-fits f x y h k =
-      let xy = both (is_bounded bounds x) (is_bounded bounds y) h k in
+      let xy = and_from (is_bounded bounds x) (is_bounded bounds y) h k in
       choose-fits (same_name f (codes "max")) _ _ xy (choose-fits (same_name f (codes "min")) _ _ xy zero-fits)
 
   three-fits : (f : Name) (x y z : Term) → Fits x → Fits y → Fits z → Fits (applied_to_three f x y z)
   three-fits f x y z h k l =
       choose-fits (same_name f (codes "if")) _ _
-      (both (is_bounded bounds x) (is_bounded bounds y && is_bounded bounds z) h (both (is_bounded bounds y) (is_bounded bounds z) k l)) zero-fits
+      (and_from (is_bounded bounds x) (is_bounded bounds y && is_bounded bounds z) h (and_from (is_bounded bounds y) (is_bounded bounds z) k l)) zero-fits
 
   abbrev AllFit : List Term → Type 0
   AllFit [] = Unit {0}
@@ -126,7 +124,7 @@ module _ (spec : Spec) (slots : ℕ) where
     slotted-fits c inside stands scope (syntax.Term.Not x) h = slotted-fits c inside stands scope x h.0
     slotted-fits c inside stands scope (syntax.Term.Negative x) h = slotted-fits c inside false scope x h.0
     slotted-fits c inside stands scope (syntax.Term.Binary o x y) h =
-        both (is_bounded bounds (slotted spec c x)) (is_bounded bounds (slotted spec c y))
+        and_from (is_bounded bounds (slotted spec c x)) (is_bounded bounds (slotted spec c y))
         (slotted-fits c inside (passes (kind_of o) stands) scope x h.0) (slotted-fits c inside (passes (kind_of o) stands) scope y h.1)
     slotted-fits c inside stands scope (syntax.Term.Apply f xs) h = applied-fits f (slotted_all spec c xs) (slotted-all-fit c inside scope xs h.0)
     slotted-fits c inside stands scope (syntax.Term.Quantified q xs x) h = refl
@@ -152,7 +150,7 @@ module _ (spec : Spec) (slots : ℕ) where
   each-fits : (m : Bool) (xs : List Variable) (w : ℕ) (body : Slotting → ℕ → Formula) → Takes w body → Takes (length xs + w) (λ c n. each spec m xs c n body)
   each-fits m [] w body h c n free room = h c n free (omega (arith, room))
   each-fits m (x ∷ xs) w body h c n free room =
-      both (nat_lt n slots) (is_bounded_formula bounds (each spec m xs (with_slot x.name n c) (suc n) body)) (is-below n slots (omega (arith, room)))
+      and_from (nat_lt n slots) (is_bounded_formula bounds (each spec m xs (with_slot x.name n c) (suc n) body)) (is-below n slots (omega (arith, room)))
       (each-fits m xs w body h (with_slot x.name n c) (suc n) (free-with c n x.name free) (omega (arith, room)))
 
   data-fits : (stands : Bool) (typed : Scope) (x : syntax.Term) → IsTyped spec stands typed x → IsFitting (syntax.Formula.Val x)
@@ -162,7 +160,7 @@ module _ (spec : Spec) (slots : ℕ) where
   join-fits : (v w : ℕ) (f g : Slotting → ℕ → Formula) (c : Slotting) (n : ℕ) → Takes v f → Takes w g → AreFree c n → n + (v + w) ≤ slots
       → is_bounded_formula bounds (f c n) && is_bounded_formula bounds (g c (n + v)) ≡ true
   join-fits v w f g c n h k free room =
-      both (is_bounded_formula bounds (f c n)) (is_bounded_formula bounds (g c (n + v))) (h c n free (omega (arith, room)))
+      and_from (is_bounded_formula bounds (f c n)) (is_bounded_formula bounds (g c (n + v))) (h c n free (omega (arith, room)))
       (k c (n + v) (more-free c n (n + v) (omega arith) free) (omega (arith, room)))
 
   choose-fitting : (b : Bool) (f g : syntax.Formula) → IsFitting f → IsFitting g → IsFitting (if b then f else g)
@@ -200,11 +198,11 @@ module _ (spec : Spec) (slots : ℕ) where
   arguments-fit : (c : Slotting) → InScope c → (scope typed : Scope) (es : Terms) → AreTyped spec typed es → are_bounded bounds (arguments spec c scope es) ≡ true
   arguments-fit c inside scope typed Terms.NoTerms h = refl
   arguments-fit c inside scope typed (Terms.Then x xs) h =
-      both (is_bounded bounds (slotted spec c x)) (are_bounded bounds (arguments spec c scope xs)) (slotted-fits c inside false typed x h.0) (arguments-fit c inside scope typed xs h.1)
+      and_from (is_bounded bounds (slotted spec c x)) (are_bounded bounds (arguments spec c scope xs)) (slotted-fits c inside false typed x h.0) (arguments-fit c inside scope typed xs h.1)
 
   call-fits : (x : Name) (o : Option ℕ) (es : List Argument) → place_of 0 spec.equations x ≡ o → are_bounded bounds es ≡ true → FormulaFits (call o es)
   call-fits x None es e h = refl
-  call-fits x (Some k) es e h = both (nat_lt k (length spec.equations)) (are_bounded bounds es) (is-below k (length spec.equations) (let l = place-below 0 spec.equations x k e in omega (arith, l))) h
+  call-fits x (Some k) es e h = and_from (nat_lt k (length spec.equations)) (are_bounded bounds es) (is-below k (length spec.equations) (let l = place-below 0 spec.equations x k e in omega (arith, l))) h
 
   -- ---- formulas
 

@@ -1,27 +1,27 @@
 mod Expanded
 mod Slotted
 mod Truth
-mod Views
+pub mod Views
 mod Quantifiers
 mod DataLemmas
 mod NormalChains
-mod SlotLemmas
+pub mod SlotLemmas
 mod LinkCount
 mod ValueLemmas
 mod ValueSteps
 mod FormulaSteps
-mod Shaped
-mod Accepted
+pub mod Shaped
+pub mod Accepted
 mod Positive
 mod Plain
 mod Parameters
-mod Equations
+pub mod Equations
 pub mod Sequences
 mod Answer
 mod Kept
 mod SlotLaws
 pub mod Structs
-mod LoopSlots
+pub mod LoopSlots
 mod Bounds
 mod SmallForms
 mod Calls

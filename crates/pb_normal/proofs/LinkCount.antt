@@ -1,5 +1,6 @@
 -- The links of a chain up to the last that has a quantifier.
 use Rattle.std.proofs.Common.{◌≡◌, ℕ, zero, suc, ◌<◌, ◌≤◌, Bool, true, false, cond, ◌||◌, List, [], ◌∷◌, length, get_or, drop, refl, sym, ◌∙◌, ap, arith}
+use Rattle.std.proofs.lemmas.Bool.{or_right}
 use Rattle.pb_text_tree.specs.declared.term.TermLink.{TermLink}
 use Rattle.pb_normal.specs.Links.{links_have_quantifier, quantified_count}
 use Rattle.pb_normal.proofs.Quantifiers.{quantified}
@@ -38,14 +39,10 @@ no-link : (links : List TermLink) → has links ≡ false → quantified_count l
 no-link [] e = refl
 no-link (l ∷ ls) e = ap (λ (b : Bool). cond b (suc (quantified_count ls)) 0) e
 
-or-right : (b c : Bool) → c ≡ true → (b || c) ≡ true
-or-right true c e = refl
-or-right false c e = e
-
 has-at : (links : List TermLink) (k : ℕ) (link : TermLink) → k < length links → link ≡ get_or links k link → quantified link.operand ≡ true → has links ≡ true
 has-at [] k link below at h = absurd (omega (arith, below))
 has-at (l ∷ ls) zero link below at h = ap (λ (m : TermLink). quantified m.operand || has ls) (sym at) ∙ ap (λ (b : Bool). b || has ls) h
-has-at (l ∷ ls) (suc k) link below at h = or-right (quantified l.operand) (has ls) (has-at ls k link (omega (arith, below)) at h)
+has-at (l ∷ ls) (suc k) link below at h = or_right (quantified l.operand) (has ls) (has-at ls k link (omega (arith, below)) at h)
 
 -- the count ends at the last link that has one
 pub count_is : (links : List TermLink) (k : ℕ) (link : TermLink) → k < length links → link ≡ get_or links k link → quantified link.operand ≡ true → has (drop (suc k) links) ≡ false → quantified_count links ≡ suc k

@@ -35,11 +35,11 @@ numbered-append n (s ∷ ss) ts =
     let next : suc n + length ss ≡ n + suc (length ss) = omega arith in
     ap (λ (qs : List (ℕ × Shape)). (n, s) ∷ qs) (numbered-append (suc n) ss ts ∙ ap (λ (a : ℕ). numbered (suc n) ss ++ numbered a ts) next)
 
-test-quantifiers : (even : Bool) (x : Term) → quantifiers (signed_test even x) ≡ []
+pub test-quantifiers : (even : Bool) (x : Term) → quantifiers (signed_test even x) ≡ []
 test-quantifiers true x = refl
 test-quantifiers false x = refl
 
-call-quantifiers : (o : Option ℕ) (es : List Argument) → quantifiers (call o es) ≡ []
+pub call-quantifiers : (o : Option ℕ) (es : List Argument) → quantifiers (call o es) ≡ []
 call-quantifiers None es = refl
 call-quantifiers (Some X) es = refl
 
@@ -54,7 +54,7 @@ each-quantifiers spec m [] body ss says c n = says c n
 each-quantifiers spec m (x ∷ xs) body ss says c n =
     ap (λ (qs : List (ℕ × Shape)). (n, sort_shape spec x.sort) ∷ qs) (each-quantifiers spec m xs body ss says (with_slot x.name n c) (suc n))
 
-normal-quantifiers : (spec : Spec) (f : syntax.Formula) (even : Bool) (scope : Scope) (c : Slotting) (n : ℕ) → quantifiers (normal spec even c scope n f) ≡ numbered n (loops spec f)
+pub normal-quantifiers : (spec : Spec) (f : syntax.Formula) (even : Bool) (scope : Scope) (c : Slotting) (n : ℕ) → quantifiers (normal spec even c scope n f) ≡ numbered n (loops spec f)
 normal-quantifiers spec (syntax.Formula.Truth b) even scope c n = test-quantifiers even (Term.Truth b)
 normal-quantifiers spec (syntax.Formula.Val x) even scope c n = test-quantifiers even (slotted spec c x)
 normal-quantifiers spec (syntax.Formula.Not f) even scope c n = normal-quantifiers spec f (not even) scope c n

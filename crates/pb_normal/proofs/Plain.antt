@@ -1,5 +1,6 @@
 -- In a well-typed formula whose data terms with quantifiers are read as formulas, no data term has a quantifier.
-use Rattle.std.proofs.Common.{◌≡◌, Bool, true, false, not, ◌||◌, if◌then◌else◌, refl, sym, ◌∙◌, ap, subst, true≢false}
+use Rattle.std.proofs.Common.{◌≡◌, Bool, true, false, not, ◌||◌, if◌then◌else◌, refl, sym, subst, true≢false}
+use Rattle.std.proofs.lemmas.Bool.{or_from}
 use Rattle.pb_text_meaning.specs.Syntax.{Operator, Term, Terms, Formula, Spec}
 use Rattle.pb_text_meaning.specs.Formula.{equation_named}
 use Rattle.pb_typing_rules.specs.Shapes.{OperatorKind, OfTruths, OfAlike, OfWholes, Computed, kind_of}
@@ -11,9 +12,6 @@ use Rattle.pb_normal.specs.Expansion.{has_quantifier, have_quantifier, connected
 use Rattle.pb_normal.specs.Plain.{IsPlain}
 
 -- ---- where no quantifier may stand
-
-neither : (b c : Bool) → b ≡ false → c ≡ false → b || c ≡ false
-neither b c h k = ap (λ d. d || c) h ∙ k
 
 passes-false : (k : OperatorKind) → passes k false ≡ false
 passes-false OfTruths = refl
@@ -30,7 +28,7 @@ mutual
   typed-plain spec scope (Term.Negative x) h = typed-plain spec scope x h.0
   typed-plain spec scope (Term.Binary o x y) h =
       let stands = passes-false (kind_of o) in
-      neither (has_quantifier x) (has_quantifier y)
+      or_from (has_quantifier x) (has_quantifier y)
       (typed-plain spec scope x (subst (λ (b : Bool). IsTyped spec b scope x) stands h.0))
       (typed-plain spec scope y (subst (λ (b : Bool). IsTyped spec b scope y) stands h.1))
   typed-plain spec scope (Term.Apply f xs) h = typed-all-plain spec scope xs h.0
@@ -38,7 +36,7 @@ mutual
 
   typed-all-plain : (spec : Spec) (scope : Scope) (xs : Terms) → AreTyped spec scope xs → have_quantifier xs ≡ false
   typed-all-plain spec scope Terms.NoTerms h = refl
-  typed-all-plain spec scope (Terms.Then x xs) h = neither (has_quantifier x) (have_quantifier xs) (typed-plain spec scope x h.0) (typed-all-plain spec scope xs h.1)
+  typed-all-plain spec scope (Terms.Then x xs) h = or_from (has_quantifier x) (have_quantifier xs) (typed-plain spec scope x h.0) (typed-all-plain spec scope xs h.1)
 
 -- ---- where one may
 
@@ -53,7 +51,7 @@ connected-plain : (spec : Spec) (stands : Bool) (scope : Scope) (o : Operator) (
 connected-plain spec stands scope Operator.And x y f g h k p q = (p, q)
 connected-plain spec stands scope Operator.Or x y f g h k p q = (p, q)
 connected-plain spec stands scope Operator.Implies x y f g h k p q = (p, q)
-connected-plain spec stands scope o x y f g h k p q = neither (has_quantifier x) (has_quantifier y) (typed-plain spec scope x h) (typed-plain spec scope y k)
+connected-plain spec stands scope o x y f g h k p q = or_from (has_quantifier x) (has_quantifier y) (typed-plain spec scope x h) (typed-plain spec scope y k)
 
 expanded-term-plain : (spec : Spec) (stands : Bool) (scope : Scope) (x : Term) → IsTyped spec stands scope x → IsPlain (expanded_term x)
 expanded-term-plain spec stands scope (Term.Truth b) h = refl

@@ -63,14 +63,8 @@ application t f v xs is are =
 pub links_next : (links : List TermLink) (k : ℕ) (link : TermLink) → k < length links → link ≡ get_or links k link → links_have_quantifier (drop k links) ≡ (quantified link.operand || links_have_quantifier (drop (k + 1) links))
 links_next links k link below at = ap links_have_quantifier (links-drop links k link below at)
 
-pub links_ended : (links : List TermLink) (k : ℕ) → length links ≤ k → links_have_quantifier (drop k links) ≡ false
-links_ended links k h = ap links_have_quantifier (links-ended links k h)
-
 pub arithmetic_next : (links : List ArithmeticLink) (k : ℕ) (link : ArithmeticLink) → k < length links → link ≡ get_or links k link → arithmetic_have_quantifier (drop k links) ≡ (quantified link.operand || arithmetic_have_quantifier (drop (k + 1) links))
 arithmetic_next links k link below at = ap arithmetic_have_quantifier (links-drop links k link below at)
-
-pub arithmetic_ended : (links : List ArithmeticLink) (k : ℕ) → length links ≤ k → arithmetic_have_quantifier (drop k links) ≡ false
-arithmetic_ended links k h = ap arithmetic_have_quantifier (links-ended links k h)
 
 abbrev pub arguments_quantified : List Argument → Bool
 arguments_quantified xs = have_quantifier (erased_arguments (argument_forms xs))

@@ -2,6 +2,7 @@
 use Rattle.std.proofs.Common.{◌≡◌, ℕ, zero, suc, ◌+◌, ◌<◌, ◌≤◌, ◌==◌, Bool, true, false, not, ◌&&◌, ◌||◌, if◌then◌else◌, List, [], ◌∷◌, ◌++◌, length, Option, Some, None, refl, sym, ◌∙◌, ap, subst, arith, tests, codes}
 use Rattle.std.specs.List.{All, range_with_len}
 use Rattle.std.specs.Prelude.{nat_lt, unwrap_or}
+use Rattle.std.proofs.lemmas.Bool.{or_from, and_from}
 use Rattle.pb_text_meaning.specs.Syntax as syntax
 use Rattle.pb_text_meaning.specs.Syntax.{Name, same_name, Variable, Terms, Equation, Spec}
 use Rattle.pb_typing_declarations.specs.Enumerators.{Position, enumerator_of, recogniser_of}
@@ -74,15 +75,9 @@ InScope c has_value = (x : Name) (s : ℕ) → c x ≡ Some s → has_value s �
 abbrev NoneFrom : ℕ → (ℕ → Bool) → Type 0
 NoneFrom n has_value = (s : ℕ) → n ≤ s → has_value s ≡ false
 
-both : (b c : Bool) → b ≡ true → c ≡ true → b && c ≡ true
-both b c h k = ap (λ d. d && c) h ∙ k
-
 either-right : (b c : Bool) → c ≡ true → b || c ≡ true
 either-right true c h = refl
 either-right false c h = h
-
-neither : (b c : Bool) → b ≡ false → c ≡ false → b || c ≡ false
-neither b c h k = ap (λ d. d || c) h ∙ k
 
 choose-reads : (known : ℕ → Bool) (b : Bool) (x y : Term) → reads_only known x ≡ true → reads_only known y ≡ true → reads_only known (if b then x else y) ≡ true
 choose-reads known true x y h k = h
@@ -110,13 +105,13 @@ one-reads spec known f x h =
 
 two-reads : (known : ℕ → Bool) (f : Name) (x y : Term) → reads_only known x ≡ true → reads_only known y ≡ true → reads_only known (applied_to_two f x y) ≡ true
 two-reads known f x y h k =
-    let xy = both (reads_only known x) (reads_only known y) h k in
+    let xy = and_from (reads_only known x) (reads_only known y) h k in
     choose-reads known (same_name f (codes "max")) _ _ xy (choose-reads known (same_name f (codes "min")) _ _ xy refl)
 
 three-reads : (known : ℕ → Bool) (f : Name) (x y z : Term) → reads_only known x ≡ true → reads_only known y ≡ true → reads_only known z ≡ true → reads_only known (applied_to_three f x y z) ≡ true
 three-reads known f x y z h k l =
     choose-reads known (same_name f (codes "if")) _ _
-    (both (reads_only known x && reads_only known y) (reads_only known z) (both (reads_only known x) (reads_only known y) h k) l) refl
+    (and_from (reads_only known x && reads_only known y) (reads_only known z) (and_from (reads_only known x) (reads_only known y) h k) l) refl
 
 abbrev AllRead : (ℕ → Bool) → List Term → Type 0
 AllRead known [] = Unit {0}
@@ -137,7 +132,7 @@ mutual
   slotted-reads spec c known inside (syntax.Term.Not x) = slotted-reads spec c known inside x
   slotted-reads spec c known inside (syntax.Term.Negative x) = slotted-reads spec c known inside x
   slotted-reads spec c known inside (syntax.Term.Binary o x y) =
-      both (reads_only known (slotted spec c x)) (reads_only known (slotted spec c y)) (slotted-reads spec c known inside x) (slotted-reads spec c known inside y)
+      and_from (reads_only known (slotted spec c x)) (reads_only known (slotted spec c y)) (slotted-reads spec c known inside x) (slotted-reads spec c known inside y)
   slotted-reads spec c known inside (syntax.Term.Apply f xs) = applied-reads spec known f (slotted_all spec c xs) (slotted-all-read spec c known inside xs)
   slotted-reads spec c known inside (syntax.Term.Quantified q xs x) = refl
 
@@ -177,7 +172,7 @@ in-scope-next c known y n inside x s e = by-name (same_name y x) e
     by-name false e = either-right (s == n) (known s) (inside x s e)
 
 none-next : (known : ℕ → Bool) (n : ℕ) → NoneFrom n known → NoneFrom (suc n) (λ k. k == n || known k)
-none-next known n none s le = neither (s == n) (known s) (above s n le) (none s (omega arith))
+none-next known n none s le = or_from (s == n) (known s) (above s n le) (none s (omega arith))
 
 -- what a body promises wherever the slots of the variables in scope have values
 abbrev Closes : (Slotting → ℕ → Formula) → Type 0

@@ -32,19 +32,12 @@ put_next names k n old new key slot below at is u =
     ap (λ (ns : List ast.Name). named_slots ns slot (looked_up old)) (links-drop names k n below at)
     ∙ ap (named_slots (drop (k + 1) names) (suc slot)) (ap (λ (y : Name). λ x. cond (same_name y x) (Some slot) (looked_up old x)) (sym is) ∙ sym (put_in old new key slot u))
 
-pub names_ended : (names : List ast.Name) (k slot : ℕ) (c : Slotting) → length names ≤ k → named_slots (drop k names) slot c ≡ c
-names_ended names k slot c h = ap (λ (ns : List ast.Name). named_slots ns slot c) (links-ended names k h)
-
 -- a carrier for each name
 pub carriers_next : (names : List ast.Name) (k : ℕ) (n : ast.Name) (carrier : Carrier) (old all : List Carrier) → k < length names → n ≡ get_or names k n
     → old ++ replicate (length (drop k names)) carrier ≡ all → (old ++ carrier ∷ []) ++ replicate (length (drop (k + 1) names)) carrier ≡ all
 carriers_next names k n carrier old all below at h =
     append_assoc old (carrier ∷ []) (replicate (length (drop (k + 1) names)) carrier)
     ∙ (ap (λ (ns : List ast.Name). old ++ replicate (length ns) carrier) (sym (links-drop names k n below at)) ∙ h)
-
-pub carriers_ended : (names : List ast.Name) (k : ℕ) (carrier : Carrier) (old all : List Carrier) → length names ≤ k → old ++ replicate (length (drop k names)) carrier ≡ all → old ≡ all
-carriers_ended names k carrier old all below h =
-    sym (ap (λ (ns : List ast.Name). old ++ replicate (length ns) carrier) (links-ended names k below) ∙ append-nil old) ∙ h
 
 -- ---- groups of names
 
@@ -66,11 +59,11 @@ group-shaped : (S : Spec) (group : Variables) (rest : List Variables) (names : L
 group-shaped S group rest [] h = h
 group-shaped S group rest (x ∷ names) h = group-shaped S group rest names h.1
 
-shapes-append : (xs ys : List Carrier) → shapes_of (xs ++ ys) ≡ shapes_of xs ++ shapes_of ys
+pub shapes-append : (xs ys : List Carrier) → shapes_of (xs ++ ys) ≡ shapes_of xs ++ shapes_of ys
 shapes-append [] ys = refl
 shapes-append (x ∷ xs) ys = ap (λ (ss : List Shape). carrier_shape (Some x) ∷ ss) (shapes-append xs ys)
 
-shapes-replicate : (n : ℕ) (c : Carrier) → shapes_of (replicate n c) ≡ replicate n (carrier_shape (Some c))
+pub shapes-replicate : (n : ℕ) (c : Carrier) → shapes_of (replicate n c) ≡ replicate n (carrier_shape (Some c))
 shapes-replicate zero c = refl
 shapes-replicate (suc n) c = ap (λ (ss : List Shape). carrier_shape (Some c) ∷ ss) (shapes-replicate n c)
 

@@ -7,8 +7,6 @@ use Rattle.pb_sorts.specs.declared.carrier.Carrier.{Carrier}
 use Rattle.pb_text_tree.specs.declared.place.Place.{Place}
 use Rattle.pb_text_tree.specs.declared.operator.Arithmetic.{Arithmetic}
 use Rattle.pb_text_tree.specs.declared.operator.Arithmetic.TheVariants as arithmetic
-use Rattle.pb_text_tree.specs.declared.operator.Comparison.{Comparison}
-use Rattle.pb_text_tree.specs.declared.operator.Comparison.TheVariants as comparison
 use Rattle.pb_text_tree.specs.declared.operator.Connective.{Connective}
 use Rattle.pb_text_tree.specs.declared.operator.Quantifier.{Quantifier}
 use Rattle.pb_text_tree.specs.declared.variable.Variables.{Variables}
@@ -16,11 +14,11 @@ use Rattle.pb_text_tree.specs.declared.term.Term as ast
 use Rattle.pb_text_tree.specs.declared.term.TermLink.{TermLink}
 use Rattle.pb_text_tree.specs.declared.term.ArithmeticLink.{ArithmeticLink}
 use Rattle.pb_text_tree.specs.Form as form
-use Rattle.pb_text_tree.specs.Form.{TermForm, term_form, term_links, arithmetic_links}
+use Rattle.pb_text_tree.specs.Form.{TermForm, term_form, arithmetic_links}
 use Rattle.pb_text_tree.proofs.FormLemmas.{term-chain, term-arithmetic}
 use Rattle.pb_text_meaning.specs.Syntax as syntax
 use Rattle.pb_text_meaning.specs.Syntax.{Variable, Spec}
-use Rattle.pb_text_meaning.specs.Erase.{erased_term, of_arithmetic, of_comparison}
+use Rattle.pb_text_meaning.specs.Erase.{erased_term, of_arithmetic}
 use Rattle.pb_typing_declarations.specs.Shapes.{Shape}
 use Rattle.pb_typing_rules.specs.Faults.{operand_parity}
 use Rattle.pb_typing_rules.specs.Scope.{Scope, bound}
@@ -36,7 +34,7 @@ use Rattle.pb_normal.specs.Tail.{tail_tests}
 use Rattle.pb_normal.specs.Tree.{chain_of, quantified_value, value_of}
 use Rattle.pb_normal.specs.View.{chained, nested, shapes_of, formula_view, formula_views}
 use Rattle.pb_normal.proofs.LinkCount.{counted, behind_count}
-use Rattle.pb_normal.proofs.NormalChains.{plain-expanded, each-nested}
+use Rattle.pb_normal.proofs.NormalChains.{each-nested}
 use Rattle.pb_normal.proofs.SlotLemmas.{length_behind, length-variables}
 use Rattle.pb_normal.proofs.ValueLemmas.{operand, value_normals, value_loops, AreShapedLinks, chain-loops, chain-normal, chain_shaped, grown, plain-links}
 
@@ -183,14 +181,6 @@ arithmetic-plain arithmetic.Times x y = twice (has_quantifier x || has_quantifie
 arithmetic-plain arithmetic.Div x y = twice (has_quantifier x || has_quantifier y) _
 arithmetic-plain arithmetic.Mod x y = twice (has_quantifier x || has_quantifier y) _
 
-comparison-plain : (o : Comparison) (x y : syntax.Term) → expanded_term (syntax.Term.Binary (of_comparison o) x y) ≡ syntax.Formula.Val (syntax.Term.Binary (of_comparison o) x y)
-comparison-plain comparison.Equal x y = twice (has_quantifier x || has_quantifier y) _
-comparison-plain comparison.NotEqual x y = twice (has_quantifier x || has_quantifier y) _
-comparison-plain comparison.Less x y = twice (has_quantifier x || has_quantifier y) _
-comparison-plain comparison.LessEqual x y = twice (has_quantifier x || has_quantifier y) _
-comparison-plain comparison.Greater x y = twice (has_quantifier x || has_quantifier y) _
-comparison-plain comparison.GreaterEqual x y = twice (has_quantifier x || has_quantifier y) _
-
 calculated-plain : (f : TermForm) (l : ArithmeticLink) (links : List ArithmeticLink)
     → expanded_term (erased_term (form.calculated f (arithmetic_links (l ∷ links)))) ≡ syntax.Formula.Val (erased_term (form.calculated f (arithmetic_links (l ∷ links))))
 calculated-plain f l [] = arithmetic-plain l.operator (erased_term f) (erased_term (term_form l.operand))
@@ -205,16 +195,6 @@ arithmetic-node t first v is some =
     let same = ap term_form is ∙ term-arithmetic first v in
     ap (λ (f : TermForm). expanded_term (erased_term f)) same
     ∙ (some-links (term_form (box_value first)) v.items some ∙ sym (ap (λ (f : TermForm). syntax.Formula.Val (erased_term f)) same))
-
-pub comparison-node : (t : ast.Term) (p : Place) (o : Comparison) (left right : Box ast.Term Global) → t ≡ ast.Comparison p o left right → value_of t ≡ syntax.Formula.Val (erased_term (term_form t))
-comparison-node t p o left right is =
-    ap value_of is
-    ∙ (comparison-plain o (erased_term (term_form (box_value left))) (erased_term (term_form (box_value right)))
-    ∙ sym (ap (λ (u : ast.Term). syntax.Formula.Val (erased_term (term_form u))) is))
-
--- another node, which `other` is
-pub other-node : (t other : ast.Term) → t ≡ other → value_of other ≡ syntax.Formula.Val (erased_term (term_form other)) → value_of t ≡ syntax.Formula.Val (erased_term (term_form t))
-other-node t other is e = ap value_of is ∙ (e ∙ sym (ap (λ (u : ast.Term). syntax.Formula.Val (erased_term (term_form u))) is))
 
 pub plain-grows : (S : Spec) (x : syntax.Term) (f : syntax.Formula) (old : List Carrier) → f ≡ syntax.Formula.Val x → shapes_of old ≡ shapes_of old ++ loops S f
 plain-grows S x f old e = sym (ap (λ (g : syntax.Formula). shapes_of old ++ loops S g) e ∙ append-nil (shapes_of old))
@@ -236,9 +216,6 @@ says_same S even c n r f g e h = subst (Says S even c n r) (sym e) h
 pub grows_same : (S : Spec) (old new : List Carrier) (r : Result code.Formula AllocError) (f g : syntax.Formula) → g ≡ f → Grows S old new r f → Grows S old new r g
 grows_same S old new r f g e h = subst (Grows S old new r) (sym e) h
 
-pub plain-normal : (S : Spec) (even : Bool) (c : Slotting) (scope : Scope) (n : ℕ) (x : syntax.Term) → has_quantifier x ≡ false → normal S even c scope n (expanded_term x) ≡ signed_test even (slotted S c x)
-plain-normal S even c scope n x h = ap (normal S even c scope n) (plain-expanded x h)
-
 -- a quantifier: its carriers, and a body under its slots
 pub quantified-view : (S : Spec) (even : Bool) (q : Quantifier) (xs : List Variable) (c inner : Slotting) (scope : Scope) (f : syntax.Formula) (old mid own : List Carrier) (m : Bool) (slot : ℕ) (body : code.Formula)
     → slot ≡ length old → m ≡ is_universal q even → inner ≡ with_slots xs (length old) c → shapes_of own ≡ variable_shapes S xs → shapes_of mid ≡ shapes_of old ++ variable_shapes S xs
@@ -254,8 +231,3 @@ quantified-view S even q xs c inner scope f old mid own m slot body at universal
     ∙ (ap (λ (d : Slotting). normal S even d (bound S xs scope) (length mid) f) slots
     ∙ ap (λ (k : ℕ). normal S even (with_slots xs n c) (bound S xs scope) k f) count))
     ∙ sym (each-nested S (is_universal q even) xs c n (λ d k. normal S even d (bound S xs scope) k f) own shapes)))
-
-pub quantified-grows : (S : Spec) (q : Quantifier) (xs : List Variable) (f : syntax.Formula) (old mid new : List Carrier) → shapes_of mid ≡ shapes_of old ++ variable_shapes S xs → shapes_of new ≡ shapes_of mid ++ loops S f
-    → shapes_of new ≡ shapes_of old ++ loops S (syntax.Formula.Quantified q xs f)
-quantified-grows S q xs f old mid new first rest =
-    rest ∙ (ap (λ (ss : List Shape). ss ++ loops S f) first ∙ append_assoc (shapes_of old) (variable_shapes S xs) (loops S f))

@@ -12,7 +12,7 @@ use Rattle.pb_normal.specs.declared.formula.Formula.{Formula, Row_of-Formula, en
 use Rattle.pb_normal.specs.View.{term_view, terms_in, links_in, term_views, link_views, chained, calculated, formula_view, formulas_in, formula_views}
 use mathlib.Core.Former.{Count}
 
-terms-items : (n : _) (row : Row_of-Term n) → terms_in row ≡ term_views (items-the_row-Term n row)
+pub terms-items : (n : _) (row : Row_of-Term n) → terms_in row ≡ term_views (items-the_row-Term n row)
 terms-items n end_of-Term = refl
 terms-items n (more_of-Term x row) = ap (λ v. term_view x ∷ v) (terms-items _ row)
 
@@ -25,7 +25,7 @@ term-chain c first v =
     let row = term_row_in (term.Chain c first v) in
     ap (chained (Binary (of_connective c)) (term_view (box_value first))) (terms-items row.0 row.1 ∙ ap term_views (items_hidden-the_row-Term-0 v))
 
-links-items : (n : _) (row : Row_of-Link n) → links_in row ≡ link_views (items-the_row-Link n row)
+pub links-items : (n : _) (row : Row_of-Link n) → links_in row ≡ link_views (items-the_row-Link n row)
 links-items n end_of-Link = refl
 links-items n (more_of-Link operator operand row) = ap (λ v. (operator, term_view operand) ∷ v) (links-items _ row)
 
@@ -38,7 +38,7 @@ term-arithmetic first v =
     let row = link_row_in (term.Arithmetic first v) in
     ap (calculated (term_view (box_value first))) (links-items row.0 row.1 ∙ ap link_views (items_hidden-the_row-Link-1 v))
 
-formulas-items : (n : _) (row : Row_of-Formula n) → formulas_in row ≡ formula_views (items-the_row-Formula n row)
+pub formulas-items : (n : _) (row : Row_of-Formula n) → formulas_in row ≡ formula_views (items-the_row-Formula n row)
 formulas-items n end_of-Formula = refl
 formulas-items n (more_of-Formula x row) = ap (λ v. formula_view x ∷ v) (formulas-items _ row)
 

@@ -3,6 +3,7 @@ pub mod Normal
 pub mod Normalisation
 pub mod Plain
 pub mod View
+pub mod Contexts
 pub mod Slots
 pub mod Links
 pub mod Chains

@@ -3,6 +3,7 @@
 #![tactic(auto)]
 
 mod call;
+mod context;
 mod data;
 pub mod formula;
 mod function;

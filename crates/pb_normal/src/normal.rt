@@ -12,6 +12,7 @@ ghost use Rattle.pb_normal.specs.Loops.{all_loops, equation_loops, IsShapedEquat
 ghost use Rattle.pb_normal.specs.Text.{said};
 ghost use Rattle.pb_normal.specs.View.{formula_view, loop_shapes, right_views, shapes_of};
 
+use crate::context::{Context, FormulaContext};
 use crate::formula::Formula;
 use crate::operand::normal_formula;
 use crate::slots::Slots;
@@ -97,15 +98,16 @@ fn normal_equation(
     let parameters = carriers.len();
     let scope = Scope::Inner(&shapes, &Scope::Outermost);
     let slots = Slots::Inner(&table, &Slots::Outermost);
-    let right = normal_formula(
+    let values = Context {
         alloc,
         declarations,
-        &scope,
-        &slots,
-        true,
-        &mut carriers,
-        &equation.right,
-    )?;
+        slots: &slots,
+    };
+    let context = FormulaContext {
+        values,
+        scope: &scope,
+    };
+    let right = normal_formula(&context, true, &mut carriers, &equation.right)?;
     let loops = carriers_from(alloc, &carriers, parameters)?;
     Ok(Equation { right, loops })
 }

@@ -1,20 +1,19 @@
 //! Data terms of kind Bool as formulas: the connectives and quantifiers above the last quantifier become those of the
 //! formula, and what has no quantifier is one test.
 
-ghost use Rattle.std.specs.Prelude.{◌≡◌, ◌++◌, length, true, IfOk, OnOk};
+ghost use Rattle.std.specs.Prelude.{◌≡◌, ◌++◌, true, IfOk, OnOk};
 ghost use Rattle.pb_text_tree.specs.Form.{term_form};
 ghost use Rattle.pb_text_meaning.specs.Erase.{erased_term};
-ghost use Rattle.pb_typing_rules.specs.Scope.{Scope};
-ghost use Rattle.pb_typing_declarations.specs.View.{spec_of};
 ghost use Rattle.pb_normal.specs.Expansion.{expanded_term, has_quantifier};
 ghost use Rattle.pb_normal.specs.Links.{quantified_count};
-ghost use Rattle.pb_normal.specs.Loops.{IsShaped, loops};
-ghost use Rattle.pb_normal.specs.Normalisation.{normal, signed_test, slotted};
-ghost use Rattle.pb_normal.specs.Slots.{inner_slots, slotting};
+ghost use Rattle.pb_normal.specs.Contexts.{text_in, slots_in, IsShapedIn, IsNormalValue, AddsLoops};
+ghost use Rattle.pb_normal.specs.Normalisation.{signed_test, slotted};
+ghost use Rattle.pb_normal.specs.Slots.{inner_slots};
 ghost use Rattle.pb_normal.specs.Tail.{tail_tests};
 ghost use Rattle.pb_normal.specs.Tree.{chain_of, quantified_value, value_of};
-ghost use Rattle.pb_normal.specs.View.{formula_view, formula_views, shapes_of, term_view};
+ghost use Rattle.pb_normal.specs.View.{formula_view, formula_views, term_view};
 
+use crate::context::Context;
 use crate::data::{slot_chain, slot_term};
 use crate::formula::Formula;
 use crate::quantifier::has_quantifier;
@@ -24,7 +23,6 @@ use crate::term::Term;
 use crate::variables::bind_variables;
 use pb_sorts::Carrier;
 use pb_text_tree::{Connective, Quantifier, TermLink, Variables};
-use pb_typing_declarations::Declarations;
 use std::alloc::{AllocError, Global};
 use std::collections::HashMap;
 
@@ -41,15 +39,14 @@ pub(crate) fn test(alloc: Global, even: bool, term: Term) -> Result<Formula, All
 
 /// A data term as one test.
 fn plain_test(
-    alloc: Global,
-    declarations: &Declarations<'_>,
-    slots: &Slots<'_, '_>,
+    context: &Context<'_, '_, '_>,
     even: bool,
     term: &pb_text_tree::Term,
 ) -> Result<Formula, AllocError>
-    ensures { IfOk result (λ f. formula_view f ≡ signed_test even (slotted (spec_of declarations.now) (slotting slots.now) (erased_term (term_form term.now)))) }
+    ensures { IfOk result (λ f. formula_view f ≡ signed_test even (slotted (text_in context.now) (slots_in context.now) (erased_term (term_form term.now)))) }
 {
-    let term = slot_term(alloc, declarations, slots, term)?;
+    let alloc = context.alloc;
+    let term = slot_term(alloc, context.declarations, context.slots, term)?;
     test(alloc, even, term)
 }
 
@@ -60,43 +57,30 @@ fn plain_test(
 /// Memory was refused.
 #[cycle(values)]
 pub(crate) fn normal_value<'t>(
-    alloc: Global,
-    declarations: &Declarations<'_>,
-    slots: &Slots<'_, 't>,
+    context: &Context<'_, '_, 't>,
     even: bool,
     carriers: &mut Vec<Carrier>,
     term: &'t pb_text_tree::Term,
 ) -> Result<Formula, AllocError>
-    requires { IsShaped (spec_of declarations.now) (value_of term.now) }
-    ensures form { IfOk result (λ f. (scope : Scope) → formula_view f ≡ normal (spec_of declarations.now) even (slotting slots.now) scope (length carriers.old.items) (value_of term.now)) }
-    ensures carriers { OnOk result (shapes_of carriers.new.items ≡ shapes_of carriers.old.items ++ loops (spec_of declarations.now) (value_of term.now)) }
+    requires { IsShapedIn context.now (value_of term.now) }
+    ensures form { IfOk result (IsNormalValue context.now (slots_in context.now) even carriers.old.items (value_of term.now)) }
+    ensures carriers { OnOk result (AddsLoops context.now carriers.old.items carriers.new.items (value_of term.now)) }
 {
     if !has_quantifier(term) {
-        return plain_test(alloc, declarations, slots, even, term);
+        return plain_test(context, even, term);
     }
     match term {
-        pb_text_tree::Term::Not { operand, .. } => {
-            normal_value(alloc, declarations, slots, !even, carriers, operand)
-        }
+        pb_text_tree::Term::Not { operand, .. } => normal_value(context, !even, carriers, operand),
         pb_text_tree::Term::Chain {
             connective,
             first,
             links,
-        } => normal_operands(
-            alloc,
-            declarations,
-            slots,
-            even,
-            carriers,
-            *connective,
-            first,
-            links,
-        ),
+        } => normal_operands(context, even, carriers, *connective, first, links),
         pb_text_tree::Term::Arithmetic { first, links } => {
             if links.is_empty() {
-                normal_value(alloc, declarations, slots, even, carriers, first)
+                normal_value(context, even, carriers, first)
             } else {
-                plain_test(alloc, declarations, slots, even, term)
+                plain_test(context, even, term)
             }
         }
         pb_text_tree::Term::Quantified {
@@ -104,46 +88,34 @@ pub(crate) fn normal_value<'t>(
             variables,
             body,
             ..
-        } => normal_quantified(
-            alloc,
-            declarations,
-            slots,
-            even,
-            carriers,
-            *quantifier,
-            variables,
-            body,
-        ),
+        } => normal_quantified(context, even, carriers, *quantifier, variables, body),
         pb_text_tree::Term::Constant { .. }
         | pb_text_tree::Term::Number { .. }
         | pb_text_tree::Term::Name(_)
         | pb_text_tree::Term::Negative { .. }
         | pb_text_tree::Term::Comparison { .. }
-        | pb_text_tree::Term::Application { .. } => {
-            plain_test(alloc, declarations, slots, even, term)
-        }
+        | pb_text_tree::Term::Application { .. } => plain_test(context, even, term),
     }
 }
 
 /// The normal form of a quantifier.
 #[cycle(values)]
 fn normal_quantified<'t>(
-    alloc: Global,
-    declarations: &Declarations<'_>,
-    slots: &Slots<'_, 't>,
+    context: &Context<'_, '_, 't>,
     even: bool,
     carriers: &mut Vec<Carrier>,
     quantifier: Quantifier,
     variables: &'t [Variables],
     body: &'t pb_text_tree::Term,
 ) -> Result<Formula, AllocError>
-    requires { IsShaped (spec_of declarations.now) (quantified_value quantifier variables.now body.now) }
-    ensures form { IfOk result (λ f. (scope : Scope) → formula_view f ≡ normal (spec_of declarations.now) even (slotting slots.now) scope (length carriers.old.items) (quantified_value quantifier variables.now body.now)) }
-    ensures carriers { OnOk result (shapes_of carriers.new.items ≡ shapes_of carriers.old.items ++ loops (spec_of declarations.now) (quantified_value quantifier variables.now body.now)) }
+    requires { IsShapedIn context.now (quantified_value quantifier variables.now body.now) }
+    ensures form { IfOk result (IsNormalValue context.now (slots_in context.now) even carriers.old.items (quantified_value quantifier variables.now body.now)) }
+    ensures carriers { OnOk result (AddsLoops context.now carriers.old.items carriers.new.items (quantified_value quantifier variables.now body.now)) }
 {
+    let alloc = context.alloc;
     let slot = carriers.len();
-    let (table, own) = bind_variables(alloc, declarations, variables, carriers)?;
-    let body = normal_body(alloc, declarations, slots, &table, even, carriers, body)?;
+    let (table, own) = bind_variables(alloc, context.declarations, variables, carriers)?;
+    let body = normal_body(context, &table, even, carriers, body)?;
     Ok(Formula::Each {
         universal: is_universal(quantifier, even),
         slot,
@@ -155,49 +127,51 @@ fn normal_quantified<'t>(
 /// The normal form of a quantifier's body, whose variables have the slots of a table.
 #[cycle(values)]
 fn normal_body<'a, 't>(
-    alloc: Global,
-    declarations: &Declarations<'_>,
-    outer: &'a Slots<'a, 't>,
+    outer: &'a Context<'a, '_, 't>,
     table: &'a HashMap<&'t str, usize>,
     even: bool,
     carriers: &mut Vec<Carrier>,
     body: &'t pb_text_tree::Term,
 ) -> Result<Formula, AllocError>
-    requires { IsShaped (spec_of declarations.now) (value_of body.now) }
-    ensures form { IfOk result (λ f. (scope : Scope) → formula_view f ≡ normal (spec_of declarations.now) even (inner_slots table.now (slotting outer.now)) scope (length carriers.old.items) (value_of body.now)) }
-    ensures carriers { OnOk result (shapes_of carriers.new.items ≡ shapes_of carriers.old.items ++ loops (spec_of declarations.now) (value_of body.now)) }
+    requires { IsShapedIn outer.now (value_of body.now) }
+    ensures form { IfOk result (IsNormalValue outer.now (inner_slots table.now (slots_in outer.now)) even carriers.old.items (value_of body.now)) }
+    ensures carriers { OnOk result (AddsLoops outer.now carriers.old.items carriers.new.items (value_of body.now)) }
 {
-    let slots = Slots::Inner(table, outer);
-    normal_value(alloc, declarations, &slots, even, carriers, body)
+    let slots = Slots::Inner(table, outer.slots);
+    let context = Context {
+        alloc: outer.alloc,
+        declarations: outer.declarations,
+        slots: &slots,
+    };
+    normal_value(&context, even, carriers, body)
 }
 
 /// The normal form of operands of one connective. What stands behind the last quantifier is one test.
 #[cycle(values)]
 fn normal_operands<'t>(
-    alloc: Global,
-    declarations: &Declarations<'_>,
-    slots: &Slots<'_, 't>,
+    context: &Context<'_, '_, 't>,
     even: bool,
     carriers: &mut Vec<Carrier>,
     connective: Connective,
     first: &'t pb_text_tree::Term,
     links: &'t [TermLink],
 ) -> Result<Formula, AllocError>
-    requires shaped { IsShaped (spec_of declarations.now) (expanded_term (chain_of connective first.now links.now)) }
+    requires shaped { IsShapedIn context.now (expanded_term (chain_of connective first.now links.now)) }
     requires quantified { has_quantifier (chain_of connective first.now links.now) ≡ true }
-    ensures form { IfOk result (λ f. (scope : Scope) → formula_view f ≡ normal (spec_of declarations.now) even (slotting slots.now) scope (length carriers.old.items) (expanded_term (chain_of connective first.now links.now))) }
-    ensures carriers { OnOk result (shapes_of carriers.new.items ≡ shapes_of carriers.old.items ++ loops (spec_of declarations.now) (expanded_term (chain_of connective first.now links.now))) }
+    ensures form { IfOk result (IsNormalValue context.now (slots_in context.now) even carriers.old.items (expanded_term (chain_of connective first.now links.now))) }
+    ensures carriers { OnOk result (AddsLoops context.now carriers.old.items carriers.new.items (expanded_term (chain_of connective first.now links.now))) }
 {
+    let alloc = context.alloc;
     let parity = operand_parity(connective, even, links.len());
-    let head = normal_value(alloc, declarations, slots, parity, carriers, first)?;
+    let head = normal_value(context, parity, carriers, first)?;
     let (operands, tail) = links.split_at(quantified_links(links));
     let mut rest = Vec::new(alloc);
     for (index, link) in operands.iter().enumerate() {
         let parity = operand_parity(connective, even, links.len() - index - 1);
-        let operand = normal_value(alloc, declarations, slots, parity, carriers, &link.operand)?;
+        let operand = normal_value(context, parity, carriers, &link.operand)?;
         rest.push(operand)?;
     }
-    let rest = with_tail(alloc, declarations, slots, even, connective, rest, tail)?;
+    let rest = with_tail(context, even, connective, rest, tail)?;
     Ok(Formula::Join {
         conjunctive: is_conjunctive(connective, even),
         first: Box::new(alloc, head)?,
@@ -221,23 +195,22 @@ fn quantified_links(links: &[TermLink]) -> usize
 
 /// Adds the operands behind the last quantifier, if there are any, as one test.
 fn with_tail(
-    alloc: Global,
-    declarations: &Declarations<'_>,
-    slots: &Slots<'_, '_>,
+    context: &Context<'_, '_, '_>,
     even: bool,
     connective: Connective,
     mut operands: Vec<Formula>,
     tail: &[TermLink],
 ) -> Result<Vec<Formula>, AllocError>
-    ensures { IfOk result (λ all. formula_views all.items ≡ formula_views operands.items ++ tail_tests (spec_of declarations.now) even (slotting slots.now) connective tail.now) }
+    ensures { IfOk result (λ all. formula_views all.items ≡ formula_views operands.items ++ tail_tests (text_in context.now) even (slots_in context.now) connective tail.now) }
 {
+    let alloc = context.alloc;
     match tail.split_first() {
         None => Ok(operands),
         Some((next, behind)) => {
             let term = slot_chain(
                 alloc,
-                declarations,
-                slots,
+                context.declarations,
+                context.slots,
                 connective,
                 &next.operand,
                 behind,

@@ -1,6 +1,7 @@
 -- One equation before others, approached from a bound of its set.
 use Rattle.std.proofs.Common.{◌≡◌, ℕ, suc, ◌<◌, Bool, true, false, not, if◌then◌else◌, List, [], ◌∷◌, refl, sym, ◌∙◌, ap, subst, arith, slice_get, Some}
 use Rattle.std.proofs.Math.Path.{fun_ext}
+use Rattle.std.proofs.lemmas.Bool.{cond-true}
 use Rattle.pb_fixpoint.specs.declared.Sign.{Sign}
 use Rattle.pb_fixpoint.specs.declared.Sign.TheVariants.{Mu, Nu}
 use Rattle.pb_fixpoint.specs.Solution.{Environment, Equation, assign, iterate, start, solution, operator, value_of}
@@ -26,9 +27,6 @@ OwnApart {I} E = (a b : ℕ) (X Y : Equation I) (i : I) → a < b → slice_get 
 pub apart_rest : {I : Type 0} (X : Equation I) (E : List (Equation I)) → OwnApart (X ∷ E) → OwnApart E
 apart_rest X E h a b Y Z i lt atY atZ = h (suc a) (suc b) Y Z i (omega arith) atY atZ
 
-owned_if : (b x y : Bool) → b ≡ true → (if b then x else y) ≡ x
-owned_if b x y e = ap (λ (c : Bool). if c then x else y) e
-
 other_if : (b x y : Bool) → (b ≡ true → ⊥) → (if b then x else y) ≡ y
 other_if true x y h = absurd (h refl)
 other_if false x y h = refl
@@ -47,7 +45,7 @@ told_bounds {I} side (X ∷ E) t apart =
     let V : Environment I = value_of X E t in
     let s : Environment I = solution E (assign t X V) in
     let here : (i : I) → X.owns i ≡ true → s i ≡ V i =
-    λ i own. solution-other E (assign t X V) i (λ b Y at mine. apart 0 (suc b) X Y i (omega arith) refl at own mine) ∙ owned_if (X.owns i) (V i) (t i) own in (
+    λ i own. solution-other E (assign t X V) i (λ b Y at mine. apart 0 (suc b) X Y i (omega arith) refl at own mine) ∙ cond-true (X.owns i) (V i) (t i) own in (
       (λ i own. before_same side (s i) (V i) (here i own)),
       subst (λ (r : Environment I). AreBounds side E r s) (sym (assign-same X t s V here)) (told_bounds side E (assign t X V) (apart_rest X E apart)),
     )

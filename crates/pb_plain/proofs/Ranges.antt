@@ -1,15 +1,11 @@
 -- A list of truths that is another one within a range of numbers.
-use Rattle.std.proofs.Common.{◌≡◌, ◌≢◌, ℕ, ◌+◌, ◌<◌, ◌≤◌, Bool, true, false, ◌&&◌, if◌then◌else◌, List, length, get_or, set, refl, sym, ◌∙◌, ap, subst, arith, true≢false, get_or-set_other, get_or-set_same, inl, inr}
+use Rattle.std.proofs.Common.{◌≡◌, ◌≢◌, ℕ, ◌+◌, ◌<◌, ◌≤◌, Bool, true, false, ◌&&◌, if◌then◌else◌, List, length, get_or, set, refl, sym, ◌∙◌, ap, subst, arith, get_or-set_other, get_or-set_same, inl, inr}
 use Rattle.std.specs.Prelude.{nat_le, nat_lt}
-use Rattle.std.proofs.lemmas.Bool.{cases_lt, ltb-true, lt-ltb, leb-true, le-leb}
+use Rattle.std.proofs.lemmas.Bool.{cases_lt, ltb-true, lt-ltb, leb-true, le-leb, and_parts, cond-true}
 
 -- n is from `start` on and below `end`
 abbrev pub is_between : ℕ → ℕ → ℕ → Bool
 is_between start end n = nat_le start n && nat_lt n end
-
-and_true : (a b : Bool) → (a && b) ≡ true → (a ≡ true) × (b ≡ true)
-and_true true b e = (refl, e)
-and_true false b e = absurd (true≢false (sym e))
 
 both_ways : (a b : Bool) → (a ≡ true → b ≡ true) → (b ≡ true → a ≡ true) → a ≡ b
 both_ways true b p q = sym (p refl)
@@ -21,7 +17,7 @@ not_true true h = absurd (h refl)
 not_true false h = refl
 
 pub between_bounds : (start end n : ℕ) → is_between start end n ≡ true → (start ≤ n) × (n < end)
-between_bounds start end n e = let p = and_true (nat_le start n) (nat_lt n end) e in (leb-true start n p.0, ltb-true n end p.1)
+between_bounds start end n e = let p = and_parts (nat_le start n) (nat_lt n end) e in (leb-true start n p.0, ltb-true n end p.1)
 
 pub between_yes : (start end n : ℕ) → start ≤ n → n < end → is_between start end n ≡ true
 between_yes start end n le lt = ap (λ (b : Bool). b && nat_lt n end) (le-leb start n le) ∙ lt-ltb n end lt
@@ -38,9 +34,6 @@ between_step start k n ne =
 -- f from `start` on and below `end`, else the old truths
 abbrev pub IsMixed : ℕ → ℕ → (ℕ → Bool) → List Bool → List Bool → Type 0
 IsMixed start end f old new = (n : ℕ) → get_or new n false ≡ (if is_between start end n then f n else get_or old n false)
-
-if_yes : (b x y : Bool) → b ≡ true → (if b then x else y) ≡ x
-if_yes b x y e = ap (λ (c : Bool). if c then x else y) e
 
 if_no : (b x y : Bool) → b ≡ false → (if b then x else y) ≡ y
 if_no b x y e = ap (λ (c : Bool). if c then x else y) e
@@ -65,7 +58,7 @@ mixed_step start k f old xs ys le m here others n =
     same : n ≡ k → get_or ys n false ≡ (if is_between start (k + 1) n then f n else get_or old n false)
     same e =
         ap (λ (j : ℕ). get_or ys j false) e ∙ (here ∙ (ap f (sym e)
-        ∙ sym (if_yes (is_between start (k + 1) n) (f n) (get_or old n false) (between_yes start (k + 1) n (omega (arith, e, le)) (omega (arith, e))))))
+        ∙ sym (cond-true (is_between start (k + 1) n) (f n) (get_or old n false) (between_yes start (k + 1) n (omega (arith, e, le)) (omega (arith, e))))))
 
 -- a number that is written
 pub mixed_set : (start k : ℕ) (f : ℕ → Bool) (old xs : List Bool) (v : Bool) → start ≤ k → k < length xs → v ≡ f k → IsMixed start k f old xs → IsMixed start (k + 1) f old (set xs k v)
@@ -81,7 +74,7 @@ pub mixed_ahead : (start k : ℕ) (f : ℕ → Bool) (old xs : List Bool) → Is
 mixed_ahead start k f old xs m = m k ∙ if_no (is_between start k k) (f k) (get_or old k false) (not_true (is_between start k k) (λ e. let p = between_bounds start k k e in omega (arith, p.1)))
 
 pub mixed_inside : (start end : ℕ) (f : ℕ → Bool) (old new : List Bool) (n : ℕ) → IsMixed start end f old new → is_between start end n ≡ true → get_or new n false ≡ f n
-mixed_inside start end f old new n m e = m n ∙ if_yes (is_between start end n) (f n) (get_or old n false) e
+mixed_inside start end f old new n m e = m n ∙ cond-true (is_between start end n) (f n) (get_or old n false) e
 
 pub mixed_outside : (start end : ℕ) (f : ℕ → Bool) (old new : List Bool) (n : ℕ) → IsMixed start end f old new → is_between start end n ≡ false → get_or new n false ≡ get_or old n false
 mixed_outside start end f old new n m e = m n ∙ if_no (is_between start end n) (f n) (get_or old n false) e

@@ -1,7 +1,7 @@
 -- The values of parameters, and why right sides fit.
-use Rattle.std.proofs.Common.{◌≡◌, ℕ, zero, suc, ◌<◌, Bool, false, ◌&&◌, arith, List, [], ◌∷◌, ◌++◌, map, length, get_or, Option, Some, None, refl, sym, ◌∙◌, ap, subst, true, true≢false}
+use Rattle.std.proofs.Common.{◌≡◌, ℕ, zero, suc, ◌<◌, arith, List, [], ◌∷◌, ◌++◌, map, length, get_or, Option, Some, None, refl, sym, ◌∙◌, ap, subst, true}
 use Rattle.std.specs.Prelude.{All, ◌==◌}
-use Rattle.std.proofs.lemmas.Bool.{eqb-true}
+use Rattle.std.proofs.lemmas.Bool.{eqb-true, and_parts}
 use Rattle.std.specs.List.{slice_get}
 use Rattle.std.proofs.lemmas.Option.{slice_get_within, get_or_from_slice_get}
 use Rattle.pb_text_tree.specs.declared.name.Name as declared
@@ -55,10 +55,6 @@ assigned-groups groups vs a = assigned-named (erased_variables (variable_forms g
 
 -- ---- why the right sides fit
 
-and_true : (a b : Bool) → (a && b) ≡ true → (a ≡ true) × (b ≡ true)
-and_true true b e = (refl, e)
-and_true false b e = absurd (true≢false (sym e))
-
 -- what an instance at one of an equation's numbers is
 pub owned_instance : (S : Spec) (layout : List (List Carrier)) (k n : ℕ) (X : Equation) (i : numbered.Instance) → carriers_of layout ≡ all_carriers S → slice_get S.equations k ≡ Some X
     → slice_get (instances (carriers_of layout)) n ≡ Some i → owns_number (carriers_of layout) k n ≡ true → (i.equation ≡ k) × (is_within (formula.carriers_of S X.parameters) i.values ≡ true)
@@ -66,7 +62,7 @@ owned_instance S layout k n X i laid at there own =
     let css = carriers_of layout in
     let there_too : slice_get css k ≡ Some (formula.carriers_of S X.parameters) =
     ap (λ (cs : List (List carriers.Carrier)). slice_get cs k) laid ∙ slice_get-mapped (λ (Y : Equation). formula.carriers_of S Y.parameters) S.equations k X at in
-    let p = and_true (i.equation == k) (is_instance css i) (sym (owns_number-owns_instance css k n i (slice_get_within css k _ there_too) there) ∙ own) in
+    let p = and_parts (i.equation == k) (is_instance css i) (sym (owns_number-owns_instance css k n i (slice_get_within css k _ there_too) there) ∙ own) in
     let same : i.equation ≡ k = eqb-true i.equation k p.0 in (
       same,
       ap (λ (o : Option (List carriers.Carrier)). is_tuple_of o i.values) (sym there_too) ∙ (ap (λ (j : ℕ). is_tuple_of (slice_get css j) i.values) (sym same) ∙ p.1),
@@ -107,6 +103,3 @@ pub equation_said : (text : SpecForm) (spec : declared_spec.Spec) (layout : List
 equation_said text spec layout k X said laid lt at =
     subst (λ (u : SpecForm). slice_get (erase u).equations k ≡ Some (erased_equation (equation_form X))) (sym said)
     (equation_known spec layout k X (laid ∙ ap (λ (u : SpecForm). all_carriers (erase u)) said) lt at)
-
-pub said_length : (text : SpecForm) (spec : declared_spec.Spec) (layout : List (List Carrier)) → text ≡ spec_form spec → carriers_of layout ≡ all_carriers (erase text) → length layout ≡ length spec.equations.items
-said_length text spec layout said laid = laid_length spec layout (laid ∙ ap (λ (u : SpecForm). all_carriers (erase u)) said)

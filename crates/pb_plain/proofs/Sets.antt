@@ -4,7 +4,7 @@ use Rattle.std.specs.Prelude.{nat_lt, ◌==◌}
 use Rattle.std.specs.List.{position_or_len, slice_get}
 use Rattle.std.specs.Cmp.Lexicographic.{same_text}
 use Rattle.std.proofs.Math.Path.{fun_ext}
-use Rattle.std.proofs.lemmas.Bool.{eq-eqb, eqb-true, lt-ltb}
+use Rattle.std.proofs.lemmas.Bool.{eq-eqb, eqb-true, lt-ltb, and_parts}
 use Rattle.std.proofs.lemmas.Option.{slice_get_within, get_or_from_slice_get}
 use Rattle.std.proofs.lemmas.List.Quantifiers.{position-Some}
 use Rattle.pb_fixpoint.specs.Solution.{assign}
@@ -25,10 +25,6 @@ use Rattle.pb_evaluation.specs.Environment.{all_carriers, environment_of, place_
 use Rattle.pb_evaluation.proofs.Called.{counted}
 use Rattle.pb_plain.specs.Side.{side_of, joined}
 use Rattle.pb_plain.specs.Step.{ChangesOnly, TakesSet, JoinsRight, right_truth, right_truth_at}
-
-and_true : (a b : Bool) → (a && b) ≡ true → (a ≡ true) × (b ≡ true)
-and_true true b e = (refl, e)
-and_true false b e = absurd (true≢false (sym e))
 
 -- ---- the place of a name
 
@@ -70,7 +66,7 @@ module _ (S : Spec) (layout : List (List Carrier)) (laid : carriers_of layout �
   pub has_place : (i : Instance) → (equation_of S X).owns i ≡ true → HasPlace i
   has_place i owned =
       let css = carriers_of layout in
-      let p = and_true (same_name X.name i.name) (is_within (formula.carriers_of S X.parameters) i.values) owned in
+      let p = and_parts (same_name X.name i.name) (is_within (formula.carriers_of S X.parameters) i.values) owned in
       let n : numbered.Instance = record { equation = k; values = i.values } in
       let is : is_instance css n ≡ true = ap (λ (o : Option (List values.Carrier)). is_tuple_of o i.values) carriers_at ∙ p.1 in
       let h : HasNumber css n = number-is_instance css n is in

@@ -1,13 +1,14 @@
 -- The solver's turn at one equation of a text.
-use Rattle.std.proofs.Common.{◌≡◌, ℕ, zero, suc, ◌+◌, ◌<◌, Bool, true, false, not, List, [], ◌∷◌, map, length, drop, Some, refl, sym, ◌∙◌, ap, subst, arith, add-one, slice_get, ◌&&◌, true≢false, Option, None, get_or, replicate, take, ◌++◌, append-nil, ◌≤◌}
+use Rattle.std.proofs.Common.{◌≡◌, ℕ, zero, suc, ◌+◌, ◌<◌, Bool, true, false, not, List, [], ◌∷◌, map, length, drop, Some, refl, sym, ◌∙◌, ap, subst, arith, add-one, slice_get, true≢false, Option, None, get_or, replicate, take, ◌++◌, append-nil, ◌≤◌}
 use Rattle.std.specs.Cmp.Lexicographic.{same_text}
 use Rattle.std.proofs.lemmas.Option.{slice_get_within, get_or_from_slice_get}
 use Rattle.pb_fixpoint.specs.Solution as fixpoint
-use Rattle.pb_fixpoint.specs.Solution.{Environment, assign, solution, empty}
+use Rattle.pb_fixpoint.specs.Solution.{Environment, solution, empty}
 use Rattle.pb_fixpoint.specs.Fixpoint.{AreMonotone, IsSolved}
 use Rattle.pb_carriers.specs.Carrier as values
 use Rattle.pb_sorts.specs.declared.carrier.Carrier.{Carrier}
 use Rattle.std.proofs.Math.Path.{fun_ext}
+use Rattle.std.proofs.lemmas.Bool.{and_right, and_parts}
 use Rattle.pb_sorts.specs.Instance.{instances, number_of, size_of, tuples_of}
 use Rattle.pb_sorts.proofs.Equations.{length-carriers_of}
 use Rattle.pb_sorts.specs.Layout.{carriers_of, count_of}
@@ -53,10 +54,6 @@ map_at f [] k y at = cc
 map_at f (x ∷ xs) zero y at = (x, refl, (cc))
 map_at f (x ∷ xs) (suc k) y at = map_at f xs k y at
 
-and_left : (a b : Bool) → (a && b) ≡ true → a ≡ true
-and_left true b e = refl
-and_left false b e = absurd (true≢false (sym e))
-
 -- equations of different names own different instances
 own_apart : (S : Spec) (E : List Equation) → AreNamedApart E → OwnApart (map (equation_of S) E)
 own_apart S E apart a b X Y i lt atX atY ownX ownY =
@@ -66,7 +63,7 @@ own_apart S E apart a b X Y i lt atX atY ownX ownY =
     (ap (λ (Z : Equation). Z.name) (get_or_from_slice_get E a p.0 p.0 p.1) ∙ (named p.0 X p.2 ownX ∙ (sym (named q.0 Y q.2 ownY) ∙ ap (λ (Z : Equation). Z.name) (sym (get_or_from_slice_get E b q.0 p.0 q.1)))))
   where
     named : (Z : Equation) (X : fixpoint.Equation Instance) → equation_of S Z ≡ X → X.owns i ≡ true → Z.name ≡ i.name
-    named Z X e own = same_text Z.name i.name (sym (and_left (same_name Z.name i.name) _ (ap (λ (W : fixpoint.Equation Instance). W.owns i) e ∙ own)))
+    named Z X e own = same_text Z.name i.name (sym ((and_parts (same_name Z.name i.name) _ (ap (λ (W : fixpoint.Equation Instance). W.owns i) e ∙ own)).0))
 
 apart-drop : {I : Type 0} (E : List (fixpoint.Equation I)) (k : ℕ) → OwnApart E → OwnApart (drop k E)
 apart-drop E k h a b X Y i lt atX atY =
@@ -184,13 +181,9 @@ get_or-replicate_same zero k a = refl
 get_or-replicate_same (suc n) zero a = refl
 get_or-replicate_same (suc n) (suc k) a = get_or-replicate_same n k a
 
-and_false : (a b : Bool) → b ≡ false → (a && b) ≡ false
-and_false true b e = e
-and_false false b e = refl
-
 truth_of-none : (css : List (List values.Carrier)) (n : ℕ) (o : Option ℕ) (vs : values.Tuple) → truth_of css (replicate n false) o vs ≡ false
 truth_of-none css n None vs = refl
-truth_of-none css n (Some k) vs = and_false _ _ (get_or-replicate_same n (number_of css (record { equation = k; values = vs })) false)
+truth_of-none css n (Some k) vs = and_right _ _ (get_or-replicate_same n (number_of css (record { equation = k; values = vs })) false)
 
 -- truths that are all false are the empty environment
 pub none_true : (S : Spec) (n : ℕ) → environment_of S (replicate n false) ≡ empty

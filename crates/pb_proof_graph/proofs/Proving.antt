@@ -1,7 +1,7 @@
 -- A proof graph is an arena: the rank of an instance at a priority of the wrong parity is the number of instances of that
 -- priority that it leads to over no greater one. No such instance leads back to itself, so that the rank falls there.
 use Rattle.std.proofs.Common.{◌≡◌, ◌≢◌, ℕ, ◌%◌, ◌≤◌, Bool, true, false, not, ◌&&◌, ◌||◌, List, [], ◌∷◌, inl, inr, refl, sym, ap, ◌∙◌, subst, arith}
-use Rattle.std.specs.Prelude.{Contains, nat_le, ◌==◌, max}
+use Rattle.std.specs.Prelude.{Contains, nat_le, ◌==◌}
 use Rattle.std.proofs.lemmas.Bool.{cases_Bool, cases_lt, and_parts, and_from, or_cases, leb-true, le-leb, eqb-true, eq-eqb, cond-false}
 use Rattle.pb_fixpoint.specs.Solution.{empty}
 use Rattle.pb_game.specs.Adjacency.{is_among}
@@ -38,9 +38,6 @@ at_most_one m n h = elim (cases_lt m n) [
   | inl less ↦ inl (inl less)
   | inr ge ↦ let e : m ≡ n = omega arith in inr (ap (λ (k : ℕ). k ∷ []) e)
 ]
-
-max_left : (m n : ℕ) → n ≤ m → max m n ≡ m
-max_left m n h = omega arith
 
 module _ (signatures : List Signature) (trees : ℕ → Tree) (b : Bool) (graph : Graph) (is : IsProofGraph signatures trees b graph) where
   abbrev level : ℕ → ℕ

@@ -1,15 +1,16 @@
 -- The strategies of a certificate give proof graphs. An instance's tree has the value by the kept edges through its
 -- brackets; around a cycle the loser's counts would fall if the greatest priority were the loser's.
-use Rattle.std.proofs.Common.{◌≡◌, ◌≢◌, ℕ, zero, suc, ◌+◌, ◌%◌, ◌<◌, ◌≤◌, Bool, not, List, [], ◌∷◌, ◌++◌, length, Some, inl, inr, refl, sym, ap, ◌∙◌, subst, arith}
+use Rattle.std.proofs.Common.{◌≡◌, ◌≢◌, ℕ, suc, ◌+◌, ◌%◌, ◌<◌, ◌≤◌, Bool, not, List, [], ◌∷◌, ◌++◌, Some, inl, inr, refl, sym, ap, ◌∙◌, subst, arith}
 use Rattle.std.specs.Prelude.{Contains, slice_get, ◌==◌}
 use Rattle.std.proofs.lemmas.Bool.{cases_Bool, cases_lt, eqb-true, eqb-false, cond-true}
 use Rattle.std.proofs.Math.Bool.{Bool-set}
 use Rattle.std.proofs.Math.Nat.{ℕ_set}
 use Rattle.std.proofs.Math.Logic.{∥∥₁_elim}
+use Rattle.std.proofs.lemmas.Option.{slice_get_within}
 use Rattle.pb_game.specs.declared.Game.{Game}
 use Rattle.pb_game.specs.Adjacency.{is_among}
-use Rattle.pb_game.specs.Games.{vertex_count, priority_of, priority_count, HasEdge}
-use Rattle.pb_game.proofs.Laws.{is_game}
+use Rattle.pb_game.specs.Games.{vertex_count, priority_of, priority_count}
+use Rattle.pb_game.proofs.Laws.{successors_closed}
 use Rattle.pb_game_certificate.specs.declared.Solution.{Solution}
 use Rattle.pb_game_certificate.specs.Solutions.{winner_of, choice_of, count_of}
 use Rattle.pb_game_certificate.specs.Certificates.{IsCertificate, IsKept, IsProgress}
@@ -54,19 +55,16 @@ pub path_then : (g : Game) (s : Solution) (Inner : ℕ → Type 0) (v : ℕ) (xs
 path_then g s Inner v [] u w h i k = (h, i, k)
 path_then g s Inner v (x ∷ xs) u w h i k = (h.0, h.1, path_then g s Inner x xs u w h.2 i k)
 
-pub edge_within : (g : Game) (v u : ℕ) → v < vertex_count g → HasEdge g v u → u < vertex_count g
-edge_within g v u below edge = (is_game g).closed v u below edge
-
 module _ (g : Game) (s : Solution) (Inner : ℕ → Type 0) where
   pub path_within : (v : ℕ) (xs : List ℕ) (u : ℕ) → v < vertex_count g → IsKeptPath g s Inner v xs u → u < vertex_count g
-  path_within v [] u below h = edge_within g v u below h.edge
-  path_within v (x ∷ xs) u below h = path_within x xs u (edge_within g v x below h.0.edge) h.2
+  path_within v [] u below h = successors_closed g v u below h.edge
+  path_within v (x ∷ xs) u below h = path_within x xs u (successors_closed g v x below h.0.edge) h.2
 
   module _ (is : IsCertificate g s) where
     path_winner : (v : ℕ) (xs : List ℕ) (u : ℕ) → v < vertex_count g → IsKeptPath g s Inner v xs u → winner_of s u ≡ winner_of s v
     path_winner v [] u below h = (is.vertices v below).region u h
     path_winner v (x ∷ xs) u below h =
-        path_winner x xs u (edge_within g v x below h.0.edge) h.2 ∙ (is.vertices v below).region x h.0
+        path_winner x xs u (successors_closed g v x below h.0.edge) h.2 ∙ (is.vertices v below).region x h.0
 
   -- the winner stays the same along a path
   pub merely_winner : ∥ IsCertificate g s ∥₁ → (v : ℕ) (xs : List ℕ) (u : ℕ) → v < vertex_count g → IsKeptPath g s Inner v xs u → winner_of s u ≡ winner_of s v
@@ -98,7 +96,7 @@ module _ (g : Game) (s : Solution) (is : IsCertificate g s) (rows : List Row) (b
   path_at_most v (x ∷ xs) u q below wins low h =
       let zero_there = h.1.priority in
       at_most_trans (rank u q) (rank x q) (rank v q)
-      (path_at_most x xs u q (edge_within g v x below h.0.edge) ((is.vertices v below).region x h.0 ∙ wins) (omega arith) h.2)
+      (path_at_most x xs u q (successors_closed g v x below h.0.edge) ((is.vertices v below).region x h.0 ∙ wins) (omega arith) h.2)
       (edge_at_most v x q below wins low h.0)
 
   path_less : (v : ℕ) (xs : List ℕ) (u : ℕ) → v < vertex_count g → winner_of s v ≡ player b → priority_of g v % 2 ≢ player b →
@@ -108,15 +106,10 @@ module _ (g : Game) (s : Solution) (is : IsCertificate g s) (rows : List Row) (b
       let q = priority_of g v in
       let zero_there = h.1.priority in
       less_of_at_most (rank u q) (rank x q) (rank v q)
-      (path_at_most x xs u q (edge_within g v x below h.0.edge) ((is.vertices v below).region x h.0 ∙ wins) (omega arith) h.2)
+      (path_at_most x xs u q (successors_closed g v x below h.0.edge) ((is.vertices v below).region x h.0 ∙ wins) (omega arith) h.2)
       (edge_less v x below wins odd h.0)
 
 -- ---- the graph
-
-within : {A : Type 0} (xs : List A) (k : ℕ) (x : A) → slice_get xs k ≡ Some x → k < length xs
-within [] k x h = cc
-within (y ∷ ys) zero x h = omega arith
-within (y ∷ ys) (suc k) x h = let below = within ys k x h in omega arith
 
 -- the vertex that stands for a tree
 pub record Stood (vertices : List Vertex) (v p : ℕ) : Type 0 where
@@ -150,7 +143,7 @@ module _ (g : Game) (s : Solution) (signatures : List Signature) (trees : ℕ �
   pub at_within : (n : ℕ) → IsReached rows n → at n < vertex_count g
   at_within n reached =
       let x = stood n reached in
-      let below = within vertices (at n) x.vertex x.stands in
+      let below = slice_get_within vertices (at n) x.vertex x.stands in
       let count = game.vertices.count in
       omega arith
 

@@ -4,11 +4,9 @@ use Rattle.pb_game.specs.declared.Game.{Game}
 use Rattle.pb_game_certificate.specs.declared.Solution.{Solution}
 use Rattle.pb_game_certificate.specs.declared.CertificateRule.{CertificateRule}
 use Rattle.pb_game_certificate.specs.declared.CertificateRule.TheVariants.{Length, NoSuccessor, LeavesRegion, Increases, NoDecrease}
-use Rattle.pb_game.specs.Games.{priority_of, priority_count}
-use Rattle.pb_game_certificate.specs.Solutions.{winner_of, count_of, HasLengths}
+use Rattle.pb_game_certificate.specs.Solutions.{HasLengths}
 use Rattle.pb_game_certificate.specs.Certificates.{Decreases, IsSame, IsCertifiedAt}
 use Rattle.pb_game_certificate.specs.Flaws.{Fails}
-use Rattle.pb_strategy.specs.Comparisons.{DontIncrease}
 
 -- the counts can't decrease both ways
 pub one_way : (f t : ℕ → ℕ) (w p limit : ℕ) → Decreases f t w p limit → Decreases t f w p limit → ⊥
@@ -16,14 +14,6 @@ one_way f t w p limit a b = grind (arith, a.same b.place, b.same a.place, a.less
 
 pub not_same : (f t : ℕ → ℕ) (w p limit : ℕ) → Decreases f t w p limit → IsSame t f w p limit → ⊥
 not_same f t w p limit a b = grind (arith, b.same a.place a.above a.below a.losing, a.less)
-
-pub same_not : (f t : ℕ → ℕ) (w p limit : ℕ) → Decreases f t w p limit → IsSame f t w p limit → ⊥
-same_not f t w p limit a b = grind (arith, b.same a.place a.above a.below a.losing, a.less)
-
-pub no_increase : (g : Game) (s : Solution) (v u : ℕ) → DontIncrease g s v u →
-    Decreases (count_of g s u) (count_of g s v) (winner_of s v) (priority_of g v) (priority_count g) → ⊥
-no_increase g s v u (inl a) b = one_way _ _ _ _ _ a b
-no_increase g s v u (inr a) b = not_same _ _ _ _ _ b a
 
 -- a vertex that meets the rules fails none
 pub no_flaw : (g : Game) (s : Solution) (v : ℕ) → HasLengths g s → IsCertifiedAt g s v → (rule : CertificateRule) → Fails g s v rule → ⊥

@@ -1,10 +1,11 @@
 -- The names of a text that is read and declared as it must be are names of modules.
-use Rattle.std.proofs.Common.{◌≡◌, ℕ, ◌≤◌, Bool, true, false, ◌&&◌, ◌||◌, nat_le, List, [], ◌∷◌, ◌++◌, length, map, refl, sym, ap, ◌∙◌, subst, arith}
+use Rattle.std.proofs.Common.{◌≡◌, ℕ, ◌≤◌, Bool, true, nat_le, List, [], ◌∷◌, ◌++◌, length, map, refl, sym, subst, arith}
 use Rattle.std.specs.Prelude.{All}
 use Rattle.std.specs.List.{list_all}
 use Rattle.std.proofs.lemmas.List.Elements.{All-head, All-tail, All-cons, All-nil}
 use Rattle.std.proofs.lemmas.List.Concat.{flat_map-cons}
 use Rattle.std.proofs.lemmas.Bool.Decides.{nat_tests}
+use Rattle.std.proofs.lemmas.Bool.{or_left, and_from, and_parts}
 use Rattle.pb_text_tree.specs.Form.{EnumeratorForm, SortForm, struct, alias, SortDeclarationForm, EquationForm, SpecForm}
 use Rattle.pb_text_meaning.specs.Syntax.{Enumerator, SortDeclaration, Equation}
 use Rattle.pb_text_meaning.specs.Erase.{erase, erased_enumerator, erased_sort, erased_declaration, erased_equation}
@@ -15,22 +16,6 @@ use Rattle.pb_text_names.specs.Spelled.{is_spelled, AreEnumeratorsSpelled}
 use Rattle.pb_text_names.specs.ModuleNames.{has_enumerator_names, has_names}
 use Rattle.pb_text_names.proofs.Texts.{reading_spelled}
 
-and_both : (a b : Bool) → a ≡ true → b ≡ true → (a && b) ≡ true
-and_both true b h i = i
-and_both false b h i = h
-
-and_first : (a b : Bool) → (a && b) ≡ true → a ≡ true
-and_first true b h = refl
-and_first false b h = h
-
-and_rest : (a b : Bool) → (a && b) ≡ true → b ≡ true
-and_rest true b h = h
-and_rest false b h = cc
-
-or_first : (a b : Bool) → a ≡ true → (a || b) ≡ true
-or_first true b h = refl
-or_first false b h = cc
-
 not_above : (n m : ℕ) → n ≤ m → nat_le n m ≡ true
 not_above n m h = grind (arith, nat_tests)
 
@@ -38,9 +23,9 @@ not_above n m h = grind (arith, nat_tests)
 module_name : (bs : List ℕ) → is_spelled bs ≡ true → length bs ≤ 64 → is_name bs ≡ true
 module_name [] h short = cc
 module_name (b ∷ bs) h short =
-    let first = and_first (is_letter b) _ h in
-    and_both (is_letter b) _ first (and_both (nat_le (length (b ∷ bs)) 64) _ (not_above (length (b ∷ bs)) 64 short)
-    (and_both (is_name_byte b) (list_all is_name_byte bs) (or_first _ _ (or_first (is_letter b) _ first)) (and_rest (is_letter b) _ h)))
+    let first = (and_parts (is_letter b) _ h).0 in
+    and_from (is_letter b) _ first (and_from (nat_le (length (b ∷ bs)) 64) _ (not_above (length (b ∷ bs)) 64 short)
+    (and_from (is_name_byte b) (list_all is_name_byte bs) (or_left _ _ (or_left (is_letter b) _ first)) ((and_parts (is_letter b) _ h).1)))
 
 parts : {X : Type 0} (P : X → Type 0) (xs ys : List X) → All P (xs ++ ys) → All P xs × All P ys
 parts P [] ys h = (All-nil P, h)
@@ -69,7 +54,7 @@ named e = is_name e.name
 enumerators_named : (es : List EnumeratorForm) → All HasName es → All IsShort (map erased_enumerator es) → list_all named (map erased_enumerator es) ≡ true
 enumerators_named [] h short = refl
 enumerators_named (e ∷ es) h short =
-    and_both (is_name e.name.text) _
+    and_from (is_name e.name.text) _
     (module_name e.name.text (All-head HasName e es h) (All-head IsShort (erased_enumerator e) (map erased_enumerator es) short))
     (enumerators_named es (All-tail HasName e es h) (All-tail IsShort (erased_enumerator e) (map erased_enumerator es) short))
 
@@ -84,19 +69,19 @@ sorts_named (d ∷ ds) h short =
     let others = every_enumerator (map erased_declaration ds) in
     let is : every_enumerator (map erased_declaration (d ∷ ds)) ≡ own ++ others = flat_map-cons (λ (x : SortDeclaration). enumerators x.sort) (erased_declaration d) (map erased_declaration ds) in
     let both = parts IsShort own others (subst (All IsShort) is short) in
-    and_both (has_enumerator_names (erased_declaration d)) _
+    and_from (has_enumerator_names (erased_declaration d)) _
     (sort_named d.sort (erased_declaration d) (All-head SortHasNames d ds h) refl both.0) (sorts_named ds (All-tail SortHasNames d ds h) both.1)
 
 equations_named : (E : List EquationForm) → All EquationHasName E → All IsShortEquation (map erased_equation E)
     → list_all (λ (X : Equation). is_name X.name) (map erased_equation E) ≡ true
 equations_named [] h short = refl
 equations_named (X ∷ E) h short =
-    and_both (is_name X.name.text) _
+    and_from (is_name X.name.text) _
     (module_name X.name.text (All-head EquationHasName X E h) (All-head IsShortEquation (erased_equation X) (map erased_equation E) short))
     (equations_named E (All-tail EquationHasName X E h) (All-tail IsShortEquation (erased_equation X) (map erased_equation E) short))
 
 pub text_named : (bytes : List ℕ) (text : SpecForm) → IsReading bytes text → IsDeclared (erase text) → has_names (erase text) ≡ true
 text_named bytes text read declared =
     let spelled = reading_spelled bytes text read in
-    and_both _ _ (sorts_named text.sorts spelled.enumerators declared.short_enumerators)
+    and_from _ _ (sorts_named text.sorts spelled.enumerators declared.short_enumerators)
     (equations_named text.equations spelled.equations declared.short_predicate_variables)

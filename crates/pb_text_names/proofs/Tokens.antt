@@ -3,6 +3,7 @@ use Rattle.std.proofs.Common.{◌≡◌, ℕ, suc, ◌+◌, Bool, true, false, c
 use Rattle.std.specs.List.{prefix_len, list_all}
 use Rattle.std.specs.Char.{is_ascii_digit}
 use Rattle.std.proofs.lemmas.List.Folds.{length-prefix_len}
+use Rattle.std.proofs.lemmas.Bool.{and_from}
 use Rattle.pb_text_tree.specs.declared.place.Place.{Place}
 use Rattle.pb_text_tree.specs.Form.{RangeForm}
 use Rattle.pb_text_lexer.specs.declared.kind.Kind.{Kind}
@@ -34,14 +35,10 @@ record Spells (p : Piece) (bs : List ℕ) : Type 0 where
 
 -- ---- words
 
-and_both : (a b : Bool) → a ≡ true → b ≡ true → (a && b) ≡ true
-and_both true b h i = i
-and_both false b h i = h
-
 while_more : (p : ℕ → Bool) (b : ℕ) (bs : List ℕ) → list_all p (take (prefix_len p bs) bs) ≡ true → (v : Bool) → p b ≡ v → list_all p (take (cond v (1 + prefix_len p bs) 0) (b ∷ bs)) ≡ true
 while_more p b bs rest true e =
     let more : suc (prefix_len p bs) ≡ 1 + prefix_len p bs = omega arith in
-    subst (λ (n : ℕ). list_all p (take n (b ∷ bs)) ≡ true) more (and_both (p b) _ e rest)
+    subst (λ (n : ℕ). list_all p (take n (b ∷ bs)) ≡ true) more (and_from (p b) _ e rest)
 while_more p b bs rest false e = refl
 
 all_while : (p : ℕ → Bool) (bs : List ℕ) → list_all p (take (prefix_len p bs) bs) ≡ true
@@ -52,7 +49,7 @@ word_spelled : (b : ℕ) (bs : List ℕ) → is_letter b ≡ true → is_spelled
 word_spelled b bs h =
     let same = length-prefix_len is_name_byte bs in
     let more : suc (prefix_len is_name_byte bs) ≡ 1 + length (name_bytes bs) = omega arith in
-    subst (λ (n : ℕ). is_spelled (take n (b ∷ bs)) ≡ true) more (and_both (is_letter b) _ h (all_while is_name_byte bs))
+    subst (λ (n : ℕ). is_spelled (take n (b ∷ bs)) ≡ true) more (and_from (is_letter b) _ h (all_while is_name_byte bs))
 
 -- ---- symbols
 

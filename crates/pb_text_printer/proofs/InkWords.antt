@@ -3,6 +3,7 @@ use Rattle.std.proofs.Common.{◌≡◌, ◌≤◌, ◌<◌, ◌^◌, ℕ, Bool,
 use Rattle.std.specs.Prelude.{codes}
 use Rattle.std.proofs.lemmas.Bool.Decides.{nat_tests}
 use Rattle.std.proofs.lemmas.Fmt.{decimal_is_IsNumeral}
+use Rattle.std.proofs.lemmas.Bool.{and_parts}
 use Rattle.pb_fixpoint.specs.declared.Sign.{Sign}
 use Rattle.pb_fixpoint.specs.declared.Sign.TheVariants as sign
 use Rattle.pb_text_tree.specs.declared.place.Place.{Place}
@@ -129,21 +130,13 @@ record Lettered (b : ℕ) (bs : List ℕ) : Type 0 where
   all : length (name_bytes bs) ≡ length bs
   kind : word_kind (b ∷ bs) ≡ k.Name
 
-and-left : (a b : Bool) → (a && b) ≡ true → a ≡ true
-and-left true b h = refl
-and-left false b h = h
-
-and-right : (a b : Bool) → (a && b) ≡ true → b ≡ true
-and-right true b h = h
-and-right false b h = cc
-
 lettered : (b : ℕ) (bs : List ℕ) → is_name (b ∷ bs) ≡ true → Lettered b bs
 lettered b bs h =
-    let front = and-left (is_letter b && length (name_bytes bs) == length bs) (same_kind (word_kind (b ∷ bs)) k.Name) h in
+    let front = (and_parts (is_letter b && length (name_bytes bs) == length bs) (same_kind (word_kind (b ∷ bs)) k.Name) h).0 in
     record {
-      letter = and-left (is_letter b) (length (name_bytes bs) == length bs) front;
-      all = (let e = and-right (is_letter b) (length (name_bytes bs) == length bs) front in grind (arith, nat_tests));
-      kind = kind-same (word_kind (b ∷ bs)) k.Name (and-right (is_letter b && length (name_bytes bs) == length bs) (same_kind (word_kind (b ∷ bs)) k.Name) h);
+      letter = (and_parts (is_letter b) (length (name_bytes bs) == length bs) front).0;
+      all = (let e = (and_parts (is_letter b) (length (name_bytes bs) == length bs) front).1 in grind (arith, nat_tests));
+      kind = kind-same (word_kind (b ∷ bs)) k.Name ((and_parts (is_letter b && length (name_bytes bs) == length bs) (same_kind (word_kind (b ∷ bs)) k.Name) h).1);
     }
 
 text-ink : (text : List ℕ) → is_name text ≡ true → Ink (word k.Name text)

@@ -4,6 +4,7 @@ use Rattle.std.specs.List.{prefix_len, take_while}
 use Rattle.std.proofs.lemmas.List.Folds.{length-prefix_len}
 use Rattle.std.specs.Char.{is_ascii_digit}
 use Rattle.std.specs.Str.Parse.{digits_value}
+use Rattle.std.proofs.lemmas.Bool.{and_from}
 use Rattle.pb_text_tree.specs.declared.place.Place.{Place}
 use Rattle.pb_text_tree.specs.Form.{RangeForm}
 use Rattle.pb_text_lexer.specs.declared.kind.Kind.{Kind}
@@ -34,14 +35,10 @@ while-stays p (b ∷ bs) = go (p b) refl (while-stays p bs)
         let last : prefix_len p (b ∷ take_while p bs) ≡ length (b ∷ take_while p bs) = omega arith in
         subst (λ (n : ℕ). prefix_len p (take n (b ∷ bs)) ≡ length (take n (b ∷ bs))) more last
 
-and-both : (a b : Bool) → a ≡ true → b ≡ true → (a && b) ≡ true
-and-both true b h g = g
-and-both false b h g = h
-
 name-whole : (b : ℕ) (ws : List ℕ) → is_letter b ≡ true → length (name_bytes ws) ≡ length ws → word_kind (b ∷ ws) ≡ k.Name → is_name (b ∷ ws) ≡ true
 name-whole b ws h g e =
-    and-both (is_letter b && length (name_bytes ws) == length ws) (same_kind (word_kind (b ∷ ws)) k.Name)
-    (and-both (is_letter b) (length (name_bytes ws) == length ws) h (eq-eqb (length (name_bytes ws)) (length ws) g))
+    and_from (is_letter b && length (name_bytes ws) == length ws) (same_kind (word_kind (b ∷ ws)) k.Name)
+    (and_from (is_letter b) (length (name_bytes ws) == length ws) h (eq-eqb (length (name_bytes ws)) (length ws) g))
     (subst (λ (v : Kind). same_kind v k.Name ≡ true) (sym e) (same-kind k.Name))
 
 name-front : (b : ℕ) (bs : List ℕ) → is_letter b ≡ true → word_kind (take (1 + length (name_bytes bs)) (b ∷ bs)) ≡ k.Name → is_name (take (1 + length (name_bytes bs)) (b ∷ bs)) ≡ true

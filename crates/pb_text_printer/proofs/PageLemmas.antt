@@ -19,10 +19,6 @@ pub bracketed : (w : Bool → List Word) (b ends : Bool) (p q r : Page) → b �
 bracketed w b ends p q r none opens inner =
     left (w true) (close_word ∷ []) q r inner ∙ ap (after (w true ++ close_word ∷ [])) opens ∙ ap (λ v. after (put v w ends) p) (sym none)
 
--- words that stand by themselves
-pub unbracketed : (w : Bool → List Word) (b ends : Bool) (p : Page) → b ≡ true → after (w ends) p ≡ after (put b w ends) p
-unbracketed w b ends p all = ap (λ v. after (put v w ends) p) (sym all)
-
 module _ {A : Type 0} where
   -- the elements that are left from k on
   pub left-next : (xs : List A) (k : ℕ) (x : A) → k < length xs → x ≡ get_or xs k x → drop k xs ≡ x ∷ drop (k + 1) xs

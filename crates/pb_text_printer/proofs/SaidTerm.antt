@@ -1,6 +1,7 @@
 -- A data term that is read can be said within the same levels, and has the operators that were counted.
 use Rattle.std.proofs.Common.{◌≡◌, ℕ, zero, suc, ◌+◌, Bool, true, false, ◌||◌, List, [], ◌∷◌, refl, ap, subst, arith, inl, inr}
 use Rattle.std.specs.Str.Parse.{digits_value}
+use Rattle.std.proofs.lemmas.Bool.{or_right}
 use Rattle.pb_text_tree.specs.declared.place.Place.{Place}
 use Rattle.pb_text_tree.specs.declared.operator.Arithmetic.{Arithmetic}
 use Rattle.pb_text_tree.specs.declared.operator.Arithmetic.TheVariants as arithmetic
@@ -155,14 +156,10 @@ module _ (d : ℕ) (Unary Term : Reads TermForm) (unary : Says Unary (λ x. At d
 abbrev Leads : ℕ → (Kind → Bool) → TermForm → Type 0
 Leads d test x = (o : Arithmetic) → test (arithmetic_word o).kind ≡ true → IsPut (goes_on o x || stands x (arithmetic_side o) false) (IsSayable x) false d
 
-or-true : (a b : Bool) → b ≡ true → (a || b) ≡ true
-or-true true b h = refl
-or-true false b h = h
-
 leads-item : (d : ℕ) (x : TermForm) (o : Arithmetic) → At d x (arithmetic_side o) false → IsPut (goes_on o x || stands x (arithmetic_side o) false) (IsSayable x) false d
 leads-item d x o h =
     puts (IsSayable x) (term-bends x) (stands x (arithmetic_side o) false) (goes_on o x || stands x (arithmetic_side o) false) false d
-    (or-true (goes_on o x) (stands x (arithmetic_side o) false)) h
+    (or_right (goes_on o x) (stands x (arithmetic_side o) false)) h
 
 -- A chain: its operators, its level, and that of its operands.
 pub record IsChain (d : ℕ) (test : Kind → Bool) (own side : Level) : Type 0 where

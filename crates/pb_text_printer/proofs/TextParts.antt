@@ -37,10 +37,6 @@ pub parameters : (vs : List VariableForm) → are_none vs ≡ false → list_wor
 parameters [] some = cc
 parameters (v ∷ vs) some = refl
 
-pub no-parameters : (vs : List VariableForm) → are_none vs ≡ true → [] ≡ parameter_words vs
-no-parameters [] none = refl
-no-parameters (v ∷ vs) none = cc
-
 -- ---- bytes
 
 abbrev at_line : List ℕ → Page

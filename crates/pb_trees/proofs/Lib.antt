@@ -2,6 +2,6 @@ mod OneTree
 pub mod Monotone
 pub mod Numbers
 pub mod Members
-mod Rising
+pub mod Rising
 pub mod Lengths
 mod Total

@@ -14,14 +14,14 @@ abbrev Rises : List ℕ → Type 0
 Rises [] = Unit {0}
 Rises (x ∷ xs) = Above x xs
 
-above_with : (m n : ℕ) (xs : List ℕ) → m < n → Above m xs → Above m (with_number n xs)
+pub above_with : (m n : ℕ) (xs : List ℕ) → m < n → Above m xs → Above m (with_number n xs)
 above_with m n [] h a = (h, tt)
 above_with m n (x ∷ xs) h a =
     cond_both (nat_lt n x) (n ∷ (x ∷ xs)) _ (Above m) (λ l. (h, (ltb-true n x l, a.1)))
     (λ g. cond_both (n == x) (x ∷ xs) (x ∷ with_number n xs) (Above m) (λ _. a)
     (λ d. (a.0, above_with x n xs (let ge = ltb-false n x g in let ne = eqb-false n x d in grind (arith, ge, ne)) a.1)))
 
-rises_with : (n : ℕ) (xs : List ℕ) → Rises xs → Rises (with_number n xs)
+pub rises_with : (n : ℕ) (xs : List ℕ) → Rises xs → Rises (with_number n xs)
 rises_with n [] r = tt
 rises_with n (x ∷ xs) r =
     cond_both (nat_lt n x) (n ∷ (x ∷ xs)) _ Rises (λ l. (ltb-true n x l, r))

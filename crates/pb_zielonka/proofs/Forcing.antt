@@ -4,7 +4,7 @@ use Rattle.std.proofs.lemmas.Bool.{cases_eq}
 use Rattle.std.proofs.lemmas.List.{get_or-set_same, get_or-set_other}
 use Rattle.std.proofs.Common.{length-set, inl, inr, subst, sym, false, true, ◌≤◌, map, refl, ◌∙◌}
 use Rattle.std.proofs.lemmas.List.{length-map}
-use Rattle.pb_zielonka.proofs.Counts.{one_if, start_at, TakesIn}
+use Rattle.pb_zielonka.proofs.Counts.{one_if, start_at}
 use Rattle.pb_game.specs.declared.Game.{Game}
 use Rattle.pb_game.specs.Games.{vertex_count, owner_of, HasEdge}
 use Rattle.pb_zielonka.specs.Regions.{IsIn, HasEdgeIn}
@@ -81,23 +81,6 @@ outside_kept g region player rank rank' last w earlier o = record {
   own = λ mine u e t. o.own mine u e (earlier u t);
   other = λ theirs. let x = o.other theirs in (x.0, record { edge = x.1.edge; free = λ t. x.1.free (earlier x.0 t) });
 }
-
-pub outside_at : (g : Game) (region : List Bool) (player : ℕ) (rank : List ℕ) (last last' v w : ℕ) → w ≡ v → last' ≡ last →
-    IsOutside g region player rank last' v → IsOutside g region player rank last w
-outside_at g region player rank last last' v w e e' o =
-    subst (λ (x : ℕ). IsOutside g region player rank last x) (sym e) (subst (λ (x : ℕ). IsOutside g region player rank x v) e' o)
-
-pub taken_since : (start old new : List ℕ) (v : ℕ) → v < length start → (0 < get_or start v 0 → get_or old v 0 ≡ get_or start v 0) →
-    TakesIn old new v → TakesIn start new v
-taken_since start old new v h kept t = record {
-  within = h;
-  before = grind (arith, kept, t.before);
-  after = t.after;
-}
-
-pub earlier_at : (rank rank' : List ℕ) (last last' : ℕ) → last' ≡ last → ((u : ℕ) → IsTaken rank' last' u → IsTaken rank last' u) →
-    (u : ℕ) → IsTaken rank' last u → IsTaken rank last u
-earlier_at rank rank' last last' e f = subst (λ (x : ℕ). (u : ℕ) → IsTaken rank' x u → IsTaken rank x u) e f
 
 one_if_pos : (b : Bool) → 0 < one_if b → b ≡ true
 one_if_pos true h = refl

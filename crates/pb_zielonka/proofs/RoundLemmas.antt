@@ -25,9 +25,6 @@ use Rattle.pb_zielonka.proofs.Counts.{one_if, TakesIn}
 use Rattle.pb_zielonka.proofs.LevelLemmas.{in_below}
 use Rattle.pb_zielonka.proofs.Forcing.{IsWritten, outside_kept, frontier_settles, start_one, start_only}
 
-pub grows_refl : (rank : List ℕ) (last : ℕ) → Grows rank rank last
-grows_refl rank last = record { kept = λ v h. refl; late = λ v z h. absurd (omega arith) }
-
 pub grows_trans : (a b c : List ℕ) (last : ℕ) → Grows a b last → Grows b c last → Grows a c last
 grows_trans a b c last x y = record {
   kept = λ v h. y.kept v (omega (arith, x.kept v h)) ∙ x.kept v h;

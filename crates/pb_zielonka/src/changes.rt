@@ -2,11 +2,13 @@
 
 ghost use Rattle.std.specs.Prelude.{◌≡◌, ◌≢◌, ℕ, ◌+◌, ◌*◌, ◌^◌, ◌<◌, ◌≤◌, length, slice_index};
 ghost use Rattle.pb_game.specs.Games.{vertex_count, priority_count};
-ghost use Rattle.pb_game_certificate.specs.Solutions.{HasLengths, winner_of, count_of};
+ghost use Rattle.pb_game_certificate.specs.Solutions.{HasLengths, winner_of};
 ghost use Rattle.pb_zielonka.specs.Regions.{IsIn, HasEdgeIn, IsSubgame};
-ghost use Rattle.pb_zielonka.specs.Changes.{IsSameAt, SetsWinner, SetsChoice, SetsCount, IsLostAt, IsNamedAt, IsClaimedAt, IsRaisedAt, IsClearedAt};
+ghost use Rattle.pb_zielonka.specs.Changes.{IsSameAt, SetsWinner, SetsChoice, SetsCount, IsRaisedAt, IsClearedAt};
+ghost use Rattle.pb_zielonka.specs.Written.{LosesAt, Loses, NamesWinner, ClaimsAt, Claims, HasRoomAt, AreRaised, AreCleared};
 
 use crate::attractor::Attractor;
+use crate::scopes::Arena;
 use pb_game::Game;
 use pb_game_certificate::Solution;
 
@@ -51,57 +53,54 @@ fn set_count(game: &Game, solution: &mut Solution, v: u32, priority: u32, value:
     solution.counts[at] = value;
 }
 
-/// Writes the opponent's attractor at `v`.
+/// Writes at `v` the attractor of the arena's player, who is the level's opponent.
 fn lose_at(
-    game: &Game,
+    arena: &Arena<'_>,
     solution: &mut Solution,
     attractor: &Attractor,
-    opponent: u8,
     top: u32,
     base: u64,
     v: u32,
 )
-    requires lengths { HasLengths game.now solution.old }
-    requires vertex { v < vertex_count game.now }
-    requires ranks { length attractor.now.rank.items ≡ vertex_count game.now }
-    requires choices { length attractor.now.choice.items ≡ vertex_count game.now }
-    requires player { opponent < 2 }
-    requires top { top < priority_count game.now }
+    requires lengths { HasLengths arena.now.game.now solution.old }
+    requires vertex { v < vertex_count arena.now.game.now }
+    requires ranks { length attractor.now.rank.items ≡ vertex_count arena.now.game.now }
+    requires choices { length attractor.now.choice.items ≡ vertex_count arena.now.game.now }
+    requires top { top < priority_count arena.now.game.now }
     requires small { base + slice_index attractor.now.rank.items v < 2 ^ 64 }
-    ensures lengths { HasLengths game.now solution.new }
-    ensures lost { IsLostAt game.now solution.old solution.new attractor.now opponent top base v }
-    ensures others { (u : ℕ) → u ≢ v → IsSameAt game.now solution.old solution.new u }
+    ensures lengths { HasLengths arena.now.game.now solution.new }
+    ensures lost { LosesAt arena.now solution.old solution.new attractor.now top base v }
+    ensures others { (u : ℕ) → u ≢ v → IsSameAt arena.now.game.now solution.old solution.new u }
 {
     let rank = attractor.rank[v as usize];
     if rank != 0 {
-        set_winner(game, solution, v, opponent);
+        set_winner(arena.game, solution, v, arena.player);
         if rank != 1 {
-            set_choice(game, solution, v, attractor.choice[v as usize]);
+            set_choice(arena.game, solution, v, attractor.choice[v as usize]);
         }
-        set_count(game, solution, v, top, base + u64::from(rank));
+        set_count(arena.game, solution, v, top, base + u64::from(rank));
     }
 }
 
-/// Writes that the opponent wins what it attracts: the ranks, above `base`, are the counts of the priority `top`.
+/// Writes that the arena's player, who is the level's opponent, wins what it attracts: the ranks, above `base`, are
+/// the counts of the priority `top`.
 pub(crate) fn lose(
-    game: &Game,
+    arena: &Arena<'_>,
     solution: &mut Solution,
     attractor: &Attractor,
-    opponent: u8,
     top: u32,
     base: u64,
 )
-    requires lengths { HasLengths game.now solution.old }
-    requires ranks { length attractor.now.rank.items ≡ vertex_count game.now }
-    requires choices { length attractor.now.choice.items ≡ vertex_count game.now }
-    requires player { opponent < 2 }
-    requires top { top < priority_count game.now }
+    requires lengths { HasLengths arena.now.game.now solution.old }
+    requires ranks { length attractor.now.rank.items ≡ vertex_count arena.now.game.now }
+    requires choices { length attractor.now.choice.items ≡ vertex_count arena.now.game.now }
+    requires top { top < priority_count arena.now.game.now }
     requires small { (v : ℕ) → base + slice_index attractor.now.rank.items v < 2 ^ 64 }
-    ensures lengths { HasLengths game.now solution.new }
-    ensures lost { (v : ℕ) → v < vertex_count game.now → IsLostAt game.now solution.old solution.new attractor.now opponent top base v }
+    ensures lengths { HasLengths arena.now.game.now solution.new }
+    ensures lost { Loses arena.now solution.old solution.new attractor.now top base }
 {
-    for v in 0..game.len() {
-        lose_at(game, solution, attractor, opponent, top, base, v);
+    for v in 0..arena.game.len() {
+        lose_at(arena, solution, attractor, top, base, v);
     }
 }
 
@@ -120,85 +119,61 @@ fn stay(game: &Game, region: &[bool], v: u32) -> u32
     unreachable!()
 }
 
-/// Writes at the attracted vertex `v` that the player wins it, and by which choice.
-fn name_winner(
-    game: &Game,
-    solution: &mut Solution,
-    left: &[bool],
-    attractor: &Attractor,
-    player: u8,
-    v: u32,
-)
-    requires lengths { HasLengths game.now solution.old }
-    requires vertex { v < vertex_count game.now }
-    requires left { IsSubgame game.now left.now }
-    requires ranks { length attractor.now.rank.items ≡ vertex_count game.now }
-    requires choices { length attractor.now.choice.items ≡ vertex_count game.now }
-    requires within { IsIn left.now v }
-    requires player { player < 2 }
-    ensures lengths { HasLengths game.now solution.new }
-    ensures named { IsNamedAt game.now solution.old solution.new left.now attractor.now player v }
+/// Writes at the attracted vertex `v` that the arena's player wins it, and by which choice.
+fn name_winner(arena: &Arena<'_>, solution: &mut Solution, attractor: &Attractor, v: u32)
+    requires lengths { HasLengths arena.now.game.now solution.old }
+    requires vertex { v < vertex_count arena.now.game.now }
+    requires left { IsSubgame arena.now.game.now arena.now.region.now }
+    requires ranks { length attractor.now.rank.items ≡ vertex_count arena.now.game.now }
+    requires choices { length attractor.now.choice.items ≡ vertex_count arena.now.game.now }
+    requires within { IsIn arena.now.region.now v }
+    ensures lengths { HasLengths arena.now.game.now solution.new }
+    ensures named { NamesWinner arena.now solution.old solution.new attractor.now v }
 {
-    set_winner(game, solution, v, player);
+    let game = arena.game;
+    set_winner(game, solution, v, arena.player);
     if attractor.rank[v as usize] != 1 {
         set_choice(game, solution, v, attractor.choice[v as usize]);
-    } else if game.owner(v) == player {
-        set_choice(game, solution, v, stay(game, left, v));
+    } else if game.owner(v) == arena.player {
+        set_choice(game, solution, v, stay(game, arena.region, v));
     }
 }
 
-/// Writes the player's attractor at `v`.
-fn claim_at(
-    game: &Game,
-    solution: &mut Solution,
-    left: &[bool],
-    attractor: &Attractor,
-    player: u8,
-    top: u32,
-    v: u32,
-)
-    requires lengths { HasLengths game.now solution.old }
-    requires vertex { v < vertex_count game.now }
-    requires left { IsSubgame game.now left.now }
-    requires ranks { length attractor.now.rank.items ≡ vertex_count game.now }
-    requires choices { length attractor.now.choice.items ≡ vertex_count game.now }
-    requires within { 0 < slice_index attractor.now.rank.items v → IsIn left.now v }
-    requires player { player < 2 }
-    requires top { top < priority_count game.now }
-    ensures lengths { HasLengths game.now solution.new }
-    ensures claimed { IsClaimedAt game.now solution.old solution.new left.now attractor.now player top v }
-    ensures others { (u : ℕ) → u ≢ v → IsSameAt game.now solution.old solution.new u }
+/// Writes the attractor of the arena's player at `v`.
+fn claim_at(arena: &Arena<'_>, solution: &mut Solution, attractor: &Attractor, top: u32, v: u32)
+    requires lengths { HasLengths arena.now.game.now solution.old }
+    requires vertex { v < vertex_count arena.now.game.now }
+    requires left { IsSubgame arena.now.game.now arena.now.region.now }
+    requires ranks { length attractor.now.rank.items ≡ vertex_count arena.now.game.now }
+    requires choices { length attractor.now.choice.items ≡ vertex_count arena.now.game.now }
+    requires within { 0 < slice_index attractor.now.rank.items v → IsIn arena.now.region.now v }
+    requires top { top < priority_count arena.now.game.now }
+    ensures lengths { HasLengths arena.now.game.now solution.new }
+    ensures claimed { ClaimsAt arena.now solution.old solution.new attractor.now top v }
+    ensures others { (u : ℕ) → u ≢ v → IsSameAt arena.now.game.now solution.old solution.new u }
 {
     let rank = attractor.rank[v as usize];
     if rank != 0 {
-        name_winner(game, solution, left, attractor, player, v);
+        name_winner(arena, solution, attractor, v);
         if 0 < top {
-            set_count(game, solution, v, top - 1, u64::from(rank));
+            set_count(arena.game, solution, v, top - 1, u64::from(rank));
         }
     }
 }
 
-/// Writes what the player attracts as won by the player: the ranks are the counts of the priority below `top`.
-pub(crate) fn claim(
-    game: &Game,
-    solution: &mut Solution,
-    left: &[bool],
-    attractor: &Attractor,
-    player: u8,
-    top: u32,
-)
-    requires lengths { HasLengths game.now solution.old }
-    requires left { IsSubgame game.now left.now }
-    requires ranks { length attractor.now.rank.items ≡ vertex_count game.now }
-    requires choices { length attractor.now.choice.items ≡ vertex_count game.now }
-    requires within { (v : ℕ) → 0 < slice_index attractor.now.rank.items v → IsIn left.now v }
-    requires player { player < 2 }
-    requires top { top < priority_count game.now }
-    ensures lengths { HasLengths game.now solution.new }
-    ensures claimed { (v : ℕ) → v < vertex_count game.now → IsClaimedAt game.now solution.old solution.new left.now attractor.now player top v }
+/// Writes what the arena's player attracts as won by it: the ranks are the counts of the priority below `top`.
+pub(crate) fn claim(arena: &Arena<'_>, solution: &mut Solution, attractor: &Attractor, top: u32)
+    requires lengths { HasLengths arena.now.game.now solution.old }
+    requires left { IsSubgame arena.now.game.now arena.now.region.now }
+    requires ranks { length attractor.now.rank.items ≡ vertex_count arena.now.game.now }
+    requires choices { length attractor.now.choice.items ≡ vertex_count arena.now.game.now }
+    requires within { (v : ℕ) → 0 < slice_index attractor.now.rank.items v → IsIn arena.now.region.now v }
+    requires top { top < priority_count arena.now.game.now }
+    ensures lengths { HasLengths arena.now.game.now solution.new }
+    ensures claimed { Claims arena.now solution.old solution.new attractor.now top }
 {
-    for v in 0..game.len() {
-        claim_at(game, solution, left, attractor, player, top, v);
+    for v in 0..arena.game.len() {
+        claim_at(arena, solution, attractor, top, v);
     }
 }
 
@@ -208,7 +183,7 @@ fn raise_at(game: &Game, solution: &mut Solution, rest: &[bool], gain: u64, top:
     requires vertex { v < vertex_count game.now }
     requires rest { length rest.now ≡ vertex_count game.now }
     requires top { top < priority_count game.now }
-    requires small { (below : ℕ) → below + 1 ≡ top → IsIn rest.now v → count_of game.now solution.old v below + gain < 2 ^ 64 }
+    requires small { HasRoomAt game.now solution.old rest.now gain top v }
     ensures lengths { HasLengths game.now solution.new }
     ensures raised { IsRaisedAt game.now solution.old solution.new rest.now gain top v }
     ensures others { (u : ℕ) → u ≢ v → IsSameAt game.now solution.old solution.new u }
@@ -233,9 +208,9 @@ pub(crate) fn win_rest(
     requires rest { length rest.now ≡ vertex_count game.now }
     requires won { (v : ℕ) → IsIn rest.now v → winner_of solution.old v ≡ player }
     requires top { top < priority_count game.now }
-    requires small { (v below : ℕ) → below + 1 ≡ top → IsIn rest.now v → count_of game.now solution.old v below + gain < 2 ^ 64 }
+    requires small { (v : ℕ) → HasRoomAt game.now solution.old rest.now gain top v }
     ensures lengths { HasLengths game.now solution.new }
-    ensures raised { (v : ℕ) → v < vertex_count game.now → IsRaisedAt game.now solution.old solution.new rest.now gain top v }
+    ensures raised { AreRaised game.now solution.old solution.new rest.now gain top }
 {
     for v in 0..game.len() {
         raise_at(game, solution, rest, gain, top, v);
@@ -269,7 +244,7 @@ pub(crate) fn clear(game: &Game, solution: &mut Solution, region: &[bool], top: 
     requires limit_small { limit ≤ 4294967296 }
     requires top { top < limit }
     ensures lengths { HasLengths game.now solution.new }
-    ensures cleared { (v : ℕ) → v < vertex_count game.now → IsClearedAt game.now solution.old solution.new region.now top limit v }
+    ensures cleared { AreCleared game.now solution.old solution.new region.now top limit }
 {
     for v in 0..game.len() {
         clear_at(game, solution, region, top, limit, v);

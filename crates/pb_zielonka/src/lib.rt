@@ -17,11 +17,13 @@ mod levels;
 mod packed;
 mod regions;
 mod rounds;
+mod scopes;
 
 use levels::solve_below;
 use packed::PackedRegion;
 use pb_game::Game;
 use pb_game_certificate::Solution;
+use scopes::Level;
 use std::alloc::{AllocError, Global};
 use std::thread::Threads;
 
@@ -37,6 +39,12 @@ pub fn solve(rt: &(impl Threads + Sync), alloc: Global, game: &Game) -> Result<S
         counts: vec![in alloc; 0u64; vertices * priorities]?,
     };
     let region = PackedRegion::pack(alloc, &vec![in alloc; true; vertices]?)?;
-    solve_below(rt, alloc, game, &mut solution, &region, priorities, 1)?;
+    let level = Level {
+        game,
+        region: &region,
+        limit: priorities,
+        depth: 1,
+    };
+    solve_below(rt, alloc, &level, &mut solution)?;
     Ok(solution)
 }

@@ -3,17 +3,18 @@
 //! What a round decides at a vertex depends on the ranks of the rounds before alone, so that the order in which
 //! it looks at the vertices doesn't matter.
 
-ghost use Rattle.std.specs.Prelude.{◌≡◌, ◌≢◌, ℕ, ◌+◌, ◌^◌, ◌<◌, ◌≤◌, length, slice_index, slice_index_or, true, false, OnOk, IfOk, []};
+ghost use Rattle.std.specs.Prelude.{◌≡◌, ℕ, ◌+◌, ◌^◌, ◌<◌, length, slice_index, OnOk, IfOk, []};
 ghost use Rattle.std.specs.Bool.{OnFalse};
 ghost use Rattle.std.specs.Prelude.{IsPermutation, IsSorted};
 ghost use Rattle.std.specs.List.Sorted.{IsStrictlyIncreasing};
 ghost use Rattle.std.specs.Ordering.{nat_cmp};
-ghost use Rattle.pb_game.specs.Games.{vertex_count, owner_of, successors_of, HasEdge};
-ghost use Rattle.pb_zielonka.specs.Regions.{IsIn};
-ghost use Rattle.pb_zielonka.specs.Attractors.{IsTaken, IsOutside, IsForcing, IsRound};
-ghost use Rattle.pb_zielonka.specs.Rounds.{Grows, IsFrontier, IsBefore, ArePassed, IsSearch, MatchVerdict, IsReady, IsIdle, IsTakenVertex, IsLookedAt};
+ghost use Rattle.pb_game.specs.Games.{vertex_count, HasEdge};
+ghost use Rattle.pb_zielonka.specs.Attractors.{IsTaken};
+ghost use Rattle.pb_zielonka.specs.Rounds.{Grows, IsFrontier, IsTakenVertex};
+ghost use Rattle.pb_zielonka.specs.Searches.{DecidesAt, IsReadyFor, IsIdleFor, AreIdleUnflagged, IsSearchIn, IsLeftOut, IsIdleIn, IsLookedAtIn, IsForcingIn, IsSettledIn, ArePassedIn, IsRoundIn};
 
 use crate::attractor::Attractor;
+use crate::scopes::Arena;
 use pb_game::Game;
 use rayon::prelude::*;
 use std::alloc::{AllocError, Global};
@@ -21,6 +22,15 @@ use std::thread::Threads;
 
 /// From this size on a frontier is looked at by several threads.
 const LARGE: usize = 512;
+
+/// What a decision reads: the ranks of the rounds so far, the last of them, and how many successors of each of the
+/// opponent's vertices are known to be no way out.
+#[derive(Clone, Copy)]
+pub(crate) struct Found<'a> {
+    pub rank: &'a [u32],
+    pub last: u32,
+    pub passed: &'a [u32],
+}
 
 /// What a round decides at a vertex that no round took in yet.
 #[derive(Clone, Copy)]
@@ -34,32 +44,21 @@ pub(crate) enum Verdict {
 /// What the round decides at the predecessor `v` of the frontier's vertex `u`.
 ///
 /// At the opponent's vertices the search for a way out goes on behind the successors that it passed before.
-fn decide(
-    game: &Game,
-    region: &[bool],
-    player: u8,
-    rank: &[u32],
-    last: u32,
-    passed: &[u32],
-    v: u32,
-    u: u32,
-) -> Verdict
-    requires region { length region.now ≡ vertex_count game.now }
-    requires ranks { length rank.now ≡ vertex_count game.now }
-    requires vertex { v < vertex_count game.now }
-    requires edge { HasEdge game.now v u }
-    requires taken { IsTaken rank.now last u }
-    requires passed { ArePassed game.now region.now player rank.now last passed.now }
-    ensures { MatchVerdict game.now region.now player rank.now last v result }
+fn decide(arena: &Arena<'_>, found: &Found<'_>, v: u32, u: u32) -> Verdict
+    requires ready { IsReadyFor arena.now found.now }
+    requires vertex { v < vertex_count arena.now.game.now }
+    requires edge { HasEdge arena.now.game.now v u }
+    requires taken { IsTaken found.now.rank.now found.now.last u }
+    ensures { DecidesAt arena.now found.now v result }
 {
-    if game.owner(v) == player {
+    if arena.game.owner(v) == arena.player {
         return Verdict::Taken { choice: u };
     }
-    let successors = game.successors(v);
-    let mut place = passed[v as usize] as usize;
+    let successors = arena.game.successors(v);
+    let mut place = found.passed[v as usize] as usize;
     while place < successors.len() {
         let w = successors[place] as usize;
-        if region[w] && (rank[w] == 0 || last < rank[w]) {
+        if arena.region[w] && (found.rank[w] == 0 || found.last < found.rank[w]) {
             return Verdict::Escapes {
                 place: place as u32,
             };
@@ -71,113 +70,98 @@ fn decide(
 
 /// Looks at the predecessor `v` of the frontier's vertex `u`.
 fn visit(
-    game: &Game,
-    region: &[bool],
-    player: u8,
+    arena: &Arena<'_>,
     attractor: &mut Attractor,
-    passed: &mut [u32],
     next: &mut Vec<u32>,
     v: u32,
     u: u32,
 ) -> Result<(), AllocError>
-    requires region { length region.now ≡ vertex_count game.now }
     requires small { attractor.old.rounds + 1 < 2 ^ 32 }
     requires started { 0 < attractor.old.rounds }
-    requires vertex { v < vertex_count game.now }
-    requires edge { HasEdge game.now v u }
+    requires vertex { v < vertex_count arena.now.game.now }
+    requires edge { HasEdge arena.now.game.now v u }
     requires taken { IsTaken attractor.old.rank.items attractor.old.rounds u }
-    requires search { IsSearch game.now region.now player attractor.old passed.old next.old.items }
-    ensures search { OnOk result (IsSearch game.now region.now player attractor.new passed.new next.new.items) }
+    requires search { IsSearchIn arena.now attractor.old next.old.items }
+    ensures search { OnOk result (IsSearchIn arena.now attractor.new next.new.items) }
     ensures rounds { attractor.new.rounds ≡ attractor.old.rounds }
     ensures grows { OnOk result (Grows attractor.old.rank.items attractor.new.rank.items attractor.old.rounds) }
-    ensures outside { OnOk result (IsIn region.now v → slice_index attractor.new.rank.items v ≡ 0 → IsOutside game.now region.now player attractor.new.rank.items attractor.old.rounds v) }
+    ensures outside { OnOk result (IsLeftOut arena.now attractor.new.rank.items attractor.old.rounds v) }
 {
     let last = attractor.rounds;
-    if !region[v as usize] || attractor.rank[v as usize] != 0 {
+    if !arena.region[v as usize] || attractor.rank[v as usize] != 0 {
         return Ok(());
     }
-    match decide(game, region, player, &attractor.rank, last, passed, v, u) {
+    let found = Found {
+        rank: &attractor.rank,
+        last,
+        passed: &attractor.passed,
+    };
+    match decide(arena, &found, v, u) {
         Verdict::Taken { choice } => {
             next.push(v)?;
             attractor.rank[v as usize] = last + 1;
             attractor.choice[v as usize] = choice;
         }
-        Verdict::Escapes { place } => passed[v as usize] = place,
+        Verdict::Escapes { place } => attractor.passed[v as usize] = place,
     }
     Ok(())
 }
 
 /// Looks at the predecessors of the frontier's vertex `u`.
 fn visit_predecessors(
-    game: &Game,
-    region: &[bool],
-    player: u8,
+    arena: &Arena<'_>,
     attractor: &mut Attractor,
-    passed: &mut [u32],
     next: &mut Vec<u32>,
     u: u32,
 ) -> Result<(), AllocError>
-    requires region { length region.now ≡ vertex_count game.now }
     requires small { attractor.old.rounds + 1 < 2 ^ 32 }
     requires started { 0 < attractor.old.rounds }
-    requires vertex { u < vertex_count game.now }
+    requires vertex { u < vertex_count arena.now.game.now }
     requires taken { IsTaken attractor.old.rank.items attractor.old.rounds u }
-    requires search { IsSearch game.now region.now player attractor.old passed.old next.old.items }
-    ensures search { OnOk result (IsSearch game.now region.now player attractor.new passed.new next.new.items) }
+    requires search { IsSearchIn arena.now attractor.old next.old.items }
+    ensures search { OnOk result (IsSearchIn arena.now attractor.new next.new.items) }
     ensures rounds { attractor.new.rounds ≡ attractor.old.rounds }
     ensures grows { OnOk result (Grows attractor.old.rank.items attractor.new.rank.items attractor.old.rounds) }
-    ensures outside { OnOk result ((v : ℕ) → HasEdge game.now v u → IsIn region.now v → slice_index attractor.new.rank.items v ≡ 0 → IsOutside game.now region.now player attractor.new.rank.items attractor.old.rounds v) }
+    ensures outside { OnOk result (IsIdleIn arena.now attractor.new.rank.items attractor.old.rounds u) }
 {
-    for &v in game.predecessors(u) {
-        visit(game, region, player, attractor, passed, next, v, u)?;
+    for &v in arena.game.predecessors(u) {
+        visit(arena, attractor, next, v, u)?;
     }
     Ok(())
 }
 
 /// Looks at the predecessors of the whole frontier.
 fn visit_frontier(
-    game: &Game,
-    region: &[bool],
-    player: u8,
+    arena: &Arena<'_>,
     attractor: &mut Attractor,
-    passed: &mut [u32],
     frontier: &[u32],
     next: &mut Vec<u32>,
 ) -> Result<(), AllocError>
-    requires region { length region.now ≡ vertex_count game.now }
     requires small { attractor.old.rounds + 1 < 2 ^ 32 }
     requires started { 0 < attractor.old.rounds }
     requires frontier { IsFrontier attractor.old.rank.items attractor.old.rounds frontier.now }
-    requires search { IsSearch game.now region.now player attractor.old passed.old next.old.items }
-    ensures search { OnOk result (IsSearch game.now region.now player attractor.new passed.new next.new.items) }
+    requires search { IsSearchIn arena.now attractor.old next.old.items }
+    ensures search { OnOk result (IsSearchIn arena.now attractor.new next.new.items) }
     ensures rounds { attractor.new.rounds ≡ attractor.old.rounds }
     ensures grows { OnOk result (Grows attractor.old.rank.items attractor.new.rank.items attractor.old.rounds) }
-    ensures outside { OnOk result (IsLookedAt game.now region.now player attractor.new.rank.items attractor.old.rounds frontier.now) }
+    ensures outside { OnOk result (IsLookedAtIn arena.now attractor.new.rank.items attractor.old.rounds frontier.now) }
 {
     for &u in frontier {
-        visit_predecessors(game, region, player, attractor, passed, next, u)?;
+        visit_predecessors(arena, attractor, next, u)?;
     }
     Ok(())
 }
 
 /// Whether the round takes in a predecessor of the frontier's vertex `u`.
-fn feeds(
-    game: &Game,
-    region: &[bool],
-    player: u8,
-    rank: &[u32],
-    last: u32,
-    passed: &[u32],
-    u: u32,
-) -> bool
-    requires ready { IsReady game.now region.now player rank.now last passed.now }
-    requires vertex { u < vertex_count game.now }
-    requires taken { IsTaken rank.now last u }
-    ensures { OnFalse result (IsIdle game.now region.now player rank.now last u) }
+fn feeds(arena: &Arena<'_>, found: &Found<'_>, u: u32) -> bool
+    requires ready { IsReadyFor arena.now found.now }
+    requires vertex { u < vertex_count arena.now.game.now }
+    requires taken { IsTaken found.now.rank.now found.now.last u }
+    ensures { OnFalse result (IsIdleFor arena.now found.now u) }
 {
-    for &v in game.predecessors(u) {
-        if region[v as usize] && rank[v as usize] == 0 {
-            if let Verdict::Taken { .. } = decide(game, region, player, rank, last, passed, v, u) {
+    for &v in arena.game.predecessors(u) {
+        if arena.region[v as usize] && found.rank[v as usize] == 0 {
+            if let Verdict::Taken { .. } = decide(arena, found, v, u) {
                 return true;
             }
         }
@@ -189,57 +173,49 @@ fn feeds(
 fn feeding(
     rt: &(impl Threads + Sync),
     alloc: Global,
-    game: &Game,
-    region: &[bool],
-    player: u8,
-    rank: &[u32],
-    last: u32,
-    passed: &[u32],
+    arena: &Arena<'_>,
+    found: &Found<'_>,
     frontier: &[u32],
 ) -> Result<Vec<bool>, AllocError>
-    requires ready { IsReady game.now region.now player rank.now last passed.now }
-    requires frontier { (k : ℕ) → k < length frontier.now → IsTakenVertex game.now rank.now last (slice_index frontier.now k) }
+    requires ready { IsReadyFor arena.now found.now }
+    requires frontier { (k : ℕ) → k < length frontier.now → IsTakenVertex arena.now.game.now found.now.rank.now found.now.last (slice_index frontier.now k) }
     ensures size { IfOk result (λ flags. length flags.items ≡ length frontier.now) }
-    ensures idle { IfOk result (λ flags. (k : ℕ) → k < length frontier.now → slice_index_or flags.items k true ≡ false → IsIdle game.now region.now player rank.now last (slice_index frontier.now k)) }
+    ensures idle { IfOk result (λ flags. AreIdleUnflagged arena.now found.now.rank.now found.now.last frontier.now flags.items) }
 {
     frontier
         .par_iter()
         .map(
             |u: &u32| -> bool
-                requires ready { IsReady game.now region.now player rank.now last passed.now }
-                requires taken { IsTakenVertex game.now rank.now last u.now }
-                ensures { OnFalse result (IsIdle game.entry.now region.entry.now player rank.entry.now last u.now) }
-            { feeds(game, region, player, rank, last, passed, *u) },
+                requires ready { IsReadyFor arena.now found.now }
+                requires taken { IsTakenVertex arena.now.game.now found.now.rank.now found.now.last u.now }
+                ensures { OnFalse result (IsIdleFor arena.entry.now found.entry.now u.now) }
+            { feeds(arena, found, *u) },
         )
         .collect(rt, alloc)
 }
 
 /// Looks at the predecessors of those of the frontier's vertices from which the round takes something in.
 fn visit_feeding(
-    game: &Game,
-    region: &[bool],
-    player: u8,
+    arena: &Arena<'_>,
     attractor: &mut Attractor,
-    passed: &mut [u32],
     frontier: &[u32],
     flags: &[bool],
     next: &mut Vec<u32>,
 ) -> Result<(), AllocError>
-    requires region { length region.now ≡ vertex_count game.now }
     requires small { attractor.old.rounds + 1 < 2 ^ 32 }
     requires started { 0 < attractor.old.rounds }
     requires frontier { IsFrontier attractor.old.rank.items attractor.old.rounds frontier.now }
     requires size { length flags.now ≡ length frontier.now }
-    requires idle { (k : ℕ) → k < length frontier.now → slice_index_or flags.now k true ≡ false → IsIdle game.now region.now player attractor.old.rank.items attractor.old.rounds (slice_index frontier.now k) }
-    requires search { IsSearch game.now region.now player attractor.old passed.old next.old.items }
-    ensures search { OnOk result (IsSearch game.now region.now player attractor.new passed.new next.new.items) }
+    requires idle { AreIdleUnflagged arena.now attractor.old.rank.items attractor.old.rounds frontier.now flags.now }
+    requires search { IsSearchIn arena.now attractor.old next.old.items }
+    ensures search { OnOk result (IsSearchIn arena.now attractor.new next.new.items) }
     ensures rounds { attractor.new.rounds ≡ attractor.old.rounds }
     ensures grows { OnOk result (Grows attractor.old.rank.items attractor.new.rank.items attractor.old.rounds) }
-    ensures outside { OnOk result (IsLookedAt game.now region.now player attractor.new.rank.items attractor.old.rounds frontier.now) }
+    ensures outside { OnOk result (IsLookedAtIn arena.now attractor.new.rank.items attractor.old.rounds frontier.now) }
 {
     for k in 0..frontier.len() {
         if flags[k] {
-            visit_predecessors(game, region, player, attractor, passed, next, frontier[k])?;
+            visit_predecessors(arena, attractor, next, frontier[k])?;
         }
     }
     Ok(())
@@ -252,43 +228,32 @@ fn visit_feeding(
 fn look(
     rt: &(impl Threads + Sync),
     alloc: Global,
-    game: &Game,
-    region: &[bool],
-    player: u8,
+    arena: &Arena<'_>,
     attractor: &mut Attractor,
-    passed: &mut [u32],
     frontier: &[u32],
     next: &mut Vec<u32>,
 ) -> Result<(), AllocError>
-    requires region { length region.now ≡ vertex_count game.now }
     requires small { attractor.old.rounds + 1 < 2 ^ 32 }
     requires started { 0 < attractor.old.rounds }
-    requires forcing { IsForcing game.now region.now player attractor.old.rank.items attractor.old.choice.items attractor.old.rounds }
-    requires settled { (v : ℕ) → IsIn region.now v → slice_index attractor.old.rank.items v ≡ 0 → IsBefore game.now region.now player attractor.old.rank.items attractor.old.rounds v }
-    requires passed { ArePassed game.now region.now player attractor.old.rank.items attractor.old.rounds passed.old }
+    requires forcing { IsForcingIn arena.now attractor.old }
+    requires settled { IsSettledIn arena.now attractor.old }
+    requires passed { ArePassedIn arena.now attractor.old }
     requires frontier { IsFrontier attractor.old.rank.items attractor.old.rounds frontier.now }
     requires next { next.old.items ≡ [] }
-    ensures round { OnOk result (IsRound game.now region.now player attractor.old attractor.new) }
+    ensures round { OnOk result (IsRoundIn arena.now attractor.old attractor.new) }
     ensures grows { OnOk result (Grows attractor.old.rank.items attractor.new.rank.items attractor.old.rounds) }
-    ensures search { OnOk result (IsSearch game.now region.now player attractor.new passed.new next.new.items) }
+    ensures search { OnOk result (IsSearchIn arena.now attractor.new next.new.items) }
 {
     if frontier.len() < LARGE {
-        return visit_frontier(game, region, player, attractor, passed, frontier, next);
+        return visit_frontier(arena, attractor, frontier, next);
     }
-    let flags = feeding(
-        rt,
-        alloc,
-        game,
-        region,
-        player,
-        &attractor.rank,
-        attractor.rounds,
-        passed,
-        frontier,
-    )?;
-    visit_feeding(
-        game, region, player, attractor, passed, frontier, &flags, next,
-    )
+    let found = Found {
+        rank: &attractor.rank,
+        last: attractor.rounds,
+        passed: &attractor.passed,
+    };
+    let flags = feeding(rt, alloc, arena, &found, frontier)?;
+    visit_feeding(arena, attractor, frontier, &flags, next)
 }
 
 /// Puts the vertices into rising order, unless they are.
@@ -306,30 +271,24 @@ fn arrange(vertices: &mut Vec<u32>)
 pub(crate) fn take_round(
     rt: &(impl Threads + Sync),
     alloc: Global,
-    game: &Game,
-    region: &[bool],
-    player: u8,
+    arena: &Arena<'_>,
     attractor: &mut Attractor,
-    passed: &mut [u32],
     frontier: &[u32],
     next: &mut Vec<u32>,
 ) -> Result<(), AllocError>
-    requires region { length region.now ≡ vertex_count game.now }
     requires small { attractor.old.rounds + 1 < 2 ^ 32 }
     requires started { 0 < attractor.old.rounds }
-    requires forcing { IsForcing game.now region.now player attractor.old.rank.items attractor.old.choice.items attractor.old.rounds }
-    requires settled { (v : ℕ) → IsIn region.now v → slice_index attractor.old.rank.items v ≡ 0 → IsBefore game.now region.now player attractor.old.rank.items attractor.old.rounds v }
-    requires passed { ArePassed game.now region.now player attractor.old.rank.items attractor.old.rounds passed.old }
+    requires forcing { IsForcingIn arena.now attractor.old }
+    requires settled { IsSettledIn arena.now attractor.old }
+    requires passed { ArePassedIn arena.now attractor.old }
     requires frontier { IsFrontier attractor.old.rank.items attractor.old.rounds frontier.now }
     requires next { next.old.items ≡ [] }
-    ensures round { OnOk result (IsRound game.now region.now player attractor.old attractor.new) }
+    ensures round { OnOk result (IsRoundIn arena.now attractor.old attractor.new) }
     ensures grows { OnOk result (Grows attractor.old.rank.items attractor.new.rank.items attractor.old.rounds) }
-    ensures search { OnOk result (IsSearch game.now region.now player attractor.new passed.new next.new.items) }
+    ensures search { OnOk result (IsSearchIn arena.now attractor.new next.new.items) }
     ensures rising { OnOk result (IsStrictlyIncreasing next.new.items) }
 {
-    look(
-        rt, alloc, game, region, player, attractor, passed, frontier, next,
-    )?;
+    look(rt, alloc, arena, attractor, frontier, next)?;
     arrange(next);
     Ok(())
 }

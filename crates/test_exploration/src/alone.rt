@@ -6,7 +6,7 @@ ghost use Rattle.pb_instances.specs.Explored.{IsEnd};
 ghost use Rattle.pb_instances.specs.Seats.{words_of};
 
 use crate::steps::close;
-use pb_exploration::{Hints, Limit, NoGate, work};
+use pb_exploration::{Hints, Limit, NoGate, Site, work};
 use pb_instances::{Statuses, Table};
 use pb_rows::Rows;
 use pb_verifier::Verified;
@@ -29,7 +29,11 @@ fn work_branded<B: Limit>(
     let Some(mut own) = hints.pop() else {
         return Err(AllocError);
     };
-    let rows = work(alloc, verified, &table, &mut seat, &mut own, 0, &NoGate);
+    let site = Site {
+        verified,
+        table: &table,
+    };
+    let rows = work(alloc, &site, &mut seat, &mut own, 0, &NoGate);
     Ok((rows, close(alloc, verified, table)))
 }
 

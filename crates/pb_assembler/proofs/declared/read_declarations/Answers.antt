@@ -1,5 +1,5 @@
+use Rattle.pb_normal.proofs.Accepted.{undeclared}
 use Rattle.pb_text_tree.specs.Form.{spec_form}
-use Rattle.pb_assembler.proofs.Texts.{undeclared}
 use Rattle.pb_assembler.proofs.declared.read_declarations.Goals as goal
 
 pub unreachable-requires : goal.unreachable-requires

@@ -92,15 +92,15 @@ measure_join-loop-left-preserved t c =
 
 pub measure_untested-returns-in-Some : goal.measure_untested-returns-in-Some
 measure_untested-returns-in-Some t c =
-    let m = c.args.conjunctive in
+    let m = c.args.chain.conjunctive in
     let chain = form_chain m (drop c.args.place c.args.operands.now) in
     c.tested_tally.ensures
-    ∙ second_test (callees_of c.args.callees.now) m c.args.around (formula_view c.args.operand.now) chain c.in-Some.load c.measure_formula-own.result c.requires.untested (sym c.in-Some.is ∙ c.last_test.ensures m) c.measure_formula-own.ensures
+    ∙ second_test (callees_of c.args.callees.now) m c.args.chain.around (formula_view c.args.operand.now) chain c.in-Some.load c.measure_formula-own.result c.requires.untested (sym c.in-Some.is ∙ c.last_test.ensures m) c.measure_formula-own.ensures
 
 pub measure_untested-returns-in-None : goal.measure_untested-returns-in-None
 measure_untested-returns-in-None t c =
-    let m = c.args.conjunctive in
+    let m = c.args.chain.conjunctive in
     let chain = form_chain m (drop c.args.place c.args.operands.now) in
     c.under_tally.ensures
-    ∙ ap (λ y. capped_tally (under_tally m c.args.around y)) c.after-both.ensures
-    ∙ no_test (callees_of c.args.callees.now) m c.args.around (formula_view c.args.operand.now) chain (c.measure_formula-own-in-None).result c.args.rest c.requires.untested (sym c.in-None.is ∙ c.last_test.ensures m) (c.measure_formula-own-in-None).ensures c.requires.rest
+    ∙ ap (λ y. capped_tally (under_tally m c.args.chain.around y)) c.after-both.ensures
+    ∙ no_test (callees_of c.args.callees.now) m c.args.chain.around (formula_view c.args.operand.now) chain (c.measure_formula-own-in-None).result c.args.rest c.requires.untested (sym c.in-None.is ∙ c.last_test.ensures m) (c.measure_formula-own-in-None).ensures c.requires.rest

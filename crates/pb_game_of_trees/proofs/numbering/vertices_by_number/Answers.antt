@@ -2,10 +2,11 @@ use Rattle.std.proofs.Common.{◌≡◌, ℕ, length, get_or, set, ap, ◌∙◌
 use Rattle.std.proofs.lemmas.Bool.{cases_eq}
 use Rattle.std.proofs.lemmas.List.{get_or-set_same, get_or-set_other, length-map}
 use Rattle.std.specs.List.Sorted.{IsStrictlyIncreasing}
+use Rattle.pb_game.proofs.Rising.{rising_lt}
 use Rattle.pb_game_of_trees.specs.Held.{held}
 use Rattle.pb_rows.specs.Row.{nothing}
 use Rattle.pb_game_of_trees.specs.Places.{numbers}
-use Rattle.pb_game_of_trees.proofs.Rows.{number, numbers_of, number_at, rising_far}
+use Rattle.pb_game_of_trees.proofs.Rows.{number, numbers_of, number_at}
 use Rattle.pb_game_of_trees.proofs.numbering.vertices_by_number.Goals as goal
 
 pub index_mut-requires : goal.index_mut-requires
@@ -41,7 +42,7 @@ loop-k-preserved c =
                 ∙ (get_or-set_same l.table.items here value 0 (omega (arith, at, below, l.invariant.size))
                 ∙ ap (λ (i : ℕ). get_or c.args.vertices.now i 0) (sym e))
             | inr ne ↦
-                let earlier = rising_far (numbers plain) rising j l.k (omega arith) (omega arith) in
+                let earlier = rising_lt (numbers plain) rising j l.k (omega arith) (omega arith) in
                 get_or-set_other l.table.items here (get_or (numbers plain) j 0) value 0 (λ e. omega (arith, earlier, own, e))
                 ∙ l.invariant.placed plain hold j (omega arith)
           ];

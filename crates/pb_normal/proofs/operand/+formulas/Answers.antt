@@ -21,11 +21,11 @@ use Rattle.pb_normal.proofs.operand.+formulas.Goals as goal
 
 pub normal_chain-normal_formula-requires : goal.normal_chain-normal_formula-requires
 normal_chain-normal_formula-requires t c =
-    (omega (arith, c.decreases), (chain_shaped (spec_of c.args.declarations.now) c.args.connective c.args.first.now c.args.links.now c.requires).0)
+    (omega (arith, c.decreases), (chain_shaped (spec_of c.args.context.now.values.declarations.now) c.args.connective c.args.first.now c.args.links.now c.requires).0)
 
 pub normal_chain-loop-index-init : goal.normal_chain-loop-index-init
 normal_chain-loop-index-init t c =
-    done_begun (spec_of c.args.declarations.now) c.args.connective c.args.even (slotting c.args.slots.now) (scope_view c.args.scope.now) c.args.first.now c.args.links.now c.args.carriers.now.items c.normal_formula.new.carriers.items
+    done_begun (spec_of c.args.context.now.values.declarations.now) c.args.connective c.args.even (slotting c.args.context.now.values.slots.now) (scope_view c.args.context.now.scope.now) c.args.first.now c.args.links.now c.args.carriers.now.items c.normal_formula.new.carriers.items
     c.in_ok-head.head c.new-rest.result.items c.operand_parity-parity.result c.operand_parity-parity.ensures c.new-rest.ensures.items
     c.requires c.in_ok-head.ensures.form c.in_ok-head.ensures.carriers
 
@@ -34,38 +34,38 @@ normal_chain-normal_formula-requires-in-loop-index t c =
     let links = c.args.links.now in
     let k = c.loop-index.index in
     let link = c.index-links-index.result in
-    (omega (arith, c.decreases, link_lighter links k link c.loop-index-test.true c.index-links-index.is), shaped_at (spec_of c.args.declarations.now) links k link c.loop-index-test.true c.index-links-index.is c.loop-index.invariant.shaped)
+    (omega (arith, c.decreases, link_lighter links k link c.loop-index-test.true c.index-links-index.is), shaped_at (spec_of c.args.context.now.values.declarations.now) links k link c.loop-index-test.true c.index-links-index.is c.loop-index.invariant.shaped)
 
 pub normal_chain-loop-index-preserved : goal.normal_chain-loop-index-preserved
 normal_chain-loop-index-preserved t c =
-    done_next (spec_of c.args.declarations.now) c.args.connective c.args.even (slotting c.args.slots.now) (scope_view c.args.scope.now) c.args.first.now c.args.links.now c.args.carriers.now.items c.loop-index.carriers.items c.normal_formula-in-loop-index.new.carriers.items
+    done_next (spec_of c.args.context.now.values.declarations.now) c.args.connective c.args.even (slotting c.args.context.now.values.slots.now) (scope_view c.args.context.now.scope.now) c.args.first.now c.args.links.now c.args.carriers.now.items c.loop-index.carriers.items c.normal_formula-in-loop-index.new.carriers.items
     c.loop-index.index c.index-links-index.result _ c.in_ok-operand.operand c.loop-index.rest.items c.push.new.self.items c.operand_parity-parity-in-loop-index.result
     c.loop-index-test.true c.index-links-index.is c.operand_parity-parity-in-loop-index.ensures c.in_ok-push.ensures.items c.in_ok-operand.ensures.form c.in_ok-operand.ensures.carriers c.loop-index.invariant
 
 pub normal_chain-returns-clause-form : goal.normal_chain-returns-clause-form
 normal_chain-returns-clause-form t c =
     formula-join c.is_conjunctive.result c.in_ok-new.field-0 c.loop-index.rest
-    ∙ chain-view (spec_of c.args.declarations.now) c.args.connective c.args.even (slotting c.args.slots.now) (scope_view c.args.scope.now) c.args.first.now c.args.links.now c.args.carriers.now.items c.loop-index.carriers.items
+    ∙ chain-view (spec_of c.args.context.now.values.declarations.now) c.args.connective c.args.even (slotting c.args.context.now.values.slots.now) (scope_view c.args.context.now.scope.now) c.args.first.now c.args.links.now c.args.carriers.now.items c.loop-index.carriers.items
     c.loop-index.index _ c.loop-index.rest.items c.is_conjunctive.result (formula_view (box_value c.in_ok-new.field-0)) c.loop-index-test.false c.is_conjunctive.ensures (ap formula_view c.in_ok-new.ensures.ok) c.loop-index.invariant
 
 pub normal_chain-returns-clause-carriers : goal.normal_chain-returns-clause-carriers
 normal_chain-returns-clause-carriers t c =
-    shapes_ended (spec_of c.args.declarations.now) c.args.connective c.args.even (slotting c.args.slots.now) (scope_view c.args.scope.now) c.args.first.now c.args.links.now c.args.carriers.now.items c.loop-index.carriers.items c.loop-index.index _ c.loop-index.rest.items
+    shapes_ended (spec_of c.args.context.now.values.declarations.now) c.args.connective c.args.even (slotting c.args.context.now.values.slots.now) (scope_view c.args.context.now.scope.now) c.args.first.now c.args.links.now c.args.carriers.now.items c.loop-index.carriers.items c.loop-index.index _ c.loop-index.rest.items
     c.loop-index-test.false c.loop-index.invariant
 
 -- ---- quantifiers
 
 pub normal_quantified-returns-clause-form : goal.normal_quantified-returns-clause-form
 normal_quantified-returns-clause-form t c =
-    let S = spec_of c.args.declarations.now in
+    let S = spec_of c.args.context.now.values.declarations.now in
     let xs = variables_of c.args.variables.now in
-    let scope = scope_view c.args.scope.now in
+    let scope = scope_view c.args.context.now.scope.now in
     let inner = inner_scope S xs (table_view c.in_ok-shapes.shapes) scope c.in_ok-shapes.ensures in
     ap (λ (f : Formula). nested c.is_universal.result c.len-slot.result c.in_ok-table.own.items (formula_view f)) c.in_ok-new.ensures.ok
-    ∙ quantified-view S c.args.even c.args.quantifier xs (slotting c.args.slots.now) _ scope (formula_of c.args.body.now) c.args.carriers.now.items c.bind_variables.new.carriers.items c.in_ok-table.own.items c.is_universal.result c.len-slot.result c.in_ok-body.body
-    (omega (arith, c.len-slot.ensures, c.args.carriers.now.ok.0)) c.is_universal.ensures (inner_slotting xs (length c.args.carriers.now.items) c.in_ok-table.table (slotting c.args.slots.now) c.in_ok-table.ensures.slots)
+    ∙ quantified-view S c.args.even c.args.quantifier xs (slotting c.args.context.now.values.slots.now) _ scope (formula_of c.args.body.now) c.args.carriers.now.items c.bind_variables.new.carriers.items c.in_ok-table.own.items c.is_universal.result c.len-slot.result c.in_ok-body.body
+    (omega (arith, c.len-slot.ensures, c.args.carriers.now.ok.0)) c.is_universal.ensures (inner_slotting xs (length c.args.carriers.now.items) c.in_ok-table.table (slotting c.args.context.now.values.slots.now) c.in_ok-table.ensures.slots)
     c.in_ok-table.ensures.own c.in_ok-table.ensures.carriers
-    (c.in_ok-body.ensures.form ∙ ap (λ (s : Scope). normal S c.args.even (inner_slots c.in_ok-table.table (slotting c.args.slots.now)) s (length c.bind_variables.new.carriers.items) (formula_of c.args.body.now)) inner)
+    (c.in_ok-body.ensures.form ∙ ap (λ (s : Scope). normal S c.args.even (inner_slots c.in_ok-table.table (slotting c.args.context.now.values.slots.now)) s (length c.bind_variables.new.carriers.items) (formula_of c.args.body.now)) inner)
 
 -- ---- nodes
 
@@ -73,15 +73,15 @@ pub normal_formula-normal_chain-requires : goal.normal_formula-normal_chain-requ
 normal_formula-normal_chain-requires t c =
     let node = chain-node c.args.formula.now c.deref-in-Chain.result.now c.in-Chain.connective c.in-Chain.first c.in-Chain.links (c.deref-in-Chain-2).result.now c.in-Chain.is c.deref-in-Chain.ensures (c.deref-in-Chain-2).ensures.value in (
       omega (arith, c.decreases, ap weight c.in-Chain.is ∙ weight-chain c.in-Chain.connective c.in-Chain.first c.in-Chain.links, ap weight c.deref-in-Chain.ensures, ap links_weight (c.deref-in-Chain-2).ensures.value),
-      subst (IsShaped (spec_of c.args.declarations.now)) node c.requires,
+      subst (IsShaped (spec_of c.args.context.now.values.declarations.now)) node c.requires,
     )
 
 pub normal_formula-returns-in-Chain-clause-form : goal.normal_formula-returns-in-Chain-clause-form
 normal_formula-returns-in-Chain-clause-form t c =
     let node = chain-node c.args.formula.now c.deref-in-Chain.result.now c.in-Chain.connective c.in-Chain.first c.in-Chain.links (c.deref-in-Chain-2).result.now c.in-Chain.is c.deref-in-Chain.ensures (c.deref-in-Chain-2).ensures.value in
-    says_same (spec_of c.args.declarations.now) c.args.even (slotting c.args.slots.now) (scope_view c.args.scope.now) (length c.args.carriers.now.items) c.normal_chain.result _ _ node c.normal_chain.ensures.form
+    says_same (spec_of c.args.context.now.values.declarations.now) c.args.even (slotting c.args.context.now.values.slots.now) (scope_view c.args.context.now.scope.now) (length c.args.carriers.now.items) c.normal_chain.result _ _ node c.normal_chain.ensures.form
 
 pub normal_formula-returns-in-Chain-clause-carriers : goal.normal_formula-returns-in-Chain-clause-carriers
 normal_formula-returns-in-Chain-clause-carriers t c =
     let node = chain-node c.args.formula.now c.deref-in-Chain.result.now c.in-Chain.connective c.in-Chain.first c.in-Chain.links (c.deref-in-Chain-2).result.now c.in-Chain.is c.deref-in-Chain.ensures (c.deref-in-Chain-2).ensures.value in
-    grows_same (spec_of c.args.declarations.now) c.args.carriers.now.items c.normal_chain.new.carriers.items c.normal_chain.result _ _ node c.normal_chain.ensures.carriers
+    grows_same (spec_of c.args.context.now.values.declarations.now) c.args.carriers.now.items c.normal_chain.new.carriers.items c.normal_chain.result _ _ node c.normal_chain.ensures.carriers

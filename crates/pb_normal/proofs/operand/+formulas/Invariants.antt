@@ -20,4 +20,4 @@ decreases-normal_chain l = 3 * (weight l.first.now + links_weight l.links.now) +
 
 abbrev pub invariant-normal_chain-loop-index : goal.invariant-normal_chain-loop-index
 invariant-normal_chain-loop-index l =
-    AreDone (spec_of l.declarations) l.connective l.even (slotting l.slots) (scope_view l.scope) l.first l.links l.fn.carriers.items l.index l.head l.rest.items l.carriers.items
+    AreDone (spec_of l.context.values.declarations.now) l.connective l.even (slotting l.context.values.slots.now) (scope_view l.context.scope.now) l.first l.links l.fn.carriers.items l.index l.head l.rest.items l.carriers.items

@@ -28,14 +28,14 @@ use Rattle.pb_normal.proofs.value.+values.Goals as goal
 
 pub normal_operands-normal_value-requires : goal.normal_operands-normal_value-requires
 normal_operands-normal_value-requires t c =
-    (omega (arith, c.decreases), (chain_shaped (spec_of c.args.declarations.now) c.args.connective c.args.first.now c.args.links.now c.requires.shaped).0)
+    (omega (arith, c.decreases), (chain_shaped (spec_of c.args.context.now.declarations.now) c.args.connective c.args.first.now c.args.links.now c.requires.shaped).0)
 
 pub normal_operands-split_at-requires : goal.normal_operands-split_at-requires
 normal_operands-split_at-requires t c = omega (arith, c.quantified_links.ensures, count_within c.args.links.now)
 
 pub normal_operands-loop-index-init : goal.normal_operands-loop-index-init
 normal_operands-loop-index-init t c =
-    done_begun (spec_of c.args.declarations.now) c.args.connective c.args.even (slotting c.args.slots.now) c.args.first.now c.args.links.now c.args.carriers.now.items c.normal_value.new.carriers.items
+    done_begun (spec_of c.args.context.now.declarations.now) c.args.connective c.args.even (slotting c.args.context.now.slots.now) c.args.first.now c.args.links.now c.args.carriers.now.items c.normal_value.new.carriers.items
     c.in_ok-head.head c.new-rest.result.items c.operand_parity-parity.result c.operand_parity-parity.ensures c.new-rest.ensures.items
     c.requires.shaped c.in_ok-head.ensures.form c.in_ok-head.ensures.carriers
 
@@ -46,7 +46,7 @@ normal_operands-normal_value-requires-in-loop-index t c =
     let link = c.index-operands-index.result in
     let below : k < length links = omega (arith, c.loop-index-test.true, c.split_at.ensures.front_len, c.quantified_links.ensures, count_within links) in
     let at = link_at links c.split_at.result.0.now c.split_at.result.1.now k link c.loop-index-test.true c.split_at.ensures.by_index.0 c.index-operands-index.is in
-    (omega (arith, c.decreases, link_lighter links k link below at), shaped_at (spec_of c.args.declarations.now) links k link below at c.loop-index.invariant.shaped)
+    (omega (arith, c.decreases, link_lighter links k link below at), shaped_at (spec_of c.args.context.now.declarations.now) links k link below at c.loop-index.invariant.shaped)
 
 pub normal_operands-loop-index-preserved : goal.normal_operands-loop-index-preserved
 normal_operands-loop-index-preserved t c =
@@ -56,14 +56,14 @@ normal_operands-loop-index-preserved t c =
     let counts : k < quantified_count links = omega (arith, c.loop-index-test.true, c.split_at.ensures.front_len, c.quantified_links.ensures) in
     let below : k < length links = omega (arith, counts, count_within links) in
     let at = link_at links c.split_at.result.0.now c.split_at.result.1.now k link c.loop-index-test.true c.split_at.ensures.by_index.0 c.index-operands-index.is in
-    done_next (spec_of c.args.declarations.now) c.args.connective c.args.even (slotting c.args.slots.now) c.args.first.now links c.args.carriers.now.items c.loop-index.carriers.items c.normal_value-in-loop-index.new.carriers.items k link
+    done_next (spec_of c.args.context.now.declarations.now) c.args.connective c.args.even (slotting c.args.context.now.slots.now) c.args.first.now links c.args.carriers.now.items c.loop-index.carriers.items c.normal_value-in-loop-index.new.carriers.items k link
     _ c.in_ok-operand.operand c.loop-index.rest.items c.push.new.self.items c.operand_parity-parity-in-loop-index.result
     below at counts c.operand_parity-parity-in-loop-index.ensures c.in_ok-push.ensures.items c.in_ok-operand.ensures.form c.in_ok-operand.ensures.carriers c.loop-index.invariant
 
 pub normal_operands-returns-clause-form : goal.normal_operands-returns-clause-form
 normal_operands-returns-clause-form t c = λ scope.
-    let S = spec_of c.args.declarations.now in
-    let slots = slotting c.args.slots.now in
+    let S = spec_of c.args.context.now.declarations.now in
+    let slots = slotting c.args.context.now.slots.now in
     let links = c.args.links.now in
     let k = c.loop-index.index in
     let all : k ≡ quantified_count links = omega (arith, c.loop-index-test.false, c.loop-index.auto.index-end, c.split_at.ensures.front_len, c.quantified_links.ensures) in
@@ -76,30 +76,30 @@ normal_operands-returns-clause-form t c = λ scope.
 
 pub normal_operands-returns-clause-carriers : goal.normal_operands-returns-clause-carriers
 normal_operands-returns-clause-carriers t c =
-    shapes_ended (spec_of c.args.declarations.now) c.args.connective c.args.even (slotting c.args.slots.now) c.args.first.now c.args.links.now c.args.carriers.now.items c.loop-index.carriers.items c.loop-index.index _ c.loop-index.rest.items
+    shapes_ended (spec_of c.args.context.now.declarations.now) c.args.connective c.args.even (slotting c.args.context.now.slots.now) c.args.first.now c.args.links.now c.args.carriers.now.items c.loop-index.carriers.items c.loop-index.index _ c.loop-index.rest.items
     (omega (arith, c.loop-index-test.false, c.loop-index.auto.index-end, c.split_at.ensures.front_len, c.quantified_links.ensures)) c.loop-index.invariant
 
 -- ---- quantifiers
 
 pub normal_quantified-returns-clause-form : goal.normal_quantified-returns-clause-form
 normal_quantified-returns-clause-form t c = λ scope.
-    let S = spec_of c.args.declarations.now in
+    let S = spec_of c.args.context.now.declarations.now in
     let xs = variables_of c.args.variables.now in
     ap (λ (f : Formula). nested c.is_universal.result c.len-slot.result c.in_ok-table.own.items (formula_view f)) c.in_ok-new.ensures.ok
-    ∙ quantified-view S c.args.even c.args.quantifier xs (slotting c.args.slots.now) _ scope (value_of c.args.body.now) c.args.carriers.now.items c.bind_variables.new.carriers.items c.in_ok-table.own.items c.is_universal.result c.len-slot.result c.in_ok-body.body
-    (omega (arith, c.len-slot.ensures, c.args.carriers.now.ok.0)) c.is_universal.ensures (inner_slotting xs (length c.args.carriers.now.items) c.in_ok-table.table (slotting c.args.slots.now) c.in_ok-table.ensures.slots)
+    ∙ quantified-view S c.args.even c.args.quantifier xs (slotting c.args.context.now.slots.now) _ scope (value_of c.args.body.now) c.args.carriers.now.items c.bind_variables.new.carriers.items c.in_ok-table.own.items c.is_universal.result c.len-slot.result c.in_ok-body.body
+    (omega (arith, c.len-slot.ensures, c.args.carriers.now.ok.0)) c.is_universal.ensures (inner_slotting xs (length c.args.carriers.now.items) c.in_ok-table.table (slotting c.args.context.now.slots.now) c.in_ok-table.ensures.slots)
     c.in_ok-table.ensures.own c.in_ok-table.ensures.carriers (c.in_ok-body.ensures.form (bound S xs scope))
 
 -- ---- nodes
 
 pub normal_value-returns-then-not-has_quantifier-clause-form : goal.normal_value-returns-then-not-has_quantifier-clause-form
 normal_value-returns-then-not-has_quantifier-clause-form t c =
-    plain_says (spec_of c.args.declarations.now) c.args.even (slotting c.args.slots.now) (length c.args.carriers.now.items) c.plain_test.result (value_of c.args.term.now) (erased_term (term_form c.args.term.now))
+    plain_says (spec_of c.args.context.now.declarations.now) c.args.even (slotting c.args.context.now.slots.now) (length c.args.carriers.now.items) c.plain_test.result (value_of c.args.term.now) (erased_term (term_form c.args.term.now))
     (plain-expanded (erased_term (term_form c.args.term.now)) (sym c.has_quantifier.ensures ∙ c.if-not-has_quantifier.true)) c.plain_test.ensures
 
 pub normal_value-returns-then-not-has_quantifier-clause-carriers : goal.normal_value-returns-then-not-has_quantifier-clause-carriers
 normal_value-returns-then-not-has_quantifier-clause-carriers t c =
-    plain_grows (spec_of c.args.declarations.now) (erased_term (term_form c.args.term.now)) (value_of c.args.term.now) c.args.carriers.now.items c.plain_test.result
+    plain_grows (spec_of c.args.context.now.declarations.now) (erased_term (term_form c.args.term.now)) (value_of c.args.term.now) c.args.carriers.now.items c.plain_test.result
     (plain-expanded (erased_term (term_form c.args.term.now)) (sym c.has_quantifier.ensures ∙ c.if-not-has_quantifier.true))
 
 pub normal_value-normal_operands-requires : goal.normal_value-normal_operands-requires
@@ -107,7 +107,7 @@ normal_value-normal_operands-requires t c =
     let node = chain-node c.args.term.now c.deref-in-Chain.result.now c.in-Chain.connective c.in-Chain.first c.in-Chain.links (c.deref-in-Chain-2).result.now c.in-Chain.is c.deref-in-Chain.ensures (c.deref-in-Chain-2).ensures.value in (
       omega (arith, c.decreases, ap weight c.in-Chain.is ∙ weight-chain c.in-Chain.connective c.in-Chain.first c.in-Chain.links, ap weight c.deref-in-Chain.ensures, ap links_weight (c.deref-in-Chain-2).ensures.value),
       (
-        subst (λ (x : syntax.Term). IsShaped (spec_of c.args.declarations.now) (expanded_term x)) node c.requires,
+        subst (λ (x : syntax.Term). IsShaped (spec_of c.args.context.now.declarations.now) (expanded_term x)) node c.requires,
         sym (ap has_quantifier node) ∙ (sym c.has_quantifier.ensures ∙ c.if-not-has_quantifier.false),
       ),
     )
@@ -115,12 +115,12 @@ normal_value-normal_operands-requires t c =
 pub normal_value-returns-in-Chain-clause-form : goal.normal_value-returns-in-Chain-clause-form
 normal_value-returns-in-Chain-clause-form t c =
     let node = chain-node c.args.term.now c.deref-in-Chain.result.now c.in-Chain.connective c.in-Chain.first c.in-Chain.links (c.deref-in-Chain-2).result.now c.in-Chain.is c.deref-in-Chain.ensures (c.deref-in-Chain-2).ensures.value in
-    says_same (spec_of c.args.declarations.now) c.args.even (slotting c.args.slots.now) (length c.args.carriers.now.items) c.normal_operands.result _ _ (ap expanded_term node) c.normal_operands.ensures.form
+    says_same (spec_of c.args.context.now.declarations.now) c.args.even (slotting c.args.context.now.slots.now) (length c.args.carriers.now.items) c.normal_operands.result _ _ (ap expanded_term node) c.normal_operands.ensures.form
 
 pub normal_value-returns-in-Chain-clause-carriers : goal.normal_value-returns-in-Chain-clause-carriers
 normal_value-returns-in-Chain-clause-carriers t c =
     let node = chain-node c.args.term.now c.deref-in-Chain.result.now c.in-Chain.connective c.in-Chain.first c.in-Chain.links (c.deref-in-Chain-2).result.now c.in-Chain.is c.deref-in-Chain.ensures (c.deref-in-Chain-2).ensures.value in
-    grows_same (spec_of c.args.declarations.now) c.args.carriers.now.items c.normal_operands.new.carriers.items c.normal_operands.result _ _ (ap expanded_term node) c.normal_operands.ensures.carriers
+    grows_same (spec_of c.args.context.now.declarations.now) c.args.carriers.now.items c.normal_operands.new.carriers.items c.normal_operands.result _ _ (ap expanded_term node) c.normal_operands.ensures.carriers
 
 -- arithmetic without an operator is its operand
 pub normal_value-normal_value-requires-then-is_empty : goal.normal_value-normal_value-requires-then-is_empty
@@ -129,7 +129,7 @@ normal_value-normal_value-requires-then-is_empty t c =
     let none : length links.items ≡ 0 = omega (arith, eqb-true (vec_len links) 0 (sym c.is_empty.ensures ∙ c.if-is_empty.true), links.ok.0) in
     let node = operand-node c.args.term.now c.deref-then-is_empty.result.now c.in-Arithmetic.first links c.in-Arithmetic.is c.deref-then-is_empty.ensures none in (
       omega (arith, c.decreases, ap weight c.in-Arithmetic.is ∙ weight-arithmetic c.in-Arithmetic.first links, ap weight c.deref-then-is_empty.ensures),
-      subst (λ (x : syntax.Term). IsShaped (spec_of c.args.declarations.now) (expanded_term x)) node c.requires,
+      subst (λ (x : syntax.Term). IsShaped (spec_of c.args.context.now.declarations.now) (expanded_term x)) node c.requires,
     )
 
 pub normal_value-returns-then-is_empty-clause-form : goal.normal_value-returns-then-is_empty-clause-form
@@ -137,25 +137,25 @@ normal_value-returns-then-is_empty-clause-form t c =
     let links = c.in-Arithmetic.links in
     let none : length links.items ≡ 0 = omega (arith, eqb-true (vec_len links) 0 (sym c.is_empty.ensures ∙ c.if-is_empty.true), links.ok.0) in
     let node = operand-node c.args.term.now c.deref-then-is_empty.result.now c.in-Arithmetic.first links c.in-Arithmetic.is c.deref-then-is_empty.ensures none in
-    says_same (spec_of c.args.declarations.now) c.args.even (slotting c.args.slots.now) (length c.args.carriers.now.items) c.normal_value-then-is_empty.result _ _ (ap expanded_term node) c.normal_value-then-is_empty.ensures.form
+    says_same (spec_of c.args.context.now.declarations.now) c.args.even (slotting c.args.context.now.slots.now) (length c.args.carriers.now.items) c.normal_value-then-is_empty.result _ _ (ap expanded_term node) c.normal_value-then-is_empty.ensures.form
 
 pub normal_value-returns-then-is_empty-clause-carriers : goal.normal_value-returns-then-is_empty-clause-carriers
 normal_value-returns-then-is_empty-clause-carriers t c =
     let links = c.in-Arithmetic.links in
     let none : length links.items ≡ 0 = omega (arith, eqb-true (vec_len links) 0 (sym c.is_empty.ensures ∙ c.if-is_empty.true), links.ok.0) in
     let node = operand-node c.args.term.now c.deref-then-is_empty.result.now c.in-Arithmetic.first links c.in-Arithmetic.is c.deref-then-is_empty.ensures none in
-    grows_same (spec_of c.args.declarations.now) c.args.carriers.now.items c.normal_value-then-is_empty.new.carriers.items c.normal_value-then-is_empty.result _ _ (ap expanded_term node) c.normal_value-then-is_empty.ensures.carriers
+    grows_same (spec_of c.args.context.now.declarations.now) c.args.carriers.now.items c.normal_value-then-is_empty.new.carriers.items c.normal_value-then-is_empty.result _ _ (ap expanded_term node) c.normal_value-then-is_empty.ensures.carriers
 
 pub normal_value-returns-else-is_empty-clause-form : goal.normal_value-returns-else-is_empty-clause-form
 normal_value-returns-else-is_empty-clause-form t c =
     let links = c.in-Arithmetic.links in
     let some : length links.items ≡ 0 → ⊥ = λ e. true≢false (sym (ap (λ (n : ℕ). n == 0) (empty-count links e)) ∙ (sym c.is_empty.ensures ∙ c.if-is_empty.false)) in
-    plain_says (spec_of c.args.declarations.now) c.args.even (slotting c.args.slots.now) (length c.args.carriers.now.items) c.plain_test-else-is_empty.result (value_of c.args.term.now) (erased_term (term_form c.args.term.now))
+    plain_says (spec_of c.args.context.now.declarations.now) c.args.even (slotting c.args.context.now.slots.now) (length c.args.carriers.now.items) c.plain_test-else-is_empty.result (value_of c.args.term.now) (erased_term (term_form c.args.term.now))
     (arithmetic-node c.args.term.now c.in-Arithmetic.first links c.in-Arithmetic.is some) c.plain_test-else-is_empty.ensures
 
 pub normal_value-returns-else-is_empty-clause-carriers : goal.normal_value-returns-else-is_empty-clause-carriers
 normal_value-returns-else-is_empty-clause-carriers t c =
     let links = c.in-Arithmetic.links in
     let some : length links.items ≡ 0 → ⊥ = λ e. true≢false (sym (ap (λ (n : ℕ). n == 0) (empty-count links e)) ∙ (sym c.is_empty.ensures ∙ c.if-is_empty.false)) in
-    plain_grows (spec_of c.args.declarations.now) (erased_term (term_form c.args.term.now)) (value_of c.args.term.now) c.args.carriers.now.items c.plain_test-else-is_empty.result
+    plain_grows (spec_of c.args.context.now.declarations.now) (erased_term (term_form c.args.term.now)) (value_of c.args.term.now) c.args.carriers.now.items c.plain_test-else-is_empty.result
     (arithmetic-node c.args.term.now c.in-Arithmetic.first links c.in-Arithmetic.is some)

@@ -19,4 +19,4 @@ decreases-normal_operands l = 3 * (weight l.first.now + links_weight l.links.now
 
 abbrev pub invariant-normal_operands-loop-index : goal.invariant-normal_operands-loop-index
 invariant-normal_operands-loop-index l =
-    AreDone (spec_of l.declarations) l.connective l.even (slotting l.slots) l.first l.links l.fn.carriers.items l.index l.head l.rest.items l.carriers.items
+    AreDone (spec_of l.context.declarations.now) l.connective l.even (slotting l.context.slots.now) l.first l.links l.fn.carriers.items l.index l.head l.rest.items l.carriers.items

@@ -9,7 +9,7 @@ use Rattle.pb_zielonka.proofs.rounds.decide.Goals as goal
 
 pub overflow_cast-result : goal.overflow_cast-result
 overflow_cast-result c =
-    let g = c.args.game.now in
+    let g = c.args.arena.now.game.now in
     let e = c.successors-successors.ensures.list in
     let h : c.loop-place.place < length (successors_of g c.args.v) = subst (λ (xs : List ℕ). c.loop-place.place < length xs) e c.loop-place-test.true in
     let low = rising_place (successors_of g c.args.v) ((is_game g).rising c.args.v c.requires.vertex) c.loop-place.place h in
@@ -19,7 +19,7 @@ overflow_cast-result c =
 
 pub returns : goal.returns
 returns c =
-    let g = c.args.game.now in
+    let g = c.args.arena.now.game.now in
     let e = c.successors-successors.ensures.list in
     let all : length (successors_of g c.args.v) ≤ c.loop-place.place = subst (λ (xs : List ℕ). length xs ≤ c.loop-place.place) e c.loop-place-test.false in
     record {
@@ -27,6 +27,6 @@ returns c =
       own = λ o. absurd (search rules);
       other = λ o u edge.
           let k = contains_place (successors_of g c.args.v) u edge.edge in
-          subst (λ (x : ℕ). IsTaken c.args.rank.now c.args.last x) k.1.there
-          (c.loop-place.invariant k.0 (omega (arith, k.1.within)) (subst (λ (x : ℕ). IsIn c.args.region.now x) (sym k.1.there) edge.inside));
+          subst (λ (x : ℕ). IsTaken c.args.found.now.rank.now c.args.found.now.last x) k.1.there
+          (c.loop-place.invariant k.0 (omega (arith, k.1.within)) (subst (λ (x : ℕ). IsIn c.args.arena.now.region.now x) (sym k.1.there) edge.inside));
     }

@@ -4,7 +4,7 @@ use Rattle.pb_game.specs.Games.{successors_of}
 use Rattle.pb_zielonka.proofs.rounds.decide.Given as goal
 
 abbrev pub invariant-loop-place : goal.invariant-loop-place
-invariant-loop-place l = IsPassed l.game l.region l.rank l.last l.v l.place
+invariant-loop-place l = IsPassed l.arena.game.now l.arena.region.now l.found.rank.now l.found.last l.v l.place
 
 abbrev pub decreases-loop-place : goal.decreases-loop-place
-decreases-loop-place l = length (successors_of l.game l.v) - l.place
+decreases-loop-place l = length (successors_of l.arena.game.now l.v) - l.place

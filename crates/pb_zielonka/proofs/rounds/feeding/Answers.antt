@@ -9,7 +9,7 @@ use Rattle.pb_zielonka.proofs.rounds.feeding.Goals as goal
 
 pub returns-clause-size : goal.returns-clause-size
 returns-clause-size bound c =
-    let idle = λ (x : ℕ). IsIdle c.args.game.now c.args.region.now c.args.player c.args.rank.now c.args.last x in
+    let idle = λ (x : ℕ). IsIdle c.args.arena.now.game.now c.args.arena.now.region.now c.args.arena.now.player c.args.found.now.rank.now c.args.found.now.last x in
     let slice = ap (λ it. it.slice.now) c.map.ensures.base ∙ c.par_iter.ensures in
     IfOk-then c.collect.result _ _ c.collect.ensures (λ v h.
     let chain = rw c.map.ensures.f at h.1 in
@@ -18,7 +18,7 @@ returns-clause-size bound c =
 
 pub returns-clause-idle : goal.returns-clause-idle
 returns-clause-idle bound c =
-    let idle = λ (x : ℕ). IsIdle c.args.game.now c.args.region.now c.args.player c.args.rank.now c.args.last x in
+    let idle = λ (x : ℕ). IsIdle c.args.arena.now.game.now c.args.arena.now.region.now c.args.arena.now.player c.args.found.now.rank.now c.args.found.now.last x in
     let slice = ap (λ it. it.slice.now) c.map.ensures.base ∙ c.par_iter.ensures in
     IfOk-then c.collect.result _ _ c.collect.ensures (λ v h.
     let chain = rw c.map.ensures.f at h.1 in

@@ -10,7 +10,7 @@ use Rattle.pb_zielonka.proofs.rounds.feeds.Goals as goal
 
 pub decide-requires-clause-edge : goal.decide-requires-clause-edge
 decide-requires-clause-edge c =
-    let g = c.args.game.now in
+    let g = c.args.arena.now.game.now in
     let xs = c.predecessors-v-items.result.now in
     let v = get_or xs c.loop-v.v-index 0 in
     let inside : Contains (predecessors_of g c.args.u) v = subst (λ (ys : List ℕ). Contains ys v) c.predecessors-v-items.ensures.list
@@ -20,12 +20,12 @@ decide-requires-clause-edge c =
 
 pub returns : goal.returns
 returns c = λ v edge inside z.
-    let g = c.args.game.now in
+    let g = c.args.arena.now.game.now in
     let u = c.args.u in
     let e = c.predecessors-v-items.ensures.list in
-    let below : v < vertex_count g = in_below c.args.region.now v _ c.requires.ready.region_size inside in
+    let below : v < vertex_count g = in_below c.args.arena.now.region.now v _ c.args.arena.now.sized inside in
     let k = contains_place (predecessors_of g u) v (((is_game g).predecessor v u below c.requires.vertex).1 edge) in
     let done : k.0 < c.loop-v.v-index = omega (arith, k.1.within, subst (λ (xs : List ℕ). length xs ≤ c.loop-v.v-index) e c.loop-v-test.false) in
-    subst (λ (x : ℕ). IsOutside g c.args.region.now c.args.player c.args.rank.now c.args.last x) k.1.there
-    (c.loop-v.invariant k.0 done (subst (λ (x : ℕ). IsIn c.args.region.now x) (sym k.1.there) inside)
-    (subst (λ (x : ℕ). get_or c.args.rank.now x 0 ≡ 0) (sym k.1.there) z))
+    subst (λ (x : ℕ). IsOutside g c.args.arena.now.region.now c.args.arena.now.player c.args.found.now.rank.now c.args.found.now.last x) k.1.there
+    (c.loop-v.invariant k.0 done (subst (λ (x : ℕ). IsIn c.args.arena.now.region.now x) (sym k.1.there) inside)
+    (subst (λ (x : ℕ). get_or c.args.found.now.rank.now x 0 ≡ 0) (sym k.1.there) z))

@@ -19,8 +19,8 @@ loop-u-preserved c =
       grows = grows_trans _ _ _ _ i.grows grows;
       outside = λ k v h edge inside z. elim (cases_eq k c.loop-u.u-index) [
         | inl same ↦
-            let edge' : HasEdge c.args.game.now v (get_or c.args.frontier.now c.loop-u.u-index 0) = subst (λ (x : ℕ). HasEdge c.args.game.now v (get_or c.args.frontier.now x 0)) same edge in
-            subst (λ (x : ℕ). IsOutside c.args.game.now c.args.region.now c.args.player new x v) i.rounds (e.outside v edge' inside z)
+            let edge' : HasEdge c.args.arena.now.game.now v (get_or c.args.frontier.now c.loop-u.u-index 0) = subst (λ (x : ℕ). HasEdge c.args.arena.now.game.now v (get_or c.args.frontier.now x 0)) same edge in
+            subst (λ (x : ℕ). IsOutside c.args.arena.now.game.now c.args.arena.now.region.now c.args.arena.now.player new x v) i.rounds (e.outside v edge' inside z)
         | inr ne ↦ outside_later _ _ _ _ _ _ _ grows (i.outside k v (omega arith) edge inside (free_before _ _ _ _ grows z))
       ];
     }

@@ -7,9 +7,9 @@ use Rattle.pb_zielonka.proofs.rounds.visit_frontier.Given as goal
 
 abbrev pub invariant-loop-u : goal.invariant-loop-u
 invariant-loop-u l = record {
-  search : IsSearch l.game l.region l.player l.attractor l.passed l.next.items;
+  search : IsSearch l.arena.game.now l.arena.region.now l.arena.player l.attractor l.attractor.passed.items l.next.items;
   rounds : l.attractor.rounds ≡ l.initial.attractor.rounds;
   grows : Grows l.initial.attractor.rank.items l.attractor.rank.items l.initial.attractor.rounds;
-  outside : (k v : ℕ) → k < l.u-index → HasEdge l.game v (get_or l.frontier k 0) →
-      IsIn l.region v → get_or l.attractor.rank.items v 0 ≡ 0 → IsOutside l.game l.region l.player l.attractor.rank.items l.initial.attractor.rounds v;
+  outside : (k v : ℕ) → k < l.u-index → HasEdge l.arena.game.now v (get_or l.frontier k 0) →
+      IsIn l.arena.region.now v → get_or l.attractor.rank.items v 0 ≡ 0 → IsOutside l.arena.game.now l.arena.region.now l.arena.player l.attractor.rank.items l.initial.attractor.rounds v;
 }

@@ -13,7 +13,7 @@ use Rattle.pb_zielonka.proofs.rounds.visit_predecessors.Goals as goal
 
 pub visit-requires-clause-edge : goal.visit-requires-clause-edge
 visit-requires-clause-edge c =
-    let g = c.args.game.now in
+    let g = c.args.arena.now.game.now in
     let xs = c.predecessors-v-items.result.now in
     let v = get_or xs c.loop-v.v-index 0 in
     let inside : Contains (predecessors_of g c.args.u) v = subst (λ (ys : List ℕ). Contains ys v) c.predecessors-v-items.ensures.list
@@ -23,7 +23,7 @@ visit-requires-clause-edge c =
 
 pub loop-v-preserved : goal.loop-v-preserved
 loop-v-preserved c =
-    let g = c.args.game.now in
+    let g = c.args.arena.now.game.now in
     let i = c.loop-v.invariant in
     let e = c.in_ok-visit.ensures in
     let grows : Grows c.loop-v.attractor.rank.items c.visit.new.attractor.rank.items c.args.attractor.now.rounds = subst (λ (x : ℕ). Grows c.loop-v.attractor.rank.items c.visit.new.attractor.rank.items x) i.rounds e.grows in
@@ -39,12 +39,12 @@ loop-v-preserved c =
 
 pub returns-clause-outside : goal.returns-clause-outside
 returns-clause-outside c = λ v edge inside z.
-    let g = c.args.game.now in
+    let g = c.args.arena.now.game.now in
     let u = c.args.u in
     let e = c.predecessors-v-items.ensures.list in
-    let below : v < vertex_count g = in_below c.args.region.now v _ c.requires.region inside in
+    let below : v < vertex_count g = in_below c.args.arena.now.region.now v _ c.args.arena.now.sized inside in
     let k = contains_place (predecessors_of g u) v (((is_game g).predecessor v u below c.requires.vertex).1 edge) in
     let done : k.0 < c.loop-v.v-index = omega (arith, k.1.within, subst (λ (xs : List ℕ). length xs ≤ c.loop-v.v-index) e c.loop-v-test.false) in
-    subst (λ (x : ℕ). IsOutside g c.args.region.now c.args.player c.loop-v.attractor.rank.items c.args.attractor.now.rounds x) k.1.there
-    (c.loop-v.invariant.outside k.0 done (subst (λ (x : ℕ). IsIn c.args.region.now x) (sym k.1.there) inside)
+    subst (λ (x : ℕ). IsOutside g c.args.arena.now.region.now c.args.arena.now.player c.loop-v.attractor.rank.items c.args.attractor.now.rounds x) k.1.there
+    (c.loop-v.invariant.outside k.0 done (subst (λ (x : ℕ). IsIn c.args.arena.now.region.now x) (sym k.1.there) inside)
     (subst (λ (x : ℕ). get_or c.loop-v.attractor.rank.items x 0 ≡ 0) (sym k.1.there) z))
