@@ -7,7 +7,8 @@ mod games;
 
 use pb_exploration::NoGate;
 use pb_game::{Game, GameError};
-use pb_game_solver::{Solver, solve};
+use pb_game_solver::solve;
+use pb_solver_names::Solver;
 use std::alloc::Global;
 
 /// What a line asks for.

@@ -11,6 +11,8 @@ pub enum Command {
     Game,
     /// The truth of each reached instance of a text.
     Solution,
+    /// Why the answer to a text is right.
+    Explain,
     /// The module of a text.
     Compile,
     /// Whether a module is accepted.
@@ -32,6 +34,7 @@ impl Command {
             Command::Solve => "solve",
             Command::Game => "game",
             Command::Solution => "solution",
+            Command::Explain => "explain",
             Command::Compile => "compile",
             Command::Verify => "verify",
             Command::List => "list",
@@ -48,6 +51,7 @@ impl Command {
             "solve" => Some(Command::Solve),
             "game" => Some(Command::Game),
             "solution" => Some(Command::Solution),
+            "explain" => Some(Command::Explain),
             "compile" => Some(Command::Compile),
             "verify" => Some(Command::Verify),
             "list" => Some(Command::List),

@@ -4,8 +4,6 @@ ghost use Rattle.pb_game_certificate.specs.Certificates.{IsCertificate};
 use pb_game_certificate::Solution;
 use pb_game_of_trees::TreeGame;
 use pb_strategy::{Checked, check};
-use std::alloc::{AllocError, Global};
-use std::thread::Threads;
 
 /// A game of reached instances with a certificate of its winners.
 #[derive(Drop)]
@@ -16,7 +14,7 @@ pub struct Solved {
 }
 
 impl Solved {
-    ghost use Rattle.std.specs.Prelude.{◌≡◌, ◌<◌, ℕ, IfOk, List, Some, length, slice_get};
+    ghost use Rattle.std.specs.Prelude.{◌≡◌, ◌<◌, ℕ, List, Some, length, slice_get};
     ghost use Rattle.pb_trees.specs.Tree.{Tree};
     ghost use Rattle.pb_trees.specs.Equations.{Signature, solved};
     ghost use Rattle.pb_trees.specs.Rows.{Row, IsReached};
@@ -24,20 +22,17 @@ impl Solved {
     ghost use Rattle.pb_game_meaning.specs.Meaning.{IsSolvedAt};
     ghost use Rattle.pb_game_of_trees.specs.TreeGame.{IsTreeGame};
 
-    /// The game with its winners.
-    pub fn new(
-        rt: &(impl Threads + Sync),
-        alloc: Global,
-        built: TreeGame,
-    ) -> Result<Solved, AllocError>
-        ensures { IfOk result (λ solved. solved.built ≡ built) }
+    /// The game with these winners, once more looked over by the checker.
+    pub fn new(built: TreeGame, solution: Solution) -> Solved
+        requires { IsCertificate built.game solution }
+        ensures built { result.built ≡ built }
+        ensures solution { result.solution ≡ solution }
     {
-        let solution = pb_zielonka::solve(rt, alloc, &built.game)?;
         match check(&built.game, &solution) {
             Ok(_) => {}
             Err(_) => unreachable!(),
         }
-        Ok(Solved { built, solution })
+        Solved { built, solution }
     }
 
     /// The truth of the instance whose vertex this is.

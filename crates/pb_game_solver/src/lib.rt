@@ -9,16 +9,14 @@ ghost use Rattle.std.specs.Prelude.{◌≡◌, ◌<◌, IfOk};
 ghost use Rattle.pb_game_certificate.specs.Certificates.{IsCertificate};
 ghost use Rattle.pb_game_solver.specs.Winners.{NamesTheWinners};
 ghost use Rattle.pb_game_solver.specs.Lifting.{IsLiftedOrNone};
-ghost use Rattle.pb_game_solver.specs.declared.solver.Solver.TheVariants.{Lift};
-
-mod solver;
+ghost use Rattle.pb_solver_names.specs.declared.solver.Solver.TheVariants.{Lift};
 
 use pb_exploration::Gate;
 use pb_game::Game;
 use pb_game_certificate::Solution;
 use pb_lifting::{LiftError, lift};
+use pb_solver_names::Solver;
 use pb_strategy::check;
-pub use solver::Solver;
 use std::alloc::{AllocError, Global};
 use std::thread::Threads;
 

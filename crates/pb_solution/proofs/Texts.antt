@@ -9,6 +9,8 @@ use Rattle.pb_exploration.specs.Rows.{AreExplored}
 use Rattle.pb_game_answer.specs.Explored.{HaveTrees}
 use Rattle.pb_report_texts.specs.declared.buffer.WriteError.{WriteError}
 use Rattle.pb_report_texts.specs.declared.buffer.WriteError.TheVariants.{Memory, Failed}
+use Rattle.pb_evidence.specs.declared.Evidence.{Evidence}
+use Rattle.pb_evidence_texts.specs.ModuleEvidence.{IsModuleEvidence, module_evidence_text, ForEvidenceText}
 use Rattle.pb_report_texts.specs.Sending.{Writes}
 use Rattle.pb_solution.specs.Texts.{ForReached, Sends}
 
@@ -30,3 +32,11 @@ pub sent : {T : Type 0} (m : Contents) (found rows : List Row) → rows ≡ foun
     → WritesAny m text rows r old new fb fa → Sends (ForReached m text) r old new fb fa
 sent m found rows same explored some text r old new fb fa w =
     sent_found m found explored some text r old new fb fa (subst (λ (x : List Row). WritesAny m text x r old new fb fa) same w)
+
+-- the text of evidence went out, so that of some evidence did
+pub sent_evidence : {T : Type 0} (m : Contents) (e : Evidence) → IsModuleEvidence m e → (r : Result T WriteError)
+    → (old new : Option (List ℕ)) (fb fa : Bool) → Writes r old new fb fa (module_evidence_text m e)
+    → Sends (ForEvidenceText m) r old new fb fa
+sent_evidence m e is (Ok x) old new fb fa w = ((e, is, w.0), w.1)
+sent_evidence m e is (Err (Memory x)) old new fb fa w = w
+sent_evidence m e is (Err (Failed x)) old new fb fa w = ((e, is, w.0), w.1)

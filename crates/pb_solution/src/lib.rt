@@ -2,6 +2,8 @@
 //! winners say is the truth of the instances in the nested solution of the module's equations.
 #![tactic(auto)]
 
+pub mod options;
 pub mod solved_module;
 
+pub use options::SolveOptions;
 pub use solved_module::{SolvedModule, solve_module};

@@ -1,13 +1,20 @@
 //! Verified modules that are solved.
-ghost use Rattle.std.specs.Prelude.{◌≡◌, ◌<◌, ◌≤◌, IfOk, IfErr, Err};
+ghost use Rattle.std.specs.Prelude.{◌≡◌, IfOk, IfErr, Err};
 ghost use Rattle.pb_game_of_trees.specs.declared.tree_game.BuildError.TheVariants.{TooManyVertices};
+ghost use Rattle.pb_game_solver.specs.Lifting.{IsLiftedOrNone};
 ghost use Rattle.pb_report_texts.specs.Sending.{IsOutOfMemory};
+ghost use Rattle.pb_solver_names.specs.declared.solver.Solver.TheVariants.{Lift};
 ghost use Rattle.pb_solution.specs.Answers.{IsSolutionOf, IsAnswerOf, IsTooLarge};
+ghost use Rattle.pb_evidence_texts.specs.ModuleEvidence.{ForEvidenceText};
 ghost use Rattle.pb_solution.specs.Texts.{ForGameText, ForSolutionText, Sends};
 
+use crate::options::SolveOptions;
+use pb_evidence_texts::evidence_of;
+use pb_evidence_texts::evidence_text::evidence_text;
 use pb_exploration::{Explored, Gate, explore};
-use pb_game_answer::{Solved, solve};
+use pb_game_answer::{Solved, build};
 use pb_game_of_trees::BuildError;
+use pb_game_solver::solve;
 use pb_machine::instances_have_trees;
 use pb_report_texts::game_text::game_text;
 use pb_report_texts::solution_text::solution_text;
@@ -24,8 +31,9 @@ pub struct SolvedModule {
     pub solved: Solved,
 }
 
-/// Solves a verified module: so many workers explore its reached instances, and the game of these is solved (Mader 1997;
-/// Zielonka 1998) with a certificate of its winners, which is checked.
+/// Solves a verified module: workers explore its reached instances, and the game of these is solved (Mader 1997) by the
+/// solver that is asked for, with a certificate of its winners, which is checked. The gate sees each attempt of a worker to
+/// take an instance, and to lift a vertex.
 ///
 /// # Errors
 /// `TooManyVertices` where the game would have more than 2^24 vertices; else `Memory`.
@@ -33,17 +41,22 @@ pub fn solve_module<R: Threads + Sync, G: Gate + Sync>(
     rt: &R,
     alloc: Global,
     verified: &Verified,
-    workers: u32,
+    options: SolveOptions,
     gate: &G,
 ) -> Result<SolvedModule, BuildError>
-    requires { (0 < workers) × (workers ≤ 16) }
     ensures solved { IfOk result (IsSolutionOf verified.now) }
+    ensures lifted { options.solver ≡ Lift → IfOk result (λ s. IsLiftedOrNone s.solved.built.game s.solved.solution) }
     ensures too_many { result ≡ Err TooManyVertices → IsTooLarge verified.now }
 {
+    let workers = options.workers;
     instances_have_trees(verified);
     let explored = explore(rt, alloc, verified, workers, gate)?;
-    match solve(rt, alloc, verified, explored.rows()) {
-        Ok(solved) => Ok(SolvedModule { explored, solved }),
+    match build(alloc, verified, explored.rows()) {
+        Ok(built) => {
+            let solution = solve(rt, alloc, &built.game, options.solver, workers, gate)?;
+            let solved = Solved::new(built, solution);
+            Ok(SolvedModule { explored, solved })
+        }
         Err(error) => Err(error),
     }
 }
@@ -100,5 +113,25 @@ impl SolvedModule {
     {
         instances_have_trees(verified);
         solution_text(alloc, verified, &self.solved, self.explored.rows(), sink)
+    }
+
+    /// Appends why the initial instance has its truth value: the answer, and then a line for each instance of a proof graph
+    /// (Cranen, Luttik and Willemse 2013), the initial one first and the nearest before others.
+    ///
+    /// # Errors
+    /// As with `write_game`.
+    pub fn write_evidence<S: Sink>(
+        &self,
+        alloc: Global,
+        verified: &Verified,
+        sink: &mut S,
+    ) -> Result<(), WriteError>
+        requires { IsSolutionOf verified.now self.now }
+        ensures text { Sends (ForEvidenceText verified.now) result (S.taken sink.old) (S.taken sink.new) (S.has_failed sink.old) (S.has_failed sink.new) }
+        ensures silent { IfErr result (λ e. IsOutOfMemory e → sink.new ≡ sink.old) }
+    {
+        instances_have_trees(verified);
+        let evidence = evidence_of(alloc, &self.solved, self.explored.rows())?;
+        evidence_text(alloc, verified, &evidence, sink)
     }
 }

@@ -1,2 +1,3 @@
 mod Refusals
 mod Texts
+mod Evidence

@@ -10,6 +10,8 @@ use Rattle.pb_bytecode.specs.Spelling.{spelling}
 use Rattle.pb_verifier.specs.Acceptance.{IsAccepted}
 use Rattle.pb_assembler_modules.specs.Module.{IsCompiledModule, KeepsAllLimits}
 use Rattle.pb_report_texts.specs.declared.answer.Answer.{Answer}
+use Rattle.pb_evidence.specs.declared.Evidence.{Evidence}
+use Rattle.pb_evidence_texts.specs.ModuleEvidence.{IsModuleEvidence}
 use Rattle.pb_solution.specs.Answers.{IsAnswerOf}
 
 -- the bytes say this within the limits, and they say nothing else, whatever the limits
@@ -47,3 +49,13 @@ pub record IsAnswerOfCode (bytes : List ℕ) (a : Answer) : Type 0 where
   pub contents : Contents
   pub of_code : IsModuleOfCode bytes contents
   pub answered : IsAnswerOf contents a
+
+-- Evidence for the answer to a text: what it says is well typed, its initial instance has this truth in the solution, and of
+-- the text's module it shows that.
+pub record IsEvidence (bytes : List ℕ) (m : Contents) (e : Evidence) : Type 0 where
+  pub text : SpecForm
+  pub read : IsTheReading bytes text
+  pub typed : IsWellTyped (erase text)
+  pub solved : e.truth ≡ answer (erase text)
+  pub of_text : IsModuleOfText bytes m
+  pub shown : IsModuleEvidence m e

@@ -2,14 +2,17 @@
 use Rattle.std.specs.Prelude.{◌≡◌, ℕ, List, codes}
 use Rattle.pb_bytecode.specs.Contents.{Contents}
 use Rattle.pb_bytecode.specs.Spelling.{spelling}
+use Rattle.pb_bytecode.specs.Listing.{listing}
 use Rattle.pb_report_texts.specs.declared.answer.Answer.{Answer}
 use Rattle.pb_report_texts.specs.Report.{report_text}
+use Rattle.pb_evidence.specs.declared.Evidence.{Evidence}
+use Rattle.pb_evidence_texts.specs.ModuleEvidence.{module_evidence_text}
 use Rattle.pb_solution.specs.Answers.{IsAnswerOf}
 use Rattle.pb_solution.specs.Texts.{ForGameText, ForSolutionText}
 use Rattle.pb_command_line.specs.declared.command.Command.{Command}
 use Rattle.pb_command_line.specs.declared.command.Command.TheVariants as command
 use Rattle.pbsolve.specs.declared.solve_error.SolveError.{SolveError}
-use Rattle.pbsolve.specs.Answers.{IsAnswer, IsAnswerOfCode, IsModuleOfText, IsModuleOfCode}
+use Rattle.pbsolve.specs.Answers.{IsAnswer, IsAnswerOfCode, IsEvidence, IsModuleOfText, IsModuleOfCode}
 use Rattle.pbsolve.specs.Refusals.{IsRefused, IsRefusedBytes}
 
 -- the report of a module's answer
@@ -23,14 +26,15 @@ ForModuleOfText bytes Q = (m : Contents) × IsModuleOfText bytes m × Q m
 abbrev pub ForModuleOfCode : List ℕ → (Contents → Type 0) → Type 0
 ForModuleOfCode bytes Q = (m : Contents) × IsModuleOfCode bytes m × Q m
 
--- P holds of the text that the command writes for these bytes; of a listing no more is said than what it lists
+-- P holds of the text that the command writes for these bytes
 abbrev pub Outputs : Command → List ℕ → (List ℕ → Type 0) → Type 0
 Outputs command.Solve bytes P = (a : Answer) × IsAnswer bytes a × P (report_text a)
 Outputs command.Game bytes P = ForModuleOfText bytes (λ m. ForGameText m P)
 Outputs command.Solution bytes P = ForModuleOfText bytes (λ m. ForSolutionText m P)
+Outputs command.Explain bytes P = (m : Contents) × (e : Evidence) × IsEvidence bytes m e × P (module_evidence_text m e)
 Outputs command.Compile bytes P = ForModuleOfText bytes (λ m. P (spelling m))
 Outputs command.Verify bytes P = ForModuleOfCode bytes (λ m. P (codes "accepted\n"))
-Outputs command.List bytes P = (m : Contents) × (bytes ≡ spelling m) × (listing : List ℕ) × P listing
+Outputs command.List bytes P = (m : Contents) × (bytes ≡ spelling m) × P (listing m)
 Outputs command.SolveCode bytes P = (a : Answer) × IsAnswerOfCode bytes a × P (report_text a)
 
 -- what an error says of the bytes for which the command was to write
@@ -38,6 +42,7 @@ abbrev pub IsRefusedFor : Command → List ℕ → SolveError → Type 0
 IsRefusedFor command.Solve = IsRefused
 IsRefusedFor command.Game = IsRefused
 IsRefusedFor command.Solution = IsRefused
+IsRefusedFor command.Explain = IsRefused
 IsRefusedFor command.Compile = IsRefused
 IsRefusedFor command.Verify = IsRefusedBytes
 IsRefusedFor command.List = IsRefusedBytes

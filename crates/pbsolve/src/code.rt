@@ -1,5 +1,5 @@
 //! Modules that bytes spell: whether they are accepted, what they say, and their answers.
-ghost use Rattle.std.specs.Prelude.{◌≡◌, ◌≢◌, ◌≤◌, ◌<◌, true, IfOk, OnOk, IfErr, Err};
+ghost use Rattle.std.specs.Prelude.{◌≡◌, ◌≢◌, true, IfOk, OnOk, IfErr, Err};
 ghost use Rattle.std.specs.Io.KnownBytes.{Appends};
 ghost use Rattle.pb_sorts.specs.Sink.{AppendsPrefix};
 ghost use Rattle.pb_command_line.specs.declared.command.Command.TheVariants.{Verify, List, SolveCode};
@@ -14,6 +14,7 @@ use pb_bytecode::decode::decode;
 use pb_bytecode::list::list;
 use pb_exploration::Gate;
 use pb_report_texts::Answer;
+use pb_solution::SolveOptions;
 use pb_sorts::{Sink, put};
 use pb_verifier::{Verified, verify};
 use std::alloc::Global;
@@ -42,11 +43,10 @@ pub fn solve_code<R: Threads + Sync, G: Gate + Sync, S: Sink>(
     rt: &R,
     alloc: Global,
     bytes: &[u8],
-    workers: u32,
+    options: SolveOptions,
     gate: &G,
     writer: &mut S,
 ) -> Result<Answer, SolveError>
-    requires { (0 < workers) × (workers ≤ 16) }
     ensures answer { IfOk result (IsAnswerOfCode bytes.now) }
     ensures report { IfOk result (λ answer. Appends (S.taken writer.old) (S.taken writer.new) (report_text answer)) }
     ensures kept { OnOk result (S.has_failed writer.new ≡ S.has_failed writer.old) }
@@ -56,7 +56,7 @@ pub fn solve_code<R: Threads + Sync, G: Gate + Sync, S: Sink>(
     ensures write_failed { result ≡ Err (SolveError.Write (record {})) → S.has_failed writer.new ≡ true }
 {
     let verified = verified_code(alloc, bytes)?;
-    write_report(rt, alloc, &verified, workers, gate, writer)
+    write_report(rt, alloc, &verified, options, gate, writer)
 }
 
 /// Verifies a module, given by its bytes, and writes `accepted` and a line feed.

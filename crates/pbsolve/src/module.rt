@@ -1,8 +1,9 @@
-//! The texts of a verified module: its report, its game and its solution.
+//! The texts of a verified module: its report, its game, its solution and its evidence.
 ghost use Rattle.std.specs.Prelude.{◌≡◌, ◌≢◌, ◌≤◌, ◌<◌, true, IfOk, IfErr, OnOk, Err};
 ghost use Rattle.std.specs.Io.KnownBytes.{Appends};
 ghost use Rattle.pb_sorts.specs.Sink.{AppendsPrefix};
 ghost use Rattle.pb_report_texts.specs.Report.{report_text};
+ghost use Rattle.pb_evidence_texts.specs.ModuleEvidence.{ForEvidenceText};
 ghost use Rattle.pb_solution.specs.Answers.{IsAnswerOf, IsSolutionOf};
 ghost use Rattle.pb_solution.specs.Texts.{ForGameText, ForSolutionText};
 ghost use Rattle.pbsolve.specs.Refusals.{IsRefusedModule};
@@ -11,7 +12,8 @@ ghost use Rattle.pbsolve.specs.Outputs.{ForReport};
 use crate::solve_error::SolveError;
 use pb_exploration::Gate;
 use pb_report_texts::{Answer, report};
-use pb_solution::solve_module;
+use pb_solution::{SolveOptions, solve_module};
+use pb_solver_names::Solver;
 use pb_sorts::Sink;
 use pb_verifier::Verified;
 use std::alloc::Global;
@@ -22,11 +24,10 @@ pub(crate) fn write_report<R: Threads + Sync, G: Gate + Sync, S: Sink>(
     rt: &R,
     alloc: Global,
     verified: &Verified,
-    workers: u32,
+    options: SolveOptions,
     gate: &G,
     writer: &mut S,
 ) -> Result<Answer, SolveError>
-    requires { (0 < workers) × (workers ≤ 16) }
     ensures answer { IfOk result (IsAnswerOf verified.now) }
     ensures report { IfOk result (λ answer. Appends (S.taken writer.old) (S.taken writer.new) (report_text answer)) }
     ensures kept { OnOk result (S.has_failed writer.new ≡ S.has_failed writer.old) }
@@ -35,7 +36,7 @@ pub(crate) fn write_report<R: Threads + Sync, G: Gate + Sync, S: Sink>(
     ensures write { result ≡ Err (SolveError.Write (record {})) → ForReport verified.now (AppendsPrefix (S.taken writer.old) (S.taken writer.new)) }
     ensures write_failed { result ≡ Err (SolveError.Write (record {})) → S.has_failed writer.new ≡ true }
 {
-    let solved = solve_module(rt, alloc, verified, workers, gate)?;
+    let solved = solve_module(rt, alloc, verified, options, gate)?;
     let answer = solved.answer(verified);
     report(alloc, &answer, writer)?;
     Ok(answer)
@@ -58,7 +59,9 @@ pub(crate) fn write_game<R: Threads + Sync, G: Gate + Sync, S: Sink>(
     ensures write { result ≡ Err (SolveError.Write (record {})) → ForGameText verified.now (AppendsPrefix (S.taken writer.old) (S.taken writer.new)) }
     ensures write_failed { result ≡ Err (SolveError.Write (record {})) → S.has_failed writer.new ≡ true }
 {
-    let solved = solve_module(rt, alloc, verified, workers, gate)?;
+    let solver = Solver::Zielonka;
+    let options = SolveOptions { workers, solver };
+    let solved = solve_module(rt, alloc, verified, options, gate)?;
     solved.write_game(alloc, verified, writer)?;
     Ok(())
 }
@@ -68,11 +71,10 @@ pub(crate) fn write_solution<R: Threads + Sync, G: Gate + Sync, S: Sink>(
     rt: &R,
     alloc: Global,
     verified: &Verified,
-    workers: u32,
+    options: SolveOptions,
     gate: &G,
     writer: &mut S,
 ) -> Result<(), SolveError>
-    requires { (0 < workers) × (workers ≤ 16) }
     ensures solution { OnOk result (ForSolutionText verified.now (Appends (S.taken writer.old) (S.taken writer.new))) }
     ensures kept { OnOk result (S.has_failed writer.new ≡ S.has_failed writer.old) }
     ensures refused { IfErr result (IsRefusedModule verified.now) }
@@ -80,7 +82,31 @@ pub(crate) fn write_solution<R: Threads + Sync, G: Gate + Sync, S: Sink>(
     ensures write { result ≡ Err (SolveError.Write (record {})) → ForSolutionText verified.now (AppendsPrefix (S.taken writer.old) (S.taken writer.new)) }
     ensures write_failed { result ≡ Err (SolveError.Write (record {})) → S.has_failed writer.new ≡ true }
 {
-    let solved = solve_module(rt, alloc, verified, workers, gate)?;
+    let solved = solve_module(rt, alloc, verified, options, gate)?;
     solved.write_solution(alloc, verified, writer)?;
+    Ok(())
+}
+
+// Writes the evidence of a module.
+pub(crate) fn write_evidence<R: Threads + Sync, G: Gate + Sync, S: Sink>(
+    rt: &R,
+    alloc: Global,
+    verified: &Verified,
+    workers: u32,
+    gate: &G,
+    writer: &mut S,
+) -> Result<(), SolveError>
+    requires { (0 < workers) × (workers ≤ 16) }
+    ensures evidence { OnOk result (ForEvidenceText verified.now (Appends (S.taken writer.old) (S.taken writer.new))) }
+    ensures kept { OnOk result (S.has_failed writer.new ≡ S.has_failed writer.old) }
+    ensures refused { IfErr result (IsRefusedModule verified.now) }
+    ensures silent { IfErr result (λ e. e ≢ SolveError.Write (record {}) → writer.new ≡ writer.old) }
+    ensures write { result ≡ Err (SolveError.Write (record {})) → ForEvidenceText verified.now (AppendsPrefix (S.taken writer.old) (S.taken writer.new)) }
+    ensures write_failed { result ≡ Err (SolveError.Write (record {})) → S.has_failed writer.new ≡ true }
+{
+    let solver = Solver::Zielonka;
+    let options = SolveOptions { workers, solver };
+    let solved = solve_module(rt, alloc, verified, options, gate)?;
+    solved.write_evidence(alloc, verified, writer)?;
     Ok(())
 }

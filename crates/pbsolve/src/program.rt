@@ -12,12 +12,13 @@ use crate::code::{list_code, solve_code, verify_code};
 use crate::compile::compile_text;
 use crate::input::{INPUT_LIMIT, read_input};
 use crate::run_error::RunError;
-use crate::solve::{game_of, solution_of, solve_text};
+use crate::solve::{explain_text, game_of, solution_of, solve_text};
 use crate::solve_error::SolveError;
 use crate::status::Status;
 use pb_command_line::{Command, Request, request_of};
 use pb_exploration::Gate;
 use pb_report::{ErrorLine, ProgramFault};
+use pb_solution::SolveOptions;
 use pb_sorts::{Sink, Source, put};
 use std::alloc::Global;
 use std::convert::AsStr;
@@ -40,19 +41,23 @@ fn answer<R: Threads + Sync, G: Gate + Sync, O: Sink>(
     ensures write { result ≡ Err (SolveError.Write (record {})) → Outputs request.command bytes.now (AppendsPrefix (O.taken out.old) (O.taken out.new)) }
     ensures write_failed { result ≡ Err (SolveError.Write (record {})) → O.has_failed out.new ≡ true }
 {
-    let workers = request.workers;
+    let options = SolveOptions {
+        workers: request.workers,
+        solver: request.solver,
+    };
     match request.command {
         Command::Solve => {
-            solve_text(rt, alloc, bytes, workers, gate, out)?;
+            solve_text(rt, alloc, bytes, options, gate, out)?;
             Ok(())
         }
-        Command::Game => game_of(rt, alloc, bytes, workers, gate, out),
-        Command::Solution => solution_of(rt, alloc, bytes, workers, gate, out),
+        Command::Game => game_of(rt, alloc, bytes, request.workers, gate, out),
+        Command::Solution => solution_of(rt, alloc, bytes, options, gate, out),
+        Command::Explain => explain_text(rt, alloc, bytes, request.workers, gate, out),
         Command::Compile => compile_text(alloc, bytes, out),
         Command::Verify => verify_code(alloc, bytes, out),
         Command::List => list_code(alloc, bytes, out),
         Command::SolveCode => {
-            solve_code(rt, alloc, bytes, workers, gate, out)?;
+            solve_code(rt, alloc, bytes, options, gate, out)?;
             Ok(())
         }
     }
@@ -138,10 +143,10 @@ fn tell<E: Sink>(alloc: Global, error: &RunError, err: &mut E) -> Status
 /// Runs the program, and answers its exit status.
 ///
 /// `words` are those of the command line, the program's name first; `reader`, `out` and `err` stand for standard
-/// input, output and error, and `gate` sees each attempt of a worker to take an instance. Statuses: 0 answered; 1 the input
-/// is refused; 2 the words ask for nothing that the program does; 3 a request for memory was refused; 4 reading or writing
-/// failed. With a status that isn't 0 one line on `err` says why, by the number of the fault or the rule and, where there is
-/// one, the place.
+/// input, output and error, and `gate` sees each attempt of a worker to take an instance, and to lift a vertex. Statuses:
+/// 0 answered; 1 the input is refused; 2 the words ask for nothing that the program does; 3 a request for memory was
+/// refused; 4 reading or writing failed. With a status that isn't 0 one line on `err` says why, by the number of the fault
+/// or the rule and, where there is one, the place.
 pub fn run<T: Threads + Sync, S: AsStr, R: Source, G: Gate + Sync, O: Sink, E: Sink>(
     rt: &T,
     alloc: Global,

@@ -2,7 +2,7 @@
 ghost use Rattle.std.specs.Prelude.{◌≡◌, ◌≢◌, ◌≤◌, ◌<◌, true, length, IfOk, OnOk, IfErr, Err};
 ghost use Rattle.std.specs.Io.KnownBytes.{Appends};
 ghost use Rattle.pb_sorts.specs.Sink.{AppendsPrefix};
-ghost use Rattle.pb_command_line.specs.declared.command.Command.TheVariants.{Solve, Game, Solution};
+ghost use Rattle.pb_command_line.specs.declared.command.Command.TheVariants.{Solve, Game, Solution, Explain};
 ghost use Rattle.pb_report_texts.specs.Report.{report_text};
 ghost use Rattle.pbsolve.specs.Answers.{IsAnswer};
 ghost use Rattle.pbsolve.specs.Refusals.{IsRefused};
@@ -10,21 +10,24 @@ ghost use Rattle.pbsolve.specs.Outputs.{Outputs};
 
 use crate::compile::verified_text;
 use crate::input::INPUT_LIMIT;
-use crate::module::{write_game, write_report, write_solution};
+use crate::module::{write_evidence, write_game, write_report, write_solution};
 use crate::solve_error::SolveError;
 use pb_assembler_modules::laws::compiled_modules_have_the_answer;
 use pb_exploration::Gate;
 use pb_machine::instances_have_trees;
 use pb_report_texts::Answer;
+use pb_solution::SolveOptions;
 use pb_sorts::Sink;
 use std::alloc::Global;
 use std::thread::Threads;
 
 /// Answers a text: reads it, checks it, compiles it to a module, explores that by so many workers, solves the game of what
-/// they reached, and writes the report once the answer is known.
+/// they reached by the solver that is asked for, and writes the report once the answer is known. The bytes are the same
+/// with any number of workers and either solver.
 ///
 /// The text is that of a fixpoint equation system (Groote and Willemse 2005; Groote and Mousavi 2014), and the answer is the
-/// truth of its initial instance in the nested fixpoint solution. `gate` sees each attempt of a worker to take an instance.
+/// truth of its initial instance in the nested fixpoint solution. `gate` sees each attempt of a worker to take an
+/// instance, and to lift a vertex.
 ///
 /// # Errors
 /// `Text` and `Typing` say which rule the text breaks and where, `Limit` which limit of the machine the code of which
@@ -34,12 +37,11 @@ pub fn solve_text<R: Threads + Sync, G: Gate + Sync, S: Sink>(
     rt: &R,
     alloc: Global,
     bytes: &[u8],
-    workers: u32,
+    options: SolveOptions,
     gate: &G,
     writer: &mut S,
 ) -> Result<Answer, SolveError>
     requires input { length bytes.now ≤ INPUT_LIMIT }
-    requires workers { (0 < workers) × (workers ≤ 16) }
 
     // The answer is the truth of the initial instance in the solution of what the text says, and is reported.
     ensures answer { IfOk result (IsAnswer bytes.now) }
@@ -57,7 +59,7 @@ pub fn solve_text<R: Threads + Sync, G: Gate + Sync, S: Sink>(
     let verified = verified_text(alloc, bytes)?;
     instances_have_trees(&verified);
     compiled_modules_have_the_answer();
-    write_report(rt, alloc, &verified, workers, gate, writer)
+    write_report(rt, alloc, &verified, options, gate, writer)
 }
 
 /// Writes the parity game of a text's reached instances, in the form that PGSolver reads.
@@ -93,12 +95,11 @@ pub fn solution_of<R: Threads + Sync, G: Gate + Sync, S: Sink>(
     rt: &R,
     alloc: Global,
     bytes: &[u8],
-    workers: u32,
+    options: SolveOptions,
     gate: &G,
     writer: &mut S,
 ) -> Result<(), SolveError>
     requires input { length bytes.now ≤ INPUT_LIMIT }
-    requires workers { (0 < workers) × (workers ≤ 16) }
     ensures solution { OnOk result (Outputs Solution bytes.now (Appends (S.taken writer.old) (S.taken writer.new))) }
     ensures kept { OnOk result (S.has_failed writer.new ≡ S.has_failed writer.old) }
     ensures refused { IfErr result (IsRefused bytes.now) }
@@ -107,5 +108,36 @@ pub fn solution_of<R: Threads + Sync, G: Gate + Sync, S: Sink>(
     ensures write_failed { result ≡ Err (SolveError.Write (record {})) → S.has_failed writer.new ≡ true }
 {
     let verified = verified_text(alloc, bytes)?;
-    write_solution(rt, alloc, &verified, workers, gate, writer)
+    write_solution(rt, alloc, &verified, options, gate, writer)
+}
+
+/// Writes why a text's initial instance has its truth value: the answer, and then a line for each instance of a proof graph
+/// (Cranen, Luttik and Willemse 2013), with its name, its truth value, and behind a colon the instances that this rests on.
+///
+/// By itself a proof graph shows the answer. The initial instance stands first in it, each instance once, and the nearest
+/// before others, so that a violated safety property shows its shortest way under the winner's strategy, line by line.
+///
+/// # Errors
+/// As with `solve_text`.
+pub fn explain_text<R: Threads + Sync, G: Gate + Sync, S: Sink>(
+    rt: &R,
+    alloc: Global,
+    bytes: &[u8],
+    workers: u32,
+    gate: &G,
+    writer: &mut S,
+) -> Result<(), SolveError>
+    requires input { length bytes.now ≤ INPUT_LIMIT }
+    requires workers { (0 < workers) × (workers ≤ 16) }
+    ensures evidence { OnOk result (Outputs Explain bytes.now (Appends (S.taken writer.old) (S.taken writer.new))) }
+    ensures kept { OnOk result (S.has_failed writer.new ≡ S.has_failed writer.old) }
+    ensures refused { IfErr result (IsRefused bytes.now) }
+    ensures silent { IfErr result (λ e. e ≢ SolveError.Write (record {}) → writer.new ≡ writer.old) }
+    ensures write { result ≡ Err (SolveError.Write (record {})) → Outputs Explain bytes.now (AppendsPrefix (S.taken writer.old) (S.taken writer.new)) }
+    ensures write_failed { result ≡ Err (SolveError.Write (record {})) → S.has_failed writer.new ≡ true }
+{
+    let verified = verified_text(alloc, bytes)?;
+    instances_have_trees(&verified);
+    compiled_modules_have_the_answer();
+    write_evidence(rt, alloc, &verified, workers, gate, writer)
 }

@@ -8,8 +8,13 @@ use std::io::ErrorKind;
 use std::process::ExitCode;
 use std::{env, io};
 
+// The words, without `collect`: that asks again for less where it is refused.
 fn words(rt: &HostRuntime) -> io::Result<Vec<String>> {
-    Ok(env::args(rt)?.collect(rt.alloc())?)
+    let mut words = Vec::new(rt.alloc());
+    for word in env::args(rt)? {
+        words.push(word)?;
+    }
+    Ok(words)
 }
 
 // Why there are no words: no memory for them, or one that is no text.

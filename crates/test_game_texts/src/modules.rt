@@ -1,4 +1,5 @@
-//! Modules of small equation systems, in bytes. The code of an equation is written as the compile scheme writes it.
+//! Modules of small equation systems, in bytes. The code of a right side that has a bracket is written as the compile scheme
+//! writes it.
 use std::alloc::{AllocError, Global};
 
 /// An equation in bytes: its sign (0 mu, 1 nu), its name, the carriers of its parameters and loop slots behind their
@@ -225,4 +226,92 @@ pub fn two_parameters(alloc: Global) -> Result<Vec<u8>, AllocError> {
         &[equation],
         b"\x00\xff\xff\xff\xff\xff\xff\xff\xff\x01\x00\x00\x00\x00\x00\x00\x00",
     )
+}
+
+/// `mu X = !(!X); init X`: the compile scheme puts a bracket round the only instance.
+pub fn least_of_itself_denied_twice(alloc: Global) -> Result<Vec<u8>, AllocError> {
+    let equation = EquationBytes {
+        sign: 0,
+        name: b'X',
+        carriers: &NONE,
+        instructions: 4,
+        // OR, CALL 0, CLOSE, END
+        code: b"\x1f\x24\x00\x20\x00",
+    };
+    module(alloc, &NO_SORT, &[equation], &[0])
+}
+
+/// `mu X(n) = val(4 div n == 2) || X(n); init X(2)`, with n from 1 to 4.
+pub fn divides_four(alloc: Global) -> Result<Vec<u8>, AllocError> {
+    let equation = EquationBytes {
+        sign: 0,
+        name: b'X',
+        carriers: b"\x01\x02\x01\x00\x00\x00\x04\x00\x00\x00\x00",
+        instructions: 13,
+        // OR, INT 4, GET 0, DIV, INT 2, EQ, JF 9, YES, JMP 11, GET 0, CALL 0, CLOSE, END
+        code: b"\x1f\x01\x04\x00\x00\x00\x00\x00\x00\x00\x04\x00\x0a\x01\x02\x00\x00\x00\x00\x00\x00\x00\x13\x1a\x09\x00\x21\x18\x0b\x00\x04\x00\x24\x00\x20\x00",
+    };
+    module(alloc, &NO_SORT, &[equation], &[0, 2, 0, 0, 0, 0, 0, 0, 0])
+}
+
+/// `nu X(n) = val(n * n > 0) && X(n); init X(2147483000)`, with n from 2147483000 to 2147483647.
+pub fn square_of_a_large_number(alloc: Global) -> Result<Vec<u8>, AllocError> {
+    let equation = EquationBytes {
+        sign: 1,
+        name: b'X',
+        carriers: b"\x01\x02\x78\xfd\xff\x7f\xff\xff\xff\x7f\x00",
+        instructions: 13,
+        // AND, GET 0, GET 0, MUL, INT 0, GT, JT 9, NO, JMP 11, GET 0, CALL 0, CLOSE, END
+        code: b"\x1e\x04\x00\x04\x00\x08\x01\x00\x00\x00\x00\x00\x00\x00\x00\x11\x19\x09\x00\x22\x18\x0b\x00\x04\x00\x24\x00\x20\x00",
+    };
+    module(
+        alloc,
+        &NO_SORT,
+        &[equation],
+        b"\x00\x78\xfd\xff\x7f\x00\x00\x00\x00",
+    )
+}
+
+/// `nu X(n, m) = X(n, m); init X(0, 0)`, with n and m from 0 to 1023.
+pub fn a_million_instances(alloc: Global) -> Result<Vec<u8>, AllocError> {
+    let equation = EquationBytes {
+        sign: 1,
+        name: b'X',
+        carriers: b"\x02\x02\x00\x00\x00\x00\xff\x03\x00\x00\x02\x00\x00\x00\x00\xff\x03\x00\x00\x00",
+        instructions: 6,
+        // OR, GET 0, GET 1, CALL 0, CLOSE, END
+        code: b"\x1f\x04\x00\x04\x01\x24\x00\x20\x00",
+    };
+    module(
+        alloc,
+        &NO_SORT,
+        &[equation],
+        &[0, 0, 0, 0, 0, 0, 0, 0, 0, 0, 0, 0, 0, 0, 0, 0, 0],
+    )
+}
+
+/// `nu X = forall n . val(n > 0); init X`, with n from 1 to 99998.
+pub fn all_are_positive(alloc: Global) -> Result<Vec<u8>, AllocError> {
+    let equation = EquationBytes {
+        sign: 1,
+        name: b'X',
+        carriers: b"\x00\x01\x02\x01\x00\x00\x00\x9e\x86\x01\x00",
+        instructions: 10,
+        // AND, LOOP 0, GET 0, INT 0, GT, JT 7, NO, NEXT, CLOSE, END
+        code: b"\x1e\x1c\x00\x04\x00\x01\x00\x00\x00\x00\x00\x00\x00\x00\x11\x19\x07\x00\x22\x1d\x20\x00",
+    };
+    module(alloc, &NO_SORT, &[equation], &[0])
+}
+
+/// `nu X(n) = val((2 * n) div 3 == 1) && X(n); init X(2)`, with n from 1 to 4.
+pub fn two_thirds(alloc: Global) -> Result<Vec<u8>, AllocError> {
+    let equation = EquationBytes {
+        sign: 1,
+        name: b'X',
+        carriers: b"\x01\x02\x01\x00\x00\x00\x04\x00\x00\x00\x00",
+        instructions: 15,
+        // AND, INT 2, GET 0, MUL, INT 3, DIV, INT 1, EQ, JT 11, NO, JMP 13, GET 0, CALL 0, CLOSE, END
+        code: b"\x1e\x01\x02\x00\x00\x00\x00\x00\x00\x00\x04\x00\x08\x01\x03\x00\x00\x00\x00\x00\x00\x00\x0a\x01\x01\x00\x00\x00\x00\x00\x00\x00\x13\x19\x0b\x00\x22\x18\x0d\x00\x04\x00\x24\x00\x20\x00",
+    };
+    module(alloc, &NO_SORT, &[equation], &[0, 2, 0, 0, 0, 0, 0, 0, 0])
 }

@@ -1,16 +1,19 @@
 //! From the bytes of a module to what is printed about it.
 ghost use Rattle.std.specs.Prelude.{IfOk};
-ghost use Rattle.pb_game_answer.specs.Explored.{AreModuleRows};
+ghost use Rattle.pb_game_answer.specs.Explored.{HaveTrees, AreModuleRows, IsModuleGame};
 
 use pb_bytecode::decode::decode;
 use pb_exploration::{Explored, NoGate, explore};
-use pb_game_answer::{build, solve};
+use pb_game_answer::{Solved, build};
+use pb_game_of_trees::BuildError;
 use pb_machine::instances_have_trees;
 use pb_report_texts::game_text::game_text;
 use pb_report_texts::solution_text::solution_text;
 use pb_report_texts::{Answer, WriteError, report};
+use pb_rows::IndexedRows;
 use pb_sorts::Sink;
 use pb_verifier::{Verified, VerifyError, verify};
+use pb_zielonka::solve;
 use std::alloc::{AllocError, Global};
 use std::test::Fail;
 use std::thread::Threads;
@@ -35,6 +38,22 @@ fn explored<R: Threads + Sync>(
     Ok(explored)
 }
 
+/// The game of these rows, with its winners.
+fn solved_game<R: Threads + Sync>(
+    rt: &R,
+    alloc: Global,
+    verified: &Verified,
+    rows: &IndexedRows,
+) -> Result<Solved, BuildError>
+    requires trees { HaveTrees verified.now }
+    requires rows { AreModuleRows verified.now rows.now }
+    ensures { IfOk result (λ s. IsModuleGame verified.now rows.now s.built) }
+{
+    let built = build(alloc, verified, rows)?;
+    let solution = solve(rt, alloc, &built.game)?;
+    Ok(Solved::new(built, solution))
+}
+
 /// Prints the report of the module of these bytes, and answers how the writing went.
 pub fn print_report<R: Threads + Sync, S: Sink>(
     rt: &R,
@@ -46,7 +65,7 @@ pub fn print_report<R: Threads + Sync, S: Sink>(
     instances_have_trees(&module);
     let explored = explored(rt, alloc, &module)?;
     let rows = explored.rows();
-    let solved = solve(rt, alloc, &module, rows)?;
+    let solved = solved_game(rt, alloc, &module, rows)?;
     let answer = Answer::of_solved(&solved, rows);
     Ok(report(alloc, &answer, sink))
 }
@@ -77,6 +96,6 @@ pub fn print_solution<R: Threads + Sync, S: Sink>(
     instances_have_trees(&module);
     let explored = explored(rt, alloc, &module)?;
     let rows = explored.rows();
-    let solved = solve(rt, alloc, &module, rows)?;
+    let solved = solved_game(rt, alloc, &module, rows)?;
     Ok(solution_text(alloc, &module, &solved, rows, sink))
 }

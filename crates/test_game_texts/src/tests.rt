@@ -139,6 +139,59 @@ fn reports_of_brackets(rt: HostRuntime) -> Result<(), Fail> {
 }
 
 #[test]
+fn reports_of_arithmetic(rt: HostRuntime) -> Result<(), Fail> {
+    let alloc = rt.alloc();
+    assert_report(
+        &rt,
+        alloc,
+        &modules::divides_four(alloc)?,
+        "answer true\ninstances 1\ncut 0\nvertices 3\n",
+    )?;
+    assert_report(
+        &rt,
+        alloc,
+        &modules::square_of_a_large_number(alloc)?,
+        "answer true\ninstances 1\ncut 0\nvertices 3\n",
+    )?;
+    assert_report(
+        &rt,
+        alloc,
+        &modules::two_thirds(alloc)?,
+        "answer true\ninstances 1\ncut 0\nvertices 3\n",
+    )
+}
+
+/// One instance in a bracket, one of 2^20 that could be reached, and one whose code takes as many steps as it may.
+#[test]
+fn reports_of_one_instance(rt: HostRuntime) -> Result<(), Fail> {
+    let alloc = rt.alloc();
+    assert_report(
+        &rt,
+        alloc,
+        &modules::least_of_itself_denied_twice(alloc)?,
+        "answer false\ninstances 1\ncut 0\nvertices 3\n",
+    )?;
+    assert_report(
+        &rt,
+        alloc,
+        &modules::a_million_instances(alloc)?,
+        "answer true\ninstances 1\ncut 0\nvertices 3\n",
+    )?;
+    assert_report(
+        &rt,
+        alloc,
+        &modules::all_are_positive(alloc)?,
+        "answer true\ninstances 1\ncut 0\nvertices 3\n",
+    )?;
+    assert_game(
+        &rt,
+        alloc,
+        &modules::all_are_positive(alloc)?,
+        "parity 2;\n0 1 0 0 \"false\";\n1 0 0 1 \"true\";\n2 0 1 1 \"X\";\n",
+    )
+}
+
+#[test]
 fn games_of_two_signs(rt: HostRuntime) -> Result<(), Fail> {
     let alloc = rt.alloc();
     assert_game(

@@ -1,5 +1,8 @@
 -- Where the words ask for a command, clap takes them and meets that command.
-use Rattle.pb_command_line.proofs.CommandLine.{takes_command, name_met, memory_alone}
+use Rattle.std.proofs.Common.{◌∙◌, ℕ, List, Option, Some, ap, sym, subst}
+use Rattle.clap.specs.Matches.{found_of}
+use Rattle.pb_command_line.specs.Words.{IsChosenBy}
+use Rattle.pb_command_line.proofs.CommandLine.{takes_command, meets_command, meets_solver, name_met, no_solver_is_met, memory_alone}
 use Rattle.pb_command_line.proofs.words.request_of.Goals as goal
 
 pub returns-in_err-matches-clause-understood : goal.returns-in_err-matches-clause-understood
@@ -12,3 +15,21 @@ returns-in_default-named-clause-understood g c asked =
     let named = name_met _ asked.0 asked.1 asked.2 c.in_ok-matches.matches _ c.in_ok-command_line.ensures c.in_ok-matches.ensures.matches
     c.in-Some.name.now c.in-Some.ensures.name in
     absurd (c.in_default-named.not-Some asked.1 (c.named.ensures.every asked.1 named))
+
+pub returns-in_err-solver-clause-understood : goal.returns-in_err-solver-clause-understood
+returns-in_err-solver-clause-understood g c asked =
+    let met = meets_solver _ _ c.in_ok-matches.matches c.in_ok-command_line.ensures c.in_ok-matches.ensures.matches
+    (found_of c.in-Some.found.now) c.in-Some.ensures.rows in
+    let unnamed = met ∙ no_solver_is_met _ asked.0 asked.1 asked.2 in
+    absurd (cc (c.in_err-solver.ensures.unnamed unnamed))
+
+pub returns-clause-command : goal.returns-clause-command
+returns-clause-command g c =
+    let met = meets_command _ _ c.in_ok-matches.matches c.in_ok-command_line.ensures c.in_ok-matches.ensures.matches in
+    sym met ∙ (sym c.in-Some.ensures.name ∙ ap (λ (n : List ℕ). Some n) c.in-Some-named.ensures.named)
+
+pub returns-clause-solver : goal.returns-clause-solver
+returns-clause-solver g c =
+    let met = meets_solver _ _ c.in_ok-matches.matches c.in_ok-command_line.ensures c.in_ok-matches.ensures.matches
+    (found_of c.in-Some.found.now) c.in-Some.ensures.rows in
+    subst (λ (w : Option (List ℕ)). IsChosenBy w c.in_ok-solver.solver) met c.in_ok-solver.ensures.chosen

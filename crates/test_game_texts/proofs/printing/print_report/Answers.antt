@@ -7,8 +7,8 @@ of_solved-answer-requires g c = (
   c.in_ok-module.module,
   c.instances_have_trees.ensures,
   subst (AreModuleRows c.in_ok-module.module) (sym c.rows-rows.ensures) c.in_ok-explored.ensures,
-  c.in_ok-solved.ensures.game,
+  c.in_ok-solved.ensures,
 )
 
-pub solve-requires-clause-rows : goal.solve-requires-clause-rows
-solve-requires-clause-rows g c κs within = subst (AreModuleRows c.in_ok-module.module) (sym c.rows-rows.ensures) c.in_ok-explored.ensures
+pub solved_game-requires-clause-rows : goal.solved_game-requires-clause-rows
+solved_game-requires-clause-rows g c κs within = subst (AreModuleRows c.in_ok-module.module) (sym c.rows-rows.ensures) c.in_ok-explored.ensures

@@ -5,5 +5,5 @@ use Rattle.test_game_texts.proofs.printing.print_solution.Goals as goal
 pub solution_text-requires-clause-rows : goal.solution_text-requires-clause-rows
 solution_text-requires-clause-rows g c = subst (AreModuleRows c.in_ok-module.module) (sym c.rows-rows.ensures) c.in_ok-explored.ensures
 
-pub solve-requires-clause-rows : goal.solve-requires-clause-rows
-solve-requires-clause-rows g c κs within = subst (AreModuleRows c.in_ok-module.module) (sym c.rows-rows.ensures) c.in_ok-explored.ensures
+pub solved_game-requires-clause-rows : goal.solved_game-requires-clause-rows
+solved_game-requires-clause-rows g c κs within = subst (AreModuleRows c.in_ok-module.module) (sym c.rows-rows.ensures) c.in_ok-explored.ensures

@@ -1,7 +1,7 @@
 use Rattle.std.proofs.Common.{ap, ◌∙◌}
 use Rattle.pb_game_of_trees.specs.Equations.{equations_of}
 use Rattle.pb_game_answer.proofs.Modules.{module_rows}
-use Rattle.pb_game_answer.proofs.answer.build.Goals as goal
+use Rattle.pb_game_answer.proofs.game.build.Goals as goal
 
 pub build-requires-clause-reached : goal.build-requires-clause-reached
 build-requires-clause-reached c =

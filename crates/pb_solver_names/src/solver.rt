@@ -1,6 +1,6 @@
 //! Which solver is asked for.
 ghost use Rattle.std.specs.Prelude.{◌≡◌, Some, IfSome};
-ghost use Rattle.pb_game_solver.specs.Names.{solver_name};
+ghost use Rattle.pb_solver_names.specs.Names.{solver_name};
 
 use std::fmt;
 
@@ -15,7 +15,7 @@ pub enum Solver {
 }
 
 impl Solver {
-    ghost use Rattle.pb_game_solver.specs.declared.solver.Solver.{Solver};
+    ghost use Rattle.pb_solver_names.specs.declared.solver.Solver.{Solver};
 
     /// The word that asks for it.
     pub fn name(self) -> &'static str

@@ -1,0 +1,33 @@
+use Rattle.std.proofs.Common.{refl, ap, ◌∙◌, arith}
+use Rattle.std.proofs.KnownBytes.{Appends-nil}
+use Rattle.std.proofs.lemmas.List.{drop_all}
+use Rattle.pb_report_texts.specs.InstanceName.{instance_name}
+use Rattle.pb_report_texts.proofs.Underway.{begun, went_on, gave_up, ended}
+use Rattle.pb_evidence_texts.specs.EvidenceText.{dependencies_text}
+use Rattle.pb_evidence_texts.proofs.Lines.{next_dependency}
+use Rattle.pb_evidence_texts.proofs.evidence_text.write_dependencies.Goals as goal
+
+pub loop-k-init : goal.loop-k-init
+loop-k-init g c = record {
+  sent = begun (g.S.Sink.taken c.args.sink.now) c.args.buffer.now.bytes.items (dependencies_text (instance_name c.args.verified.now) c.args.numbers.now) (Appends-nil (g.S.Sink.taken c.args.sink.now));
+  same_failed = refl;
+}
+
+pub returns-in_err-write_dependency : goal.returns-in_err-write_dependency
+returns-in_err-write_dependency g c =
+    let step = next_dependency (instance_name c.args.verified.now) c.args.numbers.now c.loop-k.k c.loop-k-test.true in
+    gave_up _ _ _ _ _ _ _ _ _ _ _ _ _ _ step c.loop-k.invariant.sent c.loop-k.invariant.same_failed c.from_residual.ensures.0 c.in_err-write_dependency.ensures
+
+pub loop-k-preserved : goal.loop-k-preserved
+loop-k-preserved g c =
+    let step = next_dependency (instance_name c.args.verified.now) c.args.numbers.now c.loop-k.k c.loop-k-test.true in
+    let h = c.in_ok-write_dependency.ensures in
+    record {
+      sent = went_on _ _ _ _ _ _ _ _ _ _ step c.loop-k.invariant.sent h.0;
+      same_failed = h.1 ∙ c.loop-k.invariant.same_failed;
+    }
+
+pub returns : goal.returns
+returns g c =
+    let none = ap (dependencies_text (instance_name c.args.verified.now)) (drop_all c.loop-k.k c.args.numbers.now (omega arith)) in
+    (ended _ _ _ _ _ _ none c.loop-k.invariant.sent, c.loop-k.invariant.same_failed)

@@ -1,0 +1,3 @@
+pub mod InstanceMarks
+pub mod EvidenceText
+pub mod ModuleEvidence
