@@ -2,11 +2,14 @@
 mod answers;
 mod data;
 mod depth;
+mod evidence;
 mod faults;
 mod generated;
 mod modules;
 mod plain;
+mod proof_graphs;
 mod rows;
+mod solvers;
 
 use crate::budget::Budget;
 use pb_exploration::NoGate;
@@ -33,8 +36,20 @@ fn run_on<T: Threads + Sync, R: Source>(
     reader: &mut R,
     budget: usize,
 ) -> Outcome {
-    let mut out = Budget::new(alloc, budget);
-    let mut err = Budget::new(alloc, ROOM);
+    let out = Budget::new(alloc, budget);
+    let err = Budget::new(alloc, ROOM);
+    run_into(rt, alloc, words, reader, out, err)
+}
+
+// The program on these words and this input, over these writers.
+fn run_into<T: Threads + Sync, R: Source>(
+    rt: &T,
+    alloc: Global,
+    words: &[&str],
+    reader: &mut R,
+    mut out: Budget,
+    mut err: Budget,
+) -> Outcome {
     let status = pbsolve::run(rt, alloc, words, reader, &NoGate, &mut out, &mut err);
     Outcome { status, out, err }
 }

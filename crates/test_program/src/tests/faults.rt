@@ -1,19 +1,37 @@
 //! Wrong words, readers and writers that fail, and input up to its limit.
-use super::{ROOM, run_on};
+use super::{ROOM, run_into, run_on};
+use crate::budget::Budget;
 use crate::failing::{Broken, Failing};
 use pb_sorts::In;
 use pbsolve::INPUT_LIMIT;
+use std::alloc::Global;
 use std::io;
 use std::io::Read;
 use std::test::Fail;
 
 const SOLVE: [&str; 2] = ["pbsolve", "solve"];
 
-const TEXT: &[u8] = b"pbes nu X = X; init X;";
+const TEXT: &[u8] = b"pbes mu X = Y; nu Y = X; init X;";
 
-const REPORT: &[u8] = b"answer true\ninstances 1\ncut 0\nvertices 3\n";
+// What the commands write of the text.
+const OUTPUTS: [(&str, &[u8]); 2] = [
+    ("solve", b"answer false\ninstances 2\ncut 0\nvertices 4\n"),
+    (
+        "game",
+        b"parity 3;\n0 1 0 0 \"false\";\n1 0 0 1 \"true\";\n2 1 0 3 \"X\";\n3 0 0 2 \"Y\";\n",
+    ),
+];
 
-const WRONG_WORDS: [&[&str]; 22] = [
+// A writer that fails once after so many bytes.
+fn writer(alloc: Global, budget: usize, is_slow: bool) -> Budget {
+    if is_slow {
+        Budget::slow(alloc, budget)
+    } else {
+        Budget::new(alloc, budget)
+    }
+}
+
+const WRONG_WORDS: [&[&str]; 33] = [
     &[],
     &["pbsolve"],
     &["pbsolve", "frobnicate"],
@@ -36,6 +54,17 @@ const WRONG_WORDS: [&[&str]; 22] = [
     &["pbsolve", "compile", "--workers", "1"],
     &["pbsolve", "verify", "--workers", "1"],
     &["pbsolve", "list", "--workers", "1"],
+    &["pbsolve", "--solver", "lift", "solve"],
+    &["pbsolve", "solve", "--solver"],
+    &["pbsolve", "solve", "--solver", ""],
+    &["pbsolve", "solve", "--solver", "Lift"],
+    &["pbsolve", "solve", "--solver", "lifts"],
+    &["pbsolve", "solve", "--solver", "lift", "--solver", "lift"],
+    &["pbsolve", "game", "--solver", "lift"],
+    &["pbsolve", "explain", "--solver", "lift"],
+    &["pbsolve", "compile", "--solver", "lift"],
+    &["pbsolve", "verify", "--solver", "zielonka"],
+    &["pbsolve", "list", "--solver", "zielonka"],
 ];
 
 #[test]
@@ -53,15 +82,25 @@ fn refuses_words(rt: HostRuntime) -> Result<(), Fail> {
 
 #[test]
 fn fails_at_each_byte_written(rt: HostRuntime) -> Result<(), Fail> {
-    for budget in 0..=REPORT.len() {
-        let outcome = run_on(&rt, rt.alloc(), &SOLVE, &mut In::new(TEXT), budget);
-        assert_eq!(rt; outcome.out.bytes(), &REPORT[..budget]);
-        if budget < REPORT.len() {
-            assert_eq!(rt; outcome.status, 4);
-            assert_eq!(rt; outcome.err.bytes(), b"E02\n".as_slice());
-        } else {
-            assert_eq!(rt; outcome.status, 0);
-            assert_eq!(rt; outcome.err.bytes(), b"".as_slice());
+    for (command, text) in OUTPUTS {
+        let words = ["pbsolve", command];
+        for budget in 0..=text.len() {
+            let whole = budget == text.len();
+            let status = if whole { 0 } else { 4 };
+            let line: &[u8] = if whole { b"" } else { b"E02\n" };
+            for is_slow in [false, true] {
+                let outcome = run_into(
+                    &rt,
+                    rt.alloc(),
+                    &words,
+                    &mut In::new(TEXT),
+                    writer(rt.alloc(), budget, is_slow),
+                    writer(rt.alloc(), ROOM, is_slow),
+                );
+                assert_eq!(rt; outcome.out.bytes(), &text[..budget], "{command}");
+                assert_eq!(rt; outcome.status, status, "{command}");
+                assert_eq!(rt; outcome.err.bytes(), line, "{command}");
+            }
         }
     }
     Ok(())
@@ -69,12 +108,63 @@ fn fails_at_each_byte_written(rt: HostRuntime) -> Result<(), Fail> {
 
 #[test]
 fn fails_at_each_byte_read(rt: HostRuntime) -> Result<(), Fail> {
-    for left in 0..=TEXT.len() {
-        let mut reader = In::new(Failing { bytes: TEXT, left });
-        let outcome = run_on(&rt, rt.alloc(), &SOLVE, &mut reader, ROOM);
-        assert_eq!(rt; outcome.status, 4);
-        assert_eq!(rt; outcome.out.bytes(), b"".as_slice());
-        assert_eq!(rt; outcome.err.bytes(), b"E01\n".as_slice());
+    for (command, _) in OUTPUTS {
+        let words = ["pbsolve", command];
+        for left in 0..=TEXT.len() {
+            let mut reader = In::new(Failing { bytes: TEXT, left });
+            let outcome = run_on(&rt, rt.alloc(), &words, &mut reader, ROOM);
+            assert_eq!(rt; outcome.status, 4, "{command}");
+            assert_eq!(rt; outcome.out.bytes(), b"".as_slice(), "{command}");
+            assert_eq!(rt; outcome.err.bytes(), b"E01\n".as_slice(), "{command}");
+        }
+    }
+    Ok(())
+}
+
+#[test]
+fn reads_and_writes_single_bytes(rt: HostRuntime) -> Result<(), Fail> {
+    for (command, text) in OUTPUTS {
+        let mut reader = In::new(Failing {
+            bytes: TEXT,
+            left: usize::MAX,
+        });
+        let outcome = run_into(
+            &rt,
+            rt.alloc(),
+            &["pbsolve", command],
+            &mut reader,
+            Budget::slow(rt.alloc(), ROOM),
+            Budget::slow(rt.alloc(), ROOM),
+        );
+        assert_eq!(rt; outcome.status, 0, "{command}");
+        assert_eq!(rt; outcome.out.bytes(), text, "{command}");
+        assert_eq!(rt; outcome.err.bytes(), b"".as_slice(), "{command}");
+    }
+    Ok(())
+}
+
+#[test]
+fn keeps_its_status_where_no_line_can_be_told(rt: HostRuntime) -> Result<(), Fail> {
+    for (input, line) in [
+        (
+            b"pbes nu X = Z; init X;".as_slice(),
+            b"T01 line 1 column 13\n".as_slice(),
+        ),
+        (b"#".as_slice(), b"P01 line 1 column 1\n".as_slice()),
+    ] {
+        for budget in 0..line.len() {
+            let outcome = run_into(
+                &rt,
+                rt.alloc(),
+                &SOLVE,
+                &mut In::new(input),
+                Budget::new(rt.alloc(), ROOM),
+                Budget::new(rt.alloc(), budget),
+            );
+            assert_eq!(rt; outcome.status, 1);
+            assert_eq!(rt; outcome.out.bytes(), b"".as_slice());
+            assert_eq!(rt; outcome.err.bytes(), &line[..budget]);
+        }
     }
     Ok(())
 }

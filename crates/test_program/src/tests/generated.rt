@@ -33,12 +33,25 @@ const ENDINGS: [&str; 9] = [
     "false",
 ];
 
-/// The head of each equation, without its sign.
-const HEADS: [&str; 3] = [
-    " X(n: Nat, d: D) = ",
-    " Y(n: Nat, d: D) = ",
-    " Z(n: Nat, d: D) = ",
-];
+/// What each text begins with.
+pub(super) const DECLARATIONS: &str = "%range Nat 0 2\nsort D = struct a | b; pbes ";
+
+/// The predicate variables.
+const NAMES: [&str; 3] = ["X", "Y", "Z"];
+
+/// An equation. Its predicate variable has the parameters `n: Nat, d: D`.
+#[derive(Drop)]
+pub(super) struct Equation {
+    pub(super) sign: &'static str,
+    pub(super) name: &'static str,
+    pub(super) right: String,
+}
+
+/// A system of equations over the numbers 0 to 2 and the sort of `a` and `b`, with the initial instance `X(0, a)`.
+#[derive(Drop)]
+pub(super) struct System {
+    pub(super) equations: Vec<Equation>,
+}
 
 /// A linear congruential generator.
 #[derive(Clone, Copy)]
@@ -77,24 +90,55 @@ fn push_right(text: &mut String, generator: &mut Generator) -> Result<(), AllocE
     Ok(())
 }
 
-/// A system of three equations in any signs.
-fn system(alloc: Global, seed: u64) -> Result<String, AllocError> {
-    let mut generator = Generator { state: seed };
-    let mut text = String::from_str(alloc, "%range Nat 0 2\nsort D = struct a | b; pbes ")?;
-    for head in HEADS {
-        text.push_str(generator.one_of(&["mu", "nu"]))?;
-        text.push_str(head)?;
-        push_right(&mut text, &mut generator)?;
-        text.push_str("; ")?;
+impl System {
+    /// Three equations in any signs.
+    pub(super) fn generated(alloc: Global, seed: u64) -> Result<System, AllocError> {
+        let mut generator = Generator { state: seed };
+        let mut equations = Vec::new(alloc);
+        for name in NAMES {
+            let sign = generator.one_of(&["mu", "nu"]);
+            let mut right = String::new(alloc);
+            push_right(&mut right, &mut generator)?;
+            equations.push(Equation { sign, name, right })?;
+        }
+        Ok(System { equations })
     }
-    text.push_str("init X(0, a);")?;
-    Ok(text)
+
+    /// The system as a text.
+    pub(super) fn text(&self, alloc: Global) -> Result<String, AllocError> {
+        let mut text = String::from_str(alloc, DECLARATIONS)?;
+        for equation in &self.equations {
+            push_equation(
+                &mut text,
+                equation.sign,
+                equation.name,
+                equation.right.as_str(),
+            )?;
+        }
+        text.push_str("init X(0, a);")?;
+        Ok(text)
+    }
+}
+
+/// Appends an equation.
+pub(super) fn push_equation(
+    text: &mut String,
+    sign: &str,
+    name: &str,
+    right: &str,
+) -> Result<(), AllocError> {
+    text.push_str(sign)?;
+    text.push_str(" ")?;
+    text.push_str(name)?;
+    text.push_str("(n: Nat, d: D) = ")?;
+    text.push_str(right)?;
+    text.push_str("; ")
 }
 
 #[test]
 fn generated_systems_have_the_plain_answer(rt: HostRuntime) -> Result<(), Fail> {
     for seed in 0..SYSTEMS {
-        let text = system(rt.alloc(), seed)?;
+        let text = System::generated(rt.alloc(), seed)?.text(rt.alloc())?;
         let outcome = asked(&rt, rt.alloc(), "solve", text.as_bytes());
         assert_eq!(rt; outcome.status, 0, "{text}");
         let line = plain_line(rt.alloc(), text.as_str());

@@ -7,7 +7,7 @@ const TEXT: &str =
     "sort D = struct a | b | c; pbes nu X(d: D) = forall e: D . val(e != d) => X(e); init X(a);";
 
 // The module of the text, in hexadecimal.
-const MODULE: &str = "5042455301010301610162016301010158010100010100\
+pub(super) const MODULE: &str = "5042455301010301610162016301010158010100010100\
     1c000000050000000c001e1c01040104001415190900040124001d2000000000000000000000";
 
 const LISTING: &str =
@@ -30,7 +30,7 @@ fn digit(byte: u8) -> u8 {
 }
 
 // The bytes of a text in hexadecimal, in which blanks stand for nothing.
-fn bytes_of(alloc: Global, text: &str) -> Result<Vec<u8>, AllocError> {
+pub(super) fn bytes_of(alloc: Global, text: &str) -> Result<Vec<u8>, AllocError> {
     let mut bytes = Vec::new(alloc);
     let mut high: Option<u8> = None;
     for byte in text.as_bytes() {

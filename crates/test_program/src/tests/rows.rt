@@ -6,13 +6,13 @@ use std::test::Fail;
 use std::thread::Threads;
 
 // A command, an input, and what the program writes for it.
-struct Row {
-    command: &'static str,
-    text: &'static str,
-    wanted: &'static str,
+pub(super) struct Row {
+    pub(super) command: &'static str,
+    pub(super) text: &'static str,
+    pub(super) wanted: &'static str,
 }
 
-const ROWS: [Row; 24] = [
+pub(super) const ROWS: [Row; 24] = [
     Row {
         command: "solve",
         text: "pbes nu X = X; init X;",

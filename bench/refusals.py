@@ -1,0 +1,121 @@
+#!/usr/bin/env python3
+"""bench/refusals.py PROGRAM: refuses each request for memory of PROGRAM in turn, and each start of a thread, and prints a
+table of what came of it. PROGRAM is crates/pbsolve_main/out/pbsolve_main, as LLVM builds it. `refuse.c` beside this file
+is compiled and loaded into it; it counts the calls of malloc, realloc and calloc, and those of pthread_create.
+
+For each case requests are counted up until a run meets no refusal (with two workers, whose requests vary with
+their interleaving, until twenty runs in a row meet none). A run that met one must end with status 3, the line `M01` and
+nothing on standard output. Only where the C library asked, as it does to start a thread, or a thread was refused, or the
+program asked inside the call that starts the workers, may the whole answer come instead; the table counts these apart."""
+import os
+import subprocess
+import sys
+import tempfile
+
+CYCLE = b"pbes mu X = Y; nu Y = X; init X;"
+OTHERS = b"sort D = struct a | b | c; pbes nu X(d: D) = forall e: D . val(e != d) => X(e); init X(a);"
+INNER = b"pbes nu X = (X && Y) || Y; mu Y = Y; init X;"
+DATA = (
+    b"%range Nat 0 3\nsort D = struct a?is_a | b; M = Nat; pbes nu X(d: D, n: M) = (forall m: M . val(m < n || is_a(d)) => X(d, m)) && "
+    b"val(exists e: D . e != d); mu Y(n: Nat) = val(max(n, 1) div 2 == 0 && -n mod 2 == if(n > 0, 1, 0)) || Y(pred(n)); init Y(3);"
+)
+MODULE = bytes.fromhex(
+    "50424553010103016101620163010101580101000101001c000000050000000c001e1c01040104001415190900040124001d2000"
+    "000000000000000000"
+)
+COUNTS_DOWN = bytes.fromhex(
+    "504245530200010001580102000000000900000000" "0a000000040000000a001f2500010000000900000007000400"
+    "0101000000000000000724001808002120000009" "00000000000000"
+)
+SINKS = b'0 1 0 0 "false";\n1 0 0 1 "true";\n'
+CASES = [
+    ("solve", "cycle", CYCLE, b"answer false\ninstances 2\ncut 0\nvertices 4\n"),
+    ("game", "cycle", CYCLE, b"parity 3;\n" + SINKS + b'2 1 0 3 "X";\n3 0 0 2 "Y";\n'),
+    ("solution", "cycle", CYCLE, b"X false\nY false\n"),
+    ("solve", "others", OTHERS, b"answer true\ninstances 3\ncut 0\nvertices 5\n"),
+    ("game", "others", OTHERS, b"parity 4;\n" + SINKS + b'2 0 1 3,4 "X(a)";\n3 0 1 2,4 "X(b)";\n4 0 1 2,3 "X(c)";\n'),
+    ("solution", "others", OTHERS, b"X(a) true\nX(b) true\nX(c) true\n"),
+    ("solve", "inner", INNER, b"answer false\ninstances 2\ncut 0\nvertices 5\n"),
+    ("game", "inner", INNER, b"parity 4;\n" + SINKS + b'2 2 0 3,4 "X";\n3 0 1 2,4;\n4 1 0 4 "Y";\n'),
+    ("solution", "inner", INNER, b"X false\nY false\n"),
+    ("solve", "data", DATA, b"answer true\ninstances 3\ncut 0\nvertices 5\n"),
+    ("game", "data", DATA, b"parity 4;\n" + SINKS + b'2 1 0 1 "Y(1)";\n3 1 0 2 "Y(2)";\n4 1 0 3 "Y(3)";\n'),
+    ("solution", "data", DATA, b"Y(1) true\nY(2) true\nY(3) true\n"),
+    ("solve-code", "others", MODULE, b"answer true\ninstances 3\ncut 0\nvertices 5\n"),
+    ("solve-code", "counts down", COUNTS_DOWN, b"answer true\ninstances 10\ncut 0\nvertices 12\n"),
+]
+NO_MEMORY = (3, b"", b"M01\n")
+
+
+class Refusals:
+    """Runs of one program with something refused."""
+
+    def __init__(self, program, folder):
+        self.program, self.report = program, os.path.join(folder, "report")
+        self.library = os.path.join(folder, "refuse.so")
+        source = os.path.join(os.path.dirname(os.path.abspath(__file__)), "refuse.c")
+        subprocess.run(["cc", "-O2", "-shared", "-fPIC", "-o", self.library, source, "-ldl"], check=True)
+        self.names = self.symbols()
+
+    def symbols(self):
+        """The program's functions by their addresses, where it tells them."""
+        lines = subprocess.run(["nm", "-n", self.program], capture_output=True, text=True).stdout.splitlines()
+        words = [line.split() for line in lines]
+        return [(int(word[0], 16), word[2]) for word in words if len(word) == 3]
+
+    def run(self, command, text, workers, **refused):
+        """How the run ended, and what was refused: `program`, `library`, `thread` or `nothing`, with the callers."""
+        if os.path.exists(self.report):
+            os.remove(self.report)
+        settings = {f"REFUSE_{kind.upper()}": str(number) for kind, number in refused.items()}
+        done = subprocess.run(
+            [self.program, command, "--workers", str(workers)], input=text, capture_output=True, timeout=60,
+            env={"LD_PRELOAD": self.library, "REFUSE_REPORT": self.report, **settings},
+        )
+        _, _, what, *places = open(self.report).read().split()
+        return (done.returncode, done.stdout, done.stderr), what, [int(place, 16) for place in places]
+
+    def callers(self, places):
+        """The names of the functions that these places lie in."""
+        return [max((it for it in self.names if it[0] <= place), default=(0, hex(place)))[1] for place in places]
+
+
+def sweep(refusals, case, workers, kind, wrong):
+    """Refuses each request or thread in turn: how many were refused, and how many of these runs answered all the same."""
+    command, name, text, output = case
+    whole, number, refused, answered, calm = (0, output, b""), 0, 0, 0, 0
+    while calm < (20 if workers > 1 else 1):
+        number += 1
+        ended, what, places = refusals.run(command, text, workers, **{kind: number})
+        if what == "nothing":
+            calm += 1
+            is_wanted = ended == whole
+        else:
+            calm, refused = 0, refused + 1
+            answered += ended == whole
+            may_answer = what != "program" or workers > 1 and any("thread" in it for it in refusals.callers(places))
+            is_wanted = ended == NO_MEMORY or may_answer and ended == whole
+        if not is_wanted:
+            wrong.append((command, name, workers, kind, number, what, ended, refusals.callers(places)))
+    return refused, answered
+
+
+def main():
+    wrong, total = [], 0
+    with tempfile.TemporaryDirectory() as folder:
+        refusals = Refusals(os.path.abspath(sys.argv[1]), folder)
+        print("| Command | Input | Workers | Requests refused | answered all the same | Threads refused | answered all the same |")
+        print("|---|---|---|---|---|---|---|")
+        for case in CASES:
+            for workers in (1, 2):
+                requests = sweep(refusals, case, workers, "request", wrong)
+                threads = sweep(refusals, case, workers, "thread", wrong)
+                total += requests[0] + threads[0]
+                print(f"| `{case[0]}` | {case[1]} | {workers} | {requests[0]} | {requests[1]} | {threads[0]} | {threads[1]} |", flush=True)
+    print(f"{total} refusals, {len(wrong)} not as wanted")
+    for it in wrong:
+        print(it)
+    sys.exit(1 if wrong else 0)
+
+
+main()
