@@ -1,6 +1,9 @@
 //! Measures exploration: a module whose one equation `mu X(n) = n == 0 || X(n - 1)` has 2^20 instances, from the last
-//! one on, by as many workers as the first argument says. With a second argument its right-hand side is longer.
+//! one on, by as many workers as the first argument says. With the second argument `broad` it is a module whose instances
+//! call ten others each, and with any other one its right-hand side is longer.
 #![tactic(auto)]
+
+mod broad;
 
 use pb_bytecode::decode::decode;
 use pb_exploration::{NoGate, explore};
@@ -65,9 +68,13 @@ fn main(rt: HostRuntime) -> anyhow::Result<()> {
     if workers == 0 || workers > 16 {
         return Ok(());
     }
+    let broad = broad::broad(alloc)?;
     let mut bytes = MODULE.as_slice();
     if words.len() > 2 {
         bytes = LONGER.as_slice();
+        if words[2].as_str() == "broad" {
+            bytes = broad.as_slice();
+        }
     }
     let module = match decode(alloc, bytes) {
         Ok(module) => module,
