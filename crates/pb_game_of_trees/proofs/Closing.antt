@@ -1,5 +1,5 @@
 -- How many tokens of a tree close a bracket.
-use Rattle.std.proofs.Common.{◌≡◌, ℕ, ◌-◌, [], ◌∷◌, ◌++◌, count_by, cond, refl, arith}
+use Rattle.std.proofs.Common.{◌≡◌, ℕ, ◌+◌, ◌-◌, ◌<◌, ◌≤◌, [], ◌∷◌, ◌++◌, count_by, length, length-append, cond, refl, arith}
 use Rattle.std.specs.List.{sum_by}
 use Rattle.std.proofs.lemmas.List.Sums.{sum_by-append, sum_by-cons}
 use Rattle.pb_trees.specs.declared.Token.{Token}
@@ -39,3 +39,15 @@ closing_tree (Root c f) =
     let first = sum_by-cons weight (opening c) (operands_tokens f ++ token.Close ∷ []) in
     let parts = sum_by-append weight (operands_tokens f) (token.Close ∷ []) in
     omega (arith, first, parts, opening_weight c, closing_operands f)
+
+operands_length : (f : Operands) → brackets f + brackets f ≤ length (operands_tokens f)
+operands_length End = omega arith
+operands_length (LeafThen l after) = omega (arith, operands_length after)
+operands_length (BracketThen c inside after) =
+    let parts = length-append (operands_tokens inside) (token.Close ∷ operands_tokens after) in
+    omega (arith, parts, operands_length inside, operands_length after)
+
+-- a tree of fewer tokens has no bracket inside its root
+pub short_tree : (tree : Tree) → length (tree_tokens tree) < 4 → inner tree ≡ 0
+short_tree (Single l) few = refl
+short_tree (Root c f) few = omega (arith, few, length-append (operands_tokens f) (token.Close ∷ []), operands_length f)

@@ -6,33 +6,10 @@ use Rattle.pb_trees.specs.declared.Token.TheVariants as token
 use Rattle.pb_trees.specs.Tree.{Connective, Conjunction, Disjunction, Leaf, Yes, No, Cut, Call, Operands, End, LeafThen, BracketThen, Tree, Single, Root, OperandsCall, TreeCalls}
 use Rattle.pb_trees.specs.Tokens.{opening, leaf_token, operands_tokens, tree_tokens}
 use Rattle.pb_trees.specs.Game.{inner}
+use Rattle.pb_trees.proofs.OneTree.{Role, AtLeaf, Opens, Closes, role, role-leaf, role-opening}
 use Rattle.pb_game_of_trees.specs.Builder.{behind_first, first_token, rest_tokens, rest_at, opened, rest_brackets, CallsBelow}
 
 -- ---- which operands a token begins
-
-data Role : Type 0 where
-  AtLeaf : Leaf → Role
-  Opens : Connective → Role
-  Closes : Role
-
-abbrev role : Token → Role
-role token.And = Opens Conjunction
-role token.Or = Opens Disjunction
-role token.Close = Closes
-role token.Yes = AtLeaf Yes
-role token.No = AtLeaf No
-role token.Cut = AtLeaf Cut
-role (token.Call n) = AtLeaf (Call n)
-
-role-leaf : (l : Leaf) → role (leaf_token l) ≡ AtLeaf l
-role-leaf Yes = refl
-role-leaf No = refl
-role-leaf Cut = refl
-role-leaf (Call n) = refl
-
-role-opening : (c : Connective) → role (opening c) ≡ Opens c
-role-opening Conjunction = refl
-role-opening Disjunction = refl
 
 -- the role of what comes first
 abbrev first_role : List Operands → Option Role

@@ -1,6 +1,6 @@
 -- The priorities of a game are at most the number of equations, or that of the false sink.
-use Rattle.std.proofs.Common.{◌≡◌, ℕ, zero, suc, ◌+◌, ◌<◌, ◌≤◌, List, [], ◌∷◌, ◌++◌, length, Some, inl, inr, subst, sym, arith}
-use Rattle.std.specs.Prelude.{slice_get, nat_lt, cond}
+use Rattle.std.proofs.Common.{◌≡◌, ℕ, zero, suc, ◌+◌, ◌<◌, ◌≤◌, List, [], ◌∷◌, ◌++◌, length, Some, inl, inr, subst, arith}
+use Rattle.std.specs.Prelude.{slice_get, nat_lt}
 use Rattle.std.proofs.lemmas.Bool.{cases_Bool, cond-true, cond-false}
 use Rattle.pb_trees.specs.Tree.{Operands, End, LeafThen, BracketThen, Tree, Single, Root}
 use Rattle.pb_trees.specs.Equations.{Signature}

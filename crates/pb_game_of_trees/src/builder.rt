@@ -1,7 +1,7 @@
 //! A game that is built from its last vertex to its first. The tokens of a tree are read from the last one to the first,
 //! so that a bracket's operands are known when its opening token comes, and its vertex goes before those of the brackets
 //! inside it.
-ghost use Rattle.std.specs.Prelude.{◌≡◌, ◌∷◌, ◌++◌, ◌<◌, ℕ, OnOk, List, [], reverse, length, slice_index};
+ghost use Rattle.std.specs.Prelude.{◌≡◌, ◌∷◌, ◌++◌, ◌<◌, ◌≤◌, ℕ, OnOk, List, [], reverse, length, slice_index};
 ghost use Rattle.pb_trees.specs.Tree.{Operands, End, LeafThen, BracketThen, Leaf, Root, Single, Tree, TreeCalls};
 ghost use Rattle.pb_trees.specs.Tokens.{tree_tokens};
 ghost use Rattle.pb_trees.specs.Game.{Vertex, rising_or, owner_of, sink_of, target, inner};
@@ -10,8 +10,12 @@ ghost use Rattle.pb_game_of_trees.specs.Builder.{CallsBelow, IsAt, IsBefore, IsB
 
 use crate::bracket::{Bracket, owner, sink};
 use crate::draft::Draft;
+use pb_rows::IndexedRows;
 use pb_trees::Token;
 use std::alloc::AllocError;
+
+/// How many rows are looked at before the first of them is built.
+const BLOCK: usize = 128;
 
 #[derive(Drop)]
 pub(crate) struct Builder {
@@ -26,7 +30,45 @@ pub(crate) struct Builder {
     pub starts: Vec<usize>,
 }
 
+/// How many operands of a tree may wait for their brackets: none where it is a leaf, else no more than it has tokens.
+fn most_waiting(tokens: &[Token]) -> usize
+    ensures { result ≤ length tokens.now }
+{
+    if tokens.is_empty() {
+        return 0;
+    }
+    match tokens[0] {
+        Token::And => tokens.len(),
+        Token::Or => tokens.len(),
+        _ => 0,
+    }
+}
+
+/// The most of it among some rows' trees. Trees that lie far apart are fetched side by side by this short loop, and are
+/// near when they are built.
+fn most_waiting_of(rows: &IndexedRows, from: usize, to: usize) -> usize
+    requires { to ≤ length rows.now }
+{
+    let mut most: usize = 0;
+    for k in from..to {
+        most = most.max(most_waiting(rows.tokens(k)));
+    }
+    most
+}
+
 impl Builder {
+    /// Makes room for the operands of the next rows' trees, where `left` rows are still to be built.
+    pub fn make_room(&mut self, rows: &IndexedRows, left: usize) -> Result<(), AllocError>
+        requires { left ≤ length rows.now }
+        ensures { OnOk result ((at : ℕ → ℕ) (fs : List Operands) (behind : List Vertex) (limit : ℕ) → IsAt at self.old fs behind limit → IsAt at self.new fs behind limit) }
+    {
+        if left % BLOCK == 0 {
+            let waiting = most_waiting_of(rows, left.saturating_sub(BLOCK), left);
+            self.targets.reserve(waiting)?;
+        }
+        Ok(())
+    }
+
     /// Reads a closing token.
     pub fn close(&mut self) -> Result<(), AllocError>
         ensures { OnOk result ((at : ℕ → ℕ) (fs : List Operands) (behind : List Vertex) (limit : ℕ) → IsAt at self.old fs behind limit → IsAt at self.new (End ∷ fs) behind limit) }

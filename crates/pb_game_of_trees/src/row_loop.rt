@@ -35,6 +35,7 @@ pub(crate) fn draft_of(
     };
     let mut k = rows.len();
     while k > 0 {
+        builder.make_room(rows, k)?;
         k -= 1;
         builder.put_tree(
             vertices,

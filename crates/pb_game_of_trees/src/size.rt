@@ -36,11 +36,17 @@ fn count_closing(tokens: &[Token]) -> usize
     tokens.iter().filter(|token| is_closing(**token)).count()
 }
 
-/// How many brackets there are inside a tree, its root not counted.
+/// How many tokens the least tree has that has a bracket inside its root.
+const LEAST_NESTED: usize = 4;
+
+/// How many brackets there are inside a tree, its root not counted. The tokens of a small tree need no look.
 pub(crate) fn inner_brackets(tokens: &[Token]) -> usize
     ensures inner { (tree : Tree) → tokens.now ≡ tree_tokens tree → result ≡ inner tree }
     ensures bound { result ≤ length tokens.now }
 {
+    if tokens.len() < LEAST_NESTED {
+        return 0;
+    }
     count_closing(tokens).saturating_sub(1)
 }
 

@@ -93,9 +93,10 @@ impl TreeGame {
         let by_number = vertices_by_number(alloc, rows, &vertices, numbers)?;
         let levels = levels(alloc, signatures)?;
         let draft = draft_of(alloc, &levels, rows, &by_number, size)?;
+        let start = by_number[initial as usize];
+        drop(by_number);
         pb_trees::games_of_rows_are_total();
         let game = game_of(alloc, draft.into_parts())?;
-        let start = by_number[initial as usize];
         Ok(TreeGame {
             game,
             vertices,

@@ -1,4 +1,4 @@
-use Rattle.std.proofs.Common.{◌≡◌, ℕ, List, rules, arith, ◌<◌, length, refl, subst}
+use Rattle.std.proofs.Common.{◌≡◌, ℕ, List, rules, arith, length, refl, subst}
 use Rattle.pb_game.specs.Adjacency.{IsRows, IsReverse}
 use Rattle.pb_game.specs.Games.{vertex_count, owner_of, priority_of, successors_of}
 use Rattle.pb_game.specs.Parts.{AreGame}

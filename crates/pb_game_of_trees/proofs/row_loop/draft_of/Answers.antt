@@ -38,12 +38,21 @@ put_tree-requires-clause-spelled c =
     let l = c.loop-k in
     let r = c.requires.rows in
     let row = get_or c.args.rows.now (l.k - 1) nothing in
+    let at = slice_index c.args.vertices.now in
     let n = next_row c.args.rows.now r.0 (l.k - 1) r.1 (omega (arith, l.invariant.within)) in (
       n.next.tree,
       c.tokens.ensures ∙ tokens_of r.0 (l.k - 1) row n,
-      omega (arith, l.invariant.place r.0 r.1, place_before r.0 l.k (omega arith) row n),
+      omega (arith, l.invariant.place r.0 r.1, place_before r.0 l.k (omega arith) row n, (c.in_ok-make_room.ensures at [] _ l.builder.next (l.invariant.behind r.0 r.1)).reaches),
       r.3 n.next (contained r.0 (l.k - 1) row n),
     )
+
+pub put_tree-requires-clause-before : goal.put_tree-requires-clause-before
+put_tree-requires-clause-before c =
+    let l = c.loop-k in
+    let r = c.requires.rows in
+    let at = slice_index c.args.vertices.now in
+    let behind = row_vertices at (priority_in c.args.levels.now) (drop l.k r.0) l.builder.next in
+    (behind, l.builder.next, c.in_ok-make_room.ensures at [] behind l.builder.next (l.invariant.behind r.0 r.1))
 
 pub loop-k-preserved : goal.loop-k-preserved
 loop-k-preserved c =
@@ -58,12 +67,12 @@ loop-k-preserved c =
       place = λ plain hold.
           let n = next_row rows plain (l.k - 1) hold (omega (arith, l.invariant.within)) in
           let h = c.in_ok-put_tree.ensures n.next.tree (row_vertices at p (drop l.k plain) l.builder.next) l.builder.next
-          (c.tokens.ensures ∙ tokens_of plain (l.k - 1) row n) (l.invariant.behind plain hold) in
+          (c.tokens.ensures ∙ tokens_of plain (l.k - 1) row n) (c.in_ok-make_room.ensures at [] _ l.builder.next (l.invariant.behind plain hold)) in
           omega (arith, h.reaches, l.invariant.place plain hold, place_before plain l.k (omega arith) row n);
       behind = λ plain hold.
           let n = next_row rows plain (l.k - 1) hold (omega (arith, l.invariant.within)) in
           let h = c.in_ok-put_tree.ensures n.next.tree (row_vertices at p (drop l.k plain) l.builder.next) l.builder.next
-          (c.tokens.ensures ∙ tokens_of plain (l.k - 1) row n) (l.invariant.behind plain hold) in
+          (c.tokens.ensures ∙ tokens_of plain (l.k - 1) row n) (c.in_ok-make_room.ensures at [] _ l.builder.next (l.invariant.behind plain hold)) in
           let priority : c.priority_at.result ≡ p n.next.number = c.priority_at.ensures ∙ ap (λ (x : ℕ). p x) (c.number.ensures ∙ sym (ap number n.is)) in
           let limit : l.builder.next ≡ suc (new.next + inner n.next.tree) = omega (arith, h.reaches) in
           let vertices : tree_vertices at c.priority_at.result n.next.tree new.next ++ row_vertices at p (drop l.k plain) l.builder.next
