@@ -2,8 +2,11 @@
 //! winners say is the truth of the instances in the nested solution of the module's equations.
 #![tactic(auto)]
 
+mod answer;
+mod built_module;
 pub mod options;
 pub mod solved_module;
 
+pub use answer::answer_module;
 pub use options::SolveOptions;
 pub use solved_module::{SolvedModule, solve_module};

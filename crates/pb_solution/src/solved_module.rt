@@ -4,21 +4,21 @@ ghost use Rattle.pb_game_of_trees.specs.declared.tree_game.BuildError.TheVariant
 ghost use Rattle.pb_game_solver.specs.Lifting.{IsLiftedOrNone};
 ghost use Rattle.pb_report_texts.specs.Sending.{IsOutOfMemory};
 ghost use Rattle.pb_solver_names.specs.declared.solver.Solver.TheVariants.{Lift};
-ghost use Rattle.pb_solution.specs.Answers.{IsSolutionOf, IsAnswerOf, IsTooLarge};
+ghost use Rattle.pb_solution.specs.Answers.{IsSolutionOf, IsTooLarge};
 ghost use Rattle.pb_evidence_texts.specs.ModuleEvidence.{ForEvidenceText};
 ghost use Rattle.pb_solution.specs.Texts.{ForGameText, ForSolutionText, Sends};
 
+use crate::built_module::{BuiltModule, build_module, solve_game};
 use crate::options::SolveOptions;
 use pb_evidence_texts::evidence_of;
 use pb_evidence_texts::evidence_text::evidence_text;
-use pb_exploration::{Explored, Gate, explore};
-use pb_game_answer::{Solved, build};
+use pb_exploration::{Explored, Gate};
+use pb_game_answer::Solved;
 use pb_game_of_trees::BuildError;
-use pb_game_solver::solve;
 use pb_machine::instances_have_trees;
+use pb_report_texts::WriteError;
 use pb_report_texts::game_text::game_text;
 use pb_report_texts::solution_text::solution_text;
-use pb_report_texts::{Answer, WriteError};
 use pb_sorts::Sink;
 use pb_verifier::Verified;
 use std::alloc::Global;
@@ -32,7 +32,7 @@ pub struct SolvedModule {
 }
 
 /// Solves a verified module: workers explore its reached instances, and the game of these is solved (Mader 1997) by the
-/// solver that is asked for, with a certificate of its winners, which is checked. The gate sees each attempt of a worker to
+/// solver that is asked for, with a certificate of its winners. The gate sees each attempt of a worker to
 /// take an instance, and to lift a vertex.
 ///
 /// # Errors
@@ -48,13 +48,9 @@ pub fn solve_module<R: Threads + Sync, G: Gate + Sync>(
     ensures lifted { options.solver ≡ Lift → IfOk result (λ s. IsLiftedOrNone s.solved.built.game s.solved.solution) }
     ensures too_many { result ≡ Err TooManyVertices → IsTooLarge verified.now }
 {
-    let workers = options.workers;
-    instances_have_trees(verified);
-    let explored = explore(rt, alloc, verified, workers, gate)?;
-    match build(alloc, verified, explored.rows()) {
-        Ok(built) => {
-            let solution = solve(rt, alloc, &built.game, options.solver, workers, gate)?;
-            let solved = Solved::new(built, solution);
+    match build_module(rt, alloc, verified, options.workers, gate) {
+        Ok(BuiltModule { explored, built }) => {
+            let solved = solve_game(rt, alloc, built, options, gate)?;
             Ok(SolvedModule { explored, solved })
         }
         Err(error) => Err(error),
@@ -62,17 +58,6 @@ pub fn solve_module<R: Threads + Sync, G: Gate + Sync>(
 }
 
 impl SolvedModule {
-    /// The answer: the truth of the initial instance in the nested solution of the module's equations (Groote and Willemse
-    /// 2005), how many instances were reached, how many of these meet a cut, and how many vertices the game has.
-    pub fn answer(&self, verified: &Verified) -> Answer
-        requires { IsSolutionOf verified.now self.now }
-        ensures { IsAnswerOf verified.now result }
-    {
-        instances_have_trees(verified);
-        let _few = self.solved.built.game.len();
-        Answer::of_solved(&self.solved, self.explored.rows())
-    }
-
     /// Appends the game of the reached instances, in the form that PGSolver reads.
     ///
     /// # Errors

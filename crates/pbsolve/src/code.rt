@@ -48,12 +48,16 @@ pub fn solve_code<R: Threads + Sync, G: Gate + Sync, S: Sink>(
     writer: &mut S,
 ) -> Result<Answer, SolveError>
     ensures answer { IfOk result (IsAnswerOfCode bytes.now) }
-    ensures report { IfOk result (λ answer. Appends (S.taken writer.old) (S.taken writer.new) (report_text answer)) }
+    ensures report { IfOk result
+        (λ answer. Appends (S.taken writer.old) (S.taken writer.new) (report_text answer)) }
     ensures kept { OnOk result (S.has_failed writer.new ≡ S.has_failed writer.old) }
     ensures refused { IfErr result (IsRefusedBytes bytes.now) }
-    ensures silent { IfErr result (λ e. e ≢ SolveError.Write (record {}) → writer.new ≡ writer.old) }
-    ensures write { result ≡ Err (SolveError.Write (record {})) → Outputs SolveCode bytes.now (AppendsPrefix (S.taken writer.old) (S.taken writer.new)) }
-    ensures write_failed { result ≡ Err (SolveError.Write (record {})) → S.has_failed writer.new ≡ true }
+    ensures silent { IfErr result (λ e. e ≢ SolveError.Write (record {}) →
+        writer.new ≡ writer.old) }
+    ensures write { result ≡ Err (SolveError.Write (record {})) →
+        Outputs SolveCode bytes.now (AppendsPrefix (S.taken writer.old) (S.taken writer.new)) }
+    ensures write_failed { result ≡ Err (SolveError.Write (record {})) →
+        S.has_failed writer.new ≡ true }
 {
     let verified = verified_code(alloc, bytes)?;
     write_report(rt, alloc, &verified, options, gate, writer)
@@ -65,12 +69,16 @@ pub fn solve_code<R: Threads + Sync, G: Gate + Sync, S: Sink>(
 /// `Module` says what is wrong with the bytes and where, `Acceptance` which rule the code breaks and where; `Memory` comes
 /// where a request for memory was refused, and `Write` where the text could not be written whole.
 pub fn verify_code<S: Sink>(alloc: Global, bytes: &[u8], writer: &mut S) -> Result<(), SolveError>
-    ensures accepted { OnOk result (Outputs Verify bytes.now (Appends (S.taken writer.old) (S.taken writer.new))) }
+    ensures accepted { OnOk result
+        (Outputs Verify bytes.now (Appends (S.taken writer.old) (S.taken writer.new))) }
     ensures kept { OnOk result (S.has_failed writer.new ≡ S.has_failed writer.old) }
     ensures refused { IfErr result (IsRefusedBytes bytes.now) }
-    ensures silent { IfErr result (λ e. e ≢ SolveError.Write (record {}) → writer.new ≡ writer.old) }
-    ensures write { result ≡ Err (SolveError.Write (record {})) → Outputs Verify bytes.now (AppendsPrefix (S.taken writer.old) (S.taken writer.new)) }
-    ensures write_failed { result ≡ Err (SolveError.Write (record {})) → S.has_failed writer.new ≡ true }
+    ensures silent { IfErr result (λ e. e ≢ SolveError.Write (record {}) →
+        writer.new ≡ writer.old) }
+    ensures write { result ≡ Err (SolveError.Write (record {})) →
+        Outputs Verify bytes.now (AppendsPrefix (S.taken writer.old) (S.taken writer.new)) }
+    ensures write_failed { result ≡ Err (SolveError.Write (record {})) →
+        S.has_failed writer.new ≡ true }
 {
     let _verified = verified_code(alloc, bytes)?;
     put(b"accepted\n", writer).map_err(SolveError::Write)
@@ -82,12 +90,16 @@ pub fn verify_code<S: Sink>(alloc: Global, bytes: &[u8], writer: &mut S) -> Resu
 /// `Module` says what is wrong with the bytes and where; `Memory` comes where a request for memory was refused, and `Write`
 /// where the listing could not be written whole.
 pub fn list_code<S: Sink>(alloc: Global, bytes: &[u8], writer: &mut S) -> Result<(), SolveError>
-    ensures listed { OnOk result (Outputs List bytes.now (Appends (S.taken writer.old) (S.taken writer.new))) }
+    ensures listed { OnOk result
+        (Outputs List bytes.now (Appends (S.taken writer.old) (S.taken writer.new))) }
     ensures kept { OnOk result (S.has_failed writer.new ≡ S.has_failed writer.old) }
     ensures refused { IfErr result (IsRefusedBytes bytes.now) }
-    ensures silent { IfErr result (λ e. e ≢ SolveError.Write (record {}) → writer.new ≡ writer.old) }
-    ensures write { result ≡ Err (SolveError.Write (record {})) → Outputs List bytes.now (AppendsPrefix (S.taken writer.old) (S.taken writer.new)) }
-    ensures write_failed { result ≡ Err (SolveError.Write (record {})) → S.has_failed writer.new ≡ true }
+    ensures silent { IfErr result (λ e. e ≢ SolveError.Write (record {}) →
+        writer.new ≡ writer.old) }
+    ensures write { result ≡ Err (SolveError.Write (record {})) →
+        Outputs List bytes.now (AppendsPrefix (S.taken writer.old) (S.taken writer.new)) }
+    ensures write_failed { result ≡ Err (SolveError.Write (record {})) →
+        S.has_failed writer.new ≡ true }
 {
     let module = decode(alloc, bytes)?;
     let listing = list(alloc, &module)?;

@@ -27,7 +27,8 @@ use std::alloc::Global;
 // What a text says, which is well typed.
 fn typed(alloc: Global, bytes: &[u8]) -> Result<Typed, SolveError>
     requires { length bytes.now ≤ INPUT_LIMIT }
-    ensures read { IfOk result (λ typed. IsTheReading bytes.now (spec_form typed.spec) × IsWellTyped (erase (spec_form typed.spec))) }
+    ensures read { IfOk result (λ typed. IsTheReading bytes.now (spec_form typed.spec)
+        × IsWellTyped (erase (spec_form typed.spec))) }
     ensures refused { IfErr result (IsRefused bytes.now) }
     ensures unwritten { IfErr result (λ e. e ≢ SolveError.Write (record {})) }
 {
@@ -75,12 +76,16 @@ pub(crate) fn verified_text(alloc: Global, bytes: &[u8]) -> Result<Verified, Sol
 /// where a request for memory was refused, and `Write` where the bytes could not be written whole.
 pub fn compile_text<S: Sink>(alloc: Global, bytes: &[u8], writer: &mut S) -> Result<(), SolveError>
     requires { length bytes.now ≤ INPUT_LIMIT }
-    ensures module { OnOk result (Outputs Compile bytes.now (Appends (S.taken writer.old) (S.taken writer.new))) }
+    ensures module { OnOk result
+        (Outputs Compile bytes.now (Appends (S.taken writer.old) (S.taken writer.new))) }
     ensures kept { OnOk result (S.has_failed writer.new ≡ S.has_failed writer.old) }
     ensures refused { IfErr result (IsRefused bytes.now) }
-    ensures silent { IfErr result (λ e. e ≢ SolveError.Write (record {}) → writer.new ≡ writer.old) }
-    ensures write { result ≡ Err (SolveError.Write (record {})) → Outputs Compile bytes.now (AppendsPrefix (S.taken writer.old) (S.taken writer.new)) }
-    ensures write_failed { result ≡ Err (SolveError.Write (record {})) → S.has_failed writer.new ≡ true }
+    ensures silent { IfErr result (λ e. e ≢ SolveError.Write (record {}) →
+        writer.new ≡ writer.old) }
+    ensures write { result ≡ Err (SolveError.Write (record {})) →
+        Outputs Compile bytes.now (AppendsPrefix (S.taken writer.old) (S.taken writer.new)) }
+    ensures write_failed { result ≡ Err (SolveError.Write (record {})) →
+        S.has_failed writer.new ≡ true }
 {
     let module = compiled(alloc, bytes)?;
     let spelled = encode(alloc, &module)?;

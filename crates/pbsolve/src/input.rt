@@ -36,10 +36,12 @@ impl From<AllocError> for InputError {
 pub(crate) fn read_input<R: Source>(alloc: Global, reader: &mut R) -> Result<Vec<u8>, InputError>
     ensures short { IfOk result (λ text. vec_len text ≤ INPUT_LIMIT) }
     ensures whole { IfOk result (λ text. IsWhole (R.left reader.old) text.items) }
-    ensures too_long { result ≡ Err InputError.TooLong → IsLongerThan INPUT_LIMIT (R.left reader.old) }
+    ensures too_long { result ≡ Err InputError.TooLong →
+        IsLongerThan INPUT_LIMIT (R.left reader.old) }
     ensures failed { result ≡ Err InputError.Failed → R.has_failed reader.new ≡ true }
     ensures ok_failed { OnOk result (R.has_failed reader.new ≡ R.has_failed reader.old) }
-    ensures err_failed { IfErr result (λ e. e ≢ InputError.Failed → R.has_failed reader.new ≡ R.has_failed reader.old) }
+    ensures err_failed { IfErr result (λ e. e ≢ InputError.Failed →
+        R.has_failed reader.new ≡ R.has_failed reader.old) }
 {
     let mut text = Vec::new(alloc);
     let mut piece = [0u8; PIECE];

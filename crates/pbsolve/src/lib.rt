@@ -10,6 +10,7 @@ mod run_error;
 mod solve;
 mod solve_error;
 mod status;
+mod streams;
 
 pub use code::{list_code, solve_code, verify_code};
 pub use compile::compile_text;
@@ -19,3 +20,4 @@ pub use program::{run, tell_fault};
 pub use solve::{explain_text, game_of, solution_of, solve_text};
 pub use solve_error::SolveError;
 pub use status::Status;
+pub use streams::Streams;

@@ -12,7 +12,7 @@ ghost use Rattle.pbsolve.specs.Outputs.{ForReport};
 use crate::solve_error::SolveError;
 use pb_exploration::Gate;
 use pb_report_texts::{Answer, report};
-use pb_solution::{SolveOptions, solve_module};
+use pb_solution::{SolveOptions, answer_module, solve_module};
 use pb_solver_names::Solver;
 use pb_sorts::Sink;
 use pb_verifier::Verified;
@@ -29,15 +29,18 @@ pub(crate) fn write_report<R: Threads + Sync, G: Gate + Sync, S: Sink>(
     writer: &mut S,
 ) -> Result<Answer, SolveError>
     ensures answer { IfOk result (IsAnswerOf verified.now) }
-    ensures report { IfOk result (λ answer. Appends (S.taken writer.old) (S.taken writer.new) (report_text answer)) }
+    ensures report { IfOk result
+        (λ answer. Appends (S.taken writer.old) (S.taken writer.new) (report_text answer)) }
     ensures kept { OnOk result (S.has_failed writer.new ≡ S.has_failed writer.old) }
     ensures refused { IfErr result (IsRefusedModule verified.now) }
-    ensures silent { IfErr result (λ e. e ≢ SolveError.Write (record {}) → writer.new ≡ writer.old) }
-    ensures write { result ≡ Err (SolveError.Write (record {})) → ForReport verified.now (AppendsPrefix (S.taken writer.old) (S.taken writer.new)) }
-    ensures write_failed { result ≡ Err (SolveError.Write (record {})) → S.has_failed writer.new ≡ true }
+    ensures silent { IfErr result (λ e. e ≢ SolveError.Write (record {}) →
+        writer.new ≡ writer.old) }
+    ensures write { result ≡ Err (SolveError.Write (record {})) →
+        ForReport verified.now (AppendsPrefix (S.taken writer.old) (S.taken writer.new)) }
+    ensures write_failed { result ≡ Err (SolveError.Write (record {})) →
+        S.has_failed writer.new ≡ true }
 {
-    let solved = solve_module(rt, alloc, verified, options, gate)?;
-    let answer = solved.answer(verified);
+    let answer = answer_module(rt, alloc, verified, options, gate)?;
     report(alloc, &answer, writer)?;
     Ok(answer)
 }
@@ -52,12 +55,16 @@ pub(crate) fn write_game<R: Threads + Sync, G: Gate + Sync, S: Sink>(
     writer: &mut S,
 ) -> Result<(), SolveError>
     requires { (0 < workers) × (workers ≤ 16) }
-    ensures game { OnOk result (ForGameText verified.now (Appends (S.taken writer.old) (S.taken writer.new))) }
+    ensures game { OnOk result
+        (ForGameText verified.now (Appends (S.taken writer.old) (S.taken writer.new))) }
     ensures kept { OnOk result (S.has_failed writer.new ≡ S.has_failed writer.old) }
     ensures refused { IfErr result (IsRefusedModule verified.now) }
-    ensures silent { IfErr result (λ e. e ≢ SolveError.Write (record {}) → writer.new ≡ writer.old) }
-    ensures write { result ≡ Err (SolveError.Write (record {})) → ForGameText verified.now (AppendsPrefix (S.taken writer.old) (S.taken writer.new)) }
-    ensures write_failed { result ≡ Err (SolveError.Write (record {})) → S.has_failed writer.new ≡ true }
+    ensures silent { IfErr result (λ e. e ≢ SolveError.Write (record {}) →
+        writer.new ≡ writer.old) }
+    ensures write { result ≡ Err (SolveError.Write (record {})) →
+        ForGameText verified.now (AppendsPrefix (S.taken writer.old) (S.taken writer.new)) }
+    ensures write_failed { result ≡ Err (SolveError.Write (record {})) →
+        S.has_failed writer.new ≡ true }
 {
     let solver = Solver::Zielonka;
     let options = SolveOptions { workers, solver };
@@ -75,12 +82,16 @@ pub(crate) fn write_solution<R: Threads + Sync, G: Gate + Sync, S: Sink>(
     gate: &G,
     writer: &mut S,
 ) -> Result<(), SolveError>
-    ensures solution { OnOk result (ForSolutionText verified.now (Appends (S.taken writer.old) (S.taken writer.new))) }
+    ensures solution { OnOk result
+        (ForSolutionText verified.now (Appends (S.taken writer.old) (S.taken writer.new))) }
     ensures kept { OnOk result (S.has_failed writer.new ≡ S.has_failed writer.old) }
     ensures refused { IfErr result (IsRefusedModule verified.now) }
-    ensures silent { IfErr result (λ e. e ≢ SolveError.Write (record {}) → writer.new ≡ writer.old) }
-    ensures write { result ≡ Err (SolveError.Write (record {})) → ForSolutionText verified.now (AppendsPrefix (S.taken writer.old) (S.taken writer.new)) }
-    ensures write_failed { result ≡ Err (SolveError.Write (record {})) → S.has_failed writer.new ≡ true }
+    ensures silent { IfErr result (λ e. e ≢ SolveError.Write (record {}) →
+        writer.new ≡ writer.old) }
+    ensures write { result ≡ Err (SolveError.Write (record {})) →
+        ForSolutionText verified.now (AppendsPrefix (S.taken writer.old) (S.taken writer.new)) }
+    ensures write_failed { result ≡ Err (SolveError.Write (record {})) →
+        S.has_failed writer.new ≡ true }
 {
     let solved = solve_module(rt, alloc, verified, options, gate)?;
     solved.write_solution(alloc, verified, writer)?;
@@ -97,12 +108,16 @@ pub(crate) fn write_evidence<R: Threads + Sync, G: Gate + Sync, S: Sink>(
     writer: &mut S,
 ) -> Result<(), SolveError>
     requires { (0 < workers) × (workers ≤ 16) }
-    ensures evidence { OnOk result (ForEvidenceText verified.now (Appends (S.taken writer.old) (S.taken writer.new))) }
+    ensures evidence { OnOk result
+        (ForEvidenceText verified.now (Appends (S.taken writer.old) (S.taken writer.new))) }
     ensures kept { OnOk result (S.has_failed writer.new ≡ S.has_failed writer.old) }
     ensures refused { IfErr result (IsRefusedModule verified.now) }
-    ensures silent { IfErr result (λ e. e ≢ SolveError.Write (record {}) → writer.new ≡ writer.old) }
-    ensures write { result ≡ Err (SolveError.Write (record {})) → ForEvidenceText verified.now (AppendsPrefix (S.taken writer.old) (S.taken writer.new)) }
-    ensures write_failed { result ≡ Err (SolveError.Write (record {})) → S.has_failed writer.new ≡ true }
+    ensures silent { IfErr result (λ e. e ≢ SolveError.Write (record {}) →
+        writer.new ≡ writer.old) }
+    ensures write { result ≡ Err (SolveError.Write (record {})) →
+        ForEvidenceText verified.now (AppendsPrefix (S.taken writer.old) (S.taken writer.new)) }
+    ensures write_failed { result ≡ Err (SolveError.Write (record {})) →
+        S.has_failed writer.new ≡ true }
 {
     let solver = Solver::Zielonka;
     let options = SolveOptions { workers, solver };

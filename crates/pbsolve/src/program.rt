@@ -15,6 +15,7 @@ use crate::run_error::RunError;
 use crate::solve::{explain_text, game_of, solution_of, solve_text};
 use crate::solve_error::SolveError;
 use crate::status::Status;
+use crate::streams::Streams;
 use pb_command_line::{Command, Request, request_of};
 use pb_exploration::Gate;
 use pb_report::{ErrorLine, ProgramFault};
@@ -34,12 +35,15 @@ fn answer<R: Threads + Sync, G: Gate + Sync, O: Sink>(
     out: &mut O,
 ) -> Result<(), SolveError>
     requires { length bytes.now ≤ INPUT_LIMIT }
-    ensures answered { OnOk result (Outputs request.command bytes.now (Appends (O.taken out.old) (O.taken out.new))) }
+    ensures answered { OnOk result
+        (Outputs request.command bytes.now (Appends (O.taken out.old) (O.taken out.new))) }
     ensures kept { OnOk result (O.has_failed out.new ≡ O.has_failed out.old) }
     ensures refused { IfErr result (IsRefusedFor request.command bytes.now) }
     ensures silent { IfErr result (λ e. e ≢ SolveError.Write (record {}) → out.new ≡ out.old) }
-    ensures write { result ≡ Err (SolveError.Write (record {})) → Outputs request.command bytes.now (AppendsPrefix (O.taken out.old) (O.taken out.new)) }
-    ensures write_failed { result ≡ Err (SolveError.Write (record {})) → O.has_failed out.new ≡ true }
+    ensures write { result ≡ Err (SolveError.Write (record {})) →
+        Outputs request.command bytes.now (AppendsPrefix (O.taken out.old) (O.taken out.new)) }
+    ensures write_failed { result ≡ Err (SolveError.Write (record {})) →
+        O.has_failed out.new ≡ true }
 {
     let options = SolveOptions {
         workers: request.workers,
@@ -72,16 +76,24 @@ fn attempt<T: Threads + Sync, S: AsStr, R: Source, G: Gate + Sync, O: Sink>(
     gate: &G,
     out: &mut O,
 ) -> Result<(), RunError>
-    ensures answered { OnOk result (Answers (map S.text words.now) (R.left reader.old) (Appends (O.taken out.old) (O.taken out.new))) }
+    ensures answered { OnOk result
+        (Answers (map S.text words.now) (R.left reader.old)
+        (Appends (O.taken out.old) (O.taken out.new))) }
     ensures kept { OnOk result (O.has_failed out.new ≡ O.has_failed out.old) }
     ensures read { OnOk result (R.has_failed reader.new ≡ R.has_failed reader.old) }
-    ensures asked { AskPlainly (map S.text words.now) → result ≢ Err (RunError.ProgramFault fault.U01) }
+    ensures asked { AskPlainly (map S.text words.now) →
+        result ≢ Err (RunError.ProgramFault fault.U01) }
     ensures usage { result ≡ Err (RunError.ProgramFault fault.U01) → reader.new ≡ reader.old }
     ensures refused { IfErr result (λ e. IsRefusedBy (map S.text words.now) (R.left reader.old) e) }
-    ensures read_failed { result ≡ Err (RunError.ProgramFault fault.E01) → R.has_failed reader.new ≡ true }
-    ensures read_refused { IfErr result (λ e. e ≢ RunError.ProgramFault fault.E01 → R.has_failed reader.new ≡ R.has_failed reader.old) }
-    ensures write { result ≡ Err (RunError.ProgramFault fault.E02) → Answers (map S.text words.now) (R.left reader.old) (AppendsPrefix (O.taken out.old) (O.taken out.new)) }
-    ensures write_failed { result ≡ Err (RunError.ProgramFault fault.E02) → O.has_failed out.new ≡ true }
+    ensures read_failed { result ≡ Err (RunError.ProgramFault fault.E01) →
+        R.has_failed reader.new ≡ true }
+    ensures read_refused { IfErr result (λ e. e ≢ RunError.ProgramFault fault.E01 →
+        R.has_failed reader.new ≡ R.has_failed reader.old) }
+    ensures write { result ≡ Err (RunError.ProgramFault fault.E02) →
+        Answers (map S.text words.now) (R.left reader.old)
+        (AppendsPrefix (O.taken out.old) (O.taken out.new)) }
+    ensures write_failed { result ≡ Err (RunError.ProgramFault fault.E02) →
+        O.has_failed out.new ≡ true }
     ensures silent { IfErr result (λ e. e ≢ RunError.ProgramFault fault.E02 → out.new ≡ out.old) }
 {
     let request = request_of(alloc, words)?;
@@ -105,7 +117,8 @@ fn say<E: Sink>(line: &str, err: &mut E)
 /// It is what the program does where it can't even have its words: `U01` where they are no text.
 pub fn tell_fault<E: Sink>(fault: ProgramFault, err: &mut E) -> Status
     ensures status { result ≡ fault_status fault }
-    ensures line { Tells (E.taken err.old) (E.taken err.new) (E.has_failed err.new) (line_of fault) }
+    ensures line { Tells (E.taken err.old) (E.taken err.new) (E.has_failed err.new)
+        (line_of fault) }
 {
     say(fault.line(), err);
     match fault {
@@ -118,8 +131,10 @@ pub fn tell_fault<E: Sink>(fault: ProgramFault, err: &mut E) -> Status
 
 // The line of a refusal, or of want of memory where there is none for the line.
 fn tell_refusal<L: ErrorLine, E: Sink>(alloc: Global, error: &L, err: &mut E) -> Status
-    ensures { ((result ≡ Status.Refused) × Tells (E.taken err.old) (E.taken err.new) (E.has_failed err.new) (L.line error.now))
-        ⊎ ((result ≡ Status.OutOfMemory) × Tells (E.taken err.old) (E.taken err.new) (E.has_failed err.new) (codes "M01\n")) }
+    ensures { ((result ≡ Status.Refused)
+        × Tells (E.taken err.old) (E.taken err.new) (E.has_failed err.new) (L.line error.now))
+        ⊎ ((result ≡ Status.OutOfMemory)
+        × Tells (E.taken err.old) (E.taken err.new) (E.has_failed err.new) (codes "M01\n")) }
 {
     match error.error_line(alloc) {
         Ok(line) => {
@@ -132,7 +147,8 @@ fn tell_refusal<L: ErrorLine, E: Sink>(alloc: Global, error: &L, err: &mut E) ->
 
 fn tell<E: Sink>(alloc: Global, error: &RunError, err: &mut E) -> Status
     ensures { (told : RunError) × IsToldAs error.now told
-        × (result ≡ status_of told) × Tells (E.taken err.old) (E.taken err.new) (E.has_failed err.new) (error_line_of told) }
+        × (result ≡ status_of told)
+        × Tells (E.taken err.old) (E.taken err.new) (E.has_failed err.new) (error_line_of told) }
 {
     match error {
         RunError::ProgramFault(fault) => tell_fault(*fault, err),
@@ -142,19 +158,17 @@ fn tell<E: Sink>(alloc: Global, error: &RunError, err: &mut E) -> Status
 
 /// Runs the program, and answers its exit status.
 ///
-/// `words` are those of the command line, the program's name first; `reader`, `out` and `err` stand for standard
-/// input, output and error, and `gate` sees each attempt of a worker to take an instance, and to lift a vertex. Statuses:
-/// 0 answered; 1 the input is refused; 2 the words ask for nothing that the program does; 3 a request for memory was
-/// refused; 4 reading or writing failed. With a status that isn't 0 one line on `err` says why, by the number of the fault
-/// or the rule and, where there is one, the place.
-pub fn run<T: Threads + Sync, S: AsStr, R: Source, G: Gate + Sync, O: Sink, E: Sink>(
+/// `words` are those of the command line, the program's name first; `gate` sees each attempt of a worker to take an
+/// instance, and to lift a vertex; `streams` are what it reads and writes. Statuses: 0 answered; 1 the input is refused;
+/// 2 the words ask for nothing that the program does; 3 a request for memory was refused; 4 reading or writing failed.
+/// With a status that isn't 0 one line on the error stream says why, by the number of the fault or the rule and, where
+/// there is one, the place.
+pub fn run<T: Threads + Sync, S: AsStr, G: Gate + Sync, R: Source, O: Sink, E: Sink>(
     rt: &T,
     alloc: Global,
     words: &[S],
-    reader: &mut R,
     gate: &G,
-    out: &mut O,
-    err: &mut E,
+    streams: &mut Streams<R, O, E>,
 ) -> u8
     ensures statuses { result ≤ 4 }
 
@@ -162,26 +176,49 @@ pub fn run<T: Threads + Sync, S: AsStr, R: Source, G: Gate + Sync, O: Sink, E: S
     ensures asked { AskPlainly (map S.text words.now) → result ≢ 2 }
 
     // Answered: what the command writes for the input went out, and nothing on standard error.
-    ensures answered { result ≡ 0 → Answers (map S.text words.now) (R.left reader.old) (Appends (O.taken out.old) (O.taken out.new)) }
-    ensures quiet { result ≡ 0 → (err.new ≡ err.old) × (O.has_failed out.new ≡ O.has_failed out.old) }
+    ensures answered { result ≡ 0 →
+        Answers (map S.text words.now) (R.left streams.old.input)
+        (Appends (O.taken streams.old.output) (O.taken streams.new.output)) }
+    ensures quiet { result ≡ 0 → streams.new.error ≡ streams.old.error }
+    ensures written { result ≡ 0 →
+        O.has_failed streams.new.output ≡ O.has_failed streams.old.output }
 
     // But for status 4 no read failed.
-    ensures read { result ≤ 3 → R.has_failed reader.new ≡ R.has_failed reader.old }
+    ensures read { result ≤ 3 → R.has_failed streams.new.input ≡ R.has_failed streams.old.input }
 
     // Refused, or not understood, or no memory: nothing went out, and a line tells which.
-    ensures silent { 1 ≤ result → result ≤ 3 → out.new ≡ out.old }
-    ensures refused { result ≡ 1 → Refuses (map S.text words.now) (R.left reader.old) (E.taken err.old) (E.taken err.new) (E.has_failed err.new) }
-    ensures usage { result ≡ 2 → (reader.new ≡ reader.old) × Tells (E.taken err.old) (E.taken err.new) (E.has_failed err.new) (codes "U01\n") }
-    ensures memory { result ≡ 3 → Tells (E.taken err.old) (E.taken err.new) (E.has_failed err.new) (codes "M01\n") }
+    ensures silent { 1 ≤ result → result ≤ 3 → streams.new.output ≡ streams.old.output }
+    ensures refused { result ≡ 1 →
+        Refuses (map S.text words.now) (R.left streams.old.input)
+        (E.taken streams.old.error) (E.taken streams.new.error) (E.has_failed streams.new.error) }
+    ensures unread { result ≡ 2 → streams.new.input ≡ streams.old.input }
+    ensures usage { result ≡ 2 →
+        Tells (E.taken streams.old.error) (E.taken streams.new.error)
+        (E.has_failed streams.new.error) (codes "U01\n") }
+    ensures memory { result ≡ 3 →
+        Tells (E.taken streams.old.error) (E.taken streams.new.error)
+        (E.has_failed streams.new.error) (codes "M01\n") }
 
     // Reading failed, with nothing written, or writing failed.
     ensures failed { result ≡ 4 →
-        ((R.has_failed reader.new ≡ true) × (out.new ≡ out.old) × Tells (E.taken err.old) (E.taken err.new) (E.has_failed err.new) (codes "E01\n"))
-        ⊎ ((O.has_failed out.new ≡ true) × Answers (map S.text words.now) (R.left reader.old) (AppendsPrefix (O.taken out.old) (O.taken out.new))
-        × Tells (E.taken err.old) (E.taken err.new) (E.has_failed err.new) (codes "E02\n")) }
+        ((R.has_failed streams.new.input ≡ true) × (streams.new.output ≡ streams.old.output)
+        × Tells (E.taken streams.old.error) (E.taken streams.new.error)
+        (E.has_failed streams.new.error) (codes "E01\n"))
+        ⊎ ((O.has_failed streams.new.output ≡ true)
+        × Answers (map S.text words.now) (R.left streams.old.input)
+        (AppendsPrefix (O.taken streams.old.output) (O.taken streams.new.output))
+        × Tells (E.taken streams.old.error) (E.taken streams.new.error)
+        (E.has_failed streams.new.error) (codes "E02\n")) }
 {
-    match attempt(rt, alloc, words, reader, gate, out) {
+    match attempt(
+        rt,
+        alloc,
+        words,
+        &mut streams.input,
+        gate,
+        &mut streams.output,
+    ) {
         Ok(()) => u8::from(Status::Answered),
-        Err(error) => u8::from(tell(alloc, &error, err)),
+        Err(error) => u8::from(tell(alloc, &error, &mut streams.error)),
     }
 }

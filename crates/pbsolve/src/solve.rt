@@ -45,16 +45,20 @@ pub fn solve_text<R: Threads + Sync, G: Gate + Sync, S: Sink>(
 
     // The answer is the truth of the initial instance in the solution of what the text says, and is reported.
     ensures answer { IfOk result (IsAnswer bytes.now) }
-    ensures report { IfOk result (λ answer. Appends (S.taken writer.old) (S.taken writer.new) (report_text answer)) }
+    ensures report { IfOk result
+        (λ answer. Appends (S.taken writer.old) (S.taken writer.new) (report_text answer)) }
     ensures kept { OnOk result (S.has_failed writer.new ≡ S.has_failed writer.old) }
 
     // What a refusal says of the text.
     ensures refused { IfErr result (IsRefused bytes.now) }
 
     // Nothing is written before the answer is known.
-    ensures silent { IfErr result (λ e. e ≢ SolveError.Write (record {}) → writer.new ≡ writer.old) }
-    ensures write { result ≡ Err (SolveError.Write (record {})) → Outputs Solve bytes.now (AppendsPrefix (S.taken writer.old) (S.taken writer.new)) }
-    ensures write_failed { result ≡ Err (SolveError.Write (record {})) → S.has_failed writer.new ≡ true }
+    ensures silent { IfErr result (λ e. e ≢ SolveError.Write (record {}) →
+        writer.new ≡ writer.old) }
+    ensures write { result ≡ Err (SolveError.Write (record {})) →
+        Outputs Solve bytes.now (AppendsPrefix (S.taken writer.old) (S.taken writer.new)) }
+    ensures write_failed { result ≡ Err (SolveError.Write (record {})) →
+        S.has_failed writer.new ≡ true }
 {
     let verified = verified_text(alloc, bytes)?;
     instances_have_trees(&verified);
@@ -76,12 +80,16 @@ pub fn game_of<R: Threads + Sync, G: Gate + Sync, S: Sink>(
 ) -> Result<(), SolveError>
     requires input { length bytes.now ≤ INPUT_LIMIT }
     requires workers { (0 < workers) × (workers ≤ 16) }
-    ensures game { OnOk result (Outputs Game bytes.now (Appends (S.taken writer.old) (S.taken writer.new))) }
+    ensures game { OnOk result
+        (Outputs Game bytes.now (Appends (S.taken writer.old) (S.taken writer.new))) }
     ensures kept { OnOk result (S.has_failed writer.new ≡ S.has_failed writer.old) }
     ensures refused { IfErr result (IsRefused bytes.now) }
-    ensures silent { IfErr result (λ e. e ≢ SolveError.Write (record {}) → writer.new ≡ writer.old) }
-    ensures write { result ≡ Err (SolveError.Write (record {})) → Outputs Game bytes.now (AppendsPrefix (S.taken writer.old) (S.taken writer.new)) }
-    ensures write_failed { result ≡ Err (SolveError.Write (record {})) → S.has_failed writer.new ≡ true }
+    ensures silent { IfErr result (λ e. e ≢ SolveError.Write (record {}) →
+        writer.new ≡ writer.old) }
+    ensures write { result ≡ Err (SolveError.Write (record {})) →
+        Outputs Game bytes.now (AppendsPrefix (S.taken writer.old) (S.taken writer.new)) }
+    ensures write_failed { result ≡ Err (SolveError.Write (record {})) →
+        S.has_failed writer.new ≡ true }
 {
     let verified = verified_text(alloc, bytes)?;
     write_game(rt, alloc, &verified, workers, gate, writer)
@@ -100,12 +108,16 @@ pub fn solution_of<R: Threads + Sync, G: Gate + Sync, S: Sink>(
     writer: &mut S,
 ) -> Result<(), SolveError>
     requires input { length bytes.now ≤ INPUT_LIMIT }
-    ensures solution { OnOk result (Outputs Solution bytes.now (Appends (S.taken writer.old) (S.taken writer.new))) }
+    ensures solution { OnOk result
+        (Outputs Solution bytes.now (Appends (S.taken writer.old) (S.taken writer.new))) }
     ensures kept { OnOk result (S.has_failed writer.new ≡ S.has_failed writer.old) }
     ensures refused { IfErr result (IsRefused bytes.now) }
-    ensures silent { IfErr result (λ e. e ≢ SolveError.Write (record {}) → writer.new ≡ writer.old) }
-    ensures write { result ≡ Err (SolveError.Write (record {})) → Outputs Solution bytes.now (AppendsPrefix (S.taken writer.old) (S.taken writer.new)) }
-    ensures write_failed { result ≡ Err (SolveError.Write (record {})) → S.has_failed writer.new ≡ true }
+    ensures silent { IfErr result (λ e. e ≢ SolveError.Write (record {}) →
+        writer.new ≡ writer.old) }
+    ensures write { result ≡ Err (SolveError.Write (record {})) →
+        Outputs Solution bytes.now (AppendsPrefix (S.taken writer.old) (S.taken writer.new)) }
+    ensures write_failed { result ≡ Err (SolveError.Write (record {})) →
+        S.has_failed writer.new ≡ true }
 {
     let verified = verified_text(alloc, bytes)?;
     write_solution(rt, alloc, &verified, options, gate, writer)
@@ -129,12 +141,16 @@ pub fn explain_text<R: Threads + Sync, G: Gate + Sync, S: Sink>(
 ) -> Result<(), SolveError>
     requires input { length bytes.now ≤ INPUT_LIMIT }
     requires workers { (0 < workers) × (workers ≤ 16) }
-    ensures evidence { OnOk result (Outputs Explain bytes.now (Appends (S.taken writer.old) (S.taken writer.new))) }
+    ensures evidence { OnOk result
+        (Outputs Explain bytes.now (Appends (S.taken writer.old) (S.taken writer.new))) }
     ensures kept { OnOk result (S.has_failed writer.new ≡ S.has_failed writer.old) }
     ensures refused { IfErr result (IsRefused bytes.now) }
-    ensures silent { IfErr result (λ e. e ≢ SolveError.Write (record {}) → writer.new ≡ writer.old) }
-    ensures write { result ≡ Err (SolveError.Write (record {})) → Outputs Explain bytes.now (AppendsPrefix (S.taken writer.old) (S.taken writer.new)) }
-    ensures write_failed { result ≡ Err (SolveError.Write (record {})) → S.has_failed writer.new ≡ true }
+    ensures silent { IfErr result (λ e. e ≢ SolveError.Write (record {}) →
+        writer.new ≡ writer.old) }
+    ensures write { result ≡ Err (SolveError.Write (record {})) →
+        Outputs Explain bytes.now (AppendsPrefix (S.taken writer.old) (S.taken writer.new)) }
+    ensures write_failed { result ≡ Err (SolveError.Write (record {})) →
+        S.has_failed writer.new ≡ true }
 {
     let verified = verified_text(alloc, bytes)?;
     instances_have_trees(&verified);

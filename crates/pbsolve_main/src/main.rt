@@ -4,6 +4,7 @@
 use pb_exploration::NoGate;
 use pb_report::ProgramFault;
 use pb_sorts::{In, Out};
+use pbsolve::Streams;
 use std::io::ErrorKind;
 use std::process::ExitCode;
 use std::{env, io};
@@ -27,19 +28,14 @@ fn words_fault(error: &io::Error) -> ProgramFault {
 }
 
 fn main(rt: HostRuntime) -> ExitCode {
-    let mut out = Out::new(rt.stdout());
-    let mut err = Out::new(rt.stderr());
+    let mut streams = Streams {
+        input: In::new(rt.reader()),
+        output: Out::new(rt.stdout()),
+        error: Out::new(rt.stderr()),
+    };
     let code = match words(&rt) {
-        Ok(words) => pbsolve::run(
-            &rt,
-            rt.alloc(),
-            words.as_slice(),
-            &mut In::new(rt.reader()),
-            &NoGate,
-            &mut out,
-            &mut err,
-        ),
-        Err(error) => u8::from(pbsolve::tell_fault(words_fault(&error), &mut err)),
+        Ok(words) => pbsolve::run(&rt, rt.alloc(), words.as_slice(), &NoGate, &mut streams),
+        Err(error) => u8::from(pbsolve::tell_fault(words_fault(&error), &mut streams.error)),
     };
     ExitCode::from(code)
 }

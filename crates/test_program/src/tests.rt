@@ -14,6 +14,7 @@ mod solvers;
 use crate::budget::Budget;
 use pb_exploration::NoGate;
 use pb_sorts::{In, Source};
+use pbsolve::Streams;
 use std::alloc::{AllocError, Global};
 use std::thread::Threads;
 
@@ -29,35 +30,46 @@ struct Outcome {
 }
 
 // The program on these words and this input, its output cut after `budget` bytes.
-fn run_on<T: Threads + Sync, R: Source>(
+fn run_on<T: Threads + Sync, R: Source + Drop>(
     rt: &T,
     alloc: Global,
     words: &[&str],
-    reader: &mut R,
+    input: R,
     budget: usize,
 ) -> Outcome {
-    let out = Budget::new(alloc, budget);
-    let err = Budget::new(alloc, ROOM);
-    run_into(rt, alloc, words, reader, out, err)
+    let output = Budget::new(alloc, budget);
+    let error = Budget::new(alloc, ROOM);
+    run_over(
+        rt,
+        alloc,
+        words,
+        Streams {
+            input,
+            output,
+            error,
+        },
+    )
 }
 
-// The program on these words and this input, over these writers.
-fn run_into<T: Threads + Sync, R: Source>(
+// The program on these words, over these streams.
+fn run_over<T: Threads + Sync, R: Source + Drop>(
     rt: &T,
     alloc: Global,
     words: &[&str],
-    reader: &mut R,
-    mut out: Budget,
-    mut err: Budget,
+    mut streams: Streams<R, Budget, Budget>,
 ) -> Outcome {
-    let status = pbsolve::run(rt, alloc, words, reader, &NoGate, &mut out, &mut err);
-    Outcome { status, out, err }
+    let status = pbsolve::run(rt, alloc, words, &NoGate, &mut streams);
+    Outcome {
+        status,
+        out: streams.output,
+        err: streams.error,
+    }
 }
 
 // A command on these bytes.
 fn asked<T: Threads + Sync>(rt: &T, alloc: Global, command: &str, input: &[u8]) -> Outcome {
     let words = ["pbsolve", command];
-    run_on(rt, alloc, &words, &mut In::new(input), ROOM)
+    run_on(rt, alloc, &words, In::new(input), ROOM)
 }
 
 // The report of an answer with these counts of instances, cuts and vertices.

@@ -13,6 +13,7 @@ mod worker;
 use cases::{Case, case_of};
 use pb_exploration::NoGate;
 use pb_sorts::{In, Out};
+use pbsolve::Streams;
 use std::alloc::Global;
 use std::io;
 use std::io::{Cursor, Read};
@@ -70,14 +71,15 @@ fn is_text(bytes: &[u8], text: &[u8]) -> bool {
 fn answer_to<T: Threads + Sync>(rt: &T, alloc: Global, case: &Case, workers: u32) -> Answer {
     let mut out_bytes = [0u8; 128];
     let mut err_bytes = [0u8; 64];
-    let mut reader = In::new(case.input);
-    let mut out = Out::new(Cursor::new(out_bytes.as_mut_slice()));
-    let mut err = Out::new(Cursor::new(err_bytes.as_mut_slice()));
+    let mut streams = Streams {
+        input: In::new(case.input),
+        output: Out::new(Cursor::new(out_bytes.as_mut_slice())),
+        error: Out::new(Cursor::new(err_bytes.as_mut_slice())),
+    };
     let count = if workers == 2 { "2" } else { "1" };
     let words = ["pbsolve", case.command, "--workers", count];
-    let status = pbsolve::run(rt, alloc, &words, &mut reader, &NoGate, &mut out, &mut err);
-    drop(out);
-    drop(err);
+    let status = pbsolve::run(rt, alloc, &words, &NoGate, &mut streams);
+    drop(streams);
     let is_given = status == 0 && is_text(&out_bytes, case.out) && is_text(&err_bytes, b"");
     if is_given {
         Answer::Given

@@ -5,6 +5,7 @@ use crate::flaw::Flaw;
 use crate::random::Generator;
 use pb_exploration::NoGate;
 use pb_sorts::In;
+use pbsolve::Streams;
 use std::alloc::{AllocError, Global};
 use std::thread::Threads;
 use test_program::budget::Budget;
@@ -193,20 +194,23 @@ pub fn check<R: Threads + Sync>(
 ) -> Result<u8, Flaw> {
     let mut generator = Generator::new(seed);
     let words = ["pbsolve", generator.one_of(&COMMANDS).unwrap_or("solve")];
-    let mut out = Budget::new(alloc, ROOM);
-    let mut err = Budget::new(alloc, ROOM);
-    let mut reader = In::new(bytes);
-    let status = pbsolve::run(rt, alloc, &words, &mut reader, &NoGate, &mut out, &mut err);
+    let mut streams = Streams {
+        input: In::new(bytes),
+        output: Budget::new(alloc, ROOM),
+        error: Budget::new(alloc, ROOM),
+    };
+    let status = pbsolve::run(rt, alloc, &words, &NoGate, &mut streams);
     let Some(count) = statuses.counts.get_mut(usize::from(status)) else {
         return Err(Flaw::Status);
     };
     *count = count.saturating_add(1);
     let is_answered = status == 0;
-    if out.bytes().is_empty() == is_answered {
+    if streams.output.bytes().is_empty() == is_answered {
         return Err(Flaw::Output);
     }
-    let is_told = is_line(err.bytes());
-    if is_told == is_answered || is_answered && !err.bytes().is_empty() {
+    let told = streams.error.bytes();
+    let is_told = is_line(told);
+    if is_told == is_answered || is_answered && !told.is_empty() {
         return Err(Flaw::Line);
     }
     Ok(status)

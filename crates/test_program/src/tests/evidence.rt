@@ -23,7 +23,7 @@ const JUGS: &str =
 // The program explains this text.
 fn explained<T: Threads + Sync>(rt: &T, alloc: Global, text: &str) -> Outcome {
     let words = ["pbsolve", "explain"];
-    run_on(rt, alloc, &words, &mut In::new(text.as_bytes()), ROOM)
+    run_on(rt, alloc, &words, In::new(text.as_bytes()), ROOM)
 }
 
 #[test]

@@ -1,9 +1,9 @@
 //! Wrong words, readers and writers that fail, and input up to its limit.
-use super::{ROOM, run_into, run_on};
+use super::{ROOM, run_on, run_over};
 use crate::budget::Budget;
 use crate::failing::{Broken, Failing};
 use pb_sorts::In;
-use pbsolve::INPUT_LIMIT;
+use pbsolve::{INPUT_LIMIT, Streams};
 use std::alloc::Global;
 use std::io;
 use std::io::Read;
@@ -71,8 +71,7 @@ const WRONG_WORDS: [&[&str]; 33] = [
 fn refuses_words(rt: HostRuntime) -> Result<(), Fail> {
     for words in WRONG_WORDS {
         // The words come first: this reader would fail.
-        let mut reader = In::new(Broken);
-        let outcome = run_on(&rt, rt.alloc(), words, &mut reader, ROOM);
+        let outcome = run_on(&rt, rt.alloc(), words, In::new(Broken), ROOM);
         assert_eq!(rt; outcome.status, 2);
         assert_eq!(rt; outcome.out.bytes(), b"".as_slice());
         assert_eq!(rt; outcome.err.bytes(), b"U01\n".as_slice());
@@ -89,14 +88,12 @@ fn fails_at_each_byte_written(rt: HostRuntime) -> Result<(), Fail> {
             let status = if whole { 0 } else { 4 };
             let line: &[u8] = if whole { b"" } else { b"E02\n" };
             for is_slow in [false, true] {
-                let outcome = run_into(
-                    &rt,
-                    rt.alloc(),
-                    &words,
-                    &mut In::new(TEXT),
-                    writer(rt.alloc(), budget, is_slow),
-                    writer(rt.alloc(), ROOM, is_slow),
-                );
+                let streams = Streams {
+                    input: In::new(TEXT),
+                    output: writer(rt.alloc(), budget, is_slow),
+                    error: writer(rt.alloc(), ROOM, is_slow),
+                };
+                let outcome = run_over(&rt, rt.alloc(), &words, streams);
                 assert_eq!(rt; outcome.out.bytes(), &text[..budget], "{command}");
                 assert_eq!(rt; outcome.status, status, "{command}");
                 assert_eq!(rt; outcome.err.bytes(), line, "{command}");
@@ -111,8 +108,8 @@ fn fails_at_each_byte_read(rt: HostRuntime) -> Result<(), Fail> {
     for (command, _) in OUTPUTS {
         let words = ["pbsolve", command];
         for left in 0..=TEXT.len() {
-            let mut reader = In::new(Failing { bytes: TEXT, left });
-            let outcome = run_on(&rt, rt.alloc(), &words, &mut reader, ROOM);
+            let reader = In::new(Failing { bytes: TEXT, left });
+            let outcome = run_on(&rt, rt.alloc(), &words, reader, ROOM);
             assert_eq!(rt; outcome.status, 4, "{command}");
             assert_eq!(rt; outcome.out.bytes(), b"".as_slice(), "{command}");
             assert_eq!(rt; outcome.err.bytes(), b"E01\n".as_slice(), "{command}");
@@ -124,18 +121,14 @@ fn fails_at_each_byte_read(rt: HostRuntime) -> Result<(), Fail> {
 #[test]
 fn reads_and_writes_single_bytes(rt: HostRuntime) -> Result<(), Fail> {
     for (command, text) in OUTPUTS {
-        let mut reader = In::new(Failing {
-            bytes: TEXT,
-            left: usize::MAX,
-        });
-        let outcome = run_into(
-            &rt,
-            rt.alloc(),
-            &["pbsolve", command],
-            &mut reader,
-            Budget::slow(rt.alloc(), ROOM),
-            Budget::slow(rt.alloc(), ROOM),
-        );
+        let bytes = TEXT;
+        let left = usize::MAX;
+        let streams = Streams {
+            input: In::new(Failing { bytes, left }),
+            output: Budget::slow(rt.alloc(), ROOM),
+            error: Budget::slow(rt.alloc(), ROOM),
+        };
+        let outcome = run_over(&rt, rt.alloc(), &["pbsolve", command], streams);
         assert_eq!(rt; outcome.status, 0, "{command}");
         assert_eq!(rt; outcome.out.bytes(), text, "{command}");
         assert_eq!(rt; outcome.err.bytes(), b"".as_slice(), "{command}");
@@ -153,14 +146,12 @@ fn keeps_its_status_where_no_line_can_be_told(rt: HostRuntime) -> Result<(), Fai
         (b"#".as_slice(), b"P01 line 1 column 1\n".as_slice()),
     ] {
         for budget in 0..line.len() {
-            let outcome = run_into(
-                &rt,
-                rt.alloc(),
-                &SOLVE,
-                &mut In::new(input),
-                Budget::new(rt.alloc(), ROOM),
-                Budget::new(rt.alloc(), budget),
-            );
+            let streams = Streams {
+                input: In::new(input),
+                output: Budget::new(rt.alloc(), ROOM),
+                error: Budget::new(rt.alloc(), budget),
+            };
+            let outcome = run_over(&rt, rt.alloc(), &SOLVE, streams);
             assert_eq!(rt; outcome.status, 1);
             assert_eq!(rt; outcome.out.bytes(), b"".as_slice());
             assert_eq!(rt; outcome.err.bytes(), &line[..budget]);
@@ -178,8 +169,8 @@ fn takes_input_up_to_the_limit(rt: HostRuntime) -> Result<(), Fail> {
         ),
         (INPUT_LIMIT as u64 + 1, b"U02\n".as_slice()),
     ] {
-        let mut reader = In::new(io::repeat(b'%').take(length));
-        let outcome = run_on(&rt, rt.alloc(), &SOLVE, &mut reader, ROOM);
+        let reader = In::new(io::repeat(b'%').take(length));
+        let outcome = run_on(&rt, rt.alloc(), &SOLVE, reader, ROOM);
         assert_eq!(rt; outcome.status, 1);
         assert_eq!(rt; outcome.out.bytes(), b"".as_slice());
         assert_eq!(rt; outcome.err.bytes(), line);

@@ -144,7 +144,7 @@ fn by<T: Threads + Sync>(
     workers: &'static str,
 ) -> Outcome {
     let words = ["pbsolve", command, "--workers", workers];
-    run_on(rt, alloc, &words, &mut In::new(text.as_bytes()), ROOM)
+    run_on(rt, alloc, &words, In::new(text.as_bytes()), ROOM)
 }
 
 #[test]

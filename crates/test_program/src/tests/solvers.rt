@@ -6,6 +6,7 @@ use crate::budget::Budget;
 use crossbeam_utils::atomic::AtomicCell;
 use pb_exploration::Gate;
 use pb_sorts::In;
+use pbsolve::Streams;
 use std::alloc::{AllocError, Global};
 use std::test::Fail;
 use std::thread::Threads;
@@ -27,7 +28,7 @@ fn by<T: Threads + Sync>(
     workers: &'static str,
 ) -> Outcome {
     let words = ["pbsolve", command, "--workers", workers, "--solver", solver];
-    run_on(rt, alloc, &words, &mut In::new(input), ROOM)
+    run_on(rt, alloc, &words, In::new(input), ROOM)
 }
 
 #[test]
@@ -126,18 +127,12 @@ fn lifts_where_it_is_asked_to(rt: HostRuntime) -> Result<(), Fail> {
             seen: AtomicCell::new(false),
         };
         let words = ["pbsolve", "solve", "--solver", solver];
-        let mut reader = In::new(text.as_bytes());
-        let mut out = Budget::new(rt.alloc(), ROOM);
-        let mut err = Budget::new(rt.alloc(), ROOM);
-        let status = pbsolve::run(
-            &rt,
-            rt.alloc(),
-            &words,
-            &mut reader,
-            &gate,
-            &mut out,
-            &mut err,
-        );
+        let mut streams = Streams {
+            input: In::new(text.as_bytes()),
+            output: Budget::new(rt.alloc(), ROOM),
+            error: Budget::new(rt.alloc(), ROOM),
+        };
+        let status = pbsolve::run(&rt, rt.alloc(), &words, &gate, &mut streams);
         assert_eq!(rt; status, 0, "{solver}");
         assert_eq!(rt; gate.seen.load(), solver == "lift", "{solver}");
     }

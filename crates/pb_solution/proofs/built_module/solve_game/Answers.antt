@@ -1,0 +1,11 @@
+use Rattle.std.proofs.Common.{sym, subst}
+use Rattle.pb_game_certificate.specs.declared.Solution.{Solution}
+use Rattle.pb_game_of_trees.specs.declared.tree_game.TreeGame.{TreeGame}
+use Rattle.pb_game_solver.specs.Lifting.{IsLiftedOrNone}
+use Rattle.pb_solution.proofs.built_module.solve_game.Goals as goal
+
+pub returns-clause-lifted : goal.returns-clause-lifted
+returns-clause-lifted g c asked =
+    let found = c.in_ok-solution.ensures.lifted asked in
+    let kept = subst (λ (s : Solution). IsLiftedOrNone c.args.built.game s) (sym c.new.ensures.solution) found in
+    subst (λ (b : TreeGame). IsLiftedOrNone b.game c.new.result.solution) (sym c.new.ensures.built) kept
