@@ -14,7 +14,7 @@ use crate::next::{open, unless};
 use pb_text_lexer::fault::{ReadingFault, ReadingRule};
 use pb_text_lexer::input::Input;
 use pb_text_lexer::kind::{Kind, same_kind};
-use pb_text_terms::operator::{quantifier, symbol};
+use pb_text_terms::operator::{is_connective, quantifier, symbol};
 use pb_text_terms::term::{instance, term};
 use pb_text_terms::variable::variables;
 use pb_text_tree::{Connective, Formula, Link, Quantifier, Term};
@@ -75,7 +75,7 @@ fn bracketed(input: &mut Input<'_>, alloc: Global, depth: u32) -> Result<Formula
     ensures fewer { OnOk result (length input.new.tokens < length input.old.tokens) }
 {
     input.enter(depth)?;
-    let inner = level(input, alloc, Connective::Implies, depth - 1)?;
+    let inner = formula(input, alloc, depth - 1)?;
     input.expect(Kind::Close)?;
     unless(input, Kind::Open)?;
     Ok(inner)
@@ -128,6 +128,7 @@ fn node(input: &mut Input<'_>, alloc: Global, depth: u32) -> Result<Formula, Rea
 
 /// A quantifier, its variables and its body, in which so many levels may open.
 #[cycle(formulas)]
+#[inline(never)]
 #[tactic(auto, unfolding(crate::specs::Reading::quantification))]
 fn quantified(
     input: &mut Input<'_>,
@@ -142,7 +143,7 @@ fn quantified(
     let place = input.enter(depth)?.place;
     let variables = variables(input, alloc)?;
     input.expect(Kind::Period)?;
-    let body = level(input, alloc, Connective::Implies, depth - 1)?;
+    let body = formula(input, alloc, depth - 1)?;
     let body = Box::new(alloc, body)?;
     Ok(Formula::Quantified {
         place,
@@ -173,10 +174,10 @@ fn operand(
     }
 }
 
-/// The chain of the connective that a first operand begins, behind which the connective stands.
+/// The chain of the connective that a first operand begins.
 #[cycle(formulas)]
 #[inline(never)]
-fn chain_behind(
+fn chain(
     input: &mut Input<'_>,
     alloc: Global,
     connective: Connective,
@@ -195,9 +196,28 @@ fn chain_behind(
     Ok(joined(alloc, connective, first, links)?)
 }
 
+/// The chain of the connective that a first operand begins, or that operand alone.
+#[cycle(formulas)]
+#[inline(always)]
+fn chain_behind(
+    input: &mut Input<'_>,
+    alloc: Global,
+    connective: Connective,
+    depth: u32,
+    first: Formula,
+) -> Result<Formula, ReadingFault>
+    ensures reads { (s : State) → reading.operand connective depth s ≡ Ok (formula_form first, input.old) → length input.old.tokens < length s.tokens → Gives formula_form (reading.level connective depth s) result input.new }
+    ensures fewer { OnOk result (length input.new.tokens ≤ length input.old.tokens) }
+{
+    if !same_kind(input.kind(), symbol(connective)) {
+        return Ok(first);
+    }
+    chain(input, alloc, connective, depth, first)
+}
+
 /// A chain of the connective, in which so many levels may open.
 #[cycle(formulas)]
-pub fn level(
+fn level(
     input: &mut Input<'_>,
     alloc: Global,
     connective: Connective,
@@ -210,5 +230,35 @@ pub fn level(
     if !same_kind(input.kind(), symbol(connective)) {
         return first;
     }
-    chain_behind(input, alloc, connective, depth, first?)
+    chain(input, alloc, connective, depth, first?)
+}
+
+/// A formula, whose first part without connectives is read.
+#[cycle(formulas)]
+#[inline(never)]
+fn connectives_behind(
+    input: &mut Input<'_>,
+    alloc: Global,
+    depth: u32,
+    first: Formula,
+) -> Result<Formula, ReadingFault>
+    ensures reads { (s : State) → reading.primary depth s ≡ Ok (formula_form first, input.old) → length input.old.tokens < length s.tokens → Gives formula_form (reading.formula depth s) result input.new }
+    ensures fewer { OnOk result (length input.new.tokens ≤ length input.old.tokens) }
+{
+    let conjunction = chain_behind(input, alloc, Connective::And, depth, first)?;
+    let disjunction = chain_behind(input, alloc, Connective::Or, depth, conjunction)?;
+    chain_behind(input, alloc, Connective::Implies, depth, disjunction)
+}
+
+/// A formula, in which so many levels may open. Most often no connective follows its first part at all.
+#[cycle(formulas)]
+pub fn formula(input: &mut Input<'_>, alloc: Global, depth: u32) -> Result<Formula, ReadingFault>
+    ensures reads { Gives formula_form (reading.formula depth input.old) result input.new }
+    ensures fewer { OnOk result (length input.new.tokens < length input.old.tokens) }
+{
+    let first = operand(input, alloc, Connective::And, depth);
+    if !is_connective(input.kind()) {
+        return first;
+    }
+    connectives_behind(input, alloc, depth, first?)
 }

@@ -5,7 +5,7 @@ ghost use Rattle.pb_text_tree.specs.Form.{formula_form, variable_forms, equation
 ghost use Rattle.pb_text_lexer.specs.Steps.{Gives};
 ghost use Rattle.pb_text.specs.Reading as reading;
 
-use crate::formula::level;
+use crate::formula::formula;
 use crate::next::unless;
 use crate::sort::sort_parts;
 use pb_fixpoint::Sign;
@@ -14,7 +14,7 @@ use pb_text_lexer::input::Input;
 use pb_text_lexer::kind::{Kind, same_kind};
 use pb_text_terms::term::instance;
 use pb_text_terms::variable::{name, variables};
-use pb_text_tree::{Connective, Equation, Formula, Instance, Spec, Variables};
+use pb_text_tree::{Equation, Formula, Instance, Spec, Variables};
 use std::alloc::Global;
 
 /// How many levels of brackets, negations, signs and quantifiers may open.
@@ -69,7 +69,7 @@ fn right_side(input: &mut Input<'_>, alloc: Global) -> Result<Formula, ReadingFa
     ensures fewer { OnOk result (length input.new.tokens < length input.old.tokens) }
 {
     let allowed = input.operators();
-    let formula = level(input, alloc, Connective::Implies, DEPTH_LIMIT)?;
+    let formula = formula(input, alloc, DEPTH_LIMIT)?;
     input.allow(allowed);
     Ok(formula)
 }

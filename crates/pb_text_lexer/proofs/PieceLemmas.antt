@@ -1,4 +1,4 @@
--- What a piece of a text takes: some of the bytes that there are, which are ASCII where they are a token.
+-- What a piece of a text takes: some of the bytes that there are, which are ASCII and on one line where they are a token.
 use Rattle.std.proofs.Common.{◌≡◌, ℕ, suc, ◌+◌, ◌<◌, ◌≤◌, Bool, true, false, cond, ◌==◌, ◌&&◌, List, [], ◌∷◌, length, take, refl, sym, ap, ◌∙◌, arith, nat_lt, subst, Some, None}
 use Rattle.std.proofs.lemmas.List.{length-take-le, take_all}
 use Rattle.std.specs.Char.{is_ascii_digit}
@@ -18,11 +18,32 @@ use Rattle.pb_text_lexer.specs.Kinds.{is_last}
 use Rattle.pb_text_lexer.proofs.DigitLemmas.{front-all}
 use Rattle.pb_text_lexer.specs.Bytes.{is_blank, line, is_letter, is_name_byte, name_bytes, digits, word_kind, kind_among, reserved, is_name, WritesNumber}
 use Rattle.pb_text_lexer.specs.RangeLines.{behind_range, is_wrong}
-use Rattle.pb_text_lexer.specs.Lexing.{piece, number, number_of, largest_number, symbol, one_byte_among, one_byte_symbols, two_bytes_among, two_byte_symbols, first_byte}
+use Rattle.pb_text_lexer.specs.Lexing.{piece, past, number, number_of, largest_number, symbol, one_byte_among, one_byte_symbols, two_bytes_among, two_byte_symbols, first_byte}
+
+-- bytes of ASCII that stand on one line
+abbrev pub IsPlainByte : ℕ → Type 0
+IsPlainByte b = (10 < b) × (b < 128)
+
+abbrev pub IsPlain : List ℕ → Type 0
+IsPlain [] = Unit {0}
+IsPlain (b ∷ bs) = IsPlainByte b × IsPlain bs
+
+plain-ascii : (bs : List ℕ) → IsPlain bs → IsAscii bs
+plain-ascii [] plain = IsAscii-nil
+plain-ascii (b ∷ bs) plain = IsAscii-cons b bs plain.0.1 (plain-ascii bs plain.1)
+
+-- the place behind bytes that stand on one line
+plain-past : (p : Place) (bs : List ℕ) → IsPlain bs → past p bs ≡ record { line = p.line; column = p.column + length bs }
+plain-past p [] plain = let same : p.column ≡ p.column + 0 = omega arith in ap (λ (n : ℕ). record { line = p.line; column = n }) same
+plain-past p (b ∷ bs) plain =
+    let on : (b == 10) ≡ false = grind (arith, nat_tests, plain.0.0) in
+    let next : Place = record { line = p.line; column = p.column + 1 } in
+    let same : (p.column + 1) + length bs ≡ p.column + length (b ∷ bs) = omega arith in
+    ap (λ (v : Bool). past (cond v (record { line = p.line + 1; column = 1 }) next) bs) on ∙ plain-past next bs plain.1 ∙ ap (λ (n : ℕ). record { line = p.line; column = n }) same
 
 abbrev pub TakesOf : Piece → List ℕ → Type 0
 TakesOf (Blank n) bs = (0 < n) × (n ≤ length bs)
-TakesOf (Token kind n) bs = (0 < n) × (n ≤ length bs) × (is_last kind ≡ false) × IsAscii (take n bs) × (kind ≡ k.Number → WritesNumber (take n bs))
+TakesOf (Token kind n) bs = (0 < n) × (n ≤ length bs) × (is_last kind ≡ false) × IsPlain (take n bs) × (kind ≡ k.Number → WritesNumber (take n bs))
 TakesOf (Stop kind) bs = (is_last kind ≡ true) × (kind ≡ k.End → bs ≡ [])
 
 pub record Takes (p : Piece) (bs : List ℕ) : Type 0 where
@@ -33,34 +54,34 @@ pub pick : {A : Type 0} (P : A → Type 0) (b : Bool) (x y : A) → (b ≡ true 
 pick P true x y p q = p refl
 pick P false x y p q = q refl
 
--- ---- bytes below 128
+-- ---- names and digits stand on one line
 
-letter-ascii : (b : ℕ) → is_letter b ≡ true → b < 128
-letter-ascii b h = grind (arith, nat_tests)
+letter-plain : (b : ℕ) → is_letter b ≡ true → IsPlainByte b
+letter-plain b h = (grind (arith, nat_tests), grind (arith, nat_tests))
 
-name-ascii : (b : ℕ) → is_name_byte b ≡ true → b < 128
-name-ascii b h = grind (arith, nat_tests)
+name-plain : (b : ℕ) → is_name_byte b ≡ true → IsPlainByte b
+name-plain b h = (grind (arith, nat_tests), grind (arith, nat_tests))
 
-digit-ascii : (b : ℕ) → is_ascii_digit b ≡ true → b < 128
-digit-ascii b h = grind (arith, nat_tests)
+digit-plain : (b : ℕ) → is_ascii_digit b ≡ true → IsPlainByte b
+digit-plain b h = (grind (arith, nat_tests), grind (arith, nat_tests))
 
-while-more : (p : ℕ → Bool) (b : ℕ) (bs : List ℕ) → (p b ≡ true → b < 128) → IsAscii (take_while p bs) → (v : Bool) → p b ≡ v
-    → IsAscii (take (cond v (1 + prefix_len p bs) 0) (b ∷ bs))
-while-more p b bs small rest true e =
+while-more : (p : ℕ → Bool) (b : ℕ) (bs : List ℕ) → (p b ≡ true → IsPlainByte b) → IsPlain (take_while p bs) → (v : Bool) → p b ≡ v
+    → IsPlain (take (cond v (1 + prefix_len p bs) 0) (b ∷ bs))
+while-more p b bs plain rest true e =
     let more : suc (prefix_len p bs) ≡ 1 + prefix_len p bs = omega arith in
-    subst (λ (n : ℕ). IsAscii (take n (b ∷ bs))) more (IsAscii-cons b (take_while p bs) (small e) rest)
-while-more p b bs small rest false e = IsAscii-nil
+    subst (λ (n : ℕ). IsPlain (take n (b ∷ bs))) more (plain e, rest)
+while-more p b bs plain rest false e = tt
 
-while-ascii : (p : ℕ → Bool) → ((b : ℕ) → p b ≡ true → b < 128) → (bs : List ℕ) → IsAscii (take_while p bs)
-while-ascii p small [] = IsAscii-nil
-while-ascii p small (b ∷ bs) = while-more p b bs (small b) (while-ascii p small bs) (p b) refl
+while-plain : (p : ℕ → Bool) → ((b : ℕ) → p b ≡ true → IsPlainByte b) → (bs : List ℕ) → IsPlain (take_while p bs)
+while-plain p plain [] = tt
+while-plain p plain (b ∷ bs) = while-more p b bs (plain b) (while-plain p plain bs) (p b) refl
 
 -- a byte and those behind it that pass a test
-front-ascii : (p : ℕ → Bool) (b : ℕ) (bs : List ℕ) → ((b : ℕ) → p b ≡ true → b < 128) → b < 128 → IsAscii (take (1 + length (take_while p bs)) (b ∷ bs))
-front-ascii p b bs small here =
+front-plain : (p : ℕ → Bool) (b : ℕ) (bs : List ℕ) → ((b : ℕ) → p b ≡ true → IsPlainByte b) → IsPlainByte b → IsPlain (take (1 + length (take_while p bs)) (b ∷ bs))
+front-plain p b bs plain here =
     let same = length-prefix_len p bs in
     let more : suc (prefix_len p bs) ≡ 1 + length (take_while p bs) = omega arith in
-    subst (λ (n : ℕ). IsAscii (take n (b ∷ bs))) more (IsAscii-cons b (take_while p bs) here (while-ascii p small bs))
+    subst (λ (n : ℕ). IsPlain (take n (b ∷ bs))) more (here, while-plain p plain bs)
 
 front-fits : (p : ℕ → Bool) (b : ℕ) (bs : List ℕ) → 1 + length (take_while p bs) ≤ length (b ∷ bs)
 front-fits p b bs = let same = length-prefix_len p bs in let le = prefix_len-le-length p bs in omega arith
@@ -76,10 +97,7 @@ name-is-ascii (b ∷ bs) h =
     let front = and-first-of (is_letter b) _ _ h in
     let all : length (name_bytes bs) ≡ length bs = grind (arith, nat_tests) in
     let count : length (b ∷ bs) ≤ 1 + length (name_bytes bs) = omega arith in
-    subst (λ (v : List ℕ). IsAscii v) (take_all (1 + length (name_bytes bs)) (b ∷ bs) count) (front-ascii is_name_byte b bs name-ascii (letter-ascii b front))
-
-one-ascii : (b : ℕ) (bs : List ℕ) → b < 128 → IsAscii (take 1 (b ∷ bs))
-one-ascii b bs h = IsAscii-cons b [] h IsAscii-nil
+    subst (λ (v : List ℕ). IsAscii v) (take_all (1 + length (name_bytes bs)) (b ∷ bs) count) (plain-ascii _ (front-plain is_name_byte b bs name-plain (letter-plain b front)))
 
 -- ---- words
 
@@ -129,13 +147,16 @@ word-not-last word = (among-not-last reserved word refl).is
 
 -- ---- symbols
 
+abbrev is_plain : ℕ → Bool
+is_plain b = nat_lt 10 b && nat_lt b 128
+
 abbrev good_bytes : List (ℕ × Kind) → Bool
 good_bytes [] = true
-good_bytes (entry ∷ entries) = cond (is_special entry.1) false (cond (nat_lt entry.0 128) (good_bytes entries) false)
+good_bytes (entry ∷ entries) = cond (is_special entry.1) false (cond (is_plain entry.0) (good_bytes entries) false)
 
 abbrev good_pairs : List (ℕ × ℕ × Kind) → Bool
 good_pairs [] = true
-good_pairs (entry ∷ entries) = cond (is_special entry.2) false (cond (nat_lt entry.0 128) (cond (nat_lt entry.1 128) (good_pairs entries) false) false)
+good_pairs (entry ∷ entries) = cond (is_special entry.2) false (cond (is_plain entry.0) (cond (is_plain entry.1) (good_pairs entries) false) false)
 
 and-first : (b c : Bool) → cond b c false ≡ true → b ≡ true
 and-first true c h = refl
@@ -145,19 +166,16 @@ and-rest : (b c : Bool) → cond b c false ≡ true → c ≡ true
 and-rest true c h = h
 and-rest false c h = cc
 
-small-is : (a b : ℕ) → (a == b) ≡ true → nat_lt b 128 ≡ true → a < 128
-small-is a b e h = grind (arith, nat_tests)
+plain-is : (a b : ℕ) → (a == b) ≡ true → is_plain b ≡ true → IsPlainByte a
+plain-is a b e h = (grind (arith, nat_tests), grind (arith, nat_tests))
 
 one-takes : (table : List (ℕ × Kind)) (a : ℕ) (bs : List ℕ) → good_bytes table ≡ true → Takes (one_byte_among table a) (a ∷ bs)
 one-takes [] a bs h = record { is = (refl, λ e. cc) }
 one-takes (entry ∷ entries) a bs h =
     let rest = none-last-rest (is_special entry.1) _ h in
     pick (λ v. Takes v (a ∷ bs)) (a == entry.0) (Token entry.1 1) (one_byte_among entries a)
-    (λ e. record { is = (omega arith, (let p : 1 ≤ length (a ∷ bs) = omega arith in p), special-last entry.1 (none-last-first (is_special entry.1) _ h), one-ascii a bs (small-is a entry.0 e (and-first (nat_lt entry.0 128) _ rest)), (λ q. absurd (special-number entry.1 (none-last-first (is_special entry.1) _ h) q))) })
-    (λ e. one-takes entries a bs (and-rest (nat_lt entry.0 128) _ rest))
-
-two-ascii : (a b : ℕ) (bs : List ℕ) → a < 128 → b < 128 → IsAscii (take 2 (a ∷ b ∷ bs))
-two-ascii a b bs h i = IsAscii-cons a (b ∷ []) h (IsAscii-cons b [] i IsAscii-nil)
+    (λ e. record { is = (omega arith, (let p : 1 ≤ length (a ∷ bs) = omega arith in p), special-last entry.1 (none-last-first (is_special entry.1) _ h), (plain-is a entry.0 e (and-first (is_plain entry.0) _ rest), tt), (λ q. absurd (special-number entry.1 (none-last-first (is_special entry.1) _ h) q))) })
+    (λ e. one-takes entries a bs (and-rest (is_plain entry.0) _ rest))
 
 and-left : (a b : Bool) → (a && b) ≡ true → a ≡ true
 and-left true b h = refl
@@ -171,20 +189,19 @@ two-takes : (table : List (ℕ × ℕ × Kind)) (a b : ℕ) (bs : List ℕ) → 
 two-takes [] a b bs h = one-takes one_byte_symbols a (b ∷ bs) refl
 two-takes (entry ∷ entries) a b bs h =
     let rest = none-last-rest (is_special entry.2) _ h in
-    let small = and-first (nat_lt entry.0 128) _ rest in
-    let rest' = and-rest (nat_lt entry.0 128) _ rest in
+    let plain = and-first (is_plain entry.0) _ rest in
+    let rest' = and-rest (is_plain entry.0) _ rest in
     pick (λ v. Takes v (a ∷ b ∷ bs)) (a == entry.0 && b == entry.1) (Token entry.2 2) (two_bytes_among entries a b)
     (λ e. record {
       is = (
         omega arith,
         (let p : 2 ≤ length (a ∷ b ∷ bs) = omega arith in p),
         special-last entry.2 (none-last-first (is_special entry.2) _ h),
-        two-ascii a b bs (small-is a entry.0 (and-left (a == entry.0) (b == entry.1) e) small)
-            (small-is b entry.1 (and-right (a == entry.0) (b == entry.1) e) (and-first (nat_lt entry.1 128) _ rest')),
+        (plain-is a entry.0 (and-left (a == entry.0) (b == entry.1) e) plain, (plain-is b entry.1 (and-right (a == entry.0) (b == entry.1) e) (and-first (is_plain entry.1) _ rest'), tt)),
         (λ q. absurd (special-number entry.2 (none-last-first (is_special entry.2) _ h) q)),
       );
     })
-    (λ e. two-takes entries a b bs (and-rest (nat_lt entry.1 128) _ rest'))
+    (λ e. two-takes entries a b bs (and-rest (is_plain entry.1) _ rest'))
 
 symbol-takes : (a : ℕ) (bs : List ℕ) → Takes (symbol a (first_byte bs)) (a ∷ bs)
 unfolding symbol
@@ -196,9 +213,9 @@ symbol-takes a (b ∷ bs) = two-takes two_byte_symbols a b bs refl
 small-number : (ds : List ℕ) → nat_lt largest_number (digits_value 10 ds) ≡ false → digits_value 10 ds ≤ largest_number
 small-number ds e = grind (arith, nat_tests)
 
-number-takes : (ds bs : List ℕ) (n : ℕ) → ds ≡ take n bs → AllDigits 10 ds → 0 < n → n ≤ length bs → IsAscii (take n bs) → Takes (number ds) bs
+number-takes : (ds bs : List ℕ) (n : ℕ) → ds ≡ take n bs → AllDigits 10 ds → 0 < n → n ≤ length bs → IsPlain (take n bs) → Takes (number ds) bs
 unfolding number
-number-takes ds bs n is all some le ascii =
+number-takes ds bs n is all some le plain =
     let count : length ds ≡ n = ap length is ∙ length-take-le n bs le in
     pick (λ v. Takes (number_of (length ds) v) bs) (nat_lt largest_number (digits_value 10 ds)) None (Some (digits_value 10 ds))
     (λ e. record { is = (refl, λ e. cc) })
@@ -207,7 +224,7 @@ number-takes ds bs n is all some le ascii =
         omega arith,
         (let p : length ds ≤ length bs = omega arith in p),
         refl,
-        subst (λ (m : ℕ). IsAscii (take m bs)) (sym count) ascii,
+        subst (λ (m : ℕ). IsPlain (take m bs)) (sym count) plain,
         (λ q. subst (λ (v : List ℕ). WritesNumber v) (is ∙ ap (λ m. take m bs) (sym count)) (record { digits = all; small = small-number ds e })),
       );
     })
@@ -236,14 +253,14 @@ piece-takes p (b ∷ bs) =
         (let q : 0 < 1 + length (name_bytes bs) = omega arith in q),
         front-fits is_name_byte b bs,
         special-last (word_kind (take (1 + length (name_bytes bs)) (b ∷ bs))) (word-not-last (take (1 + length (name_bytes bs)) (b ∷ bs))),
-        front-ascii is_name_byte b bs name-ascii (letter-ascii b e),
+        front-plain is_name_byte b bs name-plain (letter-plain b e),
         (λ q. absurd (special-number (word_kind (take (1 + length (name_bytes bs)) (b ∷ bs))) (word-not-last (take (1 + length (name_bytes bs)) (b ∷ bs))) q)),
       );
     }) (λ e.
-    choose (b ∷ bs) (b == 48) _ _ (λ e. record { is = (omega arith, (let p : 1 ≤ length (b ∷ bs) = omega arith in p), refl, one-ascii b bs (small-is b 48 e refl), (λ q. zero-number b bs e)) }) (λ e.
+    choose (b ∷ bs) (b == 48) _ _ (λ e. record { is = (omega arith, (let p : 1 ≤ length (b ∷ bs) = omega arith in p), refl, (plain-is b 48 e refl, tt), (λ q. zero-number b bs e)) }) (λ e.
     choose (b ∷ bs) (is_ascii_digit b) _ _
     (λ e. number-takes (take (1 + length (digits bs)) (b ∷ bs)) (b ∷ bs) (1 + length (digits bs)) refl (front-all b bs e) (let q : 0 < 1 + length (digits bs) = omega arith in q) (front-fits is_ascii_digit b bs)
-    (front-ascii is_ascii_digit b bs digit-ascii (digit-ascii b e)))
+    (front-plain is_ascii_digit b bs digit-plain (digit-plain b e)))
     (λ e. symbol-takes b bs)))))
 
 pub blank-takes : (p : Place) (bs : List ℕ) (n : ℕ) → Blank n ≡ piece p bs → TakesOf (Blank n) bs
@@ -254,3 +271,13 @@ token-takes p bs kind n e = (subst (λ (v : Piece). Takes v bs) (sym e) (piece-t
 
 pub stop-takes : (p : Place) (bs : List ℕ) (kind : Kind) → Stop kind ≡ piece p bs → TakesOf (Stop kind) bs
 stop-takes p bs kind e = (subst (λ (v : Piece). Takes v bs) (sym e) (piece-takes p bs)).is
+
+-- the bytes of a token as text, and the place behind them
+pub token-ascii : (p : Place) (bs : List ℕ) (kind : Kind) (n : ℕ) → Token kind n ≡ piece p bs → IsAscii (take n bs)
+token-ascii p bs kind n e = plain-ascii (take n bs) (token-takes p bs kind n e).3
+
+pub token-past : (p : Place) (bs : List ℕ) (kind : Kind) (n : ℕ) → Token kind n ≡ piece p bs → past p (take n bs) ≡ record { line = p.line; column = p.column + n }
+token-past p bs kind n e =
+    let takes = token-takes p bs kind n e in
+    let count = length-take-le n bs takes.1 in
+    plain-past p (take n bs) takes.3 ∙ ap (λ (m : ℕ). record { line = p.line; column = p.column + m }) count

@@ -1,4 +1,5 @@
 -- What an `Input` shows, and what it keeps.
+use Rattle.std.specs.Str.{IsAscii}
 use Rattle.pb_text_lexer.specs.declared.input.Input.TheInside.{Inside}
 use Rattle.pb_text_lexer.specs.Grammar.{State}
 use Rattle.pb_text_lexer.specs.Remaining.{remaining, IsWithin, HasDigits}
@@ -7,4 +8,4 @@ abbrev pub state_of : Inside → State
 state_of i = record { tokens = remaining i.lexer; operators = i.operators }
 
 abbrev pub IsReady : Inside → Type 0
-IsReady i = IsWithin i.lexer.place i.lexer.rest.now × HasDigits i.lexer.token
+IsReady i = IsWithin i.lexer.place i.lexer.rest.now × HasDigits i.lexer.token × IsAscii i.lexer.token.text.now

@@ -8,12 +8,12 @@ ghost use Rattle.pb_text_lexer.specs.Lexing.{start};
 ghost use Rattle.pb_text_lexer.specs.Remaining.{tokens_from};
 ghost use Rattle.pb_text_lexer.specs.Steps as spec;
 ghost use Rattle.pb_text_lexer.specs.Steps.{Gives, OnlyRefuses};
-ghost use Rattle.pb_text_lexer.specs.Tokens.{tok};
+ghost use Rattle.pb_text_lexer.specs.Tokens.{tok, token_at};
 
 use crate::digits::value_within;
 use crate::fault::{ReadingFault, ReadingRule, Refusal};
 use crate::kind::{Kind, same_kind};
-use crate::lexer::{Lexer, first_token};
+use crate::lexer::{Lexer, first_token, text_of};
 use crate::piece::LARGEST_NUMBER;
 use crate::token::Token;
 use pb_text_tree::Place;
@@ -70,7 +70,7 @@ impl<'a> Input<'a> {
         requires { spec.kind self.now ≡ Kind.Number }
         ensures { result ≡ digits_value 10 (spec.head_text self.now.tokens) }
     {
-        match value_within(self.lexer.token.text.as_bytes(), LARGEST_NUMBER) {
+        match value_within(self.lexer.token.text, LARGEST_NUMBER) {
             Some(value) => value,
             None => unreachable!(),
         }
@@ -125,6 +125,23 @@ impl<'a> Input<'a> {
         } else {
             Err(self.refuse(ReadingRule::Unexpected))
         }
+    }
+
+    /// Takes the next token, which must be a name, and gives its place and its text.
+    ///
+    /// A token of another kind is refused as `ReadingRule::Unexpected`, which is the one error: no memory is asked for.
+    #[tactic(auto, unfolding(crate::specs::Steps::expect))]
+    pub fn expect_name(&mut self) -> Result<(Place, &'a str), ReadingFault>
+        ensures reads { Gives (λ name. token_at name.0 Kind.Name name.1.now) (spec.expect Kind.Name self.old) result self.new }
+        ensures refused { OnlyRefuses ReadingRule.Unexpected self.old result }
+        ensures fewer { OnOk result (length self.new.tokens < length self.old.tokens) }
+    {
+        if !same_kind(self.kind(), Kind::Name) {
+            return Err(self.refuse(ReadingRule::Unexpected));
+        }
+        let text = text_of(self.lexer.token.text);
+        let place = self.take().place;
+        Ok((place, text))
     }
 
     /// Takes the next token, an operator with two operands.

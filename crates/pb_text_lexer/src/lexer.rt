@@ -56,6 +56,7 @@ pub fn first_token<'a>(bytes: &'a [u8], place: Place) -> Lexer<'a>
     ensures gives { remaining result ≡ tokens_from bytes.now 0 place }
     ensures within { IsWithin result.place result.rest.now }
     ensures number { HasDigits result.token }
+    ensures ascii { IsAscii result.token.text.now }
 {
     let mut rest = bytes;
     let mut place = place;
@@ -68,12 +69,9 @@ pub fn first_token<'a>(bytes: &'a [u8], place: Place) -> Lexer<'a>
             }
             Piece::Token(kind, len) => {
                 let (text, after) = rest.split_at(len);
-                let token = Token {
-                    kind,
-                    text: text_of(text),
-                    place,
-                };
-                let place = past(place, text);
+                let token = Token { kind, text, place };
+                // No token breaks a line.
+                place.column += len as u32;
                 return Lexer {
                     token,
                     rest: after,
@@ -83,7 +81,7 @@ pub fn first_token<'a>(bytes: &'a [u8], place: Place) -> Lexer<'a>
             Piece::Stop(kind) => {
                 let token = Token {
                     kind,
-                    text: "",
+                    text: b"",
                     place,
                 };
                 return Lexer { token, rest, place };

@@ -3,10 +3,10 @@
 use crate::kind::Kind;
 use pb_text_tree::Place;
 
-/// A token, with its text and the place of its first byte. Where no token stands the text is empty.
+/// A token, with the bytes of its text and the place of the first of them. Where no token stands the text is empty.
 #[derive(Clone, Copy, Debug)]
 pub struct Token<'a> {
     pub kind: Kind,
-    pub text: &'a str,
+    pub text: &'a [u8],
     pub place: Place,
 }

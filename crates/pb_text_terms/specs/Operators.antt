@@ -26,6 +26,12 @@ connective_of k.Or = connective.Or
 connective_of k.Implies = connective.Implies
 connective_of _ = connective.And
 
+abbrev pub is_connective : Kind → Bool
+is_connective k.And = true
+is_connective k.Or = true
+is_connective k.Implies = true
+is_connective _ = false
+
 -- two expressions with a connective between them
 abbrev pub connected_by : {X : Type 0} → (Connective → Place → X → X → X) → Kind → X → Tok → X → X
 connected_by make kind x t y = make (connective_of kind) t.place x y

@@ -5,6 +5,7 @@
 //! meet the relations.
 #![tactic(auto)]
 
+mod node;
 pub mod operator;
 pub mod term;
 pub mod variable;

@@ -18,6 +18,13 @@ pub fn symbol(connective: Connective) -> Kind
     }
 }
 
+/// Whether a token is a connective.
+pub fn is_connective(kind: Kind) -> bool
+    ensures { result ≡ spec.is_connective kind }
+{
+    matches!(kind, Kind::And | Kind::Or | Kind::Implies)
+}
+
 /// The quantifier of a token, if it is one.
 pub fn quantifier(kind: Kind) -> Option<Quantifier>
     ensures { result ≡ reading.quantifier_of kind }

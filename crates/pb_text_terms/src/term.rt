@@ -1,96 +1,67 @@
 //! Reads data terms, by recursive descent. A chain of operators is read by a loop, so that the recursion is as deep as
 //! brackets, signs and quantifiers nest.
 
-ghost use Rattle.std.specs.Prelude.{◌≡◌, ◌<◌, ◌≤◌, length, map, Ok, OnOk, IfOk, IsTrue};
-ghost use Rattle.pb_text_tree.specs.Form as form;
-ghost use Rattle.pb_text_tree.specs.Form.{TermForm, term_form, term_links, arithmetic_links, argument_forms, instance_form};
+ghost use Rattle.std.specs.Prelude.{◌≡◌, ◌<◌, ◌≤◌, true, length, map, Ok, OnOk, IsTrue};
+ghost use Rattle.pb_text_tree.specs.Form.{TermForm, term_form, arithmetic_links, instance_form};
 ghost use Rattle.pb_text_lexer.specs.Grammar.{State};
 ghost use Rattle.pb_text_lexer.specs.Steps as steps;
 ghost use Rattle.pb_text_lexer.specs.Steps.{Gives};
-ghost use Rattle.pb_text_lexer.specs.Tokens.{tok};
-ghost use Rattle.pb_text_terms.specs.Grammar as grammar;
 ghost use Rattle.pb_text_terms.specs.Operators as operators;
 ghost use Rattle.pb_text_terms.specs.Reading as reading;
 ghost use Rattle.pb_text_terms.specs.Reading.{argument_pair};
 
+use crate::node::{applied, calculated, closed, compared, constant, joined, number};
 use crate::operator::{
-    Operators, arithmetic, comparison, is_among, is_equality, is_operator, is_order, is_quantifier,
-    quantifier, symbol,
+    Operators, arithmetic, is_among, is_connective, is_equality, is_operator, is_order,
+    is_quantifier, quantifier, symbol,
 };
 use crate::variable::{name, variables};
 use pb_text_lexer::fault::{ReadingFault, ReadingRule};
 use pb_text_lexer::input::Input;
 use pb_text_lexer::kind::{Kind, same_kind};
-use pb_text_lexer::token::Token;
 use pb_text_tree::{Argument, ArithmeticLink, Connective, Instance, Term, TermLink};
-use std::alloc::{AllocError, Global};
+use std::alloc::Global;
 
-/// The node of a chain, or its first operand where there is no other.
-fn joined(
-    alloc: Global,
-    connective: Connective,
-    first: Term,
-    links: Vec<TermLink>,
-) -> Result<Term, AllocError>
-    ensures { IfOk result (λ t. term_form t ≡ form.chained (TermForm.connected connective) (term_form first) (term_links links.items)) }
+/// `!` and its operand.
+#[cycle(terms)]
+#[inline(never)]
+fn negation(input: &mut Input<'_>, alloc: Global, depth: u32) -> Result<Term, ReadingFault>
+    requires { steps.kind input.old ≡ Kind.Not }
+    ensures reads { Gives term_form (reading.unary depth input.old) result input.new }
+    ensures fewer { OnOk result (length input.new.tokens < length input.old.tokens) }
 {
-    if links.is_empty() {
-        return Ok(first);
-    }
-    let first = Box::new(alloc, first)?;
-    Ok(Term::Chain {
-        connective,
-        first,
-        links,
-    })
+    let place = input.enter(depth)?.place;
+    let operand = unary(input, alloc, depth - 1)?;
+    let operand = Box::new(alloc, operand)?;
+    Ok(Term::Not { place, operand })
 }
 
-/// The node of operands of arithmetic.
-fn calculated(alloc: Global, first: Term, links: Vec<ArithmeticLink>) -> Result<Term, AllocError>
-    ensures { IfOk result (λ t. term_form t ≡ form.calculated (term_form first) (arithmetic_links links.items)) }
+/// `-` and its operand.
+#[cycle(terms)]
+#[inline(never)]
+fn negative(input: &mut Input<'_>, alloc: Global, depth: u32) -> Result<Term, ReadingFault>
+    requires { steps.kind input.old ≡ Kind.Minus }
+    ensures reads { Gives term_form (reading.unary depth input.old) result input.new }
+    ensures fewer { OnOk result (length input.new.tokens < length input.old.tokens) }
 {
-    let first = Box::new(alloc, first)?;
-    Ok(Term::Arithmetic { first, links })
+    let place = input.enter(depth)?.place;
+    let operand = unary(input, alloc, depth - 1)?;
+    let operand = Box::new(alloc, operand)?;
+    Ok(Term::Negative { place, operand })
 }
 
-/// The node of two terms with a comparison's sign between them.
-fn compared(alloc: Global, sign: Token<'_>, left: Term, right: Term) -> Result<Term, AllocError>
-    ensures { IfOk result (λ t. term_form t ≡ operators.compared_by (term_form left) (tok sign.entry) (term_form right)) }
+/// A term in brackets.
+#[cycle(terms)]
+#[inline(never)]
+fn bracketed(input: &mut Input<'_>, alloc: Global, depth: u32) -> Result<Term, ReadingFault>
+    requires { steps.kind input.old ≡ Kind.Open }
+    ensures reads { Gives term_form (reading.unary depth input.old) result input.new }
+    ensures fewer { OnOk result (length input.new.tokens < length input.old.tokens) }
 {
-    let left = Box::new(alloc, left)?;
-    let right = Box::new(alloc, right)?;
-    Ok(Term::Comparison {
-        place: sign.place,
-        comparison: comparison(sign.kind),
-        left,
-        right,
-    })
-}
-
-/// A name without arguments, or a function's application.
-fn applied(instance: Instance) -> Term
-    ensures { term_form result ≡ grammar.applied (form.named instance.name) (argument_forms instance.arguments.items) }
-{
-    let Instance { name, arguments } = instance;
-    if arguments.is_empty() {
-        Term::Name(name)
-    } else {
-        Term::Application {
-            function: name,
-            arguments,
-        }
-    }
-}
-
-/// A term behind which no bracket may open.
-fn closed(input: &Input<'_>, term: Term) -> Result<Term, ReadingFault>
-    ensures { Gives term_form (reading.closed (term_form term) input.now) result input.now }
-{
-    if same_kind(input.kind(), Kind::Open) {
-        Err(input.refuse(ReadingRule::Unexpected))
-    } else {
-        Ok(term)
-    }
+    input.enter(depth)?;
+    let inner = connected(input, alloc, depth - 1)?;
+    input.expect(Kind::Close)?;
+    closed(input, inner)
 }
 
 /// A sign, a bracket, a number, a constant or a name, in which so many levels may open.
@@ -100,38 +71,12 @@ fn unary(input: &mut Input<'_>, alloc: Global, depth: u32) -> Result<Term, Readi
     ensures fewer { OnOk result (length input.new.tokens < length input.old.tokens) }
 {
     match input.kind() {
-        Kind::Not => {
-            let place = input.enter(depth)?.place;
-            let operand = unary(input, alloc, depth - 1)?;
-            let operand = Box::new(alloc, operand)?;
-            Ok(Term::Not { place, operand })
-        }
-        Kind::Minus => {
-            let place = input.enter(depth)?.place;
-            let operand = unary(input, alloc, depth - 1)?;
-            let operand = Box::new(alloc, operand)?;
-            Ok(Term::Negative { place, operand })
-        }
-        Kind::Open => {
-            input.enter(depth)?;
-            let inner = level(input, alloc, Connective::Implies, depth - 1)?;
-            input.expect(Kind::Close)?;
-            closed(input, inner)
-        }
-        Kind::Number => {
-            let value = input.number();
-            let place = input.take().place;
-            closed(input, Term::Number { place, value })
-        }
-        Kind::True => {
-            let place = input.take().place;
-            closed(input, Term::Constant { place, value: true })
-        }
-        Kind::False => {
-            let place = input.take().place;
-            let value = false;
-            closed(input, Term::Constant { place, value })
-        }
+        Kind::Not => negation(input, alloc, depth),
+        Kind::Minus => negative(input, alloc, depth),
+        Kind::Open => bracketed(input, alloc, depth),
+        Kind::Number => number(input),
+        Kind::True => constant(input, true),
+        Kind::False => constant(input, false),
         Kind::Name => {
             let instance = instance(input, alloc, depth)?;
             Ok(applied(instance))
@@ -142,6 +87,7 @@ fn unary(input: &mut Input<'_>, alloc: Global, depth: u32) -> Result<Term, Readi
 
 /// Terms with commas between them, each with the place of its first token.
 #[cycle(terms)]
+#[inline(never)]
 fn argument_list(
     input: &mut Input<'_>,
     alloc: Global,
@@ -153,7 +99,7 @@ fn argument_list(
     let mut arguments = Vec::with_capacity(alloc, 1)?;
     'arguments: loop {
         let place = input.place();
-        let term = level(input, alloc, Connective::Implies, depth)?;
+        let term = connected(input, alloc, depth)?;
         arguments.push(Argument { place, term })?;
         if !same_kind(input.kind(), Kind::Comma) {
             return Ok(arguments);
@@ -228,6 +174,7 @@ fn operations(
 
 /// What `*` alone, or `div` and `mod` alone, make of a first operand and of those behind it.
 #[cycle(terms)]
+#[inline(never)]
 fn product_behind(
     input: &mut Input<'_>,
     alloc: Global,
@@ -254,18 +201,39 @@ fn product_behind(
     Ok(first)
 }
 
-/// Operands of `*` alone, or of `div` and `mod` alone.
+/// Operands of `*` alone, or of `div` and `mod` alone. Most often no operator follows the first at all.
 #[cycle(terms)]
 fn product(input: &mut Input<'_>, alloc: Global, depth: u32) -> Result<Term, ReadingFault>
     ensures reads { Gives term_form (reading.product (reading.unary depth) input.old) result input.new }
     ensures fewer { OnOk result (length input.new.tokens < length input.old.tokens) }
 {
-    let first = unary(input, alloc, depth)?;
-    product_behind(input, alloc, depth, first)
+    let first = unary(input, alloc, depth);
+    if !is_operator(input.kind()) {
+        return first;
+    }
+    product_behind(input, alloc, depth, first?)
 }
 
-/// What `+` and `-` make of a first operand and of those behind it.
+/// What `+` and `-` make of a first operand and of those behind it, one or more.
 #[cycle(terms)]
+#[inline(never)]
+fn summed(
+    input: &mut Input<'_>,
+    alloc: Global,
+    depth: u32,
+    first: Term,
+) -> Result<Term, ReadingFault>
+    requires { operators.is_additive (steps.kind input.old) ≡ true }
+    ensures reads { (s : State) → reading.product (reading.unary depth) s ≡ Ok (term_form first, input.old) → Gives term_form (reading.sum (reading.unary depth) s) result input.new }
+    ensures fewer { OnOk result (length input.new.tokens ≤ length input.old.tokens) }
+{
+    let links = operations(input, alloc, Operators::Additive, depth)?;
+    Ok(calculated(alloc, first, links)?)
+}
+
+/// A product that is read, or what `+` and `-` make of it and of those behind it.
+#[cycle(terms)]
+#[inline(always)]
 fn sum_behind(
     input: &mut Input<'_>,
     alloc: Global,
@@ -278,8 +246,7 @@ fn sum_behind(
     if !is_among(Operators::Additive, input.kind()) {
         return Ok(first);
     }
-    let links = operations(input, alloc, Operators::Additive, depth)?;
-    Ok(calculated(alloc, first, links)?)
+    summed(input, alloc, depth, first)
 }
 
 /// Operands of `+` and `-`.
@@ -292,8 +259,30 @@ fn sum(input: &mut Input<'_>, alloc: Global, depth: u32) -> Result<Term, Reading
     sum_behind(input, alloc, depth, first)
 }
 
+/// What an order compares a sum with that is read.
+#[cycle(terms)]
+#[inline(never)]
+fn in_order(
+    input: &mut Input<'_>,
+    alloc: Global,
+    depth: u32,
+    left: Term,
+) -> Result<Term, ReadingFault>
+    requires { operators.is_order (steps.kind input.old) ≡ true }
+    ensures reads { (s : State) → reading.sum (reading.unary depth) s ≡ Ok (term_form left, input.old) → Gives term_form (reading.ordered (reading.unary depth) s) result input.new }
+    ensures fewer { OnOk result (length input.new.tokens ≤ length input.old.tokens) }
+{
+    let sign = input.take_operator()?;
+    let right = sum(input, alloc, depth)?;
+    if is_order(input.kind()) {
+        return Err(input.refuse(ReadingRule::Unexpected));
+    }
+    Ok(compared(alloc, sign, left, right)?)
+}
+
 /// A sum that is read, or what an order compares it with.
 #[cycle(terms)]
+#[inline(always)]
 fn ordered_behind(
     input: &mut Input<'_>,
     alloc: Global,
@@ -306,26 +295,42 @@ fn ordered_behind(
     if !is_order(input.kind()) {
         return Ok(left);
     }
-    let sign = input.take_operator()?;
-    let right = sum(input, alloc, depth)?;
-    if is_order(input.kind()) {
-        return Err(input.refuse(ReadingRule::Unexpected));
-    }
-    Ok(compared(alloc, sign, left, right)?)
+    in_order(input, alloc, depth, left)
 }
 
-/// One sum, or two that an order compares.
+/// What operators of arithmetic and an order make of a first operand and of what stands behind it.
+#[cycle(terms)]
+#[inline(never)]
+fn sums_behind(
+    input: &mut Input<'_>,
+    alloc: Global,
+    depth: u32,
+    first: Term,
+) -> Result<Term, ReadingFault>
+    ensures reads { (s : State) → reading.unary depth s ≡ Ok (term_form first, input.old) → Gives term_form (reading.ordered (reading.unary depth) s) result input.new }
+    ensures fewer { OnOk result (length input.new.tokens ≤ length input.old.tokens) }
+{
+    let product = product_behind(input, alloc, depth, first)?;
+    let sum = sum_behind(input, alloc, depth, product)?;
+    ordered_behind(input, alloc, depth, sum)
+}
+
+/// One sum, or two that an order compares. Most often no operator follows the first operand at all.
 #[cycle(terms)]
 fn ordered(input: &mut Input<'_>, alloc: Global, depth: u32) -> Result<Term, ReadingFault>
     ensures reads { Gives term_form (reading.ordered (reading.unary depth) input.old) result input.new }
     ensures fewer { OnOk result (length input.new.tokens < length input.old.tokens) }
 {
-    let left = sum(input, alloc, depth)?;
-    ordered_behind(input, alloc, depth, left)
+    let first = unary(input, alloc, depth);
+    if !is_operator(input.kind()) {
+        return first;
+    }
+    sums_behind(input, alloc, depth, first?)
 }
 
 /// A term without connectives that is read, or what it is compared with for equality.
 #[cycle(terms)]
+#[inline(never)]
 fn equated_behind(
     input: &mut Input<'_>,
     alloc: Global,
@@ -358,9 +363,10 @@ fn operators_behind(
     ensures reads { (s : State) → reading.unary depth s ≡ Ok (term_form first, input.old) → Gives term_form (reading.equated (reading.unary depth) s) result input.new }
     ensures fewer { OnOk result (length input.new.tokens ≤ length input.old.tokens) }
 {
-    let product = product_behind(input, alloc, depth, first)?;
-    let sum = sum_behind(input, alloc, depth, product)?;
-    let left = ordered_behind(input, alloc, depth, sum)?;
+    if is_equality(input.kind()) {
+        return equated_behind(input, alloc, depth, first);
+    }
+    let left = sums_behind(input, alloc, depth, first)?;
     equated_behind(input, alloc, depth, left)
 }
 
@@ -379,6 +385,7 @@ fn equated(input: &mut Input<'_>, alloc: Global, depth: u32) -> Result<Term, Rea
 
 /// A quantifier, its variables and its body.
 #[cycle(terms)]
+#[inline(never)]
 fn quantified(input: &mut Input<'_>, alloc: Global, depth: u32) -> Result<Term, ReadingFault>
     ensures reads { Gives term_form (reading.quantified_term depth input.old) result input.new }
     ensures fewer { OnOk result (length input.new.tokens < length input.old.tokens) }
@@ -389,7 +396,7 @@ fn quantified(input: &mut Input<'_>, alloc: Global, depth: u32) -> Result<Term, 
     let place = input.enter(depth)?.place;
     let variables = variables(input, alloc)?;
     input.expect(Kind::Period)?;
-    let body = level(input, alloc, Connective::Implies, depth - 1)?;
+    let body = connected(input, alloc, depth - 1)?;
     let body = Box::new(alloc, body)?;
     Ok(Term::Quantified {
         place,
@@ -423,10 +430,10 @@ fn operand(
     }
 }
 
-/// The chain of the connective that a first operand begins, behind which the connective stands.
+/// The chain of the connective that a first operand begins.
 #[cycle(terms)]
 #[inline(never)]
-fn chain_behind(
+fn chain(
     input: &mut Input<'_>,
     alloc: Global,
     connective: Connective,
@@ -445,6 +452,25 @@ fn chain_behind(
     Ok(joined(alloc, connective, first, links)?)
 }
 
+/// The chain of the connective that a first operand begins, or that operand alone.
+#[cycle(terms)]
+#[inline(always)]
+fn chain_behind(
+    input: &mut Input<'_>,
+    alloc: Global,
+    connective: Connective,
+    depth: u32,
+    first: Term,
+) -> Result<Term, ReadingFault>
+    ensures reads { (s : State) → reading.operand TermForm.connected connective (reading.lowest depth) s ≡ Ok (term_form first, input.old) → length input.old.tokens < length s.tokens → Gives term_form (reading.level TermForm.connected connective (reading.lowest depth) s) result input.new }
+    ensures fewer { OnOk result (length input.new.tokens ≤ length input.old.tokens) }
+{
+    if !same_kind(input.kind(), symbol(connective)) {
+        return Ok(first);
+    }
+    chain(input, alloc, connective, depth, first)
+}
+
 /// A chain of the connective, at whose right end a quantifier may stand.
 #[cycle(terms)]
 fn level(
@@ -460,7 +486,37 @@ fn level(
     if !same_kind(input.kind(), symbol(connective)) {
         return first;
     }
-    chain_behind(input, alloc, connective, depth, first?)
+    chain(input, alloc, connective, depth, first?)
+}
+
+/// A term, whose first part without connectives is read.
+#[cycle(terms)]
+#[inline(never)]
+fn connectives_behind(
+    input: &mut Input<'_>,
+    alloc: Global,
+    depth: u32,
+    first: Term,
+) -> Result<Term, ReadingFault>
+    ensures reads { (s : State) → reading.lowest depth s ≡ Ok (term_form first, input.old) → length input.old.tokens < length s.tokens → Gives term_form (reading.term depth s) result input.new }
+    ensures fewer { OnOk result (length input.new.tokens ≤ length input.old.tokens) }
+{
+    let conjunction = chain_behind(input, alloc, Connective::And, depth, first)?;
+    let disjunction = chain_behind(input, alloc, Connective::Or, depth, conjunction)?;
+    chain_behind(input, alloc, Connective::Implies, depth, disjunction)
+}
+
+/// A term, at whose right end a quantifier may stand. Most often no connective follows its first part at all.
+#[cycle(terms)]
+fn connected(input: &mut Input<'_>, alloc: Global, depth: u32) -> Result<Term, ReadingFault>
+    ensures reads { Gives term_form (reading.term depth input.old) result input.new }
+    ensures fewer { OnOk result (length input.new.tokens < length input.old.tokens) }
+{
+    let first = operand(input, alloc, Connective::And, depth);
+    if !is_connective(input.kind()) {
+        return first;
+    }
+    connectives_behind(input, alloc, depth, first?)
 }
 
 /// A data term, in which so many levels may open.
@@ -468,5 +524,5 @@ pub fn term(input: &mut Input<'_>, alloc: Global, depth: u32) -> Result<Term, Re
     ensures reads { Gives term_form (reading.term depth input.old) result input.new }
     ensures fewer { OnOk result (length input.new.tokens < length input.old.tokens) }
 {
-    level(input, alloc, Connective::Implies, depth)
+    connected(input, alloc, depth)
 }

@@ -17,12 +17,9 @@ pub fn name(input: &mut Input<'_>, alloc: Global) -> Result<Name, ReadingFault>
     ensures reads { Gives named (reading.name input.old) result input.new }
     ensures fewer { OnOk result (length input.new.tokens < length input.old.tokens) }
 {
-    let token = input.expect(Kind::Name)?;
-    let text = token.text.to_owned(alloc)?;
-    Ok(Name {
-        place: token.place,
-        text,
-    })
+    let (place, text) = input.expect_name()?;
+    let text = text.to_owned(alloc)?;
+    Ok(Name { place, text })
 }
 
 /// Names with commas between them.

@@ -147,7 +147,7 @@ fn stops_where_no_token_stands(rt: HostRuntime) -> Result<(), Fail> {
 #[test]
 fn places_tokens(rt: HostRuntime) -> Result<(), Fail> {
     let first = first_token(b"% c\n\t Xy z", Place { line: 1, column: 1 });
-    assert_eq!(rt; first.token.text, "Xy");
+    assert_eq!(rt; first.token.text, b"Xy".as_slice());
     assert_eq!(rt; first.token.place, Place { line: 2, column: 3 });
     assert_eq!(rt; first.place, Place { line: 2, column: 5 });
     assert!(rt; matches!(front_piece(first.place, first.rest), Piece::Blank(1)));

@@ -31,16 +31,25 @@ decreases-operand l = l.depth * 16 + rank l.connective
 abbrev pub decreases-level : goal.decreases-level
 decreases-level l = l.depth * 16 + rank l.connective + 2
 
-abbrev pub decreases-chain_behind : goal.decreases-chain_behind
-decreases-chain_behind l = l.depth * 16 + rank l.connective + 1
+abbrev pub decreases-chain : goal.decreases-chain
+decreases-chain l = l.depth * 16 + rank l.connective + 1
 
-abbrev pub invariant-chain_behind-links : goal.invariant-chain_behind-links
-invariant-chain_behind-links l = record {
+abbrev pub decreases-chain_behind : goal.decreases-chain_behind
+decreases-chain_behind l = l.depth * 16 + rank l.connective + 2
+
+abbrev pub decreases-connectives_behind : goal.decreases-connectives_behind
+decreases-connectives_behind l = l.depth * 16 + 11
+
+abbrev pub decreases-formula : goal.decreases-formula
+decreases-formula l = l.depth * 16 + 12
+
+abbrev pub invariant-chain-links : goal.invariant-chain-links
+invariant-chain-links l = record {
   reads : (s : State) → operand l.connective l.depth s ≡ Ok (formula_form l.fn.first, l.fn.input) → length l.fn.input.tokens < length s.tokens
       → level l.connective l.depth s ≡
       resumed (symbol l.connective) (FormulaForm.connected l.connective) (operand l.connective l.depth) (length s.tokens - vec_len l.links) (formula_form l.first) (link_forms l.links.items) l.input;
   room : vec_len l.links + length l.input.tokens ≤ length l.fn.input.tokens;
 }
 
-abbrev pub decreases-chain_behind-links : goal.decreases-chain_behind-links
-decreases-chain_behind-links l = length l.input.tokens
+abbrev pub decreases-chain-links : goal.decreases-chain-links
+decreases-chain-links l = length l.input.tokens

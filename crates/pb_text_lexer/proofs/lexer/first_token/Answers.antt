@@ -1,5 +1,5 @@
 use Rattle.std.proofs.Common.{arith, sym, ◌∙◌}
-use Rattle.pb_text_lexer.proofs.PieceLemmas.{blank-takes, token-takes, stop-takes}
+use Rattle.pb_text_lexer.proofs.PieceLemmas.{blank-takes, token-takes, token-ascii, token-past, stop-takes}
 use Rattle.pb_text_lexer.proofs.RemainingLemmas.{blank-step, token-step, stop-step}
 use Rattle.pb_text_lexer.proofs.lexer.first_token.Goals as goal
 
@@ -23,14 +23,12 @@ pieces-preserved c =
 pub split_at-requires-in-Token : goal.split_at-requires-in-Token
 split_at-requires-in-Token c = (token-takes _ _ c.in-Token.kind c.in-Token.len c.in-Token.ensures).1
 
-pub text_of-requires : goal.text_of-requires
-text_of-requires c = rw c.split_at-in-Token.ensures.front (token-takes _ _ c.in-Token.kind c.in-Token.len c.in-Token.ensures).3
-
 pub returns-in-Token-clause-gives : goal.returns-in-Token-clause-gives
 returns-in-Token-clause-gives c =
     let takes = token-takes _ _ c.in-Token.kind c.in-Token.len c.in-Token.ensures in
     let step = token-step c.pieces.rest.now c.in-Token.kind c.in-Token.len c.pieces.place (sym c.in-Token.ensures) takes.0 takes.1 in
-    rw (takes.2, c.text_of.ensures, c.past-place-in-Token.ensures.value, c.split_at-in-Token.ensures.front, c.split_at-in-Token.ensures.back) (sym step ∙ c.pieces.invariant.tokens)
+    let moved = token-past c.pieces.place c.pieces.rest.now c.in-Token.kind c.in-Token.len c.in-Token.ensures in
+    rw (takes.2, ← moved, c.split_at-in-Token.ensures.front, c.split_at-in-Token.ensures.back) (sym step ∙ c.pieces.invariant.tokens)
 
 pub returns-in-Stop-clause-gives : goal.returns-in-Stop-clause-gives
 returns-in-Stop-clause-gives c =
@@ -41,4 +39,7 @@ returns-in-Stop-clause-gives c =
 pub returns-in-Token-clause-number : goal.returns-in-Token-clause-number
 returns-in-Token-clause-number c is =
     let takes = token-takes _ _ c.in-Token.kind c.in-Token.len c.in-Token.ensures in
-    rw (c.text_of.ensures, c.split_at-in-Token.ensures.front) (takes.4 is)
+    rw c.split_at-in-Token.ensures.front (takes.4 is)
+
+pub returns-in-Token-clause-ascii : goal.returns-in-Token-clause-ascii
+returns-in-Token-clause-ascii c = rw c.split_at-in-Token.ensures.front (token-ascii _ _ c.in-Token.kind c.in-Token.len c.in-Token.ensures)

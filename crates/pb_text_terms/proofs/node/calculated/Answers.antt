@@ -2,7 +2,7 @@ use Rattle.std.proofs.Common.{ap, ◌∙◌}
 use Rattle.pb_text_tree.specs.Form as form
 use Rattle.pb_text_tree.specs.Form.{term_form, arithmetic_links}
 use Rattle.pb_text_tree.proofs.FormLemmas.{term-arithmetic}
-use Rattle.pb_text_terms.proofs.term.calculated.Goals as goal
+use Rattle.pb_text_terms.proofs.node.calculated.Goals as goal
 
 pub returns : goal.returns
 returns c =

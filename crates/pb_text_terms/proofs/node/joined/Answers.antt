@@ -1,7 +1,7 @@
 use Rattle.std.proofs.Common.{ap, ◌∙◌}
 use Rattle.pb_text_tree.specs.Form.{TermForm, chained, term_form, term_links}
 use Rattle.pb_text_tree.proofs.FormLemmas.{term-chain}
-use Rattle.pb_text_terms.proofs.term.joined.Goals as goal
+use Rattle.pb_text_terms.proofs.node.joined.Goals as goal
 
 pub returns : goal.returns
 returns c =
