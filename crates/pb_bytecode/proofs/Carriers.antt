@@ -11,7 +11,7 @@ use Rattle.pb_sorts.specs.declared.carrier.Carrier.{Carrier}
 use Rattle.pb_sorts.specs.declared.carrier.Carrier.TheVariants as carrier
 use Rattle.pb_sorts.specs.declared.carrier.Range.{Range}
 use Rattle.pb_sorts.specs.declared.carrier.Enumeration.{Enumeration}
-use Rattle.pb_bytecode.proofs.Orders.{from_le}
+use Rattle.pb_bytecode_program.proofs.Ints.{from_le}
 use Rattle.pb_bytecode.specs.Limits.{count_of}
 use Rattle.pb_bytecode.specs.Reading.{byte_at, signed_at, range_from, enum_from, range_at, enum_at}
 

@@ -1,12 +1,7 @@
--- Counting tuples and instances from left to right.
-use Rattle.std.proofs.Common.{◌≡◌, ℕ, zero, suc, ◌+◌, ◌*◌, ◌<◌, ◌≤◌, true, false, List, [], ◌∷◌, ◌++◌, length, drop, map, get_or, refl, sym, ap, ◌∙◌, arith}
-use Rattle.std.specs.Prelude.{ℤ, pos, negsuc, ◌+ℤ◌, ◌≤ℤ◌, ◌-ℤ◌, nat_lt}
-use Rattle.std.proofs.Math.Nat.{mul_assoc, mul-le-mul_left}
-use Rattle.std.proofs.lemmas.Int.{ints}
-use Rattle.pb_carriers.specs.Carrier.{tuple_count, numbers_from, at_least_none}
-use Rattle.pb_sorts.specs.Carrier.{values_of}
+-- Counting instances, and reading the values of the initial one, from left to right.
+use Rattle.std.proofs.Common.{◌≡◌, ℕ, zero, suc, ◌+◌, ◌<◌, ◌≤◌, true, false, List, [], ◌∷◌, ◌++◌, length, drop, map, get_or, refl, sym, ap, ◌∙◌, arith}
+use Rattle.std.specs.Prelude.{ℤ, nat_lt}
 use Rattle.pb_sorts.specs.declared.carrier.Carrier.{Carrier}
-use Rattle.pb_sorts.specs.declared.carrier.Carrier.TheVariants as carrier
 use Rattle.std.proofs.lemmas.Bool.{lt-ltb, le-ltb}
 use Rattle.std.proofs.lemmas.List.{length-map}
 use Rattle.std.proofs.Common.{Ok, Err, append_assoc}
@@ -21,50 +16,8 @@ use Rattle.pb_bytecode.specs.declared.equation.Equation.{Equation}
 use Rattle.pb_bytecode.specs.Limits.{instance_count}
 use Rattle.pb_bytecode.specs.Views.{equation_contents}
 
-abbrev pub tuples : List Carrier → ℕ
-tuples cs = tuple_count (map values_of cs)
-
 abbrev pub instances : List Equation → ℕ
 instances es = instance_count (map equation_contents es)
-
-tuples_step : (cs : List Carrier) (i : ℕ) (d : Carrier) → i < length cs → tuples (drop i cs) ≡ length (values_of (get_or cs i d)) * tuples (drop (i + 1) cs)
-tuples_step [] i d h = absurd (omega arith)
-tuples_step (c ∷ cs) zero d h = refl
-tuples_step (c ∷ cs) (suc i) d h = let z : suc i + 1 ≡ suc (i + 1) = omega arith in tuples_step cs i d (omega arith) ∙ ap (λ m. length (values_of (get_or cs i d)) * tuples (drop m (c ∷ cs))) (sym z)
-
-numbers_length : (low : ℤ) (n : ℕ) → length (numbers_from low n) ≡ n
-numbers_length low zero = refl
-numbers_length low (suc n) = ap suc (numbers_length (low +ℤ pos 1) n)
-
-at_least_one : (d : ℤ) → pos 1 ≤ℤ d → 0 < at_least_none d
-at_least_one (pos n) h = omega (arith, ints)
-at_least_one (negsuc n) h = absurd (omega (arith, ints))
-
-values_some : (c : Carrier) → 0 < length (values_of c)
-values_some carrier.Bool = omega arith
-values_some (carrier.Enum e) = omega (arith, numbers_length (pos 0) e.count, e.not_empty)
-values_some (carrier.Range r) =
-    let some = at_least_one (r.hi -ℤ r.lo +ℤ pos 1) (let h = r.not_empty in omega (arith, ints)) in
-    omega (arith, numbers_length r.lo (at_least_none (r.hi -ℤ r.lo +ℤ pos 1)), some)
-
-tuples_some : (cs : List Carrier) → 1 ≤ tuples cs
-tuples_some [] = omega arith
-tuples_some (c ∷ cs) = let a = values_some c in let b = tuples_some cs in omega (arith, mul-le-mul_left (length (values_of c)) b)
-
--- one carrier more
-pub step_more : (cs : List Carrier) (d : Carrier) (count i size : ℕ) → i < length cs → size ≡ length (values_of (get_or cs i d)) → count * tuples (drop i cs) ≡ tuples cs → count * size * tuples (drop (i + 1) cs) ≡ tuples cs
-step_more cs d count i size h e so_far = rw e (mul_assoc count (length (values_of (get_or cs i d))) (tuples (drop (i + 1) cs)) ∙ ap (λ m. count * m) (sym (tuples_step cs i d h)) ∙ so_far)
-
-pub too_many : (cs : List Carrier) (d : Carrier) (count i size limit : ℕ) → i < length cs → size ≡ length (values_of (get_or cs i d)) → count * tuples (drop i cs) ≡ tuples cs → limit < count * size → limit < tuples cs
-too_many cs d count i size limit h e so_far more =
-    let all = step_more cs d count i size h e so_far in
-    let rest = mul-le-mul_left (count * size) (tuples_some (drop (i + 1) cs)) in
-    omega (arith, all, rest)
-
-pub instances_step : (es : List Equation) (i : ℕ) (d : Equation) → i < length es → instances (drop i es) ≡ tuples (get_or es i d).params.items + instances (drop (i + 1) es)
-instances_step [] i d h = absurd (omega arith)
-instances_step (e ∷ es) zero d h = refl
-instances_step (e ∷ es) (suc i) d h = let z : suc i + 1 ≡ suc (i + 1) = omega arith in instances_step es i d (omega arith) ∙ ap (λ m. tuples (get_or es i d).params.items + instances (drop m (e ∷ es))) (sym z)
 
 -- the initial instance's equation
 pub params_here : (es : List Equation) (i : ℕ) (d : Equation) → i < length es → params_at (map equation_contents es) i ≡ (get_or es i d).params.items

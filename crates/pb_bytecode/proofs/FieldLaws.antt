@@ -7,7 +7,7 @@ use Rattle.std.proofs.lemmas.Int.{ints, to_z-of_z, of_z-to_z}
 use Rattle.std.proofs.Math.Facts.{sfits_to_z, Fits-of_lt}
 use Rattle.std.proofs.lemmas.List.{take_at, drop_at, take-append-drop, length-take, get_or-drop, get_or-take, get_or_past}
 use Rattle.std.proofs.lemmas.Nat.{le_bytes_2, le_bytes_4, le_bytes_8, from_le_bytes-to_le_bytes_2, from_le_bytes-to_le_bytes_4, from_le_bytes-to_le_bytes_8}
-use Rattle.pb_bytecode.proofs.Orders.{from_le, le_true}
+use Rattle.pb_bytecode_program.proofs.Ints.{from_le, le_true}
 use Rattle.pb_bytecode.specs.declared.fault.ModuleFault.{ModuleFault}
 use Rattle.pb_bytecode.specs.Limits.{is_byte, is_i32, is_i64}
 use Rattle.pb_bytecode.specs.Spelling

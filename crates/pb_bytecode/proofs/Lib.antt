@@ -1,4 +1,3 @@
-pub mod Orders
 pub mod NameBytes
 pub mod Loop
 pub mod Carriers

@@ -1,9 +1,10 @@
 -- Laws of equations and of whole modules.
-use Rattle.std.proofs.Common.{◌≡◌, ℕ, zero, suc, ◌^◌, ◌≤◌, Bool, true, false, cond, ◌&&◌, List, [], ◌∷◌, ◌++◌, length, Some, Result, Ok, Err, refl, sym, ap, subst, ◌∙◌, append_assoc, length-append, arith}
+use Rattle.std.proofs.Common.{◌≡◌, ℕ, zero, suc, ◌^◌, ◌≤◌, Bool, true, false, cond, ◌&&◌, List, [], ◌∷◌, ◌++◌, length, Some, Result, Ok, Err, refl, sym, ap, subst, ◌∙◌, append_assoc, length-append, arith, ◌+◌}
 use Rattle.std.specs.Prelude.{ℤ, nat_le, nat_lt, ◌==◌}
 use Rattle.std.specs.Int.{w32, w64}
 use Rattle.std.specs.List.{flat_map, list_all}
 use Rattle.std.proofs.lemmas.Bool.{and_parts, and_from, le-ltb, ltb-true, lt-ltb, eqb-true}
+use Rattle.pb_sorts.specs.declared.limits.TheConstants.{MAX_EQUATIONS, MAX_PARAMETERS, MAX_INSTANCES}
 use Rattle.pb_sorts.specs.declared.carrier.Carrier.{Carrier}
 use Rattle.pb_bytecode.specs.declared.fault.ModuleFault.{ModuleFault}
 use Rattle.pb_bytecode.specs.declared.fault.ModuleRule.TheVariants as rule
@@ -101,7 +102,7 @@ equation_reads v sizes =
     same_test (equation_at v sizes) Spelling.equation_bytes (λ e. true && fits_equation v sizes e) (λ e. fits_equation v sizes e) (λ e h. h) (λ e h. h)
     (close _ _ _ (then (λ c. sign_at) (λ c. Spelling.sign_bytes) (λ c s. true) _ (λ e. tt) (λ e. e.sign) _ _ (λ c. sign_reads)
     (then (λ (c : Unit {0} × Sign). name_at) (λ c. Spelling.name_bytes) (λ c. is_name) _ (λ e. (tt, e.sign)) (λ e. e.name) _ _ (λ c. name_reads)
-    (then (λ (c : (Unit {0} × Sign) × Text). counted_at 0 9 (carrier_at sizes)) (λ c. Spelling.counted Spelling.carrier_bytes) (λ c. carrier_list_fits 9 sizes) _ (λ e. ((tt, e.sign), e.name)) (λ e. e.params) _ _ (λ c. counted_reads 0 9 (carrier_at sizes) Spelling.carrier_bytes (fits_carrier sizes) (omega arith) (carrier_reads sizes))
+    (then (λ (c : (Unit {0} × Sign) × Text). counted_at 0 (MAX_PARAMETERS + 1) (carrier_at sizes)) (λ c. Spelling.counted Spelling.carrier_bytes) (λ c. carrier_list_fits (MAX_PARAMETERS + 1) sizes) _ (λ e. ((tt, e.sign), e.name)) (λ e. e.params) _ _ (λ c. counted_reads 0 (MAX_PARAMETERS + 1) (carrier_at sizes) Spelling.carrier_bytes (fits_carrier sizes) (omega arith) (carrier_reads sizes))
     (then (λ (c : ((Unit {0} × Sign) × Text) × List Carrier). counted_at 0 241 (carrier_at sizes)) (λ c. Spelling.counted Spelling.carrier_bytes) (λ c. carrier_list_fits 241 sizes) _ (λ e. (((tt, e.sign), e.name), e.params)) (λ e. e.loops) _ _ (λ c. counted_reads 0 241 (carrier_at sizes) Spelling.carrier_bytes (fits_carrier sizes) (omega arith) (carrier_reads sizes))
     (then (λ (c : (((Unit {0} × Sign) × Text) × List Carrier) × List Carrier). number_at w32) (λ c. Spelling.u32) (λ c. is_u32) _ (λ e. ((((tt, e.sign), e.name), e.params), e.loops)) (λ e. e.steps) _ _ (λ c. u32_reads)
     (then (λ (c : ((((Unit {0} × Sign) × Text) × List Carrier) × List Carrier) × ℕ). number_at w32) (λ c. Spelling.u32) (λ c. is_u32) _ (λ e. (((((tt, e.sign), e.name), e.params), e.loops), e.steps)) (λ e. e.tokens) _ _ (λ c. u32_reads)
@@ -109,11 +110,11 @@ equation_reads v sizes =
     (λ c. record { sign = c.0.0.0.0.0.0.1; name = c.0.0.0.0.0.1; params = c.0.0.0.0.1; loops = c.0.0.0.1; steps = c.0.0.1; tokens = c.0.1; code = c.1 })
     (λ e. ((((((tt, e.sign), e.name), e.params), e.loops), e.steps), e.tokens)) (λ e. e.code) (λ e. refl) (λ c. refl) (λ c. code_reads v sizes)))))))))
 
-equations_reads : (v : Version) (sizes : List ℕ) → Reads (equations_at v sizes) (Spelling.counted Spelling.equation_bytes) (λ es. (is_between 1 65 (length es) && list_all (fits_equation v sizes) es) && nat_le (instance_count es) 4194304)
+equations_reads : (v : Version) (sizes : List ℕ) → Reads (equations_at v sizes) (Spelling.counted Spelling.equation_bytes) (λ es. (is_between 1 (MAX_EQUATIONS + 1) (length es) && list_all (fits_equation v sizes) es) && nat_le (instance_count es) MAX_INSTANCES)
 unfolding equations_at
 equations_reads v sizes =
-    after (counted_at 1 65 (equation_at v sizes)) (Spelling.counted Spelling.equation_bytes) (λ es. is_between 1 65 (length es) && list_all (fits_equation v sizes) es) (λ es. nat_le (instance_count es) 4194304) rule.Limit
-    (counted_reads 1 65 (equation_at v sizes) Spelling.equation_bytes (fits_equation v sizes) (omega arith) (equation_reads v sizes))
+    after (counted_at 1 (MAX_EQUATIONS + 1) (equation_at v sizes)) (Spelling.counted Spelling.equation_bytes) (λ es. is_between 1 (MAX_EQUATIONS + 1) (length es) && list_all (fits_equation v sizes) es) (λ es. nat_le (instance_count es) MAX_INSTANCES) rule.Limit
+    (counted_reads 1 (MAX_EQUATIONS + 1) (equation_at v sizes) Spelling.equation_bytes (fits_equation v sizes) (omega arith) (equation_reads v sizes))
 
 -- ---- the mark
 
@@ -246,7 +247,7 @@ abbrev sorts_fit : List SortContents → Bool
 sorts_fit sorts = is_between 0 256 (length sorts) && list_all fits_sort sorts
 
 abbrev equations_fit : Version → List ℕ → List EquationContents → Bool
-equations_fit v sizes es = (is_between 1 65 (length es) && list_all (fits_equation v sizes) es) && nat_le (instance_count es) 4194304
+equations_fit v sizes es = (is_between 1 (MAX_EQUATIONS + 1) (length es) && list_all (fits_equation v sizes) es) && nat_le (instance_count es) MAX_INSTANCES
 
 pub contents_reads : Reads contents_at Spelling.spelling fits
 unfolding contents_at
@@ -255,12 +256,12 @@ contents_reads =
     (λ m h.
     let a = and_parts (sorts_fit m.sorts) (equations_fit m.version (counts m.sorts) m.equations && fits_initial m.equations m.initial) h in
     let b = and_parts (equations_fit m.version (counts m.sorts) m.equations) (fits_initial m.equations m.initial) a.1 in
-    let d = and_parts (is_between 1 65 (length m.equations) && list_all (fits_equation m.version (counts m.sorts)) m.equations) (nat_le (instance_count m.equations) 4194304) b.0 in
+    let d = and_parts (is_between 1 (MAX_EQUATIONS + 1) (length m.equations) && list_all (fits_equation m.version (counts m.sorts)) m.equations) (nat_le (instance_count m.equations) MAX_INSTANCES) b.0 in
     and_from _ _ a.0 (and_from _ _ d.0 (and_from _ _ d.1 b.1)))
     (λ m h.
-    let a = and_parts (sorts_fit m.sorts) ((is_between 1 65 (length m.equations) && list_all (fits_equation m.version (counts m.sorts)) m.equations) && (nat_le (instance_count m.equations) 4194304 && fits_initial m.equations m.initial)) h in
-    let b = and_parts (is_between 1 65 (length m.equations) && list_all (fits_equation m.version (counts m.sorts)) m.equations) (nat_le (instance_count m.equations) 4194304 && fits_initial m.equations m.initial) a.1 in
-    let d = and_parts (nat_le (instance_count m.equations) 4194304) (fits_initial m.equations m.initial) b.1 in
+    let a = and_parts (sorts_fit m.sorts) ((is_between 1 (MAX_EQUATIONS + 1) (length m.equations) && list_all (fits_equation m.version (counts m.sorts)) m.equations) && (nat_le (instance_count m.equations) MAX_INSTANCES && fits_initial m.equations m.initial)) h in
+    let b = and_parts (is_between 1 (MAX_EQUATIONS + 1) (length m.equations) && list_all (fits_equation m.version (counts m.sorts)) m.equations) (nat_le (instance_count m.equations) MAX_INSTANCES && fits_initial m.equations m.initial) a.1 in
+    let d = and_parts (nat_le (instance_count m.equations) MAX_INSTANCES) (fits_initial m.equations m.initial) b.1 in
     and_from _ _ a.0 (and_from _ _ (and_from _ _ b.0 d.0) d.1))
     (close _ _ _ (then (λ c. mark_at) (λ c u. Spelling.mark) (λ c u. true) _ (λ m. tt) (λ m. tt) _ _ (λ c. mark_reads)
     (then (λ (c : Unit {0} × Unit {0}). version_at) (λ c. Spelling.version_bytes) (λ c v. true) _ (λ m. (tt, tt)) (λ m. m.version) _ _ (λ c. version_reads)

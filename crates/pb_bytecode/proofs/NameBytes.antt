@@ -5,6 +5,7 @@ use Rattle.std.specs.List.{list_all}
 use Rattle.std.specs.Str.{IsAscii, IsUtf8}
 use Rattle.std.proofs.lemmas.Bool.{and_parts, leb-true}
 use Rattle.std.proofs.lemmas.Str.{IsUtf8-from_ascii}
+use Rattle.pb_sorts.specs.declared.limits.TheConstants.{MAX_NAME_BYTES}
 use Rattle.pb_bytecode.specs.Names.{is_name_byte, begins_with_letter, is_name}
 
 name_byte_ascii : (b : ℕ) → is_name_byte b ≡ true → b < 128
@@ -17,11 +18,11 @@ all_ascii (b ∷ bs) e (suc i) = all_ascii bs (and_parts (is_name_byte b) (list_
 
 pub IsUtf8-name : (bs : List ℕ) → is_name bs ≡ true → IsUtf8 bs
 IsUtf8-name bs e =
-    let rest = and_parts (begins_with_letter bs) (nat_le (length bs) 64 && list_all is_name_byte bs) e in
-    IsUtf8-from_ascii bs (all_ascii bs (and_parts (nat_le (length bs) 64) (list_all is_name_byte bs) rest.1).1)
+    let rest = and_parts (begins_with_letter bs) (nat_le (length bs) MAX_NAME_BYTES && list_all is_name_byte bs) e in
+    IsUtf8-from_ascii bs (all_ascii bs (and_parts (nat_le (length bs) MAX_NAME_BYTES) (list_all is_name_byte bs) rest.1).1)
 
 pub name_short : (bs : List ℕ) → is_name bs ≡ true → length bs < 256
 name_short bs e =
-    let rest = and_parts (begins_with_letter bs) (nat_le (length bs) 64 && list_all is_name_byte bs) e in
-    let le = leb-true (length bs) 64 (and_parts (nat_le (length bs) 64) (list_all is_name_byte bs) rest.1).0 in
+    let rest = and_parts (begins_with_letter bs) (nat_le (length bs) MAX_NAME_BYTES && list_all is_name_byte bs) e in
+    let le = leb-true (length bs) MAX_NAME_BYTES (and_parts (nat_le (length bs) MAX_NAME_BYTES) (list_all is_name_byte bs) rest.1).0 in
     omega arith

@@ -5,11 +5,12 @@ use Rattle.std.specs.Int.{w32}
 use Rattle.std.specs.List.{flat_map, list_all}
 use Rattle.std.proofs.lemmas.Bool.{and_parts, and_from, ltb-false, le-ltb, ltb-true, lt-ltb, eqb-true, eq-eqb}
 use Rattle.std.proofs.lemmas.List.{take_at, drop_at, take-append-drop, length-take}
+use Rattle.std.proofs.lemmas.Option.{same_Some}
 use Rattle.pb_sorts.specs.declared.carrier.Carrier.{Carrier}
 use Rattle.pb_sorts.specs.declared.carrier.Enumeration.{Enumeration}
 use Rattle.pb_sorts.specs.declared.carrier.Range.{Range}
 use Rattle.pb_sorts.specs.declared.carrier.Carrier.TheVariants as carrier
-use Rattle.pb_bytecode.proofs.Orders.{from_le}
+use Rattle.pb_bytecode_program.proofs.Ints.{from_le}
 use Rattle.pb_bytecode.specs.declared.fault.ModuleFault.{ModuleFault}
 use Rattle.pb_bytecode.specs.declared.fault.ModuleRule.TheVariants as rule
 use Rattle.pb_bytecode.specs.Names.{is_name}
@@ -111,15 +112,12 @@ bounds_reads =
 
 -- ---- carriers
 
-some_is : {A : Type 0} (x y : A) → Some x ≡ Some y → x ≡ y
-some_is x y e = cc
-
 enum_parts : (s n : ℕ) (b : Bool) (h : nat_lt 0 n ≡ b) (c : Carrier) → enum_from s n b h ≡ Some c → (e : Enumeration) × (c ≡ carrier.Enum e) × (e.sort ≡ s) × (e.count ≡ n)
-enum_parts s n true h c e = (_, sym (some_is _ c e), refl, refl)
+enum_parts s n true h c e = (_, sym (same_Some _ c e), refl, refl)
 enum_parts s n false h c e = absurd cc
 
 range_parts : (lo hi : ℤ) (b : Bool) (h : int_le lo hi ≡ b) (c : Carrier) → range_from lo hi b h ≡ Some c → (r : Range) × (c ≡ carrier.Range r) × (r.lo ≡ lo) × (r.hi ≡ hi)
-range_parts lo hi true h c e = (_, sym (some_is _ c e), refl, refl)
+range_parts lo hi true h c e = (_, sym (same_Some _ c e), refl, refl)
 range_parts lo hi false h c e = absurd cc
 
 -- the sort of an enumeration, and the bounds of a range

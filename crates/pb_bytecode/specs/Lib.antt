@@ -10,3 +10,4 @@ pub mod Decoded
 pub mod Countable
 pub mod Meaning
 pub mod RuleNumber
+pub mod ErrorText

@@ -2,6 +2,7 @@
 use Rattle.std.specs.Prelude.{ℕ, ◌+◌, ◌^◌, Bool, true, false, ◌&&◌, ◌==◌, nat_le, nat_lt, List, [], ◌∷◌, length, map, Option, Some, None, unwrap_or, slice_get, ℤ, pos, negsuc, int_le}
 use Rattle.std.specs.List.{list_all}
 use Rattle.pb_carriers.specs.Carrier.{Tuple, is_within, tuple_count}
+use Rattle.pb_sorts.specs.declared.limits.TheConstants.{MAX_EQUATIONS, MAX_PARAMETERS, MAX_INSTANCES}
 use Rattle.pb_sorts.specs.Carrier.{values_of}
 use Rattle.pb_sorts.specs.declared.carrier.Carrier.{Carrier}
 use Rattle.pb_sorts.specs.declared.carrier.Carrier.TheVariants as carrier
@@ -82,7 +83,7 @@ fits_op v sizes _ = true
 abbrev pub fits_equation : Version → List ℕ → EquationContents → Bool
 fits_equation v sizes e =
     is_name e.name
-    && ((is_between 0 9 (length e.params) && list_all (fits_carrier sizes) e.params)
+    && ((is_between 0 (MAX_PARAMETERS + 1) (length e.params) && list_all (fits_carrier sizes) e.params)
     && ((is_between 0 241 (length e.loops) && list_all (fits_carrier sizes) e.loops)
     && (is_u32 e.steps
     && (is_u32 e.tokens
@@ -115,6 +116,6 @@ fits_initial equations i = is_byte i.equation && is_tuple (params_of (slice_get 
 abbrev pub fits : Contents → Bool
 fits m =
     (is_between 0 256 (length m.sorts) && list_all fits_sort m.sorts)
-    && ((is_between 1 65 (length m.equations) && list_all (fits_equation m.version (counts m.sorts)) m.equations)
-    && (nat_le (instance_count m.equations) 4194304
+    && ((is_between 1 (MAX_EQUATIONS + 1) (length m.equations) && list_all (fits_equation m.version (counts m.sorts)) m.equations)
+    && (nat_le (instance_count m.equations) MAX_INSTANCES
     && fits_initial m.equations m.initial))

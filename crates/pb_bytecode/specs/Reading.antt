@@ -1,12 +1,13 @@
 -- Reading a module from left to right, with the first fault that is met. Laws join this to the spelling: what is read is
 -- spelled so, and what is spelled so is read.
-use Rattle.std.specs.Prelude.{◌≡◌, ℕ, zero, suc, Bool, true, false, ◌==◌, nat_le, nat_lt, List, [], ◌∷◌, length, take, drop, Option, Some, None, Result, Ok, Err, slice_get, unwrap_or, if◌then◌else◌, ℤ, int_le}
+use Rattle.std.specs.Prelude.{◌≡◌, ℕ, zero, suc, Bool, true, false, ◌==◌, nat_le, nat_lt, List, [], ◌∷◌, length, take, drop, Option, Some, None, Result, Ok, Err, slice_get, unwrap_or, if◌then◌else◌, ℤ, int_le, ◌+◌}
 use Rattle.std.proofs.Common.{refl}
 use Rattle.std.proofs.lemmas.Bool.{ltb-true}
 use Rattle.std.specs.Int.{Width, w16, w32, w64, byte_len, from_le_bytes, cast_signed}
 use Rattle.pb_carriers.specs.Carrier.{Tuple, contains}
 use Rattle.pb_fixpoint.specs.declared.Sign.{Sign}
 use Rattle.pb_fixpoint.specs.declared.Sign.TheVariants.{Mu, Nu}
+use Rattle.pb_sorts.specs.declared.limits.TheConstants.{MAX_EQUATIONS, MAX_PARAMETERS, MAX_INSTANCES}
 use Rattle.pb_sorts.specs.Carrier.{values_of}
 use Rattle.pb_sorts.specs.declared.carrier.Carrier.{Carrier}
 use Rattle.pb_sorts.specs.declared.carrier.Carrier.TheVariants as carrier
@@ -205,7 +206,7 @@ unfoldable pub equation_at : Version → List ℕ → List ℕ → Field Equatio
 equation_at v sizes bytes = do
   sign ← sign_at bytes
   name ← name_at sign.1
-  params ← counted_at 0 9 (carrier_at sizes) name.1
+  params ← counted_at 0 (MAX_PARAMETERS + 1) (carrier_at sizes) name.1
   loops ← counted_at 0 241 (carrier_at sizes) params.1
   steps ← number_at w32 loops.1
   tokens ← number_at w32 steps.1
@@ -252,8 +253,8 @@ initial_at equations bytes = do
 -- equations whose instances aren't too many; else the fault stands behind them
 unfoldable pub equations_at : Version → List ℕ → List ℕ → Field (List EquationContents)
 equations_at v sizes bytes = do
-  equations ← counted_at 1 65 (equation_at v sizes) bytes
-  known (kept (λ es. nat_le (instance_count es) 4194304) equations.0) rule.Limit equations.1 equations.1
+  equations ← counted_at 1 (MAX_EQUATIONS + 1) (equation_at v sizes) bytes
+  known (kept (λ es. nat_le (instance_count es) MAX_INSTANCES) equations.0) rule.Limit equations.1 equations.1
 
 unfoldable pub contents_at : List ℕ → Field Contents
 contents_at bytes = do

@@ -3,8 +3,12 @@ ghost use Rattle.std.specs.Prelude.{◌≡◌, ◌<◌, ◌^◌, ◌++◌, lengt
 ghost use Rattle.std.specs.List.{AllByRecursion, flat_map};
 ghost use Rattle.pb_bytecode.specs.Countable.{HasCountableParts};
 ghost use Rattle.pb_bytecode.specs.Decoded.{module_contents};
-ghost use Rattle.pb_bytecode.specs.Spelling.{bounds, byte, carrier_bytes, counted, equation_bytes, i64, initial_bytes, name_bytes, op_bytes, op_code, op_operands, sign_bytes, sort_bytes, spelling, u16, u32, version_bytes};
-ghost use Rattle.pb_bytecode.specs.Views.{equation_contents, initial_contents, sort_contents, text_of};
+ghost use Rattle.pb_bytecode.specs.Spelling.{bounds, byte, carrier_bytes, counted, equation_bytes};
+ghost use Rattle.pb_bytecode.specs.Spelling.{i64, initial_bytes, name_bytes, op_bytes, op_code};
+ghost use Rattle.pb_bytecode.specs.Spelling.{op_operands, sign_bytes, sort_bytes, spelling, u16};
+ghost use Rattle.pb_bytecode.specs.Spelling.{u32, version_bytes};
+ghost use Rattle.pb_bytecode.specs.Views.{equation_contents, initial_contents, sort_contents};
+ghost use Rattle.pb_bytecode.specs.Views.{text_of};
 
 use crate::decode::MARK;
 use crate::equation::Equation;
@@ -27,7 +31,8 @@ fn put_name(out: &mut Vec<u8>, name: &Name) -> Result<(), AllocError>
 }
 
 fn put_names(out: &mut Vec<u8>, names: &[Name]) -> Result<(), AllocError>
-    ensures { OnOk result (out.new.items ≡ out.old.items ++ flat_map name_bytes (map text_of names.now)) }
+    ensures { OnOk result (out.new.items ≡ out.old.items
+        ++ flat_map name_bytes (map text_of names.now)) }
 {
     for name in names {
         put_name(out, name)?;
@@ -43,7 +48,8 @@ fn put_sort(out: &mut Vec<u8>, sort: &Sort) -> Result<(), AllocError>
 }
 
 fn put_sorts(out: &mut Vec<u8>, sorts: &[Sort]) -> Result<(), AllocError>
-    ensures { OnOk result (out.new.items ≡ out.old.items ++ flat_map sort_bytes (map sort_contents sorts.now)) }
+    ensures { OnOk result (out.new.items ≡ out.old.items
+        ++ flat_map sort_bytes (map sort_contents sorts.now)) }
 {
     for sort in sorts {
         put_sort(out, sort)?;
@@ -165,7 +171,8 @@ fn put_slot_test(
     hi: &i32,
     target: u16,
 ) -> Result<(), AllocError>
-    ensures { OnOk result (out.new.items ≡ out.old.items ++ (byte slot ++ (bounds lo.now hi.now ++ u16 target))) }
+    ensures { OnOk result (out.new.items ≡ out.old.items
+        ++ (byte slot ++ (bounds lo.now hi.now ++ u16 target))) }
 {
     out.push(slot)?;
     put_test(out, lo, hi, target)?;
@@ -217,7 +224,8 @@ fn put_ops(out: &mut Vec<u8>, code: &[Op]) -> Result<(), AllocError>
 
 fn put_code(out: &mut Vec<u8>, code: &[Op]) -> Result<(), AllocError>
     requires { length code.now < 2 ^ 16 }
-    ensures { OnOk result (out.new.items ≡ out.old.items ++ (u16 (length code.now) ++ flat_map op_bytes code.now)) }
+    ensures { OnOk result (out.new.items ≡ out.old.items
+        ++ (u16 (length code.now) ++ flat_map op_bytes code.now)) }
 {
     out.extend_from_slice(&(code.len() as u16).to_le_bytes())?;
     put_ops(out, code)
@@ -241,7 +249,8 @@ fn put_u32(out: &mut Vec<u8>, number: u32) -> Result<(), AllocError>
 
 fn put_equation(out: &mut Vec<u8>, equation: &Equation) -> Result<(), AllocError>
     requires { HasCountableParts equation.now }
-    ensures { OnOk result (out.new.items ≡ out.old.items ++ equation_bytes (equation_contents equation.now)) }
+    ensures { OnOk result (out.new.items ≡ out.old.items
+        ++ equation_bytes (equation_contents equation.now)) }
 {
     put_sign(out, equation.sign)?;
     put_name(out, &equation.name)?;
@@ -255,7 +264,8 @@ fn put_equation(out: &mut Vec<u8>, equation: &Equation) -> Result<(), AllocError
 
 fn put_equations(out: &mut Vec<u8>, equations: &[Equation]) -> Result<(), AllocError>
     requires { AllByRecursion HasCountableParts equations.now }
-    ensures { OnOk result (out.new.items ≡ out.old.items ++ flat_map equation_bytes (map equation_contents equations.now)) }
+    ensures { OnOk result (out.new.items ≡ out.old.items
+        ++ flat_map equation_bytes (map equation_contents equations.now)) }
 {
     for equation in equations {
         put_equation(out, equation)?;
@@ -279,7 +289,8 @@ fn put_values(out: &mut Vec<u8>, values: &[i64]) -> Result<(), AllocError>
 }
 
 fn put_initial(out: &mut Vec<u8>, initial: &Initial) -> Result<(), AllocError>
-    ensures { OnOk result (out.new.items ≡ out.old.items ++ initial_bytes (initial_contents initial.now)) }
+    ensures { OnOk result (out.new.items ≡ out.old.items
+        ++ initial_bytes (initial_contents initial.now)) }
 {
     out.push(initial.equation)?;
     put_values(out, &initial.values)

@@ -44,6 +44,11 @@ impl ModuleRule {
 }
 
 impl fmt::Display for ModuleRule {
+    ghost use Rattle.std.specs.Prelude.{Some};
+    ghost use Rattle.pb_bytecode.specs.RuleNumber.{rule_number};
+
+    ghost output = { λ rule. Some (rule_number rule) };
+
     fn fmt<W: fmt::Write>(&self, f: &mut fmt::Formatter<W>) -> fmt::Result {
         f.write_str(self.number())
     }
@@ -79,7 +84,7 @@ impl<T: Drop> From<AllocFailed<T>> for ReadError {
     }
 }
 
-/// Why bytes could not be read as a module.
+/// Why bytes could not be read as a module. It shows as `B05 byte 17`, or `M01`.
 #[derive(Clone, Copy, Debug, PartialEq, Eq)]
 pub enum ModuleError {
     /// Memory ran out.
@@ -90,6 +95,11 @@ pub enum ModuleError {
 }
 
 impl fmt::Display for ModuleError {
+    ghost use Rattle.std.specs.Prelude.{Some};
+    ghost use Rattle.pb_bytecode.specs.ErrorText.{error_text};
+
+    ghost output = { λ error. Some (error_text error) };
+
     fn fmt<W: fmt::Write>(&self, f: &mut fmt::Formatter<W>) -> fmt::Result {
         match self {
             ModuleError::Memory => f.write_str("M01"),

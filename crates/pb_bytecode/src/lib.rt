@@ -1,6 +1,7 @@
-//! Modules: equation systems in compiled form, as plain data, and their one spelling in bytes. `decode` reads exactly
-//! what `encode` writes; `specs/Spelling.antt` says what is written, `specs/Limits.antt` which modules have a spelling,
-//! and `specs/Reading.antt` which fault is met first. Whether a module's code is accepted is a verifier's matter.
+//! Modules: equation systems in compiled form, as plain data, and their one spelling in bytes.
+//! `decode` reads exactly what `encode` writes; `specs/Spelling.antt` says what is written,
+//! `specs/Limits.antt` which modules have a spelling, and `specs/Reading.antt` which fault is met
+//! first. Whether a module's code is accepted is a verifier's matter.
 #![tactic(auto)]
 
 pub mod decode;
@@ -22,6 +23,6 @@ pub use equation::Equation;
 pub use fault::{ModuleError, ModuleRule};
 pub use initial::Initial;
 pub use module::Module;
-pub use name::Name;
+pub use name::{Name, is_name};
 pub use sort::Sort;
 pub use version::Version;

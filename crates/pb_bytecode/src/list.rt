@@ -1,11 +1,16 @@
 //! The listing of a module, for people to read. `specs/Listing.antt` says what is written.
-ghost use Rattle.std.specs.Prelude.{◌≡◌, ◌<◌, ◌+◌, ◌^◌, ◌++◌, length, map, string_bytes, OnOk, IfOk};
+ghost use Rattle.std.specs.Prelude.{◌≡◌, ◌<◌, ◌+◌, ◌^◌, ◌++◌, length, map, string_bytes, OnOk};
+ghost use Rattle.std.specs.Prelude.{IfOk};
 ghost use Rattle.std.specs.Fmt.{signed_decimal};
 ghost use Rattle.std.specs.List.{AllByRecursion};
 ghost use Rattle.pb_bytecode.specs.Countable.{HasCountableParts};
 ghost use Rattle.pb_bytecode.specs.Decoded.{module_contents};
-ghost use Rattle.pb_bytecode.specs.Listing.{equation_lines, head_line, initial_line, line_end, listing, numbered, op_line, op_name, operand_words, sign_name, slot_line, slot_lines, sort_line, stated_lines};
-ghost use Rattle.pb_bytecode.specs.Views.{equation_contents, initial_contents, sort_contents, text_of};
+ghost use Rattle.pb_bytecode.specs.Listing.{equation_lines, head_line, initial_line, line_end};
+ghost use Rattle.pb_bytecode.specs.Listing.{listing, numbered, op_line, op_name, operand_words};
+ghost use Rattle.pb_bytecode.specs.Listing.{sign_name, slot_line, slot_lines, sort_line};
+ghost use Rattle.pb_bytecode.specs.Listing.{stated_lines};
+ghost use Rattle.pb_bytecode.specs.Views.{equation_contents, initial_contents, sort_contents};
+ghost use Rattle.pb_bytecode.specs.Views.{text_of};
 
 use crate::equation::Equation;
 use crate::initial::Initial;
@@ -19,7 +24,8 @@ use std::alloc::{AllocError, Global};
 
 /// Names, each behind a space, and the line's end.
 fn list_names(text: &mut String, names: &[Name]) -> Result<(), AllocError>
-    ensures { OnOk result (string_bytes text.new ≡ string_bytes text.old ++ line_end (map text_of names.now)) }
+    ensures { OnOk result (string_bytes text.new ≡ string_bytes text.old
+        ++ line_end (map text_of names.now)) }
 {
     for name in names {
         write!(text, " {}", name.text.as_str())?;
@@ -28,14 +34,16 @@ fn list_names(text: &mut String, names: &[Name]) -> Result<(), AllocError>
 }
 
 fn list_sort(text: &mut String, index: usize, sort: &Sort) -> Result<(), AllocError>
-    ensures { OnOk result (string_bytes text.new ≡ string_bytes text.old ++ sort_line index (sort_contents sort.now)) }
+    ensures { OnOk result (string_bytes text.new ≡ string_bytes text.old
+        ++ sort_line index (sort_contents sort.now)) }
 {
     write!(text, "sort {index}")?;
     list_names(text, &sort.enumerators)
 }
 
 fn list_sorts(text: &mut String, sorts: &[Sort]) -> Result<(), AllocError>
-    ensures { OnOk result (string_bytes text.new ≡ string_bytes text.old ++ numbered sort_line 0 (map sort_contents sorts.now)) }
+    ensures { OnOk result (string_bytes text.new ≡ string_bytes text.old
+        ++ numbered sort_line 0 (map sort_contents sorts.now)) }
 {
     for (index, sort) in sorts.iter().enumerate() {
         list_sort(text, index, sort)?;
@@ -50,7 +58,8 @@ fn list_slot(
     slot: usize,
     carrier: &Carrier,
 ) -> Result<(), AllocError>
-    ensures { OnOk result (string_bytes text.new ≡ string_bytes text.old ++ slot_line kind.now slot carrier.now) }
+    ensures { OnOk result (string_bytes text.new ≡ string_bytes text.old
+        ++ slot_line kind.now slot carrier.now) }
 {
     match carrier {
         Carrier::Bool => writeln!(text, "{kind} {slot} Bool"),
@@ -67,7 +76,8 @@ fn list_slots(
     carriers: &[Carrier],
 ) -> Result<(), AllocError>
     requires { first + length carriers.now < 2 ^ 64 }
-    ensures { OnOk result (string_bytes text.new ≡ string_bytes text.old ++ numbered (slot_line kind.now) first carriers.now) }
+    ensures { OnOk result (string_bytes text.new ≡ string_bytes text.old
+        ++ numbered (slot_line kind.now) first carriers.now) }
 {
     for (index, carrier) in carriers.iter().enumerate() {
         list_slot(text, kind, first + index, carrier)?;
@@ -77,7 +87,8 @@ fn list_slots(
 
 fn list_all_slots(text: &mut String, equation: &Equation) -> Result<(), AllocError>
     requires { HasCountableParts equation.now }
-    ensures { OnOk result (string_bytes text.new ≡ string_bytes text.old ++ slot_lines (equation_contents equation.now)) }
+    ensures { OnOk result (string_bytes text.new ≡ string_bytes text.old
+        ++ slot_lines (equation_contents equation.now)) }
 {
     list_slots(text, "param", 0, &equation.params)?;
     list_slots(text, "loop", equation.params.len(), &equation.loops)
@@ -137,7 +148,8 @@ fn op_name(op: &Op) -> &'static str
 
 /// What stands in the code behind an instruction, each behind a space, and the line's end.
 fn list_operands(text: &mut String, op: &Op) -> Result<(), AllocError>
-    ensures { OnOk result (string_bytes text.new ≡ string_bytes text.old ++ line_end (operand_words op.now)) }
+    ensures { OnOk result (string_bytes text.new ≡ string_bytes text.old
+        ++ line_end (operand_words op.now)) }
 {
     match op {
         Op::PushInt(number) => writeln!(text, " {number}"),
@@ -167,7 +179,8 @@ fn list_op(text: &mut String, place: usize, op: &Op) -> Result<(), AllocError>
 }
 
 fn list_code(text: &mut String, code: &[Op]) -> Result<(), AllocError>
-    ensures { OnOk result (string_bytes text.new ≡ string_bytes text.old ++ numbered op_line 0 code.now) }
+    ensures { OnOk result (string_bytes text.new ≡ string_bytes text.old
+        ++ numbered op_line 0 code.now) }
 {
     for (place, op) in code.iter().enumerate() {
         list_op(text, place, op)?;
@@ -186,7 +199,8 @@ fn sign_name(sign: Sign) -> &'static str
 
 /// An equation's first line: its sign and its predicate variable.
 fn list_head(text: &mut String, index: usize, equation: &Equation) -> Result<(), AllocError>
-    ensures { OnOk result (string_bytes text.new ≡ string_bytes text.old ++ head_line index (equation_contents equation.now)) }
+    ensures { OnOk result (string_bytes text.new ≡ string_bytes text.old
+        ++ head_line index (equation_contents equation.now)) }
 {
     let sign = sign_name(equation.sign);
     let name = equation.name.text.as_str();
@@ -195,7 +209,8 @@ fn list_head(text: &mut String, index: usize, equation: &Equation) -> Result<(),
 
 /// The stated counts of steps and tokens.
 fn list_stated(text: &mut String, equation: &Equation) -> Result<(), AllocError>
-    ensures { OnOk result (string_bytes text.new ≡ string_bytes text.old ++ stated_lines (equation_contents equation.now)) }
+    ensures { OnOk result (string_bytes text.new ≡ string_bytes text.old
+        ++ stated_lines (equation_contents equation.now)) }
 {
     writeln!(text, "steps {}", equation.steps)?;
     writeln!(text, "tokens {}", equation.tokens)
@@ -203,7 +218,8 @@ fn list_stated(text: &mut String, equation: &Equation) -> Result<(), AllocError>
 
 fn list_equation(text: &mut String, index: usize, equation: &Equation) -> Result<(), AllocError>
     requires { HasCountableParts equation.now }
-    ensures { OnOk result (string_bytes text.new ≡ string_bytes text.old ++ equation_lines index (equation_contents equation.now)) }
+    ensures { OnOk result (string_bytes text.new ≡ string_bytes text.old
+        ++ equation_lines index (equation_contents equation.now)) }
 {
     list_head(text, index, equation)?;
     list_all_slots(text, equation)?;
@@ -213,7 +229,8 @@ fn list_equation(text: &mut String, index: usize, equation: &Equation) -> Result
 
 fn list_equations(text: &mut String, equations: &[Equation]) -> Result<(), AllocError>
     requires { AllByRecursion HasCountableParts equations.now }
-    ensures { OnOk result (string_bytes text.new ≡ string_bytes text.old ++ numbered equation_lines 0 (map equation_contents equations.now)) }
+    ensures { OnOk result (string_bytes text.new ≡ string_bytes text.old
+        ++ numbered equation_lines 0 (map equation_contents equations.now)) }
 {
     for (index, equation) in equations.iter().enumerate() {
         list_equation(text, index, equation)?;
@@ -223,7 +240,8 @@ fn list_equations(text: &mut String, equations: &[Equation]) -> Result<(), Alloc
 
 /// Numbers, each behind a space, and the line's end.
 fn list_values(text: &mut String, values: &[i64]) -> Result<(), AllocError>
-    ensures { OnOk result (string_bytes text.new ≡ string_bytes text.old ++ line_end (map signed_decimal values.now)) }
+    ensures { OnOk result (string_bytes text.new ≡ string_bytes text.old
+        ++ line_end (map signed_decimal values.now)) }
 {
     for value in values {
         write!(text, " {value}")?;
@@ -232,14 +250,16 @@ fn list_values(text: &mut String, values: &[i64]) -> Result<(), AllocError>
 }
 
 fn list_initial(text: &mut String, initial: &Initial) -> Result<(), AllocError>
-    ensures { OnOk result (string_bytes text.new ≡ string_bytes text.old ++ initial_line (initial_contents initial.now)) }
+    ensures { OnOk result (string_bytes text.new ≡ string_bytes text.old
+        ++ initial_line (initial_contents initial.now)) }
 {
     write!(text, "init {}", initial.equation)?;
     list_values(text, &initial.values)
 }
 
-/// The listing of a module: a line for each sort, then for each equation its slots, stated counts and instructions,
-/// and the initial instance at the end. Words are separated by one space, and each line ends with a line feed.
+/// The listing of a module: a line for each sort, then for each equation its slots, stated counts
+/// and instructions, and the initial instance at the end. Words are separated by one space, and
+/// each line ends with a line feed.
 ///
 /// # Errors
 /// Where memory ran out.

@@ -8,8 +8,8 @@ use crate::initial::Initial;
 use crate::sort::Sort;
 use crate::version::Version;
 
-/// A system of parameterised Boolean equations in compiled form. Its fields are within the limits of the format, so
-/// that it has a spelling; whether its code is accepted is a verifier's matter.
+/// A system of parameterised Boolean equations in compiled form. Its fields are within the limits
+/// of the format, so that it has a spelling; whether its code is accepted is a verifier's matter.
 #[derive(Debug, Drop)]
 pub struct Module {
     pub version: Version,
@@ -17,5 +17,6 @@ pub struct Module {
     /// The equations, 1 to 64, the earlier ones dominating.
     pub equations: Vec<Equation>,
     pub initial: Initial,
-    pub ghost within_limits: { fits (contents_of version sorts.items equations.items initial) ≡ true },
+    pub ghost within_limits: { fits (contents_of version sorts.items equations.items initial)
+        ≡ true },
 }

@@ -16,6 +16,21 @@ use Rattle.pb_bytecode_program.proofs.Invariant.{Fits, FitParams, FitLoops, Cove
 
 -- ---- what is known may be less
 
+pub covers_through : (s t u : AbstractValue) → Covers s t → Covers t u → Covers s u
+covers_through abstract.Bool abstract.Bool u c d = d
+covers_through abstract.Bool (abstract.Int l h) u c d = absurd c
+covers_through abstract.Bool (abstract.Enum a n) u c d = absurd c
+covers_through (abstract.Int l h) abstract.Bool u c d = absurd c
+covers_through (abstract.Int l h) (abstract.Enum a n) u c d = absurd c
+covers_through (abstract.Enum a n) abstract.Bool u c d = absurd c
+covers_through (abstract.Enum a n) (abstract.Int l h) u c d = absurd c
+covers_through (abstract.Int l h) (abstract.Int m k) abstract.Bool c d = absurd d
+covers_through (abstract.Int l h) (abstract.Int m k) (abstract.Enum a n) c d = absurd d
+covers_through (abstract.Int l h) (abstract.Int m k) (abstract.Int x y) c d = (let a = c.0 in let b = d.0 in omega (arith, ints), c.1, let a = c.2 in let b = d.2 in omega (arith, ints))
+covers_through (abstract.Enum a n) (abstract.Enum b m) abstract.Bool c d = absurd d
+covers_through (abstract.Enum a n) (abstract.Enum b m) (abstract.Int x y) c d = absurd d
+covers_through (abstract.Enum a n) (abstract.Enum b m) (abstract.Enum e k) c d = (c.0 ∙ d.0, let x = c.1 in let y = d.1 in omega arith)
+
 pub within_more : (v : Value) (s t : AbstractValue) → Covers s t → Within v s → Within v t
 within_more (BoolValue b) abstract.Bool abstract.Bool c w = tt
 within_more (IntValue z) (abstract.Int l h) (abstract.Int m k) c w = (let a = c.0 in let b = w.0 in omega (arith, ints), let a = c.2 in let b = w.1 in omega (arith, ints))

@@ -18,14 +18,14 @@ use Rattle.pb_bytecode_program.proofs.Rules.{tested, fits_length, next_inverted}
 use Rattle.pb_bytecode_program.proofs.Covering.{runs_among, loops_length}
 use Rattle.pb_bytecode_program.proofs.CarrierValues.{values_within, HasFirst, first_of_carrier}
 use Rattle.pb_bytecode_program.proofs.Places.{spent_in, spent_out, spent_again, paired, around_next, around_below, AllBelow}
-use Rattle.pb_bytecode_program.proofs.Steps.{Good, arrive, Straightly}
+use Rattle.pb_bytecode_program.proofs.Steps.{IsSafeStep, arrive, Straightly}
 
 module _ (p : Program) (table : Table) (ok : Accepted p table) where
   -- LOOP
   pub sim_loop : (st : State) (k : AbstractState) (j : ℕ) → state_at table st.place ≡ Some k → Straightly p table ok st (op.Loop j) k
   sim_loop st k j there at cov ar home pl fine = by (Machine.carrier_of p j) refl fine
     where
-      enter : (c : Carrier) (vs : List Value) → Machine.carrier_of p j ≡ Some c → tagged_values c ≡ vs → HasFirst vs → AllWithin vs (abstraction_of c) → FlowIsCovered table (Transfer.to_next_place st.place (record { operands = []; below = length k.operands + k.below; params = k.params; loops = (j, abstraction_of c) ∷ k.loops; brackets = k.brackets; floor = k.brackets; roots = k.roots })) → Good p table st (op.Loop j) (Machine.enter_loop st j vs)
+      enter : (c : Carrier) (vs : List Value) → Machine.carrier_of p j ≡ Some c → tagged_values c ≡ vs → HasFirst vs → AllWithin vs (abstraction_of c) → FlowIsCovered table (Transfer.to_next_place st.place (record { operands = []; below = length k.operands + k.below; params = k.params; loops = (j, abstraction_of c) ∷ k.loops; brackets = k.brackets; floor = k.brackets; roots = k.roots })) → IsSafeStep p table st (op.Loop j) (Machine.enter_loop st j vs)
       enter c [] e f first w fl = absurd first
       enter c (v ∷ left) e f first w fl =
           let a : loops_around p.code (st.place + 1) ≡ st.place ∷ places st.loops = around_next p.code st.place (op.Loop j) at ∙ ap (λ qs. st.place ∷ qs) ar in
@@ -46,7 +46,7 @@ module _ (p : Program) (table : Table) (ok : Accepted p table) where
             written = omega arith;
           }
 
-      by : (o : Option Carrier) → Machine.carrier_of p j ≡ o → FlowIsCovered table (Transfer.abstract_loop st.place k j o) → Good p table st (op.Loop j) (Machine.begin_loop st j o)
+      by : (o : Option Carrier) → Machine.carrier_of p j ≡ o → FlowIsCovered table (Transfer.abstract_loop st.place k j o) → IsSafeStep p table st (op.Loop j) (Machine.begin_loop st j o)
       by None e fl = absurd fl
       by (Some c) e fl =
           let t = tested table (nat_lt (length k.loops) 8 && not (Transfer.among k.loops j) && is_inhabited c) _ fl in
@@ -55,7 +55,7 @@ module _ (p : Program) (table : Table) (ok : Accepted p table) where
           rw test (enter c (tagged_values c) e refl (first_of_carrier c two.1) (values_within c) t.1)
 
   -- NEXT
-  pub sim_next : (st : State) (k : AbstractState) (at : slice_get p.code st.place ≡ Some op.Next) (cov : Covered p table st k) (ar : loops_around p.code st.place ≡ places st.loops) → FlowIsCovered table (Transfer.transfer p (state_at_loop table (loops_around p.code st.place)) st.place op.Next k) → Good p table st op.Next (Machine.execute p op.Next st)
+  pub sim_next : (st : State) (k : AbstractState) (at : slice_get p.code st.place ≡ Some op.Next) (cov : Covered p table st k) (ar : loops_around p.code st.place ≡ places st.loops) → FlowIsCovered table (Transfer.transfer p (state_at_loop table (loops_around p.code st.place)) st.place op.Next k) → IsSafeStep p table st op.Next (Machine.execute p op.Next st)
   sim_next st k at cov ar fine = by st.loops refl cov.under
     where
       inv : (home : AbstractState) × (k.operands ≡ []) × (state_at_loop table (loops_around p.code st.place) ≡ Some home) × (k.brackets ≡ home.brackets) × (k.roots ≡ home.roots) × FlowIsCovered table (Transfer.to_next_place st.place home)
@@ -74,7 +74,7 @@ module _ (p : Program) (table : Table) (ok : Accepted p table) where
           let b = u.there in
           cc
 
-      out : (f : Frame) (fs : List Frame) → st.loops ≡ f ∷ fs → (u : AtLoop p table st.params f fs cov.rest (Under p table st.params fs)) → u.home ≡ inv.0 → Good p table st op.Next (Continues (record st { place = st.place + 1; loops = fs }))
+      out : (f : Frame) (fs : List Frame) → st.loops ≡ f ∷ fs → (u : AtLoop p table st.params f fs cov.rest (Under p table st.params fs)) → u.home ≡ inv.0 → IsSafeStep p table st op.Next (Continues (record st { place = st.place + 1; loops = fs }))
       out f fs e u same =
           let c : Covered p table (record st { place = st.place + 1; loops = fs }) u.home = record {
             rest = u.below;
@@ -94,7 +94,7 @@ module _ (p : Program) (table : Table) (ok : Accepted p table) where
             written = omega arith;
           }
 
-      back : (f : Frame) (fs : List Frame) (v : Value) (left : List Value) → st.loops ≡ f ∷ fs → f.remaining ≡ v ∷ left → (u : AtLoop p table st.params f fs cov.rest (Under p table st.params fs)) → u.home ≡ inv.0 → Good p table st op.Next (Continues (record st { place = f.loop_place + 1; loops = record { loop_place = f.loop_place; slot = f.slot; value = v; remaining = left } ∷ fs }))
+      back : (f : Frame) (fs : List Frame) (v : Value) (left : List Value) → st.loops ≡ f ∷ fs → f.remaining ≡ v ∷ left → (u : AtLoop p table st.params f fs cov.rest (Under p table st.params fs)) → u.home ≡ inv.0 → IsSafeStep p table st op.Next (Continues (record st { place = f.loop_place + 1; loops = record { loop_place = f.loop_place; slot = f.slot; value = v; remaining = left } ∷ fs }))
       back f fs v left e l u same =
           let w : AllWithin (v ∷ left) (abstraction_of u.carrier) = subst (λ vs. AllWithin vs (abstraction_of u.carrier)) l u.remaining in
           let each = ok.each f.loop_place (op.Loop f.slot) u.home u.loop u.there in
@@ -124,10 +124,10 @@ module _ (p : Program) (table : Table) (ok : Accepted p table) where
             written = omega arith;
           }
 
-      choose : (f : Frame) (fs : List Frame) (left : List Value) → st.loops ≡ f ∷ fs → f.remaining ≡ left → (u : AtLoop p table st.params f fs cov.rest (Under p table st.params fs)) → Good p table st op.Next (Machine.next_turn st f fs left)
+      choose : (f : Frame) (fs : List Frame) (left : List Value) → st.loops ≡ f ∷ fs → f.remaining ≡ left → (u : AtLoop p table st.params f fs cov.rest (Under p table st.params fs)) → IsSafeStep p table st op.Next (Machine.next_turn st f fs left)
       choose f fs [] e l u = out f fs e u (same_home f fs e u)
       choose f fs (v ∷ left) e l u = back f fs v left e l u (same_home f fs e u)
 
-      by : (fs : List Frame) → st.loops ≡ fs → Under p table st.params fs cov.rest → Good p table st op.Next (Machine.repeat_or_leave st fs)
+      by : (fs : List Frame) → st.loops ≡ fs → Under p table st.params fs cov.rest → IsSafeStep p table st op.Next (Machine.repeat_or_leave st fs)
       by [] e u = absurd (let c = ok.closes st.place op.Next at refl in let n = ap length ar ∙ ap (λ fs. length (places fs)) e in omega arith)
       by (f ∷ fs) e u = choose f fs f.remaining e refl u

@@ -1,15 +1,15 @@
 -- The transfer function is monotone: where less is known and a rule is met, it is met where more is known, and what
 -- flows there is covered by what flows here.
-use Rattle.std.proofs.Common.{◌≡◌, ℕ, zero, suc, ◌+◌, ◌-◌, ◌<◌, ◌≤◌, Bool, true, false, cond, not, ◌&&◌, ◌||◌, List, [], ◌∷◌, ◌++◌, length, map, Option, Some, None, refl, sym, ap, ◌∙◌, subst, arith}
-use Rattle.std.specs.Prelude.{ℤ, pos, negsuc, ◌-ℤ◌, neg_ℤ, ◌≤ℤ◌, ◌<ℤ◌, int_lt, int_le, slice_get, nat_lt, nat_le, ◌==◌, reverse, if◌then◌else◌}
+use Rattle.std.proofs.Common.{◌≡◌, ℕ, zero, suc, ◌+◌, ◌-◌, ◌≤◌, Bool, true, false, cond, not, ◌&&◌, List, [], ◌∷◌, ◌++◌, length, Option, Some, None, refl, sym, ap, ◌∙◌, subst, arith}
+use Rattle.std.specs.Prelude.{ℤ, pos, neg_ℤ, ◌≤ℤ◌, int_lt, int_le, slice_get, nat_lt, nat_le, ◌==◌, reverse}
 use Rattle.std.specs.Int.{int_min, int_max}
 use lib.Signed.{≤ℤ_refl}
 use Rattle.std.specs.List.{AllByRecursion, Contains}
 use Rattle.std.proofs.lemmas.List.Elements.{All-contains_itself, recursion_from_All}
 use Rattle.std.proofs.lemmas.Int.{ints, clamps}
-use Rattle.std.proofs.lemmas.Bool.{and_parts, and_from, cond_both, eqb-true, eq-eqb, leb-true, le-leb, not_from_false, not_from_true, both_ways, false_from_ne_true}
-use Rattle.pb_bytecode_program.specs.Values.{is_inhabited, divides, absolute, arithmetic, fits64, least64, greatest64}
-use Rattle.pb_bytecode_program.specs.Abstract.{Covers, abstraction_of, interval_of, absolute_interval, same_kind}
+use Rattle.std.proofs.lemmas.Bool.{and_parts, and_from, eqb-true, eq-eqb, leb-true, le-leb, not_from_false, not_from_true, both_ways, false_from_ne_true}
+use Rattle.pb_bytecode_program.specs.Values.{is_inhabited, divides, fits64}
+use Rattle.pb_bytecode_program.specs.Abstract.{Covers, abstraction_of, same_kind}
 use Rattle.pb_bytecode_program.specs.declared.abstract_value.AbstractValue.{AbstractValue}
 use Rattle.pb_bytecode_program.specs.declared.abstract_value.AbstractValue.TheVariants as abstract
 use Rattle.pb_bytecode_program.specs.Machine.{Program, carrier_of}
@@ -17,11 +17,11 @@ use Rattle.pb_bytecode_program.specs.Transfer.{AbstractState, Edge, Flow, abstra
 use Rattle.pb_bytecode_program.specs.Accepted.{CoversEach, CoversLoops, IsCovered}
 use Rattle.pb_bytecode_program.specs.Monotone.{HasOrderedRange, IsCoveredAtLoop, IsCoveredEdge, TransferIsMonotone}
 use Rattle.pb_bytecode_program.proofs.Intervals.{Inside, interval_less, absolute_less, fits_less}
-use Rattle.pb_bytecode_program.proofs.Ints.{calc_within, absolute_within, le_true, le_false, from_le, not_below, from_below}
+use Rattle.pb_bytecode_program.proofs.Rules.{divisor, no_divisor}
+use Rattle.pb_bytecode_program.proofs.Ints.{le_true, from_le}
 use Rattle.pb_sorts.specs.declared.carrier.Carrier.{Carrier}
 use Rattle.pb_sorts.specs.declared.carrier.Carrier.TheVariants as carrier
 use Rattle.pb_bytecode_program.specs.declared.instruction.Arithmetic.{Arithmetic}
-use Rattle.pb_bytecode_program.specs.declared.instruction.Arithmetic.TheVariants.{Add, Sub, Mul, Div, Mod, Min, Max}
 use Rattle.pb_bytecode_program.specs.declared.instruction.Op.{Op}
 use Rattle.pb_bytecode_program.specs.declared.instruction.Op.TheVariants as op
 
@@ -165,16 +165,6 @@ same_kind_less (abstract.Enum u1 n1) (abstract.Enum u2 n2) (abstract.Enum u3 n3)
 same_kind_less (abstract.Enum u1 n1) (abstract.Enum u2 n2) (abstract.Enum u3 n3) (abstract.Int l4 h4) p q e = absurd q
 same_kind_less (abstract.Enum u1 n1) (abstract.Enum u2 n2) (abstract.Enum u3 n3) (abstract.Enum u4 n4) p q e = eq-eqb u1 u2 (p.0 ∙ eqb-true u3 u4 e ∙ sym q.0)
 
--- what is known at two LOOPs
-divisor_of : (d : Bool) (m : ℤ) → (d && int_lt m (pos 1)) ≡ false → d ≡ true → pos 1 ≤ℤ m
-divisor_of true m e t = not_below m e
-divisor_of false m e t = cc
-
-no_divisor_less : (d : Bool) (m n : ℤ) → (d && int_lt n (pos 1)) ≡ false → n ≤ℤ m → (d && int_lt m (pos 1)) ≡ false
-no_divisor_less true m n e h = let w = not_below n e in from_below m (omega (arith, ints))
-no_divisor_less false m n e h = refl
-
--- an instruction within the limits of a module
 -- ---- each rule
 
 module _ (P Q : ℕ → AbstractState → Type 0) (down : (to : ℕ) (k m : AbstractState) → IsCovered k m → P to m → Q to k) where
@@ -361,8 +351,8 @@ module _ (P Q : ℕ → AbstractState → Type 0) (down : (to : ℕ) (k m : Abst
         less_int k.operands m.operands _ _ c.operands
         (λ m1 n1 m2 n2 us vs i f y. less_int us vs _ _ f
         (λ l1 h1 l2 h2 us' vs' j f' y'. less_unless (divides a && int_lt m2 (pos 1)) (divides a && int_lt m1 (pos 1)) _ _
-        (λ z. no_divisor_less (divides a) m1 m2 z i.0)
-        (λ z z'. less_give_int q us' vs' _ _ _ _ f' (interval_less a l1 h1 m1 n1 l2 h2 m2 n2 j i (λ d. divisor_of (divides a) m2 z d)) z') y') y) x
+        (λ z. no_divisor (divides a) m2 m1 z i.0)
+        (λ z z'. less_give_int q us' vs' _ _ _ _ f' (interval_less a l1 h1 m1 n1 l2 h2 m2 n2 j i (λ d. divisor (divides a) m2 z d)) z') y') y) x
     transfer-covers p g h q op.Negate w e x = less_int k.operands m.operands _ _ c.operands (λ l h m' n us vs i f y. less_give_int q us vs (neg_ℤ h) (neg_ℤ l) (neg_ℤ n) (neg_ℤ m') f (let a = i.0 in let b = i.1 in let d = i.2 in (omega (arith, ints), omega (arith, ints), omega (arith, ints))) y) x
     transfer-covers p g h q op.Absolute w e x = less_int k.operands m.operands _ _ c.operands (λ l h m' n us vs i f y. less_give_int q us vs _ _ _ _ f (absolute_less l h m' n i) y) x
     transfer-covers p g h q (op.Compare o) w e x =

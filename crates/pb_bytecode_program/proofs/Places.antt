@@ -3,6 +3,8 @@ use Rattle.std.proofs.Common.{◌≡◌, ℕ, zero, suc, ◌+◌, ◌*◌, ◌<�
 use Rattle.std.specs.Prelude.{slice_get, nat_lt}
 use Rattle.std.proofs.Math.Nat.{mul-add, mul_assoc, suc-mul}
 use Rattle.std.proofs.lemmas.Bool.{lt-ltb, le-ltb}
+use Rattle.std.proofs.lemmas.List.{drop-drop}
+use Rattle.pb_sorts.proofs.Places.{drop-slice_get}
 use Rattle.pb_bytecode_program.specs.Machine.{Program, Frame, carrier_of}
 use Rattle.pb_bytecode_program.specs.Counts.{LoopEffect, Enters, Leaves, Straight, loop_effect, loops_after, loops_open_after, loops_around, size_of, multiplier, cost_by, cost_of}
 use Rattle.pb_bytecode_program.specs.declared.instruction.Op.{Op}
@@ -212,20 +214,6 @@ after_twice : (is : List Op) (d : ℕ) → after_body (after_body is d) 0 ≡ af
 after_twice [] d = refl
 after_twice (i ∷ is) d = twice_by (loop_effect i) is d (after_twice is)
 
-drop_at : (code : List Op) (q : ℕ) (i : Op) → slice_get code q ≡ Some i → drop q code ≡ i ∷ drop (q + 1) code
-drop_at [] q i h = cc
-drop_at (j ∷ is) zero i h = let e : j ≡ i = cc in ap (λ (x : Op). x ∷ is) e
-drop_at (j ∷ is) (suc q) i h = drop_at is q i h ∙ (let z : q + 1 ≡ suc q = omega arith in let y : suc (suc q) ≡ suc q + 1 = omega arith in ap (λ m. i ∷ drop m is) z ∙ ap (λ m. i ∷ drop m (j ∷ is)) y)
-
-drop_none : (n : ℕ) → drop {A = Op} n [] ≡ []
-drop_none zero = refl
-drop_none (suc n) = refl
-
-drop_more : (code : List Op) (q n : ℕ) → drop n (drop q code) ≡ drop (q + n) code
-drop_more code zero n = let z : n ≡ 0 + n = omega arith in ap (λ m. drop m code) z
-drop_more [] (suc q) n = let z : suc (q + n) ≡ suc q + n = omega arith in drop_none n ∙ ap (λ m. drop {A = Op} m []) z
-drop_more (i ∷ is) (suc q) n = let z : suc (q + n) ≡ suc q + n = omega arith in drop_more is q n ∙ ap (λ m. drop m (i ∷ is)) z
-
 -- ---- what is left to run
 
 module _ (p : Program) (cost : Op → ℕ) where
@@ -244,16 +232,16 @@ module _ (p : Program) (cost : Op → ℕ) where
 
   pub spent_on : (q : ℕ) (i : Op) (fs : List Frame) → slice_get p.code q ≡ Some i → loop_effect i ≡ Straight → left_at (q + 1) fs + cost i ≤ left_at q fs
   spent_on q i fs h s =
-      rw (drop_at p.code q i h) (less_from (i ∷ drop (q + 1) p.code) (drop (q + 1) p.code) fs (cost i)
+      rw (drop-slice_get p.code q i h) (less_from (i ∷ drop (q + 1) p.code) (drop (q + 1) p.code) fs (cost i)
       (let e : cost_of p cost (i ∷ drop (q + 1) p.code) [] ≡ 1 * cost i + cost_of p cost (drop (q + 1) p.code) [] = ap (λ t. cost_by p t (cost i) [] (cost_of p cost (drop (q + 1) p.code))) s in omega arith)
       (sym (ap (λ t. after_by t 0 (drop (q + 1) p.code) (after_body (drop (q + 1) p.code))) s)))
 
   pub spent_to : (q n : ℕ) (i : Op) (fs : List Frame) → slice_get p.code q ≡ Some i → loop_effect i ≡ Straight → Paired (drop q p.code) (suc n) 0 → left_at (q + suc n) fs + cost i ≤ left_at q fs
   spent_to q n i fs h s pr =
       let is = drop (q + 1) p.code in
-      let pr' : Paired is n 0 = subst (λ t. PairedBy t n 0 (Paired is n)) s (subst (λ js. Paired js (suc n) 0) (drop_at p.code q i h) pr) in
+      let pr' : Paired is n 0 = subst (λ t. PairedBy t n 0 (Paired is n)) s (subst (λ js. Paired js (suc n) 0) (drop-slice_get p.code q i h) pr) in
       let z : q + 1 + n ≡ q + suc n = omega arith in
-      let d : drop n is ≡ drop (q + suc n) p.code = drop_more p.code (q + 1) n ∙ ap (λ m. drop m p.code) z in
+      let d : drop n is ≡ drop (q + suc n) p.code = drop-drop n (q + 1) p.code ∙ ap (λ m. drop m p.code) z in
       let less : left_from (drop n is) fs + 0 ≤ left_from is fs = less_from is (drop n is) fs 0 (let x = dropped p cost is n [] pr' in omega arith) (after_dropped is n 0 pr') in
       let on = spent_on q i fs h s in
       let less' = subst (λ js. left_from js fs + 0 ≤ left_from is fs) d less in
@@ -273,7 +261,7 @@ module _ (p : Program) (cost : Op → ℕ) where
       let three : suc (length f.remaining) * cost_of p cost is [] ≡ length f.remaining * cost_of p cost is [] + cost_of p cost is [] = suc-mul (length f.remaining) (cost_of p cost is []) in
       let all : cost_of p cost (o ∷ is) [] ≡ cost o + (length f.remaining * cost_of p cost is [] + cost_of p cost is [] + cost_of p cost (after_body is 0) []) = omega arith in
       let end : after_body (o ∷ is) 0 ≡ after_body (after_body is 0) 0 = ap (λ t. after_by t 0 is (after_body is)) s ∙ sym (after_twice is 0) in
-      rw (drop_at p.code q o h, a) (entered_from is (o ∷ is) (cost o) (length f.remaining) fs all end)
+      rw (drop-slice_get p.code q o h, a) (entered_from is (o ∷ is) (cost o) (length f.remaining) fs all end)
 
   -- NEXT, when no value remains
   pub spent_out : (q : ℕ) (o : Op) (f : Frame) (fs : List Frame) → slice_get p.code q ≡ Some o → loop_effect o ≡ Leaves → left_at (q + 1) fs + cost o ≤ left_at q (f ∷ fs)
@@ -281,7 +269,7 @@ module _ (p : Program) (cost : Op → ℕ) where
       let is = drop (q + 1) p.code in
       let one : cost_of p cost (o ∷ is) [] ≡ cost o = ap (λ t. cost_by p t (cost o) [] (cost_of p cost is)) s in
       let two : after_body (o ∷ is) 0 ≡ is = ap (λ t. after_by t 0 is (after_body is)) s in
-      rw (drop_at p.code q o h, one, two) (omega arith)
+      rw (drop-slice_get p.code q o h, one, two) (omega arith)
 
   -- NEXT, when a value remains
   pub spent_again : (q n : ℕ) (o : Op) (f g : Frame) (fs : List Frame) → slice_get p.code q ≡ Some o → loop_effect o ≡ Leaves → g.loop_place ≡ f.loop_place → length f.remaining ≡ suc (length g.remaining) → q ≡ f.loop_place + 1 + n → Paired (drop (f.loop_place + 1) p.code) n 0 → left_at (f.loop_place + 1) (g ∷ fs) + cost o ≤ left_at q (f ∷ fs)
@@ -289,8 +277,8 @@ module _ (p : Program) (cost : Op → ℕ) where
       let is = drop (q + 1) p.code in
       let body = drop (f.loop_place + 1) p.code in
       let one : cost_of p cost (o ∷ is) [] ≡ cost o = ap (λ t. cost_by p t (cost o) [] (cost_of p cost is)) s in
-      let here : drop n body ≡ drop q p.code = drop_more p.code (f.loop_place + 1) n ∙ ap (λ m. drop m p.code) (sym e) in
+      let here : drop n body ≡ drop q p.code = drop-drop n (f.loop_place + 1) p.code ∙ ap (λ m. drop m p.code) (sym e) in
       let end : after_body body 0 ≡ after_body (drop q p.code) 0 = sym (after_dropped body n 0 pr) ∙ ap (λ js. after_body js 0) here in
-      let now : cost_of p cost (drop q p.code) [] ≡ cost o = ap (λ js. cost_of p cost js []) (drop_at p.code q o h) ∙ one in
+      let now : cost_of p cost (drop q p.code) [] ≡ cost o = ap (λ js. cost_of p cost js []) (drop-slice_get p.code q o h) ∙ one in
       let more : length f.remaining * cost_of p cost body [] ≡ length g.remaining * cost_of p cost body [] + cost_of p cost body [] = ap (λ m. m * cost_of p cost body []) l ∙ suc-mul (length g.remaining) (cost_of p cost body []) in
       rw (a, end, now, more) (omega arith)

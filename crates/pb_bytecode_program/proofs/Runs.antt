@@ -22,12 +22,12 @@ use Rattle.pb_bytecode_program.specs.declared.instruction.Op.TheVariants as op
 use Rattle.pb_bytecode_program.proofs.Rules.{state_within, instruction_at}
 use Rattle.pb_bytecode_program.proofs.Covering.{covered_more}
 use Rattle.pb_bytecode_program.proofs.Places.{open_zero, left_at}
-use Rattle.pb_bytecode_program.proofs.Steps.{Good, sim_abs, sim_arith, sim_call, sim_close, sim_compare, sim_end, sim_enum, sim_equal, sim_get, sim_in_range, sim_jump, sim_jump_if, sim_logic, sim_neg, sim_not, sim_open, sim_pop, sim_slot_range, sim_tip, sim_truth, sim_values}
+use Rattle.pb_bytecode_program.proofs.Steps.{IsSafeStep, sim_abs, sim_arith, sim_call, sim_close, sim_compare, sim_end, sim_enum, sim_equal, sim_get, sim_in_range, sim_jump, sim_jump_if, sim_logic, sim_neg, sim_not, sim_open, sim_pop, sim_slot_range, sim_tip, sim_truth, sim_values}
 use Rattle.pb_bytecode_program.proofs.Loops.{sim_loop, sim_next}
 
 module _ (p : Program) (table : Table) (ok : Accepted p table) where
   -- any instruction
-  pub sim_act : (st : State) (i : Op) (k : AbstractState) → state_at table st.place ≡ Some k → (at : slice_get p.code st.place ≡ Some i) (cov : Covered p table st k) (ar : loops_around p.code st.place ≡ places st.loops) → HasValidTarget p st.place i → FlowIsCovered table (Transfer.transfer p (state_at_loop table (loops_around p.code st.place)) st.place i k) → Good p table st i (Machine.execute p i st)
+  pub sim_act : (st : State) (i : Op) (k : AbstractState) → state_at table st.place ≡ Some k → (at : slice_get p.code st.place ≡ Some i) (cov : Covered p table st k) (ar : loops_around p.code st.place ≡ places st.loops) → HasValidTarget p st.place i → FlowIsCovered table (Transfer.transfer p (state_at_loop table (loops_around p.code st.place)) st.place i k) → IsSafeStep p table st i (Machine.execute p i st)
   sim_act st op.End k there at cov ar pl fine = sim_end p table ok st k at cov ar (state_at_loop table (loops_around p.code st.place)) pl fine
   sim_act st (op.PushInt z) k there at cov ar pl fine = sim_values p table ok st k z at cov ar (state_at_loop table (loops_around p.code st.place)) pl fine
   sim_act st (op.PushBool b) k there at cov ar pl fine = sim_truth p table ok st k b at cov ar (state_at_loop table (loops_around p.code st.place)) pl fine
@@ -53,8 +53,8 @@ module _ (p : Program) (table : Table) (ok : Accepted p table) where
   sim_act st (op.Call eq) k there at cov ar pl fine = sim_call p table ok st k eq at cov ar (state_at_loop table (loops_around p.code st.place)) pl fine
 
   -- a step of a covered state
-  pub step_is_good : (st : State) → IsCoveredState p table st → (i : Op) × (slice_get p.code st.place ≡ Some i) × Good p table st i (Machine.execute p i st)
-  step_is_good st c =
+  pub step_is_safe : (st : State) → IsCoveredState p table st → (i : Op) × (slice_get p.code st.place ≡ Some i) × IsSafeStep p table st i (Machine.execute p i st)
+  step_is_safe st c =
       let within : st.place < length p.code = let w = state_within table st.place c.known c.there in let l = ok.long in omega arith in
       let f = instruction_at p.code st.place within in
       (f.0, f.1, sim_act st f.0 c.known c.there f.1 c.covered c.around_it (ok.placed st.place f.0 f.1) (ok.each st.place f.0 c.known f.1 c.there))
@@ -67,10 +67,10 @@ module _ (p : Program) (table : Table) (ok : Accepted p table) where
   pub never : (n : ℕ) (st : State) → IsCoveredState p table st → (f : Machine.MachineFault) → Machine.run p n st ≡ Faults f → ⊥
   never zero st c f e = cc
   never (suc n) st c f e =
-      let g = step_is_good st c in
+      let g = step_is_safe st c in
       by (Machine.execute p g.0 st) g.0 g.2 (λ st' c'. never n st' c' f) (sym (run_from st g.0 n g.1) ∙ e)
     where
-      by : (x : Outcome) (i : Op) → Good p table st i x → ((st' : State) → IsCoveredState p table st' → Machine.run p n st' ≡ Faults f → ⊥) → Machine.and_then x (Machine.run p n) ≡ Faults f → ⊥
+      by : (x : Outcome) (i : Op) → IsSafeStep p table st i x → ((st' : State) → IsCoveredState p table st' → Machine.run p n st' ≡ Faults f → ⊥) → Machine.and_then x (Machine.run p n) ≡ Faults f → ⊥
       by (Continues st') i g h e = h st' g.covered e
       by (Ends out) i g h e = cc
       by (Faults f') i g h e = g
@@ -78,19 +78,19 @@ module _ (p : Program) (table : Table) (ok : Accepted p table) where
   abbrev pub EndsWithin : ℕ → State → Outcome → Type 0
   EndsWithin n st x = (out : List Token) × (x ≡ Ends out) × (length out ≤ length st.output + left_at p tokens_of st.place st.loops)
 
-  pub costs : (st : State) (i : Op) (x : Outcome) → Good p table st i x → 1 ≤ left_at p one_step st.place st.loops
+  pub costs : (st : State) (i : Op) (x : Outcome) → IsSafeStep p table st i x → 1 ≤ left_at p one_step st.place st.loops
   costs st i (Continues st') g = let w = g.spent one_step in omega arith
   costs st i (Ends out) g = g.1
   costs st i (Faults f) g = absurd g
 
   pub ends : (n : ℕ) (st : State) → IsCoveredState p table st → left_at p one_step st.place st.loops ≤ n → EndsWithin n st (Machine.run p n st)
-  ends zero st c h = let g = step_is_good st c in let w = costs st g.0 (Machine.execute p g.0 st) g.2 in absurd (omega arith)
+  ends zero st c h = let g = step_is_safe st c in let w = costs st g.0 (Machine.execute p g.0 st) g.2 in absurd (omega arith)
   ends (suc n) st c h =
-      let g = step_is_good st c in
+      let g = step_is_safe st c in
       let r = by (Machine.execute p g.0 st) g.0 g.2 (λ st' c' h'. ends n st' c' h') in
       (r.0, run_from st g.0 n g.1 ∙ r.1, r.2)
     where
-      by : (x : Outcome) (i : Op) → Good p table st i x → ((st' : State) → IsCoveredState p table st' → left_at p one_step st'.place st'.loops ≤ n → EndsWithin n st' (Machine.run p n st')) → EndsWithin n st (Machine.and_then x (Machine.run p n))
+      by : (x : Outcome) (i : Op) → IsSafeStep p table st i x → ((st' : State) → IsCoveredState p table st' → left_at p one_step st'.place st'.loops ≤ n → EndsWithin n st' (Machine.run p n st')) → EndsWithin n st (Machine.and_then x (Machine.run p n))
       by (Continues st') i g go =
           let w = g.spent one_step in
           let r = go st' g.covered (omega arith) in

@@ -40,10 +40,11 @@ pub record Moved (p : Program) (table : Table) (st : State) (i : Op) (st' : Stat
   pub spent : (cost : Op → ℕ) → left_at p cost st'.place st'.loops + cost i ≤ left_at p cost st.place st.loops
   pub written : length st'.output ≤ length st.output + tokens_of i
 
-abbrev pub Good : Program → Table → State → Op → Outcome → Type 0
-Good p table st i (Continues st') = Moved p table st i st'
-Good p table st i (Ends out) = (out ≡ st.output) × (1 ≤ left_at p one_step st.place st.loops)
-Good p table st i (Faults f) = ⊥
+-- the outcome of a step faults in no case: it goes on to a covered state, or ends with what is written
+abbrev pub IsSafeStep : Program → Table → State → Op → Outcome → Type 0
+IsSafeStep p table st i (Continues st') = Moved p table st i st'
+IsSafeStep p table st i (Ends out) = (out ≡ st.output) × (1 ≤ left_at p one_step st.place st.loops)
+IsSafeStep p table st i (Faults f) = ⊥
 
 module _ (p : Program) (table : Table) (ok : Accepted p table) where
   -- a jump's target and what is left there
@@ -88,43 +89,43 @@ module _ (p : Program) (table : Table) (ok : Accepted p table) where
       pub renewed : (vs : List Value) (ss : List AbstractValue) (n r : ℕ) (out : List Token) → Fits vs ss cov.rest → Covered p table (record st { place = st.place + 1; operands = vs; brackets = n; roots = r; output = out }) (record k { operands = ss; brackets = n; roots = r })
       renewed vs ss n r out f = record { rest = cov.rest; operands = f; deep = cov.deep; fit_params = cov.fit_params; fit_loops = cov.fit_loops; brackets = refl; roots = refl; under = cov.under }
 
-      pub sim_push : (vs : List Value) (ss : List AbstractValue) (v : Value) (s : AbstractValue) → Within v s → Fits vs ss cov.rest → FlowIsCovered table (Transfer.abstract_push st.place k ss s) → Good p table st i (Machine.push st vs v)
+      pub sim_push : (vs : List Value) (ss : List AbstractValue) (v : Value) (s : AbstractValue) → Within v s → Fits vs ss cov.rest → FlowIsCovered table (Transfer.abstract_push st.place k ss s) → IsSafeStep p table st i (Machine.push st vs v)
       sim_push vs ss v s w f fine =
           let t = tested table (nat_lt (length ss + k.below) 32) _ fine in
           let e : length vs ≡ length ss + k.below = fits_length vs ss cov.rest f ∙ ap (λ m. length ss + m) cov.deep in
           rw (ap (λ m. nat_lt m 32) e ∙ t.0) (go_on _ _ refl refl (omega arith) (with_operands _ _ (s ∷ ss) (w, f)) t.1)
 
-      pub sim_push_int : (vs : List Value) (ss : List AbstractValue) (z l h : ℤ) → l ≤ℤ z → z ≤ℤ h → Fits vs ss cov.rest → FlowIsCovered table (Transfer.abstract_push_int st.place k ss (l, h)) → Good p table st i (Machine.push_int st vs z)
+      pub sim_push_int : (vs : List Value) (ss : List AbstractValue) (z l h : ℤ) → l ≤ℤ z → z ≤ℤ h → Fits vs ss cov.rest → FlowIsCovered table (Transfer.abstract_push_int st.place k ss (l, h)) → IsSafeStep p table st i (Machine.push_int st vs z)
       sim_push_int vs ss z l h a b f fine =
           let t = tested table (fits64 l h) _ fine in
           rw (fit_within l h z t.0 a b) (sim_push vs ss (IntValue z) (abstract.Int l h) (a, b) f t.1)
 
-      pub sim_give : (v : Option Value) (s : Option AbstractValue) → SlotFits v s → FlowIsCovered table (Transfer.with_abstract_slot s (λ t. Transfer.abstract_push st.place k k.operands t)) → Good p table st i (Machine.with_slot v (λ w. Machine.push st st.operands w))
+      pub sim_give : (v : Option Value) (s : Option AbstractValue) → SlotFits v s → FlowIsCovered table (Transfer.with_abstract_slot s (λ t. Transfer.abstract_push st.place k k.operands t)) → IsSafeStep p table st i (Machine.with_slot v (λ w. Machine.push st st.operands w))
       sim_give v None f fine = absurd fine
       sim_give None (Some s) f fine = absurd f
       sim_give (Some v) (Some s) f fine = sim_push st.operands k.operands v s f cov.operands fine
 
-      pub sim_same : (vs : List Value) (ss : List AbstractValue) (wanted : Equality) (a b : Value) (s t : AbstractValue) → Within a s → Within b t → Fits vs ss cov.rest → FlowIsCovered table (if same_kind s t then Transfer.abstract_push st.place k ss abstract.Bool else None) → Good p table st i (Machine.push_equality st vs wanted (equals a b))
+      pub sim_same : (vs : List Value) (ss : List AbstractValue) (wanted : Equality) (a b : Value) (s t : AbstractValue) → Within a s → Within b t → Fits vs ss cov.rest → FlowIsCovered table (if same_kind s t then Transfer.abstract_push st.place k ss abstract.Bool else None) → IsSafeStep p table st i (Machine.push_equality st vs wanted (equals a b))
       sim_same vs ss wanted a b s t w x f fine =
           let u = tested table (same_kind s t) _ fine in
           let e = equal_kinds a b s t w x u.0 in
           rw (e.1) (sim_push vs ss (BoolValue (answers wanted e.0)) abstract.Bool tt f u.1)
 
-      pub sim_calc : (c : Arithmetic) (vs : List Value) (ss : List AbstractValue) (a b l h m n : ℤ) → l ≤ℤ a → a ≤ℤ h → m ≤ℤ b → b ≤ℤ n → Fits vs ss cov.rest → FlowIsCovered table (if divides c && int_lt m (pos 1) then None else Transfer.abstract_push_int st.place k ss (interval_of c l h m n)) → Good p table st i (if divides c && int_lt b (pos 1) then Faults Machine.Divisor else Machine.push_int st vs (arithmetic c a b))
+      pub sim_calc : (c : Arithmetic) (vs : List Value) (ss : List AbstractValue) (a b l h m n : ℤ) → l ≤ℤ a → a ≤ℤ h → m ≤ℤ b → b ≤ℤ n → Fits vs ss cov.rest → FlowIsCovered table (if divides c && int_lt m (pos 1) then None else Transfer.abstract_push_int st.place k ss (interval_of c l h m n)) → IsSafeStep p table st i (if divides c && int_lt b (pos 1) then Faults Machine.Divisor else Machine.push_int st vs (arithmetic c a b))
       sim_calc c vs ss a b l h m n p1 p2 p3 p4 f fine =
           let t = allowed table (divides c && int_lt m (pos 1)) _ fine in
           let w = calc_within c a b l h m n p1 p2 p3 p4 (λ d. divisor (divides c) m t.0 d) in
           rw (no_divisor (divides c) m b t.0 p3) (sim_push_int vs ss (arithmetic c a b) (interval_of c l h m n).0 (interval_of c l h m n).1 w.0 w.1 f t.1)
 
-      pub sim_range : (to : ℕ) (lo hi z l h : ℤ) (vs : List Value) (k1 k2 : AbstractState) → IsTarget p.code st.place to → l ≤ℤ z → z ≤ℤ h → ((int_le lo z && int_le z hi) ≡ true → Covered p table (record st { place = st.place + 1; operands = vs }) k1) → Covered p table (record st { place = to; operands = vs }) k2 → FlowIsCovered table (Transfer.range_edges st.place to l h lo hi k1 k2) → Good p table st i (if int_le lo z && int_le z hi then Machine.jump_to st (st.place + 1) vs else Machine.jump_to st to vs)
+      pub sim_range : (to : ℕ) (lo hi z l h : ℤ) (vs : List Value) (k1 k2 : AbstractState) → IsTarget p.code st.place to → l ≤ℤ z → z ≤ℤ h → ((int_le lo z && int_le z hi) ≡ true → Covered p table (record st { place = st.place + 1; operands = vs }) k1) → Covered p table (record st { place = to; operands = vs }) k2 → FlowIsCovered table (Transfer.range_edges st.place to l h lo hi k1 k2) → IsSafeStep p table st i (if int_le lo z && int_le z hi then Machine.jump_to st (st.place + 1) vs else Machine.jump_to st to vs)
       sim_range to lo hi z l h vs k1 k2 tg a b c1 c2 fine =
-          cond_both (int_le lo z && int_le z hi) _ _ (Good p table st i)
+          cond_both (int_le lo z && int_le z hi) _ _ (IsSafeStep p table st i)
           (λ e. go_on _ k1 refl refl (omega arith) (c1 e) (split_in table st.place to l h lo hi z k1 k2 fine a b e, tt))
           (λ e. go_to to _ k2 tg refl refl (omega arith) c2 (split_out table st.place to l h lo hi z k1 k2 fine a b e))
 
   -- any instruction but LOOP and NEXT
   abbrev pub Straightly : State → Op → AbstractState → Type 0
-  Straightly st i k = (at : slice_get p.code st.place ≡ Some i) (cov : Covered p table st k) (ar : loops_around p.code st.place ≡ places st.loops) (home : Option AbstractState) → HasValidTarget p st.place i → FlowIsCovered table (Transfer.transfer p home st.place i k) → Good p table st i (Machine.execute p i st)
+  Straightly st i k = (at : slice_get p.code st.place ≡ Some i) (cov : Covered p table st k) (ar : loops_around p.code st.place ≡ places st.loops) (home : Option AbstractState) → HasValidTarget p st.place i → FlowIsCovered table (Transfer.transfer p home st.place i k) → IsSafeStep p table st i (Machine.execute p i st)
 
   pub sim_end : (st : State) (k : AbstractState) → Straightly st op.End k
   sim_end st k at cov ar home pl fine =
@@ -147,50 +148,50 @@ module _ (p : Program) (table : Table) (ok : Accepted p table) where
 
   pub sim_pop : (st : State) (k : AbstractState) → Straightly st op.Pop k
   sim_pop st k at cov ar home pl fine =
-      sim_any table (Good p table st op.Pop) cov.rest st.operands k.operands _ _ cov.operands
+      sim_any table (IsSafeStep p table st op.Pop) cov.rest st.operands k.operands _ _ cov.operands
       (λ v s ws ts w f fl. go_on st op.Pop k at cov ar refl _ _ refl refl (omega arith) (with_operands st op.Pop k at cov ar refl _ ws ts f) fl) fine
 
   pub sim_arith : (st : State) (k : AbstractState) (c : Arithmetic) → Straightly st (op.Arithmetic c) k
   sim_arith st k c at cov ar home pl fine =
-      sim_int table (Good p table st (op.Arithmetic c)) cov.rest st.operands k.operands _ _ cov.operands
+      sim_int table (IsSafeStep p table st (op.Arithmetic c)) cov.rest st.operands k.operands _ _ cov.operands
       (λ b m n ws ts p3 p4 f fl.
-      sim_int table (Good p table st (op.Arithmetic c)) cov.rest ws ts _ _ f
+      sim_int table (IsSafeStep p table st (op.Arithmetic c)) cov.rest ws ts _ _ f
       (λ a l h vs ss p1 p2 g fl'. sim_calc st (op.Arithmetic c) k at cov ar refl c vs ss a b l h m n p1 p2 p3 p4 g fl') fl) fine
 
   pub sim_neg : (st : State) (k : AbstractState) → Straightly st op.Negate k
   sim_neg st k at cov ar home pl fine =
-      sim_int table (Good p table st op.Negate) cov.rest st.operands k.operands _ _ cov.operands
+      sim_int table (IsSafeStep p table st op.Negate) cov.rest st.operands k.operands _ _ cov.operands
       (λ a l h ws ts p1 p2 f fl. let w = negated_within a l h p1 p2 in sim_push_int st op.Negate k at cov ar refl ws ts (neg_ℤ a) (neg_ℤ h) (neg_ℤ l) w.0 w.1 f fl) fine
 
   pub sim_abs : (st : State) (k : AbstractState) → Straightly st op.Absolute k
   sim_abs st k at cov ar home pl fine =
-      sim_int table (Good p table st op.Absolute) cov.rest st.operands k.operands _ _ cov.operands
+      sim_int table (IsSafeStep p table st op.Absolute) cov.rest st.operands k.operands _ _ cov.operands
       (λ a l h ws ts p1 p2 f fl. let w = absolute_within a l h p1 p2 in sim_push_int st op.Absolute k at cov ar refl ws ts (absolute a) (absolute_interval l h).0 (absolute_interval l h).1 w.0 w.1 f fl) fine
 
   pub sim_compare : (st : State) (k : AbstractState) (o : Comparison) → Straightly st (op.Compare o) k
   sim_compare st k o at cov ar home pl fine =
-      sim_int table (Good p table st (op.Compare o)) cov.rest st.operands k.operands _ _ cov.operands
+      sim_int table (IsSafeStep p table st (op.Compare o)) cov.rest st.operands k.operands _ _ cov.operands
       (λ b m n ws ts p3 p4 f fl.
-      sim_int table (Good p table st (op.Compare o)) cov.rest ws ts _ _ f
+      sim_int table (IsSafeStep p table st (op.Compare o)) cov.rest ws ts _ _ f
       (λ a l h vs ss p1 p2 g fl'. sim_push st (op.Compare o) k at cov ar refl vs ss (BoolValue (compares o a b)) abstract.Bool tt g fl') fl) fine
 
   pub sim_equal : (st : State) (k : AbstractState) (wanted : Equality) → Straightly st (op.Equality wanted) k
   sim_equal st k wanted at cov ar home pl fine =
-      sim_any table (Good p table st (op.Equality wanted)) cov.rest st.operands k.operands _ _ cov.operands
+      sim_any table (IsSafeStep p table st (op.Equality wanted)) cov.rest st.operands k.operands _ _ cov.operands
       (λ b t ws ts x f fl.
-      sim_any table (Good p table st (op.Equality wanted)) cov.rest ws ts _ _ f
+      sim_any table (IsSafeStep p table st (op.Equality wanted)) cov.rest ws ts _ _ f
       (λ a s vs ss w g fl'. sim_same st (op.Equality wanted) k at cov ar refl vs ss wanted a b s t w x g fl') fl) fine
 
   pub sim_not : (st : State) (k : AbstractState) → Straightly st op.Not k
   sim_not st k at cov ar home pl fine =
-      sim_bool table (Good p table st op.Not) cov.rest st.operands k.operands _ _ cov.operands
+      sim_bool table (IsSafeStep p table st op.Not) cov.rest st.operands k.operands _ _ cov.operands
       (λ b ws ts f fl. sim_push st op.Not k at cov ar refl ws ts (BoolValue (not b)) abstract.Bool tt f fl) fine
 
   pub sim_logic : (st : State) (k : AbstractState) (both : Connective) → Straightly st (op.Logic both) k
   sim_logic st k both at cov ar home pl fine =
-      sim_bool table (Good p table st (op.Logic both)) cov.rest st.operands k.operands _ _ cov.operands
+      sim_bool table (IsSafeStep p table st (op.Logic both)) cov.rest st.operands k.operands _ _ cov.operands
       (λ b ws ts f fl.
-      sim_bool table (Good p table st (op.Logic both)) cov.rest ws ts _ _ f
+      sim_bool table (IsSafeStep p table st (op.Logic both)) cov.rest ws ts _ _ f
       (λ a vs ss g fl'. sim_push st (op.Logic both) k at cov ar refl vs ss (BoolValue (connects both a b)) abstract.Bool tt g fl') fl) fine
 
   pub sim_jump : (st : State) (k : AbstractState) (to : ℕ) → Straightly st (op.Jump to) k
@@ -199,15 +200,15 @@ module _ (p : Program) (table : Table) (ok : Accepted p table) where
 
   pub sim_jump_if : (st : State) (k : AbstractState) (on : Bool) (to : ℕ) → Straightly st (op.JumpIf on to) k
   sim_jump_if st k on to at cov ar home pl fine =
-      sim_bool table (Good p table st (op.JumpIf on to)) cov.rest st.operands k.operands _ _ cov.operands
+      sim_bool table (IsSafeStep p table st (op.JumpIf on to)) cov.rest st.operands k.operands _ _ cov.operands
       (λ b ws ts f fl.
-      cond_both (if on then b else not b) _ _ (Good p table st (op.JumpIf on to))
+      cond_both (if on then b else not b) _ _ (IsSafeStep p table st (op.JumpIf on to))
       (λ e. go_to st (op.JumpIf on to) k at cov ar refl to _ _ pl refl refl (omega arith) (with_operands st (op.JumpIf on to) k at cov ar refl to ws ts f) fl.1.0)
       (λ e. go_on st (op.JumpIf on to) k at cov ar refl _ _ refl refl (omega arith) (with_operands st (op.JumpIf on to) k at cov ar refl (st.place + 1) ws ts f) (fl.0, tt))) fine
 
   pub sim_in_range : (st : State) (k : AbstractState) (lo hi : ℤ) (to : ℕ) → Straightly st (op.InRange lo hi to) k
   sim_in_range st k lo hi to at cov ar home pl fine =
-      sim_int table (Good p table st (op.InRange lo hi to)) cov.rest st.operands k.operands _ _ cov.operands
+      sim_int table (IsSafeStep p table st (op.InRange lo hi to)) cov.rest st.operands k.operands _ _ cov.operands
       (λ z l h ws ts p1 p2 f fl.
       sim_range st (op.InRange lo hi to) k at cov ar refl to lo hi z l h (IntValue z ∷ ws) _ _ pl p1 p2
       (λ e. with_operands st (op.InRange lo hi to) k at cov ar refl (st.place + 1) (IntValue z ∷ ws) (abstract.Int (int_max l lo) (int_min h hi) ∷ ts) (cut_within lo hi z l h p1 p2 e, f))
@@ -225,7 +226,7 @@ module _ (p : Program) (table : Table) (ok : Accepted p table) where
           (λ a. record { rest = cov.rest; operands = cov.operands; deep = cov.deep; fit_params = cov.fit_params; fit_loops = set_loops st.loops k.loops st.params j _ cov.fit_loops (λ v g. is_z v (sym g ∙ e)); brackets = cov.brackets; roots = cov.roots; under = cov.under })
           (λ a. record { rest = cov.rest; operands = cov.operands; deep = cov.deep; fit_params = set_params st.params k.params j _ cov.fit_params (λ v g. is_z v (sym g ∙ sym (no_loop st.loops st.params j (runs_among st.loops k.loops j cov.fit_loops ∙ a)) ∙ e)); fit_loops = cov.fit_loops; brackets = cov.brackets; roots = cov.roots; under = cov.under })
 
-      by : (v : Option Value) (s : Option AbstractValue) → Machine.value_at st.loops st.params j ≡ v → SlotFits v s → FlowIsCovered table (Transfer.with_abstract_slot s (λ u. Transfer.with_interval u (λ l h. Transfer.range_edges st.place to l h lo hi (Transfer.set_slot k j (abstract.Int (int_max l lo) (int_min h hi))) k))) → Good p table st (op.SlotInRange j lo hi to) (Machine.with_slot v (λ w. Machine.with_int w (λ z. if int_le lo z && int_le z hi then Machine.jump_to st (st.place + 1) st.operands else Machine.jump_to st to st.operands)))
+      by : (v : Option Value) (s : Option AbstractValue) → Machine.value_at st.loops st.params j ≡ v → SlotFits v s → FlowIsCovered table (Transfer.with_abstract_slot s (λ u. Transfer.with_interval u (λ l h. Transfer.range_edges st.place to l h lo hi (Transfer.set_slot k j (abstract.Int (int_max l lo) (int_min h hi))) k))) → IsSafeStep p table st (op.SlotInRange j lo hi to) (Machine.with_slot v (λ w. Machine.with_int w (λ z. if int_le lo z && int_le z hi then Machine.jump_to st (st.place + 1) st.operands else Machine.jump_to st to st.operands)))
       by v None e f fl = absurd fl
       by None (Some s) e f fl = absurd f
       by (Some v) (Some abstract.Bool) e f fl = absurd fl
@@ -240,20 +241,20 @@ module _ (p : Program) (table : Table) (ok : Accepted p table) where
   sim_open st k kind at cov ar home pl fine =
       let t = tested table (nat_lt k.brackets 32) _ fine in
       rw (ap (λ m. nat_lt m 32) cov.brackets ∙ t.0)
-      (sim_roots table (Good p table st (op.Open kind)) cov.rest st.brackets k.brackets st.roots k.roots _ _ cov.brackets cov.roots
+      (sim_roots table (IsSafeStep p table st (op.Open kind)) cov.rest st.brackets k.brackets st.roots k.roots _ _ cov.brackets cov.roots
       (λ r fl. go_on st (op.Open kind) k at cov ar refl _ _ refl refl (one_more st.output (Machine.opening kind))
       (rw (cov.brackets) (renewed st (op.Open kind) k at cov ar refl st.operands k.operands (k.brackets + 1) r _ cov.operands)) fl) t.1)
 
   pub sim_tip : (st : State) (k : AbstractState) (leaf : Leaf) → Straightly st (op.Emit leaf) k
   sim_tip st k leaf at cov ar home pl fine =
-      sim_roots table (Good p table st (op.Emit leaf)) cov.rest st.brackets k.brackets st.roots k.roots _ _ cov.brackets cov.roots
+      sim_roots table (IsSafeStep p table st (op.Emit leaf)) cov.rest st.brackets k.brackets st.roots k.roots _ _ cov.brackets cov.roots
       (λ r fl. go_on st (op.Emit leaf) k at cov ar refl _ _ refl refl (one_more st.output (Machine.leaf leaf))
       (record { rest = cov.rest; operands = cov.operands; deep = cov.deep; fit_params = cov.fit_params; fit_loops = cov.fit_loops; brackets = cov.brackets; roots = refl; under = cov.under }) fl) fine
 
   pub sim_close : (st : State) (k : AbstractState) → Straightly st op.Close k
   sim_close st k at cov ar home pl fine = by st.brackets k.brackets cov.brackets fine
     where
-      by : (n m : ℕ) → n ≡ m → FlowIsCovered table (Transfer.abstract_close k.floor m (λ u. Transfer.to_next_place st.place (record k { brackets = u }))) → Good p table st op.Close (Machine.close_bracket n (λ u. Continues (record st { place = st.place + 1; brackets = u; output = st.output ++ token.Close ∷ [] })))
+      by : (n m : ℕ) → n ≡ m → FlowIsCovered table (Transfer.abstract_close k.floor m (λ u. Transfer.to_next_place st.place (record k { brackets = u }))) → IsSafeStep p table st op.Close (Machine.close_bracket n (λ u. Continues (record st { place = st.place + 1; brackets = u; output = st.output ++ token.Close ∷ [] })))
       by n zero e fl = absurd fl
       by zero (suc m) e fl = absurd (omega arith)
       by (suc n) (suc m) e fl =
@@ -264,10 +265,10 @@ module _ (p : Program) (table : Table) (ok : Accepted p table) where
   pub sim_call : (st : State) (k : AbstractState) (eq : ℕ) → Straightly st (op.Call eq) k
   sim_call st k eq at cov ar home pl fine = by (slice_get p.callees eq) fine
     where
-      by : (o : Option (List Carrier)) → FlowIsCovered table (Transfer.abstract_call st.place k o) → Good p table st (op.Call eq) (Machine.call p st eq o)
+      by : (o : Option (List Carrier)) → FlowIsCovered table (Transfer.abstract_call st.place k o) → IsSafeStep p table st (op.Call eq) (Machine.call p st eq o)
       by None fl = absurd fl
       by (Some cs) fl =
-          sim_args table (Good p table st (op.Call eq)) cov.rest (reverse cs) st.operands k.operands [] _ _ cov.operands
-          (λ us ws ts f fl'. sim_roots table (Good p table st (op.Call eq)) cov.rest st.brackets k.brackets st.roots k.roots _ _ cov.brackets cov.roots
+          sim_args table (IsSafeStep p table st (op.Call eq)) cov.rest (reverse cs) st.operands k.operands [] _ _ cov.operands
+          (λ us ws ts f fl'. sim_roots table (IsSafeStep p table st (op.Call eq)) cov.rest st.brackets k.brackets st.roots k.roots _ _ cov.brackets cov.roots
           (λ r fl''. go_on st (op.Call eq) k at cov ar refl _ _ refl refl (one_more st.output (token.Call (Machine.number p eq us)))
           (record { rest = cov.rest; operands = f; deep = cov.deep; fit_params = cov.fit_params; fit_loops = cov.fit_loops; brackets = cov.brackets; roots = refl; under = cov.under }) fl'') fl') fl

@@ -33,19 +33,9 @@ abbrev tree_connective : Connective → trees.Connective
 tree_connective connective.And = trees.Conjunction
 tree_connective connective.Or = trees.Disjunction
 
-abbrev tree_leaf : Leaf → trees.Leaf
-tree_leaf leaf.Yes = trees.Yes
-tree_leaf leaf.No = trees.No
-tree_leaf leaf.Cut = trees.Cut
-
 opening-token : (c : Connective) → tokens.opening (tree_connective c) ≡ Machine.opening c
 opening-token connective.And = refl
 opening-token connective.Or = refl
-
-leaf-token : (l : Leaf) → tokens.leaf_token (tree_leaf l) ≡ Machine.leaf l
-leaf-token leaf.Yes = refl
-leaf-token leaf.No = refl
-leaf-token leaf.Cut = refl
 
 -- ---- arguments of calls
 

@@ -2,6 +2,7 @@
 -- bytecode verification (Lindholm and Yellin 1996). A verifier makes one pass; this is a relation between a program and
 -- a table, without order.
 use Rattle.std.specs.Prelude.{◌≡◌, ℕ, ◌<◌, ◌≤◌, List, [], ◌∷◌, length, map, Option, Some, None, slice_get, IsSome, Contains, ◌⊎◌}
+use Rattle.pb_bytecode_program.specs.declared.limits.TheConstants.{MAX_LOOPS, MAX_STEPS, MAX_TOKENS}
 use Rattle.pb_bytecode_program.specs.Abstract.{Covers, abstraction_of}
 use Rattle.pb_bytecode_program.specs.Machine.{Program, carrier_of}
 use Rattle.pb_bytecode_program.specs.Counts.{Leaves, loop_effect, loops_around, static_steps, static_tokens}
@@ -93,7 +94,7 @@ IsVisible p q i = (i < length p.params) ⊎ Contains (loop_slots p.code (loops_a
 abbrev pub NamesInScope : Program → ℕ → Op → Type 0
 NamesInScope p q (op.Get i) = IsVisible p q i
 NamesInScope p q (op.SlotInRange i lo hi to) = IsVisible p q i
-NamesInScope p q (op.Loop i) = (IsSome (carrier_of p i)) × (Contains (loop_slots p.code (loops_around p.code q)) i → ⊥) × (length (loops_around p.code q) < 8)
+NamesInScope p q (op.Loop i) = (IsSome (carrier_of p i)) × (Contains (loop_slots p.code (loops_around p.code q)) i → ⊥) × (length (loops_around p.code q) < MAX_LOOPS)
 NamesInScope p q (op.Call eq) = eq < length p.callees
 NamesInScope p q op.End = loops_around p.code q ≡ []
 NamesInScope p q _ = Unit {0}
@@ -113,6 +114,6 @@ pub record Accepted (p : Program) (table : Table) : Type 0 where
   pub each : (q : ℕ) (i : Op) (k : AbstractState) → slice_get p.code q ≡ Some i → state_at table q ≡ Some k → FlowIsCovered table (transfer p (state_at_loop table (loops_around p.code q)) q i k)
   pub long : length table ≡ length p.code
   pub steps_stated : static_steps p ≤ p.stated_steps
-  pub steps_limit : p.stated_steps ≤ 1000000
+  pub steps_limit : p.stated_steps ≤ MAX_STEPS
   pub tokens_stated : static_tokens p ≤ p.stated_tokens
-  pub tokens_limit : p.stated_tokens ≤ 100000
+  pub tokens_limit : p.stated_tokens ≤ MAX_TOKENS

@@ -5,6 +5,7 @@ use Rattle.pb_sorts.specs.Instance.{number_of}
 use Rattle.pb_sorts.specs.Layout.{carriers_of}
 use Rattle.pb_trees.specs.declared.Token.{Token}
 use Rattle.pb_trees.specs.declared.Token.TheVariants as token
+use Rattle.pb_bytecode_program.specs.declared.limits.TheConstants.{MAX_OPERANDS, MAX_BRACKETS, MAX_LOOPS}
 use Rattle.pb_bytecode_program.specs.Values.{Value, BoolValue, IntValue, EnumValue, tagged_values, untagged, arithmetic, divides, absolute, compares, equals, answers, connects, fits64}
 use Rattle.pb_sorts.specs.declared.carrier.Carrier.{Carrier}
 use Rattle.pb_sorts.specs.declared.carrier.Carrier.TheVariants as carrier
@@ -35,8 +36,8 @@ pub data MachineFault : Type 0 where
   Argument : MachineFault  -- outside its carrier
   NoSlot : MachineFault
   NoCallee : MachineFault
-  Depth : MachineFault  -- more than 32 operands
-  Bracket : MachineFault  -- none open, one open at the end, or more than 32
+  Depth : MachineFault  -- more than MAX_OPERANDS operands
+  Bracket : MachineFault  -- none open, one open at the end, or more than MAX_BRACKETS
   Root : MachineFault  -- none at the end, or a second one
   Loop : MachineFault
 
@@ -95,7 +96,7 @@ pop_bool (EnumValue s i ∷ vs) go = Faults WrongKind
 -- pushes a value and goes on at the next place
 abbrev pub push : State → List Value → Value → Outcome
 push st vs v =
-    if nat_lt (length vs) 32
+    if nat_lt (length vs) MAX_OPERANDS
     then Continues (record st { place = st.place + 1; operands = v ∷ vs })
     else Faults Depth
 
@@ -179,11 +180,11 @@ enter_loop st i [] = Faults Loop
 enter_loop st i (v ∷ left) =
     Continues (record st { place = st.place + 1; loops = record { loop_place = st.place; slot = i; value = v; remaining = left } ∷ st.loops })
 
--- LOOP, at most 8 of them nested
+-- LOOP, at most MAX_LOOPS of them nested
 abbrev pub begin_loop : State → ℕ → Option Carrier → Outcome
 begin_loop st i None = Faults NoSlot
 begin_loop st i (Some c) =
-    if nat_lt (length st.loops) 8 && not (is_running st.loops i) then enter_loop st i (tagged_values c) else Faults Loop
+    if nat_lt (length st.loops) MAX_LOOPS && not (is_running st.loops i) then enter_loop st i (tagged_values c) else Faults Loop
 
 -- the next value of the loop, or the place after its NEXT where none remains
 abbrev pub next_turn : State → Frame → List Frame → List Value → Outcome
@@ -243,7 +244,7 @@ execute p (op.SlotInRange i lo hi to) st =
 execute p (op.Loop i) st = begin_loop st i (carrier_of p i)
 execute p op.Next st = repeat_or_leave st st.loops
 execute p (op.Open c) st =
-    if nat_lt st.brackets 32
+    if nat_lt st.brackets MAX_BRACKETS
     then with_root st.brackets st.roots (λ r. Continues (record st { place = st.place + 1; brackets = st.brackets + 1; roots = r; output = st.output ++ opening c ∷ [] }))
     else Faults Bracket
 execute p op.Close st = close_bracket st.brackets (λ n. Continues (record st { place = st.place + 1; brackets = n; output = st.output ++ token.Close ∷ [] }))

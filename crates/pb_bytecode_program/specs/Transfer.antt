@@ -2,6 +2,7 @@
 -- Cousot 1977), which has no value where the instruction's rule fails.
 use Rattle.std.specs.Prelude.{ℕ, zero, suc, ◌+◌, Bool, true, false, not, ◌&&◌, ◌||◌, List, [], ◌∷◌, ◌++◌, length, reverse, Option, Some, None, ℤ, pos, neg_ℤ, int_lt, int_le, ◌==◌, nat_lt, nat_le, if◌then◌else◌, slice_get}
 use Rattle.std.specs.Int.{int_min, int_max}
+use Rattle.pb_bytecode_program.specs.declared.limits.TheConstants.{MAX_OPERANDS, MAX_BRACKETS, MAX_LOOPS}
 use Rattle.pb_bytecode_program.specs.Values.{is_inhabited, divides, fits64}
 use Rattle.pb_bytecode_program.specs.Abstract.{abstraction_of, interval_of, absolute_interval, same_kind}
 use Rattle.pb_bytecode_program.specs.Machine.{Program, carrier_of}
@@ -53,7 +54,7 @@ abbrev pub to_next_place : ℕ → AbstractState → Flow
 to_next_place q k = Some (record { to = q + 1; state = k } ∷ [])
 
 abbrev pub abstract_push : ℕ → AbstractState → List AbstractValue → AbstractValue → Flow
-abstract_push q k ss s = if nat_lt (length ss + k.below) 32 then to_next_place q (record k { operands = s ∷ ss }) else None
+abstract_push q k ss s = if nat_lt (length ss + k.below) MAX_OPERANDS then to_next_place q (record k { operands = s ∷ ss }) else None
 
 abbrev pub abstract_push_int : ℕ → AbstractState → List AbstractValue → ℤ × ℤ → Flow
 abstract_push_int q k ss i = if fits64 i.0 i.1 then abstract_push q k ss (abstract.Int i.0 i.1) else None
@@ -122,7 +123,7 @@ abstract_end _ _ _ = None
 abbrev pub abstract_loop : ℕ → AbstractState → ℕ → Option Carrier → Flow
 abstract_loop q k i None = None
 abstract_loop q k i (Some c) =
-    if nat_lt (length k.loops) 8 && not (among k.loops i) && is_inhabited c
+    if nat_lt (length k.loops) MAX_LOOPS && not (among k.loops i) && is_inhabited c
     then to_next_place q (record { operands = []; below = length k.operands + k.below; params = k.params; loops = (i, abstraction_of c) ∷ k.loops; brackets = k.brackets; floor = k.brackets; roots = k.roots })
     else None
 
@@ -187,7 +188,7 @@ transfer p home q (op.SlotInRange i lo hi to) k =
 transfer p home q (op.Loop i) k = abstract_loop q k i (carrier_of p i)
 transfer p home q op.Next k = abstract_next q k k.operands home
 transfer p home q (op.Open c) k =
-    if nat_lt k.brackets 32 then abstract_root k.brackets k.roots (λ r. to_next_place q (record k { brackets = k.brackets + 1; roots = r })) else None
+    if nat_lt k.brackets MAX_BRACKETS then abstract_root k.brackets k.roots (λ r. to_next_place q (record k { brackets = k.brackets + 1; roots = r })) else None
 transfer p home q op.Close k = abstract_close k.floor k.brackets (λ n. to_next_place q (record k { brackets = n }))
 transfer p home q (op.Emit l) k = abstract_root k.brackets k.roots (λ r. to_next_place q (record k { roots = r }))
 transfer p home q (op.Call eq) k = abstract_call q k (slice_get p.callees eq)

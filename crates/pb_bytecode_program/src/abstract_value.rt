@@ -1,7 +1,7 @@
 //! What is known of an operand without running the program.
 
-/// A kind, with an interval for a number: the abstract value of an operand or of a slot (interval analysis, Cousot and
-/// Cousot 1977).
+/// A kind, with an interval for a number: the abstract value of an operand or of a slot (interval
+/// analysis, Cousot and Cousot 1977).
 #[derive(Clone, Copy, Debug, PartialEq, Eq)]
 pub enum AbstractValue {
     /// A truth value.

@@ -1,7 +1,7 @@
 //! Instructions of the stack machine that computes an instance's and/or tree.
 
-/// An operator on two numbers. The divisor of `Div` and `Mod` is at least 1; the quotient is rounded down and the
-/// remainder is not negative.
+/// An operator on two numbers. The divisor of `Div` and `Mod` is at least 1; the quotient is
+/// rounded down and the remainder is not negative.
 #[derive(Clone, Copy, Debug, PartialEq, Eq)]
 pub enum Arithmetic {
     Add,
@@ -36,8 +36,8 @@ pub enum Connective {
     Or,
 }
 
-/// A leaf of a tree other than a call. `Cut` marks a call whose arguments lie outside their carriers; it counts as
-/// false, like `No`.
+/// A leaf of a tree other than a call. `Cut` marks a call whose arguments lie outside their
+/// carriers; it counts as false, like `No`.
 #[derive(Clone, Copy, Debug, PartialEq, Eq)]
 pub enum Leaf {
     Yes,
@@ -45,9 +45,9 @@ pub enum Leaf {
     Cut,
 }
 
-/// One instruction. Operands are popped from the operand stack and results are pushed onto it; of two operands the
-/// first is the lower one. A target is the place of an instruction, counted from 0. Slots are numbered from 0, the
-/// parameters first and then the loop slots.
+/// One instruction. Operands are popped from the operand stack and results are pushed onto it; of
+/// two operands the first is the lower one. A target is the place of an instruction, counted from
+/// 0. Slots are numbered from 0, the parameters first and then the loop slots.
 #[derive(Clone, Copy, Debug, PartialEq, Eq)]
 pub enum Op {
     /// Ends the run.
@@ -103,7 +103,8 @@ pub enum Op {
         hi: i32,
         target: u16,
     },
-    /// Runs the instructions up to the matching `Next` once for each value of the loop slot's carrier, in order.
+    /// Runs the instructions up to the matching `Next` once for each value of the loop slot's
+    /// carrier, in order.
     Loop {
         slot: u8,
     },
@@ -115,7 +116,8 @@ pub enum Op {
     Close,
     /// Writes a leaf of the tree.
     Emit(Leaf),
-    /// Pops the arguments of an equation's parameters, the last one on top, and writes that instance as a leaf.
+    /// Pops the arguments of an equation's parameters, the last one on top, and writes that
+    /// instance as a leaf.
     Call {
         equation: u8,
     },

@@ -5,8 +5,8 @@ ghost use Rattle.pb_bytecode_program.specs.Machine.{Program};
 ghost use Rattle.pb_bytecode_program.specs.Monotone.{TransferIsMonotone};
 ghost use Rattle.pb_bytecode_program.specs.Safety.{IsSafe};
 
-/// Accepted code, run on any arguments of its declared carriers, never faults, and ends within its static counts of
-/// steps and tokens, with the tokens of exactly one tree.
+/// Accepted code, run on any arguments of its declared carriers, never faults, and ends within its
+/// static counts of steps and tokens, with the tokens of exactly one tree.
 pub fn accepted_is_safe()
     ensures { (p : Program) (table : Table) → Accepted p table → IsSafe p }
 {}

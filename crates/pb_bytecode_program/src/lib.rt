@@ -1,14 +1,17 @@
-//! Programs of the modules: instructions, carriers and abstract values as plain data; what a run of a program is (the
-//! tagged machine of `specs/Machine.antt`); which programs are accepted (`specs/Accepted.antt`, a type system by
-//! abstract states, after the tables of bytecode verification in Lindholm and Yellin, The Java Virtual Machine
-//! Specification, 1996); and the theorem that accepted programs are safe. It stands below the codec, the verifier and
-//! the machine, so that these agree on one definition each.
+//! Programs of the modules: instructions, carriers and abstract values as plain data; what a run of
+//! a program is (the tagged machine of `specs/Machine.antt`); which programs are accepted
+//! (`specs/Accepted.antt`, a type system by abstract states, after the tables of bytecode
+//! verification in Lindholm and Yellin, The Java Virtual Machine Specification, 1996); and the
+//! theorem that accepted programs are safe. It stands below the codec, the verifier and the
+//! machine, so that these agree on one definition each.
 #![tactic(auto)]
 
 pub mod abstract_value;
 pub mod instruction;
 pub mod laws;
+pub mod limits;
 
 pub use abstract_value::AbstractValue;
 pub use instruction::{Arithmetic, Comparison, Connective, Equality, Leaf, Op};
 pub use laws::{accepted_is_safe, transfer_is_monotone};
+pub use limits::{MAX_BRACKETS, MAX_LOOPS, MAX_OPERANDS, MAX_STEPS, MAX_TOKENS};

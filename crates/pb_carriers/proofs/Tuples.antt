@@ -1,6 +1,8 @@
 -- All tuples of carriers are those with a value of each, each once, and there are as many as the product of the sizes.
-use Rattle.std.proofs.Common.{◌≡◌, ℕ, zero, suc, ◌*◌, Bool, true, false, ◌&&◌, ◌||◌, List, [], ◌∷◌, ◌++◌, map, length, flat_map, Contains, ◌⊎◌, inl, inr, subst, refl, sym, ◌∙◌, ap, arith, true≢false, int_eq, length-append}
+use Rattle.std.proofs.Common.{◌≡◌, ℕ, zero, suc, ◌*◌, true, ◌&&◌, ◌||◌, List, [], ◌∷◌, ◌++◌, map, length, flat_map, Contains, ◌⊎◌, inl, inr, subst, refl, sym, ◌∙◌, ap, arith, true≢false, int_eq, length-append}
 use Rattle.std.proofs.lemmas.Bool.Decides.{Decides-int_eq}
+use Rattle.std.proofs.lemmas.Bool.{and_parts, or_cases, or_right}
+use Rattle.std.proofs.lemmas.List.{length-map}
 use Rattle.pb_carriers.specs.Carrier.{Carrier, Value, Tuple, contains, is_within, tuples, tuple_count}
 
 -- x stands somewhere in the list
@@ -32,35 +34,23 @@ in_contains x [] h = absurd h
 in_contains x (y ∷ xs) (inl e) = (0, omega arith, e)
 in_contains x (y ∷ xs) (inr h) = let p = in_contains x xs h in (suc p.0, omega (arith, p.1), p.2)
 
-pub and_true : (a b : Bool) → (a && b) ≡ true → (a ≡ true) × (b ≡ true)
-and_true true b e = (refl, e)
-and_true false b e = absurd (true≢false (sym e))
-
-or_true : (a b : Bool) → (a || b) ≡ true → (a ≡ true) ⊎ (b ≡ true)
-or_true true b e = inl refl
-or_true false b e = inr e
-
 in_carrier : (c : Carrier) (v : Value) → contains c v ≡ true → In v c
 in_carrier [] v e = absurd (true≢false (sym e))
-in_carrier (u ∷ c) v e = elim (or_true (int_eq u v) (contains c v) e) [ inl h ↦ inl ((Decides-int_eq u v).0 h) | inr h ↦ inr (in_carrier c v h) ]
+in_carrier (u ∷ c) v e = elim (or_cases (int_eq u v) (contains c v) e) [ inl h ↦ inl ((Decides-int_eq u v).0 h) | inr h ↦ inr (in_carrier c v h) ]
 
 pub in_tuples : (cs : List Carrier) (vs : Tuple) → is_within cs vs ≡ true → In vs (tuples cs)
 in_tuples [] [] e = inl refl
 in_tuples [] (v ∷ vs) e = absurd (true≢false (sym e))
 in_tuples (c ∷ cs) [] e = absurd (true≢false (sym e))
 in_tuples (c ∷ cs) (v ∷ vs) e =
-    let p = and_true (contains c v) (is_within cs vs) e in
+    let p = and_parts (contains c v) (is_within cs vs) e in
     in_flat_map (λ (u : Value). map (λ (us : Tuple). u ∷ us) (tuples cs)) v (v ∷ vs) c (in_carrier c v p.0) (in_map (λ (us : Tuple). v ∷ us) vs (tuples cs) (in_tuples cs vs p.1))
-
-pub length-map : {A B : Type 0} (f : A → B) (xs : List A) → length (map f xs) ≡ length xs
-length-map f [] = refl
-length-map f (x ∷ xs) = ap suc (length-map f xs)
 
 length_fronts : (c : Carrier) (vs : List Tuple) → length (flat_map (λ (v : Value). map (λ (us : Tuple). v ∷ us) vs) c) ≡ length c * length vs
 length_fronts [] vs = omega arith
 length_fronts (v ∷ c) vs =
     length-append (map (λ (us : Tuple). v ∷ us) vs) (flat_map (λ (v : Value). map (λ (us : Tuple). v ∷ us) vs) c)
-    ∙ (omega (arith, length-map (λ (us : Tuple). v ∷ us) vs, length_fronts c vs))
+    ∙ (omega (arith, length-map vs (λ (us : Tuple). v ∷ us), length_fronts c vs))
 
 pub length-tuples : (cs : List Carrier) → length (tuples cs) ≡ tuple_count cs
 length-tuples [] = refl
@@ -87,10 +77,6 @@ pub from_flat_map : {A B : Type 0} (f : A → List B) (y : B) (xs : List A) → 
 from_flat_map f y [] h = absurd h
 from_flat_map f y (x ∷ xs) h = elim (in_append y (f x) (flat_map f xs) h)
     [ inl i ↦ (x, inl refl, i) | inr i ↦ let p = from_flat_map f y xs i in (p.0, inr p.1, p.2) ]
-
-or_right : (a b : Bool) → b ≡ true → (a || b) ≡ true
-or_right true b e = refl
-or_right false b e = e
 
 from_carrier : (c : Carrier) (v : Value) → In v c → contains c v ≡ true
 from_carrier [] v h = absurd h

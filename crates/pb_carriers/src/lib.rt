@@ -1,7 +1,9 @@
-//! Finite carriers of data, the tuples of their values, and division: definitions, in `specs/`, and laws about them.
+//! Finite carriers of data, the tuples of their values, and division: definitions, in `specs/`, and
+//! laws about them.
 #![tactic(auto)]
 
-ghost use Rattle.std.specs.Prelude.{◌≡◌, ◌≢◌, ◌↔◌, All, AllPairs, ℕ, ◌<◌, ℤ, pos, ◌+ℤ◌, ◌*ℤ◌, ◌≤ℤ◌, ◌<ℤ◌, List, true, length, Contains};
+ghost use Rattle.std.specs.Prelude.{◌≡◌, ◌≢◌, ◌↔◌, All, AllPairs, ℕ, ◌<◌, ℤ, pos, ◌+ℤ◌, ◌*ℤ◌, ◌≤ℤ◌};
+ghost use Rattle.std.specs.Prelude.{◌<ℤ◌, List, true, length, Contains};
 ghost use Rattle.pb_carriers.specs.Carrier.{Carrier, Tuple, Value, is_within, tuple_count, tuples};
 ghost use Rattle.pb_carriers.specs.Division.{quotient, remainder};
 
@@ -12,16 +14,21 @@ pub fn tuples_are_counted()
 
 /// The list of all tuples has those with a value of each carrier, and no others.
 pub fn tuples_are_those_within()
-    ensures { (carriers : List Carrier) (values : Tuple) → (is_within carriers values ≡ true) ↔ Contains (tuples carriers) values }
+    ensures { (carriers : List Carrier) (values : Tuple)
+        → (is_within carriers values ≡ true) ↔ Contains (tuples carriers) values }
 {}
 
 /// Where no carrier has a value twice, the list of all tuples has no tuple twice.
 pub fn tuples_are_distinct()
-    ensures { (carriers : List Carrier) → All (AllPairs (λ (u v : Value). u ≢ v)) carriers → AllPairs (λ (us vs : Tuple). us ≢ vs) (tuples carriers) }
+    ensures { (carriers : List Carrier) → All (AllPairs (λ (u v : Value). u ≢ v)) carriers
+        → AllPairs (λ (us vs : Tuple). us ≢ vs) (tuples carriers) }
 {}
 
-/// The quotient q and the remainder r of a by b are those with a = q * b + r and 0 <= r < b, for b above 0.
+/// The quotient q and the remainder r of a by b are those with a = q * b + r and 0 <= r < b, for b
+/// above 0.
 pub fn division_rounds_down()
-    ensures adds_up { (a : ℤ) (b : ℕ) → 0 < b → quotient a (pos b) *ℤ pos b +ℤ remainder a (pos b) ≡ a }
-    ensures within { (a : ℤ) (b : ℕ) → 0 < b → (pos 0 ≤ℤ remainder a (pos b)) × (remainder a (pos b) <ℤ pos b) }
+    ensures adds_up { (a : ℤ) (b : ℕ) → 0 < b
+        → quotient a (pos b) *ℤ pos b +ℤ remainder a (pos b) ≡ a }
+    ensures within { (a : ℤ) (b : ℕ) → 0 < b → (pos 0 ≤ℤ remainder a (pos b))
+        × (remainder a (pos b) <ℤ pos b) }
 {}

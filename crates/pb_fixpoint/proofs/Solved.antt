@@ -37,7 +37,7 @@ operator-within X E m me t F G FG i =
 
 -- ---- an operator reads its own instances alone
 
-cond_same : (b x y z : Bool) → (b ≡ true → x ≡ y) → (if b then x else z) ≡ (if b then y else z)
+pub cond_same : (b x y z : Bool) → (b ≡ true → x ≡ y) → (if b then x else z) ≡ (if b then y else z)
 cond_same true x y z h = h refl
 cond_same false x y z h = refl
 

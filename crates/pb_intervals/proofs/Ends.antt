@@ -31,9 +31,6 @@ same_within limits r l h i e p q = e ∙ ap (within limits) (same_ends p q)
 
 -- ---- absolute values
 
-absolute_above : (i : IntegerInterval) → pos 0 ≤ℤ i.low → absolute_values i ≡ i
-absolute_above i h = rw (from_le (pos 0) i.low h) refl
-
 pub absolute_below : (i : IntegerInterval) → i.low <ℤ pos 0 → i.high ≤ℤ pos 0 → absolute_values i ≡ negations i
 absolute_below i h k = rw (from_lt (pos 0) i.low h, from_le i.high (pos 0) k) refl
 

@@ -1,17 +1,21 @@
-//! Intervals of whole numbers that fit 64 bits, and the interval of each operation (interval arithmetic, Moore 1966).
-//! Ends are computed in 128 bits, where nothing overflows, and then compared with the limits.
+//! Intervals of whole numbers that fit 64 bits, and the interval of each operation (interval
+//! arithmetic, Moore 1966). Ends are computed in 128 bits, where nothing overflows, and then
+//! compared with the limits.
 
 ghost use Rattle.std.specs.Prelude.{◌≡◌, ◌≤ℤ◌, ◌*ℤ◌, ◌↔◌, IsTrue, pos};
 ghost use Rattle.pb_carriers.specs.Division.{quotient};
-ghost use Rattle.pb_intervals.specs.Interval.{IntegerInterval, Includes, IsWithin, cut, hull, literals, singleton, unless_empty, within, words};
-ghost use Rattle.pb_intervals.specs.Operation.{absolute_values, differences, maxima, minima, negations, predecessors, products, quotients, remainders, span_of_four, successors, sums};
+ghost use Rattle.pb_intervals.specs.Interval.{IntegerInterval, Includes, IsWithin, cut, hull};
+ghost use Rattle.pb_intervals.specs.Interval.{literals, singleton, unless_empty, within, words};
+ghost use Rattle.pb_intervals.specs.Operation.{absolute_values, differences, maxima, minima};
+ghost use Rattle.pb_intervals.specs.Operation.{negations, predecessors, products, quotients};
+ghost use Rattle.pb_intervals.specs.Operation.{remainders, span_of_four, successors, sums};
 
 use std::marker::Model;
 
 /// The whole numbers from a least one to a greatest one, both included. It is never empty.
 ///
-/// The operations take the limits within which their result has to lie, and answer `None` exactly where an end of
-/// the result, which is exact over all whole numbers, lies outside these limits.
+/// The operations take the limits within which their result has to lie, and answer `None` exactly
+/// where an end of the result, which is exact over all whole numbers, lies outside these limits.
 #[derive(Clone, Copy, Debug, PartialEq, Eq)]
 pub struct Interval {
     low: i64,
@@ -197,8 +201,8 @@ impl Interval {
         )
     }
 
-    /// The interval of the quotient of `a` by `b`, rounded down: it ends at quotients of the operands' ends.
-    /// No divisor is below 1.
+    /// The interval of the quotient of `a` by `b`, rounded down: it ends at quotients of the
+    /// operands' ends. No divisor is below 1.
     pub fn quotient(self, other: Interval, limits: Interval) -> Option<Interval>
         requires { pos 1 ≤ℤ other.low }
         ensures { result ≡ within limits (quotients self other) }
@@ -252,7 +256,8 @@ impl Interval {
         ensures low { result.0 ≡ self.low }
         ensures high { result.1 ≡ self.high }
         ensures ordered { self.low ≤ℤ self.high }
-        ensures fits { IsWithin self words }
+        ensures low_fits { words.low ≤ℤ self.low }
+        ensures high_fits { self.high ≤ℤ words.high }
     {
         (i128::from(self.low), i128::from(self.high))
     }

@@ -1,14 +1,13 @@
 -- The lists of a layout while they are built: one equation more, and the whole.
 use Rattle.std.proofs.Common.{◌≡◌, ℕ, zero, suc, ◌+◌, ◌<◌, ◌≤◌, List, [], ◌∷◌, ◌++◌, length, drop, get_or, Some, All, Vec, vec_len, refl, sym, ◌∙◌, ap, subst, arith, append_assoc, length-append, ⊎_elim}
-use Rattle.std.proofs.lemmas.List.{map-append, get_or_push, get_or_append_left, append-nil}
+use Rattle.std.proofs.lemmas.List.{map-append, get_or_push, get_or_append_left, append-nil, drop_all}
 use Rattle.std.specs.List.{slice_get}
 use Rattle.std.proofs.lemmas.Option.{get_or_from_slice_get}
 use Rattle.std.proofs.lemmas.Bool.{cases_lt}
 use Rattle.pb_sorts.specs.declared.carrier.Carrier.{Carrier}
 use Rattle.pb_sorts.specs.Instance.{first_of}
 use Rattle.pb_sorts.specs.Layout.{carriers_of, count_of, lists_of, IsNumbered, IsWithinLimits}
-use Rattle.pb_sorts.proofs.Counts.{drop-at, drop-all}
-use Rattle.pb_sorts.proofs.Places.{slice_get-mapped}
+use Rattle.pb_sorts.proofs.Places.{slice_get-mapped, drop-at}
 use Rattle.pb_sorts.proofs.Equations.{length-lists_of}
 
 lists_of-push : {A : Type 0} (vs : List (Vec Carrier A)) (v : Vec Carrier A) → lists_of (vs ++ v ∷ []) ≡ lists_of vs ++ v.items ∷ []
@@ -28,7 +27,7 @@ copied_more {A} vs done more k v w below read same more_is so_far =
 -- all are copied
 pub copied_all : {A : Type 0} (vs done : List (Vec Carrier A)) (k : ℕ) → length vs ≤ k → lists_of done ++ lists_of (drop k vs) ≡ lists_of vs → lists_of done ≡ lists_of vs
 copied_all {A} vs done k past so_far =
-    sym (append-nil (lists_of done)) ∙ (ap (λ (us : List (Vec Carrier A)). lists_of done ++ lists_of us) (sym (drop-all vs k past)) ∙ so_far)
+    sym (append-nil (lists_of done)) ∙ (ap (λ (us : List (Vec Carrier A)). lists_of done ++ lists_of us) (sym (drop_all k vs past)) ∙ so_far)
 
 -- one first number more
 pub starts_more : (xs ys : List ℕ) (x k : ℕ) (start : ℕ → ℕ) → ys ≡ xs ++ x ∷ [] → length xs ≡ k → x ≡ start k → ((j : ℕ) → j < k → get_or xs j 0 ≡ start j) → (j : ℕ) → j < k + 1 → get_or ys j 0 ≡ start j

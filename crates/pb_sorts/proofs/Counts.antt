@@ -1,11 +1,11 @@
 -- How many tuples the carriers of a loop have: those that it has passed times those that are left.
-use Rattle.std.proofs.Common.{◌≡◌, ℕ, zero, suc, ◌+◌, ◌*◌, ◌<◌, ◌≤◌, List, [], ◌∷◌, map, length, drop, get_or, refl, sym, ◌∙◌, ap, arith, pos, ◌+ℤ◌, ◌-ℤ◌}
+use Rattle.std.proofs.Common.{◌≡◌, ℕ, zero, suc, ◌+◌, ◌*◌, ◌<◌, ◌≤◌, List, [], ◌∷◌, map, length, drop, get_or, ap, arith, pos, ◌+ℤ◌, ◌-ℤ◌}
 use Rattle.std.proofs.lemmas.Int.{ints}
-use Rattle.std.proofs.Math.Seq.{drop-cons}
 use Rattle.pb_carriers.specs.Carrier.{tuple_count, at_least_none}
 use Rattle.pb_sorts.specs.declared.carrier.Carrier.{Carrier}
 use Rattle.pb_sorts.specs.declared.carrier.Carrier.TheVariants as variants
 use Rattle.pb_sorts.specs.Carrier.{values_of}
+use Rattle.pb_sorts.proofs.Places.{drop-at}
 use Rattle.pb_sorts.proofs.Intervals.{length-numbers_from, count-interval}
 
 -- a carrier has a value
@@ -21,17 +21,6 @@ some_tuples (c ∷ cs) = positive (length (values_of c)) (tuple_count (map value
   where
     positive : (m n : ℕ) → 1 ≤ m → 1 ≤ n → 1 ≤ m * n
     positive m n p q = grind (arith, p, q)
-
-pub drop-at : {X : Type 0} (xs : List X) (k : ℕ) (x : X) → k < length xs → x ≡ get_or xs k x → drop k xs ≡ x ∷ drop (k + 1) xs
-drop-at xs k x below is =
-    let next : suc k ≡ k + 1 = omega arith in
-    drop-cons xs k x below ∙ (ap (λ y. y ∷ drop (suc k) xs) (sym is) ∙ ap (λ j. x ∷ drop j xs) next)
-
-pub drop-all : {X : Type 0} (xs : List X) (k : ℕ) → length xs ≤ k → drop k xs ≡ []
-drop-all [] zero past = refl
-drop-all [] (suc k) past = refl
-drop-all (x ∷ xs) zero past = absurd (omega (arith, past))
-drop-all (x ∷ xs) (suc k) past = drop-all xs k (omega (arith, past))
 
 pub le_times : (m n : ℕ) → 1 ≤ n → m ≤ m * n
 le_times m zero h = absurd (omega (arith, h))

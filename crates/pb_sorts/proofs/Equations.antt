@@ -41,9 +41,3 @@ length-lists_of {A} vs = map_length (λ (v : Vec Carrier A). v.items) vs
 
 pub slice_get-lists_of : {A : Type 0} (vs : List (Vec Carrier A)) (k : ℕ) (v : Vec Carrier A) → k < length vs → v ≡ get_or vs k v → slice_get (lists_of vs) k ≡ Some v.items
 slice_get-lists_of {A} vs k v below is = slice_get-mapped (λ (u : Vec Carrier A). u.items) vs k v (slice_get_read vs (length vs) k v refl below is)
-
--- all equations have so many instances as end before the place behind the last
-pub first_of-all : {A : Type 0} (vs : List (Vec Carrier A)) (k : ℕ) → length vs ≤ k → k ≤ length vs → first_of (carriers_of (lists_of vs)) k ≡ count_of (lists_of vs)
-first_of-all vs k past within =
-    let same : k ≡ length (carriers_of (lists_of vs)) = omega (arith, past, within, length-carriers_of (lists_of vs), length-lists_of vs) in
-    ap (first_of (carriers_of (lists_of vs))) same ∙ first_of-last (carriers_of (lists_of vs))

@@ -1,5 +1,5 @@
 -- The tuple at a place, value by value: what stands at the rest of the place completes the values that are there.
-use Rattle.std.proofs.Common.{◌≡◌, ℕ, ◌+◌, ◌*◌, ◌/◌, ◌%◌, ◌<◌, List, [], ◌∷◌, ◌++◌, map, length, Some, refl, sym, ◌∙◌, ap, subst, arith, append_assoc}
+use Rattle.std.proofs.Common.{◌≡◌, ℕ, ◌+◌, ◌*◌, ◌/◌, ◌%◌, ◌<◌, List, [], ◌∷◌, ◌++◌, map, length, Some, refl, sym, ◌∙◌, ap, arith, append_assoc}
 use Rattle.std.specs.List.{slice_get}
 use Rattle.std.proofs.Math.Nat.{mul-div_cancel_left, div-lt_iff_lt-mul, mod-lt}
 use Rattle.std.proofs.lemmas.Nat.{div-add-mod'}
@@ -16,13 +16,6 @@ pub record IsFilling (cs : List Carrier) (place : ℕ) (vs : Tuple) (ds : List C
   pub completes : (ws : Tuple) → slice_get (tuples (map values_of ds)) rest ≡ Some ws → slice_get (tuples (map values_of cs)) place ≡ Some (vs ++ ws)
   pub weight_is : weight ≡ count ds
   pub below : rest < weight
-
-pub filling_starts : (cs : List Carrier) (place weight : ℕ) (vs : Tuple) → vs ≡ [] → weight ≡ count cs → place < weight → IsFilling cs place vs cs place weight
-filling_starts cs place weight vs none weight_is below = subst (λ (us : Tuple). IsFilling cs place us cs place weight) (sym none) (record {
-  completes = λ ws e. e;
-  weight_is = weight_is;
-  below = below;
-})
 
 -- the weight of the next value
 next_weight : (c : Carrier) (es : List Carrier) (weight size : ℕ) → weight ≡ length (values_of c) * count es → size ≡ length (values_of c) → weight / size ≡ count es

@@ -3,19 +3,12 @@ use Rattle.std.proofs.Common.{◌≡◌, ℕ, zero, suc, ◌+◌, List, [], ◌�
 use Rattle.std.specs.List.{slice_get}
 use Rattle.std.proofs.lemmas.Option.{none-some, same_Some}
 use Rattle.pb_carriers.specs.Carrier.{Carrier, Tuple, tuples, tuple_count}
+use Rattle.pb_carriers.proofs.Tuples.{length-tuples}
 use Rattle.pb_sorts.specs.Instance.{Instance, instances_from}
 use Rattle.pb_sorts.proofs.Places.{slice_get-append_left, slice_get-append_right, append_cases, slice_get-mapped, IsImage, map_cases, map_length}
-use Rattle.pb_sorts.proofs.TuplePlaces.{length-tuples}
 
 abbrev pub with_values : ℕ → Tuple → Instance
 with_values n = λ vs. record { equation = n; values = vs }
-
-pub length-instances_from : (m n : ℕ) (css : List (List Carrier)) → length (instances_from m css) ≡ length (instances_from n css)
-length-instances_from m n [] = refl
-length-instances_from m n (cs ∷ css) =
-    length-append (map (with_values m) (tuples cs)) (instances_from (suc m) css)
-    ∙ (omega (arith, map_length (with_values m) (tuples cs), map_length (with_values n) (tuples cs), length-instances_from (suc m) (suc n) css)
-    ∙ sym (length-append (map (with_values n) (tuples cs)) (instances_from (suc n) css)))
 
 -- one equation more in front
 pub length-instances_from-cons : (m : ℕ) (cs : List Carrier) (css : List (List Carrier)) → length (instances_from m (cs ∷ css)) ≡ tuple_count cs + length (instances_from (suc m) css)

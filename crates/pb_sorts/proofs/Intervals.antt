@@ -1,10 +1,11 @@
 -- The list of the whole numbers from one on: what stands at a place, how long it is, and what it has.
-use Rattle.std.proofs.Common.{◌≡◌, ℕ, zero, suc, ◌<◌, Bool, true, false, ◌||◌, length, Some, refl, sym, ◌∙◌, ap, arith, ℤ, pos, negsuc, ◌+ℤ◌, ◌-ℤ◌, ◌<ℤ◌, ◌≤ℤ◌, int_eq, true≢false, ◌⊎◌, inl, inr}
+use Rattle.std.proofs.Common.{◌≡◌, ℕ, zero, suc, ◌<◌, true, false, length, Some, refl, sym, ◌∙◌, ap, arith, ℤ, pos, negsuc, ◌+ℤ◌, ◌-ℤ◌, ◌<ℤ◌, ◌≤ℤ◌, int_eq, true≢false, inl, inr}
 use Rattle.std.specs.List.{slice_get}
 use Rattle.std.proofs.lemmas.Int.{ints, by_lt_z}
 use lib.Signed.{le_z}
 use Rattle.std.specs.Bool.{Decides}
-use Rattle.std.proofs.lemmas.Bool.Decides.{Decides-int_eq}
+use Rattle.std.proofs.lemmas.Bool.Decides.{Decides-int_eq, same_from_decides}
+use Rattle.std.proofs.lemmas.Bool.{or_cases, or_left, or_right}
 use Rattle.pb_carriers.specs.Carrier.{Carrier, Value, contains, numbers_from, at_least_none, interval}
 
 pub length-numbers_from : (low : ℤ) (n : ℕ) → length (numbers_from low n) ≡ n
@@ -17,30 +18,18 @@ slice_get-numbers_from low (suc n) zero below = ap Some (omega (arith, ints))
 slice_get-numbers_from low (suc n) (suc k) below =
     slice_get-numbers_from (low +ℤ pos 1) n k (omega (arith, below)) ∙ ap Some (omega (arith, ints))
 
-or_true : (a b : Bool) → (a || b) ≡ true → (a ≡ true) ⊎ (b ≡ true)
-or_true true b e = inl refl
-or_true false b e = inr e
-
-true_or : (a b : Bool) → a ≡ true → (a || b) ≡ true
-true_or true b e = refl
-true_or false b e = absurd (true≢false (sym e))
-
-or_true_right : (a b : Bool) → b ≡ true → (a || b) ≡ true
-or_true_right true b e = refl
-or_true_right false b e = e
-
 -- a number is in the list exactly where it is within the bounds
 pub contains-numbers_from : (low : ℤ) (n : ℕ) (v : Value) → Decides (contains (numbers_from low n) v) ((low ≤ℤ v) × (v <ℤ (low +ℤ pos n)))
 contains-numbers_from low zero v = (λ e. absurd (true≢false (sym e)), λ p. absurd (omega (arith, ints, p.0, p.1)))
 contains-numbers_from low (suc n) v =
     let rest : Decides (contains (numbers_from (low +ℤ pos 1) n) v) (((low +ℤ pos 1) ≤ℤ v) × (v <ℤ ((low +ℤ pos 1) +ℤ pos n))) = contains-numbers_from (low +ℤ pos 1) n v in (
-      λ e. elim (or_true (int_eq low v) (contains (numbers_from (low +ℤ pos 1) n) v) e) [
+      λ e. elim (or_cases (int_eq low v) (contains (numbers_from (low +ℤ pos 1) n) v) e) [
         | inl h ↦ let same : low ≡ v = (Decides-int_eq low v).0 h in (omega (arith, ints, same), omega (arith, ints, same))
         | inr h ↦ let p : ((low +ℤ pos 1) ≤ℤ v) × (v <ℤ ((low +ℤ pos 1) +ℤ pos n)) = rest.0 h in (omega (arith, ints, p.0), omega (arith, ints, p.1))
       ],
       λ p. by_lt_z low v
-          (λ above. or_true_right (int_eq low v) (contains (numbers_from (low +ℤ pos 1) n) v) (rest.1 (omega (arith, ints, above), omega (arith, ints, p.1))))
-          (λ below. true_or (int_eq low v) (contains (numbers_from (low +ℤ pos 1) n) v) ((Decides-int_eq low v).1 (omega (arith, ints, below, p.0)))),
+          (λ above. or_right (int_eq low v) (contains (numbers_from (low +ℤ pos 1) n) v) (rest.1 (omega (arith, ints, above), omega (arith, ints, p.1))))
+          (λ below. or_left (int_eq low v) (contains (numbers_from (low +ℤ pos 1) n) v) ((Decides-int_eq low v).1 (omega (arith, ints, below, p.0)))),
     )
 
 -- ---- the numbers from low to high, with n the count of them
@@ -74,24 +63,19 @@ contains-interval low high v h =
 
 -- ---- a carrier that is the numbers from low to high, as the code asks of it
 
-same_test : {P : Type 0} (p q : Bool) → Decides p P → Decides q P → p ≡ q
-same_test true q d e = sym (e.1 (d.0 refl))
-same_test false true d e = d.1 (e.0 refl)
-same_test false false d e = refl
-
 -- where v is not below it, it has v exactly where v is not above it
 pub contains-not_below : (c : Carrier) (low high v a b : ℤ) → c ≡ interval low high → low ≤ℤ high → low ≤ℤ v → a ≡ v → b ≡ high → le_z a b ≡ contains c v
 contains-not_below c low high v a b is order above a_is b_is =
     let all : Decides (contains (interval low high) v) ((low ≤ℤ v) × (v ≤ℤ high)) = contains-interval low high v order in
     let test : Decides (le_z a b) ((low ≤ℤ v) × (v ≤ℤ high)) = (λ e. (above, grind (arith, ints, e, a_is, b_is)), λ p. grind (arith, ints, p.1, a_is, b_is)) in
-    same_test (le_z a b) (contains (interval low high) v) test all ∙ sym (ap (λ (d : Carrier). contains d v) is)
+    same_from_decides (le_z a b) (contains (interval low high) v) test all ∙ sym (ap (λ (d : Carrier). contains d v) is)
 
 -- below it, it has no v
 pub contains-below : (c : Carrier) (low high v a b : ℤ) → c ≡ interval low high → low ≤ℤ high → v <ℤ low → a ≡ low → b ≡ v → le_z a b ≡ contains c v
 contains-below c low high v a b is order below a_is b_is =
     let all : Decides (contains (interval low high) v) ((low ≤ℤ v) × (v ≤ℤ high)) = contains-interval low high v order in
     let test : Decides (le_z a b) ((low ≤ℤ v) × (v ≤ℤ high)) = (λ e. absurd (grind (arith, ints, e, a_is, b_is, below)), λ p. absurd (omega (arith, ints, p.0, below))) in
-    same_test (le_z a b) (contains (interval low high) v) test all ∙ sym (ap (λ (d : Carrier). contains d v) is)
+    same_from_decides (le_z a b) (contains (interval low high) v) test all ∙ sym (ap (λ (d : Carrier). contains d v) is)
 
 -- what it has lies within the bounds
 pub within-contains : (c : Carrier) (low high v : ℤ) → c ≡ interval low high → low ≤ℤ high → contains c v ≡ true → (low ≤ℤ v) × (v ≤ℤ high)

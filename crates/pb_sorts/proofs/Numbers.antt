@@ -7,6 +7,7 @@ use Rattle.std.proofs.lemmas.Bool.{cases_lt}
 use Rattle.std.proofs.lemmas.Option.{none-some, same_Some, slice_get_within, slice_get_read, get_or_from_slice_get}
 use Rattle.pb_carriers.specs.Carrier as carriers
 use Rattle.pb_carriers.specs.Carrier.{Value, Tuple, is_within, tuples, tuple_count, numbers_from, interval, at_least_none}
+use Rattle.pb_carriers.proofs.Tuples.{length-tuples}
 use Rattle.pb_sorts.specs.declared.carrier.Carrier.{Carrier}
 use Rattle.pb_sorts.specs.declared.carrier.Carrier.TheVariants as variants
 use Rattle.pb_sorts.specs.Carrier.{values_of}
@@ -14,7 +15,7 @@ use Rattle.pb_sorts.specs.Layout.{carriers_of}
 use Rattle.pb_sorts.specs.Instance.{Instance, instances, instances_from, is_instance, is_tuple_of, first_of, size_of, tuples_of, owns_number, owns_instance, place_of, mixed_radix, mixed_radix_of, number_of}
 use Rattle.pb_sorts.proofs.Places.{IsImage, map_cases}
 use Rattle.pb_sorts.proofs.Intervals.{slice_get-numbers_from, length-numbers_from}
-use Rattle.pb_sorts.proofs.TuplePlaces.{length-tuples, is_within-slice_get, HasTuplePlace, place-is_within, IsDistinct, AreDistinct, mixed_radix-slice_get}
+use Rattle.pb_sorts.proofs.TuplePlaces.{is_within-slice_get, HasTuplePlace, place-is_within, IsDistinct, AreDistinct, mixed_radix-slice_get}
 use Rattle.pb_sorts.proofs.InstancePlaces.{with_values, length-instances_from-cons, slice_get-instances_from, IsPlaced, placed}
 
 -- ---- which instances there are

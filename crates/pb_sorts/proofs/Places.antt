@@ -1,7 +1,9 @@
--- What stands at a place of a list: of `++`, of `map`, and of tuples with each value of a carrier in front.
-use Rattle.std.proofs.Common.{◌≡◌, ℕ, zero, suc, ◌+◌, ◌*◌, List, [], ◌∷◌, ◌++◌, map, length, flat_map, Some, ◌⊎◌, inl, inr, refl, ◌∙◌, ap, arith, length-append}
+-- What stands at a place of a list: of `++`, of `map`, and of tuples with each value of a carrier in front. And the
+-- list from a place on.
+use Rattle.std.proofs.Common.{◌≡◌, ℕ, zero, suc, ◌+◌, ◌*◌, List, [], ◌∷◌, ◌++◌, map, length, flat_map, Some, ◌⊎◌, inl, inr, refl, ◌∙◌, ap, arith, ◌<◌, drop, get_or, sym}
 use Rattle.std.specs.List.{slice_get}
-use Rattle.std.proofs.lemmas.Option.{none-some, same_Some}
+use Rattle.std.proofs.lemmas.Option.{none-some, same_Some, slice_get_within, get_or_from_slice_get}
+use Rattle.std.proofs.lemmas.List.{drop_more}
 
 pub slice_get-append_left : {X : Type 0} (xs ys : List X) (n : ℕ) (x : X) → slice_get xs n ≡ Some x → slice_get (xs ++ ys) n ≡ Some x
 slice_get-append_left [] ys n x e = absurd (none-some x e)
@@ -46,16 +48,18 @@ pub map_length : {X Y : Type 0} (f : X → Y) (xs : List X) → length (map f xs
 map_length f [] = refl
 map_length f (x ∷ xs) = ap suc (map_length f xs)
 
+-- ---- the list from a place on
+
+pub drop-at : {X : Type 0} (xs : List X) (k : ℕ) (x : X) → k < length xs → x ≡ get_or xs k x → drop k xs ≡ x ∷ drop (k + 1) xs
+drop-at xs k x below is = drop_more xs k x below ∙ ap (λ y. y ∷ drop (k + 1) xs) (sym is)
+
+pub drop-slice_get : {X : Type 0} (xs : List X) (k : ℕ) (x : X) → slice_get xs k ≡ Some x → drop k xs ≡ x ∷ drop (k + 1) xs
+drop-slice_get xs k x e = drop-at xs k x (slice_get_within xs k x e) (sym (get_or_from_slice_get xs k x x e))
+
 -- ---- lists with each of some values in front of each of some lists
 
 abbrev pub fronts : {X : Type 0} → List X → List (List X) → List (List X)
 fronts c ts = flat_map (λ v. map (λ vs. v ∷ vs) ts) c
-
-pub length-fronts : {X : Type 0} (c : List X) (ts : List (List X)) → length (fronts c ts) ≡ length c * length ts
-length-fronts [] ts = omega arith
-length-fronts {X} (v ∷ c) ts =
-    length-append (map (λ (vs : List X). v ∷ vs) ts) (fronts c ts)
-    ∙ (omega (arith, map_length (λ (vs : List X). v ∷ vs) ts, length-fronts c ts))
 
 pub slice_get-fronts : {X : Type 0} (c : List X) (ts : List (List X)) (q r n : ℕ) (v : X) (vs : List X)
     → slice_get c q ≡ Some v → slice_get ts r ≡ Some vs → n ≡ q * length ts + r → slice_get (fronts c ts) n ≡ Some (v ∷ vs)

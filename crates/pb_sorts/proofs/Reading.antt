@@ -7,7 +7,7 @@ use Rattle.pb_carriers.specs.Carrier.{Value, Tuple, contains, is_within, tuples,
 use Rattle.pb_sorts.specs.declared.carrier.Carrier.{Carrier}
 use Rattle.pb_sorts.specs.Carrier.{values_of}
 use Rattle.pb_sorts.proofs.Counts.{some_tuples, le_times}
-use Rattle.pb_sorts.proofs.TuplePlaces.{slice_get-tuples, contains-slice_get, is_within-slice_get}
+use Rattle.pb_sorts.proofs.TuplePlaces.{slice_get-tuples, contains-slice_get}
 
 abbrev pub count : List Carrier → ℕ
 count cs = tuple_count (map values_of cs)
@@ -80,19 +80,6 @@ reading_ends cs vs p ds ws reading ends = at_end ds ws reading ends
     at_end (d ∷ ds) [] reading ends = absurd (omega (arith, reading.long))
     at_end (d ∷ ds) (w ∷ ws) reading (inl e) = absurd (omega (arith, ap length e))
     at_end (d ∷ ds) (w ∷ ws) reading (inr e) = absurd (omega (arith, ap length e))
-
--- once it has ended, the tuple lies in its carriers
-pub reading_is_within : (cs : List Carrier) (vs : Tuple) (p : ℕ) (ds : List Carrier) (ws : Tuple) → IsReading cs vs p ds ws → (ds ≡ []) ⊎ (ws ≡ []) → is_within (map values_of cs) vs ≡ true
-reading_is_within cs vs p ds ws reading ends = is_within-slice_get (map values_of cs) p vs (reading_ends cs vs p ds ws reading ends)
-
--- a value outside its carrier
-pub reading_fails : (cs : List Carrier) (vs : Tuple) (p : ℕ) (ds : List Carrier) (ws : Tuple) (c : Carrier) (es : List Carrier) (v : Value) (us : Tuple)
-    → IsReading cs vs p ds ws → ds ≡ c ∷ es → ws ≡ v ∷ us → contains (values_of c) v ≡ false → is_within (map values_of cs) vs ≡ false
-reading_fails cs vs p ds ws c es v us reading ds_is ws_is outside =
-    reading.within
-    ∙ (ap (λ (fs : List Carrier). is_within (map values_of fs) ws) ds_is
-    ∙ (ap (is_within (map values_of (c ∷ es))) ws_is
-    ∙ ap (λ (b : Bool). b && is_within (map values_of es) us) outside))
 
 -- a tuple of another length
 pub is_within-other_length : (cs : List Carrier) (vs : Tuple) → (length cs ≡ length vs → ⊥) → is_within (map values_of cs) vs ≡ false

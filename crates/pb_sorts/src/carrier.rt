@@ -27,7 +27,8 @@ pub struct Enumeration {
     pub ghost not_empty: { 0 < count },
 }
 
-/// The whole numbers from `lo` to `hi`, both included, at least one. `Carrier::range` makes one from any bounds.
+/// The whole numbers from `lo` to `hi`, both included, at least one. `Carrier::range` makes one
+/// from any bounds.
 #[derive(Clone, Copy, Debug, PartialEq, Eq)]
 pub struct Range {
     pub lo: i32,
@@ -35,9 +36,11 @@ pub struct Range {
     pub ghost not_empty: { lo ≤ℤ hi },
 }
 
-/// What values a parameter or a quantified variable has (Groote and Willemse 2005): a finite, non-empty list.
+/// What values a parameter or a quantified variable has (Groote and Willemse 2005): a finite,
+/// non-empty list.
 ///
-/// A value is an `i64`: of `Bool` 0 for false and 1 for true, of an enumeration its place, of a range the number itself.
+/// A value is an `i64`: of `Bool` 0 for false and 1 for true, of an enumeration its place, of a
+/// range the number itself.
 #[derive(Clone, Copy, Debug, PartialEq, Eq)]
 pub enum Carrier {
     Bool,
@@ -46,7 +49,8 @@ pub enum Carrier {
 }
 
 impl Carrier {
-    ghost use Rattle.std.specs.Prelude.{◌↔◌, ◌≤◌, length, IsOk, IfOk, IsTrue, MatchOption, Some, false, pos, negsuc};
+    ghost use Rattle.std.specs.Prelude.{◌↔◌, ◌≤◌, length, IsOk, IfOk, IsTrue, MatchOption, Some};
+    ghost use Rattle.std.specs.Prelude.{false, pos, negsuc};
     ghost use Rattle.std.specs.List.{slice_get};
     ghost use Rattle.pb_carriers.specs.Carrier.{contains, interval};
     ghost use Rattle.pb_sorts.specs.Carrier.{values_of, IsRange, FitsRange};
@@ -99,7 +103,8 @@ impl Carrier {
 
     /// The place of `value` among the values, if it is one of them.
     pub(crate) fn place(&self, value: i64) -> Option<u64>
-        ensures { MatchOption result (contains (values_of self.now) value ≡ false) (λ place. slice_get (values_of self.now) place ≡ Some value) }
+        ensures { MatchOption result (contains (values_of self.now) value ≡ false)
+            (λ place. slice_get (values_of self.now) place ≡ Some value) }
     {
         if self.contains(value) {
             let (least, _) = self.bounds();

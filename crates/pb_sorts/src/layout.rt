@@ -1,10 +1,13 @@
-//! The numbers of instances. All instances stand in one list: equations in order, the last parameter fastest; an
-//! instance's number is its place there.
-ghost use Rattle.std.specs.Prelude.{◌≡◌, ◌≤◌, ◌<◌, ◌↔◌, All, List, Err, IfOk, IfSome, IsSome, IsTrue, Some, length, vec_len};
+//! The numbers of instances. All instances stand in one list: equations in order, the last
+//! parameter fastest; an instance's number is its place there.
+ghost use Rattle.std.specs.Prelude.{◌≡◌, ◌≤◌, ◌<◌, ◌↔◌, All, List, Err, IfOk, IfSome, IsSome};
+ghost use Rattle.std.specs.Prelude.{IsTrue, Some, length, vec_len};
 ghost use Rattle.std.specs.List.{slice_get};
 ghost use Rattle.pb_sorts.specs.declared.carrier.Carrier.{Carrier};
-ghost use Rattle.pb_sorts.specs.Instance.{first_of, size_of, instances, instance_of, is_instance, owns_number};
-ghost use Rattle.pb_sorts.specs.Layout.{IsNumbered, IsWithinLimits, carriers_of, count_of, lists_of};
+ghost use Rattle.pb_sorts.specs.Instance.{first_of, size_of, instances, instance_of, is_instance};
+ghost use Rattle.pb_sorts.specs.Instance.{owns_number};
+ghost use Rattle.pb_sorts.specs.Layout.{IsNumbered, IsWithinLimits, carriers_of, count_of};
+ghost use Rattle.pb_sorts.specs.Layout.{lists_of};
 
 use crate::carrier::Carrier;
 use crate::instance::Instance;
@@ -59,8 +62,8 @@ impl<T: Drop> From<AllocFailed<T>> for LayoutError {
     }
 }
 
-/// The numbers of the instances of a sequence of equations. Contracts see, for each equation, the carriers of its
-/// parameters.
+/// The numbers of the instances of a sequence of equations. Contracts see, for each equation, the
+/// carriers of its parameters.
 #[derive(Drop)]
 pub struct Layout {
     /// The carriers of each equation's parameters.
@@ -74,7 +77,8 @@ impl Model for Layout {
 
     ghost view = { λ layout. lists_of layout.carriers.items };
 
-    ghost invariant = { λ layout. IsNumbered (lists_of layout.carriers.items) layout.firsts.items × IsWithinLimits (lists_of layout.carriers.items) };
+    ghost invariant = { λ layout. IsNumbered (lists_of layout.carriers.items) layout.firsts.items
+        × IsWithinLimits (lists_of layout.carriers.items) };
 }
 
 /// How many instances equations have; none where these are more than a layout may have.
@@ -96,12 +100,15 @@ impl Layout {
     /// The layout of equations with these parameters.
     ///
     /// # Errors
-    /// `TooManyInstances` exactly where there are more than `MAX_INSTANCES`, and `OutOfMemory` where memory is refused.
+    /// `TooManyInstances` exactly where there are more than `MAX_INSTANCES`, and `OutOfMemory`
+    /// where memory is refused.
     pub fn new(alloc: Global, equations: &[Vec<Carrier>]) -> Result<Layout, LayoutError>
         requires equations { length equations.now ≤ MAX_EQUATIONS }
-        requires parameters { All (λ parameters. vec_len parameters ≤ MAX_PARAMETERS) equations.now }
+        requires parameters { All (λ parameters. vec_len parameters
+            ≤ MAX_PARAMETERS) equations.now }
         ensures ok { IfOk result (λ layout. layout ≡ lists_of equations.now) }
-        ensures too_many { (result ≡ Err LayoutError.TooManyInstances) ↔ (MAX_INSTANCES < count_of (lists_of equations.now)) }
+        ensures too_many { (result ≡ Err LayoutError.TooManyInstances)
+            ↔ (MAX_INSTANCES < count_of (lists_of equations.now)) }
     {
         if count_instances(equations).is_none() {
             return Err(LayoutError::TooManyInstances);
@@ -168,11 +175,13 @@ impl Layout {
         self.firsts.partition_point(|first| *first <= number) - 1
     }
 
-    /// An instance's number. None where there is no such instance: its equation is unknown, or its values are not one
-    /// of each of the equation's carriers.
+    /// An instance's number. None where there is no such instance: its equation is unknown, or its
+    /// values are not one of each of the equation's carriers.
     pub fn number(&self, instance: &Instance) -> Option<u32>
-        ensures exists { IsSome result ↔ IsTrue (is_instance (carriers_of self.now) (instance_of instance.now)) }
-        ensures place { IfSome result (λ number. slice_get (instances (carriers_of self.now)) number ≡ Some (instance_of instance.now)) }
+        ensures exists { IsSome result ↔ IsTrue
+            (is_instance (carriers_of self.now) (instance_of instance.now)) }
+        ensures place { IfSome result (λ number. slice_get (instances (carriers_of self.now)) number
+            ≡ Some (instance_of instance.now)) }
     {
         let equation = instance.equation as usize;
         let carriers = self.carriers.get(equation)?;

@@ -1,4 +1,5 @@
-//! What all parts of the program share: carriers of data, instances and their numbers, and where bytes go and come from.
+//! What all parts of the program share: carriers of data, instances and their numbers, and where
+//! bytes go and come from.
 #![tactic(auto)]
 
 pub mod carrier;
@@ -13,7 +14,7 @@ mod tuple;
 pub use carrier::{Carrier, Enumeration, L01, Range};
 pub use instance::{Instance, Tuple};
 pub use layout::{Layout, LayoutError};
-pub use limits::{MAX_EQUATIONS, MAX_INSTANCES, MAX_PARAMETERS};
+pub use limits::{MAX_EQUATIONS, MAX_INSTANCES, MAX_NAME_BYTES, MAX_PARAMETERS};
 pub use sink::{E02, Out, Sink, put};
 pub use source::{E01, In, Source};
 pub use tuple::count_tuples;

@@ -1,6 +1,7 @@
-//! Writers. A writer of std keeps no record of a failure, so no contract over it can say that an error came because
-//! a write failed. A `Sink` keeps one, and `put` writes all of a text to it.
-ghost use Rattle.std.specs.Prelude.{◌≡◌, ◌≤◌, ◌<◌, ℕ, List, Bool, true, false, length, IfOk, OnOk, OnErr, Option};
+//! Writers. A writer of std keeps no record of a failure, so no contract over it can say that an
+//! error came because a write failed. A `Sink` keeps one, and `put` writes all of a text to it.
+ghost use Rattle.std.specs.Prelude.{◌≡◌, ◌≤◌, ◌<◌, ℕ, List, Bool, true, false, length, IfOk, OnOk};
+ghost use Rattle.std.specs.Prelude.{OnErr, Option};
 ghost use Rattle.std.specs.Io.KnownBytes.{Appends, WriteAppends};
 ghost use Rattle.pb_sorts.specs.Sink.{AppendsPrefix};
 
@@ -31,8 +32,8 @@ pub trait Sink {
     // Whether some write failed.
     ghost has_failed: { Self → Bool };
 
-    /// Takes some bytes from the front of `bytes` and answers how many: at least one, unless `bytes` is empty.
-    /// After `E02` nothing was taken, and the sink has failed for good.
+    /// Takes some bytes from the front of `bytes` and answers how many: at least one, unless
+    /// `bytes` is empty. After `E02` nothing was taken, and the sink has failed for good.
     fn write(&mut self, bytes: &[u8]) -> Result<usize, E02>
         ensures within { IfOk result (λ n. n ≤ length bytes.now) }
         ensures some { IfOk result (λ n. 0 < length bytes.now → 0 < n) }
@@ -93,12 +94,13 @@ impl<W: Write> Sink for Out<W> {
 
 /// Writes all of `bytes`, by as many writes as it takes.
 ///
-/// `E02` comes only where one of these writes answered it; then a part that begins `bytes`, and not the whole of it,
-/// went out.
+/// `E02` comes only where one of these writes answered it; then a part that begins `bytes`, and not
+/// the whole of it, went out.
 pub fn put<S: Sink>(bytes: &[u8], writer: &mut S) -> Result<(), E02>
     ensures all { OnOk result (Appends (S.taken writer.old) (S.taken writer.new) bytes.now) }
     ensures ok_failed { OnOk result (S.has_failed writer.new ≡ S.has_failed writer.old) }
-    ensures prefix { OnErr result (AppendsPrefix (S.taken writer.old) (S.taken writer.new) bytes.now) }
+    ensures prefix { OnErr result (AppendsPrefix (S.taken writer.old)
+        (S.taken writer.new) bytes.now) }
     ensures err_failed { OnErr result (S.has_failed writer.new ≡ true) }
 {
     let mut sent = 0;

@@ -1,6 +1,7 @@
-//! Readers. A reader of std keeps no record of a failure, so no contract over it can say that an error came because
-//! a read failed. A `Source` keeps one.
-ghost use Rattle.std.specs.Prelude.{◌≡◌, ◌≤◌, ℕ, List, Bool, true, false, length, IfOk, OnOk, OnErr, Option};
+//! Readers. A reader of std keeps no record of a failure, so no contract over it can say that an
+//! error came because a read failed. A `Source` keeps one.
+ghost use Rattle.std.specs.Prelude.{◌≡◌, ◌≤◌, ℕ, List, Bool, true, false, length, IfOk, OnOk};
+ghost use Rattle.std.specs.Prelude.{OnErr, Option};
 ghost use Rattle.std.specs.Io.KnownBytes.{ReadConsumes};
 
 use std::fmt;
@@ -30,8 +31,8 @@ pub trait Source {
     // Whether some read failed.
     ghost has_failed: { Self → Bool };
 
-    /// Puts the next bytes at the front of `buffer` and answers how many: none only at the end, or where `buffer` is
-    /// empty. After `E01` no byte is lost, and the source has failed for good.
+    /// Puts the next bytes at the front of `buffer` and answers how many: none only at the end, or
+    /// where `buffer` is empty. After `E01` no byte is lost, and the source has failed for good.
     fn read(&mut self, buffer: &mut [u8]) -> Result<usize, E01>
         ensures within { IfOk result (λ n. n ≤ length buffer.new) }
         ensures bytes { ReadConsumes (left self.old) (left self.new) result buffer.new }

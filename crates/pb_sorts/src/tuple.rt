@@ -28,7 +28,8 @@ pub fn count_tuples(carriers: &[Carrier]) -> Option<u32>
 pub(crate) fn place_of_tuple(carriers: &[Carrier], values: &[i64]) -> Option<u32>
     requires { tuple_count (map values_of carriers.now) ≤ MAX_INSTANCES }
     ensures exists { IsSome result ↔ IsTrue (is_within (map values_of carriers.now) values.now) }
-    ensures place { IfSome result (λ place. slice_get (tuples (map values_of carriers.now)) place ≡ Some values.now) }
+    ensures place { IfSome result (λ place. slice_get (tuples (map values_of carriers.now)) place
+        ≡ Some values.now) }
 {
     if carriers.len() != values.len() {
         return None;

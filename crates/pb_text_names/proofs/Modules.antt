@@ -1,11 +1,10 @@
 -- The names of a text that is read and declared as it must be are names of modules.
-use Rattle.std.proofs.Common.{◌≡◌, ℕ, ◌≤◌, Bool, true, nat_le, List, [], ◌∷◌, ◌++◌, length, map, refl, sym, subst, arith}
+use Rattle.std.proofs.Common.{◌≡◌, ℕ, ◌≤◌, Bool, true, nat_le, List, [], ◌∷◌, ◌++◌, length, map, refl, sym, subst}
 use Rattle.std.specs.Prelude.{All}
 use Rattle.std.specs.List.{list_all}
 use Rattle.std.proofs.lemmas.List.Elements.{All-head, All-tail, All-cons, All-nil}
 use Rattle.std.proofs.lemmas.List.Concat.{flat_map-cons}
-use Rattle.std.proofs.lemmas.Bool.Decides.{nat_tests}
-use Rattle.std.proofs.lemmas.Bool.{or_left, and_from, and_parts}
+use Rattle.std.proofs.lemmas.Bool.{or_left, and_from, and_parts, le-leb}
 use Rattle.pb_text_tree.specs.Form.{EnumeratorForm, SortForm, struct, alias, SortDeclarationForm, EquationForm, SpecForm}
 use Rattle.pb_text_meaning.specs.Syntax.{Enumerator, SortDeclaration, Equation}
 use Rattle.pb_text_meaning.specs.Erase.{erase, erased_enumerator, erased_sort, erased_declaration, erased_equation}
@@ -16,15 +15,12 @@ use Rattle.pb_text_names.specs.Spelled.{is_spelled, AreEnumeratorsSpelled}
 use Rattle.pb_text_names.specs.ModuleNames.{has_enumerator_names, has_names}
 use Rattle.pb_text_names.proofs.Texts.{reading_spelled}
 
-not_above : (n m : ℕ) → n ≤ m → nat_le n m ≡ true
-not_above n m h = grind (arith, nat_tests)
-
 -- what is spelled as a name, and short, is a module's name
 module_name : (bs : List ℕ) → is_spelled bs ≡ true → length bs ≤ 64 → is_name bs ≡ true
 module_name [] h short = cc
 module_name (b ∷ bs) h short =
     let first = (and_parts (is_letter b) _ h).0 in
-    and_from (is_letter b) _ first (and_from (nat_le (length (b ∷ bs)) 64) _ (not_above (length (b ∷ bs)) 64 short)
+    and_from (is_letter b) _ first (and_from (nat_le (length (b ∷ bs)) 64) _ (le-leb (length (b ∷ bs)) 64 short)
     (and_from (is_name_byte b) (list_all is_name_byte bs) (or_left _ _ (or_left (is_letter b) _ first)) ((and_parts (is_letter b) _ h).1)))
 
 parts : {X : Type 0} (P : X → Type 0) (xs ys : List X) → All P (xs ++ ys) → All P xs × All P ys

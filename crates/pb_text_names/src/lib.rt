@@ -9,13 +9,14 @@ ghost use Rattle.pb_typing_declarations.specs.WellDeclared.{IsDeclared};
 ghost use Rattle.pb_text_names.specs.Spelled.{HasSpelledNames};
 ghost use Rattle.pb_text_names.specs.ModuleNames.{has_names};
 
-/// Whatever a text says, its predicate variables and enumerators are letters, digits, `_` and `'`, and begin with a
-/// letter or `_`.
+/// Whatever a text says, its predicate variables and enumerators are letters, digits, `_` and `'`,
+/// and begin with a letter or `_`.
 pub fn names_of_readings_are_spelled()
     ensures { (bytes : List ℕ) (text : SpecForm) → IsReading bytes text → HasSpelledNames text }
 {}
 
 /// Where they are no longer than declarations allow, a module can take them over.
 pub fn names_of_texts_are_names_of_modules()
-    ensures { (bytes : List ℕ) (text : SpecForm) → IsReading bytes text → IsDeclared (erase text) → has_names (erase text) ≡ true }
+    ensures { (bytes : List ℕ) (text : SpecForm) → IsReading bytes text → IsDeclared (erase text)
+        → has_names (erase text) ≡ true }
 {}

@@ -1,4 +1,4 @@
-mod OneTree
+pub mod OneTree
 pub mod Monotone
 pub mod Numbers
 pub mod Members

@@ -7,12 +7,12 @@ use Rattle.pb_trees.specs.Tokens.{opening, leaf_token, operands_tokens}
 use Rattle.pb_trees.specs.Laws.{TokensAreOneTree}
 
 -- what a token says of the tree at its place
-data Role : Type 0 where
+pub data Role : Type 0 where
   AtLeaf : Leaf → Role
   Opens : Connective → Role
   Closes : Role
 
-abbrev role : Token → Role
+abbrev pub role : Token → Role
 role token.And = Opens Conjunction
 role token.Or = Opens Disjunction
 role token.Close = Closes
@@ -21,13 +21,13 @@ role token.No = AtLeaf No
 role token.Cut = AtLeaf Cut
 role (token.Call n) = AtLeaf (Call n)
 
-role-leaf : (l : Leaf) → role (leaf_token l) ≡ AtLeaf l
+pub role-leaf : (l : Leaf) → role (leaf_token l) ≡ AtLeaf l
 role-leaf Yes = refl
 role-leaf No = refl
 role-leaf Cut = refl
 role-leaf (Call n) = refl
 
-role-opening : (c : Connective) → role (opening c) ≡ Opens c
+pub role-opening : (c : Connective) → role (opening c) ≡ Opens c
 role-opening Conjunction = refl
 role-opening Disjunction = refl
 

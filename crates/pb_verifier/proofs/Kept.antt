@@ -2,6 +2,7 @@
 use Rattle.std.proofs.Common.{◌≡◌, ℕ, ◌+◌, ◌<◌, ◌≤◌, List, [], ◌∷◌, length, Option, Some, None, refl, sym, ap, ◌∙◌, subst, arith, ⊎_elim}
 use Rattle.std.specs.Prelude.{slice_get, slice_set}
 use Rattle.std.proofs.lemmas.Bool.{cases_eq, cases_lt}
+use Rattle.std.proofs.lemmas.Option.{none-some, same_Some}
 use Rattle.pb_bytecode_program.specs.Machine.{Program}
 use Rattle.pb_bytecode_program.specs.Counts.{LoopEffect, Enters, Leaves, Straight, loop_effect, loops_after, loops_around}
 use Rattle.pb_bytecode_program.specs.Transfer.{AbstractState, Edge, Flow, transfer}
@@ -12,12 +13,11 @@ use Rattle.pb_bytecode_program.specs.declared.instruction.Op.TheVariants as op
 use Rattle.pb_verifier_states.specs.Join.{join_states}
 use Rattle.pb_bytecode_program.specs.Monotone.{IsCoveredAtLoop}
 use Rattle.pb_bytecode_program.proofs.Monotone.{AllEdges}
-use Rattle.pb_verifier_states.proofs.Hulls.{state_same}
 use Rattle.pb_verifier_states.proofs.Covered.{flow_covered, solid_flow}
 use Rattle.pb_verifier.specs.Pass.{then_table, put, joined_at, merge_state, merge_edges}
 use Rattle.pb_verifier_structure.specs.Structure.{IsStructured, IsWithinLimits}
 use Rattle.pb_verifier.proofs.Targets.{TargetHolds, transfer_goes}
-use Rattle.pb_verifier.proofs.Merges.{IsBelow, AllSolid, Joined, AllFit, leads_further, covered_further, edges_joined, edges_refused, table_same, none_table, some_none, op_same, set_other}
+use Rattle.pb_verifier.proofs.Merges.{IsBelow, AllSolid, Joined, AllFit, leads_further, covered_further, edges_joined, edges_refused, set_other}
 
 -- the rules are met at the places before q
 abbrev pub IsDone : Program → Table → ℕ → Type 0
@@ -112,20 +112,20 @@ from_set : (P : ℕ → Type 0) (t : Table) (to : ℕ) (n : AbstractState) → P
 from_set P t to n here old r k e = ⊎_elim (λ (same : r ≡ to). subst P (sym same) here) (λ (differ : r ≡ to → ⊥). old r k (sym (set_other t to r n differ) ∙ e)) (cases_eq r to)
 
 from_state : (P : ℕ → Type 0) (t u : Table) (to : ℕ) (s : AbstractState) (o : Option (Option AbstractState)) → joined_at t to o s ≡ Some u → P to → ((r : ℕ) (k : AbstractState) → state_at t r ≡ Some k → P r) → (r : ℕ) (k : AbstractState) → state_at u r ≡ Some k → P r
-from_state P t u to s None e here old = absurd (none_table u e)
-from_state P t u to s (Some None) e here old = subst (λ v. (r : ℕ) (k : AbstractState) → state_at v r ≡ Some k → P r) (table_same _ _ e) (from_set P t to s here old)
+from_state P t u to s None e here old = absurd (none-some u e)
+from_state P t u to s (Some None) e here old = subst (λ v. (r : ℕ) (k : AbstractState) → state_at v r ≡ Some k → P r) (same_Some _ _ e) (from_set P t to s here old)
 from_state P t u to s (Some (Some m)) e here old = by (join_states m s) e
   where
     by : (j : Option AbstractState) → put t to j ≡ Some u → (r : ℕ) (k : AbstractState) → state_at u r ≡ Some k → P r
-    by None f = absurd (none_table u f)
-    by (Some n) f = subst (λ v. (r : ℕ) (k : AbstractState) → state_at v r ≡ Some k → P r) (table_same _ _ f) (from_set P t to n here old)
+    by None f = absurd (none-some u f)
+    by (Some n) f = subst (λ v. (r : ℕ) (k : AbstractState) → state_at v r ≡ Some k → P r) (same_Some _ _ f) (from_set P t to n here old)
 
 from_edges : (P : ℕ → Type 0) (es : List Edge) (t u : Table) → merge_edges t es ≡ Some u → AllEdges (λ to m. P to) es → ((r : ℕ) (k : AbstractState) → state_at t r ≡ Some k → P r) → (r : ℕ) (k : AbstractState) → state_at u r ≡ Some k → P r
-from_edges P [] t u e a old = subst (λ v. (r : ℕ) (k : AbstractState) → state_at v r ≡ Some k → P r) (table_same t u e) old
+from_edges P [] t u e a old = subst (λ v. (r : ℕ) (k : AbstractState) → state_at v r ≡ Some k → P r) (same_Some t u e) old
 from_edges P (x ∷ es) t u e a old = by (merge_state t x.to x.state) refl e (λ v h next. from_edges P es v u h a.1 next)
   where
     by : (o : Option Table) → merge_state t x.to x.state ≡ o → then_table o (λ v. merge_edges v es) ≡ Some u → ((v : Table) → merge_edges v es ≡ Some u → ((r : ℕ) (k : AbstractState) → state_at v r ≡ Some k → P r) → (r : ℕ) (k : AbstractState) → state_at u r ≡ Some k → P r) → (r : ℕ) (k : AbstractState) → state_at u r ≡ Some k → P r
-    by None m h f = absurd (none_table u h)
+    by None m h f = absurd (none-some u h)
     by (Some v) m h f = f v h (from_state P t v x.to x.state (slice_get t x.to) m a.0 old)
 
 known_further : (old new : Table) (qs : List ℕ) → IsBelow old new → AllKnown old qs → AllKnown new qs
@@ -180,7 +180,7 @@ module _ (p : Program) (w : IsStructured p) (limits : IsWithinLimits p) where
 
   kept_joined : (T U : Table) (q : ℕ) (i : Op) (k : AbstractState) (es : List Edge) → Kept p T q → slice_get p.code q ≡ Some i → state_at T q ≡ Some k → flow_at T q i k ≡ Some es → merge_edges T es ≡ Some U → Joined T U q es → Kept p U (q + 1)
   kept_joined T U q i k es c at there f e j = record {
-    done = done_more T U q es c.done (λ i' k' at' there'. subst (λ (x : Op). flow_at T q x k' ≡ Some es) (op_same i i' (sym at ∙ at')) (subst (λ (x : AbstractState). flow_at T q i x ≡ Some es) (state_same k k' (sym there ∙ there')) f)) j;
+    done = done_more T U q es c.done (λ i' k' at' there'. subst (λ (x : Op). flow_at T q x k' ≡ Some es) (same_Some i i' (sym at ∙ at')) (subst (λ (x : AbstractState). flow_at T q i x ≡ Some es) (same_Some k k' (sym there ∙ there')) f)) j;
     solid = j.solid;
     begins = leads_further T U _ j.grows c.begins;
     long = j.long ∙ c.long;
@@ -199,22 +199,22 @@ module _ (p : Program) (w : IsStructured p) (limits : IsWithinLimits p) where
 
   -- a place more is visited
   pub kept_more : (T U : Table) (q : ℕ) (i : Op) (home : Option AbstractState) → home ≡ state_at_loop T (loops_around p.code q) → Kept p T q → slice_get p.code q ≡ Some i → (o : Option AbstractState) → state_at T q ≡ o → then_visit T q i home o ≡ Some U → Kept p U (q + 1)
-  kept_more T U q i home g c at None h e = subst (λ v. Kept p v (q + 1)) (table_same T U e) (record { done = done_unknown T q c.done h; solid = c.solid; begins = c.begins; long = c.long; reached = c.reached })
+  kept_more T U q i home g c at None h e = subst (λ v. Kept p v (q + 1)) (same_Some T U e) (record { done = done_unknown T q c.done h; solid = c.solid; begins = c.begins; long = c.long; reached = c.reached })
   kept_more T U q i home g c at (Some k) h e = by (transfer p home q i k) refl e
     where
       by : (F : Flow) → transfer p home q i k ≡ F → then_table F (merge_edges T) ≡ Some U → Kept p U (q + 1)
-      by None f e = absurd (none_table U e)
+      by None f e = absurd (none-some U e)
       by (Some es) f e =
           let f' : flow_at T q i k ≡ Some es = rw g at f in
           kept_joined T U q i k es c at h f' e (edges_joined es T U q (flow_fits T q i k es c at h f') c.solid e)
 
   -- earlier places stay as they were
   pub earlier_more : (T U : Table) (q : ℕ) (i : Op) (home : Option AbstractState) → home ≡ state_at_loop T (loops_around p.code q) → Kept p T q → slice_get p.code q ≡ Some i → (o : Option AbstractState) → state_at T q ≡ o → then_visit T q i home o ≡ Some U → (r : ℕ) → r ≤ q → state_at U r ≡ state_at T r
-  earlier_more T U q i home g c at None h e r le = ap (λ v. state_at v r) (sym (table_same T U e))
+  earlier_more T U q i home g c at None h e r le = ap (λ v. state_at v r) (sym (same_Some T U e))
   earlier_more T U q i home g c at (Some k) h e r le = by (transfer p home q i k) refl e
     where
       by : (F : Flow) → transfer p home q i k ≡ F → then_table F (merge_edges T) ≡ Some U → state_at U r ≡ state_at T r
-      by None f e = absurd (none_table U e)
+      by None f e = absurd (none-some U e)
       by (Some es) f e =
           let f' : flow_at T q i k ≡ Some es = rw g at f in
           let j = edges_joined es T U q (flow_fits T q i k es c at h f') c.solid e in
@@ -230,7 +230,7 @@ module _ (p : Program) (w : IsStructured p) (limits : IsWithinLimits p) where
 
   -- where a place is refused, no table accepts the code
   pub refused_at : (T A : Table) (q : ℕ) (i : Op) (home : Option AbstractState) → home ≡ state_at_loop T (loops_around p.code q) → Kept p T q → IsBelow T A → Accepted p A → slice_get p.code q ≡ Some i → (o : Option AbstractState) → state_at T q ≡ o → then_visit T q i home o ≡ None → ⊥
-  refused_at T A q i home g c b a at None h e = some_none T e
+  refused_at T A q i home g c b a at None h e = none-some T (sym e)
   refused_at T A q i home g c b a at (Some k) h e = by (transfer p home q i k) refl e
     where
       covered : FlowIsCovered A (transfer p home q i k)
@@ -244,14 +244,14 @@ module _ (p : Program) (w : IsStructured p) (limits : IsWithinLimits p) where
 
   -- what is known stays below an accepted table
   pub below_more : (T U A : Table) (q : ℕ) (i : Op) (home : Option AbstractState) → home ≡ state_at_loop T (loops_around p.code q) → Kept p T q → IsBelow T A → Accepted p A → slice_get p.code q ≡ Some i → (o : Option AbstractState) → state_at T q ≡ o → then_visit T q i home o ≡ Some U → IsBelow U A
-  below_more T U A q i home g c b a at None h e = subst (λ v. IsBelow v A) (table_same T U e) b
+  below_more T U A q i home g c b a at None h e = subst (λ v. IsBelow v A) (same_Some T U e) b
   below_more T U A q i home g c b a at (Some k) h e = by (transfer p home q i k) refl e
     where
       covered : FlowIsCovered A (transfer p home q i k)
       covered = rw g (accepted_covers T A q i k c b a at h)
 
       by : (F : Flow) → transfer p home q i k ≡ F → then_table F (merge_edges T) ≡ Some U → IsBelow U A
-      by None f e = absurd (none_table U e)
+      by None f e = absurd (none-some U e)
       by (Some es) f e =
           let f' : flow_at T q i k ≡ Some es = rw g at f in
           let j = edges_joined es T U q (flow_fits T q i k es c at h f') c.solid e in

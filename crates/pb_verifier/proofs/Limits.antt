@@ -1,15 +1,12 @@
 -- What the limits of modules say of the equations' code and of the layout.
-use Rattle.std.proofs.Common.{◌≡◌, ℕ, zero, suc, ◌+◌, ◌^◌, ◌<◌, ◌≤◌, Bool, true, ◌&&◌, List, [], ◌∷◌, length, map, Some, refl, ap, subst, ◌∙◌, arith}
+use Rattle.std.proofs.Common.{◌≡◌, ℕ, zero, suc, ◌^◌, ◌<◌, ◌≤◌, Bool, true, ◌&&◌, List, [], ◌∷◌, length, map, Some, subst, arith, ◌+◌}
 use Rattle.std.specs.Prelude.{All, nat_le, nat_lt, slice_get, int_le}
 use Rattle.std.specs.List.{list_all}
 use Rattle.std.proofs.lemmas.Bool.{and_parts, leb-true, ltb-true}
 use Rattle.std.proofs.lemmas.List.{length-map}
-use Rattle.pb_carriers.specs.Carrier.{tuple_count}
-use Rattle.pb_sorts.specs.Carrier.{values_of}
-use Rattle.pb_sorts.specs.Instance.{instances_from}
-use Rattle.pb_sorts.specs.Layout.{carriers_of, count_of}
+use Rattle.pb_sorts.specs.declared.limits.TheConstants.{MAX_EQUATIONS, MAX_PARAMETERS, MAX_INSTANCES}
+use Rattle.pb_sorts.specs.Layout.{count_of}
 use Rattle.pb_sorts.specs.declared.carrier.Carrier.{Carrier}
-use Rattle.pb_sorts.proofs.InstancePlaces.{length-instances_from-cons}
 use Rattle.pb_bytecode_program.proofs.Ints.{le_true}
 use Rattle.pb_bytecode_program.specs.Monotone.{HasOrderedRange}
 use Rattle.pb_bytecode_program.specs.declared.instruction.Op.{Op}
@@ -19,6 +16,7 @@ use Rattle.pb_bytecode.specs.Contents.{EquationContents, Contents, counts}
 use Rattle.pb_bytecode.specs.Meaning.{parameters, program_of}
 use Rattle.pb_bytecode.specs.Names.{is_name}
 use Rattle.pb_bytecode.specs.Limits.{is_between, is_byte, is_i32, is_u16, is_u32, is_second, are_bounds, fits_sort, fits_carrier, fits_op, fits_equation, fits_initial, instance_count, fits}
+use Rattle.pb_bytecode.proofs.InstanceCounts.{instances_counted}
 use Rattle.pb_verifier_structure.specs.Structure.{IsWithinLimits}
 
 -- ---- parts of the limits
@@ -35,19 +33,19 @@ above : (low end n : ℕ) → is_between low end n ≡ true → low ≤ n
 above low end n h = leb-true low n (and_parts (nat_le low n) (nat_lt n end) h).0
 
 pub record EquationsFit (m : Contents) : Type 0 where
-  pub few : is_between 1 65 (length m.equations) ≡ true
+  pub few : is_between 1 (MAX_EQUATIONS + 1) (length m.equations) ≡ true
   pub each : list_all (fits_equation m.version (counts m.sorts)) m.equations ≡ true
-  pub instances : nat_le (instance_count m.equations) 4194304 ≡ true
+  pub instances : nat_le (instance_count m.equations) MAX_INSTANCES ≡ true
 
 equations_fit : (m : Contents) → fits m ≡ true → EquationsFit m
 equations_fit m h =
-    let a = and_parts (is_between 0 256 (length m.sorts) && list_all fits_sort m.sorts) ((is_between 1 65 (length m.equations) && list_all (fits_equation m.version (counts m.sorts)) m.equations) && (nat_le (instance_count m.equations) 4194304 && fits_initial m.equations m.initial)) h in
-    let b = and_parts (is_between 1 65 (length m.equations) && list_all (fits_equation m.version (counts m.sorts)) m.equations) (nat_le (instance_count m.equations) 4194304 && fits_initial m.equations m.initial) a.1 in
-    let c = and_parts (is_between 1 65 (length m.equations)) (list_all (fits_equation m.version (counts m.sorts)) m.equations) b.0 in
-    record { few = c.0; each = c.1; instances = (and_parts (nat_le (instance_count m.equations) 4194304) (fits_initial m.equations m.initial) b.1).0 }
+    let a = and_parts (is_between 0 256 (length m.sorts) && list_all fits_sort m.sorts) ((is_between 1 (MAX_EQUATIONS + 1) (length m.equations) && list_all (fits_equation m.version (counts m.sorts)) m.equations) && (nat_le (instance_count m.equations) MAX_INSTANCES && fits_initial m.equations m.initial)) h in
+    let b = and_parts (is_between 1 (MAX_EQUATIONS + 1) (length m.equations) && list_all (fits_equation m.version (counts m.sorts)) m.equations) (nat_le (instance_count m.equations) MAX_INSTANCES && fits_initial m.equations m.initial) a.1 in
+    let c = and_parts (is_between 1 (MAX_EQUATIONS + 1) (length m.equations)) (list_all (fits_equation m.version (counts m.sorts)) m.equations) b.0 in
+    record { few = c.0; each = c.1; instances = (and_parts (nat_le (instance_count m.equations) MAX_INSTANCES) (fits_initial m.equations m.initial) b.1).0 }
 
 pub record CodeFits (v : Version) (sizes : List ℕ) (e : EquationContents) : Type 0 where
-  pub params : is_between 0 9 (length e.params) ≡ true
+  pub params : is_between 0 (MAX_PARAMETERS + 1) (length e.params) ≡ true
   pub code : is_between 1 (2 ^ 16) (length e.code) ≡ true
   pub ops : list_all (fits_op v sizes) e.code ≡ true
 
@@ -57,14 +55,14 @@ code_fits v sizes e h =
     let tokens = is_u32 e.tokens && code in
     let steps = is_u32 e.steps && tokens in
     let loops = is_between 0 241 (length e.loops) && list_all (fits_carrier sizes) e.loops in
-    let params = is_between 0 9 (length e.params) && list_all (fits_carrier sizes) e.params in
+    let params = is_between 0 (MAX_PARAMETERS + 1) (length e.params) && list_all (fits_carrier sizes) e.params in
     let a = and_parts (is_name e.name) (params && (loops && steps)) h in
     let b = and_parts params (loops && steps) a.1 in
     let c = and_parts loops steps b.1 in
     let d = and_parts (is_u32 e.steps) tokens c.1 in
     let f = and_parts (is_u32 e.tokens) code d.1 in
     let g = and_parts (is_between 1 (2 ^ 16) (length e.code)) (list_all (fits_op v sizes) e.code) f.1 in
-    record { params = (and_parts (is_between 0 9 (length e.params)) (list_all (fits_carrier sizes) e.params) b.0).0; code = g.0; ops = g.1 }
+    record { params = (and_parts (is_between 0 (MAX_PARAMETERS + 1) (length e.params)) (list_all (fits_carrier sizes) e.params) b.0).0; code = g.0; ops = g.1 }
 
 -- ---- code
 
@@ -108,30 +106,24 @@ code_within_limits m k e h at =
 
 -- ---- the layout
 
-few_params : (v : Version) (sizes : List ℕ) (es : List EquationContents) → list_all (fits_equation v sizes) es ≡ true → All (λ (ps : List Carrier). length ps ≤ 8) (map (λ (e : EquationContents). e.params) es)
+few_params : (v : Version) (sizes : List ℕ) (es : List EquationContents) → list_all (fits_equation v sizes) es ≡ true → All (λ (ps : List Carrier). length ps ≤ MAX_PARAMETERS) (map (λ (e : EquationContents). e.params) es)
 few_params v sizes [] h k d lt = absurd (omega arith)
 few_params v sizes (e ∷ es) h zero d lt =
-    let b = below 0 9 (length e.params) (code_fits v sizes e (and_parts (fits_equation v sizes e) (list_all (fits_equation v sizes) es) h).0).params in
+    let b = below 0 (MAX_PARAMETERS + 1) (length e.params) (code_fits v sizes e (and_parts (fits_equation v sizes e) (list_all (fits_equation v sizes) es) h).0).params in
     omega arith
 few_params v sizes (e ∷ es) h (suc k) d lt = few_params v sizes es (and_parts (fits_equation v sizes e) (list_all (fits_equation v sizes) es) h).1 k d (omega arith)
 
-instances_long : (n : ℕ) (es : List EquationContents) → length (instances_from n (carriers_of (map (λ (e : EquationContents). e.params) es))) ≡ instance_count es
-instances_long n [] = refl
-instances_long n (e ∷ es) =
-    length-instances_from-cons n (map values_of e.params) (carriers_of (map (λ (x : EquationContents). x.params) es))
-    ∙ ap (λ k. tuple_count (map values_of e.params) + k) (instances_long (suc n) es)
-
 -- there are no more equations, parameters and instances than a layout may have
 pub record HasLayout (callees : List (List Carrier)) : Type 0 where
-  pub equations : length callees ≤ 64
-  pub params : All (λ (ps : List Carrier). length ps ≤ 8) callees
-  pub instances : count_of callees ≤ 4194304
+  pub equations : length callees ≤ MAX_EQUATIONS
+  pub params : All (λ (ps : List Carrier). length ps ≤ MAX_PARAMETERS) callees
+  pub instances : count_of callees ≤ MAX_INSTANCES
 
 pub has_layout : (m : Contents) → fits m ≡ true → HasLayout (parameters m)
 has_layout m h =
     let parts = equations_fit m h in
     record {
-      equations = let a = below 1 65 (length m.equations) parts.few in rw length-map (omega arith);
+      equations = let a = below 1 (MAX_EQUATIONS + 1) (length m.equations) parts.few in rw length-map (omega arith);
       params = few_params m.version (counts m.sorts) m.equations parts.each;
-      instances = let a = leb-true (instance_count m.equations) 4194304 parts.instances in omega (arith, instances_long 0 m.equations);
+      instances = let a = leb-true (instance_count m.equations) MAX_INSTANCES parts.instances in omega (arith, instances_counted 0 m.equations);
     }

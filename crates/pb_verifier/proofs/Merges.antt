@@ -2,12 +2,12 @@
 use Rattle.std.proofs.Common.{◌≡◌, ℕ, zero, suc, ◌<◌, ◌≤◌, List, [], ◌∷◌, length, Option, Some, None, refl, sym, ap, ◌∙◌, subst, arith, ⊎_elim, inl, inr, ◌⊎◌}
 use Rattle.std.specs.Prelude.{slice_get, slice_set}
 use Rattle.std.proofs.lemmas.Bool.{cases_eq}
+use Rattle.std.proofs.lemmas.Option.{none-some, same_Some}
 use Rattle.pb_bytecode_program.specs.Transfer.{AbstractState, Edge, Flow}
 use Rattle.pb_bytecode_program.specs.Accepted.{Table, state_at, join_option, IsCovered, Leads, AllLead, FlowIsCovered}
-use Rattle.pb_bytecode_program.specs.declared.instruction.Op.{Op}
 use Rattle.pb_bytecode_program.proofs.Rules.{state_within}
 use Rattle.pb_verifier_states.specs.Join.{join_states}
-use Rattle.pb_verifier_states.proofs.Hulls.{state_same, join_covers, join_least, join_none}
+use Rattle.pb_verifier_states.proofs.Hulls.{join_covers, join_least, join_none}
 use Rattle.pb_verifier_states.proofs.Order.{through}
 use Rattle.pb_verifier.specs.Pass.{then_table, put, joined_at, merge_state, merge_edges}
 
@@ -64,21 +64,6 @@ set_long [] to n = refl
 set_long (x ∷ t) zero n = refl
 set_long (x ∷ t) (suc to) n = ap suc (set_long t to n)
 
-pub some_none : (t : Table) → Some t ≡ None → ⊥
-some_none t e = cc
-
-pub op_same : (i j : Op) → Some i ≡ Some j → i ≡ j
-op_same i j e = cc
-
-pub none_some : (k : AbstractState) → None ≡ Some k → ⊥
-none_some k e = cc
-
-pub none_table : (u : Table) → None ≡ Some u → ⊥
-none_table u e = cc
-
-pub table_same : (t u : Table) → Some t ≡ Some u → t ≡ u
-table_same t u e = cc
-
 -- what stands at a place
 abbrev Stood : Table → ℕ → Option AbstractState → Type 0
 Stood t to o = slice_get t to ≡ Some o
@@ -118,22 +103,22 @@ written t q to o s n lt h solid sn nn old least =
 
 fresh : (t u : Table) (q to : ℕ) (s : AbstractState) → q < to → AllSolid t → IsCovered s s → slice_get t to ≡ Some None → slice_set t to (Some s) ≡ u → Joined t u q (record { to = to; state = s } ∷ [])
 fresh t u q to s lt solid ss h same =
-    subst (λ v. Joined t v q (record { to = to; state = s } ∷ [])) same (written t q to None s s lt h solid ss ss (λ k g. absurd (none_some k g)) (λ m b sm. sm))
+    subst (λ v. Joined t v q (record { to = to; state = s } ∷ [])) same (written t q to None s s lt h solid ss ss (λ k g. absurd (none-some k g)) (λ m b sm. sm))
 
 widened : (t u : Table) (q to : ℕ) (s k n : AbstractState) → q < to → AllSolid t → IsCovered s s → slice_get t to ≡ Some (Some k) → join_states k s ≡ Some n → slice_set t to (Some n) ≡ u → Joined t u q (record { to = to; state = s } ∷ [])
 widened t u q to s k n lt solid ss h f same =
     let c = join_covers k s n f (solid to k (stood_known t to (Some k) h)) ss in
     let nn = join_least k s n n f c.0 c.1 in
     subst (λ v. Joined t v q (record { to = to; state = s } ∷ [])) same
-    (written t q to (Some k) s n lt h solid c.1 nn (λ k' g. subst (λ (x : AbstractState). IsCovered x n) (state_same k k' g) c.0) (λ m b sm. join_least k s n m f (b k refl) sm))
+    (written t q to (Some k) s n lt h solid c.1 nn (λ k' g. subst (λ (x : AbstractState). IsCovered x n) (same_Some k k' g) c.0) (λ m b sm. join_least k s n m f (b k refl) sm))
 
 widened_by : (t u : Table) (q to : ℕ) (s k : AbstractState) (j : Option AbstractState) → q < to → AllSolid t → IsCovered s s → slice_get t to ≡ Some (Some k) → join_states k s ≡ j → put t to j ≡ Some u → Joined t u q (record { to = to; state = s } ∷ [])
-widened_by t u q to s k None lt solid ss h f e = absurd (none_table u e)
-widened_by t u q to s k (Some n) lt solid ss h f e = widened t u q to s k n lt solid ss h f (table_same _ _ e)
+widened_by t u q to s k None lt solid ss h f e = absurd (none-some u e)
+widened_by t u q to s k (Some n) lt solid ss h f e = widened t u q to s k n lt solid ss h f (same_Some _ _ e)
 
 merge_by : (t u : Table) (q to : ℕ) (s : AbstractState) (o : Option (Option AbstractState)) → q < to → AllSolid t → IsCovered s s → slice_get t to ≡ o → joined_at t to o s ≡ Some u → Joined t u q (record { to = to; state = s } ∷ [])
-merge_by t u q to s None lt solid ss h e = absurd (none_table u e)
-merge_by t u q to s (Some None) lt solid ss h e = fresh t u q to s lt solid ss h (table_same _ _ e)
+merge_by t u q to s None lt solid ss h e = absurd (none-some u e)
+merge_by t u q to s (Some None) lt solid ss h e = fresh t u q to s lt solid ss h (same_Some _ _ e)
 merge_by t u q to s (Some (Some k)) lt solid ss h e = widened_by t u q to s k (join_states k s) lt solid ss h refl e
 
 merge_joined : (t u : Table) (q to : ℕ) (s : AbstractState) → q < to → AllSolid t → IsCovered s s → merge_state t to s ≡ Some u → Joined t u q (record { to = to; state = s } ∷ [])
@@ -176,17 +161,17 @@ AllFit q [] = Unit {0}
 AllFit q (e ∷ es) = (q < e.to) × IsCovered e.state e.state × AllFit q es
 
 pub edges_joined : (es : List Edge) (t u : Table) (q : ℕ) → AllFit q es → AllSolid t → merge_edges t es ≡ Some u → Joined t u q es
-edges_joined [] t u q f s e = subst (λ v. Joined t v q []) (table_same t u e) (nothing_joined t q s)
+edges_joined [] t u q f s e = subst (λ v. Joined t v q []) (same_Some t u e) (nothing_joined t q s)
 edges_joined (e ∷ es) t u q f s h = by (merge_state t e.to e.state) refl h (λ v s' h'. edges_joined es v u q f.2 s' h')
   where
     by : (o : Option Table) → merge_state t e.to e.state ≡ o → then_table o (λ v. merge_edges v es) ≡ Some u → ((v : Table) → AllSolid v → merge_edges v es ≡ Some u → Joined v u q es) → Joined t u q (e ∷ es)
-    by None m h r = absurd (none_table u h)
+    by None m h r = absurd (none-some u h)
     by (Some v) m h r =
         let a = merge_joined t v q e.to e.state f.0 s f.1 m in
         more_joined t v u q e es a (r v a.solid h)
 
 pub edges_refused : (es : List Edge) (t T : Table) (q : ℕ) → AllFit q es → AllSolid t → length t ≡ length T → IsBelow t T → AllLead T es → merge_edges t es ≡ None → ⊥
-edges_refused [] t T q f s len b l h = some_none t h
+edges_refused [] t T q f s len b l h = none-some t (sym h)
 edges_refused (e ∷ es) t T q f s len b l h = by (merge_state t e.to e.state) refl h (λ v s' len' b' h'. edges_refused es v T q f.2 s' len' b' l.1 h')
   where
     by : (o : Option Table) → merge_state t e.to e.state ≡ o → then_table o (λ v. merge_edges v es) ≡ None → ((v : Table) → AllSolid v → length v ≡ length T → IsBelow v T → merge_edges v es ≡ None → ⊥) → ⊥

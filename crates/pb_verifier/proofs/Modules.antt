@@ -1,8 +1,9 @@
 -- From the equations of a module as the program holds them to what the module says.
 use Rattle.std.proofs.Common.{◌≡◌, ℕ, zero, suc, ◌≤◌, true, List, [], ◌∷◌, length, map, Some, Vec, refl, sym, ap, subst, ◌∙◌, arith}
-use Rattle.std.specs.Prelude.{All, slice_get, vec_items, vec_len, option_map}
-use Rattle.std.proofs.lemmas.Option.{slice_get-map}
+use Rattle.std.specs.Prelude.{All, slice_get, vec_items, vec_len}
+use Rattle.pb_sorts.specs.declared.limits.TheConstants.{MAX_EQUATIONS}
 use Rattle.pb_sorts.specs.declared.carrier.Carrier.{Carrier}
+use Rattle.pb_sorts.proofs.Places.{slice_get-mapped}
 use Rattle.pb_bytecode.specs.declared.module.Module.{Module}
 use Rattle.pb_bytecode.specs.declared.equation.Equation.{Equation}
 use Rattle.pb_bytecode.specs.Contents.{EquationContents, counts}
@@ -36,9 +37,6 @@ parameters_are m sizes callees es o = o.callees_are ∙ params_map m.equations.i
 same_program : (m : Module) (sizes : List ℕ) (callees : List (List Carrier)) (es : List Equation) (e : Equation) → IsOf m sizes callees es → program_of (module_contents m) (equation_contents e) ≡ program_in sizes callees e
 same_program m sizes callees es e o = rw (o.sizes_are, parameters_are m sizes callees es o) refl
 
-contents_at : (es : List Equation) (k : ℕ) (e : Equation) → slice_get es k ≡ Some e → slice_get (map equation_contents es) k ≡ Some (equation_contents e)
-contents_at es k e h = slice_get-map equation_contents es k ∙ ap (option_map equation_contents) h
-
 -- the equation that is there
 pub record IsThere (es : List Equation) (k : ℕ) (x : EquationContents) : Type 0 where
   pub equation : Equation
@@ -53,7 +51,7 @@ equation_at (e ∷ es) (suc k) x h = let t = equation_at es k x h in record { eq
 pub each_within_limits : (m : Module) (sizes : List ℕ) (callees : List (List Carrier)) (es : List Equation) → IsOf m sizes callees es → fits (module_contents m) ≡ true → (k : ℕ) (e : Equation) → slice_get es k ≡ Some e → IsWithinLimits (program_in sizes callees e)
 each_within_limits m sizes callees es o f k e h =
     let here : slice_get m.equations.items k ≡ Some e = ap (λ (xs : List Equation). slice_get xs k) (sym o.equations_are) ∙ h in
-    subst IsWithinLimits (same_program m sizes callees es e o) (code_within_limits (module_contents m) k (equation_contents e) f (contents_at m.equations.items k e here))
+    subst IsWithinLimits (same_program m sizes callees es e o) (code_within_limits (module_contents m) k (equation_contents e) f (slice_get-mapped equation_contents m.equations.items k e here))
 
 pub accepted_by_tables : (m : Module) (sizes : List ℕ) (callees : List (List Carrier)) (es : List Equation) → IsOf m sizes callees es → HaveTables sizes callees es → IsAccepted (module_contents m)
 accepted_by_tables m sizes callees es o h = record {
@@ -67,7 +65,7 @@ accepted_by_tables m sizes callees es o h = record {
 pub tables_of_accepted : (m : Module) (sizes : List ℕ) (callees : List (List Carrier)) (es : List Equation) → IsOf m sizes callees es → IsAccepted (module_contents m) → HaveTables sizes callees es
 tables_of_accepted m sizes callees es o a k e h =
     let here : slice_get m.equations.items k ≡ Some e = ap (λ (xs : List Equation). slice_get xs k) (sym o.equations_are) ∙ h in
-    subst HasTable (same_program m sizes callees es e o) (a.codes k (equation_contents e) (contents_at m.equations.items k e here))
+    subst HasTable (same_program m sizes callees es e o) (a.codes k (equation_contents e) (slice_get-mapped equation_contents m.equations.items k e here))
 
 pub layout_fits : (m : Module) (sizes : List ℕ) (callees : List (List Carrier)) (es : List Equation) → IsOf m sizes callees es → fits (module_contents m) ≡ true → HasLayout callees
 layout_fits m sizes callees es o f = subst HasLayout (sym (parameters_are m sizes callees es o)) (has_layout (module_contents m) f)
@@ -85,7 +83,7 @@ few_each [] h k d lt = absurd (omega arith)
 few_each (v ∷ vs) h zero d lt = let a = h 0 [] (omega arith) in omega (arith, v.ok.0)
 few_each (v ∷ vs) h (suc k) d lt = few_each vs (λ j e l. h (suc j) e (omega arith)) k d (omega arith)
 
-pub few_lists : {A : Type 0} → (vs : List (Vec Carrier A)) → length (map vec_items vs) ≤ 64 → length vs ≤ 64
+pub few_lists : {A : Type 0} → (vs : List (Vec Carrier A)) → length (map vec_items vs) ≤ MAX_EQUATIONS → length vs ≤ MAX_EQUATIONS
 few_lists vs h = simp length-map at h
 
 pub verified_by : (m : Module) (sizes : List ℕ) (callees layout : List (List Carrier)) (es : List Equation) → IsOf m sizes callees es → HaveTables sizes callees es → layout ≡ callees → IsVerified (module_contents m) layout

@@ -1,7 +1,9 @@
 -- One place of the pass.
 use Rattle.std.proofs.lemmas.Option.{slice_get-get_or}
-use Rattle.std.proofs.Common.{◌≡◌, ℕ, zero, suc, ◌+◌, ◌<◌, ◌≤◌, ◌∙◌, get_or, Bool, true, false, List, [], ◌∷◌, length, drop, Option, Some, None, refl, sym, ap, arith}
+use Rattle.std.proofs.Common.{◌≡◌, ℕ, ◌+◌, ◌<◌, ◌≤◌, ◌∙◌, get_or, Bool, true, false, List, [], ◌∷◌, length, drop, Option, Some, None, refl, sym, ap}
 use Rattle.std.specs.Prelude.{Result, Ok, Err, OnOk, slice_get, slice_set}
+use Rattle.std.proofs.lemmas.List.{drop_all}
+use Rattle.pb_sorts.proofs.Places.{drop-slice_get}
 use Rattle.pb_bytecode_program.specs.Counts.{loop_effect}
 use Rattle.pb_verifier_states.specs.Refusals.{OnRefused, OnRefusedBy}
 use Rattle.pb_verifier_states.specs.declared.flow_error.FlowError.{FlowError}
@@ -32,17 +34,6 @@ where_refused (Err e) f h = where_refused_by e f h
 
 -- ---- the instructions that are left
 
-drop_here : (code : List Op) (q : ℕ) (i : Op) → slice_get code q ≡ Some i → drop q code ≡ i ∷ drop (q + 1) code
-drop_here [] q i e = cc
-drop_here (j ∷ code) zero i e = let same : j ≡ i = cc in ap (λ (x : Op). x ∷ code) same
-drop_here (j ∷ code) (suc q) i e = let z : suc q + 1 ≡ suc (q + 1) = omega arith in rw z (drop_here code q i e)
-
-drop_behind : (code : List Op) (q : ℕ) → length code ≤ q → drop q code ≡ []
-drop_behind [] zero l = refl
-drop_behind [] (suc q) l = refl
-drop_behind (j ∷ code) zero l = absurd (omega arith)
-drop_behind (j ∷ code) (suc q) l = drop_behind code q (omega arith)
-
 -- the instruction at a place
 pub op_here : (items code : List Op) (q : ℕ) (d : Op) → items ≡ code → q < length items → slice_get code q ≡ Some (get_or items q d)
 op_here items code q d e l = sym (ap (λ (x : List Op). slice_get x q) e) ∙ slice_get-get_or items q d l
@@ -58,17 +49,17 @@ passes_begin p homes t h e = rw (h, e, drop_none p.code) refl
 -- where a place is visited, the pass goes on behind it
 pub passes_next : (p : Program) (code : List Op) (q : ℕ) (i : Op) (homes after : Homes) (t u : Table) (all : Bool) → slice_get code q ≡ Some i → visited p q i (state_at t q) homes (slice_set t q None) ≡ Some u → after ≡ homes_after (loop_effect i) (state_at t q) homes → passes p q (drop q code) homes t ≡ all → passes p (q + 1) (drop (q + 1) code) after u ≡ all
 passes_next p code q i homes after t u all e v h so_far =
-    let here : passes p q (drop q code) homes t ≡ passes p (q + 1) (drop (q + 1) code) after u = rw (drop_here code q i e, v, h) refl in
+    let here : passes p q (drop q code) homes t ≡ passes p (q + 1) (drop (q + 1) code) after u = rw (drop-slice_get code q i e, v, h) refl in
     sym here ∙ so_far
 
 -- where it is refused, the pass refuses the code
 pub passes_not : (p : Program) (code : List Op) (q : ℕ) (i : Op) (homes : Homes) (t : Table) (all : Bool) → slice_get code q ≡ Some i → visited p q i (state_at t q) homes (slice_set t q None) ≡ None → passes p q (drop q code) homes t ≡ all → all ≡ false
 passes_not p code q i homes t all e v so_far =
-    let here : passes p q (drop q code) homes t ≡ false = rw (drop_here code q i e, v) refl in
+    let here : passes p q (drop q code) homes t ≡ false = rw (drop-slice_get code q i e, v) refl in
     sym so_far ∙ here
 
 -- behind the last place it ends
 pub passes_end : (p : Program) (code : List Op) (q : ℕ) (homes : Homes) (t : Table) (all : Bool) → length code ≤ q → passes p q (drop q code) homes t ≡ all → all ≡ true
 passes_end p code q homes t all l so_far =
-    let here : passes p q (drop q code) homes t ≡ true = rw (drop_behind code q l) refl in
+    let here : passes p q (drop q code) homes t ≡ true = rw (drop_all q code l) refl in
     sym so_far ∙ here

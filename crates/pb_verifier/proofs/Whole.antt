@@ -3,6 +3,7 @@ use Rattle.std.proofs.Common.{◌≡◌, ℕ, zero, suc, ◌+◌, ◌<◌, ◌�
 use Rattle.std.specs.Prelude.{slice_get, slice_set}
 use Rattle.std.proofs.Math.ListN.{length-replicate}
 use Rattle.std.proofs.lemmas.Bool.{cases_eq}
+use Rattle.pb_bytecode_program.specs.declared.limits.TheConstants.{MAX_STEPS, MAX_TOKENS}
 use Rattle.pb_bytecode_program.specs.Machine.{Program}
 use Rattle.pb_bytecode_program.specs.Counts.{LoopEffect, Enters, Leaves, Straight, loop_effect, loops_after, loops_around, static_steps, static_tokens}
 use Rattle.pb_bytecode_program.specs.Transfer.{AbstractState}
@@ -13,11 +14,11 @@ use Rattle.pb_bytecode_program.specs.declared.instruction.Op.{Op}
 use Rattle.pb_sorts.specs.declared.carrier.Carrier.{Carrier}
 use Rattle.pb_sorts.specs.declared.carrier.Carrier.TheVariants as carrier
 use lib.Signed.{≤ℤ_refl}
-use Rattle.pb_verifier_states.proofs.Hulls.{state_same}
+use Rattle.std.proofs.lemmas.Option.{none-some, same_Some}
 use Rattle.pb_verifier.specs.Pass.{Homes, homes_after, visited, passes, passes_on, opening, code_passes, innermost}
 use Rattle.pb_verifier_structure.specs.Structure.{IsStructured, IsWithinLimits}
 use Rattle.pb_verifier_structure.proofs.Around.{start_around}
-use Rattle.pb_verifier.proofs.Merges.{IsBelow, set_same, set_other, set_long, none_some}
+use Rattle.pb_verifier.proofs.Merges.{IsBelow, set_same, set_other, set_long}
 use Rattle.pb_verifier.proofs.Agreement.{Agrees, SameBehind, SameResult, visited_agrees, home_of}
 use Rattle.pb_verifier.proofs.Kept.{Kept, later_edges, kept_more, earlier_more, refused_at, below_more, then_visit}
 
@@ -138,8 +139,8 @@ entry_solid p = record { operands = tt; below = refl; params = carriers_solid p.
 open_known : (p : Program) (r : ℕ) (k : AbstractState) → 0 < length p.code → state_at (opening p) r ≡ Some k → (r ≡ 0) × (k ≡ entry p)
 open_known p r k l e =
     ⊎_elim
-    (λ (same : r ≡ 0). (same, sym (state_same _ _ (sym (set_same (replicate (length p.code) None) 0 None (entry p) (first_there (length p.code) l)) ∙ ap (state_at (opening p)) (sym same) ∙ e))))
-    (λ (differ : r ≡ 0 → ⊥). absurd (none_some k (sym (nothing_known (length p.code) r) ∙ sym (set_other (replicate (length p.code) None) 0 r (entry p) differ) ∙ e)))
+    (λ (same : r ≡ 0). (same, sym (same_Some _ _ (sym (set_same (replicate (length p.code) None) 0 None (entry p) (first_there (length p.code) l)) ∙ ap (state_at (opening p)) (sym same) ∙ e))))
+    (λ (differ : r ≡ 0 → ⊥). absurd (none-some k (sym (nothing_known (length p.code) r) ∙ sym (set_other (replicate (length p.code) None) 0 r (entry p) differ) ∙ e)))
     (cases_eq r 0)
 
 opening_kept : (p : Program) → IsWithinLimits p → Kept p (opening p) 0
@@ -156,7 +157,7 @@ opening_agrees : (p : Program) → Agrees p (opening p) (opening p) [] 0
 opening_agrees p = record { same = λ r le. refl; long = refl; known = rw (start_around p.code) refl }
 
 -- where the pass ends, a table accepts the code
-pub pass_sound : (p : Program) → IsStructured p → IsWithinLimits p → static_steps p ≤ p.stated_steps → p.stated_steps ≤ 1000000 → static_tokens p ≤ p.stated_tokens → p.stated_tokens ≤ 100000 → code_passes p ≡ true → (table : Table) × Accepted p table
+pub pass_sound : (p : Program) → IsStructured p → IsWithinLimits p → static_steps p ≤ p.stated_steps → p.stated_steps ≤ MAX_STEPS → static_tokens p ≤ p.stated_tokens → p.stated_tokens ≤ MAX_TOKENS → code_passes p ≡ true → (table : Table) × Accepted p table
 pass_sound p w l a b c d e =
     let k = all_kept p w l p.code 0 (opening p) (opening p) [] refl (omega arith) (opening_kept p l) (opening_agrees p) e in (
       k.0,

@@ -3,6 +3,7 @@ use Rattle.std.specs.Prelude.{◌≡◌, ℕ, ◌<◌, ◌≤◌, List, Some}
 use Rattle.std.specs.List.{slice_get}
 use Rattle.pb_sorts.specs.Layout.{count_of}
 use Rattle.pb_sorts.specs.declared.carrier.Carrier.{Carrier}
+use Rattle.pb_bytecode_program.specs.declared.limits.TheConstants.{MAX_STEPS, MAX_TOKENS}
 use Rattle.pb_bytecode_program.specs.Machine.{Program}
 use Rattle.pb_bytecode_program.specs.Counts.{static_steps, static_tokens}
 use Rattle.pb_bytecode_program.specs.Accepted.{Accepted, Table}
@@ -32,14 +33,14 @@ pub record IsInitial (m : Contents) (number : ℕ) : Type 0 where
 -- the steps and tokens are at least the static counts and within the limits
 pub record StatesCounts (p : Program) (steps tokens : ℕ) : Type 0 where
   pub enough_steps : static_steps p ≤ steps
-  pub few_steps : steps ≤ 1000000
+  pub few_steps : steps ≤ MAX_STEPS
   pub enough_tokens : static_tokens p ≤ tokens
-  pub few_tokens : tokens ≤ 100000
+  pub few_tokens : tokens ≤ MAX_TOKENS
 
 -- on any arguments of the declared carriers a run never faults, and it ends within the steps and tokens that are stated
 pub record RunsSafely (p : Program) : Type 0 where
   pub safe : IsSafe p
   pub steps : static_steps p ≤ p.stated_steps
   pub tokens : static_tokens p ≤ p.stated_tokens
-  pub few_steps : p.stated_steps ≤ 1000000
-  pub few_tokens : p.stated_tokens ≤ 100000
+  pub few_steps : p.stated_steps ≤ MAX_STEPS
+  pub few_tokens : p.stated_tokens ≤ MAX_TOKENS

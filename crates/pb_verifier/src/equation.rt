@@ -12,16 +12,11 @@ ghost use Rattle.pb_verifier_structure.specs.Structure.{IsWithinLimits};
 use crate::equation_error::EquationError;
 use crate::pass::pass;
 use pb_bytecode::Equation;
+use pb_bytecode_program::{MAX_STEPS, MAX_TOKENS};
 use pb_sorts::Carrier;
 use pb_verifier_states::AcceptanceRule;
 use pb_verifier_structure::{EquationCode, check_structure, static_counts};
 use std::alloc::Global;
-
-/// At most how many steps an equation may state.
-const MAX_STEPS: u64 = 1_000_000;
-
-/// At most how many tokens an equation may state.
-const MAX_TOKENS: u64 = 100_000;
 
 // Whether the stated counts are at least the static ones and within the limits.
 fn are_enough(code: &EquationCode, steps: u32, tokens: u32) -> bool
@@ -29,13 +24,12 @@ fn are_enough(code: &EquationCode, steps: u32, tokens: u32) -> bool
     ensures { (p : Program) → IsProgramOf p code.now → IsTrue result ↔ StatesCounts p steps tokens }
 {
     let counts = static_counts(code);
-    let steps = u64::from(steps);
-    let tokens = u64::from(tokens);
-    counts.steps <= steps && steps <= MAX_STEPS && counts.tokens <= tokens && tokens <= MAX_TOKENS
+    let enough = counts.steps <= u64::from(steps) && counts.tokens <= u64::from(tokens);
+    enough && steps <= MAX_STEPS && tokens <= MAX_TOKENS
 }
 
-/// Checks the code of an equation. `sorts` has the counts of enumerators, `callees` the carriers of each equation's
-/// parameters.
+/// Checks the code of an equation. `sorts` has the counts of enumerators, `callees` the carriers of
+/// each equation's parameters.
 pub(crate) fn check_equation(
     alloc: Global,
     sorts: &[u8],
@@ -43,8 +37,10 @@ pub(crate) fn check_equation(
     equation: &Equation,
 ) -> Result<(), EquationError>
     requires { IsWithinLimits (program_in sorts.now (map vec_items callees.now) equation.now) }
-    ensures accepted { OnOk result (HasTable (program_in sorts.now (map vec_items callees.now) equation.now)) }
-    ensures refused { OnRuleBroken result (HasTable (program_in sorts.now (map vec_items callees.now) equation.now) → ⊥) }
+    ensures accepted { OnOk result (HasTable (program_in sorts.now
+        (map vec_items callees.now) equation.now)) }
+    ensures refused { OnRuleBroken result
+        (HasTable (program_in sorts.now (map vec_items callees.now) equation.now) → ⊥) }
 {
     let code = EquationCode {
         instructions: &equation.code,

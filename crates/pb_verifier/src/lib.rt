@@ -1,7 +1,7 @@
-//! The verifier of modules. Code is accepted where it keeps the rules by position, states counts that are large enough,
-//! and has a table of abstract states with which each instruction agrees; one pass from the first place to the last
-//! finds the least such table. What is accepted never faults and ends within the stated counts, and no module that is
-//! accepted is refused.
+//! The verifier of modules. Code is accepted where it keeps the rules by position, states counts
+//! that are large enough, and has a table of abstract states with which each instruction agrees;
+//! one pass from the first place to the last finds the least such table. What is accepted never
+//! faults and ends within the stated counts, and no module that is accepted is refused.
 #![tactic(auto)]
 
 mod equation;

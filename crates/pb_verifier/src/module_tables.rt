@@ -1,12 +1,13 @@
-//! What the code of all equations of a module stands in: how many enumerators each sort has, which carriers the
-//! parameters of each equation have, and the layout of the instances.
+//! What the code of all equations of a module stands in: how many enumerators each sort has, which
+//! carriers the parameters of each equation have, and the layout of the instances.
 
 ghost use Rattle.std.specs.Prelude.{◌≡◌, ◌≤◌, All, IfOk, map, length, vec_items, vec_len};
 ghost use Rattle.pb_bytecode.specs.Contents.{counts};
 ghost use Rattle.pb_bytecode.specs.Views.{sort_contents};
 ghost use Rattle.pb_sorts.specs.Layout.{count_of, lists_of};
 ghost use Rattle.pb_verifier.specs.Programs.{params_of};
-ghost use Rattle.pb_sorts.specs.declared.limits.TheConstants.{MAX_EQUATIONS, MAX_PARAMETERS, MAX_INSTANCES};
+ghost use Rattle.pb_sorts.specs.declared.limits.TheConstants.{MAX_EQUATIONS, MAX_PARAMETERS};
+ghost use Rattle.pb_sorts.specs.declared.limits.TheConstants.{MAX_INSTANCES};
 
 use pb_bytecode::{Equation, Sort};
 use pb_sorts::{Carrier, Layout, LayoutError};
@@ -37,7 +38,8 @@ pub(crate) fn parameter_carriers(
     Ok(carriers)
 }
 
-/// The layout of equations with these parameters, of which there are no more than a layout may have.
+/// The layout of equations with these parameters, of which there are no more than a layout may
+/// have.
 pub(crate) fn layout_of(alloc: Global, carriers: &[Vec<Carrier>]) -> Result<Layout, AllocError>
     requires equations { length carriers.now ≤ MAX_EQUATIONS }
     requires parameters { All (λ parameters. vec_len parameters ≤ MAX_PARAMETERS) carriers.now }

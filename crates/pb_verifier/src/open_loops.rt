@@ -9,7 +9,8 @@ use pb_verifier_states::AbstractState;
 use std::alloc::{AllocError, Global};
 use std::marker::Model;
 
-/// What was known at the starts of the loops around a place; nothing of a start that no way reaches.
+/// What was known at the starts of the loops around a place; nothing of a start that no way
+/// reaches.
 #[derive(Drop)]
 pub(crate) struct OpenLoops {
     // The innermost last.
@@ -43,7 +44,8 @@ impl OpenLoops {
         Ok(())
     }
 
-    /// Leaves the innermost loop: what was known at its start, if there is a loop and a way reached it.
+    /// Leaves the innermost loop: what was known at its start, if there is a loop and a way reached
+    /// it.
     pub(crate) fn leave(&mut self) -> Option<AbstractState>
         ensures start { result ≡ innermost self.old }
         ensures left { (known : Option Known) → self.new ≡ homes_after Leaves known self.old }

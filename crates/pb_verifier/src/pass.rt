@@ -1,6 +1,8 @@
-//! The pass over the code of an equation: each place's state flows on to later places, from the first place to the last.
+//! The pass over the code of an equation: each place's state flows on to later places, from the
+//! first place to the last.
 
-ghost use Rattle.std.specs.Prelude.{◌≡◌, ◌<◌, [], ◌∷◌, IfOk, List, None, OnOk, Some, ℕ, map, replicate, slice_set, true, false, vec_items, vec_len};
+ghost use Rattle.std.specs.Prelude.{◌≡◌, ◌<◌, [], ◌∷◌, IfOk, List, None, OnOk, Some, ℕ, map};
+ghost use Rattle.std.specs.Prelude.{replicate, slice_set, true, false, vec_items, vec_len};
 ghost use Rattle.pb_verifier_states.specs.Refusals.{OnRefused};
 ghost use Rattle.pb_bytecode_program.specs.Accepted.{state_at};
 ghost use Rattle.pb_bytecode_program.specs.Counts.{Leaves, loop_effect};
@@ -23,7 +25,8 @@ use pb_sorts::Carrier;
 use pb_verifier_states::{AbstractState, FlowError};
 use std::alloc::{AllocError, Global};
 
-/// What is known in the midst of a pass: at the places to come, and at the starts of the loops around.
+/// What is known in the midst of a pass: at the places to come, and at the starts of the loops
+/// around.
 #[derive(Drop)]
 struct PassState {
     table: Vec<Option<AbstractState>>,
@@ -55,7 +58,8 @@ fn take_state(table: &mut Vec<Option<AbstractState>>, place: usize) -> Option<Ab
 
 // The carrier of a loop slot.
 fn loop_carrier(equation: &Equation, slot: u8) -> Option<Carrier>
-    ensures { (sorts : List ℕ) (callees : List (List carrier_type)) → result ≡ carrier_of (program_in sorts callees equation.now) slot }
+    ensures { (sorts : List ℕ) (callees : List (List carrier_type))
+        → result ≡ carrier_of (program_in sorts callees equation.now) slot }
 {
     let slot = usize::from(slot);
     if slot < equation.params.len() {
@@ -68,7 +72,8 @@ impl PassState {
     // At the start the first place alone is known.
     fn opening(alloc: Global, equation: &Equation) -> Result<PassState, AllocError>
         requires { 0 < vec_len equation.now.code }
-        ensures table { IfOk result (λ pass. (sorts : List ℕ) (callees : List (List carrier_type)) → pass.table.items ≡ opening (program_in sorts callees equation.now)) }
+        ensures table { IfOk result (λ pass. (sorts : List ℕ) (callees : List (List carrier_type))
+            → pass.table.items ≡ opening (program_in sorts callees equation.now)) }
         ensures open { IfOk result (λ pass. pass.open ≡ []) }
     {
         let mut table = empty_table(alloc, equation.code.len())?;
@@ -90,9 +95,16 @@ impl PassState {
     ) -> Result<(), FlowError>
         requires bounds { HasOrderedRange instruction }
         requires small { place < 65536 }
-        ensures flows { OnOk result (visited (program_with names.now equation.now) place instruction (state_at self.old.table.items place) self.old.open (slice_set self.old.table.items place None) ≡ Some self.new.table.items) }
-        ensures open { OnOk result (self.new.open ≡ homes_after (loop_effect instruction) (state_at self.old.table.items place) self.old.open) }
-        ensures refused { OnRefused result (visited (program_with names.now equation.now) place instruction (state_at self.old.table.items place) self.old.open (slice_set self.old.table.items place None) ≡ None) }
+        ensures flows { OnOk result (visited (program_with names.now equation.now) place instruction
+            (state_at self.old.table.items place) self.old.open
+            (slice_set self.old.table.items place None) ≡ Some self.new.table.items) }
+        ensures open { OnOk result (self.new.open
+            ≡ homes_after (loop_effect instruction)
+            (state_at self.old.table.items place) self.old.open) }
+        ensures refused { OnRefused result
+            (visited (program_with names.now equation.now) place instruction
+            (state_at self.old.table.items place) self.old.open
+            (slice_set self.old.table.items place None) ≡ None) }
     {
         let known = take_state(&mut self.table, place);
         match instruction {
@@ -115,9 +127,13 @@ impl PassState {
         known: Option<AbstractState>,
     ) -> Result<(), FlowError>
         requires { place < 65536 }
-        ensures flows { OnOk result ((sorts : List ℕ) (callees : List (List carrier_type)) → visited (program_in sorts callees equation.now) place (op.Loop slot) known self.old.open self.old.table.items ≡ Some self.new.table.items) }
+        ensures flows { OnOk result ((sorts : List ℕ) (callees : List (List carrier_type))
+            → visited (program_in sorts callees equation.now) place
+            (op.Loop slot) known self.old.open self.old.table.items ≡ Some self.new.table.items) }
         ensures open { OnOk result (self.new.open ≡ known ∷ self.old.open) }
-        ensures refused { OnRefused result ((sorts : List ℕ) (callees : List (List carrier_type)) → visited (program_in sorts callees equation.now) place (op.Loop slot) known self.old.open self.old.table.items ≡ None) }
+        ensures refused { OnRefused result ((sorts : List ℕ) (callees : List (List carrier_type))
+            → visited (program_in sorts callees equation.now) place
+            (op.Loop slot) known self.old.open self.old.table.items ≡ None) }
     {
         match known {
             Some(state) => {
@@ -136,9 +152,12 @@ impl PassState {
     // The end of a loop, of which this is known.
     fn end_loop(&mut self, place: usize, known: Option<AbstractState>) -> Result<(), FlowError>
         requires { place < 65536 }
-        ensures flows { OnOk result ((p : Program) → visited p place op.Next known self.old.open self.old.table.items ≡ Some self.new.table.items) }
+        ensures flows { OnOk result ((p : Program)
+            → visited p place op.Next known self.old.open self.old.table.items
+            ≡ Some self.new.table.items) }
         ensures open { OnOk result (self.new.open ≡ homes_after Leaves known self.old.open) }
-        ensures refused { OnRefused result ((p : Program) → visited p place op.Next known self.old.open self.old.table.items ≡ None) }
+        ensures refused { OnRefused result ((p : Program)
+            → visited p place op.Next known self.old.open self.old.table.items ≡ None) }
     {
         let start = self.open.leave();
         match known {
@@ -148,8 +167,8 @@ impl PassState {
     }
 }
 
-/// Passes over the code of an equation. `sorts` has the counts of enumerators, `callees` the carriers of each equation's
-/// parameters.
+/// Passes over the code of an equation. `sorts` has the counts of enumerators, `callees` the
+/// carriers of each equation's parameters.
 ///
 /// # Errors
 /// The rule that fails and the place of its instruction, where the pass refuses the code.
@@ -160,8 +179,10 @@ pub(crate) fn pass(
     equation: &Equation,
 ) -> Result<(), EquationError>
     requires { IsWithinLimits (program_in sorts.now (map vec_items callees.now) equation.now) }
-    ensures passes { OnOk result (code_passes (program_in sorts.now (map vec_items callees.now) equation.now) ≡ true) }
-    ensures refused { OnRuleBroken result (code_passes (program_in sorts.now (map vec_items callees.now) equation.now) ≡ false) }
+    ensures passes { OnOk result
+        (code_passes (program_in sorts.now (map vec_items callees.now) equation.now) ≡ true) }
+    ensures refused { OnRuleBroken result
+        (code_passes (program_in sorts.now (map vec_items callees.now) equation.now) ≡ false) }
 {
     let names = Names { sorts, callees };
     let mut pass = PassState::opening(alloc, equation)?;

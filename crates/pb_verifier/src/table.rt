@@ -40,8 +40,10 @@ pub(crate) fn merge_edges(
     edges: Edges,
 ) -> Result<(), AcceptanceRule>
     requires { place < 65536 }
-    ensures ok { OnOk result (merged_edges table.old.items (edges_of place edges.next edges.jump) ≡ Some table.new.items) }
-    ensures err { OnErr result (merged_edges table.old.items (edges_of place edges.next edges.jump) ≡ None) }
+    ensures ok { OnOk result (merged_edges table.old.items (edges_of place edges.next edges.jump)
+        ≡ Some table.new.items) }
+    ensures err { OnErr result (merged_edges table.old.items (edges_of place edges.next edges.jump)
+        ≡ None) }
 {
     let Edges { next, jump } = edges;
     if let Some(state) = next {

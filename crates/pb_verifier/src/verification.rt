@@ -25,9 +25,12 @@ fn check_equations(
     callees: &[Vec<Carrier>],
     equations: &[Equation],
 ) -> Result<(), VerifyError>
-    requires { (k : ℕ) (e : equation_type) → slice_get equations.now k ≡ Some e → IsWithinLimits (program_in sorts.now (map vec_items callees.now) e) }
-    ensures accepted { OnOk result (HaveTables sorts.now (map vec_items callees.now) equations.now) }
-    ensures refused { IfErr result (λ error. WhereRefused error (HaveTables sorts.now (map vec_items callees.now) equations.now → ⊥)) }
+    requires { (k : ℕ) (e : equation_type) → slice_get equations.now k ≡ Some e
+        → IsWithinLimits (program_in sorts.now (map vec_items callees.now) e) }
+    ensures accepted { OnOk result (HaveTables sorts.now
+        (map vec_items callees.now) equations.now) }
+    ensures refused { IfErr result (λ error. WhereRefused error
+        (HaveTables sorts.now (map vec_items callees.now) equations.now → ⊥)) }
 {
     for (number, equation) in equations.iter().enumerate() {
         match check_equation(alloc, sorts, callees, equation) {
@@ -64,7 +67,8 @@ fn initial_number(alloc: Global, module: &Module, layout: &Layout) -> Result<u32
 fn check(alloc: Global, module: &Module) -> Result<(Layout, u32), VerifyError>
     ensures verified { IfOk result (λ found. IsVerified (module_contents «module».now) found.0) }
     ensures initial { IfOk result (λ found. IsInitial (module_contents «module».now) found.1) }
-    ensures refused { IfErr result (λ error. WhereRefused error (IsAccepted (module_contents «module».now) → ⊥)) }
+    ensures refused { IfErr result (λ error. WhereRefused error
+        (IsAccepted (module_contents «module».now) → ⊥)) }
 {
     let sorts = enumerator_counts(alloc, &module.sorts)?;
     let callees = parameter_carriers(alloc, &module.equations)?;
@@ -74,15 +78,16 @@ fn check(alloc: Global, module: &Module) -> Result<(Layout, u32), VerifyError>
     Ok((layout, initial))
 }
 
-/// Verifies a module: it is accepted where the code of each equation keeps the rules by position, states counts that are
-/// at least the static ones and at most 1,000,000 steps and 100,000 tokens, and has a table of abstract states with
-/// which each instruction agrees (bytecode verification, Lindholm and Yellin 1996).
+/// Verifies a module: it is accepted where the code of each equation keeps the rules by position,
+/// states counts that are at least the static ones and at most 1,000,000 steps and 100,000 tokens,
+/// and has a table of abstract states with which each instruction agrees (bytecode verification,
+/// Lindholm and Yellin 1996).
 ///
 /// # Errors
-/// The module is handed back with the reason. `Refusal` names a rule that is broken, and where: equations are checked in
-/// order, and of each one first how its loops nest, then names and targets, then the stated counts, and then the
-/// instructions that are reached, from the first place to the last. No module that is accepted is refused. `Memory` where
-/// memory is refused.
+/// The module is handed back with the reason. `Refusal` names a rule that is broken, and where:
+/// equations are checked in order, and of each one first how its loops nest, then names and
+/// targets, then the stated counts, and then the instructions that are reached, from the first
+/// place to the last. No module that is accepted is refused. `Memory` where memory is refused.
 pub fn verify(alloc: Global, module: Module) -> Result<Verified, (Module, VerifyError)>
     // The verified module is the one that was given.
     ensures same { IfOk result (λ verified. verified ≡ module_contents «module») }
@@ -91,7 +96,8 @@ pub fn verify(alloc: Global, module: Module) -> Result<Verified, (Module, Verify
     // A refused module is handed back as it was.
     ensures handed_back { IfErr result (λ refusal. refusal.0 ≡ «module») }
     // What is accepted is refused for want of memory alone.
-    ensures refused { IfErr result (λ refusal. WhereRefused refusal.1 (IsAccepted (module_contents «module») → ⊥)) }
+    ensures refused { IfErr result (λ refusal. WhereRefused refusal.1
+        (IsAccepted (module_contents «module») → ⊥)) }
 {
     match check(alloc, &module) {
         Ok((layout, initial)) => Ok(Verified::new(module, layout, initial)),

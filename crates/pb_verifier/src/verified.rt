@@ -11,8 +11,8 @@ use pb_bytecode::Module;
 use pb_sorts::Layout;
 use std::marker::Model;
 
-/// A module whose code is accepted (`specs/Acceptance.antt`), with the layout of its instances and the number of the
-/// initial one. Contracts see what the module says.
+/// A module whose code is accepted (`specs/Acceptance.antt`), with the layout of its instances and
+/// the number of the initial one. Contracts see what the module says.
 #[derive(Drop)]
 pub struct Verified {
     module: Module,
@@ -29,7 +29,8 @@ impl Model for Verified {
 
     ghost view = { λ verified. module_contents verified.module };
 
-    ghost invariant = { λ verified. IsVerified (module_contents verified.module) verified.layout × IsInitial (module_contents verified.module) verified.initial };
+    ghost invariant = { λ verified. IsVerified (module_contents verified.module) verified.layout
+        × IsInitial (module_contents verified.module) verified.initial };
 }
 
 impl Verified {
@@ -55,7 +56,8 @@ impl Verified {
         &self.module
     }
 
-    /// The numbers of the module's instances. Instances that its code calls are those of this layout.
+    /// The numbers of the module's instances. Instances that its code calls are those of this
+    /// layout.
     pub fn layout(&self) -> &Layout
         ensures { result.now ≡ parameters self.now }
     {
@@ -70,12 +72,13 @@ impl Verified {
         self.initial
     }
 
-    /// The law of verified modules, for crates above to call where they need it: the code of each equation, run on any
-    /// arguments of its parameters' carriers, never faults, and ends within the steps and tokens that it states. The
-    /// function does nothing.
+    /// The law of verified modules, for crates above to call where they need it: the code of each
+    /// equation, run on any arguments of its parameters' carriers, never faults, and ends within
+    /// the steps and tokens that it states. The function does nothing.
     pub fn runs_safely(&self)
         ensures accepted { IsAccepted self.now }
-        ensures safe { (k : ℕ) (e : EquationContents) → slice_get self.now.equations k ≡ Some e → RunsSafely (program_of self.now e) }
+        ensures safe { (k : ℕ) (e : EquationContents) → slice_get self.now.equations k ≡ Some e
+            → RunsSafely (program_of self.now e) }
     {
         let _ = &self.module;
         pb_bytecode_program::accepted_is_safe();

@@ -9,8 +9,9 @@ use std::fmt;
 /// Why a module is refused. It shows as `V03 equation 0 place 2`, or `M01`.
 #[derive(Clone, Copy, Debug, PartialEq, Eq)]
 pub enum VerifyError {
-    /// `V01` to `V16`: the rule that is broken, by the instruction at a place of an equation's code. Equations and
-    /// places count from 0. The stated counts (`V16`) are those of the equation, and are named at place 0.
+    /// `V01` to `V16`: the rule that is broken, by the instruction at a place of an equation's
+    /// code. Equations and places count from 0. The stated counts (`V16`) are those of the
+    /// equation, and are named at place 0.
     Refusal {
         rule: AcceptanceRule,
         equation: usize,

@@ -17,15 +17,16 @@ use pb_verifier_states::flow::flow;
 use pb_verifier_states::{AbstractState, AcceptanceRule, FlowError};
 use std::alloc::Global;
 
-/// What the instructions of a module may name: its sorts, by how many enumerators each has, and its equations, by the
-/// carriers of their parameters.
+/// What the instructions of a module may name: its sorts, by how many enumerators each has, and its
+/// equations, by the carriers of their parameters.
 #[derive(Clone, Copy)]
 pub(crate) struct Names<'a> {
     pub sorts: &'a [u8],
     pub callees: &'a [Vec<Carrier>],
 }
 
-/// Joins what flows from an instruction, other than the start and the end of a loop, into the table.
+/// Joins what flows from an instruction, other than the start and the end of a loop, into the
+/// table.
 pub(crate) fn visit(
     state: AbstractState,
     alloc: Global,
@@ -37,15 +38,18 @@ pub(crate) fn visit(
     requires straight { loop_effect instruction ≡ Straight }
     requires bounds { HasOrderedRange instruction }
     requires small { place < 65536 }
-    ensures ok { OnOk result (FlowsTo names.now place instruction state table.old.items (Some table.new.items)) }
-    ensures refused { OnRefused result (FlowsTo names.now place instruction state table.old.items None) }
+    ensures ok { OnOk result (FlowsTo names.now place instruction state table.old.items
+        (Some table.new.items)) }
+    ensures refused { OnRefused result
+        (FlowsTo names.now place instruction state table.old.items None) }
 {
     let edges = flow(state, alloc, names.sorts, names.callees, instruction)?;
     merge_edges(table, place, edges)?;
     Ok(())
 }
 
-/// Joins what flows from the start of a loop into the table. `carrier` is the slot's, if it is a loop slot.
+/// Joins what flows from the start of a loop into the table. `carrier` is the slot's, if it is a
+/// loop slot.
 pub(crate) fn visit_loop(
     state: &AbstractState,
     alloc: Global,
@@ -55,8 +59,12 @@ pub(crate) fn visit_loop(
     table: &mut Vec<Option<AbstractState>>,
 ) -> Result<(), FlowError>
     requires { place < 65536 }
-    ensures ok { OnOk result ((p : Program) (home : Option Known) → carrier_of p slot ≡ carrier → then_table (transfer p home place (op.Loop slot) state.now) (merged_edges table.old.items) ≡ Some table.new.items) }
-    ensures refused { OnRefused result ((p : Program) (home : Option Known) → carrier_of p slot ≡ carrier → then_table (transfer p home place (op.Loop slot) state.now) (merged_edges table.old.items) ≡ None) }
+    ensures ok { OnOk result ((p : Program) (home : Option Known) → carrier_of p slot ≡ carrier
+        → then_table (transfer p home place (op.Loop slot) state.now) (merged_edges table.old.items)
+        ≡ Some table.new.items) }
+    ensures refused { OnRefused result ((p : Program) (home : Option Known)
+        → carrier_of p slot ≡ carrier → then_table (transfer p home place (op.Loop slot) state.now)
+        (merged_edges table.old.items) ≡ None) }
 {
     let Some(carrier) = carrier else {
         return Err(FlowError::Refused(AcceptanceRule::UnknownName));
@@ -66,7 +74,8 @@ pub(crate) fn visit_loop(
     Ok(())
 }
 
-/// Joins what flows from the end of a loop into the table. `home` is what was known at the loop's start.
+/// Joins what flows from the end of a loop into the table. `home` is what was known at the loop's
+/// start.
 pub(crate) fn visit_next(
     state: &AbstractState,
     home: Option<AbstractState>,
@@ -74,8 +83,11 @@ pub(crate) fn visit_next(
     table: &mut Vec<Option<AbstractState>>,
 ) -> Result<(), FlowError>
     requires { place < 65536 }
-    ensures ok { OnOk result ((p : Program) → then_table (transfer p home place op.Next state.now) (merged_edges table.old.items) ≡ Some table.new.items) }
-    ensures refused { OnRefused result ((p : Program) → then_table (transfer p home place op.Next state.now) (merged_edges table.old.items) ≡ None) }
+    ensures ok { OnOk result ((p : Program) → then_table (transfer p home place op.Next state.now)
+        (merged_edges table.old.items) ≡ Some table.new.items) }
+    ensures refused { OnRefused result ((p : Program)
+        → then_table (transfer p home place op.Next state.now) (merged_edges table.old.items)
+        ≡ None) }
 {
     let Some(known) = home else {
         return Err(FlowError::Refused(AcceptanceRule::LoopStructure));

@@ -4,6 +4,7 @@ use Rattle.std.specs.Prelude.{◌==◌, ◌&&◌}
 use Rattle.std.specs.Int.{int_min, int_max}
 use Rattle.std.proofs.lemmas.Int.{ints, clamps}
 use Rattle.std.proofs.lemmas.Bool.{eqb-true, eq-eqb, cond-true, and_parts, and_from}
+use Rattle.std.proofs.lemmas.Option.{same_Some}
 use Rattle.pb_bytecode_program.specs.Abstract.{Covers}
 use Rattle.pb_bytecode_program.specs.Transfer.{AbstractState}
 use Rattle.pb_bytecode_program.specs.Accepted.{CoversEach, CoversLoops, IsCovered}
@@ -41,12 +42,6 @@ hulls_length [] [] h = absurd (h refl)
 hulls_length [] (t ∷ ts) h = refl
 hulls_length (s ∷ ss) [] h = refl
 hulls_length (s ∷ ss) (t ∷ ts) h = ap (with_first (hull_of s t)) (hulls_length ss ts (λ e. h (ap suc e))) ∙ no_rest (hull_of s t)
-
-some_same : {X : Type 0} → (x y : X) → Some x ≡ Some y → x ≡ y
-some_same x y e = cc
-
-pub state_same : (x y : AbstractState) → Some x ≡ Some y → x ≡ y
-state_same x y e = cc
 
 -- ---- hulls
 
@@ -86,7 +81,7 @@ hull_least (abstract.Enum s n) (abstract.Enum t k) u abstract.Bool e a b = absur
 hull_least (abstract.Enum s n) (abstract.Enum t k) u (abstract.Int x y) e a b = absurd a
 hull_least (abstract.Enum s n) (abstract.Enum t k) u (abstract.Enum x y) e a b =
     let a1 = a.1 in let b1 = b.1 in
-    let w : abstract.Enum s (max n k) ≡ u = let f = some_same _ _ (sym (cond-true _ _ _ (eq-eqb s t (a.0 ∙ sym b.0))) ∙ e) in f in
+    let w : abstract.Enum s (max n k) ≡ u = let f = same_Some _ _ (sym (cond-true _ _ _ (eq-eqb s t (a.0 ∙ sym b.0))) ∙ e) in f in
     subst (λ z. Covers z (abstract.Enum x y)) w (a.0, omega arith)
 
 hull_none : (s t m : AbstractValue) → hull_of s t ≡ None → Covers s m → Covers t m → ⊥
@@ -118,13 +113,13 @@ hull_none (abstract.Enum s n) (abstract.Enum t k) (abstract.Enum x y) e a b =
 -- ---- lists of them
 
 -- the parts of a list that was made
-made : (x : Option AbstractValue) (r : Option (List AbstractValue)) (us : List AbstractValue) → with_first x r ≡ Some us → (u : AbstractValue) × (vs : List AbstractValue) × (x ≡ Some u) × (r ≡ Some vs) × (us ≡ u ∷ vs)
+pub made : (x : Option AbstractValue) (r : Option (List AbstractValue)) (us : List AbstractValue) → with_first x r ≡ Some us → (u : AbstractValue) × (vs : List AbstractValue) × (x ≡ Some u) × (r ≡ Some vs) × (us ≡ u ∷ vs)
 made None r us e = cc
 made (Some u) None us e = cc
-made (Some u) (Some vs) us e = (u, vs, refl, refl, sym (some_same _ _ e))
+made (Some u) (Some vs) us e = (u, vs, refl, refl, sym (same_Some _ _ e))
 
 pub hulls_cover : (ss ts us : List AbstractValue) → hulls ss ts ≡ Some us → CoversEach ss ss → CoversEach ts ts → CoversEach ss us × CoversEach ts us
-hulls_cover [] [] us e a b = subst (λ x. CoversEach [] x × CoversEach [] x) (some_same _ _ e) (tt, tt)
+hulls_cover [] [] us e a b = subst (λ x. CoversEach [] x × CoversEach [] x) (same_Some _ _ e) (tt, tt)
 hulls_cover [] (t ∷ ts) us e a b = cc
 hulls_cover (s ∷ ss) [] us e a b = cc
 hulls_cover (s ∷ ss) (t ∷ ts) us e a b =
@@ -134,7 +129,7 @@ hulls_cover (s ∷ ss) (t ∷ ts) us e a b =
     subst (λ x. CoversEach (s ∷ ss) x × CoversEach (t ∷ ts) x) (sym m.4) ((one.0, all.0), (one.1, all.1))
 
 pub hulls_least : (ss ts us ms : List AbstractValue) → hulls ss ts ≡ Some us → CoversEach ss ms → CoversEach ts ms → CoversEach us ms
-hulls_least [] [] us ms e a b = subst (λ x. CoversEach x ms) (some_same _ _ e) a
+hulls_least [] [] us ms e a b = subst (λ x. CoversEach x ms) (same_Some _ _ e) a
 hulls_least [] (t ∷ ts) us ms e a b = cc
 hulls_least (s ∷ ss) [] us ms e a b = cc
 hulls_least (s ∷ ss) (t ∷ ts) us [] e a b = absurd a
@@ -163,10 +158,10 @@ made_loop : (c : Bool) (i : ℕ) (x : Option AbstractValue) (r : Option (List (�
 made_loop false i x r us e = cc
 made_loop true i None r us e = cc
 made_loop true i (Some u) None us e = cc
-made_loop true i (Some u) (Some vs) us e = (u, vs, refl, refl, refl, sym (some_same _ _ e))
+made_loop true i (Some u) (Some vs) us e = (u, vs, refl, refl, refl, sym (same_Some _ _ e))
 
 loops_cover : (ss ts us : List (ℕ × AbstractValue)) → loop_hulls ss ts ≡ Some us → CoversLoops ss ss → CoversLoops ts ts → CoversLoops ss us × CoversLoops ts us
-loops_cover [] [] us e a b = subst (λ x. CoversLoops [] x × CoversLoops [] x) (some_same _ _ e) (tt, tt)
+loops_cover [] [] us e a b = subst (λ x. CoversLoops [] x × CoversLoops [] x) (same_Some _ _ e) (tt, tt)
 loops_cover [] (t ∷ ts) us e a b = cc
 loops_cover (s ∷ ss) [] us e a b = cc
 loops_cover (s ∷ ss) (t ∷ ts) us e a b =
@@ -176,7 +171,7 @@ loops_cover (s ∷ ss) (t ∷ ts) us e a b =
     subst (λ x. CoversLoops (s ∷ ss) x × CoversLoops (t ∷ ts) x) (sym m.5) ((refl, one.0, all.0), (sym (eqb-true s.0 t.0 m.2), one.1, all.1))
 
 loops_least : (ss ts us ms : List (ℕ × AbstractValue)) → loop_hulls ss ts ≡ Some us → CoversLoops ss ms → CoversLoops ts ms → CoversLoops us ms
-loops_least [] [] us ms e a b = subst (λ x. CoversLoops x ms) (some_same _ _ e) a
+loops_least [] [] us ms e a b = subst (λ x. CoversLoops x ms) (same_Some _ _ e) a
 loops_least [] (t ∷ ts) us ms e a b = cc
 loops_least (s ∷ ss) [] us ms e a b = cc
 loops_least (s ∷ ss) (t ∷ ts) us [] e a b = absurd a
@@ -217,7 +212,7 @@ join_covers k m n e a b = by (agree k m) (hulls k.operands m.operands) (hulls k.
         let os = hulls_cover k.operands m.operands ss g a.operands b.operands in
         let qs = hulls_cover k.params m.params ps h a.params b.params in
         let us = loops_cover k.loops m.loops ls j a.loops b.loops in
-        subst (λ (u : AbstractState). IsCovered k u × IsCovered m u) (state_same _ _ e) (
+        subst (λ (u : AbstractState). IsCovered k u × IsCovered m u) (same_Some _ _ e) (
           record { operands = os.0; below = refl; params = qs.0; loops = us.0; brackets = refl; floor = refl; roots = refl },
           record { operands = os.1; below = sym (eqb-true k.below m.below t1.0); params = qs.1; loops = us.1; brackets = sym (eqb-true k.brackets m.brackets t1.1); floor = sym (eqb-true k.floor m.floor t2.1); roots = sym (eqb-true k.roots m.roots t3.1) },
         )
@@ -231,7 +226,7 @@ join_least k m n u e a b = by (agree k m) (hulls k.operands m.operands) (hulls k
     by true (Some ss) None l g h j e = cc
     by true (Some ss) (Some ps) None g h j e = cc
     by true (Some ss) (Some ps) (Some ls) g h j e =
-        subst (λ (v : AbstractState). IsCovered v u) (state_same _ _ e) (record { operands = hulls_least k.operands m.operands ss u.operands g a.operands b.operands; below = a.below; params = hulls_least k.params m.params ps u.params h a.params b.params; loops = loops_least k.loops m.loops ls u.loops j a.loops b.loops; brackets = a.brackets; floor = a.floor; roots = a.roots })
+        subst (λ (v : AbstractState). IsCovered v u) (same_Some _ _ e) (record { operands = hulls_least k.operands m.operands ss u.operands g a.operands b.operands; below = a.below; params = hulls_least k.params m.params ps u.params h a.params b.params; loops = loops_least k.loops m.loops ls u.loops j a.loops b.loops; brackets = a.brackets; floor = a.floor; roots = a.roots })
 
 pub join_none : (k m u : AbstractState) → join_states k m ≡ None → IsCovered k u → IsCovered m u → ⊥
 join_none k m u e a b = by (hulls k.operands m.operands) (hulls k.params m.params) (loop_hulls k.loops m.loops) refl refl refl (subst (λ c. joined c k (hulls k.operands m.operands) (hulls k.params m.params) (loop_hulls k.loops m.loops) ≡ None) test e)

@@ -1,27 +1,12 @@
 -- Covering is transitive, and what is covered at all covers itself.
 use Rattle.std.proofs.Common.{ℕ, List, [], ◌∷◌, refl, ◌∙◌, arith}
 use lib.Signed.{≤ℤ_refl}
-use Rattle.std.proofs.lemmas.Int.{ints}
+use Rattle.pb_bytecode_program.proofs.Covering.{covers_through}
 use Rattle.pb_bytecode_program.specs.Abstract.{Covers}
 use Rattle.pb_bytecode_program.specs.Transfer.{AbstractState}
 use Rattle.pb_bytecode_program.specs.Accepted.{CoversEach, CoversLoops, IsCovered}
 use Rattle.pb_bytecode_program.specs.declared.abstract_value.AbstractValue.{AbstractValue}
 use Rattle.pb_bytecode_program.specs.declared.abstract_value.AbstractValue.TheVariants as abstract
-
-covers_through : (s t u : AbstractValue) → Covers s t → Covers t u → Covers s u
-covers_through abstract.Bool abstract.Bool u c d = d
-covers_through abstract.Bool (abstract.Int l h) u c d = absurd c
-covers_through abstract.Bool (abstract.Enum a n) u c d = absurd c
-covers_through (abstract.Int l h) abstract.Bool u c d = absurd c
-covers_through (abstract.Int l h) (abstract.Enum a n) u c d = absurd c
-covers_through (abstract.Enum a n) abstract.Bool u c d = absurd c
-covers_through (abstract.Enum a n) (abstract.Int l h) u c d = absurd c
-covers_through (abstract.Int l h) (abstract.Int m k) abstract.Bool c d = absurd d
-covers_through (abstract.Int l h) (abstract.Int m k) (abstract.Enum a n) c d = absurd d
-covers_through (abstract.Int l h) (abstract.Int m k) (abstract.Int x y) c d = (let a = c.0 in let b = d.0 in omega (arith, ints), c.1, let a = c.2 in let b = d.2 in omega (arith, ints))
-covers_through (abstract.Enum a n) (abstract.Enum b m) abstract.Bool c d = absurd d
-covers_through (abstract.Enum a n) (abstract.Enum b m) (abstract.Int x y) c d = absurd d
-covers_through (abstract.Enum a n) (abstract.Enum b m) (abstract.Enum e k) c d = (c.0 ∙ d.0, let x = c.1 in let y = d.1 in omega arith)
 
 each_through : (s t u : List AbstractValue) → CoversEach s t → CoversEach t u → CoversEach s u
 each_through [] [] u c d = d

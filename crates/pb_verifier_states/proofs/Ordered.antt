@@ -15,7 +15,8 @@ use Rattle.std.proofs.lemmas.Bool.{cond-true, eq-eqb, lt-ltb}
 use Rattle.std.proofs.Common.{◌<◌, ◌≤◌, ◌++◌, take, drop, get_or, Bool, false, cond, suc, length, refl, ap, sym, max}
 use Rattle.pb_bytecode_program.specs.Transfer.{abstract_slot, set_loop, set_param}
 use Rattle.pb_bytecode_program.specs.declared.abstract_value.AbstractValue.TheVariants as abstract
-use Rattle.pb_verifier_states.specs.Join.{hull_of, hulls, with_first, with_loop, loop_hulls}
+use Rattle.pb_verifier_states.specs.Join.{hull_of, hulls, with_loop, loop_hulls}
+use Rattle.pb_verifier_states.proofs.Hulls.{made}
 use Rattle.pb_verifier_states.specs.Inhabited.{HasOrderedEnds, HaveOrderedEnds, LoopsHaveOrderedEnds}
 
 pub ordered_at : (vs : List AbstractValue) (i : ℕ) (v : AbstractValue) → HaveOrderedEnds vs → slice_get vs i ≡ Some v → HasOrderedEnds v
@@ -122,11 +123,6 @@ hull_ordered (abstract.Enum s n) (abstract.Enum t m) (abstract.Int x y) e a b = 
     by : (c : Bool) → cond c (Some (abstract.Enum s (max n m))) None ≡ Some (abstract.Int x y) → ⊥
     by true f = cc
     by false f = cc
-
-made : (x : Option AbstractValue) (r : Option (List AbstractValue)) (us : List AbstractValue) → with_first x r ≡ Some us → (u : AbstractValue) × (vs : List AbstractValue) × (x ≡ Some u) × (r ≡ Some vs) × (us ≡ u ∷ vs)
-made None r us e = cc
-made (Some u) None us e = cc
-made (Some u) (Some vs) us e = (u, vs, refl, refl, cc)
 
 pub hulls_ordered : (ss ts us : List AbstractValue) → hulls ss ts ≡ Some us → HaveOrderedEnds ss → HaveOrderedEnds ts → HaveOrderedEnds us
 hulls_ordered [] [] us e a b = let f : [] ≡ us = cc in rw (sym f) tt

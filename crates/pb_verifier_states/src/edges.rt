@@ -4,7 +4,8 @@ ghost use Rattle.std.specs.Prelude.{◌≡◌, None, Some};
 
 use crate::state::AbstractState;
 
-/// Where control flows from an instruction, and with what: to the next place, to a target, to both, or nowhere.
+/// Where control flows from an instruction, and with what: to the next place, to a target, to both,
+/// or nowhere.
 #[derive(Drop)]
 pub struct Edges {
     pub next: Option<AbstractState>,

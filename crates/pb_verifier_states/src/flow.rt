@@ -7,7 +7,8 @@ ghost use Rattle.pb_bytecode_program.specs.Monotone.{HasOrderedRange};
 ghost use Rattle.pb_verifier_states.specs.Refusals.{OnRefused};
 ghost use Rattle.pb_bytecode_program.specs.Counts.{Straight, loop_effect};
 ghost use Rattle.pb_bytecode_program.specs.Machine.{Program};
-ghost use Rattle.pb_bytecode_program.specs.Transfer.{AbstractState as Known, to_next_place, transfer};
+ghost use Rattle.pb_bytecode_program.specs.Transfer.{AbstractState as Known, to_next_place};
+ghost use Rattle.pb_bytecode_program.specs.Transfer.{transfer};
 
 pub mod control;
 pub mod data;
@@ -20,8 +21,8 @@ use pb_bytecode_program::{AbstractValue, Op};
 use pb_sorts::Carrier;
 use std::alloc::Global;
 
-/// What flows from an instruction other than the start and the end of a loop. `sorts` has the counts of enumerators,
-/// `callees` the carriers of each equation's parameters.
+/// What flows from an instruction other than the start and the end of a loop. `sorts` has the
+/// counts of enumerators, `callees` the carriers of each equation's parameters.
 pub fn flow(
     state: AbstractState,
     alloc: Global,
@@ -31,8 +32,12 @@ pub fn flow(
 ) -> Result<Edges, FlowError>
     requires straight { loop_effect op ≡ Straight }
     requires bounds { HasOrderedRange op }
-    ensures flows { IfOk result (λ e. (p : Program) (home : Option Known) (q : ℕ) → p.sorts ≡ sorts.now → p.callees ≡ map vec_items callees.now → transfer p home q op state ≡ Some (edges_of q e.next e.jump)) }
-    ensures refused { OnRefused result ((p : Program) (home : Option Known) (q : ℕ) → p.sorts ≡ sorts.now → p.callees ≡ map vec_items callees.now → transfer p home q op state ≡ None) }
+    ensures flows { IfOk result (λ e. (p : Program) (home : Option Known) (q : ℕ)
+        → p.sorts ≡ sorts.now → p.callees ≡ map vec_items callees.now
+        → transfer p home q op state ≡ Some (edges_of q e.next e.jump)) }
+    ensures refused { OnRefused result ((p : Program) (home : Option Known) (q : ℕ)
+        → p.sorts ≡ sorts.now → p.callees ≡ map vec_items callees.now
+        → transfer p home q op state ≡ None) }
 {
     match op {
         Op::End => match state.end() {
@@ -63,8 +68,12 @@ fn next_state(
     op: Op,
 ) -> Result<AbstractState, FlowError>
     requires { GoesOnAlone op }
-    ensures flows { IfOk result (λ k. (p : Program) (home : Option Known) (q : ℕ) → p.sorts ≡ sorts.now → p.callees ≡ map vec_items callees.now → transfer p home q op state ≡ to_next_place q k) }
-    ensures refused { OnRefused result ((p : Program) (home : Option Known) (q : ℕ) → p.sorts ≡ sorts.now → p.callees ≡ map vec_items callees.now → transfer p home q op state ≡ None) }
+    ensures flows { IfOk result (λ k. (p : Program) (home : Option Known) (q : ℕ)
+        → p.sorts ≡ sorts.now → p.callees ≡ map vec_items callees.now
+        → transfer p home q op state ≡ to_next_place q k) }
+    ensures refused { OnRefused result ((p : Program) (home : Option Known) (q : ℕ)
+        → p.sorts ≡ sorts.now → p.callees ≡ map vec_items callees.now
+        → transfer p home q op state ≡ None) }
 {
     match op {
         Op::PushInt(z) => control::push(state, AbstractValue::Int { lo: z, hi: z }),

@@ -8,8 +8,8 @@ ghost use Rattle.pb_verifier_states.specs.Edges.{fitting};
 use pb_bytecode_program::Arithmetic;
 use pb_intervals::Interval;
 
-/// The results for a first operand in `a` and a second one in `b`, or `None` where an end lies outside 64 bits. A
-/// divisor is at least 1.
+/// The results for a first operand in `a` and a second one in `b`, or `None` where an end lies
+/// outside 64 bits. A divisor is at least 1.
 pub fn results(operator: Arithmetic, a: Interval, b: Interval) -> Option<Interval>
     requires { divides operator ≡ true → pos 1 ≤ℤ b.low }
     ensures { result ≡ fitting (interval_of operator a.low a.high b.low b.high) }

@@ -2,7 +2,8 @@
 
 use std::fmt;
 
-/// A rule that an instruction breaks. The rules are numbered from V01 to V16, and printed by their number.
+/// A rule that an instruction breaks. The rules are numbered from V01 to V16, and printed by their
+/// number.
 #[derive(Clone, Copy, Debug, PartialEq, Eq)]
 pub enum AcceptanceRule {
     /// V01: an operand is missing, or stands below the floor of the loop.
@@ -27,7 +28,8 @@ pub enum AcceptanceRule {
     TooManyOperands,
     /// V11: what is known on two ways does not join.
     WaysDiffer,
-    /// V12: loops do not pair, are nested too deep, contain the end, or end otherwise than they began.
+    /// V12: loops do not pair, are nested too deep, contain the end, or end otherwise than they
+    /// began.
     LoopStructure,
     /// V13: brackets do not pair, or more than 32 are open.
     Brackets,
@@ -69,6 +71,11 @@ impl AcceptanceRule {
 }
 
 impl fmt::Display for AcceptanceRule {
+    ghost use Rattle.std.specs.Prelude.{Some};
+    ghost use Rattle.pb_verifier_states.specs.RuleNumber.{rule_number};
+
+    ghost output = { λ rule. Some (rule_number rule) };
+
     fn fmt<W: fmt::Write>(&self, f: &mut fmt::Formatter<W>) -> fmt::Result {
         f.write_str(self.number())
     }

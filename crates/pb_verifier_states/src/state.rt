@@ -1,6 +1,7 @@
 //! Abstract states: what is known at a place of code, without running it.
 
-ghost use Rattle.std.specs.Prelude.{◌≡◌, ◌+◌, ◌≤◌, option_map, vec_items, IfOk, [], map, Some, None, true, if◌then◌else◌, length};
+ghost use Rattle.std.specs.Prelude.{◌≡◌, ◌+◌, ◌≤◌, option_map, vec_items, IfOk, [], map, Some};
+ghost use Rattle.std.specs.Prelude.{None, true, if◌then◌else◌, length};
 ghost use Rattle.pb_bytecode_program.specs.Abstract.{abstraction_of};
 ghost use Rattle.pb_verifier_states.specs.Join.{hulls, join_states, loop_hulls};
 
@@ -15,8 +16,9 @@ use pb_sorts::Carrier;
 use std::alloc::{AllocError, Global};
 use std::marker::Model;
 
-/// What is known at a place: of the operands above the floor of the innermost loop, of the slots, of the brackets and
-/// of the roots (abstract interpretation, Cousot and Cousot 1977). No interval is empty.
+/// What is known at a place: of the operands above the floor of the innermost loop, of the slots,
+/// of the brackets and of the roots (abstract interpretation, Cousot and Cousot 1977). No interval
+/// is empty.
 #[derive(Drop)]
 pub struct AbstractState {
     // The topmost first; there are at most 32 of them and of those below.
@@ -34,18 +36,37 @@ impl Model for AbstractState {
     ghost use Rattle.std.specs.Prelude.{length, ◌+◌, ◌≤◌};
     ghost use Rattle.pb_verifier_states.specs.Inhabited.{HaveOrderedEnds, LoopsHaveOrderedEnds};
     ghost use Rattle.pb_bytecode_program.specs.Transfer.{AbstractState as Known};
+    ghost use Rattle.pb_bytecode_program.specs.declared.limits.TheConstants.{MAX_OPERANDS};
 
     ghost Value = { Known };
 
-    ghost view = { λ s. record { operands = s.operands.items; below = s.below; params = s.params.items; loops = s.loops.items; brackets = s.brackets; floor = s.floor; roots = s.roots } };
+    ghost view = { λ s. record {
+      operands = s.operands.items;
+      below = s.below;
+      params = s.params.items;
+      loops = s.loops.items;
+      brackets = s.brackets;
+      floor = s.floor;
+      roots = s.roots;
+    } };
 
-    ghost invariant = { λ s. (length s.operands.items + s.below ≤ 32) × HaveOrderedEnds s.operands.items × HaveOrderedEnds s.params.items × LoopsHaveOrderedEnds s.loops.items };
+    ghost invariant = { λ s. (length s.operands.items + s.below ≤ MAX_OPERANDS)
+        × HaveOrderedEnds s.operands.items × HaveOrderedEnds s.params.items
+        × LoopsHaveOrderedEnds s.loops.items };
 }
 
 impl AbstractState {
     /// What is known at the first place of code with these parameters.
     pub fn entry(alloc: Global, params: &[Carrier]) -> Result<AbstractState, AllocError>
-        ensures { IfOk result (λ s. s ≡ record { operands = []; below = 0; params = map abstraction_of params.now; loops = []; brackets = 0; floor = 0; roots = 0 }) }
+        ensures { IfOk result (λ s. s ≡ record {
+          operands = [];
+          below = 0;
+          params = map abstraction_of params.now;
+          loops = [];
+          brackets = 0;
+          floor = 0;
+          roots = 0;
+        }) }
     {
         let params = abstractions(alloc, params)?;
         Ok(AbstractState {

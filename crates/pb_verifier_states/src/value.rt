@@ -1,4 +1,5 @@
-//! Abstract values: of a carrier, of one kind, accepted by a carrier, and the least one that covers two.
+//! Abstract values: of a carrier, of one kind, accepted by a carrier, and the least one that covers
+//! two.
 
 ghost use Rattle.std.specs.Prelude.{◌≡◌, IfSome};
 ghost use Rattle.pb_bytecode_program.specs.Abstract as abstract_values;

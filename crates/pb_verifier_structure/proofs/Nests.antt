@@ -2,12 +2,12 @@
 use Rattle.std.proofs.Common.{◌≡◌, ℕ, suc, ◌+◌, ◌-◌, ◌<◌, ◌≤◌, true, false, List, [], ◌∷◌, ◌++◌, length, Option, Some, None, refl, sym, ap, ◌∙◌, subst, arith, get_or, ⊎_elim}
 use Rattle.std.specs.Prelude.{slice_get}
 use Rattle.std.specs.Option.{is_some}
-use Rattle.std.proofs.lemmas.Option.{slice_get_within, slice_get-get_or}
+use Rattle.std.proofs.lemmas.Option.{slice_get_within, slice_get-get_or, same_Some}
 use Rattle.pb_bytecode_program.specs.Counts.{Leaves, Straight, loop_effect, loops_after, loops_around}
 use Rattle.pb_bytecode_program.specs.declared.instruction.Op.{Op}
 use Rattle.pb_bytecode_program.specs.declared.instruction.Op.TheVariants as op
 use Rattle.pb_bytecode_program.proofs.Places.{around_next}
-use Rattle.pb_verifier_structure.specs.Nesting.{innermost_of, IsInnermost, NestsAt, IsNested}
+use Rattle.pb_verifier_structure.specs.Nesting.{innermost_of, NestsAt, IsNested}
 use Rattle.pb_verifier_structure.proofs.Around.{IsInnermostBefore, NestBefore, one_more, outer, none_around, some_around, start_around, get_before, split}
 
 -- what is known before the place q
@@ -100,12 +100,9 @@ module _ (code : List Op) (q : ℕ) (table : List (Option ℕ)) (around : Option
         shallow = l;
         nest = λ k j less there. ⊎_elim
             (λ (b : k < q). h.nest k j b there)
-            (λ (same : k ≡ q). subst (λ z. NestsAt code z j) (sym same) (let here : j ≡ i = some_same (sym there ∙ ap (slice_get code) same ∙ at) in subst (NestsAt code q) (sym here) n))
+            (λ (same : k ≡ q). subst (λ z. NestsAt code z j) (sym same) (let here : j ≡ i = same_Some j i (sym there ∙ ap (slice_get code) same ∙ at) in subst (NestsAt code q) (sym here) n))
             (split k q less);
       }
-    where
-      some_same : {j i : Op} → Some j ≡ Some i → j ≡ i
-      some_same e = cc
 
   here : (i : Op) → q < length code → get_or code q op.End ≡ i → slice_get code q ≡ Some i
   here i w e = slice_get-get_or code q op.End w ∙ ap Some e
@@ -170,21 +167,8 @@ module _ (code : List Op) (q : ℕ) (table : List (Option ℕ)) (around : Option
   at_end : length code ≤ q → q ≡ length code
   at_end l = let w = h.within in omega arith
 
-  pub unpaired_refused : length code ≤ q → true ≡ is_some around → IsNested code → ⊥
-  unpaired_refused l a ok =
-      let s = is_some_some around a in
-      let some = some_around (loops_around code q) s.0 (sym s.1 ∙ h.innermost) in
-      let none : length (loops_around code q) ≡ 0 = ap (λ z. length (loops_around code z)) (at_end l) ∙ ap (λ (st : List ℕ). length st) ok.all_closed in
-      omega arith
-
   pub nested : length code ≤ q → false ≡ is_some around → IsNested code
   nested l a = record {
     each = λ k i at. h.nest k i (let x = slice_get_within code k i at in omega arith) at;
     all_closed = ap (loops_around code) (sym (at_end l)) ∙ none_around (loops_around code q) (sym (is_some_none around a) ∙ h.innermost);
-  }
-
-  pub whole_table : length code ≤ q → IsInnermost code table
-  whole_table l = record {
-    long = h.table_before.long ∙ at_end l;
-    each = λ k less. h.table_before.each k (omega arith);
   }

@@ -1,7 +1,7 @@
 -- From a place outwards through the loops around it.
 use Rattle.std.proofs.Common.{◌≡◌, ℕ, suc, ◌<◌, ◌≤◌, List, [], ◌∷◌, length, Option, Some, None, sym, ap, ◌∙◌, subst, arith, Contains, get_or, ⊎_elim}
 use Rattle.std.specs.Prelude.{slice_get}
-use Rattle.std.proofs.lemmas.Option.{slice_get-get_or}
+use Rattle.std.proofs.lemmas.Option.{slice_get-get_or, same_Some}
 use Rattle.std.proofs.lemmas.List.Elements.{Contains-append_right, Contains-append_left, Contains-append_cases, Contains-push, Contains-push_cases}
 use Rattle.pb_bytecode_program.specs.Accepted.{loop_slots, slots_at}
 use Rattle.pb_bytecode_program.specs.Counts.{loops_around}
@@ -116,11 +116,8 @@ module _ (code : List Op) (table : List (Option ℕ)) (q slot home : ℕ) (t : I
     within = let x = home_within in omega arith;
     innermost = table_at code table home r t home_within e;
     left_slots = λ h. f.left_slots (subst (λ slots. Contains slots slot) (sym slots_here) (slots_more (slice_get code home) (loop_slots code (loops_around code home)) slot h));
-    all_slots = λ h. slots_less (slice_get code home) (loop_slots code (loops_around code home)) slot (λ g. n (other (sym (slice_get-get_or code home op.End home_within) ∙ g))) (subst (λ slots. Contains slots slot) slots_here (f.all_slots h));
+    all_slots = λ h. slots_less (slice_get code home) (loop_slots code (loops_around code home)) slot (λ g. n (same_Some (get_or code home op.End) (op.Loop slot) (sym (slice_get-get_or code home op.End home_within) ∙ g))) (subst (λ slots. Contains slots slot) slots_here (f.all_slots h));
   }
-    where
-      other : {i j : Op} → Some i ≡ Some j → i ≡ j
-      other e = cc
 
   pub nearer : (r : Option ℕ) → r ≡ get_or table home r → left r < left (Some home)
   nearer r e = by r (table_at code table home r t home_within e)

@@ -4,6 +4,8 @@ use Rattle.std.specs.Prelude.{slice_get}
 use Rattle.std.proofs.Math.Nat.{mul-suc}
 use Rattle.std.proofs.lemmas.Bool.Decides.{leb_tells}
 use Rattle.std.proofs.Math.Seq.{take-append_seam, get_or-append_seam}
+use Rattle.std.proofs.lemmas.List.{drop_all}
+use Rattle.pb_sorts.proofs.Places.{drop-slice_get}
 use Rattle.pb_bytecode_program.specs.Machine.{Program, carrier_of}
 use Rattle.pb_bytecode_program.specs.Counts.{LoopEffect, Enters, Leaves, Straight, loop_effect, loops_after, loops_around, size_of, multiplier, cost_by, cost_of, one_step, tokens_of, static_steps, static_tokens}
 use Rattle.pb_bytecode_program.specs.declared.instruction.Op.{Op}
@@ -65,11 +67,6 @@ depth_after p Leaves q (w ∷ ws) [] e = absurd (omega arith)
 depth_after p Leaves q (w ∷ ws) (x ∷ st) e = omega arith
 depth_after p Straight q ws st e = e
 
-drop_here : (code : List Op) (q : ℕ) (i : Op) → slice_get code q ≡ Some i → drop q code ≡ i ∷ drop (q + 1) code
-drop_here [] q i h = cc
-drop_here (j ∷ is) zero i h = let e : j ≡ i = cc in ap (λ (x : Op). x ∷ is) e
-drop_here (j ∷ is) (suc q) i h = drop_here is q i h ∙ (let z : q + 1 ≡ suc q = omega arith in let y : suc (suc q) ≡ suc q + 1 = omega arith in ap (λ m. i ∷ drop m is) z ∙ ap (λ m. i ∷ drop m (j ∷ is)) y)
-
 -- the counts before the place q, of which the code's list has those of the loops around
 pub record IsCounted (p : Program) (q : ℕ) (items : List ℕ) (steps tokens : ℕ) : Type 0 where
   pub weights : List ℕ
@@ -100,7 +97,7 @@ module _ (p : Program) (w : IsStructured p) (q : ℕ) (items : List ℕ) (steps 
   some_around e = let x = w.closes q i here e in let d = h.deep in omega arith
 
   cost_next : (cost : Op → ℕ) → cost_of p cost (drop q p.code) h.weights ≡ multiplier h.weights * cost i + cost_of p cost (drop (q + 1) p.code) (weights_after p (loop_effect i) h.weights)
-  cost_next cost = ap (λ is. cost_of p cost is h.weights) (drop_here p.code q i here) ∙ cost_split p (loop_effect i) (cost i) h.weights (cost_of p cost (drop (q + 1) p.code)) some_around
+  cost_next cost = ap (λ is. cost_of p cost is h.weights) (drop-slice_get p.code q i here) ∙ cost_split p (loop_effect i) (cost i) h.weights (cost_of p cost (drop (q + 1) p.code)) some_around
 
   more : (x y : ℕ) → x ≡ stopped (multiplier h.weights) → y ≡ stopped (multiplier h.weights * tokens_of i) → (after : List ℕ) → after ≡ stacked (weights_after p (loop_effect i) h.weights) → IsCounted p (q + 1) after (min (steps + x) 1000001) (min (tokens + y) 1000001)
   more x y e f after same = record {
@@ -143,7 +140,7 @@ module _ (p : Program) (w : IsStructured p) (q : ℕ) (items : List ℕ) (steps 
 
 pub counted_all : (p : Program) (q : ℕ) (items : List ℕ) (steps tokens : ℕ) → IsCounted p q items steps tokens → length p.code ≤ q → (steps ≡ min (static_steps p) 1000001) × (tokens ≡ min (static_tokens p) 1000001)
 counted_all p q items steps tokens h l =
-    let none = dropped p.code q l in
+    let none = drop_all q p.code l in
     let a = h.all_steps in
     let b = h.all_tokens in
     let s : cost_of p one_step (drop q p.code) h.weights ≡ 0 = ap (λ is. cost_of p one_step is h.weights) none in
@@ -151,9 +148,3 @@ counted_all p q items steps tokens h l =
     let c = h.steps_before in
     let d = h.tokens_before in
     (omega arith, omega arith)
-  where
-    dropped : (code : List Op) (q : ℕ) → length code ≤ q → drop q code ≡ []
-    dropped [] zero l = refl
-    dropped [] (suc q) l = refl
-    dropped (i ∷ code) zero l = absurd (omega arith)
-    dropped (i ∷ code) (suc q) l = dropped code q (omega arith)

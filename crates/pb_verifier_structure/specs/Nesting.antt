@@ -1,12 +1,13 @@
--- How loops nest: LOOP and NEXT pair like brackets, at most 8 deep, and the end stands in no body.
+-- How loops nest: LOOP and NEXT pair like brackets, at most MAX_LOOPS deep, and the end stands in no body.
 use Rattle.std.specs.Prelude.{◌≡◌, ℕ, ◌<◌, List, [], ◌∷◌, length, Option, Some, None, slice_get}
+use Rattle.pb_bytecode_program.specs.declared.limits.TheConstants.{MAX_LOOPS}
 use Rattle.pb_bytecode_program.specs.Counts.{loops_around}
 use Rattle.pb_bytecode_program.specs.declared.instruction.Op.{Op}
 use Rattle.pb_bytecode_program.specs.declared.instruction.Op.TheVariants as op
 
 -- what the instruction at place q asks of the loops around it
 abbrev pub NestsAt : List Op → ℕ → Op → Type 0
-NestsAt code q (op.Loop i) = length (loops_around code q) < 8
+NestsAt code q (op.Loop i) = length (loops_around code q) < MAX_LOOPS
 NestsAt code q op.Next = 0 < length (loops_around code q)
 NestsAt code q op.End = loops_around code q ≡ []
 NestsAt code q _ = Unit {0}

@@ -1,7 +1,8 @@
-//! Bodies of loops: which LOOP is the innermost one around each place. A body's LOOP stands in the body around it, so
-//! that this table leads from a place outwards through all loops around it.
+//! Bodies of loops: which LOOP is the innermost one around each place. A body's LOOP stands in the
+//! body around it, so that this table leads from a place outwards through all loops around it.
 
-ghost use Rattle.std.specs.Prelude.{◌≡◌, ◌<◌, ◌↔◌, IfOk, IsTrue, OnErr, OnOk, List, Some, Contains, length, slice_get};
+ghost use Rattle.std.specs.Prelude.{◌≡◌, ◌<◌, ◌↔◌, IfOk, IsTrue, OnErr, OnOk, List, Some, Contains};
+ghost use Rattle.std.specs.Prelude.{length, slice_get};
 ghost use Rattle.pb_bytecode_program.specs.Accepted.{IsTarget, loop_slots};
 ghost use Rattle.pb_bytecode_program.specs.Counts.{loops_around};
 ghost use Rattle.pb_bytecode_program.specs.declared.instruction.Op.{Op};
@@ -10,8 +11,8 @@ ghost use Rattle.pb_verifier_structure.specs.Nesting.{IsInnermost, IsNested, inn
 ghost use Rattle.pb_verifier_structure.specs.Refusals.{OnRefused};
 
 use crate::position_fault::{StructureError, broken};
-use pb_bytecode_program::Op;
-use pb_verifier_states::{AcceptanceRule, MAX_LOOPS};
+use pb_bytecode_program::{MAX_LOOPS, Op};
+use pb_verifier_states::AcceptanceRule;
 use std::alloc::Global;
 
 /// The place of the innermost LOOP around each place of the code.
@@ -34,8 +35,8 @@ impl Bodies {
     /// The bodies of this code.
     ///
     /// # Errors
-    /// `Refused` exactly where loops do not nest: for the first NEXT without a LOOP, END in a body or LOOP nested too
-    /// deep, and else for the first LOOP without a NEXT.
+    /// `Refused` exactly where loops do not nest: for the first NEXT without a LOOP, END in a body
+    /// or LOOP nested too deep, and else for the first LOOP without a NEXT.
     pub(crate) fn of(alloc: Global, code: &[Op]) -> Result<Bodies, StructureError>
         requires { length code.now < 65536 }
         ensures innermost { IfOk result (λ bodies. IsInnermost code.now bodies.innermost.items) }
@@ -84,7 +85,8 @@ impl Bodies {
     pub(crate) fn is_around(&self, code: &[Op], place: usize, slot: u8) -> bool
         requires within { place < length code.now }
         requires table { IsInnermost code.now self.now.innermost.items }
-        ensures { IsTrue result ↔ Contains (loop_slots code.now (loops_around code.now place)) slot }
+        ensures { IsTrue result ↔ Contains (loop_slots code.now
+            (loops_around code.now place)) slot }
     {
         let mut around = self.innermost[place];
         while let Some(home) = around {
@@ -99,11 +101,13 @@ impl Bodies {
     /// Whether the place may be the target of a jump.
     ///
     /// # Errors
-    /// The first rule that is broken: the target is behind the last instruction, it isn't behind the jump, or it is in
-    /// another body.
+    /// The first rule that is broken: the target is behind the last instruction, it isn't behind
+    /// the jump, or it is in another body.
     pub(crate) fn check_target(&self, place: usize, target: u16) -> Result<(), AcceptanceRule>
-        ensures ok { OnOk result ((code : List Op) → place < length code → IsInnermost code self.now.innermost.items → IsTarget code place target) }
-        ensures err { OnErr result ((code : List Op) → IsInnermost code self.now.innermost.items → IsTarget code place target → ⊥) }
+        ensures ok { OnOk result ((code : List Op) → place < length code
+            → IsInnermost code self.now.innermost.items → IsTarget code place target) }
+        ensures err { OnErr result ((code : List Op) → IsInnermost code self.now.innermost.items
+            → IsTarget code place target → ⊥) }
     {
         let target = target as usize;
         if target >= self.innermost.len() {

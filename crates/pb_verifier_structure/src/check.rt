@@ -1,6 +1,8 @@
-//! The rules by position: how loops nest, which places jumps lead to, and which slots and equations instructions name.
+//! The rules by position: how loops nest, which places jumps lead to, and which slots and equations
+//! instructions name.
 
-ghost use Rattle.std.specs.Prelude.{◌≡◌, ◌<◌, ◌↔◌, IsSome, IsTrue, OnErr, OnOk, Some, length, slice_get};
+ghost use Rattle.std.specs.Prelude.{◌≡◌, ◌<◌, ◌↔◌, IsSome, IsTrue, OnErr, OnOk, Some, length};
+ghost use Rattle.std.specs.Prelude.{slice_get};
 ghost use Rattle.pb_bytecode_program.specs.Accepted.{HasValidTarget, IsVisible, NamesInScope};
 ghost use Rattle.pb_bytecode_program.specs.Machine.{Program, carrier_of};
 ghost use Rattle.pb_bytecode_program.specs.declared.instruction.Op.TheVariants as op;
@@ -35,7 +37,8 @@ fn check_slot(
     requires within { place < length code.now.instructions.now }
     requires table { IsInnermost code.now.instructions.now bodies.now.innermost.items }
     ensures ok { OnOk result ((p : Program) → IsProgramOf p code.now → IsVisible p place slot) }
-    ensures err { OnErr result ((p : Program) → IsProgramOf p code.now → IsVisible p place slot → ⊥) }
+    ensures err { OnErr result ((p : Program) → IsProgramOf p code.now → IsVisible p place slot
+        → ⊥) }
 {
     if (slot as usize) < code.params.len() {
         return Ok(());
@@ -56,8 +59,10 @@ fn check_loop(
     requires here { slice_get code.now.instructions.now place ≡ Some (op.Loop slot) }
     requires table { IsInnermost code.now.instructions.now bodies.now.innermost.items }
     requires nested { IsNested code.now.instructions.now }
-    ensures ok { OnOk result ((p : Program) → IsProgramOf p code.now → NamesInScope p place (op.Loop slot)) }
-    ensures err { OnErr result ((p : Program) → IsProgramOf p code.now → NamesInScope p place (op.Loop slot) → ⊥) }
+    ensures ok { OnOk result ((p : Program) → IsProgramOf p code.now
+        → NamesInScope p place (op.Loop slot)) }
+    ensures err { OnErr result ((p : Program) → IsProgramOf p code.now
+        → NamesInScope p place (op.Loop slot) → ⊥) }
 {
     if !is_loop_slot(code, slot) {
         return Err(AcceptanceRule::UnknownName);
@@ -90,8 +95,10 @@ fn check_instruction(
     requires here { slice_get code.now.instructions.now place ≡ Some instruction }
     requires table { IsInnermost code.now.instructions.now bodies.now.innermost.items }
     requires nested { IsNested code.now.instructions.now }
-    ensures ok { OnOk result ((p : Program) → IsProgramOf p code.now → HasValidTarget p place instruction × NamesInScope p place instruction) }
-    ensures err { OnErr result ((p : Program) → IsProgramOf p code.now → HasValidTarget p place instruction → NamesInScope p place instruction → ⊥) }
+    ensures ok { OnOk result ((p : Program) → IsProgramOf p code.now
+        → HasValidTarget p place instruction × NamesInScope p place instruction) }
+    ensures err { OnErr result ((p : Program) → IsProgramOf p code.now
+        → HasValidTarget p place instruction → NamesInScope p place instruction → ⊥) }
 {
     match instruction {
         Op::Get { slot } => check_slot(code, bodies, place, slot)?,
@@ -121,18 +128,19 @@ fn check_instruction(
     Ok(())
 }
 
-/// Tests the rules by position, which hold of each instruction whether it is reached or not. Memory is taken in
-/// proportion to the code, and given back.
+/// Tests the rules by position, which hold of each instruction whether it is reached or not. Memory
+/// is taken in proportion to the code, and given back.
 ///
 /// # Errors
-/// `Refused` exactly where a rule is broken. It names first, in the order of places, what breaks the nesting of loops
-/// (V12): NEXT without a LOOP, END in a body, a LOOP inside eight others; then the first LOOP without a NEXT. Where
-/// loops nest, it names the first place that breaks another rule, and there a name (V09) before a target (V05, V06,
-/// V07). `Memory` where memory is refused.
+/// `Refused` exactly where a rule is broken. It names first, in the order of places, what breaks
+/// the nesting of loops (V12): NEXT without a LOOP, END in a body, a LOOP inside eight others; then
+/// the first LOOP without a NEXT. Where loops nest, it names the first place that breaks another
+/// rule, and there a name (V09) before a target (V05, V06, V07). `Memory` where memory is refused.
 pub fn check_structure(alloc: Global, code: &EquationCode) -> Result<(), StructureError>
     requires { length code.now.instructions.now < 65536 }
     ensures ok { OnOk result ((p : Program) → IsProgramOf p code.now → IsStructured p) }
-    ensures refused { OnRefused result ((p : Program) → IsProgramOf p code.now → IsStructured p → ⊥) }
+    ensures refused { OnRefused result ((p : Program) → IsProgramOf p code.now → IsStructured p
+        → ⊥) }
 {
     let bodies = Bodies::of(alloc, code.instructions)?;
     for (place, instruction) in code.instructions.iter().enumerate() {

@@ -1,8 +1,10 @@
-//! Static counts: how many steps a run takes at most, and how many tokens it writes, an instruction in loops counting
-//! as often as their bodies run.
+//! Static counts: how many steps a run takes at most, and how many tokens it writes, an instruction
+//! in loops counting as often as their bodies run.
 
-ghost use Rattle.std.specs.Prelude.{◌≡◌, ◌+◌, ◌-◌, ◌*◌, ◌<◌, ◌≤◌, ◌↔◌, IsSome, IsTrue, Some, min, length, slice_index_or};
-ghost use Rattle.pb_bytecode_program.specs.Counts.{size_of, static_steps, static_tokens, tokens_of as tokens_written};
+ghost use Rattle.std.specs.Prelude.{◌≡◌, ◌+◌, ◌-◌, ◌*◌, ◌<◌, ◌≤◌, ◌↔◌, IsSome, IsTrue, Some, min};
+ghost use Rattle.std.specs.Prelude.{length, slice_index_or};
+ghost use Rattle.pb_bytecode_program.specs.Counts.{size_of, static_steps, static_tokens};
+ghost use Rattle.pb_bytecode_program.specs.Counts.{tokens_of as tokens_written};
 ghost use Rattle.pb_bytecode_program.specs.Machine.{Program, carrier_of};
 ghost use Rattle.pb_verifier_structure.specs.Structure.{IsStructured};
 ghost use Rattle.pb_verifier_structure.specs.Views.{IsProgramOf};
@@ -11,8 +13,8 @@ use crate::equation_code::EquationCode;
 use arrayvec::ArrayVec;
 use pb_bytecode_program::Op;
 
-/// The count at which counting stops. It is above the limits of stated counts, which are 1,000,000 steps and 100,000
-/// tokens, so that a comparison with a count within these is exact.
+/// The count at which counting stops. It is above the limits of stated counts, which are 1,000,000
+/// steps and 100,000 tokens, so that a comparison with a count within these is exact.
 pub const SATURATED: u64 = 1_000_001;
 
 /// The static counts of code; in place of one above `SATURATED` stands that.
@@ -65,8 +67,10 @@ fn multiplier(weights: &[u64]) -> u64
 /// The static counts of code that keeps the rules by position.
 pub fn static_counts(code: &EquationCode) -> StaticCounts
     requires { (p : Program) → IsProgramOf p code.now → IsStructured p }
-    ensures steps { (p : Program) → IsProgramOf p code.now → result.steps ≡ min (static_steps p) SATURATED }
-    ensures tokens { (p : Program) → IsProgramOf p code.now → result.tokens ≡ min (static_tokens p) SATURATED }
+    ensures steps { (p : Program) → IsProgramOf p code.now
+        → result.steps ≡ min (static_steps p) SATURATED }
+    ensures tokens { (p : Program) → IsProgramOf p code.now
+        → result.tokens ≡ min (static_tokens p) SATURATED }
 {
     let mut weights: ArrayVec<u64, 8> = ArrayVec::new();
     let mut steps = 0;

@@ -3,7 +3,8 @@
 use pb_bytecode_program::Op;
 use pb_sorts::Carrier;
 
-/// The code of one equation, with what its instructions may name. A crate above has these as parts of a module.
+/// The code of one equation, with what its instructions may name. A crate above has these as parts
+/// of a module.
 #[derive(Clone, Copy)]
 pub struct EquationCode<'a> {
     /// The instructions, by place.

@@ -1,6 +1,6 @@
-//! What code has to keep before its operands are looked at: the rules by position, and the static counts of steps and
-//! tokens. Loops pair by position like brackets, jumps lead to later places of the same body, and instructions name
-//! slots and equations that are there.
+//! What code has to keep before its operands are looked at: the rules by position, and the static
+//! counts of steps and tokens. Loops pair by position like brackets, jumps lead to later places of
+//! the same body, and instructions name slots and equations that are there.
 #![tactic(auto)]
 
 mod bodies;

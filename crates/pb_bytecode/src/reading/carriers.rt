@@ -1,7 +1,8 @@
 //! Carriers of parameters and of loop slots.
 ghost use Rattle.std.specs.Prelude.{◌≡◌, ◌≤ℤ◌};
 ghost use Rattle.pb_sorts.specs.Carrier.{IsRange};
-ghost use Rattle.pb_bytecode.specs.Reading.{Gives, carrier_at, counted_at, enum_at, items_at, range_at};
+ghost use Rattle.pb_bytecode.specs.Reading.{Gives, carrier_at, counted_at, enum_at, items_at};
+ghost use Rattle.pb_bytecode.specs.Reading.{range_at};
 
 use super::numbers::{between_at, fault, i32_at, u8_at};
 use crate::fault::{ModuleRule, ReadError};
@@ -61,7 +62,8 @@ fn items_at<'a>(
     count: u8,
     bytes: &'a [u8],
 ) -> Result<(Vec<Carrier>, &'a [u8]), ReadError>
-    ensures { Gives (λ x. (x.0.items, x.1.now)) result (items_at (carrier_at sizes.now) count bytes.now) }
+    ensures { Gives (λ x. (x.0.items, x.1.now)) result
+        (items_at (carrier_at sizes.now) count bytes.now) }
 {
     let mut carriers = Vec::with_capacity(alloc, count as usize)?;
     let mut rest = bytes;
@@ -81,7 +83,8 @@ pub(crate) fn carriers_at<'a>(
     end: usize,
     bytes: &'a [u8],
 ) -> Result<(Vec<Carrier>, &'a [u8]), ReadError>
-    ensures { Gives (λ x. (x.0.items, x.1.now)) result (counted_at 0 end (carrier_at sizes.now) bytes.now) }
+    ensures { Gives (λ x. (x.0.items, x.1.now)) result
+        (counted_at 0 end (carrier_at sizes.now) bytes.now) }
 {
     let (count, rest) = between_at(0, end, bytes)?;
     items_at(alloc, sizes, count, rest)

@@ -1,7 +1,9 @@
 //! Equations and the initial instance.
 ghost use Rattle.std.specs.Prelude.{◌≡◌, map, nat_le, sum_by};
 ghost use Rattle.pb_bytecode.specs.Limits.{instance_count};
-ghost use Rattle.pb_bytecode.specs.Reading.{Gives, counted_at, equation_at, equations_at, initial_at, items_at, params_at, sign_at, value_at, values_at};
+ghost use Rattle.pb_bytecode.specs.Reading.{Gives, counted_at, equation_at, equations_at};
+ghost use Rattle.pb_bytecode.specs.Reading.{initial_at, items_at, params_at, sign_at, value_at};
+ghost use Rattle.pb_bytecode.specs.Reading.{values_at};
 ghost use Rattle.pb_bytecode.specs.Views.{equation_contents, initial_contents};
 
 use super::carriers::carriers_at;
@@ -14,7 +16,7 @@ use crate::initial::Initial;
 use crate::instances::has_few_instances;
 use crate::version::Version;
 use pb_fixpoint::Sign;
-use pb_sorts::Carrier;
+use pb_sorts::{Carrier, MAX_EQUATIONS, MAX_PARAMETERS};
 use std::alloc::Global;
 
 #[tactic(auto, unfolding(crate::specs::Reading::sign_at))]
@@ -36,11 +38,12 @@ fn equation_at<'a>(
     sizes: &[u8],
     bytes: &'a [u8],
 ) -> Result<(Equation, &'a [u8]), ReadError>
-    ensures { Gives (λ x. (equation_contents x.0, x.1.now)) result (equation_at version sizes.now bytes.now) }
+    ensures { Gives (λ x. (equation_contents x.0, x.1.now)) result
+        (equation_at version sizes.now bytes.now) }
 {
     let (sign, rest) = sign_at(bytes)?;
     let (name, rest) = name_at(alloc, rest)?;
-    let (params, rest) = carriers_at(alloc, sizes, 9, rest)?;
+    let (params, rest) = carriers_at(alloc, sizes, MAX_PARAMETERS + 1, rest)?;
     let (loops, rest) = carriers_at(alloc, sizes, 241, rest)?;
     let (steps, rest) = u32_at(rest)?;
     let (tokens, rest) = u32_at(rest)?;
@@ -66,7 +69,8 @@ fn items_at<'a>(
     count: u8,
     bytes: &'a [u8],
 ) -> Result<(Vec<Equation>, &'a [u8]), ReadError>
-    ensures { Gives (λ x. (map equation_contents x.0.items, x.1.now)) result (items_at (equation_at version sizes.now) count bytes.now) }
+    ensures { Gives (λ x. (map equation_contents x.0.items, x.1.now)) result
+        (items_at (equation_at version sizes.now) count bytes.now) }
 {
     let mut equations = Vec::with_capacity(alloc, count as usize)?;
     let mut rest = bytes;
@@ -86,9 +90,10 @@ pub(crate) fn equations_at<'a>(
     sizes: &[u8],
     bytes: &'a [u8],
 ) -> Result<(Vec<Equation>, &'a [u8]), ReadError>
-    ensures { Gives (λ x. (map equation_contents x.0.items, x.1.now)) result (equations_at version sizes.now bytes.now) }
+    ensures { Gives (λ x. (map equation_contents x.0.items, x.1.now)) result
+        (equations_at version sizes.now bytes.now) }
 {
-    let (count, rest) = between_at(1, 65, bytes)?;
+    let (count, rest) = between_at(1, MAX_EQUATIONS + 1, bytes)?;
     let (equations, rest) = items_at(alloc, version, sizes, count, rest)?;
     if has_few_instances(&equations) {
         Ok((equations, rest))
@@ -134,7 +139,8 @@ pub(crate) fn initial_at<'a>(
     equations: &[Equation],
     bytes: &'a [u8],
 ) -> Result<(Initial, &'a [u8]), ReadError>
-    ensures { Gives (λ x. (initial_contents x.0, x.1.now)) result (initial_at (map equation_contents equations.now) bytes.now) }
+    ensures { Gives (λ x. (initial_contents x.0, x.1.now)) result
+        (initial_at (map equation_contents equations.now) bytes.now) }
 {
     let (equation, rest) = u8_at(bytes)?;
     if equation as usize >= equations.len() {

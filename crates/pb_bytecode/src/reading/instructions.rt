@@ -1,6 +1,7 @@
 //! Instructions.
 ghost use Rattle.std.specs.Prelude.{◌≡◌};
-ghost use Rattle.pb_bytecode.specs.Reading.{Gives, code_at, enumerator_at, items_at, op_at, operands_at, slot_test_at, test_at};
+ghost use Rattle.pb_bytecode.specs.Reading.{Gives, code_at, enumerator_at, items_at, op_at};
+ghost use Rattle.pb_bytecode.specs.Reading.{operands_at, slot_test_at, test_at};
 
 use super::numbers::{between_at, bounds_at, fault, i64_at, u8_at, u16_at};
 use crate::fault::{ModuleRule, ReadError};
@@ -115,7 +116,8 @@ fn ops_at<'a>(
     count: u16,
     bytes: &'a [u8],
 ) -> Result<(Vec<Op>, &'a [u8]), ReadError>
-    ensures { Gives (λ x. (x.0.items, x.1.now)) result (items_at (op_at version sizes.now) count bytes.now) }
+    ensures { Gives (λ x. (x.0.items, x.1.now)) result
+        (items_at (op_at version sizes.now) count bytes.now) }
 {
     // Each instruction takes a byte at least.
     let mut code = Vec::with_capacity(alloc, bytes.len().min(count as usize))?;

@@ -1,49 +1,14 @@
 //! Names and sorts.
 ghost use Rattle.std.specs.Prelude.{◌≡◌, IfOk, map, vec_len};
-ghost use Rattle.std.specs.List.{list_all};
 ghost use Rattle.pb_bytecode.specs.Contents.{counts};
-ghost use Rattle.pb_bytecode.specs.Names.{begins_with_letter, is_letter, is_name, is_name_byte};
 ghost use Rattle.pb_bytecode.specs.Reading.{Gives, counted_at, items_at, name_at, sort_at};
 ghost use Rattle.pb_bytecode.specs.Views.{sort_contents, text_of};
 
 use super::numbers::{between_at, fault, truncated, u8_at};
 use crate::fault::{ModuleRule, ReadError};
-use crate::name::Name;
+use crate::name::{Name, is_name};
 use crate::sort::Sort;
 use std::alloc::{AllocError, Global};
-
-fn is_letter(byte: u8) -> bool
-    ensures { result ≡ is_letter byte }
-{
-    byte.is_ascii_alphabetic() || byte == b'_'
-}
-
-fn is_name_byte(byte: u8) -> bool
-    ensures { result ≡ is_name_byte byte }
-{
-    is_letter(byte) || byte.is_ascii_digit() || byte == b'\''
-}
-
-fn begins_with_letter(text: &[u8]) -> bool
-    ensures { result ≡ begins_with_letter text.now }
-{
-    match text {
-        [] => false,
-        [first, ..] => is_letter(*first),
-    }
-}
-
-fn are_name_bytes(text: &[u8]) -> bool
-    ensures { result ≡ list_all is_name_byte text.now }
-{
-    text.iter().all(|byte| is_name_byte(*byte))
-}
-
-fn is_name(text: &[u8]) -> bool
-    ensures { result ≡ is_name text.now }
-{
-    begins_with_letter(text) && text.len() <= 64 && are_name_bytes(text)
-}
 
 #[tactic(auto, unfolding(crate::specs::Reading::name_at))]
 pub(crate) fn name_at(alloc: Global, bytes: &[u8]) -> Result<(Name, &[u8]), ReadError>
@@ -69,7 +34,8 @@ pub(crate) fn name_at(alloc: Global, bytes: &[u8]) -> Result<(Name, &[u8]), Read
 }
 
 fn names_at(alloc: Global, count: u8, bytes: &[u8]) -> Result<(Vec<Name>, &[u8]), ReadError>
-    ensures names { Gives (λ x. (map text_of x.0.items, x.1.now)) result (items_at name_at count bytes.now) }
+    ensures names { Gives (λ x. (map text_of x.0.items, x.1.now)) result
+        (items_at name_at count bytes.now) }
     ensures count { IfOk result (λ x. vec_len x.0 ≡ count) }
 {
     let mut names = Vec::with_capacity(alloc, count as usize)?;
@@ -92,7 +58,8 @@ fn sort_at(alloc: Global, bytes: &[u8]) -> Result<(Sort, &[u8]), ReadError>
 }
 
 fn items_at(alloc: Global, count: u8, bytes: &[u8]) -> Result<(Vec<Sort>, &[u8]), ReadError>
-    ensures { Gives (λ x. (map sort_contents x.0.items, x.1.now)) result (items_at sort_at count bytes.now) }
+    ensures { Gives (λ x. (map sort_contents x.0.items, x.1.now)) result
+        (items_at sort_at count bytes.now) }
 {
     let mut sorts = Vec::with_capacity(alloc, count as usize)?;
     let mut rest = bytes;
@@ -107,7 +74,8 @@ fn items_at(alloc: Global, count: u8, bytes: &[u8]) -> Result<(Vec<Sort>, &[u8])
 /// The sorts of a module.
 #[tactic(auto, unfolding(crate::specs::Reading::counted_at))]
 pub(crate) fn sorts_at(alloc: Global, bytes: &[u8]) -> Result<(Vec<Sort>, &[u8]), ReadError>
-    ensures { Gives (λ x. (map sort_contents x.0.items, x.1.now)) result (counted_at 0 256 sort_at bytes.now) }
+    ensures { Gives (λ x. (map sort_contents x.0.items, x.1.now)) result
+        (counted_at 0 256 sort_at bytes.now) }
 {
     let (count, rest) = between_at(0, 256, bytes)?;
     items_at(alloc, count, rest)

@@ -1,7 +1,8 @@
 //! Numbers, and where a fault stands.
 ghost use Rattle.std.specs.Prelude.{◌≡◌, length};
 ghost use Rattle.std.specs.Int.{w16, w32, w64};
-ghost use Rattle.pb_bytecode.specs.Reading.{Gives, bounds_at, between_at, byte_at, number_at, signed_at, truncated};
+ghost use Rattle.pb_bytecode.specs.Reading.{Gives, bounds_at, between_at, byte_at, number_at};
+ghost use Rattle.pb_bytecode.specs.Reading.{signed_at, truncated};
 ghost use Rattle.pb_bytecode.specs.declared.fault.ReadError.TheVariants as errors;
 
 use crate::fault::{ModuleFault, ModuleRule, ReadError};

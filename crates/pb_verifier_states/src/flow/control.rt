@@ -5,7 +5,8 @@ ghost use Rattle.pb_verifier_states.specs.Flows.{Fails, FlowsTo, GoesOn};
 ghost use Rattle.pb_verifier_states.specs.Inhabited.{HasOrderedEnds};
 ghost use Rattle.pb_verifier_states.specs.Refusals.{OnRefused};
 ghost use Rattle.pb_bytecode_program.specs.Machine.{Program};
-ghost use Rattle.pb_bytecode_program.specs.Transfer.{AbstractState as Known, abstract_push, abstract_slot, to_next_place, transfer};
+ghost use Rattle.pb_bytecode_program.specs.Transfer.{AbstractState as Known, abstract_push};
+ghost use Rattle.pb_bytecode_program.specs.Transfer.{abstract_slot, to_next_place, transfer};
 ghost use Rattle.pb_bytecode_program.specs.declared.abstract_value.AbstractValue.TheVariants as abstract;
 ghost use Rattle.pb_bytecode_program.specs.declared.instruction.Op.TheVariants as op;
 
@@ -20,8 +21,10 @@ use std::alloc::Global;
 /// Pushes a value.
 pub fn push(mut state: AbstractState, value: AbstractValue) -> Result<AbstractState, FlowError>
     requires { HasOrderedEnds value }
-    ensures flows { IfOk result (λ k. (q : ℕ) → abstract_push q state state.operands value ≡ to_next_place q k) }
-    ensures refused { OnRefused result ((q : ℕ) → abstract_push q state state.operands value ≡ None) }
+    ensures flows { IfOk result (λ k. (q : ℕ)
+        → abstract_push q state state.operands value ≡ to_next_place q k) }
+    ensures refused { OnRefused result ((q : ℕ)
+        → abstract_push q state state.operands value ≡ None) }
 {
     state.push(value)?;
     Ok(state)
@@ -34,8 +37,11 @@ pub fn push_enum(
     sort: u8,
     index: u8,
 ) -> Result<AbstractState, FlowError>
-    ensures flows { IfOk result (λ k. (p : Program) (home : Option Known) (q : ℕ) → p.sorts ≡ sorts.now → transfer p home q (op.PushEnum sort index) state ≡ to_next_place q k) }
-    ensures refused { OnRefused result ((p : Program) (home : Option Known) (q : ℕ) → p.sorts ≡ sorts.now → transfer p home q (op.PushEnum sort index) state ≡ None) }
+    ensures flows { IfOk result (λ k. (p : Program) (home : Option Known) (q : ℕ)
+        → p.sorts ≡ sorts.now → transfer p home q (op.PushEnum sort index) state
+        ≡ to_next_place q k) }
+    ensures refused { OnRefused result ((p : Program) (home : Option Known) (q : ℕ)
+        → p.sorts ≡ sorts.now → transfer p home q (op.PushEnum sort index) state ≡ None) }
 {
     let Some(count) = enumerators(sorts, sort) else {
         return Err(FlowError::Refused(AcceptanceRule::UnknownName));
@@ -82,7 +88,8 @@ pub fn jump_if(
     })
 }
 
-/// Goes on where the number on top is from `lo` to `hi`, and else jumps. A way that its interval excludes is not taken.
+/// Goes on where the number on top is from `lo` to `hi`, and else jumps. A way that its interval
+/// excludes is not taken.
 pub fn in_range(
     mut state: AbstractState,
     alloc: Global,
@@ -111,8 +118,8 @@ pub fn in_range(
     })
 }
 
-/// Goes on where the number in the slot is from `lo` to `hi`, and else jumps. A way that its interval excludes is not
-/// taken.
+/// Goes on where the number in the slot is from `lo` to `hi`, and else jumps. A way that its
+/// interval excludes is not taken.
 pub fn slot_in_range(
     state: AbstractState,
     alloc: Global,
@@ -122,7 +129,8 @@ pub fn slot_in_range(
     target: u16,
 ) -> Result<Edges, FlowError>
     requires { lo ≤ℤ hi }
-    ensures flows { IfOk result (λ e. FlowsTo (op.SlotInRange slot lo hi target) state e.next e.jump) }
+    ensures flows { IfOk result (λ e. FlowsTo
+        (op.SlotInRange slot lo hi target) state e.next e.jump) }
     ensures refused { OnRefused result (Fails (op.SlotInRange slot lo hi target) state) }
 {
     match state.slot_int(slot) {
@@ -149,10 +157,13 @@ fn split_slot(
     target: u16,
 ) -> Result<Edges, FlowError>
     requires some { interval.low ≤ℤ interval.high }
-    requires known { abstract_slot state.loops state.params slot ≡ Some (abstract.Int interval.low interval.high) }
+    requires known { abstract_slot state.loops state.params slot
+        ≡ Some (abstract.Int interval.low interval.high) }
     requires ordered { range.low ≤ℤ range.high }
-    ensures flows { IfOk result (λ e. FlowsTo (op.SlotInRange slot range.low range.high target) state e.next e.jump) }
-    ensures refused { OnRefused result (Fails (op.SlotInRange slot range.low range.high target) state) }
+    ensures flows { IfOk result (λ e. FlowsTo
+        (op.SlotInRange slot range.low range.high target) state e.next e.jump) }
+    ensures refused { OnRefused result
+        (Fails (op.SlotInRange slot range.low range.high target) state) }
 {
     let Some(inside) = interval.cut(range) else {
         return Ok(Edges::jump(target, state));

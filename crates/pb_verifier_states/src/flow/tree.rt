@@ -47,8 +47,11 @@ pub fn call(
     callees: &[Vec<Carrier>],
     equation: u8,
 ) -> Result<AbstractState, FlowError>
-    ensures flows { IfOk result (λ k. (q : ℕ) → abstract_call q state (slice_get (map vec_items callees.now) equation) ≡ to_next_place q k) }
-    ensures refused { OnRefused result ((q : ℕ) → abstract_call q state (slice_get (map vec_items callees.now) equation) ≡ None) }
+    ensures flows { IfOk result (λ k. (q : ℕ)
+        → abstract_call q state (slice_get (map vec_items callees.now) equation)
+        ≡ to_next_place q k) }
+    ensures refused { OnRefused result ((q : ℕ)
+        → abstract_call q state (slice_get (map vec_items callees.now) equation) ≡ None) }
 {
     let place = usize::from(equation);
     if place >= callees.len() {
@@ -59,7 +62,8 @@ pub fn call(
 
 // Writes a call of an equation with these parameters.
 fn call_with(mut state: AbstractState, callee: &[Carrier]) -> Result<AbstractState, FlowError>
-    ensures flows { IfOk result (λ k. (q : ℕ) → abstract_call q state (Some callee.now) ≡ to_next_place q k) }
+    ensures flows { IfOk result (λ k. (q : ℕ)
+        → abstract_call q state (Some callee.now) ≡ to_next_place q k) }
     ensures refused { OnRefused result ((q : ℕ) → abstract_call q state (Some callee.now) ≡ None) }
 {
     state.pop_arguments(callee)?;

@@ -1,19 +1,21 @@
 //! Brackets and roots of abstract states.
 
-ghost use Rattle.std.specs.Prelude.{◌≡◌, ◌+◌, None, Some, [], OnErr, OnOk, ℕ, nat_lt, true, false, if◌then◌else◌};
-ghost use Rattle.pb_bytecode_program.specs.Transfer.{Flow, abstract_close, abstract_end, abstract_root};
+ghost use Rattle.std.specs.Prelude.{◌≡◌, ◌+◌, None, Some, [], OnErr, OnOk, ℕ, nat_lt, true, false};
+ghost use Rattle.std.specs.Prelude.{if◌then◌else◌};
+ghost use Rattle.pb_bytecode_program.specs.Transfer.{Flow, abstract_close, abstract_end};
+ghost use Rattle.pb_bytecode_program.specs.Transfer.{abstract_root};
 
 use crate::rule::AcceptanceRule;
 use crate::state::AbstractState;
-
-/// How many brackets may be open.
-const MAX_BRACKETS: u8 = 32;
+use pb_bytecode_program::MAX_BRACKETS;
 
 impl AbstractState {
     /// Counts a leaf or a bracket, which is a root where no bracket is open: there may be one.
     pub fn add_root(&mut self) -> Result<(), AcceptanceRule>
-        ensures ok { OnOk result ((go : ℕ → Flow) → abstract_root self.old.brackets self.old.roots go ≡ go self.new.roots) }
-        ensures err { OnErr result ((go : ℕ → Flow) → abstract_root self.old.brackets self.old.roots go ≡ None) }
+        ensures ok { OnOk result ((go : ℕ → Flow)
+            → abstract_root self.old.brackets self.old.roots go ≡ go self.new.roots) }
+        ensures err { OnErr result ((go : ℕ → Flow)
+            → abstract_root self.old.brackets self.old.roots go ≡ None) }
         ensures same { self.new ≡ record self.old { roots = self.new.roots } }
     {
         if self.brackets == 0 {
@@ -25,10 +27,10 @@ impl AbstractState {
         Ok(())
     }
 
-    /// Whether a bracket may be opened: there may be 32.
+    /// Whether a bracket may be opened: there may be `MAX_BRACKETS`.
     pub fn test_brackets(&self) -> Result<(), AcceptanceRule>
-        ensures ok { OnOk result (nat_lt self.now.brackets 32 ≡ true) }
-        ensures err { OnErr result (nat_lt self.now.brackets 32 ≡ false) }
+        ensures ok { OnOk result (nat_lt self.now.brackets MAX_BRACKETS ≡ true) }
+        ensures err { OnErr result (nat_lt self.now.brackets MAX_BRACKETS ≡ false) }
     {
         if self.brackets >= MAX_BRACKETS {
             return Err(AcceptanceRule::Brackets);
@@ -38,7 +40,7 @@ impl AbstractState {
 
     /// Opens a bracket.
     pub fn open_bracket(&mut self)
-        requires { nat_lt self.old.brackets 32 ≡ true }
+        requires { nat_lt self.old.brackets MAX_BRACKETS ≡ true }
         ensures { self.new ≡ record self.old { brackets = self.old.brackets + 1 } }
     {
         self.brackets += 1;
@@ -46,8 +48,10 @@ impl AbstractState {
 
     /// Closes the innermost bracket, which was opened above the floor.
     pub fn close_bracket(&mut self) -> Result<(), AcceptanceRule>
-        ensures ok { OnOk result ((go : ℕ → Flow) → abstract_close self.old.floor self.old.brackets go ≡ go self.new.brackets) }
-        ensures err { OnErr result ((go : ℕ → Flow) → abstract_close self.old.floor self.old.brackets go ≡ None) }
+        ensures ok { OnOk result ((go : ℕ → Flow)
+            → abstract_close self.old.floor self.old.brackets go ≡ go self.new.brackets) }
+        ensures err { OnErr result ((go : ℕ → Flow)
+            → abstract_close self.old.floor self.old.brackets go ≡ None) }
         ensures same { self.new ≡ record self.old { brackets = self.new.brackets } }
     {
         if self.brackets == 0 || self.brackets <= self.floor {
@@ -59,8 +63,10 @@ impl AbstractState {
 
     /// The end: no loop and no bracket is open, and there is one root.
     pub fn end(&self) -> Result<(), AcceptanceRule>
-        ensures ok { OnOk result (abstract_end self.now.loops self.now.brackets self.now.roots ≡ Some []) }
-        ensures err { OnErr result (abstract_end self.now.loops self.now.brackets self.now.roots ≡ None) }
+        ensures ok { OnOk result (abstract_end self.now.loops self.now.brackets self.now.roots
+            ≡ Some []) }
+        ensures err { OnErr result (abstract_end self.now.loops self.now.brackets self.now.roots
+            ≡ None) }
     {
         if !self.loops.is_empty() {
             return Err(AcceptanceRule::LoopStructure);

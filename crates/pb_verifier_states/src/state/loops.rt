@@ -5,10 +5,10 @@ ghost use Rattle.pb_verifier_states.specs.Refusals.{OnRefused};
 ghost use Rattle.pb_bytecode_program.specs.Transfer.{abstract_loop, abstract_next, to_next_place};
 
 use crate::flow_error::FlowError;
-use crate::limits::MAX_LOOPS;
 use crate::rule::AcceptanceRule;
 use crate::state::AbstractState;
 use crate::value::abstraction;
+use pb_bytecode_program::MAX_LOOPS;
 use pb_sorts::Carrier;
 use std::alloc::Global;
 
@@ -21,8 +21,10 @@ impl AbstractState {
         slot: u8,
         carrier: Carrier,
     ) -> Result<AbstractState, FlowError>
-        ensures ok { IfOk result (λ k. (q : ℕ) → abstract_loop q self.now slot (Some carrier) ≡ to_next_place q k) }
-        ensures refused { OnRefused result ((q : ℕ) → abstract_loop q self.now slot (Some carrier) ≡ None) }
+        ensures ok { IfOk result (λ k. (q : ℕ)
+            → abstract_loop q self.now slot (Some carrier) ≡ to_next_place q k) }
+        ensures refused { OnRefused result ((q : ℕ)
+            → abstract_loop q self.now slot (Some carrier) ≡ None) }
     {
         if self.loops.len() >= MAX_LOOPS {
             return Err(FlowError::Refused(AcceptanceRule::LoopStructure));
@@ -44,11 +46,13 @@ impl AbstractState {
         })
     }
 
-    /// What is known after a loop: what was known at its start, `home`, if the body left operands, brackets and roots
-    /// as they were.
+    /// What is known after a loop: what was known at its start, `home`, if the body left operands,
+    /// brackets and roots as they were.
     pub fn leave_loop(&self, home: AbstractState) -> Result<AbstractState, AcceptanceRule>
-        ensures ok { IfOk result (λ k. (q : ℕ) → abstract_next q self.now self.now.operands (Some home) ≡ to_next_place q k) }
-        ensures err { OnErr result ((q : ℕ) → abstract_next q self.now self.now.operands (Some home) ≡ None) }
+        ensures ok { IfOk result (λ k. (q : ℕ)
+            → abstract_next q self.now self.now.operands (Some home) ≡ to_next_place q k) }
+        ensures err { OnErr result ((q : ℕ) → abstract_next q self.now self.now.operands (Some home)
+            ≡ None) }
     {
         let same = self.operands.is_empty()
             && self.brackets == home.brackets

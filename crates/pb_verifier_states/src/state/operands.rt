@@ -1,9 +1,11 @@
 //! Operands of abstract states.
 
-ghost use Rattle.std.specs.Prelude.{◌≡◌, ◌+◌, ◌≤ℤ◌, [], ◌∷◌, List, None, ℤ, IfOk, OnErr, OnOk, length, nat_lt, true, false, reverse, drop, ◌<◌};
+ghost use Rattle.std.specs.Prelude.{◌≡◌, ◌+◌, ◌≤ℤ◌, [], ◌∷◌, List, None, ℤ, IfOk, OnErr, OnOk};
+ghost use Rattle.std.specs.Prelude.{length, nat_lt, true, false, reverse, drop, ◌<◌};
 ghost use Rattle.pb_verifier_states.specs.Inhabited.{HasOrderedEnds};
 ghost use Rattle.pb_verifier_states.specs.Refusals.{OnRefused};
-ghost use Rattle.pb_bytecode_program.specs.Transfer.{Flow, abstract_pop_args, abstract_pop_bool, abstract_pop_int};
+ghost use Rattle.pb_bytecode_program.specs.Transfer.{Flow, abstract_pop_args, abstract_pop_bool};
+ghost use Rattle.pb_bytecode_program.specs.Transfer.{abstract_pop_int};
 ghost use Rattle.pb_bytecode_program.specs.declared.abstract_value.AbstractValue.{AbstractValue as value_type};
 ghost use Rattle.pb_sorts.specs.declared.carrier.Carrier.{Carrier as carrier_type};
 ghost use Rattle.pb_bytecode_program.specs.declared.abstract_value.AbstractValue.TheVariants as abstract;
@@ -12,20 +14,20 @@ use crate::flow_error::FlowError;
 use crate::rule::AcceptanceRule;
 use crate::state::AbstractState;
 use crate::value::{is_accepted, is_of_kind, numbers};
-use pb_bytecode_program::AbstractValue;
+use pb_bytecode_program::{AbstractValue, MAX_OPERANDS};
 use pb_intervals::Interval;
 use pb_sorts::Carrier;
-
-/// How many operands there may be.
-const MAX_OPERANDS: usize = 32;
 
 impl AbstractState {
     /// Pushes an operand, or refuses a 33rd one.
     pub fn push(&mut self, value: AbstractValue) -> Result<(), FlowError>
         requires { HasOrderedEnds value }
-        ensures pushed { OnOk result (self.new ≡ record self.old { operands = value ∷ self.old.operands }) }
-        ensures room { OnOk result (nat_lt (length self.old.operands + self.old.below) 32 ≡ true) }
-        ensures full { OnRefused result (nat_lt (length self.old.operands + self.old.below) 32 ≡ false) }
+        ensures pushed { OnOk result (self.new
+            ≡ record self.old { operands = value ∷ self.old.operands }) }
+        ensures room { OnOk result (nat_lt (length self.old.operands + self.old.below) MAX_OPERANDS
+            ≡ true) }
+        ensures full { OnRefused result
+            (nat_lt (length self.old.operands + self.old.below) MAX_OPERANDS ≡ false) }
     {
         if self.operands.len() + usize::from(self.below) >= MAX_OPERANDS {
             return Err(FlowError::Refused(AcceptanceRule::TooManyOperands));
@@ -36,7 +38,8 @@ impl AbstractState {
 
     /// Pops the topmost operand above the floor.
     pub fn pop(&mut self) -> Result<AbstractValue, AcceptanceRule>
-        ensures ok { IfOk result (λ v. self.old ≡ record self.new { operands = v ∷ self.new.operands }) }
+        ensures ok { IfOk result (λ v. self.old
+            ≡ record self.new { operands = v ∷ self.new.operands }) }
         ensures ordered { IfOk result HasOrderedEnds }
         ensures err { OnErr result (self.old.operands ≡ []) }
         ensures err_same { OnErr result (self.new ≡ self.old) }
@@ -49,8 +52,10 @@ impl AbstractState {
 
     /// Pops a number.
     pub fn pop_int(&mut self) -> Result<Interval, AcceptanceRule>
-        ensures ok { IfOk result (λ i. self.old ≡ record self.new { operands = abstract.Int i.low i.high ∷ self.new.operands }) }
-        ensures err { OnErr result ((go : ℤ → ℤ → List value_type → Flow) → abstract_pop_int self.old.operands go ≡ None) }
+        ensures ok { IfOk result (λ i. self.old
+            ≡ record self.new { operands = abstract.Int i.low i.high ∷ self.new.operands }) }
+        ensures err { OnErr result ((go : ℤ → ℤ → List value_type → Flow)
+            → abstract_pop_int self.old.operands go ≡ None) }
     {
         match self.pop()? {
             AbstractValue::Int { lo, hi } => Ok(Interval::new(lo, hi)),
@@ -60,8 +65,10 @@ impl AbstractState {
 
     /// Pops a truth value.
     pub fn pop_bool(&mut self) -> Result<(), AcceptanceRule>
-        ensures ok { OnOk result (self.old ≡ record self.new { operands = abstract.Bool ∷ self.new.operands }) }
-        ensures err { OnErr result ((go : List value_type → Flow) → abstract_pop_bool self.old.operands go ≡ None) }
+        ensures ok { OnOk result
+            (self.old ≡ record self.new { operands = abstract.Bool ∷ self.new.operands }) }
+        ensures err { OnErr result ((go : List value_type → Flow)
+            → abstract_pop_bool self.old.operands go ≡ None) }
     {
         match self.pop()? {
             AbstractValue::Bool => Ok(()),
@@ -71,9 +78,11 @@ impl AbstractState {
 
     /// The number on top, which stays.
     pub fn top_int(&self) -> Result<Interval, AcceptanceRule>
-        ensures ok { IfOk result (λ i. self.now.operands ≡ abstract.Int i.low i.high ∷ drop 1 self.now.operands) }
+        ensures ok { IfOk result (λ i. self.now.operands
+            ≡ abstract.Int i.low i.high ∷ drop 1 self.now.operands) }
         ensures ordered { IfOk result (λ i. i.low ≤ℤ i.high) }
-        ensures err { OnErr result ((go : ℤ → ℤ → List value_type → Flow) → abstract_pop_int self.now.operands go ≡ None) }
+        ensures err { OnErr result ((go : ℤ → ℤ → List value_type → Flow)
+            → abstract_pop_int self.now.operands go ≡ None) }
     {
         match self.operands.first() {
             Some(AbstractValue::Int { lo, hi }) => Ok(Interval::new(*lo, *hi)),
@@ -85,15 +94,21 @@ impl AbstractState {
     /// Narrows the number on top.
     pub fn narrow_top(&mut self, interval: Interval)
         requires { 0 < length self.old.operands }
-        ensures { self.new ≡ record self.old { operands = abstract.Int interval.low interval.high ∷ drop 1 self.old.operands } }
+        ensures { self.new
+            ≡ record self.old {
+              operands = abstract.Int interval.low interval.high ∷ drop 1 self.old.operands;
+            } }
     {
         self.operands[0] = numbers(interval);
     }
 
     /// Pops the arguments of a call, the last one first: each is one of its carrier.
     pub fn pop_arguments(&mut self, carriers: &[Carrier]) -> Result<(), AcceptanceRule>
-        ensures ok { OnOk result ((go : List value_type → Flow) → abstract_pop_args (reverse carriers.now) self.old.operands go ≡ go self.new.operands) }
-        ensures err { OnErr result ((go : List value_type → Flow) → abstract_pop_args (reverse carriers.now) self.old.operands go ≡ None) }
+        ensures ok { OnOk result ((go : List value_type → Flow)
+            → abstract_pop_args (reverse carriers.now) self.old.operands go
+            ≡ go self.new.operands) }
+        ensures err { OnErr result ((go : List value_type → Flow)
+            → abstract_pop_args (reverse carriers.now) self.old.operands go ≡ None) }
         ensures same { self.new ≡ record self.old { operands = self.new.operands } }
     {
         let mut left = carriers.len();
@@ -109,8 +124,11 @@ impl AbstractState {
 
     // Pops an argument, which is one of the carrier.
     fn pop_argument(&mut self, carrier: Carrier) -> Result<(), AcceptanceRule>
-        ensures ok { OnOk result ((cs : List carrier_type) (go : List value_type → Flow) → abstract_pop_args (carrier ∷ cs) self.old.operands go ≡ abstract_pop_args cs self.new.operands go) }
-        ensures err { OnErr result ((cs : List carrier_type) (go : List value_type → Flow) → abstract_pop_args (carrier ∷ cs) self.old.operands go ≡ None) }
+        ensures ok { OnOk result ((cs : List carrier_type) (go : List value_type → Flow)
+            → abstract_pop_args (carrier ∷ cs) self.old.operands go
+            ≡ abstract_pop_args cs self.new.operands go) }
+        ensures err { OnErr result ((cs : List carrier_type) (go : List value_type → Flow)
+            → abstract_pop_args (carrier ∷ cs) self.old.operands go ≡ None) }
         ensures same { self.new ≡ record self.old { operands = self.new.operands } }
     {
         let value = self.pop()?;

@@ -2,7 +2,9 @@
 
 ghost use Rattle.std.specs.Prelude.{◌≡◌, IfSome, Some, None, ℤ, ◌≤ℤ◌, IfOk, OnErr, slice_get};
 ghost use Rattle.pb_verifier_states.specs.Inhabited.{HasOrderedEnds};
-ghost use Rattle.pb_bytecode_program.specs.Transfer.{Flow, abstract_slot, among, set_loop, set_param, set_slot, with_abstract_slot, with_interval};
+ghost use Rattle.pb_bytecode_program.specs.Transfer.{Flow, abstract_slot, among, set_loop};
+ghost use Rattle.pb_bytecode_program.specs.Transfer.{set_param, set_slot, with_abstract_slot};
+ghost use Rattle.pb_bytecode_program.specs.Transfer.{with_interval};
 ghost use Rattle.pb_bytecode_program.specs.declared.abstract_value.AbstractValue.TheVariants as abstract;
 
 use crate::rule::AcceptanceRule;
@@ -22,9 +24,12 @@ impl AbstractState {
 
     /// What is known of the number in a slot.
     pub fn slot_int(&self, slot: u8) -> Result<Interval, AcceptanceRule>
-        ensures ok { IfOk result (λ i. abstract_slot self.now.loops self.now.params slot ≡ Some (abstract.Int i.low i.high)) }
+        ensures ok { IfOk result (λ i. abstract_slot self.now.loops self.now.params slot
+            ≡ Some (abstract.Int i.low i.high)) }
         ensures ordered { IfOk result (λ i. i.low ≤ℤ i.high) }
-        ensures err { OnErr result ((go : ℤ → ℤ → Flow) → with_abstract_slot (abstract_slot self.now.loops self.now.params slot) (λ s. with_interval s go) ≡ None) }
+        ensures err { OnErr result ((go : ℤ → ℤ → Flow)
+            → with_abstract_slot (abstract_slot self.now.loops self.now.params slot)
+            (λ s. with_interval s go) ≡ None) }
     {
         match self.slot(slot) {
             Some(AbstractValue::Int { lo, hi }) => Ok(Interval::new(lo, hi)),

@@ -1,6 +1,7 @@
 use Rattle.std.proofs.Common.{◌≡◌, ◌+◌, ◌∷◌, drop, arith, rules}
 use Rattle.std.proofs.lemmas.Grind.{common_steps}
-use Rattle.pb_sorts.proofs.Counts.{drop-at, drop-all}
+use Rattle.std.proofs.lemmas.List.{drop_all}
+use Rattle.pb_sorts.proofs.Places.{drop-at}
 use Rattle.pb_sorts.proofs.Filling.{weight_is_some, digit_below, filling_goes_on, filling_ends}
 use Rattle.pb_sorts.proofs.tuple.tuple_at.Goals as goal
 
@@ -28,4 +29,4 @@ loop-carrier-preserved c =
 
 pub returns : goal.returns
 returns c =
-    filling_ends c.args.carriers.now c.args.place _ _ c.loop-carrier.rest c.loop-carrier.weight c.loop-carrier.invariant.filling (drop-all c.args.carriers.now c.loop-carrier.carrier-index c.loop-carrier-test.false)
+    filling_ends c.args.carriers.now c.args.place _ _ c.loop-carrier.rest c.loop-carrier.weight c.loop-carrier.invariant.filling (drop_all c.loop-carrier.carrier-index c.args.carriers.now c.loop-carrier-test.false)

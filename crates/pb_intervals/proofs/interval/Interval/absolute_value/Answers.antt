@@ -11,8 +11,5 @@ returns-then-high-le0 c = c.negation.ensures ∙ sym (ap (within c.args.limits) 
 pub returns-else-high-le0 : goal.returns-else-high-le0
 returns-else-high-le0 c =
     let i = c.args.self in
-    let f = c.wide_ends-low.ensures.fits in
-    let f0 = f.0 in
-    let f1 = f.1 in
     same_within c.args.limits _ _ _ (between (pos 0) (int_max (neg_ℤ i.low) i.high)) c.limited-else-high-le0.ensures (omega (arith, ints)) (omega (arith, ints, clamps))
     ∙ sym (ap (within c.args.limits) (absolute_across i (omega (arith, ints)) (omega (arith, ints))))

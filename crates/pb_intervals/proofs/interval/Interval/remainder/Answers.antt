@@ -6,25 +6,12 @@ use Rattle.pb_intervals.proofs.Ends.{between, same_within, remainders_above, rem
 use Rattle.pb_intervals.proofs.interval.Interval.remainder.Goals as goal
 
 pub limited-requires : goal.limited-requires
-limited-requires c =
-    let f = c.wide_ends-low.ensures.fits in
-    let f0 = f.0 in
-    let f1 = f.1 in
-    let g = c.wide_ends-other_high.ensures.fits in
-    let g0 = g.0 in
-    let g1 = g.1 in
-    omega (arith, ints, clamps)
+limited-requires c = omega (arith, ints, clamps)
 
 pub returns-then-low-ge0 : goal.returns-then-low-ge0
 returns-then-low-ge0 c =
     let i = c.args.self in
     let j = c.args.other in
-    let f = c.wide_ends-low.ensures.fits in
-    let f0 = f.0 in
-    let f1 = f.1 in
-    let g = c.wide_ends-other_high.ensures.fits in
-    let g0 = g.0 in
-    let g1 = g.1 in
     same_within c.args.limits _ _ _ (between (pos 0) (int_min i.high (j.high -ℤ pos 1))) c.limited.ensures (omega (arith, ints)) (omega (arith, ints, clamps))
     ∙ sym (ap (within c.args.limits) (remainders_above i j (omega (arith, ints))))
 
@@ -32,11 +19,5 @@ pub returns-else-low-ge0 : goal.returns-else-low-ge0
 returns-else-low-ge0 c =
     let i = c.args.self in
     let j = c.args.other in
-    let f = c.wide_ends-low.ensures.fits in
-    let f0 = f.0 in
-    let f1 = f.1 in
-    let g = c.wide_ends-other_high.ensures.fits in
-    let g0 = g.0 in
-    let g1 = g.1 in
     same_within c.args.limits _ _ _ (between (pos 0) (j.high -ℤ pos 1)) c.limited-else-low-ge0.ensures (omega (arith, ints)) (omega (arith, ints))
     ∙ sym (ap (within c.args.limits) (remainders_below i j (omega (arith, ints))))

@@ -6,7 +6,4 @@ use Rattle.pb_intervals.proofs.interval.Interval.successor.Goals as goal
 
 pub returns : goal.returns
 returns c =
-    let f = c.wide_ends-low.ensures.fits in
-    let f0 = f.0 in
-    let f1 = f.1 in
     same_within c.args.limits _ _ _ (successors c.args.self) c.limited.ensures (omega (arith, ints)) (omega (arith, ints))
