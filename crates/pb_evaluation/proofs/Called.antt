@@ -3,6 +3,7 @@ use Rattle.std.proofs.Common.{◌≡◌, ℕ, zero, suc, ◌+◌, ◌<◌, ◌�
 use Rattle.std.specs.Prelude.{position, slice_index_or}
 use Rattle.std.specs.List.{slice_get}
 use Rattle.std.proofs.lemmas.List.Quantifiers.{position-Some}
+use Rattle.std.proofs.lemmas.List.{drop_all}
 use Rattle.pb_carriers.specs.Carrier as carriers
 use Rattle.pb_carriers.specs.Carrier.{Tuple, Value}
 use Rattle.pb_sorts.specs.declared.carrier.Carrier.{Carrier}
@@ -12,6 +13,7 @@ use Rattle.pb_sorts.specs.Instance.{instances, is_instance, is_tuple_of, number_
 use Rattle.pb_sorts.proofs.Numbers.{number_of-slice_get, is_instance-slice_get}
 use Rattle.pb_sorts.proofs.Equations.{slice_get-carriers_of}
 use Rattle.pb_sorts.proofs.Reading.{is_within-other_length}
+use Rattle.pb_sorts.proofs.Places.{drop-at}
 use Rattle.pb_text_tree.specs.declared.term.Argument.{Argument}
 use Rattle.pb_text_tree.specs.Form.{argument_forms, term_form}
 use Rattle.pb_text_meaning.specs.Syntax.{Name, same_name, Equation, Spec}
@@ -19,7 +21,6 @@ use Rattle.pb_text_meaning.specs.Value.{Assignment, value, values}
 use Rattle.pb_text_meaning.specs.Formula.{Instance, fits, call_truth}
 use Rattle.pb_text_meaning.specs.Formula as formula
 use Rattle.pb_text_meaning.specs.Erase.{erased_term, erased_arguments}
-use Rattle.pb_evaluation.proofs.Links.{drop_link, drop_end}
 use Rattle.pb_evaluation.specs.Environment.{all_carriers, environment_of, place_named, truth_at, truth_of}
 
 first_found : (p : Equation → Bool) (E : List Equation) (k : ℕ) (d : Equation) → k < length E → p (get_or E k d) ≡ true → ((j : ℕ) → j < k → p (get_or E j d) ≡ false) → find p E ≡ slice_get E k
@@ -89,8 +90,8 @@ values_more S a xs k x done more all v lt at is pushed h =
     ap (λ (ws : List Value). ws ++ rest) pushed
     ∙ (append_assoc done (v ∷ []) rest
     ∙ (ap (λ (w : Value). done ++ w ∷ rest) is
-    ∙ (ap (λ (ys : List Argument). done ++ values S a (erased_arguments (argument_forms ys))) (sym (drop_link xs k x lt at)) ∙ h)))
+    ∙ (ap (λ (ys : List Argument). done ++ values S a (erased_arguments (argument_forms ys))) (sym (drop-at xs k x lt at)) ∙ h)))
 
 pub values_all : (S : Spec) (a : Assignment) (xs : List Argument) (k : ℕ) (done all : List Value) → length xs ≤ k → done ++ values S a (erased_arguments (argument_forms (drop k xs))) ≡ all → done ≡ all
 values_all S a xs k done all le h =
-    sym (append-nil done) ∙ (ap (λ (ys : List Argument). done ++ values S a (erased_arguments (argument_forms ys))) (sym (drop_end xs k le)) ∙ h)
+    sym (append-nil done) ∙ (ap (λ (ys : List Argument). done ++ values S a (erased_arguments (argument_forms ys))) (sym (drop_all k xs le)) ∙ h)

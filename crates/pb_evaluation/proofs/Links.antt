@@ -1,6 +1,7 @@
 -- The value of chains, link by link, and why their operands fit.
 use Rattle.std.proofs.Common.{◌≡◌, ℕ, zero, suc, ◌+◌, ◌<◌, ◌≤◌, Bool, true, false, List, [], ◌∷◌, length, get_or, drop, refl, sym, ◌∙◌, ap, arith, add-one, subst}
 use Rattle.std.specs.Prelude.{⊤}
+use Rattle.pb_sorts.proofs.Places.{drop-at}
 use Rattle.pb_text_tree.specs.declared.operator.Connective.{Connective}
 use Rattle.pb_text_tree.specs.declared.operator.Connective.TheVariants.{And, Or, Implies}
 use Rattle.pb_text_tree.specs.declared.term.TermLink.{TermLink}
@@ -42,21 +43,6 @@ link_fits S a [] k link f lt at = absurd (omega arith)
 link_fits S a (l ∷ links) zero link f lt at = subst (λ (m : TermLink). Fits S a (erased_term (term_form m.operand))) (sym at) f.0
 link_fits S a (l ∷ links) (suc k) link f lt at = link_fits S a links k link f.1 (omega arith) at
 
--- the links from a place on
-pub drop_link : {A : Type 0} (xs : List A) (k : ℕ) (x : A) → k < length xs → x ≡ get_or xs k x → drop k xs ≡ x ∷ drop (k + 1) xs
-drop_link xs k x lt at = rw add-one (by_suc xs k x lt at)
-  where
-    by_suc : {A : Type 0} (xs : List A) (k : ℕ) (x : A) → k < length xs → x ≡ get_or xs k x → drop k xs ≡ x ∷ drop (suc k) xs
-    by_suc [] k x lt at = absurd (omega arith)
-    by_suc (y ∷ xs) zero x lt at = ap (λ z. z ∷ xs) (sym at)
-    by_suc (y ∷ xs) (suc k) x lt at = by_suc xs k x (omega arith) at
-
-pub drop_end : {A : Type 0} (xs : List A) (k : ℕ) → length xs ≤ k → drop k xs ≡ []
-drop_end [] zero h = refl
-drop_end [] (suc k) h = refl
-drop_end (x ∷ xs) zero h = absurd (omega arith)
-drop_end (x ∷ xs) (suc k) h = drop_end xs k (omega arith)
-
 bool-value : (b : Bool) → is_true (of_bool b) ≡ b
 bool-value true = refl
 bool-value false = refl
@@ -82,7 +68,7 @@ pub chain_decided : (S : Spec) (a : Assignment) (c : Connective) (v : Value) (li
     → t ≡ is_true v → ((right : Bool) → connected_truth c t right ≡ b) → chain_value S a c v (drop k links) ≡ of_bool b
 chain_decided S a c v links k link t b lt at tests decides =
     let rest = chain_value S a c (value_of S a (term_form link.operand)) (drop (k + 1) links) in
-    ap (chain_value S a c v) (drop_link links k link lt at)
+    ap (chain_value S a c v) (drop-at links k link lt at)
     ∙ (binary-connected c v rest ∙ ap of_bool (ap (λ u. connected_truth c u (is_true rest)) (sym tests) ∙ decides (is_true rest)))
 
 -- an operand that doesn't
@@ -95,7 +81,7 @@ chain_next S a c v w links k link t lt at tests stays is =
     ap (λ u. chain_value S a c u (drop (k + 1) links)) is
     ∙ (truth-chain S a c x (drop (k + 1) links)
     ∙ (sym (ap of_bool (ap (λ u. connected_truth c u (is_true rest)) (sym tests) ∙ stays (is_true rest)))
-    ∙ (sym (binary-connected c v rest) ∙ ap (chain_value S a c v) (sym (drop_link links k link lt at)))))
+    ∙ (sym (binary-connected c v rest) ∙ ap (chain_value S a c v) (sym (drop-at links k link lt at)))))
 
 -- ---- chains of arithmetic
 
@@ -125,8 +111,8 @@ fits-calculated S a first (link ∷ links) f =
 -- the next operand fits, and so do the links behind it
 pub arithmetic_next : (S : Spec) (a : Assignment) (v : Value) (links : List ArithmeticLink) (k : ℕ) (link : ArithmeticLink) → k < length links → link ≡ get_or links k link → ArithmeticFits S a v (drop k links)
     → ArithmeticFits S a v (link ∷ drop (k + 1) links)
-arithmetic_next S a v links k link lt at f = subst (ArithmeticFits S a v) (drop_link links k link lt at) f
+arithmetic_next S a v links k link lt at f = subst (ArithmeticFits S a v) (drop-at links k link lt at) f
 
 pub arithmetic_value-next : (S : Spec) (a : Assignment) (v : Value) (links : List ArithmeticLink) (k : ℕ) (link : ArithmeticLink) → k < length links → link ≡ get_or links k link
     → arithmetic_value S a v (drop k links) ≡ arithmetic_value S a (binary (of_arithmetic link.operator) v (value_of S a (term_form link.operand))) (drop (k + 1) links)
-arithmetic_value-next S a v links k link lt at = ap (arithmetic_value S a v) (drop_link links k link lt at)
+arithmetic_value-next S a v links k link lt at = ap (arithmetic_value S a v) (drop-at links k link lt at)

@@ -1,11 +1,11 @@
 -- The values of a quantifier's variables, one after the other, in the words of the meaning.
 use Rattle.std.proofs.Common.{◌≡◌, ◌≢◌, ℕ, suc, ◌+◌, ◌-◌, ◌*◌, ◌<◌, Bool, true, false, not, ◌&&◌, ◌||◌, List, [], ◌∷◌, ◌++◌, map, ℤ, pos, refl, sym, ◌∙◌, ap, arith, subst, append_assoc, append-nil, length, take, drop, inl, inr, true≢false}
-use Rattle.std.specs.Prelude.{⊤, ◌+ℤ◌, ◌==◌, ◌⊎◌}
+use Rattle.std.specs.Prelude.{⊤, ◌+ℤ◌, ◌==◌}
 use Rattle.std.proofs.lemmas.Int.{ints}
 use Rattle.std.proofs.Math.Seq.{take-append_seam}
 use Rattle.std.proofs.Math.Nat.{suc-mul, sub-zero}
 use Rattle.std.specs.List.{list_any}
-use Rattle.std.proofs.lemmas.Bool.{eqb-true, eqb-false}
+use Rattle.std.proofs.lemmas.Bool.{eqb-true, eqb-false, or_parts, or_cases}
 use Rattle.pb_text_tree.specs.declared.operator.Quantifier.{Quantifier}
 use Rattle.pb_text_tree.specs.declared.operator.Quantifier.TheVariants.{Forall, Exists}
 use Rattle.pb_carriers.specs.Carrier.{Carrier, Value, numbers_from}
@@ -210,18 +210,10 @@ next_within (b ∷ bs) (c ∷ cs) h next = elim next [
 abbrev pub lacks_values : List Binding → Bool
 lacks_values bs = list_any (λ (b : Binding). b.numbers.count == 0) bs
 
-neither : (x y : Bool) → (x || y) ≡ false → (x ≡ false) × (y ≡ false)
-neither true y e = absurd (true≢false e)
-neither false y e = (refl, e)
-
-either : (x y : Bool) → (x || y) ≡ true → (x ≡ true) ⊎ (y ≡ true)
-either true y e = inl refl
-either false y e = inr e
-
 pub first_within : (bs : List Binding) → AreFirst bs → lacks_values bs ≡ false → AreWithin bs
 first_within [] first some = tt
 first_within (b ∷ bs) first some =
-    let here = neither (b.numbers.count == 0) (lacks_values bs) some in
+    let here = or_parts (b.numbers.count == 0) (lacks_values bs) some in
     (omega (arith, first.0, eqb-false b.numbers.count 0 here.0), first_within bs first.1 here.1)
 
 none_of : (q : Quantifier) (f : Value → Bool) (vs : Carrier) → ((v : Value) → f v ≡ not (deciding q)) → of_values q f vs ≡ not (deciding q)
@@ -236,7 +228,7 @@ none_at_all S q [] (b ∷ bs) p a h lacks = absurd h
 none_at_all S q (x ∷ xs) [] p a h lacks = absurd h
 none_at_all S q (x ∷ xs) (b ∷ bs) p a h lacks =
     let f = inside S q x xs p a in
-    elim (either (b.numbers.count == 0) (lacks_values bs) lacks) [
+    elim (or_cases (b.numbers.count == 0) (lacks_values bs) lacks) [
       | inl e ↦ over_all S q f x b h.0 ∙ over_end q f b.numbers.least 0 b.numbers.count (omega (arith, eqb-true b.numbers.count 0 e))
       | inr e ↦ none_of q f (carrier_of S x.sort) (λ v. none_at_all S q xs bs p ((x.name, v) ∷ a) h.1 e)
     ]

@@ -21,7 +21,7 @@ abbrev mutual
   weight (term.Constant place b) = 1
   weight (term.Number place n) = 1
   weight (term.Name n) = 1
-  weight (term.Not' place p operand) = 1 + weight operand
+  weight (term.Not' place p operand) = 2 + weight operand
   weight (term.Negative' place p operand) = 1 + weight operand
   weight (term.Chain' c p first shape row) = 2 + (weight first + links_row row)
   weight (term.Comparison' place comparison p left q right) = 1 + (weight left + weight right)

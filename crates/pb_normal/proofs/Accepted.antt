@@ -1,7 +1,8 @@
 -- What an accepted text has, and the normal forms of its equations, one by one.
 use Rattle.std.proofs.Common.{◌≡◌, ℕ, zero, suc, ◌+◌, ◌<◌, ◌≤◌, true, List, [], ◌∷◌, ◌++◌, map, length, get_or, drop, refl, sym, ◌∙◌, ap, subst, arith}
 use Rattle.std.specs.List.{All}
-use Rattle.std.proofs.lemmas.List.{append-nil, append_assoc}
+use Rattle.std.proofs.lemmas.List.{append-nil, append_assoc, drop_all}
+use Rattle.pb_sorts.proofs.Places.{drop-at}
 use Rattle.pb_text_tree.specs.declared.spec.Equation.{Equation}
 use Rattle.pb_text_tree.specs.Form.{SpecForm, equation_form}
 use Rattle.pb_text_meaning.specs.Syntax as syntax
@@ -14,17 +15,14 @@ use Rattle.pb_typing_declarations.specs.Declarations.{declaration_faults}
 use Rattle.pb_typing_declarations.specs.Faults.{IsAmong}
 use Rattle.pb_typing_declarations.specs.Shapes.{Shape}
 use Rattle.pb_typing_declarations.specs.WellDeclared.{AreVariables}
-use Rattle.pb_typing_rules.specs.Faults.{faults}
 use Rattle.pb_typing_rules.specs.WellTyped.{AreProper, parameters_of}
-use Rattle.pb_typing_rules.proofs.Parts.{no_parts}
 use Rattle.pb_typing.specs.Typed.{is_faultless}
-use Rattle.pb_typing.proofs.Links.{links-drop, links-ended}
+use Rattle.pb_typing.proofs.Accepted.{accepted-declared, accepted-well-typed}
 use Rattle.pb_normal.specs.declared.normal.Equation as declared
 use Rattle.pb_normal.specs.Equations.{normal_equation}
 use Rattle.pb_normal.specs.Loops.{IsShapedEquation, equation_loops}
 use Rattle.pb_normal.specs.Normal.{Formula}
 use Rattle.pb_normal.specs.View.{formula_view, shapes_of}
-use Rattle.pb_normal.proofs.Equations.{no-faults, accepted-well-typed}
 use Rattle.pb_normal.proofs.Shaped.{variables-shaped, expanded-shaped}
 
 no-fault : (fs : List TypingFault) (e : TypeError) (f : TypingFault) → fs ≡ [] → e ≡ At f → IsAmong fs e → ⊥
@@ -34,7 +32,7 @@ no-fault fs e f clear is h =
 
 -- its declarations have no fault
 pub undeclared : (text : SpecForm) (e : TypeError) (f : TypingFault) → is_faultless text ≡ true → e ≡ At f → IsAmong (declaration_faults text) e → ⊥
-undeclared text e f faultless is h = no-fault (declaration_faults text) e f (no_parts (declaration_faults text) _ (no-faults (faults text) faultless)).0 is h
+undeclared text e f faultless is h = no-fault (declaration_faults text) e f (accepted-declared text faultless) is h
 
 abbrev pub erased : Equation → syntax.Equation
 erased X = erased_equation (equation_form X)
@@ -92,12 +90,12 @@ done_begun S xs done e shaped = record {
 }
 
 pub shaped_at : (S : Spec) (xs : List Equation) (k : ℕ) (X : Equation) (done : List declared.Equation) → k < length xs → X ≡ get_or xs k X → AreDone S xs k done → IsShapedEquation S (erased X)
-shaped_at S xs k X done below at h = (subst (AreShapedEquations S) (links-drop xs k X below at) h.shaped).0
+shaped_at S xs k X done below at h = (subst (AreShapedEquations S) (drop-at xs k X below at) h.shaped).0
 
 pub done_next : (S : Spec) (xs : List Equation) (k : ℕ) (X : Equation) (Y : declared.Equation) (done more : List declared.Equation) → k < length xs → X ≡ get_or xs k X → more ≡ done ++ Y ∷ []
     → formula_view Y.right ≡ normal_equation S (erased X) → shapes_of Y.loops.items ≡ equation_loops S (erased X) → AreDone S xs k done → AreDone S xs (k + 1) more
 done_next S xs k X Y done more below at pushed right loops h =
-    let left = links-drop xs k X below at in
+    let left = drop-at xs k X below at in
     let rest = map (normal_equation S) (all_erased (drop (k + 1) xs)) in
     let others = map (equation_loops S) (all_erased (drop (k + 1) xs)) in
     record {
@@ -118,8 +116,8 @@ done_next S xs k X Y done more below at pushed right loops h =
 
 pub rights_ended : (S : Spec) (xs : List Equation) (k : ℕ) (done : List declared.Equation) → length xs ≤ k → AreDone S xs k done → rights_of done ≡ map (normal_equation S) (all_erased xs)
 rights_ended S xs k done end h =
-    sym (h.rights ∙ (ap (λ (ys : List Equation). rights_of done ++ map (normal_equation S) (all_erased ys)) (links-ended xs k end) ∙ append-nil (rights_of done)))
+    sym (h.rights ∙ (ap (λ (ys : List Equation). rights_of done ++ map (normal_equation S) (all_erased ys)) (drop_all k xs end) ∙ append-nil (rights_of done)))
 
 pub loops_ended : (S : Spec) (xs : List Equation) (k : ℕ) (done : List declared.Equation) → length xs ≤ k → AreDone S xs k done → loops_of done ≡ map (equation_loops S) (all_erased xs)
 loops_ended S xs k done end h =
-    sym (h.loops ∙ (ap (λ (ys : List Equation). loops_of done ++ map (equation_loops S) (all_erased ys)) (links-ended xs k end) ∙ append-nil (loops_of done)))
+    sym (h.loops ∙ (ap (λ (ys : List Equation). loops_of done ++ map (equation_loops S) (all_erased ys)) (drop_all k xs end) ∙ append-nil (loops_of done)))

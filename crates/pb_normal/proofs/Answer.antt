@@ -1,6 +1,7 @@
 -- The normal forms of a well-typed specification have its solution and its answer.
 use Rattle.std.proofs.Common.{◌≡◌, suc, pos, Bool, true, List, [], ◌∷◌, map, length, Some, refl, sym, ◌∙◌, ap, true≢false, get_or}
 use Rattle.std.proofs.lemmas.Option.{slice_get-get_or, unwrap_or-slice_get}
+use Rattle.std.proofs.lemmas.Bool.{and_parts}
 use Rattle.pb_fixpoint.specs.Solution as fixpoint
 use Rattle.pb_fixpoint.specs.Solution.{Environment, solution, empty}
 use Rattle.pb_carriers.specs.Carrier.{Tuple, is_within, contains}
@@ -10,7 +11,6 @@ use Rattle.pb_text_meaning.specs.Formula.{Instance, carriers_of, call_truth}
 use Rattle.pb_text_meaning.specs.Sorts.{carrier_of}
 use Rattle.pb_text_meaning.specs.Meaning.{equation_of, equations_of, answer}
 use Rattle.pb_typing_rules.specs.WellTyped.{IsWellTyped}
-use Rattle.pb_typing_rules.proofs.Values.{and_true}
 use Rattle.pb_normal.specs.Normal.{truth}
 use Rattle.pb_normal.specs.Equations.{normal_equation, Hold, KeepsTruth}
 use Rattle.pb_normal.specs.Answer.{slots_of, equation_by, equations_by, answer_by, normal_equations}
@@ -26,7 +26,7 @@ within-count spec [] [] e = refl
 within-count spec [] (v ∷ vs) e = absurd (true≢false (sym e))
 within-count spec (x ∷ xs) [] e = absurd (true≢false (sym e))
 within-count spec (x ∷ xs) (v ∷ vs) e =
-    let rest = and_true (contains (carrier_of spec x.sort) v) (is_within (carriers_of spec xs) vs) e in
+    let rest = and_parts (contains (carrier_of spec x.sort) v) (is_within (carriers_of spec xs) vs) e in
     ap suc (within-count spec xs vs rest.1)
 
 -- where an equation holds, by its normal form
@@ -38,7 +38,7 @@ normally spec X = equation_by spec X (normal_equation spec X)
 
 holds-alike : (spec : Spec) (X : Equation) → KeepsTruth spec X → HoldsAlike Instance Equation (equation_of spec) (holds_normally spec) X
 holds-alike spec X keeps t i own =
-    let inside = and_true (same_name X.name i.name) (is_within (carriers_of spec X.parameters) i.values) own in
+    let inside = and_parts (same_name X.name i.name) (is_within (carriers_of spec X.parameters) i.values) own in
     keeps t (slots_of i.values) i (within-count spec X.parameters i.values inside.1) (slots-hold i.values)
 
 one-by-one : (spec : Spec) (E : List Equation) → equations_by spec E (map (normal_equation spec) E) ≡ map (normally spec) E

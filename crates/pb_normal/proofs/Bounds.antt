@@ -3,7 +3,7 @@ use Rattle.std.proofs.Common.{◌≡◌, ℕ, zero, suc, ◌+◌, ◌<◌, ◌�
 use Rattle.std.specs.Prelude.{nat_lt, nat_le}
 use Rattle.std.specs.List.{All}
 use Rattle.std.proofs.lemmas.Int.{ints}
-use Rattle.std.proofs.lemmas.Bool.{and_from}
+use Rattle.std.proofs.lemmas.Bool.{and_from, and_parts}
 use Rattle.pb_intervals.specs.Interval.{is_within, singleton, literals}
 use Rattle.pb_intervals.proofs.Ends.{le_true}
 use Rattle.pb_text_meaning.specs.Syntax as syntax
@@ -15,7 +15,6 @@ use Rattle.pb_typing_rules.specs.Scope.{Scope, bound}
 use Rattle.pb_typing_rules.specs.Term.{passes, IsTyped, AreTyped}
 use Rattle.pb_typing_rules.specs.Formula.{IsProper}
 use Rattle.pb_typing_rules.specs.WellTyped.{parameters_of, AreProper, IsWellTyped}
-use Rattle.pb_typing_rules.proofs.Values.{and_true}
 use Rattle.pb_typing_rules.proofs.Contained.{called_typed}
 use Rattle.pb_normal.specs.Expansion.{has_quantifier, connected, expanded_term, expanded}
 use Rattle.pb_normal.specs.Normal.{Term, Argument, Formula}
@@ -39,7 +38,7 @@ is-up-to s n h = grind (arith, tests)
 -- a literal is at most 2^62
 literal-bounded : (n : ℕ) → is_within (singleton (pos n)) literals ≡ true → nat_le n (2 ^ 62) ≡ true
 literal-bounded n e =
-    let high = le_true (pos n) literals.high (and_true (int_le literals.low (pos n)) (int_le (pos n) literals.high) e).1 in
+    let high = le_true (pos n) literals.high (and_parts (int_le literals.low (pos n)) (int_le (pos n) literals.high) e).1 in
     is-up-to n (2 ^ 62) (omega (arith, ints, high))
 
 -- the place of an equation is one of the list's

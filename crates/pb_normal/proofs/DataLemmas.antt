@@ -1,7 +1,8 @@
 -- Chains, arithmetic and arguments over slots, operand by operand.
 use Rattle.std.proofs.Common.{◌≡◌, ℕ, ◌+◌, ◌<◌, ◌≤◌, List, [], ◌∷◌, ◌++◌, map, length, get_or, drop, refl, sym, ◌∙◌, ap, Box, Vec, Global}
 use Rattle.std.specs.Prelude.{box_value}
-use Rattle.std.proofs.lemmas.List.{append-nil, append_assoc}
+use Rattle.std.proofs.lemmas.List.{append-nil, append_assoc, drop_all}
+use Rattle.pb_sorts.proofs.Places.{drop-at}
 use Rattle.pb_text_tree.specs.declared.operator.Arithmetic.{Arithmetic}
 use Rattle.pb_text_tree.specs.declared.operator.Connective.{Connective}
 use Rattle.pb_text_tree.specs.declared.name.Name.{Name}
@@ -18,7 +19,6 @@ use Rattle.pb_normal.specs.Normal as normal
 use Rattle.pb_normal.specs.Normal.{Binary}
 use Rattle.pb_normal.specs.Normalisation.{Slotting, slotted, slotted_all, applied}
 use Rattle.pb_normal.specs.View.{chained, calculated}
-use Rattle.pb_typing.proofs.Links.{links-drop, links-ended}
 
 -- an operand of the tree, over slots
 abbrev pub over_slots : Spec → Slotting → ast.Term → normal.Term
@@ -78,17 +78,17 @@ other-count S c f (x ∷ (y ∷ (z ∷ (w ∷ ws)))) one two three = refl
 pub links_next : (S : Spec) (c : Slotting) (links : List TermLink) (k : ℕ) (link : TermLink) (done : List normal.Term) (all : List normal.Term) → k < length links → link ≡ get_or links k link
     → all ≡ done ++ link_terms S c (drop k links) → all ≡ (done ++ (over_slots S c link.operand ∷ [])) ++ link_terms S c (drop (k + 1) links)
 links_next S c links k link done all below at h =
-    h ∙ (ap (λ (ls : List TermLink). done ++ link_terms S c ls) (links-drop links k link below at)
+    h ∙ (ap (λ (ls : List TermLink). done ++ link_terms S c ls) (drop-at links k link below at)
     ∙ sym (append_assoc done (over_slots S c link.operand ∷ []) (link_terms S c (drop (k + 1) links))))
 
 pub links_done : (S : Spec) (c : Slotting) (links : List TermLink) (k : ℕ) (done all : List normal.Term) → length links ≤ k → all ≡ done ++ link_terms S c (drop k links) → all ≡ done
-links_done S c links k done all h e = e ∙ (ap (λ (ls : List TermLink). done ++ link_terms S c ls) (links-ended links k h) ∙ append-nil done)
+links_done S c links k done all h e = e ∙ (ap (λ (ls : List TermLink). done ++ link_terms S c ls) (drop_all k links h) ∙ append-nil done)
 
 pub arithmetic_next : (S : Spec) (c : Slotting) (links : List ArithmeticLink) (k : ℕ) (link : ArithmeticLink) (done all : List (Arithmetic × normal.Term)) → k < length links → link ≡ get_or links k link
     → all ≡ done ++ arithmetic_terms S c (drop k links) → all ≡ (done ++ ((link.operator, over_slots S c link.operand) ∷ [])) ++ arithmetic_terms S c (drop (k + 1) links)
 arithmetic_next S c links k link done all below at h =
-    h ∙ (ap (λ (ls : List ArithmeticLink). done ++ arithmetic_terms S c ls) (links-drop links k link below at)
+    h ∙ (ap (λ (ls : List ArithmeticLink). done ++ arithmetic_terms S c ls) (drop-at links k link below at)
     ∙ sym (append_assoc done ((link.operator, over_slots S c link.operand) ∷ []) (arithmetic_terms S c (drop (k + 1) links))))
 
 pub arithmetic_done : (S : Spec) (c : Slotting) (links : List ArithmeticLink) (k : ℕ) (done all : List (Arithmetic × normal.Term)) → length links ≤ k → all ≡ done ++ arithmetic_terms S c (drop k links) → all ≡ done
-arithmetic_done S c links k done all h e = e ∙ (ap (λ (ls : List ArithmeticLink). done ++ arithmetic_terms S c ls) (links-ended links k h) ∙ append-nil done)
+arithmetic_done S c links k done all h e = e ∙ (ap (λ (ls : List ArithmeticLink). done ++ arithmetic_terms S c ls) (drop_all k links h) ∙ append-nil done)

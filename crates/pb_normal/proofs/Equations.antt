@@ -1,19 +1,13 @@
 -- The normal form of each equation of a well-typed specification has the truth of the equation's right side.
-use Rattle.std.proofs.Common.{◌≡◌, zero, suc, true, List, [], ◌∷◌, length, refl, sym, ◌∙◌, arith, true≢false}
+use Rattle.std.proofs.Common.{◌≡◌, zero, suc, true, List, [], ◌∷◌, length, refl, sym, ◌∙◌, arith}
 use Rattle.std.specs.List.{All}
-use Rattle.pb_text_tree.specs.Form.{SpecForm}
 use Rattle.pb_text_meaning.specs.Syntax.{Equation, Spec}
-use Rattle.pb_text_meaning.specs.Erase.{erase}
 use Rattle.pb_text_meaning.specs.Meaning.{assigned}
 use Rattle.pb_text_meaning.specs.Positive.{IsPositive, ArePositive}
-use Rattle.pb_typing_declarations.specs.declared.fault.TypingFault.{TypingFault}
 use Rattle.pb_typing_declarations.proofs.ShapeLaws.{shape_carrier-sort_shape}
 use Rattle.pb_typing_rules.specs.Formula.{IsProper}
-use Rattle.pb_typing_rules.specs.Faults.{faults}
 use Rattle.pb_typing_rules.specs.WellTyped.{parameters_of, AreProper, IsWellTyped}
 use Rattle.pb_typing_rules.proofs.Fitting.{spec_positive}
-use Rattle.pb_typing_rules.proofs.WellTypedLemmas.{well_typed}
-use Rattle.pb_typing.specs.Typed.{is_none, is_faultless}
 use Rattle.pb_normal.specs.Expansion.{expanded}
 use Rattle.pb_normal.specs.Normalisation.{unslotted, with_slots}
 use Rattle.pb_normal.specs.Equations.{KeepsTruth}
@@ -40,12 +34,3 @@ rights-keep-truth spec (X ∷ E) proper positive (suc k) d below = rights-keep-t
 
 pub equations-keep-truth : (spec : Spec) → IsWellTyped spec → All (KeepsTruth spec) spec.equations
 equations-keep-truth spec h = rights-keep-truth spec spec.equations h.rights (spec_positive spec h)
-
--- ---- texts that typing accepts
-
-pub no-faults : (fs : List TypingFault) → is_none fs ≡ true → fs ≡ []
-no-faults [] e = refl
-no-faults (f ∷ fs) e = absurd (true≢false (sym e))
-
-pub accepted-well-typed : (text : SpecForm) → is_faultless text ≡ true → IsWellTyped (erase text)
-accepted-well-typed text e = well_typed text (no-faults (faults text) e)

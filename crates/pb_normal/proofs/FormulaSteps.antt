@@ -4,8 +4,9 @@ use Rattle.std.specs.Prelude.{box_value}
 use Rattle.std.specs.List.{position_from}
 use Rattle.std.specs.declared.alloc.AllocError.{AllocError}
 use Rattle.std.proofs.lemmas.Iterator.Adapters.{position_from-zero}
-use Rattle.std.proofs.lemmas.List.{append-nil, append_assoc, length-drop}
+use Rattle.std.proofs.lemmas.List.{append-nil, append_assoc, length-drop, drop_all}
 use Rattle.pb_sorts.specs.declared.carrier.Carrier.{Carrier}
+use Rattle.pb_sorts.proofs.Places.{drop-at}
 use Rattle.pb_text_tree.specs.declared.place.Place.{Place}
 use Rattle.pb_text_tree.specs.declared.operator.Connective.{Connective}
 use Rattle.pb_text_tree.specs.declared.operator.Connective.TheVariants.{And, Or, Implies}
@@ -24,7 +25,6 @@ use Rattle.pb_typing_declarations.specs.Agreement.{equation_place}
 use Rattle.pb_typing_declarations.specs.Shapes.{Shape}
 use Rattle.pb_typing_rules.specs.Faults.{operand_parity}
 use Rattle.pb_typing_rules.specs.Scope.{Scope}
-use Rattle.pb_typing.proofs.Links.{links-drop, links-ended}
 use Rattle.pb_typing_rules.specs.Term.{shape}
 use Rattle.pb_typing.specs.View.{shape_view}
 use Rattle.pb_normal.specs.declared.formula.Argument as declared
@@ -84,7 +84,7 @@ next-normals : (S : Spec) (o : Connective) (even : Bool) (c : Slotting) (scope :
 next-normals S o even c scope n links k link below at =
     let rest = drop (k + 1) links in
     let count : length rest ≡ length links - k - 1 = omega (arith, length-drop (k + 1) links) in
-    ap (link_normals S o even c scope n) (links-drop links k link below at)
+    ap (link_normals S o even c scope n) (drop-at links k link below at)
     ∙ ap (λ (m : ℕ). normal S (operand_parity o even m) c scope n (formula_of link.operand) ∷ link_normals S o even c scope (n + link_width link) rest) count
 
 -- the first operand and so many links are done: their normal forms, and the carriers of their quantifiers
@@ -112,7 +112,7 @@ pub done_next : (S : Spec) (o : Connective) (even : Bool) (c : Slotting) (scope 
     → formula_view f ≡ normal S p c scope (length old) (formula_of link.operand) → shapes_of new ≡ shapes_of old ++ loops S (formula_of link.operand)
     → AreDone S o even c scope first links before k begun done old → AreDone S o even c scope first links before (k + 1) begun more new
 done_next S o even c scope first links before old new k link begun f done more p below at parity pushed form shapes h =
-    let left = links-drop links k link below at in
+    let left = drop-at links k link below at in
     let others = link_normals S o even c scope (length new) (drop (k + 1) links) in
     record {
       head = h.head;
@@ -132,20 +132,20 @@ done_next S o even c scope first links before old new k link begun f done more p
     }
 
 pub shaped_at : (S : Spec) (links : List Link) (k : ℕ) (link : Link) → k < length links → link ≡ get_or links k link → AreShapedLinks S (drop k links) → IsShaped S (formula_of link.operand)
-shaped_at S links k link below at h = (subst (AreShapedLinks S) (links-drop links k link below at) h).0
+shaped_at S links k link below at h = (subst (AreShapedLinks S) (drop-at links k link below at) h).0
 
 -- all links are done
 pub shapes_ended : (S : Spec) (o : Connective) (even : Bool) (c : Slotting) (scope : Scope) (first : ast.Formula) (links : List Link) (before now : List Carrier) (k : ℕ) (begun : code.Formula) (done : List code.Formula) → length links ≤ k
     → AreDone S o even c scope first links before k begun done now → shapes_of now ≡ shapes_of before ++ loops S (formula_chain_of o first links)
 shapes_ended S o even c scope first links before now k begun done end h =
-    sym (ap (λ (ls : List Link). shapes_of now ++ links_loops S ls) (links-ended links k end) ∙ append-nil (shapes_of now)) ∙ h.carriers
+    sym (ap (λ (ls : List Link). shapes_of now ++ links_loops S ls) (drop_all k links end) ∙ append-nil (shapes_of now)) ∙ h.carriers
 
 pub chain-view : (S : Spec) (o : Connective) (even : Bool) (c : Slotting) (scope : Scope) (first : ast.Formula) (links : List Link) (before now : List Carrier) (k : ℕ) (begun : code.Formula) (done : List code.Formula) (m : Bool) (f : Formula)
     → length links ≤ k → m ≡ joins o even → f ≡ formula_view begun → AreDone S o even c scope first links before k begun done now
     → chained (Join m) f (formula_views done) ≡ normal S even c scope (length before) (formula_chain_of o first links)
 chain-view S o even c scope first links before now k begun done m f end joined same h =
     let others : link_normals S o even c scope (length before + width (formula_of first)) links ≡ formula_views done =
-    h.rest ∙ (ap (λ (ls : List Link). formula_views done ++ link_normals S o even c scope (length now) ls) (links-ended links k end) ∙ append-nil (formula_views done)) in
+    h.rest ∙ (ap (λ (ls : List Link). formula_views done ++ link_normals S o even c scope (length now) ls) (drop_all k links end) ∙ append-nil (formula_views done)) in
     ap (λ (b : Bool). chained (Join b) f (formula_views done)) joined
     ∙ (ap (λ (g : Formula). chained (Join (joins o even)) g (formula_views done)) (same ∙ h.head)
     ∙ (ap (chained (Join (joins o even)) (normal S (operand_parity o even (length links)) c scope (length before) (formula_of first))) (sym others)
@@ -154,11 +154,11 @@ chain-view S o even c scope first links before now k begun done m f end joined s
 -- ---- nodes
 
 -- a result says a formula
-abbrev pub Says : Spec → Bool → Slotting → Scope → ℕ → Result code.Formula AllocError → syntax.Formula → Type 0
-Says S even c scope n r f = IfOk r (λ (y : code.Formula). formula_view y ≡ normal S even c scope n f)
+abbrev pub IsNormalFormulaOf : Spec → Bool → Slotting → Scope → ℕ → Result code.Formula AllocError → syntax.Formula → Type 0
+IsNormalFormulaOf S even c scope n r f = IfOk r (λ (y : code.Formula). formula_view y ≡ normal S even c scope n f)
 
-pub says_same : (S : Spec) (even : Bool) (c : Slotting) (scope : Scope) (n : ℕ) (r : Result code.Formula AllocError) (f g : syntax.Formula) → g ≡ f → Says S even c scope n r f → Says S even c scope n r g
-says_same S even c scope n r f g e h = subst (Says S even c scope n r) (sym e) h
+pub says_same : (S : Spec) (even : Bool) (c : Slotting) (scope : Scope) (n : ℕ) (r : Result code.Formula AllocError) (f g : syntax.Formula) → g ≡ f → IsNormalFormulaOf S even c scope n r f → IsNormalFormulaOf S even c scope n r g
+says_same S even c scope n r f g e h = subst (IsNormalFormulaOf S even c scope n r) (sym e) h
 
 pub chain-node : (t x : ast.Formula) (o : Connective) (first : Box ast.Formula Global) (v : Vec Link Global) (links : List Link) → t ≡ ast.Chain o first v → x ≡ box_value first → links ≡ v.items
     → formula_of t ≡ formula_chain_of o x links
@@ -195,7 +195,7 @@ pub argument_next : (S : Spec) (c : Slotting) (scope : Scope) (xs : List Argumen
 argument_next S c scope xs k x y done more all below at term_is shape_is pushed h =
     let rest = call_arguments S c scope (drop (k + 1) xs) in
     h
-    ∙ (ap (λ (ys : List Argument). map argument_view done ++ call_arguments S c scope ys) (links-drop xs k x below at)
+    ∙ (ap (λ (ys : List Argument). map argument_view done ++ call_arguments S c scope ys) (drop-at xs k x below at)
     ∙ (ap (λ (t : model.Term). map argument_view done ++ record { term = t; shape = shape S scope (erased_term (term_form x.term)) } ∷ rest) (sym term_is)
     ∙ (ap (λ (s : Shape). map argument_view done ++ record { term = term_view y.term; shape = s } ∷ rest) (sym shape_is)
     ∙ (sym (append_assoc (map argument_view done) (argument_view y ∷ []) rest)
@@ -204,4 +204,4 @@ argument_next S c scope xs k x y done more all below at term_is shape_is pushed 
 pub arguments_ended : (S : Spec) (c : Slotting) (scope : Scope) (xs : List Argument) (k : ℕ) (done : List declared.Argument) → length xs ≤ k
     → call_arguments S c scope xs ≡ map argument_view done ++ call_arguments S c scope (drop k xs) → map argument_view done ≡ call_arguments S c scope xs
 arguments_ended S c scope xs k done end h =
-    sym (h ∙ (ap (λ (ys : List Argument). map argument_view done ++ call_arguments S c scope ys) (links-ended xs k end) ∙ append-nil (map argument_view done)))
+    sym (h ∙ (ap (λ (ys : List Argument). map argument_view done ++ call_arguments S c scope ys) (drop_all k xs end) ∙ append-nil (map argument_view done)))

@@ -1,6 +1,7 @@
 -- The value of each argument in normal form is one of the shape that is kept with it.
 use Rattle.std.proofs.Common.{◌≡◌, ℕ, zero, suc, ◌+◌, Bool, true, false, not, ◌||◌, if◌then◌else◌, List, [], ◌∷◌, length, Option, Some, None, sym, subst, arith, true≢false}
 use Rattle.std.specs.List.{All}
+use Rattle.std.proofs.lemmas.Bool.{and_parts}
 use Rattle.pb_carriers.specs.Carrier.{Value, Tuple, Carrier, is_within, contains}
 use Rattle.pb_text_meaning.specs.Syntax as syntax
 use Rattle.pb_text_meaning.specs.Syntax.{same_name, Variable, Operator, Terms, Equation, Spec}
@@ -15,7 +16,6 @@ use Rattle.pb_typing_rules.specs.Scope.{Scope, outermost, declare, bound, Within
 use Rattle.pb_typing_rules.specs.Term.{shape, AreTyped}
 use Rattle.pb_typing_rules.specs.Formula.{IsProper}
 use Rattle.pb_typing_rules.specs.WellTyped.{parameters_of, AreProper, IsWellTyped}
-use Rattle.pb_typing_rules.proofs.Values.{and_true}
 use Rattle.pb_typing_rules.proofs.Names.{within_declared, sort_value}
 use Rattle.pb_typing_rules.proofs.Contained.{contained, called_typed}
 use Rattle.pb_normal.specs.Expansion.{has_quantifier, connected, expanded_term, expanded}
@@ -128,13 +128,13 @@ parameters-within : (spec : Spec) (xs : List Variable) (vs : Tuple) (scope : Sco
 parameters-within spec [] vs scope g e within = within
 parameters-within spec (x ∷ xs) [] scope g e within = absurd (true≢false (sym e))
 parameters-within spec (x ∷ xs) (v ∷ vs) scope g e within =
-    let inside = and_true (contains (carrier_of spec x.sort) v) (is_within (carriers_of spec xs) vs) e in
+    let inside = and_parts (contains (carrier_of spec x.sort) v) (is_within (carriers_of spec xs) vs) e in
     parameters-within spec xs vs (declare x.name (sort_shape spec x.sort) scope) ((x.name, v) ∷ g) inside.1
     (within_declared g scope x.name (sort_shape spec x.sort) v (sort_value spec x.sort v inside.0) within)
 
 keeps-shapes : (spec : Spec) (X : Equation) → IsProper spec true (parameters_of spec X) X.right → KeepsShapes spec X
 keeps-shapes spec X proper slots i own hold =
-    let inside = and_true (same_name X.name i.name) (is_within (carriers_of spec X.parameters) i.values) own in
+    let inside = and_parts (same_name X.name i.name) (is_within (carriers_of spec X.parameters) i.values) own in
     formula-fits spec true (parameters_of spec X) X.right proper
     (with_slots X.parameters 0 unslotted) (length X.parameters) slots (assigned X.parameters i.values [])
     (free-parameters X.parameters)

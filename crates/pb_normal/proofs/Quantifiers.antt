@@ -1,6 +1,8 @@
 -- Quantifiers among the operands of chains and among arguments.
 use Rattle.std.proofs.Common.{◌≡◌, ℕ, ◌+◌, ◌<◌, ◌≤◌, Bool, true, false, ◌||◌, List, [], ◌∷◌, length, get_or, drop, refl, sym, ◌∙◌, ap, Box, Vec, Global}
 use Rattle.std.specs.Prelude.{box_value}
+use Rattle.std.proofs.lemmas.List.{drop_all}
+use Rattle.pb_sorts.proofs.Places.{drop-at}
 use Rattle.pb_text_tree.specs.declared.operator.Connective.{Connective}
 use Rattle.pb_text_tree.specs.declared.name.Name.{Name}
 use Rattle.pb_text_tree.specs.declared.term.Term as term
@@ -13,7 +15,6 @@ use Rattle.pb_text_tree.proofs.FormLemmas.{term-chain, term-arithmetic, term-app
 use Rattle.pb_text_meaning.specs.Erase.{erased_term, erased_arguments}
 use Rattle.pb_normal.specs.Expansion.{has_quantifier, have_quantifier}
 use Rattle.pb_normal.specs.Links.{links_have_quantifier, arithmetic_have_quantifier}
-use Rattle.pb_typing.proofs.Links.{links-drop, links-ended}
 
 abbrev pub quantified : Term → Bool
 quantified x = has_quantifier (erased_term (term_form x))
@@ -61,16 +62,16 @@ application t f v xs is are =
 -- ---- element by element
 
 pub links_next : (links : List TermLink) (k : ℕ) (link : TermLink) → k < length links → link ≡ get_or links k link → links_have_quantifier (drop k links) ≡ (quantified link.operand || links_have_quantifier (drop (k + 1) links))
-links_next links k link below at = ap links_have_quantifier (links-drop links k link below at)
+links_next links k link below at = ap links_have_quantifier (drop-at links k link below at)
 
 pub arithmetic_next : (links : List ArithmeticLink) (k : ℕ) (link : ArithmeticLink) → k < length links → link ≡ get_or links k link → arithmetic_have_quantifier (drop k links) ≡ (quantified link.operand || arithmetic_have_quantifier (drop (k + 1) links))
-arithmetic_next links k link below at = ap arithmetic_have_quantifier (links-drop links k link below at)
+arithmetic_next links k link below at = ap arithmetic_have_quantifier (drop-at links k link below at)
 
 abbrev pub arguments_quantified : List Argument → Bool
 arguments_quantified xs = have_quantifier (erased_arguments (argument_forms xs))
 
 pub arguments_next : (xs : List Argument) (k : ℕ) (x : Argument) → k < length xs → x ≡ get_or xs k x → arguments_quantified (drop k xs) ≡ (quantified x.term || arguments_quantified (drop (k + 1) xs))
-arguments_next xs k x below at = ap arguments_quantified (links-drop xs k x below at)
+arguments_next xs k x below at = ap arguments_quantified (drop-at xs k x below at)
 
 pub arguments_ended : (xs : List Argument) (k : ℕ) → length xs ≤ k → arguments_quantified (drop k xs) ≡ false
-arguments_ended xs k h = ap arguments_quantified (links-ended xs k h)
+arguments_ended xs k h = ap arguments_quantified (drop_all k xs h)

@@ -1,7 +1,8 @@
 -- Equations that hold otherwise outside their own instances alone have the solution that they had.
-use Rattle.std.proofs.Common.{◌≡◌, ℕ, zero, suc, Bool, true, false, if◌then◌else◌, List, [], ◌∷◌, map, refl, sym, ◌∙◌, ap, arith}
+use Rattle.std.proofs.Common.{◌≡◌, ℕ, zero, suc, Bool, true, List, [], ◌∷◌, map, refl, sym, ◌∙◌, ap, arith}
 use Rattle.std.proofs.Math.Path.{fun_ext}
 use Rattle.std.specs.List.{All}
+use Rattle.pb_fixpoint.proofs.Solved.{cond_same}
 use Rattle.pb_fixpoint.specs.Solution.{Environment, Equation, assign, iterate, start, solution, operator, value_of}
 
 -- whatever the equations are made of: `made` makes one, and `holds` says where it holds instead
@@ -17,12 +18,8 @@ module _ (I S : Type 0) (made : S → Equation I) (holds : S → I → Environme
   abbrev SameAt : S → Environment I → Environment I → Type 0
   SameAt X F G = (i : I) → (made X).owns i ≡ true → F i ≡ G i
 
-  where-owned : (b x y z : Bool) → (b ≡ true → x ≡ y) → (if b then x else z) ≡ (if b then y else z)
-  where-owned true x y z h = h refl
-  where-owned false x y z h = refl
-
   same-assigned : (X : S) (t F G : Environment I) → SameAt X F G → assign t (made X) F ≡ assign t (changed X) G
-  same-assigned X t F G same = fun_ext (λ i. where-owned ((made X).owns i) (F i) (G i) (t i) (same i))
+  same-assigned X t F G same = fun_ext (λ i. cond_same ((made X).owns i) (F i) (G i) (t i) (same i))
 
   -- one application of the operators, and many, where what follows is solved alike
   module _ (X : S) (E D : List (Equation I)) (t : Environment I) (alike : HoldsAlike X) (below : (u : Environment I) → solution E u ≡ solution D u) where

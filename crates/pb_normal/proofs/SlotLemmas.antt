@@ -1,10 +1,11 @@
 -- How lists of variables get slots and carriers.
 use Rattle.std.proofs.Common.{◌≡◌, ℕ, zero, suc, ◌+◌, ◌<◌, ◌≤◌, Bool, true, false, cond, List, [], ◌∷◌, ◌++◌, map, length, get_or, drop, replicate, refl, sym, ◌∙◌, ap, subst, arith, bytes_eq, string_bytes, Option, Some}
 use Rattle.std.proofs.Math.Path.{fun_ext}
-use Rattle.std.proofs.lemmas.List.{append_assoc, append-nil, length-append, length-replicate}
+use Rattle.std.proofs.lemmas.List.{append_assoc, append-nil, length-append, length-replicate, drop_all}
 use denote.Ref.{Bor}
 use Rattle.std.specs.HashMap.{IsEmpty, Updates}
 use Rattle.pb_sorts.specs.declared.carrier.Carrier.{Carrier}
+use Rattle.pb_sorts.proofs.Places.{drop-at}
 use Rattle.pb_text_tree.specs.declared.name.Name as ast
 use Rattle.pb_text_tree.specs.declared.variable.Variables.{Variables}
 use Rattle.pb_text_tree.specs.Form.{VariableForm, named, variable_forms}
@@ -17,7 +18,6 @@ use Rattle.pb_typing_declarations.specs.Tables.{Table, looked_up}
 use Rattle.pb_typing_declarations.specs.WellDeclared.{has_shape}
 use Rattle.pb_typing_declarations.proofs.Filling.{none_in, put_in}
 use Rattle.pb_typing_declarations.proofs.ShapeLaws.{known}
-use Rattle.pb_typing.proofs.Links.{links-drop, links-ended}
 use Rattle.pb_normal.specs.Loops.{AreShaped, variable_shapes}
 use Rattle.pb_normal.specs.Normalisation.{Slotting, unslotted, with_slot, with_slots}
 use Rattle.pb_normal.specs.Slots.{inner_slots, named_slots}
@@ -29,7 +29,7 @@ use Rattle.pb_normal.specs.View.{shapes_of}
 pub put_next : (names : List ast.Name) (k : ℕ) (n : ast.Name) (old new : Table ℕ) (key : Bor (List ℕ)) (slot : ℕ) → k < length names → n ≡ get_or names k n → key.now ≡ string_bytes n.text
     → Updates (λ x y. bytes_eq x.now y.now) old new key (Some slot) → named_slots (drop k names) slot (looked_up old) ≡ named_slots (drop (k + 1) names) (suc slot) (looked_up new)
 put_next names k n old new key slot below at is u =
-    ap (λ (ns : List ast.Name). named_slots ns slot (looked_up old)) (links-drop names k n below at)
+    ap (λ (ns : List ast.Name). named_slots ns slot (looked_up old)) (drop-at names k n below at)
     ∙ ap (named_slots (drop (k + 1) names) (suc slot)) (ap (λ (y : Name). λ x. cond (same_name y x) (Some slot) (looked_up old x)) (sym is) ∙ sym (put_in old new key slot u))
 
 -- a carrier for each name
@@ -37,7 +37,7 @@ pub carriers_next : (names : List ast.Name) (k : ℕ) (n : ast.Name) (carrier : 
     → old ++ replicate (length (drop k names)) carrier ≡ all → (old ++ carrier ∷ []) ++ replicate (length (drop (k + 1) names)) carrier ≡ all
 carriers_next names k n carrier old all below at h =
     append_assoc old (carrier ∷ []) (replicate (length (drop (k + 1) names)) carrier)
-    ∙ (ap (λ (ns : List ast.Name). old ++ replicate (length ns) carrier) (sym (links-drop names k n below at)) ∙ h)
+    ∙ (ap (λ (ns : List ast.Name). old ++ replicate (length ns) carrier) (sym (drop-at names k n below at)) ∙ h)
 
 -- ---- groups of names
 
@@ -87,7 +87,7 @@ group_put groups k group names n m old new below at are count put =
     let rest = drop (k + 1) groups in
     ap (with_slots (variables_of rest) m) (fun_ext put ∙ ap (λ (ns : List ast.Name). named_slots ns n (looked_up old)) are)
     ∙ (sym (group-slots group rest group.names.items n m (looked_up old) (count ∙ ap (λ (ns : List ast.Name). n + length ns) are))
-    ∙ sym (ap (λ (gs : List Variables). with_slots (variables_of gs) n (looked_up old)) (links-drop groups k group below at)))
+    ∙ sym (ap (λ (gs : List Variables). with_slots (variables_of gs) n (looked_up old)) (drop-at groups k group below at)))
 
 -- the shapes of the groups that are left, where a group's names have carriers
 pub group_carried : (S : Spec) (groups : List Variables) (k : ℕ) (group : Variables) (names : List ast.Name) (sort : List ℕ) (carrier : Carrier) (old new : List Carrier) → k < length groups → group ≡ get_or groups k group
@@ -102,11 +102,11 @@ group_carried S groups k group names sort carrier old new below at are sort_is s
     ∙ (ap (λ (ss : List Shape). shapes_of old ++ (ss ++ rest)) (shapes-replicate (length group.names.items) carrier)
     ∙ (ap (λ (s : Shape). shapes_of old ++ (replicate (length group.names.items) s ++ rest)) shape
     ∙ (ap (λ (ss : List Shape). shapes_of old ++ ss) (sym (group-shapes S group (drop (k + 1) groups) group.names.items))
-    ∙ sym (ap (λ (gs : List Variables). shapes_of old ++ variable_shapes S (variables_of gs)) (links-drop groups k group below at)))))))
+    ∙ sym (ap (λ (gs : List Variables). shapes_of old ++ variable_shapes S (variables_of gs)) (drop-at groups k group below at)))))))
 
 pub group_shaped : (S : Spec) (groups : List Variables) (k : ℕ) (group : Variables) → k < length groups → group ≡ get_or groups k group → AreShaped S (variables_of (drop k groups)) → AreShaped S (variables_of (drop (k + 1) groups))
 group_shaped S groups k group below at h =
-    group-shaped S group (drop (k + 1) groups) group.names.items (subst (λ (gs : List Variables). AreShaped S (variables_of gs)) (links-drop groups k group below at) h)
+    group-shaped S group (drop (k + 1) groups) group.names.items (subst (λ (gs : List Variables). AreShaped S (variables_of gs)) (drop-at groups k group below at) h)
 
 no-shape : (S : Spec) (sort : List ℕ) → sort_shape S sort ≡ Unknown → has_shape (end_of S sort) ≡ true → ⊥
 no-shape S sort e h = known S sort h e
@@ -115,8 +115,8 @@ no-shape S sort e h = known S sort h e
 pub group_empty : (S : Spec) (groups : List Variables) (k : ℕ) (group : Variables) (sort : List ℕ) → k < length groups → group ≡ get_or groups k group → sort ≡ string_bytes group.sort.text → Unknown ≡ sort_shape S sort
     → AreShaped S (variables_of (drop k groups)) → variables_of (drop k groups) ≡ variables_of (drop (k + 1) groups)
 group_empty S groups k group sort below at is none h =
-    ap variables_of (links-drop groups k group below at)
-    ∙ by_names group.names.items (subst (λ (gs : List Variables). AreShaped S (variables_of gs)) (links-drop groups k group below at) h)
+    ap variables_of (drop-at groups k group below at)
+    ∙ by_names group.names.items (subst (λ (gs : List Variables). AreShaped S (variables_of gs)) (drop-at groups k group below at) h)
   where
     by_names : (names : List ast.Name) → AreShaped S (erased_variables (group_variables group names ++ variable_forms (drop (k + 1) groups)))
         → erased_variables (group_variables group names ++ variable_forms (drop (k + 1) groups)) ≡ variables_of (drop (k + 1) groups)
@@ -127,10 +127,10 @@ pub groups_begun : (groups : List Variables) (n : ℕ) (table : Table ℕ) → I
 groups_begun groups n table e = ap (with_slots (variables_of groups) n) (none_in table e)
 
 pub groups_ended : (groups : List Variables) (k n : ℕ) (c : Slotting) → length groups ≤ k → with_slots (variables_of (drop k groups)) n c ≡ c
-groups_ended groups k n c h = ap (λ (gs : List Variables). with_slots (variables_of gs) n c) (links-ended groups k h)
+groups_ended groups k n c h = ap (λ (gs : List Variables). with_slots (variables_of gs) n c) (drop_all k groups h)
 
 pub shapes_ended : (S : Spec) (groups : List Variables) (k : ℕ) (ss : List Shape) → length groups ≤ k → ss ++ variable_shapes S (variables_of (drop k groups)) ≡ ss
-shapes_ended S groups k ss h = ap (λ (gs : List Variables). ss ++ variable_shapes S (variables_of gs)) (links-ended groups k h) ∙ append-nil ss
+shapes_ended S groups k ss h = ap (λ (gs : List Variables). ss ++ variable_shapes S (variables_of gs)) (drop_all k groups h) ∙ append-nil ss
 
 -- the groups that are left, over a table and carriers so far, make the slots and the carriers of all behind those before
 pub record AreLeft (S : Spec) (all : List Variables) (before : List Carrier) (left : List Variables) (now : List Carrier) (table : Table ℕ) : Type 0 where

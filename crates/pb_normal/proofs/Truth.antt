@@ -102,14 +102,14 @@ agree-with c n a g y v free agree x = by-name (same_name y x)
 -- ---- quantifiers
 
 -- what a body has to say under each assignment, in a scope and with free slots
-abbrev Says : Spec → Environment Instance → Bool → (Assignment → Bool) → (Slotting → ℕ → Formula) → Type 0
-Says spec t even p body = (c : Slotting) (n : ℕ) (a : Slots) (g : Assignment) → AreFree c n → Agree c a g → truth spec a t (body c n) ≡ signed even (p g)
+abbrev HasTruth : Spec → Environment Instance → Bool → (Assignment → Bool) → (Slotting → ℕ → Formula) → Type 0
+HasTruth spec t even p body = (c : Slotting) (n : ℕ) (a : Slots) (g : Assignment) → AreFree c n → Agree c a g → truth spec a t (body c n) ≡ signed even (p g)
 
 abbrev HasCarriers : Spec → Type 0
 HasCarriers spec = (s : Name) → carrier_of spec s ≡ shape_carrier (sort_shape spec s)
 
-each-truth : (spec : Spec) (t : Environment Instance) (q : Quantifier) (even : Bool) (xs : List Variable) (p : Assignment → Bool) (body : Slotting → ℕ → Formula) → HasCarriers spec → Says spec t even p body
-    → Says spec t even (quantified spec q xs p) (λ c n. each spec (is_universal q even) xs c n body)
+each-truth : (spec : Spec) (t : Environment Instance) (q : Quantifier) (even : Bool) (xs : List Variable) (p : Assignment → Bool) (body : Slotting → ℕ → Formula) → HasCarriers spec → HasTruth spec t even p body
+    → HasTruth spec t even (quantified spec q xs p) (λ c n. each spec (is_universal q even) xs c n body)
 each-truth spec t q even [] p body carriers says c n a g free agree = says c n a g free agree
 each-truth spec t q even (x ∷ xs) p body carriers says c n a g free agree =
     let inner = with_slot x.name n c in
@@ -161,7 +161,7 @@ call-kept spec t c scope a g agree X es (Some k) h plain =
 -- ---- formulas
 
 pub normal-truth : (spec : Spec) (t : Environment Instance) (f : syntax.Formula) (even : Bool) (scope : Scope) → HasCarriers spec → IsPositive even f → IsPlain f
-    → Says spec t even (λ g. meaning.truth spec g t f) (λ c n. made.normal spec even c scope n f)
+    → HasTruth spec t even (λ g. meaning.truth spec g t f) (λ c n. made.normal spec even c scope n f)
 normal-truth spec t (syntax.Formula.Truth b) even scope carriers positive plain c n a g free agree = signed-test spec a t even (Term.Truth b) ∙ ap (signed even) (true-of-bool b)
 normal-truth spec t (syntax.Formula.Val x) even scope carriers positive plain c n a g free agree =
     signed-test spec a t even (slotted spec c x) ∙ ap (λ v. signed even (is_true v)) (slotted-value spec c a g agree x plain)

@@ -4,6 +4,7 @@ use Rattle.std.specs.declared.alloc.AllocError.{AllocError}
 use Rattle.std.specs.Prelude.{box_value}
 use Rattle.std.proofs.lemmas.List.{append-nil, append_assoc, get_or_append_left, length-drop}
 use Rattle.pb_sorts.specs.declared.carrier.Carrier.{Carrier}
+use Rattle.pb_sorts.proofs.Places.{drop-at}
 use Rattle.pb_text_tree.specs.declared.place.Place.{Place}
 use Rattle.pb_text_tree.specs.declared.operator.Arithmetic.{Arithmetic}
 use Rattle.pb_text_tree.specs.declared.operator.Arithmetic.TheVariants as arithmetic
@@ -22,7 +23,6 @@ use Rattle.pb_text_meaning.specs.Erase.{erased_term, of_arithmetic}
 use Rattle.pb_typing_declarations.specs.Shapes.{Shape}
 use Rattle.pb_typing_rules.specs.Faults.{operand_parity}
 use Rattle.pb_typing_rules.specs.Scope.{Scope, bound}
-use Rattle.pb_typing.proofs.Links.{links-drop}
 use Rattle.pb_normal.specs.declared.formula.Formula as code
 use Rattle.pb_normal.specs.Chains.{joins}
 use Rattle.pb_normal.specs.Expansion.{has_quantifier, expanded_term}
@@ -49,8 +49,8 @@ chain-view S o even c scope n first links m f rest joined head others h =
     ∙ sym (chain-normal S o even c scope n first links h)))
 
 -- a result says a formula, in any scope
-abbrev pub Says : Spec → Bool → Slotting → ℕ → Result code.Formula AllocError → syntax.Formula → Type 0
-Says S even c n r f = IfOk r (λ (y : code.Formula). (scope : Scope) → formula_view y ≡ normal S even c scope n f)
+abbrev pub IsNormalValueOf : Spec → Bool → Slotting → ℕ → Result code.Formula AllocError → syntax.Formula → Type 0
+IsNormalValueOf S even c n r f = IfOk r (λ (y : code.Formula). (scope : Scope) → formula_view y ≡ normal S even c scope n f)
 
 -- carriers that a formula's quantifiers have grown
 abbrev pub Grows : Spec → List Carrier → List Carrier → Result code.Formula AllocError → syntax.Formula → Type 0
@@ -62,7 +62,7 @@ next-normals : (S : Spec) (o : Connective) (even : Bool) (c : Slotting) (scope :
     → value_normals S o even c scope n (drop k links) ≡ normal S (operand_parity o even (length links - k - 1)) c scope n (operand link) ∷ value_normals S o even c scope (n + width (operand link)) (drop (k + 1) links)
 next-normals S o even c scope n links k link below at counts =
     let rest = drop (k + 1) links in
-    let left = links-drop links k link below at in
+    let left = drop-at links k link below at in
     let has : links_have_quantifier (link ∷ rest) ≡ true = sym (ap links_have_quantifier left) ∙ counted links k counts in
     let others = value_normals S o even c scope (n + width (operand link)) rest in
     let count : length rest ≡ length links - k - 1 = omega (arith, length-drop (k + 1) links) in
@@ -104,7 +104,7 @@ pub done_next : (S : Spec) (o : Connective) (even : Bool) (c : Slotting) (first 
     → ((scope : Scope) → formula_view f ≡ normal S p c scope (length old) (operand link)) → shapes_of new ≡ shapes_of old ++ loops S (operand link)
     → AreDone S o even c first links before k begun done old → AreDone S o even c first links before (k + 1) begun more new
 done_next S o even c first links before old new k link begun f done more p below at counts parity pushed form shapes h =
-    let left = links-drop links k link below at in
+    let left = drop-at links k link below at in
     record {
       head = h.head;
       rest = λ scope.
@@ -142,7 +142,7 @@ pub link_at : (links here tail : List TermLink) (k : ℕ) (link : TermLink) → 
 link_at links here tail k link below e at = at ∙ (sym (get_or_append_left here tail link k below) ∙ ap (λ (ls : List TermLink). get_or ls k link) (sym e))
 
 pub shaped_at : (S : Spec) (links : List TermLink) (k : ℕ) (link : TermLink) → k < length links → link ≡ get_or links k link → AreShapedLinks S (drop k links) → IsShaped S (operand link)
-shaped_at S links k link below at h = (subst (AreShapedLinks S) (links-drop links k link below at) h).0
+shaped_at S links k link below at h = (subst (AreShapedLinks S) (drop-at links k link below at) h).0
 
 -- ---- nodes
 
@@ -201,7 +201,7 @@ plain-grows S x f old e = sym (ap (λ (g : syntax.Formula). shapes_of old ++ loo
 
 -- such a term is one test
 pub plain_says : (S : Spec) (even : Bool) (c : Slotting) (n : ℕ) (r : Result code.Formula AllocError) (f : syntax.Formula) (x : syntax.Term) → f ≡ syntax.Formula.Val x
-    → IfOk r (λ (y : code.Formula). formula_view y ≡ signed_test even (slotted S c x)) → Says S even c n r f
+    → IfOk r (λ (y : code.Formula). formula_view y ≡ signed_test even (slotted S c x)) → IsNormalValueOf S even c n r f
 plain_says S even c n (Ok y) f x e h = λ scope. h ∙ sym (ap (normal S even c scope n) e)
 plain_says S even c n (Err z) f x e h = h
 
@@ -210,8 +210,8 @@ plain_grows S x f old (Ok y) e = plain-grows S x f old e
 plain_grows S x f old (Err z) e = tt
 
 -- a result that says one formula says an equal one
-pub says_same : (S : Spec) (even : Bool) (c : Slotting) (n : ℕ) (r : Result code.Formula AllocError) (f g : syntax.Formula) → g ≡ f → Says S even c n r f → Says S even c n r g
-says_same S even c n r f g e h = subst (Says S even c n r) (sym e) h
+pub says_same : (S : Spec) (even : Bool) (c : Slotting) (n : ℕ) (r : Result code.Formula AllocError) (f g : syntax.Formula) → g ≡ f → IsNormalValueOf S even c n r f → IsNormalValueOf S even c n r g
+says_same S even c n r f g e h = subst (IsNormalValueOf S even c n r) (sym e) h
 
 pub grows_same : (S : Spec) (old new : List Carrier) (r : Result code.Formula AllocError) (f g : syntax.Formula) → g ≡ f → Grows S old new r f → Grows S old new r g
 grows_same S old new r f g e h = subst (Grows S old new r) (sym e) h

@@ -9,14 +9,14 @@ ghost use Rattle.pb_normal.specs.Tree.{formula_chain_of, formula_of, quantified_
 use crate::call::normal_call;
 use crate::context::{Context, FormulaContext};
 use crate::formula::Formula;
-use crate::sign::{is_conjunctive, is_universal, operand_parity};
+use crate::sign::{is_conjunctive, is_universal};
 use crate::slots::Slots;
 use crate::term::Term;
 use crate::value::{normal_value, test};
 use crate::variables::bind_variables;
 use pb_sorts::Carrier;
 use pb_text_tree::{Connective, Link, Quantifier, Variables};
-use pb_typing::{Scope, Shape, variable_shapes};
+use pb_typing::{Scope, Shape, operand_parity, variable_shapes};
 use std::alloc::AllocError;
 use std::collections::HashMap;
 

@@ -1,7 +1,6 @@
 //! What negations turn round (De Morgan).
 
 ghost use Rattle.std.specs.Prelude.{◌≡◌};
-ghost use Rattle.pb_typing_rules.specs.Faults as parity;
 ghost use Rattle.pb_normal.specs.Normalisation as normalisation;
 ghost use Rattle.pb_normal.specs.Chains.{joins};
 
@@ -25,16 +24,5 @@ pub(crate) fn is_conjunctive(connective: Connective, even: bool) -> bool
     match connective {
         Connective::And => even,
         Connective::Or | Connective::Implies => !even,
-    }
-}
-
-/// Whether the negations around an operand of a chain are even in number, where `behind` operands stand behind it.
-/// A chain is read to the right.
-pub(crate) fn operand_parity(connective: Connective, even: bool, behind: usize) -> bool
-    ensures { result ≡ parity.operand_parity connective even behind }
-{
-    match connective {
-        Connective::Implies if behind > 0 => !even,
-        _ => even,
     }
 }

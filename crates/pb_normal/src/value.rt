@@ -17,12 +17,13 @@ use crate::context::Context;
 use crate::data::{slot_chain, slot_term};
 use crate::formula::Formula;
 use crate::quantifier::has_quantifier;
-use crate::sign::{is_conjunctive, is_universal, operand_parity};
+use crate::sign::{is_conjunctive, is_universal};
 use crate::slots::Slots;
 use crate::term::Term;
 use crate::variables::bind_variables;
 use pb_sorts::Carrier;
 use pb_text_tree::{Connective, Quantifier, TermLink, Variables};
+use pb_typing::operand_parity;
 use std::alloc::{AllocError, Global};
 use std::collections::HashMap;
 

@@ -5,4 +5,3 @@ pub mod Rights
 pub mod Sets
 pub mod Turn
 pub mod Ready
-pub mod Accepted

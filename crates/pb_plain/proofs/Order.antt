@@ -5,7 +5,7 @@ use Rattle.pb_fixpoint.specs.declared.Sign.{Sign}
 use Rattle.pb_fixpoint.specs.declared.Sign.TheVariants.{Mu, Nu}
 use Rattle.pb_fixpoint.specs.Solution.{Environment, Equation, assign, start, solution, operator, value_of}
 use Rattle.pb_fixpoint.specs.Fixpoint.{Within, IsMonotone, AreMonotone}
-use Rattle.pb_fixpoint.proofs.Solved.{solution-within, iterate-within, assign-within}
+use Rattle.pb_fixpoint.proofs.Solved.{solution-within, iterate-within, assign-within, cond_same}
 use Rattle.pb_plain.specs.Side.{side_of, Before, BeforeAt, joined}
 
 -- s comes before t
@@ -69,10 +69,6 @@ if_before side false x y x' y' p q = q
 
 pub assign-before : {I : Type 0} (side : Bool) (X : Equation I) (s t F G : Environment I) → All-before side s t → BeforeAt side X F G → All-before side (assign s X F) (assign t X G)
 assign-before side X s t F G st FG i = if_before side (X.owns i) (F i) (s i) (G i) (t i) (FG i) (st i)
-
-cond_same : (b x y z : Bool) → (b ≡ true → x ≡ y) → (if b then x else z) ≡ (if b then y else z)
-cond_same true x y z h = h refl
-cond_same false x y z h = refl
 
 -- an assignment reads X's instances alone
 pub assign-same : {I : Type 0} (X : Equation I) (t F G : Environment I) → ((i : I) → X.owns i ≡ true → F i ≡ G i) → assign t X F ≡ assign t X G

@@ -1,8 +1,10 @@
 -- In a text whose right sides are positive, each set of the solution is an extreme fixpoint.
 use Rattle.std.proofs.Common.{◌≡◌, List, [], ◌∷◌, map, Contains, subst, sym, ◌∙◌}
 use Rattle.std.specs.Cmp.Lexicographic.{same_text}
+use Rattle.std.proofs.lemmas.Bool.{and_parts}
+use Rattle.std.proofs.lemmas.List.{length-map}
 use Rattle.pb_carriers.specs.Carrier.{Tuple, is_within, tuples}
-use Rattle.pb_carriers.proofs.Tuples.{In, and_true, in_map, in_contains, in_tuples, length-map, length-tuples}
+use Rattle.pb_carriers.proofs.Tuples.{In, in_map, in_contains, in_tuples, length-tuples}
 use Rattle.pb_fixpoint.specs.Solution.{Environment}
 use Rattle.pb_fixpoint.specs.Fixpoint.{AreInstances, AreMonotone, IsSolved}
 use Rattle.pb_fixpoint.proofs.Solved.{value_of-solved}
@@ -19,12 +21,12 @@ named_with x vs = record { name = x; values = vs }
 pub instances_of : (spec : Spec) (X : Equation) → AreInstances (equation_of spec X) (map (named_with X.name) (tuples (carriers_of spec X.parameters)))
 instances_of spec X = record {
   all = λ i own.
-      let p = and_true (same_name X.name i.name) (is_within (carriers_of spec X.parameters) i.values) own in
+      let p = and_parts (same_name X.name i.name) (is_within (carriers_of spec X.parameters) i.values) own in
       let here : In i.values (tuples (carriers_of spec X.parameters)) = in_tuples (carriers_of spec X.parameters) i.values p.1 in
       let same : X.name ≡ i.name = same_text X.name i.name (sym p.0) in
       subst (λ (x : Name). Contains (map (named_with X.name) (tuples (carriers_of spec X.parameters))) (named_with x i.values)) same
       (in_contains (named_with X.name i.values) (map (named_with X.name) (tuples (carriers_of spec X.parameters))) (in_map (named_with X.name) i.values (tuples (carriers_of spec X.parameters)) here));
-  count = length-map (named_with X.name) (tuples (carriers_of spec X.parameters)) ∙ length-tuples (carriers_of spec X.parameters);
+  count = length-map (tuples (carriers_of spec X.parameters)) (named_with X.name) ∙ length-tuples (carriers_of spec X.parameters);
 }
 
 pub are_monotone : (spec : Spec) (E : List Equation) → ArePositive E → AreMonotone (map (equation_of spec) E)

@@ -1,7 +1,5 @@
 -- Formulas in which each predicate variable stands under an even number of negations.
 use Rattle.std.specs.Prelude.{Bool, true, not, ◌≡◌, ⊤, List, [], ◌∷◌}
-use mathlib.Core.Bool.{Bool-set}
-use Rattle.std.specs.Coded.{×_prop, Unit-prop}
 use Rattle.pb_text_meaning.specs.Syntax.{Formula, Equation}
 
 -- each call stands under an even number of negations, where `even` says whether those around are even; the left side of => counts as one
@@ -19,18 +17,3 @@ IsPositive even (Formula.Call X es) = even ≡ true
 abbrev pub ArePositive : List Equation → Type 0
 ArePositive [] = ⊤
 ArePositive (X ∷ E) = IsPositive true X.right × ArePositive E
-
--- there is at most one proof that a formula is positive
-pub IsPositive-prop : (even : Bool) (f : Formula) → IsProp (IsPositive even f)
-IsPositive-prop even (Formula.Truth b) = Unit-prop
-IsPositive-prop even (Formula.Val x) = Unit-prop
-IsPositive-prop even (Formula.Not f) = IsPositive-prop (not even) f
-IsPositive-prop even (Formula.And f g) = ×_prop (IsPositive-prop even f) (IsPositive-prop even g)
-IsPositive-prop even (Formula.Or f g) = ×_prop (IsPositive-prop even f) (IsPositive-prop even g)
-IsPositive-prop even (Formula.Implies f g) = ×_prop (IsPositive-prop (not even) f) (IsPositive-prop even g)
-IsPositive-prop even (Formula.Quantified q xs f) = IsPositive-prop even f
-IsPositive-prop even (Formula.Call X es) = Bool-set even true
-
-pub ArePositive-prop : (E : List Equation) → IsProp (ArePositive E)
-ArePositive-prop [] = Unit-prop
-ArePositive-prop (X ∷ E) = ×_prop (IsPositive-prop true X.right) (ArePositive-prop E)

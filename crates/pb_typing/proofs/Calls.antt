@@ -1,7 +1,8 @@
 -- Calls of predicate variables: arguments against parameters.
 use Rattle.std.proofs.Common.{◌≡◌, ℕ, zero, suc, ◌+◌, ◌<◌, ◌≤◌, Bool, false, List, [], ◌∷◌, ◌++◌, map, length, get_or, drop, refl, sym, ◌∙◌, ap, subst, arith, Option, Some, None, string_bytes}
 use Rattle.std.specs.Prelude.{◌==◌}
-use Rattle.std.proofs.lemmas.List.{append_assoc}
+use Rattle.std.proofs.lemmas.List.{append_assoc, drop_all}
+use Rattle.pb_sorts.proofs.Places.{drop-at}
 use Rattle.pb_text_tree.specs.declared.place.Place.{Place}
 use Rattle.pb_text_tree.specs.declared.name.Name as ast
 use Rattle.pb_text_tree.specs.declared.term.Argument.{Argument}
@@ -25,9 +26,8 @@ use Rattle.pb_typing_rules.specs.Scope.{Scope}
 use Rattle.pb_typing_rules.specs.Term.{shape}
 use Rattle.pb_typing_rules.specs.Formula.{count}
 use Rattle.pb_typing_rules.specs.Faults.{term_faults, argument_faults, called_faults, instance_faults}
-use Rattle.pb_typing_rules.proofs.Parts.{among_left}
+use Rattle.pb_typing_declarations.proofs.Parts.{among_left}
 use Rattle.pb_typing.specs.Arguments.{parameter_count, each_faults}
-use Rattle.pb_typing.proofs.Links.{links-drop, links-ended}
 use Rattle.pb_typing.proofs.Unknown.{some_position, no_position, found_at, found_nowhere}
 
 pub length-erased : (xs : List Argument) → count (erased_arguments (argument_forms xs)) ≡ length xs
@@ -68,33 +68,27 @@ pub arguments_next : (S : Spec) (a : Scope) (groups : List Variables) (k : ℕ) 
     → argument_faults S a (argument_forms left) (erased_variables (variable_forms (drop k groups)))
     ≡ each_faults S a here s ++ argument_faults S a (argument_forms behind) (erased_variables (variable_forms (drop (k + 1) groups)))
 arguments_next S a groups k group left here behind s sort below at parts long sort_is shape_is =
-    ap (λ (gs : List Variables). argument_faults S a (argument_forms left) (erased_variables (variable_forms gs))) (links-drop groups k group below at)
+    ap (λ (gs : List Variables). argument_faults S a (argument_forms left) (erased_variables (variable_forms gs))) (drop-at groups k group below at)
     ∙ (ap (λ (xs : List Argument). argument_faults S a (argument_forms xs) (erased_variables (variable_forms (group ∷ drop (k + 1) groups)))) parts
     ∙ (arguments-group S a group group.names.items (variable_forms (drop (k + 1) groups)) here behind long
     ∙ ap (λ (h : Shape). each_faults S a here h ++ argument_faults S a (argument_forms behind) (erased_variables (variable_forms (drop (k + 1) groups)))) (sym (shape_is ∙ ap (sort_shape S) sort_is))))
 
 pub arguments_ended : (S : Spec) (a : Scope) (groups : List Variables) (k : ℕ) (left : List Argument) → length groups ≤ k → length left ≡ parameter_count (drop k groups)
     → argument_faults S a (argument_forms left) (erased_variables (variable_forms (drop k groups))) ≡ []
-arguments_ended S a groups k left h e = none left (e ∙ ap parameter_count (links-ended groups k h))
+arguments_ended S a groups k left h e = none left (e ∙ ap parameter_count (drop_all k groups h))
   where
     none : (xs : List Argument) → length xs ≡ 0 → argument_faults S a (argument_forms xs) (erased_variables (variable_forms (drop k groups))) ≡ []
     none [] f = refl
     none (x ∷ xs) f = absurd (omega (arith, f))
 
 pub count-next : (groups : List Variables) (k : ℕ) (group : Variables) → k < length groups → group ≡ get_or groups k group → parameter_count (drop k groups) ≡ length group.names.items + parameter_count (drop (k + 1) groups)
-count-next groups k group below at = ap parameter_count (links-drop groups k group below at)
-
-pub count-ended : (groups : List Variables) (k : ℕ) → length groups ≤ k → parameter_count (drop k groups) ≡ 0
-count-ended groups k h = ap parameter_count (links-ended groups k h)
+count-next groups k group below at = ap parameter_count (drop-at groups k group below at)
 
 -- ---- arguments of one kind
 
 pub each_next : (S : Spec) (a : Scope) (xs : List Argument) (k : ℕ) (x : Argument) (s : Shape) → k < length xs → x ≡ get_or xs k x
     → each_faults S a (drop k xs) s ≡ term_faults S false a (term_form x.term) ++ (unless (may_be_alike (shape S a (erased_term (term_form x.term))) s) rule.WrongKind x.place ++ each_faults S a (drop (k + 1) xs) s)
-each_next S a xs k x s below at = ap (λ (ys : List Argument). each_faults S a ys s) (links-drop xs k x below at)
-
-pub each_ended : (S : Spec) (a : Scope) (xs : List Argument) (k : ℕ) (s : Shape) → length xs ≤ k → each_faults S a (drop k xs) s ≡ []
-each_ended S a xs k s h = ap (λ (ys : List Argument). each_faults S a ys s) (links-ended xs k h)
+each_next S a xs k x s below at = ap (λ (ys : List Argument). each_faults S a ys s) (drop-at xs k x below at)
 
 -- ---- the equation of a call
 

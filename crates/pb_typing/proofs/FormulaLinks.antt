@@ -2,6 +2,7 @@
 use Rattle.std.proofs.Common.{◌≡◌, ℕ, zero, suc, ◌+◌, ◌-◌, ◌<◌, Bool, List, [], ◌∷◌, ◌++◌, length, get_or, drop, sym, ◌∙◌, ap, arith, add-one, Vec, Box, Global}
 use Rattle.std.specs.Prelude.{box_value}
 use Rattle.std.proofs.lemmas.List.{append-nil}
+use Rattle.pb_sorts.proofs.Places.{drop-at}
 use Rattle.pb_text_tree.specs.declared.operator.Connective.{Connective}
 use Rattle.pb_text_tree.specs.declared.formula.Formula as ast
 use Rattle.pb_text_tree.specs.declared.formula.Link.{Link}
@@ -11,7 +12,6 @@ use Rattle.pb_text_meaning.specs.Syntax.{Spec}
 use Rattle.pb_typing_declarations.specs.declared.fault.TypingFault.{TypingFault}
 use Rattle.pb_typing_rules.specs.Scope.{Scope}
 use Rattle.pb_typing_rules.specs.Faults.{formula_faults, left_parity, operand_parity}
-use Rattle.pb_typing.proofs.Links.{links-drop}
 
 abbrev pub link_faults : Spec → Scope → Connective → Bool → List Link → List TypingFault
 link_faults S a c even [] = []
@@ -47,6 +47,6 @@ pub chain_next : (S : Spec) (a : Scope) (c : Connective) (even : Bool) (links : 
     → link_faults S a c even (drop k links) ≡ formula_faults S p a (formula_form link.operand) ++ link_faults S a c even (drop (k + 1) links)
 chain_next S a c even links k link n p below at are parity =
     let rest = link_faults S a c even (drop (k + 1) links) in
-    ap (link_faults S a c even) (links-drop links k link below at)
+    ap (link_faults S a c even) (drop-at links k link below at)
     ∙ (ap (λ (m : ℕ). formula_faults S (operand_parity c even m) a (formula_form link.operand) ++ rest) (length-drop_next links k below ∙ ap (λ (m : ℕ). m - k - 1) (sym are))
     ∙ ap (λ (q : Bool). formula_faults S q a (formula_form link.operand) ++ rest) (sym parity))

@@ -15,7 +15,7 @@ use Rattle.pb_typing_declarations.specs.Faults.{IsAmong}
 use Rattle.pb_typing_declarations.specs.Declarations.{variables_faults}
 use Rattle.pb_typing_rules.specs.Scope.{Scope, bound}
 use Rattle.pb_typing_rules.specs.Faults.{formula_faults}
-use Rattle.pb_typing_rules.proofs.Parts.{among_left}
+use Rattle.pb_typing_declarations.proofs.Parts.{among_left}
 
 -- there is no fault, or one of them is answered
 abbrev pub Checks : List TypingFault → Result (Unit {0}) TypeError → Type 0

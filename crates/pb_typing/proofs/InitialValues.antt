@@ -9,6 +9,7 @@ use Rattle.pb_carriers.specs.Carrier.{Value, contains}
 use Rattle.pb_sorts.specs.declared.carrier.Carrier.{Carrier}
 use Rattle.pb_sorts.specs.Carrier.{values_of}
 use Rattle.pb_sorts.proofs.Equations.{slice_get-carriers_of}
+use Rattle.pb_sorts.proofs.Counts.{some_values}
 use Rattle.pb_text_tree.specs.declared.term.Argument.{Argument}
 use Rattle.pb_text_tree.specs.Form.{ArgumentForms, no_arguments, argument, InstanceForm, argument_forms, term_form}
 use Rattle.pb_text_meaning.specs.Syntax.{Name, same_name, Variable, Equation, Spec}
@@ -24,11 +25,12 @@ use Rattle.pb_typing_declarations.specs.declared.fault.TypeError.{TypeError}
 use Rattle.pb_typing_declarations.specs.Faults.{unless, IsAmong}
 use Rattle.pb_typing_declarations.specs.Agreement.{equation_place}
 use Rattle.pb_typing_declarations.specs.WellDeclared.{HaveEnds}
-use Rattle.pb_typing_rules.specs.Faults.{and_then, instance_faults, parameters_named, value_faults}
+use Rattle.pb_typing_rules.specs.Faults.{and_then, instance_faults, may_have, parameters_named, value_faults}
 use Rattle.pb_typing_rules.specs.Scope.{outermost}
 use Rattle.pb_typing_rules.proofs.Contained.{all_fit, called_typed}
 use Rattle.pb_typing_rules.proofs.Exact.{instance_proper}
-use Rattle.pb_typing_rules.proofs.Parts.{among_left, among_right, no_whole}
+use Rattle.pb_typing_declarations.proofs.Parts.{among_left, among_right, no_whole}
+use Rattle.pb_typing_rules.proofs.WellTypedLemmas.{may_have_of_some}
 use Rattle.pb_typing.specs.Typed.{IsLayout}
 
 abbrev first : List carriers.Carrier → carriers.Carrier
@@ -57,8 +59,10 @@ headed S c cs (x ∷ xs) e = record { head = x; rest = xs; whole = refl; carrier
 
 -- the test of an argument is that of its value in its parameter's carrier
 tested : (S : Spec) (c : Carrier) (x : Variable) (a : Argument) (v : Value) (b : Bool) → values_of c ≡ carrier_of S x.sort → v ≡ value S [] (erased_term (term_form a.term)) → b ≡ contains (values_of c) v
-    → b ≡ contains (carrier_of S x.sort) (value S [] (erased_term (term_form a.term)))
-tested S c x a v b ec ev eb = eb ∙ (ap (contains (values_of c)) ev ∙ ap (λ (d : carriers.Carrier). contains d (value S [] (erased_term (term_form a.term)))) ec)
+    → b ≡ may_have (carrier_of S x.sort) (value S [] (erased_term (term_form a.term)))
+tested S c x a v b ec ev eb =
+    let w = value S [] (erased_term (term_form a.term)) in
+    eb ∙ (ap (contains (values_of c)) ev ∙ (sym (may_have_of_some (values_of c) w (some_values c)) ∙ ap (λ (d : carriers.Carrier). may_have d w) ec))
 
 -- a fault of the first argument
 pub value_fault : (S : Spec) (c : Carrier) (cs : List Carrier) (a : Argument) (es : List Argument) (all : List Argument) (allc : List Carrier) (xs : List Variable) (v : Value) (b : Bool) (e : TypeError)
@@ -76,7 +80,7 @@ abbrev pub Tells : Spec → List Argument → List Variable → Result (Unit {0}
 Tells S es xs r = MatchResult r (λ u. value_faults S (argument_forms es) xs ≡ []) (IsAmong (value_faults S (argument_forms es) xs))
 
 -- what is told of the other arguments, where the first one has no fault
-later : (S : Spec) (a : Argument) (es : List Argument) (x : Variable) (xs : List Variable) (r : Result (Unit {0}) TypeError) → unless (contains (carrier_of S x.sort) (value S [] (erased_term (term_form a.term)))) OutsideCarrier a.place ≡ []
+later : (S : Spec) (a : Argument) (es : List Argument) (x : Variable) (xs : List Variable) (r : Result (Unit {0}) TypeError) → unless (may_have (carrier_of S x.sort) (value S [] (erased_term (term_form a.term)))) OutsideCarrier a.place ≡ []
     → Tells S es xs r → Tells S (a ∷ es) (x ∷ xs) r
 later S a es x xs (Ok u) clear told = no_whole _ _ clear told
 later S a es x xs (Err e) clear told = among_right _ _ e told

@@ -8,3 +8,5 @@ pub mod FormulaNodes
 pub mod Calls
 pub mod InitialValues
 pub mod Rights
+pub mod Applications
+pub mod Accepted

@@ -1,5 +1,5 @@
 -- The faults of chains, link by link.
-use Rattle.std.proofs.Common.{◌≡◌, ℕ, zero, suc, ◌+◌, ◌<◌, ◌≤◌, Bool, true, false, ◌||◌, ◌&&◌, List, [], ◌∷◌, ◌++◌, length, get_or, drop, refl, sym, ◌∙◌, ap, arith, add-one}
+use Rattle.std.proofs.Common.{◌≡◌, Bool, true, false, ◌&&◌, List, [], ◌∷◌, ◌++◌, length, refl, sym, ◌∙◌, ap, arith}
 use Rattle.std.specs.Prelude.{◌==◌}
 use Rattle.std.proofs.Math.Dec.{eqb-suc-zero}
 use Rattle.std.proofs.lemmas.Bool.{eqb-true}
@@ -21,28 +21,9 @@ use Rattle.pb_typing_rules.specs.Term.{shape}
 use Rattle.pb_typing_rules.specs.Faults.{operator_faults, term_faults}
 use Rattle.pb_typing.specs.View.{operation_of, is_no_link}
 use Rattle.pb_typing.proofs.Computed.{kind_of-arithmetic}
+use Rattle.pb_typing.specs.Chains.{operand_shape, chain_shape, chain_faults}
 
 -- ---- connectives
-
-abbrev pub is_some_link : List TermLink → Bool
-is_some_link [] = false
-is_some_link (l ∷ ls) = true
-
-abbrev pub operand_shape : Spec → Scope → TermLink → Shape
-operand_shape spec scope link = shape spec scope (erased_term (term_form link.operand))
-
--- the faults behind an operand of this shape
-abbrev pub link_faults : Spec → Bool → Scope → Shape → List TermLink → List TypingFault
-link_faults spec stands scope s [] = []
-link_faults spec stands scope s (link ∷ links) =
-    unless (may_be_truth s) rule.WrongKind link.place
-    ++ (term_faults spec stands scope (term_form link.operand)
-    ++ (unless (is_some_link links || may_be_truth (operand_shape spec scope link)) rule.WrongKind link.place
-    ++ link_faults spec stands scope (operand_shape spec scope link) links))
-
-abbrev pub chain_shape : Shape → List TermLink → Shape
-chain_shape s [] = s
-chain_shape s (l ∷ ls) = Truths
 
 -- a chain with a link is a Boolean
 pub some_link_shape : (s : Shape) (links : List TermLink) → (length links == 0) ≡ false → Truths ≡ chain_shape s links
@@ -63,7 +44,7 @@ chained-shape spec scope c first [] = refl
 chained-shape spec scope c first (l ∷ ls) = connected-shape spec scope c _ _
 
 pub chained-faults : (spec : Spec) (stands : Bool) (scope : Scope) (c : Connective) (first : TermForm) (links : List TermLink)
-    → term_faults spec stands scope (chained (TermForm.connected c) first (term_links links)) ≡ term_faults spec stands scope first ++ link_faults spec stands scope (shape spec scope (erased_term first)) links
+    → term_faults spec stands scope (chained (TermForm.connected c) first (term_links links)) ≡ chain_faults spec stands scope first links
 chained-faults spec stands scope c first [] = sym (append-nil (term_faults spec stands scope first))
 chained-faults spec stands scope c first (l ∷ []) =
     ap (λ (zs : List TypingFault). term_faults spec stands scope first ++ (unless (may_be_truth (shape spec scope (erased_term first))) rule.WrongKind l.place ++ (term_faults spec stands scope (term_form l.operand) ++ zs)))
@@ -73,20 +54,6 @@ chained-faults spec stands scope c first (l ∷ (m ∷ ls)) =
     ap (λ (zs : List TypingFault). term_faults spec stands scope first ++ (unless (may_be_truth (shape spec scope (erased_term first))) rule.WrongKind l.place ++ zs))
     (ap (λ (s : Shape). term_faults spec stands scope rest ++ unless (may_be_truth s) rule.WrongKind l.place) (chained-shape spec scope c (term_form l.operand) (m ∷ ls))
     ∙ (append-nil (term_faults spec stands scope rest) ∙ chained-faults spec stands scope c (term_form l.operand) (m ∷ ls)))
-
-pub links-drop : {L : Type 0} (links : List L) (k : ℕ) (link : L) → k < length links → link ≡ get_or links k link → drop k links ≡ link ∷ drop (k + 1) links
-links-drop links k link below at = rw add-one (by_suc links k below at)
-  where
-    by_suc : {L : Type 0} (links : List L) (k : ℕ) {link : L} → k < length links → link ≡ get_or links k link → drop k links ≡ link ∷ drop (suc k) links
-    by_suc [] k below at = absurd (omega arith)
-    by_suc (l ∷ links) zero below at = ap (λ m. m ∷ links) (sym at)
-    by_suc (l ∷ links) (suc k) below at = by_suc links k (omega arith) at
-
-pub links-ended : {L : Type 0} (links : List L) (k : ℕ) → length links ≤ k → drop k links ≡ []
-links-ended [] zero h = refl
-links-ended [] (suc k) h = refl
-links-ended (l ∷ links) zero h = absurd (omega arith)
-links-ended (l ∷ links) (suc k) h = links-ended links k (omega arith)
 
 -- ---- arithmetic
 

@@ -25,7 +25,7 @@ use Rattle.pb_typing_rules.specs.Functions.{Function, function_named, result_sha
 use Rattle.pb_typing_rules.specs.Scope.{Scope, outermost, declare, bound, or_else}
 use Rattle.pb_typing_rules.specs.Term.{shape, shapes, applied_shape}
 use Rattle.pb_typing_rules.specs.Faults.{term_faults, terms_faults, function_faults}
-use Rattle.pb_typing_rules.proofs.Parts.{among_left, among_right}
+use Rattle.pb_typing_declarations.proofs.Parts.{among_left, among_right}
 use Rattle.pb_typing.specs.declared.shape.Shape.{Shape}
 use Rattle.pb_typing.specs.View.{Judges}
 

@@ -4,6 +4,8 @@ use Rattle.std.specs.Option.{option_map}
 use Rattle.std.proofs.Math.Path.{fun_ext}
 use denote.Ref.{Bor}
 use Rattle.std.specs.HashMap.{IsEmpty, Updates}
+use Rattle.std.proofs.lemmas.List.{drop_all}
+use Rattle.pb_sorts.proofs.Places.{drop-at}
 use Rattle.pb_text_tree.specs.declared.name.Name as ast
 use Rattle.pb_text_tree.specs.declared.variable.Variables.{Variables}
 use Rattle.pb_text_tree.specs.Form.{VariableForm, named, variable_forms}
@@ -17,7 +19,6 @@ use Rattle.pb_typing_rules.specs.Scope.{Scope, outermost, declare, bound}
 use Rattle.pb_typing.specs.declared.shape.Shape.{Shape}
 use Rattle.pb_typing.specs.View.{shape_view}
 use Rattle.pb_typing.specs.Scopes.{table_view, looked_up_with}
-use Rattle.pb_typing.proofs.Links.{links-drop, links-ended}
 
 -- names with one shape, the first first
 abbrev pub declare_all : List ast.Name → model.Shape → Scope → Scope
@@ -61,7 +62,7 @@ group_begun : (S : Spec) (groups : List Variables) (k : ℕ) (group : Variables)
     → k < length groups → group ≡ get_or groups k group → names ≡ group.names.items → sort ≡ string_bytes group.sort.text → shape_view s ≡ sort_shape S sort
     → scope_of_groups S (drop k groups) scope ≡ scope_of_groups S (drop (k + 1) groups) (declare_all names (shape_view s) scope)
 group_begun S groups k group names sort s scope below at are sort_is shape_is =
-    ap (λ (gs : List Variables). scope_of_groups S gs scope) (links-drop groups k group below at)
+    ap (λ (gs : List Variables). scope_of_groups S gs scope) (drop-at groups k group below at)
     ∙ (bound-group S group (drop (k + 1) groups) group.names.items scope
     ∙ (ap (λ (h : model.Shape). scope_of_groups S (drop (k + 1) groups) (declare_all group.names.items h scope)) (sym (shape_is ∙ ap (sort_shape S) sort_is))
     ∙ ap (λ (ns : List ast.Name). scope_of_groups S (drop (k + 1) groups) (declare_all ns (shape_view s) scope)) (sym are)))
@@ -79,11 +80,8 @@ group_put S groups k group names sort s old new below at are sort_is shape_is pu
 pub put_next : {V : Type 0} (names : List ast.Name) (k : ℕ) (n : ast.Name) (old new : Table V) (key : Bor (List ℕ)) (v : V) → k < length names → n ≡ get_or names k n → key.now ≡ string_bytes n.text
     → Updates (λ x y. bytes_eq x.now y.now) old new key (Some v) → looked_up_with (drop k names) v (looked_up old) ≡ looked_up_with (drop (k + 1) names) v (looked_up new)
 put_next {V} names k n old new key v below at is u =
-    ap (λ (ns : List ast.Name). looked_up_with ns v (looked_up old)) (links-drop names k n below at)
+    ap (λ (ns : List ast.Name). looked_up_with ns v (looked_up old)) (drop-at names k n below at)
     ∙ ap (looked_up_with (drop (k + 1) names) v) (ap (λ (y : Name). λ x. cond (same_name y x) (Some v) (looked_up old x)) (sym is) ∙ sym (put_in old new key v u))
 
-pub put_ended : {V : Type 0} (names : List ast.Name) (k : ℕ) (v : V) (look : Name → Option V) → length names ≤ k → looked_up_with (drop k names) v look ≡ look
-put_ended names k v look h = ap (λ (ns : List ast.Name). looked_up_with ns v look) (links-ended names k h)
-
 pub groups_ended : (S : Spec) (groups : List Variables) (k : ℕ) (scope : Scope) → length groups ≤ k → scope_of_groups S (drop k groups) scope ≡ scope
-groups_ended S groups k scope h = ap (λ (gs : List Variables). scope_of_groups S gs scope) (links-ended groups k h)
+groups_ended S groups k scope h = ap (λ (gs : List Variables). scope_of_groups S gs scope) (drop_all k groups h)

@@ -3,3 +3,4 @@ pub mod Found
 pub mod Scopes
 pub mod Arguments
 pub mod Typed
+pub mod Chains

@@ -2,22 +2,20 @@
 
 ghost use Rattle.std.specs.Prelude.{◌≡◌, [], MatchResult};
 ghost use Rattle.pb_text_tree.specs.Form.{formula_form, spec_form};
-ghost use Rattle.pb_typing_rules.specs.Faults.{formula_faults, operand_parity};
+ghost use Rattle.pb_typing_rules.specs.Faults.{formula_faults};
 ghost use Rattle.pb_typing_declarations.specs.Faults.{IsAmong};
 ghost use Rattle.pb_typing_declarations.specs.View.{spec_of, text_of};
-ghost use Rattle.pb_typing.specs.Scopes.{inner_view, scope_view};
+ghost use Rattle.pb_typing.specs.Scopes.{scope_view};
 
 use crate::instance::check_instance;
+use crate::parity::operand_parity;
 use crate::scope::{Scope, variable_shapes};
-use crate::shape::Shape;
 use crate::term::check_truth;
-use pb_text_tree::{Connective, Formula, Spec};
+use pb_text_tree::{Formula, Spec};
 use pb_typing_declarations::{Declarations, TypeError};
 use std::alloc::Global;
-use std::collections::HashMap;
 
 /// Checks a formula, where `even` says whether the negations around it are even in number.
-#[cycle(formulas)]
 pub(crate) fn check_formula<'t>(
     alloc: Global,
     declarations: &Declarations<'_>,
@@ -60,38 +58,8 @@ pub(crate) fn check_formula<'t>(
         } => {
             declarations.check_variables(alloc, variables)?;
             let table = variable_shapes(alloc, declarations, variables)?;
-            check_body(alloc, declarations, spec, &*scope, even, &table, body)
+            let inner = Scope::Inner(&table, &*scope);
+            check_formula(alloc, declarations, spec, &inner, even, body)
         }
-    }
-}
-
-/// Checks the body of a quantifier, whose variables have the shapes of a table.
-#[cycle(formulas)]
-fn check_body<'a, 't>(
-    alloc: Global,
-    declarations: &Declarations<'_>,
-    spec: &Spec,
-    outer: &'a Scope<'a, 't>,
-    even: bool,
-    table: &'a HashMap<&'t str, Shape>,
-    body: &'t Formula,
-) -> Result<(), TypeError>
-    requires { text_of declarations.now ≡ spec_form spec.now }
-    ensures { MatchResult result
-        (λ _. formula_faults (spec_of declarations.now) even (inner_view table.now (scope_view outer.now)) (formula_form body.now) ≡ [])
-        (IsAmong (formula_faults (spec_of declarations.now) even (inner_view table.now (scope_view outer.now)) (formula_form body.now))) }
-{
-    let scope = Scope::Inner(table, outer);
-    check_formula(alloc, declarations, spec, &scope, even, body)
-}
-
-/// Whether the negations around an operand of a chain are even in number, where `behind` operands stand behind it.
-/// The left side of `=>` counts as negated, and a chain is read to the right.
-fn operand_parity(connective: Connective, even: bool, behind: usize) -> bool
-    ensures { result ≡ operand_parity connective even behind }
-{
-    match connective {
-        Connective::Implies if behind > 0 => !even,
-        _ => even,
     }
 }

@@ -1,17 +1,16 @@
 //! Named functions at the shapes of their arguments.
 
-ghost use Rattle.std.specs.Prelude.{◌≡◌, [], ◌∷◌, ◌&&◌};
+ghost use Rattle.std.specs.Prelude.{◌≡◌, [], ◌∷◌, ◌&&◌, false};
 ghost use Rattle.pb_intervals.specs.Operation as operations;
 ghost use Rattle.pb_typing_rules.specs.Faults.{kind_faults};
 ghost use Rattle.pb_typing_rules.specs.Functions as functions;
 ghost use Rattle.pb_typing_rules.specs.Functions.{arity};
-ghost use Rattle.pb_typing_rules.specs.Shapes.{binary_shape, hull, may_be_alike, may_be_truth, unary_shape};
+ghost use Rattle.pb_typing_rules.specs.Shapes.{binary_shape, hull, may_be_alike, may_be_truth};
 ghost use Rattle.pb_typing.specs.Found.{Finds};
-ghost use Rattle.pb_typing.specs.View.{function_view, shape_view};
+ghost use Rattle.pb_typing.specs.View.{binary_operation, function_view, shape_view};
 
-use crate::operation::fault;
+use crate::operation::{BinaryOperation, UnaryOperation, fault};
 use crate::shape::Shape;
-use pb_intervals::Interval;
 use pb_text_tree::Place;
 use pb_typing_declarations::{TypingFault, TypingRule, require};
 
@@ -22,9 +21,8 @@ pub(crate) enum Function {
     Choice,
     /// A number as it is: `Pos2Nat` and the like.
     Conversion,
-    Successor,
-    Predecessor,
-    AbsoluteValue,
+    /// `succ`, `pred` and `abs`.
+    OfOne(UnaryOperation),
     Maximum,
     Minimum,
     /// The recogniser of an enumerator, whose struct has this shape.
@@ -38,9 +36,7 @@ impl Function {
     {
         match self {
             Function::Conversion => whole(shape, place),
-            Function::Successor => successor(shape, place),
-            Function::Predecessor => predecessor(shape, place),
-            Function::AbsoluteValue => absolute_value(shape, place),
+            Function::OfOne(operation) => operation.check(shape, place),
             Function::Recogniser(struct_shape) => {
                 require(
                     struct_shape.may_be_alike(&shape),
@@ -65,13 +61,11 @@ impl Function {
         ensures { Finds (kind_faults (function_view self) (shape_view left ∷ shape_view right ∷ []) place) (functions.shape_of_two (function_view self) (shape_view left) (shape_view right)) result }
     {
         match self {
-            Function::Maximum => maximum(left, right, place),
-            Function::Minimum => minimum(left, right, place),
+            Function::Maximum => extreme(BinaryOperation::Maximum, left, right, place),
+            Function::Minimum => extreme(BinaryOperation::Minimum, left, right, place),
             Function::Choice => Ok(Shape::Unknown),
             Function::Conversion => Ok(Shape::Unknown),
-            Function::Successor => Ok(Shape::Unknown),
-            Function::Predecessor => Ok(Shape::Unknown),
-            Function::AbsoluteValue => Ok(Shape::Unknown),
+            Function::OfOne(_) => Ok(Shape::Unknown),
             Function::Recogniser(_) => Ok(Shape::Unknown),
         }
     }
@@ -89,9 +83,7 @@ impl Function {
         match self {
             Function::Choice => choose(condition, left, right, place),
             Function::Conversion => Ok(Shape::Unknown),
-            Function::Successor => Ok(Shape::Unknown),
-            Function::Predecessor => Ok(Shape::Unknown),
-            Function::AbsoluteValue => Ok(Shape::Unknown),
+            Function::OfOne(_) => Ok(Shape::Unknown),
             Function::Maximum => Ok(Shape::Unknown),
             Function::Minimum => Ok(Shape::Unknown),
             Function::Recogniser(_) => Ok(Shape::Unknown),
@@ -105,11 +97,7 @@ impl Function {
         match self {
             Function::Choice => 3,
             Function::Maximum | Function::Minimum => 2,
-            Function::Conversion
-            | Function::Successor
-            | Function::Predecessor
-            | Function::AbsoluteValue
-            | Function::Recogniser(_) => 1,
+            Function::Conversion | Function::OfOne(_) | Function::Recogniser(_) => 1,
         }
     }
 }
@@ -142,97 +130,17 @@ fn whole(shape: Shape, place: Place) -> Result<Shape, TypingFault>
     }
 }
 
-/// One more than a number.
-fn successor(shape: Shape, place: Place) -> Result<Shape, TypingFault>
-    ensures { Finds (kind_faults (functions.OfOne operations.Successor) (shape_view shape ∷ []) place) (unary_shape operations.Successor (shape_view shape)) result }
+/// The greater or the lesser of two numbers.
+fn extreme(
+    operation: BinaryOperation,
+    left: Shape,
+    right: Shape,
+    place: Place,
+) -> Result<Shape, TypingFault>
+    requires { operations.divides (binary_operation operation) ≡ false }
+    ensures { Finds
+        (kind_faults (functions.OfTwo (binary_operation operation)) (shape_view left ∷ shape_view right ∷ []) place)
+        (binary_shape (binary_operation operation) (shape_view left) (shape_view right)) result }
 {
-    match shape {
-        Shape::Unknown => Ok(Shape::Unknown),
-        Shape::Wholes(interval) => match interval.successor(Interval::literals()) {
-            Some(interval) => Ok(Shape::Wholes(interval)),
-            None => Err(fault(TypingRule::LargeInterval, place)),
-        },
-        Shape::Truths => Err(fault(TypingRule::WrongKind, place)),
-        Shape::Places { .. } => Err(fault(TypingRule::WrongKind, place)),
-    }
-}
-
-/// One less than a number.
-fn predecessor(shape: Shape, place: Place) -> Result<Shape, TypingFault>
-    ensures { Finds (kind_faults (functions.OfOne operations.Predecessor) (shape_view shape ∷ []) place) (unary_shape operations.Predecessor (shape_view shape)) result }
-{
-    match shape {
-        Shape::Unknown => Ok(Shape::Unknown),
-        Shape::Wholes(interval) => match interval.predecessor(Interval::literals()) {
-            Some(interval) => Ok(Shape::Wholes(interval)),
-            None => Err(fault(TypingRule::LargeInterval, place)),
-        },
-        Shape::Truths => Err(fault(TypingRule::WrongKind, place)),
-        Shape::Places { .. } => Err(fault(TypingRule::WrongKind, place)),
-    }
-}
-
-/// The absolute value of a number.
-fn absolute_value(shape: Shape, place: Place) -> Result<Shape, TypingFault>
-    ensures { Finds (kind_faults (functions.OfOne operations.AbsoluteValue) (shape_view shape ∷ []) place) (unary_shape operations.AbsoluteValue (shape_view shape)) result }
-{
-    match shape {
-        Shape::Unknown => Ok(Shape::Unknown),
-        Shape::Wholes(interval) => match interval.absolute_value(Interval::literals()) {
-            Some(interval) => Ok(Shape::Wholes(interval)),
-            None => Err(fault(TypingRule::LargeInterval, place)),
-        },
-        Shape::Truths => Err(fault(TypingRule::WrongKind, place)),
-        Shape::Places { .. } => Err(fault(TypingRule::WrongKind, place)),
-    }
-}
-
-/// The greater of two numbers.
-fn maximum(left: Shape, right: Shape, place: Place) -> Result<Shape, TypingFault>
-    ensures { Finds (kind_faults (functions.OfTwo operations.Maximum) (shape_view left ∷ shape_view right ∷ []) place) (binary_shape operations.Maximum (shape_view left) (shape_view right)) result }
-{
-    match left {
-        Shape::Unknown => match right {
-            Shape::Unknown => Ok(Shape::Unknown),
-            Shape::Wholes(_) => Ok(Shape::Unknown),
-            Shape::Truths => Err(fault(TypingRule::WrongKind, place)),
-            Shape::Places { .. } => Err(fault(TypingRule::WrongKind, place)),
-        },
-        Shape::Wholes(left) => match right {
-            Shape::Unknown => Ok(Shape::Unknown),
-            Shape::Wholes(right) => match left.maximum(right, Interval::literals()) {
-                Some(interval) => Ok(Shape::Wholes(interval)),
-                None => Err(fault(TypingRule::LargeInterval, place)),
-            },
-            Shape::Truths => Err(fault(TypingRule::WrongKind, place)),
-            Shape::Places { .. } => Err(fault(TypingRule::WrongKind, place)),
-        },
-        Shape::Truths => Err(fault(TypingRule::WrongKind, place)),
-        Shape::Places { .. } => Err(fault(TypingRule::WrongKind, place)),
-    }
-}
-
-/// The lesser of two numbers.
-fn minimum(left: Shape, right: Shape, place: Place) -> Result<Shape, TypingFault>
-    ensures { Finds (kind_faults (functions.OfTwo operations.Minimum) (shape_view left ∷ shape_view right ∷ []) place) (binary_shape operations.Minimum (shape_view left) (shape_view right)) result }
-{
-    match left {
-        Shape::Unknown => match right {
-            Shape::Unknown => Ok(Shape::Unknown),
-            Shape::Wholes(_) => Ok(Shape::Unknown),
-            Shape::Truths => Err(fault(TypingRule::WrongKind, place)),
-            Shape::Places { .. } => Err(fault(TypingRule::WrongKind, place)),
-        },
-        Shape::Wholes(left) => match right {
-            Shape::Unknown => Ok(Shape::Unknown),
-            Shape::Wholes(right) => match left.minimum(right, Interval::literals()) {
-                Some(interval) => Ok(Shape::Wholes(interval)),
-                None => Err(fault(TypingRule::LargeInterval, place)),
-            },
-            Shape::Truths => Err(fault(TypingRule::WrongKind, place)),
-            Shape::Places { .. } => Err(fault(TypingRule::WrongKind, place)),
-        },
-        Shape::Truths => Err(fault(TypingRule::WrongKind, place)),
-        Shape::Places { .. } => Err(fault(TypingRule::WrongKind, place)),
-    }
+    operation.check(left, right, place)
 }

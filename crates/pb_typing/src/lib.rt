@@ -7,6 +7,8 @@ mod initial;
 mod instance;
 mod name;
 mod operation;
+mod operator;
+mod parity;
 mod scope;
 mod shape;
 mod shape_of_term;
@@ -14,6 +16,7 @@ mod spec;
 mod term;
 mod typed;
 
+pub use parity::operand_parity;
 pub use scope::{Scope, variable_shapes};
 pub use shape::Shape;
 pub use shape_of_term::term_shape;

@@ -18,7 +18,7 @@ ghost use Rattle.pb_typing.specs.Found.{Finds};
 ghost use Rattle.pb_typing.specs.View.{function_view, shape_view};
 
 use crate::function::Function;
-use crate::operation::fault;
+use crate::operation::{UnaryOperation, fault};
 use crate::scope::{Scope, variable_shape};
 use crate::shape::Shape;
 use pb_text_tree::{Name, Place};
@@ -115,13 +115,13 @@ pub(crate) fn function_named(declarations: &Declarations<'_>, name: &str) -> Opt
         return Some(Function::Choice);
     }
     if name == "succ" {
-        return Some(Function::Successor);
+        return Some(Function::OfOne(UnaryOperation::Successor));
     }
     if name == "pred" {
-        return Some(Function::Predecessor);
+        return Some(Function::OfOne(UnaryOperation::Predecessor));
     }
     if name == "abs" {
-        return Some(Function::AbsoluteValue);
+        return Some(Function::OfOne(UnaryOperation::AbsoluteValue));
     }
     if is_conversion(name) {
         return Some(Function::Conversion);

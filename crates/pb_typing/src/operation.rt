@@ -1,18 +1,18 @@
-//! Operators at the shapes of their operands.
+//! Operations on whole numbers at the shapes of their operands: what comes out, and which rule fails.
 
-ghost use Rattle.std.specs.Prelude.{◌≡◌, true};
-ghost use Rattle.pb_text_meaning.specs.Erase.{of_comparison};
+ghost use Rattle.std.specs.Prelude.{◌≡◌, [], ◌∷◌, true};
 ghost use Rattle.pb_intervals.specs.Interval.{within, literals};
 ghost use Rattle.pb_intervals.specs.Operation as operations;
-ghost use Rattle.pb_typing_rules.specs.Faults.{negative_faults, operator_faults};
-ghost use Rattle.pb_typing_rules.specs.Shapes.{Computed, binary_shape, kind_of, may_divide, unary_shape};
+ghost use Rattle.pb_typing_rules.specs.Faults.{kind_faults, operator_faults};
+ghost use Rattle.pb_typing_rules.specs.Functions as functions;
+ghost use Rattle.pb_typing_rules.specs.Shapes.{Computed, binary_shape, may_divide, unary_shape};
 ghost use Rattle.pb_typing_declarations.specs.Shapes as model;
 ghost use Rattle.pb_typing.specs.Found.{Finds};
-ghost use Rattle.pb_typing.specs.View.{operation_of, shape_view};
+ghost use Rattle.pb_typing.specs.View.{binary_operation, shape_view, unary_operation};
 
 use crate::shape::Shape;
 use pb_intervals::Interval;
-use pb_text_tree::{Arithmetic, Comparison, Place};
+use pb_text_tree::Place;
 use pb_typing_declarations::{TypingFault, TypingRule, require};
 
 /// A rule that fails at a place.
@@ -22,108 +22,169 @@ pub(crate) fn fault(rule: TypingRule, place: Place) -> TypingFault
     TypingFault { rule, place }
 }
 
-/// The negation of a number.
-pub(crate) fn negative(shape: Shape, place: Place) -> Result<Shape, TypingFault>
-    ensures { Finds (negative_faults (shape_view shape) place) (unary_shape operations.Negation (shape_view shape)) result }
-{
-    match shape {
-        Shape::Unknown => Ok(Shape::Unknown),
-        Shape::Wholes(interval) => match interval.negation(Interval::literals()) {
+/// An operation on one whole number.
+#[derive(Clone, Copy, Debug, PartialEq, Eq)]
+pub(crate) enum UnaryOperation {
+    Negation,
+    Successor,
+    Predecessor,
+    AbsoluteValue,
+}
+
+impl UnaryOperation {
+    /// The interval of what it gives, if that is within 2^62.
+    fn interval(self, operand: Interval) -> Option<Interval>
+        ensures { result ≡ within literals (operations.unary_interval (unary_operation self) operand) }
+    {
+        let limits = Interval::literals();
+        match self {
+            UnaryOperation::Negation => operand.negation(limits),
+            UnaryOperation::Successor => operand.successor(limits),
+            UnaryOperation::Predecessor => operand.predecessor(limits),
+            UnaryOperation::AbsoluteValue => operand.absolute_value(limits),
+        }
+    }
+
+    /// The shape of what it gives.
+    pub(crate) fn shape(self, operand: Shape) -> Shape
+        ensures { shape_view result ≡ unary_shape (unary_operation self) (shape_view operand) }
+    {
+        match operand {
+            Shape::Wholes(interval) => Shape::of_interval(self.interval(interval)),
+            Shape::Unknown => Shape::Unknown,
+            Shape::Truths => Shape::Unknown,
+            Shape::Places { .. } => Shape::Unknown,
+        }
+    }
+
+    /// The same, where no rule fails.
+    pub(crate) fn check(self, operand: Shape, place: Place) -> Result<Shape, TypingFault>
+        ensures { Finds
+            (kind_faults (functions.OfOne (unary_operation self)) (shape_view operand ∷ []) place)
+            (unary_shape (unary_operation self) (shape_view operand)) result }
+    {
+        match operand {
+            Shape::Unknown => Ok(Shape::Unknown),
+            Shape::Wholes(interval) => match self.interval(interval) {
+                Some(interval) => Ok(Shape::Wholes(interval)),
+                None => Err(fault(TypingRule::LargeInterval, place)),
+            },
+            Shape::Truths => Err(fault(TypingRule::WrongKind, place)),
+            Shape::Places { .. } => Err(fault(TypingRule::WrongKind, place)),
+        }
+    }
+}
+
+/// An operation on two whole numbers.
+#[derive(Clone, Copy, Debug, PartialEq, Eq)]
+pub(crate) enum BinaryOperation {
+    Sum,
+    Difference,
+    Product,
+    Quotient,
+    Remainder,
+    Maximum,
+    Minimum,
+}
+
+impl BinaryOperation {
+    /// Whether the numbers of an interval may be second operands: no divisor is below 1.
+    fn may_divide(self, right: Interval) -> bool
+        ensures { result ≡ may_divide (binary_operation self) (model.Wholes right.low right.high) }
+    {
+        match self {
+            BinaryOperation::Quotient | BinaryOperation::Remainder => right.low() >= 1,
+            BinaryOperation::Sum
+            | BinaryOperation::Difference
+            | BinaryOperation::Product
+            | BinaryOperation::Maximum
+            | BinaryOperation::Minimum => true,
+        }
+    }
+
+    /// The interval of what it gives, if that is within 2^62.
+    fn interval(self, left: Interval, right: Interval) -> Option<Interval>
+        requires { may_divide (binary_operation self) (model.Wholes right.low right.high) ≡ true }
+        ensures { result ≡ within literals (operations.binary_interval (binary_operation self) left right) }
+    {
+        let limits = Interval::literals();
+        match self {
+            BinaryOperation::Sum => left.sum(right, limits),
+            BinaryOperation::Difference => left.difference(right, limits),
+            BinaryOperation::Product => left.product(right, limits),
+            BinaryOperation::Quotient => left.quotient(right, limits),
+            BinaryOperation::Remainder => left.remainder(right, limits),
+            BinaryOperation::Maximum => left.maximum(right, limits),
+            BinaryOperation::Minimum => left.minimum(right, limits),
+        }
+    }
+
+    /// The shape of what it gives.
+    pub(crate) fn shape(self, left: Shape, right: Shape) -> Shape
+        ensures { shape_view result ≡ binary_shape (binary_operation self) (shape_view left) (shape_view right) }
+    {
+        match left {
+            Shape::Wholes(left) => match right {
+                Shape::Wholes(right) => {
+                    if self.may_divide(right) {
+                        Shape::of_interval(self.interval(left, right))
+                    } else {
+                        Shape::Unknown
+                    }
+                }
+                Shape::Unknown => Shape::Unknown,
+                Shape::Truths => Shape::Unknown,
+                Shape::Places { .. } => Shape::Unknown,
+            },
+            Shape::Unknown => Shape::Unknown,
+            Shape::Truths => Shape::Unknown,
+            Shape::Places { .. } => Shape::Unknown,
+        }
+    }
+
+    /// The same, where no rule fails.
+    pub(crate) fn check(self, left: Shape, right: Shape, place: Place) -> Result<Shape, TypingFault>
+        ensures { Finds
+            (operator_faults (Computed (binary_operation self)) (shape_view left) (shape_view right) place)
+            (binary_shape (binary_operation self) (shape_view left) (shape_view right)) result }
+    {
+        match left {
+            Shape::Unknown => match right {
+                Shape::Unknown => Ok(Shape::Unknown),
+                Shape::Wholes(right) => {
+                    let divides = self.may_divide(right);
+                    require(divides, TypingRule::Divisor, place)?;
+                    Ok(Shape::Unknown)
+                }
+                Shape::Truths | Shape::Places { .. } => Err(fault(TypingRule::WrongKind, place)),
+            },
+            Shape::Wholes(left) => match right {
+                Shape::Unknown => Ok(Shape::Unknown),
+                Shape::Wholes(right) => self.check_intervals(left, right, place),
+                Shape::Truths | Shape::Places { .. } => Err(fault(TypingRule::WrongKind, place)),
+            },
+            Shape::Truths | Shape::Places { .. } => Err(fault(TypingRule::WrongKind, place)),
+        }
+    }
+
+    /// The same of two numbers of these intervals.
+    fn check_intervals(
+        self,
+        left: Interval,
+        right: Interval,
+        place: Place,
+    ) -> Result<Shape, TypingFault>
+        ensures { Finds
+            (operator_faults (Computed (binary_operation self))
+            (model.Wholes left.low left.high) (model.Wholes right.low right.high) place)
+            (binary_shape (binary_operation self) (model.Wholes left.low left.high) (model.Wholes right.low right.high))
+            result }
+    {
+        let divides = self.may_divide(right);
+        require(divides, TypingRule::Divisor, place)?;
+        match self.interval(left, right) {
             Some(interval) => Ok(Shape::Wholes(interval)),
             None => Err(fault(TypingRule::LargeInterval, place)),
-        },
-        Shape::Truths | Shape::Places { .. } => Err(fault(TypingRule::WrongKind, place)),
-    }
-}
-
-/// A comparison of two values.
-pub(crate) fn compare(
-    comparison: Comparison,
-    left: Shape,
-    right: Shape,
-    place: Place,
-) -> Result<Shape, TypingFault>
-    ensures { Finds (operator_faults (kind_of (of_comparison comparison)) (shape_view left) (shape_view right) place) model.Truths result }
-{
-    let accepted = match comparison {
-        Comparison::Equal | Comparison::NotEqual => left.may_be_alike(&right),
-        Comparison::Less | Comparison::LessEqual | Comparison::Greater | Comparison::GreaterEqual =>
-            left.may_be_whole() && right.may_be_whole(),
-    };
-    require(accepted, TypingRule::WrongKind, place)?;
-    Ok(Shape::Truths)
-}
-
-/// An operation on two numbers.
-pub(crate) fn compute(
-    operator: Arithmetic,
-    left: Shape,
-    right: Shape,
-    place: Place,
-) -> Result<Shape, TypingFault>
-    ensures { Finds (operator_faults (Computed (operation_of operator)) (shape_view left) (shape_view right) place) (binary_shape (operation_of operator) (shape_view left) (shape_view right)) result }
-{
-    match left {
-        Shape::Unknown => match right {
-            Shape::Unknown => Ok(Shape::Unknown),
-            Shape::Wholes(right) => {
-                let divides = may_divide(operator, right);
-                require(divides, TypingRule::Divisor, place)?;
-                Ok(Shape::Unknown)
-            }
-            Shape::Truths | Shape::Places { .. } => Err(fault(TypingRule::WrongKind, place)),
-        },
-        Shape::Wholes(left) => match right {
-            Shape::Unknown => Ok(Shape::Unknown),
-            Shape::Wholes(right) => compute_intervals(operator, left, right, place),
-            Shape::Truths | Shape::Places { .. } => Err(fault(TypingRule::WrongKind, place)),
-        },
-        Shape::Truths | Shape::Places { .. } => Err(fault(TypingRule::WrongKind, place)),
-    }
-}
-
-/// An operation on two numbers of these intervals.
-fn compute_intervals(
-    operator: Arithmetic,
-    left: Interval,
-    right: Interval,
-    place: Place,
-) -> Result<Shape, TypingFault>
-    ensures { Finds (operator_faults (Computed (operation_of operator)) (model.Wholes left.low left.high) (model.Wholes right.low right.high) place) (binary_shape (operation_of operator) (model.Wholes left.low left.high) (model.Wholes right.low right.high)) result }
-{
-    let divides = may_divide(operator, right);
-    require(divides, TypingRule::Divisor, place)?;
-    match result_interval(operator, left, right) {
-        Some(interval) => Ok(Shape::Wholes(interval)),
-        None => Err(fault(TypingRule::LargeInterval, place)),
-    }
-}
-
-/// Whether the numbers of an interval may be second operands: no divisor is below 1.
-pub(crate) fn may_divide(operator: Arithmetic, right: Interval) -> bool
-    ensures { result ≡ may_divide (operation_of operator) (model.Wholes right.low right.high) }
-{
-    match operator {
-        Arithmetic::Div | Arithmetic::Mod => right.low() >= 1,
-        Arithmetic::Plus | Arithmetic::Minus | Arithmetic::Times => true,
-    }
-}
-
-/// The interval of an operation, if it is within 2^62.
-pub(crate) fn result_interval(
-    operator: Arithmetic,
-    left: Interval,
-    right: Interval,
-) -> Option<Interval>
-    requires { may_divide (operation_of operator) (model.Wholes right.low right.high) ≡ true }
-    ensures { result ≡ within literals (operations.binary_interval (operation_of operator) left right) }
-{
-    let limits = Interval::literals();
-    match operator {
-        Arithmetic::Plus => left.sum(right, limits),
-        Arithmetic::Minus => left.difference(right, limits),
-        Arithmetic::Times => left.product(right, limits),
-        Arithmetic::Div => left.quotient(right, limits),
-        Arithmetic::Mod => left.remainder(right, limits),
+        }
     }
 }

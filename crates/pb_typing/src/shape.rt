@@ -1,6 +1,7 @@
 //! What is known of a data term's values: their kind, and the interval of whole numbers.
 
-ghost use Rattle.std.specs.Prelude.{◌≡◌};
+ghost use Rattle.std.specs.Prelude.{◌≡◌, pos};
+ghost use Rattle.pb_intervals.specs.Interval.{literals, singleton, within};
 ghost use Rattle.pb_typing_rules.specs.Shapes as shapes;
 ghost use Rattle.pb_typing.specs.View.{shape_view};
 
@@ -19,7 +20,31 @@ pub enum Shape {
     Wholes(Interval),
 }
 
+/// The greatest number that may be written.
+const MAX_LITERAL: u64 = 1 << 62;
+
+/// The interval of a literal, if it is within 2^62.
+pub(crate) fn literal_interval(number: u64) -> Option<Interval>
+    ensures { result ≡ within literals (singleton (pos number)) }
+{
+    if number <= MAX_LITERAL {
+        Some(Interval::singleton(number as i64))
+    } else {
+        None
+    }
+}
+
 impl Shape {
+    /// The whole numbers of an interval, if there is one.
+    pub(crate) fn of_interval(interval: Option<Interval>) -> Shape
+        ensures { shape_view result ≡ shapes.of_interval interval }
+    {
+        match interval {
+            Some(interval) => Shape::Wholes(interval),
+            None => Shape::Unknown,
+        }
+    }
+
     /// Whether values may be Booleans. What is unknown passes.
     pub(crate) fn may_be_truth(&self) -> bool
         ensures { result ≡ shapes.may_be_truth (shape_view self.now) }

@@ -2,23 +2,21 @@
 
 ghost use Rattle.std.specs.Prelude.{◌≡◌};
 ghost use Rattle.pb_text_tree.specs.Form.{TermForm, argument_forms, arithmetic_links, calculated, named, term_form};
-ghost use Rattle.pb_intervals.specs.Operation as operations;
 ghost use Rattle.pb_text_meaning.specs.Erase.{erased_term};
 ghost use Rattle.pb_typing_rules.specs.Functions as functions;
-ghost use Rattle.pb_typing_rules.specs.Shapes.{binary_shape, literal_shape, of_interval, unary_shape};
 ghost use Rattle.pb_typing_rules.specs.Term.{shape};
 ghost use Rattle.pb_typing_declarations.specs.Shapes as model;
 ghost use Rattle.pb_typing_declarations.specs.View.{spec_of};
 ghost use Rattle.pb_typing.specs.Scopes.{scope_view};
-ghost use Rattle.pb_typing.specs.View.{function_view, operation_of, shape_view};
+ghost use Rattle.pb_typing.specs.View.{function_view, shape_view};
 
 use crate::function::Function;
 use crate::name::{function_named, known_shape};
-use crate::operation::{may_divide, result_interval};
+use crate::operation::{BinaryOperation, UnaryOperation};
+use crate::operator::operation_shape;
 use crate::scope::Scope;
-use crate::shape::Shape;
-use pb_intervals::Interval;
-use pb_text_tree::{Argument, Arithmetic, ArithmeticLink, Name, Term};
+use crate::shape::{Shape, literal_interval};
+use pb_text_tree::{Argument, ArithmeticLink, Name, Term};
 use pb_typing_declarations::Declarations;
 
 /// What is known of a data term's values: its kind, and the interval of a whole number (interval arithmetic, Moore 1966).
@@ -33,14 +31,14 @@ pub fn term_shape<'t>(
 {
     match term {
         Term::Constant { .. } => Shape::Truths,
-        Term::Number { value, .. } => number_shape(*value),
+        Term::Number { value, .. } => Shape::of_interval(literal_interval(*value)),
         Term::Name(name) => match known_shape(declarations, scope, &name.text) {
             Some(shape) => shape,
             None => Shape::Unknown,
         },
         Term::Not { .. } => Shape::Truths,
         Term::Negative { operand, .. } => {
-            negation_shape(term_shape(declarations, scope, operand))
+            UnaryOperation::Negation.shape(term_shape(declarations, scope, operand))
         }
         Term::Chain { first, links, .. } => {
             if links.is_empty() {
@@ -110,132 +108,6 @@ fn application_shape<'t>(
     }
 }
 
-/// The shape of a literal.
-fn number_shape(number: u64) -> Shape
-    ensures { shape_view result ≡ literal_shape number }
-{
-    if number <= 1 << 62 {
-        Shape::Wholes(Interval::singleton(number as i64))
-    } else {
-        Shape::Unknown
-    }
-}
-
-/// The numbers of an interval, if there is one.
-fn interval_shape(interval: Option<Interval>) -> Shape
-    ensures { shape_view result ≡ of_interval interval }
-{
-    match interval {
-        Some(interval) => Shape::Wholes(interval),
-        None => Shape::Unknown,
-    }
-}
-
-/// The shape of a negation.
-fn negation_shape(shape: Shape) -> Shape
-    ensures { shape_view result ≡ unary_shape operations.Negation (shape_view shape) }
-{
-    match shape {
-        Shape::Wholes(interval) => interval_shape(interval.negation(Interval::literals())),
-        Shape::Unknown => Shape::Unknown,
-        Shape::Truths => Shape::Unknown,
-        Shape::Places { .. } => Shape::Unknown,
-    }
-}
-
-/// The shape of an operation on two numbers.
-fn operation_shape(operator: Arithmetic, left: Shape, right: Shape) -> Shape
-    ensures { shape_view result ≡ binary_shape (operation_of operator) (shape_view left) (shape_view right) }
-{
-    match left {
-        Shape::Wholes(left) => match right {
-            Shape::Wholes(right) => {
-                if may_divide(operator, right) {
-                    interval_shape(result_interval(operator, left, right))
-                } else {
-                    Shape::Unknown
-                }
-            }
-            Shape::Unknown => Shape::Unknown,
-            Shape::Truths => Shape::Unknown,
-            Shape::Places { .. } => Shape::Unknown,
-        },
-        Shape::Unknown => Shape::Unknown,
-        Shape::Truths => Shape::Unknown,
-        Shape::Places { .. } => Shape::Unknown,
-    }
-}
-
-/// The shape of one more than a number.
-fn successor_shape(shape: Shape) -> Shape
-    ensures { shape_view result ≡ unary_shape operations.Successor (shape_view shape) }
-{
-    match shape {
-        Shape::Wholes(interval) => interval_shape(interval.successor(Interval::literals())),
-        Shape::Unknown => Shape::Unknown,
-        Shape::Truths => Shape::Unknown,
-        Shape::Places { .. } => Shape::Unknown,
-    }
-}
-
-/// The shape of one less than a number.
-fn predecessor_shape(shape: Shape) -> Shape
-    ensures { shape_view result ≡ unary_shape operations.Predecessor (shape_view shape) }
-{
-    match shape {
-        Shape::Wholes(interval) => interval_shape(interval.predecessor(Interval::literals())),
-        Shape::Unknown => Shape::Unknown,
-        Shape::Truths => Shape::Unknown,
-        Shape::Places { .. } => Shape::Unknown,
-    }
-}
-
-/// The shape of the absolute value of a number.
-fn absolute_shape(shape: Shape) -> Shape
-    ensures { shape_view result ≡ unary_shape operations.AbsoluteValue (shape_view shape) }
-{
-    match shape {
-        Shape::Wholes(interval) => interval_shape(interval.absolute_value(Interval::literals())),
-        Shape::Unknown => Shape::Unknown,
-        Shape::Truths => Shape::Unknown,
-        Shape::Places { .. } => Shape::Unknown,
-    }
-}
-
-/// The shape of the greater of two numbers.
-fn maximum_shape(left: Shape, right: Shape) -> Shape
-    ensures { shape_view result ≡ binary_shape operations.Maximum (shape_view left) (shape_view right) }
-{
-    match left {
-        Shape::Wholes(left) => match right {
-            Shape::Wholes(right) => interval_shape(left.maximum(right, Interval::literals())),
-            Shape::Unknown => Shape::Unknown,
-            Shape::Truths => Shape::Unknown,
-            Shape::Places { .. } => Shape::Unknown,
-        },
-        Shape::Unknown => Shape::Unknown,
-        Shape::Truths => Shape::Unknown,
-        Shape::Places { .. } => Shape::Unknown,
-    }
-}
-
-/// The shape of the lesser of two numbers.
-fn minimum_shape(left: Shape, right: Shape) -> Shape
-    ensures { shape_view result ≡ binary_shape operations.Minimum (shape_view left) (shape_view right) }
-{
-    match left {
-        Shape::Wholes(left) => match right {
-            Shape::Wholes(right) => interval_shape(left.minimum(right, Interval::literals())),
-            Shape::Unknown => Shape::Unknown,
-            Shape::Truths => Shape::Unknown,
-            Shape::Places { .. } => Shape::Unknown,
-        },
-        Shape::Unknown => Shape::Unknown,
-        Shape::Truths => Shape::Unknown,
-        Shape::Places { .. } => Shape::Unknown,
-    }
-}
-
 /// The shape of a number that is kept.
 fn kept_shape(shape: Shape) -> Shape
     ensures { shape_view result ≡ functions.kept (shape_view shape) }
@@ -254,9 +126,7 @@ fn shape_of_one(function: Function, shape: Shape) -> Shape
 {
     match function {
         Function::Conversion => kept_shape(shape),
-        Function::Successor => successor_shape(shape),
-        Function::Predecessor => predecessor_shape(shape),
-        Function::AbsoluteValue => absolute_shape(shape),
+        Function::OfOne(operation) => operation.shape(shape),
         Function::Recogniser(_) => Shape::Truths,
         Function::Choice => Shape::Unknown,
         Function::Maximum => Shape::Unknown,
@@ -269,13 +139,11 @@ fn shape_of_two(function: Function, left: Shape, right: Shape) -> Shape
     ensures { shape_view result ≡ functions.shape_of_two (function_view function) (shape_view left) (shape_view right) }
 {
     match function {
-        Function::Maximum => maximum_shape(left, right),
-        Function::Minimum => minimum_shape(left, right),
+        Function::Maximum => BinaryOperation::Maximum.shape(left, right),
+        Function::Minimum => BinaryOperation::Minimum.shape(left, right),
         Function::Choice => Shape::Unknown,
         Function::Conversion => Shape::Unknown,
-        Function::Successor => Shape::Unknown,
-        Function::Predecessor => Shape::Unknown,
-        Function::AbsoluteValue => Shape::Unknown,
+        Function::OfOne(_) => Shape::Unknown,
         Function::Recogniser(_) => Shape::Unknown,
     }
 }
@@ -287,9 +155,7 @@ fn shape_of_three(function: Function, left: Shape, right: Shape) -> Shape
     match function {
         Function::Choice => left.hull(right),
         Function::Conversion => Shape::Unknown,
-        Function::Successor => Shape::Unknown,
-        Function::Predecessor => Shape::Unknown,
-        Function::AbsoluteValue => Shape::Unknown,
+        Function::OfOne(_) => Shape::Unknown,
         Function::Maximum => Shape::Unknown,
         Function::Minimum => Shape::Unknown,
         Function::Recogniser(_) => Shape::Unknown,

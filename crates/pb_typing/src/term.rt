@@ -1,7 +1,7 @@
 //! The check of data terms.
 
 ghost use Rattle.std.specs.Prelude.{◌≡◌, ◌&&◌, ◌++◌, [], MatchResult, false, pos, true};
-ghost use Rattle.pb_text_tree.specs.Form.{FormulaForm, TermForm, argument_forms, arithmetic_links, calculated, chained, named, term_form, term_links};
+ghost use Rattle.pb_text_tree.specs.Form.{FormulaForm, TermForm, argument_forms, arithmetic_links, calculated, named, term_form};
 ghost use Rattle.pb_intervals.specs.Interval.{is_within, literals, singleton};
 ghost use Rattle.pb_text_meaning.specs.Erase.{erased_term};
 ghost use Rattle.pb_typing_rules.specs.Faults.{formula_faults, term_faults};
@@ -10,41 +10,28 @@ ghost use Rattle.pb_typing_rules.specs.Term.{shape};
 ghost use Rattle.pb_typing_declarations.specs.Faults.{IsAmong, unless};
 ghost use Rattle.pb_typing_declarations.specs.Shapes as model;
 ghost use Rattle.pb_typing_declarations.specs.View.{spec_of};
+ghost use Rattle.pb_typing.specs.Chains.{chain_faults, chain_shape};
 ghost use Rattle.pb_typing.specs.Found.{Finds};
-ghost use Rattle.pb_typing.specs.Scopes.{inner_view, scope_view};
-ghost use Rattle.pb_typing.specs.View.{Judges, is_no_link, shape_view};
+ghost use Rattle.pb_typing.specs.Scopes.{scope_view};
+ghost use Rattle.pb_typing.specs.View.{Judges, is_no_link};
 
 use crate::name::{find_function, name_shape};
-use crate::operation::{compare, compute, fault, negative};
+use crate::operation::fault;
+use crate::operator::{compare, compute, negative};
 use crate::scope::{Scope, variable_shapes};
-use crate::shape::Shape;
-use pb_intervals::Interval;
-use pb_text_tree::{Argument, ArithmeticLink, Connective, Name, Place, Term, TermLink};
+use crate::shape::{Shape, literal_interval};
+use pb_text_tree::{Argument, ArithmeticLink, Name, Place, Term, TermLink};
 use pb_typing_declarations::{Declarations, TypeError, TypingFault, TypingRule, require};
 use std::alloc::Global;
-use std::collections::HashMap;
-
-/// The greatest number that may be written.
-const MAX_LITERAL: u64 = 1 << 62;
 
 /// A literal.
 fn literal(number: u64, place: Place) -> Result<Shape, TypingFault>
     ensures { Finds (unless (is_within (singleton (pos number)) literals) TypingRule.LargeInterval place) (literal_shape number) result }
 {
-    if number <= MAX_LITERAL {
-        Ok(Shape::Wholes(Interval::singleton(number as i64)))
-    } else {
-        Err(fault(TypingRule::LargeInterval, place))
+    match literal_interval(number) {
+        Some(interval) => Ok(Shape::Wholes(interval)),
+        None => Err(fault(TypingRule::LargeInterval, place)),
     }
-}
-
-/// A Boolean that is made of a Boolean.
-fn truth(shape: Shape, place: Place) -> Result<Shape, TypingFault>
-    ensures { Finds (unless (may_be_truth (shape_view shape)) TypingRule.WrongKind place) model.Truths result }
-{
-    let accepted = shape.may_be_truth();
-    require(accepted, TypingRule::WrongKind, place)?;
-    Ok(Shape::Truths)
 }
 
 /// Checks a data term of a formula, which must be a Boolean; the place is that of `val`.
@@ -59,10 +46,30 @@ pub(crate) fn check_truth<'t>(
         (λ _. formula_faults (spec_of declarations.now) true (scope_view scope.now) (FormulaForm.val place (term_form term.now)) ≡ [])
         (IsAmong (formula_faults (spec_of declarations.now) true (scope_view scope.now) (FormulaForm.val place (term_form term.now)))) }
 {
-    let shape = check_term(alloc, declarations, scope, true, term)?;
+    check_boolean(alloc, declarations, scope, true, term, place)?;
+    Ok(())
+}
+
+/// Checks an operand that must be a Boolean, of a term at a place that is one too.
+#[cycle(terms)]
+fn check_boolean<'t>(
+    alloc: Global,
+    declarations: &Declarations<'_>,
+    scope: &Scope<'_, 't>,
+    stands: bool,
+    operand: &'t Term,
+    place: Place,
+) -> Result<Shape, TypeError>
+    ensures { Judges
+        (term_faults (spec_of declarations.now) stands (scope_view scope.now) (term_form operand.now)
+        ++ unless (may_be_truth (shape (spec_of declarations.now) (scope_view scope.now) (erased_term (term_form operand.now))))
+        TypingRule.WrongKind place)
+        model.Truths result }
+{
+    let shape = check_term(alloc, declarations, scope, stands, operand)?;
     let accepted = shape.may_be_truth();
     require(accepted, TypingRule::WrongKind, place)?;
-    Ok(())
+    Ok(Shape::Truths)
 }
 
 /// Checks a data term, where `stands` says whether a quantifier may stand there: its shape, if no rule fails.
@@ -81,26 +88,15 @@ pub(crate) fn check_term<'t>(
         Term::Number { place, value } => Ok(literal(*value, *place)?),
         Term::Name(name) => Ok(name_shape(declarations, scope, name)?),
         Term::Not { place, operand } => {
-            let shape = check_term(alloc, declarations, scope, stands, operand)?;
-            Ok(truth(shape, *place)?)
+            check_boolean(alloc, declarations, scope, stands, operand, *place)
         }
         Term::Negative { place, operand } => {
             let shape = check_term(alloc, declarations, scope, false, operand)?;
             Ok(negative(shape, *place)?)
         }
-        Term::Chain {
-            connective,
-            first,
-            links,
-        } => check_chain(
-            alloc,
-            declarations,
-            scope,
-            stands,
-            *connective,
-            first,
-            links,
-        ),
+        Term::Chain { first, links, .. } => {
+            check_chain(alloc, declarations, scope, stands, first, links)
+        }
         Term::Comparison {
             place,
             comparison,
@@ -127,41 +123,26 @@ pub(crate) fn check_term<'t>(
             require(stands, TypingRule::QuantifierInData, *place)?;
             declarations.check_variables(alloc, variables)?;
             let table = variable_shapes(alloc, declarations, variables)?;
-            check_body(alloc, declarations, &*scope, stands, &table, body, *place)
+            let inner = Scope::Inner(&table, &*scope);
+            check_boolean(alloc, declarations, &inner, stands, body, *place)
         }
     }
 }
 
-/// Checks the body of a quantifier at a place, whose variables have the shapes of a table.
-#[cycle(terms)]
-fn check_body<'a, 't>(
-    alloc: Global,
-    declarations: &Declarations<'_>,
-    outer: &'a Scope<'a, 't>,
-    stands: bool,
-    table: &'a HashMap<&'t str, Shape>,
-    body: &'t Term,
-    place: Place,
-) -> Result<Shape, TypeError>
-    ensures { Judges (term_faults (spec_of declarations.now) stands (inner_view table.now (scope_view outer.now)) (term_form body.now) ++ unless (may_be_truth (shape (spec_of declarations.now) (inner_view table.now (scope_view outer.now)) (erased_term (term_form body.now)))) TypingRule.WrongKind place) model.Truths result }
-{
-    let scope = Scope::Inner(table, outer);
-    let shape = check_term(alloc, declarations, &scope, stands, body)?;
-    Ok(truth(shape, place)?)
-}
-
-/// Checks operands of one connective.
+/// Checks operands of one connective: which one makes no difference.
 #[cycle(terms)]
 fn check_chain<'t>(
     alloc: Global,
     declarations: &Declarations<'_>,
     scope: &Scope<'_, 't>,
     stands: bool,
-    connective: Connective,
     first: &'t Term,
     links: &'t [TermLink],
 ) -> Result<Shape, TypeError>
-    ensures { Judges (term_faults (spec_of declarations.now) stands (scope_view scope.now) (chained (TermForm.connected connective) (term_form first.now) (term_links links.now))) (shape (spec_of declarations.now) (scope_view scope.now) (erased_term (chained (TermForm.connected connective) (term_form first.now) (term_links links.now)))) result }
+    ensures { Judges
+        (chain_faults (spec_of declarations.now) stands (scope_view scope.now) (term_form first.now) links.now)
+        (chain_shape (shape (spec_of declarations.now) (scope_view scope.now) (erased_term (term_form first.now))) links.now)
+        result }
 {
     let mut left = check_term(alloc, declarations, scope, stands, first)?;
     for (index, link) in links.iter().enumerate() {

@@ -4,6 +4,7 @@ use Rattle.std.specs.Prelude.{Option, None}
 use Rattle.std.specs.Option.{option_map}
 use Rattle.std.proofs.Math.Path.{fun_ext}
 use Rattle.std.specs.HashMap.{IsEmpty}
+use Rattle.std.proofs.lemmas.List.{length-map}
 use Rattle.pb_sorts.specs.declared.carrier.Range.{Range}
 use Rattle.pb_text_tree.specs.declared.spec.Spec as ast
 use Rattle.pb_text_tree.specs.Form.{spec_form, sort_declaration_form}
@@ -16,10 +17,9 @@ use Rattle.pb_typing_declarations.specs.Tables.{Table}
 use Rattle.pb_typing_declarations.specs.Entries.{definition_in, range_in, range_shown}
 use Rattle.pb_typing_declarations.specs.Agreement.{Agree}
 use Rattle.pb_typing_declarations.proofs.Filling.{none_in}
-use Rattle.pb_typing_declarations.proofs.Loops.{same_length}
 
 erased_length : (spec : ast.Spec) → length (erase (spec_form spec)).sorts ≡ length spec.sorts.items
-erased_length spec = same_length erased_declaration (map sort_declaration_form spec.sorts.items) ∙ same_length sort_declaration_form spec.sorts.items
+erased_length spec = length-map (map sort_declaration_form spec.sorts.items) erased_declaration ∙ length-map spec.sorts.items sort_declaration_form
 
 module _ (spec : ast.Spec) (sorts : Table Definition) (ranges : Table Range) (names : Table DataName) (equations : Table ℕ) (agree : Agree (erase (spec_form spec)) sorts ranges names equations) where
   -- the end of a chain through as many aliases as there are sorts

@@ -2,6 +2,7 @@
 use Rattle.std.proofs.Common.{◌≡◌, ℕ, suc, Bool, true, false, cond, not, ◌||◌, List, [], ◌∷◌, ◌++◌, length, refl, sym, ◌∙◌, ap, true≢false}
 use Rattle.std.specs.Prelude.{Option, Some, None}
 use Rattle.std.specs.Cmp.Lexicographic.{same_text}
+use Rattle.std.proofs.lemmas.Bool.{or_right}
 use Rattle.pb_text_meaning.specs.Syntax.{Name, same_name, Enumerator, Sort, Struct, Alias, SortDeclaration}
 use Rattle.pb_typing_declarations.specs.declared.entry.Entry.{Entry}
 use Rattle.pb_typing_declarations.specs.declared.definition.DataName.{DataName}
@@ -49,14 +50,10 @@ new_name before e es h = negated _ (holds_unless _ _ _ (no_parts (unless (not (i
 behind : (before : List Name) (e : Entry DataName) (es : List (Entry DataName)) → Apart before (e ∷ es) → Apart (e.name.now ∷ before) es
 behind before e es h = (no_parts (unless (not (is_among before e.name.now)) NameTwice e.place) _ h).1
 
-or_true : (a b : Bool) → b ≡ true → (a || b) ≡ true
-or_true true b h = refl
-or_true false b h = h
-
 not_found : (before : List Name) (es : List (Entry DataName)) (x : Name) → Apart before es → is_among before x ≡ true → first (entry_values es) x ≡ None
 not_found before [] x h seen = refl
 not_found before (e ∷ es) x h seen =
-    by_test (same_name e.name.now x) refl (not_found (e.name.now ∷ before) es x (behind before e es h) (or_true (same_name e.name.now x) (is_among before x) seen))
+    by_test (same_name e.name.now x) refl (not_found (e.name.now ∷ before) es x (behind before e es h) (or_right (same_name e.name.now x) (is_among before x) seen))
   where
     by_test : (b : Bool) → same_name e.name.now x ≡ b → first (entry_values es) x ≡ None → (cond b (Some e.value) (first (entry_values es) x)) ≡ None
     by_test true same rest = absurd (true≢false (sym seen ∙ (ap (is_among before) (sym (same_text e.name.now x (sym same))) ∙ new_name before e es h)))

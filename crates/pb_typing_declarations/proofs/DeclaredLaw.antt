@@ -1,13 +1,13 @@
 -- Both directions for a whole text.
 use Rattle.std.proofs.Common.{◌≡◌, List, [], length, map, sym, ◌∙◌, ap, subst, arith}
 use Rattle.std.specs.Prelude.{All, flat_map}
+use Rattle.std.proofs.lemmas.List.{length-map}
 use Rattle.pb_text_tree.specs.Form.{Named, SortDeclarationForm, RangeForm, EquationForm, SpecForm}
 use Rattle.pb_text_meaning.specs.Syntax.{Enumerator, SortDeclaration, Range, Equation}
 use Rattle.pb_text_meaning.specs.Erase.{erase, erased_declaration, erased_range, erased_equation}
 use Rattle.pb_typing_declarations.specs.Declarations.{declaration_faults, tables_faults, checks_faults, all_enumerator_forms, names_of_enumerator, sort_names, range_name, equation_names}
 use Rattle.pb_typing_declarations.specs.WellDeclared.{AreApart, IsDeclared, every_enumerator, enumerator_names}
 use Rattle.pb_typing_declarations.proofs.Parts.{no_parts, no_whole}
-use Rattle.pb_typing_declarations.proofs.Loops.{same_length}
 use Rattle.pb_typing_declarations.proofs.VariableLemmas.{few_names, limit_clear}
 use Rattle.pb_typing_declarations.proofs.ReadParts as part
 use Rattle.pb_typing_declarations.proofs.Exact.{apart, apart_clear, map-map, texts}
@@ -28,7 +28,7 @@ data_texts : (ds : List SortDeclarationForm) → texts (flat_map names_of_enumer
 data_texts ds = enumerator_texts (all_enumerator_forms ds) ∙ ap (flat_map enumerator_names) (sym (enumerators-erased ds))
 
 equation_length : (E : List EquationForm) → length (equation_names E) ≡ length (map erased_equation E)
-equation_length E = same_length (λ (X : EquationForm). X.name) E ∙ sym (same_length erased_equation E)
+equation_length E = length-map E (λ (X : EquationForm). X.name) ∙ sym (length-map E erased_equation)
 
 pub declared : (t : SpecForm) → declaration_faults t ≡ [] → IsDeclared (erase t)
 declared t e =

@@ -1,7 +1,8 @@
 -- A text has no fault in its declarations exactly where what it says is declared as it must be.
-use Rattle.std.proofs.Common.{◌≡◌, ◌≢◌, ℕ, zero, suc, ◌<◌, Bool, true, false, not, ◌||◌, List, [], ◌∷◌, length, get_or, map, refl, sym, ◌∙◌, ap, arith, bytes_eq, true≢false}
+use Rattle.std.proofs.Common.{◌≡◌, ◌≢◌, ℕ, zero, suc, ◌<◌, Bool, true, false, not, ◌||◌, List, [], ◌∷◌, length, get_or, map, refl, sym, ◌∙◌, ap, arith, bytes_eq}
 use Rattle.std.specs.Prelude.{All, flat_map}
 use Rattle.std.specs.Cmp.Lexicographic.{other_text, same_text}
+use Rattle.std.proofs.lemmas.Bool.{or_parts, false_from_ne_true}
 use Rattle.pb_text_tree.specs.Form.{Named}
 use Rattle.pb_text_meaning.specs.Syntax.{Name}
 use Rattle.pb_typing_declarations.specs.declared.fault.TypingRule.TheVariants.{NameTwice}
@@ -44,16 +45,8 @@ not_true false e = refl
 pub true_not : (b : Bool) → b ≡ false → not b ≡ true
 true_not b e = ap not e
 
-neither : (a b : Bool) → (a || b) ≡ false → (a ≡ false) × (b ≡ false)
-neither true b e = absurd (true≢false e)
-neither false b e = (refl, e)
-
-false_unless : (b : Bool) → (b ≡ true → ⊥) → b ≡ false
-false_unless true h = absurd (h refl)
-false_unless false h = refl
-
 other_names : (x y : Name) → x ≢ y → bytes_eq x y ≡ false
-other_names x y h = false_unless (bytes_eq x y) (λ e. h (same_text x y (sym e)))
+other_names x y h = false_from_ne_true (bytes_eq x y) (λ e. h (same_text x y (sym e)))
 
 pairs_cons : (x : Name) (xs : List Name) → All (λ (y : Name). x ≢ y) xs → AreApart xs → AreApart (x ∷ xs)
 pairs_cons x xs h hs zero zero d lt below = absurd (omega arith)
@@ -81,7 +74,7 @@ stand_apart before (x ∷ xs) e =
     let p = no_parts (unless (not (is_among before x.text)) NameTwice x.place) (repeated_after (x.text ∷ before) xs) e in
     let rest = stand_apart (x.text ∷ before) xs p.1 in
     let behind : (k : ℕ) (d : Name) → k < length (texts xs) → (bytes_eq x.text (get_or (texts xs) k d) ≡ false) × (is_among before (get_or (texts xs) k d) ≡ false) =
-    λ k d lt. neither (bytes_eq x.text (get_or (texts xs) k d)) (is_among before (get_or (texts xs) k d)) (rest.unseen k d lt) in
+    λ k d lt. or_parts (bytes_eq x.text (get_or (texts xs) k d)) (is_among before (get_or (texts xs) k d)) (rest.unseen k d lt) in
     record {
       apart = pairs_cons x.text (texts xs) (λ k d lt is. other_text x.text (get_or (texts xs) k d) (sym (behind k d lt).0) is) rest.apart;
       unseen = all_cons (λ (y : Name). is_among before y ≡ false) x.text (texts xs) (not_true _ (holds_unless _ _ _ p.0)) (λ k d lt. (behind k d lt).1);

@@ -2,7 +2,7 @@
 use Rattle.std.proofs.Common.{◌≡◌, ℕ, suc, ◌+◌, ◌<◌, ◌≤◌, ◌≤ℤ◌, ℤ, Bool, true, false, not, ◌||◌, true≢false, List, [], ◌∷◌, ◌++◌, length, map, refl, sym, ◌∙◌, ap, subst, arith, rules, tests}
 use Rattle.std.specs.Prelude.{All, flat_map, nat_le, nat_lt, int_le, Option, Some, None}
 use Rattle.std.proofs.lemmas.Grind.{flat_map-append}
-use Rattle.std.proofs.lemmas.List.{map-append}
+use Rattle.std.proofs.lemmas.List.{map-append, length-map}
 use Rattle.pb_text_tree.specs.declared.place.Place.{Place}
 use Rattle.pb_text_tree.specs.Form.{Named, VariableForm, EnumeratorForm, SortForm, struct, alias, SortDeclarationForm, RangeForm, EquationForm}
 use Rattle.pb_sorts.specs.declared.limits.TheConstants.{MAX_INSTANCES}
@@ -16,7 +16,6 @@ use Rattle.pb_typing_declarations.specs.Declarations.{stays_within, is_integer, 
 use Rattle.pb_typing_declarations.specs.WellDeclared.{AreApart, has_shape, AreVariables, HaveEnds, IsDefined, structs_behind, IsRanged, enumerators, given, enumerator_names, every_enumerator}
 use Rattle.pb_typing_declarations.proofs.Parts.{no_parts, no_whole, holds_unless, unless_holds}
 use Rattle.pb_typing_declarations.proofs.Passing.{stays, one_more_stays}
-use Rattle.pb_typing_declarations.proofs.Loops.{same_length}
 use Rattle.pb_typing_declarations.proofs.VariableLemmas.{few_names, limit_clear}
 use Rattle.pb_typing_declarations.proofs.Exact.{all_cons, all_head, all_tail, all_none, each, each_clear, not_true, true_not, texts, apart, apart_clear, map-map}
 
@@ -77,7 +76,7 @@ abbrev pub Parameters : Spec → Equation → Type 0
 Parameters S X = AreVariables S X.parameters
 
 parameters_length : (xs : List VariableForm) → length (variable_names xs) ≡ length (erased_variables xs)
-parameters_length xs = same_length (λ (x : VariableForm). x.name) xs ∙ sym (same_length erased_variable xs)
+parameters_length xs = length-map xs (λ (x : VariableForm). x.name) ∙ sym (length-map xs erased_variable)
 
 equation : (S : Spec) (X : EquationForm) → HaveEnds S → equation_faults S X ≡ [] → ShortEquation (erased_equation X) × FewParameters (erased_equation X) × Parameters S (erased_equation X)
 equation S X ends e =
@@ -150,8 +149,8 @@ one_sort S n s (struct es) low e f =
     let p = no_parts (unless (stays_within 255 n (suc n)) Limit s.place) _ e in
     let q = no_parts (unless (nat_lt 0 (length es)) Limit s.place) _ p.1 in
     let r = no_parts (limit_faults 255 (own_names es)) _ q.1 in
-    let named = same_length (λ (e : EnumeratorForm). e.name) es in
-    let same = same_length erased_enumerator es in
+    let named = length-map es (λ (e : EnumeratorForm). e.name) in
+    let same = length-map es erased_enumerator in
     let some = below 0 (length es) (holds_unless _ _ _ q.0) in
     let most = few_names 255 (own_names es) r.0 in
     let fits = below n 255 (sym (one_more_stays 255 n low) ∙ holds_unless _ _ _ p.0) in
@@ -162,8 +161,8 @@ one_sort S n s (alias t) low e f =
 
 one_sort_clear : (S : Spec) (n : ℕ) (s : Named) (sort : SortForm) → SortHolds S n s sort → (struct_faults n s.place sort ≡ []) × (definition_faults S s sort ≡ [])
 one_sort_clear S n s (struct es) h =
-    let same = same_length erased_enumerator es in
-    let named = same_length (λ (e : EnumeratorForm). e.name) es in (
+    let same = length-map es erased_enumerator in
+    let named = length-map es (λ (e : EnumeratorForm). e.name) in (
       no_whole (unless (stays_within 255 n (suc n)) Limit s.place) _
           (unless_holds _ _ _ (one_more_stays 255 n (omega (arith, h.few)) ∙ below_true n 255 (omega (arith, h.few))))
           (no_whole (unless (nat_lt 0 (length es)) Limit s.place) _ (unless_holds _ _ _ (below_true 0 (length es) (omega (arith, same, h.defined.0))))

@@ -1,10 +1,11 @@
 -- How a table of names is filled, entry by entry.
-use Rattle.std.proofs.Common.{◌≡◌, ℕ, zero, suc, ◌+◌, ◌<◌, ◌≤◌, Bool, true, false, cond, not, ◌||◌, List, [], ◌∷◌, ◌++◌, length, get_or, drop, refl, sym, ◌∙◌, ap, arith, add-one, bytes_eq}
+use Rattle.std.proofs.Common.{◌≡◌, ℕ, ◌+◌, ◌<◌, Bool, true, false, cond, not, ◌||◌, List, [], ◌∷◌, ◌++◌, length, get_or, drop, refl, sym, ◌∙◌, ap, bytes_eq}
 use Rattle.std.specs.Prelude.{Option, Some, None, is_some}
 use Rattle.std.proofs.Math.Path.{fun_ext}
 use Rattle.std.specs.Cmp.Lexicographic.{same_text}
 use denote.Ref.{Bor}
 use Rattle.std.specs.HashMap.{IsEmpty, Updates}
+use Rattle.pb_sorts.proofs.Places.{drop-at}
 use Rattle.pb_text_tree.specs.Form.{Named}
 use Rattle.pb_text_meaning.specs.Syntax.{Name}
 use Rattle.pb_typing_declarations.specs.declared.entry.Entry.{Entry}
@@ -43,26 +44,10 @@ module _ {V : Type 0} where
   value_of e = (e.name.now, e.value)
 
   pub names-drop : (es : List (Entry V)) (k : ℕ) (e : Entry V) → k < length es → e ≡ get_or es k e → entry_names (drop k es) ≡ name_of e ∷ entry_names (drop (k + 1) es)
-  names-drop es k e below at = rw add-one (by_suc es k below at)
-    where
-      by_suc : (es : List (Entry V)) (k : ℕ) → k < length es → e ≡ get_or es k e → entry_names (drop k es) ≡ name_of e ∷ entry_names (drop (suc k) es)
-      by_suc [] k below at = absurd (omega arith)
-      by_suc (f ∷ es) zero below at = ap (λ (z : Entry V). name_of z ∷ entry_names es) (sym at)
-      by_suc (f ∷ es) (suc k) below at = by_suc es k (omega arith) at
+  names-drop es k e below at = ap entry_names (drop-at es k e below at)
 
   pub values-drop : (es : List (Entry V)) (k : ℕ) (e : Entry V) → k < length es → e ≡ get_or es k e → entry_values (drop k es) ≡ value_of e ∷ entry_values (drop (k + 1) es)
-  values-drop es k e below at = rw add-one (by_suc es k below at)
-    where
-      by_suc : (es : List (Entry V)) (k : ℕ) → k < length es → e ≡ get_or es k e → entry_values (drop k es) ≡ value_of e ∷ entry_values (drop (suc k) es)
-      by_suc [] k below at = absurd (omega arith)
-      by_suc (f ∷ es) zero below at = ap (λ (z : Entry V). value_of z ∷ entry_values es) (sym at)
-      by_suc (f ∷ es) (suc k) below at = by_suc es k (omega arith) at
-
-  pub ended : (es : List (Entry V)) (k : ℕ) → length es ≤ k → drop k es ≡ []
-  ended [] zero h = refl
-  ended [] (suc k) h = refl
-  ended (e ∷ es) zero h = absurd (omega arith)
-  ended (e ∷ es) (suc k) h = ended es k (omega arith)
+  values-drop es k e below at = ap entry_values (drop-at es k e below at)
 
   pub none_in : (table : Table V) → IsEmpty table → looked_up table ≡ (λ x. None)
   none_in table e = fun_ext (λ x. rw e refl)

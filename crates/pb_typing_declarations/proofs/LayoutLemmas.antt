@@ -1,6 +1,7 @@
 -- The carriers of equations without a fault have a layout.
 use Rattle.std.proofs.Common.{◌≡◌, ◌≤◌, ◌<◌, ◌∙◌, ◌+◌, ℕ, zero, suc, List, [], ◌∷◌, length, get_or, map, refl, sym, ap, arith, rules, tests, Vec, Global}
 use Rattle.std.specs.Prelude.{All, vec_len, nat_le, true}
+use Rattle.std.proofs.lemmas.List.{length-map}
 use Rattle.pb_sorts.specs.declared.carrier.Carrier.{Carrier}
 use Rattle.pb_sorts.specs.declared.limits.TheConstants.{MAX_INSTANCES}
 use Rattle.pb_sorts.specs.Carrier.{values_of}
@@ -19,7 +20,6 @@ use Rattle.pb_typing_declarations.specs.Reading.{HasCarriers}
 use Rattle.pb_typing_declarations.specs.Declarations.{stays_within, equation_faults, equations_faults_behind, equation_names, limit_faults}
 use Rattle.pb_typing_declarations.proofs.Parts.{no_parts, holds_unless}
 use Rattle.pb_typing_declarations.proofs.Passing.{stays}
-use Rattle.pb_typing_declarations.proofs.Loops.{same_length}
 use Rattle.pb_typing_declarations.proofs.VariableLemmas.{few_names}
 
 abbrev Parameters : Type 0
@@ -30,11 +30,11 @@ Parameters = Vec Carrier Global
 pub few_lists : (S : Spec) (E : List EquationForm) (vs : List Parameters) → HasCarriers S 0 E (lists_of vs) → limit_faults 64 (equation_names E) ≡ [] → length vs ≤ 64
 few_lists S E vs has clear =
     let few = few_names 64 (equation_names E) clear in
-    let names = same_length (λ (X : EquationForm). X.name) E in
-    let erased = same_length erased_equation E in
-    let sorts = same_length (λ (X : Equation). carriers_of S X.parameters) (map erased_equation E) in
-    let values = same_length (λ (cs : List Carrier). map values_of cs) (lists_of vs) in
-    let lists = same_length (λ (v : Parameters). v.items) vs in
+    let names = length-map E (λ (X : EquationForm). X.name) in
+    let erased = length-map E erased_equation in
+    let sorts = length-map (map erased_equation E) (λ (X : Equation). carriers_of S X.parameters) in
+    let values = length-map (lists_of vs) (λ (cs : List Carrier). map values_of cs) in
+    let lists = length-map vs (λ (v : Parameters). v.items) in
     let same : length (layouts.carriers_of (lists_of vs)) ≡ length (map (λ (X : Equation). carriers_of S X.parameters) (map erased_equation E)) = ap length has.values in
     omega (arith, few, names, erased, sorts, values, lists, same)
 

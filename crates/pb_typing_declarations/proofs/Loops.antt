@@ -1,31 +1,19 @@
 -- What is left of a list as a loop goes over it, and lists that grow at their end.
-use Rattle.std.proofs.Common.{◌≡◌, ℕ, ◌+◌, ◌<◌, ◌≤◌, List, [], ◌∷◌, ◌++◌, length, get_or, drop, map, refl, sym, ◌∙◌, ap, subst, suc}
-use Rattle.std.proofs.lemmas.List.{drop_more, append_assoc, map-append}
+use Rattle.std.proofs.Common.{◌≡◌, ℕ, ◌+◌, ◌<◌, ◌≤◌, List, [], ◌∷◌, ◌++◌, length, get_or, drop, map, sym, ◌∙◌, ap, subst}
+use Rattle.std.proofs.lemmas.List.{append_assoc, drop_all}
 use Rattle.std.specs.Prelude.{flat_map}
-use Rattle.std.proofs.Math.ListN.{drop_of_length-le}
+use Rattle.pb_sorts.proofs.Places.{drop-at}
 use Rattle.pb_typing_declarations.specs.declared.fault.TypingFault.{TypingFault}
 use Rattle.pb_typing_declarations.specs.declared.fault.TypeError.{TypeError}
 use Rattle.pb_typing_declarations.specs.Faults.{IsAmong}
 use Rattle.pb_typing_declarations.proofs.Parts.{among_first, first_clear}
 
 module _ {X : Type 0} where
-  -- the item at k is the first of what is left
-  pub next : (xs : List X) (k : ℕ) (x : X) → k < length xs → x ≡ get_or xs k x → drop k xs ≡ x ∷ drop (k + 1) xs
-  next xs k x below at = drop_more xs k x below ∙ ap (λ (z : X). z ∷ drop (k + 1) xs) (sym at)
-
-  -- behind the end nothing is left
-  pub finished : (xs : List X) (k : ℕ) → length xs ≤ k → drop k xs ≡ []
-  finished xs k h = drop_of_length-le xs h
-
   pub one_more : (a : List X) (x : X) (z : List X) → a ++ (x ∷ z) ≡ (a ++ (x ∷ [])) ++ z
   one_more a x z = sym (append_assoc a (x ∷ []) z)
 
   pub more : (a b z : List X) → a ++ (b ++ z) ≡ (a ++ b) ++ z
   more a b z = sym (append_assoc a b z)
-
--- the image of a list with one more item
-pub map-one_more : {X Y : Type 0} (f : X → Y) (xs : List X) (x : X) → map f (xs ++ (x ∷ [])) ≡ map f xs ++ (f x ∷ [])
-map-one_more f xs x = map-append f xs (x ∷ [])
 
 -- ---- faults of the items that are left
 
@@ -35,23 +23,19 @@ module _ {A B : Type 0} where
       → flat_map f (map g xs) ≡ flat_map f (map g (drop k xs)) → IsAmong (f (g x)) e → IsAmong (flat_map f (map g xs)) e
   among_item f g xs k x e below at left h =
       among_first (flat_map f (map g xs)) (f (g x)) (flat_map f (map g (drop (k + 1) xs))) e
-      (left ∙ ap (λ (ys : List A). flat_map f (map g ys)) (next xs k x below at)) h
+      (left ∙ ap (λ (ys : List A). flat_map f (map g ys)) (drop-at xs k x below at)) h
 
   -- where the next item has no fault, all faults are those of the items behind it
   pub item_clear : (f : B → List TypingFault) (g : A → B) (xs : List A) (k : ℕ) (x : A) → k < length xs → x ≡ get_or xs k x
       → flat_map f (map g xs) ≡ flat_map f (map g (drop k xs)) → f (g x) ≡ [] → flat_map f (map g xs) ≡ flat_map f (map g (drop (k + 1) xs))
   item_clear f g xs k x below at left clear =
       first_clear (flat_map f (map g xs)) (f (g x)) (flat_map f (map g (drop (k + 1) xs)))
-      (left ∙ ap (λ (ys : List A). flat_map f (map g ys)) (next xs k x below at)) clear
+      (left ∙ ap (λ (ys : List A). flat_map f (map g ys)) (drop-at xs k x below at)) clear
 
   -- behind the last item there is none
   pub all_clear : (f : B → List TypingFault) (g : A → B) (xs : List A) (k : ℕ) → length xs ≤ k → flat_map f (map g xs) ≡ flat_map f (map g (drop k xs)) → flat_map f (map g xs) ≡ []
-  all_clear f g xs k h left = left ∙ ap (λ (ys : List A). flat_map f (map g ys)) (finished xs k h)
+  all_clear f g xs k h left = left ∙ ap (λ (ys : List A). flat_map f (map g ys)) (drop_all k xs h)
 
 -- the same faults
 pub among_same : (xs ys : List TypingFault) (e : TypeError) → xs ≡ ys → IsAmong ys e → IsAmong xs e
 among_same xs ys e is h = subst (λ (zs : List TypingFault). IsAmong zs e) (sym is) h
-
-pub same_length : {A B : Type 0} (f : A → B) (xs : List A) → length (map f xs) ≡ length xs
-same_length f [] = refl
-same_length f (x ∷ xs) = ap suc (same_length f xs)

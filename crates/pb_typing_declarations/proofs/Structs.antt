@@ -1,7 +1,8 @@
 -- The faults and the entries of sorts, sort by sort.
 use Rattle.std.proofs.Common.{◌≡◌, ℕ, zero, suc, ◌+◌, ◌<◌, ◌≤◌, Bool, true, false, refl, List, [], ◌∷◌, ◌++◌, length, get_or, drop, map, sym, ◌∙◌, ap, arith, rules, tests, Vec, Global}
 use Rattle.std.specs.Prelude.{flat_map, nat_lt}
-use Rattle.std.proofs.lemmas.List.{map-append}
+use Rattle.std.proofs.lemmas.List.{map-append, length-map}
+use Rattle.pb_sorts.proofs.Places.{drop-at}
 use Rattle.pb_text_tree.specs.declared.place.Place.{Place}
 use Rattle.pb_text_tree.specs.declared.sort.Enumerator as ast
 use Rattle.pb_text_tree.specs.declared.sort.Sort as sort
@@ -21,7 +22,7 @@ use Rattle.pb_typing_declarations.specs.Entries.{shown, struct_count, shown_entr
 use Rattle.pb_typing_declarations.specs.Declarations.{stays_within, limit_faults, own_names, struct_faults, structs_faults, enumerator_faults}
 use Rattle.pb_typing_declarations.proofs.Parts.{no_parts, holds_unless}
 use Rattle.pb_typing_declarations.proofs.Passing.{one_more_stays}
-use Rattle.pb_typing_declarations.proofs.Loops.{next, same_length, one_more, more}
+use Rattle.pb_typing_declarations.proofs.Loops.{one_more, more}
 
 abbrev pub struct_parts : ℕ → Place → ℕ → List TypingFault → List TypingFault → List TypingFault
 struct_parts n place count few rest = unless (nat_lt n 255) Limit place ++ (unless (nat_lt 0 count) Limit place ++ (few ++ rest))
@@ -35,7 +36,7 @@ pub struct_whole : (n : ℕ) (place : Place) (s : sort.Sort) (es : Vec ast.Enume
 struct_whole n place s es count low is are =
     ap (λ (t : sort.Sort). struct_faults n place (sort_form t)) is
     ∙ (ap (λ (b : Bool). unless b Limit place ++ (unless (nat_lt 0 (length (map enumerator_form es.items))) Limit place ++ (count_faults es.items ++ flat_map enumerator_faults (map enumerator_form es.items)))) (one_more_stays 255 n low)
-    ∙ ap (λ (k : ℕ). struct_parts n place k (count_faults es.items) (flat_map enumerator_faults (map enumerator_form es.items))) (same_length enumerator_form es.items ∙ sym are))
+    ∙ ap (λ (k : ℕ). struct_parts n place k (count_faults es.items) (flat_map enumerator_faults (map enumerator_form es.items))) (length-map es.items enumerator_form ∙ sym are))
 
 -- the fault of the enumerator that passes the limit
 pub count_at : (es : List ast.Enumerator) (limit : ℕ) (e : ast.Enumerator) → limit < length es → e ≡ get_or es limit e → limit_faults limit (own_names (map enumerator_form es)) ≡ unless false Limit e.name.place
@@ -65,7 +66,7 @@ few_after n place (alias t) h e = h
 -- the faults from the sort at k on
 pub faults_next : (ds : List SortDeclaration) (k n : ℕ) (d : SortDeclaration) → k < length ds → d ≡ get_or ds k d
     → structs_faults n (map sort_declaration_form (drop k ds)) ≡ struct_faults n d.name.place (sort_form d.sort) ++ structs_faults (number_behind n (erased_sort (sort_form d.sort))) (map sort_declaration_form (drop (k + 1) ds))
-faults_next ds k n d below at = ap (λ (xs : List SortDeclaration). structs_faults n (map sort_declaration_form xs)) (next ds k d below at)
+faults_next ds k n d below at = ap (λ (xs : List SortDeclaration). structs_faults n (map sort_declaration_form xs)) (drop-at ds k d below at)
 
 -- ---- entries
 

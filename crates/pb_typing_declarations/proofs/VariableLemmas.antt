@@ -1,6 +1,7 @@
 -- Variables by their entries.
 use Rattle.std.proofs.Common.{◌≡◌, ℕ, zero, suc, ◌<◌, ◌≤◌, true, false, rules, tests, List, get_or, [], ◌∷◌, length, map, refl, sym, ap, arith}
 use Rattle.std.specs.Prelude.{nat_lt}
+use Rattle.std.proofs.lemmas.List.{length-map}
 use denote.Ref.{Bor}
 use Rattle.pb_text_tree.specs.declared.name.Name.{Name}
 use Rattle.pb_text_tree.specs.Form.{Named, VariableForm}
@@ -10,7 +11,6 @@ use Rattle.pb_text_meaning.specs.Syntax.{Variable, Spec}
 use Rattle.pb_text_meaning.specs.Sorts.{carrier_of}
 use Rattle.pb_text_meaning.specs.Formula.{carriers_of}
 use Rattle.pb_text_meaning.specs.Erase.{erased_variable, erased_variables}
-use Rattle.pb_typing_declarations.proofs.Loops.{same_length}
 use Rattle.pb_typing_declarations.specs.declared.entry.Entry.{Entry}
 use Rattle.pb_typing_declarations.specs.declared.fault.TypingRule.TheVariants.{Limit}
 use Rattle.pb_typing_declarations.specs.Faults.{unless}
@@ -41,20 +41,16 @@ limit_at [] limit e below at = absurd (omega (arith, below))
 limit_at (f ∷ es) zero e below at = ap (λ (g : Entry _). unless false Limit g.place) (sym at)
 limit_at (f ∷ es) (suc limit) e below at = limit_at es limit e (omega (arith, below)) at
 
-pub entry_names-length : {V : Type 0} (es : List (Entry V)) → length (entry_names es) ≡ length es
-entry_names-length [] = refl
-entry_names-length (e ∷ es) = ap suc (entry_names-length es)
-
 -- ---- an equation's parameters
 
 -- as many carriers as names
 pub carriers_few : (S : Spec) (xs : List VariableForm) (carriers : List Carrier) (limit : ℕ) → map values_of carriers ≡ carriers_of S (erased_variables xs) → limit_faults limit (variable_names xs) ≡ [] → length carriers ≤ limit
 carriers_few S xs carriers limit are clear =
     let few = few_names limit (variable_names xs) clear in
-    let names = same_length (λ (x : VariableForm). x.name) xs in
-    let variables = same_length erased_variable xs in
-    let sorts = same_length (λ (x : Variable). carrier_of S x.sort) (erased_variables xs) in
-    let values = same_length values_of carriers in
+    let names = length-map xs (λ (x : VariableForm). x.name) in
+    let variables = length-map xs erased_variable in
+    let sorts = length-map (erased_variables xs) (λ (x : Variable). carrier_of S x.sort) in
+    let values = length-map carriers values_of in
     let same : length (map values_of carriers) ≡ length (carriers_of S (erased_variables xs)) = ap length are in
     omega (arith, few, names, variables, sorts, values, same)
 

@@ -1,8 +1,5 @@
 -- What may be declared: the relation on what a text says, without places.
 use Rattle.std.specs.Prelude.{ℕ, ◌≡◌, ◌≢◌, ◌<◌, ◌≤◌, ◌≤ℤ◌, true, false, Bool, List, [], ◌∷◌, map, flat_map, length, All, AllPairs, Option, Some, None}
-use mathlib.Core.Bool.{Bool-set}
-use Rattle.std.proofs.Math.Dec.{T_prop}
-use Rattle.std.specs.Coded.{le_prop}
 use Rattle.pb_sorts.specs.declared.limits.TheConstants.{MAX_INSTANCES}
 use Rattle.pb_text_meaning.specs.Syntax.{Name, Variable, Enumerator, Sort, Struct, Alias, SortDeclaration, Range, Equation, Spec}
 use Rattle.pb_typing_declarations.specs.Shapes.{End, Shaped, Unranged, Undeclared, Endless, end_of, base_of, is_sort, is_built_in, number_behind}
@@ -87,18 +84,3 @@ pub record IsDeclared (spec : Spec) : Type 0 where
   pub few_parameters : All (λ (X : Equation). length X.parameters ≤ 8) spec.equations
   pub parameters : All (λ (X : Equation). AreVariables spec X.parameters) spec.equations
   pub few_instances : all_instances spec spec.equations ≤ MAX_INSTANCES
-
--- ---- each fact has one proof at most
-
-pub IsDefined-prop : (spec : Spec) (s : Name) (sort : Sort) → IsProp (IsDefined spec s sort)
-IsDefined-prop spec s (Struct es) = hlevel (le_prop)
-IsDefined-prop spec s (Alias target) = hlevel (Bool-set)
-
-pub IsRanged-prop : (spec : Spec) (r : Range) → IsProp (IsRanged spec r)
-IsRanged-prop spec r = hlevel (T_prop, Bool-set)
-
-pub AreVariables-prop : (spec : Spec) (xs : List Variable) → IsProp (AreVariables spec xs)
-AreVariables-prop spec xs = hlevel (Bool-set)
-
-pub IsDeclared-prop : (spec : Spec) → IsProp (IsDeclared spec)
-IsDeclared-prop spec = hlevel (le_prop, Bool-set, IsDefined-prop, IsRanged-prop, AreVariables-prop)

@@ -1,5 +1,6 @@
 -- Terms and formulas: what is well typed has no fault, and what has none is well typed.
 use Rattle.std.proofs.Common.{◌≡◌, Bool, true, false, not, ◌&&◌, List, [], ◌∷◌, ◌++◌, length, refl, sym, ◌∙◌, ap, subst, Option, Some, None, eq-eqb, eqb-true, true≢false}
+use Rattle.std.proofs.lemmas.Bool.{and_parts}
 use Rattle.pb_text_tree.specs.declared.place.Place.{Place}
 use Rattle.pb_text_tree.specs.declared.operator.Connective.{Connective}
 use Rattle.pb_text_tree.specs.declared.operator.Connective.TheVariants.{And, Or, Implies}
@@ -22,7 +23,7 @@ use Rattle.pb_typing_rules.specs.Scope.{Scope, bound, named_shape}
 use Rattle.pb_typing_rules.specs.Term.{shape, shapes, passes, IsNamed, IsApplied, IsOperation, IsTyped, AreTyped}
 use Rattle.pb_typing_rules.specs.Formula.{count, AreArguments, IsCalled, IsProper}
 use Rattle.pb_typing_rules.specs.Faults.{unknown_faults, name_faults, operator_faults, function_faults, term_faults, terms_faults, argument_faults, called_faults, instance_faults, left_parity, formula_faults}
-use Rattle.pb_typing_rules.proofs.Parts.{no_parts, no_whole, holds_unless, unless_holds}
+use Rattle.pb_typing_declarations.proofs.Parts.{no_parts, no_whole, holds_unless, unless_holds}
 use Rattle.pb_typing_rules.proofs.Declared.{variables_clear, clear_variables}
 
 -- ---- operators
@@ -32,14 +33,10 @@ connective_operation And s t e f = (ap (λ b. b && may_be_truth t) e ∙ f, refl
 connective_operation Or s t e f = (ap (λ b. b && may_be_truth t) e ∙ f, refl, refl)
 connective_operation Implies s t e f = (ap (λ b. b && may_be_truth t) e ∙ f, refl, refl)
 
-both_true : (a b : Bool) → (a && b) ≡ true → (a ≡ true) × (b ≡ true)
-both_true true b e = (refl, e)
-both_true false b e = absurd (true≢false (sym e))
-
 operation_truths : (c : Connective) (s t : Shape) → IsOperation (kind_of (of_connective c)) s t → (may_be_truth s ≡ true) × (may_be_truth t ≡ true)
-operation_truths And s t h = both_true (may_be_truth s) (may_be_truth t) h.0
-operation_truths Or s t h = both_true (may_be_truth s) (may_be_truth t) h.0
-operation_truths Implies s t h = both_true (may_be_truth s) (may_be_truth t) h.0
+operation_truths And s t h = and_parts (may_be_truth s) (may_be_truth t) h.0
+operation_truths Or s t h = and_parts (may_be_truth s) (may_be_truth t) h.0
+operation_truths Implies s t h = and_parts (may_be_truth s) (may_be_truth t) h.0
 
 passes-connective : (c : Connective) (stands : Bool) → passes (kind_of (of_connective c)) stands ≡ stands
 passes-connective And stands = refl

@@ -1,6 +1,7 @@
 -- Each term of a well-typed specification fits, and each right side is positive.
 use Rattle.std.proofs.Common.{◌≡◌, zero, suc, Bool, true, not, List, [], ◌∷◌, sym, arith, true≢false}
 use Rattle.std.specs.Prelude.{All}
+use Rattle.std.proofs.lemmas.Bool.{and_parts}
 use Rattle.pb_carriers.specs.Carrier.{Tuple, is_within, contains}
 use Rattle.pb_text_meaning.specs.Syntax.{Variable, Formula, Equation, Spec}
 use Rattle.pb_text_meaning.specs.Sorts.{carrier_of}
@@ -13,7 +14,6 @@ use Rattle.pb_typing_declarations.specs.Shapes.{sort_shape}
 use Rattle.pb_typing_rules.specs.Scope.{Scope, outermost, declare, bound, Within}
 use Rattle.pb_typing_rules.specs.Formula.{IsProper}
 use Rattle.pb_typing_rules.specs.WellTyped.{parameters_of, AreProper, IsWellTyped}
-use Rattle.pb_typing_rules.proofs.Values.{and_true}
 use Rattle.pb_typing_rules.proofs.Names.{within_declared, sort_value}
 use Rattle.pb_typing_rules.proofs.Contained.{formula_fits, all_fit, called_typed}
 
@@ -23,7 +23,7 @@ assigned_within spec [] [] scope a e within = within
 assigned_within spec [] (v ∷ vs) scope a e within = absurd (true≢false (sym e))
 assigned_within spec (x ∷ xs) [] scope a e within = absurd (true≢false (sym e))
 assigned_within spec (x ∷ xs) (v ∷ vs) scope a e within =
-    let q = and_true (contains (carrier_of spec x.sort) v) (is_within (carriers_of spec xs) vs) e in
+    let q = and_parts (contains (carrier_of spec x.sort) v) (is_within (carriers_of spec xs) vs) e in
     assigned_within spec xs vs (declare x.name (sort_shape spec x.sort) scope) ((x.name, v) ∷ a) q.1
     (within_declared a scope x.name (sort_shape spec x.sort) v (sort_value spec x.sort v q.0) within)
 

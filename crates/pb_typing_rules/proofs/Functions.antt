@@ -1,6 +1,7 @@
 -- The shape of what a named function gives has the function's value.
 use Rattle.std.proofs.Common.{◌≡◌, Bool, true, false, cond, ◌||◌, not, List, [], ◌∷◌, refl, sym, ap, arith, ℤ, pos, ◌+ℤ◌, ◌-ℤ◌, unsigned_abs, int_le, true≢false, Option, Some, None, codes}
 use Rattle.std.specs.Int.{int_max, int_min}
+use Rattle.std.proofs.lemmas.Bool.{and_parts}
 use Rattle.pb_intervals.specs.Operation.{BinaryOperation, Successor, Predecessor, AbsoluteValue, Maximum, Minimum, divides}
 use Rattle.pb_carriers.specs.Carrier.{of_bool}
 use Rattle.pb_text_meaning.specs.Syntax.{Name, same_name, Spec}
@@ -10,7 +11,7 @@ use Rattle.pb_typing_declarations.specs.Enumerators.{recogniser_shape}
 use Rattle.pb_typing_rules.specs.Shapes.{may_be_truth, may_be_whole, may_be_alike, hull, may_divide}
 use Rattle.pb_typing_rules.specs.Functions.{Function, Choice, Conversion, OfOne, OfTwo, Recogniser, recogniser, function_named, kept}
 use Rattle.pb_typing_rules.specs.Term.{applied_shape, IsApplied}
-use Rattle.pb_typing_rules.proofs.Values.{Contained, and_true, truth_value}
+use Rattle.pb_typing_rules.proofs.Values.{Contained, truth_value}
 use Rattle.pb_typing_rules.proofs.Operations.{unary_contained, binary_contained, hull_left, hull_right}
 
 -- no function takes none
@@ -77,7 +78,7 @@ two false false false false false false false (Some r) s t v w h k m = absurd (o
 three : (a b c d e f g : Bool) (r : Option Shape) (q s t : Shape) (u v w : ℤ) → IsApplied (chosen a b c d e f g r) (q ∷ s ∷ t ∷ []) → Contained s v → Contained t w
     → Contained (applied_shape (chosen a b c d e f g r) (q ∷ s ∷ t ∷ [])) (cond a (cond (is_true u) v w) (pos 0))
 three true b c d e f g r q s t u v w h k m =
-    let alike = (and_true (may_be_truth q) (may_be_alike s t) h.1).1 in
+    let alike = (and_parts (may_be_truth q) (may_be_alike s t) h.1).1 in
     either (is_true u) (hull_left s t v w alike m.value k) (hull_right s t w v alike k.value m)
   where
     either : (x : Bool) → Contained (hull s t) v → Contained (hull s t) w → Contained (hull s t) (cond x v w)

@@ -1,4 +1,3 @@
-pub mod Parts
 pub mod Declared
 pub mod Values
 pub mod Names
@@ -6,5 +5,6 @@ pub mod Operations
 pub mod Functions
 pub mod Contained
 pub mod Exact
+pub mod SortValues
 pub mod WellTypedLemmas
 pub mod Fitting

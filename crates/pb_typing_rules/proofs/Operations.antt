@@ -2,6 +2,7 @@
 use Rattle.std.proofs.Common.{◌≡◌, ℕ, Bool, true, false, cond, ◌&&◌, ◌||◌, not, refl, sym, subst, arith, ℤ, pos, ◌≤ℤ◌, int_le, true≢false, inl, inr}
 use Rattle.std.specs.Prelude.{◌==◌, max}
 use Rattle.std.proofs.lemmas.Int.{ints}
+use Rattle.std.proofs.lemmas.Bool.{and_parts}
 use Rattle.pb_intervals.specs.Interval.{is_within, within, literals}
 use Rattle.pb_intervals.specs.Operation.{UnaryOperation, BinaryOperation, Sum, Difference, Product, Quotient, Remainder, unary_value, binary_value, unary_interval, binary_interval, divides}
 use Rattle.pb_intervals.specs.Laws.{IsDefined}
@@ -13,7 +14,7 @@ use Rattle.pb_text_meaning.specs.Fits.{DivisorFits}
 use Rattle.pb_typing_declarations.specs.Shapes.{Shape, Unknown, Truths, Places, Wholes}
 use Rattle.pb_typing_rules.specs.Shapes.{may_be_whole, may_be_alike, IsValueOf, interval, of_interval, hull, unary_shape, unary_is_limited, may_divide, binary_shape, binary_is_limited, kind_of, outcome}
 use Rattle.pb_typing_rules.specs.Term.{IsOperation}
-use Rattle.pb_typing_rules.proofs.Values.{Contained, and_true, whole_value, truth_value}
+use Rattle.pb_typing_rules.proofs.Values.{Contained, whole_value, truth_value}
 
 not_or : (a b : Bool) → a ≡ true → (not a || b) ≡ true → b ≡ true
 not_or true b p e = e
@@ -82,8 +83,8 @@ divisor_contained Operator.GreaterEqual s t v h q = tt
 divisor_contained Operator.Plus s t v h q = tt
 divisor_contained Operator.Minus s t v h q = tt
 divisor_contained Operator.Times s t v h q = tt
-divisor_contained Operator.Div s t v h q = divisor_fits Quotient t v refl (and_true (may_be_whole s) (may_be_whole t) h.0).1 h.1 q
-divisor_contained Operator.Mod s t v h q = divisor_fits Remainder t v refl (and_true (may_be_whole s) (may_be_whole t) h.0).1 h.1 q
+divisor_contained Operator.Div s t v h q = divisor_fits Quotient t v refl (and_parts (may_be_whole s) (may_be_whole t) h.0).1 h.1 q
+divisor_contained Operator.Mod s t v h q = divisor_fits Remainder t v refl (and_parts (may_be_whole s) (may_be_whole t) h.0).1 h.1 q
 
 -- ---- a choice between two
 

@@ -1,7 +1,8 @@
 -- Values of a shape, and values within the limits.
-use Rattle.std.proofs.Common.{◌≡◌, Bool, true, false, cond, ◌&&◌, ◌||◌, [], ◌∷◌, refl, sym, ◌∙◌, ap, subst, arith, ℤ, pos, negsuc, ◌-ℤ◌, ◌+ℤ◌, ◌≤ℤ◌, ◌<ℤ◌, int_le, int_eq, true≢false, Some, None}
+use Rattle.std.proofs.Common.{◌≡◌, Bool, true, false, cond, ◌||◌, [], ◌∷◌, refl, sym, ◌∙◌, ap, subst, arith, ℤ, pos, negsuc, ◌-ℤ◌, ◌+ℤ◌, ◌≤ℤ◌, ◌<ℤ◌, int_le, int_eq, true≢false, Some, None}
 use Rattle.std.proofs.lemmas.Int.{ints}
 use Rattle.std.proofs.lemmas.Bool.Decides.{Decides-int_eq}
+use Rattle.std.proofs.lemmas.Bool.{and_parts}
 use Rattle.pb_carriers.specs.Carrier.{contains, of_bool, at_least_none}
 use Rattle.pb_sorts.proofs.Intervals.{contains-numbers_from}
 use Rattle.pb_intervals.specs.Interval.{IntegerInterval, Includes, is_within, within, literals}
@@ -10,10 +11,6 @@ use Rattle.pb_text_meaning.specs.Fits.{IsBounded}
 use Rattle.pb_typing_declarations.specs.Shapes.{Shape, Unknown, Truths, Places, Wholes, shape_carrier}
 use Rattle.pb_typing_rules.specs.Shapes.{IsValueOf, is_limited, interval, of_interval}
 
-pub and_true : (a b : Bool) → (a && b) ≡ true → (a ≡ true) × (b ≡ true)
-and_true true b e = (refl, e)
-and_true false b e = absurd (true≢false (sym e))
-
 -- the value is one of the shape's and within the limits
 pub record Contained (s : Shape) (v : ℤ) : Type 0 where
   pub value : IsValueOf s v
@@ -21,7 +18,7 @@ pub record Contained (s : Shape) (v : ℤ) : Type 0 where
 
 pub bounded_in : (i : IntegerInterval) (v : ℤ) → is_within i literals ≡ true → Includes i v → IsBounded v
 bounded_in i v e p =
-    let ends = and_true (int_le literals.low i.low) (int_le i.high literals.high) e in
+    let ends = and_parts (int_le literals.low i.low) (int_le i.high literals.high) e in
     let low = le_true literals.low i.low ends.0 in
     let high = le_true i.high literals.high ends.1 in
     let above = p.0 in

@@ -1,9 +1,12 @@
 -- Whole texts: no fault exactly where what the text says is well typed.
-use Rattle.std.proofs.Common.{◌≡◌, ◌≢◌, Bool, true, false, ◌&&◌, List, [], ◌∷◌, map, length, refl, sym, ◌∙◌, ap, subst, arith, Option, Some, None, true≢false}
+use Rattle.std.proofs.Common.{◌≡◌, ◌≢◌, ◌≤◌, Bool, true, false, ◌&&◌, cond, List, [], ◌∷◌, map, length, refl, sym, ◌∙◌, ap, subst, arith, Option, Some, None, true≢false}
+use Rattle.std.specs.Prelude.{All}
 use Rattle.std.specs.List.{Contains}
+use Rattle.std.specs.Option.{IfSome}
+use Rattle.std.proofs.lemmas.Bool.{and_parts}
 use Rattle.pb_text_tree.specs.Form.{ArgumentForms, no_arguments, argument, EquationForm, SpecForm}
-use Rattle.pb_carriers.specs.Carrier.{is_within, contains}
-use Rattle.pb_text_meaning.specs.Syntax.{Variable, Equation, Spec}
+use Rattle.pb_carriers.specs.Carrier.{Carrier, Value, is_within, contains}
+use Rattle.pb_text_meaning.specs.Syntax.{Name, same_name, Variable, Equation, Spec}
 use Rattle.pb_text_meaning.specs.Sorts.{carrier_of}
 use Rattle.pb_text_meaning.specs.Value.{value, values}
 use Rattle.pb_text_meaning.specs.Formula.{carriers_of, equation_named, fits}
@@ -13,13 +16,15 @@ use Rattle.pb_typing_declarations.specs.declared.fault.TypeError.{TypeError}
 use Rattle.pb_typing_declarations.specs.declared.fault.TypeError.TheVariants.{Memory, At}
 use Rattle.pb_typing_declarations.specs.Faults.{IsAmong}
 use Rattle.pb_typing_declarations.specs.Declarations.{declaration_faults}
-use Rattle.pb_typing_declarations.specs.WellDeclared.{HaveEnds}
+use Rattle.pb_typing_declarations.specs.WellDeclared.{HaveEnds, IsDeclared}
+use Rattle.pb_typing_declarations.proofs.Exact.{all_head, all_tail}
 use Rattle.pb_typing_rules.specs.Scope.{outermost, bound}
 use Rattle.pb_typing_rules.specs.Formula.{count, IsCalled}
-use Rattle.pb_typing_rules.specs.Faults.{instance_faults, right_faults, value_faults, parameters_named, and_then, faults}
+use Rattle.pb_typing_rules.specs.Faults.{instance_faults, right_faults, may_have, value_faults, parameters_named, and_then, faults}
 use Rattle.pb_typing_rules.specs.WellTyped.{AreProper, IsWellTyped}
 use Rattle.pb_typing_rules.proofs.Declared.{clear_declarations, declarations_clear, declared_ends}
-use Rattle.pb_typing_rules.proofs.Parts.{no_parts, no_whole, holds_unless, unless_holds}
+use Rattle.pb_typing_declarations.proofs.Parts.{no_parts, no_whole, holds_unless, unless_holds}
+use Rattle.pb_typing_rules.proofs.SortValues.{some_value}
 use Rattle.pb_typing_rules.proofs.Exact.{proper, formula_clear, instance_proper, instance_clear}
 
 rights_proper : (spec : Spec) (E : List EquationForm) → HaveEnds spec → right_faults spec E ≡ [] → AreProper spec (map erased_equation E)
@@ -34,29 +39,57 @@ rights_clear spec (X ∷ E) h =
 
 -- ---- the values of the initial instance
 
-and_true : (a b : Bool) → (a && b) ≡ true → (a ≡ true) × (b ≡ true)
-and_true true b e = (refl, e)
-and_true false b e = absurd (true≢false (sym e))
+-- a carrier with values has those that it may have
+pub may_have_of_some : (c : Carrier) (v : Value) → 1 ≤ length c → may_have c v ≡ contains c v
+may_have_of_some [] v some = absurd (omega (arith, some))
+may_have_of_some (w ∷ ws) v some = refl
 
-within_of_clear : (spec : Spec) (es : ArgumentForms) (xs : List Variable) → count (erased_arguments es) ≡ length xs → value_faults spec es xs ≡ [] → is_within (carriers_of spec xs) (values spec [] (erased_arguments es)) ≡ true
-within_of_clear spec no_arguments [] n e = refl
-within_of_clear spec no_arguments (x ∷ xs) n e = absurd (omega (arith, n))
-within_of_clear spec (argument p y es) [] n e = absurd (omega (arith, n))
-within_of_clear spec (argument p y es) (x ∷ xs) n e =
+may_have_contained : (c : Carrier) (v : Value) → contains c v ≡ true → may_have c v ≡ true
+may_have_contained [] v e = refl
+may_have_contained (w ∷ ws) v e = e
+
+abbrev HasValues : Spec → Variable → Type 0
+HasValues spec x = 1 ≤ length (carrier_of spec x.sort)
+
+within_of_clear : (spec : Spec) (es : ArgumentForms) (xs : List Variable) → All (HasValues spec) xs → count (erased_arguments es) ≡ length xs → value_faults spec es xs ≡ []
+    → is_within (carriers_of spec xs) (values spec [] (erased_arguments es)) ≡ true
+within_of_clear spec no_arguments [] some n e = refl
+within_of_clear spec no_arguments (x ∷ xs) some n e = absurd (omega (arith, n))
+within_of_clear spec (argument p y es) [] some n e = absurd (omega (arith, n))
+within_of_clear spec (argument p y es) (x ∷ xs) some n e =
     let q = no_parts _ _ e in
-    ap (λ b. b && is_within (carriers_of spec xs) (values spec [] (erased_arguments es))) (holds_unless _ _ _ q.0)
-    ∙ within_of_clear spec es xs (omega (arith, n)) q.1
+    let here = sym (may_have_of_some (carrier_of spec x.sort) (value spec [] (erased_term y)) (all_head (HasValues spec) x xs some)) ∙ holds_unless _ _ _ q.0 in
+    ap (λ b. b && is_within (carriers_of spec xs) (values spec [] (erased_arguments es))) here
+    ∙ within_of_clear spec es xs (all_tail (HasValues spec) x xs some) (omega (arith, n)) q.1
 
 values_clear : (spec : Spec) (es : ArgumentForms) (xs : List Variable) → is_within (carriers_of spec xs) (values spec [] (erased_arguments es)) ≡ true → value_faults spec es xs ≡ []
 values_clear spec no_arguments xs e = refl
 values_clear spec (argument p y es) [] e = refl
 values_clear spec (argument p y es) (x ∷ xs) e =
-    let q = and_true (contains (carrier_of spec x.sort) (value spec [] (erased_term y))) (is_within (carriers_of spec xs) (values spec [] (erased_arguments es))) e in
-    no_whole _ _ (unless_holds _ _ _ q.0) (values_clear spec es xs q.1)
+    let v = value spec [] (erased_term y) in
+    let q = and_parts (contains (carrier_of spec x.sort) v) (is_within (carriers_of spec xs) (values spec [] (erased_arguments es))) e in
+    no_whole _ _ (unless_holds _ _ _ (may_have_contained (carrier_of spec x.sort) v q.0)) (values_clear spec es xs q.1)
 
-instance_of_clear : (spec : Spec) (es : ArgumentForms) (X : Option Equation) → IsCalled spec outermost (erased_arguments es) X → value_faults spec es (parameters_named X) ≡ [] → fits spec X (values spec [] (erased_arguments es)) ≡ true
-instance_of_clear spec es None h e = absurd h
-instance_of_clear spec es (Some X) h e = within_of_clear spec es X.parameters h.0 e
+abbrev HaveValues : Spec → Equation → Type 0
+HaveValues spec X = All (HasValues spec) X.parameters
+
+-- an equation's parameters have values, where it is declared as it must be
+equation_values : (spec : Spec) (x : Name) (E : List Equation) → All (HaveValues spec) E → IfSome (equation_named E x) (HaveValues spec)
+equation_values spec x [] all = tt
+equation_values spec x (X ∷ E) all = by_test (same_name X.name x) (equation_values spec x E (all_tail (HaveValues spec) X E all))
+  where
+    by_test : (b : Bool) → IfSome (equation_named E x) (HaveValues spec) → IfSome (cond b (Some X) (equation_named E x)) (HaveValues spec)
+    by_test true rest = all_head (HaveValues spec) X E all
+    by_test false rest = rest
+
+parameters_values : (spec : Spec) → IsDeclared spec → All (HaveValues spec) spec.equations
+parameters_values spec d k X below j x within =
+    some_value spec _ d ((d.parameters k X below).shaped j x within)
+
+instance_of_clear : (spec : Spec) (es : ArgumentForms) (X : Option Equation) → IfSome X (HaveValues spec) → IsCalled spec outermost (erased_arguments es) X → value_faults spec es (parameters_named X) ≡ []
+    → fits spec X (values spec [] (erased_arguments es)) ≡ true
+instance_of_clear spec es None some h e = absurd h
+instance_of_clear spec es (Some X) some h e = within_of_clear spec es X.parameters some h.0 e
 
 instance_values_clear : (spec : Spec) (es : ArgumentForms) (X : Option Equation) → fits spec X (values spec [] (erased_arguments es)) ≡ true → value_faults spec es (parameters_named X) ≡ []
 instance_values_clear spec es None e = absurd (true≢false (sym e))
@@ -80,11 +113,13 @@ well_typed text e =
     let u = and_then_parts (instance_faults spec true outermost i) _ r.1 in
     let ends = declared_ends text q.0 in
     let initial = instance_proper spec ends true outermost i u.0 in
+    let declared = clear_declarations text q.0 in
+    let some = equation_values spec i.name.text spec.equations (parameters_values spec declared) in
     record {
-      declarations = clear_declarations text q.0;
+      declarations = declared;
       rights = rights_proper spec text.equations ends r.0;
       initial = initial;
-      values = instance_of_clear spec i.arguments (equation_named spec.equations i.name.text) initial.1 u.1;
+      values = instance_of_clear spec i.arguments (equation_named spec.equations i.name.text) some initial.1 u.1;
     }
 
 pub faultless : (text : SpecForm) → IsWellTyped (erase text) → faults text ≡ []

@@ -7,7 +7,7 @@ use Rattle.pb_text_tree.specs.Form.{Named, TermForm, ArgumentForms, no_arguments
 use Rattle.pb_intervals.specs.Interval.{is_within, singleton, literals}
 use Rattle.pb_intervals.specs.Operation.{Negation}
 use Rattle.pb_text_meaning.specs.Syntax.{Variable, Equation, Spec}
-use Rattle.pb_carriers.specs.Carrier.{contains}
+use Rattle.pb_carriers.specs.Carrier.{Carrier, Value, contains}
 use Rattle.pb_text_meaning.specs.Sorts.{carrier_of}
 use Rattle.pb_text_meaning.specs.Value.{value}
 use Rattle.pb_text_meaning.specs.Names.{is_declared}
@@ -142,12 +142,17 @@ right_faults spec [] = []
 right_faults spec (X ∷ E) =
     formula_faults spec true (bound spec (erased_variables X.parameters) outermost) X.right ++ right_faults spec E
 
+-- Whether a parameter may have a value. A sort without values fails by itself, and has no carrier that a value is outside of.
+abbrev pub may_have : Carrier → Value → Bool
+may_have [] v = true
+may_have (w ∷ ws) v = contains (w ∷ ws) v
+
 -- arguments without variables: each value is in its parameter's carrier
 abbrev pub value_faults : Spec → ArgumentForms → List Variable → List TypingFault
 value_faults spec no_arguments xs = []
 value_faults spec (argument p e es) [] = []
 value_faults spec (argument p e es) (x ∷ xs) =
-    unless (contains (carrier_of spec x.sort) (value spec [] (erased_term e))) rule.OutsideCarrier p ++ value_faults spec es xs
+    unless (may_have (carrier_of spec x.sort) (value spec [] (erased_term e))) rule.OutsideCarrier p ++ value_faults spec es xs
 
 abbrev pub parameters_named : Option Equation → List Variable
 parameters_named None = []

@@ -1,11 +1,11 @@
 use Rattle.std.proofs.Common.{◌≡◌, ◌∙◌, ◌++◌, ◌+◌, ◌∷◌, List, ap, sym, drop, append_assoc}
+use Rattle.pb_sorts.proofs.Places.{drop-at}
 use Rattle.pb_text_tree.specs.declared.variable.Variables.{Variables}
 use Rattle.pb_text_tree.specs.Form.{variable_forms}
 use Rattle.pb_typing_declarations.specs.View.{spec_of}
 use Rattle.pb_text_meaning.specs.Syntax.{Variable}
 use Rattle.pb_text_meaning.specs.Erase.{erased_variables}
 use Rattle.pb_evaluation.specs.Quantifier.{variables_of}
-use Rattle.pb_evaluation.proofs.Links.{drop_link}
 use Rattle.pb_evaluation.proofs.Quantified.{first_group}
 use Rattle.pb_evaluation.proofs.binding.bindings_of.Goals as goal
 
@@ -21,7 +21,7 @@ loop-group-preserved c =
     let sort = c.deref.result.now in
     let rest = erased_variables (variable_forms (drop (k + 1) items)) in
     let next : drop k items ≡ c.group-item.result ∷ drop (k + 1) items =
-    ap (λ (gs : List Variables). drop k gs) (sym same) ∙ (drop_link seen k c.group-item.result c.loop-group-test.true c.group-item.is ∙ ap (λ (gs : List Variables). c.group-item.result ∷ drop (k + 1) gs) same) in
+    ap (λ (gs : List Variables). drop k gs) (sym same) ∙ (drop-at seen k c.group-item.result c.loop-group-test.true c.group-item.is ∙ ap (λ (gs : List Variables). c.group-item.result ∷ drop (k + 1) gs) same) in
     let grouped = first_group (drop k items) c.group-item.result (drop (k + 1) items) names sort next c.deref-in-loop-group.ensures.value c.deref.ensures in
     record {
       bindings = record {

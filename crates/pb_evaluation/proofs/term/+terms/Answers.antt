@@ -15,7 +15,7 @@ use Rattle.pb_text_meaning.proofs.Bounded.{fits_bounded}
 use Rattle.pb_evaluation.specs.declared.binding.Binding.{Binding}
 use Rattle.pb_evaluation.specs.Binding.{AreLast, AreNext, bound}
 use Rattle.pb_evaluation.specs.Scope.{assignment_of}
-use Rattle.pb_evaluation.proofs.Weight.{weight, weight-chain, weight-arithmetic, weight-application, links_weight, arithmetic_weight, arguments_weight, link_lighter, operand_lighter}
+use Rattle.pb_evaluation.proofs.Weight.{weight, weight-chain, weight-arithmetic, weight-application, links_weight, arithmetic_weight, arguments_weight, link_lighter, operand_lighter, argument_lighter}
 use Rattle.pb_evaluation.proofs.Arguments.{argument_fits, many}
 use Rattle.pb_evaluation.proofs.Links.{ArithmeticFits, chain_value, value-chained, fits-chained, link_fits, chain_decided, chain_next, value-calculated, fits-calculated, arithmetic_value, arithmetic_next, arithmetic_value-next}
 use Rattle.pb_evaluation.proofs.Quantified.{differs}
@@ -31,6 +31,60 @@ application_value-function_of_one-requires t c =
     let x = c.in_ok-argument-in-len1 in
     let fits : SFits w64 x.argument = record { sfits = omega arith } in
     rw to_z-of_z (subst IsBounded (sym x.ensures) (fits_bounded S a (erased_term (term_form c.x-item.result.term)) (argument_fits S a c.args.arguments.now 0 c.x-item.result c.requires.1.1 (omega arith) c.x-item.is)))
+
+pub application_value-value-requires : goal.application_value-value-requires
+application_value-value-requires t c =
+    let xs = c.args.arguments.now in
+    let x = c.x-item in
+    let behind : 0 < length xs = omega (arith, c.in-len1.len_at_least) in (
+      omega (arith, argument_lighter xs 0 x.result behind x.is),
+      argument_fits (spec_of c.args.declarations.now) (assignment_of c.args.scope.now) xs 0 x.result c.requires.1.1 behind x.is,
+    )
+
+pub application_value-value-requires-in-len2 : goal.application_value-value-requires-in-len2
+application_value-value-requires-in-len2 t c =
+    let xs = c.args.arguments.now in
+    let x = c.x-item-then-arguments-lt3 in
+    let behind : 0 < length xs = omega (arith, c.in-len2.len_at_least) in (
+      omega (arith, argument_lighter xs 0 x.result behind x.is),
+      argument_fits (spec_of c.args.declarations.now) (assignment_of c.args.scope.now) xs 0 x.result c.requires.1.1 behind x.is,
+    )
+
+pub application_value-value-requires-in-len2-2 : goal.application_value-value-requires-in-len2-2
+application_value-value-requires-in-len2-2 t c =
+    let xs = c.args.arguments.now in
+    let x = c.y-item in
+    let behind : 1 < length xs = omega (arith, c.in-len2.len_at_least) in (
+      omega (arith, argument_lighter xs 1 x.result behind x.is),
+      argument_fits (spec_of c.args.declarations.now) (assignment_of c.args.scope.now) xs 1 x.result c.requires.1.1 behind x.is,
+    )
+
+pub application_value-value-requires-in-len3 : goal.application_value-value-requires-in-len3
+application_value-value-requires-in-len3 t c =
+    let xs = c.args.arguments.now in
+    let x = c.condition-item in
+    let behind : 0 < length xs = omega (arith, c.in-len3.len_at_least) in (
+      omega (arith, argument_lighter xs 0 x.result behind x.is),
+      argument_fits (spec_of c.args.declarations.now) (assignment_of c.args.scope.now) xs 0 x.result c.requires.1.1 behind x.is,
+    )
+
+pub application_value-value-requires-in-len3-2 : goal.application_value-value-requires-in-len3-2
+application_value-value-requires-in-len3-2 t c =
+    let xs = c.args.arguments.now in
+    let x = c.x-item-then-arguments-lt4 in
+    let behind : 1 < length xs = omega (arith, c.in-len3.len_at_least) in (
+      omega (arith, argument_lighter xs 1 x.result behind x.is),
+      argument_fits (spec_of c.args.declarations.now) (assignment_of c.args.scope.now) xs 1 x.result c.requires.1.1 behind x.is,
+    )
+
+pub application_value-value-requires-in-len3-3 : goal.application_value-value-requires-in-len3-3
+application_value-value-requires-in-len3-3 t c =
+    let xs = c.args.arguments.now in
+    let x = c.y-item-then-arguments-lt4 in
+    let behind : 2 < length xs = omega (arith, c.in-len3.len_at_least) in (
+      omega (arith, argument_lighter xs 2 x.result behind x.is),
+      argument_fits (spec_of c.args.declarations.now) (assignment_of c.args.scope.now) xs 2 x.result c.requires.1.1 behind x.is,
+    )
 
 pub application_value-returns-in_default-2 : goal.application_value-returns-in_default-2
 application_value-returns-in_default-2 t c =

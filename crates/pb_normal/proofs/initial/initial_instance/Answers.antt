@@ -8,7 +8,7 @@ use Rattle.pb_text_meaning.specs.Value.{values}
 use Rattle.pb_typing_declarations.specs.Agreement.{equation_place}
 use Rattle.pb_typing_declarations.specs.View.{spec_of}
 use Rattle.pb_normal.specs.Text.{said}
-use Rattle.pb_normal.proofs.Equations.{accepted-well-typed}
+use Rattle.pb_typing.proofs.Accepted.{accepted-well-typed}
 use Rattle.pb_normal.proofs.InitialPlace.{initial-at, initial-small, initial-fits, not-found}
 use Rattle.pb_normal.proofs.initial.initial_instance.Goals as goal
 

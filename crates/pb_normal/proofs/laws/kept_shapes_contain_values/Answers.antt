@@ -1,5 +1,5 @@
 use Rattle.pb_text_meaning.specs.Erase.{erase}
-use Rattle.pb_normal.proofs.Equations.{accepted-well-typed}
+use Rattle.pb_typing.proofs.Accepted.{accepted-well-typed}
 use Rattle.pb_normal.proofs.Kept.{equations-keep-shapes}
 use Rattle.pb_normal.proofs.laws.kept_shapes_contain_values.Goals as goal
 

@@ -1,5 +1,5 @@
 use Rattle.pb_text_meaning.specs.Erase.{erase}
-use Rattle.pb_normal.proofs.Equations.{accepted-well-typed}
+use Rattle.pb_typing.proofs.Accepted.{accepted-well-typed}
 use Rattle.pb_normal.proofs.Calls.{equations-full}
 use Rattle.pb_normal.proofs.limits.calls_are_full.Goals as goal
 

@@ -1,5 +1,5 @@
 use Rattle.pb_text_meaning.specs.Erase.{erase}
-use Rattle.pb_normal.proofs.Equations.{accepted-well-typed}
+use Rattle.pb_typing.proofs.Accepted.{accepted-well-typed}
 use Rattle.pb_normal.proofs.Structs.{shapes-declared}
 use Rattle.pb_normal.proofs.limits.shapes_are_declared.Goals as goal
 

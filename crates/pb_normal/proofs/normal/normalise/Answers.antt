@@ -9,7 +9,7 @@ use Rattle.pb_normal.specs.Loops.{IsShapedEquation, equation_loops}
 use Rattle.pb_normal.specs.Text.{said}
 use Rattle.pb_normal.proofs.Accepted.{erased, all_erased, accepted_shaped, done_begun, done_next, shaped_at, rights_ended, loops_ended}
 use Rattle.pb_normal.proofs.Answer.{normal-answer}
-use Rattle.pb_normal.proofs.Equations.{accepted-well-typed}
+use Rattle.pb_typing.proofs.Accepted.{accepted-well-typed}
 use Rattle.pb_normal.proofs.normal.normalise.Goals as goal
 
 pub loop-equation-init : goal.loop-equation-init

@@ -4,7 +4,7 @@ use Rattle.pb_text_meaning.specs.Erase.{erased_variables}
 use Rattle.pb_typing_rules.specs.Faults.{argument_faults}
 use Rattle.pb_typing_declarations.specs.Faults.{IsAmong}
 use Rattle.pb_typing_declarations.specs.View.{spec_of}
-use Rattle.pb_typing_rules.proofs.Parts.{among_first, first_clear}
+use Rattle.pb_typing_declarations.proofs.Parts.{among_first, first_clear}
 use Rattle.pb_typing.specs.Scopes.{scope_view}
 use Rattle.pb_typing.specs.View.{shape_view}
 use Rattle.pb_typing.proofs.Calls.{arguments_next, count-next}

@@ -5,7 +5,7 @@ use Rattle.pb_typing_declarations.specs.declared.fault.TypeError.TheVariants.{At
 use Rattle.pb_typing_declarations.specs.Faults.{unless, IsAmong}
 use Rattle.pb_typing_declarations.specs.Shapes.{Shape}
 use Rattle.pb_typing_declarations.specs.View.{spec_of}
-use Rattle.pb_typing_rules.proofs.Parts.{among_first, first_clear}
+use Rattle.pb_typing_declarations.proofs.Parts.{among_first, first_clear}
 use Rattle.pb_typing.specs.Arguments.{each_faults}
 use Rattle.pb_typing.specs.Scopes.{scope_view}
 use Rattle.pb_typing.specs.View.{shape_view}

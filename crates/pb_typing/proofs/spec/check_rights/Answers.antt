@@ -1,7 +1,7 @@
 use Rattle.std.proofs.Common.{◌∙◌, ap, sym, arith, rules}
 use Rattle.pb_typing_declarations.specs.Faults.{IsAmong}
 use Rattle.pb_typing_declarations.specs.View.{spec_of}
-use Rattle.pb_typing_rules.proofs.Parts.{among_first, first_clear}
+use Rattle.pb_typing_declarations.proofs.Parts.{among_first, first_clear}
 use Rattle.pb_typing.proofs.Rights.{rights, rights_next, rights_ended}
 use Rattle.pb_typing.proofs.spec.check_rights.Goals as goal
 

@@ -5,7 +5,7 @@ use Rattle.pb_typing_declarations.specs.declared.fault.TypeError.{TypeError}
 use Rattle.pb_typing_declarations.specs.Declarations.{declaration_faults}
 use Rattle.pb_typing_declarations.specs.Faults.{IsAmong}
 use Rattle.pb_typing_rules.specs.Faults.{faults, initial_faults, right_faults}
-use Rattle.pb_typing_rules.proofs.Parts.{among_left, among_right, no_whole}
+use Rattle.pb_typing_declarations.proofs.Parts.{among_left, among_right, no_whole}
 use Rattle.pb_typing.specs.Typed.{IsLayout}
 use Rattle.pb_typing.proofs.spec.check_spec.Goals as goal
 

@@ -1,4 +1,6 @@
-use Rattle.std.proofs.Common.{◌≡◌, ◌∙◌, ◌++◌, ◌&&◌, sym, ap, subst, rules, arith, Bool, List, [], ◌∷◌}
+use Rattle.std.proofs.Common.{◌≡◌, ◌∙◌, ◌++◌, ◌&&◌, refl, sym, ap, subst, rules, arith, Bool, List, [], ◌∷◌}
+use Rattle.std.proofs.lemmas.List.{drop_all}
+use Rattle.pb_sorts.proofs.Places.{drop-at}
 use Rattle.pb_text_tree.specs.declared.variable.Variables.{Variables}
 use Rattle.pb_text_tree.specs.declared.term.Term.{Term}
 use Rattle.pb_text_tree.specs.declared.term.TermLink.{TermLink}
@@ -12,17 +14,21 @@ use Rattle.pb_typing_rules.specs.Shapes.{Computed, may_be_truth}
 use Rattle.pb_typing_rules.specs.Scope.{bound, outermost}
 use Rattle.pb_typing_rules.specs.Term.{shape, shapes}
 use Rattle.pb_typing_declarations.specs.declared.fault.TypingRule.TheVariants as rule
+use Rattle.pb_typing_declarations.specs.declared.fault.TypingFault.{TypingFault}
 use Rattle.pb_typing_declarations.specs.declared.fault.TypeError.TheVariants.{At}
 use Rattle.pb_typing_declarations.specs.Faults.{unless, IsAmong}
 use Rattle.pb_typing_declarations.specs.Shapes as model
 use Rattle.pb_typing_declarations.specs.View.{spec_of}
-use Rattle.pb_typing_rules.proofs.Parts.{among_left, among_right, among_first, first_clear}
+use Rattle.pb_typing_declarations.proofs.Parts.{among_left, among_right, among_first, first_clear}
+use Rattle.pb_typing_declarations.specs.declared.fault.TypingFault.{TypingFault}
 use Rattle.pb_typing.specs.Scopes.{scope_view, table_view, inner_view}
-use Rattle.pb_typing.specs.View.{Judges, shape_view, operation_of, is_no_link}
+use Rattle.pb_typing.specs.View.{Judges, shape_view, function_view, operation_of, is_no_link}
 use Rattle.pb_evaluation.proofs.Weight.{weight, weight-chain, weight-arithmetic, weight-application, links_weight, arithmetic_weight, arguments_weight, link_lighter, operand_lighter}
-use Rattle.pb_typing.proofs.Links.{link_faults, chained-faults, chained-shape, arithmetic_faults, calculated-faults, calculated-shape, calculated_shape, links-drop, links-ended, some_link_shape}
+use Rattle.pb_typing.proofs.Links.{chained-faults, chained-shape, arithmetic_faults, calculated-faults, calculated-shape, calculated_shape, some_link_shape}
 use Rattle.pb_typing.proofs.Nodes.{comparison_left, comparison_right, quantified_variables, quantified_body, inner_scope, length-shapes, one_argument, two_arguments, three_arguments, application_faults, first_fault, second_fault, third_fault}
+use Rattle.pb_typing.proofs.Applications.{one_applied, two_applied, three_applied}
 use Rattle.pb_typing.proofs.term.+terms.Goals as goal
+use Rattle.pb_typing.specs.Chains.{link_faults, chain_faults, chain_shape}
 
 -- ---- functions
 
@@ -88,15 +94,103 @@ check_application-returns-in_err-right-in-len3 t c =
     third_fault _ _ (named c.args.name.now) xs [] q.result x.result y.result _ (three_arguments xs q.result x.result y.result c.in-len3.len_at_least c.in-len3.len_below q.is x.is y.is) c.in_err-right-in-len3.ensures in
     search rules
 
+-- ---- functions whose arguments have no faults
+
+pub check_application-returns-in_ok-apply_one-in-len1 : goal.check_application-returns-in_ok-apply_one-in-len1
+check_application-returns-in_ok-apply_one-in-len1 t c =
+    let S = spec_of c.args.declarations.now in
+    let a = scope_view c.args.scope.now in
+    let f = named c.args.name.now in
+    let g = function_view c.in_ok-function.function in
+    let xs = c.args.arguments.now in
+    let x = c.x-item.result in
+    let all = one_applied S a f xs g x (shape_view c.in_ok-shape-in-len1.shape) c.in_ok-function.ensures
+    (one_argument xs x c.in-len1.len_at_least c.in-len1.len_below c.x-item.is) c.in_ok-shape-in-len1.ensures in
+    (all.faults ∙ c.in_ok-apply_one-in-len1.ensures.0, c.in_ok-apply_one-in-len1.ensures.1 ∙ all.shape)
+
+pub check_application-returns-in_err-apply_one-in-len1 : goal.check_application-returns-in_err-apply_one-in-len1
+check_application-returns-in_err-apply_one-in-len1 t c =
+    let S = spec_of c.args.declarations.now in
+    let a = scope_view c.args.scope.now in
+    let f = named c.args.name.now in
+    let g = function_view c.in_ok-function.function in
+    let xs = c.args.arguments.now in
+    let x = c.x-item.result in
+    let all = one_applied S a f xs g x (shape_view c.in_ok-shape-in-len1.shape) c.in_ok-function.ensures
+    (one_argument xs x c.in-len1.len_at_least c.in-len1.len_below c.x-item.is) c.in_ok-shape-in-len1.ensures in
+    let e = c.in_err-apply_one-in-len1.field-0.0 in
+    let h : IsAmong (application_faults S a f xs) (At e) =
+    subst (λ (fs : List TypingFault). IsAmong fs (At e)) (sym all.faults) c.in_err-apply_one-in-len1.ensures in
+    search rules
+
+pub check_application-returns-in_ok-apply_two-in-len2 : goal.check_application-returns-in_ok-apply_two-in-len2
+check_application-returns-in_ok-apply_two-in-len2 t c =
+    let S = spec_of c.args.declarations.now in
+    let a = scope_view c.args.scope.now in
+    let f = named c.args.name.now in
+    let g = function_view c.in_ok-function.function in
+    let xs = c.args.arguments.now in
+    let x = (c.x-item-then-arguments-lt3).result in
+    let y = c.y-item.result in
+    let all = two_applied S a f xs g x y (shape_view c.in_ok-left-in-len2.left) (shape_view c.in_ok-right-in-len2.right) c.in_ok-function.ensures
+    (two_arguments xs x y c.in-len2.len_at_least c.in-len2.len_below (c.x-item-then-arguments-lt3).is c.y-item.is) c.in_ok-left-in-len2.ensures c.in_ok-right-in-len2.ensures in
+    (all.faults ∙ c.in_ok-apply_two-in-len2.ensures.0, c.in_ok-apply_two-in-len2.ensures.1 ∙ all.shape)
+
+pub check_application-returns-in_err-apply_two-in-len2 : goal.check_application-returns-in_err-apply_two-in-len2
+check_application-returns-in_err-apply_two-in-len2 t c =
+    let S = spec_of c.args.declarations.now in
+    let a = scope_view c.args.scope.now in
+    let f = named c.args.name.now in
+    let g = function_view c.in_ok-function.function in
+    let xs = c.args.arguments.now in
+    let x = (c.x-item-then-arguments-lt3).result in
+    let y = c.y-item.result in
+    let all = two_applied S a f xs g x y (shape_view c.in_ok-left-in-len2.left) (shape_view c.in_ok-right-in-len2.right) c.in_ok-function.ensures
+    (two_arguments xs x y c.in-len2.len_at_least c.in-len2.len_below (c.x-item-then-arguments-lt3).is c.y-item.is) c.in_ok-left-in-len2.ensures c.in_ok-right-in-len2.ensures in
+    let e = c.in_err-apply_two-in-len2.field-0.0 in
+    let h : IsAmong (application_faults S a f xs) (At e) =
+    subst (λ (fs : List TypingFault). IsAmong fs (At e)) (sym all.faults) c.in_err-apply_two-in-len2.ensures in
+    search rules
+
+pub check_application-returns-in_ok-apply_three-in-len3 : goal.check_application-returns-in_ok-apply_three-in-len3
+check_application-returns-in_ok-apply_three-in-len3 t c =
+    let S = spec_of c.args.declarations.now in
+    let a = scope_view c.args.scope.now in
+    let f = named c.args.name.now in
+    let g = function_view c.in_ok-function.function in
+    let xs = c.args.arguments.now in
+    let q = c.condition-item in
+    let x = c.x-item-then-arguments-lt4 in
+    let y = c.y-item-then-arguments-lt4 in
+    let all = three_applied S a f xs g q.result x.result y.result (shape_view c.in_ok-condition-in-len3.condition) (shape_view c.in_ok-left-in-len3.left) (shape_view c.in_ok-right-in-len3.right) c.in_ok-function.ensures
+    (three_arguments xs q.result x.result y.result c.in-len3.len_at_least c.in-len3.len_below q.is x.is y.is) c.in_ok-condition-in-len3.ensures c.in_ok-left-in-len3.ensures c.in_ok-right-in-len3.ensures in
+    (all.faults ∙ c.in_ok-apply_three-in-len3.ensures.0, c.in_ok-apply_three-in-len3.ensures.1 ∙ all.shape)
+
+pub check_application-returns-in_err-apply_three-in-len3 : goal.check_application-returns-in_err-apply_three-in-len3
+check_application-returns-in_err-apply_three-in-len3 t c =
+    let S = spec_of c.args.declarations.now in
+    let a = scope_view c.args.scope.now in
+    let f = named c.args.name.now in
+    let g = function_view c.in_ok-function.function in
+    let xs = c.args.arguments.now in
+    let q = c.condition-item in
+    let x = c.x-item-then-arguments-lt4 in
+    let y = c.y-item-then-arguments-lt4 in
+    let all = three_applied S a f xs g q.result x.result y.result (shape_view c.in_ok-condition-in-len3.condition) (shape_view c.in_ok-left-in-len3.left) (shape_view c.in_ok-right-in-len3.right) c.in_ok-function.ensures
+    (three_arguments xs q.result x.result y.result c.in-len3.len_at_least c.in-len3.len_below q.is x.is y.is) c.in_ok-condition-in-len3.ensures c.in_ok-left-in-len3.ensures c.in_ok-right-in-len3.ensures in
+    let e = c.in_err-apply_three-in-len3.field-0.0 in
+    let h : IsAmong (application_faults S a f xs) (At e) =
+    subst (λ (fs : List TypingFault). IsAmong fs (At e)) (sym all.faults) c.in_err-apply_three-in-len3.ensures in
+    search rules
+
 -- ---- chains
 
 pub check_chain-returns-in_err-left : goal.check_chain-returns-in_err-left
 check_chain-returns-in_err-left t c =
     let S = spec_of c.args.declarations.now in
     let a = scope_view c.args.scope.now in
-    let whole = term_faults S c.args.stands a (chained (TermForm.connected c.args.connective) (term_form c.args.first.now) (term_links c.args.links.now)) in
-    let h : IsAmong whole c.in_err-left.field-0.0 =
-    among_first whole _ _ c.in_err-left.field-0.0 (chained-faults S c.args.stands a c.args.connective (term_form c.args.first.now) c.args.links.now) c.in_err-left.ensures in
+    let whole = chain_faults S c.args.stands a (term_form c.args.first.now) c.args.links.now in
+    let h : IsAmong whole c.in_err-left.field-0.0 = among_first whole _ _ c.in_err-left.field-0.0 refl c.in_err-left.ensures in
     search rules
 
 pub check_chain-loop-index-init : goal.check_chain-loop-index-init
@@ -106,7 +200,7 @@ check_chain-loop-index-init t c =
     let checked = c.in_ok-left.ensures in
     record {
       left =
-          first_clear _ _ _ (chained-faults S c.args.stands a c.args.connective (term_form c.args.first.now) c.args.links.now) checked.0
+          first_clear _ _ _ refl checked.0
           ∙ ap (λ (s : model.Shape). link_faults S c.args.stands a s c.args.links.now) (sym checked.1);
       first = λ _. checked.1;
     }
@@ -119,8 +213,8 @@ pub check_chain-returns-in_err-left-2 : goal.check_chain-returns-in_err-left-2
 check_chain-returns-in_err-left-2 t c =
     let S = spec_of c.args.declarations.now in
     let a = scope_view c.args.scope.now in
-    let whole = term_faults S c.args.stands a (chained (TermForm.connected c.args.connective) (term_form c.args.first.now) (term_links c.args.links.now)) in
-    let next = ap (link_faults S c.args.stands a (shape_view c.loop-index.left)) (links-drop c.args.links.now c.loop-index.index c.index-links-index.result c.loop-index-test.true c.index-links-index.is) in
+    let whole = chain_faults S c.args.stands a (term_form c.args.first.now) c.args.links.now in
+    let next = ap (link_faults S c.args.stands a (shape_view c.loop-index.left)) (drop-at c.args.links.now c.loop-index.index c.index-links-index.result c.loop-index-test.true c.index-links-index.is) in
     let place = c.index-links-index.result.place in
     let passed = sym (ap (λ (b : Bool). unless b rule.WrongKind place) c.may_be_truth.ensures) ∙ c.in_ok-require.ensures in
     let h : IsAmong whole (c.in_err-left-2).field-0.0 =
@@ -164,7 +258,7 @@ check_arithmetic-returns-in_err-right t c =
     let S = spec_of c.args.declarations.now in
     let a = scope_view c.args.scope.now in
     let whole = term_faults S c.args.stands a (calculated (term_form c.args.first.now) (arithmetic_links c.args.links.now)) in
-    let next = ap (arithmetic_faults S a (shape_view c.loop-link.left)) (links-drop c.args.links.now c.loop-link.link-index c.link-item.result c.loop-link-test.true c.link-item.is) in
+    let next = ap (arithmetic_faults S a (shape_view c.loop-link.left)) (drop-at c.args.links.now c.loop-link.link-index c.link-item.result c.loop-link-test.true c.link-item.is) in
     let h : IsAmong whole c.in_err-right.field-0.0 =
     among_first whole _ _ c.in_err-right.field-0.0 (c.loop-link.invariant.left ∙ next) c.in_err-right.ensures in
     search rules
@@ -175,7 +269,7 @@ check_arithmetic-returns-in_err-left-2 t c =
     let a = scope_view c.args.scope.now in
     let whole = term_faults S c.args.stands a (calculated (term_form c.args.first.now) (arithmetic_links c.args.links.now)) in
     let link = c.link-item.result in
-    let next = ap (arithmetic_faults S a (shape_view c.loop-link.left)) (links-drop c.args.links.now c.loop-link.link-index link c.loop-link-test.true c.link-item.is) in
+    let next = ap (arithmetic_faults S a (shape_view c.loop-link.left)) (drop-at c.args.links.now c.loop-link.link-index link c.loop-link-test.true c.link-item.is) in
     let checked = c.in_ok-right.ensures in
     let rest = first_clear whole _ _ (c.loop-link.invariant.left ∙ next) checked.0 in
     let here = subst (λ (s : model.Shape). IsAmong (operator_faults (Computed (operation_of link.operator)) (shape_view c.loop-link.left) s link.place) (At (c.in_err-left-2).field-0.0)) checked.1 (c.in_err-left-2).ensures in
@@ -192,11 +286,16 @@ pub check_term-returns-in-Chain : goal.check_term-returns-in-Chain
 check_term-returns-in-Chain t c =
     let S = spec_of c.args.declarations.now in
     let a = scope_view c.args.scope.now in
+    let o = c.in-Chain.connective in
     let f = c.in-Chain.first in
-    let is = ap term_form c.in-Chain.is ∙ term-chain c.in-Chain.connective f c.in-Chain.links in
-    let same = ap (λ (x : Term). chained (TermForm.connected c.in-Chain.connective) (term_form x) (term_links c.deref-in-Chain-2.result.now)) c.deref-in-Chain.ensures
-    ∙ (ap (λ (ls : List TermLink). chained (TermForm.connected c.in-Chain.connective) (term_form f.value) (term_links ls)) c.deref-in-Chain-2.ensures.value ∙ sym is) in
-    subst (λ (x : TermForm). Judges (term_faults S c.args.stands a x) (shape S a (erased_term x)) c.check_chain.result) same c.check_chain.ensures
+    let ls = c.in-Chain.links in
+    let is = ap term_form c.in-Chain.is ∙ term-chain o f ls in
+    let here : Judges (chain_faults S c.args.stands a (term_form f.value) ls.items) (chain_shape (shape S a (erased_term (term_form f.value))) ls.items) c.check_chain.result =
+    subst (λ (ys : List TermLink). Judges (chain_faults S c.args.stands a (term_form f.value) ys) (chain_shape (shape S a (erased_term (term_form f.value))) ys) c.check_chain.result) c.deref-in-Chain-2.ensures.value
+    (subst (λ (x : Term). Judges (chain_faults S c.args.stands a (term_form x) c.deref-in-Chain-2.result.now) (chain_shape (shape S a (erased_term (term_form x))) c.deref-in-Chain-2.result.now) c.check_chain.result) c.deref-in-Chain.ensures c.check_chain.ensures) in
+    subst (λ (x : TermForm). Judges (term_faults S c.args.stands a x) (shape S a (erased_term x)) c.check_chain.result) (sym is)
+    (subst (λ (fs : List TypingFault). Judges fs (shape S a (erased_term (chained (TermForm.connected o) (term_form f.value) (term_links ls.items)))) c.check_chain.result) (sym (chained-faults S c.args.stands a o (term_form f.value) ls.items))
+    (subst (λ (s : model.Shape). Judges (chain_faults S c.args.stands a (term_form f.value) ls.items) s c.check_chain.result) (sym (chained-shape S a o (term_form f.value) ls.items)) here))
 
 pub check_term-check_arithmetic-requires : goal.check_term-check_arithmetic-requires
 check_term-check_arithmetic-requires t c =
@@ -261,18 +360,18 @@ check_term-returns-in_ok-table-in-Quantified t c =
     let table = table_view c.in_ok-table-in-Quantified.table in
     let groups = c.deref-in-Quantified.result.now in
     let xs = erased_variables (variable_forms groups) in
-    quantified_body S c.args.stands a (inner_view c.in_ok-table-in-Quantified.table a) c.args.term.now c.deref-in-Quantified-3.result.now q.place q.quantifier q.variables q.body groups c.check_body.result
+    quantified_body S c.args.stands a (inner_view c.in_ok-table-in-Quantified.table a) c.args.term.now c.deref-in-Quantified-3.result.now q.place q.quantifier q.variables q.body groups c.check_boolean-in-Quantified.result
     q.is c.deref-in-Quantified-3.ensures c.deref-in-Quantified.ensures.value
     c.in_ok-require-in-Quantified.ensures c.in_ok-check_variables-in-Quantified.ensures
     (inner_scope S xs table a (λ x. c.in_ok-table-in-Quantified.ensures x ∙ ap (λ (gs : List Variables). bound S (erased_variables (variable_forms gs)) outermost x) (c.deref-in-Quantified-2.ensures.value ∙ sym c.deref-in-Quantified.ensures.value)))
-    c.check_body.ensures
+    c.check_boolean-in-Quantified.ensures
 
-pub check_body-returns-in_err-shape : goal.check_body-returns-in_err-shape
-check_body-returns-in_err-shape t c =
+pub check_boolean-returns-in_err-shape : goal.check_boolean-returns-in_err-shape
+check_boolean-returns-in_err-shape t c =
     let S = spec_of c.args.declarations.now in
-    let i = inner_view c.args.table.now (scope_view c.args.outer.now) in
-    let h : IsAmong (term_faults S c.args.stands i (term_form c.args.body.now) ++ unless (may_be_truth (shape S i (erased_term (term_form c.args.body.now)))) rule.WrongKind c.args.place) c.in_err-shape.field-0.0 =
-    among_left (term_faults S c.args.stands i (term_form c.args.body.now)) _ c.in_err-shape.field-0.0 c.in_err-shape.ensures in
+    let a = scope_view c.args.scope.now in
+    let h : IsAmong (term_faults S c.args.stands a (term_form c.args.operand.now) ++ unless (may_be_truth (shape S a (erased_term (term_form c.args.operand.now)))) rule.WrongKind c.args.place) c.in_err-shape.field-0.0 =
+    among_left (term_faults S c.args.stands a (term_form c.args.operand.now)) _ c.in_err-shape.field-0.0 c.in_err-shape.ensures in
     search rules
 
 pub check_chain-returns-else-is_empty : goal.check_chain-returns-else-is_empty
@@ -280,6 +379,6 @@ check_chain-returns-else-is_empty t c =
     let S = spec_of c.args.declarations.now in
     let a = scope_view c.args.scope.now in
     let links = c.args.links.now in (
-      c.loop-index.invariant.left ∙ ap (link_faults S c.args.stands a (shape_view c.loop-index.left)) (links-ended links c.loop-index.index (omega (arith, c.loop-index-test.false))),
-      some_link_shape (shape S a (erased_term (term_form c.args.first.now))) links (sym c.is_empty.ensures ∙ c.if-is_empty.false) ∙ sym (chained-shape S a c.args.connective (term_form c.args.first.now) links),
+      c.loop-index.invariant.left ∙ ap (link_faults S c.args.stands a (shape_view c.loop-index.left)) (drop_all c.loop-index.index links (omega (arith, c.loop-index-test.false))),
+      some_link_shape (shape S a (erased_term (term_form c.args.first.now))) links (sym c.is_empty.ensures ∙ c.if-is_empty.false),
     )

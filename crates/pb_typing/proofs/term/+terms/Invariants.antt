@@ -1,5 +1,5 @@
 use Rattle.std.proofs.Common.{◌≡◌, ◌+◌, drop}
-use Rattle.pb_text_tree.specs.Form.{TermForm, arithmetic_links, calculated, chained, term_form, term_links}
+use Rattle.pb_text_tree.specs.Form.{arithmetic_links, calculated, term_form}
 use Rattle.pb_text_meaning.specs.Erase.{erased_term}
 use Rattle.pb_typing_rules.specs.Faults.{term_faults}
 use Rattle.pb_typing_rules.specs.Term.{shape}
@@ -7,8 +7,9 @@ use Rattle.pb_typing_declarations.specs.View.{spec_of}
 use Rattle.pb_typing.specs.Scopes.{scope_view}
 use Rattle.pb_typing.specs.View.{shape_view}
 use Rattle.pb_evaluation.proofs.Weight.{weight, links_weight, arithmetic_weight, arguments_weight}
-use Rattle.pb_typing.proofs.Links.{link_faults, arithmetic_faults, calculated_shape}
+use Rattle.pb_typing.proofs.Links.{arithmetic_faults, calculated_shape}
 use Rattle.pb_typing.proofs.term.+terms.Given as goal
+use Rattle.pb_typing.specs.Chains.{link_faults, chain_faults}
 
 abbrev pub decreases-check_term : goal.decreases-check_term
 decreases-check_term l = weight l.term.now
@@ -28,7 +29,7 @@ invariant-check_chain-loop-index l =
     let S = spec_of l.declarations in
     let a = scope_view l.scope in
     record {
-      left : term_faults S l.stands a (chained (TermForm.connected l.fn.connective) (term_form l.first) (term_links l.links)) ≡ link_faults S l.stands a (shape_view l.left) (drop l.index l.links);
+      left : chain_faults S l.stands a (term_form l.first) l.links ≡ link_faults S l.stands a (shape_view l.left) (drop l.index l.links);
       first : l.index ≡ 0 → shape_view l.left ≡ shape S a (erased_term (term_form l.first));
     }
 
@@ -42,5 +43,5 @@ invariant-check_arithmetic-loop-link l =
       whole : shape S a (erased_term (calculated (term_form l.first) (arithmetic_links l.links))) ≡ calculated_shape S a (shape_view l.left) (drop l.link-index l.links);
     }
 
-abbrev pub decreases-check_body : goal.decreases-check_body
-decreases-check_body l = 1 + weight l.body.now
+abbrev pub decreases-check_boolean : goal.decreases-check_boolean
+decreases-check_boolean l = 1 + weight l.operand.now

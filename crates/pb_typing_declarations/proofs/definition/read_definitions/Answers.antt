@@ -1,6 +1,7 @@
 use Rattle.std.proofs.Common.{◌≡◌, ◌++◌, ◌+◌, ℕ, List, [], ◌∷◌, drop, rules, map, sym, ap, subst, ◌∙◌, ◌≤◌, string_bytes}
 use Rattle.std.specs.Prelude.{flat_map}
 use Rattle.std.proofs.lemmas.Grind.{flat_map-append}
+use Rattle.pb_sorts.proofs.Places.{drop-at}
 use Rattle.pb_text_tree.specs.declared.sort.SortDeclaration.{SortDeclaration}
 use Rattle.pb_text_tree.specs.Form.{SortDeclarationForm, named, sort_form, sort_declaration_form}
 use Rattle.pb_text_meaning.specs.Syntax.{Name}
@@ -11,7 +12,6 @@ use Rattle.pb_typing_declarations.specs.Tables.{entry_names, entry_values}
 use Rattle.pb_typing_declarations.specs.Entries.{shown_entries, data_in, all_data}
 use Rattle.pb_typing_declarations.specs.Declarations.{struct_faults, structs_faults, names_of_enumerator, enumerators_of_sort, all_enumerator_forms}
 use Rattle.pb_typing_declarations.proofs.Parts.{among_first, first_clear}
-use Rattle.pb_typing_declarations.proofs.Loops.{next}
 use Rattle.pb_typing_declarations.proofs.Structs.{number_after, few_after, faults_next, names-pushed, grown, grown_by, shown-pushed, pair_path}
 use Rattle.pb_typing_declarations.proofs.definition.read_definitions.Goals as goal
 
@@ -42,7 +42,7 @@ loop-declaration-preserved c =
     let names = c.loop-declaration.names.items in
     let m = number_behind n (erased_sort (sort_form d.sort)) in
     let number : n + c.struct_count-number.result ≡ m = ap (λ (v : ℕ). n + v) c.struct_count-number.ensures ∙ number_after n (sort_form d.sort) c.in_ok-definition.definition is.is in
-    let following : drop k ds ≡ d ∷ rest = next ds k d c.loop-declaration-test.true c.declaration-item.is in
+    let following : drop k ds ≡ d ∷ rest = drop-at ds k d c.loop-declaration-test.true c.declaration-item.is in
     let inv = c.loop-declaration.invariant in
     let pushed = c.in_ok-push.ensures.items in
     record {

@@ -1,5 +1,6 @@
 use Rattle.std.proofs.Common.{◌++◌, ◌+◌, Bool, List, [], drop, rules, sym, ap, ◌∙◌, arith}
 use Rattle.std.specs.Prelude.{Option}
+use Rattle.std.proofs.lemmas.List.{drop_all}
 use Rattle.pb_text_meaning.specs.Syntax.{Name}
 use Rattle.pb_typing_declarations.specs.declared.fault.TypingRule.TheVariants.{NameTwice}
 use Rattle.pb_typing_declarations.specs.declared.fault.TypeError.TheVariants.{At}
@@ -7,7 +8,7 @@ use Rattle.pb_typing_declarations.specs.Faults.{unless, repeated, IsAmong}
 use Rattle.pb_typing_declarations.specs.Shapes.{first}
 use Rattle.pb_typing_declarations.specs.Tables.{entry_names, entry_values, looked_up}
 use Rattle.pb_typing_declarations.proofs.Parts.{among_first, first_clear, holds_unless}
-use Rattle.pb_typing_declarations.proofs.Filling.{Seen, seen_repeated, seen_too, repeated_after-seen, has, or_first, names-drop, values-drop, ended, none_in, none_has, put_in, has-put, first_put, or_none, absent, is_new}
+use Rattle.pb_typing_declarations.proofs.Filling.{Seen, seen_repeated, seen_too, repeated_after-seen, has, or_first, names-drop, values-drop, none_in, none_has, put_in, has-put, first_put, or_none, absent, is_new}
 use Rattle.pb_typing_declarations.proofs.table.table.Goals as goal
 
 pub loop-entry-init : goal.loop-entry-init
@@ -60,7 +61,7 @@ loop-entry-preserved g c =
 pub returns : goal.returns
 returns g c =
     let E = c.args.entries.now in
-    let end = ended E c.loop-entry.entry-index (omega (arith, c.loop-entry-test.false)) in (
+    let end = drop_all c.loop-entry.entry-index E (omega (arith, c.loop-entry-test.false)) in (
       c.loop-entry.invariant.left ∙ ap (λ es. seen_repeated (has c.loop-entry.table) (entry_names es)) end,
       λ x. sym (c.loop-entry.invariant.found x ∙ (ap (λ es. or_first (looked_up c.loop-entry.table x) (first (entry_values es) x)) end ∙ or_none (looked_up c.loop-entry.table x))),
     )

@@ -4,6 +4,7 @@ use Rattle.pb_carriers.specs.Carrier.{tuple_count}
 use Rattle.pb_sorts.specs.declared.limits.TheConstants.{MAX_INSTANCES}
 use Rattle.pb_sorts.specs.Layout as layouts
 use Rattle.pb_sorts.specs.Layout.{lists_of}
+use Rattle.pb_sorts.proofs.Places.{drop-at}
 use Rattle.pb_text_tree.specs.declared.spec.Equation as ast
 use Rattle.pb_text_tree.specs.Form.{spec_form, equation_form}
 use Rattle.pb_text_meaning.specs.Syntax.{Equation}
@@ -18,7 +19,6 @@ use Rattle.pb_typing_declarations.specs.Declarations.{stays_within, equation_fau
 use Rattle.pb_typing_declarations.specs.declared.fault.TypingFault.{TypingFault}
 use Rattle.pb_typing_declarations.proofs.Passing.{stays}
 use Rattle.pb_typing_declarations.proofs.Parts.{among_first, first_clear}
-use Rattle.pb_typing_declarations.proofs.Loops.{next}
 use Rattle.pb_typing_declarations.proofs.Structs.{grown}
 use Rattle.pb_typing_declarations.proofs.EquationLemmas.{sizes_are, lists_pushed, shapes_pushed, all_pushed}
 use Rattle.pb_typing_declarations.proofs.tables.Tables.carriers.Goals as goal
@@ -33,7 +33,7 @@ returns-in_err-parameters c =
     let whole = equations_faults_behind S 0 (map equation_form E) in
     let h : IsAmong whole e =
     among_first whole (equation_faults S (equation_form X)) _ e
-    (c.loop-equation.invariant.left ∙ ap (λ (xs : List ast.Equation). equations_faults_behind S c.loop-equation.count (map equation_form xs)) (next E k X c.loop-equation-test.true c.equation-item.is))
+    (c.loop-equation.invariant.left ∙ ap (λ (xs : List ast.Equation). equations_faults_behind S c.loop-equation.count (map equation_form xs)) (drop-at E k X c.loop-equation-test.true c.equation-item.is))
     c.in_err-parameters.ensures in
     search rules
 
@@ -52,7 +52,7 @@ returns-in_err-count c =
     let h : IsAmong whole e =
     among_first whole (unless (stays_within MAX_INSTANCES n (n + tuple_count size)) Limit X.name.place) _ e
     (first_clear _ (equation_faults S (equation_form X)) _
-    (inv.left ∙ ap (λ (xs : List ast.Equation). equations_faults_behind S n (map equation_form xs)) (next E k X c.loop-equation-test.true c.equation-item.is)) has.clear)
+    (inv.left ∙ ap (λ (xs : List ast.Equation). equations_faults_behind S n (map equation_form xs)) (drop-at E k X c.loop-equation-test.true c.equation-item.is)) has.clear)
     (subst (λ (zs : List TypingFault). IsAmong zs e)
     (sym (ap (λ (b : Bool). unless b Limit X.name.place) (stays MAX_INSTANCES n (n + tuple_count size) inv.few)
     ∙ ap (λ cs. unless (nat_le (n + tuple_count cs) MAX_INSTANCES) Limit X.name.place) (sym (sizes_are c.in_ok-parameters.parameters c.deref.result.now c.deref.ensures.value has.values))))
@@ -67,7 +67,7 @@ loop-equation-preserved c =
     let n = c.loop-equation.count in
     let X = c.equation-item.result in
     let rest : List ast.Equation = drop (k + 1) E in
-    let following : drop k E ≡ X ∷ rest = next E k X c.loop-equation-test.true c.equation-item.is in
+    let following : drop k E ≡ X ∷ rest = drop-at E k X c.loop-equation-test.true c.equation-item.is in
     let inv = c.loop-equation.invariant in
     let has = c.in_ok-parameters.ensures in
     let adds = c.in_ok-count.ensures in

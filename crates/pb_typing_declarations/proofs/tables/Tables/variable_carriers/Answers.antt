@@ -1,5 +1,5 @@
 use Rattle.std.proofs.Common.{◌∙◌, ◌++◌, ◌≤◌, length, List, rules, arith, sym, ap, subst, map}
-use Rattle.std.proofs.lemmas.List.{append-nil}
+use Rattle.std.proofs.lemmas.List.{append-nil, drop_all}
 use denote.Ref.{Bor}
 use Rattle.pb_sorts.specs.Carrier.{values_of}
 use Rattle.pb_text_tree.specs.declared.name.Name.{Name}
@@ -14,7 +14,7 @@ use Rattle.pb_typing_declarations.specs.Shapes.{variable_shapes}
 use Rattle.pb_typing_declarations.specs.Variables.{variable_of, variables_of}
 use Rattle.pb_typing_declarations.specs.Declarations.{variable_names, variable_faults, variables_faults}
 use Rattle.pb_typing_declarations.proofs.Parts.{among_left, among_right, no_whole}
-use Rattle.pb_typing_declarations.proofs.Loops.{among_item, all_clear, finished}
+use Rattle.pb_typing_declarations.proofs.Loops.{among_item, all_clear}
 use Rattle.pb_typing_declarations.proofs.VariableLemmas.{names-variables_of}
 use Rattle.pb_typing_declarations.proofs.tables.Tables.variable_carriers.Goals as goal
 
@@ -52,8 +52,8 @@ returns c =
           (all_clear (variable_faults S) variable_of es k end c.loop-variable.invariant.left);
       values = sym
           (c.loop-variable.invariant.values
-          ∙ (ap (λ (xs : List (Entry (Bor Name))). carriers ++ carriers_of S (erased_variables (variables_of xs))) (finished es k end) ∙ append-nil carriers));
+          ∙ (ap (λ (xs : List (Entry (Bor Name))). carriers ++ carriers_of S (erased_variables (variables_of xs))) (drop_all k es end) ∙ append-nil carriers));
       shapes = sym
           (c.loop-variable.invariant.shapes
-          ∙ (ap (λ (xs : List (Entry (Bor Name))). shapes ++ variable_shapes S (erased_variables (variables_of xs))) (finished es k end) ∙ append-nil shapes));
+          ∙ (ap (λ (xs : List (Entry (Bor Name))). shapes ++ variable_shapes S (erased_variables (variables_of xs))) (drop_all k es end) ∙ append-nil shapes));
     }

@@ -1,4 +1,4 @@
--- What an accepted text has.
+-- A text that typing accepts has no fault in its declarations, and is well typed.
 use Rattle.std.proofs.Common.{◌≡◌, true, List, [], ◌∷◌, refl, true≢false, sym}
 use Rattle.pb_text_tree.specs.Form.{SpecForm}
 use Rattle.pb_text_meaning.specs.Erase.{erase}
@@ -6,16 +6,16 @@ use Rattle.pb_typing_declarations.specs.declared.fault.TypingFault.{TypingFault}
 use Rattle.pb_typing_declarations.specs.Declarations.{declaration_faults}
 use Rattle.pb_typing_rules.specs.Faults.{faults}
 use Rattle.pb_typing_rules.specs.WellTyped.{IsWellTyped}
-use Rattle.pb_typing_rules.proofs.Parts.{no_parts}
-use Rattle.pb_typing_rules.proofs.WellTypedLemmas as laws
+use Rattle.pb_typing_declarations.proofs.Parts.{no_parts}
+use Rattle.pb_typing_rules.proofs.WellTypedLemmas.{well_typed}
 use Rattle.pb_typing.specs.Typed.{is_none, is_faultless}
 
 none : (fs : List TypingFault) → is_none fs ≡ true → fs ≡ []
 none [] e = refl
 none (f ∷ fs) e = absurd (true≢false (sym e))
 
-pub declared : (text : SpecForm) → is_faultless text ≡ true → declaration_faults text ≡ []
-declared text e = (no_parts (declaration_faults text) _ (none (faults text) e)).0
+pub accepted-declared : (text : SpecForm) → is_faultless text ≡ true → declaration_faults text ≡ []
+accepted-declared text e = (no_parts (declaration_faults text) _ (none (faults text) e)).0
 
-pub well_typed : (text : SpecForm) → is_faultless text ≡ true → IsWellTyped (erase text)
-well_typed text e = laws.well_typed text (none (faults text) e)
+pub accepted-well-typed : (text : SpecForm) → is_faultless text ≡ true → IsWellTyped (erase text)
+accepted-well-typed text e = well_typed text (none (faults text) e)

@@ -8,16 +8,16 @@ use Rattle.pb_typing_rules.specs.Faults.{formula_faults}
 use Rattle.pb_typing_rules.specs.Scope.{bound, outermost}
 use Rattle.pb_typing_declarations.specs.Faults.{IsAmong}
 use Rattle.pb_typing_declarations.specs.View.{spec_of}
-use Rattle.pb_typing_rules.proofs.Parts.{among_first, first_clear}
+use Rattle.pb_typing_declarations.proofs.Parts.{among_first, first_clear}
 use Rattle.pb_typing.specs.Scopes.{scope_view, table_view, inner_view}
 use Rattle.pb_evaluation.proofs.FormulaWeight.{weight, weight-chain, links_weight, link_lighter}
 use Rattle.pb_typing.proofs.FormulaLinks.{link_faults, chain_first, chain_next}
 use Rattle.pb_typing.proofs.FormulaNodes.{node, negation_node, value_node, quantified_variables, quantified_body}
 use Rattle.pb_typing.proofs.Nodes.{inner_scope}
-use Rattle.pb_typing.proofs.formula.+formulas.Goals as goal
+use Rattle.pb_typing.proofs.formula.+check_formula.Goals as goal
 
-pub check_formula-returns-in_err-check_formula-in-Chain : goal.check_formula-returns-in_err-check_formula-in-Chain
-check_formula-returns-in_err-check_formula-in-Chain t c =
+pub returns-in_err-check_formula-in-Chain : goal.returns-in_err-check_formula-in-Chain
+returns-in_err-check_formula-in-Chain t c =
     let S = spec_of c.args.declarations.now in
     let a = scope_view c.args.scope.now in
     let whole = formula_faults S c.args.even a (formula_form c.args.formula.now) in
@@ -28,8 +28,8 @@ check_formula-returns-in_err-check_formula-in-Chain t c =
     c.in_err-check_formula-in-Chain.ensures in
     search rules
 
-pub check_formula-loop-index-init : goal.check_formula-loop-index-init
-check_formula-loop-index-init t c =
+pub loop-index-init : goal.loop-index-init
+loop-index-init t c =
     let S = spec_of c.args.declarations.now in
     let a = scope_view c.args.scope.now in
     first_clear _ _ _
@@ -38,8 +38,8 @@ check_formula-loop-index-init t c =
     c.in_ok-check_formula-in-Chain.ensures
     ∙ ap (λ (links : List Link). link_faults S a c.in-Chain.connective c.args.even links) (sym c.deref-link-items.ensures.value)
 
-pub check_formula-check_formula-requires-in-loop-index : goal.check_formula-check_formula-requires-in-loop-index
-check_formula-check_formula-requires-in-loop-index t c = (
+pub check_formula-requires-in-loop-index : goal.check_formula-requires-in-loop-index
+check_formula-requires-in-loop-index t c = (
   omega (
     arith,
     c.decreases,
@@ -50,8 +50,8 @@ check_formula-check_formula-requires-in-loop-index t c = (
   c.requires,
 )
 
-pub check_formula-returns-in_err-check_formula-in-Chain-2 : goal.check_formula-returns-in_err-check_formula-in-Chain-2
-check_formula-returns-in_err-check_formula-in-Chain-2 t c =
+pub returns-in_err-check_formula-in-Chain-2 : goal.returns-in_err-check_formula-in-Chain-2
+returns-in_err-check_formula-in-Chain-2 t c =
     let S = spec_of c.args.declarations.now in
     let a = scope_view c.args.scope.now in
     let whole = formula_faults S c.args.even a (formula_form c.args.formula.now) in
@@ -62,8 +62,8 @@ check_formula-returns-in_err-check_formula-in-Chain-2 t c =
     (c.in_err-check_formula-in-Chain-2).ensures in
     search rules
 
-pub check_formula-returns-in_err-check_variables-in-Quantified : goal.check_formula-returns-in_err-check_variables-in-Quantified
-check_formula-returns-in_err-check_variables-in-Quantified t c =
+pub returns-in_err-check_variables-in-Quantified : goal.returns-in_err-check_variables-in-Quantified
+returns-in_err-check_variables-in-Quantified t c =
     let S = spec_of c.args.declarations.now in
     let a = scope_view c.args.scope.now in
     let q = c.in-Quantified in
@@ -71,25 +71,25 @@ check_formula-returns-in_err-check_variables-in-Quantified t c =
     quantified_variables S c.args.even a c.args.formula.now q.place q.quantifier q.variables q.body c.deref-in-Quantified.result.now _ q.is c.deref-in-Quantified.ensures.value c.in_err-check_variables-in-Quantified.ensures in
     search rules
 
-pub check_formula-returns-in-Value : goal.check_formula-returns-in-Value
-check_formula-returns-in-Value t c =
+pub returns-in-Value : goal.returns-in-Value
+returns-in-Value t c =
     value_node (spec_of c.args.declarations.now) c.args.even (scope_view c.args.scope.now) c.args.formula.now c.in-Value.place c.in-Value.term c.check_truth.result c.in-Value.is c.check_truth.ensures
 
-pub check_formula-returns-in-Instance : goal.check_formula-returns-in-Instance
-check_formula-returns-in-Instance t c =
+pub returns-in-Instance : goal.returns-in-Instance
+returns-in-Instance t c =
     node (spec_of c.args.declarations.now) c.args.even (scope_view c.args.scope.now) c.args.formula.now (ast.Instance c.in-Instance.instance) c.check_instance.result c.in-Instance.is c.check_instance.ensures
 
-pub check_formula-returns-in-Negation : goal.check_formula-returns-in-Negation
-check_formula-returns-in-Negation t c =
+pub returns-in-Negation : goal.returns-in-Negation
+returns-in-Negation t c =
     negation_node (spec_of c.args.declarations.now) c.args.even (scope_view c.args.scope.now) c.args.formula.now c.deref.result.now c.in-Negation.place c.in-Negation.operand c.check_formula.result c.in-Negation.is c.deref.ensures c.check_formula.ensures
 
-pub check_formula-returns-in_ok-table-in-Quantified : goal.check_formula-returns-in_ok-table-in-Quantified
-check_formula-returns-in_ok-table-in-Quantified t c =
+pub returns-in_ok-table-in-Quantified : goal.returns-in_ok-table-in-Quantified
+returns-in_ok-table-in-Quantified t c =
     let S = spec_of c.args.declarations.now in
     let a = scope_view c.args.scope.now in
     let q = c.in-Quantified in
     let groups = c.deref-in-Quantified.result.now in
-    quantified_body S c.args.even a (inner_view c.in_ok-table-in-Quantified.table a) c.args.formula.now c.deref-in-Quantified-3.result.now q.place q.quantifier q.variables q.body groups c.check_body.result
+    quantified_body S c.args.even a (inner_view c.in_ok-table-in-Quantified.table a) c.args.formula.now c.deref-in-Quantified-3.result.now q.place q.quantifier q.variables q.body groups c.check_formula-in-Quantified.result
     q.is c.deref-in-Quantified-3.ensures c.deref-in-Quantified.ensures.value c.in_ok-check_variables-in-Quantified.ensures
     (inner_scope S (erased_variables (variable_forms groups)) (table_view c.in_ok-table-in-Quantified.table) a (λ x. c.in_ok-table-in-Quantified.ensures x ∙ ap (λ (gs : List Variables). bound S (erased_variables (variable_forms gs)) outermost x) (c.deref-in-Quantified-2.ensures.value ∙ sym c.deref-in-Quantified.ensures.value)))
-    c.check_body.ensures
+    c.check_formula-in-Quantified.ensures

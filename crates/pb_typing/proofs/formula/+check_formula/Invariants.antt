@@ -1,19 +1,16 @@
-use Rattle.std.proofs.Common.{◌≡◌, ◌+◌, drop}
+use Rattle.std.proofs.Common.{◌≡◌, drop}
 use Rattle.pb_text_tree.specs.Form.{formula_form}
 use Rattle.pb_typing_rules.specs.Faults.{formula_faults}
 use Rattle.pb_typing_declarations.specs.View.{spec_of}
 use Rattle.pb_typing.specs.Scopes.{scope_view}
 use Rattle.pb_evaluation.proofs.FormulaWeight.{weight}
 use Rattle.pb_typing.proofs.FormulaLinks.{link_faults}
-use Rattle.pb_typing.proofs.formula.+formulas.Given as goal
+use Rattle.pb_typing.proofs.formula.+check_formula.Given as goal
 
 abbrev pub decreases-check_formula : goal.decreases-check_formula
 decreases-check_formula l = weight l.formula.now
 
-abbrev pub decreases-check_body : goal.decreases-check_body
-decreases-check_body l = 1 + weight l.body.now
-
 -- all faults of the formula are those of the links that are left
-abbrev pub invariant-check_formula-loop-index : goal.invariant-check_formula-loop-index
-invariant-check_formula-loop-index l =
+abbrev pub invariant-loop-index : goal.invariant-loop-index
+invariant-loop-index l =
     formula_faults (spec_of l.declarations) l.even (scope_view l.scope) (formula_form l.formula) ≡ link_faults (spec_of l.declarations) (scope_view l.scope) l.connective l.even (drop l.index l.link-items)
