@@ -1,13 +1,13 @@
 -- The equations of a module, one by one.
 use Rattle.std.proofs.Common.{◌≡◌, ℕ, zero, suc, ◌+◌, ◌<◌, ◌≤◌, List, [], ◌∷◌, ◌++◌, map, length, get_or, drop, refl, sym, ap, ◌∙◌, subst, arith, Vec, Global, true}
 use Rattle.std.specs.List.{list_all}
-use Rattle.std.proofs.lemmas.List.{append_assoc, append-nil, map_push}
+use Rattle.std.proofs.lemmas.List.{append_assoc, append-nil, map_push, drop_all}
 use Rattle.pb_fixpoint.specs.declared.Sign.{Sign}
 use Rattle.pb_sorts.specs.declared.carrier.Carrier.{Carrier}
 use Rattle.pb_sorts.specs.Layout.{lists_of}
+use Rattle.pb_sorts.proofs.Places.{drop-at}
 use Rattle.pb_text_tree.specs.declared.spec.Equation as tree
 use Rattle.pb_text_tree.specs.Form.{EquationForm, equation_form}
-use Rattle.pb_typing.proofs.Links.{links-drop, links-ended}
 use Rattle.pb_bytecode.specs.Contents.{EquationContents}
 use Rattle.pb_bytecode.specs.Views.{equation_contents}
 use Rattle.pb_bytecode.specs.declared.equation.Equation as bytecode
@@ -82,7 +82,7 @@ dropped (x ∷ xs) (suc k) l = let h = dropped xs k l in omega arith
 module _ (callees : List (Vec Carrier Global)) (texts : List tree.Equation) (normals : List Equation) (k : ℕ) (X : Equation) (below : k < length normals) (at : X ≡ get_or normals k X) (done : List bytecode.Equation)
     (h : AreMade callees texts normals k done) where
   here : AreReady (lists_of callees) (lists_of (drop k callees)) (map equation_form (drop k texts)) (X ∷ drop (k + 1) normals)
-  here = subst (λ (E : List Equation). AreReady (lists_of callees) (lists_of (drop k callees)) (map equation_form (drop k texts)) E) (links-drop normals k X below at) h.ready
+  here = subst (λ (E : List Equation). AreReady (lists_of callees) (lists_of (drop k callees)) (map equation_form (drop k texts)) E) (drop-at normals k X below at) h.ready
 
   pub params_there : k < length callees
   params_there = dropped callees k (params_left (lists_of callees) (drop k callees) (drop k texts) X (drop (k + 1) normals) here).0
@@ -93,8 +93,8 @@ module _ (callees : List (Vec Carrier Global)) (texts : List tree.Equation) (nor
   module _ (v : Vec Carrier Global) (t : tree.Equation) (v_at : v ≡ get_or callees k v) (t_at : t ≡ get_or texts k t) where
     whole : AreReady (lists_of callees) (v.items ∷ lists_of (drop (k + 1) callees)) (equation_form t ∷ map equation_form (drop (k + 1) texts)) (X ∷ drop (k + 1) normals)
     whole =
-        subst (λ (vs : List (Vec Carrier Global)). AreReady (lists_of callees) (lists_of vs) (equation_form t ∷ map equation_form (drop (k + 1) texts)) (X ∷ drop (k + 1) normals)) (links-drop callees k v params_there v_at)
-        (subst (λ (ts : List tree.Equation). AreReady (lists_of callees) (lists_of (drop k callees)) (map equation_form ts) (X ∷ drop (k + 1) normals)) (links-drop texts k t text_there t_at) here)
+        subst (λ (vs : List (Vec Carrier Global)). AreReady (lists_of callees) (lists_of vs) (equation_form t ∷ map equation_form (drop (k + 1) texts)) (X ∷ drop (k + 1) normals)) (drop-at callees k v params_there v_at)
+        (subst (λ (ts : List tree.Equation). AreReady (lists_of callees) (lists_of (drop k callees)) (map equation_form ts) (X ∷ drop (k + 1) normals)) (drop-at texts k t text_there t_at) here)
 
     pub ready_next : IsReady (lists_of callees) v.items (equation_form t) X
     ready_next = whole.0
@@ -114,9 +114,9 @@ module _ (callees : List (Vec Carrier Global)) (texts : List tree.Equation) (nor
               ∙ ap (λ (es : List EquationContents). es ++ rest) (map_push equation_contents done e)
               ∙ append_assoc (map equation_contents done) (equation_contents e ∷ []) rest
               ∙ ap (λ (c : EquationContents). map equation_contents done ++ c ∷ rest) is
-              ∙ ap (λ (vs : List (Vec Carrier Global)). map equation_contents done ++ all_compiled all (lists_of vs) (equation_form t ∷ map equation_form (drop (k + 1) texts)) (X ∷ drop (k + 1) normals)) (sym (links-drop callees k v params_there v_at))
-              ∙ ap (λ (ts : List tree.Equation). map equation_contents done ++ all_compiled all (lists_of (drop k callees)) (map equation_form ts) (X ∷ drop (k + 1) normals)) (sym (links-drop texts k t text_there t_at))
-              ∙ ap (λ (E : List Equation). map equation_contents done ++ all_compiled all (lists_of (drop k callees)) (map equation_form (drop k texts)) E) (sym (links-drop normals k X below at))
+              ∙ ap (λ (vs : List (Vec Carrier Global)). map equation_contents done ++ all_compiled all (lists_of vs) (equation_form t ∷ map equation_form (drop (k + 1) texts)) (X ∷ drop (k + 1) normals)) (sym (drop-at callees k v params_there v_at))
+              ∙ ap (λ (ts : List tree.Equation). map equation_contents done ++ all_compiled all (lists_of (drop k callees)) (map equation_form ts) (X ∷ drop (k + 1) normals)) (sym (drop-at texts k t text_there t_at))
+              ∙ ap (λ (E : List Equation). map equation_contents done ++ all_compiled all (lists_of (drop k callees)) (map equation_form (drop k texts)) E) (sym (drop-at normals k X below at))
               ∙ h.made;
         }
 
@@ -125,7 +125,7 @@ pub made_equations : (callees : List (Vec Carrier Global)) (texts : List tree.Eq
 made_equations callees texts normals k done end h =
     sym (append-nil (map equation_contents done))
     ∙ ap (λ (es : List EquationContents). map equation_contents done ++ es) (sym (none (lists_of (drop k callees)) (map equation_form (drop k texts))))
-    ∙ ap (λ (E : List Equation). map equation_contents done ++ all_compiled (lists_of callees) (lists_of (drop k callees)) (map equation_form (drop k texts)) E) (sym (links-ended normals k end))
+    ∙ ap (λ (E : List Equation). map equation_contents done ++ all_compiled (lists_of callees) (lists_of (drop k callees)) (map equation_form (drop k texts)) E) (sym (drop_all k normals end))
     ∙ h.made
   where
     none : (css : List (List Carrier)) (E : List EquationForm) → all_compiled (lists_of callees) css E [] ≡ []

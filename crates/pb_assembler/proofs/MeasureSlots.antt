@@ -24,17 +24,6 @@ numbered_append : (n m : ℕ) (ss ts : List Shape) → m ≡ n + length ss → n
 numbered_append n m [] ts e = let f : n ≡ m = omega arith in ap (λ k. numbered k ts) f
 numbered_append n m (s ∷ ss) ts e = ap (λ (xs : List (ℕ × Shape)). (n, s) ∷ xs) (numbered_append (suc n) m ss ts (omega arith))
 
-each_quantifiers : (spec : Spec) (m : Bool) (xs : List Variable) (body : Slotting → ℕ → Formula) (ts : List Shape) → ((c : Slotting) (n : ℕ) → quantifiers (body c n) ≡ numbered n ts)
-    → (c : Slotting) (n : ℕ) → quantifiers (each spec m xs c n body) ≡ numbered n (variable_shapes spec xs ++ ts)
-each_quantifiers spec m [] body ts says c n = says c n
-each_quantifiers spec m (x ∷ xs) body ts says c n = ap (λ (qs : List (ℕ × Shape)). (n, sort_shape spec x.sort) ∷ qs) (each_quantifiers spec m xs body ts says (with_slot x.name n c) (suc n))
-
-join_quantifiers : (spec : Spec) (f g : syntax.Formula) (n : ℕ) (xs ys : List (ℕ × Shape)) → xs ≡ numbered n (loops spec f) → ys ≡ numbered (n + width f) (loops spec g) → xs ++ ys ≡ numbered n (loops spec f ++ loops spec g)
-join_quantifiers spec f g n xs ys h i =
-    ap (λ (zs : List (ℕ × Shape)). zs ++ ys) h
-    ∙ ap (λ (zs : List (ℕ × Shape)). numbered n (loops spec f) ++ zs) i
-    ∙ sym (numbered_append n (n + width f) (loops spec f) (loops spec g) (ap (λ k. n + k) (sym (length-loops spec f))))
-
 slots_numbered : (n : ℕ) (cs : List Carrier) → numbered n (shapes_of cs) ≡ slots_from n cs
 slots_numbered n [] = refl
 slots_numbered n (c ∷ cs) = ap (λ (qs : List (ℕ × Shape)). (n, carrier_shape (Some c)) ∷ qs) (slots_numbered (suc n) cs)

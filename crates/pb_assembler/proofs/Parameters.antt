@@ -3,6 +3,7 @@ use Rattle.std.proofs.Common.{◌≡◌, ℕ, ◌+◌, ◌<◌, List, [], ◌∷
 use Rattle.std.proofs.lemmas.List.{append_assoc}
 use Rattle.pb_sorts.specs.declared.carrier.Carrier.{Carrier}
 use Rattle.pb_sorts.specs.Layout.{lists_of}
+use Rattle.pb_sorts.proofs.Places.{drop-at}
 use Rattle.pb_text_tree.specs.declared.name.Name as tree
 use Rattle.pb_text_tree.specs.declared.spec.Equation.{Equation}
 use Rattle.pb_text_tree.specs.declared.variable.Variables.{Variables}
@@ -13,7 +14,6 @@ use Rattle.pb_text_meaning.specs.Syntax.{Spec}
 use Rattle.pb_typing_declarations.specs.Shapes.{Shape, Unknown, sort_shape}
 use Rattle.pb_typing_declarations.specs.Entries.{carrier_shape}
 use Rattle.pb_typing_declarations.proofs.ShapeLaws.{known}
-use Rattle.pb_typing.proofs.Links.{links-drop}
 use Rattle.pb_normal.specs.Loops.{AreShaped, variable_shapes}
 use Rattle.pb_normal.specs.View.{shapes_of}
 use Rattle.pb_normal.proofs.SlotLemmas.{shapes-replicate, shapes-append}
@@ -54,7 +54,7 @@ pub record AreLeft (S : Spec) (all left : List Variables) (now : List Carrier) :
 pub next_some : (S : Spec) (all : List Variables) (k : ℕ) (group : Variables) (carrier : Carrier) (old new : List Carrier) → k < length all → group ≡ get_or all k group
     → carrier_shape (Some carrier) ≡ sort_shape S (string_bytes group.sort.text) → new ≡ old ++ replicate (length group.names.items) carrier → AreLeft S all (drop k all) old → AreLeft S all (drop (k + 1) all) new
 next_some S all k group carrier old new below at shape grown h =
-    let left = links-drop all k group below at in
+    let left = drop-at all k group below at in
     let rest = drop (k + 1) all in
     let n = length group.names.items in
     let more = variable_shapes S (variables_of rest) in record {
@@ -73,7 +73,7 @@ next_some S all k group carrier old new below at shape grown h =
 pub next_none : (S : Spec) (all : List Variables) (k : ℕ) (group : Variables) (cs : List Carrier) → k < length all → group ≡ get_or all k group → Unknown ≡ sort_shape S (string_bytes group.sort.text)
     → AreLeft S all (drop k all) cs → AreLeft S all (drop (k + 1) all) cs
 next_none S all k group cs below at none h =
-    let left = links-drop all k group below at in
+    let left = drop-at all k group below at in
     let rest = drop (k + 1) all in
     let shaped = subst (λ (gs : List Variables). AreShaped S (variables_of gs)) left h.shaped in record {
       carriers =

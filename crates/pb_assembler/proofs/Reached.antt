@@ -9,7 +9,7 @@ use Rattle.pb_bytecode_program.specs.declared.instruction.Leaf.TheVariants as le
 use Rattle.pb_bytecode_program.specs.declared.instruction.Op.{Op}
 use Rattle.pb_bytecode_program.specs.declared.instruction.Op.TheVariants as op
 use Rattle.pb_normal.specs.Normal.{Term, Number, Slot, Negative, Absolute, Successor, Predecessor, Binary, Maximum, Minimum, Choice, Recognised, Argument, Formula, Test, Join, Each, Call}
-use Rattle.pb_assembler_scheme.specs.Pieces.{Piece, Plain, Then, Unless, Choose, Repeat, Block, Leave, end, Stands}
+use Rattle.pb_assembler_scheme.specs.Pieces.{Piece, Plain, Then, Unless, Choose, Repeat, Block, Leave, end, HasPieceAt}
 use Rattle.pb_assembler_scheme.specs.Scheme.{data_piece, binary_piece, in_order, swapped, bracketed, under, test_piece, tested_piece, test_of, join_piece, tested_range, any_tested, guarded, arguments_piece, call_piece, parameters, formula_piece, head, equation_piece, equation_code}
 use Rattle.pb_assembler_scheme.specs.Correct.{HasFullCalls, IsCompiled, IsFullCall}
 use Rattle.pb_assembler_scheme.proofs.Flat as code
@@ -69,7 +69,7 @@ module _ (p : Program) where
 
   -- one operand is pushed, and o of them are held on the way
   abbrev Pushes : Piece → ℕ → Type 0
-  Pushes x o = (q e n b : ℕ) → Stands p.code q e x → At q n b → At (end q x) (n + 1) b × HoldsOperands p (n + o)
+  Pushes x o = (q e n b : ℕ) → HasPieceAt p.code q e x → At q n b → At (end q x) (n + 1) b × HoldsOperands p (n + o)
 
   pushes_one : (i : Op) → Does i 0 1 → Pushes (Plain i) 1
   pushes_one i d q e n b s h =
@@ -82,7 +82,7 @@ module _ (p : Program) where
       (going i 1 1 (end q a) (n + 1) (n + 1) b n d refl refl s.1 k.0, k.1)
 
   -- two pieces, the first value being kept
-  kept_both : (a b : Piece) (o u : ℕ) → Pushes a o → Pushes b u → (q e n c : ℕ) → Stands p.code q e a → Stands p.code (end q a) e b → At q n c
+  kept_both : (a b : Piece) (o u : ℕ) → Pushes a o → Pushes b u → (q e n c : ℕ) → HasPieceAt p.code q e a → HasPieceAt p.code (end q a) e b → At q n c
       → At (end (end q a) b) ((n + 1) + 1) c × HoldsOperands p (n + one_kept o u)
   kept_both a b o u x y q e n c s t h =
       let k = x q e n c s h in
@@ -168,7 +168,7 @@ module _ (p : Program) where
 
   -- nothing stays on the stack; o operands and k brackets more are held on the way
   abbrev Passes : Piece → (o k : ℕ) → Type 0
-  Passes x o k = (q e b : ℕ) → Stands p.code q e x → At q 0 b → At (end q x) 0 b × HoldsOperands p o × HoldsBrackets p (b + k)
+  Passes x o k = (q e b : ℕ) → HasPieceAt p.code q e x → At q 0 b → At (end q x) 0 b × HoldsOperands p o × HoldsBrackets p (b + k)
 
   written : (l : _) → Does (op.Emit l) 0 0
   written l = record { goes = λ q. refl; takes = refl; gives = refl; opens = refl; closes = refl }
@@ -257,11 +257,11 @@ module _ (p : Program) where
   -- a piece is come to with m operands; it ends where the whole ends, if nothing is tested
   pub record Comes (whole last : Piece) (q e m b : ℕ) (tested : Bool) : Type 0 where
     pub place : ℕ
-    pub stands : Stands p.code place e last
+    pub stands : HasPieceAt p.code place e last
     pub at : At place m b
     pub ends : tested ≡ false → end q whole ≡ end place last
 
-  guarded_comes : (o : Option (ℤ × ℤ)) (later : Bool) (x : Piece) (q e n b : ℕ) → Stands p.code q e (guarded o later x) → At q (n + 1) b → Comes (guarded o later x) x q e (n + 1) b (is_some o || later)
+  guarded_comes : (o : Option (ℤ × ℤ)) (later : Bool) (x : Piece) (q e n b : ℕ) → HasPieceAt p.code q e (guarded o later x) → At q (n + 1) b → Comes (guarded o later x) x q e (n + 1) b (is_some o || later)
   guarded_comes (Some r) later x q e n b s h = record {
     place = q + 1;
     stands = s.1;
@@ -276,7 +276,7 @@ module _ (p : Program) where
   neither false b e = e
 
   -- all arguments are pushed
-  arguments_come : (cs : List Carrier) (xs : List Argument) (last : Piece) (q e n b : ℕ) → Stands p.code q e (arguments_piece cs xs last) → At q n b
+  arguments_come : (cs : List Carrier) (xs : List Argument) (last : Piece) (q e n b : ℕ) → HasPieceAt p.code q e (arguments_piece cs xs last) → At q n b
       → Comes (arguments_piece cs xs last) last q e (n + length xs) b (any_tested cs xs) × HoldsOperands p (n + argument_operands xs)
   arguments_come (c ∷ cs) (x ∷ xs) last q e n b s h =
       let own = term_pushed x.term q e n b s.0 h in
@@ -359,7 +359,7 @@ module _ (p : Program) where
 -- ---- equations
 
 module _ (p : Program) (f : Formula) (compiled : IsCompiled p f) (full : HasFullCalls p.callees f) where
-  pub stands : Stands p.code 0 0 (equation_piece p.callees f)
+  pub stands : HasPieceAt p.code 0 0 (equation_piece p.callees f)
   stands =
       code.stands p.code 0 0 (equation_piece p.callees f)
       (subst (λ (is : List Op). code.HasAt is 0 (equation_code p.callees f)) (sym compiled.code) (code.has_all (equation_code p.callees f)))

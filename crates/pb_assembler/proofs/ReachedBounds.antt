@@ -9,7 +9,7 @@ use Rattle.pb_bytecode_program.specs.declared.instruction.Leaf.TheVariants as le
 use Rattle.pb_bytecode_program.specs.declared.instruction.Op.{Op}
 use Rattle.pb_bytecode_program.specs.declared.instruction.Op.TheVariants as op
 use Rattle.pb_normal.specs.Normal.{Term, Number, Slot, Negative, Absolute, Successor, Predecessor, Binary, Maximum, Minimum, Choice, Recognised, Argument, Formula, Test, Join, Each, Call}
-use Rattle.pb_assembler_scheme.specs.Pieces.{Piece, Plain, Then, Unless, Choose, Repeat, Block, Leave, end, Stands}
+use Rattle.pb_assembler_scheme.specs.Pieces.{Piece, Plain, Then, Unless, Choose, Repeat, Block, Leave, end, HasPieceAt}
 use Rattle.pb_assembler_scheme.specs.Scheme.{data_piece, binary_piece, in_order, swapped, bracketed, under, test_piece, tested_piece, test_of, join_piece, tested_range, any_tested, guarded, arguments_piece, call_piece, parameters, formula_piece, head}
 use Rattle.pb_assembler_scheme.specs.Correct.{HasFullCalls, IsCompiled, IsFullCall}
 use Rattle.pb_assembler_accepted.specs.Limits.{one_kept, binary_operands, term_operands, argument_operands, formula_operands, brackets_under, join_brackets, formula_brackets}
@@ -125,7 +125,7 @@ module _ (p : Program) where
     -- ---- terms
 
     abbrev Pushes : Piece → ℕ → Type 0
-    Pushes x o = (q e n b : ℕ) → Stands p.code q e x → n + o ≤ most_operands → b ≤ most_brackets → Safe (end q x) (n + 1) b → Safe q n b
+    Pushes x o = (q e n b : ℕ) → HasPieceAt p.code q e x → n + o ≤ most_operands → b ≤ most_brackets → Safe (end q x) (n + 1) b → Safe q n b
 
     pushes_one : (i : Op) → Does i 0 1 → Pushes (Plain i) 1
     pushes_one i d q e n b s few shallow h = going i 0 1 q n (n + 1) b n d (omega arith) refl (omega arith) shallow s h
@@ -134,7 +134,7 @@ module _ (p : Program) where
     changed i a o some d x q e n b s few shallow h =
         x q e n b s.0 few shallow (going i 1 1 (end q a) (n + 1) (n + 1) b n d refl refl (omega arith) shallow s.1 h)
 
-    kept_both : (a b : Piece) (o u : ℕ) → Pushes a o → Pushes b u → (q e n c : ℕ) → Stands p.code q e a → Stands p.code (end q a) e b → n + one_kept o u ≤ most_operands → c ≤ most_brackets
+    kept_both : (a b : Piece) (o u : ℕ) → Pushes a o → Pushes b u → (q e n c : ℕ) → HasPieceAt p.code q e a → HasPieceAt p.code (end q a) e b → n + one_kept o u ≤ most_operands → c ≤ most_brackets
         → Safe (end (end q a) b) ((n + 1) + 1) c → Safe q n c
     kept_both a b o u x y q e n c s t few shallow h =
         x q e n c s (omega arith) shallow (y (end q a) e (n + 1) c t (omega arith) shallow h)
@@ -219,13 +219,13 @@ module _ (p : Program) where
     -- ---- tests and brackets
 
     abbrev Passes : Piece → (o k : ℕ) → Type 0
-    Passes x o k = (q e b : ℕ) → Stands p.code q e x → o ≤ most_operands → b + k ≤ most_brackets → Safe (end q x) 0 b → Safe q 0 b
+    Passes x o k = (q e b : ℕ) → HasPieceAt p.code q e x → o ≤ most_operands → b + k ≤ most_brackets → Safe (end q x) 0 b → Safe q 0 b
 
     written : (l : _) → Does (op.Emit l) 0 0
     written l = record { goes = λ q r e. e; takes = refl; gives = refl; opens = refl; closes = refl }
 
     -- a test, and what stands behind it both ways
-    tested_by : (on : Bool) (t : Term) (q e b to : ℕ) → Stands p.code q e (data_piece t) → slice_get p.code (end q (data_piece t)) ≡ Some (op.JumpIf on to) → term_operands t ≤ most_operands → b ≤ most_brackets
+    tested_by : (on : Bool) (t : Term) (q e b to : ℕ) → HasPieceAt p.code q e (data_piece t) → slice_get p.code (end q (data_piece t)) ≡ Some (op.JumpIf on to) → term_operands t ≤ most_operands → b ≤ most_brackets
         → Safe (end q (data_piece t) + 1) 0 b → Safe to 0 b → Safe q 0 b
     tested_by on t q e b to s there few shallow h i =
         let some = positive t in
@@ -306,9 +306,9 @@ module _ (p : Program) where
     popping = record { goes = λ q r e. e; takes = refl; gives = refl; opens = refl; closes = refl }
 
     -- what follows an argument, which is taken off where a later test fails
-    guarded_safe : (o : Option (ℤ × ℤ)) (later : Bool) (x : Piece) (q e n b : ℕ) → Stands p.code q e (guarded o later x) → n + 1 ≤ most_operands → b ≤ most_brackets
+    guarded_safe : (o : Option (ℤ × ℤ)) (later : Bool) (x : Piece) (q e n b : ℕ) → HasPieceAt p.code q e (guarded o later x) → n + 1 ≤ most_operands → b ≤ most_brackets
         → ((is_some o || later) ≡ true → Safe (end q (guarded o later x)) n b)
-        → ((r : ℕ) → Stands p.code r e x → (later ≡ true → Safe (end r x) (n + 1) b) → ((is_some o || later) ≡ false → end q (guarded o later x) ≡ end r x) → Safe r (n + 1) b)
+        → ((r : ℕ) → HasPieceAt p.code r e x → (later ≡ true → Safe (end r x) (n + 1) b) → ((is_some o || later) ≡ false → end q (guarded o later x) ≡ end r x) → Safe r (n + 1) b)
         → Safe q (n + 1) b
     guarded_safe (Some r) later x q e n b s few shallow done inner =
         let pop : Safe (end (q + 1) x) (n + 1) b = going op.Pop 1 0 (end (q + 1) x) (n + 1) n b n popping refl (omega arith) few shallow s.2 (done refl) in
@@ -323,9 +323,9 @@ module _ (p : Program) where
     neither true b e = absurd (true≢false e)
     neither false b e = e
 
-    arguments_safe : (cs : List Carrier) (xs : List Argument) (last : Piece) (q e n b : ℕ) → Stands p.code q e (arguments_piece cs xs last) → n + argument_operands xs ≤ most_operands → b ≤ most_brackets
+    arguments_safe : (cs : List Carrier) (xs : List Argument) (last : Piece) (q e n b : ℕ) → HasPieceAt p.code q e (arguments_piece cs xs last) → n + argument_operands xs ≤ most_operands → b ≤ most_brackets
         → (any_tested cs xs ≡ true → Safe (end q (arguments_piece cs xs last)) n b)
-        → ((r : ℕ) → Stands p.code r e last → (any_tested cs xs ≡ false → end q (arguments_piece cs xs last) ≡ end r last) → Safe r (n + length xs) b)
+        → ((r : ℕ) → HasPieceAt p.code r e last → (any_tested cs xs ≡ false → end q (arguments_piece cs xs last) ≡ end r last) → Safe r (n + length xs) b)
         → Safe q n b
     arguments_safe (c ∷ cs) (x ∷ xs) last q e n b s few shallow done behind =
         let o = tested_range c x.shape in

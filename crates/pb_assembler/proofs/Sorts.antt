@@ -2,12 +2,12 @@
 use Rattle.std.proofs.Common.{◌≡◌, ℕ, ◌+◌, ◌<◌, ◌≤◌, true, List, [], ◌∷◌, ◌++◌, map, length, get_or, drop, refl, sym, ap, ◌∙◌, subst, arith, string_bytes}
 use Rattle.std.specs.List.{list_all}
 use Rattle.std.proofs.lemmas.List.{append_assoc, length-map, map_push}
+use Rattle.pb_sorts.proofs.Places.{drop-at}
 use Rattle.pb_text_tree.specs.declared.sort.Enumerator as tree
 use Rattle.pb_text_tree.specs.declared.sort.SortDeclaration.{SortDeclaration}
 use Rattle.pb_text_tree.specs.Form.{enumerator_form, sort_declaration_form, sort_form}
 use Rattle.pb_text_meaning.specs.Erase.{erased_declaration, erased_enumerator, erased_sort}
 use Rattle.pb_text_meaning.specs.Syntax as syntax
-use Rattle.pb_typing.proofs.Links.{links-drop}
 use Rattle.pb_bytecode.specs.Contents.{SortContents}
 use Rattle.pb_bytecode.specs.Names.{is_name}
 use Rattle.pb_bytecode.specs.Views.{sort_contents}
@@ -33,7 +33,7 @@ names_erased (e ∷ es) = ap (λ (ns : SortContents). string_bytes e.name.text �
 
 module _ (all : List SortDeclaration) (k : ℕ) (d : SortDeclaration) (below : k < length all) (at : d ≡ get_or all k d) where
   split : drop k all ≡ d ∷ drop (k + 1) all
-  split = links-drop all k d below at
+  split = drop-at all k d below at
 
   pub fits_next : (done : List bytecode.Sort) → AreMade all (drop k all) done → IsSort (erased_sort (sort_form d.sort))
   fits_next done h = (subst (λ (ds : List SortDeclaration). AreSorts (erased_all ds)) split h.fit).0

@@ -11,7 +11,7 @@ use Rattle.pb_text_names.specs.ModuleNames.{has_enumerator_names}
 use Rattle.std.specs.List.{list_all}
 use Rattle.std.proofs.lemmas.Bool.{and_parts}
 use Rattle.pb_normal.proofs.Shaped.{variables-shaped}
-use Rattle.pb_normal.proofs.Equations.{accepted-well-typed}
+use Rattle.pb_typing.proofs.Accepted.{accepted-well-typed}
 
 parameters_shaped : (spec : Spec) (E : List EquationForm) → All (λ (X : Equation). AreVariables spec X.parameters) (map erased_equation E) → AreShapedParameters spec E
 parameters_shaped spec [] all = tt

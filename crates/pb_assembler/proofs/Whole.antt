@@ -28,7 +28,7 @@ use Rattle.pb_normal.specs.Loops.{equation_loops}
 use Rattle.pb_normal.specs.Structs.{struct_counts, AreFew, HasDeclaredShapes}
 use Rattle.pb_normal.specs.View.{right_views, shapes_of}
 use Rattle.pb_normal.specs.declared.normal.Equation.{Equation}
-use Rattle.pb_normal.proofs.Equations.{accepted-well-typed}
+use Rattle.pb_typing.proofs.Accepted.{accepted-well-typed}
 use Rattle.pb_assembler_accepted.specs.Made.{parameter_shapes}
 use Rattle.pb_assembler_modules.specs.Module.{struct_names, AreEquationsOf, IsCompiledModule, KeepsAllLimits}
 use Rattle.pb_assembler_modules.proofs.Modules.{counted as counted_structs}

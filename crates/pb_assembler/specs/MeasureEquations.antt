@@ -57,7 +57,7 @@ EachKeepsLimits spec =
 
 -- of each text whose normal forms these are
 abbrev pub OfEachText : List (Vec Carrier Global) → List Equation → (Spec → Type 0) → Type 0
-OfEachText carriers equations Says = (spec : Spec) → AreNormalForms spec carriers equations → Says spec
+OfEachText carriers equations P = (spec : Spec) → AreNormalForms spec carriers equations → P spec
 
 abbrev pub IsExcess : Spec → Excess → Type 0
 IsExcess spec excess = IsFirstExcess spec excess.limit excess.equation

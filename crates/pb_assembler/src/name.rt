@@ -4,47 +4,13 @@ ghost use Rattle.std.specs.Prelude.{◌≡◌, true, string_bytes, IfOk};
 ghost use Rattle.std.specs.List.{list_all};
 ghost use Rattle.pb_text_tree.specs.Form.{sort_declaration_form, spec_form};
 ghost use Rattle.pb_text_meaning.specs.Erase.{erase, erased_declaration};
-ghost use Rattle.pb_bytecode.specs.Names.{begins_with_letter, is_letter, is_name, is_name_byte};
+ghost use Rattle.pb_bytecode.specs.Names.{is_name};
 ghost use Rattle.pb_bytecode.specs.Views.{text_of};
 ghost use Rattle.pb_text_names.specs.ModuleNames.{has_enumerator_names, has_names};
 
-use pb_bytecode::Name;
+use pb_bytecode::{Name, is_name};
 use pb_text_tree::{Enumerator, Equation, Sort, SortDeclaration, Spec};
 use std::alloc::{AllocError, Global};
-
-fn is_letter(byte: u8) -> bool
-    ensures { result ≡ is_letter byte }
-{
-    byte.is_ascii_alphabetic() || byte == b'_'
-}
-
-fn is_name_byte(byte: u8) -> bool
-    ensures { result ≡ is_name_byte byte }
-{
-    is_letter(byte) || byte.is_ascii_digit() || byte == b'\''
-}
-
-fn begins_with_letter(text: &[u8]) -> bool
-    ensures { result ≡ begins_with_letter text.now }
-{
-    match text {
-        [] => false,
-        [first, ..] => is_letter(*first),
-    }
-}
-
-fn are_name_bytes(text: &[u8]) -> bool
-    ensures { result ≡ list_all is_name_byte text.now }
-{
-    text.iter().all(|byte| is_name_byte(*byte))
-}
-
-/// Whether a module may have the name.
-fn is_name(text: &[u8]) -> bool
-    ensures { result ≡ is_name text.now }
-{
-    begins_with_letter(text) && text.len() <= 64 && are_name_bytes(text)
-}
 
 fn are_enumerator_names(enumerators: &[Enumerator]) -> bool
     ensures { result ≡ list_all (λ e. is_name (string_bytes e.name.text)) enumerators.now }

@@ -10,7 +10,7 @@ use Rattle.pb_bytecode_program.specs.Accepted.{HasValidTarget, IsTarget, NamesIn
 use Rattle.pb_bytecode_program.proofs.Places.{around_next}
 use Rattle.pb_bytecode_program.specs.declared.instruction.Op.{Op}
 use Rattle.pb_bytecode_program.specs.declared.instruction.Op.TheVariants as op
-use Rattle.pb_assembler_scheme.specs.Pieces.{Piece, Empty, Plain, Then, Unless, Choose, Repeat, Block, Leave, Guard, end, Stands}
+use Rattle.pb_assembler_scheme.specs.Pieces.{Piece, Empty, Plain, Then, Unless, Choose, Repeat, Block, Leave, Guard, end, HasPieceAt}
 use Rattle.pb_assembler_accepted.proofs.Tables.{IsStraight, around_end}
 
 -- the loops around, the innermost first, each with its slot
@@ -163,7 +163,7 @@ module _ (p : Program) where
   inner_may q r e x y none less same m =
       ⊎_elim (λ n. inl (none n)) (λ (b : IsBehind q e x). inr (record { after = let a = b.after in omega arith; inside = b.inside; one_body = b.one_body ∙ same })) m
 
-  pub placed : (x : Piece) (ls : Loops) → IsInScope ls x → (q e : ℕ) → Stands p.code q e x → Around q ls → end q x < length p.code → MayLeave q e x → EachPlaced q (end q x)
+  pub placed : (x : Piece) (ls : Loops) → IsInScope ls x → (q e : ℕ) → HasPieceAt p.code q e x → Around q ls → end q x < length p.code → MayLeave q e x → EachPlaced q (end q x)
   placed Empty ls sc q e h ar short m = none_placed q
   placed (Plain i) ls sc q e h ar short m = placed_one q i h (known_placed ls q i sc ar)
   placed (Then a b) ls sc q e h ar short m =

@@ -16,7 +16,7 @@ use Rattle.pb_bytecode_program.specs.Accepted.{Table, state_at, state_at_loop, I
 use Rattle.pb_bytecode_program.proofs.Places.{around_next}
 use Rattle.pb_bytecode_program.specs.declared.instruction.Op.{Op}
 use Rattle.pb_bytecode_program.specs.declared.instruction.Op.TheVariants as op
-use Rattle.pb_assembler_scheme.specs.Pieces.{Piece, Empty, Plain, Then, Unless, Choose, Repeat, Block, Leave, Guard, end, Stands}
+use Rattle.pb_assembler_scheme.specs.Pieces.{Piece, Empty, Plain, Then, Unless, Choose, Repeat, Block, Leave, Guard, end, HasPieceAt}
 
 module _ (p : Program) where
   abbrev pub inside : AbstractState → ℕ → Carrier → AbstractState
@@ -187,7 +187,7 @@ module _ (p : Program) where
     first (Guard lo hi a) out k k' g q h after = h.0
 
     -- no piece changes the loops around
-    pub around_end : (x : Piece) → IsStraight x → (q e : ℕ) → Stands p.code q e x → loops_around p.code (end q x) ≡ loops_around p.code q
+    pub around_end : (x : Piece) → IsStraight x → (q e : ℕ) → HasPieceAt p.code q e x → loops_around p.code (end q x) ≡ loops_around p.code q
     around_end Empty g q e h = refl
     around_end (Plain o) g q e h = around_next p.code q o h ∙ ap (λ t. loops_after t q (loops_around p.code q)) g
     around_end (Then a b) g q e h = around_end b g.1 (end q a) e h.1 ∙ around_end a g.0 q e h.0
@@ -284,7 +284,7 @@ module _ (p : Program) where
     pop_fine k q s ss e l = subst (λ (x : List AbstractValue). FlowIsCovered table (Transfer.abstract_pop x (λ s ss. to_next_place q (record k { operands = ss })))) (sym e) (l, tt)
 
     -- the body of a guard: where it is entered its first place covers, and each of its places keeps its rule
-    within : (a : Piece) (out : AbstractState) (q e : ℕ) → Stands p.code q e a → (failed : AbstractState) (b : Bool) (k : AbstractState) (r : Reached b k failed (λ b l. Flows a out b l))
+    within : (a : Piece) (out : AbstractState) (q e : ℕ) → HasPieceAt p.code q e a → (failed : AbstractState) (b : Bool) (k : AbstractState) (r : Reached b k failed (λ b l. Flows a out b l))
         → HasStates q (reached_notes b k failed (λ b l. Flows a out b l) (λ b l x. states a out b l x) (dead a) r)
         → ((m : AbstractState) (x : Flows a out m failed) → HasStates q (states a out m failed x) → state_at table q ≡ Some m)
         → ((m : AbstractState) (x : Flows a out m failed) → HasStates q (states a out m failed x) → EachIn q (end q a))
@@ -292,7 +292,7 @@ module _ (p : Program) where
     within a out q e h failed true k r n f g = ((λ t. leads q k r.0 (f r.0 r.2 n) r.1), g r.0 r.2 n)
     within a out q e h failed false k r n f g = ((λ t. absurd (true≢false (sym t))), each_dead a q n)
 
-    pub each_in : (x : Piece) (out k k' : AbstractState) (g : Flows x out k k') → IsStraight x → (q e : ℕ) → Stands p.code q e x → state_at table e ≡ Some out → HasStates q (states x out k k' g) → state_at table (end q x) ≡ Some k' → EachIn q (end q x)
+    pub each_in : (x : Piece) (out k k' : AbstractState) (g : Flows x out k k') → IsStraight x → (q e : ℕ) → HasPieceAt p.code q e x → state_at table e ≡ Some out → HasStates q (states x out k k' g) → state_at table (end q x) ≡ Some k' → EachIn q (end q x)
     each_in Empty out k k' g st q e h leaves n after = each_none q
     each_in (Plain o) out k k' g st q e h leaves n after =
         each_one q o k h n.0 (subst (FlowIsCovered table) (sym (g.way (state_at_loop table (loops_around p.code q)) q)) (leads (q + 1) g.next k' after g.covered, tt))

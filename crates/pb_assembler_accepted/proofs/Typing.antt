@@ -4,6 +4,7 @@ use Rattle.std.specs.Prelude.{ℤ, pos, neg_ℤ, int_lt, slice_get, ◌==◌}
 use Rattle.std.proofs.lemmas.Bool.{lt-ltb}
 use Rattle.std.proofs.lemmas.Int.{ints}
 use Rattle.pb_text_meaning.specs.Syntax.{Operator}
+use Rattle.pb_bytecode_program.proofs.Covering.{covers_through}
 use Rattle.pb_bytecode_program.specs.Values.{divides, fits64}
 use Rattle.pb_bytecode_program.specs.Abstract.{Covers, interval_of, absolute_interval, same_kind}
 use Rattle.pb_bytecode_program.specs.declared.abstract_value.AbstractValue.{AbstractValue}
@@ -131,23 +132,6 @@ covered_solid (abstract.Int l h) abstract.Bool c = absurd c
 covered_solid (abstract.Int l h) (abstract.Enum t m) c = absurd c
 covered_solid (abstract.Enum s n) abstract.Bool c = absurd c
 covered_solid (abstract.Enum s n) (abstract.Int m k) c = absurd c
-
-pub covers_both : (s t u : AbstractValue) → Covers s t → Covers t u → Covers s u
-covers_both abstract.Bool abstract.Bool abstract.Bool c d = tt
-covers_both (abstract.Int l h) (abstract.Int m k) (abstract.Int n j) c d = let a = c.0 in let b = c.1 in let e = c.2 in let f = d.0 in let g = d.2 in (omega (arith, ints), b, omega (arith, ints))
-covers_both (abstract.Enum s n) (abstract.Enum t m) (abstract.Enum u o) c d = let a = c.1 in let b = d.1 in (c.0 ∙ d.0, omega arith)
-covers_both abstract.Bool (abstract.Int m k) u c d = absurd c
-covers_both abstract.Bool (abstract.Enum t m) u c d = absurd c
-covers_both (abstract.Int l h) abstract.Bool u c d = absurd c
-covers_both (abstract.Int l h) (abstract.Enum t m) u c d = absurd c
-covers_both (abstract.Enum s n) abstract.Bool u c d = absurd c
-covers_both (abstract.Enum s n) (abstract.Int m k) u c d = absurd c
-covers_both abstract.Bool abstract.Bool (abstract.Int m k) c d = absurd d
-covers_both abstract.Bool abstract.Bool (abstract.Enum t m) c d = absurd d
-covers_both (abstract.Int l h) (abstract.Int m k) abstract.Bool c d = absurd d
-covers_both (abstract.Int l h) (abstract.Int m k) (abstract.Enum t n) c d = absurd d
-covers_both (abstract.Enum s n) (abstract.Enum t m) abstract.Bool c d = absurd d
-covers_both (abstract.Enum s n) (abstract.Enum t m) (abstract.Int l k) c d = absurd d
 
 computed_solid : (c : Arithmetic) (a b v : AbstractValue) → Covers a a → Covers b b → Computes c a b v → Covers v v
 computed_solid c (abstract.Int l h) (abstract.Int m n) v ca cb t =
@@ -304,8 +288,8 @@ module _ (p : Program) (k : AbstractState) (self : IsCovered k k) where
           others = os;
           operands = refl;
           rest = (
-            (topped os, topped (v' ∷ os), covers_with os os co, hx out os v' co (omega arith) (covers_both a v v' ca cv), covers_with (v' ∷ os) (v' ∷ os) (up, co)),
-            (topped os, covers_with os os co, hy out os v' co (omega arith) (covers_both b v v' cb cv)),
+            (topped os, topped (v' ∷ os), covers_with os os co, hx out os v' co (omega arith) (covers_through a v v' ca cv), covers_with (v' ∷ os) (v' ∷ os) (up, co)),
+            (topped os, covers_with os os co, hy out os v' co (omega arith) (covers_through b v v' cb cv)),
           );
         },
       )

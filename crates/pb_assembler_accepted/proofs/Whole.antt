@@ -14,7 +14,7 @@ use Rattle.pb_bytecode_program.specs.declared.instruction.Op.{Op}
 use Rattle.pb_bytecode_program.specs.declared.instruction.Op.TheVariants as op
 use Rattle.pb_bytecode_program.proofs.Places.{around_next}
 use Rattle.pb_normal.specs.Normal.{Formula}
-use Rattle.pb_assembler_scheme.specs.Pieces.{Piece, end, Stands}
+use Rattle.pb_assembler_scheme.specs.Pieces.{Piece, end, HasPieceAt}
 use Rattle.pb_assembler_scheme.specs.Scheme.{head, bracketed, formula_piece, equation_piece, equation_code}
 use Rattle.pb_assembler_scheme.specs.Correct.{IsCompiled}
 use Rattle.pb_assembler_scheme.proofs.Flat as code
@@ -67,7 +67,7 @@ module _ (p : Program) (f : Formula) (compiled : IsCompiled p f) (typed : TypedF
 
   -- ---- where it stands
 
-  stands : Stands p.code 0 0 (equation_piece p.callees f)
+  stands : HasPieceAt p.code 0 0 (equation_piece p.callees f)
   stands =
       code.stands p.code 0 0 (equation_piece p.callees f)
       (subst (λ (is : List Op). code.HasAt is 0 (equation_code p.callees f)) (sym compiled.code) (code.has_all (equation_code p.callees f)))

@@ -3,7 +3,7 @@ use Rattle.std.proofs.Common.{◌≡◌, ℕ, suc, ◌+◌, Bool, true, false, c
 use Rattle.std.specs.Prelude.{ℤ, int_le, is_some, reverse}
 use Rattle.std.specs.List.{slice_get}
 use Rattle.std.proofs.lemmas.List.{reverse-append}
-use Rattle.std.proofs.lemmas.Bool.{and_from, or_right}
+use Rattle.std.proofs.lemmas.Bool.{and_from, or_right, and_right}
 use Rattle.pb_carriers.specs.Carrier as carriers
 use Rattle.pb_intervals.specs.Interval as intervals
 use Rattle.pb_sorts.specs.declared.carrier.Carrier.{Carrier}
@@ -22,7 +22,7 @@ use Rattle.pb_bytecode_program.specs.declared.instruction.Op.TheVariants as op
 use Rattle.pb_bytecode_program.proofs.Ints.{from_le}
 use Rattle.pb_bytecode_program.proofs.CarrierValues.{tagged_within, untagged_contained}
 use Rattle.pb_normal.specs.Normal.{Argument, Call, Slots, value}
-use Rattle.pb_assembler_scheme.specs.Pieces.{Piece, Plain, Then, Block, Leave, end, Stands}
+use Rattle.pb_assembler_scheme.specs.Pieces.{Piece, Plain, Then, Block, Leave, end, HasPieceAt}
 use Rattle.pb_assembler_scheme.specs.Scheme.{tested_range, any_tested, guarded, arguments_piece, call_piece, parameters}
 use Rattle.pb_assembler_scheme.specs.Correct.{IsFullCall}
 use Rattle.pb_assembler_scheme.proofs.Wins.{Wins, After, one, popped_int, either_goes, rooted}
@@ -63,10 +63,6 @@ fails-range (carrier.Range r) (Wholes l h) tested e z out = by (intervals.is_wit
     by : (b : Bool) → cond b None (Some (r.lo, r.hi)) ≡ Some tested → holds (carrier.Range r) z ≡ false
     by true k = cc
     by false k = let same : (r.lo, r.hi) ≡ tested = cc in outside-range r z (ap (λ (p : ℤ × ℤ). int_le p.0 z && int_le z p.1) same ∙ out)
-
-and_false : (b c : Bool) → c ≡ false → (b && c) ≡ false
-and_false true c h = h
-and_false false c h = refl
 
 length_untagged : (vs : List Value) → length (map untagged vs) ≡ length vs
 length_untagged [] = refl
@@ -114,7 +110,7 @@ module _ (p : Program) (Q : List Token → Type 0) where
   module _ (last : Piece) (e : ℕ) (a : Slots) where
     -- where the last piece stands, behind all arguments
     abbrev Hits : State → ℕ → List Carrier → List Argument → Type 0
-    Hits st r cs xs = (q : ℕ) (vs : List Value) → Stands p.code q e last → map untagged vs ≡ argument_values a xs → (any_tested cs xs ≡ false → end q last ≡ r) → Wins p Q (put p Q st q (onto vs st.operands))
+    Hits st r cs xs = (q : ℕ) (vs : List Value) → HasPieceAt p.code q e last → map untagged vs ≡ argument_values a xs → (any_tested cs xs ≡ false → end q last ≡ r) → Wins p Q (put p Q st q (onto vs st.operands))
 
     -- where a test failed, and all arguments were taken off
     abbrev Misses : State → ℕ → List Carrier → List Argument → Type 0
@@ -125,12 +121,12 @@ module _ (p : Program) (Q : List Token → Type 0) where
 
     -- what is behind the first argument
     abbrev Runs : List Carrier → List Argument → Type 0
-    Runs cs xs = (st : State) → length xs ≡ length cs → Stands p.code st.place e (arguments_piece cs xs last) → Agrees st a
+    Runs cs xs = (st : State) → length xs ≡ length cs → HasPieceAt p.code st.place e (arguments_piece cs xs last) → Agrees st a
         → Hits st (end st.place (arguments_piece cs xs last)) cs xs → Misses st (end st.place (arguments_piece cs xs last)) cs xs → Wins p Q st
 
     behind : (c : Carrier) (cs : List Carrier) (x : Argument) (xs : List Argument) → Runs cs xs → length xs ≡ length cs → (st : State) (q : ℕ) → Agrees st a → (v : Value) → untagged v ≡ value a x.term
         → (o : Option (ℤ × ℤ)) → tested_range c x.shape ≡ o → (later : Bool) → any_tested cs xs ≡ later
-        → Stands p.code q e (guarded o later (arguments_piece cs xs last))
+        → HasPieceAt p.code q e (guarded o later (arguments_piece cs xs last))
         → Hits st (end q (guarded o later (arguments_piece cs xs last))) (c ∷ cs) (x ∷ xs) → Misses st (end q (guarded o later (arguments_piece cs xs last))) (c ∷ cs) (x ∷ xs)
         → Wins p Q (put p Q st q (v ∷ st.operands))
     behind c cs x xs run l st q ag v k (Some r) eo later el h hit miss =
@@ -139,13 +135,13 @@ module _ (p : Program) (Q : List Token → Type 0) where
         one p Q (put p Q st q (v ∷ st.operands)) (op.InRange r.0 r.1 _) h.0 (popped_int p Q v st.operands _ (either_goes p Q (int_le r.0 z && int_le z r.1) _ _
         (λ t. run (put p Q st (q + 1) (IntValue z ∷ st.operands)) l h.1 ag
         (λ s vs there ev n. hit s (IntValue z ∷ vs) there (ap (λ (u : ℤ). u ∷ map untagged vs) k ∙ ap (λ (us : List ℤ). value a x.term ∷ us) ev) (λ f. absurd (true≢false (sym some ∙ f))))
-        (λ t' w. takes_off st _ (IntValue z) h.2 (miss some (and_false (holds c (value a x.term)) _ w))))
+        (λ t' w. takes_off st _ (IntValue z) h.2 (miss some (and_right (holds c (value a x.term)) _ w))))
         (λ f. takes_off st _ (IntValue z) h.2 (miss some (ap (λ b. b && within cs (argument_values a xs)) (ap (holds c) (sym k) ∙ fails-range c x.shape r eo z f))))))
     behind c cs x xs run l st q ag v k None eo true el h hit miss =
         let some : any_tested (c ∷ cs) (x ∷ xs) ≡ true = or_right (is_some (tested_range c x.shape)) (any_tested cs xs) el in
         run (put p Q st q (v ∷ st.operands)) l h.0 ag
         (λ s vs there ev n. hit s (v ∷ vs) there (ap (λ (u : ℤ). u ∷ map untagged vs) k ∙ ap (λ (us : List ℤ). value a x.term ∷ us) ev) (λ f. absurd (true≢false (sym some ∙ f))))
-        (λ t w. takes_off st _ v h.1 (miss some (and_false (holds c (value a x.term)) _ w)))
+        (λ t w. takes_off st _ v h.1 (miss some (and_right (holds c (value a x.term)) _ w)))
     behind c cs x xs run l st q ag v k None eo false el h hit miss =
         run (put p Q st q (v ∷ st.operands)) l h ag
         (λ s vs there ev n. hit s (v ∷ vs) there (ap (λ (u : ℤ). u ∷ map untagged vs) k ∙ ap (λ (us : List ℤ). value a x.term ∷ us) ev) (λ f. n el))

@@ -4,6 +4,7 @@ use Rattle.std.specs.Prelude.{pos}
 use Rattle.std.specs.List.{All}
 use Rattle.std.proofs.lemmas.Bool.{and_parts}
 use Rattle.std.proofs.lemmas.Option.{slice_get-get_or, unwrap_or-slice_get}
+use Rattle.std.proofs.lemmas.List.{length-map}
 use Rattle.pb_carriers.specs.Carrier.{Carrier, Tuple, contains, is_within}
 use Rattle.pb_trees.specs.Tree.{Tree}
 use Rattle.pb_text_meaning.specs.Syntax.{Variable, Equation, Spec}
@@ -18,7 +19,7 @@ use Rattle.pb_normal.specs.Equations.{normal_equation, Hold, KeepsTruth}
 use Rattle.pb_normal.specs.Answer.{slots_of}
 use Rattle.pb_assembler_scheme.specs.Correct.{Declares, HasFullCalls, HasTruth, IsCompiled}
 use Rattle.pb_assembler_scheme.specs.Equations.{IsProgramOf, DecidesEquation}
-use Rattle.pb_assembler_scheme.proofs.FullCalls.{length-mapped, equation-full}
+use Rattle.pb_assembler_scheme.proofs.FullCalls.{equation-full}
 
 within-length : (cs : List Carrier) (vs : Tuple) → is_within cs vs ≡ true → length vs ≡ length cs
 within-length [] [] e = refl
@@ -39,7 +40,7 @@ module _ (ended : EndedLaw) (spec : Spec) (typed : IsWellTyped spec) where
   decides-equation : (X : Equation) → IsProper spec true (parameters_of spec X) X.right → KeepsTruth spec X → (p : Program) → IsProgramOf spec X p → DecidesEquation spec X p
   decides-equation X proper keeps p h tuple tree fit end numbers t matches =
       let inside : is_within (carriers_of spec X.parameters) tuple ≡ true = subst (λ (cs : List Carrier). is_within cs tuple ≡ true) h.params fit in
-      let long : length tuple ≡ length X.parameters = within-length (carriers_of spec X.parameters) tuple inside ∙ length-mapped (λ (x : Variable). carrier_of spec x.sort) X.parameters in
+      let long : length tuple ≡ length X.parameters = within-length (carriers_of spec X.parameters) tuple inside ∙ length-map X.parameters (λ (x : Variable). carrier_of spec x.sort) in
       let declares : Declares spec p.callees = record { carriers = h.callees; apart = typed.declarations.predicate_variables } in
       ended spec p (normal_equation spec X) tuple tree h.compiled (equation-full spec p.callees h.callees X proper) declares fit end numbers t matches
       ∙ keeps t (slots_of tuple) (record { name = X.name; values = tuple }) long (slots-hold tuple)

@@ -3,7 +3,7 @@ use Rattle.std.proofs.Common.{◌≡◌, ℕ, suc, ◌+◌, List, [], ◌∷◌,
 use Rattle.std.specs.List.{slice_get}
 use Rattle.pb_bytecode_program.specs.declared.instruction.Op.{Op}
 use Rattle.pb_bytecode_program.specs.declared.instruction.Op.TheVariants as op
-use Rattle.pb_assembler_scheme.specs.Pieces.{Piece, Empty, Plain, Then, Unless, Choose, Repeat, Block, Leave, Guard, end, flat, Stands}
+use Rattle.pb_assembler_scheme.specs.Pieces.{Piece, Empty, Plain, Then, Unless, Choose, Repeat, Block, Leave, Guard, end, flat, HasPieceAt}
 
 pub long : (q e : ℕ) (x : Piece) → end q x ≡ q + length (flat q e x)
 long q e Empty = omega arith
@@ -41,7 +41,7 @@ pub has_all : (is : List Op) → HasAt is 0 is
 has_all [] = tt
 has_all (i ∷ is) = (refl, has_cons is i is 0 (has_all is))
 
-pub stands : (code : List Op) (q e : ℕ) (x : Piece) → HasAt code q (flat q e x) → Stands code q e x
+pub stands : (code : List Op) (q e : ℕ) (x : Piece) → HasAt code q (flat q e x) → HasPieceAt code q e x
 stands code q e Empty h = tt
 stands code q e (Plain o) h = h.0
 stands code q e (Then a b) h =

@@ -14,7 +14,7 @@ use Rattle.pb_bytecode_program.specs.declared.instruction.Leaf.{Leaf}
 use Rattle.pb_bytecode_program.specs.declared.instruction.Leaf.TheVariants as leaf
 use Rattle.pb_bytecode_program.specs.declared.instruction.Op.TheVariants as op
 use Rattle.pb_normal.specs.Normal.{Term, Argument, Formula, Test, Join, Each, Call, Slots, set, value, joined}
-use Rattle.pb_assembler_scheme.specs.Pieces.{Piece, Plain, Then, Repeat, end, Stands}
+use Rattle.pb_assembler_scheme.specs.Pieces.{Piece, Plain, Then, Repeat, end, HasPieceAt}
 use Rattle.pb_assembler_scheme.specs.Scheme.{connective_of, bracketed, test_piece, tested_piece, under, test_of, join_piece, call_piece, parameters, formula_piece}
 use Rattle.pb_assembler_scheme.specs.Correct.{IsFullCall, HasFullCalls}
 use Rattle.pb_assembler_scheme.proofs.Wins.{Wins, After, one, passes_test, rooted}
@@ -32,7 +32,7 @@ module _ (p : Program) (Q : List Token → Type 0) where
 
   -- under an open bracket of kind k the piece writes tokens that join as this
   abbrev pub Compiles : Bool → Piece → Meaning → Type 0
-  Compiles k x φ = (st : State) (e : ℕ) (a : Slots) (n : ℕ) → Stands p.code st.place e x → Agrees st a → st.brackets ≡ suc n → Writes k st (end st.place x) (φ a) → Wins p Q st
+  Compiles k x φ = (st : State) (e : ℕ) (a : Slots) (n : ℕ) → HasPieceAt p.code st.place e x → Agrees st a → st.brackets ≡ suc n → Writes k st (end st.place x) (φ a) → Wins p Q st
 
   pub writes_none : (k : Bool) (st : State) (q : ℕ) (φ : Environment ℕ → Bool) → ((t : Environment ℕ) → k ≡ φ t) → Writes k st q φ → Wins p Q (record st { place = q })
   writes_none k st q φ e go = subst (λ (o : List Token). Wins p Q (record st { place = q; output = o })) (append-nil st.output) (go [] (joins_same k [] _ _ e (joins_none k)))
@@ -78,7 +78,7 @@ module _ (p : Program) (Q : List Token → Type 0) where
   closed b n go e h = subst (λ (m : ℕ). After p Q (Machine.close_bracket m go)) (sym e) h
 
   -- from behind the opening on
-  pub enclosed : (m : Bool) (x : Piece) (φ : Meaning) → Compiles m x φ → (st : State) (e : ℕ) (a : Slots) (n : ℕ) (o : List Token) → Stands p.code st.place e (Then x (Plain op.Close)) → Agrees st a → st.brackets ≡ suc n → st.output ≡ o ++ Machine.opening (connective_of m) ∷ []
+  pub enclosed : (m : Bool) (x : Piece) (φ : Meaning) → Compiles m x φ → (st : State) (e : ℕ) (a : Slots) (n : ℕ) (o : List Token) → HasPieceAt p.code st.place e (Then x (Plain op.Close)) → Agrees st a → st.brackets ≡ suc n → st.output ≡ o ++ Machine.opening (connective_of m) ∷ []
       → ((xs : List Token) → Joins m xs (φ a) → Wins p Q (record st { place = end st.place x + 1; brackets = n; output = o ++ Machine.opening (connective_of m) ∷ (xs ++ token.Close ∷ []) })) → Wins p Q st
   enclosed m x φ hx st e a n o h ag br eo go =
       hx st e a n h.0 ag br (λ xs j.
@@ -117,7 +117,7 @@ module _ (p : Program) (Q : List Token → Type 0) where
       by true h = let e : f.value ≡ v = cc in ap untagged (sym e)
       by false h = ag i v h
 
-  module _ (m : Bool) (x : Piece) (φ : Meaning) (hx : Compiles m x φ) (s : ℕ) (st : State) (e : ℕ) (a : Slots) (n : ℕ) (h : Stands p.code st.place e (Repeat s x)) (ag : Agrees st a) (br : st.brackets ≡ suc n) where
+  module _ (m : Bool) (x : Piece) (φ : Meaning) (hx : Compiles m x φ) (s : ℕ) (st : State) (e : ℕ) (a : Slots) (n : ℕ) (h : HasPieceAt p.code st.place e (Repeat s x)) (ag : Agrees st a) (br : st.brackets ≡ suc n) where
     abbrev turning : Value → List Value → List Token → State
     turning v left o = record st { place = st.place + 1; loops = record { loop_place = st.place; slot = s; value = v; remaining = left } ∷ st.loops; output = o }
 

@@ -1,6 +1,7 @@
 -- In a well-typed specification, each call of a normal form has an argument for each parameter.
 use Rattle.std.proofs.Common.{◌≡◌, ℕ, suc, ◌+◌, Bool, true, false, cond, not, ◌||◌, if◌then◌else◌, List, [], ◌∷◌, map, length, Option, Some, None, refl, sym, ap, ◌∙◌, arith}
 use Rattle.std.specs.List.{slice_get}
+use Rattle.std.proofs.lemmas.List.{length-map}
 use Rattle.pb_sorts.specs.declared.carrier.Carrier.{Carrier}
 use Rattle.pb_sorts.specs.Carrier.{values_of}
 use Rattle.pb_sorts.specs.Layout as layout
@@ -17,10 +18,6 @@ use Rattle.pb_normal.specs.Normal.{Term, Argument, Formula}
 use Rattle.pb_normal.specs.Normalisation.{Slotting, unslotted, with_slot, with_slots, slotted, width, signed_test, is_universal, each, arguments, place_of, call, normal}
 use Rattle.pb_normal.specs.Equations.{normal_equation}
 use Rattle.pb_assembler_scheme.specs.Correct.{IsFullCall, HasFullCalls}
-
-pub length-mapped : {A B : Type 0} (f : A → B) (xs : List A) → length (map f xs) ≡ length xs
-length-mapped f [] = refl
-length-mapped f (x ∷ xs) = ap suc (length-mapped f xs)
 
 length-arguments : (spec : Spec) (c : Slotting) (scope : Scope) (es : Terms) → length (arguments spec c scope es) ≡ count es
 length-arguments spec c scope Terms.NoTerms = refl
@@ -96,7 +93,7 @@ module _ (spec : Spec) (callees : List (List Carrier)) (same : layout.carriers_o
           → (IsCalled spec scope es (equation_named E x) → Takes ds (suc n) (count es) (place_of (suc n) E x))
           → Takes (d ∷ ds) n (count es) (if b then Some n else place_of (suc n) E x)
       by true k later =
-          let long : length d ≡ length X.parameters = sym (length-mapped values_of d) ∙ ap length first ∙ length-mapped (λ (y : Variable). carrier_of spec y.sort) X.parameters in
+          let long : length d ≡ length X.parameters = sym (length-map d values_of) ∙ ap length first ∙ length-map X.parameters (λ (y : Variable). carrier_of spec y.sort) in
           let args = k.0 in
           (0, omega arith, λ xs l. omega (arith, long, args, l))
       by false k later = takes-next d ds n (count es) (place_of (suc n) E x) (later k)

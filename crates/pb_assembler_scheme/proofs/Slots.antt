@@ -1,14 +1,10 @@
 -- The slots of the scheme's programs: at the start they hold the instance's values, and each quantifier's slot has the
 -- carrier of its shape.
-use Rattle.std.proofs.Common.{◌≡◌, ℕ, zero, suc, ◌+◌, ◌-◌, Bool, true, false, cond, not, ◌||◌, List, [], ◌∷◌, ◌++◌, map, length, Some, None, refl, sym, ap, ◌∙◌, subst, arith, append_assoc, length-append}
-use Rattle.std.specs.Prelude.{ℤ, pos, negsuc, ◌≤ℤ◌, unsigned_abs, nat_lt}
+use Rattle.std.proofs.Common.{◌≡◌, ℕ, zero, suc, ◌+◌, ◌-◌, false, cond, List, [], ◌∷◌, ◌++◌, map, length, Some, None, refl, sym, ap, ◌∙◌, subst, arith, append_assoc, length-append}
+use Rattle.std.specs.Prelude.{ℤ, nat_lt}
 use Rattle.std.specs.List.{slice_get}
-use Rattle.std.specs.Ordering.{int_eq}
 use Rattle.std.proofs.lemmas.Bool.{and_parts, le-ltb}
-use Rattle.std.proofs.lemmas.Bool.Decides.{Decides-int_eq}
-use Rattle.std.proofs.lemmas.Int.{ints}
 use Rattle.pb_carriers.specs.Carrier as carriers
-use Rattle.pb_carriers.specs.Carrier.{of_bool}
 use Rattle.pb_sorts.specs.declared.carrier.Carrier.{Carrier}
 use Rattle.pb_sorts.specs.declared.carrier.Carrier.TheVariants as carrier
 use Rattle.pb_sorts.specs.Carrier.{values_of}
@@ -17,32 +13,13 @@ use Rattle.pb_typing_declarations.specs.Entries.{carrier_shape}
 use Rattle.pb_bytecode_program.specs.Values.{Value, tagged, untagged}
 use Rattle.pb_bytecode_program.specs.Machine.{Program, carrier_of}
 use Rattle.pb_bytecode_program.specs.Safety.{AreArguments, arguments}
-use Rattle.pb_bytecode_program.proofs.CarrierValues.{number_bounds}
+use Rattle.pb_bytecode_program.proofs.CarrierValues.{untagged-tagged}
 use Rattle.pb_normal.specs.Normal.{Formula, Test, Join, Each, Call}
 use Rattle.pb_normal.specs.Answer.{slots_of}
 use Rattle.pb_assembler_scheme.specs.Correct.{quantifiers, slots_from}
 use Rattle.pb_assembler_scheme.proofs.Numbered.{HasSlots}
 
 -- ---- values of parameters
-
-either : (a b : Bool) → (a || b) ≡ true → (P : Type 0) → (a ≡ true → P) → (b ≡ true → P) → P
-either true b e P f g = f refl
-either false b e P f g = g e
-
-not-negative : (z : ℤ) → pos 0 ≤ℤ z → pos (unsigned_abs z) ≡ z
-not-negative (pos n) h = refl
-not-negative (negsuc n) h = absurd (omega (arith, ints))
-
-of-bool-at : (u z : ℤ) → u ≡ z → of_bool (not (int_eq u (pos 0))) ≡ u → of_bool (not (int_eq z (pos 0))) ≡ z
-of-bool-at u z e h = subst (λ (y : ℤ). of_bool (not (int_eq y (pos 0))) ≡ y) e h
-
-untagged-tagged : (c : Carrier) (z : ℤ) → carriers.contains (values_of c) z ≡ true → untagged (tagged c z) ≡ z
-untagged-tagged carrier.Bool z h =
-    either (int_eq (pos 0) z) _ h _
-    (λ e. of-bool-at (pos 0) z ((Decides-int_eq (pos 0) z).0 e) refl)
-    (λ k. either (int_eq (pos 1) z) false k _ (λ e. of-bool-at (pos 1) z ((Decides-int_eq (pos 1) z).0 e) refl) (λ e. cc))
-untagged-tagged (carrier.Enum e) z h = not-negative z (number_bounds (pos 0) z e.count h).0
-untagged-tagged (carrier.Range r) z h = refl
 
 pub start-slots : (cs : List Carrier) (tuple : List ℤ) → AreArguments cs tuple → (i : ℕ) (v : Value) → slice_get (arguments cs tuple) i ≡ Some v → untagged v ≡ slots_of tuple i
 start-slots [] tuple a i v e = cc

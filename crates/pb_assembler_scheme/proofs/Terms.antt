@@ -20,7 +20,7 @@ use Rattle.pb_bytecode_program.specs.declared.instruction.Equality.{Equality}
 use Rattle.pb_bytecode_program.specs.declared.instruction.Equality.TheVariants as equality
 use Rattle.pb_bytecode_program.specs.declared.instruction.Op.TheVariants as op
 use Rattle.pb_normal.specs.Normal.{Term, Number, Slot, Negative, Absolute, Successor, Predecessor, Binary, Maximum, Minimum, Choice, Recognised, Slots, value}
-use Rattle.pb_assembler_scheme.specs.Pieces.{Piece, Plain, Then, end, Stands}
+use Rattle.pb_assembler_scheme.specs.Pieces.{Piece, Plain, Then, end, HasPieceAt}
 use Rattle.pb_assembler_scheme.specs.Scheme.{data_piece, in_order, swapped}
 use Rattle.pb_assembler_scheme.proofs.Equality.{true_of, same_bools, same_places, same_numbers, and_comm, or_comm, chosen_then, chosen_else}
 use Rattle.pb_assembler_scheme.proofs.Wins.{Wins, After, one, avoids_fault, pushed, pushed_int, popped_int, popped_bool}
@@ -105,7 +105,7 @@ module _ (p : Program) (Q : List Token → Type 0) where
 
   -- wherever the piece stands and the slots agree, it gives this value
   abbrev pub GivesValue : Piece → (Slots → ℤ) → Type 0
-  GivesValue x z = (st : State) (e : ℕ) (a : Slots) → Stands p.code st.place e x → Agrees st a → Gives st (end st.place x) (z a) → Wins p Q st
+  GivesValue x z = (st : State) (e : ℕ) (a : Slots) → HasPieceAt p.code st.place e x → Agrees st a → Gives st (end st.place x) (z a) → Wins p Q st
 
   number_gives : (z : ℤ) → GivesValue (Plain (op.PushInt z)) (λ a. z)
   number_gives z st e a h ag go = one p Q st _ h (pushed p Q st st.operands (IntValue z) (go (IntValue z) refl))

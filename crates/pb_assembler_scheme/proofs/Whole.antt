@@ -18,7 +18,7 @@ use Rattle.pb_bytecode_program.specs.declared.instruction.Op.TheVariants as op
 use Rattle.pb_bytecode_program.proofs.Trees.{longer}
 use Rattle.pb_normal.specs.Normal.{Formula, Slots}
 use Rattle.pb_normal.specs.Answer.{slots_of}
-use Rattle.pb_assembler_scheme.specs.Pieces.{Stands}
+use Rattle.pb_assembler_scheme.specs.Pieces.{HasPieceAt}
 use Rattle.pb_assembler_scheme.specs.Scheme.{connective_of, head, formula_piece, equation_piece, equation_code}
 use Rattle.pb_assembler_scheme.specs.Correct.{IsCompiled, HasFullCalls, Declares, IsFaultless, HasTruth, Decides}
 use Rattle.pb_assembler_scheme.proofs.Wins.{Wins, EndsIn, one}
@@ -44,7 +44,7 @@ module _ (p : Program) (f : Formula) (args : List Value) (slots : Slots) where
     truth = j.truth;
   }
 
-  pub wins : HasFullCalls p.callees f → Agrees (start args) slots → Stands p.code 0 0 (equation_piece p.callees f) → Wins p IsDecided (start args)
+  pub wins : HasFullCalls p.callees f → Agrees (start args) slots → HasPieceAt p.code 0 0 (equation_piece p.callees f) → Wins p IsDecided (start args)
   wins full agrees h =
       one p IsDecided (start args) (op.Open (connective_of (head f))) h.0.0
       (enclosed p IsDecided (head f) (formula_piece p.callees (head f) f) (λ a t. numbered_truth p a t f) (formula_runs p IsDecided (call_runs p IsDecided) f (head f) full)
@@ -64,7 +64,7 @@ longer-fault p (suc m) k st g e =
     by (Faults f) h e = e
 
 module _ (spec : Spec) (p : Program) (f : Formula) (tuple : Tuple) (compiled : IsCompiled p f) (full : HasFullCalls p.callees f) (declares : Declares spec p.callees) (fit : AreArguments p.params tuple) where
-  code-stands : Stands p.code 0 0 (equation_piece p.callees f)
+  code-stands : HasPieceAt p.code 0 0 (equation_piece p.callees f)
   code-stands =
       stands p.code 0 0 (equation_piece p.callees f)
       (subst (λ (code : List Op). HasAt code 0 (equation_code p.callees f)) (sym compiled.code) (has_all (equation_code p.callees f)))

@@ -45,19 +45,19 @@ flat q e Leave = op.Jump e ∷ []
 flat q e (Guard lo hi a) = op.InRange lo hi (end (q + 1) a) ∷ (flat (q + 1) e a ++ op.Pop ∷ [])
 
 -- the instructions of a piece that begins at place q stand in the code
-abbrev pub Stands : List Op → ℕ → ℕ → Piece → Type 0
-Stands code q e Empty = Unit {0}
-Stands code q e (Plain i) = slice_get code q ≡ Some i
-Stands code q e (Then a b) = Stands code q e a × Stands code (end q a) e b
-Stands code q e (Unless on a) = (slice_get code q ≡ Some (op.JumpIf on (end (q + 1) a))) × Stands code (q + 1) e a
-Stands code q e (Choose on a b) =
+abbrev pub HasPieceAt : List Op → ℕ → ℕ → Piece → Type 0
+HasPieceAt code q e Empty = Unit {0}
+HasPieceAt code q e (Plain i) = slice_get code q ≡ Some i
+HasPieceAt code q e (Then a b) = HasPieceAt code q e a × HasPieceAt code (end q a) e b
+HasPieceAt code q e (Unless on a) = (slice_get code q ≡ Some (op.JumpIf on (end (q + 1) a))) × HasPieceAt code (q + 1) e a
+HasPieceAt code q e (Choose on a b) =
     (slice_get code q ≡ Some (op.JumpIf on (end (q + 1) a + 1)))
-    × Stands code (q + 1) e a
+    × HasPieceAt code (q + 1) e a
     × (slice_get code (end (q + 1) a) ≡ Some (op.Jump (end (end (q + 1) a + 1) b)))
-    × Stands code (end (q + 1) a + 1) e b
-Stands code q e (Repeat s a) =
-    (slice_get code q ≡ Some (op.Loop s)) × Stands code (q + 1) e a × (slice_get code (end (q + 1) a) ≡ Some op.Next)
-Stands code q e (Block a) = Stands code q (end q a) a
-Stands code q e Leave = slice_get code q ≡ Some (op.Jump e)
-Stands code q e (Guard lo hi a) =
-    (slice_get code q ≡ Some (op.InRange lo hi (end (q + 1) a))) × Stands code (q + 1) e a × (slice_get code (end (q + 1) a) ≡ Some op.Pop)
+    × HasPieceAt code (end (q + 1) a + 1) e b
+HasPieceAt code q e (Repeat s a) =
+    (slice_get code q ≡ Some (op.Loop s)) × HasPieceAt code (q + 1) e a × (slice_get code (end (q + 1) a) ≡ Some op.Next)
+HasPieceAt code q e (Block a) = HasPieceAt code q (end q a) a
+HasPieceAt code q e Leave = slice_get code q ≡ Some (op.Jump e)
+HasPieceAt code q e (Guard lo hi a) =
+    (slice_get code q ≡ Some (op.InRange lo hi (end (q + 1) a))) × HasPieceAt code (q + 1) e a × (slice_get code (end (q + 1) a) ≡ Some op.Pop)

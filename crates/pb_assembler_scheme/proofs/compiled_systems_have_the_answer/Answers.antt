@@ -1,4 +1,4 @@
-use Rattle.pb_normal.proofs.Equations.{accepted-well-typed}
+use Rattle.pb_typing.proofs.Accepted.{accepted-well-typed}
 use Rattle.pb_text_meaning.specs.Erase.{erase}
 use Rattle.pb_assembler_scheme.proofs.System.{have-answer}
 use Rattle.pb_assembler_scheme.proofs.compiled_systems_have_the_answer.Goals as goal

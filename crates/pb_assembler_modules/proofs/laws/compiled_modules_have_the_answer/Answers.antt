@@ -1,4 +1,4 @@
-use Rattle.pb_normal.proofs.Equations.{accepted-well-typed}
+use Rattle.pb_typing.proofs.Accepted.{accepted-well-typed}
 use Rattle.pb_text_meaning.specs.Erase.{erase}
 use Rattle.pb_assembler_modules.proofs.Modules.{says_the_same}
 use Rattle.pb_assembler_modules.proofs.laws.compiled_modules_have_the_answer.Goals as goal
