@@ -58,45 +58,46 @@ impl Machine {
     }
 
     /// Executes one instruction. Answers whether the run goes on.
-    fn execute(&mut self, layout: &Layout, loops: &[Carrier], op: Op) -> bool
+    fn execute(&mut self, layout: &Layout, loops: &[Carrier], op: &Op) -> bool
         requires few { count_of layout.now ≤ MAX_INSTANCES }
-        requires ready { (p : Program) × CallsOf p layout.now × (p.loops ≡ loops.now) × IsReady p self.old op }
-        ensures { (p : Program) → CallsOf p layout.now → p.loops ≡ loops.now → Executes p op self.old self.new result }
+        requires ready { (p : Program) × CallsOf p layout.now × (p.loops ≡ loops.now) × IsReady p self.old op.now }
+        ensures { (p : Program) → CallsOf p layout.now → p.loops ≡ loops.now → Executes p op.now self.old self.new result }
     {
         match op {
             Op::End => return false,
-            Op::PushInt(value) => self.push_int(value),
-            Op::PushBool(value) => self.push_bool(value),
-            Op::PushEnum { sort, index } => self.push_enum(sort, index),
-            Op::Get { slot } => self.get(slot),
+            Op::PushInt(value) => self.push_int(*value),
+            Op::PushBool(value) => self.push_bool(*value),
+            Op::PushEnum { sort, index } => self.push_enum(*sort, *index),
+            Op::Get { slot } => self.get(*slot),
             Op::Pop => self.discard(),
-            Op::Arithmetic(operator) => self.arithmetic(operator),
+            Op::Arithmetic(operator) => self.arithmetic(*operator),
             Op::Negate => self.negate(),
             Op::Absolute => self.absolute(),
-            Op::Compare(order) => self.compare(order),
-            Op::Equality(wanted) => self.equate(wanted),
+            Op::Compare(order) => self.compare(*order),
+            Op::Equality(wanted) => self.equate(*wanted),
             Op::Not => self.not(),
-            Op::Logic(connective) => self.connect(connective),
-            Op::Jump { target } => self.go_to(target as usize),
-            Op::JumpIf { condition, target } => self.jump_if(condition, target),
-            Op::InRange { lo, hi, target } => self.in_range(lo, hi, target),
+            Op::Logic(connective) => self.connect(*connective),
+            Op::Jump { target } => self.go_to(*target as usize),
+            Op::JumpIf { condition, target } => self.jump_if(*condition, *target),
+            Op::InRange { lo, hi, target } => self.in_range(*lo, *hi, *target),
             Op::SlotInRange {
                 slot,
                 lo,
                 hi,
                 target,
-            } => self.slot_in_range(slot, lo, hi, target),
-            Op::Loop { slot } => self.enter_loop(loops, slot),
+            } => self.slot_in_range(*slot, *lo, *hi, *target),
+            Op::Loop { slot } => self.enter_loop(loops, *slot),
             Op::Next => self.next_turn(),
-            Op::Open(connective) => self.open_bracket(connective),
+            Op::Open(connective) => self.open_bracket(*connective),
             Op::Close => self.close_bracket(),
-            Op::Emit(leaf) => self.emit(leaf),
-            Op::Call { equation } => self.call(layout, equation),
+            Op::Emit(leaf) => self.emit(*leaf),
+            Op::Call { equation } => self.call(layout, *equation),
         }
         true
     }
 
-    /// Makes ready for a run on these arguments, with room for all tokens that it may write.
+    /// Makes ready for a run on these arguments, with room for all operands and loops that code may
+    /// have and all tokens that it may write, so that no instruction tests for room.
     fn begin(&mut self, code: &Code, arguments: &[i64]) -> Result<(), AllocError>
         ensures { IfOk result (λ _. (p : Program) → p.loops ≡ code.now.loops.now → p.stated_tokens ≡ code.now.tokens → AreArguments p.params arguments.now → Mirrors p self.new (start (tagged_arguments p.params arguments.now))) }
     {
@@ -115,8 +116,8 @@ impl Machine {
     /// tree with which it ends. Instances that the code calls are numbered by the layout.
     ///
     /// # Errors
-    /// Memory was refused: for the slots and the tokens that the code states, which are reserved before the run and
-    /// kept for later runs.
+    /// Memory was refused: for operands, loops, slots and the tokens that the code states, which is
+    /// reserved before the run and kept for later runs.
     pub(crate) fn run_code(
         &mut self,
         layout: &Layout,
