@@ -2,11 +2,13 @@
 use Rattle.std.specs.Prelude.{◌≡◌, ℕ, suc, ◌<◌, nat_lt, ◌||◌, length, min, Option, Some, None, if◌then◌else◌}
 use Rattle.std.specs.List.{slice_get}
 use Rattle.pb_text_meaning.specs.Syntax.{Equation, Spec}
+use Rattle.pb_bytecode_program.specs.declared.limits.TheConstants.{MAX_OPERANDS, MAX_BRACKETS, MAX_LOOPS, MAX_STEPS, MAX_TOKENS}
 use Rattle.pb_bytecode_program.specs.Machine.{Program}
 use Rattle.pb_bytecode_program.specs.Counts.{static_steps, static_tokens}
 use Rattle.pb_normal.specs.Normal.{Formula}
 use Rattle.pb_normal.specs.Equations.{normal_equation}
 use Rattle.pb_assembler_scheme.specs.Scheme.{head}
+use Rattle.pb_assembler_accepted.specs.declared.limits.TheConstants.{MAX_INSTRUCTIONS, MAX_LOOP_SLOTS}
 use Rattle.pb_assembler_accepted.specs.Limits.{formula_operands, formula_brackets, formula_loops, KeepsLimits}
 use Rattle.pb_assembler_accepted.specs.Made.{IsMadeOf}
 use Rattle.pb_assembler.specs.declared.limit.Limit.{Limit}
@@ -15,22 +17,22 @@ use Rattle.pb_assembler.specs.declared.limit.Measures.{Measures}
 
 -- each number counted no further than just above its limit
 pub record AreMeasures (m : Measures) (p : Program) (f : Formula) : Type 0 where
-  pub instructions : m.instructions ≡ min (length p.code) 65536
-  pub operands : m.operands ≡ min (formula_operands f) 33
-  pub brackets : m.brackets ≡ min (suc (formula_brackets (head f) f)) 33
-  pub nesting : m.nesting ≡ min (formula_loops f) 9
-  pub slots : m.slots ≡ min (length p.loops) 241
-  pub steps : m.steps ≡ min (static_steps p) 1000001
-  pub tokens : m.tokens ≡ min (static_tokens p) 100001
+  pub instructions : m.instructions ≡ min (length p.code) (suc MAX_INSTRUCTIONS)
+  pub operands : m.operands ≡ min (formula_operands f) (suc MAX_OPERANDS)
+  pub brackets : m.brackets ≡ min (suc (formula_brackets (head f) f)) (suc MAX_BRACKETS)
+  pub nesting : m.nesting ≡ min (formula_loops f) (suc MAX_LOOPS)
+  pub slots : m.slots ≡ min (length p.loops) (suc MAX_LOOP_SLOTS)
+  pub steps : m.steps ≡ min (static_steps p) (suc MAX_STEPS)
+  pub tokens : m.tokens ≡ min (static_tokens p) (suc MAX_TOKENS)
 
 abbrev pub first_excess : Measures → Option Limit
 first_excess m =
-    if nat_lt 65535 m.instructions then Some limit.Instructions else
-    if nat_lt 32 m.operands then Some limit.Operands else
-    if nat_lt 32 m.brackets then Some limit.Brackets else
-    if nat_lt 8 m.nesting || nat_lt 240 m.slots then Some limit.Loops else
-    if nat_lt 1000000 m.steps then Some limit.Steps else
-    if nat_lt 100000 m.tokens then Some limit.Tokens else None
+    if nat_lt MAX_INSTRUCTIONS m.instructions then Some limit.Instructions else
+    if nat_lt MAX_OPERANDS m.operands then Some limit.Operands else
+    if nat_lt MAX_BRACKETS m.brackets then Some limit.Brackets else
+    if nat_lt MAX_LOOPS m.nesting || nat_lt MAX_LOOP_SLOTS m.slots then Some limit.Loops else
+    if nat_lt MAX_STEPS m.steps then Some limit.Steps else
+    if nat_lt MAX_TOKENS m.tokens then Some limit.Tokens else None
 
 -- the program exceeds this limit, and none before it
 abbrev pub ExceedsFirst : Program → Formula → Limit → Type 0

@@ -1,10 +1,11 @@
 -- How much the code of whole equations takes, and that equations are the normal forms of a text's.
-use Rattle.std.specs.Prelude.{◌≡◌, ℕ, ◌+◌, min, List, map, length, Some, Vec}
+use Rattle.std.specs.Prelude.{◌≡◌, ℕ, suc, ◌+◌, min, List, map, length, Some, Vec}
 use Rattle.std.specs.Global.{Global}
 use Rattle.std.specs.List.{slice_get}
 use Rattle.pb_sorts.specs.declared.carrier.Carrier.{Carrier}
 use Rattle.pb_text_meaning.specs.Syntax as syntax
 use Rattle.pb_text_meaning.specs.Syntax.{Spec}
+use Rattle.pb_bytecode_program.specs.declared.limits.TheConstants.{MAX_OPERANDS, MAX_BRACKETS, MAX_LOOPS, MAX_STEPS, MAX_TOKENS}
 use Rattle.pb_bytecode_program.specs.Machine.{Program}
 use Rattle.pb_normal.specs.Answer.{normal_equations}
 use Rattle.pb_normal.specs.Equations.{normal_equation}
@@ -12,6 +13,7 @@ use Rattle.pb_normal.specs.Loops.{equation_loops}
 use Rattle.pb_normal.specs.View.{formula_view, right_views, shapes_of}
 use Rattle.pb_normal.specs.declared.normal.Equation.{Equation}
 use Rattle.pb_assembler_scheme.specs.Correct.{IsCompiled}
+use Rattle.pb_assembler_accepted.specs.declared.limits.TheConstants.{MAX_INSTRUCTIONS, MAX_LOOP_SLOTS}
 use Rattle.pb_assembler_accepted.specs.Limits.{KeepsLimits}
 use Rattle.pb_assembler_accepted.specs.Made.{IsMadeOf, parameter_shapes}
 use Rattle.pb_assembler.specs.declared.first_excess.Excess.{Excess}
@@ -23,13 +25,13 @@ use Rattle.pb_assembler.specs.MeasureFormulas.{callees_of}
 -- a right side's, in its outermost bracket and with END behind it
 abbrev pub equation_measures : Tally → (slots : ℕ) → Measures
 equation_measures t slots = record {
-  instructions = min (3 + t.instructions) 65536;
-  operands = min t.operands 33;
-  brackets = min (1 + t.brackets) 33;
-  nesting = min t.nesting 9;
-  slots = min slots 241;
-  steps = min (3 + t.steps) 1000001;
-  tokens = min (2 + t.tokens) 100001;
+  instructions = min (3 + t.instructions) (suc MAX_INSTRUCTIONS);
+  operands = min t.operands (suc MAX_OPERANDS);
+  brackets = min (1 + t.brackets) (suc MAX_BRACKETS);
+  nesting = min t.nesting (suc MAX_LOOPS);
+  slots = min slots (suc MAX_LOOP_SLOTS);
+  steps = min (3 + t.steps) (suc MAX_STEPS);
+  tokens = min (2 + t.tokens) (suc MAX_TOKENS);
 }
 
 -- the scheme's program of an equation: it has the equation's loops, and what it calls has parameters of these shapes

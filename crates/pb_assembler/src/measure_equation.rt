@@ -10,6 +10,8 @@ use crate::limit::Measures;
 use crate::measure_formula::measure_formula;
 use crate::measure_load::add;
 use crate::measure_tally::Tally;
+use pb_assembler_accepted::{MAX_INSTRUCTIONS, MAX_LOOP_SLOTS};
+use pb_bytecode_program::{MAX_BRACKETS, MAX_LOOPS, MAX_OPERANDS, MAX_TOKENS};
 use pb_normal::{Equation, Formula};
 use pb_sorts::Carrier;
 
@@ -18,13 +20,13 @@ fn bounded(tally: Tally, slots: usize) -> Measures
     ensures { result ≡ equation_measures tally slots }
 {
     Measures {
-        instructions: add(tally.instructions, 3).min(65_536),
-        operands: tally.operands.min(33),
-        brackets: add(tally.brackets, 1).min(33),
-        nesting: tally.nesting.min(9),
-        slots: slots.min(241) as u32,
+        instructions: add(tally.instructions, 3).min(MAX_INSTRUCTIONS + 1),
+        operands: tally.operands.min(MAX_OPERANDS as u32 + 1),
+        brackets: add(tally.brackets, 1).min(u32::from(MAX_BRACKETS) + 1),
+        nesting: tally.nesting.min(MAX_LOOPS as u32 + 1),
+        slots: slots.min(MAX_LOOP_SLOTS as usize + 1) as u32,
         steps: add(tally.steps, 3),
-        tokens: add(tally.tokens, 2).min(100_001),
+        tokens: add(tally.tokens, 2).min(MAX_TOKENS + 1),
     }
 }
 

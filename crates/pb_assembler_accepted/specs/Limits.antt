@@ -3,10 +3,12 @@
 -- ways.
 use Rattle.std.specs.Prelude.{ℕ, suc, ◌≤◌, max, Bool, true, false, List, [], ◌∷◌, length, Option, Some, None}
 use Rattle.pb_text_meaning.specs.Syntax.{Operator}
+use Rattle.pb_bytecode_program.specs.declared.limits.TheConstants.{MAX_OPERANDS, MAX_BRACKETS, MAX_LOOPS, MAX_STEPS, MAX_TOKENS}
 use Rattle.pb_bytecode_program.specs.Machine.{Program}
 use Rattle.pb_bytecode_program.specs.Counts.{static_steps, static_tokens}
 use Rattle.pb_normal.specs.Normal.{Term, Number, Slot, Negative, Absolute, Successor, Predecessor, Binary, Maximum, Minimum, Choice, Recognised, Argument, Formula, Test, Join, Each, Call}
 use Rattle.pb_assembler_scheme.specs.Scheme.{test_of, head}
+use Rattle.pb_assembler_accepted.specs.declared.limits.TheConstants.{MAX_INSTRUCTIONS, MAX_LOOP_SLOTS}
 
 -- ---- operands
 
@@ -85,10 +87,10 @@ formula_loops (Call equation xs) = 0
 -- ---- all limits, in the order of their rules
 
 pub record KeepsLimits (p : Program) (f : Formula) : Type 0 where
-  pub instructions : length p.code ≤ 65535
-  pub operands : formula_operands f ≤ 32
-  pub brackets : suc (formula_brackets (head f) f) ≤ 32
-  pub nesting : formula_loops f ≤ 8
-  pub slots : length p.loops ≤ 240
-  pub steps : static_steps p ≤ 1000000
-  pub tokens : static_tokens p ≤ 100000
+  pub instructions : length p.code ≤ MAX_INSTRUCTIONS
+  pub operands : formula_operands f ≤ MAX_OPERANDS
+  pub brackets : suc (formula_brackets (head f) f) ≤ MAX_BRACKETS
+  pub nesting : formula_loops f ≤ MAX_LOOPS
+  pub slots : length p.loops ≤ MAX_LOOP_SLOTS
+  pub steps : static_steps p ≤ MAX_STEPS
+  pub tokens : static_tokens p ≤ MAX_TOKENS

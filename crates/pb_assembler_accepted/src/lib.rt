@@ -22,6 +22,10 @@ ghost use Rattle.pb_assembler_accepted.specs.Limits.{KeepsLimits};
 ghost use Rattle.pb_assembler_accepted.specs.Made.{IsMadeOf};
 ghost use Rattle.pb_assembler_accepted.specs.Weights.{weight};
 
+pub mod limits;
+
+pub use limits::{MAX_INSTRUCTIONS, MAX_LOOP_SLOTS};
+
 /// In a well-typed specification, and so in a text that typing accepts, the scheme's program of each equation has an
 /// accepted table of abstract states, where it keeps the machine's limits.
 pub fn compiled_equations_are_accepted()

@@ -9,7 +9,7 @@ use Rattle.pb_typing_declarations.specs.TypingRule.{rule_number}
 use Rattle.pb_typing_declarations.specs.declared.fault.TypeError.{TypeError}
 use Rattle.pb_typing_declarations.specs.declared.fault.TypeError.TheVariants as type_error
 use Rattle.pb_assembler.specs.declared.limit.Limit.{Limit}
-use Rattle.pb_assembler.specs.declared.limit.Limit.TheVariants.{Instructions, Operands, Brackets, Loops, Steps, Tokens}
+use Rattle.pb_assembler.specs.LimitNumber.{limit_number}
 use Rattle.pb_bytecode.specs.RuleNumber as module_rule
 use Rattle.pb_bytecode.specs.declared.fault.ModuleError.{ModuleError}
 use Rattle.pb_bytecode.specs.declared.fault.ModuleError.TheVariants as module_error
@@ -49,14 +49,6 @@ type_line (type_error.At fault) = line_at (rule_number fault.rule) fault.place
 type_line type_error.Memory = line_of M01
 
 -- ---- modules: bytes, equations and the places of their code are counted from 0
-
-abbrev pub limit_number : Limit → List ℕ
-limit_number Instructions = codes "C01"
-limit_number Operands = codes "C02"
-limit_number Brackets = codes "C03"
-limit_number Loops = codes "C04"
-limit_number Steps = codes "C05"
-limit_number Tokens = codes "C06"
 
 -- a limit, and the equation whose code exceeds it
 abbrev pub limit_line : Limit → ℕ → List ℕ

@@ -26,7 +26,7 @@ use Rattle.pb_text.specs.Grammar.{Begun, IsNode, IsFormula}
 use Rattle.pb_text.specs.Reading.{opening, begun, data_term, node, formula}
 use Rattle.pb_text_terms.proofs.CorrectOperators.{term_goes}
 use Rattle.pb_text_terms.proofs.CorrectTerm.{term-correct, instance-correct}
-use Rattle.pb_text_terms.proofs.CorrectVariable.{head-kind-is, quantified-correct, quantified-last}
+use Rattle.pb_text_terms.proofs.CorrectVariable.{head-kind-is, head-limited, quantified-correct, quantified-last}
 use Rattle.pb_text_terms.proofs.TermStarts.{readable-term}
 
 -- what goes on with a node: a bracket, behind a name
@@ -99,10 +99,6 @@ readable-formula level = free-to IsNode IsFormula (λ x. x) level level single [
 -- ---- tokens at which a limit can be exceeded
 
 -- a limit can be exceeded at a token of this kind
-head-limited : (kind : Kind) (ts : List Tok) → HeadIs kind ts → is_limited kind ≡ true → is_limited (head_kind ts) ≡ true
-head-limited kind [] h lim = absurd h
-head-limited kind (t ∷ ts) h lim = ap is_limited h ∙ lim
-
 -- no bracket opens behind what is read
 closed-correct : (P : List Tok → Type 0) (p : Step FormulaForm) (fam : Family FormulaForm) (depth : ℕ) → Correct P p fam never depth → Correct P (unless_next is_open p) fam node_goes depth
 closed-correct P p fam depth a = unless_next-correct fam never is_open depth P p a

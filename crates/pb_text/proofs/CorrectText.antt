@@ -9,7 +9,7 @@ use Rattle.pb_text_lexer.specs.declared.fault.Refusal.{Refusal}
 use Rattle.pb_text_lexer.specs.declared.kind.Kind.{Kind}
 use Rattle.pb_text_lexer.specs.declared.kind.Kind.TheVariants as k
 use Rattle.pb_text_lexer.specs.Kinds.{same_kind, is_last, is_limited}
-use Rattle.pb_text_lexer.specs.Grammar.{State, Within, going_on, Reads, Is, Nothing, One, First, Series, Own}
+use Rattle.pb_text_lexer.specs.Grammar.{State, Within, going_on, Reads, Is, Nothing, One, First, Series, CountedApart}
 use Rattle.pb_text_lexer.specs.Grammar as grammar
 use Rattle.pb_text_lexer.specs.LeftGrammar.{Extended}
 use Rattle.pb_text_lexer.specs.Steps.{ends, Step, Outcome, and_then, pure, take_token, expect, refuse, refusal, kind, head_kind, alone, unless_next, nothing_between}
@@ -140,7 +140,7 @@ parameters-correct depth =
 
 -- ---- equations
 
-right_side-correct : (depth : ℕ) → Correct Always (right_side depth) (λ d. Own (IsFormula d)) formula_goes depth
+right_side-correct : (depth : ℕ) → Correct Always (right_side depth) (λ d. CountedApart (IsFormula d)) formula_goes depth
 unfolding right_side
 right_side-correct depth = own-correct Always (level connective.Implies depth) IsFormula formula_goes depth (formulas-correct depth).formulas
 
@@ -155,15 +155,15 @@ semicolon-stops = refl
 equation-correct : (depth : ℕ) → Correct Always (equation depth) IsEquation never depth
 unfolding equation
 equation-correct depth =
-    then-plain (λ d. First SignOf) (λ sign d. grammar.◌>>=◌ Name (λ name. grammar.◌>>=◌ (parameters_of d) (λ ps. grammar.◌>>=◌ (One k.Is) (λ equals. grammar.◌>>=◌ (Own (IsFormula d)) (λ right. grammar.◌>>=◌ (One k.Semicolon) (λ semicolon. Is (record { sign = sign; name = name; parameters = ps; right = right }))))))) never depth
+    then-plain (λ d. First SignOf) (λ sign d. grammar.◌>>=◌ Name (λ name. grammar.◌>>=◌ (parameters_of d) (λ ps. grammar.◌>>=◌ (One k.Is) (λ equals. grammar.◌>>=◌ (CountedApart (IsFormula d)) (λ right. grammar.◌>>=◌ (One k.Semicolon) (λ semicolon. Is (record { sign = sign; name = name; parameters = ps; right = right }))))))) never depth
     Always sign_of _ (sign-correct depth) (λ sign.
-    then-plain (λ d. Name) (λ name d. grammar.◌>>=◌ (parameters_of d) (λ ps. grammar.◌>>=◌ (One k.Is) (λ equals. grammar.◌>>=◌ (Own (IsFormula d)) (λ right. grammar.◌>>=◌ (One k.Semicolon) (λ semicolon. Is (record { sign = sign; name = name; parameters = ps; right = right })))))) never depth
+    then-plain (λ d. Name) (λ name d. grammar.◌>>=◌ (parameters_of d) (λ ps. grammar.◌>>=◌ (One k.Is) (λ equals. grammar.◌>>=◌ (CountedApart (IsFormula d)) (λ right. grammar.◌>>=◌ (One k.Semicolon) (λ semicolon. Is (record { sign = sign; name = name; parameters = ps; right = right })))))) never depth
     Always name _ (name-correct depth) (λ name.
-    then-correct parameters_of (λ ps d. grammar.◌>>=◌ (One k.Is) (λ equals. grammar.◌>>=◌ (Own (IsFormula d)) (λ right. grammar.◌>>=◌ (One k.Semicolon) (λ semicolon. Is (record { sign = sign; name = name; parameters = ps; right = right }))))) (going never is_open) never depth
+    then-correct parameters_of (λ ps d. grammar.◌>>=◌ (One k.Is) (λ equals. grammar.◌>>=◌ (CountedApart (IsFormula d)) (λ right. grammar.◌>>=◌ (One k.Semicolon) (λ semicolon. Is (record { sign = sign; name = name; parameters = ps; right = right }))))) (going never is_open) never depth
     (λ d x m y z r over. other-stops (going never is_open) k.Is m.tokens r.1.tokens r.0 is-stops r.2.0 r.2.1) Always (parameters depth) _ (parameters-correct depth) (λ ps. anywhere (Stops (going never is_open)) _ _ never depth (
-    then-plain (λ d. One k.Is) (λ equals d. grammar.◌>>=◌ (Own (IsFormula d)) (λ right. grammar.◌>>=◌ (One k.Semicolon) (λ semicolon. Is (record { sign = sign; name = name; parameters = ps; right = right })))) never depth
+    then-plain (λ d. One k.Is) (λ equals d. grammar.◌>>=◌ (CountedApart (IsFormula d)) (λ right. grammar.◌>>=◌ (One k.Semicolon) (λ semicolon. Is (record { sign = sign; name = name; parameters = ps; right = right })))) never depth
     Always (expect k.Is) _ (expect-correct k.Is depth refl) (λ equals.
-    then-correct (λ d. Own (IsFormula d)) (λ right d. grammar.◌>>=◌ (One k.Semicolon) (λ semicolon. Is (record { sign = sign; name = name; parameters = ps; right = right }))) formula_goes never depth
+    then-correct (λ d. CountedApart (IsFormula d)) (λ right d. grammar.◌>>=◌ (One k.Semicolon) (λ semicolon. Is (record { sign = sign; name = name; parameters = ps; right = right }))) formula_goes never depth
     (λ d x m y z r over. other-stops formula_goes k.Semicolon m.tokens r.1.tokens r.0 semicolon-stops r.2.0 r.2.1) Always (right_side depth) _ (right_side-correct depth)
     (λ right. anywhere (Stops formula_goes) _ _ never depth (token-correct k.Semicolon depth (record { sign = sign; name = name; parameters = ps; right = right }) refl)))))))
 
@@ -194,7 +194,7 @@ from-initial : (d : ℕ) (s : State) (y : InstanceForm) (z : State) → IsInitia
 from-initial zero s y z r = r
 from-initial (suc d) s y z r = r
 
-initial-correct : (depth : ℕ) → Correct Always (initial_instance depth) (λ d. Own (IsInitial d)) node_goes depth
+initial-correct : (depth : ℕ) → Correct Always (initial_instance depth) (λ d. CountedApart (IsInitial d)) node_goes depth
 unfolding initial_instance
 initial-correct depth =
     own-correct Always (expressions.instance depth) IsInitial node_goes depth
@@ -218,15 +218,15 @@ module _ (ranges : List RangeForm) (depth : ℕ) where
   text-correct : Correct Always (text ranges depth) (IsSpec ranges) never depth
   unfolding text
   text-correct =
-      then-correct (λ d. SortParts) (λ sorts d. grammar.◌>>=◌ (One k.Pbes) (λ pbes. grammar.◌>>=◌ (Equations d) (λ found. grammar.◌>>=◌ (One k.Init) (λ init. grammar.◌>>=◌ (Own (IsInitial d)) (λ initial. grammar.◌>>=◌ (One k.Semicolon) (λ semicolon. Is (record { sorts = sorts; ranges = ranges; equations = found; initial = initial }))))))) parts_go never depth
+      then-correct (λ d. SortParts) (λ sorts d. grammar.◌>>=◌ (One k.Pbes) (λ pbes. grammar.◌>>=◌ (Equations d) (λ found. grammar.◌>>=◌ (One k.Init) (λ init. grammar.◌>>=◌ (CountedApart (IsInitial d)) (λ initial. grammar.◌>>=◌ (One k.Semicolon) (λ semicolon. Is (record { sorts = sorts; ranges = ranges; equations = found; initial = initial }))))))) parts_go never depth
       (λ d x m y z r over. other-stops parts_go k.Pbes m.tokens r.1.tokens r.0 pbes-stops r.2.0 r.2.1) Always sort_parts _ (sort_parts-correct depth) (λ sorts. anywhere (Stops parts_go) _ _ never depth (
-      then-plain (λ d. One k.Pbes) (λ pbes d. grammar.◌>>=◌ (Equations d) (λ found. grammar.◌>>=◌ (One k.Init) (λ init. grammar.◌>>=◌ (Own (IsInitial d)) (λ initial. grammar.◌>>=◌ (One k.Semicolon) (λ semicolon. Is (record { sorts = sorts; ranges = ranges; equations = found; initial = initial })))))) never depth
+      then-plain (λ d. One k.Pbes) (λ pbes d. grammar.◌>>=◌ (Equations d) (λ found. grammar.◌>>=◌ (One k.Init) (λ init. grammar.◌>>=◌ (CountedApart (IsInitial d)) (λ initial. grammar.◌>>=◌ (One k.Semicolon) (λ semicolon. Is (record { sorts = sorts; ranges = ranges; equations = found; initial = initial })))))) never depth
       Always (expect k.Pbes) _ (expect-correct k.Pbes depth refl) (λ pbes.
-      then-correct Equations (λ found d. grammar.◌>>=◌ (One k.Init) (λ init. grammar.◌>>=◌ (Own (IsInitial d)) (λ initial. grammar.◌>>=◌ (One k.Semicolon) (λ semicolon. Is (record { sorts = sorts; ranges = ranges; equations = found; initial = initial }))))) (going never begins_equation) never depth
+      then-correct Equations (λ found d. grammar.◌>>=◌ (One k.Init) (λ init. grammar.◌>>=◌ (CountedApart (IsInitial d)) (λ initial. grammar.◌>>=◌ (One k.Semicolon) (λ semicolon. Is (record { sorts = sorts; ranges = ranges; equations = found; initial = initial }))))) (going never begins_equation) never depth
       (λ d x m y z r over. other-stops (going never begins_equation) k.Init m.tokens r.1.tokens r.0 init-stops r.2.0 r.2.1) Always (equations depth) _ (equations-correct depth) (λ found. anywhere (Stops (going never begins_equation)) _ _ never depth (
-      then-plain (λ d. One k.Init) (λ init d. grammar.◌>>=◌ (Own (IsInitial d)) (λ initial. grammar.◌>>=◌ (One k.Semicolon) (λ semicolon. Is (record { sorts = sorts; ranges = ranges; equations = found; initial = initial })))) never depth
+      then-plain (λ d. One k.Init) (λ init d. grammar.◌>>=◌ (CountedApart (IsInitial d)) (λ initial. grammar.◌>>=◌ (One k.Semicolon) (λ semicolon. Is (record { sorts = sorts; ranges = ranges; equations = found; initial = initial })))) never depth
       Always (expect k.Init) _ (expect-correct k.Init depth refl) (λ init.
-      then-correct (λ d. Own (IsInitial d)) (λ initial d. grammar.◌>>=◌ (One k.Semicolon) (λ semicolon. Is (record { sorts = sorts; ranges = ranges; equations = found; initial = initial }))) node_goes never depth
+      then-correct (λ d. CountedApart (IsInitial d)) (λ initial d. grammar.◌>>=◌ (One k.Semicolon) (λ semicolon. Is (record { sorts = sorts; ranges = ranges; equations = found; initial = initial }))) node_goes never depth
       (λ d x m y z r over. other-stops node_goes k.Semicolon m.tokens r.1.tokens r.0 end-stops r.2.0 r.2.1) Always (initial_instance depth) _ (initial-correct depth)
       (λ initial. anywhere (Stops node_goes) _ _ never depth (token-correct k.Semicolon depth (record { sorts = sorts; ranges = ranges; equations = found; initial = initial }) refl))))))))
 

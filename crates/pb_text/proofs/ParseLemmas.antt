@@ -21,7 +21,7 @@ use Rattle.pb_text_lexer.proofs.Correct.{st}
 use Rattle.pb_text_lexer.proofs.CutLemmas.{same-cut, stands, whole-cut}
 use Rattle.pb_text_lexer.proofs.RemainingLemmas.{tokens-end}
 use Rattle.pb_text.specs.Grammar.{IsText}
-use Rattle.pb_text.specs.Parsing.{IsReading, IsReadingWithin, AtMostOneReading, BeginsNextText, IsRefusal, IsBroken, StandsBy, rule_of, NoReading, Stands, error_of}
+use Rattle.pb_text.specs.Parsing.{depth_limit, operator_limit, IsReading, IsReadingWithin, AtMostOneReading, BeginsNextText, IsRefusal, IsBroken, IsFirstFaultBy, rule_of, NoReading, IsFirstFault, error_of}
 use Rattle.pb_text.specs.Reading.{whole_text}
 use Rattle.pb_text.proofs.CorrectText.{IsFault, IsRead, Reading, whole-reads, with-ranges}
 
@@ -31,7 +31,7 @@ all_tokens bytes = tokens_from bytes 0 start
 abbrev pub all_ranges : List ℕ → List RangeForm
 all_ranges bytes = ranges_from bytes 0 start
 
-pub is-reading : (bytes : List ℕ) (x : SpecForm) → IsRead 64 8192 (all_tokens bytes) (all_ranges bytes) x → IsReading bytes x
+pub is-reading : (bytes : List ℕ) (x : SpecForm) → IsRead depth_limit operator_limit (all_tokens bytes) (all_ranges bytes) x → IsReading bytes x
 is-reading bytes x r = record { tokens = all_tokens bytes; ranges = all_ranges bytes; cut = whole-cut bytes r.front r.end r.cut r.end_is; says = r.reads }
 
 -- what the tokens and range lines of a cut say, those that the lexer gives say
@@ -40,7 +40,7 @@ of-cut bytes d n y h =
     let same = same-cut bytes h.tokens h.ranges h.cut in
     subst (λ (v : List Tok). IsText d n v (all_ranges bytes) y) same.tokens (subst (λ (v : List RangeForm). IsText d n h.tokens v y) same.ranges_too h.says)
 
-pub only-reading : (bytes : List ℕ) (x : SpecForm) → IsRead 64 8192 (all_tokens bytes) (all_ranges bytes) x → (d n : ℕ) (y : SpecForm) → IsReadingWithin d n bytes y → y ≡ x
+pub only-reading : (bytes : List ℕ) (x : SpecForm) → IsRead depth_limit operator_limit (all_tokens bytes) (all_ranges bytes) x → (d n : ℕ) (y : SpecForm) → IsReadingWithin d n bytes y → y ≡ x
 only-reading bytes x r d n y h = r.only d n y (of-cut bytes d n y h)
 
 within-these : (rule : ReadingRule) (d n : ℕ) → Within rule d n d n
@@ -57,17 +57,17 @@ at_most_one bytes d n e m x y hx hy = by (whole_text (all_ranges bytes) d (st (a
         absurd (f.none d n f.more (all_ranges bytes) x (within-these bad.rule d n)
         (subst (λ (v : List Tok). IsText d n v (all_ranges bytes) x) f.cut (of-cut bytes d n x hx)))
 
-within-self : (rule : ReadingRule) → Within rule 64 8192 64 8192
+within-self : (rule : ReadingRule) → Within rule depth_limit operator_limit depth_limit operator_limit
 within-self Unexpected = tt
 within-self Limit = (omega arith, omega arith)
 
-pub no-reading : (bytes : List ℕ) (bad : Refusal) → IsFault 64 8192 (all_tokens bytes) bad → (y : SpecForm) → IsReading bytes y → ⊥
+pub no-reading : (bytes : List ℕ) (bad : Refusal) → IsFault depth_limit operator_limit (all_tokens bytes) bad → (y : SpecForm) → IsReading bytes y → ⊥
 no-reading bytes bad f y h =
-    f.none 64 8192 f.more (all_ranges bytes) y (within-self bad.rule) (subst (λ (v : List Tok). IsText 64 8192 v (all_ranges bytes) y) f.cut (of-cut bytes 64 8192 y h))
+    f.none depth_limit operator_limit f.more (all_ranges bytes) y (within-self bad.rule) (subst (λ (v : List Tok). IsText depth_limit operator_limit v (all_ranges bytes) y) f.cut (of-cut bytes depth_limit operator_limit y h))
 
 -- a refused token is no token, or it is refused by the grammar
 by-kind : (bytes : List ℕ) (rule : ReadingRule) (kind : Kind) (place : Place) → (is_defect kind ≡ true → IsBroken bytes kind place) → (is_defect kind ≡ false → IsRefusal bytes rule place)
-    → StandsBy (rule_of rule kind) bytes place
+    → IsFirstFaultBy (rule_of rule kind) bytes place
 by-kind bytes rule Unknown place broken refused = broken refl
 by-kind bytes rule LargeNumber place broken refused = broken refl
 by-kind bytes rule RangeLine place broken refused = broken refl
@@ -86,7 +86,7 @@ before : (rule : ReadingRule) (front : List Tok) (next : Tok) → (rule ≡ Limi
 before Unexpected front next limited broken goes = subst (λ (v : List Tok). BeginsNextText v) (append-nil front) goes
 before Limit front next limited broken goes = absurd (no-limit next.kind (limited refl) broken)
 
-pub stands-by : (bytes : List ℕ) (bad : Refusal) → IsFault 64 8192 (all_tokens bytes) bad → StandsBy (rule_of bad.rule bad.kind) bytes bad.place
+pub stands-by : (bytes : List ℕ) (bad : Refusal) → IsFault depth_limit operator_limit (all_tokens bytes) bad → IsFirstFaultBy (rule_of bad.rule bad.kind) bytes bad.place
 stands-by bytes bad f =
     let s = stands bytes f.front f.more f.next f.cut in
     by-kind bytes bad.rule bad.kind bad.place
@@ -109,32 +109,32 @@ stands-by bytes bad f =
 -- ---- what reading the tokens of a text answers
 
 abbrev pub Answered : List ℕ → Result Spec ReadingFault → Type 0
-Answered bytes (Ok s) = IsRead 64 8192 (all_tokens bytes) [] (spec_form s)
+Answered bytes (Ok s) = IsRead depth_limit operator_limit (all_tokens bytes) [] (spec_form s)
 Answered bytes (Err Memory) = Unit {0}
-Answered bytes (Err (At bad)) = IsFault 64 8192 (all_tokens bytes) bad
+Answered bytes (Err (At bad)) = IsFault depth_limit operator_limit (all_tokens bytes) bad
 
-answered-by : (bytes : List ℕ) (o : Outcome SpecForm) (result : Result Spec ReadingFault) (z : State) → Gives spec_form o result z → Reading [] 64 (st (all_tokens bytes) 8192) o → Answered bytes result
-answered-by bytes o (Ok s) z is h = subst (λ (v : Outcome SpecForm). Reading [] 64 (st (all_tokens bytes) 8192) v) is h
+answered-by : (bytes : List ℕ) (o : Outcome SpecForm) (result : Result Spec ReadingFault) (z : State) → Gives spec_form o result z → Reading [] depth_limit (st (all_tokens bytes) operator_limit) o → Answered bytes result
+answered-by bytes o (Ok s) z is h = subst (λ (v : Outcome SpecForm). Reading [] depth_limit (st (all_tokens bytes) operator_limit) v) is h
 answered-by bytes o (Err Memory) z is h = tt
-answered-by bytes o (Err (At bad)) z is h = subst (λ (v : Outcome SpecForm). Reading [] 64 (st (all_tokens bytes) 8192) v) is h
+answered-by bytes o (Err (At bad)) z is h = subst (λ (v : Outcome SpecForm). Reading [] depth_limit (st (all_tokens bytes) operator_limit) v) is h
 
-pub answered : (bytes : List ℕ) (s : State) (result : Result Spec ReadingFault) (z : State) → s ≡ st (all_tokens bytes) 8192 → Gives spec_form (whole_text [] 64 s) result z → Answered bytes result
+pub answered : (bytes : List ℕ) (s : State) (result : Result Spec ReadingFault) (z : State) → s ≡ st (all_tokens bytes) operator_limit → Gives spec_form (whole_text [] depth_limit s) result z → Answered bytes result
 answered bytes s result z is h =
-    answered-by bytes (whole_text [] 64 (st (all_tokens bytes) 8192)) result z
-    (subst (λ (v : State). Gives spec_form (whole_text [] 64 v) result z) is h)
-    (whole-reads [] 64 (st (all_tokens bytes) 8192) (tokens-end start bytes))
+    answered-by bytes (whole_text [] depth_limit (st (all_tokens bytes) operator_limit)) result z
+    (subst (λ (v : State). Gives spec_form (whole_text [] depth_limit v) result z) is h)
+    (whole-reads [] depth_limit (st (all_tokens bytes) operator_limit) (tokens-end start bytes))
 
 -- what a tree says whose ranges are put in is what the bytes say
 pub ranged : (bytes : List ℕ) (s t : Spec) → Answered bytes (Ok s) → spec_form t ≡ record (spec_form s) { ranges = map range_form t.ranges.items }
-    → map range_form t.ranges.items ≡ all_ranges bytes → IsRead 64 8192 (all_tokens bytes) (all_ranges bytes) (spec_form t)
+    → map range_form t.ranges.items ≡ all_ranges bytes → IsRead depth_limit operator_limit (all_tokens bytes) (all_ranges bytes) (spec_form t)
 ranged bytes s t a is same =
     let e : record (spec_form s) { ranges = all_ranges bytes } ≡ spec_form t = ap (λ (v : List RangeForm). record (spec_form s) { ranges = v }) (sym same) ∙ sym is in
-    subst (λ (v : SpecForm). IsRead 64 8192 (all_tokens bytes) (all_ranges bytes) v) e (with-ranges (all_ranges bytes) 64 8192 (all_tokens bytes) (spec_form s) a)
+    subst (λ (v : SpecForm). IsRead depth_limit operator_limit (all_tokens bytes) (all_ranges bytes) v) e (with-ranges (all_ranges bytes) depth_limit operator_limit (all_tokens bytes) (spec_form s) a)
 
 pub refused-is : (bytes : List ℕ) (fault : ReadingFault) → Answered bytes (Err fault) → NoReading bytes (error_of fault)
 refused-is bytes Memory h = tt
 refused-is bytes (At bad) h = no-reading bytes bad h
 
-pub stands-is : (bytes : List ℕ) (fault : ReadingFault) → Answered bytes (Err fault) → Stands bytes (error_of fault)
+pub stands-is : (bytes : List ℕ) (fault : ReadingFault) → Answered bytes (Err fault) → IsFirstFault bytes (error_of fault)
 stands-is bytes Memory h = tt
 stands-is bytes (At bad) h = stands-by bytes bad h

@@ -6,7 +6,7 @@ use Rattle.pb_fixpoint.specs.declared.Sign.TheVariants as sign
 use Rattle.pb_text_tree.specs.Form.{VariableForm, TermForm, FormulaForm, InstanceForm, EnumeratorForm, SortForm, struct, alias, SortDeclarationForm, RangeForm, EquationForm, SpecForm}
 use Rattle.pb_text_lexer.specs.declared.kind.Kind.{Kind}
 use Rattle.pb_text_lexer.specs.declared.kind.Kind.TheVariants as k
-use Rattle.pb_text_lexer.specs.Grammar.{Reads, ◌>>=◌, Is, Nothing, One, First, Series, Own}
+use Rattle.pb_text_lexer.specs.Grammar.{Reads, ◌>>=◌, Is, Nothing, One, First, Series, CountedApart}
 use Rattle.pb_text_lexer.specs.LeftGrammar.{Extended, Listed}
 use Rattle.pb_text_lexer.specs.OpenGrammar.{Connected}
 use Rattle.pb_text_lexer.specs.Tokens.{Tok}
@@ -131,7 +131,7 @@ IsEquation depth = do
   name ← Name
   parameters ← Extended (Is []) (λ none. Declared depth)
   is ← One k.Is
-  right ← Own (IsFormula depth)
+  right ← CountedApart (IsFormula depth)
   semicolon ← One k.Semicolon
   Is (record { sign = sign; name = name; parameters = parameters; right = right })
 
@@ -151,7 +151,7 @@ IsSpec ranges depth = do
   pbes ← One k.Pbes
   equations ← Equations depth
   init ← One k.Init
-  initial ← Own (IsInitial depth)
+  initial ← CountedApart (IsInitial depth)
   semicolon ← One k.Semicolon
   Is (record { sorts = sorts; ranges = ranges; equations = equations; initial = initial })
 

@@ -16,15 +16,16 @@ use Rattle.pb_text.specs.declared.error.TextRule.{TextRule}
 use Rattle.pb_text.specs.declared.error.TextRule.TheVariants as rule
 use Rattle.pb_text.specs.declared.error.TextError.{TextError}
 use Rattle.pb_text.specs.declared.error.TextError.TheVariants as error
+use Rattle.pb_text.specs.declared.limits.TheConstants.{DEPTH_LIMIT, OPERATOR_LIMIT}
 use Rattle.pb_text.specs.Grammar.{IsText}
 
 -- how many levels of brackets, negations, signs and quantifiers may open, and how many operators with two operands an
 -- equation, and the initial instance, may have
 abbrev pub depth_limit : ℕ
-depth_limit = 64
+depth_limit = DEPTH_LIMIT
 
 abbrev pub operator_limit : ℕ
-operator_limit = 8192
+operator_limit = OPERATOR_LIMIT
 
 -- The bytes are this text: so many levels may open, and each equation, and the initial instance, may have so many operators.
 pub record IsReadingWithin (depth operators : ℕ) (bytes : List ℕ) (x : SpecForm) : Type 0 where
@@ -73,12 +74,12 @@ pub record IsBroken (bytes : List ℕ) (kind : Kind) (place : Place) : Type 0 wh
   pub goes_on : BeginsNextText front
 
 -- what a refusal says of the bytes
-abbrev pub StandsBy : TextRule → List ℕ → Place → Type 0
-StandsBy rule.UnknownByte bytes place = IsBroken bytes k.Unknown place
-StandsBy rule.UnexpectedToken bytes place = IsRefusal bytes refused.Unexpected place
-StandsBy rule.LargeNumber bytes place = IsBroken bytes k.LargeNumber place
-StandsBy rule.LimitExceeded bytes place = IsRefusal bytes refused.Limit place
-StandsBy rule.RangeLine bytes place = IsBroken bytes k.RangeLine place
+abbrev pub IsFirstFaultBy : TextRule → List ℕ → Place → Type 0
+IsFirstFaultBy rule.UnknownByte bytes place = IsBroken bytes k.Unknown place
+IsFirstFaultBy rule.UnexpectedToken bytes place = IsRefusal bytes refused.Unexpected place
+IsFirstFaultBy rule.LargeNumber bytes place = IsBroken bytes k.LargeNumber place
+IsFirstFaultBy rule.LimitExceeded bytes place = IsRefusal bytes refused.Limit place
+IsFirstFaultBy rule.RangeLine bytes place = IsBroken bytes k.RangeLine place
 
 -- the rule that a refused token breaks: its own, where it is no token
 abbrev pub rule_of : token_rule.ReadingRule → Kind → TextRule
@@ -92,9 +93,9 @@ abbrev pub error_of : ReadingFault → TextError
 error_of fault.Memory = error.Memory
 error_of (fault.At refusal) = error.Refused (rule_of refusal.rule refusal.kind) refusal.place
 
-abbrev pub Stands : List ℕ → TextError → Type 0
-Stands bytes error.Memory = Unit {0}
-Stands bytes (error.Refused rule place) = StandsBy rule bytes place
+abbrev pub IsFirstFault : List ℕ → TextError → Type 0
+IsFirstFault bytes error.Memory = Unit {0}
+IsFirstFault bytes (error.Refused rule place) = IsFirstFaultBy rule bytes place
 
 abbrev pub NoReading : List ℕ → TextError → Type 0
 NoReading bytes error.Memory = Unit {0}

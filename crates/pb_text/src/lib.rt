@@ -7,6 +7,7 @@
 pub mod error;
 mod formula;
 pub mod laws;
+pub mod limits;
 mod next;
 mod sort;
 mod system;

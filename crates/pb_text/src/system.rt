@@ -3,9 +3,11 @@
 ghost use Rattle.std.specs.Prelude.{◌≡◌, ◌<◌, ◌≤◌, length, OnOk, map, []};
 ghost use Rattle.pb_text_tree.specs.Form.{formula_form, variable_forms, equation_form, instance_form, range_form, spec_form};
 ghost use Rattle.pb_text_lexer.specs.Steps.{Gives};
+ghost use Rattle.pb_text.specs.Parsing.{depth_limit};
 ghost use Rattle.pb_text.specs.Reading as reading;
 
 use crate::formula::formula;
+use crate::limits::DEPTH_LIMIT;
 use crate::next::unless;
 use crate::sort::sort_parts;
 use pb_fixpoint::Sign;
@@ -16,9 +18,6 @@ use pb_text_terms::term::instance;
 use pb_text_terms::variable::{name, variables};
 use pb_text_tree::{Equation, Formula, Instance, Spec, Variables};
 use std::alloc::Global;
-
-/// How many levels of brackets, negations, signs and quantifiers may open.
-const DEPTH_LIMIT: u32 = 64;
 
 /// Whether an equation begins with a token of this kind.
 fn begins_equation(kind: Kind) -> bool
@@ -49,7 +48,7 @@ fn sign(input: &mut Input<'_>) -> Result<Sign, ReadingFault>
 /// The parameters of an equation, in brackets, if it has any.
 #[tactic(auto, unfolding(crate::specs::Reading::parameters))]
 fn parameters(input: &mut Input<'_>, alloc: Global) -> Result<Vec<Variables>, ReadingFault>
-    ensures reads { Gives (λ v. variable_forms v.items) (reading.parameters 64 input.old) result input.new }
+    ensures reads { Gives (λ v. variable_forms v.items) (reading.parameters depth_limit input.old) result input.new }
     ensures fewer { OnOk result (length input.new.tokens ≤ length input.old.tokens) }
 {
     if !same_kind(input.kind(), Kind::Open) {
@@ -65,7 +64,7 @@ fn parameters(input: &mut Input<'_>, alloc: Global) -> Result<Vec<Variables>, Re
 /// The right side of an equation, with all the operators that one may have.
 #[tactic(auto, unfolding(crate::specs::Reading::right_side))]
 fn right_side(input: &mut Input<'_>, alloc: Global) -> Result<Formula, ReadingFault>
-    ensures reads { Gives formula_form (reading.right_side 64 input.old) result input.new }
+    ensures reads { Gives formula_form (reading.right_side depth_limit input.old) result input.new }
     ensures fewer { OnOk result (length input.new.tokens < length input.old.tokens) }
 {
     let allowed = input.operators();
@@ -77,7 +76,7 @@ fn right_side(input: &mut Input<'_>, alloc: Global) -> Result<Formula, ReadingFa
 /// A sign, a name with its parameters, `=`, a formula and `;`.
 #[tactic(auto, unfolding(crate::specs::Reading::equation))]
 fn equation(input: &mut Input<'_>, alloc: Global) -> Result<Equation, ReadingFault>
-    ensures reads { Gives equation_form (reading.equation 64 input.old) result input.new }
+    ensures reads { Gives equation_form (reading.equation depth_limit input.old) result input.new }
     ensures fewer { OnOk result (length input.new.tokens < length input.old.tokens) }
 {
     let sign = sign(input)?;
@@ -96,7 +95,7 @@ fn equation(input: &mut Input<'_>, alloc: Global) -> Result<Equation, ReadingFau
 
 /// One equation or more.
 fn equations(input: &mut Input<'_>, alloc: Global) -> Result<Vec<Equation>, ReadingFault>
-    ensures { Gives (λ v. map equation_form v.items) (reading.equations 64 input.old) result input.new }
+    ensures { Gives (λ v. map equation_form v.items) (reading.equations depth_limit input.old) result input.new }
 {
     let mut equations = Vec::new(alloc);
     'equations: loop {
@@ -111,7 +110,7 @@ fn equations(input: &mut Input<'_>, alloc: Global) -> Result<Vec<Equation>, Read
 /// The instance that is asked for, with all the operators that its arguments may have.
 #[tactic(auto, unfolding(crate::specs::Reading::initial_instance))]
 fn initial_instance(input: &mut Input<'_>, alloc: Global) -> Result<Instance, ReadingFault>
-    ensures { Gives instance_form (reading.initial_instance 64 input.old) result input.new }
+    ensures { Gives instance_form (reading.initial_instance depth_limit input.old) result input.new }
 {
     let allowed = input.operators();
     let initial = instance(input, alloc, DEPTH_LIMIT)?;
@@ -122,7 +121,7 @@ fn initial_instance(input: &mut Input<'_>, alloc: Global) -> Result<Instance, Re
 /// Sorts, `pbes`, equations, `init`, an instance and `;`, without ranges.
 #[tactic(auto, unfolding(crate::specs::Reading::text))]
 fn text(input: &mut Input<'_>, alloc: Global) -> Result<Spec, ReadingFault>
-    ensures { Gives spec_form (reading.text [] 64 input.old) result input.new }
+    ensures { Gives spec_form (reading.text [] depth_limit input.old) result input.new }
 {
     let sorts = sort_parts(input, alloc)?;
     input.expect(Kind::Pbes)?;
@@ -141,7 +140,7 @@ fn text(input: &mut Input<'_>, alloc: Global) -> Result<Spec, ReadingFault>
 /// The text that all tokens are, without ranges.
 #[tactic(auto, unfolding(crate::specs::Reading::whole_text))]
 pub fn whole(input: &mut Input<'_>, alloc: Global) -> Result<Spec, ReadingFault>
-    ensures { Gives spec_form (reading.whole_text [] 64 input.old) result input.new }
+    ensures { Gives spec_form (reading.whole_text [] depth_limit input.old) result input.new }
 {
     let text = text(input, alloc)?;
     if same_kind(input.kind(), Kind::End) {

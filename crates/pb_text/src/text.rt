@@ -2,17 +2,15 @@
 
 ghost use Rattle.std.specs.Prelude.{◌≡◌, ◌≤◌, ℕ, length, IfOk, IfErr};
 ghost use Rattle.pb_text_tree.specs.Form.{SpecForm, spec_form};
-ghost use Rattle.pb_text.specs.Parsing.{IsReading, IsReadingWithin, NoReading, Stands};
+ghost use Rattle.pb_text.specs.Parsing.{IsReading, IsReadingWithin, NoReading, IsFirstFault};
 
 use crate::error::TextError;
+use crate::limits::OPERATOR_LIMIT;
 use crate::system::whole;
 use pb_text_lexer::input::Input;
 use pb_text_lexer::ranges::ranges;
 use pb_text_tree::Spec;
 use std::alloc::Global;
-
-/// How many operators with two operands an equation, and the initial instance, may have.
-const OPERATOR_LIMIT: u32 = 8192;
 
 /// Reads a text of at most 67,108,864 bytes.
 ///
@@ -33,7 +31,7 @@ pub fn parse(alloc: Global, bytes: &[u8]) -> Result<Spec, TextError>
     // The fault stands at its place, and nothing that is no token stands before it. Some text begins with the tokens
     // before it, so P02 stands at the first with which none goes on. At P04 none begins with that token within the limits,
     // and with one level and one operator more some does.
-    ensures stands { IfErr result (λ e. Stands bytes.now e) }
+    ensures stands { IfErr result (λ e. IsFirstFault bytes.now e) }
 {
     let mut input = Input::new(bytes, OPERATOR_LIMIT);
     let mut text = whole(&mut input, alloc)?;

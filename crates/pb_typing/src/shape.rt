@@ -20,14 +20,11 @@ pub enum Shape {
     Wholes(Interval),
 }
 
-/// The greatest number that may be written.
-const MAX_LITERAL: u64 = 1 << 62;
-
 /// The interval of a literal, if it is within 2^62.
 pub(crate) fn literal_interval(number: u64) -> Option<Interval>
     ensures { result ≡ within literals (singleton (pos number)) }
 {
-    if number <= MAX_LITERAL {
+    if number <= Interval::literals().high() as u64 {
         Some(Interval::singleton(number as i64))
     } else {
         None

@@ -1,4 +1,5 @@
-use Rattle.std.proofs.Common.{◌≡◌, ◌∙◌, ◌+◌, ◌++◌, ◌∷◌, ◌&&◌, [], ap, sym, subst, true, false, Bool, ℕ, List, drop, map, string_bytes}
+use Rattle.std.proofs.Common.{◌≡◌, ◌∙◌, ◌+◌, ◌++◌, ◌∷◌, [], ap, sym, subst, true, false, ℕ, List, drop, map, string_bytes}
+use Rattle.std.proofs.lemmas.Bool.{and_parts}
 use Rattle.std.proofs.lemmas.List.{append-nil, append_assoc, drop_all, map_push}
 use Rattle.std.specs.List.{list_all}
 use Rattle.pb_text_tree.specs.declared.sort.Enumerator.{Enumerator}
@@ -11,10 +12,6 @@ use Rattle.pb_assembler.proofs.sort.enumerator_names.Goals as goal
 abbrev text : Enumerator → List ℕ
 text e = string_bytes e.name.text
 
-second_holds : (a b : Bool) → (a && b) ≡ true → b ≡ true
-second_holds true b h = h
-second_holds false b h = cc
-
 pub loop-enumerator-preserved : goal.loop-enumerator-preserved
 loop-enumerator-preserved c =
     let all = c.args.enumerators.now in
@@ -26,8 +23,8 @@ loop-enumerator-preserved c =
     let rest = map text (drop (k + 1) all) in
     record {
       named =
-          second_holds (is_name (text e)) (list_all (λ (x : Enumerator). is_name (text x)) (drop (k + 1) all))
-          (subst (λ (es : List Enumerator). list_all (λ (x : Enumerator). is_name (text x)) es ≡ true) split c.loop-enumerator.invariant.named);
+          (and_parts (is_name (text e)) (list_all (λ (x : Enumerator). is_name (text x)) (drop (k + 1) all))
+          (subst (λ (es : List Enumerator). list_all (λ (x : Enumerator). is_name (text x)) es ≡ true) split c.loop-enumerator.invariant.named)).1;
       made =
           ap (λ (ns : List Name). map text_of ns ++ rest) c.in_ok-push.ensures.items
           ∙ ap (λ (ts : List (List ℕ)). ts ++ rest) (map_push text_of done n)

@@ -3,7 +3,7 @@ use Rattle.std.proofs.lemmas.Result.{err_from_is_err_and}
 use Rattle.pb_text_tree.specs.declared.operator.Connective.TheVariants.{And, Or}
 use Rattle.pb_text_tree.specs.Form.{FormulaForm, formula_form, link_forms}
 use Rattle.pb_text_lexer.specs.Kinds.{same_kind}
-use Rattle.pb_text_lexer.specs.Steps.{Outcome, Gives, kind, take_operator}
+use Rattle.pb_text_lexer.specs.Steps.{kind, take_operator}
 use Rattle.pb_text_lexer.specs.Tokens.{tok}
 use Rattle.pb_text_lexer.proofs.LoopLemmas.{resumed-first, resumed-first-fails, resumed-end, resumed-more, resumed-operator-fails, resumed-operand-fails, fails-as}
 use Rattle.pb_text_terms.specs.Operators.{symbol, is_connective}
