@@ -1,6 +1,7 @@
 -- The machine's test for equality, and truth values as numbers.
 use Rattle.std.proofs.Common.{◌≡◌, ℕ, Bool, true, false, cond, not, ◌&&◌, ◌||◌, refl, sym, ap, arith}
 use Rattle.std.specs.Prelude.{ℤ, pos, int_le, ◌==◌}
+use Rattle.std.specs.Cmp.{both_ways}
 use Rattle.std.specs.Ordering.{int_eq}
 use Rattle.std.proofs.lemmas.Bool.{eqb-true, eq-eqb, and_parts, and_from}
 use Rattle.std.proofs.lemmas.Bool.Decides.{Decides-int_eq}
@@ -19,18 +20,13 @@ same_bools true false = refl
 same_bools false true = refl
 same_bools false false = refl
 
-pub alike : (b c : Bool) → (b ≡ true → c ≡ true) → (c ≡ true → b ≡ true) → b ≡ c
-alike true c h k = sym (h refl)
-alike false true h k = k refl
-alike false false h k = refl
-
 pub same_places : (i j : ℕ) → (i == j) ≡ int_eq (pos i) (pos j)
-same_places i j = alike (i == j) (int_eq (pos i) (pos j))
+same_places i j = both_ways (i == j) (int_eq (pos i) (pos j))
     (λ h. (Decides-int_eq (pos i) (pos j)).1 (ap pos (eqb-true i j h)))
     (λ h. let e = (Decides-int_eq (pos i) (pos j)).0 h in eq-eqb i j (omega (arith, ints)))
 
 pub same_numbers : (a b : ℤ) → (int_le a b && int_le b a) ≡ int_eq a b
-same_numbers a b = alike (int_le a b && int_le b a) (int_eq a b)
+same_numbers a b = both_ways (int_le a b && int_le b a) (int_eq a b)
     (λ h.
     let two = and_parts (int_le a b) (int_le b a) h in
     let x = le_true a b two.0 in

@@ -3,6 +3,7 @@ use Rattle.std.proofs.Common.{◌≡◌, ℕ, suc, Bool, true, false, cond, ◌&
 use Rattle.std.specs.Prelude.{◌==◌}
 use Rattle.std.specs.List.{slice_get, position_or_len}
 use Rattle.std.specs.Option.{option_map}
+use Rattle.std.specs.Cmp.{both_ways}
 use Rattle.std.proofs.lemmas.Bool.{and_parts, and_from, eqb-true, eq-eqb}
 use Rattle.std.proofs.lemmas.List.Folds.{find_at}
 use Rattle.std.proofs.lemmas.Option.{slice_get-map, slice_get_within}
@@ -19,7 +20,6 @@ use Rattle.pb_text_meaning.specs.Meaning.{equation_of}
 use Rattle.pb_typing_declarations.specs.WellDeclared.{AreApart}
 use Rattle.pb_evaluation.specs.Environment.{all_carriers}
 use Rattle.pb_assembler_scheme.specs.Correct.{number_in}
-use Rattle.pb_assembler_scheme.proofs.Equality.{alike}
 use Rattle.pb_assembler_scheme.proofs.Numbered.{first-named}
 
 -- the place of an instance's equation
@@ -86,7 +86,7 @@ module _ (spec : Spec) (apart : AreApart (map (λ (X : Equation). X.name) spec.e
   pub owns-number : (k : ℕ) (X : Equation) → slice_get spec.equations k ≡ Some X → (equation_of spec X).owns i ≡ owns_number (all_carriers spec) k (number_in spec i)
   owns-number k X at =
       let below = slice_get_within spec.equations k X at in
-      alike ((equation_of spec X).owns i) ((place_in spec i == k) && numbered.is_instance (all_carriers spec) placed) there back
+      both_ways ((equation_of spec X).owns i) ((place_in spec i == k) && numbered.is_instance (all_carriers spec) placed) there back
       ∙ sym (owns_number-owns_instance (all_carriers spec) k (number_in spec i) placed (omega (arith, long)) stands)
     where
       there : (equation_of spec X).owns i ≡ true → ((place_in spec i == k) && numbered.is_instance (all_carriers spec) placed) ≡ true

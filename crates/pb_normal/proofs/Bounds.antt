@@ -1,9 +1,9 @@
 -- In a well-typed specification the numbers, slots, callees and enumerators of each normal form are bounded.
-use Rattle.std.proofs.Common.{◌≡◌, ℕ, zero, suc, ◌+◌, ◌<◌, ◌≤◌, ◌^◌, Bool, true, false, not, ◌&&◌, ◌||◌, if◌then◌else◌, List, [], ◌∷◌, length, Option, Some, None, pos, int_le, refl, arith, tests, codes}
+use Rattle.std.proofs.Common.{◌≡◌, ℕ, zero, suc, ◌+◌, ◌<◌, ◌≤◌, ◌^◌, Bool, true, false, not, ◌&&◌, ◌||◌, if◌then◌else◌, List, [], ◌∷◌, length, Option, Some, None, pos, int_le, refl, arith, codes}
 use Rattle.std.specs.Prelude.{nat_lt, nat_le}
 use Rattle.std.specs.List.{All}
 use Rattle.std.proofs.lemmas.Int.{ints}
-use Rattle.std.proofs.lemmas.Bool.{and_from, and_parts}
+use Rattle.std.proofs.lemmas.Bool.{and_from, and_parts, le-leb, lt-ltb}
 use Rattle.pb_intervals.specs.Interval.{is_within, singleton, literals}
 use Rattle.pb_intervals.proofs.Ends.{le_true}
 use Rattle.pb_text_meaning.specs.Syntax as syntax
@@ -29,17 +29,11 @@ use Rattle.pb_normal.proofs.Parameters.{free-parameters}
 use Rattle.pb_normal.proofs.Structs.{enumerator_known, recogniser_known, position-there}
 use Rattle.pb_normal.proofs.Truth.{more-free, free-with}
 
-pub is-below : (s n : ℕ) → s < n → nat_lt s n ≡ true
-is-below s n h = grind (arith, tests)
-
-is-up-to : (s n : ℕ) → s ≤ n → nat_le s n ≡ true
-is-up-to s n h = grind (arith, tests)
-
 -- a literal is at most 2^62
 literal-bounded : (n : ℕ) → is_within (singleton (pos n)) literals ≡ true → nat_le n (2 ^ 62) ≡ true
 literal-bounded n e =
     let high = le_true (pos n) literals.high (and_parts (int_le literals.low (pos n)) (int_le (pos n) literals.high) e).1 in
-    is-up-to n (2 ^ 62) (omega (arith, ints, high))
+    le-leb n (2 ^ 62) (omega (arith, ints, high))
 
 -- the place of an equation is one of the list's
 place-below : (n : ℕ) (E : List Equation) (x : Name) (k : ℕ) → place_of n E x ≡ Some k → k < n + length E
@@ -63,7 +57,7 @@ module _ (spec : Spec) (slots : ℕ) where
   -- ---- data
 
   zero-fits : Fits (Term.Number 0)
-  zero-fits = is-up-to 0 (2 ^ 62) (omega arith)
+  zero-fits = le-leb 0 (2 ^ 62) (omega arith)
 
   choose-fits : (b : Bool) (x y : Term) → Fits x → Fits y → Fits (if b then x else y)
   choose-fits true x y h k = h
@@ -75,7 +69,7 @@ module _ (spec : Spec) (slots : ℕ) where
 
   named-fits : (o : Option ℕ) (x : Name) → ((s : ℕ) → o ≡ Some s → s < slots) → Fits (made.named spec o x)
   named-fits None x h = enumerator-fits x (enumerator_of spec x) refl
-  named-fits (Some s) x h = is-below s slots (h s refl)
+  named-fits (Some s) x h = lt-ltb s slots (h s refl)
 
   recognised-fits : (f : Name) (o : Option Position) (x : Term) → recogniser_of spec f ≡ o → Fits x → Fits (made.recognised o x)
   recognised-fits f None x e h = refl
@@ -149,7 +143,7 @@ module _ (spec : Spec) (slots : ℕ) where
   each-fits : (m : Bool) (xs : List Variable) (w : ℕ) (body : Slotting → ℕ → Formula) → Takes w body → Takes (length xs + w) (λ c n. each spec m xs c n body)
   each-fits m [] w body h c n free room = h c n free (omega (arith, room))
   each-fits m (x ∷ xs) w body h c n free room =
-      and_from (nat_lt n slots) (is_bounded_formula bounds (each spec m xs (with_slot x.name n c) (suc n) body)) (is-below n slots (omega (arith, room)))
+      and_from (nat_lt n slots) (is_bounded_formula bounds (each spec m xs (with_slot x.name n c) (suc n) body)) (lt-ltb n slots (omega (arith, room)))
       (each-fits m xs w body h (with_slot x.name n c) (suc n) (free-with c n x.name free) (omega (arith, room)))
 
   data-fits : (stands : Bool) (typed : Scope) (x : syntax.Term) → IsTyped spec stands typed x → IsFitting (syntax.Formula.Val x)
@@ -201,7 +195,7 @@ module _ (spec : Spec) (slots : ℕ) where
 
   call-fits : (x : Name) (o : Option ℕ) (es : List Argument) → place_of 0 spec.equations x ≡ o → are_bounded bounds es ≡ true → FormulaFits (call o es)
   call-fits x None es e h = refl
-  call-fits x (Some k) es e h = and_from (nat_lt k (length spec.equations)) (are_bounded bounds es) (is-below k (length spec.equations) (let l = place-below 0 spec.equations x k e in omega (arith, l))) h
+  call-fits x (Some k) es e h = and_from (nat_lt k (length spec.equations)) (are_bounded bounds es) (lt-ltb k (length spec.equations) (let l = place-below 0 spec.equations x k e in omega (arith, l))) h
 
   -- ---- formulas
 

@@ -4,6 +4,7 @@ use Rattle.std.specs.Prelude.{unwrap_or}
 use Rattle.std.specs.List.{slice_get}
 use Rattle.std.proofs.lemmas.List.Folds.{find_at}
 use Rattle.std.proofs.lemmas.Option.{slice_get_within}
+use Rattle.std.proofs.lemmas.Bool.{lt-ltb}
 use Rattle.pb_text_meaning.specs.Syntax.{same_name, Equation, Spec}
 use Rattle.pb_text_meaning.specs.Formula.{equation_named, fits}
 use Rattle.pb_text_meaning.specs.Fits.{AllFit}
@@ -11,7 +12,6 @@ use Rattle.pb_typing_declarations.specs.Agreement.{equation_place}
 use Rattle.pb_typing_rules.specs.WellTyped.{IsWellTyped}
 use Rattle.pb_typing_rules.proofs.Fitting.{spec_fits}
 use Rattle.pb_normal.specs.InitialPlace.{initial_place, initial_values, HasInitial}
-use Rattle.pb_normal.proofs.Bounds.{is-below}
 
 by_equation : (spec : Spec) (o : Option Equation) → slice_get spec.equations (initial_place spec) ≡ o → fits spec o (initial_values spec) ≡ true → HasInitial spec
 by_equation spec None e h = absurd (true≢false (sym h))
@@ -26,7 +26,7 @@ pub initial-found : (spec : Spec) → IsWellTyped spec → equation_place spec s
 initial-found spec h =
     let p = initial-there spec h in
     let below = slice_get_within spec.equations (initial_place spec) p.equation p.there in
-    ap (λ (b : Bool). cond b (Some (initial_place spec)) None) (is-below (initial_place spec) (length spec.equations) below)
+    ap (λ (b : Bool). cond b (Some (initial_place spec)) None) (lt-ltb (initial_place spec) (length spec.equations) below)
 
 -- and so at any place that is found
 pub initial-at : (spec : Spec) (k : ℕ) → IsWellTyped spec → equation_place spec spec.initial ≡ Some k → k ≡ initial_place spec

@@ -2,6 +2,7 @@
 use Rattle.std.proofs.Common.{◌≡◌, ℕ, ◌+◌, ◌<◌, ◌≤◌, Bool, true, false, ◌||◌, List, [], ◌∷◌, length, get_or, drop, refl, sym, ◌∙◌, ap, Box, Vec, Global}
 use Rattle.std.specs.Prelude.{box_value}
 use Rattle.std.proofs.lemmas.List.{drop_all}
+use Rattle.std.proofs.Math.Bool.{or_assoc}
 use Rattle.pb_sorts.proofs.Places.{drop-at}
 use Rattle.pb_text_tree.specs.declared.operator.Connective.{Connective}
 use Rattle.pb_text_tree.specs.declared.name.Name.{Name}
@@ -23,10 +24,6 @@ or-false : (b : Bool) → b ≡ (b || false)
 or-false true = refl
 or-false false = refl
 
-or-assoc : (a b c : Bool) → ((a || b) || c) ≡ (a || (b || c))
-or-assoc true b c = refl
-or-assoc false b c = refl
-
 pub chained-quantifier : (c : Connective) (first : TermForm) (links : List TermLink)
     → has_quantifier (erased_term (chained (TermForm.connected c) first (term_links links))) ≡ (has_quantifier (erased_term first) || links_have_quantifier links)
 chained-quantifier c first [] = or-false _
@@ -36,7 +33,7 @@ pub calculated-quantifier : (first : TermForm) (links : List ArithmeticLink)
     → has_quantifier (erased_term (calculated first (arithmetic_links links))) ≡ (has_quantifier (erased_term first) || arithmetic_have_quantifier links)
 calculated-quantifier first [] = or-false _
 calculated-quantifier first (l ∷ ls) =
-    calculated-quantifier (TermForm.computed l.operator l.place first (term_form l.operand)) ls ∙ or-assoc (has_quantifier (erased_term first)) (quantified l.operand) (arithmetic_have_quantifier ls)
+    calculated-quantifier (TermForm.computed l.operator l.place first (term_form l.operand)) ls ∙ or_assoc (has_quantifier (erased_term first)) (quantified l.operand) (arithmetic_have_quantifier ls)
 
 -- ---- in the code's words
 

@@ -1,8 +1,8 @@
 -- Quantifiers in normal form take the slots behind the parameters in order, and each slot that is read has a value.
-use Rattle.std.proofs.Common.{◌≡◌, ℕ, zero, suc, ◌+◌, ◌<◌, ◌≤◌, ◌==◌, Bool, true, false, not, ◌&&◌, ◌||◌, if◌then◌else◌, List, [], ◌∷◌, ◌++◌, length, Option, Some, None, refl, sym, ◌∙◌, ap, subst, arith, tests, codes}
+use Rattle.std.proofs.Common.{◌≡◌, ℕ, zero, suc, ◌+◌, ◌≤◌, ◌==◌, Bool, true, false, not, ◌&&◌, ◌||◌, if◌then◌else◌, List, [], ◌∷◌, ◌++◌, length, Option, Some, None, refl, sym, ◌∙◌, ap, subst, arith, tests, codes}
 use Rattle.std.specs.List.{All, range_with_len}
 use Rattle.std.specs.Prelude.{nat_lt, unwrap_or}
-use Rattle.std.proofs.lemmas.Bool.{or_from, and_from}
+use Rattle.std.proofs.lemmas.Bool.{or_from, and_from, lt-ltb}
 use Rattle.pb_text_meaning.specs.Syntax as syntax
 use Rattle.pb_text_meaning.specs.Syntax.{Name, same_name, Variable, Terms, Equation, Spec}
 use Rattle.pb_typing_declarations.specs.Enumerators.{Position, enumerator_of, recogniser_of}
@@ -203,9 +203,6 @@ normal-closed spec (syntax.Formula.Quantified q xs f) even scope c n known insid
 normal-closed spec (syntax.Formula.Call X es) even scope c n known inside none =
     call-closed known (place_of 0 spec.equations X) (arguments spec c scope es) (arguments-closed spec c scope known inside es)
 
-is-below : (s n : ℕ) → s < n → nat_lt s n ≡ true
-is-below s n h = grind (arith, tests)
-
 is-above : (s n : ℕ) → n ≤ s → nat_lt s n ≡ false
 is-above s n h = grind (arith, tests)
 
@@ -213,4 +210,4 @@ pub equation-closed : (spec : Spec) (X : Equation) → IsClosed (λ s. nat_lt s 
 equation-closed spec X =
     let count = length X.parameters in
     normal-closed spec (expanded X.right) true (parameters_of spec X) (with_slots X.parameters 0 unslotted) count (λ s. nat_lt s count)
-    (λ x s e. is-below s count (free-parameters X.parameters x s e)) (λ s le. is-above s count le)
+    (λ x s e. lt-ltb s count (free-parameters X.parameters x s e)) (λ s le. is-above s count le)

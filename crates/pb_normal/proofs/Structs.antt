@@ -1,6 +1,7 @@
 -- What is declared of structs, enumerators and sorts.
-use Rattle.std.proofs.Common.{◌≡◌, ℕ, zero, suc, ◌+◌, ◌<◌, ◌≤◌, Bool, true, false, cond, List, [], ◌∷◌, ◌++◌, length, Option, Some, None, refl, sym, ap, ◌∙◌, subst, arith, tests, true≢false}
+use Rattle.std.proofs.Common.{◌≡◌, ℕ, zero, suc, ◌+◌, ◌<◌, ◌≤◌, Bool, true, false, cond, List, [], ◌∷◌, ◌++◌, length, Option, Some, None, refl, sym, ap, ◌∙◌, subst, arith, true≢false}
 use Rattle.std.specs.Prelude.{◌≤ℤ◌, slice_get, codes, All, nat_lt, unwrap_or}
+use Rattle.std.proofs.lemmas.Bool.{lt-ltb}
 use Rattle.pb_text_meaning.specs.Syntax.{Name, same_name, Variable, Enumerator, Sort, Struct, Alias, SortDeclaration, Range, Equation, Spec, Formula}
 use Rattle.pb_typing_declarations.specs.Shapes.{Shape, Definition, Structure, Renaming, definition_of, definitions_from, number_behind, first, Bounds, range_bounds, End, Shaped, Unranged, Undeclared, Endless, end_by, end_within, end_of, end_shape, sort_shape, built_in_integers, definitions}
 use Rattle.pb_typing_declarations.specs.Enumerators.{Position, positioned, enumerators_from, enumerators_in, all_enumerators, recogniser_entry, recognisers_from, recognisers_in, all_recognisers, enumerator_of, recogniser_of}
@@ -253,9 +254,6 @@ structs-few spec h = record {
 
 -- ---- enumerators
 
-is-below : (s n : ℕ) → s < n → nat_lt s n ≡ true
-is-below s n h = grind (arith, tests)
-
 pub position-there : (counts : List ℕ) (p : Position) → IsPosition 0 counts p → has_enumerator counts p.sort p.place ≡ true
 position-there counts p h =
-    ap (λ (o : Option ℕ). nat_lt p.place (unwrap_or o 0)) (struct_known counts p.sort p.count h.struct) ∙ is-below p.place p.count h.below
+    ap (λ (o : Option ℕ). nat_lt p.place (unwrap_or o 0)) (struct_known counts p.sort p.count h.struct) ∙ lt-ltb p.place p.count h.below

@@ -1,6 +1,7 @@
 -- Data terms of kind Bool read as formulas: chains up to their last quantifier, and quantifiers.
-use Rattle.std.proofs.Common.{◌≡◌, ℕ, ◌+◌, Bool, true, false, cond, ◌||◌, List, [], ◌∷◌, ◌++◌, length, refl, sym, ◌∙◌, ap, subst, arith, true≢false}
-use Rattle.std.proofs.lemmas.List.{append-nil, length-append}
+use Rattle.std.proofs.Common.{◌≡◌, ℕ, ◌+◌, Bool, true, false, cond, ◌||◌, List, [], ◌∷◌, ◌++◌, length, refl, sym, ◌∙◌, ap, subst, arith}
+use Rattle.std.proofs.lemmas.Bool.{or_parts}
+use Rattle.std.proofs.lemmas.List.{append-nil}
 use Rattle.pb_sorts.specs.declared.carrier.Carrier.{Carrier}
 use Rattle.pb_text_tree.specs.declared.operator.Connective.{Connective}
 use Rattle.pb_text_tree.specs.declared.operator.Connective.TheVariants.{And, Or, Implies}
@@ -17,15 +18,16 @@ use Rattle.pb_typing_rules.specs.Scope.{Scope}
 use Rattle.pb_normal.specs.Chains.{joins}
 use Rattle.pb_normal.specs.Expansion.{has_quantifier, expanded_term}
 use Rattle.pb_normal.specs.Links.{links_have_quantifier}
-use Rattle.pb_normal.specs.Loops.{IsShaped, loops, variable_shapes}
+use Rattle.pb_normal.specs.Loops.{IsShaped, loops}
 use Rattle.pb_normal.specs.Normal.{Formula, Join}
 use Rattle.pb_normal.specs.Normalisation.{Slotting, normal, width}
 use Rattle.pb_normal.specs.Tail.{tail_tests}
 use Rattle.pb_normal.specs.Tree.{chain_of, value_of}
 use Rattle.pb_normal.specs.View.{chained, shapes_of}
+use Rattle.pb_normal.proofs.LoopSlots.{length-loops}
 use Rattle.pb_normal.proofs.NormalChains.{plain-expanded}
 use Rattle.pb_normal.proofs.Quantifiers.{quantified, chained-quantifier}
-use Rattle.pb_normal.proofs.SlotLemmas.{length_behind, length-variables}
+use Rattle.pb_normal.proofs.SlotLemmas.{length_behind}
 
 -- ---- two operands
 
@@ -51,16 +53,6 @@ joined_shaped S Or f g h = h
 joined_shaped S Implies f g h = h
 
 -- as many slots as the width says
-pub length-loops : (S : Spec) (f : syntax.Formula) → length (loops S f) ≡ width f
-length-loops S (syntax.Formula.Truth b) = refl
-length-loops S (syntax.Formula.Val x) = refl
-length-loops S (syntax.Formula.Not f) = length-loops S f
-length-loops S (syntax.Formula.And f g) = omega (arith, length-append (loops S f) (loops S g), length-loops S f, length-loops S g)
-length-loops S (syntax.Formula.Or f g) = omega (arith, length-append (loops S f) (loops S g), length-loops S f, length-loops S g)
-length-loops S (syntax.Formula.Implies f g) = omega (arith, length-append (loops S f) (loops S g), length-loops S f, length-loops S g)
-length-loops S (syntax.Formula.Quantified q xs f) = omega (arith, length-append (variable_shapes S xs) (loops S f), length-variables S xs, length-loops S f)
-length-loops S (syntax.Formula.Call X es) = refl
-
 pub grown : (S : Spec) (f : syntax.Formula) (old new : List Carrier) → shapes_of new ≡ shapes_of old ++ loops S f → length new ≡ length old + width f
 grown S f old new e = omega (arith, length_behind old new (loops S f) e, length-loops S f)
 
@@ -119,24 +111,16 @@ plain-loops S x h = ap (loops S) (plain-expanded x h)
 plain_shaped : (S : Spec) (x : syntax.Term) → has_quantifier x ≡ false → IsShaped S (expanded_term x)
 plain_shaped S x h = subst (IsShaped S) (sym (plain-expanded x h)) tt
 
-or-left : (b c : Bool) → (b || c) ≡ false → b ≡ false
-or-left true c e = e
-or-left false c e = refl
-
-or-right : (b c : Bool) → (b || c) ≡ false → c ≡ false
-or-right true c e = absurd (true≢false e)
-or-right false c e = e
-
 pub plain-links : (S : Spec) (links : List TermLink) → links_have_quantifier links ≡ false → value_loops S links ≡ []
 plain-links S [] h = refl
 plain-links S (l ∷ ls) h =
-    ap (λ (ss : List Shape). ss ++ value_loops S ls) (plain-loops S (erased_term (term_form l.operand)) (or-left (quantified l.operand) (links_have_quantifier ls) h))
-    ∙ plain-links S ls (or-right (quantified l.operand) (links_have_quantifier ls) h)
+    ap (λ (ss : List Shape). ss ++ value_loops S ls) (plain-loops S (erased_term (term_form l.operand)) (or_parts (quantified l.operand) (links_have_quantifier ls) h).0)
+    ∙ plain-links S ls (or_parts (quantified l.operand) (links_have_quantifier ls) h).1
 
 plain_links_shaped : (S : Spec) (links : List TermLink) → links_have_quantifier links ≡ false → AreShapedLinks S links
 plain_links_shaped S [] h = tt
 plain_links_shaped S (l ∷ ls) h =
-    (plain_shaped S (erased_term (term_form l.operand)) (or-left (quantified l.operand) (links_have_quantifier ls) h), plain_links_shaped S ls (or-right (quantified l.operand) (links_have_quantifier ls) h))
+    (plain_shaped S (erased_term (term_form l.operand)) (or_parts (quantified l.operand) (links_have_quantifier ls) h).0, plain_links_shaped S ls (or_parts (quantified l.operand) (links_have_quantifier ls) h).1)
 
 form-loops : (S : Spec) (o : Connective) (first : TermForm) (links : List TermLink) → loops S (expanded_term (chain_form o first links)) ≡ loops S (expanded_term (erased_term first)) ++ value_loops S links
 form-loops S o first [] = sym (append-nil (loops S (expanded_term (erased_term first))))
@@ -151,11 +135,10 @@ form-loops S o first (l ∷ ls) =
         ∙ (joined-loops S o (expanded_term (erased_term first)) (expanded_term (chain_form o (term_form l.operand) ls))
         ∙ ap (λ (ss : List Shape). loops S (expanded_term (erased_term first)) ++ ss) rest)
     by_test false e rest =
-        let x = or-left (has_quantifier (erased_term first)) (has_quantifier (chain_form o (term_form l.operand) ls)) e in
-        let y = or-right (has_quantifier (erased_term first)) (has_quantifier (chain_form o (term_form l.operand) ls)) e in
+        let none = or_parts (has_quantifier (erased_term first)) (has_quantifier (chain_form o (term_form l.operand) ls)) e in
         let whole : loops S (expanded_term (chain_form o first (l ∷ ls))) ≡ [] = ap (loops S) (plain-expanded (syntax.Term.Binary (of_connective o) (erased_term first) (chain_form o (term_form l.operand) ls)) e) in
         whole
-        ∙ sym (ap (λ (ss : List Shape). ss ++ value_loops S (l ∷ ls)) (plain-loops S (erased_term first) x) ∙ plain-links S (l ∷ ls) (sym (chained-quantifier o (term_form l.operand) ls) ∙ y))
+        ∙ sym (ap (λ (ss : List Shape). ss ++ value_loops S (l ∷ ls)) (plain-loops S (erased_term first) none.0) ∙ plain-links S (l ∷ ls) (sym (chained-quantifier o (term_form l.operand) ls) ∙ none.1))
 
 pub chain-loops : (S : Spec) (o : Connective) (first : ast.Term) (links : List TermLink) → loops S (expanded_term (chain_of o first links)) ≡ loops S (value_of first) ++ value_loops S links
 chain-loops S o first links = form-loops S o (term_form first) links
@@ -174,9 +157,8 @@ form_shaped S o first (l ∷ ls) h =
         let others = rest both.1 in
         (both.0, others)
     by_test false e rest h =
-        let x = or-left (has_quantifier (erased_term first)) (has_quantifier (chain_form o (term_form l.operand) ls)) e in
-        let y = or-right (has_quantifier (erased_term first)) (has_quantifier (chain_form o (term_form l.operand) ls)) e in
-        (plain_shaped S (erased_term first) x, plain_links_shaped S (l ∷ ls) (sym (chained-quantifier o (term_form l.operand) ls) ∙ y))
+        let none = or_parts (has_quantifier (erased_term first)) (has_quantifier (chain_form o (term_form l.operand) ls)) e in
+        (plain_shaped S (erased_term first) none.0, plain_links_shaped S (l ∷ ls) (sym (chained-quantifier o (term_form l.operand) ls) ∙ none.1))
 
 pub chain_shaped : (S : Spec) (o : Connective) (first : ast.Term) (links : List TermLink) → IsShaped S (expanded_term (chain_of o first links)) → IsShaped S (value_of first) × AreShapedLinks S links
 chain_shaped S o first links h = form_shaped S o (term_form first) links h

@@ -1,20 +1,12 @@
 -- A list of truths that is another one within a range of numbers.
 use Rattle.std.proofs.Common.{◌≡◌, ◌≢◌, ℕ, ◌+◌, ◌<◌, ◌≤◌, Bool, true, false, ◌&&◌, if◌then◌else◌, List, length, get_or, set, refl, sym, ◌∙◌, ap, subst, arith, get_or-set_other, get_or-set_same, inl, inr}
+use Rattle.std.specs.Cmp.{both_ways}
 use Rattle.std.specs.Prelude.{nat_le, nat_lt}
-use Rattle.std.proofs.lemmas.Bool.{cases_lt, ltb-true, lt-ltb, leb-true, le-leb, and_parts, cond-true}
+use Rattle.std.proofs.lemmas.Bool.{cases_lt, false_from_ne_true, ltb-true, lt-ltb, leb-true, le-leb, and_parts, cond-true}
 
 -- n is from `start` on and below `end`
 abbrev pub is_between : ℕ → ℕ → ℕ → Bool
 is_between start end n = nat_le start n && nat_lt n end
-
-both_ways : (a b : Bool) → (a ≡ true → b ≡ true) → (b ≡ true → a ≡ true) → a ≡ b
-both_ways true b p q = sym (p refl)
-both_ways false true p q = q refl
-both_ways false false p q = refl
-
-not_true : (b : Bool) → (b ≡ true → ⊥) → b ≡ false
-not_true true h = absurd (h refl)
-not_true false h = refl
 
 pub between_bounds : (start end n : ℕ) → is_between start end n ≡ true → (start ≤ n) × (n < end)
 between_bounds start end n e = let p = and_parts (nat_le start n) (nat_lt n end) e in (leb-true start n p.0, ltb-true n end p.1)
@@ -23,7 +15,7 @@ pub between_yes : (start end n : ℕ) → start ≤ n → n < end → is_between
 between_yes start end n le lt = ap (λ (b : Bool). b && nat_lt n end) (le-leb start n le) ∙ lt-ltb n end lt
 
 pub between_none : (start n : ℕ) → is_between start start n ≡ false
-between_none start n = not_true (is_between start start n) (λ e. let p = between_bounds start start n e in omega (arith, p.0, p.1))
+between_none start n = false_from_ne_true (is_between start start n) (λ e. let p = between_bounds start start n e in omega (arith, p.0, p.1))
 
 between_step : (start k n : ℕ) → n ≢ k → is_between start (k + 1) n ≡ is_between start k n
 between_step start k n ne =
@@ -71,7 +63,7 @@ mixed_keep start k f old xs le is m = mixed_step start k f old xs xs le m is (λ
 
 -- a number that isn't reached yet
 pub mixed_ahead : (start k : ℕ) (f : ℕ → Bool) (old xs : List Bool) → IsMixed start k f old xs → get_or xs k false ≡ get_or old k false
-mixed_ahead start k f old xs m = m k ∙ if_no (is_between start k k) (f k) (get_or old k false) (not_true (is_between start k k) (λ e. let p = between_bounds start k k e in omega (arith, p.1)))
+mixed_ahead start k f old xs m = m k ∙ if_no (is_between start k k) (f k) (get_or old k false) (false_from_ne_true (is_between start k k) (λ e. let p = between_bounds start k k e in omega (arith, p.1)))
 
 pub mixed_inside : (start end : ℕ) (f : ℕ → Bool) (old new : List Bool) (n : ℕ) → IsMixed start end f old new → is_between start end n ≡ true → get_or new n false ≡ f n
 mixed_inside start end f old new n m e = m n ∙ cond-true (is_between start end n) (f n) (get_or old n false) e

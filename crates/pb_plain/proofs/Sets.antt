@@ -4,7 +4,7 @@ use Rattle.std.specs.Prelude.{nat_lt, ◌==◌}
 use Rattle.std.specs.List.{position_or_len, slice_get}
 use Rattle.std.specs.Cmp.Lexicographic.{same_text}
 use Rattle.std.proofs.Math.Path.{fun_ext}
-use Rattle.std.proofs.lemmas.Bool.{eq-eqb, eqb-true, lt-ltb, and_parts}
+use Rattle.std.proofs.lemmas.Bool.{eq-eqb, eqb-true, false_from_ne_true, lt-ltb, and_parts}
 use Rattle.std.proofs.lemmas.Option.{slice_get_within, get_or_from_slice_get}
 use Rattle.std.proofs.lemmas.List.Quantifiers.{position-Some}
 use Rattle.pb_fixpoint.specs.Solution.{assign}
@@ -43,12 +43,8 @@ place_here E k X x apart at same =
     let read : get_or E k X ≡ X = get_or_from_slice_get E k X X at in
     let is_x : X.name ≡ x = same_text X.name x (sym same) in
     let here : position_or_len p E ≡ k = first_place p E k X lt (ap p read ∙ same)
-    (λ j below. not_true (p (get_or E j X)) (λ e. apart j k X below lt (same_text (get_or E j X).name x (sym e) ∙ (sym is_x ∙ ap (λ (Y : Equation). Y.name) (sym read))))) in
+    (λ j below. false_from_ne_true (p (get_or E j X)) (λ e. apart j k X below lt (same_text (get_or E j X).name x (sym e) ∙ (sym is_x ∙ ap (λ (Y : Equation). Y.name) (sym read))))) in
     ap (λ (n : ℕ). cond (nat_lt n (length E)) (Some n) None) here ∙ ap (λ (b : Bool). cond b (Some k) None) (lt-ltb k (length E) lt)
-  where
-    not_true : (b : Bool) → (b ≡ true → ⊥) → b ≡ false
-    not_true true h = absurd (h refl)
-    not_true false h = refl
 
 -- ---- one equation
 
@@ -99,7 +95,7 @@ module _ (S : Spec) (layout : List (List Carrier)) (laid : carriers_of layout �
           (ap (owns_number css k) (sym m)
           ∙ (owns_number-owns_instance css k h.number n (slice_get_within css k _ carriers_at) h.at
           ∙ ap (λ (b : Bool). b && is_instance css n)
-          (not_true (n.equation == k)
+          (false_from_ne_true (n.equation == k)
           (λ eq.
           let here : j ≡ k = sym is ∙ eqb-true n.equation k eq in
           let found = position-Some (λ (Y : Equation). same_name Y.name i.name) S.equations j X e in
@@ -108,10 +104,6 @@ module _ (S : Spec) (layout : List (List Carrier)) (laid : carriers_of layout �
           ap (λ (o : Option (List values.Carrier)). is_tuple_of o i.values) (sym carriers_at)
           ∙ (ap (λ (l : ℕ). is_tuple_of (slice_get css l) i.values) (sym (is ∙ here)) ∙ (ap (λ (vs : Tuple). is_tuple_of (slice_get css n.equation) vs) (sym same) ∙ known)) in
           true≢false (sym (ap (λ (b : Bool). b && is_within (formula.carriers_of S X.parameters) i.values) named ∙ within) ∙ none)))))
-        where
-          not_true : (b : Bool) → (b ≡ true → ⊥) → b ≡ false
-          not_true true h = absurd (h refl)
-          not_true false h = refl
 
       by_place : (o : Option ℕ) → place_named S.equations i.name ≡ o → environment_of S new i ≡ environment_of S old i
       by_place None e = ap (λ (o : Option ℕ). truth_of (all_carriers S) new o i.values) e ∙ sym (ap (λ (o : Option ℕ). truth_of (all_carriers S) old o i.values) e)

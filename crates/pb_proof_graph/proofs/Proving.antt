@@ -1,8 +1,8 @@
 -- A proof graph is an arena: the rank of an instance at a priority of the wrong parity is the number of instances of that
 -- priority that it leads to over no greater one. No such instance leads back to itself, so that the rank falls there.
-use Rattle.std.proofs.Common.{◌≡◌, ◌≢◌, ℕ, ◌%◌, ◌≤◌, Bool, true, false, not, ◌&&◌, ◌||◌, List, [], ◌∷◌, inl, inr, refl, sym, ap, ◌∙◌, subst, arith}
+use Rattle.std.proofs.Common.{◌≡◌, ◌≢◌, ℕ, ◌%◌, ◌≤◌, Bool, true, not, ◌&&◌, ◌||◌, List, [], ◌∷◌, inl, inr, refl, sym, ap, ◌∙◌, subst, arith}
 use Rattle.std.specs.Prelude.{Contains, nat_le, ◌==◌}
-use Rattle.std.proofs.lemmas.Bool.{cases_Bool, cases_lt, and_parts, and_from, or_cases, leb-true, le-leb, eqb-true, eq-eqb, cond-false}
+use Rattle.std.proofs.lemmas.Bool.{cases_Bool, cases_lt, and_parts, and_from, or_cases, or_right, leb-true, le-leb, eqb-true, eq-eqb, cond-false}
 use Rattle.pb_fixpoint.specs.Solution.{empty}
 use Rattle.pb_game.specs.Adjacency.{is_among}
 use Rattle.pb_game.proofs.Membership.{among_at, among_place, contains_at, contains_place}
@@ -73,12 +73,8 @@ module _ (signatures : List Signature) (trees : ℕ → Tree) (b : Bool) (graph 
   counts_before : (p v w m : ℕ) → RestsOn graph v w → level v ≤ p → counts p w m ≡ true → counts p v m ≡ true
   counts_before p v w m h low c =
       and_from (v == m || reaches (edge p) graph.instances v m) (level m == p)
-      (or_true (v == m) (reaches (edge p) graph.instances v m) (before p v w m h low c))
+      (or_right (v == m) (reaches (edge p) graph.instances v m) (before p v w m h low c))
       (and_parts (w == m || reaches (edge p) graph.instances w m) (level m == p) c).1
-    where
-      or_true : (x y : Bool) → y ≡ true → (x || y) ≡ true
-      or_true true y e = refl
-      or_true false y e = e
 
   -- an edge is the graph's, from an instance of no greater priority
   rests_of : (p v m : ℕ) → edge p v m ≡ true → RestsOn graph v m

@@ -5,11 +5,10 @@ use Rattle.pb_text_tree.specs.Form.{TermForm, InstanceForm, no_arguments}
 use Rattle.pb_text_lexer.specs.declared.fault.ReadingRule.TheVariants.{Limit}
 use Rattle.pb_text_lexer.specs.declared.kind.Kind.{Kind}
 use Rattle.pb_text_lexer.specs.declared.kind.Kind.TheVariants as k
-use Rattle.pb_text_lexer.specs.Kinds.{is_limited}
 use Rattle.pb_text_lexer.specs.Grammar.{State, going_on, Is, Nothing, One}
 use Rattle.pb_text_lexer.specs.Grammar as grammar
 use Rattle.pb_text_lexer.specs.LeftGrammar.{Listed}
-use Rattle.pb_text_lexer.specs.Steps.{head_kind, head_place, Step, Outcome, and_then, pure, take_token, expect, refuse, unless_next, place}
+use Rattle.pb_text_lexer.specs.Steps.{head_place, Step, Outcome, and_then, pure, take_token, expect, refuse, unless_next, place}
 use Rattle.pb_text_lexer.specs.Steps as step
 use Rattle.pb_text_lexer.specs.Tokens.{Tok}
 use Rattle.pb_text_lexer.proofs.Correct.{st, Family, Stops, never, readable-is, readable-one, Took, Answers, Answering, Correct, then-correct, HeadIs, take-correct, expect-correct, refused-here, Free, Readable, goes-free, free-then, free-one}
@@ -20,7 +19,7 @@ use Rattle.pb_text_lexer.proofs.CorrectLeft.{unless_next-answers, extended-corre
 use Rattle.pb_text_lexer.proofs.CorrectChained.{is-symbol-at, head-of-passes}
 use Rattle.pb_text_terms.specs.Grammar.{Name, Placed, arguments_of, Arguments, Instance, IsTerm}
 use Rattle.pb_text_terms.specs.Reading.{name, is_open, placed, argument_list, arguments, instance, term}
-use Rattle.pb_text_terms.proofs.CorrectVariable.{head-kind-is, name-correct, said-correct, listed-correct, stops-at-kind}
+use Rattle.pb_text_terms.proofs.CorrectVariable.{head-kind-is, head-limited, name-correct, said-correct, listed-correct, stops-at-kind}
 use Rattle.pb_text_terms.proofs.CorrectOperators.{comma-apart, list-closes, list_goes, term_goes, unary_goes}
 use Rattle.pb_text_terms.proofs.TermStarts.{deeper-some, readable-term}
 
@@ -93,10 +92,6 @@ closing : {X : Type 0} (g : Kind → Bool) (x : X) (depth : ℕ) → Correct (St
 closing g x depth =
     anywhere (Stops g) _ (λ d. grammar.◌>>=◌ (One k.Close) (λ t. Is x)) never depth
     (then-plain (λ d. One k.Close) (λ t d. Is x) never depth Always (expect k.Close) (λ t. pure x) (expect-correct k.Close depth refl) (λ t. is-correct x depth))
-
-pub head-limited : (kind : Kind) (ts : List Tok) → HeadIs kind ts → is_limited kind ≡ true → is_limited (head_kind ts) ≡ true
-head-limited kind [] h lim = absurd h
-head-limited kind (t ∷ ts) h lim = ap is_limited h ∙ lim
 
 abbrev alone : Family InstanceForm
 alone d = grammar.◌>>=◌ Name (λ found. Is (record { name = found; arguments = no_arguments }))

@@ -21,10 +21,10 @@ use Rattle.pb_text_lexer.proofs.CorrectEither.{connected-correct}
 use Rattle.pb_text_terms.specs.Operators.{connected_by, is_quantifier}
 use Rattle.pb_text_terms.specs.Grammar.{Instance, applied, Equated, IsUnary, IsTerm}
 use Rattle.pb_text_terms.specs.Reading.{is_open, instance, closed, begun, equated, unary, term, quantified}
-use Rattle.pb_text_terms.proofs.CorrectVariable.{head-kind-is, said-correct, stops-at-kind, quantified-correct, quantified-last}
+use Rattle.pb_text_terms.proofs.CorrectVariable.{head-kind-is, head-limited, said-correct, stops-at-kind, quantified-correct, quantified-last}
 use Rattle.pb_text_terms.proofs.CorrectOperators.{below-connectives, equated_goes, equateds, term-closes, term_goes, unary_goes}
 use Rattle.pb_text_terms.proofs.TermStarts.{connecteds, from-term, from-unary, kinds, node-starts, quantified-starts, quantifieds, readable-term, readable-true, readable-unary, starts, to-term, to-unary}
-use Rattle.pb_text_terms.proofs.CorrectInstance.{head-limited, inner-term, instance-last, instance-over, instances}
+use Rattle.pb_text_terms.proofs.CorrectInstance.{inner-term, instance-last, instance-over, instances}
 
 -- ---- signs, brackets, numbers and constants
 

@@ -101,6 +101,9 @@ pub head-kind-is : (kind : Kind) (ts : List Tok) → HeadIs kind ts → head_kin
 head-kind-is kind [] h = absurd h
 head-kind-is kind (t ∷ ts) h = h
 
+pub head-limited : (kind : Kind) (ts : List Tok) → HeadIs kind ts → is_limited kind ≡ true → is_limited (head_kind ts) ≡ true
+head-limited kind ts h lim = ap is_limited (head-kind-is kind ts h) ∙ lim
+
 module _ {X : Type 0} (made : Quantifier → Place → List VariableForm → X → X) (fam : Family X) (g : Kind → Bool) where
   abbrev kinds : ℕ → Kind → Reads X
   kinds d kind = QuantifiedBy made (deeper fam d) kind
@@ -152,10 +155,6 @@ module _ {X : Type 0} (made : Quantifier → Place → List VariableForm → X �
   no-level k.Forall is (suc d) s y w le r = omega arith
   no-level k.Exists is (suc d) s y w le r = omega arith
   no-level _ is d s y w le r = absurd r
-
-  head-limited : (kind : Kind) (ts : List Tok) → HeadIs kind ts → is_limited kind ≡ true → is_limited (head_kind ts) ≡ true
-  head-limited kind [] h lim = absurd h
-  head-limited kind (t ∷ ts) h lim = ap is_limited h ∙ lim
 
   -- where a level may open, a body goes on behind variables
   readable-binding : (bound : List VariableForm → X → X) (level : ℕ) → Readable fam level → Readable (λ d. Binding bound (deeper fam d)) (suc level)

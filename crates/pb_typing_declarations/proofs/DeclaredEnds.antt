@@ -2,6 +2,7 @@
 use Rattle.std.proofs.Common.{◌≡◌, ℕ, zero, suc, Bool, true, false, cond, ◌||◌, List, [], ◌∷◌, length, get_or, refl, sym, ◌∙◌, ap, subst, true≢false, Option, Some, None}
 use Rattle.std.specs.Prelude.{⊤, All, flat_map, codes, not, is_some}
 use Rattle.std.specs.Cmp.Lexicographic.{same_text}
+use Rattle.std.proofs.lemmas.Bool.{not-true}
 use Rattle.pb_text_tree.specs.Form.{Named, SortForm, struct, alias, SpecForm}
 use Rattle.pb_text_meaning.specs.Syntax.{Name, same_name, Sort, Struct, Alias, SortDeclaration, Spec}
 use Rattle.pb_text_meaning.specs.Erase.{erase, erased_sort, erased_declaration}
@@ -13,7 +14,7 @@ use Rattle.pb_typing_declarations.specs.Shapes.{Definition, Structure, Renaming,
 use Rattle.pb_typing_declarations.specs.Declarations.{is_endless, is_faulty, definition_faults, sort_faults, declaration_faults, tables_faults, checks_faults}
 use Rattle.pb_typing_declarations.specs.WellDeclared.{IsDefined, HaveEnds}
 use Rattle.pb_typing_declarations.proofs.Parts.{no_parts, holds_unless}
-use Rattle.pb_typing_declarations.proofs.Exact.{all_head, all_tail, each, not_true}
+use Rattle.pb_typing_declarations.proofs.Exact.{all_head, all_tail, each}
 
 -- an alias's target is a sort, and its chain has an end
 abbrev pub IsLinked : Spec → Name → Sort → Type 0
@@ -158,7 +159,7 @@ linked_of_clear : (S : Spec) (s : Named) (sort : SortForm) → definition_faults
 linked_of_clear S s (struct es) e = tt
 linked_of_clear S s (alias t) e =
     let p = no_parts (unless (is_sort S t.text) UnknownSort t.place) _ e in
-    (holds_unless _ _ _ p.0, not_true _ (holds_unless _ _ _ p.1))
+    (holds_unless _ _ _ p.0, not-true _ (holds_unless _ _ _ p.1))
 
 pub sorts_have_ends : (t : SpecForm) → flat_map (sort_faults (erase t)) t.sorts ≡ [] → HaveEnds (erase t)
 sorts_have_ends t e =

@@ -1,8 +1,8 @@
 -- A text has no fault in its declarations exactly where what it says is declared as it must be.
-use Rattle.std.proofs.Common.{◌≡◌, ◌≢◌, ℕ, zero, suc, ◌<◌, Bool, true, false, not, ◌||◌, List, [], ◌∷◌, length, get_or, map, refl, sym, ◌∙◌, ap, arith, bytes_eq}
+use Rattle.std.proofs.Common.{◌≡◌, ◌≢◌, ℕ, zero, suc, ◌<◌, false, not, ◌||◌, List, [], ◌∷◌, length, get_or, map, refl, sym, ◌∙◌, ap, arith, bytes_eq}
 use Rattle.std.specs.Prelude.{All, flat_map}
 use Rattle.std.specs.Cmp.Lexicographic.{other_text, same_text}
-use Rattle.std.proofs.lemmas.Bool.{or_parts, false_from_ne_true}
+use Rattle.std.proofs.lemmas.Bool.{or_parts, false_from_ne_true, not-true, not_from_false}
 use Rattle.pb_text_tree.specs.Form.{Named}
 use Rattle.pb_text_meaning.specs.Syntax.{Name}
 use Rattle.pb_typing_declarations.specs.declared.fault.TypingRule.TheVariants.{NameTwice}
@@ -38,13 +38,6 @@ module _ {A B : Type 0} (f : A → List TypingFault) (g : A → B) (P : B → Ty
 
 -- ---- names apart
 
-pub not_true : (b : Bool) → not b ≡ true → b ≡ false
-not_true true e = sym e
-not_true false e = refl
-
-pub true_not : (b : Bool) → b ≡ false → not b ≡ true
-true_not b e = ap not e
-
 other_names : (x y : Name) → x ≢ y → bytes_eq x y ≡ false
 other_names x y h = false_from_ne_true (bytes_eq x y) (λ e. h (same_text x y (sym e)))
 
@@ -77,7 +70,7 @@ stand_apart before (x ∷ xs) e =
     λ k d lt. or_parts (bytes_eq x.text (get_or (texts xs) k d)) (is_among before (get_or (texts xs) k d)) (rest.unseen k d lt) in
     record {
       apart = pairs_cons x.text (texts xs) (λ k d lt is. other_text x.text (get_or (texts xs) k d) (sym (behind k d lt).0) is) rest.apart;
-      unseen = all_cons (λ (y : Name). is_among before y ≡ false) x.text (texts xs) (not_true _ (holds_unless _ _ _ p.0)) (λ k d lt. (behind k d lt).1);
+      unseen = all_cons (λ (y : Name). is_among before y ≡ false) x.text (texts xs) (not-true _ (holds_unless _ _ _ p.0)) (λ k d lt. (behind k d lt).1);
     }
 
 stand_clear : (before : List Name) (xs : List Named) → StandApart before xs → repeated_after before xs ≡ []
@@ -85,7 +78,7 @@ stand_clear before [] h = refl
 stand_clear before (x ∷ xs) h =
     let first = pairs_head x.text (texts xs) h.apart in
     no_whole (unless (not (is_among before x.text)) NameTwice x.place) _
-    (unless_holds _ _ _ (true_not _ (all_head (λ (y : Name). is_among before y ≡ false) x.text (texts xs) h.unseen)))
+    (unless_holds _ _ _ (not_from_false _ (all_head (λ (y : Name). is_among before y ≡ false) x.text (texts xs) h.unseen)))
     (stand_clear (x.text ∷ before) xs (record {
       apart = pairs_tail x.text (texts xs) h.apart;
       unseen = λ k d lt.

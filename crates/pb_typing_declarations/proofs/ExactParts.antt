@@ -3,6 +3,7 @@ use Rattle.std.proofs.Common.{◌≡◌, ℕ, suc, ◌+◌, ◌<◌, ◌≤◌, 
 use Rattle.std.specs.Prelude.{All, flat_map, nat_le, nat_lt, int_le, Option, Some, None}
 use Rattle.std.proofs.lemmas.Grind.{flat_map-append}
 use Rattle.std.proofs.lemmas.List.{map-append, length-map}
+use Rattle.std.proofs.lemmas.Bool.{not-true, not_from_false}
 use Rattle.pb_text_tree.specs.declared.place.Place.{Place}
 use Rattle.pb_text_tree.specs.Form.{Named, VariableForm, EnumeratorForm, SortForm, struct, alias, SortDeclarationForm, RangeForm, EquationForm}
 use Rattle.pb_sorts.specs.declared.limits.TheConstants.{MAX_INSTANCES}
@@ -17,7 +18,7 @@ use Rattle.pb_typing_declarations.specs.WellDeclared.{AreApart, has_shape, AreVa
 use Rattle.pb_typing_declarations.proofs.Parts.{no_parts, no_whole, holds_unless, unless_holds}
 use Rattle.pb_typing_declarations.proofs.Passing.{stays, one_more_stays}
 use Rattle.pb_typing_declarations.proofs.VariableLemmas.{few_names, limit_clear}
-use Rattle.pb_typing_declarations.proofs.Exact.{all_cons, all_head, all_tail, all_none, each, each_clear, not_true, true_not, texts, apart, apart_clear, map-map}
+use Rattle.pb_typing_declarations.proofs.Exact.{all_cons, all_head, all_tail, all_none, each, each_clear, texts, apart, apart_clear, map-map}
 
 at_most : (n m : ℕ) → nat_le n m ≡ true → n ≤ m
 at_most n m e = search (rules, tests)
@@ -157,7 +158,7 @@ one_sort S n s (struct es) low e f =
     record { defined = (omega (arith, same, some), omega (arith, same, named, most)); few = omega (arith, fits); enumerators = r.1 }
 one_sort S n s (alias t) low e f =
     let p = no_parts (unless (is_sort S t.text) UnknownSort t.place) _ f in
-    record { defined = (holds_unless _ _ _ p.0, not_true _ (holds_unless _ _ _ p.1)); few = low; enumerators = refl }
+    record { defined = (holds_unless _ _ _ p.0, not-true _ (holds_unless _ _ _ p.1)); few = low; enumerators = refl }
 
 one_sort_clear : (S : Spec) (n : ℕ) (s : Named) (sort : SortForm) → SortHolds S n s sort → (struct_faults n s.place sort ≡ []) × (definition_faults S s sort ≡ [])
 one_sort_clear S n s (struct es) h =
@@ -170,7 +171,7 @@ one_sort_clear S n s (struct es) h =
       refl,
     )
 one_sort_clear S n s (alias t) h =
-    (refl, no_whole (unless (is_sort S t.text) UnknownSort t.place) _ (unless_holds _ _ _ h.defined.0) (unless_holds _ _ _ (true_not _ h.defined.1)))
+    (refl, no_whole (unless (is_sort S t.text) UnknownSort t.place) _ (unless_holds _ _ _ h.defined.0) (unless_holds _ _ _ (not_from_false _ h.defined.1)))
 
 pub record SortsHold (S : Spec) (n : ℕ) (ds : List SortDeclarationForm) : Type 0 where
   pub new : All NewSort (map erased_declaration ds)
@@ -187,7 +188,7 @@ sorts S n (d ∷ ds) low e f =
     let first = one_sort S n d.name d.sort low p.0 r.1 in
     let rest = sorts S (number_behind n (erased_sort d.sort)) ds first.few p.1 q.1 in
     record {
-      new = all_cons NewSort (erased_declaration d) (map erased_declaration ds) (not_true _ (holds_unless _ _ _ r.0)) rest.new;
+      new = all_cons NewSort (erased_declaration d) (map erased_declaration ds) (not-true _ (holds_unless _ _ _ r.0)) rest.new;
       defined = all_cons (Defined S) (erased_declaration d) (map erased_declaration ds) first.defined rest.defined;
       few = rest.few;
       enumerators = flat_map-append enumerator_faults (enumerators_of_sort d.sort) (all_enumerator_forms ds) ∙ no_whole _ _ first.enumerators rest.enumerators;
@@ -219,7 +220,7 @@ sorts_clear S n (d ∷ ds) h =
     }) in (
       no_whole (struct_faults n d.name.place d.sort) _ first.0 rest.0,
       no_whole (sort_faults S d) _
-          (no_whole (unless (not (is_built_in d.name.text)) NameTwice d.name.place) _ (unless_holds _ _ _ (true_not _ (all_head NewSort (erased_declaration d) (map erased_declaration ds) h.new))) first.1)
+          (no_whole (unless (not (is_built_in d.name.text)) NameTwice d.name.place) _ (unless_holds _ _ _ (not_from_false _ (all_head NewSort (erased_declaration d) (map erased_declaration ds) h.new))) first.1)
           rest.1,
     )
 
@@ -255,11 +256,11 @@ NewFunction e = All (λ x. is_named_function x ≡ false) (given e.recogniser)
 
 recogniser : (r : Option Named) → recogniser_faults r ≡ [] → All (λ x. is_named_function x ≡ false) (given (erased_recogniser r))
 recogniser None e = all_none (λ x. is_named_function x ≡ false)
-recogniser (Some x) e = all_cons (λ y. is_named_function y ≡ false) x.text [] (not_true _ (holds_unless _ _ _ e)) (all_none (λ y. is_named_function y ≡ false))
+recogniser (Some x) e = all_cons (λ y. is_named_function y ≡ false) x.text [] (not-true _ (holds_unless _ _ _ e)) (all_none (λ y. is_named_function y ≡ false))
 
 recogniser_clear : (r : Option Named) → All (λ x. is_named_function x ≡ false) (given (erased_recogniser r)) → recogniser_faults r ≡ []
 recogniser_clear None h = refl
-recogniser_clear (Some x) h = unless_holds _ _ _ (true_not _ (all_head (λ y. is_named_function y ≡ false) x.text [] h))
+recogniser_clear (Some x) h = unless_holds _ _ _ (not_from_false _ (all_head (λ y. is_named_function y ≡ false) x.text [] h))
 
 pub short_names : (es : List EnumeratorForm) → flat_map enumerator_faults es ≡ [] → All ShortName (map erased_enumerator es)
 short_names = each enumerator_faults erased_enumerator ShortName (λ e h. at_most _ _ (holds_unless _ _ _ (no_parts (length_faults e.name) (recogniser_faults e.recogniser) h).0))

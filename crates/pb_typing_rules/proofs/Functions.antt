@@ -57,11 +57,11 @@ one false false false false false false false None s v t h k = absurd h
 one false false false false false false false (Some r) s v t h k = truth_value t
 
 -- what isn't a division takes each second operand
-always : (o : BinaryOperation) (t : Shape) → divides o ≡ false → may_divide o t ≡ true
-always o Unknown e = refl
-always o Truths e = refl
-always o (Places s n) e = refl
-always o (Wholes l h) e = ap (λ (b : Bool). not b || int_le (pos 1) l) e
+pub may_follow : (o : BinaryOperation) (t : Shape) → divides o ≡ false → may_divide o t ≡ true
+may_follow o Unknown e = refl
+may_follow o Truths e = refl
+may_follow o (Places s n) e = refl
+may_follow o (Wholes l h) e = ap (λ (b : Bool). not b || int_le (pos 1) l) e
 
 two : (a b c d e f g : Bool) (r : Option Shape) (s t : Shape) (v w : ℤ) → IsApplied (chosen a b c d e f g r) (s ∷ t ∷ []) → Contained s v → Contained t w
     → Contained (applied_shape (chosen a b c d e f g r) (s ∷ t ∷ [])) (cond f (int_max v w) (cond g (int_min v w) (pos 0)))
@@ -70,8 +70,8 @@ two false true c d e f g r s t v w h k m = absurd (omega (arith, h.0))
 two false false true d e f g r s t v w h k m = absurd (omega (arith, h.0))
 two false false false true e f g r s t v w h k m = absurd (omega (arith, h.0))
 two false false false false true f g r s t v w h k m = absurd (omega (arith, h.0))
-two false false false false false true g r s t v w h k m = binary_contained Maximum s t v w h.1 (always Maximum t refl) h.2 k.value m.value
-two false false false false false false true r s t v w h k m = binary_contained Minimum s t v w h.1 (always Minimum t refl) h.2 k.value m.value
+two false false false false false true g r s t v w h k m = binary_contained Maximum s t v w h.1 (may_follow Maximum t refl) h.2 k.value m.value
+two false false false false false false true r s t v w h k m = binary_contained Minimum s t v w h.1 (may_follow Minimum t refl) h.2 k.value m.value
 two false false false false false false false None s t v w h k m = absurd h
 two false false false false false false false (Some r) s t v w h k m = absurd (omega (arith, h.0))
 
