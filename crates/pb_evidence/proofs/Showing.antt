@@ -81,14 +81,14 @@ module _ (g : Game) (s : Solution) (marks : List Bool) (start : ℕ) (x : Explor
         }
 
     -- the place of an instance
-    record Stands (n : ℕ) : Type 0 where
+    record HasPlace (n : ℕ) : Type 0 where
       place : ℕ
       within : place < length vertices
       reached : IsReached rows n
       vertex : get_or vertices place 0 ≡ at n
       names_it : get_or names place 0 ≡ n
 
-    stands : (n : ℕ) → Contains names n → Stands n
+    stands : (n : ℕ) → Contains names n → HasPlace n
     stands n h =
         let there = place_of names n h in
         let below : there.place < length vertices = (let w = there.within in let z = size in omega arith) in
@@ -158,16 +158,16 @@ module _ (g : Game) (s : Solution) (marks : List Bool) (start : ℕ) (x : Explor
     nearest = nearest_first graph e.places.items e.dependencies.items each once breadth_first
 
     -- an instance's dependencies are the names of its row
-    dependencies_at : (n : ℕ) (st : Stands n) → graph.dependencies n ≡ map name (row x.places.items x.dependencies.items st.place)
+    dependencies_at : (n : ℕ) (st : HasPlace n) → graph.dependencies n ≡ map name (row x.places.items x.dependencies.items st.place)
     dependencies_at n st =
         let below : st.place < length names = (let w = st.within in let z = size in omega arith) in
         ap graph.dependencies (sym st.names_it) ∙ (each st.place below ∙ row_at st.place)
 
-    lists : (n : ℕ) (st : Stands n) → ListsNext g s marks (at n) (row x.places.items x.dependencies.items st.place)
+    lists : (n : ℕ) (st : HasPlace n) → ListsNext g s marks (at n) (row x.places.items x.dependencies.items st.place)
     lists n st = subst (λ v. ListsNext g s marks v (row x.places.items x.dependencies.items st.place)) st.vertex (explored.rows st.place st.within)
 
     -- what an instance rests on is the name of a vertex of its row
-    named_next : (n m : ℕ) (st : Stands n) → Contains (graph.dependencies n) m → IsNamed name (row x.places.items x.dependencies.items st.place) m
+    named_next : (n m : ℕ) (st : HasPlace n) → Contains (graph.dependencies n) m → IsNamed name (row x.places.items x.dependencies.items st.place) m
     named_next n m st h = named_of name (row x.places.items x.dependencies.items st.place) m (subst (λ (xs : List ℕ). Contains xs m) (dependencies_at n st) h)
 
     inner_of : (w : ℕ) → IsOpen g marks w → IsInner g rows w

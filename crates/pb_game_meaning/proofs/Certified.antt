@@ -77,7 +77,7 @@ module _ (signatures : List Signature) (trees : ℕ → Tree) (rows : List Row) 
   rank b v p = losing_counts (count v) (player b) p limit
 
   -- the vertex is that of a reached instance
-  pub record Stands (v n : ℕ) : Type 0 where
+  pub record IsVertexOf (v n : ℕ) : Type 0 where
     pub reached : IsReached rows n
     pub place : v ≡ at n
 
@@ -88,7 +88,7 @@ module _ (signatures : List Signature) (trees : ℕ → Tree) (rows : List Row) 
   tree_priority (Single l) v p h = priority_is v _ h.0
   tree_priority (Root c f) v p h = priority_is v _ h.0
 
-  pub at_level : (v n : ℕ) → Stands v n → priority_at v ≡ level n
+  pub at_level : (v n : ℕ) → IsVertexOf v n → priority_at v ≡ level n
   at_level v n h =
       let found = row_at n h.reached in
       subst (λ w. priority_at w ≡ level n) (sym h.place) (tree_priority found.row.tree (at n) (level n) found.stands)
@@ -101,8 +101,8 @@ module _ (signatures : List Signature) (trees : ℕ → Tree) (rows : List Row) 
 
   -- S need only be closed under kept edges from inner vertices, among which those of the brackets inside the tree are
   pub local_over : (b : Bool) (IsInner : ℕ → Type 0) (S : ℕ → Type 0) (t : Environment ℕ) → ((v : ℕ) → S v → winner v ≡ player b) →
-      ((v w : ℕ) → S v → IsInner v → priority_at v ≡ 0 → Kept v w → S w) → ((v n : ℕ) → S v → Stands v n → t n ≡ b) →
-      (v n : ℕ) → winner v ≡ player b → Stands v n → ((k : ℕ) → v < k → k < suc (v + inner (trees n)) → IsInner k) →
+      ((v w : ℕ) → S v → IsInner v → priority_at v ≡ 0 → Kept v w → S w) → ((v n : ℕ) → S v → IsVertexOf v n → t n ≡ b) →
+      (v n : ℕ) → winner v ≡ player b → IsVertexOf v n → ((k : ℕ) → v < k → k < suc (v + inner (trees n)) → IsInner k) →
       ((w : ℕ) → Kept v w → S w) → tree_truth t (trees n) ≡ b
   local_over b IsInner S t won closed has v n wins h inners kept =
       let found = row_at n h.reached in
@@ -138,14 +138,14 @@ module _ (signatures : List Signature) (trees : ℕ → Tree) (rows : List Row) 
           stands.0 wins kept
 
   local : (b : Bool) (S : ℕ → Type 0) (t : Environment ℕ) → ((v : ℕ) → S v → winner v ≡ player b) →
-      ((v w : ℕ) → S v → priority_at v ≡ 0 → Kept v w → S w) → ((v n : ℕ) → S v → Stands v n → t n ≡ b) →
-      (v n : ℕ) → winner v ≡ player b → Stands v n → ((w : ℕ) → Kept v w → S w) → tree_truth t (trees n) ≡ b
+      ((v w : ℕ) → S v → priority_at v ≡ 0 → Kept v w → S w) → ((v n : ℕ) → S v → IsVertexOf v n → t n ≡ b) →
+      (v n : ℕ) → winner v ≡ player b → IsVertexOf v n → ((w : ℕ) → Kept v w → S w) → tree_truth t (trees n) ≡ b
   local b S t won closed has v n wins h kept =
       local_over b (λ _. Unit {0}) S t won (λ x w s _ zero k. closed x w s zero k) has v n wins h (λ _ _ _. tt) kept
 
   arena : (b : Bool) → Arena b trees level
   arena b = record {
-    IsAt = Stands;
+    IsAt = IsVertexOf;
     priority = priority_at;
     IsWon = λ v. winner v ≡ player b;
     Kept = Kept;

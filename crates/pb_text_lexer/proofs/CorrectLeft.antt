@@ -1,6 +1,7 @@
 -- Chains that group to the left, chains of unmixed operators and comparisons are read rightly.
 use Rattle.std.proofs.Common.{◌≡◌, ◌≢◌, ℕ, suc, ◌+◌, ◌-◌, ◌≤◌, ◌<◌, Bool, true, false, cond, ◌||◌, ◌==◌, ◌⊎◌, inl, inr, List, [], ◌∷◌, ◌++◌, length, refl, sym, ◌∙◌, ap, subst, append_assoc, arith, Ok, Err}
 use Rattle.std.proofs.lemmas.Bool.Decides.{eqb_tells}
+use Rattle.std.proofs.Math.Bool.{or_assoc}
 use Rattle.pb_text_lexer.specs.declared.kind.Kind.{Kind}
 use Rattle.pb_text_lexer.specs.declared.fault.ReadingRule.TheVariants.{Unexpected, Limit}
 use Rattle.pb_text_lexer.specs.declared.fault.Refusal.{Refusal}
@@ -501,10 +502,6 @@ going-alike-answers {X} P p fam g h depth same a s end pre = went s (p s) (a s e
       goes_on = t.goes_on;
     }
 
-left-alike : (a b c : Bool) → ((a || b) || c) ≡ (a || (b || c))
-left-alike true b c = refl
-left-alike false b c = refl
-
 right-alike : (a b c : Bool) → ((a || c) || b) ≡ (a || (b || c))
 right-alike true b c = refl
 right-alike false true true = refl
@@ -533,7 +530,7 @@ module _ {X : Type 0} (item : Family X) (g test other : Kind → Bool) (join : X
 
   ones-answers : (x : X) → Answering (Passes test) (unless_next other (linked test join p x)) (ones x) (going g any) depth
   ones-answers x s end pre =
-      going-alike-answers Always (unless_next other (linked test join p x)) (ones x) (going (going g test) other) (going g any) depth (λ k. left-alike (g k) (test k) (other k))
+      going-alike-answers Always (unless_next other (linked test join p x)) (ones x) (going (going g test) other) (going g any) depth (λ k. or_assoc (g k) (test k) (other k))
       (unless_next-answers (ones x) (going g test) other depth Always (linked test join p x) (linked-answers item g test join depth are apart p right-p x)) s end tt
 
   others-answers : (x : X) → Answering (Passes other) (unless_next test (linked other join p x)) (others x) (going g any) depth

@@ -8,6 +8,7 @@ use Rattle.std.specs.List.{prefix_len, take_while}
 use Rattle.std.proofs.lemmas.Str.Ascii.{IsAscii-nil, IsAscii-cons}
 use Rattle.std.proofs.lemmas.List.Sums.{prefix_len-le-length}
 use Rattle.std.proofs.lemmas.List.Folds.{length-prefix_len}
+use Rattle.std.proofs.lemmas.Bool.{and_parts}
 use Rattle.std.proofs.lemmas.Bool.Decides.{nat_tests}
 use Rattle.pb_text_tree.specs.declared.place.Place.{Place}
 use Rattle.pb_text_lexer.specs.declared.kind.Kind.{Kind}
@@ -127,19 +128,20 @@ abbrev none_last : List (List ℕ × Kind) → Bool
 none_last [] = true
 none_last (entry ∷ entries) = cond (is_special entry.1) false (none_last entries)
 
-none-last-first : (b c : Bool) → cond b false c ≡ true → b ≡ false
-none-last-first true c h = sym h
-none-last-first false c h = refl
+-- of the tests of a table's entries that all must fail, the first and the rest
+pub none-first : (b c : Bool) → cond b false c ≡ true → b ≡ false
+none-first true c h = sym h
+none-first false c h = refl
 
-none-last-rest : (b c : Bool) → cond b false c ≡ true → c ≡ true
-none-last-rest true c h = cc
-none-last-rest false c h = h
+pub none-rest : (b c : Bool) → cond b false c ≡ true → c ≡ true
+none-rest true c h = cc
+none-rest false c h = h
 
 among-not-last : (table : List (List ℕ × Kind)) (word : List ℕ) → none_last table ≡ true → NotLast (kind_among table word)
 among-not-last [] word h = record { is = refl }
 among-not-last (entry ∷ entries) word h =
-    pick NotLast (bytes_eq entry.0 word) entry.1 (kind_among entries word) (λ e. record { is = none-last-first (is_special entry.1) (none_last entries) h })
-    (λ e. among-not-last entries word (none-last-rest (is_special entry.1) (none_last entries) h))
+    pick NotLast (bytes_eq entry.0 word) entry.1 (kind_among entries word) (λ e. record { is = none-first (is_special entry.1) (none_last entries) h })
+    (λ e. among-not-last entries word (none-rest (is_special entry.1) (none_last entries) h))
 
 word-not-last : (word : List ℕ) → is_special (word_kind word) ≡ false
 unfolding word_kind
@@ -172,33 +174,25 @@ plain-is a b e h = (grind (arith, nat_tests), grind (arith, nat_tests))
 one-takes : (table : List (ℕ × Kind)) (a : ℕ) (bs : List ℕ) → good_bytes table ≡ true → Takes (one_byte_among table a) (a ∷ bs)
 one-takes [] a bs h = record { is = (refl, λ e. cc) }
 one-takes (entry ∷ entries) a bs h =
-    let rest = none-last-rest (is_special entry.1) _ h in
+    let rest = none-rest (is_special entry.1) _ h in
     pick (λ v. Takes v (a ∷ bs)) (a == entry.0) (Token entry.1 1) (one_byte_among entries a)
-    (λ e. record { is = (omega arith, (let p : 1 ≤ length (a ∷ bs) = omega arith in p), special-last entry.1 (none-last-first (is_special entry.1) _ h), (plain-is a entry.0 e (and-first (is_plain entry.0) _ rest), tt), (λ q. absurd (special-number entry.1 (none-last-first (is_special entry.1) _ h) q))) })
+    (λ e. record { is = (omega arith, (let p : 1 ≤ length (a ∷ bs) = omega arith in p), special-last entry.1 (none-first (is_special entry.1) _ h), (plain-is a entry.0 e (and-first (is_plain entry.0) _ rest), tt), (λ q. absurd (special-number entry.1 (none-first (is_special entry.1) _ h) q))) })
     (λ e. one-takes entries a bs (and-rest (is_plain entry.0) _ rest))
-
-and-left : (a b : Bool) → (a && b) ≡ true → a ≡ true
-and-left true b h = refl
-and-left false b h = h
-
-and-right : (a b : Bool) → (a && b) ≡ true → b ≡ true
-and-right true b h = h
-and-right false b h = cc
 
 two-takes : (table : List (ℕ × ℕ × Kind)) (a b : ℕ) (bs : List ℕ) → good_pairs table ≡ true → Takes (two_bytes_among table a b) (a ∷ b ∷ bs)
 two-takes [] a b bs h = one-takes one_byte_symbols a (b ∷ bs) refl
 two-takes (entry ∷ entries) a b bs h =
-    let rest = none-last-rest (is_special entry.2) _ h in
+    let rest = none-rest (is_special entry.2) _ h in
     let plain = and-first (is_plain entry.0) _ rest in
     let rest' = and-rest (is_plain entry.0) _ rest in
     pick (λ v. Takes v (a ∷ b ∷ bs)) (a == entry.0 && b == entry.1) (Token entry.2 2) (two_bytes_among entries a b)
-    (λ e. record {
+    (λ e. let both = and_parts (a == entry.0) (b == entry.1) e in record {
       is = (
         omega arith,
         (let p : 2 ≤ length (a ∷ b ∷ bs) = omega arith in p),
-        special-last entry.2 (none-last-first (is_special entry.2) _ h),
-        (plain-is a entry.0 (and-left (a == entry.0) (b == entry.1) e) plain, (plain-is b entry.1 (and-right (a == entry.0) (b == entry.1) e) (and-first (is_plain entry.1) _ rest'), tt)),
-        (λ q. absurd (special-number entry.2 (none-last-first (is_special entry.2) _ h) q)),
+        special-last entry.2 (none-first (is_special entry.2) _ h),
+        (plain-is a entry.0 both.0 plain, (plain-is b entry.1 both.1 (and-first (is_plain entry.1) _ rest'), tt)),
+        (λ q. absurd (special-number entry.2 (none-first (is_special entry.2) _ h) q)),
       );
     })
     (λ e. two-takes entries a b bs (and-rest (is_plain entry.1) _ rest'))

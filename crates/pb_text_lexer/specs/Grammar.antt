@@ -50,8 +50,8 @@ pub data Series {X T Y : Type 0} (Item : Reads X) (Between : Reads T) (end : X �
   more : {s m o z : State} {x : X} {t : T} {y : Y} → Item s x m → Between m t o → Series Item Between end join o y z → Series Item Between end join s (join x t y) z
 
 -- with all the operators that are allowed, whatever comes before and behind
-abbrev pub Own : {X : Type 0} → Reads X → Reads X
-Own R s x z = (m : ℕ) × R s x (record { tokens = z.tokens; operators = m }) × (z.operators ≡ s.operators)
+abbrev pub CountedApart : {X : Type 0} → Reads X → Reads X
+CountedApart R s x z = (m : ℕ) × R s x (record { tokens = z.tokens; operators = m }) × (z.operators ≡ s.operators)
 
 -- The limits that a refusal speaks of: any, or those that are at hand. So many levels may open, and so many operators come.
 abbrev pub Within : ReadingRule → ℕ → ℕ → ℕ → ℕ → Type 0

@@ -3,7 +3,7 @@
 use Rattle.std.proofs.Common.{◌≡◌, Bool, List, [], ◌∷◌, sym, subst, inl, inr}
 use Rattle.pb_text_lexer.specs.declared.kind.Kind.{Kind}
 use Rattle.pb_text_lexer.specs.Tokens.{Tok}
-use Rattle.pb_text_lexer.specs.Grammar.{State, Reads, ◌>>=◌, Is, Nothing, One, Operator, by_first, First, Series, last, more, Own}
+use Rattle.pb_text_lexer.specs.Grammar.{State, Reads, ◌>>=◌, Is, Nothing, One, Operator, by_first, First, Series, last, more, CountedApart}
 use Rattle.pb_text_lexer.specs.OpenGrammar.{Chained, last as last_operand, more as more_operands, Either}
 use Rattle.pb_text_lexer.specs.LeftGrammar.{OperatorOf, Extended}
 use Rattle.pb_text_names.proofs.Tokens.{Spelled, AreSpelled}
@@ -59,7 +59,7 @@ meets_series P Q Item Between end join item between ends joins s y z (more {m = 
     let three = meets_series P Q Item Between end join item between ends joins o rest z rs two.1 in
     (joins x t rest one.0 three.0, three.1)
 
-pub meets_own : {X : Type 0} (P : X → Type 0) (R : Reads X) → Meets P R → Meets P (Own R)
+pub meets_own : {X : Type 0} (P : X → Type 0) (R : Reads X) → Meets P R → Meets P (CountedApart R)
 meets_own P R meets s x z r h = meets s x (record { tokens = z.tokens; operators = r.0 }) r.1 h
 
 pub meets_either : {X : Type 0} (P : X → Type 0) (A B : Reads X) → Meets P A → Meets P B → Meets P (Either A B)

@@ -15,6 +15,7 @@ use Rattle.pb_text_lexer.specs.Bytes.{is_blank, line, is_letter, is_name_byte, n
 use Rattle.pb_text_lexer.specs.RangeLines.{behind_range, is_wrong}
 use Rattle.pb_text_lexer.specs.Lexing.{piece, number, number_of, largest_number, symbol, one_byte_among, one_byte_symbols, two_bytes_among, two_byte_symbols, first_byte, Cuts, none, blank, token, IsCut}
 use Rattle.pb_text_lexer.specs.Tokens.{Tok, token_at}
+use Rattle.pb_text_lexer.proofs.PieceLemmas.{none-first, none-rest}
 use Rattle.pb_text_names.specs.Spelled.{is_spelled}
 
 -- a token that is a name is spelled as one
@@ -61,14 +62,6 @@ abbrev pairs_none : List (ℕ × ℕ × Kind) → Bool
 pairs_none [] = true
 pairs_none (entry ∷ entries) = cond (same_kind entry.2 k.Name) false (pairs_none entries)
 
-first_of : (b c : Bool) → cond b false c ≡ true → b ≡ false
-first_of true c h = sym h
-first_of false c h = refl
-
-rest_of : (b c : Bool) → cond b false c ≡ true → c ≡ true
-rest_of true c h = cc
-rest_of false c h = h
-
 other_kind : {A : Type 0} (kind : Kind) → same_kind kind k.Name ≡ false → kind ≡ k.Name → A
 unfolding same_kind
 other_kind kind h e = let p : same_kind kind k.Name ≡ same_kind k.Name k.Name = ap (λ x. same_kind x k.Name) e in absurd (let q : false ≡ true = sym h ∙ p in cc)
@@ -81,16 +74,16 @@ one_spells : (table : List (ℕ × Kind)) (a : ℕ) (bs : List ℕ) → names_no
 one_spells [] a bs h = record { is = tt }
 one_spells (entry ∷ entries) a bs h =
     choose bs (a == entry.0) (Token entry.1 1) (one_byte_among entries a)
-    (λ e. record { is = other_kind entry.1 (first_of (same_kind entry.1 k.Name) _ h) })
-    (λ e. one_spells entries a bs (rest_of (same_kind entry.1 k.Name) _ h))
+    (λ e. record { is = other_kind entry.1 (none-first (same_kind entry.1 k.Name) _ h) })
+    (λ e. one_spells entries a bs (none-rest (same_kind entry.1 k.Name) _ h))
 
 two_spells : (table : List (ℕ × ℕ × Kind)) (a b : ℕ) (bs : List ℕ) → pairs_none table ≡ true → Spells (two_bytes_among table a b) bs
 unfolding same_kind
 two_spells [] a b bs h = one_spells one_byte_symbols a bs refl
 two_spells (entry ∷ entries) a b bs h =
     choose bs (a == entry.0 && b == entry.1) (Token entry.2 2) (two_bytes_among entries a b)
-    (λ e. record { is = other_kind entry.2 (first_of (same_kind entry.2 k.Name) _ h) })
-    (λ e. two_spells entries a b bs (rest_of (same_kind entry.2 k.Name) _ h))
+    (λ e. record { is = other_kind entry.2 (none-first (same_kind entry.2 k.Name) _ h) })
+    (λ e. two_spells entries a b bs (none-rest (same_kind entry.2 k.Name) _ h))
 
 symbol_spells : (a : ℕ) (behind bs : List ℕ) → Spells (symbol a (first_byte behind)) bs
 unfolding symbol same_kind

@@ -63,10 +63,10 @@ from-node level.Disjunction ends d s z x h = last (last h)
 from-node level.Conjunction ends d s z x h = last h
 from-node _ ends d s z x h = h
 
-abbrev Own : FormulaForm → Bool → ℕ → Reads FormulaForm
-Own (FormulaForm.connected c p x y) ends d = ConnectedAt c ends d
-Own (FormulaForm.quantified q p vars x) ends d = QuantifiedAt d
-Own _ ends d = IsNode d
+abbrev ReadingOf : FormulaForm → Bool → ℕ → Reads FormulaForm
+ReadingOf (FormulaForm.connected c p x y) ends d = ConnectedAt c ends d
+ReadingOf (FormulaForm.quantified q p vars x) ends d = QuantifiedAt d
+ReadingOf _ ends d = IsNode d
 
 own-connected : (c : Connective) (l : Level) (ends : Bool) (d : ℕ) (s z : State) (y : FormulaForm) → fits (connective_level c) l ≡ true → ConnectedAt c ends d s y z → LevelAt l ends d s y z
 own-connected connective.And level.Conjunction ends d s z y e h = h
@@ -84,7 +84,7 @@ own-quantified l true d s z y e h = from-node l true d s z y (inr h)
 own-node : (l : Level) (ends : Bool) (d : ℕ) (s z : State) (y : FormulaForm) → IsNode d s y z → LevelAt l ends d s y z
 own-node l ends d s z y h = from-node l ends d s z y (ended ends (IsNode d) (QuantifiedAt d) s y z h)
 
-own-level : (x : FormulaForm) (l : Level) (ends : Bool) (d : ℕ) (s z : State) (y : FormulaForm) → formula_stands x l ends ≡ true → Own x ends d s y z → LevelAt l ends d s y z
+own-level : (x : FormulaForm) (l : Level) (ends : Bool) (d : ℕ) (s z : State) (y : FormulaForm) → formula_stands x l ends ≡ true → ReadingOf x ends d s y z → LevelAt l ends d s y z
 own-level (FormulaForm.connected c p x w) l ends d s z y e h = own-connected c l ends d s z y e h
 own-level (FormulaForm.quantified q p vars x) l ends d s z y e h = own-quantified l ends d s z y e h
 own-level (FormulaForm.constant p value) l ends d s z y e h = own-node l ends d s z y h
@@ -96,7 +96,7 @@ own-level (FormulaForm.negation p x) l ends d s z y e h = own-node l ends d s z 
 
 -- a formula by itself is read back by its own production
 abbrev PlainBack : FormulaForm → Type 0
-PlainBack x = (ends : Bool) (d : ℕ) → FormulaSayable x ends d → Restores (Own x ends d) unplaced_formula x (formula_operators x) (formula_words x ends)
+PlainBack x = (ends : Bool) (d : ℕ) → FormulaSayable x ends d → Restores (ReadingOf x ends d) unplaced_formula x (formula_operators x) (formula_words x ends)
 
 whole-plain : (x : FormulaForm) (d : ℕ) → PlainBack x → FormulaSayable x true d → Restores (IsFormula d) unplaced_formula x (formula_operators x) (formula_words x true)
 whole-plain x d plain h s r a b e w =

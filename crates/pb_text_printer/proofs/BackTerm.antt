@@ -115,12 +115,12 @@ OperandAt _ d = IsUnary d
 abbrev ChainAt : Arithmetic → ℕ → Reads TermForm
 ChainAt o d = grammar.◌>>=◌ (OperandAt o d) (Linked (chains_with o) computed_by (OperandAt o d))
 
-abbrev pub Own : TermForm → Bool → ℕ → Reads TermForm
-Own (TermForm.connected c p x y) ends d = ConnectedAt c ends d
-Own (TermForm.compared c p x y) ends d = ComparedAt c d
-Own (TermForm.computed o p x y) ends d = ChainAt o d
-Own (TermForm.quantified q p vars x) ends d = QuantifiedAt d
-Own _ ends d = IsUnary d
+abbrev pub ReadingOf : TermForm → Bool → ℕ → Reads TermForm
+ReadingOf (TermForm.connected c p x y) ends d = ConnectedAt c ends d
+ReadingOf (TermForm.compared c p x y) ends d = ComparedAt c d
+ReadingOf (TermForm.computed o p x y) ends d = ChainAt o d
+ReadingOf (TermForm.quantified q p vars x) ends d = QuantifiedAt d
+ReadingOf _ ends d = IsUnary d
 
 own-connected : (c : Connective) (l : Level) (ends : Bool) (d : ℕ) (s z : State) (y : TermForm) → fits (connective_level c) l ≡ true → ConnectedAt c ends d s y z → LevelAt l ends d s y z
 own-connected connective.And level.Conjunction ends d s z y e h = h
@@ -142,7 +142,7 @@ own-quantified level.Sum true d s z y e h = inr h
 own-quantified level.Product true d s z y e h = inr h
 own-quantified level.Unary true d s z y e h = inr h
 
-own-level : (x : TermForm) (l : Level) (ends : Bool) (d : ℕ) (s z : State) (y : TermForm) → stands x l ends ≡ true → Own x ends d s y z → LevelAt l ends d s y z
+own-level : (x : TermForm) (l : Level) (ends : Bool) (d : ℕ) (s z : State) (y : TermForm) → stands x l ends ≡ true → ReadingOf x ends d s y z → LevelAt l ends d s y z
 own-level (TermForm.connected c p x w) l ends d s z y e h = own-connected c l ends d s z y e h
 own-level (TermForm.compared comparison.Equal p x w) l ends d s z y e h = from-equality l ends d s z y e (ended ends (NodeAt d) (QuantifiedAt d) s y z h)
 own-level (TermForm.compared comparison.NotEqual p x w) l ends d s z y e h = from-equality l ends d s z y e (ended ends (NodeAt d) (QuantifiedAt d) s y z h)
@@ -167,7 +167,7 @@ own-level (TermForm.application f xs) l ends d s z y e h = from-unary l ends d s
 
 -- a term by itself is read back by its own production
 abbrev pub PlainBack : TermForm → Type 0
-PlainBack x = (ends : Bool) (d : ℕ) → IsSayable x ends d → Restores (Own x ends d) unplaced_term x (operators x) (term_words x ends)
+PlainBack x = (ends : Bool) (d : ℕ) → IsSayable x ends d → Restores (ReadingOf x ends d) unplaced_term x (operators x) (term_words x ends)
 
 bracketed-back : (x : TermForm) (d : ℕ) → PlainBack x → IsSayable x true d → Restores (IsUnary (suc d)) unplaced_term x (operators x) (open_word ∷ term_words x true ++ close_word ∷ [])
 bracketed-back x d plain h s r a b e (t, m, f, i, z, rest) = go (spells-split (term_words x true) (close_word ∷ []) m r rest)
@@ -175,7 +175,7 @@ bracketed-back x d plain h s r a b e (t, m, f, i, z, rest) = go (spells-split (t
     go : Split (term_words x true) (close_word ∷ []) m r → Back (IsUnary (suc d)) unplaced_term x (st s a) (st r b)
     go cut = last-of cut.mid (plain true d h m cut.mid a b e cut.front) cut.back
       where
-        last-of : (mid : List Tok) → Back (Own x true d) unplaced_term x (st m a) (st mid b) → Spells (close_word ∷ []) mid r → Back (IsUnary (suc d)) unplaced_term x (st s a) (st r b)
+        last-of : (mid : List Tok) → Back (ReadingOf x true d) unplaced_term x (st m a) (st mid b) → Spells (close_word ∷ []) mid r → Back (IsUnary (suc d)) unplaced_term x (st s a) (st r b)
         last-of mid p (u, n, g, j, y, end) = record {
           said = p.said;
           reads = begins (suc d) k.Open s a p.said (st r b) t m f i (
@@ -227,7 +227,7 @@ side-operand arithmetic.Mod d s z x h = h
 abbrev LeadAt : Arithmetic → ℕ → Reads TermForm
 LeadAt o d = LeftChain (chains_with o) computed_by (OperandAt o d)
 
-own-lead : (o : Arithmetic) (x : TermForm) (d : ℕ) (s z : State) (y : TermForm) → goes_on o x ≡ true → Own x false d s y z → LeadAt o d s y z
+own-lead : (o : Arithmetic) (x : TermForm) (d : ℕ) (s z : State) (y : TermForm) → goes_on o x ≡ true → ReadingOf x false d s y z → LeadAt o d s y z
 own-lead arithmetic.Plus (TermForm.computed arithmetic.Plus p u v) d s z y e h = inr h
 own-lead arithmetic.Plus (TermForm.computed arithmetic.Minus p u v) d s z y e h = inr h
 own-lead arithmetic.Minus (TermForm.computed arithmetic.Plus p u v) d s z y e h = inr h

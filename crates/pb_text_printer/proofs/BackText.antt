@@ -6,7 +6,7 @@ use Rattle.pb_fixpoint.specs.declared.Sign.TheVariants as sign
 use Rattle.pb_text_tree.specs.Form.{Named, VariableForm, InstanceForm, EnumeratorForm, SortForm, struct, alias, SortDeclarationForm, RangeForm, EquationForm, SpecForm}
 use Rattle.pb_text_lexer.specs.declared.kind.Kind.TheVariants as k
 use Rattle.pb_text_lexer.specs.Tokens.{Tok}
-use Rattle.pb_text_lexer.specs.Grammar.{State, Reads, Is, One, First, last, more, Own}
+use Rattle.pb_text_lexer.specs.Grammar.{State, Reads, Is, One, First, last, more, CountedApart}
 use Rattle.pb_text_lexer.specs.LeftGrammar.{Extended, Listed}
 use Rattle.pb_text_lexer.proofs.Correct.{st}
 use Rattle.pb_text_terms.specs.Grammar.{Variables}
@@ -136,7 +136,7 @@ sorts-back a (x ∷ xs) h s r (t, m, e, i, y, rest) =
 -- ---- equations
 
 own-back : {X : Type 0} (R : Reads X) (forget : X → X) (x : X) (n a : ℕ) (ws : List Word) → n ≤ a
-    → ((s r : List Tok) (a b : ℕ) → a ≡ n + b → Spells ws s r → Back R forget x (st s a) (st r b)) → RestoresAt a (Own R) forget x ws
+    → ((s r : List Tok) (a b : ℕ) → a ≡ n + b → Spells ws s r → Back R forget x (st s a) (st r b)) → RestoresAt a (CountedApart R) forget x ws
 own-back R forget x n a ws le item s r w =
     let g = item s r a (a - n) (omega arith) w in
     record { said = g.said; reads = (a - n, g.reads, refl); same = g.same }
@@ -188,7 +188,7 @@ equation-back a depth x h s r (t, m, e, i, y, (u, n, f, j, z, rest)) =
             semicolon cut = last-of cut.mid
                 (own-back (IsFormula depth) unplaced_formula x.right (formula_operators x.right) a (formula_words x.right true) h.3 (formula-back x.right depth h.2) o cut.mid cut.front) cut.back
               where
-                last-of : (end : List Tok) → Back (Own (IsFormula depth)) unplaced_formula x.right (st o a) (st end a) → Spells (semicolon_word ∷ []) end r → Back (IsEquation depth) unplaced_equation x (st s a) (st r a)
+                last-of : (end : List Tok) → Back (CountedApart (IsFormula depth)) unplaced_formula x.right (st o a) (st end a) → Spells (semicolon_word ∷ []) end r → Back (IsEquation depth) unplaced_equation x (st s a) (st r a)
                 last-of end b (c, d, q, aa, bb, over) =
                     let first = sign-back a x.sign s m t e i in
                     let same = named-at u x.name z in let params = g.same in let formula = b.same in
@@ -220,7 +220,7 @@ equation-back a depth x h s r (t, m, e, i, y, (u, n, f, j, z, rest)) =
 
 -- ---- whole texts
 
-initial-back : (a depth : ℕ) (i : InstanceForm) → InstanceSayable i depth → list_operators i.arguments ≤ a → RestoresAt a (Own (IsInitial depth)) unplaced_instance i (instance_words i)
+initial-back : (a depth : ℕ) (i : InstanceForm) → InstanceSayable i depth → list_operators i.arguments ≤ a → RestoresAt a (CountedApart (IsInitial depth)) unplaced_instance i (instance_words i)
 initial-back a zero i h le = own-back (IsInitial zero) unplaced_instance i (list_operators i.arguments) a (instance_words i) le (instance-back i.name i.arguments zero (arguments-back i.arguments) h)
 initial-back a (suc d) i h le = own-back (IsInitial (suc d)) unplaced_instance i (list_operators i.arguments) a (instance_words i) le (instance-back i.name i.arguments (suc d) (arguments-back i.arguments) h)
 
@@ -237,7 +237,7 @@ record TailBack (depth : ℕ) (i : InstanceForm) (s z : State) : Type 0 where
   mid : State
   end : Tok
   init : One k.Init s word behind
-  reads : Own (IsInitial depth) behind said mid
+  reads : CountedApart (IsInitial depth) behind said mid
   closes : One k.Semicolon mid end z
   same : unplaced_instance said ≡ unplaced_instance i
 
@@ -248,7 +248,7 @@ tail-back a depth i h le s r (t, m, e, j, y, rest) = go (spells-split (instance_
     go : Split (instance_words i) (semicolon_word ∷ []) m r → TailBack depth i (st s a) (st r a)
     go cut = last-of cut.mid (initial-back a depth i h le m cut.mid cut.front) cut.back
       where
-        last-of : (mid : List Tok) → Back (Own (IsInitial depth)) unplaced_instance i (st m a) (st mid a) → Spells (semicolon_word ∷ []) mid r → TailBack depth i (st s a) (st r a)
+        last-of : (mid : List Tok) → Back (CountedApart (IsInitial depth)) unplaced_instance i (st m a) (st mid a) → Spells (semicolon_word ∷ []) mid r → TailBack depth i (st s a) (st r a)
         last-of mid g (u, n, f, l, z, end) = record {
           said = g.said;
           word = t;

@@ -17,7 +17,7 @@ use Rattle.pb_text_lexer.specs.RangeLines.{behind_range, is_wrong}
 use Rattle.pb_text_lexer.specs.Lexing.{Cuts, none, blank, token, piece, number, number_of, largest_number, symbol, one_byte_among, one_byte_symbols, two_bytes_among, two_byte_symbols, first_byte, start, past, IsCut}
 use Rattle.pb_text_lexer.specs.Tokens.{Tok, token_at}
 use Rattle.pb_text_lexer.proofs.TokenLemmas.{same-kind}
-use Rattle.pb_text_lexer.proofs.PieceLemmas.{pick, token-takes}
+use Rattle.pb_text_lexer.proofs.PieceLemmas.{pick, none-first, none-rest, token-takes}
 use Rattle.pb_text_printer.proofs.SaidLemmas.{AreLexical}
 
 -- ---- a name at the front
@@ -72,14 +72,6 @@ abbrev no_pair_named : List (ℕ × ℕ × Kind) → Bool
 no_pair_named [] = true
 no_pair_named (entry ∷ entries) = cond (is_named entry.2) false (no_pair_named entries)
 
-first-false : (b c : Bool) → cond b false c ≡ true → b ≡ false
-first-false true c h = sym h
-first-false false c h = refl
-
-rest-true : (b c : Bool) → cond b false c ≡ true → c ≡ true
-rest-true true c h = cc
-rest-true false c h = h
-
 not-named : (kind : Kind) → is_named kind ≡ false → kind ≡ k.Name → ⊥
 not-named kind h e = let p : is_named kind ≡ true = ap is_named e in cc
 
@@ -87,15 +79,15 @@ one-names : (table : List (ℕ × Kind)) (a : ℕ) (bs : List ℕ) → none_name
 one-names [] a bs h = record { is = tt }
 one-names (entry ∷ entries) a bs h =
     choose bs (a == entry.0) (Token entry.1 1) (one_byte_among entries a)
-    (λ e. record { is = λ q. absurd (not-named entry.1 (first-false (is_named entry.1) (none_named entries) h) q) })
-    (λ e. one-names entries a bs (rest-true (is_named entry.1) (none_named entries) h))
+    (λ e. record { is = λ q. absurd (not-named entry.1 (none-first (is_named entry.1) (none_named entries) h) q) })
+    (λ e. one-names entries a bs (none-rest (is_named entry.1) (none_named entries) h))
 
 two-names : (table : List (ℕ × ℕ × Kind)) (a b : ℕ) (bs : List ℕ) → no_pair_named table ≡ true → Names (two_bytes_among table a b) bs
 two-names [] a b bs h = one-names one_byte_symbols a bs refl
 two-names (entry ∷ entries) a b bs h =
     choose bs (a == entry.0 && b == entry.1) (Token entry.2 2) (two_bytes_among entries a b)
-    (λ e. record { is = λ q. absurd (not-named entry.2 (first-false (is_named entry.2) (no_pair_named entries) h) q) })
-    (λ e. two-names entries a b bs (rest-true (is_named entry.2) (no_pair_named entries) h))
+    (λ e. record { is = λ q. absurd (not-named entry.2 (none-first (is_named entry.2) (no_pair_named entries) h) q) })
+    (λ e. two-names entries a b bs (none-rest (is_named entry.2) (no_pair_named entries) h))
 
 symbol-names : (a : ℕ) (bs cs : List ℕ) → Names (symbol a (first_byte bs)) cs
 unfolding symbol

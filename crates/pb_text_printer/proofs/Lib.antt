@@ -20,8 +20,8 @@ mod SaidText
 mod BackText
 mod LexicalLemmas
 mod PrintLemmas
-mod InkLemmas
-mod InkWords
+mod CutLemmas
+mod CutWords
 mod WrittenLemmas
 mod WellTerm
 mod WellText

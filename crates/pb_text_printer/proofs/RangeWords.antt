@@ -12,7 +12,7 @@ use Rattle.std.proofs.lemmas.Fmt.{decimal_is_IsNumeral}
 use Rattle.pb_text_lexer.specs.Bytes.{is_name_byte, is_letter, name_bytes, digits, is_name, value_within, whole_within}
 use Rattle.pb_text_lexer.specs.RangeLines.{is_gap, behind_gap, in_word, word, behind_word, bound, positive, negative, bounded, words_bound}
 use Rattle.pb_text_printer.specs.Sayable.{IsBound}
-use Rattle.pb_text_printer.proofs.InkLemmas.{all-counted}
+use Rattle.pb_text_printer.proofs.CutLemmas.{all-counted}
 
 -- ---- bytes that all pass a test
 

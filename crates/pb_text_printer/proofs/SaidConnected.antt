@@ -12,11 +12,11 @@ use Rattle.pb_text_terms.specs.Operators.{connected_by}
 use Rattle.pb_text_printer.specs.declared.level.Level.{Level}
 use Rattle.pb_text_printer.specs.declared.level.Level.TheVariants as level
 use Rattle.pb_text_printer.specs.Words.{fits}
-use Rattle.pb_text_printer.proofs.SaidLemmas.{Says, operator-said}
+use Rattle.pb_text_printer.proofs.SaidLemmas.{EachReadingIs, operator-said}
 
 pub chained-said : {X : Type 0} (kind : Kind) (join : X → Tok → X → X) (Closed Open : Reads X) (P R Q : X → Type 0) (n : X → ℕ)
-    → Says Closed P n → Says Open R n → ((x : X) → R x → Q x) → ((x : X) (t : Tok) (y : X) → P x → Q y → Q (join x t y))
-    → ((x : X) (t : Tok) (y : X) → n (join x t y) ≡ n x + suc (n y)) → Says (Chained kind join Closed Open) Q n
+    → EachReadingIs Closed P n → EachReadingIs Open R n → ((x : X) → R x → Q x) → ((x : X) (t : Tok) (y : X) → P x → Q y → Q (join x t y))
+    → ((x : X) (t : Tok) (y : X) → n (join x t y) ≡ n x + suc (n y)) → EachReadingIs (Chained kind join Closed Open) Q n
 chained-said kind join Closed Open P R Q n closed opened base joins same s z y lex (last r) =
     let h = opened s z y lex r in record { says = base y h.says; rest = h.rest; count = h.count }
 chained-said kind join Closed Open P R Q n closed opened base joins same s z w lex (more {m = m} {o = o} {x = x} {y = y} {t = t} r b rest) =
@@ -27,8 +27,8 @@ chained-said kind join Closed Open P R Q n closed opened base joins same s z w l
     record { says = joins x t y h.says f.says; rest = f.rest; count = omega arith }
 
 module _ {X : Type 0} (made : Connective → Place → X → X → X) (Node Quantifier : Reads X) (A : X → Level → Bool → Type 0) (n : X → ℕ) (bottom : Level)
-    (node : Says Node (λ x. A x bottom false) n)
-    (quantifier : Says Quantifier (λ x. A x bottom true) n)
+    (node : EachReadingIs Node (λ x. A x bottom false) n)
+    (quantifier : EachReadingIs Quantifier (λ x. A x bottom true) n)
     (free : (x : X) (l : Level) → A x l false → A x l true)
     (loose : (x : X) (l m : Level) (ends : Bool) → fits l m ≡ true → A x l ends → A x m ends)
     (low : fits bottom level.Conjunction ≡ true)
@@ -36,23 +36,23 @@ module _ {X : Type 0} (made : Connective → Place → X → X → X) (Node Quan
     (disjoined : (p : Place) (x y : X) (ends : Bool) → A x level.Conjunction false → A y level.Disjunction ends → A (made connective.Or p x y) level.Disjunction ends)
     (implied : (p : Place) (x y : X) (ends : Bool) → A x level.Disjunction false → A y level.Implication ends → A (made connective.Implies p x y) level.Implication ends)
     (same : (c : Connective) (p : Place) (x y : X) → n (made c p x y) ≡ n x + suc (n y)) where
-  conjunction-said : (Open : Reads X) (ends : Bool) → Says Open (λ x. A x bottom ends) n → Says (Conjunction (connected_by made) Node Open) (λ x. A x level.Conjunction ends) n
+  conjunction-said : (Open : Reads X) (ends : Bool) → EachReadingIs Open (λ x. A x bottom ends) n → EachReadingIs (Conjunction (connected_by made) Node Open) (λ x. A x level.Conjunction ends) n
   conjunction-said Open ends opened =
       chained-said k.And (connected_by made k.And) Node Open (λ x. A x bottom false) (λ x. A x bottom ends) (λ x. A x level.Conjunction ends) n node opened
       (λ x. loose x bottom level.Conjunction ends low) (λ x t y. conjoined t.place x y ends) (λ x t y. same connective.And t.place x y)
 
-  disjunction-said : (Open : Reads X) (ends : Bool) → Says Open (λ x. A x bottom ends) n → Says (Disjunction (connected_by made) Node Open) (λ x. A x level.Disjunction ends) n
+  disjunction-said : (Open : Reads X) (ends : Bool) → EachReadingIs Open (λ x. A x bottom ends) n → EachReadingIs (Disjunction (connected_by made) Node Open) (λ x. A x level.Disjunction ends) n
   disjunction-said Open ends opened =
       chained-said k.Or (connected_by made k.Or) (Conjunction (connected_by made) Node Node) (Conjunction (connected_by made) Node Open)
       (λ x. A x level.Conjunction false) (λ x. A x level.Conjunction ends) (λ x. A x level.Disjunction ends) n
       (conjunction-said Node false node) (conjunction-said Open ends opened)
       (λ x. loose x level.Conjunction level.Disjunction ends refl) (λ x t y. disjoined t.place x y ends) (λ x t y. same connective.Or t.place x y)
 
-  either-said : Says (Either Node Quantifier) (λ x. A x bottom true) n
+  either-said : EachReadingIs (Either Node Quantifier) (λ x. A x bottom true) n
   either-said s z x lex (inl r) = let h = node s z x lex r in record { says = free x bottom h.says; rest = h.rest; count = h.count }
   either-said s z x lex (inr r) = quantifier s z x lex r
 
-  pub connected-said : Says (Connected (connected_by made) Node Quantifier) (λ x. A x level.Implication true) n
+  pub connected-said : EachReadingIs (Connected (connected_by made) Node Quantifier) (λ x. A x level.Implication true) n
   connected-said =
       chained-said k.Implies (connected_by made k.Implies) (Disjunction (connected_by made) Node Node) (Disjunction (connected_by made) Node (Either Node Quantifier))
       (λ x. A x level.Disjunction false) (λ x. A x level.Disjunction true) (λ x. A x level.Implication true) n

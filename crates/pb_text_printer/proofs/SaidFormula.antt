@@ -11,7 +11,7 @@ use Rattle.pb_text_printer.specs.declared.level.Level.TheVariants as level
 use Rattle.pb_text_printer.specs.Words.{formula_stands}
 use Rattle.pb_text_printer.specs.Sayable.{list_operators, formula_operators, IsPut, InstanceSayable, FormulaSayable}
 use Rattle.pb_text_printer.proofs.SayableLemmas.{formula-bends, puts-bracketed, formula-stands-whole, formula-loosens, formula-freer}
-use Rattle.pb_text_printer.proofs.SaidLemmas.{Said, Says, one-said, finish, first-said, quantified-said}
+use Rattle.pb_text_printer.proofs.SaidLemmas.{Said, EachReadingIs, one-said, finish, first-said, quantified-said}
 use Rattle.pb_text_printer.proofs.SaidConnected.{connected-said}
 use Rattle.pb_text_printer.proofs.SaidTerm.{instance-said, alone-said, term-said}
 
@@ -19,12 +19,12 @@ use Rattle.pb_text_printer.proofs.SaidTerm.{instance-said, alone-said, term-said
 abbrev At : ℕ → FormulaForm → Level → Bool → Type 0
 At d x l ends = IsPut (formula_stands x l ends) (FormulaSayable x) ends d
 
-true-said : (d : ℕ) → Says (Begun Nothing Nothing Nothing k.True) (λ x. At d x level.Unary false) formula_operators
+true-said : (d : ℕ) → EachReadingIs (Begun Nothing Nothing Nothing k.True) (λ x. At d x level.Unary false) formula_operators
 true-said d s z x lex (t, m, r, e) =
     let h = one-said k.True s m t lex r in
     finish (λ x. At d x level.Unary false) formula_operators (FormulaForm.constant t.place true) x s m z e.0 e.1 (record { says = tt; rest = h.rest; count = h.count })
 
-false-said : (d : ℕ) → Says (Begun Nothing Nothing Nothing k.False) (λ x. At d x level.Unary false) formula_operators
+false-said : (d : ℕ) → EachReadingIs (Begun Nothing Nothing Nothing k.False) (λ x. At d x level.Unary false) formula_operators
 false-said d s z x lex (t, m, r, e) =
     let h = one-said k.False s m t lex r in
     finish (λ x. At d x level.Unary false) formula_operators (FormulaForm.constant t.place false) x s m z e.0 e.1 (record { says = tt; rest = h.rest; count = h.count })
@@ -35,7 +35,7 @@ instantiated d s m z i x h e f =
     finish (λ x. At d x level.Unary false) formula_operators (FormulaForm.instance i) x s m z e f (record { says = h.says; rest = h.rest; count = h.count })
 
 -- where no level may open
-begun-none : (kind : Kind) → Says (Begun Nothing Nothing Nothing kind) (λ x. At zero x level.Unary false) formula_operators
+begun-none : (kind : Kind) → EachReadingIs (Begun Nothing Nothing Nothing kind) (λ x. At zero x level.Unary false) formula_operators
 begun-none k.Not s z x lex (t, m, r, (y, o, h, e)) = absurd h
 begun-none k.Open s z x lex (t, m, r, (y, o, h, e)) = absurd h
 begun-none k.True s z x lex h = true-said zero s z x lex h
@@ -44,8 +44,8 @@ begun-none k.Val s z x lex (t, m, r, (u, o, c, (y, w, h, e))) = absurd h
 begun-none k.Name s z x lex (i, m, r, e) = instantiated zero s m z i x (alone-said s m i lex r) e.0 e.1
 begun-none _ s z x lex h = absurd h
 
-module _ (d : ℕ) (Node Formula : Reads FormulaForm) (node : Says Node (λ x. At d x level.Unary false) formula_operators) (formula : Says Formula (λ x. FormulaSayable x true d) formula_operators) where
-  begun-said : (kind : Kind) → Says (Begun Node Formula (IsTerm d) kind) (λ x. At (suc d) x level.Unary false) formula_operators
+module _ (d : ℕ) (Node Formula : Reads FormulaForm) (node : EachReadingIs Node (λ x. At d x level.Unary false) formula_operators) (formula : EachReadingIs Formula (λ x. FormulaSayable x true d) formula_operators) where
+  begun-said : (kind : Kind) → EachReadingIs (Begun Node Formula (IsTerm d) kind) (λ x. At (suc d) x level.Unary false) formula_operators
   begun-said k.Not s z x lex (t, m, r, (y, o, q, e)) =
       let h = one-said k.Not s m t lex r in let g = node m o y h.rest q in
       let a = h.count in let b = g.count in
@@ -66,8 +66,8 @@ module _ (d : ℕ) (Node Formula : Reads FormulaForm) (node : Says Node (λ x. A
   begun-said k.Name s z x lex (i, m, r, e) = instantiated (suc d) s m z i x (instance-said (IsTerm d) d (term-said d) s m i lex r) e.0 e.1
   begun-said _ s z x lex h = absurd h
 
-connections-said : (d : ℕ) (Node Body : Reads FormulaForm) → Says Node (λ x. At d x level.Unary false) formula_operators
-    → Says (Quantified FormulaForm.quantified Body) (λ x. At d x level.Unary true) formula_operators → Says (Connections Node Body) (λ x. FormulaSayable x true d) formula_operators
+connections-said : (d : ℕ) (Node Body : Reads FormulaForm) → EachReadingIs Node (λ x. At d x level.Unary false) formula_operators
+    → EachReadingIs (Quantified FormulaForm.quantified Body) (λ x. At d x level.Unary true) formula_operators → EachReadingIs (Connections Node Body) (λ x. FormulaSayable x true d) formula_operators
 connections-said d Node Body node quantifier s z x lex r =
     let h = connected-said FormulaForm.connected Node (Quantified FormulaForm.quantified Body) (At d) formula_operators level.Unary
     node quantifier (λ x l h. formula-freer x l true d h) (λ x l m ends e h. formula-loosens x l m ends d e h) refl
@@ -75,13 +75,13 @@ connections-said d Node Body node quantifier s z x lex r =
     record { says = subst (λ (b : Bool). IsPut b (FormulaSayable x) true d) (formula-stands-whole x) h.says; rest = h.rest; count = h.count }
 
 mutual
-  pub node-said : (d : ℕ) → Says (IsNode d) (λ x. At d x level.Unary false) formula_operators
+  pub node-said : (d : ℕ) → EachReadingIs (IsNode d) (λ x. At d x level.Unary false) formula_operators
   node-said zero = first-said (Begun Nothing Nothing Nothing) (λ x. At zero x level.Unary false) formula_operators begun-none
   node-said (suc d) =
       first-said (Begun (IsNode d) (IsFormula d) (IsTerm d)) (λ x. At (suc d) x level.Unary false) formula_operators (begun-said d (IsNode d) (IsFormula d) (node-said d) (formula-said d))
 
   -- a formula that is read can be said within as many levels
-  pub formula-said : (d : ℕ) → Says (IsFormula d) (λ x. FormulaSayable x true d) formula_operators
+  pub formula-said : (d : ℕ) → EachReadingIs (IsFormula d) (λ x. FormulaSayable x true d) formula_operators
   formula-said zero = connections-said zero (First (Begun Nothing Nothing Nothing)) Nothing (first-said (Begun Nothing Nothing Nothing) (λ x. At zero x level.Unary false) formula_operators begun-none)
       (quantified-said FormulaForm.quantified Nothing (λ x. ⊥) (λ x. At zero x level.Unary true) formula_operators (λ s z x lex h. absurd h) (λ q p vars x h g. absurd g) (λ q p vars x. refl))
   formula-said (suc d) = connections-said (suc d) (First (Begun (IsNode d) (IsFormula d) (IsTerm d))) (IsFormula d)

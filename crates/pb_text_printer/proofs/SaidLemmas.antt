@@ -33,23 +33,23 @@ pub record Said (P : Type 0) (n : ℕ) (s z : State) : Type 0 where
   pub count : s.operators ≡ n + z.operators
 
 -- whatever is read so is P, and has so many operators
-abbrev pub Says : {X : Type 0} → Reads X → (X → Type 0) → (X → ℕ) → Type 0
-Says {X} R P n = (s z : State) (x : X) → AreLexical s.tokens → R s x z → Said (P x) (n x) s z
+abbrev pub EachReadingIs : {X : Type 0} → Reads X → (X → Type 0) → (X → ℕ) → Type 0
+EachReadingIs {X} R P n = (s z : State) (x : X) → AreLexical s.tokens → R s x z → Said (P x) (n x) s z
 
 pub lexical-along : (ts us : List Tok) → ts ≡ us → AreLexical ts → AreLexical us
 lexical-along ts us e h = subst (λ (v : List Tok). AreLexical v) e h
 
-pub one-said : (kind : Kind) → Says (One kind) IsLexical (λ t. 0)
+pub one-said : (kind : Kind) → EachReadingIs (One kind) IsLexical (λ t. 0)
 one-said kind s z t lex h =
     let both : AreLexical (t ∷ z.tokens) = lexical-along s.tokens (t ∷ z.tokens) h.0 lex in
     record { says = both.0; rest = both.1; count = omega arith }
 
-pub operator-said : (kind : Kind) → Says (Operator kind) IsLexical (λ t. 1)
+pub operator-said : (kind : Kind) → EachReadingIs (Operator kind) IsLexical (λ t. 1)
 operator-said kind s z t lex h =
     let both : AreLexical (t ∷ z.tokens) = lexical-along s.tokens (t ∷ z.tokens) h.0 lex in
     record { says = both.0; rest = both.1; count = omega arith }
 
-pub operator_of-said : (test : Kind → Bool) → Says (OperatorOf test) IsLexical (λ t. 1)
+pub operator_of-said : (test : Kind → Bool) → EachReadingIs (OperatorOf test) IsLexical (λ t. 1)
 operator_of-said test s z t lex h =
     let both : AreLexical (t ∷ z.tokens) = lexical-along s.tokens (t ∷ z.tokens) h.0 lex in
     record { says = both.0; rest = both.1; count = omega arith }
@@ -59,7 +59,7 @@ pub finish : {X : Type 0} (P : X → Type 0) (n : X → ℕ) (v y : X) (s m z : 
 finish P n v y s m z e f h =
     subst (λ (w : State). Said (P y) (n y) s w) (sym f) (subst (λ x. Said (P x) (n x) s m) (sym e) h)
 
-pub first-said : {X : Type 0} (R : Kind → Reads X) (P : X → Type 0) (n : X → ℕ) → ((kind : Kind) → Says (R kind) P n) → Says (First R) P n
+pub first-said : {X : Type 0} (R : Kind → Reads X) (P : X → Type 0) (n : X → ℕ) → ((kind : Kind) → EachReadingIs (R kind) P n) → EachReadingIs (First R) P n
 first-said R P n each s z x lex h = go s.tokens s.operators lex h
   where
     go : (ts : List Tok) (operators : ℕ) → AreLexical ts → by_first R ts (st ts operators) x z → Said (P x) (n x) (st ts operators) z
@@ -80,8 +80,8 @@ pub total-none : {X : Type 0} (xs : List X) → total (λ x. 0) xs ≡ 0
 total-none [] = refl
 total-none (x ∷ xs) = let h = total-none xs in omega arith
 
-pub listed-said : {X T : Type 0} (Item : Reads X) (Between : Reads T) (P : X → Type 0) (n : X → ℕ) → Says Item P n → Says Between (λ t. Unit {0}) (λ t. 0)
-    → Says (Listed Item Between) (EachOf P) (total n)
+pub listed-said : {X T : Type 0} (Item : Reads X) (Between : Reads T) (P : X → Type 0) (n : X → ℕ) → EachReadingIs Item P n → EachReadingIs Between (λ t. Unit {0}) (λ t. 0)
+    → EachReadingIs (Listed Item Between) (EachOf P) (total n)
 listed-said Item Between P n item between s z xs lex (last {x = x} r) =
     let h = item s z x lex r in
     let count = h.count in
@@ -92,15 +92,15 @@ listed-said Item Between P n item between s z xs lex (more {m = m} {o = o} {x = 
     let p = h.count in let q = g.count in let u = f.count in
     record { says = (h.says, each-of P ys f.says); rest = f.rest; count = omega arith }
 
-pub comma-said : Says (One k.Comma) (λ t. Unit {0}) (λ t. 0)
+pub comma-said : EachReadingIs (One k.Comma) (λ t. Unit {0}) (λ t. 0)
 comma-said s z t lex h = let found = one-said k.Comma s z t lex h in record { says = tt; rest = found.rest; count = found.count }
 
-pub nothing-said : Says (Is {X = Unit {0}} tt) (λ t. Unit {0}) (λ t. 0)
+pub nothing-said : EachReadingIs (Is {X = Unit {0}} tt) (λ t. Unit {0}) (λ t. 0)
 nothing-said s z t lex h = finish (λ t. Unit {0}) (λ t. 0) tt t s s z h.0 h.1 (record { says = tt; rest = lex; count = omega arith })
 
 -- ---- names and variables
 
-pub name-said : Says Name IsName (λ n. 0)
+pub name-said : EachReadingIs Name IsName (λ n. 0)
 name-said s z n lex (t, m, r, e) =
     let h = one-said k.Name s m t lex r in
     let is = h.says in
@@ -114,7 +114,7 @@ group-variables : (names : List Named) (sort : Named) → EachOf IsName names �
 group-variables [] sort h g = absurd h
 group-variables (n ∷ names) sort h g = (h.0, g, group-names names sort h.1 g)
 
-group-said : Says Group AreVariables (λ vs. 0)
+group-said : EachReadingIs Group AreVariables (λ vs. 0)
 group-said s z vs lex (names, m, r, (colon, o, c, (sort, q, n, e))) =
     let h = listed-said Name (One k.Comma) IsName (λ n. 0) name-said comma-said s m names lex r in
     let g = one-said k.Colon m o colon h.rest c in
@@ -140,7 +140,7 @@ flat-variables [] h = absurd h
 flat-variables ([] ∷ groups) h = absurd h.0
 flat-variables ((v ∷ vs) ∷ groups) h = both-names (v ∷ vs) (flat_map (λ group. group) groups) h.0 (flat-names groups h.1)
 
-pub variables-said : Says Variables AreVariables (λ vs. 0)
+pub variables-said : EachReadingIs Variables AreVariables (λ vs. 0)
 variables-said s z vs lex (groups, m, r, e) =
     let h = listed-said Group (One k.Comma) AreVariables (λ vs. 0) group-said comma-said s m groups lex r in
     let none = total-none groups in let a = h.count in
@@ -149,10 +149,10 @@ variables-said s z vs lex (groups, m, r, e) =
 -- ---- quantifiers
 
 module _ {X : Type 0} (made : Quantifier → Place → List VariableForm → X → X) (Body : Reads X) (P Q : X → Type 0) (n : X → ℕ)
-    (body : Says Body P n)
+    (body : EachReadingIs Body P n)
     (bound : (q : Quantifier) (p : Place) (vars : List VariableForm) (x : X) → AreVariables vars → P x → Q (made q p vars x))
     (same : (q : Quantifier) (p : Place) (vars : List VariableForm) (x : X) → n (made q p vars x) ≡ n x) where
-  binding-said : (q : Quantifier) (p : Place) → Says (Binding (made q p) Body) Q n
+  binding-said : (q : Quantifier) (p : Place) → EachReadingIs (Binding (made q p) Body) Q n
   binding-said q p s z x lex (vars, m, r, (period, o, c, (inner, w, b, e))) =
       let h = variables-said s m vars lex r in
       let g = one-said k.Period m o period h.rest c in
@@ -160,7 +160,7 @@ module _ {X : Type 0} (made : Quantifier → Place → List VariableForm → X �
       let a = h.count in let d = g.count in let u = f.count in let v = same q p vars inner in
       finish Q n (made q p vars inner) x s w z e.0 e.1 (record { says = bound q p vars inner h.says f.says; rest = f.rest; count = omega arith })
 
-  quantified-by-said : (kind : Kind) → Says (QuantifiedBy made Body kind) Q n
+  quantified-by-said : (kind : Kind) → EachReadingIs (QuantifiedBy made Body kind) Q n
   quantified-by-said k.Forall s z x lex (t, m, r, b) =
       let h = one-said k.Forall s m t lex r in let f = binding-said Forall t.place m z x h.rest b in
       let a = h.count in let u = f.count in
@@ -171,5 +171,5 @@ module _ {X : Type 0} (made : Quantifier → Place → List VariableForm → X �
       record { says = f.says; rest = f.rest; count = omega arith }
   quantified-by-said _ s z x lex h = absurd h
 
-  pub quantified-said : Says (Quantified made Body) Q n
+  pub quantified-said : EachReadingIs (Quantified made Body) Q n
   quantified-said = first-said (QuantifiedBy made Body) Q n quantified-by-said

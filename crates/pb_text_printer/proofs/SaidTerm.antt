@@ -18,7 +18,7 @@ use Rattle.pb_text_printer.specs.declared.level.Level.TheVariants as level
 use Rattle.pb_text_printer.specs.Words.{fits, stands, goes_on, arithmetic_side, arithmetic_word}
 use Rattle.pb_text_printer.specs.Sayable.{Each, EachOf, operators, list_operators, IsPut, IsName, IsSayable, AreSayable, MoreSayable, SomeSayable, InstanceSayable}
 use Rattle.pb_text_printer.proofs.SayableLemmas.{term-bends, puts, puts-bracketed, stands-whole, term-looser, term-freer}
-use Rattle.pb_text_printer.proofs.SaidLemmas.{Said, Says, one-said, operator_of-said, finish, first-said, total, listed-said, comma-said, nothing-said, name-said, quantified-said}
+use Rattle.pb_text_printer.proofs.SaidLemmas.{Said, EachReadingIs, one-said, operator_of-said, finish, first-said, total, listed-said, comma-said, nothing-said, name-said, quantified-said}
 use Rattle.pb_text_printer.proofs.SaidConnected.{connected-said}
 
 -- what can be said of a term where a level is asked for
@@ -27,11 +27,11 @@ At d x l ends = IsPut (stands x l ends) (IsSayable x) ends d
 
 -- ---- arguments
 
-module _ (Term : Reads TermForm) (d : ℕ) (term : Says Term (λ x. IsSayable x true d) operators) where
+module _ (Term : Reads TermForm) (d : ℕ) (term : EachReadingIs Term (λ x. IsSayable x true d) operators) where
   abbrev IsArgument : Place × TermForm → Type 0
   IsArgument a = IsSayable a.1 true d
 
-  placed-said : Says (Placed Term) IsArgument (λ a. operators a.1)
+  placed-said : EachReadingIs (Placed Term) IsArgument (λ a. operators a.1)
   placed-said s z a lex r = term s z a.1 lex r.0
 
   more-arguments : (xs : List (Place × TermForm)) → Each IsArgument xs → MoreSayable (arguments_of xs) d
@@ -46,7 +46,7 @@ module _ (Term : Reads TermForm) (d : ℕ) (term : Says Term (λ x. IsSayable x 
   arguments-count [] = refl
   arguments-count (x ∷ xs) = ap (λ v. operators x.1 + v) (arguments-count xs)
 
-  arguments-said : Says (Arguments Term) (λ xs. AreSayable xs (suc d)) list_operators
+  arguments-said : EachReadingIs (Arguments Term) (λ xs. AreSayable xs (suc d)) list_operators
   arguments-said s z xs lex (t, m, r, (list, o, q, (u, w, c, e))) =
       let h = one-said k.Open s m t lex r in
       let g = listed-said (Placed Term) (One k.Comma) IsArgument (λ a. operators a.1) placed-said comma-said m o list h.rest q in
@@ -59,7 +59,7 @@ some-of : (xs : ArgumentForms) (d : ℕ) → AreSayable xs d → SomeSayable xs 
 some-of no_arguments d h = absurd h
 some-of (argument p x xs) d h = h
 
-pub instance-said : (Term : Reads TermForm) (d : ℕ) → Says Term (λ x. IsSayable x true d) operators → Says (Instance Term) (λ i. InstanceSayable i (suc d)) (λ i. list_operators i.arguments)
+pub instance-said : (Term : Reads TermForm) (d : ℕ) → EachReadingIs Term (λ x. IsSayable x true d) operators → EachReadingIs (Instance Term) (λ i. InstanceSayable i (suc d)) (λ i. list_operators i.arguments)
 instance-said Term d term s z i lex (inl (n, m, r, e)) =
     let h = name-said s m n lex r in
     finish (λ i. InstanceSayable i (suc d)) (λ i. list_operators i.arguments) (record { name = n; arguments = no_arguments }) i s m z e.0 e.1
@@ -77,7 +77,7 @@ no-list s z xs (last r) = r.0
 no-list s z xs (more r b rest) = r.0
 
 -- a name alone, where no level may open
-pub alone-said : Says (Instance Nothing) (λ i. InstanceSayable i zero) (λ i. list_operators i.arguments)
+pub alone-said : EachReadingIs (Instance Nothing) (λ i. InstanceSayable i zero) (λ i. list_operators i.arguments)
 alone-said s z i lex (inl (n, m, r, e)) =
     let h = name-said s m n lex r in
     finish (λ i. InstanceSayable i zero) (λ i. list_operators i.arguments) (record { name = n; arguments = no_arguments }) i s m z e.0 e.1
@@ -101,25 +101,25 @@ applied-said d s m z i x h e f =
     finish (λ x. At d x level.Unary false) operators (applied i.name i.arguments) x s m z e f
     (record { says = applied-sayable i.name i.arguments false d a.0 a.1; rest = h.rest; count = omega arith })
 
-number-said : (d : ℕ) (ends : Bool) → Says (Begun Nothing Nothing k.Number) (λ x. At d x level.Unary ends) operators
+number-said : (d : ℕ) (ends : Bool) → EachReadingIs (Begun Nothing Nothing k.Number) (λ x. At d x level.Unary ends) operators
 number-said d ends s z x lex (t, m, r, e) =
     let h = one-said k.Number s m t lex r in
     let is = h.says in let writes = is.number r.1 in
     finish (λ x. At d x level.Unary ends) operators (TermForm.number t.place (digits_value 10 t.text)) x s m z e.0 e.1
     (record { says = writes.small; rest = h.rest; count = h.count })
 
-true-said : (d : ℕ) (ends : Bool) → Says (Begun Nothing Nothing k.True) (λ x. At d x level.Unary ends) operators
+true-said : (d : ℕ) (ends : Bool) → EachReadingIs (Begun Nothing Nothing k.True) (λ x. At d x level.Unary ends) operators
 true-said d ends s z x lex (t, m, r, e) =
     let h = one-said k.True s m t lex r in
     finish (λ x. At d x level.Unary ends) operators (TermForm.constant t.place true) x s m z e.0 e.1 (record { says = tt; rest = h.rest; count = h.count })
 
-false-said : (d : ℕ) (ends : Bool) → Says (Begun Nothing Nothing k.False) (λ x. At d x level.Unary ends) operators
+false-said : (d : ℕ) (ends : Bool) → EachReadingIs (Begun Nothing Nothing k.False) (λ x. At d x level.Unary ends) operators
 false-said d ends s z x lex (t, m, r, e) =
     let h = one-said k.False s m t lex r in
     finish (λ x. At d x level.Unary ends) operators (TermForm.constant t.place false) x s m z e.0 e.1 (record { says = tt; rest = h.rest; count = h.count })
 
 -- where no level may open
-begun-none : (kind : Kind) → Says (Begun Nothing Nothing kind) (λ x. At zero x level.Unary false) operators
+begun-none : (kind : Kind) → EachReadingIs (Begun Nothing Nothing kind) (λ x. At zero x level.Unary false) operators
 begun-none k.Not s z x lex (t, m, r, (y, o, h, e)) = absurd h
 begun-none k.Minus s z x lex (t, m, r, (y, o, h, e)) = absurd h
 begun-none k.Open s z x lex (t, m, r, (y, o, h, e)) = absurd h
@@ -129,8 +129,8 @@ begun-none k.False s z x lex h = false-said zero false s z x lex h
 begun-none k.Name s z x lex (i, m, r, e) = applied-said zero s m z i x (alone-said s m i lex r) e.0 e.1
 begun-none _ s z x lex h = absurd h
 
-module _ (d : ℕ) (Unary Term : Reads TermForm) (unary : Says Unary (λ x. At d x level.Unary false) operators) (term : Says Term (λ x. IsSayable x true d) operators) where
-  begun-said : (kind : Kind) → Says (Begun Unary Term kind) (λ x. At (suc d) x level.Unary false) operators
+module _ (d : ℕ) (Unary Term : Reads TermForm) (unary : EachReadingIs Unary (λ x. At d x level.Unary false) operators) (term : EachReadingIs Term (λ x. IsSayable x true d) operators) where
+  begun-said : (kind : Kind) → EachReadingIs (Begun Unary Term kind) (λ x. At (suc d) x level.Unary false) operators
   begun-said k.Not s z x lex (t, m, r, (y, o, q, e)) =
       let h = one-said k.Not s m t lex r in let g = unary m o y h.rest q in
       let a = h.count in let b = g.count in
@@ -238,11 +238,11 @@ grouped-count : (x : TermForm) (links : List (Tok × TermForm)) → operators (g
 grouped-count x [] = omega arith
 grouped-count x (link ∷ links) = let h = grouped-count (computed_by x link.0 link.1) links in omega arith
 
-module _ (d : ℕ) (test : Kind → Bool) (own side : Level) (chain : IsChain d test own side) (Item : Reads TermForm) (item : Says Item (λ x. At d x side false) operators) where
+module _ (d : ℕ) (test : Kind → Bool) (own side : Level) (chain : IsChain d test own side) (Item : Reads TermForm) (item : EachReadingIs Item (λ x. At d x side false) operators) where
   abbrev IsLink : Tok × TermForm → Type 0
   IsLink link = (test link.0.kind ≡ true) × At d link.1 side false
 
-  link-said : Says (Link test Item) IsLink link_operators
+  link-said : EachReadingIs (Link test Item) IsLink link_operators
   link-said s z link lex (t, m, r, (y, o, q, e)) =
       let h = operator_of-said test s m t lex r in let g = item m o y h.rest q in
       let a = h.count in let b = g.count in
@@ -267,7 +267,7 @@ module _ (d : ℕ) (test : Kind → Bool) (own side : Level) (chain : IsChain d 
       finish (λ y. At d y own false) operators (grouped computed_by x links) y s o z e.0 e.1
       (record { says = grouped-said x links (chain.begins x h.says) g.says; rest = g.rest; count = omega arith })
 
-product-said : (d : ℕ) (Unary : Reads TermForm) → Says Unary (λ x. At d x level.Unary false) operators → Says (Product Unary) (λ x. At d x level.Product false) operators
+product-said : (d : ℕ) (Unary : Reads TermForm) → EachReadingIs Unary (λ x. At d x level.Unary false) operators → EachReadingIs (Product Unary) (λ x. At d x level.Product false) operators
 product-said d Unary unary s z x lex (inl r) =
     let h = unary s z x lex r in record { says = term-looser x level.Unary level.Product false d refl h.says; rest = h.rest; count = h.count }
 product-said d Unary unary s z x lex (inr (y, m, r, inl q)) =
@@ -275,7 +275,7 @@ product-said d Unary unary s z x lex (inr (y, m, r, inl q)) =
 product-said d Unary unary s z x lex (inr (y, m, r, inr q)) =
     linked-said d is_division level.Product level.Unary (division-chain d) Unary unary s m z y x (unary s m y lex r) q
 
-sum-said : (d : ℕ) (Unary : Reads TermForm) → Says Unary (λ x. At d x level.Unary false) operators → Says (Sum Unary) (λ x. At d x level.Sum false) operators
+sum-said : (d : ℕ) (Unary : Reads TermForm) → EachReadingIs Unary (λ x. At d x level.Unary false) operators → EachReadingIs (Sum Unary) (λ x. At d x level.Sum false) operators
 sum-said d Unary unary s z x lex (inl r) =
     let h = product-said d Unary unary s z x lex r in record { says = term-looser x level.Product level.Sum false d refl h.says; rest = h.rest; count = h.count }
 sum-said d Unary unary s z x lex (inr (y, m, r, q)) =
@@ -285,8 +285,8 @@ sum-said d Unary unary s z x lex (inr (y, m, r, q)) =
 
 module _ (d : ℕ) (test : Kind → Bool) (own side : Level) (looser : fits side own ≡ true)
     (compares : (kind : Kind) (p : Place) (x y : TermForm) → test kind ≡ true → At d x side false → At d y side false → At d (TermForm.compared (comparison_of kind) p x y) own false)
-    (Item : Reads TermForm) (item : Says Item (λ x. At d x side false) operators) where
-  pub comparison-said : Says (Comparison test compared_by Item) (λ x. At d x own false) operators
+    (Item : Reads TermForm) (item : EachReadingIs Item (λ x. At d x side false) operators) where
+  pub comparison-said : EachReadingIs (Comparison test compared_by Item) (λ x. At d x own false) operators
   comparison-said s z x lex (inl r) =
       let h = item s z x lex r in record { says = term-looser x side own false d looser h.says; rest = h.rest; count = h.count }
   comparison-said s z x lex (inr (y, m, r, (t, o, c, (w, u, q, e)))) =
@@ -309,15 +309,15 @@ equates d k.Equal p x y e h g = (h, g)
 equates d k.NotEqual p x y e h g = (h, g)
 equates d _ p x y e h g = cc
 
-equated-said : (d : ℕ) (Unary : Reads TermForm) → Says Unary (λ x. At d x level.Unary false) operators → Says (Equated Unary) (λ x. At d x level.Equality false) operators
+equated-said : (d : ℕ) (Unary : Reads TermForm) → EachReadingIs Unary (λ x. At d x level.Unary false) operators → EachReadingIs (Equated Unary) (λ x. At d x level.Equality false) operators
 equated-said d Unary unary =
     comparison-said d is_equality level.Equality level.Order refl (equates d) (Ordered Unary)
     (comparison-said d is_order level.Order level.Sum refl (orders d) (Sum Unary) (sum-said d Unary unary))
 
 -- ---- whole terms
 
-connections-said : (d : ℕ) (Unary Body : Reads TermForm) → Says Unary (λ x. At d x level.Unary false) operators → Says (Quantified TermForm.quantified Body) (λ x. At d x level.Equality true) operators
-    → Says (Connections Unary Body) (λ x. IsSayable x true d) operators
+connections-said : (d : ℕ) (Unary Body : Reads TermForm) → EachReadingIs Unary (λ x. At d x level.Unary false) operators → EachReadingIs (Quantified TermForm.quantified Body) (λ x. At d x level.Equality true) operators
+    → EachReadingIs (Connections Unary Body) (λ x. IsSayable x true d) operators
 connections-said d Unary Body unary quantifier s z x lex r =
     let h = connected-said TermForm.connected (Equated Unary) (Quantified TermForm.quantified Body) (At d) operators level.Equality
     (equated-said d Unary unary) quantifier (λ x l h. term-freer x l true d h) (λ x l m ends e h. term-looser x l m ends d e h) refl
@@ -325,13 +325,13 @@ connections-said d Unary Body unary quantifier s z x lex r =
     record { says = subst (λ (b : Bool). IsPut b (IsSayable x) true d) (stands-whole x) h.says; rest = h.rest; count = h.count }
 
 mutual
-  pub unary-said : (d : ℕ) → Says (IsUnary d) (λ x. At d x level.Unary false) operators
+  pub unary-said : (d : ℕ) → EachReadingIs (IsUnary d) (λ x. At d x level.Unary false) operators
   unary-said zero = first-said (Begun Nothing Nothing) (λ x. At zero x level.Unary false) operators begun-none
   unary-said (suc d) =
       first-said (Begun (IsUnary d) (IsTerm d)) (λ x. At (suc d) x level.Unary false) operators (begun-said d (IsUnary d) (IsTerm d) (unary-said d) (term-said d))
 
   -- a term that is read can be said within as many levels
-  pub term-said : (d : ℕ) → Says (IsTerm d) (λ x. IsSayable x true d) operators
+  pub term-said : (d : ℕ) → EachReadingIs (IsTerm d) (λ x. IsSayable x true d) operators
   term-said zero = connections-said zero (First (Begun Nothing Nothing)) Nothing (first-said (Begun Nothing Nothing) (λ x. At zero x level.Unary false) operators begun-none)
       (quantified-said TermForm.quantified Nothing (λ x. ⊥) (λ x. At zero x level.Equality true) operators (λ s z x lex h. absurd h) (λ q p vars x h g. absurd g) (λ q p vars x. refl))
   term-said (suc d) = connections-said (suc d) (First (Begun (IsUnary d) (IsTerm d))) (IsTerm d)

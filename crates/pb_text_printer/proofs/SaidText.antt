@@ -5,22 +5,22 @@ use Rattle.pb_text_tree.specs.Form.{VariableForm, struct, alias, SortDeclaration
 use Rattle.pb_text_lexer.specs.declared.kind.Kind.{Kind}
 use Rattle.pb_text_lexer.specs.declared.kind.Kind.TheVariants as k
 use Rattle.pb_text_lexer.specs.Tokens.{Tok}
-use Rattle.pb_text_lexer.specs.Grammar.{State, Reads, Is, One, Series, last, more, Own}
+use Rattle.pb_text_lexer.specs.Grammar.{State, Reads, Is, One, Series, last, more, CountedApart}
 use Rattle.pb_text_lexer.specs.LeftGrammar.{Extended, Listed}
 use Rattle.pb_text_lexer.proofs.Correct.{st}
 use Rattle.pb_text_terms.specs.Grammar.{IsTerm}
 use Rattle.pb_text.specs.Grammar.{Enumerator, SortBy, SortDecl, SortPart, SortParts, SignOf, Declared, IsEquation, IsInitial, IsSpec, IsText, IsFormula}
 use Rattle.pb_text_printer.specs.Sayable.{Each, EachOf, IsName, AreVariables, list_operators, formula_operators, InstanceSayable, FormulaSayable, EnumeratorSayable, SortSayable, DeclarationSayable, ParametersSayable, EquationSayable, TextSayable}
-use Rattle.pb_text_printer.proofs.SaidLemmas.{Said, Says, AreLexical, one-said, finish, first-said, each-of, total-none, listed-said, nothing-said, name-said, variables-said}
+use Rattle.pb_text_printer.proofs.SaidLemmas.{Said, EachReadingIs, AreLexical, one-said, finish, first-said, each-of, total-none, listed-said, nothing-said, name-said, variables-said}
 use Rattle.pb_text_printer.proofs.SaidTerm.{instance-said, alone-said, term-said}
 use Rattle.pb_text_printer.proofs.SaidFormula.{formula-said}
 
 -- ---- sorts
 
-bar-said : Says (One k.Bar) (λ t. Unit {0}) (λ t. 0)
+bar-said : EachReadingIs (One k.Bar) (λ t. Unit {0}) (λ t. 0)
 bar-said s z t lex h = let found = one-said k.Bar s z t lex h in record { says = tt; rest = found.rest; count = found.count }
 
-enumerator-said : Says Enumerator EnumeratorSayable (λ e. 0)
+enumerator-said : EachReadingIs Enumerator EnumeratorSayable (λ e. 0)
 enumerator-said s z e lex (inl (n, m, r, i)) =
     let h = name-said s m n lex r in
     finish EnumeratorSayable (λ e. 0) (record { name = n; recogniser = None }) e s m z i.0 i.1 (record { says = (h.says, tt); rest = h.rest; count = h.count })
@@ -32,7 +32,7 @@ enumerator-said s z e lex (inr (plain, m, (n, o, r, i), (t, u, q, (f, w, g, j)))
     let c = start.count in let d = a.count in let l = b.count in
     finish EnumeratorSayable (λ e. 0) (record { name = plain.name; recogniser = Some f }) e s w z j.0 j.1 (record { says = (start.says, b.says); rest = b.rest; count = omega arith })
 
-sort-by-said : (kind : Kind) → Says (SortBy kind) SortSayable (λ x. 0)
+sort-by-said : (kind : Kind) → EachReadingIs (SortBy kind) SortSayable (λ x. 0)
 sort-by-said k.Struct s z x lex (t, m, r, (es, o, q, (u, w, c, e))) =
     let h = one-said k.Struct s m t lex r in
     let g = listed-said Enumerator (One k.Bar) EnumeratorSayable (λ e. 0) enumerator-said bar-said m o es h.rest q in
@@ -46,7 +46,7 @@ sort-by-said k.Name s z x lex (n, m, r, (u, w, c, e)) =
     finish SortSayable (λ x. 0) (alias n) x s w z e.0 e.1 (record { says = h.says; rest = f.rest; count = omega arith })
 sort-by-said _ s z x lex h = absurd h
 
-declaration-said : Says SortDecl DeclarationSayable (λ x. 0)
+declaration-said : EachReadingIs SortDecl DeclarationSayable (λ x. 0)
 declaration-said s z x lex (n, m, r, (t, o, q, (y, w, g, e))) =
     let h = name-said s m n lex r in
     let i = one-said k.Is m o t h.rest q in
@@ -54,7 +54,7 @@ declaration-said s z x lex (n, m, r, (t, o, q, (y, w, g, e))) =
     let a = h.count in let b = i.count in let d = f.count in
     finish DeclarationSayable (λ x. 0) (record { name = n; sort = y }) x s w z e.0 e.1 (record { says = (h.says, f.says); rest = f.rest; count = omega arith })
 
-part-said : Says SortPart (Each DeclarationSayable) (λ x. 0)
+part-said : EachReadingIs SortPart (Each DeclarationSayable) (λ x. 0)
 part-said s z x lex (t, m, r, (ds, o, q, e)) =
     let h = one-said k.Sort s m t lex r in
     let g = listed-said SortDecl (Is {X = Unit {0}} tt) DeclarationSayable (λ d. 0) declaration-said nothing-said m o ds h.rest q in
@@ -65,7 +65,7 @@ each-both : (xs ys : List SortDeclarationForm) → Each DeclarationSayable xs �
 each-both [] ys h g = g
 each-both (x ∷ xs) ys h g = (h.0, each-both xs ys h.1 g)
 
-some-parts-said : Says (Series SortPart (Is {X = Unit {0}} tt) (λ sorts. sorts) (λ sorts u rest. sorts ++ rest)) (Each DeclarationSayable) (λ x. 0)
+some-parts-said : EachReadingIs (Series SortPart (Is {X = Unit {0}} tt) (λ sorts. sorts) (λ sorts u rest. sorts ++ rest)) (Each DeclarationSayable) (λ x. 0)
 some-parts-said s z x lex (last {x = ds} r) = part-said s z ds lex r
 some-parts-said s z x lex (more {m = m} {o = o} {x = ds} {t = t} {y = es} r b rest) =
     let h = part-said s m ds lex r in
@@ -74,7 +74,7 @@ some-parts-said s z x lex (more {m = m} {o = o} {x = ds} {t = t} {y = es} r b re
     let a = h.count in let c = g.count in let d = f.count in
     record { says = each-both ds es h.says f.says; rest = f.rest; count = omega arith }
 
-parts-said : Says SortParts (Each DeclarationSayable) (λ x. 0)
+parts-said : EachReadingIs SortParts (Each DeclarationSayable) (λ x. 0)
 parts-said s z x lex (inl e) = finish (Each DeclarationSayable) (λ x. 0) [] x s s z e.0 e.1 (record { says = tt; rest = lex; count = omega arith })
 parts-said s z x lex (inr (none, m, e, r)) =
     some-parts-said s z x lex (subst (λ (v : State). Series SortPart (Is {X = Unit {0}} tt) (λ sorts. sorts) (λ sorts u rest. sorts ++ rest) v x z) e.1 r)
@@ -82,10 +82,10 @@ parts-said s z x lex (inr (none, m, e, r)) =
 -- ---- equations, with the operators that each may have
 
 -- the same where so many operators are left
-abbrev SaysAt : {X : Type 0} → ℕ → Reads X → (X → Type 0) → Type 0
-SaysAt {X} limit R P = (s z : State) (x : X) → s.operators ≡ limit → AreLexical s.tokens → R s x z → Said (P x) 0 s z
+abbrev EachReadingIsAt : {X : Type 0} → ℕ → Reads X → (X → Type 0) → Type 0
+EachReadingIsAt {X} limit R P = (s z : State) (x : X) → s.operators ≡ limit → AreLexical s.tokens → R s x z → Said (P x) 0 s z
 
-listed-at : {X : Type 0} (limit : ℕ) (Item : Reads X) (P : X → Type 0) → SaysAt limit Item P → SaysAt limit (Listed Item (Is {X = Unit {0}} tt)) (EachOf P)
+listed-at : {X : Type 0} (limit : ℕ) (Item : Reads X) (P : X → Type 0) → EachReadingIsAt limit Item P → EachReadingIsAt limit (Listed Item (Is {X = Unit {0}} tt)) (EachOf P)
 listed-at limit Item P item s z xs n lex (last {x = x} r) = let h = item s z x n lex r in record { says = (h.says, tt); rest = h.rest; count = h.count }
 listed-at limit Item P item s z xs n lex (more {m = m} {o = o} {x = x} {t = t} {y = ys} r b rest) =
     let h = item s m x n lex r in
@@ -96,7 +96,7 @@ listed-at limit Item P item s z xs n lex (more {m = m} {o = o} {x = x} {t = t} {
     let a = f.count in
     record { says = (h.says, each-of P ys f.says); rest = f.rest; count = omega arith }
 
-sign-said : (kind : Kind) → Says (SignOf kind) (λ x. Unit {0}) (λ x. 0)
+sign-said : (kind : Kind) → EachReadingIs (SignOf kind) (λ x. Unit {0}) (λ x. 0)
 sign-said k.Mu s z x lex (t, m, r, e) =
     let h = one-said k.Mu s m t lex r in finish (λ x. Unit {0}) (λ x. 0) sign.Mu x s m z e.0 e.1 (record { says = tt; rest = h.rest; count = h.count })
 sign-said k.Nu s z x lex (t, m, r, e) =
@@ -107,7 +107,7 @@ some-parameters : (vs : List VariableForm) (d : ℕ) → AreVariables vs → Par
 some-parameters [] d h = tt
 some-parameters (v ∷ vs) d h = h
 
-parameters-said : (depth : ℕ) → Says (Extended (Is []) (λ none. Declared depth)) (λ vs. ParametersSayable vs depth) (λ vs. 0)
+parameters-said : (depth : ℕ) → EachReadingIs (Extended (Is []) (λ none. Declared depth)) (λ vs. ParametersSayable vs depth) (λ vs. 0)
 parameters-said depth s z vs lex (inl e) = finish (λ vs. ParametersSayable vs depth) (λ vs. 0) [] vs s s z e.0 e.1 (record { says = tt; rest = lex; count = omega arith })
 parameters-said zero s z vs lex (inr (none, m, e, r)) = absurd r
 parameters-said (suc d) s z vs lex (inr (none, m, i, (t, o, r, (ws, w, q, (u, n, c, e))))) =
@@ -119,13 +119,13 @@ parameters-said (suc d) s z vs lex (inr (none, m, i, (t, o, r, (ws, w, q, (u, n,
     let a = h.count in let b = g.count in let l = f.count in
     finish (λ vs. ParametersSayable vs (suc d)) (λ vs. 0) ws vs s n z e.0 e.1 (record { says = some-parameters ws d g.says; rest = f.rest; count = omega arith })
 
-own-said : {X : Type 0} (R : Reads X) (P : X → Type 0) (n : X → ℕ) → Says R P n → (limit : ℕ) → SaysAt limit (Own R) (λ x. P x × (n x ≤ limit))
+own-said : {X : Type 0} (R : Reads X) (P : X → Type 0) (n : X → ℕ) → EachReadingIs R P n → (limit : ℕ) → EachReadingIsAt limit (CountedApart R) (λ x. P x × (n x ≤ limit))
 own-said R P n item limit s z x l lex (m, r, e) =
     let h = item s (st z.tokens m) x lex r in
     let c = h.count in
     record { says = (h.says, (let q : n x ≤ limit = omega arith in q)); rest = h.rest; count = omega arith }
 
-equation-said : (depth limit : ℕ) → SaysAt limit (IsEquation depth) (EquationSayable depth limit)
+equation-said : (depth limit : ℕ) → EachReadingIsAt limit (IsEquation depth) (EquationSayable depth limit)
 equation-said depth limit s z x l lex (sign, m, r, (n, o, q, (vs, w, p, (t, u, i, (right, v, f, (end, j, g, e)))))) =
     let a = first-said SignOf (λ x. Unit {0}) (λ x. 0) sign-said s m sign lex r in
     let b = name-said m o n a.rest q in
@@ -139,13 +139,13 @@ equation-said depth limit s z x l lex (sign, m, r, (n, o, q, (vs, w, p, (t, u, i
     finish (EquationSayable depth limit) (λ x. 0) (record { sign = sign; name = n; parameters = vs; right = right }) x s j z e.0 e.1
     (record { says = (b.says, c.says, h.says.0, h.says.1); rest = y.rest; count = omega arith })
 
-initial-said : (depth : ℕ) → Says (IsInitial depth) (λ i. InstanceSayable i depth) (λ i. list_operators i.arguments)
+initial-said : (depth : ℕ) → EachReadingIs (IsInitial depth) (λ i. InstanceSayable i depth) (λ i. list_operators i.arguments)
 initial-said zero = alone-said
 initial-said (suc d) = instance-said (IsTerm d) d (term-said d)
 
 -- ---- whole texts
 
-spec-said : (depth limit : ℕ) (ranges : List RangeForm) → SaysAt limit (IsSpec ranges depth) (TextSayable depth limit)
+spec-said : (depth limit : ℕ) (ranges : List RangeForm) → EachReadingIsAt limit (IsSpec ranges depth) (TextSayable depth limit)
 spec-said depth limit ranges s z x l lex (sorts, m, r, (t, o, q, (es, w, p, (u, n, i, (initial, v, f, (end, j, g, e)))))) =
     let a = parts-said s m sorts lex r in
     let b = one-said k.Pbes m o t a.rest q in

@@ -21,8 +21,8 @@ use Rattle.pb_text_lexer.specs.Bytes.{is_name, is_letter}
 use Rattle.pb_text_printer.specs.declared.level.Level.TheVariants as level
 use Rattle.pb_text_printer.specs.Words.{Word, word, open_word, list_word, close_word, comma_word, colon_word, period_word, not_word, minus_word, name_word, truth_word, quantifier_word, connective_word, comparison_word, arithmetic_word, put, stands, goes_on, formula_stands, connective_level, term_side, formula_side, comparison_side, arithmetic_side, variable_words, binding_words, term_words, list_words, more_words, formula_words}
 use Rattle.pb_text_printer.specs.Sayable.{Opens, IsPut, IsName, AreNames, AreVariables, IsSayable, AreSayable, MoreSayable, SomeSayable, FormulaSayable}
-use Rattle.pb_text_printer.proofs.InkLemmas.{NotEquals, Ink}
-use Rattle.pb_text_printer.proofs.InkWords.{open-ink, list-ink, close-ink, comma-ink, colon-ink, period-ink, not-ink, minus-ink, truth-ink, quantifier-ink, connective-ink, comparison-ink, arithmetic-ink, val-ink, name-ink, number-ink}
+use Rattle.pb_text_printer.proofs.CutLemmas.{NotEquals, IsCutAsToken}
+use Rattle.pb_text_printer.proofs.CutWords.{open-cut, list-cut, close-cut, comma-cut, colon-cut, period-cut, not-cut, minus-cut, truth-cut, quantifier-cut, connective-cut, comparison-cut, arithmetic-cut, val-cut, name-cut, number-cut}
 use Rattle.pb_text_printer.proofs.WrittenLemmas.{Entry, Well}
 
 -- Words that can be written anywhere, and behind which a space may stand.
@@ -34,11 +34,11 @@ enter true w e f = e
 enter false w e f = f
 
 -- a word, and what may stand behind it
-pub solid-behind : (w : Word) (vs : List Word) → Entry true w → Entry false w → Ink w → Solid vs → Solid (w ∷ vs)
+pub solid-behind : (w : Word) (vs : List Word) → Entry true w → Entry false w → IsCutAsToken w → Solid vs → Solid (w ∷ vs)
 solid-behind w vs e f ink right = record { before = λ g ws well. (enter g w e f, ink, right.before w.gap ws well) }
 
 -- a word alone
-pub solid-word : (w : Word) → Entry true w → Entry false w → Ink w → w.gap ≡ true → Solid (w ∷ [])
+pub solid-word : (w : Word) → Entry true w → Entry false w → IsCutAsToken w → w.gap ≡ true → Solid (w ∷ [])
 solid-word w e f ink gap = record { before = λ g ws well. (enter g w e f, ink, subst (λ (b : Bool). Well b ws) (sym gap) well) }
 
 pub solid-both : (us vs : List Word) → Solid us → Solid vs → Solid (us ++ vs)
@@ -48,7 +48,7 @@ solid-both us vs left right = record {
 
 -- in brackets
 solid-brackets : (ws : List Word) → Solid ws → Solid (open_word ∷ ws ++ close_word ∷ [])
-solid-brackets ws inner = solid-behind open_word (ws ++ close_word ∷ []) tt refl open-ink (solid-both ws (close_word ∷ []) inner (solid-word close_word refl refl close-ink refl))
+solid-brackets ws inner = solid-behind open_word (ws ++ close_word ∷ []) tt refl open-cut (solid-both ws (close_word ∷ []) inner (solid-word close_word refl refl close-cut refl))
 
 solid-put : (b ends : Bool) (d : ℕ) (P : Bool → ℕ → Type 0) (words : Bool → List Word) → ((e : Bool) (d : ℕ) → P e d → Solid (words e)) → IsPut b P ends d → Solid (put b words ends)
 solid-put true ends d P words each h = each ends d h
@@ -69,7 +69,7 @@ name-starts (b ∷ bs) h = letter-no-equals b (go (is_letter b) _ _ h)
     go false y z e = e
 
 pub solid-name : (n : Named) → IsName n → Solid (name_word n ∷ [])
-solid-name n h = solid-word (name_word n) tt (name-starts n.text h) (name-ink n h) refl
+solid-name n h = solid-word (name_word n) tt (name-starts n.text h) (name-cut n h) refl
 
 number-starts : (n : ℕ) → n ≤ largest_number → NotEquals (decimal n)
 number-starts n h =
@@ -82,41 +82,41 @@ number-starts n h =
     go (d ∷ ds) all = let range = digit_from_value d all.0 in grind (arith, nat_tests)
 
 solid-number : (n : ℕ) → n ≤ largest_number → Solid (word k.Number (decimal n) ∷ [])
-solid-number n h = solid-word (word k.Number (decimal n)) tt (number-starts n h) (number-ink n h) refl
+solid-number n h = solid-word (word k.Number (decimal n)) tt (number-starts n h) (number-cut n h) refl
 
 variables-solid : (v : VariableForm) (vs : List VariableForm) → AreNames (v ∷ vs) → Solid (variable_words (v ∷ vs))
-variables-solid v [] h = solid-both (name_word v.name ∷ []) (colon_word ∷ name_word v.sort ∷ []) (solid-name v.name h.0) (solid-behind colon_word (name_word v.sort ∷ []) refl refl colon-ink (solid-name v.sort h.1))
+variables-solid v [] h = solid-both (name_word v.name ∷ []) (colon_word ∷ name_word v.sort ∷ []) (solid-name v.name h.0) (solid-behind colon_word (name_word v.sort ∷ []) refl refl colon-cut (solid-name v.sort h.1))
 variables-solid v (w ∷ vs) h = go (variables-solid w vs h.2) (bytes_eq v.sort.text w.sort.text)
   where
     go : Solid (variable_words (w ∷ vs)) → (b : Bool) → Solid (cond b (name_word v.name ∷ comma_word ∷ variable_words (w ∷ vs)) (name_word v.name ∷ colon_word ∷ name_word v.sort ∷ comma_word ∷ variable_words (w ∷ vs)))
-    go rest true = solid-both (name_word v.name ∷ []) (comma_word ∷ variable_words (w ∷ vs)) (solid-name v.name h.0) (solid-behind comma_word (variable_words (w ∷ vs)) refl refl comma-ink rest)
+    go rest true = solid-both (name_word v.name ∷ []) (comma_word ∷ variable_words (w ∷ vs)) (solid-name v.name h.0) (solid-behind comma_word (variable_words (w ∷ vs)) refl refl comma-cut rest)
     go rest false =
         solid-both (name_word v.name ∷ colon_word ∷ name_word v.sort ∷ []) (comma_word ∷ variable_words (w ∷ vs))
-        (solid-both (name_word v.name ∷ []) (colon_word ∷ name_word v.sort ∷ []) (solid-name v.name h.0) (solid-behind colon_word (name_word v.sort ∷ []) refl refl colon-ink (solid-name v.sort h.1)))
-        (solid-behind comma_word (variable_words (w ∷ vs)) refl refl comma-ink rest)
+        (solid-both (name_word v.name ∷ []) (colon_word ∷ name_word v.sort ∷ []) (solid-name v.name h.0) (solid-behind colon_word (name_word v.sort ∷ []) refl refl colon-cut (solid-name v.sort h.1)))
+        (solid-behind comma_word (variable_words (w ∷ vs)) refl refl comma-cut rest)
 
 pub some-variables-solid : (vars : List VariableForm) → AreVariables vars → Solid (variable_words vars)
 some-variables-solid [] h = absurd h
 some-variables-solid (v ∷ vs) h = variables-solid v vs h
 
 solid-quantifier : (q : Quantifier) (vs : List Word) → Solid vs → Solid (quantifier_word q ∷ vs)
-solid-quantifier Forall vs h = solid-behind (quantifier_word Forall) vs tt refl (quantifier-ink Forall) h
-solid-quantifier Exists vs h = solid-behind (quantifier_word Exists) vs tt refl (quantifier-ink Exists) h
+solid-quantifier Forall vs h = solid-behind (quantifier_word Forall) vs tt refl (quantifier-cut Forall) h
+solid-quantifier Exists vs h = solid-behind (quantifier_word Exists) vs tt refl (quantifier-cut Exists) h
 
 binding-solid : (q : Quantifier) (vars : List VariableForm) (body : List Word) → AreVariables vars → Solid body → Solid (binding_words q vars body)
 binding-solid q vars body names inner =
     solid-quantifier q (variable_words vars ++ period_word ∷ body)
-    (solid-both (variable_words vars) (period_word ∷ body) (some-variables-solid vars names) (solid-behind period_word body refl refl period-ink inner))
+    (solid-both (variable_words vars) (period_word ∷ body) (some-variables-solid vars names) (solid-behind period_word body refl refl period-cut inner))
 
 truth-solid : (value : Bool) → Solid (truth_word value ∷ [])
-truth-solid true = solid-word (truth_word true) tt refl (truth-ink true) refl
-truth-solid false = solid-word (truth_word false) tt refl (truth-ink false) refl
+truth-solid true = solid-word (truth_word true) tt refl (truth-cut true) refl
+truth-solid false = solid-word (truth_word false) tt refl (truth-cut false) refl
 
 -- an operator between words: it has a space on each side
 connective-between : (c : Connective) (us vs : List Word) → Solid us → Solid vs → Solid (us ++ connective_word c ∷ vs)
 connective-between c us vs left right = record {
   before = λ g ws h.
-      subst (λ (v : List Word). Well g v) (sym (append_assoc us (connective_word c ∷ vs) ws)) (left.before g (connective_word c ∷ vs ++ ws) (spaced c, connective-ink c, behind c (vs ++ ws) (right.before true ws h)));
+      subst (λ (v : List Word). Well g v) (sym (append_assoc us (connective_word c ∷ vs) ws)) (left.before g (connective_word c ∷ vs ++ ws) (spaced c, connective-cut c, behind c (vs ++ ws) (right.before true ws h)));
 }
   where
     spaced : (c : Connective) → Entry true (connective_word c)
@@ -132,7 +132,7 @@ connective-between c us vs left right = record {
 comparison-between : (c : Comparison) (us vs : List Word) → Solid us → Solid vs → Solid (us ++ comparison_word c ∷ vs)
 comparison-between c us vs left right = record {
   before = λ g ws h.
-      subst (λ (v : List Word). Well g v) (sym (append_assoc us (comparison_word c ∷ vs) ws)) (left.before g (comparison_word c ∷ vs ++ ws) (spaced c, comparison-ink c, right.before (comparison_word c).gap ws h));
+      subst (λ (v : List Word). Well g v) (sym (append_assoc us (comparison_word c ∷ vs) ws)) (left.before g (comparison_word c ∷ vs ++ ws) (spaced c, comparison-cut c, right.before (comparison_word c).gap ws h));
 }
   where
     spaced : (c : Comparison) → Entry true (comparison_word c)
@@ -146,7 +146,7 @@ comparison-between c us vs left right = record {
 arithmetic-between : (o : Arithmetic) (us vs : List Word) → Solid us → Solid vs → Solid (us ++ arithmetic_word o ∷ vs)
 arithmetic-between o us vs left right = record {
   before = λ g ws h.
-      subst (λ (v : List Word). Well g v) (sym (append_assoc us (arithmetic_word o ∷ vs) ws)) (left.before g (arithmetic_word o ∷ vs ++ ws) (spaced o, arithmetic-ink o, right.before (arithmetic_word o).gap ws h));
+      subst (λ (v : List Word). Well g v) (sym (append_assoc us (arithmetic_word o ∷ vs) ws)) (left.before g (arithmetic_word o ∷ vs ++ ws) (spaced o, arithmetic-cut o, right.before (arithmetic_word o).gap ws h));
 }
   where
     spaced : (o : Arithmetic) → Entry true (arithmetic_word o)
@@ -160,11 +160,11 @@ arithmetic-between o us vs left right = record {
 
 not-solid : (b : Bool) (d : ℕ) (P : Bool → ℕ → Type 0) (words : Bool → List Word) → ((e : Bool) (d : ℕ) → P e d → Solid (words e)) → Opens d (IsPut b P false) → Solid (not_word ∷ put b words false)
 not-solid b zero P words each h = absurd h
-not-solid b (suc d) P words each h = solid-behind not_word (put b words false) tt refl not-ink (solid-put b false d P words each h)
+not-solid b (suc d) P words each h = solid-behind not_word (put b words false) tt refl not-cut (solid-put b false d P words each h)
 
 minus-solid : (b : Bool) (d : ℕ) (P : Bool → ℕ → Type 0) (words : Bool → List Word) → ((e : Bool) (d : ℕ) → P e d → Solid (words e)) → Opens d (IsPut b P false) → Solid (minus_word ∷ put b words false)
 minus-solid b zero P words each h = absurd h
-minus-solid b (suc d) P words each h = solid-behind minus_word (put b words false) tt refl minus-ink (solid-put b false d P words each h)
+minus-solid b (suc d) P words each h = solid-behind minus_word (put b words false) tt refl minus-cut (solid-put b false d P words each h)
 
 opens-solid : (d : ℕ) (P : ℕ → Type 0) (words : List Word) → ((d : ℕ) → P d → Solid words) → Opens d P → Solid words
 opens-solid zero P words each h = absurd h
@@ -197,12 +197,12 @@ mutual
   list-solid no_arguments d h = absurd h
   list-solid (argument p x xs) d h =
       opens-solid d (λ e. IsSayable x true e × MoreSayable xs e) (list_word ∷ term_words x true ++ more_words xs)
-      (λ e g. solid-behind list_word (term_words x true ++ more_words xs) refl refl list-ink (solid-both (term_words x true) (more_words xs) (term-solid x true e g.0) (more-solid xs e g.1))) h
+      (λ e g. solid-behind list_word (term_words x true ++ more_words xs) refl refl list-cut (solid-both (term_words x true) (more_words xs) (term-solid x true e g.0) (more-solid xs e g.1))) h
 
   more-solid : (xs : ArgumentForms) (d : ℕ) → MoreSayable xs d → Solid (more_words xs)
-  more-solid no_arguments d h = solid-word close_word refl refl close-ink refl
+  more-solid no_arguments d h = solid-word close_word refl refl close-cut refl
   more-solid (argument p x xs) d h =
-      solid-behind comma_word (term_words x true ++ more_words xs) refl refl comma-ink (solid-both (term_words x true) (more_words xs) (term-solid x true d h.0) (more-solid xs d h.1))
+      solid-behind comma_word (term_words x true ++ more_words xs) refl refl comma-cut (solid-both (term_words x true) (more_words xs) (term-solid x true d h.0) (more-solid xs d h.1))
 
 pub instance-solid : (n : Named) (xs : ArgumentForms) (d : ℕ) → IsName n → SomeSayable xs d → Solid (name_word n ∷ list_words xs)
 instance-solid n no_arguments d h g = solid-name n h
@@ -212,8 +212,8 @@ instance-solid n (argument p x xs) d h g = named-solid n (list_words (argument p
 
 val-solid : (x : TermForm) (d : ℕ) → IsSayable x true d → Solid (word k.Val (codes "val") ∷ list_word ∷ term_words x true ++ close_word ∷ [])
 val-solid x d h =
-    solid-behind (word k.Val (codes "val")) (list_word ∷ term_words x true ++ close_word ∷ []) tt refl val-ink
-    (solid-behind list_word (term_words x true ++ close_word ∷ []) refl refl list-ink (solid-both (term_words x true) (close_word ∷ []) (term-solid x true d h) (solid-word close_word refl refl close-ink refl)))
+    solid-behind (word k.Val (codes "val")) (list_word ∷ term_words x true ++ close_word ∷ []) tt refl val-cut
+    (solid-behind list_word (term_words x true ++ close_word ∷ []) refl refl list-cut (solid-both (term_words x true) (close_word ∷ []) (term-solid x true d h) (solid-word close_word refl refl close-cut refl)))
 
 pub formula-solid : (x : FormulaForm) (ends : Bool) (d : ℕ) → FormulaSayable x ends d → Solid (formula_words x ends)
 formula-solid (FormulaForm.constant p value) ends d h = truth-solid value

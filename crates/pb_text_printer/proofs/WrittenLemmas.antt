@@ -6,7 +6,7 @@ use Rattle.pb_text_lexer.specs.Lexing.{Cuts, none, blank, token, piece, past}
 use Rattle.pb_text_lexer.specs.RangeLines.{ranges_at}
 use Rattle.pb_text_lexer.specs.Tokens.{Tok, token_at}
 use Rattle.pb_text_printer.specs.Words.{Word, written, Spells}
-use Rattle.pb_text_printer.proofs.InkLemmas.{Parts, NotEquals, Follows, Ink}
+use Rattle.pb_text_printer.proofs.CutLemmas.{Parts, NotEquals, Follows, IsCutAsToken}
 
 -- what may stand behind a word behind which a space may stand, and behind one where none may
 abbrev pub Entry : Bool → Word → Type 0
@@ -16,7 +16,7 @@ Entry false w = NotEquals w.text
 -- words that can be written one behind another
 abbrev pub Well : Bool → List Word → Type 0
 Well gap [] = Unit {0}
-Well gap (w ∷ ws) = Entry gap w × Ink w × Well w.gap ws
+Well gap (w ∷ ws) = Entry gap w × IsCutAsToken w × Well w.gap ws
 
 -- ---- what stands behind a word does not go on with it
 
@@ -70,7 +70,7 @@ line-or-none : (b : Bool) (p : Place) (bs : List ℕ) (ws : List Word) → ((q :
 line-or-none true p bs ws c = line-before p bs ws (c (past p (10 ∷ [])))
 line-or-none false p bs ws c = c p
 
-word-before : (p : Place) (w : Word) (rest : List ℕ) (ws : List Word) → Ink w → Follows w rest → ((q : Place) → IsCutInto q rest ws) → IsCutInto p (w.text ++ rest) (w ∷ ws)
+word-before : (p : Place) (w : Word) (rest : List ℕ) (ws : List Word) → IsCutAsToken w → Follows w rest → ((q : Place) → IsCutInto q rest ws) → IsCutInto p (w.text ++ rest) (w ∷ ws)
 word-before p w rest ws ink follow behind =
     let c = behind (past p w.text) in
     let front = take-append_seam w.text rest in

@@ -1,7 +1,7 @@
 -- What an error says of the input.
 use Rattle.std.specs.Prelude.{◌≡◌, Contains, ℕ, List}
 use Rattle.pb_text_tree.specs.Form.{SpecForm}
-use Rattle.pb_text.specs.Parsing.{Stands, NoReading}
+use Rattle.pb_text.specs.Parsing.{IsFirstFault, NoReading}
 use Rattle.pb_text.specs.declared.error.TextError.{TextError}
 use Rattle.pb_text.specs.declared.error.TextError.TheVariants as text_error
 use Rattle.pb_typing_rules.specs.Faults.{faults}
@@ -27,7 +27,7 @@ use Rattle.pbsolve.specs.Answers.{IsTheReading, IsModuleOfText, IsModuleOfCode}
 -- the bytes have no reading within the limits, and the rule is broken at its place
 abbrev pub IsRefusedText : List ℕ → TextError → Type 0
 IsRefusedText bytes text_error.Memory = ⊥
-IsRefusedText bytes (text_error.Refused rule place) = NoReading bytes (text_error.Refused rule place) × Stands bytes (text_error.Refused rule place)
+IsRefusedText bytes (text_error.Refused rule place) = NoReading bytes (text_error.Refused rule place) × IsFirstFault bytes (text_error.Refused rule place)
 
 -- what the bytes say breaks the rule at its place
 abbrev pub IsRefusedType : List ℕ → TypeError → Type 0

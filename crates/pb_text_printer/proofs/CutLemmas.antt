@@ -67,7 +67,7 @@ parted b h = record { name = first (is_name_byte b) _ _ _ _ h; equal = second (i
     last false false false false false e = refl
 
 -- the word is cut off as its token
-pub record Ink (w : Word) : Type 0 where
+pub record IsCutAsToken (w : Word) : Type 0 where
   pub cuts : (p : Place) (rest : List ℕ) → Follows w rest → piece p (w.text ++ rest) ≡ Token w.kind (length w.text)
   pub some : 0 < length w.text
 
