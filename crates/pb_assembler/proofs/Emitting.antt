@@ -204,9 +204,9 @@ emits_block x e d d1 d2 d3 l m h s =
     }
 
 -- a label, the range's test, the part, the label's place, POP
-pub emits_guard : (lo hi : ℤ) (x : Piece) (e : Places → ℕ) (to : ℕ) (d d1 d2 d3 d4 d5 : Draft) (l : ℕ) → Makes d d1 l → Adds d1 d2 (op.InRange lo hi to, Some l) → Emits x e d2 d3 → Sets d3 d4 l → Adds d4 d5 (op.Pop, None) → Emits (Guard lo hi x) e d d5
-emits_guard lo hi x e to d d1 d2 d3 d4 d5 l m a h s b =
-    let o : Labelled = (op.InRange lo hi to, Some l) in
+pub emits_guard : (low high : ℤ) (x : Piece) (e : Places → ℕ) (to : ℕ) (d d1 d2 d3 d4 d5 : Draft) (l : ℕ) → Makes d d1 l → Adds d1 d2 (op.InRange low high to, Some l) → Emits x e d2 d3 → Sets d3 d4 l → Adds d4 d5 (op.Pop, None) → Emits (Guard low high x) e d d5
+emits_guard low high x e to d d1 d2 d3 d4 d5 l m a h s b =
+    let o : Labelled = (op.InRange low high to, Some l) in
     let new = m.number in
     let f4 = set_follows d d3 d4 l (omega arith) (then_follows d d2 d3 (then_follows d d1 d2 (makes_follows d d1 l m) (adds_follows d1 d2 o a)) (emits_follows x e d2 d3 h)) s in
     let f = then_follows d d4 d5 f4 (adds_follows d4 d5 (op.Pop, None) b) in record {
@@ -221,10 +221,10 @@ emits_guard lo hi x e to d d1 d2 d3 d4 d5 l m a h s b =
           let n2 : length d2.ops ≡ n + 1 = added_long d1 d2 o a ∙ ap (λ (is : List Labelled). length is + 1) m.ops in
           let n3 : length d3.ops ≡ end (n + 1) x = emitted_long x e d2 d3 M h k3 ∙ ap (λ k. end k x) n2 in
           let at : unwrap_or (M l) 0 ≡ end (n + 1) x = place_at M l (length d3.ops) (k4 l (length d3.ops) s.placed) ∙ n3 in
-          let c2 : resolved M d2.ops ≡ resolved M d.ops ++ op.InRange lo hi (end (n + 1) x) ∷ [] =
-          added_code d1 d2 o M a ∙ ap (λ (is : List Labelled). resolved M is ++ op.InRange lo hi (unwrap_or (M l) 0) ∷ []) m.ops ∙ ap (λ k. resolved M d.ops ++ op.InRange lo hi k ∷ []) at in
-          let c4 : resolved M d4.ops ≡ (resolved M d.ops ++ op.InRange lo hi (end (n + 1) x) ∷ []) ++ flat (n + 1) r x =
-          ap (resolved M) s.ops ∙ h.code M k3 ∙ ap (λ (is : List Op). is ++ flat (length d2.ops) r x) c2 ∙ ap (λ k. (resolved M d.ops ++ op.InRange lo hi (end (n + 1) x) ∷ []) ++ flat k r x) n2 in
+          let c2 : resolved M d2.ops ≡ resolved M d.ops ++ op.InRange low high (end (n + 1) x) ∷ [] =
+          added_code d1 d2 o M a ∙ ap (λ (is : List Labelled). resolved M is ++ op.InRange low high (unwrap_or (M l) 0) ∷ []) m.ops ∙ ap (λ k. resolved M d.ops ++ op.InRange low high k ∷ []) at in
+          let c4 : resolved M d4.ops ≡ (resolved M d.ops ++ op.InRange low high (end (n + 1) x) ∷ []) ++ flat (n + 1) r x =
+          ap (resolved M) s.ops ∙ h.code M k3 ∙ ap (λ (is : List Op). is ++ flat (length d2.ops) r x) c2 ∙ ap (λ k. (resolved M d.ops ++ op.InRange low high (end (n + 1) x) ∷ []) ++ flat k r x) n2 in
           added_code d4 d5 (op.Pop, None) M b ∙ ap (λ (is : List Op). is ++ op.Pop ∷ []) c4 ∙ simp append_assoc;
     }
 
@@ -367,17 +367,17 @@ block_emitted x d0 d1 d2 d3 l n e1 hx e3 e =
     emits_block x e d0 d1 d2 d3 l m hx s
 
 -- a range's test with what is behind it, as the builder's calls make it
-pub guard_emitted : (lo hi : ℤ) (x : Piece) (e : Places → ℕ) (t : ℕ) (d0 d1 d2 d3 d4 d5 : Draft) (l : ℕ)
-    → l ≡ length d0.places → d1 ≡ record d0 { places = d0.places ++ None ∷ [] } → d2 ≡ record d1 { ops = d1.ops ++ (op.InRange lo hi t, Some l) ∷ [] } → Emits x e d2 d3
-    → d4 ≡ record d3 { places = slice_set d3.places l (Some (length d3.ops)) } → Adds d4 d5 (op.Pop, None) → Emits (Guard lo hi x) e d0 d5
-guard_emitted lo hi x e t d0 d1 d2 d3 d4 d5 l n e1 e2 hx e4 b =
+pub guard_emitted : (low high : ℤ) (x : Piece) (e : Places → ℕ) (t : ℕ) (d0 d1 d2 d3 d4 d5 : Draft) (l : ℕ)
+    → l ≡ length d0.places → d1 ≡ record d0 { places = d0.places ++ None ∷ [] } → d2 ≡ record d1 { ops = d1.ops ++ (op.InRange low high t, Some l) ∷ [] } → Emits x e d2 d3
+    → d4 ≡ record d3 { places = slice_set d3.places l (Some (length d3.ops)) } → Adds d4 d5 (op.Pop, None) → Emits (Guard low high x) e d0 d5
+guard_emitted low high x e t d0 d1 d2 d3 d4 d5 l n e1 e2 hx e4 b =
     let m = makes_from d0 d1 l n e1 in
-    let a = adds_from d1 d2 (op.InRange lo hi t, Some l) e2 in
+    let a = adds_from d1 d2 (op.InRange low high t, Some l) e2 in
     let long1 = m.long in
-    let f = then_follows d1 d2 d3 (adds_follows d1 d2 (op.InRange lo hi t, Some l) a) (emits_follows x e d2 d3 hx) in
+    let f = then_follows d1 d2 d3 (adds_follows d1 d2 (op.InRange low high t, Some l) a) (emits_follows x e d2 d3 hx) in
     let grown = f.grown in
     let s = sets_from d3 d4 l (unplaced d3.places l (omega arith) (f.kept l (omega arith) ∙ new_place d0 d1 l n e1)) e4 in
-    emits_guard lo hi x e t d0 d1 d2 d3 d4 d5 l m a hx s b
+    emits_guard low high x e t d0 d1 d2 d3 d4 d5 l m a hx s b
 
 -- the code of a piece that leaves no block doesn't read where the block around ends
 pub flat_stays : (x : Piece) → HasNoLeave x → (q e f : ℕ) → flat q e x ≡ flat q f x
@@ -392,7 +392,7 @@ flat_stays (Choose on a b) h q e f =
 flat_stays (Repeat s a) h q e f = ap (λ (is : List Op). op.Loop s ∷ (is ++ op.Next ∷ [])) (flat_stays a h (q + 1) e f)
 flat_stays (Block a) h q e f = refl
 flat_stays Leave h q e f = absurd h
-flat_stays (Guard lo hi a) h q e f = ap (λ (is : List Op). op.InRange lo hi (end (q + 1) a) ∷ (is ++ op.Pop ∷ [])) (flat_stays a h (q + 1) e f)
+flat_stays (Guard low high a) h q e f = ap (λ (is : List Op). op.InRange low high (end (q + 1) a) ∷ (is ++ op.Pop ∷ [])) (flat_stays a h (q + 1) e f)
 
 -- so it is emitted in any block
 pub emits_anywhere : (x : Piece) → HasNoLeave x → (e f : Places → ℕ) (d d' : Draft) → Emits x e d d' → Emits x f d d'

@@ -26,10 +26,10 @@ use Rattle.pb_assembler.proofs.MeasureMade.{cost_same}
 
 -- ---- stated counts
 
-module _ (callees : List (List Carrier)) (params : List Carrier) (text : EquationForm) (X : Equation) (ready : IsReady callees params text X) (m : Measures)
+module _ (callees : List (List Carrier)) (parameters : List Carrier) (text : EquationForm) (X : Equation) (ready : IsReady callees parameters text X) (m : Measures)
     (measured : (p : Program) → IsProgram callees X p → AreMeasures m p (formula_view X.right)) where
   abbrev bare : Program
-  bare = bare_program callees params X
+  bare = bare_program callees parameters X
 
   abbrev stating : Program
   stating = record bare { stated_steps = static_steps bare; stated_tokens = static_tokens bare }
@@ -49,8 +49,8 @@ module _ (callees : List (List Carrier)) (params : List Carrier) (text : Equatio
   pub tokens_exact : m.tokens ≡ static_tokens bare
   tokens_exact = let a = its_measures.tokens in let b = ready.kept.tokens in let e = same_tokens in omega (arith, a, b, e)
 
-abbrev pub contents : Sign → List ℕ → (params loops : List Carrier) → (steps tokens : ℕ) → List Op → EquationContents
-contents sign name params loops steps tokens code = record { sign = sign; name = name; params = params; loops = loops; steps = steps; tokens = tokens; code = code }
+abbrev pub contents : Sign → List ℕ → (parameters loops : List Carrier) → (steps tokens : ℕ) → List Op → EquationContents
+contents sign name parameters loops steps tokens code = record { sign = sign; name = name; parameters = parameters; loops = loops; steps = steps; tokens = tokens; code = code }
 
 pub same_contents : (s : Sign) (n n' : List ℕ) (ps ps' ls ls' : List Carrier) (st st' to to' : ℕ) (co co' : List Op) → n ≡ n' → ps ≡ ps' → ls ≡ ls' → st ≡ st' → to ≡ to' → co ≡ co' → contents s n ps ls st to co ≡ contents s n' ps' ls' st' to' co'
 same_contents s n n' ps ps' ls ls' st st' to to' co co' a b c d e f =
@@ -67,11 +67,11 @@ pub record AreMade (callees : List (Vec Carrier Global)) (texts : List tree.Equa
       ≡ all_compiled (lists_of callees) (lists_of callees) (map equation_form texts) normals
 
 -- where equations are left, there are parameters and a text for the next
-params_left : (all : List (List Carrier)) (cs : List (Vec Carrier Global)) (ts : List tree.Equation) (X : Equation) (E : List Equation) → AreReady all (lists_of cs) (map equation_form ts) (X ∷ E) → (0 < length cs) × (0 < length ts)
-params_left all [] [] X E r = absurd r
-params_left all [] (t ∷ ts) X E r = absurd r
-params_left all (c ∷ cs) [] X E r = absurd r
-params_left all (c ∷ cs) (t ∷ ts) X E r = (omega arith, omega arith)
+parameters_left : (all : List (List Carrier)) (cs : List (Vec Carrier Global)) (ts : List tree.Equation) (X : Equation) (E : List Equation) → AreReady all (lists_of cs) (map equation_form ts) (X ∷ E) → (0 < length cs) × (0 < length ts)
+parameters_left all [] [] X E r = absurd r
+parameters_left all [] (t ∷ ts) X E r = absurd r
+parameters_left all (c ∷ cs) [] X E r = absurd r
+parameters_left all (c ∷ cs) (t ∷ ts) X E r = (omega arith, omega arith)
 
 dropped : {X : Type 0} (xs : List X) (k : ℕ) → 0 < length (drop k xs) → k < length xs
 dropped [] zero l = l
@@ -84,16 +84,16 @@ module _ (callees : List (Vec Carrier Global)) (texts : List tree.Equation) (nor
   here : AreReady (lists_of callees) (lists_of (drop k callees)) (map equation_form (drop k texts)) (X ∷ drop (k + 1) normals)
   here = subst (λ (E : List Equation). AreReady (lists_of callees) (lists_of (drop k callees)) (map equation_form (drop k texts)) E) (drop-at normals k X below at) h.ready
 
-  pub params_there : k < length callees
-  params_there = dropped callees k (params_left (lists_of callees) (drop k callees) (drop k texts) X (drop (k + 1) normals) here).0
+  pub parameters_there : k < length callees
+  parameters_there = dropped callees k (parameters_left (lists_of callees) (drop k callees) (drop k texts) X (drop (k + 1) normals) here).0
 
   pub text_there : k < length texts
-  text_there = dropped texts k (params_left (lists_of callees) (drop k callees) (drop k texts) X (drop (k + 1) normals) here).1
+  text_there = dropped texts k (parameters_left (lists_of callees) (drop k callees) (drop k texts) X (drop (k + 1) normals) here).1
 
   module _ (v : Vec Carrier Global) (t : tree.Equation) (v_at : v ≡ get_or callees k v) (t_at : t ≡ get_or texts k t) where
     whole : AreReady (lists_of callees) (v.items ∷ lists_of (drop (k + 1) callees)) (equation_form t ∷ map equation_form (drop (k + 1) texts)) (X ∷ drop (k + 1) normals)
     whole =
-        subst (λ (vs : List (Vec Carrier Global)). AreReady (lists_of callees) (lists_of vs) (equation_form t ∷ map equation_form (drop (k + 1) texts)) (X ∷ drop (k + 1) normals)) (drop-at callees k v params_there v_at)
+        subst (λ (vs : List (Vec Carrier Global)). AreReady (lists_of callees) (lists_of vs) (equation_form t ∷ map equation_form (drop (k + 1) texts)) (X ∷ drop (k + 1) normals)) (drop-at callees k v parameters_there v_at)
         (subst (λ (ts : List tree.Equation). AreReady (lists_of callees) (lists_of (drop k callees)) (map equation_form ts) (X ∷ drop (k + 1) normals)) (drop-at texts k t text_there t_at) here)
 
     pub ready_next : IsReady (lists_of callees) v.items (equation_form t) X
@@ -114,7 +114,7 @@ module _ (callees : List (Vec Carrier Global)) (texts : List tree.Equation) (nor
               ∙ ap (λ (es : List EquationContents). es ++ rest) (map_push equation_contents done e)
               ∙ append_assoc (map equation_contents done) (equation_contents e ∷ []) rest
               ∙ ap (λ (c : EquationContents). map equation_contents done ++ c ∷ rest) is
-              ∙ ap (λ (vs : List (Vec Carrier Global)). map equation_contents done ++ all_compiled all (lists_of vs) (equation_form t ∷ map equation_form (drop (k + 1) texts)) (X ∷ drop (k + 1) normals)) (sym (drop-at callees k v params_there v_at))
+              ∙ ap (λ (vs : List (Vec Carrier Global)). map equation_contents done ++ all_compiled all (lists_of vs) (equation_form t ∷ map equation_form (drop (k + 1) texts)) (X ∷ drop (k + 1) normals)) (sym (drop-at callees k v parameters_there v_at))
               ∙ ap (λ (ts : List tree.Equation). map equation_contents done ++ all_compiled all (lists_of (drop k callees)) (map equation_form ts) (X ∷ drop (k + 1) normals)) (sym (drop-at texts k t text_there t_at))
               ∙ ap (λ (E : List Equation). map equation_contents done ++ all_compiled all (lists_of (drop k callees)) (map equation_form (drop k texts)) E) (sym (drop-at normals k X below at))
               ∙ h.made;

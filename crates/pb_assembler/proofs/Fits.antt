@@ -68,7 +68,7 @@ sorts_fit (d ∷ ds) few named = let two = and_parts (has_enumerator_names d) (l
 carrier_fits : (sizes : List ℕ) (c : Carrier) → IsDeclaredShape sizes (carrier_shape (Some c)) → has_fitting_fields c ≡ true → fits_carrier sizes c ≡ true
 carrier_fits sizes carrier.Bool h f = refl
 carrier_fits sizes (carrier.Enum e) h f = let n = ap (λ o. unwrap_or o 0) h.0 in and_from _ _ f (eq-eqb e.count (count_of sizes e.sort) (sym n))
-carrier_fits sizes (carrier.Range r) h f = and_from _ _ f (from_le r.lo r.hi h)
+carrier_fits sizes (carrier.Range r) h f = and_from _ _ f (from_le r.low r.high h)
 
 carriers_fit : (sizes : List ℕ) (cs : List Carrier) (ss : List Shape) → shapes_of cs ≡ ss → All (IsDeclaredShape sizes) ss → list_all has_fitting_fields cs ≡ true → list_all (fits_carrier sizes) cs ≡ true
 carriers_fit sizes [] ss e all f = refl
@@ -92,37 +92,37 @@ module _ (spec : Spec) where
   later X E h = record { shapes = λ i Y b. h.shapes (suc i) Y (omega arith); bounds = λ i Y b. h.bounds (suc i) Y (omega arith); parameters = λ i Y b. h.parameters (suc i) Y (omega arith) }
 
 module _ (spec : Spec) (sizes : List ℕ) (same : struct_counts spec.sorts ≡ sizes) (few : AreFew sizes) (callees : List (List Carrier)) where
-  params_fit : (X : syntax.Equation) (cs : List Carrier) → HasDeclaredShapes spec X → shapes_of cs ≡ variable_shapes spec X.parameters → list_all has_fitting_fields cs ≡ true → list_all (fits_carrier sizes) cs ≡ true
-  params_fit X cs h e f = carriers_fit sizes cs (variable_shapes spec X.parameters) e (subst (λ (ns : List ℕ). All (IsDeclaredShape ns) (variable_shapes spec X.parameters)) same h.parameters) f
+  parameters_fit : (X : syntax.Equation) (cs : List Carrier) → HasDeclaredShapes spec X → shapes_of cs ≡ variable_shapes spec X.parameters → list_all has_fitting_fields cs ≡ true → list_all (fits_carrier sizes) cs ≡ true
+  parameters_fit X cs h e f = carriers_fit sizes cs (variable_shapes spec X.parameters) e (subst (λ (ns : List ℕ). All (IsDeclaredShape ns) (variable_shapes spec X.parameters)) same h.parameters) f
 
   -- the carriers of all parameters
   pub callees_fit : (E : List EquationForm) (css : List (List Carrier)) (es : List Equation) → AreFormsOf spec (map erased_equation E) css es → AreReady callees css E es → AreKnown spec (map erased_equation E)
       → list_all has_fitting_carriers (all_compiled callees css E es) ≡ true → (k : ℕ) (ds : List Carrier) → slice_get css k ≡ Some ds → list_all (fits_carrier sizes) ds ≡ true
   callees_fit E [] es f r known fields k ds at = cc
-  callees_fit [] (cs ∷ css) es f r known fields k ds at = let a = f.params in cc
+  callees_fit [] (cs ∷ css) es f r known fields k ds at = let a = f.parameters in cc
   callees_fit (t ∷ E) (cs ∷ css) [] f r known fields k ds at = let a = f.rights in cc
   callees_fit (t ∷ E) (cs ∷ css) (e ∷ es) f r known fields zero ds at =
-      let d = f.params in
-      let params : shapes_of cs ≡ variable_shapes spec (erased_equation t).parameters = cc in
+      let d = f.parameters in
+      let parameters : shapes_of cs ≡ variable_shapes spec (erased_equation t).parameters = cc in
       let two = and_parts (has_fitting_carriers (compiled_contents callees cs t e)) (list_all has_fitting_carriers (all_compiled callees css E es)) fields in
       let both = and_parts (list_all has_fitting_fields cs) (list_all has_fitting_fields e.loops.items) two.0 in
       let is : cs ≡ ds = cc in
-      subst (λ (xs : List Carrier). list_all (fits_carrier sizes) xs ≡ true) is (params_fit (erased_equation t) cs (known.shapes 0 (erased_equation t) (omega arith)) params both.0)
+      subst (λ (xs : List Carrier). list_all (fits_carrier sizes) xs ≡ true) is (parameters_fit (erased_equation t) cs (known.shapes 0 (erased_equation t) (omega arith)) parameters both.0)
   callees_fit (t ∷ E) (cs ∷ css) (e ∷ es) f r known fields (suc k) ds at =
       let a = f.rights in
       let b = f.loops in
-      let d = f.params in
+      let d = f.parameters in
       let two = and_parts (has_fitting_carriers (compiled_contents callees cs t e)) (list_all has_fitting_carriers (all_compiled callees css E es)) fields in
-      callees_fit E css es (record { rights = cc; loops = cc; params = cc }) r.1 (later spec (erased_equation t) (map erased_equation E) known) two.1 k ds at
+      callees_fit E css es (record { rights = cc; loops = cc; parameters = cc }) r.1 (later spec (erased_equation t) (map erased_equation E) known) two.1 k ds at
 
   module _ (callees_are : (k : ℕ) (ds : List Carrier) → slice_get callees k ≡ Some ds → list_all (fits_carrier sizes) ds ≡ true) where
     equation_fits : (t : EquationForm) (cs : List Carrier) (e : Equation) → formula_view e.right ≡ normal_equation spec (erased_equation t) → shapes_of e.loops.items ≡ equation_loops spec (erased_equation t)
         → shapes_of cs ≡ variable_shapes spec (erased_equation t).parameters → IsReady callees cs t e → HasDeclaredShapes spec (erased_equation t) → HasBounds spec (erased_equation t) → length (erased_equation t).parameters ≤ 8
         → has_fitting_carriers (compiled_contents callees cs t e) ≡ true → fits_equation version.One sizes (compiled_contents callees cs t e) ≡ true
-    equation_fits t cs e right loops params r shapes bounds eight fields =
+    equation_fits t cs e right loops parameters r shapes bounds eight fields =
         let X = erased_equation t in
         let both = and_parts (list_all has_fitting_fields cs) (list_all has_fitting_fields e.loops.items) fields in
-        let count = ap length params in
+        let count = ap length parameters in
         let long = length-map cs (λ (c : Carrier). carrier_shape (Some c)) in
         let wide = length-map X.parameters (λ (x : Variable). sort_shape spec x.sort) in
         let slots = r.kept.slots in
@@ -132,7 +132,7 @@ module _ (spec : Spec) (sizes : List ℕ) (same : struct_counts spec.sorts ≡ s
         let f = formula_view e.right in
         let bounded = subst (λ (g : Formula). is_bounded_formula (bounds_of spec X) g ≡ true) (sym right) bounds in
         and_from _ _ r.named
-        (and_from _ _ (and_from _ _ (between 0 9 (length cs) (omega arith) (omega arith)) (params_fit X cs shapes params both.0))
+        (and_from _ _ (and_from _ _ (between 0 9 (length cs) (omega arith) (omega arith)) (parameters_fit X cs shapes parameters both.0))
         (and_from _ _ (and_from _ _ (between 0 241 (length e.loops.items) (omega arith) (omega arith)) (carriers_fit sizes e.loops.items (equation_loops spec X) loops (subst (λ (ns : List ℕ). All (IsDeclaredShape ns) (equation_loops spec X)) same shapes.loops) both.1))
         (and_from _ _ (lt-ltb (static_steps (bare_program callees cs e)) (2 ^ 32) (omega (arith, steps)))
         (and_from _ _ (lt-ltb (static_tokens (bare_program callees cs e)) (2 ^ 32) (omega (arith, tokens)))
@@ -148,14 +148,14 @@ module _ (spec : Spec) (sizes : List ℕ) (same : struct_counts spec.sorts ≡ s
         let X = erased_equation t in
         let a = f.rights in
         let b = f.loops in
-        let d = f.params in
+        let d = f.parameters in
         let right : formula_view e.right ≡ normal_equation spec X = cc in
         let loops : shapes_of e.loops.items ≡ equation_loops spec X = cc in
-        let params : shapes_of cs ≡ variable_shapes spec X.parameters = cc in
+        let parameters : shapes_of cs ≡ variable_shapes spec X.parameters = cc in
         let two = and_parts (has_fitting_carriers (compiled_contents callees cs t e)) (list_all has_fitting_carriers (all_compiled callees css E es)) fields in
         and_from _ _
-        (equation_fits t cs e right loops params r.0 (known.shapes 0 X (omega arith)) (known.bounds 0 X (omega arith)) (known.parameters 0 X (omega arith)) two.0)
-        (equations_fit E css es (record { rights = cc; loops = cc; params = cc }) r.1 (later spec X (map erased_equation E) known) two.1)
+        (equation_fits t cs e right loops parameters r.0 (known.shapes 0 X (omega arith)) (known.bounds 0 X (omega arith)) (known.parameters 0 X (omega arith)) two.0)
+        (equations_fit E css es (record { rights = cc; loops = cc; parameters = cc }) r.1 (later spec X (map erased_equation E) known) two.1)
 
 -- ---- instances
 
@@ -176,19 +176,19 @@ module _ (spec : Spec) (callees : List (List Carrier)) where
   instances_same (t ∷ E) (cs ∷ css) [] d r = absurd r
   instances_same (t ∷ E) (cs ∷ css) (e ∷ es) d r =
       let X = erased_equation t in
-      let params : shapes_of cs ≡ variable_shapes spec X.parameters = cc in
-      let first = ap tuple_count (all_values spec cs X.parameters params) in
+      let parameters : shapes_of cs ≡ variable_shapes spec X.parameters = cc in
+      let first = ap tuple_count (all_values spec cs X.parameters parameters) in
       let rest = instances_same E css es (cc) r.1 in
       cc
 
   -- the equation at a place, with its carriers
   pub compiled_at : (E : List EquationForm) (css : List (List Carrier)) (es : List Equation) → map shapes_of css ≡ map (λ (X : syntax.Equation). variable_shapes spec X.parameters) (map erased_equation E) → AreReady callees css E es
-      → (k : ℕ) (X : syntax.Equation) → slice_get (map erased_equation E) k ≡ Some X → (e : EquationContents) × (slice_get (all_compiled callees css E es) k ≡ Some e) × (map values_of e.params ≡ carriers_of spec X.parameters)
+      → (k : ℕ) (X : syntax.Equation) → slice_get (map erased_equation E) k ≡ Some X → (e : EquationContents) × (slice_get (all_compiled callees css E es) k ≡ Some e) × (map values_of e.parameters ≡ carriers_of spec X.parameters)
   compiled_at [] css es d r k X at = cc
   compiled_at (t ∷ E) [] es d r k X at = cc
   compiled_at (t ∷ E) (cs ∷ css) [] d r k X at = absurd r
   compiled_at (t ∷ E) (cs ∷ css) (e ∷ es) d r zero X at =
-      let params : shapes_of cs ≡ variable_shapes spec (erased_equation t).parameters = cc in
+      let parameters : shapes_of cs ≡ variable_shapes spec (erased_equation t).parameters = cc in
       let is : erased_equation t ≡ X = cc in
-      (compiled_contents callees cs t e, refl, all_values spec cs (erased_equation t).parameters params ∙ ap (λ (Y : syntax.Equation). carriers_of spec Y.parameters) is)
+      (compiled_contents callees cs t e, refl, all_values spec cs (erased_equation t).parameters parameters ∙ ap (λ (Y : syntax.Equation). carriers_of spec Y.parameters) is)
   compiled_at (t ∷ E) (cs ∷ css) (e ∷ es) d r (suc k) X at = compiled_at E css es (cc) r.1 k X at

@@ -38,7 +38,7 @@ module _ (sizes : List ℕ) where
   FitsPiece (Repeat s a) = (is_byte s ≡ true) × FitsPiece a
   FitsPiece (Block a) = FitsPiece a
   FitsPiece Leave = Unit {0}
-  FitsPiece (Guard lo hi a) = (are_bounds lo hi ≡ true) × FitsPiece a
+  FitsPiece (Guard low high a) = (are_bounds low high ≡ true) × FitsPiece a
 
   abbrev Fit : List Op → Type 0
   Fit is = list_all (fits_op version.One sizes) is ≡ true
@@ -70,8 +70,8 @@ module _ (sizes : List ℕ) where
       (fit_append (flat (q + 1) e a) (op.Next ∷ []) (flat_fits a (q + 1) e h.1 (omega arith) inside) refl)
   flat_fits (Block a) q e h short inside = flat_fits a q (end q a) h short short
   flat_fits Leave q e h short inside = fit_cons (op.Jump e) [] (target e inside) refl
-  flat_fits (Guard lo hi a) q e h short inside =
-      fit_cons (op.InRange lo hi (end (q + 1) a)) (flat (q + 1) e a ++ op.Pop ∷ []) (and_from _ _ h.0 (target (end (q + 1) a) (omega arith)))
+  flat_fits (Guard low high a) q e h short inside =
+      fit_cons (op.InRange low high (end (q + 1) a)) (flat (q + 1) e a ++ op.Pop ∷ []) (and_from _ _ h.0 (target (end (q + 1) a) (omega arith)))
       (fit_append (flat (q + 1) e a) (op.Pop ∷ []) (flat_fits a (q + 1) e h.1 (omega arith) inside) refl)
 
   -- ---- terms
@@ -153,9 +153,9 @@ module _ (sizes : List ℕ) where
       range_fits (carrier.Range r) Unknown h = tt
       range_fits (carrier.Range r) Truths h = tt
       range_fits (carrier.Range r) (Places s n) h = tt
-      range_fits (carrier.Range r) (Wholes l g) h = by (is_within (interval l g) (interval r.lo r.hi))
+      range_fits (carrier.Range r) (Wholes l g) h = by (is_within (interval l g) (interval r.low r.high))
         where
-          by : (c : Bool) → RangeFits (if c then None else Some (r.lo, r.hi))
+          by : (c : Bool) → RangeFits (if c then None else Some (r.low, r.high))
           by true = tt
           by false = h
 

@@ -81,8 +81,8 @@ module _ (p : Program) where
         tokens = omega (arith, h);
       }
 
-  guard_costs : (lo hi : ℤ) (a : Piece) (n s k : ℕ) → Costs p a n s k → Costs p (Guard lo hi a) (2 + n) (2 + s) k
-  guard_costs lo hi a n s k x = record {
+  guard_costs : (low high : ℤ) (a : Piece) (n s k : ℕ) → Costs p a n s k → Costs p (Guard low high a) (2 + n) (2 + s) k
+  guard_costs low high a n s k x = record {
     places = λ q. let c = x.places (q + 1) in omega (arith, c);
     steps = let c = x.steps in omega (arith, c);
     tokens = let c = x.tokens in omega (arith, c);

@@ -89,9 +89,9 @@ module _ (spec : Spec) (cs : List (Vec Carrier Global)) (es : List Equation) (fo
       let text = text_at spec spec.equations es forms.rights forms.loops k e at in
       let X = text.0 in
       let callees = callees_of cs in
-      let params = parameters (slice_get callees k) in
-      let p = program spec callees params e.loops.items X in
-      let made : IsMadeOf spec X p = program_made spec callees params e.loops.items X forms.parameters (parameters_at spec callees spec.equations forms.parameters k X text.1) text.2.loops in
+      let carriers = parameters (slice_get callees k) in
+      let p = program spec callees carriers e.loops.items X in
+      let made : IsMadeOf spec X p = program_made spec callees carriers e.loops.items X forms.parameters (parameters_at spec callees spec.equations forms.parameters k X text.1) text.2.loops in
       record {
         equation = X;
         there = text.1;

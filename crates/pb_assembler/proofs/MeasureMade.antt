@@ -25,11 +25,11 @@ use Rattle.pb_assembler.proofs.MeasureSlots.{equation_quantifiers, slots_long}
 
 -- ---- static counts do not depend on what a program states
 
-module _ (p q : Program) (params : p.params ≡ q.params) (loops : p.loops ≡ q.loops) where
+module _ (p q : Program) (parameters : p.parameters ≡ q.parameters) (loops : p.loops ≡ q.loops) where
   carrier_same : (s : ℕ) → carrier_of p s ≡ carrier_of q s
   carrier_same s =
-      ap (λ (cs : List Carrier). cond (nat_lt s (length cs)) None (slice_get p.loops (s - length cs))) params
-      ∙ ap (λ (cs : List Carrier). cond (nat_lt s (length q.params)) None (slice_get cs (s - length q.params))) loops
+      ap (λ (cs : List Carrier). cond (nat_lt s (length cs)) None (slice_get p.loops (s - length cs))) parameters
+      ∙ ap (λ (cs : List Carrier). cond (nat_lt s (length q.parameters)) None (slice_get cs (s - length q.parameters))) loops
 
   pub cost_same : (cost : Op → ℕ) (is : List Op) (ws : List ℕ) → cost_of p cost is ws ≡ cost_of q cost is ws
   cost_same cost [] ws = refl
@@ -55,7 +55,7 @@ steps_stated p = cost_same (stated p) p refl refl one_step p.code []
 pub tokens_stated : (p : Program) → static_tokens (stated p) ≡ static_tokens p
 tokens_stated p = cost_same (stated p) p refl refl tokens_of p.code []
 
-pub stated_compiled : (p : Program) (f : Formula) → p.code ≡ equation_code p.callees f → quantifiers f ≡ slots_from (length p.params) p.loops → IsCompiled (stated p) f
+pub stated_compiled : (p : Program) (f : Formula) → p.code ≡ equation_code p.callees f → quantifiers f ≡ slots_from (length p.parameters) p.loops → IsCompiled (stated p) f
 stated_compiled p f code slots = record { code = code; slots = slots; steps = sym (steps_stated p); tokens = sym (tokens_stated p) }
 
 -- ---- the equations of a text, and those of its normal form
@@ -101,12 +101,12 @@ module _ (spec : Spec) where
 
   -- ---- a program of an equation
 
-  module _ (callees : List (List Carrier)) (params loops : List Carrier) (X : syntax.Equation) where
+  module _ (callees : List (List Carrier)) (parameters loops : List Carrier) (X : syntax.Equation) where
     abbrev bare : Program
     bare = record {
       sorts = struct_counts spec.sorts;
       callees = callees;
-      params = params;
+      parameters = parameters;
       loops = loops;
       stated_steps = 0;
       stated_tokens = 0;
@@ -116,14 +116,14 @@ module _ (spec : Spec) where
     abbrev pub program : Program
     program = stated bare
 
-    pub program_made : map shapes_of callees ≡ parameter_shapes spec spec.equations → shapes_of params ≡ variable_shapes spec X.parameters → shapes_of loops ≡ equation_loops spec X → IsMadeOf spec X program
+    pub program_made : map shapes_of callees ≡ parameter_shapes spec spec.equations → shapes_of parameters ≡ variable_shapes spec X.parameters → shapes_of loops ≡ equation_loops spec X → IsMadeOf spec X program
     program_made calls mine each =
-        let long : length X.parameters ≡ length params =
-        sym (length-map X.parameters (λ (x : Variable). sort_shape spec x.sort)) ∙ sym (ap length mine) ∙ length-map params (λ (c : Carrier). carrier_shape (Some c)) in
+        let long : length X.parameters ≡ length parameters =
+        sym (length-map X.parameters (λ (x : Variable). sort_shape spec x.sort)) ∙ sym (ap length mine) ∙ length-map parameters (λ (c : Carrier). carrier_shape (Some c)) in
         record {
           compiled = stated_compiled bare (normal_equation spec X) refl (equation_quantifiers spec X loops each ∙ ap (λ n. slots_from n loops) long);
           sorts = refl;
-          params = mine;
+          parameters = mine;
           callees = calls;
         }
 
@@ -133,7 +133,7 @@ module _ (spec : Spec) where
   made_is_program cs X e p calls form made = record {
     compiled = subst (λ (f : Formula). IsCompiled p f) (sym form.right) made.compiled;
     loops =
-        sym (slots_long (length p.params) p.loops)
+        sym (slots_long (length p.parameters) p.loops)
         ∙ ap (λ (qs : List (ℕ × Shape)). length qs) (sym made.compiled.slots ∙ equation_quantifiers spec X e.loops.items form.loops)
         ∙ slots_long (length X.parameters) e.loops.items;
     callees = made.callees ∙ sym calls;

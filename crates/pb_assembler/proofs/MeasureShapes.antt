@@ -28,10 +28,10 @@ tested_same (carriers.Range q) (carriers.Range r) Unknown e = refl
 tested_same (carriers.Range q) (carriers.Range r) Truths e = refl
 tested_same (carriers.Range q) (carriers.Range r) (Places n k) e = refl
 tested_same (carriers.Range q) (carriers.Range r) (Wholes l h) e =
-    let low : q.lo ≡ r.lo = cc in
-    let high : q.hi ≡ r.hi = cc in
-    ap (λ (z : ℤ). is_some {T = ℤ × ℤ} (cond (is_within (interval l h) (interval z q.hi)) None (Some (z, q.hi)))) low
-    ∙ ap (λ (z : ℤ). is_some {T = ℤ × ℤ} (cond (is_within (interval l h) (interval r.lo z)) None (Some (r.lo, z)))) high
+    let low : q.low ≡ r.low = cc in
+    let high : q.high ≡ r.high = cc in
+    ap (λ (z : ℤ). is_some {T = ℤ × ℤ} (cond (is_within (interval l h) (interval z q.high)) None (Some (z, q.high)))) low
+    ∙ ap (λ (z : ℤ). is_some {T = ℤ × ℤ} (cond (is_within (interval l h) (interval r.low z)) None (Some (r.low, z)))) high
 
 any_same : (cs ds : List Carrier) (xs : List Argument) → shapes_of cs ≡ shapes_of ds → any_tested cs xs ≡ any_tested ds xs
 any_same [] [] xs e = refl

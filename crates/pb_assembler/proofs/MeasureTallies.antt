@@ -42,9 +42,9 @@ not_within : (b : Bool) (r : ℤ × ℤ) → not b ≡ is_some (cond b None (Som
 not_within true r = refl
 not_within false r = refl
 
-pub tested_from : (c : Carrier) (s : Shape) (r : Range) (i : IntegerInterval) (b : Bool) → c ≡ carrier.Range r → s ≡ code.Wholes i → b ≡ (int_le r.lo i.low && int_le i.high r.hi) → not b ≡ is_some (tested_range c (shape_view s))
+pub tested_from : (c : Carrier) (s : Shape) (r : Range) (i : IntegerInterval) (b : Bool) → c ≡ carrier.Range r → s ≡ code.Wholes i → b ≡ (int_le r.low i.low && int_le i.high r.high) → not b ≡ is_some (tested_range c (shape_view s))
 tested_from c s r i b e f g =
-    ap not g ∙ not_within (int_le r.lo i.low && int_le i.high r.hi) (r.lo, r.hi)
+    ap not g ∙ not_within (int_le r.low i.low && int_le i.high r.high) (r.low, r.high)
     ∙ sym (ap (λ (d : Carrier). is_some (tested_range d (shape_view s))) e ∙ ap (λ (d : Shape). is_some (tested_range (carrier.Range r) (shape_view d))) f)
 
 -- ---- tallies of parts, in the words of their measures

@@ -45,7 +45,7 @@ later spec X E h = record {
 pub record AreFormsOf (spec : Spec) (E : List syntax.Equation) (css : List (List Carrier)) (es : List Equation) : Type 0 where
   pub rights : right_views es ≡ map (normal_equation spec) E
   pub loops : map (λ (e : Equation). shapes_of e.loops.items) es ≡ map (equation_loops spec) E
-  pub params : map shapes_of css ≡ parameter_shapes spec E
+  pub parameters : map shapes_of css ≡ parameter_shapes spec E
 
 module _ (spec : Spec) (callees : List (List Carrier)) (calls : map shapes_of callees ≡ parameter_shapes spec spec.equations) where
   module _ (X : syntax.Equation) (cs : List Carrier) (e : Equation) (right : formula_view e.right ≡ normal_equation spec X) (loops : shapes_of e.loops.items ≡ equation_loops spec X) where
@@ -73,23 +73,23 @@ module _ (spec : Spec) (callees : List (List Carrier)) (calls : map shapes_of ca
 
   pub ready : (E : List EquationForm) (css : List (List Carrier)) (es : List Equation) → AreFormsOf spec (map erased_equation E) css es → AreSound spec (map erased_equation E) → AreReady callees css E es
   ready [] [] [] f s = tt
-  ready [] (cs ∷ css) es f s = let a = f.params in cc
+  ready [] (cs ∷ css) es f s = let a = f.parameters in cc
   ready [] [] (e ∷ es) f s = let a = f.rights in cc
-  ready (t ∷ E) [] es f s = let a = f.params in cc
+  ready (t ∷ E) [] es f s = let a = f.parameters in cc
   ready (t ∷ E) (cs ∷ css) [] f s = let a = f.rights in cc
   ready (t ∷ E) (cs ∷ css) (e ∷ es) f s =
       let X = erased_equation t in
       let a = f.rights in
       let b = f.loops in
-      let d = f.params in
+      let d = f.parameters in
       let right : formula_view e.right ≡ normal_equation spec X = cc in
       let loops : shapes_of e.loops.items ≡ equation_loops spec X = cc in
-      let params : shapes_of cs ≡ variable_shapes spec X.parameters = cc in
-      let made = program_made spec callees cs e.loops.items X calls params loops in
+      let parameters : shapes_of cs ≡ variable_shapes spec X.parameters = cc in
+      let made = program_made spec callees cs e.loops.items X calls parameters loops in
       let kept = s.kept 0 X refl (program spec callees cs e.loops.items X) made in
       let few = kept.slots in
       let count = ap length loops in
-      let rest : AreFormsOf spec (map erased_equation E) css es = record { rights = cc; loops = cc; params = cc } in (
+      let rest : AreFormsOf spec (map erased_equation E) css es = record { rights = cc; loops = cc; parameters = cc } in (
         record {
           named = (and_parts (is_name X.name) (list_all (λ (Y : syntax.Equation). is_name Y.name) (map erased_equation E)) s.named).0;
           small = subst (λ (g : Formula). is_small_formula g ≡ true) (sym right) (s.small 0 X refl (omega (arith, few, count, length-map e.loops.items (λ (c : Carrier). carrier_shape (Some c)))));
@@ -101,15 +101,15 @@ module _ (spec : Spec) (callees : List (List Carrier)) (calls : map shapes_of ca
 
   -- ---- what is compiled
 
-  pub compiled_params : (E : List EquationForm) (css : List (List Carrier)) (es : List Equation) → AreReady callees css E es → map (λ (e : EquationContents). e.params) (all_compiled callees css E es) ≡ css
-  compiled_params [] [] [] r = refl
-  compiled_params [] (cs ∷ css) [] r = absurd r
-  compiled_params [] (cs ∷ css) (e ∷ es) r = absurd r
-  compiled_params [] [] (e ∷ es) r = absurd r
-  compiled_params (t ∷ E) [] [] r = absurd r
-  compiled_params (t ∷ E) [] (e ∷ es) r = absurd r
-  compiled_params (t ∷ E) (cs ∷ css) [] r = absurd r
-  compiled_params (t ∷ E) (cs ∷ css) (e ∷ es) r = ap (λ (ds : List (List Carrier)). cs ∷ ds) (compiled_params E css es r.1)
+  pub compiled_parameters : (E : List EquationForm) (css : List (List Carrier)) (es : List Equation) → AreReady callees css E es → map (λ (e : EquationContents). e.parameters) (all_compiled callees css E es) ≡ css
+  compiled_parameters [] [] [] r = refl
+  compiled_parameters [] (cs ∷ css) [] r = absurd r
+  compiled_parameters [] (cs ∷ css) (e ∷ es) r = absurd r
+  compiled_parameters [] [] (e ∷ es) r = absurd r
+  compiled_parameters (t ∷ E) [] [] r = absurd r
+  compiled_parameters (t ∷ E) [] (e ∷ es) r = absurd r
+  compiled_parameters (t ∷ E) (cs ∷ css) [] r = absurd r
+  compiled_parameters (t ∷ E) (cs ∷ css) (e ∷ es) r = ap (λ (ds : List (List Carrier)). cs ∷ ds) (compiled_parameters E css es r.1)
 
   module _ (m : Contents) (all : parameters m ≡ callees) where
     compiled_one : (t : EquationForm) (cs : List Carrier) (e : Equation) → formula_view e.right ≡ normal_equation spec (erased_equation t) → IsReady callees cs t e
@@ -131,16 +131,16 @@ module _ (spec : Spec) (callees : List (List Carrier)) (calls : map shapes_of ca
         none : (css : List (List Carrier)) (es : List Equation) → AreEquationsOf spec m [] (all_compiled callees css [] es)
         none [] es = tt
         none (cs ∷ css) es = tt
-    are_equations (t ∷ E) [] es f r = let d = f.params in cc
+    are_equations (t ∷ E) [] es f r = let d = f.parameters in cc
     are_equations (t ∷ E) (cs ∷ css) [] f r = let a = f.rights in cc
     are_equations (t ∷ E) (cs ∷ css) (e ∷ es) f r =
         let X = erased_equation t in
         let a = f.rights in
         let b = f.loops in
-        let d = f.params in
+        let d = f.parameters in
         let right : formula_view e.right ≡ normal_equation spec X = cc in
-        let params : shapes_of cs ≡ variable_shapes spec X.parameters = cc in
-        let rest : AreFormsOf spec (map erased_equation E) css es = record { rights = cc; loops = cc; params = cc } in (
-          record { sign = refl; name = refl; params = params; compiled = compiled_one t cs e right r.0 },
+        let parameters : shapes_of cs ≡ variable_shapes spec X.parameters = cc in
+        let rest : AreFormsOf spec (map erased_equation E) css es = record { rights = cc; loops = cc; parameters = cc } in (
+          record { sign = refl; name = refl; parameters = parameters; compiled = compiled_one t cs e right r.0 },
           are_equations E css es rest r.1,
         )

@@ -17,7 +17,7 @@ use Rattle.pb_text_meaning.specs.Formula.{carriers_of}
 use Rattle.pb_text_meaning.specs.Syntax as syntax
 use Rattle.pb_typing.specs.Typed.{is_faultless}
 use Rattle.pb_bytecode.specs.Contents.{SortContents, EquationContents, InitialContents, Contents, counts}
-use Rattle.pb_bytecode.specs.Limits.{is_byte, is_i64, fits_sort, fits_equation, instance_count, params_of, is_tuple, fits_initial, fits}
+use Rattle.pb_bytecode.specs.Limits.{is_byte, is_i64, fits_sort, fits_equation, instance_count, parameters_of, is_tuple, fits_initial, fits}
 use Rattle.pb_bytecode.specs.Meaning.{parameters}
 use Rattle.pb_bytecode.specs.Names.{is_name}
 use Rattle.pb_bytecode.specs.declared.version.Version.TheVariants as version
@@ -37,7 +37,7 @@ use Rattle.pb_assembler.specs.MeasureEquations.{AreNormalForms, EachKeepsLimits}
 use Rattle.pb_text_names.specs.ModuleNames.{has_enumerator_names, has_names}
 use Rattle.pb_assembler.proofs.Fits.{AreKnown, sorts_fit, between, callees_fit, equations_fit, compiled_long, instances_same, compiled_at}
 use Rattle.pb_assembler.proofs.MeasureExcess.{module_keeps}
-use Rattle.pb_assembler.proofs.Ready.{AreSound, AreFormsOf, ready, compiled_params, are_equations}
+use Rattle.pb_assembler.proofs.Ready.{AreSound, AreFormsOf, ready, compiled_parameters, are_equations}
 
 of_each : {X : Type 0} (P : X → Type 0) (xs : List X) → All P xs → (k : ℕ) (x : X) → slice_get xs k ≡ Some x → P x
 of_each P xs all k x at = subst P (get_or_from_slice_get xs k x x at) (all k x (slice_get_within xs k x at))
@@ -45,28 +45,28 @@ of_each P xs all k x at = subst P (get_or_from_slice_get xs k x x at) (all k x (
 module _ (text : SpecForm) (faultless : is_faultless text ≡ true) (callees : List (List Carrier)) (es : List Equation)
     (rights : right_views es ≡ normal_equations (erase text))
     (loops : map (λ (e : Equation). shapes_of e.loops.items) es ≡ map (equation_loops (erase text)) (erase text).equations)
-    (params : map shapes_of callees ≡ parameter_shapes (erase text) (erase text).equations)
+    (parameters : map shapes_of callees ≡ parameter_shapes (erase text) (erase text).equations)
     (kept : EachKeepsLimits (erase text)) (named : has_names (erase text) ≡ true)
     (small : All (IsSmallWhereLoopsAreFew (erase text)) (erase text).equations) where
   both_named : (list_all has_enumerator_names (erase text).sorts ≡ true) × (list_all (λ (X : syntax.Equation). is_name X.name) (erase text).equations ≡ true)
   both_named = and_parts (list_all has_enumerator_names (erase text).sorts) (list_all (λ (X : syntax.Equation). is_name X.name) (erase text).equations) named
 
   forms : AreFormsOf (erase text) (map erased_equation text.equations) callees es
-  forms = record { rights = rights; loops = loops; params = params }
+  forms = record { rights = rights; loops = loops; parameters = parameters }
 
   sound : AreSound (erase text) (map erased_equation text.equations)
   sound = record { kept = kept; small = λ k X at. of_each (IsSmallWhereLoopsAreFew (erase text)) (erase text).equations small k X at; named = both_named.1 }
 
   pub all_ready : AreReady callees callees text.equations es
-  all_ready = ready (erase text) callees params text.equations callees es forms sound
+  all_ready = ready (erase text) callees parameters text.equations callees es forms sound
 
   module _ (S : List SortContents) (Q : List EquationContents) (I : InitialContents) (sorts : S ≡ struct_names (erase text).sorts) (equations : Q ≡ all_compiled callees callees text.equations es)
       (place : I.equation ≡ initial_place (erase text)) (values : I.values ≡ initial_values (erase text)) where
     abbrev whole : Contents
     whole = record { version = version.One; sorts = S; equations = Q; initial = I }
 
-    pub params_are : parameters whole ≡ callees
-    params_are = ap (λ (cs : List EquationContents). map (λ (e : EquationContents). e.params) cs) equations ∙ compiled_params (erase text) callees params text.equations callees es all_ready
+    pub parameters_are : parameters whole ≡ callees
+    parameters_are = ap (λ (cs : List EquationContents). map (λ (e : EquationContents). e.parameters) cs) equations ∙ compiled_parameters (erase text) callees parameters text.equations callees es all_ready
 
     pub compiled : IsCompiledModule (erase text) whole
     compiled = record {
@@ -74,7 +74,7 @@ module _ (text : SpecForm) (faultless : is_faultless text ≡ true) (callees : L
       sorts = sorts;
       equations =
           subst (λ (cs : List EquationContents). AreEquationsOf (erase text) whole (erase text).equations cs) (sym equations)
-          (are_equations (erase text) callees params whole params_are text.equations callees es forms all_ready);
+          (are_equations (erase text) callees parameters whole parameters_are text.equations callees es forms all_ready);
       initial = place;
       values = values;
     }
@@ -108,17 +108,17 @@ module _ (text : SpecForm) (faultless : is_faultless text ≡ true) (callees : L
 
       instances_within : nat_le (instance_count Q) 4194304 ≡ true
       instances_within =
-          let e = ap instance_count equations ∙ instances_same (erase text) callees text.equations callees es params all_ready in
+          let e = ap instance_count equations ∙ instances_same (erase text) callees text.equations callees es parameters all_ready in
           let d = (accepted-well-typed text faultless).declarations.few_instances in
           le-leb (instance_count Q) 4194304 (omega (arith, e, d))
 
       initial_within : fits_initial Q I ≡ true
       initial_within =
-          let at = compiled_at (erase text) callees text.equations callees es params all_ready (initial_place (erase text)) there.equation there.there in
+          let at = compiled_at (erase text) callees text.equations callees es parameters all_ready (initial_place (erase text)) there.equation there.there in
           let here : slice_get Q I.equation ≡ Some at.0 = ap (λ (cs : List EquationContents). slice_get cs I.equation) equations ∙ ap (slice_get (all_compiled callees callees text.equations es)) place ∙ at.1 in
-          let inside : is_within (map values_of at.0.params) I.values ≡ true =
+          let inside : is_within (map values_of at.0.parameters) I.values ≡ true =
           ap (λ (vs : List carriers.Carrier). is_within vs I.values) at.2 ∙ ap (is_within (carriers_of (erase text) there.equation.parameters)) values ∙ there.within in
-          and_from _ _ byte (ap (λ (o : Option EquationContents). is_tuple (params_of o) I.values) here ∙ and_from _ _ words inside)
+          and_from _ _ byte (ap (λ (o : Option EquationContents). is_tuple (parameters_of o) I.values) here ∙ and_from _ _ words inside)
 
       pub whole_fits : fits whole ≡ true
       whole_fits =
@@ -136,12 +136,12 @@ module _ (text : SpecForm) (faultless : is_faultless text ≡ true) (callees : L
 pub forms_of : (text t : SpecForm) (xs ys : List tree.Equation) (vs ws : List (Vec Carrier Global)) (es fs : List Equation) → t ≡ text → text.equations ≡ map equation_form ys → xs ≡ ys → ws ≡ vs → fs ≡ es
     → right_views es ≡ normal_equations (erase text) → map (λ (e : Equation). shapes_of e.loops.items) es ≡ map (equation_loops (erase text)) (erase text).equations
     → map shapes_of (lists_of vs) ≡ parameter_shapes (erase t) (map erased_equation (map equation_form xs)) → AreNormalForms (erase text) ws fs
-forms_of text t xs ys vs ws es fs said are same others all rights loops params = record {
+forms_of text t xs ys vs ws es fs said are same others all rights loops parameters = record {
   rights = ap right_views all ∙ rights;
   loops = ap (λ (ds : List Equation). map (λ (e : Equation). shapes_of e.loops.items) ds) all ∙ loops;
   parameters =
       ap (λ (us : List (Vec Carrier Global)). map shapes_of (lists_of us)) others
-      ∙ params
+      ∙ parameters
       ∙ ap (λ (zs : List tree.Equation). parameter_shapes (erase t) (map erased_equation (map equation_form zs))) same
       ∙ ap (λ (E : List EquationForm). parameter_shapes (erase t) (map erased_equation E)) (sym are)
       ∙ ap (λ (u : SpecForm). parameter_shapes (erase u) (map erased_equation text.equations)) said;

@@ -26,10 +26,10 @@ AreShapedParameters spec (X ∷ E) = AreShaped spec (erased_variables X.paramete
 
 -- the scheme's program of an equation whose parameters have these carriers, without sorts and stated counts
 abbrev pub bare_program : List (List Carrier) → List Carrier → Equation → Program
-bare_program callees params X = record {
+bare_program callees parameters X = record {
   sorts = [];
   callees = callees;
-  params = params;
+  parameters = parameters;
   loops = X.loops.items;
   stated_steps = 0;
   stated_tokens = 0;
@@ -38,13 +38,13 @@ bare_program callees params X = record {
 
 -- an equation's sign, name, carriers and code, with exactly its static counts
 abbrev pub compiled_contents : List (List Carrier) → List Carrier → EquationForm → Equation → EquationContents
-compiled_contents callees params text X = record {
+compiled_contents callees parameters text X = record {
   sign = text.sign;
   name = text.name.text;
-  params = params;
+  parameters = parameters;
   loops = X.loops.items;
-  steps = static_steps (bare_program callees params X);
-  tokens = static_tokens (bare_program callees params X);
+  steps = static_steps (bare_program callees parameters X);
+  tokens = static_tokens (bare_program callees parameters X);
   code = equation_code callees (formula_view X.right);
 }
 
@@ -65,11 +65,11 @@ AreSorts [] = ⊤
 AreSorts (d ∷ ds) = IsSort d.sort × AreSorts ds
 
 -- an equation that a module may have: its name, its numbers, its slots, and the code keeps the machine's limits
-pub record IsReady (callees : List (List Carrier)) (params : List Carrier) (text : EquationForm) (X : Equation) : Type 0 where
+pub record IsReady (callees : List (List Carrier)) (parameters : List Carrier) (text : EquationForm) (X : Equation) : Type 0 where
   pub named : is_name text.name.text ≡ true
   pub small : is_small_formula (formula_view X.right) ≡ true
-  pub slots : quantifiers (formula_view X.right) ≡ slots_from (length params) X.loops.items
-  pub kept : KeepsLimits (bare_program callees params X) (formula_view X.right)
+  pub slots : quantifiers (formula_view X.right) ≡ slots_from (length parameters) X.loops.items
+  pub kept : KeepsLimits (bare_program callees parameters X) (formula_view X.right)
 
 -- each of them, in order
 abbrev pub AreReady : List (List Carrier) → List (List Carrier) → List EquationForm → List Equation → Type 0
@@ -82,7 +82,7 @@ AreReady callees css texts E = ⊥
 abbrev pub has_fitting_fields : Carrier → Bool
 has_fitting_fields carrier.Bool = true
 has_fitting_fields (carrier.Enum e) = is_byte e.sort
-has_fitting_fields (carrier.Range r) = is_i32 r.lo && is_i32 r.hi
+has_fitting_fields (carrier.Range r) = is_i32 r.low && is_i32 r.high
 
 abbrev pub has_fitting_carriers : EquationContents → Bool
-has_fitting_carriers e = list_all has_fitting_fields e.params && list_all has_fitting_fields e.loops
+has_fitting_carriers e = list_all has_fitting_fields e.parameters && list_all has_fitting_fields e.loops

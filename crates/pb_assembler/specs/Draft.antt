@@ -44,8 +44,8 @@ are_placed places = list_all is_some places
 abbrev pub with_target : Op → ℕ → Op
 with_target (op.Jump to) q = op.Jump q
 with_target (op.JumpIf condition to) q = op.JumpIf condition q
-with_target (op.InRange lo hi to) q = op.InRange lo hi q
-with_target (op.SlotInRange slot lo hi to) q = op.SlotInRange slot lo hi q
+with_target (op.InRange low high to) q = op.InRange low high q
+with_target (op.SlotInRange slot low high to) q = op.SlotInRange slot low high q
 with_target o q = o
 
 abbrev pub joined : Option (Option ℕ) → Option ℕ
@@ -73,7 +73,7 @@ resolved place ops = map (resolved_op place) ops
 -- ---- versions
 
 abbrev pub is_slot_test : Op → Bool
-is_slot_test (op.SlotInRange slot lo hi to) = true
+is_slot_test (op.SlotInRange slot low high to) = true
 is_slot_test o = false
 
 -- the least version that has all instructions

@@ -32,7 +32,7 @@ taken p (op.Equality o) = 2
 taken p op.Not = 1
 taken p (op.Logic c) = 2
 taken p (op.JumpIf on to) = 1
-taken p (op.InRange lo hi to) = 1
+taken p (op.InRange low high to) = 1
 taken p (op.Call equation) = length (parameters (slice_get p.callees equation))
 taken p _ = 0
 
@@ -49,7 +49,7 @@ given (op.Compare o) = 1
 given (op.Equality o) = 1
 given op.Not = 1
 given (op.Logic c) = 1
-given (op.InRange lo hi to) = 1
+given (op.InRange low high to) = 1
 given _ = 0
 
 abbrev pub opened : Op → ℕ
@@ -65,8 +65,8 @@ abbrev pub LeadsTo : Op → ℕ → ℕ → Type 0
 LeadsTo op.End q r = ⊥
 LeadsTo (op.Jump to) q r = r ≡ to
 LeadsTo (op.JumpIf on to) q r = (r ≡ q + 1) ⊎ (r ≡ to)
-LeadsTo (op.InRange lo hi to) q r = (r ≡ q + 1) ⊎ (r ≡ to)
-LeadsTo (op.SlotInRange s lo hi to) q r = (r ≡ q + 1) ⊎ (r ≡ to)
+LeadsTo (op.InRange low high to) q r = (r ≡ q + 1) ⊎ (r ≡ to)
+LeadsTo (op.SlotInRange s low high to) q r = (r ≡ q + 1) ⊎ (r ≡ to)
 LeadsTo _ q r = r ≡ q + 1
 
 -- ---- runs

@@ -20,12 +20,12 @@ use std::alloc::AllocError;
 
 /// The range that an argument is tested for: its parameter's, unless all that is known of the argument lies within.
 fn tested_range(carrier: Carrier, shape: Shape) -> Option<Range>
-    ensures { option_map (λ r. (r.lo, r.hi)) result ≡ tested_range carrier (shape_view shape) }
+    ensures { option_map (λ r. (r.low, r.high)) result ≡ tested_range carrier (shape_view shape) }
 {
     match (carrier, shape) {
         (Carrier::Range(range), Shape::Wholes(known)) => {
-            let low = i64::from(range.lo);
-            let high = i64::from(range.hi);
+            let low = i64::from(range.low);
+            let high = i64::from(range.high);
             if low <= known.low() && known.high() <= high {
                 None
             } else {
@@ -105,12 +105,12 @@ fn emit_tested(
 ) -> Result<(), AllocError>
     requires label { is_label (length builder.old.places) (option_map (λ l. l.number) end) ≡ true }
     requires small { are_small (map argument_view arguments.now) ≡ true }
-    ensures { OnOk result (Emits (Guard range.lo range.hi (arguments_piece carriers.now (map argument_view arguments.now) (called_piece equation (option_map (λ l. l.number) end)))) (block_end (option_map (λ l. l.number) end)) builder.old builder.new) }
+    ensures { OnOk result (Emits (Guard range.low range.high (arguments_piece carriers.now (map argument_view arguments.now) (called_piece equation (option_map (λ l. l.number) end)))) (block_end (option_map (λ l. l.number) end)) builder.old builder.new) }
 {
     let outside = builder.label()?;
     let test = Op::InRange {
-        lo: range.lo,
-        hi: range.hi,
+        low: range.low,
+        high: range.high,
         target: 0,
     };
     builder.emit(test, Some(outside))?;

@@ -39,24 +39,24 @@ fn copy_carriers(alloc: Global, carriers: &[Carrier]) -> Result<Vec<Carrier>, Al
 fn compile_equation(
     alloc: Global,
     callees: &[Vec<Carrier>],
-    params: &[Carrier],
+    parameters: &[Carrier],
     text: &pb_text_tree::Equation,
     normal: &pb_normal::Equation,
 ) -> Result<Equation, AllocError>
-    requires { IsReady (lists_of callees.now) params.now (equation_form text.now) normal.now }
-    ensures contents { IfOk result (λ X. equation_contents X ≡ compiled_contents (lists_of callees.now) params.now (equation_form text.now) normal.now) }
+    requires { IsReady (lists_of callees.now) parameters.now (equation_form text.now) normal.now }
+    ensures contents { IfOk result (λ X. equation_contents X ≡ compiled_contents (lists_of callees.now) parameters.now (equation_form text.now) normal.now) }
     ensures fields { IfOk result (λ X. has_fitting_carriers (equation_contents X) ≡ true) }
 {
     let measures = measure(callees, normal);
     let name = copy_name(alloc, &text.name.text)?;
-    let params = copy_carriers(alloc, params)?;
+    let parameters = copy_carriers(alloc, parameters)?;
     let loops = copy_carriers(alloc, &normal.loops)?;
     let instructions = measures.instructions as usize;
     let code = equation_code(alloc, callees, &normal.right, instructions)?;
     Ok(Equation {
         sign: text.sign,
         name,
-        params,
+        parameters,
         loops,
         steps: measures.steps,
         tokens: measures.tokens,

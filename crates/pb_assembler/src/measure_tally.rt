@@ -150,9 +150,9 @@ pub(crate) fn looped(count: u64, body: Tally) -> Tally
 
 /// Whether an interval lies within a range.
 fn is_inside(range: &Range, known: &Interval) -> bool
-    ensures { result ≡ (int_le range.now.lo known.now.low && int_le known.now.high range.now.hi) }
+    ensures { result ≡ (int_le range.now.low known.now.low && int_le known.now.high range.now.high) }
 {
-    range.lo as i64 <= known.low() && known.high() <= range.hi as i64
+    range.low as i64 <= known.low() && known.high() <= range.high as i64
 }
 
 /// Whether an argument is tested for its parameter's range.

@@ -33,13 +33,13 @@ use Rattle.pb_assembler_accepted.proofs.Formulas.{known_of, FitsKind, TypedArgum
 -- ---- which arguments are tested
 
 -- a whole number whose interval leaves the range; behind the test CALL takes it
-pub record IsTested (c : Carrier) (v : AbstractValue) (lo hi : ℤ) : Type 0 where
-  pub low : ℤ
-  pub high : ℤ
-  pub whole : v ≡ abstract.Int low high
-  pub outside : (int_le lo low && int_le high hi) ≡ false
-  pub passes : (l h : ℤ) → lo ≤ℤ l → h ≤ℤ hi → accepts (abstract.Int l h) c ≡ true
-  pub order : lo ≤ℤ hi
+pub record IsTested (c : Carrier) (v : AbstractValue) (low high : ℤ) : Type 0 where
+  pub least : ℤ
+  pub greatest : ℤ
+  pub whole : v ≡ abstract.Int least greatest
+  pub outside : (int_le low least && int_le greatest high) ≡ false
+  pub passes : (l h : ℤ) → low ≤ℤ l → h ≤ℤ high → accepts (abstract.Int l h) c ≡ true
+  pub order : low ≤ℤ high
 
 abbrev Answers : Carrier → AbstractValue → Option (ℤ × ℤ) → Type 0
 Answers c v None = accepts v c ≡ true
@@ -57,17 +57,17 @@ answered (carrier.Enum n) (Wholes l h) f e = absurd f
 answered (carrier.Range r) Unknown f e = absurd f
 answered (carrier.Range r) Truths f e = absurd f
 answered (carrier.Range r) (Places s n) f e = absurd f
-answered (carrier.Range r) (Wholes l h) f e = by (intervals.is_within (interval l h) (interval r.lo r.hi)) refl
+answered (carrier.Range r) (Wholes l h) f e = by (intervals.is_within (interval l h) (interval r.low r.high)) refl
   where
-    by : (b : Bool) → intervals.is_within (interval l h) (interval r.lo r.hi) ≡ b → Answers (carrier.Range r) (abstract.Int l h) (cond b None (Some (r.lo, r.hi)))
+    by : (b : Bool) → intervals.is_within (interval l h) (interval r.low r.high) ≡ b → Answers (carrier.Range r) (abstract.Int l h) (cond b None (Some (r.low, r.high)))
     by true w = w
     by false w = record {
-      low = l;
-      high = h;
+      least = l;
+      greatest = h;
       whole = refl;
       outside = w;
-      passes = λ m k a b. and_from _ _ (from_le r.lo m a) (from_le k r.hi b);
-      order = le_true r.lo r.hi e;
+      passes = λ m k a b. and_from _ _ (from_le r.low m a) (from_le k r.high b);
+      order = le_true r.low r.high e;
     }
 
 -- ---- CALL takes the arguments off
@@ -96,23 +96,23 @@ each_length [] (e ∷ es) h = absurd h
 each_length (o ∷ os) [] h = absurd h
 
 -- what is known of a number behind its test
-module _ (l h lo hi : ℤ) (a : l ≤ℤ h) (b : lo ≤ℤ hi) (c : l ≤ℤ hi) (d : lo ≤ℤ h) where
+module _ (l h low high : ℤ) (a : l ≤ℤ h) (b : low ≤ℤ high) (c : l ≤ℤ high) (d : low ≤ℤ h) where
   abbrev cut_value : AbstractValue
-  cut_value = abstract.Int (int_max l lo) (int_min h hi)
+  cut_value = abstract.Int (int_max l low) (int_min h high)
 
   cut_covers : Covers cut_value (abstract.Int l h)
   cut_covers = (omega (arith, ints, clamps), omega (arith, ints, clamps), omega (arith, ints, clamps))
 
   cut_solid : Covers cut_value cut_value
-  cut_solid = covered_from (int_max l lo) (int_min h hi) cut_covers.1
+  cut_solid = covered_from (int_max l low) (int_min h high) cut_covers.1
     where
       covered_from : (m n : ℤ) → m ≤ℤ n → Covers (abstract.Int m n) (abstract.Int m n)
       covered_from m n e = (omega (arith, ints), e, omega (arith, ints))
 
-  cut_low : lo ≤ℤ int_max l lo
+  cut_low : low ≤ℤ int_max l low
   cut_low = omega (arith, ints, clamps)
 
-  cut_high : int_min h hi ≤ℤ hi
+  cut_high : int_min h high ≤ℤ high
   cut_high = omega (arith, ints, clamps)
 
 module _ (p : Program) (k : AbstractState) (s : Settled k) (rest : List AbstractValue) (total : List Carrier) (last : Piece) (out : AbstractState) where
@@ -131,13 +131,13 @@ module _ (p : Program) (k : AbstractState) (s : Settled k) (rest : List Abstract
 
   -- no further argument is tested
   plainly : (cs : List Carrier) (xs : List Argument) (rs : List Carrier) (os : List AbstractValue) (k' : AbstractState) → any_tested cs xs ≡ false → reverse cs ++ rs ≡ total → Takes rs os rest → CoversEach os os
-      → TypedArguments p.sorts k.loops k.params cs xs → argument_operands xs + (length os + k.below) ≤ 32 → Lasts k' → Flows p (arguments_piece cs xs last) out (on os) k'
-  plainly [] [] rs os k' none e t co ty low lasts = lasts os (all_taken rs os e t) co
-  plainly [] (x ∷ xs) rs os k' none e t co ty low lasts = absurd ty
-  plainly (c ∷ cs) [] rs os k' none e t co ty low lasts = absurd ty
-  plainly (c ∷ cs) (x ∷ xs) rs os k' none e t co ty low lasts =
+      → TypedArguments p.sorts k.loops k.parameters cs xs → argument_operands xs + (length os + k.operands_below) ≤ 32 → Lasts k' → Flows p (arguments_piece cs xs last) out (on os) k'
+  plainly [] [] rs os k' none e t co ty least lasts = lasts os (all_taken rs os e t) co
+  plainly [] (x ∷ xs) rs os k' none e t co ty least lasts = absurd ty
+  plainly (c ∷ cs) [] rs os k' none e t co ty least lasts = absurd ty
+  plainly (c ∷ cs) (x ∷ xs) rs os k' none e t co ty least lasts =
       let v = known_of x.shape in
-      let cv = solid p.sorts k.loops k.params s.self.loops s.self.params x.term v ty.0 in (
+      let cv = solid p.sorts k.loops k.parameters s.self.loops s.self.parameters x.term v ty.0 in (
         on (v ∷ os),
         yields p k s.self x.term v ty.0 out os v co (omega arith) cv,
         by (tested_range c x.shape) (any_tested cs xs) none (answered c x.shape ty.1 ty.2) (λ f a. plainly cs xs (c ∷ rs) (v ∷ os) k' f (next_total c cs rs e) (a, t) (cv, co) ty.3 (omega arith) lasts),
@@ -156,51 +156,51 @@ module _ (p : Program) (k : AbstractState) (s : Settled k) (rest : List Abstract
   -- with tests, whatever is known behind the last piece
   module _ (lasts : (k' : AbstractState) → Lasts k') where
     -- the test of an argument, and what is behind it
-    guard_flows : (c : Carrier) (v : AbstractValue) (lo hi : ℤ) (x : Piece) (os es : List AbstractValue) → IsTested c v lo hi → Covers v v → CoversEach os os → CoversEach os es
-        → ((w : AbstractValue) → accepts w c ≡ true → Covers w v → Covers w w → Flows p x out (on (w ∷ os)) (on (v ∷ es))) → Flows p (Guard lo hi x) out (on (v ∷ os)) (on es)
-    guard_flows c v lo hi x os es t cv ho co go =
+    guard_flows : (c : Carrier) (v : AbstractValue) (low high : ℤ) (x : Piece) (os es : List AbstractValue) → IsTested c v low high → Covers v v → CoversEach os os → CoversEach os es
+        → ((w : AbstractValue) → accepts w c ≡ true → Covers w v → Covers w w → Flows p x out (on (w ∷ os)) (on (v ∷ es))) → Flows p (Guard low high x) out (on (v ∷ os)) (on es)
+    guard_flows c v low high x os es t cv ho co go =
         record {
-          low = t.low;
-          high = t.high;
+          least = t.least;
+          greatest = t.greatest;
           others = os;
           operands = ap (λ (u : AbstractValue). u ∷ os) t.whole;
           leaves = t.outside;
-          meets = int_le t.low hi && int_le lo t.high;
+          meets = int_le t.least high && int_le low t.greatest;
           meeting = refl;
           failed = on (v ∷ es);
           top = v;
           under = es;
           failed_operands = refl;
-          body = by (int_le t.low hi && int_le lo t.high) refl;
+          body = by (int_le t.least high && int_le low t.greatest) refl;
           outside = subst (λ (u : AbstractValue). IsCovered (on (u ∷ os)) (on (v ∷ es))) t.whole (covers_with p k s.self (v ∷ os) (v ∷ es) (cv, co));
           after = covers_with p k s.self es es (each_solid os es co);
         }
       where
-        whole_solid : Covers (abstract.Int t.low t.high) (abstract.Int t.low t.high)
+        whole_solid : Covers (abstract.Int t.least t.greatest) (abstract.Int t.least t.greatest)
         whole_solid = subst (λ u. Covers u u) t.whole cv
 
-        by : (b : Bool) → (int_le t.low hi && int_le lo t.high) ≡ b → Reached p b (cut p (on (v ∷ os)) t.low t.high lo hi os) (on (v ∷ es)) (λ m l. Flows p x out m l)
+        by : (b : Bool) → (int_le t.least high && int_le low t.greatest) ≡ b → Reached p b (cut p (on (v ∷ os)) t.least t.greatest low high os) (on (v ∷ es)) (λ m l. Flows p x out m l)
         by true e =
-            let two = and_parts (int_le t.low hi) (int_le lo t.high) e in
-            let a = le_true t.low hi two.0 in
-            let b = le_true lo t.high two.1 in
+            let two = and_parts (int_le t.least high) (int_le low t.greatest) e in
+            let a = le_true t.least high two.0 in
+            let b = le_true low t.greatest two.1 in
             let n = whole_solid.1 in
-            let w = abstract.Int (int_max t.low lo) (int_min t.high hi) in
-            let self = cut_solid t.low t.high lo hi n t.order a b in (
+            let w = abstract.Int (int_max t.least low) (int_min t.greatest high) in
+            let self = cut_solid t.least t.greatest low high n t.order a b in (
               on (w ∷ os),
               covers_with p k s.self (w ∷ os) (w ∷ os) (self, ho),
-              go w (t.passes _ _ (cut_low t.low t.high lo hi n t.order a b) (cut_high t.low t.high lo hi n t.order a b))
-                  (subst (λ u. Covers w u) (sym t.whole) (cut_covers t.low t.high lo hi n t.order a b)) self,
+              go w (t.passes _ _ (cut_low t.least t.greatest low high n t.order a b) (cut_high t.least t.greatest low high n t.order a b))
+                  (subst (λ u. Covers w u) (sym t.whole) (cut_covers t.least t.greatest low high n t.order a b)) self,
             )
         by false e = tt
 
     tested : (cs : List Carrier) (xs : List Argument) (rs : List Carrier) (os es : List AbstractValue) → any_tested cs xs ≡ true → reverse cs ++ rs ≡ total → Takes rs os rest → CoversEach os os → CoversEach os es
-        → TypedArguments p.sorts k.loops k.params cs xs → argument_operands xs + (length os + k.below) ≤ 32 → Flows p (arguments_piece cs xs last) out (on os) (on es)
-    tested [] xs rs os es some e t co ce ty low = absurd (true≢false (sym some))
-    tested (c ∷ cs) [] rs os es some e t co ce ty low = absurd ty
-    tested (c ∷ cs) (x ∷ xs) rs os es some e t co ce ty low =
+        → TypedArguments p.sorts k.loops k.parameters cs xs → argument_operands xs + (length os + k.operands_below) ≤ 32 → Flows p (arguments_piece cs xs last) out (on os) (on es)
+    tested [] xs rs os es some e t co ce ty least = absurd (true≢false (sym some))
+    tested (c ∷ cs) [] rs os es some e t co ce ty least = absurd ty
+    tested (c ∷ cs) (x ∷ xs) rs os es some e t co ce ty least =
         let v = known_of x.shape in
-        let cv = solid p.sorts k.loops k.params s.self.loops s.self.params x.term v ty.0 in (
+        let cv = solid p.sorts k.loops k.parameters s.self.loops s.self.parameters x.term v ty.0 in (
           on (v ∷ os),
           yields p k s.self x.term v ty.0 out os v co (omega arith) cv,
           by (tested_range c x.shape) (any_tested cs xs) refl some (answered c x.shape ty.1 ty.2) cv
@@ -238,20 +238,20 @@ module _ (p : Program) (equation : ℕ) (cs : List Carrier) (at : slice_get p.ca
     covered = s.self;
   }
 
-  settled_call : (xs : List Argument) (out : AbstractState) (b : Bool) → any_tested cs xs ≡ b → TypedArguments p.sorts k.loops k.params cs xs → argument_operands xs + (length k.operands + k.below) ≤ 32
+  settled_call : (xs : List Argument) (out : AbstractState) (b : Bool) → any_tested cs xs ≡ b → TypedArguments p.sorts k.loops k.parameters cs xs → argument_operands xs + (length k.operands + k.operands_below) ≤ 32
       → Flows p (cond b (Block (Then (arguments_piece cs xs (Then (Plain (op.Call equation)) Leave)) (Plain (op.Emit leaf.Cut)))) (arguments_piece cs xs (Plain (op.Call equation)))) out k k
-  settled_call xs out false e ty low =
-      plainly p k s k.operands (reverse cs) (Plain (op.Call equation)) out cs xs [] k.operands k e (append-nil (reverse cs)) refl s.self.operands ty low (λ os t co. call_flows out os t)
-  settled_call xs out true e ty low = (
+  settled_call xs out false e ty least =
+      plainly p k s k.operands (reverse cs) (Plain (op.Call equation)) out cs xs [] k.operands k e (append-nil (reverse cs)) refl s.self.operands ty least (λ os t co. call_flows out os t)
+  settled_call xs out true e ty least = (
     k,
     tested p k s k.operands (reverse cs) (Then (Plain (op.Call equation)) Leave) k (λ k' os t co. (k, call_flows k os t, s.self))
-        cs xs [] k.operands k.operands e (append-nil (reverse cs)) refl s.self.operands s.self.operands ty low,
+        cs xs [] k.operands k.operands e (append-nil (reverse cs)) refl s.self.operands s.self.operands ty least,
     emit_flows p leaf.Cut k k s,
   )
 
 pub calls_flow : (p : Program) → CallsFlow p
-calls_flow p equation xs out k s ty low = by (slice_get p.callees equation) refl ty
+calls_flow p equation xs out k s ty least = by (slice_get p.callees equation) refl ty
   where
-    by : (o : Option (List Carrier)) → slice_get p.callees equation ≡ o → TypedCall p.sorts k.loops k.params o xs → Flows p (call_piece equation (parameters o) xs) out k k
+    by : (o : Option (List Carrier)) → slice_get p.callees equation ≡ o → TypedCall p.sorts k.loops k.parameters o xs → Flows p (call_piece equation (parameters o) xs) out k k
     by None e ty = absurd ty
-    by (Some cs) e ty = settled_call p equation cs e k s xs out (any_tested cs xs) refl ty low
+    by (Some cs) e ty = settled_call p equation cs e k s xs out (any_tested cs xs) refl ty least

@@ -65,7 +65,7 @@ pub record Settled (k : AbstractState) : Type 0 where
   pub self : IsCovered k k
   pub outer : ℕ
   pub open_one : k.brackets ≡ suc outer
-  pub floor : k.floor ≤ k.brackets
+  pub brackets_below : k.brackets_below ≤ k.brackets
 
 abbrev pub bracketed_by : AbstractState → ℕ → AbstractState
 bracketed_by k b = record k { brackets = b }
@@ -79,7 +79,7 @@ module _ (p : Program) where
 
   -- ---- tests
 
-  module _ (t : Term) (out k : AbstractState) (s : Settled k) (ty : Typed p.sorts k.loops k.params t abstract.Bool) (low : term_operands t + (length k.operands + k.below) ≤ 32) where
+  module _ (t : Term) (out k : AbstractState) (s : Settled k) (ty : Typed p.sorts k.loops k.parameters t abstract.Bool) (low : term_operands t + (length k.operands + k.operands_below) ≤ 32) where
     value_flows : Flows p (data_piece t) out k (topped p k s.self (abstract.Bool ∷ k.operands))
     value_flows = yields p k s.self t abstract.Bool ty out k.operands abstract.Bool s.self.operands low tt
 
@@ -105,14 +105,14 @@ module _ (p : Program) where
 
   opened_settled : (k : AbstractState) → Settled k → Settled (opened k)
   opened_settled k s = record {
-    self = let c = s.self in record { operands = c.operands; below = refl; params = c.params; loops = c.loops; brackets = refl; floor = refl; roots = refl };
+    self = let c = s.self in record { operands = c.operands; operands_below = refl; parameters = c.parameters; loops = c.loops; brackets = refl; brackets_below = refl; roots = refl };
     outer = k.brackets;
     open_one = add-one k.brackets;
-    floor = let f = s.floor in omega arith;
+    brackets_below = let f = s.brackets_below in omega arith;
   }
 
-  pub closing : (b floor n : ℕ) (go : ℕ → Flow) → b ≡ suc n → floor ≤ n → Transfer.abstract_close floor b go ≡ go n
-  closing b floor n go e l = ap (λ m. Transfer.abstract_close floor m go) e ∙ ap (λ c. cond c (go n) None) (le-leb floor n l)
+  pub closing : (b brackets_below n : ℕ) (go : ℕ → Flow) → b ≡ suc n → brackets_below ≤ n → Transfer.abstract_close brackets_below b go ≡ go n
+  closing b brackets_below n go e l = ap (λ m. Transfer.abstract_close brackets_below m go) e ∙ ap (λ c. cond c (go n) None) (le-leb brackets_below n l)
 
   bracketed_flows : (m : Bool) (x : Piece) (out k : AbstractState) → Settled k → k.brackets + 1 ≤ 32 → Flows p x out (opened k) (opened k) → Flows p (bracketed m x) out k k
   bracketed_flows m x out k s low g =
@@ -126,7 +126,7 @@ module _ (p : Program) where
               ap (λ c. cond c (Transfer.abstract_root k.brackets k.roots (λ r. to_next_place q (record k { brackets = k.brackets + 1; roots = r }))) None) (lt-ltb k.brackets 32 (omega arith))
               ∙ rooted k.brackets k.roots s.outer _ s.open_one;
         },
-        (opened k, g, record { straight = refl; next = k; covered = s.self; way = λ home q. closing (k.brackets + 1) k.floor k.brackets _ (add-one k.brackets) s.floor }),
+        (opened k, g, record { straight = refl; next = k; covered = s.self; way = λ home q. closing (k.brackets + 1) k.brackets_below k.brackets _ (add-one k.brackets) s.brackets_below }),
       )
 
   -- the piece leads from each settled state with these operands and slots back to it, where n more brackets may be open
@@ -144,14 +144,14 @@ module _ (p : Program) where
   pub inhabited_solid : (c : Carrier) → is_inhabited c ≡ true → Covers (abstraction_of c) (abstraction_of c)
   inhabited_solid carrier.Bool e = tt
   inhabited_solid (carrier.Enum n) e = (refl, omega arith)
-  inhabited_solid (carrier.Range r) e = let o = le_true r.lo r.hi e in (omega (arith, ints), o, omega (arith, ints))
+  inhabited_solid (carrier.Range r) e = let o = le_true r.low r.high e in (omega (arith, ints), o, omega (arith, ints))
 
   inside_settled : (k : AbstractState) (s : ℕ) (c : Carrier) → Settled k → is_inhabited c ≡ true → Settled (inside p k s c)
   inside_settled k s c t e = record {
-    self = record { operands = tt; below = refl; params = t.self.params; loops = (refl, inhabited_solid c e, t.self.loops); brackets = refl; floor = refl; roots = refl };
+    self = record { operands = tt; operands_below = refl; parameters = t.self.parameters; loops = (refl, inhabited_solid c e, t.self.loops); brackets = refl; brackets_below = refl; roots = refl };
     outer = t.outer;
     open_one = t.open_one;
-    floor = omega arith;
+    brackets_below = omega arith;
   }
 
   repeat_flows : (s : ℕ) (c : Carrier) (x : Piece) (out k : AbstractState) → Settled k → carrier_of p s ≡ Some c → among k.loops s ≡ false → is_inhabited c ≡ true → length k.loops + 1 ≤ 8
@@ -177,7 +177,7 @@ module _ (p : Program) where
   -- a test among the operands of a join
   abbrev FitsTest : AbstractState → Option Term → Type 0
   FitsTest k None = Unit {0}
-  FitsTest k (Some t) = Typed p.sorts k.loops k.params t abstract.Bool × (term_operands t + (length k.operands + k.below) ≤ 32)
+  FitsTest k (Some t) = Typed p.sorts k.loops k.parameters t abstract.Bool × (term_operands t + (length k.operands + k.operands_below) ≤ 32)
 
   join_flows : (m around : Bool) (s t : Option Term) (fa ga fo go : Piece) (out k : AbstractState) (na nb nc nd : ℕ) → FitsTest k s → FitsTest k t
       → Holds fa out k na → Holds ga out k nb → Holds fo out k nc → Holds go out k nd → Holds (join_piece m around s t fa ga fo go) out k (join_brackets m around s t na nb nc nd)
@@ -186,7 +186,7 @@ module _ (p : Program) where
   join_flows m around None None fa ga fo go out k na nb nc nd es et hfa hga hfo hgo b st low =
       under_flows m around (Then fo go) out k (max nc nd) (λ b st low. (bracketed_by k b, hfo b st (omega arith), hgo b st (omega arith))) b st low
 
-  fits_test : (k : AbstractState) (f : Formula) → TypedFormula p k.loops k.params f → formula_operands f + (length k.operands + k.below) ≤ 32 → FitsTest k (test_of f)
+  fits_test : (k : AbstractState) (f : Formula) → TypedFormula p k.loops k.parameters f → formula_operands f + (length k.operands + k.operands_below) ≤ 32 → FitsTest k (test_of f)
   fits_test k (Test t) ty low = (ty, low)
   fits_test k (Join m f g) ty low = tt
   fits_test k (Each m s shape f) ty low = tt
@@ -196,11 +196,11 @@ module _ (p : Program) where
 
   abbrev pub CallsFlow : Type 0
   CallsFlow =
-      (equation : ℕ) (xs : List Argument) (out k : AbstractState) → Settled k → TypedCall p.sorts k.loops k.params (slice_get p.callees equation) xs → argument_operands xs + (length k.operands + k.below) ≤ 32
+      (equation : ℕ) (xs : List Argument) (out k : AbstractState) → Settled k → TypedCall p.sorts k.loops k.parameters (slice_get p.callees equation) xs → argument_operands xs + (length k.operands + k.operands_below) ≤ 32
       → Flows p (call_piece equation (parameters (slice_get p.callees equation)) xs) out k k
 
   module _ (calls : CallsFlow) where
-    pub formula_flows : (f : Formula) (around : Bool) (out k : AbstractState) → TypedFormula p k.loops k.params f → formula_operands f + (length k.operands + k.below) ≤ 32 → length k.loops + formula_loops f ≤ 8
+    pub formula_flows : (f : Formula) (around : Bool) (out k : AbstractState) → TypedFormula p k.loops k.parameters f → formula_operands f + (length k.operands + k.operands_below) ≤ 32 → length k.loops + formula_loops f ≤ 8
         → Holds (formula_piece p.callees around f) out k (formula_brackets around f)
     formula_flows (Test t) around out k ty ops loops b s low = test_flows t out (bracketed_by k b) s ty ops around
     formula_flows (Join m f g) around out k ty ops loops b s low =

@@ -47,20 +47,20 @@ HasNoLeave (Choose on a b) = HasNoLeave a × HasNoLeave b
 HasNoLeave (Repeat s a) = HasNoLeave a
 HasNoLeave (Block a) = Unit {0}
 HasNoLeave Leave = ⊥
-HasNoLeave (Guard lo hi a) = HasNoLeave a
+HasNoLeave (Guard low high a) = HasNoLeave a
 
 module _ (p : Program) where
   -- an instruction that neither jumps nor loops nor ends the run, and names a slot or a callee in scope
   abbrev pub NamesKnown : Loops → Op → Type 0
-  NamesKnown ls (op.Get i) = (i < length p.params) ⊎ (among ls i ≡ true)
+  NamesKnown ls (op.Get i) = (i < length p.parameters) ⊎ (among ls i ≡ true)
   NamesKnown ls (op.Call equation) = equation < length p.callees
   NamesKnown ls op.End = ⊥
   NamesKnown ls op.Next = ⊥
   NamesKnown ls (op.Loop i) = ⊥
   NamesKnown ls (op.Jump to) = ⊥
   NamesKnown ls (op.JumpIf on to) = ⊥
-  NamesKnown ls (op.InRange lo hi to) = ⊥
-  NamesKnown ls (op.SlotInRange i lo hi to) = ⊥
+  NamesKnown ls (op.InRange low high to) = ⊥
+  NamesKnown ls (op.SlotInRange i low high to) = ⊥
   NamesKnown ls i = Unit {0}
 
   abbrev pub IsInScope : Loops → Piece → Type 0
@@ -73,7 +73,7 @@ module _ (p : Program) where
       (v : AbstractValue) × IsSome (carrier_of p s) × (among ls s ≡ false) × (length ls < 8) × HasNoLeave a × IsInScope ((s, v) ∷ ls) a
   IsInScope ls (Block a) = IsInScope ls a
   IsInScope ls Leave = Unit {0}
-  IsInScope ls (Guard lo hi a) = IsInScope ls a
+  IsInScope ls (Guard low high a) = IsInScope ls a
 
   known_straight : (ls : Loops) (i : Op) → NamesKnown ls i → loop_effect i ≡ Straight
   known_straight ls (op.Loop i) h = absurd h
@@ -89,7 +89,7 @@ module _ (p : Program) where
   straight ls (Repeat s a) h = straight ((s, h.0) ∷ ls) a h.5
   straight ls (Block a) h = straight ls a h
   straight ls Leave h = tt
-  straight ls (Guard lo hi a) h = straight ls a h
+  straight ls (Guard low high a) h = straight ls a h
 
   -- ---- the rules of one place
 
@@ -99,20 +99,20 @@ module _ (p : Program) where
     pub closes : loop_effect i ≡ Leaves → 0 < length (loops_around p.code q)
 
   abbrev pub EachPlaced : ℕ → ℕ → Type 0
-  EachPlaced lo hi = (q : ℕ) (i : Op) → lo ≤ q → q < hi → slice_get p.code q ≡ Some i → IsPlaced q i
+  EachPlaced low high = (q : ℕ) (i : Op) → low ≤ q → q < high → slice_get p.code q ≡ Some i → IsPlaced q i
 
   pub placed_one : (q : ℕ) (o : Op) → slice_get p.code q ≡ Some o → IsPlaced q o → EachPlaced q (q + 1)
-  placed_one q o h fine r i lo hi at =
+  placed_one q o h fine r i low high at =
       let e : q ≡ r = omega arith in
       let f : slice_get p.code q ≡ slice_get p.code r = ap (slice_get p.code) e in
       let eo : o ≡ i = cc in
       subst (λ s. IsPlaced s i) e (subst (λ (j : Op). IsPlaced q j) eo fine)
 
-  pub placed_both : (lo mid hi : ℕ) → EachPlaced lo mid → EachPlaced mid hi → EachPlaced lo hi
-  placed_both lo mid hi a b q i l h = ⊎_elim (λ s. a q i l s) (λ s. b q i s h) (cases_lt q mid)
+  pub placed_both : (low mid high : ℕ) → EachPlaced low mid → EachPlaced mid high → EachPlaced low high
+  placed_both low mid high a b q i l h = ⊎_elim (λ s. a q i l s) (λ s. b q i s h) (cases_lt q mid)
 
   none_placed : (q : ℕ) → EachPlaced q q
-  none_placed q r i lo hi at = absurd (omega arith)
+  none_placed q r i low high at = absurd (omega arith)
 
   -- ---- where a piece stands
 
@@ -125,7 +125,7 @@ module _ (p : Program) where
   grows (Repeat s a) q = omega (arith, grows a (q + 1))
   grows (Block a) q = grows a q
   grows Leave q = omega arith
-  grows (Guard lo hi a) q = omega (arith, grows a (q + 1))
+  grows (Guard low high a) q = omega (arith, grows a (q + 1))
 
   -- the loops around a place
   pub record Around (q : ℕ) (ls : Loops) : Type 0 where
@@ -155,8 +155,8 @@ module _ (p : Program) where
   known_placed ls q (op.Loop i) h a = absurd h
   known_placed ls q (op.Jump to) h a = absurd h
   known_placed ls q (op.JumpIf on to) h a = absurd h
-  known_placed ls q (op.InRange lo hi to) h a = absurd h
-  known_placed ls q (op.SlotInRange i lo hi to) h a = absurd h
+  known_placed ls q (op.InRange low high to) h a = absurd h
+  known_placed ls q (op.SlotInRange i low high to) h a = absurd h
   known_placed ls q i h a = record { target = tt; names = tt; closes = λ e. cc }
 
   inner_may : (q r e : ℕ) (x y : Piece) → (HasNoLeave x → HasNoLeave y) → end r y ≤ end q x → loops_around p.code q ≡ loops_around p.code r → MayLeave q e x → MayLeave r e y
@@ -222,13 +222,13 @@ module _ (p : Program) where
       placed a ls sc q (end q a) h ar short (inr (record { after = omega arith; inside = short; one_body = around_end p [] a (straight ls a sc) q (end q a) h }))
   placed Leave ls sc q e h ar short m =
       ⊎_elim (λ n. absurd n) (λ (b : IsBehind q e Leave). let after = b.after in placed_one q (op.Jump e) h (record { target = leads q e (omega arith) b.inside b.one_body; names = tt; closes = λ e. cc })) m
-  placed (Guard lo hi a) ls sc q e h ar short m =
+  placed (Guard low high a) ls sc q e h ar short m =
       let mid = end (q + 1) a in
       let more = grows a (q + 1) in
-      let step = around_next p.code q (op.InRange lo hi mid) h.0 in
+      let step = around_next p.code q (op.InRange low high mid) h.0 in
       let same = around_end p [] a (straight ls a sc) (q + 1) e h.1 ∙ step in
       placed_both q (q + 1) (mid + 1)
-      (placed_one q (op.InRange lo hi mid) h.0 (record { target = leads q mid (omega arith) (omega arith) same; names = tt; closes = λ e. cc }))
+      (placed_one q (op.InRange low high mid) h.0 (record { target = leads q mid (omega arith) (omega arith) same; names = tt; closes = λ e. cc }))
       (placed_both (q + 1) mid (mid + 1)
-      (placed a ls sc (q + 1) e h.1 (moved q (q + 1) ls step ar) (omega arith) (inner_may q (q + 1) e (Guard lo hi a) a (λ n. n) (omega arith) (sym step) m))
+      (placed a ls sc (q + 1) e h.1 (moved q (q + 1) ls step ar) (omega arith) (inner_may q (q + 1) e (Guard low high a) a (λ n. n) (omega arith) (sym step) m))
       (placed_one mid op.Pop h.2 (record { target = tt; names = tt; closes = λ e. cc })))

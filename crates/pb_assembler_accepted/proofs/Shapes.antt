@@ -27,4 +27,4 @@ has_carrier sizes (Some carrier.Bool) s e d = record { carrier = carrier.Bool; i
 has_carrier sizes (Some (carrier.Enum n)) s e d =
     let h = subst (IsDeclaredShape sizes) (sym e) d in record { carrier = carrier.Enum n; is = refl; inhabited = lt-ltb 0 n.count h.1; known = ap known_of e }
 has_carrier sizes (Some (carrier.Range r)) s e d =
-    let h = subst (IsDeclaredShape sizes) (sym e) d in record { carrier = carrier.Range r; is = refl; inhabited = from_le r.lo r.hi h; known = ap known_of e }
+    let h = subst (IsDeclaredShape sizes) (sym e) d in record { carrier = carrier.Range r; is = refl; inhabited = from_le r.low r.high h; known = ap known_of e }

@@ -104,7 +104,7 @@ slot_known (l ∷ ls) ps i v e = by (i == l.0) e (slot_known ls ps i v)
     by true e go = inr refl
     by false e go = go e
 
-module _ (p : Program) (ps : List AbstractValue) (long : length ps ≡ length p.params) where
+module _ (p : Program) (ps : List AbstractValue) (long : length ps ≡ length p.parameters) where
   module _ (ls : Loops) where
     binary_scope : (o : Operator) (x y : Piece) → IsInScope p ls x → IsInScope p ls y → IsInScope p ls (binary_piece o x y)
     binary_scope Operator.And x y a b = (b, (a, tt))
@@ -122,7 +122,7 @@ module _ (p : Program) (ps : List AbstractValue) (long : length ps ≡ length p.
     binary_scope Operator.Div x y a b = (a, (b, tt))
     binary_scope Operator.Mod x y a b = (a, (b, tt))
 
-    slot_scope : (s : ℕ) (v : AbstractValue) → abstract_slot ls ps s ≡ Some v → (s < length p.params) ⊎ (among ls s ≡ true)
+    slot_scope : (s : ℕ) (v : AbstractValue) → abstract_slot ls ps s ≡ Some v → (s < length p.parameters) ⊎ (among ls s ≡ true)
     slot_scope s v t = subst (λ n. (s < n) ⊎ (among ls s ≡ true)) long (slot_known ls ps s v t)
 
     data_scope : (t : Term) (v : AbstractValue) → Typed p.sorts ls ps t v → IsInScope p ls (data_piece t)

@@ -20,7 +20,7 @@ use Rattle.pb_assembler_scheme.specs.Pieces.{Piece, Empty, Plain, Then, Unless, 
 
 module _ (p : Program) where
   abbrev pub inside : AbstractState → ℕ → Carrier → AbstractState
-  inside k s c = record { operands = []; below = length k.operands + k.below; params = k.params; loops = (s, abstraction_of c) ∷ k.loops; brackets = k.brackets; floor = k.brackets; roots = k.roots }
+  inside k s c = record { operands = []; operands_below = length k.operands + k.operands_below; parameters = k.parameters; loops = (s, abstraction_of c) ∷ k.loops; brackets = k.brackets; brackets_below = k.brackets; roots = k.roots }
 
   -- a body that ends as it began
   pub record Turns (k : AbstractState) (s : ℕ) (Body : AbstractState → AbstractState → Type 0) : Type 0 where
@@ -48,27 +48,27 @@ module _ (p : Program) where
     pub rest : Rest (record k { operands = others })
 
   abbrev pub cut : AbstractState → ℤ → ℤ → ℤ → ℤ → List AbstractValue → AbstractState
-  cut k l h lo hi os = record k { operands = abstract.Int (int_max l lo) (int_min h hi) ∷ os }
+  cut k l h low high os = record k { operands = abstract.Int (int_max l low) (int_min h high) ∷ os }
 
   -- a body that is reached, or isn't
   abbrev pub Reached : Bool → AbstractState → AbstractState → (AbstractState → AbstractState → Type 0) → Type 0
   Reached true k k' Body = (m : AbstractState) × IsCovered k m × Body m k'
   Reached false k k' Body = Unit {0}
 
-  pub record Guards (lo hi : ℤ) (k k' : AbstractState) (Body : AbstractState → AbstractState → Type 0) : Type 0 where
-    pub low : ℤ
-    pub high : ℤ
+  pub record Guards (low high : ℤ) (k k' : AbstractState) (Body : AbstractState → AbstractState → Type 0) : Type 0 where
+    pub least : ℤ
+    pub greatest : ℤ
     pub others : List AbstractValue
-    pub operands : k.operands ≡ abstract.Int low high ∷ others
-    pub leaves : (int_le lo low && int_le high hi) ≡ false
+    pub operands : k.operands ≡ abstract.Int least greatest ∷ others
+    pub leaves : (int_le low least && int_le greatest high) ≡ false
     pub meets : Bool
-    pub meeting : (int_le low hi && int_le lo high) ≡ meets
+    pub meeting : (int_le least high && int_le low greatest) ≡ meets
     pub failed : AbstractState
     pub top : AbstractValue
     pub under : List AbstractValue
     pub failed_operands : failed.operands ≡ top ∷ under
-    pub body : Reached meets (cut k low high lo hi others) failed Body
-    pub outside : IsCovered (record k { operands = abstract.Int low high ∷ others }) failed
+    pub body : Reached meets (cut k least greatest low high others) failed Body
+    pub outside : IsCovered (record k { operands = abstract.Int least greatest ∷ others }) failed
     pub after : IsCovered (record failed { operands = under }) k'
 
   abbrev pub dead : Piece → Table
@@ -80,7 +80,7 @@ module _ (p : Program) where
   dead (Repeat s a) = None ∷ (dead a ++ None ∷ [])
   dead (Block a) = dead a
   dead Leave = None ∷ []
-  dead (Guard lo hi a) = None ∷ (dead a ++ None ∷ [])
+  dead (Guard low high a) = None ∷ (dead a ++ None ∷ [])
 
   abbrev pub reached_notes : (b : Bool) (k k' : AbstractState) (Body : AbstractState → AbstractState → Type 0) → ((m l : AbstractState) → Body m l → Table) → Table → Reached b k k' Body → Table
   reached_notes true k k' Body f d r = f r.0 k' r.2
@@ -96,7 +96,7 @@ module _ (p : Program) where
   IsStraight (Repeat s a) = IsStraight a
   IsStraight (Block a) = IsStraight a
   IsStraight Leave = Unit {0}
-  IsStraight (Guard lo hi a) = IsStraight a
+  IsStraight (Guard low high a) = IsStraight a
 
   -- the piece leads from what is known to what is known, and leaves its block with no more than `out`
   abbrev pub Flows : (x : Piece) (out k k' : AbstractState) → Type 0
@@ -109,7 +109,7 @@ module _ (p : Program) where
   Flows (Repeat s a) out k k' = Turns k s (λ b l. Flows a out b l) × IsCovered k k'
   Flows (Block a) out k k' = Flows a k' k k'
   Flows Leave out k k' = IsCovered k out
-  Flows (Guard lo hi a) out k k' = Guards lo hi k k' (λ b l. Flows a out b l)
+  Flows (Guard low high a) out k k' = Guards low high k k' (λ b l. Flows a out b l)
 
   -- the table's part for the piece
   abbrev pub states : (x : Piece) (out k k' : AbstractState) → Flows x out k k' → Table
@@ -121,7 +121,7 @@ module _ (p : Program) where
   states (Repeat s a) out k k' g = let t = g.0 in Some k ∷ (states a out t.begun t.last t.body ++ Some t.last ∷ [])
   states (Block a) out k k' g = states a k' k k' g
   states Leave out k k' g = Some k ∷ []
-  states (Guard lo hi a) out k k' g = Some k ∷ (reached_notes g.meets _ g.failed (λ b l. Flows a out b l) (λ b l x. states a out b l x) (dead a) g.body ++ Some g.failed ∷ [])
+  states (Guard low high a) out k k' g = Some k ∷ (reached_notes g.meets _ g.failed (λ b l. Flows a out b l) (λ b l x. states a out b l x) (dead a) g.body ++ Some g.failed ∷ [])
 
   long_dead : (x : Piece) (q : ℕ) → end q x ≡ q + length (dead x)
   long_dead Empty q = omega arith
@@ -132,10 +132,10 @@ module _ (p : Program) where
   long_dead (Repeat s a) q = omega (arith, long_dead a (q + 1), length-append (dead a) (None ∷ []))
   long_dead (Block a) q = long_dead a q
   long_dead Leave q = omega arith
-  long_dead (Guard lo hi a) q = omega (arith, long_dead a (q + 1), length-append (dead a) (None ∷ []))
+  long_dead (Guard low high a) q = omega (arith, long_dead a (q + 1), length-append (dead a) (None ∷ []))
 
-  abbrev inner : (lo hi : ℤ) (a : Piece) (out k k' : AbstractState) → Flows (Guard lo hi a) out k k' → Table
-  inner lo hi a out k k' g = reached_notes g.meets (cut k g.low g.high lo hi g.others) g.failed (λ b l. Flows a out b l) (λ b l x. states a out b l x) (dead a) g.body
+  abbrev inner : (low high : ℤ) (a : Piece) (out k k' : AbstractState) → Flows (Guard low high a) out k k' → Table
+  inner low high a out k k' g = reached_notes g.meets (cut k g.least g.greatest low high g.others) g.failed (λ b l. Flows a out b l) (λ b l x. states a out b l x) (dead a) g.body
 
   long_reached : (a : Piece) (Body : AbstractState → AbstractState → Type 0) (f : (m l : AbstractState) → Body m l → Table) (q : ℕ) → ((m l : AbstractState) (x : Body m l) → end q a ≡ q + length (f m l x))
       → (b : Bool) (k k' : AbstractState) (r : Reached b k k' Body) → end q a ≡ q + length (reached_notes b k k' Body f (dead a) r)
@@ -155,8 +155,8 @@ module _ (p : Program) where
   long (Repeat s a) out k k' g q = let t = g.0 in omega (arith, long a out t.begun t.last t.body (q + 1), length-append (states a out t.begun t.last t.body) (Some t.last ∷ []))
   long (Block a) out k k' g q = long a k' k k' g q
   long Leave out k k' g q = omega arith
-  long (Guard lo hi a) out k k' g q =
-      omega (arith, long_reached a (λ b l. Flows a out b l) (λ b l x. states a out b l x) (q + 1) (λ m l x. long a out m l x (q + 1)) g.meets (cut k g.low g.high lo hi g.others) g.failed g.body, length-append (inner lo hi a out k k' g) (Some g.failed ∷ []))
+  long (Guard low high a) out k k' g q =
+      omega (arith, long_reached a (λ b l. Flows a out b l) (λ b l x. states a out b l x) (q + 1) (λ m l x. long a out m l x (q + 1)) g.meets (cut k g.least g.greatest low high g.others) g.failed g.body, length-append (inner low high a out k k' g) (Some g.failed ∷ []))
 
   module _ (table : Table) where
     abbrev pub HasStates : ℕ → Table → Type 0
@@ -184,7 +184,7 @@ module _ (p : Program) where
     first (Repeat s a) out k k' g q h after = h.0
     first (Block a) out k k' g q h after = first a k' k k' g q h after
     first Leave out k k' g q h after = h.0
-    first (Guard lo hi a) out k k' g q h after = h.0
+    first (Guard low high a) out k k' g q h after = h.0
 
     -- no piece changes the loops around
     pub around_end : (x : Piece) → IsStraight x → (q e : ℕ) → HasPieceAt p.code q e x → loops_around p.code (end q x) ≡ loops_around p.code q
@@ -198,14 +198,14 @@ module _ (p : Program) where
         around_next p.code (end (q + 1) a) op.Next h.2 ∙ ap (loops_after (loop_effect op.Next) (end (q + 1) a)) (around_end a g (q + 1) e h.1 ∙ around_next p.code q (op.Loop s) h.0)
     around_end (Block a) g q e h = around_end a g q (end q a) h
     around_end Leave g q e h = around_next p.code q _ h
-    around_end (Guard lo hi a) g q e h = around_next p.code (end (q + 1) a) op.Pop h.2 ∙ around_end a g (q + 1) e h.1 ∙ around_next p.code q _ h.0
+    around_end (Guard low high a) g q e h = around_next p.code (end (q + 1) a) op.Pop h.2 ∙ around_end a g (q + 1) e h.1 ∙ around_next p.code q _ h.0
 
-    -- each place from lo up to hi with a note keeps its instruction's rule
+    -- each place from low up to high with a note keeps its instruction's rule
     abbrev pub EachIn : ℕ → ℕ → Type 0
-    EachIn lo hi = (q : ℕ) (i : Op) (k : AbstractState) → lo ≤ q → q < hi → slice_get p.code q ≡ Some i → state_at table q ≡ Some k → FlowIsCovered table (transfer p (state_at_loop table (loops_around p.code q)) q i k)
+    EachIn low high = (q : ℕ) (i : Op) (k : AbstractState) → low ≤ q → q < high → slice_get p.code q ≡ Some i → state_at table q ≡ Some k → FlowIsCovered table (transfer p (state_at_loop table (loops_around p.code q)) q i k)
 
     pub each_one : (q : ℕ) (o : Op) (k : AbstractState) → slice_get p.code q ≡ Some o → state_at table q ≡ Some k → FlowIsCovered table (transfer p (state_at_loop table (loops_around p.code q)) q o k) → EachIn q (q + 1)
-    each_one q o k h n fine r i m lo hi at known =
+    each_one q o k h n fine r i m low high at known =
         let e : q ≡ r = omega arith in
         let f : slice_get p.code q ≡ slice_get p.code r = ap (slice_get p.code) e in
         let g : state_at table q ≡ state_at table r = ap (state_at table) e in
@@ -215,8 +215,8 @@ module _ (p : Program) where
         (subst (λ (j : Op). FlowIsCovered table (transfer p (state_at_loop table (loops_around p.code q)) q j m)) eo
         (subst (λ (j : AbstractState). FlowIsCovered table (transfer p (state_at_loop table (loops_around p.code q)) q o j)) ek fine))
 
-    pub each_both : (lo mid hi : ℕ) → EachIn lo mid → EachIn mid hi → EachIn lo hi
-    each_both lo mid hi a b q i k l h = ⊎_elim (λ s. a q i k l s) (λ s. b q i k s h) (cases_lt q mid)
+    pub each_both : (low mid high : ℕ) → EachIn low mid → EachIn mid high → EachIn low high
+    each_both low mid high a b q i k l h = ⊎_elim (λ s. a q i k l s) (λ s. b q i k s h) (cases_lt q mid)
 
     each_none : (q : ℕ) → EachIn q q
     each_none q r i k l h = absurd (omega arith)
@@ -238,7 +238,7 @@ module _ (p : Program) where
         (subst (λ c. FlowIsCovered table (cond c (to_next_place q k) None)) (sym (and_from _ _ (eq-eqb l.brackets k.brackets b) (eq-eqb l.roots k.roots r))) (lead, tt)))
 
     each_unreached : (q : ℕ) → state_at table q ≡ None → EachIn q (q + 1)
-    each_unreached q n r i m lo hi at known =
+    each_unreached q n r i m low high at known =
         let e : q ≡ r = omega arith in
         let g : state_at table q ≡ state_at table r = ap (state_at table) e in
         absurd (no_note m (sym n ∙ g ∙ known))
@@ -266,19 +266,19 @@ module _ (p : Program) where
     each_dead (Repeat s a) q n = dead_body a q n.0 n.1 (each_dead a (q + 1))
     each_dead (Block a) q n = each_dead a q n
     each_dead Leave q n = each_unreached q n.0
-    each_dead (Guard lo hi a) q n = dead_body a q n.0 n.1 (each_dead a (q + 1))
+    each_dead (Guard low high a) q n = dead_body a q n.0 n.1 (each_dead a (q + 1))
 
     split_fine : (k0 k1 : AbstractState) (q to : ℕ) (b c : Bool) → (b ≡ true → Leads table (record { to = q + 1; state = k0 })) → c ≡ false → Leads table (record { to = to; state = k1 })
         → AllLead table (Transfer.when b (record { to = q + 1; state = k0 }) ++ Transfer.when (not c) (record { to = to; state = k1 }))
     split_fine k0 k1 q to true c i e o = subst (λ d. AllLead table (Transfer.when true (record { to = q + 1; state = k0 }) ++ Transfer.when (not d) (record { to = to; state = k1 }))) (sym e) (i refl, (o, tt))
     split_fine k0 k1 q to false c i e o = subst (λ d. AllLead table (Transfer.when (not d) (record { to = to; state = k1 }))) (sym e) (o, tt)
 
-    guard_fine : (k : AbstractState) (os : List AbstractValue) (q to : ℕ) (l h lo hi : ℤ) (meets : Bool) → k.operands ≡ abstract.Int l h ∷ os → (int_le lo l && int_le h hi) ≡ false → (int_le l hi && int_le lo h) ≡ meets
-        → (meets ≡ true → Leads table (record { to = q + 1; state = cut k l h lo hi os })) → Leads table (record { to = to; state = record k { operands = abstract.Int l h ∷ os } })
-        → FlowIsCovered table (Transfer.abstract_pop_int k.operands (λ l h ss. Transfer.range_edges q to l h lo hi (record k { operands = abstract.Int (int_max l lo) (int_min h hi) ∷ ss }) (record k { operands = abstract.Int l h ∷ ss })))
-    guard_fine k os q to l h lo hi meets e lv m i o =
-        subst (λ (x : List AbstractValue). FlowIsCovered table (Transfer.abstract_pop_int x (λ l h ss. Transfer.range_edges q to l h lo hi (record k { operands = abstract.Int (int_max l lo) (int_min h hi) ∷ ss }) (record k { operands = abstract.Int l h ∷ ss })))) (sym e)
-        (split_fine (cut k l h lo hi os) (record k { operands = abstract.Int l h ∷ os }) q to (int_le l hi && int_le lo h) (int_le lo l && int_le h hi) (λ t. i (sym m ∙ t)) lv o)
+    guard_fine : (k : AbstractState) (os : List AbstractValue) (q to : ℕ) (l h low high : ℤ) (meets : Bool) → k.operands ≡ abstract.Int l h ∷ os → (int_le low l && int_le h high) ≡ false → (int_le l high && int_le low h) ≡ meets
+        → (meets ≡ true → Leads table (record { to = q + 1; state = cut k l h low high os })) → Leads table (record { to = to; state = record k { operands = abstract.Int l h ∷ os } })
+        → FlowIsCovered table (Transfer.abstract_pop_int k.operands (λ l h ss. Transfer.range_edges q to l h low high (record k { operands = abstract.Int (int_max l low) (int_min h high) ∷ ss }) (record k { operands = abstract.Int l h ∷ ss })))
+    guard_fine k os q to l h low high meets e lv m i o =
+        subst (λ (x : List AbstractValue). FlowIsCovered table (Transfer.abstract_pop_int x (λ l h ss. Transfer.range_edges q to l h low high (record k { operands = abstract.Int (int_max l low) (int_min h high) ∷ ss }) (record k { operands = abstract.Int l h ∷ ss })))) (sym e)
+        (split_fine (cut k l h low high os) (record k { operands = abstract.Int l h ∷ os }) q to (int_le l high && int_le low h) (int_le low l && int_le h high) (λ t. i (sym m ∙ t)) lv o)
 
     pop_fine : (k : AbstractState) (q : ℕ) (s : AbstractValue) (ss : List AbstractValue) → k.operands ≡ s ∷ ss → Leads table (record { to = q + 1; state = record k { operands = ss } }) → FlowIsCovered table (Transfer.abstract_pop k.operands (λ s ss. to_next_place q (record k { operands = ss })))
     pop_fine k q s ss e l = subst (λ (x : List AbstractValue). FlowIsCovered table (Transfer.abstract_pop x (λ s ss. to_next_place q (record k { operands = ss })))) (sym e) (l, tt)
@@ -342,14 +342,14 @@ module _ (p : Program) where
         (next_fine mid t.last k (state_at_loop table (loops_around p.code mid)) (ap (state_at_loop table) round ∙ n.0) t.no_operands t.same_brackets t.same_roots (leads (mid + 1) k k' after g.1))))
     each_in (Block a) out k k' g st q e h leaves n after = each_in a k' k k' g st q (end q a) h after n after
     each_in Leave out k k' g st q e h leaves n after = each_one q _ k h n.0 (leads e k out leaves g, tt)
-    each_in (Guard lo hi a) out k k' g st q e h leaves n after =
+    each_in (Guard low high a) out k k' g st q e h leaves n after =
         let mid = end (q + 1) a in
-        let na = inner lo hi a out k k' g in
+        let na = inner low high a out k k' g in
         let front = noted_front (q + 1) na (Some g.failed ∷ []) n.1 in
-        let back = noted_back (q + 1) mid na (Some g.failed ∷ []) (long_reached a (λ b l. Flows a out b l) (λ b l x. states a out b l x) (q + 1) (λ m l x. long a out m l x (q + 1)) g.meets (cut k g.low g.high lo hi g.others) g.failed g.body) n.1 in
-        let w = within a out (q + 1) e h.1 g.failed g.meets (cut k g.low g.high lo hi g.others) g.body front
+        let back = noted_back (q + 1) mid na (Some g.failed ∷ []) (long_reached a (λ b l. Flows a out b l) (λ b l x. states a out b l x) (q + 1) (λ m l x. long a out m l x (q + 1)) g.meets (cut k g.least g.greatest low high g.others) g.failed g.body) n.1 in
+        let w = within a out (q + 1) e h.1 g.failed g.meets (cut k g.least g.greatest low high g.others) g.body front
         (λ m x nn. first a out m g.failed x (q + 1) nn back.0) (λ m x nn. each_in a out m g.failed x st (q + 1) e h.1 leaves nn back.0) in
         each_both q (q + 1) (mid + 1)
-        (each_one q _ k h.0 n.0 (guard_fine k g.others q mid g.low g.high lo hi g.meets g.operands g.leaves g.meeting w.0 (leads mid _ g.failed back.0 g.outside)))
+        (each_one q _ k h.0 n.0 (guard_fine k g.others q mid g.least g.greatest low high g.meets g.operands g.leaves g.meeting w.0 (leads mid _ g.failed back.0 g.outside)))
         (each_both (q + 1) mid (mid + 1) w.1
         (each_one mid op.Pop g.failed h.2 back.0 (pop_fine g.failed mid g.top g.under g.failed_operands (leads (mid + 1) _ k' after g.after))))

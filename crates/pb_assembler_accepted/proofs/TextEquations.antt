@@ -29,7 +29,7 @@ use Rattle.pb_assembler_scheme.proofs.Slots.{program-slots}
 use Rattle.pb_assembler_accepted.specs.Limits.{KeepsLimits}
 use Rattle.pb_assembler_accepted.specs.Made.{struct_counts, parameter_shapes, IsMadeOf}
 use Rattle.pb_assembler_accepted.proofs.Formulas.{known_of}
-use Rattle.pb_assembler_accepted.proofs.Whole.{AreInhabited, params_solid, has_table}
+use Rattle.pb_assembler_accepted.proofs.Whole.{AreInhabited, parameters_solid, has_table}
 use Rattle.pb_assembler_accepted.proofs.Shapes.{IsDeclaredShape, sort_known, HasCarrier, has_carrier}
 use Rattle.pb_assembler_accepted.proofs.TextTerms.{IsKnown, InSlot}
 use Rattle.pb_assembler_accepted.proofs.TextFormulas.{declared_known, more_slots, formula_types}
@@ -82,12 +82,12 @@ module _ (spec : Spec) (declared : IsDeclared spec) (p : Program) (same : p.sort
 module _ (spec : Spec) (typed : IsWellTyped spec) where
   equation_accepted : (X : Equation) → IsProper spec true (parameters_of spec X) X.right → AreVariables spec X.parameters → (p : Program) → IsMadeOf spec X p → KeepsLimits p (normal_equation spec X) → (table : Table) × Accepted p table
   equation_accepted X proper variables p m limits =
-      let some = inhabited spec typed.declarations p m.sorts X.parameters p.params m.params variables.shaped in
-      let ps = map abstraction_of p.params in
-      let slots = parameters_agree spec typed.declarations p m.sorts ps X.parameters p.params 0 (length X.parameters) outermost unslotted (omega arith) m.params variables.shaped
+      let some = inhabited spec typed.declarations p m.sorts X.parameters p.parameters m.parameters variables.shaped in
+      let ps = map abstraction_of p.parameters in
+      let slots = parameters_agree spec typed.declarations p m.sorts ps X.parameters p.parameters 0 (length X.parameters) outermost unslotted (omega arith) m.parameters variables.shaped
       (λ i. let at : 0 + i ≡ i = omega arith in ap (slice_get ps) at) (λ x. tt) in
       has_table p (normal_equation spec X) m.compiled
-      (formula_types spec typed.declarations p m.sorts ps (params_solid p p.params some) m.callees true (parameters_of spec X) X.right proper [] (with_slots X.parameters 0 unslotted) (length X.parameters)
+      (formula_types spec typed.declarations p m.sorts ps (parameters_solid p p.parameters some) m.callees true (parameters_of spec X) X.right proper [] (with_slots X.parameters 0 unslotted) (length X.parameters)
       (record { slots = slots; fresh = λ i l. refl; solid = tt }) (program-slots p (normal_equation spec X) m.compiled.slots))
       some limits
 
@@ -126,4 +126,4 @@ callee_values spec (d ∷ ds) (X ∷ E) e =
     cc
 
 pub program_made : (spec : Spec) (X : Equation) (p : Program) → IsMadeOf spec X p → IsProgramOf spec X p
-program_made spec X p m = record { compiled = m.compiled; params = all_values spec p.params X.parameters m.params; callees = callee_values spec p.callees spec.equations m.callees }
+program_made spec X p m = record { compiled = m.compiled; parameters = all_values spec p.parameters X.parameters m.parameters; callees = callee_values spec p.callees spec.equations m.callees }

@@ -216,10 +216,10 @@ module _ (p : Program) (k : AbstractState) (self : IsCovered k k) where
   topped os = record k { operands = os }
 
   pub covers_with : (os ts : List AbstractValue) → CoversEach os ts → IsCovered (topped os) (topped ts)
-  covers_with os ts h = record { operands = h; below = refl; params = self.params; loops = self.loops; brackets = refl; floor = refl; roots = refl }
+  covers_with os ts h = record { operands = h; operands_below = refl; parameters = self.parameters; loops = self.loops; brackets = refl; brackets_below = refl; roots = refl }
 
   abbrev pub height : List AbstractValue → ℕ
-  height os = length os + k.below
+  height os = length os + k.operands_below
 
   -- an instruction that pushes
   gives : (i : Op) (from os : List AbstractValue) (v v' : AbstractValue) → loop_effect i ≡ Straight → CoversEach os os → Covers v v' → height os < 32
@@ -227,7 +227,7 @@ module _ (p : Program) (k : AbstractState) (self : IsCovered k k) where
   gives i from os v v' t co c low way = record {
     straight = t;
     next = topped (v ∷ os);
-    way = λ home q. way home q ∙ ap (λ b. cond b (to_next_place q (topped (v ∷ os))) None) (lt-ltb (length os + k.below) 32 low);
+    way = λ home q. way home q ∙ ap (λ b. cond b (to_next_place q (topped (v ∷ os))) None) (lt-ltb (length os + k.operands_below) 32 low);
     covered = covers_with (v ∷ os) (v' ∷ os) (c, co);
   }
 
@@ -295,10 +295,10 @@ module _ (p : Program) (k : AbstractState) (self : IsCovered k k) where
       )
 
   abbrev TypedHere : Term → AbstractValue → Type 0
-  TypedHere t v = Typed p.sorts k.loops k.params t v
+  TypedHere t v = Typed p.sorts k.loops k.parameters t v
 
   here_solid : (t : Term) (v : AbstractValue) → TypedHere t v → Covers v v
-  here_solid t v h = solid p.sorts k.loops k.params self.loops self.params t v h
+  here_solid t v h = solid p.sorts k.loops k.parameters self.loops self.parameters t v h
 
   binary_some : (o : Operator) (m n : ℕ) → 1 ≤ m → 1 ≤ n → 1 ≤ binary_operands o m n
   binary_some Operator.And m n a b = omega arith

@@ -22,7 +22,7 @@ module _ (p : Program) (cost : Op → ℕ) (jump : ℕ) where
   pub record Blind : Type 0 where
     pub always : (t : ℕ) → cost (op.Jump t) ≡ jump
     pub where_true : (on : _) (t : ℕ) → cost (op.JumpIf on t) ≡ jump
-    pub ranged : (lo hi : _) (t : ℕ) → cost (op.InRange lo hi t) ≡ jump
+    pub ranged : (low high : _) (t : ℕ) → cost (op.InRange low high t) ≡ jump
 
   one_straight : (o : Op) (is : List Op) (ws : List ℕ) → loop_effect o ≡ Straight → cost_of p cost (o ∷ is) ws ≡ multiplier ws * cost o + cost_of p cost is ws
   one_straight o is ws e = ap (λ (t : LoopEffect). cost_by p t (cost o) ws (cost_of p cost is)) e
@@ -57,9 +57,9 @@ module _ (p : Program) (cost : Op → ℕ) (jump : ℕ) where
       more t (cost (op.Loop s)) (size * (weight p cost jump a + cost op.Next)) r _ _ refl (body ∙ ap (λ n. n + r) (mul_assoc t size (weight p cost jump a + cost op.Next)))
   counted bl (Block a) q e rest ws st = counted bl a q (end q a) rest ws st
   counted bl Leave q e rest ws st = ap (λ n. multiplier ws * n + cost_of p cost rest ws) (bl.always e)
-  counted bl (Guard lo hi a) q e rest ws st =
+  counted bl (Guard low high a) q e rest ws st =
       more (multiplier ws) jump (weight p cost jump a + cost op.Pop) (cost_of p cost rest ws) _ _
-      (ap (λ n. multiplier ws * n + cost_of p cost ((flat (q + 1) e a ++ op.Pop ∷ []) ++ rest) ws) (bl.ranged lo hi _))
+      (ap (λ n. multiplier ws * n + cost_of p cost ((flat (q + 1) e a ++ op.Pop ∷ []) ++ rest) ws) (bl.ranged low high _))
       (more (multiplier ws) (weight p cost jump a) (cost op.Pop) (cost_of p cost rest ws) _ _
       (ap (λ (is : List Op). cost_of p cost is ws) (append_assoc (flat (q + 1) e a) (op.Pop ∷ []) rest) ∙ counted bl a (q + 1) e (op.Pop ∷ rest) ws st) refl)
 
@@ -155,10 +155,10 @@ module _ (p : Program) (f : Formula) (compiled : IsCompiled p f) where
       ∙ (let w = counted p cost jump blind whole 0 0 [] [] (equation_straight p p.callees f) in omega (arith, w))
 
   pub steps_weighed : static_steps p ≡ weight p one_step 1 whole
-  steps_weighed = all_weighed one_step 1 (record { always = λ t. refl; where_true = λ on t. refl; ranged = λ lo hi t. refl })
+  steps_weighed = all_weighed one_step 1 (record { always = λ t. refl; where_true = λ on t. refl; ranged = λ low high t. refl })
 
   pub tokens_weighed : static_tokens p ≡ weight p tokens_of 0 whole
-  tokens_weighed = all_weighed tokens_of 0 (record { always = λ t. refl; where_true = λ on t. refl; ranged = λ lo hi t. refl })
+  tokens_weighed = all_weighed tokens_of 0 (record { always = λ t. refl; where_true = λ on t. refl; ranged = λ low high t. refl })
 
   pub code_long : length p.code ≡ end 0 whole
   code_long = ap length compiled.code ∙ sym (let l = long 0 0 whole in omega (arith, l))

@@ -29,11 +29,11 @@ abbrev pub AreInhabited : List Carrier → Type 0
 AreInhabited [] = Unit {0}
 AreInhabited (c ∷ cs) = (is_inhabited c ≡ true) × AreInhabited cs
 
-pub params_solid : Program → (cs : List Carrier) → AreInhabited cs → CoversEach (map abstraction_of cs) (map abstraction_of cs)
-params_solid p [] h = tt
-params_solid p (c ∷ cs) h = (inhabited_solid p c h.0, params_solid p cs h.1)
+pub parameters_solid : Program → (cs : List Carrier) → AreInhabited cs → CoversEach (map abstraction_of cs) (map abstraction_of cs)
+parameters_solid p [] h = tt
+parameters_solid p (c ∷ cs) h = (inhabited_solid p c h.0, parameters_solid p cs h.1)
 
-module _ (p : Program) (f : Formula) (compiled : IsCompiled p f) (typed : TypedFormula p [] (map abstraction_of p.params) f) (inhabited : AreInhabited p.params) (limits : KeepsLimits p f) where
+module _ (p : Program) (f : Formula) (compiled : IsCompiled p f) (typed : TypedFormula p [] (map abstraction_of p.parameters) f) (inhabited : AreInhabited p.parameters) (limits : KeepsLimits p f) where
   abbrev inner : Piece
   inner = formula_piece p.callees (head f) f
 
@@ -49,10 +49,10 @@ module _ (p : Program) (f : Formula) (compiled : IsCompiled p f) (typed : TypedF
   last = record (entry p) { roots = 1 }
 
   solid : (b r : ℕ) → IsCovered (record (entry p) { brackets = b; roots = r }) (record (entry p) { brackets = b; roots = r })
-  solid b r = record { operands = tt; below = refl; params = params_solid p p.params inhabited; loops = tt; brackets = refl; floor = refl; roots = refl }
+  solid b r = record { operands = tt; operands_below = refl; parameters = parameters_solid p p.parameters inhabited; loops = tt; brackets = refl; brackets_below = refl; roots = refl }
 
   settled : Settled opened
-  settled = record { self = solid 1 1; outer = 0; open_one = refl; floor = omega arith }
+  settled = record { self = solid 1 1; outer = 0; open_one = refl; brackets_below = omega arith }
 
   body_flows : Flows p body (entry p) (entry p) last
   body_flows = (
@@ -76,7 +76,7 @@ module _ (p : Program) (f : Formula) (compiled : IsCompiled p f) (typed : TypedF
   code_long = ap length compiled.code ∙ sym (let l = code.long 0 0 (equation_piece p.callees f) in omega (arith, l))
 
   scope : IsInScope p [] body
-  scope = (tt, (formula_scope p (map abstraction_of p.params) (length-map p.params abstraction_of) f [] (head f) typed (let l = limits.nesting in omega arith), tt))
+  scope = (tt, (formula_scope p (map abstraction_of p.parameters) (length-map p.parameters abstraction_of) f [] (head f) typed (let l = limits.nesting in omega arith), tt))
 
   stays : HasNoLeave body
   stays = (tt, (formula_stays p.callees f (head f), tt))

@@ -16,5 +16,5 @@ parameter_shapes spec E = map (λ (X : Equation). variable_shapes spec X.paramet
 pub record IsMadeOf (spec : Spec) (X : Equation) (p : Program) : Type 0 where
   pub compiled : IsCompiled p (normal_equation spec X)
   pub sorts : p.sorts ≡ struct_counts spec.sorts
-  pub params : shapes_of p.params ≡ variable_shapes spec X.parameters
+  pub parameters : shapes_of p.parameters ≡ variable_shapes spec X.parameters
   pub callees : map shapes_of p.callees ≡ parameter_shapes spec spec.equations

@@ -17,4 +17,4 @@ weight p cost jump (Choose on a b) = jump + (weight p cost jump a + (jump + weig
 weight p cost jump (Repeat s a) = cost (op.Loop s) + size_of (carrier_of p s) * (weight p cost jump a + cost op.Next)
 weight p cost jump (Block a) = weight p cost jump a
 weight p cost jump Leave = jump
-weight p cost jump (Guard lo hi a) = jump + (weight p cost jump a + cost op.Pop)
+weight p cost jump (Guard low high a) = jump + (weight p cost jump a + cost op.Pop)

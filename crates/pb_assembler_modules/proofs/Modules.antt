@@ -41,18 +41,18 @@ counted (d ∷ ds) = by d.sort (counted ds)
     by (Struct es) e = ap (λ n. n ∷ counts (struct_names ds)) (length-map es (λ (x : Enumerator). x.name)) ∙ ap (λ (ns : List ℕ). length es ∷ ns) e
     by (Alias t) e = e
 
-callees : (spec : Spec) (m : Contents) (E : List Equation) (es : List EquationContents) → AreEquationsOf spec m E es → map shapes_of (map (λ (e : EquationContents). e.params) es) ≡ parameter_shapes spec E
+callees : (spec : Spec) (m : Contents) (E : List Equation) (es : List EquationContents) → AreEquationsOf spec m E es → map shapes_of (map (λ (e : EquationContents). e.parameters) es) ≡ parameter_shapes spec E
 callees spec m [] [] h = refl
 callees spec m [] (e ∷ es) h = absurd h
 callees spec m (X ∷ E) [] h = absurd h
-callees spec m (X ∷ E) (e ∷ es) h = let first = h.0.params in let rest = callees spec m E es h.1 in cc
+callees spec m (X ∷ E) (e ∷ es) h = let first = h.0.parameters in let rest = callees spec m E es h.1 in cc
 
 module _ (spec : Spec) (m : Contents) (h : IsCompiledModule spec m) where
   pub made : (X : Equation) (e : EquationContents) → IsEquationOf spec m X e → IsMadeOf spec X (program_of m e)
   made X e q = record {
     compiled = q.compiled;
     sorts = ap counts h.sorts ∙ counted spec.sorts;
-    params = q.params;
+    parameters = q.parameters;
     callees = callees spec m spec.equations m.equations h.equations;
   }
 
@@ -86,20 +86,20 @@ module _ (spec : Spec) (m : Contents) (h : IsCompiledModule spec m) where
 
     -- the carriers of parameters, which number the instances
     same_values : (E : List Equation) (es : List EquationContents) → AreEquationsOf spec m E es
-        → layout.carriers_of (map (λ (e : EquationContents). e.params) es) ≡ map (λ (X : Equation). carriers_of spec X.parameters) E
+        → layout.carriers_of (map (λ (e : EquationContents). e.parameters) es) ≡ map (λ (X : Equation). carriers_of spec X.parameters) E
     same_values [] [] q = refl
     same_values [] (e ∷ es) q = absurd q
     same_values (X ∷ E) [] q = absurd q
-    same_values (X ∷ E) (e ∷ es) q = let first = (programs_made X (program_of m e) (made X e q.0)).params in let rest = same_values E es q.1 in cc
+    same_values (X ∷ E) (e ∷ es) q = let first = (programs_made X (program_of m e) (made X e q.0)).parameters in let rest = same_values E es q.1 in cc
 
     same_signatures : (E : List Equation) (es : List EquationContents) → AreEquationsOf spec m E es → map signature_of es ≡ map (scheme.signature_of spec) E
     same_signatures [] [] q = refl
     same_signatures [] (e ∷ es) q = absurd q
     same_signatures (X ∷ E) [] q = absurd q
     same_signatures (X ∷ E) (e ∷ es) q =
-        let size = ap tuple_count (programs_made X (program_of m e) (made X e q.0)).params in
+        let size = ap tuple_count (programs_made X (program_of m e) (made X e q.0)).parameters in
         let sign = q.0.sign in
-        let first : signature_of e ≡ scheme.signature_of spec X = ap (λ s. record { sign = s; size = tuple_count (map values_of e.params) }) sign ∙ ap (λ n. record { sign = X.sign; size = n }) size in
+        let first : signature_of e ≡ scheme.signature_of spec X = ap (λ s. record { sign = s; size = tuple_count (map values_of e.parameters) }) sign ∙ ap (λ n. record { sign = X.sign; size = n }) size in
         let rest = same_signatures E es q.1 in
         cc
 
@@ -114,7 +114,7 @@ module _ (spec : Spec) (m : Contents) (h : IsCompiledModule spec m) where
     are_trees : scheme.AreTrees spec (map (program_of m) m.equations) trees
     are_trees k p tuple at fit =
         let q = has_equation m.equations k p at in
-        let fits = subst (λ (b : Program). AreArguments b.params tuple) (sym q.2) fit in
+        let fits = subst (λ (b : Program). AreArguments b.parameters tuple) (sym q.2) fit in
         let end = ends k q.0 tuple q.1 fits in
         subst (λ (b : Program). EndsWith b tuple (trees (number_of (all_carriers spec) (record { equation = k; values = tuple })))) q.2
         (subst (λ cs. EndsWith (program_of m q.0) tuple (trees (number_of cs (record { equation = k; values = tuple })))) all_values end)

@@ -18,7 +18,7 @@ use Rattle.pb_assembler_scheme.specs.Correct.{number_in}
 -- under every environment of numbers, each instance's tree is true exactly where the text's equation holds there
 abbrev pub TreesHold : Spec → Contents → (ℕ → Tree) → Type 0
 TreesHold spec m trees =
-    (k : ℕ) (X : Equation) (e : EquationContents) (values : Tuple) → slice_get spec.equations k ≡ Some X → slice_get m.equations k ≡ Some e → AreArguments e.params values
+    (k : ℕ) (X : Equation) (e : EquationContents) (values : Tuple) → slice_get spec.equations k ≡ Some X → slice_get m.equations k ≡ Some e → AreArguments e.parameters values
     → (numbers : Environment ℕ) (t : Environment Instance) → Matches (is_instance spec) (number_in spec) numbers t
     → tree_truth numbers (trees (number_at m k values)) ≡ (equation_of spec X).holds (record { name = X.name; values = values }) t
 

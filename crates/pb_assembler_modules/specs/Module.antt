@@ -25,7 +25,7 @@ struct_names (d ∷ ds) = with_names d.sort (struct_names ds)
 pub record IsEquationOf (spec : Spec) (m : Contents) (X : Equation) (e : EquationContents) : Type 0 where
   pub sign : e.sign ≡ X.sign
   pub name : e.name ≡ X.name
-  pub params : shapes_of e.params ≡ variable_shapes spec X.parameters
+  pub parameters : shapes_of e.parameters ≡ variable_shapes spec X.parameters
   pub compiled : IsCompiled (program_of m e) (normal_equation spec X)
 
 -- one for each, in order

@@ -45,11 +45,11 @@ abbrev within : List Carrier → List ℤ → Bool
 within cs zs = carriers.is_within (map values_of cs) zs
 
 -- a number outside a range is none of its values
-outside-range : (r : range.Range) (z : ℤ) → (int_le r.lo z && int_le z r.hi) ≡ false → holds (carrier.Range r) z ≡ false
+outside-range : (r : range.Range) (z : ℤ) → (int_le r.low z && int_le z r.high) ≡ false → holds (carrier.Range r) z ≡ false
 outside-range r z e = by (holds (carrier.Range r) z) refl
   where
     by : (b : Bool) → holds (carrier.Range r) z ≡ b → holds (carrier.Range r) z ≡ false
-    by true h = let w = tagged_within (carrier.Range r) z h in absurd (true≢false (sym (and_from _ _ (from_le r.lo z w.0) (from_le z r.hi w.1)) ∙ e))
+    by true h = let w = tagged_within (carrier.Range r) z h in absurd (true≢false (sym (and_from _ _ (from_le r.low z w.0) (from_le z r.high w.1)) ∙ e))
     by false h = h
 
 fails-range : (c : Carrier) (shape : Shape) (tested : ℤ × ℤ) → tested_range c shape ≡ Some tested → (z : ℤ) → (int_le tested.0 z && int_le z tested.1) ≡ false → holds c z ≡ false
@@ -58,11 +58,11 @@ fails-range (carrier.Enum n) shape tested e z out = cc
 fails-range (carrier.Range r) Unknown tested e z out = cc
 fails-range (carrier.Range r) Truths tested e z out = cc
 fails-range (carrier.Range r) (Places s n) tested e z out = cc
-fails-range (carrier.Range r) (Wholes l h) tested e z out = by (intervals.is_within (interval l h) (interval r.lo r.hi)) e
+fails-range (carrier.Range r) (Wholes l h) tested e z out = by (intervals.is_within (interval l h) (interval r.low r.high)) e
   where
-    by : (b : Bool) → cond b None (Some (r.lo, r.hi)) ≡ Some tested → holds (carrier.Range r) z ≡ false
+    by : (b : Bool) → cond b None (Some (r.low, r.high)) ≡ Some tested → holds (carrier.Range r) z ≡ false
     by true k = cc
-    by false k = let same : (r.lo, r.hi) ≡ tested = cc in outside-range r z (ap (λ (p : ℤ × ℤ). int_le p.0 z && int_le z p.1) same ∙ out)
+    by false k = let same : (r.low, r.high) ≡ tested = cc in outside-range r z (ap (λ (p : ℤ × ℤ). int_le p.0 z && int_le z p.1) same ∙ out)
 
 length_untagged : (vs : List Value) → length (map untagged vs) ≡ length vs
 length_untagged [] = refl

@@ -34,12 +34,12 @@ slots-hold vs s below = slice_get-get_or vs s (pos 0) below ∙ ap Some (sym (un
 abbrev pub EndedLaw : Type 0
 EndedLaw =
     (spec : Spec) (p : Program) (f : Formula) (tuple : Tuple) (tree : Tree) → IsCompiled p f → HasFullCalls p.callees f
-    → Declares spec p.callees → AreArguments p.params tuple → EndsWith p tuple tree → HasTruth spec f tuple tree
+    → Declares spec p.callees → AreArguments p.parameters tuple → EndsWith p tuple tree → HasTruth spec f tuple tree
 
 module _ (ended : EndedLaw) (spec : Spec) (typed : IsWellTyped spec) where
   decides-equation : (X : Equation) → IsProper spec true (parameters_of spec X) X.right → KeepsTruth spec X → (p : Program) → IsProgramOf spec X p → DecidesEquation spec X p
   decides-equation X proper keeps p h tuple tree fit end numbers t matches =
-      let inside : is_within (carriers_of spec X.parameters) tuple ≡ true = subst (λ (cs : List Carrier). is_within cs tuple ≡ true) h.params fit in
+      let inside : is_within (carriers_of spec X.parameters) tuple ≡ true = subst (λ (cs : List Carrier). is_within cs tuple ≡ true) h.parameters fit in
       let long : length tuple ≡ length X.parameters = within-length (carriers_of spec X.parameters) tuple inside ∙ length-map X.parameters (λ (x : Variable). carrier_of spec x.sort) in
       let declares : Declares spec p.callees = record { carriers = h.callees; apart = typed.declarations.predicate_variables } in
       ended spec p (normal_equation spec X) tuple tree h.compiled (equation-full spec p.callees h.callees X proper) declares fit end numbers t matches

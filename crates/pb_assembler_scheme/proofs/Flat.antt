@@ -16,7 +16,7 @@ long q e (Choose on a b) =
 long q e (Repeat s a) = omega (arith, long (q + 1) e a, length-append (flat (q + 1) e a) (op.Next ∷ []))
 long q e (Block a) = long q (end q a) a
 long q e Leave = omega arith
-long q e (Guard lo hi a) = omega (arith, long (q + 1) e a, length-append (flat (q + 1) e a) (op.Pop ∷ []))
+long q e (Guard low high a) = omega (arith, long (q + 1) e a, length-append (flat (q + 1) e a) (op.Pop ∷ []))
 
 -- the instructions stand in the code at this place
 abbrev pub HasAt : List Op → ℕ → List Op → Type 0
@@ -61,7 +61,7 @@ stands code q e (Repeat s a) h =
     (h.0, stands code (q + 1) e a (has_front code (q + 1) f (op.Next ∷ []) h.1), k.0)
 stands code q e (Block a) h = stands code q (end q a) a h
 stands code q e Leave h = h.0
-stands code q e (Guard lo hi a) h =
+stands code q e (Guard low high a) h =
     let f = flat (q + 1) e a in
     let k = has_back code (q + 1) (end (q + 1) a) f (op.Pop ∷ []) (long (q + 1) e a) h.1 in
     (h.0, stands code (q + 1) e a (has_front code (q + 1) f (op.Pop ∷ []) h.1), k.0)

@@ -113,7 +113,7 @@ module _ (p : Program) (Q : List Token → Type 0) where
   agrees_in : (st : State) (a : Slots) (f : Frame) → Agrees st a → Agrees (record st { loops = f ∷ st.loops }) (set a f.slot (untagged f.value))
   agrees_in st a f ag i v h = by (i == f.slot) h
     where
-      by : (b : Bool) → cond b (Some f.value) (Machine.value_at st.loops st.params i) ≡ Some v → untagged v ≡ cond b (untagged f.value) (a i)
+      by : (b : Bool) → cond b (Some f.value) (Machine.value_at st.loops st.parameters i) ≡ Some v → untagged v ≡ cond b (untagged f.value) (a i)
       by true h = let e : f.value ≡ v = cc in ap untagged (sym e)
       by false h = ag i v h
 

@@ -59,14 +59,14 @@ module _ (p : Program) where
   behind (x ∷ xs) c cs = behind xs c cs
 
   -- the carrier at a slot behind the parameters
-  loop-carrier : (i k : ℕ) (c : Carrier) → i ≡ length p.params + k → slice_get p.loops k ≡ Some c → carrier_of p i ≡ Some c
+  loop-carrier : (i k : ℕ) (c : Carrier) → i ≡ length p.parameters + k → slice_get p.loops k ≡ Some c → carrier_of p i ≡ Some c
   loop-carrier i k c e at =
-      let n = length p.params in
+      let n = length p.parameters in
       let far : nat_lt i n ≡ false = le-ltb i n (omega arith) in
       let back : i - n ≡ k = omega arith in
       ap (λ b. cond b None (slice_get p.loops (i - n))) far ∙ ap (slice_get p.loops) back ∙ at
 
-  have-loops : (xs cs : List Carrier) (i : ℕ) → i ≡ length p.params + length xs → p.loops ≡ xs ++ cs → Have (slots_from i cs)
+  have-loops : (xs cs : List Carrier) (i : ℕ) → i ≡ length p.parameters + length xs → p.loops ≡ xs ++ cs → Have (slots_from i cs)
   have-loops xs [] i e split = tt
   have-loops xs (c ∷ cs) i e split =
       let long = length-append xs (c ∷ []) in (
@@ -74,5 +74,5 @@ module _ (p : Program) where
         have-loops (xs ++ c ∷ []) cs (suc i) (omega (arith, long)) (split ∙ sym (append_assoc xs (c ∷ []) cs)),
       )
 
-  pub program-slots : (f : Formula) → quantifiers f ≡ slots_from (length p.params) p.loops → HasSlots p f
-  program-slots f e = has-slots f (subst Have (sym e) (have-loops [] p.loops (length p.params) (omega arith) refl))
+  pub program-slots : (f : Formula) → quantifiers f ≡ slots_from (length p.parameters) p.loops → HasSlots p f
+  program-slots f e = has-slots f (subst Have (sym e) (have-loops [] p.loops (length p.parameters) (omega arith) refl))

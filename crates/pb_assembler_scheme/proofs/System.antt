@@ -71,7 +71,7 @@ module _ (spec : Spec) (typed : IsWellTyped spec)
       let k = place_in spec i in
       let h = program-at spec spec.equations ps k X programs known.at in
       let p = h.program in
-      let fit = subst (λ (cs : List Carrier). is_within cs i.values ≡ true) (sym h.of_equation.params) known.within in
+      let fit = subst (λ (cs : List Carrier). is_within cs i.values ≡ true) (sym h.of_equation.parameters) known.within in
       let here = get_or_from_slice_get spec.equations k X X known.at in
       let law : DecidesEquation spec X p = subst (λ (Y : Equation). (q : Program) → IsProgramOf spec Y q → DecidesEquation spec Y q) here (decides k X (slice_get_within spec.equations k X known.at)) p h.of_equation in
       ap (λ (o : Option Equation). holds_of o i t) known.found

@@ -27,7 +27,7 @@ use Rattle.pb_assembler_scheme.proofs.Wins.{Wins, After, one, avoids_fault, push
 
 -- what the machine's slots hold is what the formula's slots hold
 abbrev pub Agrees : State → Slots → Type 0
-Agrees st a = (i : ℕ) (v : Value) → Machine.value_at st.loops st.params i ≡ Some v → untagged v ≡ a i
+Agrees st a = (i : ℕ) (v : Value) → Machine.value_at st.loops st.parameters i ≡ Some v → untagged v ≡ a i
 
 module _ (p : Program) (Q : List Token → Type 0) where
   -- the state after a term: its value on top
@@ -177,7 +177,7 @@ module _ (p : Program) (Q : List Token → Type 0) where
   truth_gives b st e a h ag go = one p Q st _ h (pushed p Q st st.operands (BoolValue b) (go (BoolValue b) refl))
 
   slot_gives : (i : ℕ) → GivesValue (data_piece (Slot i)) (of (Slot i))
-  slot_gives i st e a h ag go = one p Q st _ h (slot (Machine.value_at st.loops st.params i) st (λ v k. go v (ag i v k)))
+  slot_gives i st e a h ag go = one p Q st _ h (slot (Machine.value_at st.loops st.parameters i) st (λ v k. go v (ag i v k)))
 
   negative_gives : (x : Term) → GivesValue (data_piece x) (of x) → GivesValue (data_piece (Negative x)) (of (Negative x))
   negative_gives x hx st e a h ag go = hx st e a h.0 ag (λ v k. at_negate st _ v st.operands h.1 (go _ (ap neg_ℤ k)))

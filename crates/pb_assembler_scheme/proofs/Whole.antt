@@ -63,13 +63,13 @@ longer-fault p (suc m) k st g e =
     by (Ends out) h e = e
     by (Faults f) h e = e
 
-module _ (spec : Spec) (p : Program) (f : Formula) (tuple : Tuple) (compiled : IsCompiled p f) (full : HasFullCalls p.callees f) (declares : Declares spec p.callees) (fit : AreArguments p.params tuple) where
+module _ (spec : Spec) (p : Program) (f : Formula) (tuple : Tuple) (compiled : IsCompiled p f) (full : HasFullCalls p.callees f) (declares : Declares spec p.callees) (fit : AreArguments p.parameters tuple) where
   code-stands : HasPieceAt p.code 0 0 (equation_piece p.callees f)
   code-stands =
       stands p.code 0 0 (equation_piece p.callees f)
       (subst (λ (code : List Op). HasAt code 0 (equation_code p.callees f)) (sym compiled.code) (has_all (equation_code p.callees f)))
 
-  decided : (n : ℕ) (x : Outcome) → run p n (start (arguments p.params tuple)) ≡ x → EndsIn (IsDecided p f (arguments p.params tuple) (slots_of tuple)) x → IsFaultless p tuple → Decides spec p f tuple
+  decided : (n : ℕ) (x : Outcome) → run p n (start (arguments p.parameters tuple)) ≡ x → EndsIn (IsDecided p f (arguments p.parameters tuple) (slots_of tuple)) x → IsFaultless p tuple → Decides spec p f tuple
   decided n (Continues st) e h ok = absurd h
   decided n (Faults g) e h ok = absurd (ok n g e)
   decided n (Ends out) e h ok = record {
@@ -81,8 +81,8 @@ module _ (spec : Spec) (p : Program) (f : Formula) (tuple : Tuple) (compiled : I
 
   pub decides : IsFaultless p tuple → Decides spec p f tuple
   decides ok =
-      let w = wins p f (arguments p.params tuple) (slots_of tuple) full (start-slots p.params tuple fit) code-stands in
-      decided w.steps (run p w.steps (start (arguments p.params tuple))) refl w.ending ok
+      let w = wins p f (arguments p.parameters tuple) (slots_of tuple) full (start-slots p.parameters tuple fit) code-stands in
+      decided w.steps (run p w.steps (start (arguments p.parameters tuple))) refl w.ending ok
 
   -- ---- runs that end with a tree
 
@@ -91,7 +91,7 @@ module _ (spec : Spec) (p : Program) (f : Formula) (tuple : Tuple) (compiled : I
 
   ends-faultless : (tree : Tree) → EndsWith p tuple tree → IsFaultless p tuple
   ends-faultless tree ended n g e =
-      let late = longer-fault p n (static_steps p) (start (arguments p.params tuple)) g e in
+      let late = longer-fault p n (static_steps p) (start (arguments p.parameters tuple)) g e in
       let early = ended.ends (n + static_steps p) (omega arith) in
       no-end (sym late ∙ early)
     where
@@ -101,7 +101,7 @@ module _ (spec : Spec) (p : Program) (f : Formula) (tuple : Tuple) (compiled : I
   pub ended-decides : TokensAreOneTree → (tree : Tree) → EndsWith p tuple tree → HasTruth spec f tuple tree
   ended-decides one-tree tree ended =
       let d = decides (ends-faultless tree ended) in
-      let st = start (arguments p.params tuple) in
+      let st = start (arguments p.parameters tuple) in
       let n = d.steps + static_steps p in
       let late = longer p d.steps (static_steps p) st (tree_tokens d.tree) d.ends in
       let early = ended.ends n (omega arith) in

@@ -34,7 +34,7 @@ slots_from n (c ∷ cs) = (n, carrier_shape (Some c)) ∷ slots_from (suc n) cs
 -- in order, and exactly the static counts
 pub record IsCompiled (p : Program) (f : Formula) : Type 0 where
   pub code : p.code ≡ equation_code p.callees f
-  pub slots : quantifiers f ≡ slots_from (length p.params) p.loops
+  pub slots : quantifiers f ≡ slots_from (length p.parameters) p.loops
   pub steps : p.stated_steps ≡ static_steps p
   pub tokens : p.stated_tokens ≡ static_tokens p
 
@@ -75,11 +75,11 @@ HasTruth spec f tuple tree =
 
 -- no run on these values faults
 abbrev pub IsFaultless : Program → Tuple → Type 0
-IsFaultless p tuple = (n : ℕ) (fault : MachineFault) → run p n (start (arguments p.params tuple)) ≢ Faults fault
+IsFaultless p tuple = (n : ℕ) (fault : MachineFault) → run p n (start (arguments p.parameters tuple)) ≢ Faults fault
 
 -- the run on these values ends with the tokens of a tree that has the formula's truth
 pub record Decides (spec : Spec) (p : Program) (f : Formula) (tuple : Tuple) : Type 0 where
   pub tree : Tree
   pub steps : ℕ
-  pub ends : run p steps (start (arguments p.params tuple)) ≡ Ends (tree_tokens tree)
+  pub ends : run p steps (start (arguments p.parameters tuple)) ≡ Ends (tree_tokens tree)
   pub has_truth : HasTruth spec f tuple tree

@@ -18,12 +18,12 @@ use Rattle.pb_assembler_scheme.specs.Correct.{IsCompiled, number_in}
 -- the scheme's program of an equation: that of its normal form, with the carriers of all parameters
 pub record IsProgramOf (spec : Spec) (X : Equation) (p : Program) : Type 0 where
   pub compiled : IsCompiled p (normal_equation spec X)
-  pub params : map values_of p.params ≡ carriers_of spec X.parameters
+  pub parameters : map values_of p.parameters ≡ carriers_of spec X.parameters
   pub callees : layout.carriers_of p.callees ≡ all_carriers spec
 
 -- a tree with which the program's run ends is true exactly where the equation holds
 abbrev pub DecidesEquation : Spec → Equation → Program → Type 0
 DecidesEquation spec X p =
-    (tuple : Tuple) (tree : Tree) → AreArguments p.params tuple → EndsWith p tuple tree
+    (tuple : Tuple) (tree : Tree) → AreArguments p.parameters tuple → EndsWith p tuple tree
     → (numbers : Environment ℕ) (t : Environment Instance) → Matches (is_instance spec) (number_in spec) numbers t
     → tree_truth numbers tree ≡ (equation_of spec X).holds (record { name = X.name; values = tuple }) t

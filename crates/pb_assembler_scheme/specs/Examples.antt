@@ -79,7 +79,7 @@ abbrev pub others_program : Program
 others_program = record {
   sorts = 3 ∷ [];
   callees = (letter_carrier ∷ []) ∷ [];
-  params = letter_carrier ∷ [];
+  parameters = letter_carrier ∷ [];
   loops = letter_carrier ∷ [];
   stated_steps = 28;
   stated_tokens = 5;
@@ -89,7 +89,7 @@ others_program = record {
 pub record OthersAreCompiled : Type 0 where
   pub form : normal_equation others_spec others_equation ≡ others_form
   pub program : IsProgramOf others_spec others_equation others_program
-  pub at_b : run others_program 28 (start (arguments others_program.params (pos 1 ∷ []))) ≡ Ends (token.And ∷ (token.Call 0 ∷ (token.Call 2 ∷ (token.Close ∷ []))))
+  pub at_b : run others_program 28 (start (arguments others_program.parameters (pos 1 ∷ []))) ≡ Ends (token.And ∷ (token.Call 0 ∷ (token.Call 2 ∷ (token.Close ∷ []))))
 
 -- ---- %range Int 0 9; mu X(n: Int) = val(n == 0) || X(n - 1)
 
@@ -139,13 +139,13 @@ countdown_code =
     ∷ []))))))))))))))))
 
 abbrev pub digit_carrier : Carrier
-digit_carrier = carrier.Range (record { lo = pos 0; hi = pos 9; not_empty = le_true (pos 0) (pos 9) refl })
+digit_carrier = carrier.Range (record { low = pos 0; high = pos 9; not_empty = le_true (pos 0) (pos 9) refl })
 
 abbrev pub countdown_program : Program
 countdown_program = record {
   sorts = [];
   callees = (digit_carrier ∷ []) ∷ [];
-  params = digit_carrier ∷ [];
+  parameters = digit_carrier ∷ [];
   loops = [];
   stated_steps = 17;
   stated_tokens = 5;
@@ -155,5 +155,5 @@ countdown_program = record {
 pub record CountdownIsCompiled : Type 0 where
   pub form : normal_equation countdown_spec countdown_equation ≡ countdown_form
   pub program : IsProgramOf countdown_spec countdown_equation countdown_program
-  pub at_0 : run countdown_program 17 (start (arguments countdown_program.params (pos 0 ∷ []))) ≡ Ends (token.Or ∷ (token.Yes ∷ (token.Close ∷ [])))
-  pub at_9 : run countdown_program 17 (start (arguments countdown_program.params (pos 9 ∷ []))) ≡ Ends (token.Or ∷ (token.Call 8 ∷ (token.Close ∷ [])))
+  pub at_0 : run countdown_program 17 (start (arguments countdown_program.parameters (pos 0 ∷ []))) ≡ Ends (token.Or ∷ (token.Yes ∷ (token.Close ∷ [])))
+  pub at_9 : run countdown_program 17 (start (arguments countdown_program.parameters (pos 9 ∷ []))) ≡ Ends (token.Or ∷ (token.Call 8 ∷ (token.Close ∷ [])))

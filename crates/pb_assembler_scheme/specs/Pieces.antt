@@ -6,7 +6,7 @@ use Rattle.pb_bytecode_program.specs.declared.instruction.Op.TheVariants as op
 
 -- Unless is passed over where the operand on top is the given truth. Choose runs its second part there, and its first
 -- part otherwise. Repeat runs its part for each value of a slot. Leave jumps to the end of the block around. Guard is
--- passed over where the number on top lies outside lo to hi; either way its end takes an operand off.
+-- passed over where the number on top lies outside low to high; either way its end takes an operand off.
 pub data Piece : Type 0 where
   Empty : Piece
   Plain : Op → Piece
@@ -16,7 +16,7 @@ pub data Piece : Type 0 where
   Repeat : (slot : ℕ) → Piece → Piece
   Block : Piece → Piece
   Leave : Piece
-  Guard : (lo hi : ℤ) → Piece → Piece
+  Guard : (low high : ℤ) → Piece → Piece
 
 -- the place after a piece that begins at place q
 abbrev pub end : ℕ → Piece → ℕ
@@ -28,7 +28,7 @@ end q (Choose on a b) = end (end (q + 1) a + 1) b
 end q (Repeat s a) = end (q + 1) a + 1
 end q (Block a) = end q a
 end q Leave = q + 1
-end q (Guard lo hi a) = end (q + 1) a + 1
+end q (Guard low high a) = end (q + 1) a + 1
 
 -- the instructions of a piece that begins at place q, in a block that ends at place e
 abbrev pub flat : ℕ → ℕ → Piece → List Op
@@ -42,7 +42,7 @@ flat q e (Choose on a b) =
 flat q e (Repeat s a) = op.Loop s ∷ (flat (q + 1) e a ++ op.Next ∷ [])
 flat q e (Block a) = flat q (end q a) a
 flat q e Leave = op.Jump e ∷ []
-flat q e (Guard lo hi a) = op.InRange lo hi (end (q + 1) a) ∷ (flat (q + 1) e a ++ op.Pop ∷ [])
+flat q e (Guard low high a) = op.InRange low high (end (q + 1) a) ∷ (flat (q + 1) e a ++ op.Pop ∷ [])
 
 -- the instructions of a piece that begins at place q stand in the code
 abbrev pub HasPieceAt : List Op → ℕ → ℕ → Piece → Type 0
@@ -59,5 +59,5 @@ HasPieceAt code q e (Repeat s a) =
     (slice_get code q ≡ Some (op.Loop s)) × HasPieceAt code (q + 1) e a × (slice_get code (end (q + 1) a) ≡ Some op.Next)
 HasPieceAt code q e (Block a) = HasPieceAt code q (end q a) a
 HasPieceAt code q e Leave = slice_get code q ≡ Some (op.Jump e)
-HasPieceAt code q e (Guard lo hi a) =
-    (slice_get code q ≡ Some (op.InRange lo hi (end (q + 1) a))) × HasPieceAt code (q + 1) e a × (slice_get code (end (q + 1) a) ≡ Some op.Pop)
+HasPieceAt code q e (Guard low high a) =
+    (slice_get code q ≡ Some (op.InRange low high (end (q + 1) a))) × HasPieceAt code (q + 1) e a × (slice_get code (end (q + 1) a) ≡ Some op.Pop)

@@ -112,7 +112,7 @@ join_piece m around None None f_around g_around f_own g_own = under m around (Th
 -- the range that an argument is tested for: its parameter's, unless all that is known of the argument lies within
 abbrev pub tested_range : Carrier → Shape → Option (ℤ × ℤ)
 tested_range (carrier.Range r) (Wholes l h) =
-    if is_within (interval l h) (interval r.lo r.hi) then None else Some (r.lo, r.hi)
+    if is_within (interval l h) (interval r.low r.high) then None else Some (r.low, r.high)
 tested_range _ _ = None
 
 abbrev pub any_tested : List Carrier → List Argument → Bool

@@ -25,7 +25,7 @@ ArePrograms spec (X ∷ E) [] = ⊥
 -- each instance, by its number, has a tree with which the run of its equation's program ends
 abbrev pub AreTrees : Spec → List Program → (ℕ → Tree) → Type 0
 AreTrees spec programs trees =
-    (k : ℕ) (p : Program) (tuple : Tuple) → slice_get programs k ≡ Some p → AreArguments p.params tuple
+    (k : ℕ) (p : Program) (tuple : Tuple) → slice_get programs k ≡ Some p → AreArguments p.parameters tuple
     → EndsWith p tuple (trees (number_of (all_carriers spec) (record { equation = k; values = tuple })))
 
 -- an equation's sign, and how many instances it has

@@ -27,9 +27,9 @@ ghost use Rattle.pb_assembler_scheme.specs.System.{ArePrograms, AreTrees, HaveAn
 /// is one tree. Under every environment of instance numbers the tree has the right side's truth at that instance.
 pub fn compiled_code_decides()
     ensures faultless { (spec : Spec) (p : Program) (f : Formula) (tuple : Tuple) → IsCompiled p f → HasFullCalls p.callees f
-        → Declares spec p.callees → AreArguments p.params tuple → IsFaultless p tuple → Decides spec p f tuple }
+        → Declares spec p.callees → AreArguments p.parameters tuple → IsFaultless p tuple → Decides spec p f tuple }
     ensures ended { (spec : Spec) (p : Program) (f : Formula) (tuple : Tuple) (tree : Tree) → IsCompiled p f → HasFullCalls p.callees f
-        → Declares spec p.callees → AreArguments p.params tuple → EndsWith p tuple tree → HasTruth spec f tuple tree }
+        → Declares spec p.callees → AreArguments p.parameters tuple → EndsWith p tuple tree → HasTruth spec f tuple tree }
 {
     pb_trees::tokens_determine_tree();
 }

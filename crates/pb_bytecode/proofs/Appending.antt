@@ -21,14 +21,14 @@ pub is_countable : (v : Version) (sizes : List ℕ) (e : Equation) → fits_equa
 is_countable v sizes e h =
     let d = equation_contents e in
     let a = and_parts (is_name d.name) _ h in
-    let b = and_parts (is_between 0 (MAX_PARAMETERS + 1) (length d.params) && list_all (fits_carrier sizes) d.params) _ a.1 in
+    let b = and_parts (is_between 0 (MAX_PARAMETERS + 1) (length d.parameters) && list_all (fits_carrier sizes) d.parameters) _ a.1 in
     let c = and_parts (is_between 0 241 (length d.loops) && list_all (fits_carrier sizes) d.loops) _ b.1 in
     let s = and_parts (is_u32 d.steps) _ c.1 in
     let t = and_parts (is_u32 d.tokens) _ s.1 in
-    let p = ltb-true _ _ (and_parts (nat_le 0 (length d.params)) _ (and_parts (is_between 0 (MAX_PARAMETERS + 1) (length d.params)) _ b.0).0).1 in
+    let p = ltb-true _ _ (and_parts (nat_le 0 (length d.parameters)) _ (and_parts (is_between 0 (MAX_PARAMETERS + 1) (length d.parameters)) _ b.0).0).1 in
     let l = ltb-true _ _ (and_parts (nat_le 0 (length d.loops)) _ (and_parts (is_between 0 241 (length d.loops)) _ c.0).0).1 in
     let k = ltb-true _ _ (and_parts (nat_le 1 (length d.code)) _ (and_parts (is_between 1 65536 (length d.code)) _ t.1).0).1 in
-    record { params = omega (arith, e.params.ok.0); loops = omega (arith, e.loops.ok.0); code = omega (arith, e.code.ok.0) }
+    record { parameters = omega (arith, e.parameters.ok.0); loops = omega (arith, e.loops.ok.0); code = omega (arith, e.code.ok.0) }
 
 pub are_countable : (v : Version) (sizes : List ℕ) (es : List Equation) → list_all (fits_equation v sizes) (map equation_contents es) ≡ true → AllByRecursion HasCountableParts es
 are_countable v sizes [] h = tt

@@ -21,22 +21,22 @@ le_is_prop a b = hlevel props
 lt_is_prop : (a b : ℕ) (p q : a < b) → p ≡ q
 lt_is_prop a b = hlevel props
 
-pub range_again : (r : Range) (b : Bool) (h : int_le r.lo r.hi ≡ b) → range_from r.lo r.hi b h ≡ Some (carrier.Range r)
-range_again r true h = ap (λ (p : r.lo ≤ℤ r.hi). Some (carrier.Range (record { lo = r.lo; hi = r.hi; not_empty = p }))) (le_is_prop r.lo r.hi _ r.not_empty)
-range_again r false h = absurd (let e = from_le r.lo r.hi r.not_empty in cc)
+pub range_again : (r : Range) (b : Bool) (h : int_le r.low r.high ≡ b) → range_from r.low r.high b h ≡ Some (carrier.Range r)
+range_again r true h = ap (λ (p : r.low ≤ℤ r.high). Some (carrier.Range (record { low = r.low; high = r.high; not_empty = p }))) (le_is_prop r.low r.high _ r.not_empty)
+range_again r false h = absurd (let e = from_le r.low r.high r.not_empty in cc)
 
 pub enum_again : (e : Enumeration) (b : Bool) (h : nat_lt 0 e.count ≡ b) → enum_from e.sort e.count b h ≡ Some (carrier.Enum e)
 enum_again e true h = ap (λ (p : 0 < e.count). Some (carrier.Enum (record { sort = e.sort; count = e.count; not_empty = p }))) (lt_is_prop 0 e.count _ e.not_empty)
 enum_again e false h = absurd (let t = lt-ltb 0 e.count e.not_empty in cc)
 
-pub range_read : (c : Carrier) (lo hi : ℤ) (bytes second rest : List ℕ) → IsRange c lo hi → signed_at w32 bytes ≡ Ok (lo, second) → signed_at w32 second ≡ Ok (hi, rest) → range_at bytes ≡ Ok (c, rest)
+pub range_read : (c : Carrier) (low high : ℤ) (bytes second rest : List ℕ) → IsRange c low high → signed_at w32 bytes ≡ Ok (low, second) → signed_at w32 second ≡ Ok (high, rest) → range_at bytes ≡ Ok (c, rest)
 unfolding range_at
-range_read carrier.Bool lo hi bytes second rest r p q = absurd r
-range_read (carrier.Enum e) lo hi bytes second rest r p q = absurd r
-range_read (carrier.Range x) lo hi bytes second rest r p q =
-    let p' : signed_at w32 bytes ≡ Ok (x.lo, second) = rw (r.0) p in
-    let q' : signed_at w32 second ≡ Ok (x.hi, rest) = rw (r.1) q in
-    rw (p', q', range_again x (int_le x.lo x.hi) refl) refl
+range_read carrier.Bool low high bytes second rest r p q = absurd r
+range_read (carrier.Enum e) low high bytes second rest r p q = absurd r
+range_read (carrier.Range x) low high bytes second rest r p q =
+    let p' : signed_at w32 bytes ≡ Ok (x.low, second) = rw (r.0) p in
+    let q' : signed_at w32 second ≡ Ok (x.high, rest) = rw (r.1) q in
+    rw (p', q', range_again x (int_le x.low x.high) refl) refl
 
 pub enum_read : (e : Enumeration) (sizes bytes rest : List ℕ) → byte_at bytes ≡ Ok (e.sort, rest) → count_of sizes e.sort ≡ e.count → enum_at sizes bytes ≡ Ok (carrier.Enum e, rest)
 unfolding enum_at

@@ -10,7 +10,7 @@ use Rattle.std.proofs.Math.ListN.{drop_of_length-le}
 use Rattle.pb_bytecode.specs.declared.fault.ModuleRule.TheVariants as rule
 use Rattle.pb_bytecode.specs.declared.fault.ReadError.{ReadError}
 use Rattle.pb_bytecode.specs.declared.fault.ReadError.TheVariants as errors
-use Rattle.pb_bytecode.specs.Reading.{◌>>=◌, Fails, Field, params_at, byte_at, value_at, values_at, initial_at}
+use Rattle.pb_bytecode.specs.Reading.{◌>>=◌, Fails, Field, parameters_at, byte_at, value_at, values_at, initial_at}
 use Rattle.pb_bytecode.proofs.Loop.{with_front}
 use Rattle.pb_bytecode.specs.declared.equation.Equation.{Equation}
 use Rattle.pb_bytecode.specs.Limits.{instance_count}
@@ -20,10 +20,10 @@ abbrev pub instances : List Equation → ℕ
 instances es = instance_count (map equation_contents es)
 
 -- the initial instance's equation
-pub params_here : (es : List Equation) (i : ℕ) (d : Equation) → i < length es → params_at (map equation_contents es) i ≡ (get_or es i d).params.items
-params_here [] i d h = absurd (omega arith)
-params_here (e ∷ es) zero d h = refl
-params_here (e ∷ es) (suc i) d h = params_here es i d (omega arith)
+pub parameters_here : (es : List Equation) (i : ℕ) (d : Equation) → i < length es → parameters_at (map equation_contents es) i ≡ (get_or es i d).parameters.items
+parameters_here [] i d h = absurd (omega arith)
+parameters_here (e ∷ es) zero d h = refl
+parameters_here (e ∷ es) (suc i) d h = parameters_here es i d (omega arith)
 
 values_fold : (cs : List Carrier) (d : Carrier) (i : ℕ) (bytes : List ℕ) → i < length cs → values_at (drop i cs) bytes ≡ (value_at (get_or cs i d) bytes >>= λ z. values_at (drop (i + 1) cs) z.1 >>= λ zs. Ok (z.0 ∷ zs.0, zs.1))
 values_fold [] d i bytes h = absurd (omega arith)
@@ -55,19 +55,19 @@ values_done front cs i bytes total h so_far =
     let one : with_front front (values_at (drop i cs) bytes) ≡ Ok (front, bytes) = rw none (ap (λ (ns : List ℤ). Ok (ns, bytes)) (append-nil front)) in
     sym so_far ∙ one
 
-pub initial_read : (es : List Equation) (d : Equation) (bytes rest after : List ℕ) (e : ℕ) (params : List Carrier) (values : List ℤ) → byte_at bytes ≡ Ok (e, rest) → e < length es → params ≡ (get_or es e d).params.items → values_at params rest ≡ Ok (values, after) → initial_at (map equation_contents es) bytes ≡ Ok (record { equation = e; values = values }, after)
+pub initial_read : (es : List Equation) (d : Equation) (bytes rest after : List ℕ) (e : ℕ) (parameters : List Carrier) (values : List ℤ) → byte_at bytes ≡ Ok (e, rest) → e < length es → parameters ≡ (get_or es e d).parameters.items → values_at parameters rest ≡ Ok (values, after) → initial_at (map equation_contents es) bytes ≡ Ok (record { equation = e; values = values }, after)
 unfolding initial_at
-initial_read es d bytes rest after e params values p lt same q =
+initial_read es d bytes rest after e parameters values p lt same q =
     let there : nat_lt e (length (map equation_contents es)) ≡ true = lt-ltb _ _ (rw length-map lt) in
-    let q' : values_at (params_at (map equation_contents es) e) rest ≡ Ok (values, after) = rw (params_here es e d lt, sym same) q in
+    let q' : values_at (parameters_at (map equation_contents es) e) rest ≡ Ok (values, after) = rw (parameters_here es e d lt, sym same) q in
     rw (p, there, q') refl
 
-pub initial_fails : (error : ReadError) (es : List Equation) (d : Equation) (bytes rest : List ℕ) (e : ℕ) (params : List Carrier) → byte_at bytes ≡ Ok (e, rest) → e < length es → params ≡ (get_or es e d).params.items → Fails error (values_at params rest) → Fails error (initial_at (map equation_contents es) bytes)
+pub initial_fails : (error : ReadError) (es : List Equation) (d : Equation) (bytes rest : List ℕ) (e : ℕ) (parameters : List Carrier) → byte_at bytes ≡ Ok (e, rest) → e < length es → parameters ≡ (get_or es e d).parameters.items → Fails error (values_at parameters rest) → Fails error (initial_at (map equation_contents es) bytes)
 unfolding initial_at
-initial_fails errors.Memory es d bytes rest e params p lt same q = tt
-initial_fails (errors.ModuleFault f) es d bytes rest e params p lt same q =
+initial_fails errors.Memory es d bytes rest e parameters p lt same q = tt
+initial_fails (errors.ModuleFault f) es d bytes rest e parameters p lt same q =
     let there : nat_lt e (length (map equation_contents es)) ≡ true = lt-ltb _ _ (rw length-map lt) in
-    let q' : values_at (params_at (map equation_contents es) e) rest ≡ Err f = rw (params_here es e d lt, sym same) q in
+    let q' : values_at (parameters_at (map equation_contents es) e) rest ≡ Err f = rw (parameters_here es e d lt, sym same) q in
     rw (p, there, q') refl
 
 pub initial_none : (es : List Equation) (bytes rest : List ℕ) (e : ℕ) → byte_at bytes ≡ Ok (e, rest) → length es ≤ e → initial_at (map equation_contents es) bytes ≡ Err (record { rule = rule.Initial; left = length bytes })

@@ -107,8 +107,8 @@ bounds_reads =
     (λ b h. let p = and_parts (is_i32 b.0) (is_i32 b.1 && int_le b.0 b.1) h in let q = and_parts (is_i32 b.1) (int_le b.0 b.1) p.1 in and_from _ _ (and_from _ _ p.0 q.0) q.1)
     (λ b h. let p = and_parts (is_i32 b.0 && is_i32 b.1) (int_le b.0 b.1) h in let q = and_parts (is_i32 b.0) (is_i32 b.1) p.0 in and_from _ _ q.0 (and_from _ _ q.1 p.1))
     (close _ _ _ (then (λ c. signed_at w32) (λ c. Spelling.i32) (λ c. is_i32) _ (λ b. tt) (λ b. b.0) _ _ (λ c. i32_reads)
-    (last (λ (c : Unit {0} × ℤ). checked (signed_at w32) (kept (λ hi. int_le c.1 hi)) rule.Limit) (λ c. Spelling.i32) (λ c hi. is_i32 hi && int_le c.1 hi) (λ c. (c.0.1, c.1)) (λ b. (tt, b.0)) (λ b. b.1) (λ b. refl) (λ c. refl)
-    (λ c. keep (signed_at w32) Spelling.i32 is_i32 (λ hi. int_le c.1 hi) rule.Limit i32_reads))))
+    (last (λ (c : Unit {0} × ℤ). checked (signed_at w32) (kept (λ high. int_le c.1 high)) rule.Limit) (λ c. Spelling.i32) (λ c high. is_i32 high && int_le c.1 high) (λ c. (c.0.1, c.1)) (λ b. (tt, b.0)) (λ b. b.1) (λ b. refl) (λ c. refl)
+    (λ c. keep (signed_at w32) Spelling.i32 is_i32 (λ high. int_le c.1 high) rule.Limit i32_reads))))
 
 -- ---- carriers
 
@@ -116,9 +116,9 @@ enum_parts : (s n : ℕ) (b : Bool) (h : nat_lt 0 n ≡ b) (c : Carrier) → enu
 enum_parts s n true h c e = (_, sym (same_Some _ c e), refl, refl)
 enum_parts s n false h c e = absurd cc
 
-range_parts : (lo hi : ℤ) (b : Bool) (h : int_le lo hi ≡ b) (c : Carrier) → range_from lo hi b h ≡ Some c → (r : Range) × (c ≡ carrier.Range r) × (r.lo ≡ lo) × (r.hi ≡ hi)
-range_parts lo hi true h c e = (_, sym (same_Some _ c e), refl, refl)
-range_parts lo hi false h c e = absurd cc
+range_parts : (low high : ℤ) (b : Bool) (h : int_le low high ≡ b) (c : Carrier) → range_from low high b h ≡ Some c → (r : Range) × (c ≡ carrier.Range r) × (r.low ≡ low) × (r.high ≡ high)
+range_parts low high true h c e = (_, sym (same_Some _ c e), refl, refl)
+range_parts low high false h c e = absurd cc
 
 -- the sort of an enumeration, and the bounds of a range
 enum_reads : (sizes : List ℕ) (bytes : List ℕ) (x : Carrier × List ℕ) → IsBytes bytes → enum_at sizes bytes ≡ Ok x → (e : Enumeration) × (x.0 ≡ carrier.Enum e) × Took (Spelling.byte e.sort) (fits_carrier sizes (carrier.Enum e)) bytes x.1
@@ -130,18 +130,18 @@ enum_reads sizes bytes x fits h =
     let t = byte_reads.takes bytes a.0 fits a.1 in
     (p.0, p.1, record { parts = t.parts ∙ ap (λ (s : ℕ). s ∷ a.0.1) (sym p.2) ∙ ap (λ (r : List ℕ). p.0.sort ∷ r) (sym k.1); left = subst IsBytes (sym k.1) t.left; fits = and_from _ _ (ap is_byte p.2 ∙ t.fits) (eq-eqb _ _ (p.3 ∙ ap (count_of sizes) (sym p.2))) })
 
-range_reads : (bytes : List ℕ) (x : Carrier × List ℕ) → IsBytes bytes → range_at bytes ≡ Ok x → (r : Range) × (x.0 ≡ carrier.Range r) × Took (Spelling.bounds r.lo r.hi) (are_bounds r.lo r.hi) bytes x.1
+range_reads : (bytes : List ℕ) (x : Carrier × List ℕ) → IsBytes bytes → range_at bytes ≡ Ok x → (r : Range) × (x.0 ≡ carrier.Range r) × Took (Spelling.bounds r.low r.high) (are_bounds r.low r.high) bytes x.1
 unfolding range_at
 range_reads bytes x fits h =
-    let a = bind_ok (signed_at w32 bytes) (λ lo. checked (signed_at w32) (λ hi. range_from lo.0 hi (int_le lo.0 hi) refl) rule.Limit lo.1) x h in
-    let b = bind_ok (signed_at w32 a.0.1) (λ hi. known (range_from a.0.0 hi.0 (int_le a.0.0 hi.0) refl) rule.Limit a.0.1 hi.1) x a.2 in
+    let a = bind_ok (signed_at w32 bytes) (λ low. checked (signed_at w32) (λ high. range_from low.0 high (int_le low.0 high) refl) rule.Limit low.1) x h in
+    let b = bind_ok (signed_at w32 a.0.1) (λ high. known (range_from a.0.0 high.0 (int_le a.0.0 high.0) refl) rule.Limit a.0.1 high.1) x a.2 in
     let k = known_ok _ rule.Limit a.0.1 b.0.1 x b.2 in
     let p = range_parts a.0.0 b.0.0 _ refl x.0 k.0 in
     let t = i32_reads.takes bytes a.0 fits a.1 in
     let u = i32_reads.takes a.0.1 b.0 t.left b.1 in
-    let order : int_le p.0.lo p.0.hi ≡ true = from_le p.0.lo p.0.hi p.0.not_empty in
+    let order : int_le p.0.low p.0.high ≡ true = from_le p.0.low p.0.high p.0.not_empty in
     let whole : bytes ≡ Spelling.bounds a.0.0 b.0.0 ++ b.0.1 = t.parts ∙ ap (λ (r : List ℕ). Spelling.i32 a.0.0 ++ r) u.parts ∙ sym (append_assoc (Spelling.i32 a.0.0) (Spelling.i32 b.0.0) b.0.1) in
-    let whole' : bytes ≡ Spelling.bounds p.0.lo p.0.hi ++ x.1 = whole ∙ ap (λ (z : ℤ). Spelling.bounds z b.0.0 ++ b.0.1) (sym p.2) ∙ ap (λ (z : ℤ). Spelling.bounds p.0.lo z ++ b.0.1) (sym p.3) ∙ ap (λ (r : List ℕ). Spelling.bounds p.0.lo p.0.hi ++ r) (sym k.1) in
+    let whole' : bytes ≡ Spelling.bounds p.0.low p.0.high ++ x.1 = whole ∙ ap (λ (z : ℤ). Spelling.bounds z b.0.0 ++ b.0.1) (sym p.2) ∙ ap (λ (z : ℤ). Spelling.bounds p.0.low z ++ b.0.1) (sym p.3) ∙ ap (λ (r : List ℕ). Spelling.bounds p.0.low p.0.high ++ r) (sym k.1) in
     (p.0, p.1, record { parts = whole'; left = subst IsBytes (sym k.1) u.left; fits = and_from _ _ (and_from _ _ (ap is_i32 p.2 ∙ t.fits) (ap is_i32 p.3 ∙ u.fits)) order })
 
 enum_within : (sizes bytes : List ℕ) (e : ModuleFault) → IsBytes bytes → enum_at sizes bytes ≡ Err e → e.left ≤ length bytes
@@ -170,12 +170,12 @@ carrier_takes sizes (suc (suc (suc n))) bytes x lt fits h = absurd (omega arith)
 enum_at_again : (sizes : List ℕ) (e : Enumeration) (rest : List ℕ) → fits_carrier sizes (carrier.Enum e) ≡ true → enum_at sizes (e.sort ∷ rest) ≡ Ok (carrier.Enum e, rest)
 enum_at_again sizes e rest h = let two = and_parts (is_byte e.sort) (e.count == count_of sizes e.sort) h in enum_read e sizes (e.sort ∷ rest) rest refl (sym (eqb-true _ _ two.1))
 
-range_at_again : (r : Range) (rest : List ℕ) → are_bounds r.lo r.hi ≡ true → range_at (Spelling.bounds r.lo r.hi ++ rest) ≡ Ok (carrier.Range r, rest)
+range_at_again : (r : Range) (rest : List ℕ) → are_bounds r.low r.high ≡ true → range_at (Spelling.bounds r.low r.high ++ rest) ≡ Ok (carrier.Range r, rest)
 range_at_again r rest h =
-    let p = and_parts (is_i32 r.lo && is_i32 r.hi) (int_le r.lo r.hi) h in
-    let q = and_parts (is_i32 r.lo) (is_i32 r.hi) p.0 in
-    range_read (carrier.Range r) r.lo r.hi (Spelling.bounds r.lo r.hi ++ rest) (Spelling.i32 r.hi ++ rest) rest (refl, refl)
-    (ap (signed_at w32) (append_assoc (Spelling.i32 r.lo) (Spelling.i32 r.hi) rest) ∙ i32_reads.again r.lo (Spelling.i32 r.hi ++ rest) q.0) (i32_reads.again r.hi rest q.1)
+    let p = and_parts (is_i32 r.low && is_i32 r.high) (int_le r.low r.high) h in
+    let q = and_parts (is_i32 r.low) (is_i32 r.high) p.0 in
+    range_read (carrier.Range r) r.low r.high (Spelling.bounds r.low r.high ++ rest) (Spelling.i32 r.high ++ rest) rest (refl, refl)
+    (ap (signed_at w32) (append_assoc (Spelling.i32 r.low) (Spelling.i32 r.high) rest) ∙ i32_reads.again r.low (Spelling.i32 r.high ++ rest) q.0) (i32_reads.again r.high rest q.1)
 
 carrier_again : (sizes : List ℕ) (c : Carrier) (rest : List ℕ) → fits_carrier sizes c ≡ true → carrier_at sizes (Spelling.carrier_bytes c ++ rest) ≡ Ok (c, rest)
 unfolding carrier_at
@@ -183,7 +183,7 @@ carrier_again sizes carrier.Bool rest h = let e : between_at 0 3 (0 ∷ rest) �
 carrier_again sizes (carrier.Enum e) rest h =
     let t : between_at 0 3 (1 ∷ (e.sort ∷ rest)) ≡ Ok (1, e.sort ∷ rest) = (between_reads 0 3).again 1 (e.sort ∷ rest) refl in rw t (enum_at_again sizes e rest h)
 carrier_again sizes (carrier.Range r) rest h =
-    let t : between_at 0 3 (2 ∷ (Spelling.bounds r.lo r.hi ++ rest)) ≡ Ok (2, Spelling.bounds r.lo r.hi ++ rest) = (between_reads 0 3).again 2 (Spelling.bounds r.lo r.hi ++ rest) refl in rw t (range_at_again r rest h)
+    let t : between_at 0 3 (2 ∷ (Spelling.bounds r.low r.high ++ rest)) ≡ Ok (2, Spelling.bounds r.low r.high ++ rest) = (between_reads 0 3).again 2 (Spelling.bounds r.low r.high ++ rest) refl in rw t (range_at_again r rest h)
 
 tagged_within : (sizes : List ℕ) (tag : ℕ) (bytes : List ℕ) (e : ModuleFault) → IsBytes bytes → tagged_at sizes tag bytes ≡ Err e → e.left ≤ length bytes
 tagged_within sizes zero bytes e fits h = absurd cc

@@ -17,7 +17,7 @@ SortContents = List Text
 pub record EquationContents : Type 0 where
   pub sign : Sign
   pub name : Text
-  pub params : List Carrier
+  pub parameters : List Carrier
   pub loops : List Carrier
   pub steps : ℕ
   pub tokens : ℕ

@@ -3,6 +3,6 @@ use Rattle.std.specs.Prelude.{◌<◌, ◌^◌, vec_len}
 use Rattle.pb_bytecode.specs.declared.equation.Equation.{Equation}
 
 pub record HasCountableParts (e : Equation) : Type 0 where
-  pub params : vec_len e.params < 256
+  pub parameters : vec_len e.parameters < 256
   pub loops : vec_len e.loops < 256
   pub code : vec_len e.code < 2 ^ 16

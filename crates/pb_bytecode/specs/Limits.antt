@@ -37,7 +37,7 @@ is_between low end n = nat_le low n && nat_lt n end
 
 -- two bounds of a range that isn't empty
 abbrev pub are_bounds : ℤ → ℤ → Bool
-are_bounds lo hi = (is_i32 lo && is_i32 hi) && int_le lo hi
+are_bounds low high = (is_i32 low && is_i32 high) && int_le low high
 
 -- ---- sorts and carriers
 
@@ -56,7 +56,7 @@ is_sort sizes s = is_byte s && nat_lt s (length sizes)
 abbrev pub fits_carrier : List ℕ → Carrier → Bool
 fits_carrier sizes carrier.Bool = true
 fits_carrier sizes (carrier.Enum enum) = is_byte enum.sort && enum.count == count_of sizes enum.sort
-fits_carrier sizes (carrier.Range range) = are_bounds range.lo range.hi
+fits_carrier sizes (carrier.Range range) = are_bounds range.low range.high
 
 -- ---- instructions
 
@@ -71,8 +71,8 @@ fits_op v sizes (op.PushEnum s i) = is_sort sizes s && (is_byte i && nat_lt i (c
 fits_op v sizes (op.Get slot) = is_byte slot
 fits_op v sizes (op.Jump to) = is_u16 to
 fits_op v sizes (op.JumpIf on to) = is_u16 to
-fits_op v sizes (op.InRange lo hi to) = are_bounds lo hi && is_u16 to
-fits_op v sizes (op.SlotInRange slot lo hi to) = is_second v && (is_byte slot && (are_bounds lo hi && is_u16 to))
+fits_op v sizes (op.InRange low high to) = are_bounds low high && is_u16 to
+fits_op v sizes (op.SlotInRange slot low high to) = is_second v && (is_byte slot && (are_bounds low high && is_u16 to))
 fits_op v sizes (op.Loop slot) = is_byte slot
 fits_op v sizes (op.Call equation) = is_byte equation
 fits_op v sizes _ = true
@@ -83,7 +83,7 @@ fits_op v sizes _ = true
 abbrev pub fits_equation : Version → List ℕ → EquationContents → Bool
 fits_equation v sizes e =
     is_name e.name
-    && ((is_between 0 (MAX_PARAMETERS + 1) (length e.params) && list_all (fits_carrier sizes) e.params)
+    && ((is_between 0 (MAX_PARAMETERS + 1) (length e.parameters) && list_all (fits_carrier sizes) e.parameters)
     && ((is_between 0 241 (length e.loops) && list_all (fits_carrier sizes) e.loops)
     && (is_u32 e.steps
     && (is_u32 e.tokens
@@ -92,13 +92,13 @@ fits_equation v sizes e =
 -- how many instances the equations' predicate variables have
 abbrev pub instance_count : List EquationContents → ℕ
 instance_count [] = 0
-instance_count (e ∷ es) = tuple_count (map values_of e.params) + instance_count es
+instance_count (e ∷ es) = tuple_count (map values_of e.parameters) + instance_count es
 
 -- ---- modules
 
-abbrev pub params_of : Option EquationContents → Option (List Carrier)
-params_of None = None
-params_of (Some e) = Some e.params
+abbrev pub parameters_of : Option EquationContents → Option (List Carrier)
+parameters_of None = None
+parameters_of (Some e) = Some e.parameters
 
 -- numbers of 64 bits, one of each carrier
 abbrev pub fits_values : List Carrier → Tuple → Bool
@@ -106,11 +106,11 @@ fits_values carriers values = list_all is_i64 values && is_within (map values_of
 
 abbrev pub is_tuple : Option (List Carrier) → Tuple → Bool
 is_tuple None values = false
-is_tuple (Some params) values = fits_values params values
+is_tuple (Some parameters) values = fits_values parameters values
 
 -- the initial instance is of an equation that is there, with values of its parameters' carriers
 abbrev pub fits_initial : List EquationContents → InitialContents → Bool
-fits_initial equations i = is_byte i.equation && is_tuple (params_of (slice_get equations i.equation)) i.values
+fits_initial equations i = is_byte i.equation && is_tuple (parameters_of (slice_get equations i.equation)) i.values
 
 -- at most 255 sorts, 1 to 64 equations, and 2^22 instances over all carriers
 abbrev pub fits : Contents → Bool

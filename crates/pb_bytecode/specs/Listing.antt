@@ -47,7 +47,7 @@ sort_line n names = line (codes "sort") (decimal n ∷ names)
 abbrev pub carrier_words : Carrier → List Text
 carrier_words carrier.Bool = codes "Bool" ∷ []
 carrier_words (carrier.Enum enum) = codes "Enum" ∷ decimal enum.sort ∷ []
-carrier_words (carrier.Range range) = codes "Range" ∷ signed_decimal range.lo ∷ signed_decimal range.hi ∷ []
+carrier_words (carrier.Range range) = codes "Range" ∷ signed_decimal range.low ∷ signed_decimal range.high ∷ []
 
 -- a slot of this kind, and its carrier
 abbrev pub slot_line : Text → ℕ → Carrier → List ℕ
@@ -107,14 +107,14 @@ op_name op.Not = codes "NOT"
 op_name (op.Logic c) = logic_name c
 op_name (op.Jump to) = codes "JMP"
 op_name (op.JumpIf on to) = jump_name on
-op_name (op.InRange lo hi to) = codes "RNG"
+op_name (op.InRange low high to) = codes "RNG"
 op_name (op.Loop slot) = codes "LOOP"
 op_name op.Next = codes "NEXT"
 op_name (op.Open c) = bracket_name c
 op_name op.Close = codes "CLOSE"
 op_name (op.Emit l) = leaf_name l
 op_name (op.Call equation) = codes "CALL"
-op_name (op.SlotInRange slot lo hi to) = codes "INL"
+op_name (op.SlotInRange slot low high to) = codes "INL"
 
 abbrev pub truth_digit : Bool → Text
 truth_digit false = codes "0"
@@ -128,8 +128,8 @@ operand_words (op.PushEnum s i) = decimal s ∷ decimal i ∷ []
 operand_words (op.Get slot) = decimal slot ∷ []
 operand_words (op.Jump to) = decimal to ∷ []
 operand_words (op.JumpIf on to) = decimal to ∷ []
-operand_words (op.InRange lo hi to) = signed_decimal lo ∷ signed_decimal hi ∷ decimal to ∷ []
-operand_words (op.SlotInRange slot lo hi to) = decimal slot ∷ signed_decimal lo ∷ signed_decimal hi ∷ decimal to ∷ []
+operand_words (op.InRange low high to) = signed_decimal low ∷ signed_decimal high ∷ decimal to ∷ []
+operand_words (op.SlotInRange slot low high to) = decimal slot ∷ signed_decimal low ∷ signed_decimal high ∷ decimal to ∷ []
 operand_words (op.Loop slot) = decimal slot ∷ []
 operand_words (op.Call equation) = decimal equation ∷ []
 operand_words _ = []
@@ -150,7 +150,7 @@ head_line n e = line (codes "equation") (decimal n ∷ sign_name e.sign ∷ e.na
 
 -- the parameters are the first slots, and loop slots follow them
 abbrev pub slot_lines : EquationContents → List ℕ
-slot_lines e = numbered (slot_line (codes "param")) 0 e.params ++ numbered (slot_line (codes "loop")) (length e.params) e.loops
+slot_lines e = numbered (slot_line (codes "param")) 0 e.parameters ++ numbered (slot_line (codes "loop")) (length e.parameters) e.loops
 
 -- how many steps a run takes and how many tokens it writes at most, as the module states it
 abbrev pub stated_lines : EquationContents → List ℕ

@@ -15,14 +15,14 @@ use Rattle.pb_bytecode.specs.Contents.{EquationContents, Contents, counts}
 
 -- the carriers of each equation's parameters
 abbrev pub parameters : Contents → List (List Carrier)
-parameters m = map (λ (e : EquationContents). e.params) m.equations
+parameters m = map (λ (e : EquationContents). e.parameters) m.equations
 
 -- an equation's code, and what it stands in
 abbrev pub program_of : Contents → EquationContents → Program
 program_of m e = record {
   sorts = counts m.sorts;
   callees = parameters m;
-  params = e.params;
+  parameters = e.parameters;
   loops = e.loops;
   stated_steps = e.steps;
   stated_tokens = e.tokens;
@@ -31,7 +31,7 @@ program_of m e = record {
 
 -- an equation's sign, and how many instances its predicate variable has
 abbrev pub signature_of : EquationContents → Signature
-signature_of e = record { sign = e.sign; size = tuple_count (map values_of e.params) }
+signature_of e = record { sign = e.sign; size = tuple_count (map values_of e.parameters) }
 
 -- the number of an equation's instance with these values
 abbrev pub number_at : Contents → ℕ → Tuple → ℕ
@@ -40,7 +40,7 @@ number_at m k values = number_of (carriers_of (parameters m)) (record { equation
 -- each instance has the tree with which its run ends
 abbrev pub AreTrees : Contents → (ℕ → Tree) → Type 0
 AreTrees m trees =
-    (k : ℕ) (e : EquationContents) (values : Tuple) → slice_get m.equations k ≡ Some e → AreArguments e.params values →
+    (k : ℕ) (e : EquationContents) (values : Tuple) → slice_get m.equations k ≡ Some e → AreArguments e.parameters values →
     EndsWith (program_of m e) values (trees (number_at m k values))
 
 -- the number of the initial instance

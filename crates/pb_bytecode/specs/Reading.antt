@@ -26,7 +26,7 @@ use Rattle.pb_bytecode.specs.declared.fault.ReadError.TheVariants as errors
 use Rattle.pb_bytecode.specs.Contents.{Text, SortContents, EquationContents, InitialContents, Contents, counts}
 use Rattle.pb_bytecode.specs.Names.{is_name}
 use Rattle.pb_bytecode.specs.Formats.{format_of}
-use Rattle.pb_bytecode.specs.Limits.{is_between, count_of, params_of, instance_count}
+use Rattle.pb_bytecode.specs.Limits.{is_between, count_of, parameters_of, instance_count}
 use Rattle.pb_bytecode.specs.Spelling.{mark}
 
 infixl 10 ◌>>=◌
@@ -86,9 +86,9 @@ between_at low end bytes = checked byte_at (kept (is_between low end)) rule.Limi
 -- two bounds of a range; the second isn't below the first
 unfoldable pub bounds_at : List ℕ → Field (ℤ × ℤ)
 bounds_at bytes = do
-  lo ← signed_at w32 bytes
-  hi ← checked (signed_at w32) (kept (λ hi. int_le lo.0 hi)) rule.Limit lo.1
-  Ok ((lo.0, hi.0), hi.1)
+  low ← signed_at w32 bytes
+  high ← checked (signed_at w32) (kept (λ high. int_le low.0 high)) rule.Limit low.1
+  Ok ((low.0, high.0), high.1)
 
 -- ---- lists
 
@@ -114,9 +114,9 @@ unfoldable pub sort_at : List ℕ → Field SortContents
 sort_at bytes = counted_at 1 256 name_at bytes
 
 -- the carrier of these bounds, unless it is empty
-abbrev pub range_from : (lo hi : ℤ) (b : Bool) → int_le lo hi ≡ b → Option Carrier
-range_from lo hi true h = Some (carrier.Range (record { lo = lo; hi = hi; not_empty = le_true lo hi h }))
-range_from lo hi false h = None
+abbrev pub range_from : (low high : ℤ) (b : Bool) → int_le low high ≡ b → Option Carrier
+range_from low high true h = Some (carrier.Range (record { low = low; high = high; not_empty = le_true low high h }))
+range_from low high false h = None
 
 -- the carrier of this sort, unless it is empty
 abbrev pub enum_from : (s n : ℕ) (b : Bool) → nat_lt 0 n ≡ b → Option Carrier
@@ -128,8 +128,8 @@ enum_at sizes bytes = checked byte_at (λ s. enum_from s (count_of sizes s) (nat
 
 unfoldable pub range_at : List ℕ → Field Carrier
 range_at bytes = do
-  lo ← signed_at w32 bytes
-  checked (signed_at w32) (λ hi. range_from lo.0 hi (int_le lo.0 hi) refl) rule.Limit lo.1
+  low ← signed_at w32 bytes
+  checked (signed_at w32) (λ high. range_from low.0 high (int_le low.0 high) refl) rule.Limit low.1
 
 abbrev pub tagged_at : List ℕ → ℕ → List ℕ → Field Carrier
 tagged_at sizes zero bytes = Ok (carrier.Bool, bytes)
@@ -206,12 +206,12 @@ unfoldable pub equation_at : Version → List ℕ → List ℕ → Field Equatio
 equation_at v sizes bytes = do
   sign ← sign_at bytes
   name ← name_at sign.1
-  params ← counted_at 0 (MAX_PARAMETERS + 1) (carrier_at sizes) name.1
-  loops ← counted_at 0 241 (carrier_at sizes) params.1
+  parameters ← counted_at 0 (MAX_PARAMETERS + 1) (carrier_at sizes) name.1
+  loops ← counted_at 0 241 (carrier_at sizes) parameters.1
   steps ← number_at w32 loops.1
   tokens ← number_at w32 steps.1
   code ← code_at v sizes tokens.1
-  Ok (record { sign = sign.0; name = name.0; params = params.0; loops = loops.0; steps = steps.0; tokens = tokens.0; code = code.0 }, code.1)
+  Ok (record { sign = sign.0; name = name.0; parameters = parameters.0; loops = loops.0; steps = steps.0; tokens = tokens.0; code = code.0 }, code.1)
 
 -- the first byte that differs
 abbrev pub expect : List ℕ → List ℕ → Field (Unit {0})
@@ -241,13 +241,13 @@ values_at [] bytes = Ok ([], bytes)
 values_at (c ∷ cs) bytes = value_at c bytes >>= λ z. values_at cs z.1 >>= λ zs. Ok (z.0 ∷ zs.0, zs.1)
 
 -- the carriers of an equation's parameters
-abbrev pub params_at : List EquationContents → ℕ → List Carrier
-params_at equations e = unwrap_or (params_of (slice_get equations e)) []
+abbrev pub parameters_at : List EquationContents → ℕ → List Carrier
+parameters_at equations e = unwrap_or (parameters_of (slice_get equations e)) []
 
 unfoldable pub initial_at : List EquationContents → List ℕ → Field InitialContents
 initial_at equations bytes = do
   e ← checked byte_at (kept (λ e. nat_lt e (length equations))) rule.Initial bytes
-  values ← values_at (params_at equations e.0) e.1
+  values ← values_at (parameters_at equations e.0) e.1
   Ok (record { equation = e.0; values = values.0 }, values.1)
 
 -- equations whose instances aren't too many; else the fault stands behind them

@@ -54,7 +54,7 @@ sort_bytes names = counted name_bytes names
 abbrev pub carrier_bytes : Carrier → List ℕ
 carrier_bytes carrier.Bool = byte 0
 carrier_bytes (carrier.Enum enum) = byte 1 ++ byte enum.sort
-carrier_bytes (carrier.Range range) = byte 2 ++ (i32 range.lo ++ i32 range.hi)
+carrier_bytes (carrier.Range range) = byte 2 ++ (i32 range.low ++ i32 range.high)
 
 -- ---- instructions
 
@@ -110,21 +110,21 @@ op_code op.Not = 21
 op_code (op.Logic c) = logic_code c
 op_code (op.Jump to) = 24
 op_code (op.JumpIf on to) = jump_code on
-op_code (op.InRange lo hi to) = 27
+op_code (op.InRange low high to) = 27
 op_code (op.Loop slot) = 28
 op_code op.Next = 29
 op_code (op.Open c) = open_code c
 op_code op.Close = 32
 op_code (op.Emit l) = leaf_code l
 op_code (op.Call equation) = 36
-op_code (op.SlotInRange slot lo hi to) = 37
+op_code (op.SlotInRange slot low high to) = 37
 
 abbrev pub truth : Bool → List ℕ
 truth false = byte 0
 truth true = byte 1
 
 abbrev pub bounds : ℤ → ℤ → List ℕ
-bounds lo hi = i32 lo ++ i32 hi
+bounds low high = i32 low ++ i32 high
 
 -- what follows the code
 abbrev pub op_operands : Op → List ℕ
@@ -134,8 +134,8 @@ op_operands (op.PushEnum s i) = byte s ++ byte i
 op_operands (op.Get slot) = byte slot
 op_operands (op.Jump to) = u16 to
 op_operands (op.JumpIf on to) = u16 to
-op_operands (op.InRange lo hi to) = bounds lo hi ++ u16 to
-op_operands (op.SlotInRange slot lo hi to) = byte slot ++ (bounds lo hi ++ u16 to)
+op_operands (op.InRange low high to) = bounds low high ++ u16 to
+op_operands (op.SlotInRange slot low high to) = byte slot ++ (bounds low high ++ u16 to)
 op_operands (op.Loop slot) = byte slot
 op_operands (op.Call equation) = byte equation
 op_operands _ = []
@@ -153,7 +153,7 @@ abbrev pub equation_bytes : EquationContents → List ℕ
 equation_bytes e =
     sign_bytes e.sign
     ++ (name_bytes e.name
-    ++ (counted carrier_bytes e.params
+    ++ (counted carrier_bytes e.parameters
     ++ (counted carrier_bytes e.loops
     ++ (u32 e.steps
     ++ (u32 e.tokens

@@ -17,7 +17,7 @@ abbrev pub equation_contents : Equation → EquationContents
 equation_contents e = record {
   sign = e.sign;
   name = text_of e.name;
-  params = e.params.items;
+  parameters = e.parameters.items;
   loops = e.loops.items;
   steps = e.steps;
   tokens = e.tokens;

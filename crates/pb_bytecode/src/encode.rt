@@ -58,19 +58,19 @@ fn put_sorts(out: &mut Vec<u8>, sorts: &[Sort]) -> Result<(), AllocError>
 }
 
 /// Two bounds.
-fn put_bounds(out: &mut Vec<u8>, lo: &i32, hi: &i32) -> Result<(), AllocError>
-    ensures { OnOk result (out.new.items ≡ out.old.items ++ bounds lo.now hi.now) }
+fn put_bounds(out: &mut Vec<u8>, low: &i32, high: &i32) -> Result<(), AllocError>
+    ensures { OnOk result (out.new.items ≡ out.old.items ++ bounds low.now high.now) }
 {
-    out.extend_from_slice(&lo.to_le_bytes())?;
-    out.extend_from_slice(&hi.to_le_bytes())
+    out.extend_from_slice(&low.to_le_bytes())?;
+    out.extend_from_slice(&high.to_le_bytes())
 }
 
 /// The tag of a range, and its bounds.
-fn put_range(out: &mut Vec<u8>, lo: &i32, hi: &i32) -> Result<(), AllocError>
-    ensures { OnOk result (out.new.items ≡ out.old.items ++ (byte 2 ++ bounds lo.now hi.now)) }
+fn put_range(out: &mut Vec<u8>, low: &i32, high: &i32) -> Result<(), AllocError>
+    ensures { OnOk result (out.new.items ≡ out.old.items ++ (byte 2 ++ bounds low.now high.now)) }
 {
     out.push(2)?;
-    put_bounds(out, lo, hi)
+    put_bounds(out, low, high)
 }
 
 fn put_carrier(out: &mut Vec<u8>, carrier: &Carrier) -> Result<(), AllocError>
@@ -82,7 +82,7 @@ fn put_carrier(out: &mut Vec<u8>, carrier: &Carrier) -> Result<(), AllocError>
             out.push(1)?;
             out.push(enumeration.sort)?;
         }
-        Carrier::Range(range) => put_range(out, &range.lo, &range.hi)?,
+        Carrier::Range(range) => put_range(out, &range.low, &range.high)?,
     }
     Ok(())
 }
@@ -156,10 +156,10 @@ fn code_of(op: &Op) -> u8
 }
 
 /// Two bounds and a target.
-fn put_test(out: &mut Vec<u8>, lo: &i32, hi: &i32, target: u16) -> Result<(), AllocError>
-    ensures { OnOk result (out.new.items ≡ out.old.items ++ (bounds lo.now hi.now ++ u16 target)) }
+fn put_test(out: &mut Vec<u8>, low: &i32, high: &i32, target: u16) -> Result<(), AllocError>
+    ensures { OnOk result (out.new.items ≡ out.old.items ++ (bounds low.now high.now ++ u16 target)) }
 {
-    put_bounds(out, lo, hi)?;
+    put_bounds(out, low, high)?;
     out.extend_from_slice(&target.to_le_bytes())
 }
 
@@ -167,15 +167,15 @@ fn put_test(out: &mut Vec<u8>, lo: &i32, hi: &i32, target: u16) -> Result<(), Al
 fn put_slot_test(
     out: &mut Vec<u8>,
     slot: u8,
-    lo: &i32,
-    hi: &i32,
+    low: &i32,
+    high: &i32,
     target: u16,
 ) -> Result<(), AllocError>
     ensures { OnOk result (out.new.items ≡ out.old.items
-        ++ (byte slot ++ (bounds lo.now hi.now ++ u16 target))) }
+        ++ (byte slot ++ (bounds low.now high.now ++ u16 target))) }
 {
     out.push(slot)?;
-    put_test(out, lo, hi, target)?;
+    put_test(out, low, high, target)?;
     Ok(())
 }
 
@@ -193,13 +193,13 @@ fn put_operands(out: &mut Vec<u8>, op: &Op) -> Result<(), AllocError>
         Op::Jump { target } | Op::JumpIf { target, .. } => {
             out.extend_from_slice(&target.to_le_bytes())?;
         }
-        Op::InRange { lo, hi, target } => put_test(out, lo, hi, *target)?,
+        Op::InRange { low, high, target } => put_test(out, low, high, *target)?,
         Op::SlotInRange {
             slot,
-            lo,
-            hi,
+            low,
+            high,
             target,
-        } => put_slot_test(out, *slot, lo, hi, *target)?,
+        } => put_slot_test(out, *slot, low, high, *target)?,
         Op::Call { equation } => out.push(*equation)?,
         _ => {}
     }
@@ -254,7 +254,7 @@ fn put_equation(out: &mut Vec<u8>, equation: &Equation) -> Result<(), AllocError
 {
     put_sign(out, equation.sign)?;
     put_name(out, &equation.name)?;
-    put_carriers(out, &equation.params)?;
+    put_carriers(out, &equation.parameters)?;
     put_carriers(out, &equation.loops)?;
     put_u32(out, equation.steps)?;
     put_u32(out, equation.tokens)?;

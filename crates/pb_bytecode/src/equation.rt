@@ -12,7 +12,7 @@ pub struct Equation {
     pub sign: Sign,
     pub name: Name,
     /// Carriers of the parameters, at most 8. They are the first slots.
-    pub params: Vec<Carrier>,
+    pub parameters: Vec<Carrier>,
     /// Carriers of the loop slots, at most 240, which follow the parameters.
     pub loops: Vec<Carrier>,
     /// How many steps a run takes at most, as the module states it.

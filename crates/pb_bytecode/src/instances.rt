@@ -12,7 +12,7 @@ pub(crate) fn has_few_instances(equations: &[Equation]) -> bool
 {
     let mut total = 0;
     for equation in equations {
-        let Some(count) = count_tuples(&equation.params) else {
+        let Some(count) = count_tuples(&equation.parameters) else {
             return false;
         };
         total += count;

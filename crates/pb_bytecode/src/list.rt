@@ -64,7 +64,7 @@ fn list_slot(
     match carrier {
         Carrier::Bool => writeln!(text, "{kind} {slot} Bool"),
         Carrier::Enum(enumeration) => writeln!(text, "{kind} {slot} Enum {}", enumeration.sort),
-        Carrier::Range(range) => writeln!(text, "{kind} {slot} Range {} {}", range.lo, range.hi),
+        Carrier::Range(range) => writeln!(text, "{kind} {slot} Range {} {}", range.low, range.high),
     }
 }
 
@@ -90,8 +90,8 @@ fn list_all_slots(text: &mut String, equation: &Equation) -> Result<(), AllocErr
     ensures { OnOk result (string_bytes text.new ≡ string_bytes text.old
         ++ slot_lines (equation_contents equation.now)) }
 {
-    list_slots(text, "param", 0, &equation.params)?;
-    list_slots(text, "loop", equation.params.len(), &equation.loops)
+    list_slots(text, "param", 0, &equation.parameters)?;
+    list_slots(text, "loop", equation.parameters.len(), &equation.loops)
 }
 
 /// The name of an instruction.
@@ -158,13 +158,13 @@ fn list_operands(text: &mut String, op: &Op) -> Result<(), AllocError>
         Op::PushEnum { sort, index } => writeln!(text, " {sort} {index}"),
         Op::Get { slot } | Op::Loop { slot } => writeln!(text, " {slot}"),
         Op::Jump { target } | Op::JumpIf { target, .. } => writeln!(text, " {target}"),
-        Op::InRange { lo, hi, target } => writeln!(text, " {lo} {hi} {target}"),
+        Op::InRange { low, high, target } => writeln!(text, " {low} {high} {target}"),
         Op::SlotInRange {
             slot,
-            lo,
-            hi,
+            low,
+            high,
             target,
-        } => writeln!(text, " {slot} {lo} {hi} {target}"),
+        } => writeln!(text, " {slot} {low} {high} {target}"),
         Op::Call { equation } => writeln!(text, " {equation}"),
         _ => writeln!(text),
     }

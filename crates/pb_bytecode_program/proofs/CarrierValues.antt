@@ -24,7 +24,7 @@ use Rattle.pb_bytecode_program.proofs.Ints.{le_true}
 pub tagged_within : (c : Carrier) (z : ℤ) → carriers.contains (values_of c) z ≡ true → Within (tagged c z) (abstraction_of c)
 tagged_within carrier.Bool z e = tt
 tagged_within (carrier.Enum enum) z e = let w = (contains-numbers_from (pos 0) enum.count z).0 e in let a = w.0 in let b = w.1 in (refl, omega (arith, ints))
-tagged_within (carrier.Range range) z e = (contains-interval range.lo range.hi z range.not_empty).0 e
+tagged_within (carrier.Range range) z e = (contains-interval range.low range.high z range.not_empty).0 e
 
 -- and so is the number of it, without its kind
 pub untagged-tagged : (c : Carrier) (z : ℤ) → carriers.contains (values_of c) z ≡ true → untagged (tagged c z) ≡ z
@@ -43,12 +43,12 @@ untagged-tagged (carrier.Range range) z e = refl
 pub untagged_contained : (v : Value) (c : Carrier) → Machine.argument_fault v c ≡ None → carriers.contains (values_of c) (untagged v) ≡ true
 untagged_contained (BoolValue true) carrier.Bool e = refl
 untagged_contained (BoolValue false) carrier.Bool e = refl
-untagged_contained (IntValue z) (carrier.Range range) e = by (int_le range.lo z && int_le z range.hi) refl e
+untagged_contained (IntValue z) (carrier.Range range) e = by (int_le range.low z && int_le z range.high) refl e
   where
-    by : (b : Bool) → (int_le range.lo z && int_le z range.hi) ≡ b → cond b None (Some Machine.Argument) ≡ None → carriers.contains (values_of (carrier.Range range)) z ≡ true
+    by : (b : Bool) → (int_le range.low z && int_le z range.high) ≡ b → cond b None (Some Machine.Argument) ≡ None → carriers.contains (values_of (carrier.Range range)) z ≡ true
     by true t f =
-        let two = and_parts (int_le range.lo z) (int_le z range.hi) t in
-        (contains-interval range.lo range.hi z range.not_empty).1 (le_true range.lo z two.0, le_true z range.hi two.1)
+        let two = and_parts (int_le range.low z) (int_le z range.high) t in
+        (contains-interval range.low range.high z range.not_empty).1 (le_true range.low z two.0, le_true z range.high two.1)
     by false t f = cc
 untagged_contained (EnumValue s i) (carrier.Enum enum) e = by (s == enum.sort) (nat_lt i enum.count) refl e
   where
@@ -87,5 +87,5 @@ pub first_of_carrier : (c : Carrier) → is_inhabited c ≡ true → HasFirst (t
 first_of_carrier carrier.Bool e = tt
 first_of_carrier (carrier.Enum enum) e = first_tagged (carrier.Enum enum) _ (first_number (pos 0) enum.count (ltb-true 0 enum.count e))
 first_of_carrier (carrier.Range range) e =
-    let l = count-interval range.lo range.hi (le_true range.lo range.hi e) in
-    first_tagged (carrier.Range range) _ (first_number range.lo (carriers.at_least_none (range.hi -ℤ range.lo +ℤ pos 1)) (omega (arith, ints)))
+    let l = count-interval range.low range.high (le_true range.low range.high e) in
+    first_tagged (carrier.Range range) _ (first_number range.low (carriers.at_least_none (range.high -ℤ range.low +ℤ pos 1)) (omega (arith, ints)))

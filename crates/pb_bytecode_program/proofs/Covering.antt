@@ -12,7 +12,7 @@ use Rattle.pb_bytecode_program.specs.Machine.{Program, Frame, State, Outcome, Co
 use Rattle.pb_bytecode_program.specs.Transfer
 use Rattle.pb_bytecode_program.specs.Transfer.{AbstractState, Edge, Flow}
 use Rattle.pb_bytecode_program.specs.Accepted.{Table, CoversEach, CoversLoops, IsCovered}
-use Rattle.pb_bytecode_program.proofs.Invariant.{Fits, FitParams, FitLoops, Covered}
+use Rattle.pb_bytecode_program.proofs.Invariant.{Fits, FitParameters, FitLoops, Covered}
 
 -- ---- what is known may be less
 
@@ -55,13 +55,13 @@ fits_more vs (s ∷ ss) [] rest c f = absurd c
 fits_more [] (s ∷ ss) (t ∷ ts) rest c f = absurd f
 fits_more (v ∷ vs) (s ∷ ss) (t ∷ ts) rest c f = (within_more v s t c.0 f.0, fits_more vs ss ts rest c.1 f.1)
 
-pub params_more : (vs : List Value) (ss ts : List AbstractValue) → CoversEach ss ts → FitParams vs ss → FitParams vs ts
-params_more [] [] [] c f = tt
-params_more [] [] (t ∷ ts) c f = absurd c
-params_more vs (s ∷ ss) [] c f = absurd c
-params_more [] (s ∷ ss) (t ∷ ts) c f = absurd f
-params_more (v ∷ vs) [] ts c f = absurd f
-params_more (v ∷ vs) (s ∷ ss) (t ∷ ts) c f = (within_more v s t c.0 f.0, params_more vs ss ts c.1 f.1)
+pub parameters_more : (vs : List Value) (ss ts : List AbstractValue) → CoversEach ss ts → FitParameters vs ss → FitParameters vs ts
+parameters_more [] [] [] c f = tt
+parameters_more [] [] (t ∷ ts) c f = absurd c
+parameters_more vs (s ∷ ss) [] c f = absurd c
+parameters_more [] (s ∷ ss) (t ∷ ts) c f = absurd f
+parameters_more (v ∷ vs) [] ts c f = absurd f
+parameters_more (v ∷ vs) (s ∷ ss) (t ∷ ts) c f = (within_more v s t c.0 f.0, parameters_more vs ss ts c.1 f.1)
 
 pub loops_more : (fs : List Frame) (ss ts : List (ℕ × AbstractValue)) → CoversLoops ss ts → FitLoops fs ss → FitLoops fs ts
 loops_more [] [] [] c f = tt
@@ -75,8 +75,8 @@ pub covered_more : (p : Program) (table : Table) (st : State) (k m : AbstractSta
 covered_more p table st k m c v = record {
   rest = v.rest;
   operands = fits_more st.operands k.operands m.operands v.rest c.operands v.operands;
-  deep = v.deep ∙ c.below;
-  fit_params = params_more st.params k.params m.params c.params v.fit_params;
+  deep = v.deep ∙ c.operands_below;
+  fit_parameters = parameters_more st.parameters k.parameters m.parameters c.parameters v.fit_parameters;
   fit_loops = loops_more st.loops k.loops m.loops c.loops v.fit_loops;
   brackets = v.brackets ∙ c.brackets;
   roots = v.roots ∙ c.roots;
@@ -91,14 +91,14 @@ SlotFits None None = Unit {0}
 SlotFits (Some v) None = ⊥
 SlotFits None (Some s) = ⊥
 
-pub param_fits : (vs : List Value) (ss : List AbstractValue) (i : ℕ) → FitParams vs ss → SlotFits (slice_get vs i) (slice_get ss i)
+pub param_fits : (vs : List Value) (ss : List AbstractValue) (i : ℕ) → FitParameters vs ss → SlotFits (slice_get vs i) (slice_get ss i)
 param_fits [] [] i f = tt
 param_fits [] (s ∷ ss) i f = absurd f
 param_fits (v ∷ vs) [] i f = absurd f
 param_fits (v ∷ vs) (s ∷ ss) zero f = f.0
 param_fits (v ∷ vs) (s ∷ ss) (suc i) f = param_fits vs ss i f.1
 
-pub slot_fits : (fs : List Frame) (ls : List (ℕ × AbstractValue)) (vs : List Value) (ss : List AbstractValue) (i : ℕ) → FitLoops fs ls → FitParams vs ss → SlotFits (Machine.value_at fs vs i) (Transfer.abstract_slot ls ss i)
+pub slot_fits : (fs : List Frame) (ls : List (ℕ × AbstractValue)) (vs : List Value) (ss : List AbstractValue) (i : ℕ) → FitLoops fs ls → FitParameters vs ss → SlotFits (Machine.value_at fs vs i) (Transfer.abstract_slot ls ss i)
 slot_fits [] [] vs ss i f g = param_fits vs ss i g
 slot_fits [] (l ∷ ls) vs ss i f g = absurd f
 slot_fits (x ∷ fs) [] vs ss i f g = absurd f
@@ -121,12 +121,12 @@ loops_length (x ∷ fs) [] f = absurd f
 loops_length (x ∷ fs) (l ∷ ls) f = ap suc (loops_length fs ls f.2)
 
 -- a slot's shape, cut to what its value meets
-pub set_params : (vs : List Value) (ss : List AbstractValue) (i : ℕ) (s : AbstractValue) → FitParams vs ss → ((v : Value) → slice_get vs i ≡ Some v → Within v s) → FitParams vs (Transfer.set_param ss i s)
-set_params [] [] i s f h = tt
-set_params [] (t ∷ ss) i s f h = absurd f
-set_params (v ∷ vs) [] i s f h = absurd f
-set_params (v ∷ vs) (t ∷ ss) zero s f h = (h v refl, f.1)
-set_params (v ∷ vs) (t ∷ ss) (suc i) s f h = (f.0, set_params vs ss i s f.1 h)
+pub set_parameters : (vs : List Value) (ss : List AbstractValue) (i : ℕ) (s : AbstractValue) → FitParameters vs ss → ((v : Value) → slice_get vs i ≡ Some v → Within v s) → FitParameters vs (Transfer.set_param ss i s)
+set_parameters [] [] i s f h = tt
+set_parameters [] (t ∷ ss) i s f h = absurd f
+set_parameters (v ∷ vs) [] i s f h = absurd f
+set_parameters (v ∷ vs) (t ∷ ss) zero s f h = (h v refl, f.1)
+set_parameters (v ∷ vs) (t ∷ ss) (suc i) s f h = (f.0, set_parameters vs ss i s f.1 h)
 
 pub set_loops : (fs : List Frame) (ls : List (ℕ × AbstractValue)) (vs : List Value) (i : ℕ) (s : AbstractValue) → FitLoops fs ls → ((v : Value) → Machine.value_at fs vs i ≡ Some v → Within v s) → FitLoops fs (Transfer.set_loop ls i s)
 set_loops [] [] vs i s f h = tt

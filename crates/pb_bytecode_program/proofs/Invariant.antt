@@ -16,11 +16,11 @@ Fits vs [] rest = vs ≡ rest
 Fits [] (s ∷ ss) rest = ⊥
 Fits (v ∷ vs) (s ∷ ss) rest = Within v s × Fits vs ss rest
 
-abbrev pub FitParams : List Value → List AbstractValue → Type 0
-FitParams [] [] = Unit {0}
-FitParams (v ∷ vs) (s ∷ ss) = Within v s × FitParams vs ss
-FitParams [] (s ∷ ss) = ⊥
-FitParams (v ∷ vs) [] = ⊥
+abbrev pub FitParameters : List Value → List AbstractValue → Type 0
+FitParameters [] [] = Unit {0}
+FitParameters (v ∷ vs) (s ∷ ss) = Within v s × FitParameters vs ss
+FitParameters [] (s ∷ ss) = ⊥
+FitParameters (v ∷ vs) [] = ⊥
 
 abbrev pub FitLoops : List Frame → List (ℕ × AbstractValue) → Type 0
 FitLoops [] [] = Unit {0}
@@ -37,7 +37,7 @@ places [] = []
 places (f ∷ fs) = f.loop_place ∷ places fs
 
 -- a loop under way, with the operands below its floor: they are what they were at its LOOP
-pub record AtLoop (p : Program) (table : Table) (params : List Value) (f : Frame) (fs : List Frame) (rest : List Value) (Outer : List Value → Type 0) : Type 0 where
+pub record AtLoop (p : Program) (table : Table) (parameters : List Value) (f : Frame) (fs : List Frame) (rest : List Value) (Outer : List Value → Type 0) : Type 0 where
   pub loop : slice_get p.code f.loop_place ≡ Some (op.Loop f.slot)
   pub carrier : Carrier
   pub of_slot : carrier_of p f.slot ≡ Some carrier
@@ -45,27 +45,27 @@ pub record AtLoop (p : Program) (table : Table) (params : List Value) (f : Frame
   pub around_it : loops_around p.code f.loop_place ≡ places fs
   pub home : AbstractState
   pub there : state_at table f.loop_place ≡ Some home
-  pub below : List Value
-  pub operands : Fits rest home.operands below
-  pub deep : length below ≡ home.below
-  pub fit_params : FitParams params home.params
+  pub operands_below : List Value
+  pub operands : Fits rest home.operands operands_below
+  pub deep : length operands_below ≡ home.operands_below
+  pub fit_parameters : FitParameters parameters home.parameters
   pub fit_loops : FitLoops fs home.loops
-  pub outer : Outer below
+  pub outer : Outer operands_below
 
 abbrev pub Under : Program → Table → List Value → List Frame → List Value → Type 0
-Under p table params [] rest = rest ≡ []
-Under p table params (f ∷ fs) rest = AtLoop p table params f fs rest (Under p table params fs)
+Under p table parameters [] rest = rest ≡ []
+Under p table parameters (f ∷ fs) rest = AtLoop p table parameters f fs rest (Under p table parameters fs)
 
 -- what is known holds of the state
 pub record Covered (p : Program) (table : Table) (st : State) (k : AbstractState) : Type 0 where
   pub rest : List Value
   pub operands : Fits st.operands k.operands rest
-  pub deep : length rest ≡ k.below
-  pub fit_params : FitParams st.params k.params
+  pub deep : length rest ≡ k.operands_below
+  pub fit_parameters : FitParameters st.parameters k.parameters
   pub fit_loops : FitLoops st.loops k.loops
   pub brackets : st.brackets ≡ k.brackets
   pub roots : st.roots ≡ k.roots
-  pub under : Under p table st.params st.loops rest
+  pub under : Under p table st.parameters st.loops rest
 
 pub record IsCoveredState (p : Program) (table : Table) (st : State) : Type 0 where
   pub known : AbstractState

@@ -25,20 +25,20 @@ module _ (p : Program) (table : Table) (ok : Accepted p table) where
   pub sim_loop : (st : State) (k : AbstractState) (j : ℕ) → state_at table st.place ≡ Some k → Straightly p table ok st (op.Loop j) k
   sim_loop st k j there at cov ar home pl fine = by (Machine.carrier_of p j) refl fine
     where
-      enter : (c : Carrier) (vs : List Value) → Machine.carrier_of p j ≡ Some c → tagged_values c ≡ vs → HasFirst vs → AllWithin vs (abstraction_of c) → FlowIsCovered table (Transfer.to_next_place st.place (record { operands = []; below = length k.operands + k.below; params = k.params; loops = (j, abstraction_of c) ∷ k.loops; brackets = k.brackets; floor = k.brackets; roots = k.roots })) → IsSafeStep p table st (op.Loop j) (Machine.enter_loop st j vs)
+      enter : (c : Carrier) (vs : List Value) → Machine.carrier_of p j ≡ Some c → tagged_values c ≡ vs → HasFirst vs → AllWithin vs (abstraction_of c) → FlowIsCovered table (Transfer.to_next_place st.place (record { operands = []; operands_below = length k.operands + k.operands_below; parameters = k.parameters; loops = (j, abstraction_of c) ∷ k.loops; brackets = k.brackets; brackets_below = k.brackets; roots = k.roots })) → IsSafeStep p table st (op.Loop j) (Machine.enter_loop st j vs)
       enter c [] e f first w fl = absurd first
       enter c (v ∷ left) e f first w fl =
           let a : loops_around p.code (st.place + 1) ≡ st.place ∷ places st.loops = around_next p.code st.place (op.Loop j) at ∙ ap (λ qs. st.place ∷ qs) ar in
           let size : Counts.size_of (Machine.carrier_of p j) ≡ suc (length left) = ap Counts.size_of e ∙ ap length f in
-          let c' : Covered p table (record st { place = st.place + 1; loops = record { loop_place = st.place; slot = j; value = v; remaining = left } ∷ st.loops }) (record { operands = []; below = length k.operands + k.below; params = k.params; loops = (j, abstraction_of c) ∷ k.loops; brackets = k.brackets; floor = k.brackets; roots = k.roots }) = record {
+          let c' : Covered p table (record st { place = st.place + 1; loops = record { loop_place = st.place; slot = j; value = v; remaining = left } ∷ st.loops }) (record { operands = []; operands_below = length k.operands + k.operands_below; parameters = k.parameters; loops = (j, abstraction_of c) ∷ k.loops; brackets = k.brackets; brackets_below = k.brackets; roots = k.roots }) = record {
             rest = st.operands;
             operands = refl;
             deep = fits_length st.operands k.operands cov.rest cov.operands ∙ ap (λ m. length k.operands + m) cov.deep;
-            fit_params = cov.fit_params;
+            fit_parameters = cov.fit_parameters;
             fit_loops = (refl, w.0, cov.fit_loops);
             brackets = cov.brackets;
             roots = cov.roots;
-            under = record { loop = at; carrier = c; of_slot = e; remaining = w.1; around_it = ar; home = k; there = there; below = cov.rest; operands = cov.operands; deep = cov.deep; fit_params = cov.fit_params; fit_loops = cov.fit_loops; outer = cov.under };
+            under = record { loop = at; carrier = c; of_slot = e; remaining = w.1; around_it = ar; home = k; there = there; operands_below = cov.rest; operands = cov.operands; deep = cov.deep; fit_parameters = cov.fit_parameters; fit_loops = cov.fit_loops; outer = cov.under };
           } in
           record {
             covered = arrive p table ok st (op.Loop j) k at cov ar _ _ (st.place + 1) fl.0 c' refl a;
@@ -68,19 +68,19 @@ module _ (p : Program) (table : Table) (ok : Accepted p table) where
       here : (f : Frame) (fs : List Frame) → st.loops ≡ f ∷ fs → loops_around p.code st.place ≡ f.loop_place ∷ places fs
       here f fs e = ar ∙ ap places e
 
-      same_home : (f : Frame) (fs : List Frame) → st.loops ≡ f ∷ fs → (u : AtLoop p table st.params f fs cov.rest (Under p table st.params fs)) → u.home ≡ inv.0
+      same_home : (f : Frame) (fs : List Frame) → st.loops ≡ f ∷ fs → (u : AtLoop p table st.parameters f fs cov.rest (Under p table st.parameters fs)) → u.home ≡ inv.0
       same_home f fs e u =
           let a : state_at table f.loop_place ≡ Some inv.0 = ap (state_at_loop table) (sym (here f fs e)) ∙ inv.2 in
           let b = u.there in
           cc
 
-      out : (f : Frame) (fs : List Frame) → st.loops ≡ f ∷ fs → (u : AtLoop p table st.params f fs cov.rest (Under p table st.params fs)) → u.home ≡ inv.0 → IsSafeStep p table st op.Next (Continues (record st { place = st.place + 1; loops = fs }))
+      out : (f : Frame) (fs : List Frame) → st.loops ≡ f ∷ fs → (u : AtLoop p table st.parameters f fs cov.rest (Under p table st.parameters fs)) → u.home ≡ inv.0 → IsSafeStep p table st op.Next (Continues (record st { place = st.place + 1; loops = fs }))
       out f fs e u same =
           let c : Covered p table (record st { place = st.place + 1; loops = fs }) u.home = record {
-            rest = u.below;
-            operands = subst (λ vs. Fits vs u.home.operands u.below) (sym bare) u.operands;
+            rest = u.operands_below;
+            operands = subst (λ vs. Fits vs u.home.operands u.operands_below) (sym bare) u.operands;
             deep = u.deep;
-            fit_params = u.fit_params;
+            fit_parameters = u.fit_parameters;
             fit_loops = u.fit_loops;
             brackets = cov.brackets ∙ inv.3 ∙ ap (λ (m : AbstractState). m.brackets) (sym same);
             roots = cov.roots ∙ inv.4 ∙ ap (λ (m : AbstractState). m.roots) (sym same);
@@ -94,7 +94,7 @@ module _ (p : Program) (table : Table) (ok : Accepted p table) where
             written = omega arith;
           }
 
-      back : (f : Frame) (fs : List Frame) (v : Value) (left : List Value) → st.loops ≡ f ∷ fs → f.remaining ≡ v ∷ left → (u : AtLoop p table st.params f fs cov.rest (Under p table st.params fs)) → u.home ≡ inv.0 → IsSafeStep p table st op.Next (Continues (record st { place = f.loop_place + 1; loops = record { loop_place = f.loop_place; slot = f.slot; value = v; remaining = left } ∷ fs }))
+      back : (f : Frame) (fs : List Frame) (v : Value) (left : List Value) → st.loops ≡ f ∷ fs → f.remaining ≡ v ∷ left → (u : AtLoop p table st.parameters f fs cov.rest (Under p table st.parameters fs)) → u.home ≡ inv.0 → IsSafeStep p table st op.Next (Continues (record st { place = f.loop_place + 1; loops = record { loop_place = f.loop_place; slot = f.slot; value = v; remaining = left } ∷ fs }))
       back f fs v left e l u same =
           let w : AllWithin (v ∷ left) (abstraction_of u.carrier) = subst (λ vs. AllWithin vs (abstraction_of u.carrier)) l u.remaining in
           let each = ok.each f.loop_place (op.Loop f.slot) u.home u.loop u.there in
@@ -102,12 +102,12 @@ module _ (p : Program) (table : Table) (ok : Accepted p table) where
           let t = tested table (nat_lt (length u.home.loops) 8 && not (Transfer.among u.home.loops f.slot) && is_inhabited u.carrier) _ fine' in
           let g : Frame = record { loop_place = f.loop_place; slot = f.slot; value = v; remaining = left } in
           let a : loops_around p.code (f.loop_place + 1) ≡ f.loop_place ∷ places fs = around_next p.code f.loop_place (op.Loop f.slot) u.loop ∙ ap (λ qs. f.loop_place ∷ qs) u.around_it in
-          let at_under : AtLoop p table st.params g fs st.operands (Under p table st.params fs) = record { loop = u.loop; carrier = u.carrier; of_slot = u.of_slot; remaining = w.1; around_it = u.around_it; home = u.home; there = u.there; below = u.below; operands = subst (λ vs. Fits vs u.home.operands u.below) (sym bare) u.operands; deep = u.deep; fit_params = u.fit_params; fit_loops = u.fit_loops; outer = u.outer } in
-          let c : Covered p table (record st { place = f.loop_place + 1; loops = g ∷ fs }) (record { operands = []; below = length u.home.operands + u.home.below; params = u.home.params; loops = (f.slot, abstraction_of u.carrier) ∷ u.home.loops; brackets = u.home.brackets; floor = u.home.brackets; roots = u.home.roots }) = record {
+          let at_under : AtLoop p table st.parameters g fs st.operands (Under p table st.parameters fs) = record { loop = u.loop; carrier = u.carrier; of_slot = u.of_slot; remaining = w.1; around_it = u.around_it; home = u.home; there = u.there; operands_below = u.operands_below; operands = subst (λ vs. Fits vs u.home.operands u.operands_below) (sym bare) u.operands; deep = u.deep; fit_parameters = u.fit_parameters; fit_loops = u.fit_loops; outer = u.outer } in
+          let c : Covered p table (record st { place = f.loop_place + 1; loops = g ∷ fs }) (record { operands = []; operands_below = length u.home.operands + u.home.operands_below; parameters = u.home.parameters; loops = (f.slot, abstraction_of u.carrier) ∷ u.home.loops; brackets = u.home.brackets; brackets_below = u.home.brackets; roots = u.home.roots }) = record {
             rest = st.operands;
             operands = refl;
-            deep = ap length bare ∙ fits_length cov.rest u.home.operands u.below u.operands ∙ ap (λ m. length u.home.operands + m) u.deep;
-            fit_params = u.fit_params;
+            deep = ap length bare ∙ fits_length cov.rest u.home.operands u.operands_below u.operands ∙ ap (λ m. length u.home.operands + m) u.deep;
+            fit_parameters = u.fit_parameters;
             fit_loops = (refl, w.0, u.fit_loops);
             brackets = cov.brackets ∙ inv.3 ∙ ap (λ (m : AbstractState). m.brackets) (sym same);
             roots = cov.roots ∙ inv.4 ∙ ap (λ (m : AbstractState). m.roots) (sym same);
@@ -124,10 +124,10 @@ module _ (p : Program) (table : Table) (ok : Accepted p table) where
             written = omega arith;
           }
 
-      choose : (f : Frame) (fs : List Frame) (left : List Value) → st.loops ≡ f ∷ fs → f.remaining ≡ left → (u : AtLoop p table st.params f fs cov.rest (Under p table st.params fs)) → IsSafeStep p table st op.Next (Machine.next_turn st f fs left)
+      choose : (f : Frame) (fs : List Frame) (left : List Value) → st.loops ≡ f ∷ fs → f.remaining ≡ left → (u : AtLoop p table st.parameters f fs cov.rest (Under p table st.parameters fs)) → IsSafeStep p table st op.Next (Machine.next_turn st f fs left)
       choose f fs [] e l u = out f fs e u (same_home f fs e u)
       choose f fs (v ∷ left) e l u = back f fs v left e l u (same_home f fs e u)
 
-      by : (fs : List Frame) → st.loops ≡ fs → Under p table st.params fs cov.rest → IsSafeStep p table st op.Next (Machine.repeat_or_leave st fs)
+      by : (fs : List Frame) → st.loops ≡ fs → Under p table st.parameters fs cov.rest → IsSafeStep p table st op.Next (Machine.repeat_or_leave st fs)
       by [] e u = absurd (let c = ok.closes st.place op.Next at refl in let n = ap length ar ∙ ap (λ fs. length (places fs)) e in omega arith)
       by (f ∷ fs) e u = choose f fs f.remaining e refl u

@@ -99,11 +99,11 @@ set_loop_covers (l ∷ ls) (m ∷ ms) i s t c d = pick (i == l.0) (i == m.0) (ap
 slot_shape_covers : (k m : AbstractState) (i : ℕ) (s t : AbstractValue) → IsCovered k m → Covers s t → IsCovered (set_slot k i s) (set_slot m i t)
 slot_shape_covers k m i s t c d = pick (among k.loops i) (among m.loops i) (among_same k.loops m.loops i c.loops)
   where
-    pick : (b a : Bool) → b ≡ a → IsCovered (cond b (record k { loops = set_loop k.loops i s }) (record k { params = set_param k.params i s })) (cond a (record m { loops = set_loop m.loops i t }) (record m { params = set_param m.params i t }))
-    pick true true e = record { operands = c.operands; below = c.below; params = c.params; loops = set_loop_covers k.loops m.loops i s t c.loops d; brackets = c.brackets; floor = c.floor; roots = c.roots }
+    pick : (b a : Bool) → b ≡ a → IsCovered (cond b (record k { loops = set_loop k.loops i s }) (record k { parameters = set_param k.parameters i s })) (cond a (record m { loops = set_loop m.loops i t }) (record m { parameters = set_param m.parameters i t }))
+    pick true true e = record { operands = c.operands; operands_below = c.operands_below; parameters = c.parameters; loops = set_loop_covers k.loops m.loops i s t c.loops d; brackets = c.brackets; brackets_below = c.brackets_below; roots = c.roots }
     pick true false e = cc
     pick false true e = cc
-    pick false false e = record { operands = c.operands; below = c.below; params = set_covers k.params m.params i s t c.params d; loops = c.loops; brackets = c.brackets; floor = c.floor; roots = c.roots }
+    pick false false e = record { operands = c.operands; operands_below = c.operands_below; parameters = set_covers k.parameters m.parameters i s t c.parameters d; loops = c.loops; brackets = c.brackets; brackets_below = c.brackets_below; roots = c.roots }
 
 accepts_less : (s t : AbstractValue) (c : Carrier) → Covers s t → accepts t c ≡ true → accepts s c ≡ true
 accepts_less abstract.Bool abstract.Bool c d e = e
@@ -116,12 +116,12 @@ accepts_less (abstract.Enum l h) (abstract.Int m n) c d e = absurd d
 accepts_less (abstract.Int l h) (abstract.Int m n) carrier.Bool d e = e
 accepts_less (abstract.Int l h) (abstract.Int m n) (carrier.Enum enum) d e = e
 accepts_less (abstract.Int l h) (abstract.Int m n) (carrier.Range range) d e =
-    let two = and_parts (int_le range.lo m) (int_le n range.hi) e in
-    let x = le_true range.lo m two.0 in
-    let y = le_true n range.hi two.1 in
+    let two = and_parts (int_le range.low m) (int_le n range.high) e in
+    let x = le_true range.low m two.0 in
+    let y = le_true n range.high two.1 in
     let u = d.0 in
     let w = d.2 in
-    and_from (int_le range.lo l) (int_le h range.hi) (from_le range.lo l (omega (arith, ints))) (from_le h range.hi (omega (arith, ints)))
+    and_from (int_le range.low l) (int_le h range.high) (from_le range.low l (omega (arith, ints))) (from_le h range.high (omega (arith, ints)))
 accepts_less (abstract.Enum a b) (abstract.Enum m n) carrier.Bool d e = e
 accepts_less (abstract.Enum a b) (abstract.Enum m n) (carrier.Range range) d e = e
 accepts_less (abstract.Enum a b) (abstract.Enum m n) (carrier.Enum enum) d e =
@@ -231,47 +231,47 @@ module _ (P Q : ℕ → AbstractState → Type 0) (down : (to : ℕ) (k m : Abst
   module _ (k m : AbstractState) (c : IsCovered k m) where
     -- other operands
     operands_less : (ss ts : List AbstractValue) → CoversEach ss ts → IsCovered (record k { operands = ss }) (record m { operands = ts })
-    operands_less ss ts d = record { operands = d; below = c.below; params = c.params; loops = c.loops; brackets = c.brackets; floor = c.floor; roots = c.roots }
+    operands_less ss ts d = record { operands = d; operands_below = c.operands_below; parameters = c.parameters; loops = c.loops; brackets = c.brackets; brackets_below = c.brackets_below; roots = c.roots }
 
     less_give : (q : ℕ) (ss ts : List AbstractValue) (s t : AbstractValue) → CoversEach ss ts → Covers s t → Holds P (abstract_push q m ts t) → Holds Q (abstract_push q k ss s)
     less_give q ss ts s t d e h =
-        less_if (nat_lt (length ts + m.below) 32) (nat_lt (length ss + k.below) 32) _ _
-        (λ x. ap (λ n. nat_lt (n + k.below) 32) (each_length ss ts d) ∙ ap (λ n. nat_lt (length ts + n) 32) c.below ∙ x)
+        less_if (nat_lt (length ts + m.operands_below) 32) (nat_lt (length ss + k.operands_below) 32) _ _
+        (λ x. ap (λ n. nat_lt (n + k.operands_below) 32) (each_length ss ts d) ∙ ap (λ n. nat_lt (length ts + n) 32) c.operands_below ∙ x)
         (λ x h'. (down (q + 1) _ _ (operands_less (s ∷ ss) (t ∷ ts) (e, d)) h'.0, tt)) h
 
     less_give_int : (q : ℕ) (ss ts : List AbstractValue) (l h l' h' : ℤ) → CoversEach ss ts → Inside l h l' h' → Holds P (abstract_push_int q m ts (l', h')) → Holds Q (abstract_push_int q k ss (l, h))
     less_give_int q ss ts l h l' h' d e x =
         less_if (fits64 l' h') (fits64 l h) _ _ (fits_less l h l' h' e) (λ y z. less_give q ss ts (abstract.Int l h) (abstract.Int l' h') d e z) x
 
-    less_split : (q to : ℕ) (l h l' h' lo hi : ℤ) (k1 m1 k2 m2 : AbstractState) → Inside l h l' h' → (int_le l hi && int_le lo h ≡ true → IsCovered k1 m1) → IsCovered k2 m2 → Holds P (range_edges q to l' h' lo hi m1 m2) → Holds Q (range_edges q to l h lo hi k1 k2)
-    less_split q to l h l' h' lo hi k1 m1 k2 m2 i c1 c2 x =
-        less_when (int_le l' hi && int_le lo h') (int_le l hi && int_le lo h) (q + 1) k1 m1 _ _
+    less_split : (q to : ℕ) (l h l' h' low high : ℤ) (k1 m1 k2 m2 : AbstractState) → Inside l h l' h' → (int_le l high && int_le low h ≡ true → IsCovered k1 m1) → IsCovered k2 m2 → Holds P (range_edges q to l' h' low high m1 m2) → Holds Q (range_edges q to l h low high k1 k2)
+    less_split q to l h l' h' low high k1 m1 k2 m2 i c1 c2 x =
+        less_when (int_le l' high && int_le low h') (int_le l high && int_le low h) (q + 1) k1 m1 _ _
         (λ e.
-        let two = and_parts (int_le l hi) (int_le lo h) e in
-        let u = le_true l hi two.0 in
-        let v = le_true lo h two.1 in
+        let two = and_parts (int_le l high) (int_le low h) e in
+        let u = le_true l high two.0 in
+        let v = le_true low h two.1 in
         let a = i.0 in
         let b = i.2 in
-        (and_from (int_le l' hi) (int_le lo h') (from_le l' hi (omega (arith, ints))) (from_le lo h' (omega (arith, ints))), c1 e))
-        (less_last (not (int_le lo l' && int_le h' hi)) (not (int_le lo l && int_le h hi)) to k2 m2
+        (and_from (int_le l' high) (int_le low h') (from_le l' high (omega (arith, ints))) (from_le low h' (omega (arith, ints))), c1 e))
+        (less_last (not (int_le low l' && int_le h' high)) (not (int_le low l && int_le h high)) to k2 m2
         (λ e. (
           not_from_false _ (false_from_ne_true _ (λ t.
-              let two = and_parts (int_le lo l') (int_le h' hi) t in
-              let u = le_true lo l' two.0 in
-              let v = le_true h' hi two.1 in
+              let two = and_parts (int_le low l') (int_le h' high) t in
+              let u = le_true low l' two.0 in
+              let v = le_true h' high two.1 in
               let a = i.0 in
               let b = i.2 in
-              let w = and_from (int_le lo l) (int_le h hi) (from_le lo l (omega (arith, ints))) (from_le h hi (omega (arith, ints))) in
+              let w = and_from (int_le low l) (int_le h high) (from_le low l (omega (arith, ints))) (from_le h high (omega (arith, ints))) in
               both_ways _ (not_from_true _ w) e)),
           c2,
         )))
         x
 
-    cut_less : (l h l' h' lo hi : ℤ) → Inside l h l' h' → lo ≤ℤ hi → int_le l hi && int_le lo h ≡ true → Inside (int_max l lo) (int_min h hi) (int_max l' lo) (int_min h' hi)
-    cut_less l h l' h' lo hi i o e =
-        let two = and_parts (int_le l hi) (int_le lo h) e in
-        let u = le_true l hi two.0 in
-        let v = le_true lo h two.1 in
+    cut_less : (l h l' h' low high : ℤ) → Inside l h l' h' → low ≤ℤ high → int_le l high && int_le low h ≡ true → Inside (int_max l low) (int_min h high) (int_max l' low) (int_min h' high)
+    cut_less l h l' h' low high i o e =
+        let two = and_parts (int_le l high) (int_le low h) e in
+        let u = le_true l high two.0 in
+        let v = le_true low h two.1 in
         let a = i.0 in
         let b = i.1 in
         let d = i.2 in
@@ -282,15 +282,15 @@ module _ (P Q : ℕ → AbstractState → Type 0) (down : (to : ℕ) (k m : Abst
     less_get q None (Some t) d h = absurd d
     less_get q (Some s) (Some t) d h = less_give q k.operands m.operands s t c.operands d h
 
-    less_slot_range : (q j to : ℕ) (lo hi : ℤ) (s t : Option AbstractValue) → lo ≤ℤ hi → SlotCovers s t → Holds P (with_abstract_slot t (λ u. with_interval u (λ l h. range_edges q to l h lo hi (set_slot m j (abstract.Int (int_max l lo) (int_min h hi))) m))) → Holds Q (with_abstract_slot s (λ u. with_interval u (λ l h. range_edges q to l h lo hi (set_slot k j (abstract.Int (int_max l lo) (int_min h hi))) k)))
-    less_slot_range q j to lo hi s None o d h = absurd h
-    less_slot_range q j to lo hi s (Some abstract.Bool) o d h = absurd h
-    less_slot_range q j to lo hi s (Some (abstract.Enum u n)) o d h = absurd h
-    less_slot_range q j to lo hi None (Some (abstract.Int l h)) o d x = absurd d
-    less_slot_range q j to lo hi (Some abstract.Bool) (Some (abstract.Int l h)) o d x = absurd d
-    less_slot_range q j to lo hi (Some (abstract.Enum u n)) (Some (abstract.Int l h)) o d x = absurd d
-    less_slot_range q j to lo hi (Some (abstract.Int l h)) (Some (abstract.Int l' h')) o d x =
-        less_split q to l h l' h' lo hi _ _ k m d (λ e. slot_shape_covers k m j _ _ c (cut_less l h l' h' lo hi d o e)) c x
+    less_slot_range : (q j to : ℕ) (low high : ℤ) (s t : Option AbstractValue) → low ≤ℤ high → SlotCovers s t → Holds P (with_abstract_slot t (λ u. with_interval u (λ l h. range_edges q to l h low high (set_slot m j (abstract.Int (int_max l low) (int_min h high))) m))) → Holds Q (with_abstract_slot s (λ u. with_interval u (λ l h. range_edges q to l h low high (set_slot k j (abstract.Int (int_max l low) (int_min h high))) k)))
+    less_slot_range q j to low high s None o d h = absurd h
+    less_slot_range q j to low high s (Some abstract.Bool) o d h = absurd h
+    less_slot_range q j to low high s (Some (abstract.Enum u n)) o d h = absurd h
+    less_slot_range q j to low high None (Some (abstract.Int l h)) o d x = absurd d
+    less_slot_range q j to low high (Some abstract.Bool) (Some (abstract.Int l h)) o d x = absurd d
+    less_slot_range q j to low high (Some (abstract.Enum u n)) (Some (abstract.Int l h)) o d x = absurd d
+    less_slot_range q j to low high (Some (abstract.Int l h)) (Some (abstract.Int l' h')) o d x =
+        less_split q to l h l' h' low high _ _ k m d (λ e. slot_shape_covers k m j _ _ c (cut_less l h l' h' low high d o e)) c x
 
     less_close : (q n n' f f' : ℕ) → n ≡ n' → f ≡ f' → Holds P (abstract_close f' n' (λ u. to_next_place q (record m { brackets = u }))) → Holds Q (abstract_close f n (λ u. to_next_place q (record k { brackets = u })))
     less_close q n zero f f' e d h = absurd h
@@ -298,7 +298,7 @@ module _ (P Q : ℕ → AbstractState → Type 0) (down : (to : ℕ) (k m : Abst
     less_close q (suc n) (suc n') f f' e d h =
         let same : n ≡ n' = omega arith in
         less_if (nat_le f' n') (nat_le f n) _ _ (λ x. ap (λ a. nat_le a n) d ∙ ap (nat_le f') same ∙ x)
-        (λ x h'. (down (q + 1) _ _ (record { operands = c.operands; below = c.below; params = c.params; loops = c.loops; brackets = same; floor = c.floor; roots = c.roots }) h'.0, tt)) h
+        (λ x h'. (down (q + 1) _ _ (record { operands = c.operands; operands_below = c.operands_below; parameters = c.parameters; loops = c.loops; brackets = same; brackets_below = c.brackets_below; roots = c.roots }) h'.0, tt)) h
 
     less_end : (ls ms : List (ℕ × AbstractValue)) (n n' r r' : ℕ) → CoversLoops ls ms → n ≡ n' → r ≡ r' → Holds P (abstract_end ms n' r') → Holds Q (abstract_end ls n r)
     less_end [] [] n zero r zero d e f h = absurd h
@@ -311,14 +311,14 @@ module _ (P Q : ℕ → AbstractState → Type 0) (down : (to : ℕ) (k m : Abst
     self_covers : (b : Carrier) → is_inhabited b ≡ true → Covers (abstraction_of b) (abstraction_of b)
     self_covers carrier.Bool e = tt
     self_covers (carrier.Enum enum) e = (refl, omega arith)
-    self_covers (carrier.Range range) e = (≤ℤ_refl range.lo, le_true range.lo range.hi e, ≤ℤ_refl range.hi)
+    self_covers (carrier.Range range) e = (≤ℤ_refl range.low, le_true range.low range.high e, ≤ℤ_refl range.high)
 
     less_loop : (q j : ℕ) (b : Option Carrier) → Holds P (abstract_loop q m j b) → Holds Q (abstract_loop q k j b)
     less_loop q j None h = absurd h
     less_loop q j (Some b) h =
         less_if (nat_lt (length m.loops) 8 && not (among m.loops j) && is_inhabited b) (nat_lt (length k.loops) 8 && not (among k.loops j) && is_inhabited b) _ _
         (λ x. rw (loops_same_length k.loops m.loops c.loops, among_same k.loops m.loops j c.loops) x)
-        (λ x h'. (down (q + 1) _ _ (record { operands = tt; below = ap (λ n. n + k.below) (each_length k.operands m.operands c.operands) ∙ ap (λ n. length m.operands + n) c.below; params = c.params; loops = (refl, self_covers b (and_parts (nat_lt (length m.loops) 8 && not (among m.loops j)) (is_inhabited b) x).1, c.loops); brackets = c.brackets; floor = c.brackets; roots = c.roots }) h'.0, tt)) h
+        (λ x h'. (down (q + 1) _ _ (record { operands = tt; operands_below = ap (λ n. n + k.operands_below) (each_length k.operands m.operands c.operands) ∙ ap (λ n. length m.operands + n) c.operands_below; parameters = c.parameters; loops = (refl, self_covers b (and_parts (nat_lt (length m.loops) 8 && not (among m.loops j)) (is_inhabited b) x).1, c.loops); brackets = c.brackets; brackets_below = c.brackets; roots = c.roots }) h'.0, tt)) h
 
     less_next : (q : ℕ) (ss ts : List AbstractValue) (g h : Option AbstractState) → CoversEach ss ts → IsCoveredAtLoop g h → Holds P (abstract_next q m ts h) → Holds Q (abstract_next q k ss g)
     less_next q ss ts g None d e x = absurd x
@@ -335,7 +335,7 @@ module _ (P Q : ℕ → AbstractState → Type 0) (down : (to : ℕ) (k m : Abst
     less_call q (Some cs) h =
         less_args (reverse cs) k.operands m.operands _ _ c.operands
         (λ us vs d h'. less_root k.brackets k.roots m.brackets m.roots _ _ c.brackets c.roots
-        (λ r h''. (down (q + 1) _ _ (record { operands = d; below = c.below; params = c.params; loops = c.loops; brackets = c.brackets; floor = c.floor; roots = refl }) h''.0, tt)) h') h
+        (λ r h''. (down (q + 1) _ _ (record { operands = d; operands_below = c.operands_below; parameters = c.parameters; loops = c.loops; brackets = c.brackets; brackets_below = c.brackets_below; roots = refl }) h''.0, tt)) h') h
 
     pub transfer-covers : (p : Program) (g h : Option AbstractState) (q : ℕ) (i : Op) → HasOrderedRange i → IsCoveredAtLoop g h → Holds P (transfer p h q i m) → Holds Q (transfer p g q i k)
     transfer-covers p g h q op.End w e x = less_end k.loops m.loops k.brackets m.brackets k.roots m.roots c.loops c.brackets c.roots x
@@ -344,7 +344,7 @@ module _ (P Q : ℕ → AbstractState → Type 0) (down : (to : ℕ) (k m : Abst
     transfer-covers p g h q (op.PushEnum s j) w e x =
         less_if (enum_fits (slice_get p.sorts s) j) (enum_fits (slice_get p.sorts s) j) _ _ (λ y. y)
         (λ y z. less_give q k.operands m.operands (abstract.Enum s (count_or_zero (slice_get p.sorts s))) (abstract.Enum s (count_or_zero (slice_get p.sorts s))) c.operands (refl, omega arith) z) x
-    transfer-covers p g h q (op.Get j) w e x = less_get q (abstract_slot k.loops k.params j) (abstract_slot m.loops m.params j) (slot_covers k.loops m.loops k.params m.params j c.loops c.params) x
+    transfer-covers p g h q (op.Get j) w e x = less_get q (abstract_slot k.loops k.parameters j) (abstract_slot m.loops m.parameters j) (slot_covers k.loops m.loops k.parameters m.parameters j c.loops c.parameters) x
     transfer-covers p g h q op.Pop w e x =
         less_any k.operands m.operands _ _ c.operands (λ s t us vs d f y. (down (q + 1) _ _ (operands_less us vs f) y.0, tt)) x
     transfer-covers p g h q (op.Arithmetic a) w e x =
@@ -364,21 +364,21 @@ module _ (P Q : ℕ → AbstractState → Type 0) (down : (to : ℕ) (k m : Abst
     transfer-covers p g h q (op.Logic b) w e x = less_bool k.operands m.operands _ _ c.operands (λ us vs f y. less_bool us vs _ _ f (λ us' vs' f' y'. less_give q us' vs' abstract.Bool abstract.Bool f' tt y') y) x
     transfer-covers p g h q (op.Jump to) w e x = (down to k m c x.0, tt)
     transfer-covers p g h q (op.JumpIf b to) w e x = less_bool k.operands m.operands _ _ c.operands (λ us vs f y. (down (q + 1) _ _ (operands_less us vs f) y.0, (down to _ _ (operands_less us vs f) y.1.0, tt))) x
-    transfer-covers p g h q (op.InRange lo hi to) w e x =
-        less_int k.operands m.operands _ _ c.operands (λ l h' m' n us vs i f y. less_split q to l h' m' n lo hi _ _ _ _ i
-        (λ t. operands_less (abstract.Int (int_max l lo) (int_min h' hi) ∷ us) (abstract.Int (int_max m' lo) (int_min n hi) ∷ vs) (cut_less l h' m' n lo hi i w t, f))
+    transfer-covers p g h q (op.InRange low high to) w e x =
+        less_int k.operands m.operands _ _ c.operands (λ l h' m' n us vs i f y. less_split q to l h' m' n low high _ _ _ _ i
+        (λ t. operands_less (abstract.Int (int_max l low) (int_min h' high) ∷ us) (abstract.Int (int_max m' low) (int_min n high) ∷ vs) (cut_less l h' m' n low high i w t, f))
         (operands_less (abstract.Int l h' ∷ us) (abstract.Int m' n ∷ vs) (i, f)) y) x
-    transfer-covers p g h q (op.SlotInRange j lo hi to) w e x = less_slot_range q j to lo hi (abstract_slot k.loops k.params j) (abstract_slot m.loops m.params j) w (slot_covers k.loops m.loops k.params m.params j c.loops c.params) x
+    transfer-covers p g h q (op.SlotInRange j low high to) w e x = less_slot_range q j to low high (abstract_slot k.loops k.parameters j) (abstract_slot m.loops m.parameters j) w (slot_covers k.loops m.loops k.parameters m.parameters j c.loops c.parameters) x
     transfer-covers p g h q (op.Loop j) w e x = less_loop q j (carrier_of p j) x
     transfer-covers p g h q op.Next w e x = less_next q k.operands m.operands g h c.operands e x
     transfer-covers p g h q (op.Open b) w e x =
         less_if (nat_lt m.brackets 32) (nat_lt k.brackets 32) _ _ (λ y. ap (λ n. nat_lt n 32) c.brackets ∙ y)
         (λ y z. less_root k.brackets k.roots m.brackets m.roots _ _ c.brackets c.roots
-        (λ r z'. (down (q + 1) _ _ (record { operands = c.operands; below = c.below; params = c.params; loops = c.loops; brackets = ap (λ n. n + 1) c.brackets; floor = c.floor; roots = refl }) z'.0, tt)) z) x
-    transfer-covers p g h q op.Close w e x = less_close q k.brackets m.brackets k.floor m.floor c.brackets c.floor x
+        (λ r z'. (down (q + 1) _ _ (record { operands = c.operands; operands_below = c.operands_below; parameters = c.parameters; loops = c.loops; brackets = ap (λ n. n + 1) c.brackets; brackets_below = c.brackets_below; roots = refl }) z'.0, tt)) z) x
+    transfer-covers p g h q op.Close w e x = less_close q k.brackets m.brackets k.brackets_below m.brackets_below c.brackets c.brackets_below x
     transfer-covers p g h q (op.Emit l) w e x =
         less_root k.brackets k.roots m.brackets m.roots _ _ c.brackets c.roots
-        (λ r z. (down (q + 1) _ _ (record { operands = c.operands; below = c.below; params = c.params; loops = c.loops; brackets = c.brackets; floor = c.floor; roots = refl }) z.0, tt)) x
+        (λ r z. (down (q + 1) _ _ (record { operands = c.operands; operands_below = c.operands_below; parameters = c.parameters; loops = c.loops; brackets = c.brackets; brackets_below = c.brackets_below; roots = refl }) z.0, tt)) x
     transfer-covers p g h q (op.Call eq) w e x = less_call q (slice_get p.callees eq) x
 
 -- ---- the law

@@ -54,12 +54,12 @@ argument_ok (IntValue z) (abstract.Enum s n) c e w = absurd w
 argument_ok (IntValue z) (abstract.Int l h) carrier.Bool e w = cc
 argument_ok (IntValue z) (abstract.Int l h) (carrier.Enum enum) e w = cc
 argument_ok (IntValue z) (abstract.Int l h) (carrier.Range range) e w =
-    let two = and_parts (int_le range.lo l) (int_le h range.hi) e in
-    let x = le_true range.lo l two.0 in
-    let y = le_true h range.hi two.1 in
+    let two = and_parts (int_le range.low l) (int_le h range.high) e in
+    let x = le_true range.low l two.0 in
+    let y = le_true h range.high two.1 in
     let u = w.0 in
     let v = w.1 in
-    cond-true _ _ _ (and_from (int_le range.lo z) (int_le z range.hi) (from_le range.lo z (omega (arith, ints))) (from_le z range.hi (omega (arith, ints))))
+    cond-true _ _ _ (and_from (int_le range.low z) (int_le z range.high) (from_le range.low z (omega (arith, ints))) (from_le z range.high (omega (arith, ints))))
 argument_ok (EnumValue s i) abstract.Bool c e w = absurd w
 argument_ok (EnumValue s i) (abstract.Int l h) c e w = absurd w
 argument_ok (EnumValue s i) (abstract.Enum t n) carrier.Bool e w = cc
@@ -80,21 +80,21 @@ pub when_rest : (table : Table) (b : Bool) (e : Edge) (es : List Edge) → AllLe
 when_rest table true e es h = h.1
 when_rest table false e es h = h
 
-pub split_in : (table : Table) (q to : ℕ) (l h lo hi z : ℤ) (k m : AbstractState) → FlowIsCovered table (Transfer.range_edges q to l h lo hi k m) → l ≤ℤ z → z ≤ℤ h → (int_le lo z && int_le z hi) ≡ true → Leads table (record { to = q + 1; state = k })
-split_in table q to l h lo hi z k m fine a b e =
-    let two = and_parts (int_le lo z) (int_le z hi) e in
-    let x = le_true lo z two.0 in
-    let y = le_true z hi two.1 in
-    when_lead table _ _ _ fine (and_from (int_le l hi) (int_le lo h) (from_le l hi (omega (arith, ints))) (from_le lo h (omega (arith, ints))))
+pub split_in : (table : Table) (q to : ℕ) (l h low high z : ℤ) (k m : AbstractState) → FlowIsCovered table (Transfer.range_edges q to l h low high k m) → l ≤ℤ z → z ≤ℤ h → (int_le low z && int_le z high) ≡ true → Leads table (record { to = q + 1; state = k })
+split_in table q to l h low high z k m fine a b e =
+    let two = and_parts (int_le low z) (int_le z high) e in
+    let x = le_true low z two.0 in
+    let y = le_true z high two.1 in
+    when_lead table _ _ _ fine (and_from (int_le l high) (int_le low h) (from_le l high (omega (arith, ints))) (from_le low h (omega (arith, ints))))
 
-pub split_out : (table : Table) (q to : ℕ) (l h lo hi z : ℤ) (k m : AbstractState) → FlowIsCovered table (Transfer.range_edges q to l h lo hi k m) → l ≤ℤ z → z ≤ℤ h → (int_le lo z && int_le z hi) ≡ false → Leads table (record { to = to; state = m })
-split_out table q to l h lo hi z k m fine a b e =
+pub split_out : (table : Table) (q to : ℕ) (l h low high z : ℤ) (k m : AbstractState) → FlowIsCovered table (Transfer.range_edges q to l h low high k m) → l ≤ℤ z → z ≤ℤ h → (int_le low z && int_le z high) ≡ false → Leads table (record { to = to; state = m })
+split_out table q to l h low high z k m fine a b e =
     when_lead table _ _ [] (subst (AllLead table) (sym (append-nil _)) (when_rest table _ _ _ fine))
     (not_from_false _ (false_from_ne_true _ (λ t.
-    let two = and_parts (int_le lo l) (int_le h hi) t in
-    let x = le_true lo l two.0 in
-    let y = le_true h hi two.1 in
-    let u = and_from (int_le lo z) (int_le z hi) (from_le lo z (omega (arith, ints))) (from_le z hi (omega (arith, ints))) in
+    let two = and_parts (int_le low l) (int_le h high) t in
+    let x = le_true low l two.0 in
+    let y = le_true h high two.1 in
+    let u = and_from (int_le low z) (int_le z high) (from_le low z (omega (arith, ints))) (from_le z high (omega (arith, ints))) in
     cc)))
 
 -- ---- equality of two of one kind
@@ -140,11 +140,11 @@ ended_ok table (x ∷ fs) [] n m r s out f e g fine = absurd f
 ended_ok table [] [] n zero r (suc zero) out f e g fine = rw (e, g) refl
 ended_ok table [] [] n zero r (suc (suc s)) out f e g fine = absurd fine
 
-pub cut_within : (lo hi z l h : ℤ) → l ≤ℤ z → z ≤ℤ h → (int_le lo z && int_le z hi) ≡ true → Within (IntValue z) (abstract.Int (int_max l lo) (int_min h hi))
-cut_within lo hi z l h p1 p2 e =
-    let two = and_parts (int_le lo z) (int_le z hi) e in
-    let x = le_true lo z two.0 in
-    let y = le_true z hi two.1 in
+pub cut_within : (low high z l h : ℤ) → l ≤ℤ z → z ≤ℤ h → (int_le low z && int_le z high) ≡ true → Within (IntValue z) (abstract.Int (int_max l low) (int_min h high))
+cut_within low high z l h p1 p2 e =
+    let two = and_parts (int_le low z) (int_le z high) e in
+    let x = le_true low z two.0 in
+    let y = le_true z high two.1 in
     (omega (arith, ints, clamps), omega (arith, ints, clamps))
 
 pub one_more : (out : List Token) (t : Token) → length (out ++ t ∷ []) ≤ length out + 1

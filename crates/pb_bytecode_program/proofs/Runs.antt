@@ -15,7 +15,7 @@ use Rattle.pb_bytecode_program.specs.Transfer
 use Rattle.pb_bytecode_program.specs.Transfer.{AbstractState, Edge, Flow}
 use Rattle.pb_bytecode_program.specs.Accepted
 use Rattle.pb_bytecode_program.specs.Accepted.{Table, state_at, state_at_loop, CoversEach, CoversLoops, IsCovered, Leads, AllLead, FlowIsCovered, IsTarget, HasValidTarget, Accepted}
-use Rattle.pb_bytecode_program.proofs.Invariant.{FitParams, places, Covered, IsCoveredState}
+use Rattle.pb_bytecode_program.proofs.Invariant.{FitParameters, places, Covered, IsCoveredState}
 use Rattle.pb_sorts.specs.declared.carrier.Carrier.{Carrier}
 use Rattle.pb_bytecode_program.specs.declared.instruction.Op.{Op}
 use Rattle.pb_bytecode_program.specs.declared.instruction.Op.TheVariants as op
@@ -43,8 +43,8 @@ module _ (p : Program) (table : Table) (ok : Accepted p table) where
   sim_act st (op.Logic b) k there at cov ar pl fine = sim_logic p table ok st k b at cov ar (state_at_loop table (loops_around p.code st.place)) pl fine
   sim_act st (op.Jump to) k there at cov ar pl fine = sim_jump p table ok st k to at cov ar (state_at_loop table (loops_around p.code st.place)) pl fine
   sim_act st (op.JumpIf on to) k there at cov ar pl fine = sim_jump_if p table ok st k on to at cov ar (state_at_loop table (loops_around p.code st.place)) pl fine
-  sim_act st (op.InRange lo hi to) k there at cov ar pl fine = sim_in_range p table ok st k lo hi to at cov ar (state_at_loop table (loops_around p.code st.place)) pl fine
-  sim_act st (op.SlotInRange j lo hi to) k there at cov ar pl fine = sim_slot_range p table ok st k j lo hi to at cov ar (state_at_loop table (loops_around p.code st.place)) pl fine
+  sim_act st (op.InRange low high to) k there at cov ar pl fine = sim_in_range p table ok st k low high to at cov ar (state_at_loop table (loops_around p.code st.place)) pl fine
+  sim_act st (op.SlotInRange j low high to) k there at cov ar pl fine = sim_slot_range p table ok st k j low high to at cov ar (state_at_loop table (loops_around p.code st.place)) pl fine
   sim_act st (op.Loop j) k there at cov ar pl fine = sim_loop p table ok st k j there at cov ar (state_at_loop table (loops_around p.code st.place)) pl fine
   sim_act st op.Next k there at cov ar pl fine = sim_next p table ok st k at cov ar fine
   sim_act st (op.Open b) k there at cov ar pl fine = sim_open p table ok st k b at cov ar (state_at_loop table (loops_around p.code st.place)) pl fine
@@ -101,17 +101,17 @@ module _ (p : Program) (table : Table) (ok : Accepted p table) where
       by (Ends out) i g go = (out, refl, rw (g.0) (omega arith))
       by (Faults f) i g go = absurd g
 
-  pub args_fit : (cs : List Carrier) (tuple : List ℤ) → AreArguments cs tuple → FitParams (arguments cs tuple) (map abstraction_of cs)
+  pub args_fit : (cs : List Carrier) (tuple : List ℤ) → AreArguments cs tuple → FitParameters (arguments cs tuple) (map abstraction_of cs)
   args_fit [] [] a = tt
   args_fit (c ∷ cs) [] a = absurd (let w : false ≡ true = a in cc)
   args_fit [] (z ∷ zs) a = absurd (let w : false ≡ true = a in cc)
   args_fit (c ∷ cs) (z ∷ zs) a = let two = and_parts (carriers.contains (values_of c) z) (carriers.is_within (map values_of cs) zs) a in (tagged_within c z two.0, args_fit cs zs two.1)
 
-  pub starts : (tuple : List ℤ) → AreArguments p.params tuple → IsCoveredState p table (Machine.start (arguments p.params tuple))
+  pub starts : (tuple : List ℤ) → AreArguments p.parameters tuple → IsCoveredState p table (Machine.start (arguments p.parameters tuple))
   starts tuple a =
       let b = ok.begins in
-      let st = Machine.start (arguments p.params tuple) in
-      let c : Covered p table st (Accepted.entry p) = record { rest = []; operands = refl; deep = refl; fit_params = args_fit p.params tuple a; fit_loops = tt; brackets = refl; roots = refl; under = refl } in
+      let st = Machine.start (arguments p.parameters tuple) in
+      let c : Covered p table st (Accepted.entry p) = record { rest = []; operands = refl; deep = refl; fit_parameters = args_fit p.parameters tuple a; fit_loops = tt; brackets = refl; roots = refl; under = refl } in
       record {
         known = b.known;
         there = b.there;

@@ -11,9 +11,9 @@ use Rattle.pb_bytecode_program.proofs.Runs.{never, ends, starts}
 use Rattle.pb_bytecode_program.proofs.Trees.{Writes, run_writes, longer}
 
 module _ (p : Program) (table : Table) (ok : Accepted p table) where
-  ends_with_tree : (tuple : Tuple) → AreArguments p.params tuple → (tree : Tree) × EndsWith p tuple tree
+  ends_with_tree : (tuple : Tuple) → AreArguments p.parameters tuple → (tree : Tree) × EndsWith p tuple tree
   ends_with_tree tuple a =
-      let st = start (arguments p.params tuple) in
+      let st = start (arguments p.parameters tuple) in
       let r = ends p table ok (static_steps p) st (starts p table ok tuple a) (omega arith) in
       let written : Writes p (Ends r.0) = subst (Writes p) r.1 (run_writes p (static_steps p) st refl) in (
         written.tree,

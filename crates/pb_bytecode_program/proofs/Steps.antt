@@ -27,7 +27,7 @@ use Rattle.pb_bytecode_program.specs.declared.instruction.Leaf.{Leaf}
 use Rattle.pb_bytecode_program.specs.declared.instruction.Op.{Op}
 use Rattle.pb_bytecode_program.specs.declared.instruction.Op.TheVariants as op
 use Rattle.pb_bytecode_program.proofs.Ints.{calc_within, negated_within, absolute_within}
-use Rattle.pb_bytecode_program.proofs.Covering.{covered_more, SlotFits, slot_fits, runs_among, set_params, set_loops, no_loop}
+use Rattle.pb_bytecode_program.proofs.Covering.{covered_more, SlotFits, slot_fits, runs_among, set_parameters, set_loops, no_loop}
 use Rattle.pb_bytecode_program.proofs.Rules.{tested, allowed, divisor, no_divisor, enum_below, split_in, split_out, equal_kinds, fits_length, fit_within, ended_ok, cut_within, one_more}
 use Rattle.pb_bytecode_program.proofs.Operands.{sim_any, sim_int, sim_bool, sim_args, sim_roots}
 use Rattle.pb_bytecode_program.proofs.Places.{left_at, spent_on, spent_to, paired, around_next}
@@ -83,16 +83,16 @@ module _ (p : Program) (table : Table) (ok : Accepted p table) where
 
       -- other operands
       pub with_operands : (to : ℕ) (vs : List Value) (ss : List AbstractValue) → Fits vs ss cov.rest → Covered p table (record st { place = to; operands = vs }) (record k { operands = ss })
-      with_operands to vs ss f = record { rest = cov.rest; operands = f; deep = cov.deep; fit_params = cov.fit_params; fit_loops = cov.fit_loops; brackets = cov.brackets; roots = cov.roots; under = cov.under }
+      with_operands to vs ss f = record { rest = cov.rest; operands = f; deep = cov.deep; fit_parameters = cov.fit_parameters; fit_loops = cov.fit_loops; brackets = cov.brackets; roots = cov.roots; under = cov.under }
 
       -- other operands, brackets, roots and output
       pub renewed : (vs : List Value) (ss : List AbstractValue) (n r : ℕ) (out : List Token) → Fits vs ss cov.rest → Covered p table (record st { place = st.place + 1; operands = vs; brackets = n; roots = r; output = out }) (record k { operands = ss; brackets = n; roots = r })
-      renewed vs ss n r out f = record { rest = cov.rest; operands = f; deep = cov.deep; fit_params = cov.fit_params; fit_loops = cov.fit_loops; brackets = refl; roots = refl; under = cov.under }
+      renewed vs ss n r out f = record { rest = cov.rest; operands = f; deep = cov.deep; fit_parameters = cov.fit_parameters; fit_loops = cov.fit_loops; brackets = refl; roots = refl; under = cov.under }
 
       pub sim_push : (vs : List Value) (ss : List AbstractValue) (v : Value) (s : AbstractValue) → Within v s → Fits vs ss cov.rest → FlowIsCovered table (Transfer.abstract_push st.place k ss s) → IsSafeStep p table st i (Machine.push st vs v)
       sim_push vs ss v s w f fine =
-          let t = tested table (nat_lt (length ss + k.below) 32) _ fine in
-          let e : length vs ≡ length ss + k.below = fits_length vs ss cov.rest f ∙ ap (λ m. length ss + m) cov.deep in
+          let t = tested table (nat_lt (length ss + k.operands_below) 32) _ fine in
+          let e : length vs ≡ length ss + k.operands_below = fits_length vs ss cov.rest f ∙ ap (λ m. length ss + m) cov.deep in
           rw (ap (λ m. nat_lt m 32) e ∙ t.0) (go_on _ _ refl refl (omega arith) (with_operands _ _ (s ∷ ss) (w, f)) t.1)
 
       pub sim_push_int : (vs : List Value) (ss : List AbstractValue) (z l h : ℤ) → l ≤ℤ z → z ≤ℤ h → Fits vs ss cov.rest → FlowIsCovered table (Transfer.abstract_push_int st.place k ss (l, h)) → IsSafeStep p table st i (Machine.push_int st vs z)
@@ -117,11 +117,11 @@ module _ (p : Program) (table : Table) (ok : Accepted p table) where
           let w = calc_within c a b l h m n p1 p2 p3 p4 (λ d. divisor (divides c) m t.0 d) in
           rw (no_divisor (divides c) m b t.0 p3) (sim_push_int vs ss (arithmetic c a b) (interval_of c l h m n).0 (interval_of c l h m n).1 w.0 w.1 f t.1)
 
-      pub sim_range : (to : ℕ) (lo hi z l h : ℤ) (vs : List Value) (k1 k2 : AbstractState) → IsTarget p.code st.place to → l ≤ℤ z → z ≤ℤ h → ((int_le lo z && int_le z hi) ≡ true → Covered p table (record st { place = st.place + 1; operands = vs }) k1) → Covered p table (record st { place = to; operands = vs }) k2 → FlowIsCovered table (Transfer.range_edges st.place to l h lo hi k1 k2) → IsSafeStep p table st i (if int_le lo z && int_le z hi then Machine.jump_to st (st.place + 1) vs else Machine.jump_to st to vs)
-      sim_range to lo hi z l h vs k1 k2 tg a b c1 c2 fine =
-          cond_both (int_le lo z && int_le z hi) _ _ (IsSafeStep p table st i)
-          (λ e. go_on _ k1 refl refl (omega arith) (c1 e) (split_in table st.place to l h lo hi z k1 k2 fine a b e, tt))
-          (λ e. go_to to _ k2 tg refl refl (omega arith) c2 (split_out table st.place to l h lo hi z k1 k2 fine a b e))
+      pub sim_range : (to : ℕ) (low high z l h : ℤ) (vs : List Value) (k1 k2 : AbstractState) → IsTarget p.code st.place to → l ≤ℤ z → z ≤ℤ h → ((int_le low z && int_le z high) ≡ true → Covered p table (record st { place = st.place + 1; operands = vs }) k1) → Covered p table (record st { place = to; operands = vs }) k2 → FlowIsCovered table (Transfer.range_edges st.place to l h low high k1 k2) → IsSafeStep p table st i (if int_le low z && int_le z high then Machine.jump_to st (st.place + 1) vs else Machine.jump_to st to vs)
+      sim_range to low high z l h vs k1 k2 tg a b c1 c2 fine =
+          cond_both (int_le low z && int_le z high) _ _ (IsSafeStep p table st i)
+          (λ e. go_on _ k1 refl refl (omega arith) (c1 e) (split_in table st.place to l h low high z k1 k2 fine a b e, tt))
+          (λ e. go_to to _ k2 tg refl refl (omega arith) c2 (split_out table st.place to l h low high z k1 k2 fine a b e))
 
   -- any instruction but LOOP and NEXT
   abbrev pub Straightly : State → Op → AbstractState → Type 0
@@ -144,7 +144,7 @@ module _ (p : Program) (table : Table) (ok : Accepted p table) where
       sim_push st (op.PushEnum s j) k at cov ar refl st.operands k.operands (EnumValue s j) (abstract.Enum s (Transfer.count_or_zero (slice_get p.sorts s))) (refl, enum_below (slice_get p.sorts s) j t.0) cov.operands t.1
 
   pub sim_get : (st : State) (k : AbstractState) (j : ℕ) → Straightly st (op.Get j) k
-  sim_get st k j at cov ar home pl fine = sim_give st (op.Get j) k at cov ar refl (Machine.value_at st.loops st.params j) (Transfer.abstract_slot k.loops k.params j) (slot_fits st.loops k.loops st.params k.params j cov.fit_loops cov.fit_params) fine
+  sim_get st k j at cov ar home pl fine = sim_give st (op.Get j) k at cov ar refl (Machine.value_at st.loops st.parameters j) (Transfer.abstract_slot k.loops k.parameters j) (slot_fits st.loops k.loops st.parameters k.parameters j cov.fit_loops cov.fit_parameters) fine
 
   pub sim_pop : (st : State) (k : AbstractState) → Straightly st op.Pop k
   sim_pop st k at cov ar home pl fine =
@@ -206,27 +206,27 @@ module _ (p : Program) (table : Table) (ok : Accepted p table) where
       (λ e. go_to st (op.JumpIf on to) k at cov ar refl to _ _ pl refl refl (omega arith) (with_operands st (op.JumpIf on to) k at cov ar refl to ws ts f) fl.1.0)
       (λ e. go_on st (op.JumpIf on to) k at cov ar refl _ _ refl refl (omega arith) (with_operands st (op.JumpIf on to) k at cov ar refl (st.place + 1) ws ts f) (fl.0, tt))) fine
 
-  pub sim_in_range : (st : State) (k : AbstractState) (lo hi : ℤ) (to : ℕ) → Straightly st (op.InRange lo hi to) k
-  sim_in_range st k lo hi to at cov ar home pl fine =
-      sim_int table (IsSafeStep p table st (op.InRange lo hi to)) cov.rest st.operands k.operands _ _ cov.operands
+  pub sim_in_range : (st : State) (k : AbstractState) (low high : ℤ) (to : ℕ) → Straightly st (op.InRange low high to) k
+  sim_in_range st k low high to at cov ar home pl fine =
+      sim_int table (IsSafeStep p table st (op.InRange low high to)) cov.rest st.operands k.operands _ _ cov.operands
       (λ z l h ws ts p1 p2 f fl.
-      sim_range st (op.InRange lo hi to) k at cov ar refl to lo hi z l h (IntValue z ∷ ws) _ _ pl p1 p2
-      (λ e. with_operands st (op.InRange lo hi to) k at cov ar refl (st.place + 1) (IntValue z ∷ ws) (abstract.Int (int_max l lo) (int_min h hi) ∷ ts) (cut_within lo hi z l h p1 p2 e, f))
-      (with_operands st (op.InRange lo hi to) k at cov ar refl to (IntValue z ∷ ws) (abstract.Int l h ∷ ts) ((p1, p2), f)) fl) fine
+      sim_range st (op.InRange low high to) k at cov ar refl to low high z l h (IntValue z ∷ ws) _ _ pl p1 p2
+      (λ e. with_operands st (op.InRange low high to) k at cov ar refl (st.place + 1) (IntValue z ∷ ws) (abstract.Int (int_max l low) (int_min h high) ∷ ts) (cut_within low high z l h p1 p2 e, f))
+      (with_operands st (op.InRange low high to) k at cov ar refl to (IntValue z ∷ ws) (abstract.Int l h ∷ ts) ((p1, p2), f)) fl) fine
 
-  pub sim_slot_range : (st : State) (k : AbstractState) (j : ℕ) (lo hi : ℤ) (to : ℕ) → Straightly st (op.SlotInRange j lo hi to) k
-  sim_slot_range st k j lo hi to at cov ar home pl fine =
-      by (Machine.value_at st.loops st.params j) (Transfer.abstract_slot k.loops k.params j) refl (slot_fits st.loops k.loops st.params k.params j cov.fit_loops cov.fit_params) fine
+  pub sim_slot_range : (st : State) (k : AbstractState) (j : ℕ) (low high : ℤ) (to : ℕ) → Straightly st (op.SlotInRange j low high to) k
+  sim_slot_range st k j low high to at cov ar home pl fine =
+      by (Machine.value_at st.loops st.parameters j) (Transfer.abstract_slot k.loops k.parameters j) refl (slot_fits st.loops k.loops st.parameters k.parameters j cov.fit_loops cov.fit_parameters) fine
     where
-      cut : (z l h : ℤ) → Machine.value_at st.loops st.params j ≡ Some (IntValue z) → l ≤ℤ z → z ≤ℤ h → (int_le lo z && int_le z hi) ≡ true → Covered p table (record st { place = st.place + 1 }) (Transfer.set_slot k j (abstract.Int (int_max l lo) (int_min h hi)))
+      cut : (z l h : ℤ) → Machine.value_at st.loops st.parameters j ≡ Some (IntValue z) → l ≤ℤ z → z ≤ℤ h → (int_le low z && int_le z high) ≡ true → Covered p table (record st { place = st.place + 1 }) (Transfer.set_slot k j (abstract.Int (int_max l low) (int_min h high)))
       cut z l h e p1 p2 t =
-          let w = cut_within lo hi z l h p1 p2 t in
-          let is_z : (v : Value) → Some v ≡ Some (IntValue z) → Within v (abstract.Int (int_max l lo) (int_min h hi)) = λ v g. let same : IntValue z ≡ v = cc in subst (λ x. Within x (abstract.Int (int_max l lo) (int_min h hi))) same w in
+          let w = cut_within low high z l h p1 p2 t in
+          let is_z : (v : Value) → Some v ≡ Some (IntValue z) → Within v (abstract.Int (int_max l low) (int_min h high)) = λ v g. let same : IntValue z ≡ v = cc in subst (λ x. Within x (abstract.Int (int_max l low) (int_min h high))) same w in
           cond_both (Transfer.among k.loops j) _ _ (Covered p table (record st { place = st.place + 1 }))
-          (λ a. record { rest = cov.rest; operands = cov.operands; deep = cov.deep; fit_params = cov.fit_params; fit_loops = set_loops st.loops k.loops st.params j _ cov.fit_loops (λ v g. is_z v (sym g ∙ e)); brackets = cov.brackets; roots = cov.roots; under = cov.under })
-          (λ a. record { rest = cov.rest; operands = cov.operands; deep = cov.deep; fit_params = set_params st.params k.params j _ cov.fit_params (λ v g. is_z v (sym g ∙ sym (no_loop st.loops st.params j (runs_among st.loops k.loops j cov.fit_loops ∙ a)) ∙ e)); fit_loops = cov.fit_loops; brackets = cov.brackets; roots = cov.roots; under = cov.under })
+          (λ a. record { rest = cov.rest; operands = cov.operands; deep = cov.deep; fit_parameters = cov.fit_parameters; fit_loops = set_loops st.loops k.loops st.parameters j _ cov.fit_loops (λ v g. is_z v (sym g ∙ e)); brackets = cov.brackets; roots = cov.roots; under = cov.under })
+          (λ a. record { rest = cov.rest; operands = cov.operands; deep = cov.deep; fit_parameters = set_parameters st.parameters k.parameters j _ cov.fit_parameters (λ v g. is_z v (sym g ∙ sym (no_loop st.loops st.parameters j (runs_among st.loops k.loops j cov.fit_loops ∙ a)) ∙ e)); fit_loops = cov.fit_loops; brackets = cov.brackets; roots = cov.roots; under = cov.under })
 
-      by : (v : Option Value) (s : Option AbstractValue) → Machine.value_at st.loops st.params j ≡ v → SlotFits v s → FlowIsCovered table (Transfer.with_abstract_slot s (λ u. Transfer.with_interval u (λ l h. Transfer.range_edges st.place to l h lo hi (Transfer.set_slot k j (abstract.Int (int_max l lo) (int_min h hi))) k))) → IsSafeStep p table st (op.SlotInRange j lo hi to) (Machine.with_slot v (λ w. Machine.with_int w (λ z. if int_le lo z && int_le z hi then Machine.jump_to st (st.place + 1) st.operands else Machine.jump_to st to st.operands)))
+      by : (v : Option Value) (s : Option AbstractValue) → Machine.value_at st.loops st.parameters j ≡ v → SlotFits v s → FlowIsCovered table (Transfer.with_abstract_slot s (λ u. Transfer.with_interval u (λ l h. Transfer.range_edges st.place to l h low high (Transfer.set_slot k j (abstract.Int (int_max l low) (int_min h high))) k))) → IsSafeStep p table st (op.SlotInRange j low high to) (Machine.with_slot v (λ w. Machine.with_int w (λ z. if int_le low z && int_le z high then Machine.jump_to st (st.place + 1) st.operands else Machine.jump_to st to st.operands)))
       by v None e f fl = absurd fl
       by None (Some s) e f fl = absurd f
       by (Some v) (Some abstract.Bool) e f fl = absurd fl
@@ -234,8 +234,8 @@ module _ (p : Program) (table : Table) (ok : Accepted p table) where
       by (Some (BoolValue b)) (Some (abstract.Int l h)) e f fl = absurd f
       by (Some (EnumValue u m)) (Some (abstract.Int l h)) e f fl = absurd f
       by (Some (IntValue z)) (Some (abstract.Int l h)) e f fl =
-          sim_range st (op.SlotInRange j lo hi to) k at cov ar refl to lo hi z l h st.operands _ _ pl f.0 f.1 (cut z l h e f.0 f.1)
-          (with_operands st (op.SlotInRange j lo hi to) k at cov ar refl to st.operands k.operands cov.operands) fl
+          sim_range st (op.SlotInRange j low high to) k at cov ar refl to low high z l h st.operands _ _ pl f.0 f.1 (cut z l h e f.0 f.1)
+          (with_operands st (op.SlotInRange j low high to) k at cov ar refl to st.operands k.operands cov.operands) fl
 
   pub sim_open : (st : State) (k : AbstractState) (kind : Connective) → Straightly st (op.Open kind) k
   sim_open st k kind at cov ar home pl fine =
@@ -249,18 +249,18 @@ module _ (p : Program) (table : Table) (ok : Accepted p table) where
   sim_tip st k leaf at cov ar home pl fine =
       sim_roots table (IsSafeStep p table st (op.Emit leaf)) cov.rest st.brackets k.brackets st.roots k.roots _ _ cov.brackets cov.roots
       (λ r fl. go_on st (op.Emit leaf) k at cov ar refl _ _ refl refl (one_more st.output (Machine.leaf leaf))
-      (record { rest = cov.rest; operands = cov.operands; deep = cov.deep; fit_params = cov.fit_params; fit_loops = cov.fit_loops; brackets = cov.brackets; roots = refl; under = cov.under }) fl) fine
+      (record { rest = cov.rest; operands = cov.operands; deep = cov.deep; fit_parameters = cov.fit_parameters; fit_loops = cov.fit_loops; brackets = cov.brackets; roots = refl; under = cov.under }) fl) fine
 
   pub sim_close : (st : State) (k : AbstractState) → Straightly st op.Close k
   sim_close st k at cov ar home pl fine = by st.brackets k.brackets cov.brackets fine
     where
-      by : (n m : ℕ) → n ≡ m → FlowIsCovered table (Transfer.abstract_close k.floor m (λ u. Transfer.to_next_place st.place (record k { brackets = u }))) → IsSafeStep p table st op.Close (Machine.close_bracket n (λ u. Continues (record st { place = st.place + 1; brackets = u; output = st.output ++ token.Close ∷ [] })))
+      by : (n m : ℕ) → n ≡ m → FlowIsCovered table (Transfer.abstract_close k.brackets_below m (λ u. Transfer.to_next_place st.place (record k { brackets = u }))) → IsSafeStep p table st op.Close (Machine.close_bracket n (λ u. Continues (record st { place = st.place + 1; brackets = u; output = st.output ++ token.Close ∷ [] })))
       by n zero e fl = absurd fl
       by zero (suc m) e fl = absurd (omega arith)
       by (suc n) (suc m) e fl =
-          let t = tested table (nat_le k.floor m) _ fl in
+          let t = tested table (nat_le k.brackets_below m) _ fl in
           let f : n ≡ m = omega arith in
-          rw f (go_on st op.Close k at cov ar refl _ _ refl refl (one_more st.output token.Close) (record { rest = cov.rest; operands = cov.operands; deep = cov.deep; fit_params = cov.fit_params; fit_loops = cov.fit_loops; brackets = refl; roots = cov.roots; under = cov.under }) t.1)
+          rw f (go_on st op.Close k at cov ar refl _ _ refl refl (one_more st.output token.Close) (record { rest = cov.rest; operands = cov.operands; deep = cov.deep; fit_parameters = cov.fit_parameters; fit_loops = cov.fit_loops; brackets = refl; roots = cov.roots; under = cov.under }) t.1)
 
   pub sim_call : (st : State) (k : AbstractState) (eq : ℕ) → Straightly st (op.Call eq) k
   sim_call st k eq at cov ar home pl fine = by (slice_get p.callees eq) fine
@@ -271,4 +271,4 @@ module _ (p : Program) (table : Table) (ok : Accepted p table) where
           sim_args table (IsSafeStep p table st (op.Call eq)) cov.rest (reverse cs) st.operands k.operands [] _ _ cov.operands
           (λ us ws ts f fl'. sim_roots table (IsSafeStep p table st (op.Call eq)) cov.rest st.brackets k.brackets st.roots k.roots _ _ cov.brackets cov.roots
           (λ r fl''. go_on st (op.Call eq) k at cov ar refl _ _ refl refl (one_more st.output (token.Call (Machine.number p eq us)))
-          (record { rest = cov.rest; operands = f; deep = cov.deep; fit_params = cov.fit_params; fit_loops = cov.fit_loops; brackets = cov.brackets; roots = refl; under = cov.under }) fl'') fl') fl
+          (record { rest = cov.rest; operands = f; deep = cov.deep; fit_parameters = cov.fit_parameters; fit_loops = cov.fit_loops; brackets = cov.brackets; roots = refl; under = cov.under }) fl'') fl') fl

@@ -108,10 +108,10 @@ module _ (p : Program) where
     writes_with_int (EnumValue s i) go k = tt
 
     -- a leaf
-    writes_leaf : (l : trees.Leaf) (place : ℕ) (vs : List Value) (loops : List Frame) → trees.LeafCalls IsCall l → Writes (Machine.with_root st.brackets st.roots (λ r. Continues (record { place = place; operands = vs; params = st.params; loops = loops; brackets = st.brackets; roots = r; output = st.output ++ tokens.leaf_token l ∷ [] })))
+    writes_leaf : (l : trees.Leaf) (place : ℕ) (vs : List Value) (loops : List Frame) → trees.LeafCalls IsCall l → Writes (Machine.with_root st.brackets st.roots (λ r. Continues (record { place = place; operands = vs; parameters = st.parameters; loops = loops; brackets = st.brackets; roots = r; output = st.output ++ tokens.leaf_token l ∷ [] })))
     writes_leaf l place vs loops c = by st.brackets st.roots w
       where
-        by : (n r : ℕ) → Written IsCall n r st.output → Writes (Machine.with_root n r (λ s. Continues (record { place = place; operands = vs; params = st.params; loops = loops; brackets = n; roots = s; output = st.output ++ tokens.leaf_token l ∷ [] })))
+        by : (n r : ℕ) → Written IsCall n r st.output → Writes (Machine.with_root n r (λ s. Continues (record { place = place; operands = vs; parameters = st.parameters; loops = loops; brackets = n; roots = s; output = st.output ++ tokens.leaf_token l ∷ [] })))
         by zero zero e = single_written IsCall l st.output c e
         by zero (suc r) e = tt
         by (suc n) zero e = absurd e
@@ -123,7 +123,7 @@ module _ (p : Program) where
         next : (n : ℕ) → n + 1 ≡ suc n
         next n = omega arith
 
-        by : (n r : ℕ) → Written IsCall n r st.output → Writes (Machine.with_root n r (λ s. Continues (record { place = st.place + 1; operands = st.operands; params = st.params; loops = st.loops; brackets = n + 1; roots = s; output = st.output ++ tokens.opening c ∷ [] })))
+        by : (n r : ℕ) → Written IsCall n r st.output → Writes (Machine.with_root n r (λ s. Continues (record { place = st.place + 1; operands = st.operands; parameters = st.parameters; loops = st.loops; brackets = n + 1; roots = s; output = st.output ++ tokens.opening c ∷ [] })))
         by zero zero e = root_opened IsCall c st.output e
         by zero (suc r) e = tt
         by (suc n) zero e = absurd e
@@ -132,7 +132,7 @@ module _ (p : Program) where
     writes_close : Writes (Machine.execute p op.Close st)
     writes_close = by st.brackets st.roots w
       where
-        by : (n r : ℕ) → Written IsCall n r st.output → Writes (Machine.close_bracket n (λ m. Continues (record { place = st.place + 1; operands = st.operands; params = st.params; loops = st.loops; brackets = m; roots = r; output = st.output ++ token.Close ∷ [] })))
+        by : (n r : ℕ) → Written IsCall n r st.output → Writes (Machine.close_bracket n (λ m. Continues (record { place = st.place + 1; operands = st.operands; parameters = st.parameters; loops = st.loops; brackets = m; roots = r; output = st.output ++ token.Close ∷ [] })))
         by zero r e = tt
         by (suc n) zero e = absurd e
         by (suc zero) (suc r) e = root_closed IsCall st.output e
@@ -173,7 +173,7 @@ module _ (p : Program) where
     writes_act (op.PushInt z) = writes_push st.operands (IntValue z)
     writes_act (op.PushBool b) = writes_push st.operands (BoolValue b)
     writes_act (op.PushEnum s i) = writes_push st.operands (EnumValue s i)
-    writes_act (op.Get i) = writes_slot (Machine.value_at st.loops st.params i) _ (λ v. writes_push st.operands v)
+    writes_act (op.Get i) = writes_slot (Machine.value_at st.loops st.parameters i) _ (λ v. writes_push st.operands v)
     writes_act op.Pop = writes_any st.operands _ (λ v ws. w)
     writes_act (op.Arithmetic c) = writes_int st.operands _ (λ b vs. writes_int vs _ (λ a ws. cond_both (divides c && int_lt b (pos 1)) (Faults Machine.Divisor) _ Writes (λ e. tt) (λ e. writes_push_int ws (arithmetic c a b))))
     writes_act op.Negate = writes_int st.operands _ (λ a vs. writes_push_int vs (neg_ℤ a))
@@ -184,8 +184,8 @@ module _ (p : Program) where
     writes_act (op.Logic c) = writes_bool st.operands _ (λ b vs. writes_bool vs _ (λ a ws. writes_push ws _))
     writes_act (op.Jump to) = w
     writes_act (op.JumpIf on to) = writes_bool st.operands _ (λ b vs. cond_both (if on then b else not b) _ _ Writes (λ e. w) (λ e. w))
-    writes_act (op.InRange lo hi to) = writes_int st.operands _ (λ z vs. cond_both (int_le lo z && int_le z hi) _ _ Writes (λ e. w) (λ e. w))
-    writes_act (op.SlotInRange i lo hi to) = writes_slot (Machine.value_at st.loops st.params i) _ (λ v. writes_with_int v _ (λ z. cond_both (int_le lo z && int_le z hi) _ _ Writes (λ e. w) (λ e. w)))
+    writes_act (op.InRange low high to) = writes_int st.operands _ (λ z vs. cond_both (int_le low z && int_le z high) _ _ Writes (λ e. w) (λ e. w))
+    writes_act (op.SlotInRange i low high to) = writes_slot (Machine.value_at st.loops st.parameters i) _ (λ v. writes_with_int v _ (λ z. cond_both (int_le low z && int_le z high) _ _ Writes (λ e. w) (λ e. w)))
     writes_act (op.Loop i) = writes_begin i (Machine.carrier_of p i)
     writes_act op.Next = writes_next st.loops
     writes_act (op.Open c) = cond_both (nat_lt st.brackets 32) _ _ Writes (λ e. rw (sym (opening-token c)) (writes_open (tree_connective c))) (λ e. tt)

@@ -27,7 +27,7 @@ Covers _ _ = ⊥
 abbrev pub abstraction_of : Carrier → AbstractValue
 abstraction_of carrier.Bool = abstract.Bool
 abstraction_of (carrier.Enum enum) = abstract.Enum enum.sort enum.count
-abstraction_of (carrier.Range range) = abstract.Int range.lo range.hi
+abstraction_of (carrier.Range range) = abstract.Int range.low range.high
 
 abbrev pub same_kind : AbstractValue → AbstractValue → Bool
 same_kind abstract.Bool abstract.Bool = true

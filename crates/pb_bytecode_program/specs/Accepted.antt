@@ -42,11 +42,11 @@ CoversLoops (s ∷ ss) [] = ⊥
 -- the second knows no more than the first, and the same of all else
 pub record IsCovered (k m : AbstractState) : Type 0 where
   pub operands : CoversEach k.operands m.operands
-  pub below : k.below ≡ m.below
-  pub params : CoversEach k.params m.params
+  pub operands_below : k.operands_below ≡ m.operands_below
+  pub parameters : CoversEach k.parameters m.parameters
   pub loops : CoversLoops k.loops m.loops
   pub brackets : k.brackets ≡ m.brackets
-  pub floor : k.floor ≡ m.floor
+  pub brackets_below : k.brackets_below ≡ m.brackets_below
   pub roots : k.roots ≡ m.roots
 
 -- the table has a state at the edge's place, which covers what flows there
@@ -73,8 +73,8 @@ pub record IsTarget (code : List Op) (q to : ℕ) : Type 0 where
 abbrev pub HasValidTarget : Program → ℕ → Op → Type 0
 HasValidTarget p q (op.Jump to) = IsTarget p.code q to
 HasValidTarget p q (op.JumpIf on to) = IsTarget p.code q to
-HasValidTarget p q (op.InRange lo hi to) = IsTarget p.code q to
-HasValidTarget p q (op.SlotInRange i lo hi to) = IsTarget p.code q to
+HasValidTarget p q (op.InRange low high to) = IsTarget p.code q to
+HasValidTarget p q (op.SlotInRange i low high to) = IsTarget p.code q to
 HasValidTarget p q _ = Unit {0}
 
 -- the slots of these LOOPs
@@ -88,12 +88,12 @@ loop_slots code (q ∷ qs) = slots_at (slice_get code q) (loop_slots code qs)
 
 -- a parameter, or the slot of a loop around
 abbrev pub IsVisible : Program → ℕ → ℕ → Type 0
-IsVisible p q i = (i < length p.params) ⊎ Contains (loop_slots p.code (loops_around p.code q)) i
+IsVisible p q i = (i < length p.parameters) ⊎ Contains (loop_slots p.code (loops_around p.code q)) i
 
 -- which slots and callees an instruction may name, and which loops may be open there
 abbrev pub NamesInScope : Program → ℕ → Op → Type 0
 NamesInScope p q (op.Get i) = IsVisible p q i
-NamesInScope p q (op.SlotInRange i lo hi to) = IsVisible p q i
+NamesInScope p q (op.SlotInRange i low high to) = IsVisible p q i
 NamesInScope p q (op.Loop i) = (IsSome (carrier_of p i)) × (Contains (loop_slots p.code (loops_around p.code q)) i → ⊥) × (length (loops_around p.code q) < MAX_LOOPS)
 NamesInScope p q (op.Call eq) = eq < length p.callees
 NamesInScope p q op.End = loops_around p.code q ≡ []
@@ -101,7 +101,7 @@ NamesInScope p q _ = Unit {0}
 
 -- what is known at place 0
 abbrev pub entry : Program → AbstractState
-entry p = record { operands = []; below = 0; params = map abstraction_of p.params; loops = []; brackets = 0; floor = 0; roots = 0 }
+entry p = record { operands = []; operands_below = 0; parameters = map abstraction_of p.parameters; loops = []; brackets = 0; brackets_below = 0; roots = 0 }
 
 -- the code keeps the rules by position, states counts that are large enough and within the limits, and has a table whose
 -- state at each place covers what flows there

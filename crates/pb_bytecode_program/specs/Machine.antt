@@ -21,7 +21,7 @@ use Rattle.pb_bytecode_program.specs.declared.instruction.Op.TheVariants as op
 pub record Program : Type 0 where
   pub sorts : List ℕ  -- how many enumerators each sort has
   pub callees : List (List Carrier)  -- each equation's parameters
-  pub params : List Carrier
+  pub parameters : List Carrier
   pub loops : List Carrier  -- of the slots after the parameters
   pub stated_steps : ℕ
   pub stated_tokens : ℕ
@@ -51,7 +51,7 @@ pub record Frame : Type 0 where
 pub record State : Type 0 where
   pub place : ℕ
   pub operands : List Value  -- the topmost first
-  pub params : List Value
+  pub parameters : List Value
   pub loops : List Frame  -- the innermost first
   pub brackets : ℕ  -- how many are open
   pub roots : ℕ  -- how many leaves and brackets were written outside brackets
@@ -111,7 +111,7 @@ push_equality st vs wanted (Some b) = push st vs (BoolValue (answers wanted b))
 -- what is wrong with an argument
 abbrev pub argument_fault : Value → Carrier → Option MachineFault
 argument_fault (BoolValue b) carrier.Bool = None
-argument_fault (IntValue z) (carrier.Range range) = if int_le range.lo z && int_le z range.hi then None else Some Argument
+argument_fault (IntValue z) (carrier.Range range) = if int_le range.low z && int_le z range.high then None else Some Argument
 argument_fault (EnumValue s i) (carrier.Enum enum) =
     if s == enum.sort then (if nat_lt i enum.count then None else Some Argument) else Some WrongKind
 argument_fault _ _ = Some WrongKind
@@ -131,8 +131,8 @@ pop_args (c ∷ cs) args (v ∷ vs) go = fault_or (argument_fault v c) (pop_args
 
 -- the value of a slot: of a loop under way, else of a parameter
 abbrev pub value_at : List Frame → List Value → ℕ → Option Value
-value_at [] params i = slice_get params i
-value_at (f ∷ fs) params i = if i == f.slot then Some f.value else value_at fs params i
+value_at [] parameters i = slice_get parameters i
+value_at (f ∷ fs) parameters i = if i == f.slot then Some f.value else value_at fs parameters i
 
 -- whether a loop of the slot is under way
 abbrev pub is_running : List Frame → ℕ → Bool
@@ -173,7 +173,7 @@ end_run [] zero (suc (suc r)) out = Faults Root
 
 -- the carrier of a loop slot
 abbrev pub carrier_of : Program → ℕ → Option Carrier
-carrier_of p i = if nat_lt i (length p.params) then None else slice_get p.loops (i - length p.params)
+carrier_of p i = if nat_lt i (length p.parameters) then None else slice_get p.loops (i - length p.parameters)
 
 abbrev pub enter_loop : State → ℕ → List Value → Outcome
 enter_loop st i [] = Faults Loop
@@ -220,7 +220,7 @@ execute p op.End st = end_run st.loops st.brackets st.roots st.output
 execute p (op.PushInt z) st = push st st.operands (IntValue z)
 execute p (op.PushBool b) st = push st st.operands (BoolValue b)
 execute p (op.PushEnum s i) st = push st st.operands (EnumValue s i)
-execute p (op.Get i) st = with_slot (value_at st.loops st.params i) (λ v. push st st.operands v)
+execute p (op.Get i) st = with_slot (value_at st.loops st.parameters i) (λ v. push st st.operands v)
 execute p op.Pop st = pop_any st.operands (λ v vs. jump_to st (st.place + 1) vs)
 execute p (op.Arithmetic c) st =
     pop_int st.operands (λ b vs. pop_int vs (λ a ws.
@@ -235,12 +235,12 @@ execute p (op.Logic c) st =
 execute p (op.Jump to) st = jump_to st to st.operands
 execute p (op.JumpIf on to) st =
     pop_bool st.operands (λ b vs. if (if on then b else not b) then jump_to st to vs else jump_to st (st.place + 1) vs)
-execute p (op.InRange lo hi to) st =
+execute p (op.InRange low high to) st =
     pop_int st.operands (λ z vs.
-    if int_le lo z && int_le z hi then jump_to st (st.place + 1) (IntValue z ∷ vs) else jump_to st to (IntValue z ∷ vs))
-execute p (op.SlotInRange i lo hi to) st =
-    with_slot (value_at st.loops st.params i) (λ v. with_int v (λ z.
-    if int_le lo z && int_le z hi then jump_to st (st.place + 1) st.operands else jump_to st to st.operands))
+    if int_le low z && int_le z high then jump_to st (st.place + 1) (IntValue z ∷ vs) else jump_to st to (IntValue z ∷ vs))
+execute p (op.SlotInRange i low high to) st =
+    with_slot (value_at st.loops st.parameters i) (λ v. with_int v (λ z.
+    if int_le low z && int_le z high then jump_to st (st.place + 1) st.operands else jump_to st to st.operands))
 execute p (op.Loop i) st = begin_loop st i (carrier_of p i)
 execute p op.Next st = repeat_or_leave st st.loops
 execute p (op.Open c) st =
@@ -273,4 +273,4 @@ run p (suc n) st = and_then (step p st) (run p n)
 
 -- the state at place 0 with the parameters' values
 abbrev pub start : List Value → State
-start args = record { place = 0; operands = []; params = args; loops = []; brackets = 0; roots = 0; output = [] }
+start args = record { place = 0; operands = []; parameters = args; loops = []; brackets = 0; roots = 0; output = [] }

@@ -10,8 +10,8 @@ use Rattle.pb_bytecode_program.specs.declared.instruction.Op.TheVariants as op
 
 -- an instruction that tests for a range has one that isn't empty
 abbrev pub HasOrderedRange : Op → Type 0
-HasOrderedRange (op.InRange lo hi to) = lo ≤ℤ hi
-HasOrderedRange (op.SlotInRange i lo hi to) = lo ≤ℤ hi
+HasOrderedRange (op.InRange low high to) = low ≤ℤ high
+HasOrderedRange (op.SlotInRange i low high to) = low ≤ℤ high
 HasOrderedRange _ = Unit {0}
 
 -- what is known at the innermost LOOP is covered, where there is one

@@ -16,11 +16,11 @@ use Rattle.pb_bytecode_program.specs.declared.instruction.Op.TheVariants as op
 -- what is known at a place: of the operands, of the slots, of the brackets and of the roots
 pub record AbstractState : Type 0 where
   pub operands : List AbstractValue  -- above the floor, the topmost first
-  pub below : ℕ  -- how many operands are below the floor
-  pub params : List AbstractValue
+  pub operands_below : ℕ  -- how many operands are below the innermost loop's
+  pub parameters : List AbstractValue
   pub loops : List (ℕ × AbstractValue)  -- the loops under way, the innermost first: each slot with its value
   pub brackets : ℕ  -- how many are open
-  pub floor : ℕ  -- how many of them a body can't close
+  pub brackets_below : ℕ  -- how many of them a body can't close
   pub roots : ℕ
 
 -- where control flows, and with what
@@ -54,7 +54,7 @@ abbrev pub to_next_place : ℕ → AbstractState → Flow
 to_next_place q k = Some (record { to = q + 1; state = k } ∷ [])
 
 abbrev pub abstract_push : ℕ → AbstractState → List AbstractValue → AbstractValue → Flow
-abstract_push q k ss s = if nat_lt (length ss + k.below) MAX_OPERANDS then to_next_place q (record k { operands = s ∷ ss }) else None
+abstract_push q k ss s = if nat_lt (length ss + k.operands_below) MAX_OPERANDS then to_next_place q (record k { operands = s ∷ ss }) else None
 
 abbrev pub abstract_push_int : ℕ → AbstractState → List AbstractValue → ℤ × ℤ → Flow
 abstract_push_int q k ss i = if fits64 i.0 i.1 then abstract_push q k ss (abstract.Int i.0 i.1) else None
@@ -62,7 +62,7 @@ abstract_push_int q k ss i = if fits64 i.0 i.1 then abstract_push q k ss (abstra
 -- each value that the abstract value stands for is one of the carrier
 abbrev pub accepts : AbstractValue → Carrier → Bool
 accepts abstract.Bool carrier.Bool = true
-accepts (abstract.Int l h) (carrier.Range range) = int_le range.lo l && int_le h range.hi
+accepts (abstract.Int l h) (carrier.Range range) = int_le range.low l && int_le h range.high
 accepts (abstract.Enum s n) (carrier.Enum enum) = (s == enum.sort) && nat_le n enum.count
 accepts _ _ = false
 
@@ -74,8 +74,8 @@ abstract_pop_args (c ∷ cs) (s ∷ ss) go = if accepts s c then abstract_pop_ar
 -- ---- slots
 
 abbrev pub abstract_slot : List (ℕ × AbstractValue) → List AbstractValue → ℕ → Option AbstractValue
-abstract_slot [] params i = slice_get params i
-abstract_slot (l ∷ ls) params i = if i == l.0 then Some l.1 else abstract_slot ls params i
+abstract_slot [] parameters i = slice_get parameters i
+abstract_slot (l ∷ ls) parameters i = if i == l.0 then Some l.1 else abstract_slot ls parameters i
 
 abbrev pub with_abstract_slot : Option AbstractValue → (AbstractValue → Flow) → Flow
 with_abstract_slot None go = None
@@ -101,7 +101,7 @@ set_loop (l ∷ ls) i s = if i == l.0 then (l.0, s) ∷ ls else l ∷ set_loop l
 
 abbrev pub set_slot : AbstractState → ℕ → AbstractValue → AbstractState
 set_slot k i s =
-    if among k.loops i then record k { loops = set_loop k.loops i s } else record k { params = set_param k.params i s }
+    if among k.loops i then record k { loops = set_loop k.loops i s } else record k { parameters = set_param k.parameters i s }
 
 -- ---- brackets and roots
 
@@ -111,8 +111,8 @@ abstract_root zero zero go = go 1
 abstract_root zero (suc n) go = None
 
 abbrev pub abstract_close : ℕ → ℕ → (ℕ → Flow) → Flow
-abstract_close floor zero go = None
-abstract_close floor (suc n) go = if nat_le floor n then go n else None
+abstract_close brackets_below zero go = None
+abstract_close brackets_below (suc n) go = if nat_le brackets_below n then go n else None
 
 abbrev pub abstract_end : List (ℕ × AbstractValue) → ℕ → ℕ → Flow
 abstract_end [] zero (suc zero) = Some []
@@ -124,7 +124,7 @@ abbrev pub abstract_loop : ℕ → AbstractState → ℕ → Option Carrier → 
 abstract_loop q k i None = None
 abstract_loop q k i (Some c) =
     if nat_lt (length k.loops) MAX_LOOPS && not (among k.loops i) && is_inhabited c
-    then to_next_place q (record { operands = []; below = length k.operands + k.below; params = k.params; loops = (i, abstraction_of c) ∷ k.loops; brackets = k.brackets; floor = k.brackets; roots = k.roots })
+    then to_next_place q (record { operands = []; operands_below = length k.operands + k.operands_below; parameters = k.parameters; loops = (i, abstraction_of c) ∷ k.loops; brackets = k.brackets; brackets_below = k.brackets; roots = k.roots })
     else None
 
 -- home: what is known at the LOOP
@@ -138,11 +138,11 @@ abstract_next q k [] (Some home) = if (k.brackets == home.brackets) && (k.roots 
 abbrev pub when : Bool → Edge → List Edge
 when b e = if b then e ∷ [] else []
 
--- goes on where the interval l..h meets lo..hi, and jumps where it isn't inside
+-- goes on where the interval l..h meets low..high, and jumps where it isn't inside
 abbrev pub range_edges : ℕ → ℕ → ℤ → ℤ → ℤ → ℤ → AbstractState → AbstractState → Flow
-range_edges q to l h lo hi inside outside =
-    Some (when (int_le l hi && int_le lo h) (record { to = q + 1; state = inside })
-    ++ when (not (int_le lo l && int_le h hi)) (record { to = to; state = outside }))
+range_edges q to l h low high inside outside =
+    Some (when (int_le l high && int_le low h) (record { to = q + 1; state = inside })
+    ++ when (not (int_le low l && int_le h high)) (record { to = to; state = outside }))
 
 abbrev pub enum_fits : Option ℕ → ℕ → Bool
 enum_fits None i = false
@@ -164,7 +164,7 @@ transfer p home q (op.PushInt z) k = abstract_push q k k.operands (abstract.Int 
 transfer p home q (op.PushBool b) k = abstract_push q k k.operands abstract.Bool
 transfer p home q (op.PushEnum s i) k =
     if enum_fits (slice_get p.sorts s) i then abstract_push q k k.operands (abstract.Enum s (count_or_zero (slice_get p.sorts s))) else None
-transfer p home q (op.Get i) k = with_abstract_slot (abstract_slot k.loops k.params i) (λ s. abstract_push q k k.operands s)
+transfer p home q (op.Get i) k = with_abstract_slot (abstract_slot k.loops k.parameters i) (λ s. abstract_push q k k.operands s)
 transfer p home q op.Pop k = abstract_pop k.operands (λ s ss. to_next_place q (record k { operands = ss }))
 transfer p home q (op.Arithmetic c) k =
     abstract_pop_int k.operands (λ m n ss. abstract_pop_int ss (λ l h ts.
@@ -180,15 +180,15 @@ transfer p home q (op.Jump to) k = Some (record { to = to; state = k } ∷ [])
 transfer p home q (op.JumpIf on to) k =
     abstract_pop_bool k.operands (λ ss.
     Some (record { to = q + 1; state = record k { operands = ss } } ∷ record { to = to; state = record k { operands = ss } } ∷ []))
-transfer p home q (op.InRange lo hi to) k =
-    abstract_pop_int k.operands (λ l h ss. range_edges q to l h lo hi (record k { operands = abstract.Int (int_max l lo) (int_min h hi) ∷ ss }) (record k { operands = abstract.Int l h ∷ ss }))
-transfer p home q (op.SlotInRange i lo hi to) k =
-    with_abstract_slot (abstract_slot k.loops k.params i) (λ s. with_interval s (λ l h.
-    range_edges q to l h lo hi (set_slot k i (abstract.Int (int_max l lo) (int_min h hi))) k))
+transfer p home q (op.InRange low high to) k =
+    abstract_pop_int k.operands (λ l h ss. range_edges q to l h low high (record k { operands = abstract.Int (int_max l low) (int_min h high) ∷ ss }) (record k { operands = abstract.Int l h ∷ ss }))
+transfer p home q (op.SlotInRange i low high to) k =
+    with_abstract_slot (abstract_slot k.loops k.parameters i) (λ s. with_interval s (λ l h.
+    range_edges q to l h low high (set_slot k i (abstract.Int (int_max l low) (int_min h high))) k))
 transfer p home q (op.Loop i) k = abstract_loop q k i (carrier_of p i)
 transfer p home q op.Next k = abstract_next q k k.operands home
 transfer p home q (op.Open c) k =
     if nat_lt k.brackets MAX_BRACKETS then abstract_root k.brackets k.roots (λ r. to_next_place q (record k { brackets = k.brackets + 1; roots = r })) else None
-transfer p home q op.Close k = abstract_close k.floor k.brackets (λ n. to_next_place q (record k { brackets = n }))
+transfer p home q op.Close k = abstract_close k.brackets_below k.brackets (λ n. to_next_place q (record k { brackets = n }))
 transfer p home q (op.Emit l) k = abstract_root k.brackets k.roots (λ r. to_next_place q (record k { roots = r }))
 transfer p home q (op.Call eq) k = abstract_call q k (slice_get p.callees eq)

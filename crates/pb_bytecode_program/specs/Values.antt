@@ -44,7 +44,7 @@ tagged_values c = map (tagged c) (values_of c)
 abbrev pub is_inhabited : Carrier → Bool
 is_inhabited carrier.Bool = true
 is_inhabited (carrier.Enum enum) = nat_lt 0 enum.count
-is_inhabited (carrier.Range range) = int_le range.lo range.hi
+is_inhabited (carrier.Range range) = int_le range.low range.high
 
 -- ---- arithmetic on whole numbers
 

@@ -6,8 +6,8 @@
 pub enum AbstractValue {
     /// A truth value.
     Bool,
-    /// A whole number from `lo` to `hi`, both included.
-    Int { lo: i64, hi: i64 },
+    /// A whole number from `low` to `high`, both included.
+    Int { low: i64, high: i64 },
     /// An enumerator of the sort, with an index below `count`.
     Enum { sort: u8, count: u8 },
 }

@@ -90,17 +90,17 @@ pub enum Op {
         condition: bool,
         target: u16,
     },
-    /// Jumps where the number on top lies outside `lo` to `hi`. The number stays.
+    /// Jumps where the number on top lies outside `low` to `high`. The number stays.
     InRange {
-        lo: i32,
-        hi: i32,
+        low: i32,
+        high: i32,
         target: u16,
     },
-    /// Jumps where the slot's number lies outside `lo` to `hi`.
+    /// Jumps where the slot's number lies outside `low` to `high`.
     SlotInRange {
         slot: u8,
-        lo: i32,
-        hi: i32,
+        low: i32,
+        high: i32,
         target: u16,
     },
     /// Runs the instructions up to the matching `Next` once for each value of the loop slot's

@@ -14,8 +14,8 @@ argument_fits S a (y ∷ xs) (suc k) x f lt at = argument_fits S a xs k x f.1 (o
 
 -- too many arguments
 pub many : (S : Spec) (a : Assignment) (f : Name) (xs : List Argument) → 4 ≤ length xs → pos 0 ≡ function_value S f (values S a (erased_arguments (argument_forms xs)))
-many S a f [] lo = absurd (omega arith)
-many S a f (u ∷ []) lo = absurd (omega arith)
-many S a f (u ∷ v ∷ []) lo = absurd (omega arith)
-many S a f (u ∷ v ∷ w ∷ []) lo = absurd (omega arith)
-many S a f (u ∷ v ∷ w ∷ t ∷ ts) lo = refl
+many S a f [] low = absurd (omega arith)
+many S a f (u ∷ []) low = absurd (omega arith)
+many S a f (u ∷ v ∷ []) low = absurd (omega arith)
+many S a f (u ∷ v ∷ w ∷ []) low = absurd (omega arith)
+many S a f (u ∷ v ∷ w ∷ t ∷ ts) low = refl

@@ -53,6 +53,6 @@ fn least_value(carrier: &Carrier) -> i64
     match carrier {
         Carrier::Bool => 0,
         Carrier::Enum(_) => 0,
-        Carrier::Range(range) => range.lo as i64,
+        Carrier::Range(range) => range.low as i64,
     }
 }

@@ -11,9 +11,9 @@ use Rattle.pb_bytecode.specs.Views.{equation_contents}
 use Rattle.pb_bytecode.specs.Meaning.{signature_of}
 
 pub size_at : (es : List EquationContents) (k : ℕ) (e : EquationContents) → slice_get es k ≡ Some e →
-    size_of (carriers_of (map (λ (x : EquationContents). x.params) es)) k ≡ (signature_of e).size
+    size_of (carriers_of (map (λ (x : EquationContents). x.parameters) es)) k ≡ (signature_of e).size
 size_at [] k e h = cc
-size_at (d ∷ es) zero e h = let same : d ≡ e = cc in ap (λ (x : EquationContents). tuple_count (map values_of x.params)) same
+size_at (d ∷ es) zero e h = let same : d ≡ e = cc in ap (λ (x : EquationContents). tuple_count (map values_of x.parameters)) same
 size_at (d ∷ es) (suc k) e h = size_at es k e h
 
 pub contents_at : (xs : List Equation) (k : ℕ) (x : Equation) → k < length xs → x ≡ get_or xs k x → slice_get (map equation_contents xs) k ≡ Some (equation_contents x)

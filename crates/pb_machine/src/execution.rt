@@ -79,13 +79,13 @@ impl Machine {
             Op::Logic(connective) => self.connect(*connective),
             Op::Jump { target } => self.go_to(*target as usize),
             Op::JumpIf { condition, target } => self.jump_if(*condition, *target),
-            Op::InRange { lo, hi, target } => self.in_range(*lo, *hi, *target),
+            Op::InRange { low, high, target } => self.in_range(*low, *high, *target),
             Op::SlotInRange {
                 slot,
-                lo,
-                hi,
+                low,
+                high,
                 target,
-            } => self.slot_in_range(*slot, *lo, *hi, *target),
+            } => self.slot_in_range(*slot, *low, *high, *target),
             Op::Loop { slot } => self.enter_loop(loops, *slot),
             Op::Next => self.next_turn(),
             Op::Open(connective) => self.open_bracket(*connective),
@@ -99,7 +99,7 @@ impl Machine {
     /// Makes ready for a run on these arguments, with room for all operands and loops that code may
     /// have and all tokens that it may write, so that no instruction tests for room.
     fn begin(&mut self, code: &Code, arguments: &[i64]) -> Result<(), AllocError>
-        ensures { IfOk result (λ _. (p : Program) → p.loops ≡ code.now.loops.now → p.stated_tokens ≡ code.now.tokens → AreArguments p.params arguments.now → Mirrors p self.new (start (tagged_arguments p.params arguments.now))) }
+        ensures { IfOk result (λ _. (p : Program) → p.loops ≡ code.now.loops.now → p.stated_tokens ≡ code.now.tokens → AreArguments p.parameters arguments.now → Mirrors p self.new (start (tagged_arguments p.parameters arguments.now))) }
     {
         self.place = 0;
         self.operands.clear();

@@ -62,7 +62,7 @@ module _ (b : Bounds) (small : AreSmallBounds b) where
 pub equations-small : (spec : Spec) → IsWellTyped spec → All (IsSmallWhereLoopsAreFew spec) spec.equations
 equations-small spec h k d below few =
     let X = get_or spec.equations k d in
-    let params = h.declarations.few_parameters k d below in
+    let parameters = h.declarations.few_parameters k d below in
     let equations = h.declarations.few_equations in
-    formula-small (bounds_of spec X) (record { number = omega arith; slots = omega (arith, few, params); equations = omega (arith, equations) }) (normal_equation spec X)
+    formula-small (bounds_of spec X) (record { number = omega arith; slots = omega (arith, few, parameters); equations = omega (arith, equations) }) (normal_equation spec X)
     (equations-bounded spec h k d below)

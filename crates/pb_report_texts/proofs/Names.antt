@@ -55,11 +55,11 @@ same_length (c ∷ cs) (v ∷ vs) h = ap suc (same_length cs vs (and_parts _ _ h
 pub record HasEquation (equations : List EquationContents) (k : ℕ) (values : Tuple) : Type 0 where
   pub equation : EquationContents
   pub declared : slice_get equations k ≡ Some equation
-  pub lengths : length values ≡ length equation.params
+  pub lengths : length values ≡ length equation.parameters
 
-found_in : (es : List EquationContents) (k : ℕ) (values : Tuple) → is_tuple_of (slice_get (carriers_of (map (λ (e : EquationContents). e.params) es)) k) values ≡ true → HasEquation es k values
+found_in : (es : List EquationContents) (k : ℕ) (values : Tuple) → is_tuple_of (slice_get (carriers_of (map (λ (e : EquationContents). e.parameters) es)) k) values ≡ true → HasEquation es k values
 found_in [] k values h = cc
-found_in (e ∷ es) zero values h = record { equation = e; declared = refl; lengths = same_length e.params values h }
+found_in (e ∷ es) zero values h = record { equation = e; declared = refl; lengths = same_length e.parameters values h }
 found_in (e ∷ es) (suc k) values h = let f = found_in es k values h in record { equation = f.equation; declared = f.declared; lengths = f.lengths }
 
 module _ (m : Contents) (held : Module) (same : module_contents held ≡ m) (n : ℕ) (i : Instance) (at : slice_get (instances (carriers_of (parameters m))) n ≡ Some i) where
@@ -75,14 +75,14 @@ module _ (m : Contents) (held : Module) (same : module_contents held ≡ m) (n :
   pub read : (e : Equation) → e ≡ get_or held.equations.items i.equation e → slice_get m.equations i.equation ≡ Some (equation_contents e)
   read e is = sym (ap (λ (xs : List EquationContents). slice_get xs i.equation) equations_same) ∙ contents_at held.equations.items i.equation e there is
 
-  pub lengths : (e : Equation) → e ≡ get_or held.equations.items i.equation e → length i.values ≡ length e.params.items
-  lengths e is = found.lengths ∙ ap (λ (x : EquationContents). length x.params) (same_some (sym found.declared ∙ read e is))
+  pub lengths : (e : Equation) → e ≡ get_or held.equations.items i.equation e → length i.values ≡ length e.parameters.items
+  lengths e is = found.lengths ∙ ap (λ (x : EquationContents). length x.parameters) (same_some (sym found.declared ∙ read e is))
     where
       same_some : {x y : EquationContents} → Some x ≡ Some y → x ≡ y
       same_some e = cc
 
   pub name_is : (e : Equation) → e ≡ get_or held.equations.items i.equation e →
-      text_of e.name ++ arguments (map sort_contents held.sorts.items) e.params.items i.values ≡ instance_name m n
+      text_of e.name ++ arguments (map sort_contents held.sorts.items) e.parameters.items i.values ≡ instance_name m n
   name_is e is =
-      ap (λ (sorts : List SortContents). text_of e.name ++ arguments sorts e.params.items i.values) (ap (λ (x : Contents). x.sorts) same)
+      ap (λ (sorts : List SortContents). text_of e.name ++ arguments sorts e.parameters.items i.values) (ap (λ (x : Contents). x.sorts) same)
       ∙ (sym (ap (λ (o : Option EquationContents). equation_name m o i.values) (read e is)) ∙ sym (ap (name_of m) at))

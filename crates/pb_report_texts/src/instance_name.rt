@@ -138,7 +138,7 @@ pub fn write_instance_name<S: Sink>(
     write_arguments(
         buffer,
         &module.sorts,
-        &equation.params,
+        &equation.parameters,
         &instance.values,
         sink,
     )

@@ -12,7 +12,7 @@ use Rattle.pb_sorts.proofs.Intervals.{length-numbers_from, count-interval}
 pub some_values : (c : Carrier) → 1 ≤ length (values_of c)
 some_values variants.Bool = omega arith
 some_values (variants.Enum e) = omega (arith, length-numbers_from (pos 0) e.count, e.not_empty)
-some_values (variants.Range r) = omega (arith, ints, length-numbers_from r.lo (at_least_none (r.hi -ℤ r.lo +ℤ pos 1)), count-interval r.lo r.hi r.not_empty, r.not_empty)
+some_values (variants.Range r) = omega (arith, ints, length-numbers_from r.low (at_least_none (r.high -ℤ r.low +ℤ pos 1)), count-interval r.low r.high r.not_empty, r.not_empty)
 
 -- carriers have a tuple
 pub some_tuples : (cs : List Carrier) → 1 ≤ tuple_count (map values_of cs)

@@ -89,7 +89,7 @@ numbers_distinct low (suc n) (suc k) v e =
 values_distinct : (c : Carrier) → IsDistinct (values_of c)
 values_distinct variants.Bool = numbers_distinct (pos 0) 2
 values_distinct (variants.Enum e) = numbers_distinct (pos 0) e.count
-values_distinct (variants.Range r) = numbers_distinct r.lo (at_least_none (r.hi -ℤ r.lo +ℤ pos 1))
+values_distinct (variants.Range r) = numbers_distinct r.low (at_least_none (r.high -ℤ r.low +ℤ pos 1))
 
 are_distinct : (cs : List Carrier) → AreDistinct (map values_of cs)
 are_distinct [] = tt

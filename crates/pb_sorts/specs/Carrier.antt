@@ -9,14 +9,14 @@ use Rattle.pb_sorts.specs.declared.carrier.Carrier.TheVariants.{Bool, Enum, Rang
 abbrev pub values_of : Carrier → carriers.Carrier
 values_of Bool = of_bool false ∷ of_bool true ∷ []
 values_of (Enum e) = numbers_from (pos 0) e.count
-values_of (Range r) = interval r.lo r.hi
+values_of (Range r) = interval r.low r.high
 
 -- the carrier of a range with these bounds
 abbrev pub IsRange : Carrier → ℤ → ℤ → Type 0
-IsRange Bool lo hi = ⊥
-IsRange (Enum e) lo hi = ⊥
-IsRange (Range r) lo hi = (r.lo ≡ lo) × (r.hi ≡ hi)
+IsRange Bool low high = ⊥
+IsRange (Enum e) low high = ⊥
+IsRange (Range r) low high = (r.low ≡ low) × (r.high ≡ high)
 
 -- bounds of a range: at least one number, and both within 32 bits
 abbrev pub FitsRange : ℤ → ℤ → Type 0
-FitsRange lo hi = (negsuc 2147483647 ≤ℤ lo) × (lo ≤ℤ hi) × (hi ≤ℤ pos 2147483647)
+FitsRange low high = (negsuc 2147483647 ≤ℤ low) × (low ≤ℤ high) × (high ≤ℤ pos 2147483647)

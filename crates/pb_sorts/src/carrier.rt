@@ -27,13 +27,13 @@ pub struct Enumeration {
     pub ghost not_empty: { 0 < count },
 }
 
-/// The whole numbers from `lo` to `hi`, both included, at least one. `Carrier::range` makes one
+/// The whole numbers from `low` to `high`, both included, at least one. `Carrier::range` makes one
 /// from any bounds.
 #[derive(Clone, Copy, Debug, PartialEq, Eq)]
 pub struct Range {
-    pub lo: i32,
-    pub hi: i32,
-    pub ghost not_empty: { lo ≤ℤ hi },
+    pub low: i32,
+    pub high: i32,
+    pub ghost not_empty: { low ≤ℤ high },
 }
 
 /// What values a parameter or a quantified variable has (Groote and Willemse 2005): a finite,
@@ -55,16 +55,16 @@ impl Carrier {
     ghost use Rattle.pb_carriers.specs.Carrier.{contains, interval};
     ghost use Rattle.pb_sorts.specs.Carrier.{values_of, IsRange, FitsRange};
 
-    /// The carrier of the whole numbers from `lo` to `hi`.
+    /// The carrier of the whole numbers from `low` to `high`.
     ///
     /// # Errors
-    /// `L01` exactly where `hi` is below `lo`, or a bound is outside 32 bits.
-    pub fn range(lo: i64, hi: i64) -> Result<Carrier, L01>
-        ensures fits { IsOk result ↔ FitsRange lo hi }
-        ensures bounds { IfOk result (λ carrier. IsRange carrier lo hi) }
+    /// `L01` exactly where `high` is below `low`, or a bound is outside 32 bits.
+    pub fn range(low: i64, high: i64) -> Result<Carrier, L01>
+        ensures fits { IsOk result ↔ FitsRange low high }
+        ensures bounds { IfOk result (λ carrier. IsRange carrier low high) }
     {
-        match (i32::try_from(lo), i32::try_from(hi)) {
-            (Ok(lo), Ok(hi)) if lo <= hi => Ok(Carrier::Range(Range { lo, hi })),
+        match (i32::try_from(low), i32::try_from(high)) {
+            (Ok(low), Ok(high)) if low <= high => Ok(Carrier::Range(Range { low, high })),
             _ => Err(L01),
         }
     }
@@ -97,7 +97,7 @@ impl Carrier {
         match self {
             Carrier::Bool => (0, 1),
             Carrier::Enum(sort) => (0, sort.count as i64 - 1),
-            Carrier::Range(range) => (range.lo as i64, range.hi as i64),
+            Carrier::Range(range) => (range.low as i64, range.high as i64),
         }
     }
 

@@ -191,7 +191,7 @@ equation-back a depth x h s r (t, m, e, i, y, (u, n, f, j, z, rest)) =
                 last-of : (end : List Tok) → Back (CountedApart (IsFormula depth)) unplaced_formula x.right (st o a) (st end a) → Spells (semicolon_word ∷ []) end r → Back (IsEquation depth) unplaced_equation x (st s a) (st r a)
                 last-of end b (c, d, q, aa, bb, over) =
                     let first = sign-back a x.sign s m t e i in
-                    let same = named-at u x.name z in let params = g.same in let formula = b.same in
+                    let same = named-at u x.name z in let parameters = g.same in let formula = b.same in
                     record {
                       said = record { sign = x.sign; name = at u; parameters = g.list; right = b.said };
                       reads = (

@@ -86,7 +86,7 @@ pub(crate) fn sort_shape(declarations: &Declarations<'_>, sort: &str) -> Shape
             count: enumeration.count,
         },
         Some(Carrier::Range(range)) => {
-            Shape::Wholes(Interval::new(i64::from(range.lo), i64::from(range.hi)))
+            Shape::Wholes(Interval::new(i64::from(range.low), i64::from(range.high)))
         }
     }
 }

@@ -35,7 +35,7 @@ abbrev pub definition_in : Table definition.Definition → Name → Option Defin
 definition_in table x = option_map shown (looked_up table x)
 
 abbrev pub range_shown : range.Range → Bounds
-range_shown r = (r.lo, r.hi)
+range_shown r = (r.low, r.high)
 
 abbrev pub range_in : Table range.Range → Name → Option Bounds
 range_in table x = option_map range_shown (looked_up table x)
@@ -44,7 +44,7 @@ abbrev pub carrier_shape : Option carriers.Carrier → Shape
 carrier_shape None = Unknown
 carrier_shape (Some carrier.Bool) = Truths
 carrier_shape (Some (carrier.Enum e)) = Places e.sort e.count
-carrier_shape (Some (carrier.Range r)) = Wholes r.lo r.hi
+carrier_shape (Some (carrier.Range r)) = Wholes r.low r.high
 
 abbrev pub shape_of : carriers.Carrier → Shape
 shape_of c = carrier_shape (Some c)

@@ -44,8 +44,8 @@ fn read_range(range: &pb_text_tree::Range) -> Result<Range, TypingFault>
 {
     if range.low <= range.high {
         Ok(Range {
-            lo: range.low,
-            hi: range.high,
+            low: range.low,
+            high: range.high,
         })
     } else {
         Err(TypingFault {

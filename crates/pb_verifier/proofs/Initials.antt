@@ -12,13 +12,13 @@ use Rattle.pb_sorts.specs.Layout.{carriers_of}
 use Rattle.pb_sorts.specs.declared.carrier.Carrier.{Carrier}
 use Rattle.pb_sorts.proofs.Numbers.{number_of-slice_get}
 use Rattle.pb_bytecode.specs.Contents.{EquationContents, Contents, counts}
-use Rattle.pb_bytecode.specs.Limits.{fits, fits_sort, fits_equation, is_tuple, is_between, is_byte, instance_count, params_of, is_i64}
+use Rattle.pb_bytecode.specs.Limits.{fits, fits_sort, fits_equation, is_tuple, is_between, is_byte, instance_count, parameters_of, is_i64}
 use Rattle.pb_bytecode.specs.Meaning.{parameters}
 use Rattle.pb_verifier.specs.Acceptance.{IsInitial}
 
-values_fit : (es : List EquationContents) (k : ℕ) (values : Tuple) → is_tuple (params_of (slice_get es k)) values ≡ true → is_tuple_of (slice_get (carriers_of (map (λ (e : EquationContents). e.params) es)) k) values ≡ true
+values_fit : (es : List EquationContents) (k : ℕ) (values : Tuple) → is_tuple (parameters_of (slice_get es k)) values ≡ true → is_tuple_of (slice_get (carriers_of (map (λ (e : EquationContents). e.parameters) es)) k) values ≡ true
 values_fit [] k values h = cc
-values_fit (e ∷ es) zero values h = (and_parts (list_all is_i64 values) (is_within (map values_of e.params) values) h).1
+values_fit (e ∷ es) zero values h = (and_parts (list_all is_i64 values) (is_within (map values_of e.parameters) values) h).1
 values_fit (e ∷ es) (suc k) values h = values_fit es k values h
 
 initial_fits : (m : Contents) → fits m ≡ true → is_tuple_of (slice_get (carriers_of (parameters m)) m.initial.equation) m.initial.values ≡ true
@@ -26,7 +26,7 @@ initial_fits m h =
     let sorts = is_between 0 256 (length m.sorts) && list_all fits_sort m.sorts in
     let equations = is_between 1 (MAX_EQUATIONS + 1) (length m.equations) && list_all (fits_equation m.version (counts m.sorts)) m.equations in
     let few = nat_le (instance_count m.equations) MAX_INSTANCES in
-    let initial = is_tuple (params_of (slice_get m.equations m.initial.equation)) m.initial.values in
+    let initial = is_tuple (parameters_of (slice_get m.equations m.initial.equation)) m.initial.values in
     values_fit m.equations m.initial.equation m.initial.values
     ((and_parts (is_byte m.initial.equation) initial
     ((and_parts few (is_byte m.initial.equation && initial)

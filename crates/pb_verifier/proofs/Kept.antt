@@ -45,8 +45,8 @@ all_of_both P Q q (e ∷ es) a b = (a.0, b.0, all_of_both P Q q es a.1 b.1)
 target_later : (p : Program) (q : ℕ) (i : Op) → HasValidTarget p q i → TargetHolds (λ to. q < to) i
 target_later p q (op.Jump to) h = h.later
 target_later p q (op.JumpIf on to) h = h.later
-target_later p q (op.InRange lo hi to) h = h.later
-target_later p q (op.SlotInRange j lo hi to) h = h.later
+target_later p q (op.InRange low high to) h = h.later
+target_later p q (op.SlotInRange j low high to) h = h.later
 target_later p q op.End h = tt
 target_later p q (op.PushInt z) h = tt
 target_later p q (op.PushBool z) h = tt
@@ -74,8 +74,8 @@ later_edges p home q i k es v e = rw e at (transfer_goes (λ to. q < to) q (omeg
 target_body : (p : Program) (T : Table) (q : ℕ) (i : Op) → HasValidTarget p q i → AllKnown T (loops_around p.code q) → TargetHolds (λ to. AllKnown T (loops_around p.code to)) i
 target_body p T q (op.Jump to) h k = rw (h.one_body) k
 target_body p T q (op.JumpIf on to) h k = rw (h.one_body) k
-target_body p T q (op.InRange lo hi to) h k = rw (h.one_body) k
-target_body p T q (op.SlotInRange j lo hi to) h k = rw (h.one_body) k
+target_body p T q (op.InRange low high to) h k = rw (h.one_body) k
+target_body p T q (op.SlotInRange j low high to) h k = rw (h.one_body) k
 target_body p T q op.End h k = tt
 target_body p T q (op.PushInt z) h k = tt
 target_body p T q (op.PushBool z) h k = tt

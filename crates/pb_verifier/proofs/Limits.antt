@@ -45,7 +45,7 @@ equations_fit m h =
     record { few = c.0; each = c.1; instances = (and_parts (nat_le (instance_count m.equations) MAX_INSTANCES) (fits_initial m.equations m.initial) b.1).0 }
 
 pub record CodeFits (v : Version) (sizes : List ℕ) (e : EquationContents) : Type 0 where
-  pub params : is_between 0 (MAX_PARAMETERS + 1) (length e.params) ≡ true
+  pub parameters : is_between 0 (MAX_PARAMETERS + 1) (length e.parameters) ≡ true
   pub code : is_between 1 (2 ^ 16) (length e.code) ≡ true
   pub ops : list_all (fits_op v sizes) e.code ≡ true
 
@@ -55,23 +55,23 @@ code_fits v sizes e h =
     let tokens = is_u32 e.tokens && code in
     let steps = is_u32 e.steps && tokens in
     let loops = is_between 0 241 (length e.loops) && list_all (fits_carrier sizes) e.loops in
-    let params = is_between 0 (MAX_PARAMETERS + 1) (length e.params) && list_all (fits_carrier sizes) e.params in
-    let a = and_parts (is_name e.name) (params && (loops && steps)) h in
-    let b = and_parts params (loops && steps) a.1 in
+    let parameters = is_between 0 (MAX_PARAMETERS + 1) (length e.parameters) && list_all (fits_carrier sizes) e.parameters in
+    let a = and_parts (is_name e.name) (parameters && (loops && steps)) h in
+    let b = and_parts parameters (loops && steps) a.1 in
     let c = and_parts loops steps b.1 in
     let d = and_parts (is_u32 e.steps) tokens c.1 in
     let f = and_parts (is_u32 e.tokens) code d.1 in
     let g = and_parts (is_between 1 (2 ^ 16) (length e.code)) (list_all (fits_op v sizes) e.code) f.1 in
-    record { params = (and_parts (is_between 0 (MAX_PARAMETERS + 1) (length e.params)) (list_all (fits_carrier sizes) e.params) b.0).0; code = g.0; ops = g.1 }
+    record { parameters = (and_parts (is_between 0 (MAX_PARAMETERS + 1) (length e.parameters)) (list_all (fits_carrier sizes) e.parameters) b.0).0; code = g.0; ops = g.1 }
 
 -- ---- code
 
 ordered : (v : Version) (sizes : List ℕ) (i : Op) → fits_op v sizes i ≡ true → HasOrderedRange i
-ordered v sizes (op.InRange lo hi to) h = le_true lo hi (and_parts (is_i32 lo && is_i32 hi) (int_le lo hi) (and_parts (are_bounds lo hi) (is_u16 to) h).0).1
-ordered v sizes (op.SlotInRange slot lo hi to) h =
-    let a = and_parts (is_second v) (is_byte slot && (are_bounds lo hi && is_u16 to)) h in
-    let b = and_parts (is_byte slot) (are_bounds lo hi && is_u16 to) a.1 in
-    le_true lo hi (and_parts (is_i32 lo && is_i32 hi) (int_le lo hi) (and_parts (are_bounds lo hi) (is_u16 to) b.1).0).1
+ordered v sizes (op.InRange low high to) h = le_true low high (and_parts (is_i32 low && is_i32 high) (int_le low high) (and_parts (are_bounds low high) (is_u16 to) h).0).1
+ordered v sizes (op.SlotInRange slot low high to) h =
+    let a = and_parts (is_second v) (is_byte slot && (are_bounds low high && is_u16 to)) h in
+    let b = and_parts (is_byte slot) (are_bounds low high && is_u16 to) a.1 in
+    le_true low high (and_parts (is_i32 low && is_i32 high) (int_le low high) (and_parts (are_bounds low high) (is_u16 to) b.1).0).1
 ordered v sizes op.End h = tt
 ordered v sizes (op.PushInt z) h = tt
 ordered v sizes (op.PushBool z) h = tt
@@ -106,17 +106,17 @@ code_within_limits m k e h at =
 
 -- ---- the layout
 
-few_params : (v : Version) (sizes : List ℕ) (es : List EquationContents) → list_all (fits_equation v sizes) es ≡ true → All (λ (ps : List Carrier). length ps ≤ MAX_PARAMETERS) (map (λ (e : EquationContents). e.params) es)
-few_params v sizes [] h k d lt = absurd (omega arith)
-few_params v sizes (e ∷ es) h zero d lt =
-    let b = below 0 (MAX_PARAMETERS + 1) (length e.params) (code_fits v sizes e (and_parts (fits_equation v sizes e) (list_all (fits_equation v sizes) es) h).0).params in
+few_parameters : (v : Version) (sizes : List ℕ) (es : List EquationContents) → list_all (fits_equation v sizes) es ≡ true → All (λ (ps : List Carrier). length ps ≤ MAX_PARAMETERS) (map (λ (e : EquationContents). e.parameters) es)
+few_parameters v sizes [] h k d lt = absurd (omega arith)
+few_parameters v sizes (e ∷ es) h zero d lt =
+    let b = below 0 (MAX_PARAMETERS + 1) (length e.parameters) (code_fits v sizes e (and_parts (fits_equation v sizes e) (list_all (fits_equation v sizes) es) h).0).parameters in
     omega arith
-few_params v sizes (e ∷ es) h (suc k) d lt = few_params v sizes es (and_parts (fits_equation v sizes e) (list_all (fits_equation v sizes) es) h).1 k d (omega arith)
+few_parameters v sizes (e ∷ es) h (suc k) d lt = few_parameters v sizes es (and_parts (fits_equation v sizes e) (list_all (fits_equation v sizes) es) h).1 k d (omega arith)
 
 -- there are no more equations, parameters and instances than a layout may have
 pub record HasLayout (callees : List (List Carrier)) : Type 0 where
   pub equations : length callees ≤ MAX_EQUATIONS
-  pub params : All (λ (ps : List Carrier). length ps ≤ MAX_PARAMETERS) callees
+  pub parameters : All (λ (ps : List Carrier). length ps ≤ MAX_PARAMETERS) callees
   pub instances : count_of callees ≤ MAX_INSTANCES
 
 pub has_layout : (m : Contents) → fits m ≡ true → HasLayout (parameters m)
@@ -124,6 +124,6 @@ has_layout m h =
     let parts = equations_fit m h in
     record {
       equations = let a = below 1 (MAX_EQUATIONS + 1) (length m.equations) parts.few in rw length-map (omega arith);
-      params = few_params m.version (counts m.sorts) m.equations parts.each;
+      parameters = few_parameters m.version (counts m.sorts) m.equations parts.each;
       instances = let a = leb-true (instance_count m.equations) MAX_INSTANCES parts.instances in omega (arith, instances_counted 0 m.equations);
     }

@@ -12,7 +12,7 @@ use Rattle.pb_bytecode.specs.Limits.{fits}
 use Rattle.pb_bytecode.specs.Meaning.{parameters, program_of}
 use Rattle.pb_bytecode.specs.Views.{equation_contents, sort_contents}
 use Rattle.pb_verifier.specs.Acceptance.{HasTable, IsAccepted, IsVerified}
-use Rattle.pb_verifier.specs.Programs.{HaveTables, params_of, program_in}
+use Rattle.pb_verifier.specs.Programs.{HaveTables, parameters_of, program_in}
 use Rattle.pb_verifier.specs.Refusals.{WhereRefused}
 use Rattle.pb_verifier.specs.declared.verify_error.VerifyError.{VerifyError}
 use Rattle.pb_verifier.specs.declared.verify_error.VerifyError.TheVariants as error
@@ -24,15 +24,15 @@ use Rattle.pb_verifier.proofs.Limits.{HasLayout, code_within_limits, has_layout}
 -- what the check of a module has at hand: counts of enumerators, the carriers of callees, and the equations
 pub record IsOf (m : Module) (sizes : List ℕ) (callees : List (List Carrier)) (equations : List Equation) : Type 0 where
   pub sizes_are : sizes ≡ counts (map sort_contents m.sorts.items)
-  pub callees_are : callees ≡ map params_of m.equations.items
+  pub callees_are : callees ≡ map parameters_of m.equations.items
   pub equations_are : equations ≡ m.equations.items
 
-params_map : (es : List Equation) → map params_of es ≡ map (λ (e : EquationContents). e.params) (map equation_contents es)
-params_map [] = refl
-params_map (e ∷ es) = ap (λ (cs : List (List Carrier)). params_of e ∷ cs) (params_map es)
+parameters_map : (es : List Equation) → map parameters_of es ≡ map (λ (e : EquationContents). e.parameters) (map equation_contents es)
+parameters_map [] = refl
+parameters_map (e ∷ es) = ap (λ (cs : List (List Carrier)). parameters_of e ∷ cs) (parameters_map es)
 
 pub parameters_are : (m : Module) (sizes : List ℕ) (callees : List (List Carrier)) (es : List Equation) → IsOf m sizes callees es → callees ≡ parameters (module_contents m)
-parameters_are m sizes callees es o = o.callees_are ∙ params_map m.equations.items
+parameters_are m sizes callees es o = o.callees_are ∙ parameters_map m.equations.items
 
 same_program : (m : Module) (sizes : List ℕ) (callees : List (List Carrier)) (es : List Equation) (e : Equation) → IsOf m sizes callees es → program_of (module_contents m) (equation_contents e) ≡ program_in sizes callees e
 same_program m sizes callees es e o = rw (o.sizes_are, parameters_are m sizes callees es o) refl
@@ -71,10 +71,10 @@ pub layout_fits : (m : Module) (sizes : List ℕ) (callees : List (List Carrier)
 layout_fits m sizes callees es o f = subst HasLayout (sym (parameters_are m sizes callees es o)) (has_layout (module_contents m) f)
 
 -- these are at hand where the parts were read out of the module
-pub is_of : {A : Type 0} → (m : Module) (sorts : List Sort) (equations es : List Equation) (sizes ss : List ℕ) (vs ws : List (Vec Carrier A)) → sorts ≡ m.sorts.items → equations ≡ m.equations.items → sizes ≡ counts (map sort_contents sorts) → map vec_items vs ≡ map params_of equations → ss ≡ sizes → ws ≡ vs → es ≡ m.equations.items → IsOf m ss (map vec_items ws) es
+pub is_of : {A : Type 0} → (m : Module) (sorts : List Sort) (equations es : List Equation) (sizes ss : List ℕ) (vs ws : List (Vec Carrier A)) → sorts ≡ m.sorts.items → equations ≡ m.equations.items → sizes ≡ counts (map sort_contents sorts) → map vec_items vs ≡ map parameters_of equations → ss ≡ sizes → ws ≡ vs → es ≡ m.equations.items → IsOf m ss (map vec_items ws) es
 is_of m sorts equations es sizes ss vs ws s e a b f g h = record {
   sizes_are = f ∙ a ∙ ap (λ xs. counts (map sort_contents xs)) s;
-  callees_are = ap (map vec_items) g ∙ b ∙ ap (map params_of) e;
+  callees_are = ap (map vec_items) g ∙ b ∙ ap (map parameters_of) e;
   equations_are = h;
 }
 

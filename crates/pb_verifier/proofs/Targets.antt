@@ -22,8 +22,8 @@ MayHold P (Some es) = AllEdges P es
 abbrev pub TargetHolds : (ℕ → Type 0) → Op → Type 0
 TargetHolds P (op.Jump to) = P to
 TargetHolds P (op.JumpIf on to) = P to
-TargetHolds P (op.InRange lo hi to) = P to
-TargetHolds P (op.SlotInRange i lo hi to) = P to
+TargetHolds P (op.InRange low high to) = P to
+TargetHolds P (op.SlotInRange i low high to) = P to
 TargetHolds P _ = Unit {0}
 
 module _ (P : ℕ → Type 0) (q : ℕ) (next : P (q + 1)) where
@@ -39,7 +39,7 @@ module _ (P : ℕ → Type 0) (q : ℕ) (next : P (q + 1)) where
   by_no_test false F h = h
 
   by_push : (k : AbstractState) (ss : List AbstractValue) (s : AbstractValue) → Goes (Transfer.abstract_push q k ss s)
-  by_push k ss s = by_test (nat_lt (length ss + k.below) 32) _ (next, tt)
+  by_push k ss s = by_test (nat_lt (length ss + k.operands_below) 32) _ (next, tt)
 
   by_push_int : (k : AbstractState) (ss : List AbstractValue) (i : ℤ × ℤ) → Goes (Transfer.abstract_push_int q k ss i)
   by_push_int k ss i = by_test (fits64 i.0 i.1) _ (by_push k ss (abstract.Int i.0 i.1))
@@ -98,7 +98,7 @@ module _ (P : ℕ → Type 0) (q : ℕ) (next : P (q + 1)) where
 
   by_loop : (k : AbstractState) (i : ℕ) (o : Option Carrier) → Goes (Transfer.abstract_loop q k i o)
   by_loop k i None = tt
-  by_loop k i (Some c) = by_test (nat_lt (length k.loops) 8 && not (Transfer.among k.loops i) && is_inhabited c) (Transfer.to_next_place q (record { operands = []; below = length k.operands + k.below; params = k.params; loops = (i, abstraction_of c) ∷ k.loops; brackets = k.brackets; floor = k.brackets; roots = k.roots })) (next, tt)
+  by_loop k i (Some c) = by_test (nat_lt (length k.loops) 8 && not (Transfer.among k.loops i) && is_inhabited c) (Transfer.to_next_place q (record { operands = []; operands_below = length k.operands + k.operands_below; parameters = k.parameters; loops = (i, abstraction_of c) ∷ k.loops; brackets = k.brackets; brackets_below = k.brackets; roots = k.roots })) (next, tt)
 
   by_next : (k : AbstractState) (ss : List AbstractValue) (o : Option AbstractState) → Goes (Transfer.abstract_next q k ss o)
   by_next k ss None = tt
@@ -114,7 +114,7 @@ module _ (P : ℕ → Type 0) (q : ℕ) (next : P (q + 1)) where
   transfer_goes p home (op.PushInt z) k h = by_push k k.operands (abstract.Int z z)
   transfer_goes p home (op.PushBool b) k h = by_push k k.operands abstract.Bool
   transfer_goes p home (op.PushEnum s j) k h = by_test (Transfer.enum_fits (slice_get p.sorts s) j) _ (by_push k k.operands (abstract.Enum s (Transfer.count_or_zero (slice_get p.sorts s))))
-  transfer_goes p home (op.Get j) k h = by_slot (Transfer.abstract_slot k.loops k.params j) _ (λ s. by_push k k.operands s)
+  transfer_goes p home (op.Get j) k h = by_slot (Transfer.abstract_slot k.loops k.parameters j) _ (λ s. by_push k k.operands s)
   transfer_goes p home op.Pop k h = by_any k.operands _ (λ s ss. (next, tt))
   transfer_goes p home (op.Arithmetic a) k h = by_int k.operands _ (λ m n ss. by_int ss _ (λ l u ts. by_no_test (divides a && int_lt m (pos 1)) (Transfer.abstract_push_int q k ts (interval_of a l u m n)) (by_push_int k ts (interval_of a l u m n))))
   transfer_goes p home op.Negate k h = by_int k.operands _ (λ l u ss. by_push_int k ss (neg_ℤ u, neg_ℤ l))
@@ -125,11 +125,11 @@ module _ (P : ℕ → Type 0) (q : ℕ) (next : P (q + 1)) where
   transfer_goes p home (op.Logic c) k h = by_bool k.operands _ (λ ss. by_bool ss _ (λ ts. by_push k ts abstract.Bool))
   transfer_goes p home (op.Jump to) k h = (h, tt)
   transfer_goes p home (op.JumpIf on to) k h = by_bool k.operands _ (λ ss. (next, (h, tt)))
-  transfer_goes p home (op.InRange lo hi to) k h = by_int k.operands _ (λ l u ss. by_range (int_le l hi && int_le lo u) (not (int_le lo l && int_le u hi)) to _ _ h)
-  transfer_goes p home (op.SlotInRange j lo hi to) k h = by_slot (Transfer.abstract_slot k.loops k.params j) _ (λ s. by_interval s _ (λ l u. by_range (int_le l hi && int_le lo u) (not (int_le lo l && int_le u hi)) to _ _ h))
+  transfer_goes p home (op.InRange low high to) k h = by_int k.operands _ (λ l u ss. by_range (int_le l high && int_le low u) (not (int_le low l && int_le u high)) to _ _ h)
+  transfer_goes p home (op.SlotInRange j low high to) k h = by_slot (Transfer.abstract_slot k.loops k.parameters j) _ (λ s. by_interval s _ (λ l u. by_range (int_le l high && int_le low u) (not (int_le low l && int_le u high)) to _ _ h))
   transfer_goes p home (op.Loop j) k h = by_loop k j (carrier_of p j)
   transfer_goes p home op.Next k h = by_next k k.operands home
   transfer_goes p home (op.Open c) k h = by_test (nat_lt k.brackets 32) _ (by_root k.brackets k.roots _ (λ r. (next, tt)))
-  transfer_goes p home op.Close k h = by_close k.floor k.brackets _ (λ n. (next, tt))
+  transfer_goes p home op.Close k h = by_close k.brackets_below k.brackets _ (λ n. (next, tt))
   transfer_goes p home (op.Emit l) k h = by_root k.brackets k.roots _ (λ r. (next, tt))
   transfer_goes p home (op.Call eq) k h = by_call k (slice_get p.callees eq)

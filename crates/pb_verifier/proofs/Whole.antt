@@ -127,14 +127,14 @@ first_there (suc n) h = refl
 carrier_solid : (c : Carrier) → Covers (abstraction_of c) (abstraction_of c)
 carrier_solid carrier.Bool = tt
 carrier_solid (carrier.Enum enumeration) = (refl, omega arith)
-carrier_solid (carrier.Range range) = (≤ℤ_refl range.lo, range.not_empty, ≤ℤ_refl range.hi)
+carrier_solid (carrier.Range range) = (≤ℤ_refl range.low, range.not_empty, ≤ℤ_refl range.high)
 
 carriers_solid : (cs : List Carrier) → CoversEach (map abstraction_of cs) (map abstraction_of cs)
 carriers_solid [] = tt
 carriers_solid (c ∷ cs) = (carrier_solid c, carriers_solid cs)
 
 entry_solid : (p : Program) → IsCovered (entry p) (entry p)
-entry_solid p = record { operands = tt; below = refl; params = carriers_solid p.params; loops = tt; brackets = refl; floor = refl; roots = refl }
+entry_solid p = record { operands = tt; operands_below = refl; parameters = carriers_solid p.parameters; loops = tt; brackets = refl; brackets_below = refl; roots = refl }
 
 open_known : (p : Program) (r : ℕ) (k : AbstractState) → 0 < length p.code → state_at (opening p) r ≡ Some k → (r ≡ 0) × (k ≡ entry p)
 open_known p r k l e =

@@ -10,7 +10,7 @@ abbrev pub program_in : List ℕ → List (List Carrier) → Equation → Progra
 program_in sorts callees e = record {
   sorts = sorts;
   callees = callees;
-  params = e.params.items;
+  parameters = e.parameters.items;
   loops = e.loops.items;
   stated_steps = e.steps;
   stated_tokens = e.tokens;
@@ -18,8 +18,8 @@ program_in sorts callees e = record {
 }
 
 -- the carriers of an equation's parameters
-abbrev pub params_of : Equation → List Carrier
-params_of e = e.params.items
+abbrev pub parameters_of : Equation → List Carrier
+parameters_of e = e.parameters.items
 
 -- the code of each equation is accepted
 abbrev pub HaveTables : List ℕ → List (List Carrier) → List Equation → Type 0

@@ -44,7 +44,7 @@ pub(crate) fn check_equation(
 {
     let code = EquationCode {
         instructions: &equation.code,
-        params: &equation.params,
+        parameters: &equation.parameters,
         loops: &equation.loops,
         equations: callees.len(),
     };

@@ -5,7 +5,7 @@ ghost use Rattle.std.specs.Prelude.{◌≡◌, ◌≤◌, All, IfOk, map, length
 ghost use Rattle.pb_bytecode.specs.Contents.{counts};
 ghost use Rattle.pb_bytecode.specs.Views.{sort_contents};
 ghost use Rattle.pb_sorts.specs.Layout.{count_of, lists_of};
-ghost use Rattle.pb_verifier.specs.Programs.{params_of};
+ghost use Rattle.pb_verifier.specs.Programs.{parameters_of};
 ghost use Rattle.pb_sorts.specs.declared.limits.TheConstants.{MAX_EQUATIONS, MAX_PARAMETERS};
 ghost use Rattle.pb_sorts.specs.declared.limits.TheConstants.{MAX_INSTANCES};
 
@@ -29,11 +29,11 @@ pub(crate) fn parameter_carriers(
     alloc: Global,
     equations: &[Equation],
 ) -> Result<Vec<Vec<Carrier>>, AllocError>
-    ensures { IfOk result (λ carriers. map vec_items carriers.items ≡ map params_of equations.now) }
+    ensures { IfOk result (λ carriers. map vec_items carriers.items ≡ map parameters_of equations.now) }
 {
     let mut carriers = Vec::with_capacity(alloc, equations.len())?;
     for equation in equations {
-        carriers.push(Vec::from_slice(alloc, &equation.params)?)?;
+        carriers.push(Vec::from_slice(alloc, &equation.parameters)?)?;
     }
     Ok(carriers)
 }

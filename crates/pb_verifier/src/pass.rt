@@ -62,10 +62,13 @@ fn loop_carrier(equation: &Equation, slot: u8) -> Option<Carrier>
         → result ≡ carrier_of (program_in sorts callees equation.now) slot }
 {
     let slot = usize::from(slot);
-    if slot < equation.params.len() {
+    if slot < equation.parameters.len() {
         return None;
     }
-    equation.loops.get(slot - equation.params.len()).copied()
+    equation
+        .loops
+        .get(slot - equation.parameters.len())
+        .copied()
 }
 
 impl PassState {
@@ -77,7 +80,7 @@ impl PassState {
         ensures open { IfOk result (λ pass. pass.open ≡ []) }
     {
         let mut table = empty_table(alloc, equation.code.len())?;
-        table[0] = Some(AbstractState::entry(alloc, &equation.params)?);
+        table[0] = Some(AbstractState::entry(alloc, &equation.parameters)?);
         Ok(PassState {
             table,
             open: OpenLoops::new(alloc),

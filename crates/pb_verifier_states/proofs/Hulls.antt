@@ -198,44 +198,44 @@ loops_none (s ∷ ss) (t ∷ ts) (m ∷ ms) e a b =
 -- ---- states
 
 pub join_covers : (k m n : AbstractState) → join_states k m ≡ Some n → IsCovered k k → IsCovered m m → IsCovered k n × IsCovered m n
-join_covers k m n e a b = by (agree k m) (hulls k.operands m.operands) (hulls k.params m.params) (loop_hulls k.loops m.loops) refl refl refl refl e
+join_covers k m n e a b = by (agree k m) (hulls k.operands m.operands) (hulls k.parameters m.parameters) (loop_hulls k.loops m.loops) refl refl refl refl e
   where
-    by : (c : Bool) (o r : Option (List AbstractValue)) (l : Option (List (ℕ × AbstractValue))) → agree k m ≡ c → hulls k.operands m.operands ≡ o → hulls k.params m.params ≡ r → loop_hulls k.loops m.loops ≡ l → joined c k o r l ≡ Some n → IsCovered k n × IsCovered m n
+    by : (c : Bool) (o r : Option (List AbstractValue)) (l : Option (List (ℕ × AbstractValue))) → agree k m ≡ c → hulls k.operands m.operands ≡ o → hulls k.parameters m.parameters ≡ r → loop_hulls k.loops m.loops ≡ l → joined c k o r l ≡ Some n → IsCovered k n × IsCovered m n
     by false o r l f g h j e = cc
     by true None r l f g h j e = cc
     by true (Some ss) None l f g h j e = cc
     by true (Some ss) (Some ps) None f g h j e = cc
     by true (Some ss) (Some ps) (Some ls) f g h j e =
-        let t3 = and_parts ((k.below == m.below) && (k.brackets == m.brackets) && (k.floor == m.floor)) (k.roots == m.roots) f in
-        let t2 = and_parts ((k.below == m.below) && (k.brackets == m.brackets)) (k.floor == m.floor) t3.0 in
-        let t1 = and_parts (k.below == m.below) (k.brackets == m.brackets) t2.0 in
+        let t3 = and_parts ((k.operands_below == m.operands_below) && (k.brackets == m.brackets) && (k.brackets_below == m.brackets_below)) (k.roots == m.roots) f in
+        let t2 = and_parts ((k.operands_below == m.operands_below) && (k.brackets == m.brackets)) (k.brackets_below == m.brackets_below) t3.0 in
+        let t1 = and_parts (k.operands_below == m.operands_below) (k.brackets == m.brackets) t2.0 in
         let os = hulls_cover k.operands m.operands ss g a.operands b.operands in
-        let qs = hulls_cover k.params m.params ps h a.params b.params in
+        let qs = hulls_cover k.parameters m.parameters ps h a.parameters b.parameters in
         let us = loops_cover k.loops m.loops ls j a.loops b.loops in
         subst (λ (u : AbstractState). IsCovered k u × IsCovered m u) (same_Some _ _ e) (
-          record { operands = os.0; below = refl; params = qs.0; loops = us.0; brackets = refl; floor = refl; roots = refl },
-          record { operands = os.1; below = sym (eqb-true k.below m.below t1.0); params = qs.1; loops = us.1; brackets = sym (eqb-true k.brackets m.brackets t1.1); floor = sym (eqb-true k.floor m.floor t2.1); roots = sym (eqb-true k.roots m.roots t3.1) },
+          record { operands = os.0; operands_below = refl; parameters = qs.0; loops = us.0; brackets = refl; brackets_below = refl; roots = refl },
+          record { operands = os.1; operands_below = sym (eqb-true k.operands_below m.operands_below t1.0); parameters = qs.1; loops = us.1; brackets = sym (eqb-true k.brackets m.brackets t1.1); brackets_below = sym (eqb-true k.brackets_below m.brackets_below t2.1); roots = sym (eqb-true k.roots m.roots t3.1) },
         )
 
 pub join_least : (k m n u : AbstractState) → join_states k m ≡ Some n → IsCovered k u → IsCovered m u → IsCovered n u
-join_least k m n u e a b = by (agree k m) (hulls k.operands m.operands) (hulls k.params m.params) (loop_hulls k.loops m.loops) refl refl refl e
+join_least k m n u e a b = by (agree k m) (hulls k.operands m.operands) (hulls k.parameters m.parameters) (loop_hulls k.loops m.loops) refl refl refl e
   where
-    by : (c : Bool) (o r : Option (List AbstractValue)) (l : Option (List (ℕ × AbstractValue))) → hulls k.operands m.operands ≡ o → hulls k.params m.params ≡ r → loop_hulls k.loops m.loops ≡ l → joined c k o r l ≡ Some n → IsCovered n u
+    by : (c : Bool) (o r : Option (List AbstractValue)) (l : Option (List (ℕ × AbstractValue))) → hulls k.operands m.operands ≡ o → hulls k.parameters m.parameters ≡ r → loop_hulls k.loops m.loops ≡ l → joined c k o r l ≡ Some n → IsCovered n u
     by false o r l g h j e = cc
     by true None r l g h j e = cc
     by true (Some ss) None l g h j e = cc
     by true (Some ss) (Some ps) None g h j e = cc
     by true (Some ss) (Some ps) (Some ls) g h j e =
-        subst (λ (v : AbstractState). IsCovered v u) (same_Some _ _ e) (record { operands = hulls_least k.operands m.operands ss u.operands g a.operands b.operands; below = a.below; params = hulls_least k.params m.params ps u.params h a.params b.params; loops = loops_least k.loops m.loops ls u.loops j a.loops b.loops; brackets = a.brackets; floor = a.floor; roots = a.roots })
+        subst (λ (v : AbstractState). IsCovered v u) (same_Some _ _ e) (record { operands = hulls_least k.operands m.operands ss u.operands g a.operands b.operands; operands_below = a.operands_below; parameters = hulls_least k.parameters m.parameters ps u.parameters h a.parameters b.parameters; loops = loops_least k.loops m.loops ls u.loops j a.loops b.loops; brackets = a.brackets; brackets_below = a.brackets_below; roots = a.roots })
 
 pub join_none : (k m u : AbstractState) → join_states k m ≡ None → IsCovered k u → IsCovered m u → ⊥
-join_none k m u e a b = by (hulls k.operands m.operands) (hulls k.params m.params) (loop_hulls k.loops m.loops) refl refl refl (subst (λ c. joined c k (hulls k.operands m.operands) (hulls k.params m.params) (loop_hulls k.loops m.loops) ≡ None) test e)
+join_none k m u e a b = by (hulls k.operands m.operands) (hulls k.parameters m.parameters) (loop_hulls k.loops m.loops) refl refl refl (subst (λ c. joined c k (hulls k.operands m.operands) (hulls k.parameters m.parameters) (loop_hulls k.loops m.loops) ≡ None) test e)
   where
     test : agree k m ≡ true
-    test = and_from ((k.below == m.below) && (k.brackets == m.brackets) && (k.floor == m.floor)) (k.roots == m.roots) (and_from ((k.below == m.below) && (k.brackets == m.brackets)) (k.floor == m.floor) (and_from (k.below == m.below) (k.brackets == m.brackets) (eq-eqb k.below m.below (a.below ∙ sym b.below)) (eq-eqb k.brackets m.brackets (a.brackets ∙ sym b.brackets))) (eq-eqb k.floor m.floor (a.floor ∙ sym b.floor))) (eq-eqb k.roots m.roots (a.roots ∙ sym b.roots))
+    test = and_from ((k.operands_below == m.operands_below) && (k.brackets == m.brackets) && (k.brackets_below == m.brackets_below)) (k.roots == m.roots) (and_from ((k.operands_below == m.operands_below) && (k.brackets == m.brackets)) (k.brackets_below == m.brackets_below) (and_from (k.operands_below == m.operands_below) (k.brackets == m.brackets) (eq-eqb k.operands_below m.operands_below (a.operands_below ∙ sym b.operands_below)) (eq-eqb k.brackets m.brackets (a.brackets ∙ sym b.brackets))) (eq-eqb k.brackets_below m.brackets_below (a.brackets_below ∙ sym b.brackets_below))) (eq-eqb k.roots m.roots (a.roots ∙ sym b.roots))
 
-    by : (o r : Option (List AbstractValue)) (l : Option (List (ℕ × AbstractValue))) → hulls k.operands m.operands ≡ o → hulls k.params m.params ≡ r → loop_hulls k.loops m.loops ≡ l → joined true k o r l ≡ None → ⊥
+    by : (o r : Option (List AbstractValue)) (l : Option (List (ℕ × AbstractValue))) → hulls k.operands m.operands ≡ o → hulls k.parameters m.parameters ≡ r → loop_hulls k.loops m.loops ≡ l → joined true k o r l ≡ None → ⊥
     by None r l g h j e = hulls_none k.operands m.operands u.operands g a.operands b.operands
-    by (Some ss) None l g h j e = hulls_none k.params m.params u.params h a.params b.params
+    by (Some ss) None l g h j e = hulls_none k.parameters m.parameters u.parameters h a.parameters b.parameters
     by (Some ss) (Some ps) None g h j e = loops_none k.loops m.loops u.loops j a.loops b.loops
     by (Some ss) (Some ps) (Some ls) g h j e = cc

@@ -25,11 +25,11 @@ loops_through (x ∷ s) (y ∷ t) (z ∷ u) c d = (c.0 ∙ d.0, covers_through x
 pub through : (k m n : AbstractState) → IsCovered k m → IsCovered m n → IsCovered k n
 through k m n c d = record {
   operands = each_through k.operands m.operands n.operands c.operands d.operands;
-  below = c.below ∙ d.below;
-  params = each_through k.params m.params n.params c.params d.params;
+  operands_below = c.operands_below ∙ d.operands_below;
+  parameters = each_through k.parameters m.parameters n.parameters c.parameters d.parameters;
   loops = loops_through k.loops m.loops n.loops c.loops d.loops;
   brackets = c.brackets ∙ d.brackets;
-  floor = c.floor ∙ d.floor;
+  brackets_below = c.brackets_below ∙ d.brackets_below;
   roots = c.roots ∙ d.roots;
 }
 
@@ -51,4 +51,4 @@ solid_loops (x ∷ s) [] c = absurd c
 solid_loops (x ∷ s) (y ∷ t) c = (refl, solid_one x.1 y.1 c.1, solid_loops s t c.2)
 
 pub solid_left : (k m : AbstractState) → IsCovered k m → IsCovered k k
-solid_left k m c = record { operands = solid_each k.operands m.operands c.operands; below = refl; params = solid_each k.params m.params c.params; loops = solid_loops k.loops m.loops c.loops; brackets = refl; floor = refl; roots = refl }
+solid_left k m c = record { operands = solid_each k.operands m.operands c.operands; operands_below = refl; parameters = solid_each k.parameters m.parameters c.parameters; loops = solid_loops k.loops m.loops c.loops; brackets = refl; brackets_below = refl; roots = refl }

@@ -28,7 +28,7 @@ ordered_at (x ∷ vs) (suc i) v h e = ordered_at vs i v h.1 e
 pub carrier_inhabited : (c : Carrier) → is_inhabited c ≡ true
 carrier_inhabited carrier.Bool = refl
 carrier_inhabited (carrier.Enum enumeration) = lt-ltb 0 enumeration.count enumeration.not_empty
-carrier_inhabited (carrier.Range range) = from_le range.lo range.hi range.not_empty
+carrier_inhabited (carrier.Range range) = from_le range.low range.high range.not_empty
 
 carrier_ordered : (c : Carrier) → HasOrderedEnds (abstraction_of c)
 carrier_ordered carrier.Bool = tt

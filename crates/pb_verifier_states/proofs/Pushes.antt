@@ -13,12 +13,12 @@ use Rattle.pb_intervals.specs.Interval.{IntegerInterval}
 use Rattle.pb_verifier_states.specs.Edges.{fitting}
 use Rattle.pb_verifier_states.specs.Flows.{GoesOn}
 
-fitting_push : (q : ℕ) (k : AbstractState) (ss : List AbstractValue) (j : ℤ × ℤ) (i : IntegerInterval) → Some i ≡ fitting j → nat_lt (length ss + k.below) 32 ≡ true → abstract_push_int q k ss j ≡ to_next_place q (record k { operands = abstract.Int i.low i.high ∷ ss })
+fitting_push : (q : ℕ) (k : AbstractState) (ss : List AbstractValue) (j : ℤ × ℤ) (i : IntegerInterval) → Some i ≡ fitting j → nat_lt (length ss + k.operands_below) 32 ≡ true → abstract_push_int q k ss j ≡ to_next_place q (record k { operands = abstract.Int i.low i.high ∷ ss })
 fitting_push q k ss j i e r = by (fits64 j.0 j.1) e
   where
     by : (b : Bool) → Some i ≡ cond b (Some (record { low = j.0; high = j.1 })) None → cond b (abstract_push q k ss (abstract.Int j.0 j.1)) None ≡ to_next_place q (record k { operands = abstract.Int i.low i.high ∷ ss })
     by true f = let same : i ≡ record { low = j.0; high = j.1 } = cc in rw same (cond-true _ _ _ r)
     by false f = cc
 
-pub arithmetic_goes_on : (o : Arithmetic) (k k1 k2 k3 : AbstractState) (b a i : IntegerInterval) → k ≡ record k1 { operands = abstract.Int b.low b.high ∷ k1.operands } → k1 ≡ record k2 { operands = abstract.Int a.low a.high ∷ k2.operands } → (divides o && int_lt b.low (pos 1)) ≡ false → Some i ≡ fitting (interval_of o a.low a.high b.low b.high) → nat_lt (length k2.operands + k2.below) 32 ≡ true → k3 ≡ record k2 { operands = abstract.Int i.low i.high ∷ k2.operands } → GoesOn (op.Arithmetic o) k k3
+pub arithmetic_goes_on : (o : Arithmetic) (k k1 k2 k3 : AbstractState) (b a i : IntegerInterval) → k ≡ record k1 { operands = abstract.Int b.low b.high ∷ k1.operands } → k1 ≡ record k2 { operands = abstract.Int a.low a.high ∷ k2.operands } → (divides o && int_lt b.low (pos 1)) ≡ false → Some i ≡ fitting (interval_of o a.low a.high b.low b.high) → nat_lt (length k2.operands + k2.operands_below) 32 ≡ true → k3 ≡ record k2 { operands = abstract.Int i.low i.high ∷ k2.operands } → GoesOn (op.Arithmetic o) k k3
 arithmetic_goes_on o k k1 k2 k3 b a i e f d j r g = λ p home q. rw (e, f, g) (cond-false _ _ _ d ∙ fitting_push q k2 k2.operands (interval_of o a.low a.high b.low b.high) i j r)

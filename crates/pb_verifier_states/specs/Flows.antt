@@ -23,8 +23,8 @@ abbrev pub GoesOnAlone : Op → Type 0
 GoesOnAlone op.End = ⊥
 GoesOnAlone (op.Jump to) = ⊥
 GoesOnAlone (op.JumpIf on to) = ⊥
-GoesOnAlone (op.InRange lo hi to) = ⊥
-GoesOnAlone (op.SlotInRange i lo hi to) = ⊥
+GoesOnAlone (op.InRange low high to) = ⊥
+GoesOnAlone (op.SlotInRange i low high to) = ⊥
 GoesOnAlone (op.Loop i) = ⊥
 GoesOnAlone op.Next = ⊥
 GoesOnAlone _ = Unit {0}

@@ -37,13 +37,13 @@ loop_hulls [] (t ∷ ts) = None
 loop_hulls (s ∷ ss) [] = None
 
 abbrev pub joined : Bool → AbstractState → Option (List AbstractValue) → Option (List AbstractValue) → Option (List (ℕ × AbstractValue)) → Option AbstractState
-joined true k (Some ss) (Some ps) (Some ls) = Some (record k { operands = ss; params = ps; loops = ls })
+joined true k (Some ss) (Some ps) (Some ls) = Some (record k { operands = ss; parameters = ps; loops = ls })
 joined _ _ _ _ _ = None
 
 -- all but operands and slots is the same
 abbrev pub agree : AbstractState → AbstractState → Bool
-agree k m = (k.below == m.below) && (k.brackets == m.brackets) && (k.floor == m.floor) && (k.roots == m.roots)
+agree k m = (k.operands_below == m.operands_below) && (k.brackets == m.brackets) && (k.brackets_below == m.brackets_below) && (k.roots == m.roots)
 
 -- the least state that covers both
 abbrev pub join_states : AbstractState → AbstractState → Option AbstractState
-join_states k m = joined (agree k m) k (hulls k.operands m.operands) (hulls k.params m.params) (loop_hulls k.loops m.loops)
+join_states k m = joined (agree k m) k (hulls k.operands m.operands) (hulls k.parameters m.parameters) (loop_hulls k.loops m.loops)

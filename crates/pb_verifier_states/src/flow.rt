@@ -46,13 +46,13 @@ pub fn flow(
         },
         Op::Jump { target } => Ok(Edges::jump(target, state)),
         Op::JumpIf { condition, target } => control::jump_if(state, alloc, condition, target),
-        Op::InRange { lo, hi, target } => control::in_range(state, alloc, lo, hi, target),
+        Op::InRange { low, high, target } => control::in_range(state, alloc, low, high, target),
         Op::SlotInRange {
             slot,
-            lo,
-            hi,
+            low,
+            high,
             target,
-        } => control::slot_in_range(state, alloc, slot, lo, hi, target),
+        } => control::slot_in_range(state, alloc, slot, low, high, target),
         _ => {
             let next = next_state(state, sorts, callees, op)?;
             Ok(Edges::next(next))
@@ -76,7 +76,7 @@ fn next_state(
         → transfer p home q op state ≡ None) }
 {
     match op {
-        Op::PushInt(z) => control::push(state, AbstractValue::Int { lo: z, hi: z }),
+        Op::PushInt(z) => control::push(state, AbstractValue::Int { low: z, high: z }),
         Op::PushBool(_) => control::push(state, AbstractValue::Bool),
         Op::PushEnum { sort, index } => control::push_enum(state, sorts, sort, index),
         Op::Get { slot } => control::get(state, slot),

@@ -23,12 +23,12 @@ use std::marker::Model;
 pub struct AbstractState {
     // The topmost first; there are at most 32 of them and of those below.
     operands: Vec<AbstractValue>,
-    below: u8,
-    params: Vec<AbstractValue>,
+    operands_below: u8,
+    parameters: Vec<AbstractValue>,
     // The slots of the loops around, the innermost first: there are at most 8.
     loops: Vec<(u8, AbstractValue)>,
     brackets: u8,
-    floor: u8,
+    brackets_below: u8,
     roots: u8,
 }
 
@@ -42,40 +42,40 @@ impl Model for AbstractState {
 
     ghost view = { λ s. record {
       operands = s.operands.items;
-      below = s.below;
-      params = s.params.items;
+      operands_below = s.operands_below;
+      parameters = s.parameters.items;
       loops = s.loops.items;
       brackets = s.brackets;
-      floor = s.floor;
+      brackets_below = s.brackets_below;
       roots = s.roots;
     } };
 
-    ghost invariant = { λ s. (length s.operands.items + s.below ≤ MAX_OPERANDS)
-        × HaveOrderedEnds s.operands.items × HaveOrderedEnds s.params.items
+    ghost invariant = { λ s. (length s.operands.items + s.operands_below ≤ MAX_OPERANDS)
+        × HaveOrderedEnds s.operands.items × HaveOrderedEnds s.parameters.items
         × LoopsHaveOrderedEnds s.loops.items };
 }
 
 impl AbstractState {
     /// What is known at the first place of code with these parameters.
-    pub fn entry(alloc: Global, params: &[Carrier]) -> Result<AbstractState, AllocError>
+    pub fn entry(alloc: Global, parameters: &[Carrier]) -> Result<AbstractState, AllocError>
         ensures { IfOk result (λ s. s ≡ record {
           operands = [];
-          below = 0;
-          params = map abstraction_of params.now;
+          operands_below = 0;
+          parameters = map abstraction_of parameters.now;
           loops = [];
           brackets = 0;
-          floor = 0;
+          brackets_below = 0;
           roots = 0;
         }) }
     {
-        let params = abstractions(alloc, params)?;
+        let parameters = abstractions(alloc, parameters)?;
         Ok(AbstractState {
             operands: Vec::new(alloc),
-            below: 0,
-            params,
+            operands_below: 0,
+            parameters,
             loops: Vec::new(alloc),
             brackets: 0,
-            floor: 0,
+            brackets_below: 0,
             roots: 0,
         })
     }
@@ -86,11 +86,11 @@ impl AbstractState {
     {
         Ok(AbstractState {
             operands: Vec::from_slice(alloc, &self.operands)?,
-            below: self.below,
-            params: Vec::from_slice(alloc, &self.params)?,
+            operands_below: self.operands_below,
+            parameters: Vec::from_slice(alloc, &self.parameters)?,
             loops: Vec::from_slice(alloc, &self.loops)?,
             brackets: self.brackets,
-            floor: self.floor,
+            brackets_below: self.brackets_below,
             roots: self.roots,
         })
     }
@@ -101,29 +101,29 @@ impl AbstractState {
     {
         let AbstractState {
             operands,
-            below,
-            params,
+            operands_below,
+            parameters,
             loops,
             brackets,
-            floor,
+            brackets_below,
             roots,
         } = self;
-        if below != other.below || brackets != other.brackets {
+        if operands_below != other.operands_below || brackets != other.brackets {
             return None;
         }
-        if floor != other.floor || roots != other.roots {
+        if brackets_below != other.brackets_below || roots != other.roots {
             return None;
         }
         let operands = widened(operands, &other.operands)?;
-        let params = widened(params, &other.params)?;
+        let parameters = widened(parameters, &other.parameters)?;
         let loops = widened_loops(loops, &other.loops)?;
         Some(AbstractState {
             operands,
-            below,
-            params,
+            operands_below,
+            parameters,
             loops,
             brackets,
-            floor,
+            brackets_below,
             roots,
         })
     }

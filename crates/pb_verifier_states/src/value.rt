@@ -24,8 +24,8 @@ pub fn abstraction(carrier: Carrier) -> AbstractValue
             count: enumeration.count,
         },
         Carrier::Range(range) => AbstractValue::Int {
-            lo: i64::from(range.lo),
-            hi: i64::from(range.hi),
+            low: i64::from(range.low),
+            high: i64::from(range.high),
         },
     }
 }
@@ -36,8 +36,8 @@ pub fn numbers(interval: Interval) -> AbstractValue
     ensures ordered { HasOrderedEnds result }
 {
     AbstractValue::Int {
-        lo: interval.low(),
-        hi: interval.high(),
+        low: interval.low(),
+        high: interval.high(),
     }
 }
 
@@ -59,8 +59,8 @@ pub fn is_accepted(a: AbstractValue, carrier: Carrier) -> bool
 {
     match (a, carrier) {
         (AbstractValue::Bool, Carrier::Bool) => true,
-        (AbstractValue::Int { lo, hi }, Carrier::Range(range)) => {
-            i64::from(range.lo) <= lo && hi <= i64::from(range.hi)
+        (AbstractValue::Int { low, high }, Carrier::Range(range)) => {
+            i64::from(range.low) <= low && high <= i64::from(range.high)
         }
         (AbstractValue::Enum { sort, count }, Carrier::Enum(enumeration)) => {
             sort == enumeration.sort && count <= enumeration.count
@@ -82,10 +82,10 @@ pub fn hull(a: AbstractValue, b: AbstractValue) -> Option<AbstractValue>
 {
     match (a, b) {
         (AbstractValue::Bool, AbstractValue::Bool) => Some(AbstractValue::Bool),
-        (AbstractValue::Int { lo: l, hi: h }, AbstractValue::Int { lo: m, hi: k }) => {
+        (AbstractValue::Int { low: l, high: h }, AbstractValue::Int { low: m, high: k }) => {
             Some(AbstractValue::Int {
-                lo: l.min(m),
-                hi: h.max(k),
+                low: l.min(m),
+                high: h.max(k),
             })
         }
         (AbstractValue::Enum { sort: s, count: n }, AbstractValue::Enum { sort: t, count: m })

@@ -19,8 +19,8 @@ pub record NamesNothing (i : Op) : Type 0 where
   pub get : (slot : ℕ) → i ≡ op.Get slot → ⊥
   pub jump : (to : ℕ) → i ≡ op.Jump to → ⊥
   pub jump_if : (on : Bool) (to : ℕ) → i ≡ op.JumpIf on to → ⊥
-  pub in_range : (lo hi : ℤ) (to : ℕ) → i ≡ op.InRange lo hi to → ⊥
-  pub slot_in_range : (slot : ℕ) (lo hi : ℤ) (to : ℕ) → i ≡ op.SlotInRange slot lo hi to → ⊥
+  pub in_range : (low high : ℤ) (to : ℕ) → i ≡ op.InRange low high to → ⊥
+  pub slot_in_range : (slot : ℕ) (low high : ℤ) (to : ℕ) → i ≡ op.SlotInRange slot low high to → ⊥
   pub loop : (slot : ℕ) → i ≡ op.Loop slot → ⊥
   pub call : (equation : ℕ) → i ≡ op.Call equation → ⊥
 
@@ -40,8 +40,8 @@ free p q op.Not n f = (tt, tt)
 free p q (op.Logic c) n f = (tt, tt)
 free p q (op.Jump to) n f = absurd (f.jump to refl)
 free p q (op.JumpIf on to) n f = absurd (f.jump_if on to refl)
-free p q (op.InRange lo hi to) n f = absurd (f.in_range lo hi to refl)
-free p q (op.SlotInRange s lo hi to) n f = absurd (f.slot_in_range s lo hi to refl)
+free p q (op.InRange low high to) n f = absurd (f.in_range low high to refl)
+free p q (op.SlotInRange s low high to) n f = absurd (f.slot_in_range s low high to refl)
 free p q (op.Loop s) n f = absurd (f.loop s refl)
 free p q op.Next n f = (tt, tt)
 free p q (op.Open c) n f = (tt, tt)
@@ -67,8 +67,8 @@ module _ (p : Program) where
   nests_by q (op.Logic connective) s c = tt
   nests_by q (op.Jump to) s c = tt
   nests_by q (op.JumpIf on to) s c = tt
-  nests_by q (op.InRange lo hi to) s c = tt
-  nests_by q (op.SlotInRange slot lo hi to) s c = tt
+  nests_by q (op.InRange low high to) s c = tt
+  nests_by q (op.SlotInRange slot low high to) s c = tt
   nests_by q (op.Loop slot) s c = s.2
   nests_by q op.Next s c = c refl
   nests_by q (op.Open connective) s c = tt
@@ -95,8 +95,8 @@ module _ (p : Program) where
   closes_by q (op.Logic connective) e n = cc
   closes_by q (op.Jump to) e n = cc
   closes_by q (op.JumpIf on to) e n = cc
-  closes_by q (op.InRange lo hi to) e n = cc
-  closes_by q (op.SlotInRange slot lo hi to) e n = cc
+  closes_by q (op.InRange low high to) e n = cc
+  closes_by q (op.SlotInRange slot low high to) e n = cc
   closes_by q (op.Loop slot) e n = cc
   closes_by q op.Next e n = n
   closes_by q (op.Open connective) e n = cc

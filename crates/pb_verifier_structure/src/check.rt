@@ -23,8 +23,8 @@ fn is_loop_slot(code: &EquationCode, slot: u8) -> bool
     ensures { (p : Program) → IsProgramOf p code.now → IsTrue result ↔ IsSome (carrier_of p slot) }
 {
     let slot = slot as usize;
-    let params = code.params.len();
-    slot >= params && slot - params < code.loops.len()
+    let parameters = code.parameters.len();
+    slot >= parameters && slot - parameters < code.loops.len()
 }
 
 // A slot that is read at the place is a parameter's or that of a loop around.
@@ -40,7 +40,7 @@ fn check_slot(
     ensures err { OnErr result ((p : Program) → IsProgramOf p code.now → IsVisible p place slot
         → ⊥) }
 {
-    if (slot as usize) < code.params.len() {
+    if (slot as usize) < code.parameters.len() {
         return Ok(());
     }
     if bodies.is_around(code.instructions, place, slot) {
@@ -106,16 +106,16 @@ fn check_instruction(
         Op::Call { equation } => check_callee(code, equation)?,
         Op::SlotInRange {
             slot,
-            lo: _,
-            hi: _,
+            low: _,
+            high: _,
             target,
         } => {
             check_slot(code, bodies, place, slot)?;
             bodies.check_target(place, target)?;
         }
         Op::InRange {
-            lo: _,
-            hi: _,
+            low: _,
+            high: _,
             target,
         } => bodies.check_target(place, target)?,
         Op::JumpIf {

@@ -51,7 +51,7 @@ fn turns(code: &EquationCode, slot: u8) -> u64
     requires { (p : Program) × IsProgramOf p code.now × IsSome (carrier_of p slot) }
     ensures { (p : Program) → IsProgramOf p code.now → result ≡ size_of (carrier_of p slot) }
 {
-    code.loops[slot as usize - code.params.len()].size()
+    code.loops[slot as usize - code.parameters.len()].size()
 }
 
 // How often an instruction runs, given this for each of the loops around it, the innermost last.

@@ -10,7 +10,7 @@ pub struct EquationCode<'a> {
     /// The instructions, by place.
     pub instructions: &'a [Op],
     /// The carriers of the parameters, which are the first slots.
-    pub params: &'a [Carrier],
+    pub parameters: &'a [Carrier],
     /// The carriers of the loop slots, which follow the parameters.
     pub loops: &'a [Carrier],
     /// How many equations the system has.

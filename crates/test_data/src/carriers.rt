@@ -9,7 +9,7 @@ fn ranges_are_not_empty_and_within_32_bits(rt: HostRuntime) {
     assert_eq!(rt; Carrier::range(0, 2_147_483_648), Err(L01));
     assert_eq!(rt;
         Carrier::range(3, 3),
-        Ok(Carrier::Range(Range { lo: 3, hi: 3 }))
+        Ok(Carrier::Range(Range { low: 3, high: 3 }))
     );
 }
 

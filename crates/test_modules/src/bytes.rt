@@ -163,8 +163,8 @@ fn only_version_2_tests_slots(rt: HostRuntime) -> Result<(), Fail> {
         module.equations[0].code[1],
         Op::SlotInRange {
             slot: 0,
-            lo: 1,
-            hi: 9,
+            low: 1,
+            high: 9,
             target: 7
         }
     );

@@ -16,8 +16,8 @@ fn the_first_of_two_pushes_lies_below(rt: HostRuntime) -> Result<(), Fail> {
     let alloc = rt.alloc();
     let mut state = start(alloc)?;
     assert!(rt; state.push(AbstractValue::Bool).is_ok());
-    assert!(rt; state.push(AbstractValue::Int { lo: 1, hi: 2 }).is_ok());
-    assert_eq!(rt; state.pop(), Ok(AbstractValue::Int { lo: 1, hi: 2 }));
+    assert!(rt; state.push(AbstractValue::Int { low: 1, high: 2 }).is_ok());
+    assert_eq!(rt; state.pop(), Ok(AbstractValue::Int { low: 1, high: 2 }));
     assert_eq!(rt; state.pop_bool(), Ok(()));
     assert_eq!(rt; state.pop(), Err(AcceptanceRule::MissingOperand));
     Ok(())
@@ -28,11 +28,11 @@ fn numbers_on_two_ways_have_their_hull(rt: HostRuntime) -> Result<(), Fail> {
     let alloc = rt.alloc();
     let mut left = start(alloc)?;
     let mut right = start(alloc)?;
-    assert!(rt; left.push(AbstractValue::Int { lo: 1, hi: 1 }).is_ok());
-    assert!(rt; right.push(AbstractValue::Int { lo: 5, hi: 7 }).is_ok());
+    assert!(rt; left.push(AbstractValue::Int { low: 1, high: 1 }).is_ok());
+    assert!(rt; right.push(AbstractValue::Int { low: 5, high: 7 }).is_ok());
     match left.join(&right) {
         Some(mut joined) => {
-            assert_eq!(rt; joined.pop(), Ok(AbstractValue::Int { lo: 1, hi: 7 }));
+            assert_eq!(rt; joined.pop(), Ok(AbstractValue::Int { low: 1, high: 7 }));
         }
         None => assert!(rt; false),
     }
@@ -84,20 +84,20 @@ fn flows_name_the_rule_that_fails(rt: HostRuntime) -> Result<(), Fail> {
 fn divisors_and_overflow_are_refused(rt: HostRuntime) -> Result<(), Fail> {
     let alloc = rt.alloc();
     let mut state = start(alloc)?;
-    assert!(rt; state.push(AbstractValue::Int { lo: 8, hi: 8 }).is_ok());
-    assert!(rt; state.push(AbstractValue::Int { lo: 0, hi: 3 }).is_ok());
+    assert!(rt; state.push(AbstractValue::Int { low: 8, high: 8 }).is_ok());
+    assert!(rt; state.push(AbstractValue::Int { low: 0, high: 3 }).is_ok());
     let divided = flow(state, alloc, &[], &[], Op::Arithmetic(Arithmetic::Div));
     assert!(rt; matches!(&divided, Err(FlowError::Refused(AcceptanceRule::Divisor))));
     let mut great = start(alloc)?;
     assert!(rt;
         great
             .push(AbstractValue::Int {
-                lo: i64::MAX,
-                hi: i64::MAX
+                low: i64::MAX,
+                high: i64::MAX
             })
             .is_ok()
     );
-    assert!(rt; great.push(AbstractValue::Int { lo: 1, hi: 1 }).is_ok());
+    assert!(rt; great.push(AbstractValue::Int { low: 1, high: 1 }).is_ok());
     let added = flow(great, alloc, &[], &[], Op::Arithmetic(Arithmetic::Add));
     assert!(rt; matches!(&added, Err(FlowError::Refused(AcceptanceRule::Overflow))));
     Ok(())

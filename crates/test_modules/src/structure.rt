@@ -12,7 +12,7 @@ use pb_verifier_structure::{
 use std::alloc::Global;
 use std::test::Fail;
 
-const NUMBERS: Carrier = Carrier::Range(Range { lo: 0, hi: 9 });
+const NUMBERS: Carrier = Carrier::Range(Range { low: 0, high: 9 });
 
 /// What is found of code with one parameter, slot 0, and nine loop slots behind it, in a system of two equations.
 fn found(alloc: Global, instructions: &[Op]) -> Result<StaticCounts, StructureError>
@@ -20,7 +20,7 @@ fn found(alloc: Global, instructions: &[Op]) -> Result<StaticCounts, StructureEr
 {
     let code = EquationCode {
         instructions,
-        params: &[Carrier::Bool],
+        parameters: &[Carrier::Bool],
         loops: &[NUMBERS; 9],
         equations: 2,
     };
@@ -134,8 +134,8 @@ fn names_are_there(rt: HostRuntime) -> Result<(), Fail> {
     let call = |equation| Op::Call { equation };
     let test = |slot, target| Op::SlotInRange {
         slot,
-        lo: 0,
-        hi: 1,
+        low: 0,
+        high: 1,
         target,
     };
     // a slot that is none, or a loop's that isn't around
@@ -199,14 +199,14 @@ fn targets_are_later_places_of_the_body(rt: HostRuntime) -> Result<(), Fail> {
         target,
     };
     let in_range = |target| Op::InRange {
-        lo: 0,
-        hi: 1,
+        low: 0,
+        high: 1,
         target,
     };
     let test = |target| Op::SlotInRange {
         slot: 0,
-        lo: 0,
-        hi: 1,
+        low: 0,
+        high: 1,
         target,
     };
     // past the last place

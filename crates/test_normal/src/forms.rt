@@ -5,7 +5,7 @@ use std::test::Fail;
 
 /// A quantifier in data is one of the formula.
 const QUANTIFIER_IN_DATA: &str =
-    "Equation { right: Each { universal: false, slot: 1, carriers: [Range(Range { lo: 0, hi: 3 })], body: Test(Comparison { comparison: Equal, left: Slot(1), right: Slot(0) }) }, loops: [Range(Range { lo: 0, hi: 3 })] }";
+    "Equation { right: Each { universal: false, slot: 1, carriers: [Range(Range { low: 0, high: 3 })], body: Test(Comparison { comparison: Equal, left: Slot(1), right: Slot(0) }) }, loops: [Range(Range { low: 0, high: 3 })] }";
 
 /// The left side of `=>` counts as negated; an argument has its interval.
 const IMPLICATION: &str =
@@ -19,18 +19,18 @@ const NEGATED_CONJUNCTION: &str =
 
 /// What stands behind the last quantifier of a chain in data is one test.
 const TAIL: &str =
-    "Equation { right: Join { conjunctive: true, first: Each { universal: false, slot: 1, carriers: [Range(Range { lo: 0, hi: 3 })], body: Test(Comparison { comparison: Equal, left: Slot(1), right: Slot(0) }) }, rest: [Test(Chain { connective: And, first: Comparison { comparison: Less, left: Slot(0), right: Number(2) }, links: [Comparison { comparison: Less, left: Slot(0), right: Number(3) }] })] }, loops: [Range(Range { lo: 0, hi: 3 })] }";
+    "Equation { right: Join { conjunctive: true, first: Each { universal: false, slot: 1, carriers: [Range(Range { low: 0, high: 3 })], body: Test(Comparison { comparison: Equal, left: Slot(1), right: Slot(0) }) }, rest: [Test(Chain { connective: And, first: Comparison { comparison: Less, left: Slot(0), right: Number(2) }, links: [Comparison { comparison: Less, left: Slot(0), right: Number(3) }] })] }, loops: [Range(Range { low: 0, high: 3 })] }";
 
 const NEGATED_QUANTIFIER: &str =
-    "Equation { right: Each { universal: false, slot: 1, carriers: [Range(Range { lo: 0, hi: 3 }), Bool], body: Join { conjunctive: true, first: Test(Not(Comparison { comparison: Less, left: Slot(1), right: Slot(0) })), rest: [Test(Not(Slot(2)))] } }, loops: [Range(Range { lo: 0, hi: 3 }), Bool] }";
+    "Equation { right: Each { universal: false, slot: 1, carriers: [Range(Range { low: 0, high: 3 }), Bool], body: Join { conjunctive: true, first: Test(Not(Comparison { comparison: Less, left: Slot(1), right: Slot(0) })), rest: [Test(Not(Slot(2)))] } }, loops: [Range(Range { low: 0, high: 3 }), Bool] }";
 
 /// Without a quantifier in it, a chain in data is one test.
 const NEGATED_IN_DATA: &str =
-    "Equation { right: Each { universal: false, slot: 1, carriers: [Range(Range { lo: 0, hi: 3 }), Bool], body: Test(Not(Chain { connective: Or, first: Comparison { comparison: Less, left: Slot(1), right: Slot(0) }, links: [Slot(2)] })) }, loops: [Range(Range { lo: 0, hi: 3 }), Bool] }";
+    "Equation { right: Each { universal: false, slot: 1, carriers: [Range(Range { low: 0, high: 3 }), Bool], body: Test(Not(Chain { connective: Or, first: Comparison { comparison: Less, left: Slot(1), right: Slot(0) }, links: [Slot(2)] })) }, loops: [Range(Range { low: 0, high: 3 }), Bool] }";
 
 /// Each quantifier has slots of its own, and an inner variable hides an outer one of its name.
 const TWO_QUANTIFIERS: &str =
-    "Equation { right: Join { conjunctive: true, first: Each { universal: false, slot: 1, carriers: [Range(Range { lo: 0, hi: 3 })], body: Test(Comparison { comparison: Equal, left: Slot(1), right: Number(2) }) }, rest: [Each { universal: true, slot: 2, carriers: [Bool], body: Test(Slot(2)) }] }, loops: [Range(Range { lo: 0, hi: 3 }), Bool] }";
+    "Equation { right: Join { conjunctive: true, first: Each { universal: false, slot: 1, carriers: [Range(Range { low: 0, high: 3 })], body: Test(Comparison { comparison: Equal, left: Slot(1), right: Number(2) }) }, rest: [Each { universal: true, slot: 2, carriers: [Bool], body: Test(Slot(2)) }] }, loops: [Range(Range { low: 0, high: 3 }), Bool] }";
 
 const NAMES: &str =
     "Equation { right: Join { conjunctive: false, first: Test(Comparison { comparison: Equal, left: Enumerator(Enumerator { sort: 0, place: 1 }), right: Slot(0) }), rest: [Test(Recognised { enumerator: Enumerator { sort: 0, place: 0 }, operand: Slot(0) })] }, loops: [] }";

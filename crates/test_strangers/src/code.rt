@@ -223,14 +223,14 @@ impl<'a> Coder<'a> {
                     self.write(&[ENUM, sort, index])
                 }
             },
-            Kind::Range { lo, hi } => {
+            Kind::Range { low, high } => {
                 self.term()?;
                 if self.generator.once_in(12) {
                     return Ok(());
                 }
-                self.int(i64::from(lo))?;
+                self.int(i64::from(low))?;
                 self.write(&[MAX])?;
-                self.int(i64::from(hi))?;
+                self.int(i64::from(high))?;
                 self.write(&[MIN])
             }
         }
@@ -240,14 +240,14 @@ impl<'a> Coder<'a> {
     fn tested_call(
         &mut self,
         equation: u8,
-        lo: i32,
-        hi: i32,
+        low: i32,
+        high: i32,
         others: &[Kind],
     ) -> Result<(), AllocError> {
         self.term()?;
         self.write(&[RNG])?;
-        self.code.extend_from_slice(&lo.to_le_bytes())?;
-        self.code.extend_from_slice(&hi.to_le_bytes())?;
+        self.code.extend_from_slice(&low.to_le_bytes())?;
+        self.code.extend_from_slice(&high.to_le_bytes())?;
         self.code.extend_from_slice(&[0, 0])?;
         let test = self.target();
         for kind in others {
@@ -271,9 +271,9 @@ impl<'a> Coder<'a> {
             return Ok(());
         };
         let equation = u8::try_from(place).unwrap_or(0);
-        if let Some((Kind::Range { lo, hi }, others)) = callee.parameters.split_first() {
+        if let Some((Kind::Range { low, high }, others)) = callee.parameters.split_first() {
             if self.generator.once_in(2) {
-                return self.tested_call(equation, *lo, *hi, others);
+                return self.tested_call(equation, *low, *high, others);
             }
         }
         for kind in &callee.parameters {
@@ -290,11 +290,11 @@ impl<'a> Coder<'a> {
             None
         };
         if let Some(slot) = slot {
-            let lo = i32::from(self.generator.byte_below(5)).saturating_sub(2);
-            let hi = lo.saturating_add(i32::from(self.generator.byte_below(3)));
+            let low = i32::from(self.generator.byte_below(5)).saturating_sub(2);
+            let high = low.saturating_add(i32::from(self.generator.byte_below(3)));
             self.write(&[INL, slot])?;
-            self.code.extend_from_slice(&lo.to_le_bytes())?;
-            self.code.extend_from_slice(&hi.to_le_bytes())?;
+            self.code.extend_from_slice(&low.to_le_bytes())?;
+            self.code.extend_from_slice(&high.to_le_bytes())?;
             self.code.extend_from_slice(&[0, 0])?;
         } else {
             self.condition()?;

@@ -17,7 +17,7 @@ fn size_of(carriers: &[Carrier]) -> u64 {
 pub fn first_of(equations: &[Equation], equation: usize) -> u64 {
     let mut first = 0u64;
     for earlier in equations.iter().take(equation) {
-        first = first.saturating_add(size_of(&earlier.params));
+        first = first.saturating_add(size_of(&earlier.parameters));
     }
     first
 }
@@ -26,7 +26,7 @@ pub fn first_of(equations: &[Equation], equation: usize) -> u64 {
 pub fn number_of(equations: &[Equation], equation: usize, values: &[i64]) -> u32 {
     let mut place = 0u64;
     if let Some(own) = equations.get(equation) {
-        for (carrier, value) in own.params.iter().zip(values) {
+        for (carrier, value) in own.parameters.iter().zip(values) {
             let (least, _) = carrier.bounds();
             let digit = u64::try_from(value.saturating_sub(least)).unwrap_or(0);
             place = place.saturating_mul(carrier.size()).saturating_add(digit);
@@ -45,12 +45,12 @@ pub fn values_of(
     let mut values = Vec::new(alloc);
     let mut rest = u64::from(number);
     for (place, equation) in equations.iter().enumerate() {
-        let size = size_of(&equation.params);
+        let size = size_of(&equation.parameters);
         if rest >= size {
             rest = rest.saturating_sub(size);
             continue;
         }
-        for carrier in equation.params.iter().rev() {
+        for carrier in equation.parameters.iter().rev() {
             let (least, _) = carrier.bounds();
             let digit = rest.checked_rem(carrier.size()).unwrap_or(0);
             rest = rest.checked_div(carrier.size()).unwrap_or(0);

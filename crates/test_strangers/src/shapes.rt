@@ -8,7 +8,7 @@ use std::alloc::{AllocError, Global};
 pub enum Kind {
     Bool,
     Enum { sort: u8, count: u8 },
-    Range { lo: i32, hi: i32 },
+    Range { low: i32, high: i32 },
 }
 
 /// The slots of an equation.
@@ -36,11 +36,11 @@ fn any_kind(generator: &mut Generator, sorts: &[u8]) -> Kind {
             Kind::Enum { sort, count }
         }
         _ => {
-            let lo = i32::from(generator.byte_below(5)).saturating_sub(2);
+            let low = i32::from(generator.byte_below(5)).saturating_sub(2);
             let width = i32::from(generator.byte_below(4));
             Kind::Range {
-                lo,
-                hi: lo.saturating_add(width),
+                low,
+                high: low.saturating_add(width),
             }
         }
     }
@@ -86,10 +86,10 @@ fn write_kinds(bytes: &mut Vec<u8>, kinds: &[Kind]) -> Result<(), AllocError> {
         match kind {
             Kind::Bool => bytes.push(0)?,
             Kind::Enum { sort, .. } => bytes.extend_from_slice(&[1, *sort])?,
-            Kind::Range { lo, hi } => {
+            Kind::Range { low, high } => {
                 bytes.push(2)?;
-                bytes.extend_from_slice(&lo.to_le_bytes())?;
-                bytes.extend_from_slice(&hi.to_le_bytes())?;
+                bytes.extend_from_slice(&low.to_le_bytes())?;
+                bytes.extend_from_slice(&high.to_le_bytes())?;
             }
         }
     }
@@ -152,7 +152,7 @@ impl Shape {
         for kind in &slots.parameters {
             let value = match kind {
                 Kind::Bool | Kind::Enum { .. } => 0i64,
-                Kind::Range { hi, .. } => i64::from(*hi),
+                Kind::Range { high, .. } => i64::from(*high),
             };
             bytes.extend_from_slice(&value.to_le_bytes())?;
         }

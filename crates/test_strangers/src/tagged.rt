@@ -179,7 +179,7 @@ impl<'a> Machine<'a> {
                 return Ok(tagged(&frame.carrier, frame.value));
             }
         }
-        let carrier = self.equation.params.get(usize::from(slot));
+        let carrier = self.equation.parameters.get(usize::from(slot));
         let number = self.arguments.get(usize::from(slot));
         match (carrier, number) {
             (Some(carrier), Some(number)) => Ok(tagged(carrier, *number)),
@@ -226,7 +226,7 @@ impl<'a> Machine<'a> {
             return Err(Flaw::from(Fault::Callee));
         };
         let mut values = Vec::new(*self.output.allocator());
-        for carrier in callee.params.iter().rev() {
+        for carrier in callee.parameters.iter().rev() {
             let value = self.pop()?;
             values.push(argument(carrier, value)?)?;
         }
@@ -236,7 +236,7 @@ impl<'a> Machine<'a> {
     }
 
     fn begin_loop(&mut self, slot: u8) -> Result<Step, Flaw> {
-        let place = usize::from(slot).checked_sub(self.equation.params.len());
+        let place = usize::from(slot).checked_sub(self.equation.parameters.len());
         let Some(carrier) = place.and_then(|place| self.equation.loops.get(place).copied()) else {
             return Err(Flaw::from(Fault::Slot));
         };
@@ -337,18 +337,18 @@ impl<'a> Machine<'a> {
                     self.go_on()
                 }
             }
-            Op::InRange { lo, hi, target } => {
+            Op::InRange { low, high, target } => {
                 let number = self.pop_int()?;
                 self.operands.push(Value::Int(number))?;
-                self.jump_outside(number, lo, hi, target)
+                self.jump_outside(number, low, high, target)
             }
             Op::SlotInRange {
                 slot,
-                lo,
-                hi,
+                low,
+                high,
                 target,
             } => match self.slot(slot)? {
-                Value::Int(number) => self.jump_outside(number, lo, hi, target),
+                Value::Int(number) => self.jump_outside(number, low, high, target),
                 _ => Err(Flaw::from(Fault::Kind)),
             },
             Op::Loop { slot } => self.begin_loop(slot),
@@ -364,8 +364,14 @@ impl<'a> Machine<'a> {
     }
 
     /// Jumps where the number lies outside the bounds.
-    fn jump_outside(&mut self, number: i64, lo: i32, hi: i32, target: u16) -> Result<Step, Flaw> {
-        if i64::from(lo) <= number && number <= i64::from(hi) {
+    fn jump_outside(
+        &mut self,
+        number: i64,
+        low: i32,
+        high: i32,
+        target: u16,
+    ) -> Result<Step, Flaw> {
+        if i64::from(low) <= number && number <= i64::from(high) {
             self.go_on()
         } else {
             self.jump(target)

@@ -5,12 +5,12 @@ pub returns : goal.returns
 returns c = record {
   others = record {
     form = refl;
-    program = record { compiled = record { code = refl; slots = refl; steps = refl; tokens = refl }; params = refl; callees = refl };
+    program = record { compiled = record { code = refl; slots = refl; steps = refl; tokens = refl }; parameters = refl; callees = refl };
     at_b = refl;
   };
   countdown = record {
     form = refl;
-    program = record { compiled = record { code = refl; slots = refl; steps = refl; tokens = refl }; params = refl; callees = refl };
+    program = record { compiled = record { code = refl; slots = refl; steps = refl; tokens = refl }; parameters = refl; callees = refl };
     at_0 = refl;
     at_9 = refl;
   };

@@ -23,22 +23,22 @@ fn enum_at<'a>(sizes: &[u8], bytes: &'a [u8]) -> Result<(Carrier, &'a [u8]), Rea
     }
 }
 
-/// The carrier of the numbers from `lo` to `hi`.
-fn range_of(lo: i32, hi: i32) -> Carrier
-    requires { lo ≤ℤ hi }
-    ensures { IsRange result lo hi }
+/// The carrier of the numbers from `low` to `high`.
+fn range_of(low: i32, high: i32) -> Carrier
+    requires { low ≤ℤ high }
+    ensures { IsRange result low high }
 {
-    Carrier::Range(Range { lo, hi })
+    Carrier::Range(Range { low, high })
 }
 
 #[tactic(auto, using(crate::proofs::Carriers::range_read), unfolding(crate::specs::Reading::range_at))]
 fn range_at(bytes: &[u8]) -> Result<(Carrier, &[u8]), ReadError>
     ensures { Gives (λ x. (x.0, x.1.now)) result (range_at bytes.now) }
 {
-    let (lo, second) = i32_at(bytes)?;
-    let (hi, rest) = i32_at(second)?;
-    if lo <= hi {
-        Ok((range_of(lo, hi), rest))
+    let (low, second) = i32_at(bytes)?;
+    let (high, rest) = i32_at(second)?;
+    if low <= high {
+        Ok((range_of(low, high), rest))
     } else {
         Err(fault(ModuleRule::Limit, second))
     }

@@ -2,7 +2,7 @@
 ghost use Rattle.std.specs.Prelude.{◌≡◌, map, nat_le, sum_by};
 ghost use Rattle.pb_bytecode.specs.Limits.{instance_count};
 ghost use Rattle.pb_bytecode.specs.Reading.{Gives, counted_at, equation_at, equations_at};
-ghost use Rattle.pb_bytecode.specs.Reading.{initial_at, items_at, params_at, sign_at, value_at};
+ghost use Rattle.pb_bytecode.specs.Reading.{initial_at, items_at, parameters_at, sign_at, value_at};
 ghost use Rattle.pb_bytecode.specs.Reading.{values_at};
 ghost use Rattle.pb_bytecode.specs.Views.{equation_contents, initial_contents};
 
@@ -43,7 +43,7 @@ fn equation_at<'a>(
 {
     let (sign, rest) = sign_at(bytes)?;
     let (name, rest) = name_at(alloc, rest)?;
-    let (params, rest) = carriers_at(alloc, sizes, MAX_PARAMETERS + 1, rest)?;
+    let (parameters, rest) = carriers_at(alloc, sizes, MAX_PARAMETERS + 1, rest)?;
     let (loops, rest) = carriers_at(alloc, sizes, 241, rest)?;
     let (steps, rest) = u32_at(rest)?;
     let (tokens, rest) = u32_at(rest)?;
@@ -52,7 +52,7 @@ fn equation_at<'a>(
         Equation {
             sign,
             name,
-            params,
+            parameters,
             loops,
             steps,
             tokens,
@@ -146,6 +146,6 @@ pub(crate) fn initial_at<'a>(
     if equation as usize >= equations.len() {
         return Err(fault(ModuleRule::Initial, bytes));
     }
-    let (values, rest) = values_at(alloc, &equations[equation as usize].params, rest)?;
+    let (values, rest) = values_at(alloc, &equations[equation as usize].parameters, rest)?;
     Ok((Initial { equation, values }, rest))
 }

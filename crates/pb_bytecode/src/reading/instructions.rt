@@ -30,9 +30,9 @@ fn enumerator_at<'a>(sizes: &[u8], bytes: &'a [u8]) -> Result<((u8, u8), &'a [u8
 fn test_at(bytes: &[u8]) -> Result<((i32, i32, u16), &[u8]), ReadError>
     ensures { Gives (λ x. (((x.0.0, x.0.1), x.0.2), x.1.now)) result (test_at bytes.now) }
 {
-    let ((lo, hi), rest) = bounds_at(bytes)?;
+    let ((low, high), rest) = bounds_at(bytes)?;
     let (target, rest) = u16_at(rest)?;
-    Ok(((lo, hi, target), rest))
+    Ok(((low, high, target), rest))
 }
 
 /// The instruction whose code has this format.
@@ -71,8 +71,8 @@ fn operands_at<'a>(
             Ok((Op::JumpIf { condition, target }, rest))
         }
         Format::InRange => {
-            let ((lo, hi, target), rest) = test_at(bytes)?;
-            Ok((Op::InRange { lo, hi, target }, rest))
+            let ((low, high, target), rest) = test_at(bytes)?;
+            Ok((Op::InRange { low, high, target }, rest))
         }
         Format::Loop => {
             let (slot, rest) = u8_at(bytes)?;
@@ -84,12 +84,12 @@ fn operands_at<'a>(
         }
         Format::SlotInRange => {
             let (slot, rest) = u8_at(bytes)?;
-            let ((lo, hi, target), rest) = test_at(rest)?;
+            let ((low, high, target), rest) = test_at(rest)?;
             Ok((
                 Op::SlotInRange {
                     slot,
-                    lo,
-                    hi,
+                    low,
+                    high,
                     target,
                 },
                 rest,

@@ -105,10 +105,10 @@ pub(crate) fn between_at(low: usize, end: usize, bytes: &[u8]) -> Result<(u8, &[
 pub(crate) fn bounds_at(bytes: &[u8]) -> Result<((i32, i32), &[u8]), ReadError>
     ensures { Gives (λ x. ((x.0.0, x.0.1), x.1.now)) result (bounds_at bytes.now) }
 {
-    let (lo, second) = i32_at(bytes)?;
-    let (hi, rest) = i32_at(second)?;
-    if lo <= hi {
-        Ok(((lo, hi), rest))
+    let (low, second) = i32_at(bytes)?;
+    let (high, rest) = i32_at(second)?;
+    if low <= high {
+        Ok(((low, high), rest))
     } else {
         Err(fault(ModuleRule::Limit, second))
     }

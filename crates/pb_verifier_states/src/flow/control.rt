@@ -88,21 +88,21 @@ pub fn jump_if(
     })
 }
 
-/// Goes on where the number on top is from `lo` to `hi`, and else jumps. A way that its interval
+/// Goes on where the number on top is from `low` to `high`, and else jumps. A way that its interval
 /// excludes is not taken.
 pub fn in_range(
     mut state: AbstractState,
     alloc: Global,
-    lo: i32,
-    hi: i32,
+    low: i32,
+    high: i32,
     target: u16,
 ) -> Result<Edges, FlowError>
-    requires { lo ≤ℤ hi }
-    ensures flows { IfOk result (λ e. FlowsTo (op.InRange lo hi target) state e.next e.jump) }
-    ensures refused { OnRefused result (Fails (op.InRange lo hi target) state) }
+    requires { low ≤ℤ high }
+    ensures flows { IfOk result (λ e. FlowsTo (op.InRange low high target) state e.next e.jump) }
+    ensures refused { OnRefused result (Fails (op.InRange low high target) state) }
 {
     let interval = state.top_int()?;
-    let range = range_between(lo, hi);
+    let range = range_between(low, high);
     let Some(inside) = interval.cut(range) else {
         return Ok(Edges::jump(target, state));
     };
@@ -118,33 +118,40 @@ pub fn in_range(
     })
 }
 
-/// Goes on where the number in the slot is from `lo` to `hi`, and else jumps. A way that its
+/// Goes on where the number in the slot is from `low` to `high`, and else jumps. A way that its
 /// interval excludes is not taken.
 pub fn slot_in_range(
     state: AbstractState,
     alloc: Global,
     slot: u8,
-    lo: i32,
-    hi: i32,
+    low: i32,
+    high: i32,
     target: u16,
 ) -> Result<Edges, FlowError>
-    requires { lo ≤ℤ hi }
+    requires { low ≤ℤ high }
     ensures flows { IfOk result (λ e. FlowsTo
-        (op.SlotInRange slot lo hi target) state e.next e.jump) }
-    ensures refused { OnRefused result (Fails (op.SlotInRange slot lo hi target) state) }
+        (op.SlotInRange slot low high target) state e.next e.jump) }
+    ensures refused { OnRefused result (Fails (op.SlotInRange slot low high target) state) }
 {
     match state.slot_int(slot) {
-        Ok(interval) => split_slot(state, alloc, slot, interval, range_between(lo, hi), target),
+        Ok(interval) => split_slot(
+            state,
+            alloc,
+            slot,
+            interval,
+            range_between(low, high),
+            target,
+        ),
         Err(rule) => Err(FlowError::Refused(rule)),
     }
 }
 
-// The numbers from `lo` to `hi`.
-fn range_between(lo: i32, hi: i32) -> Interval
-    requires { lo ≤ℤ hi }
-    ensures { result ≡ record { low = lo; high = hi } }
+// The numbers from `low` to `high`.
+fn range_between(low: i32, high: i32) -> Interval
+    requires { low ≤ℤ high }
+    ensures { result ≡ record { low = low; high = high } }
 {
-    Interval::new(i64::from(lo), i64::from(hi))
+    Interval::new(i64::from(low), i64::from(high))
 }
 
 // The same, the slot having a number of the interval.
@@ -157,7 +164,7 @@ fn split_slot(
     target: u16,
 ) -> Result<Edges, FlowError>
     requires some { interval.low ≤ℤ interval.high }
-    requires known { abstract_slot state.loops state.params slot
+    requires known { abstract_slot state.loops state.parameters slot
         ≡ Some (abstract.Int interval.low interval.high) }
     requires ordered { range.low ≤ℤ range.high }
     ensures flows { IfOk result (λ e. FlowsTo

@@ -49,12 +49,12 @@ impl AbstractState {
     /// Closes the innermost bracket, which was opened above the floor.
     pub fn close_bracket(&mut self) -> Result<(), AcceptanceRule>
         ensures ok { OnOk result ((go : ℕ → Flow)
-            → abstract_close self.old.floor self.old.brackets go ≡ go self.new.brackets) }
+            → abstract_close self.old.brackets_below self.old.brackets go ≡ go self.new.brackets) }
         ensures err { OnErr result ((go : ℕ → Flow)
-            → abstract_close self.old.floor self.old.brackets go ≡ None) }
+            → abstract_close self.old.brackets_below self.old.brackets go ≡ None) }
         ensures same { self.new ≡ record self.old { brackets = self.new.brackets } }
     {
-        if self.brackets == 0 || self.brackets <= self.floor {
+        if self.brackets == 0 || self.brackets <= self.brackets_below {
             return Err(AcceptanceRule::Brackets);
         }
         self.brackets -= 1;

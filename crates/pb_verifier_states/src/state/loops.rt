@@ -37,11 +37,11 @@ impl AbstractState {
         loops.extend_from_slice(&self.loops)?;
         Ok(AbstractState {
             operands: Vec::new(alloc),
-            below: self.operands.len() as u8 + self.below,
-            params: Vec::from_slice(alloc, &self.params)?,
+            operands_below: self.operands.len() as u8 + self.operands_below,
+            parameters: Vec::from_slice(alloc, &self.parameters)?,
             loops,
             brackets: self.brackets,
-            floor: self.brackets,
+            brackets_below: self.brackets,
             roots: self.roots,
         })
     }

@@ -24,12 +24,12 @@ impl AbstractState {
         requires { HasOrderedEnds value }
         ensures pushed { OnOk result (self.new
             ≡ record self.old { operands = value ∷ self.old.operands }) }
-        ensures room { OnOk result (nat_lt (length self.old.operands + self.old.below) MAX_OPERANDS
+        ensures room { OnOk result (nat_lt (length self.old.operands + self.old.operands_below) MAX_OPERANDS
             ≡ true) }
         ensures full { OnRefused result
-            (nat_lt (length self.old.operands + self.old.below) MAX_OPERANDS ≡ false) }
+            (nat_lt (length self.old.operands + self.old.operands_below) MAX_OPERANDS ≡ false) }
     {
-        if self.operands.len() + usize::from(self.below) >= MAX_OPERANDS {
+        if self.operands.len() + usize::from(self.operands_below) >= MAX_OPERANDS {
             return Err(FlowError::Refused(AcceptanceRule::TooManyOperands));
         }
         self.operands.insert(0, value)?;
@@ -58,7 +58,7 @@ impl AbstractState {
             → abstract_pop_int self.old.operands go ≡ None) }
     {
         match self.pop()? {
-            AbstractValue::Int { lo, hi } => Ok(Interval::new(lo, hi)),
+            AbstractValue::Int { low, high } => Ok(Interval::new(low, high)),
             _ => Err(AcceptanceRule::WrongKind),
         }
     }
@@ -85,7 +85,7 @@ impl AbstractState {
             → abstract_pop_int self.now.operands go ≡ None) }
     {
         match self.operands.first() {
-            Some(AbstractValue::Int { lo, hi }) => Ok(Interval::new(*lo, *hi)),
+            Some(AbstractValue::Int { low, high }) => Ok(Interval::new(*low, *high)),
             Some(_) => Err(AcceptanceRule::WrongKind),
             None => Err(AcceptanceRule::MissingOperand),
         }

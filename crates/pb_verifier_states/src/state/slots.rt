@@ -16,23 +16,23 @@ use pb_intervals::Interval;
 impl AbstractState {
     /// What is known of a slot, if it is one of a loop around or of a parameter.
     pub fn slot(&self, slot: u8) -> Option<AbstractValue>
-        ensures value { result ≡ abstract_slot self.now.loops self.now.params slot }
+        ensures value { result ≡ abstract_slot self.now.loops self.now.parameters slot }
         ensures ordered { IfSome result HasOrderedEnds }
     {
-        find_slot(&self.loops, &self.params, slot)
+        find_slot(&self.loops, &self.parameters, slot)
     }
 
     /// What is known of the number in a slot.
     pub fn slot_int(&self, slot: u8) -> Result<Interval, AcceptanceRule>
-        ensures ok { IfOk result (λ i. abstract_slot self.now.loops self.now.params slot
+        ensures ok { IfOk result (λ i. abstract_slot self.now.loops self.now.parameters slot
             ≡ Some (abstract.Int i.low i.high)) }
         ensures ordered { IfOk result (λ i. i.low ≤ℤ i.high) }
         ensures err { OnErr result ((go : ℤ → ℤ → Flow)
-            → with_abstract_slot (abstract_slot self.now.loops self.now.params slot)
+            → with_abstract_slot (abstract_slot self.now.loops self.now.parameters slot)
             (λ s. with_interval s go) ≡ None) }
     {
         match self.slot(slot) {
-            Some(AbstractValue::Int { lo, hi }) => Ok(Interval::new(lo, hi)),
+            Some(AbstractValue::Int { low, high }) => Ok(Interval::new(low, high)),
             Some(_) => Err(AcceptanceRule::WrongKind),
             None => Err(AcceptanceRule::UnknownName),
         }
@@ -53,7 +53,7 @@ impl AbstractState {
         if is_among(&self.loops, slot) {
             write_loop(&mut self.loops, slot, value);
         } else {
-            write_param(&mut self.params, slot, value);
+            write_param(&mut self.parameters, slot, value);
         }
     }
 }
@@ -61,24 +61,24 @@ impl AbstractState {
 // What is known of a slot.
 fn find_slot(
     loops: &[(u8, AbstractValue)],
-    params: &[AbstractValue],
+    parameters: &[AbstractValue],
     slot: u8,
 ) -> Option<AbstractValue>
-    ensures { result ≡ abstract_slot loops.now params.now slot }
+    ensures { result ≡ abstract_slot loops.now parameters.now slot }
 {
     for (around, value) in loops {
         if *around == slot {
             return Some(*value);
         }
     }
-    find_param(params, slot)
+    find_param(parameters, slot)
 }
 
 // What is known of the slot of a parameter.
-fn find_param(params: &[AbstractValue], slot: u8) -> Option<AbstractValue>
-    ensures { result ≡ slice_get params.now slot }
+fn find_param(parameters: &[AbstractValue], slot: u8) -> Option<AbstractValue>
+    ensures { result ≡ slice_get parameters.now slot }
 {
-    params.get(usize::from(slot)).copied()
+    parameters.get(usize::from(slot)).copied()
 }
 
 // Whether one of the loops has the slot.
@@ -106,11 +106,11 @@ fn write_loop(loops: &mut [(u8, AbstractValue)], slot: u8, value: AbstractValue)
 }
 
 // Writes the slot of a parameter, if there is one.
-fn write_param(params: &mut [AbstractValue], slot: u8, value: AbstractValue)
-    ensures { params.new ≡ set_param params.old slot value }
+fn write_param(parameters: &mut [AbstractValue], slot: u8, value: AbstractValue)
+    ensures { parameters.new ≡ set_param parameters.old slot value }
 {
     let i = usize::from(slot);
-    if i < params.len() {
-        params[i] = value;
+    if i < parameters.len() {
+        parameters[i] = value;
     }
 }

@@ -21,7 +21,7 @@ emit_arguments-returns-in_default-split_first t c =
 pub emit_arguments-returns-in-Some-tested_range : goal.emit_arguments-returns-in-Some-tested_range
 emit_arguments-returns-in-Some-tested_range t c =
     let l = option_map (λ (l : Label). l.number) c.args.end in
-    let bounds : Option Range → Option (ℤ × ℤ) = option_map (λ (r : Range). (r.lo, r.hi)) in
+    let bounds : Option Range → Option (ℤ × ℤ) = option_map (λ (r : Range). (r.low, r.high)) in
     on_ok c.emit_tested.result _ _ c.emit_tested.ensures (λ h.
     argument_first c.args.equation l c.args.carriers.now c.args.arguments.now c.in-Some-split_first.carrier.now c.in-Some-split_first.carriers.now c.in-Some.argument.now c.in-Some.arguments.now
     (bounds (Some c.in-Some-tested_range.range)) _ c.args.builder.now c.emit_term.new.builder c.emit_tested.new.builder
@@ -30,7 +30,7 @@ emit_arguments-returns-in-Some-tested_range t c =
 pub emit_arguments-returns-in_ok-emit_plain-in-None : goal.emit_arguments-returns-in_ok-emit_plain-in-None
 emit_arguments-returns-in_ok-emit_plain-in-None t c =
     let l = option_map (λ (l : Label). l.number) c.args.end in
-    let bounds : Option Range → Option (ℤ × ℤ) = option_map (λ (r : Range). (r.lo, r.hi)) in
+    let bounds : Option Range → Option (ℤ × ℤ) = option_map (λ (r : Range). (r.low, r.high)) in
     let rest = arguments_piece c.in-Some-split_first.carriers.now (map argument_view c.in-Some.arguments.now) (called_piece c.args.equation l) in
     argument_first c.args.equation l c.args.carriers.now c.args.arguments.now c.in-Some-split_first.carrier.now c.in-Some-split_first.carriers.now c.in-Some.argument.now c.in-Some.arguments.now
     (bounds None) true c.args.builder.now c.emit_term.new.builder c.emit_plain.new.builder
@@ -40,7 +40,7 @@ emit_arguments-returns-in_ok-emit_plain-in-None t c =
 pub emit_arguments-returns-else-any_tested : goal.emit_arguments-returns-else-any_tested
 emit_arguments-returns-else-any_tested t c =
     let l = option_map (λ (l : Label). l.number) c.args.end in
-    let bounds : Option Range → Option (ℤ × ℤ) = option_map (λ (r : Range). (r.lo, r.hi)) in
+    let bounds : Option Range → Option (ℤ × ℤ) = option_map (λ (r : Range). (r.low, r.high)) in
     argument_first c.args.equation l c.args.carriers.now c.args.arguments.now c.in-Some-split_first.carrier.now c.in-Some-split_first.carriers.now c.in-Some.argument.now c.in-Some.arguments.now
     (bounds None) false c.args.builder.now c.emit_term.new.builder (c.emit_arguments-in-None).new.builder
     c.in-Some-split_first.ensures.cases.0 c.in-Some.ensures.cases.0 (ap bounds (sym c.in-None.is) ∙ c.tested_range.ensures) (sym c.if-any_tested.false ∙ c.any_tested.ensures) c.in_ok-emit_term.ensures
@@ -50,11 +50,11 @@ pub emit_tested-returns : goal.emit_tested-returns
 emit_tested-returns t c =
     let l = option_map (λ (l : Label). l.number) c.args.end in
     let rest = arguments_piece c.args.carriers.now (map argument_view c.args.arguments.now) (called_piece c.args.equation l) in
-    let low : SFits w32 c.args.range.lo = record { sfits = omega arith } in
-    let high : SFits w32 c.args.range.hi = record { sfits = omega arith } in
+    let low_fits : SFits w32 c.args.range.low = record { sfits = omega arith } in
+    let high_fits : SFits w32 c.args.range.high = record { sfits = omega arith } in
     let d = c.label.new.self in
-    let made : ℤ → ℤ → Draft = λ lo hi. record d { ops = d.ops ++ (op.InRange lo hi 0, Some c.in_ok-outside.outside.number) ∷ [] } in
-    let added = c.in_ok-emit.ensures.ok ∙ ap (λ i. made i (to_z w32 (of_z w32 c.args.range.hi))) (to_z-of_z low) ∙ ap (λ i. made c.args.range.lo i) (to_z-of_z high) in
+    let made : ℤ → ℤ → Draft = λ low high. record d { ops = d.ops ++ (op.InRange low high 0, Some c.in_ok-outside.outside.number) ∷ [] } in
+    let added = c.in_ok-emit.ensures.ok ∙ ap (λ i. made i (to_z w32 (of_z w32 c.args.range.high))) (to_z-of_z low_fits) ∙ ap (λ i. made c.args.range.low i) (to_z-of_z high_fits) in
     on_ok (c.emit-2).result _ _ (c.emit-2).ensures.ok (λ h.
-    guard_emitted c.args.range.lo c.args.range.hi rest (block_end l) 0 c.args.builder.now c.label.new.self c.emit.new.self c.emit_arguments.new.builder c.place.new.self (c.emit-2).new.self
+    guard_emitted c.args.range.low c.args.range.high rest (block_end l) 0 c.args.builder.now c.label.new.self c.emit.new.self c.emit_arguments.new.builder c.place.new.self (c.emit-2).new.self
     c.in_ok-outside.outside.number c.in_ok-outside.ensures.label c.in_ok-outside.ensures.ok added c.in_ok-emit_arguments.ensures c.place.ensures (adds_from c.place.new.self (c.emit-2).new.self _ h))

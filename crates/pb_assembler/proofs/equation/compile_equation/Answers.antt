@@ -8,17 +8,17 @@ use Rattle.pb_assembler.proofs.equation.compile_equation.Goals as goal
 pub returns-clause-contents : goal.returns-clause-contents
 returns-clause-contents c =
     let cs = lists_of c.args.callees.now in
-    let ps = c.args.params.now in
+    let ps = c.args.parameters.now in
     let t = equation_form c.args.text.now in
     let X = c.args.normal.now in
     let m = c.measure-measures.result in
     same_contents c.args.text.now.sign _ _ _ _ _ _ _ _ _ _ _ _
     (c.in_ok-name.ensures ∙ c.deref.ensures)
-    c.in_ok-params.ensures.same
+    c.in_ok-parameters.ensures.same
     (c.in_ok-loops.ensures.same ∙ (c.deref-2).ensures.value)
     (steps_exact cs ps t X c.requires m c.measure-measures.ensures)
     (tokens_exact cs ps t X c.requires m c.measure-measures.ensures)
     c.in_ok-code.ensures
 
 pub returns-clause-fields : goal.returns-clause-fields
-returns-clause-fields c = and_from _ _ c.in_ok-params.ensures.fit c.in_ok-loops.ensures.fit
+returns-clause-fields c = and_from _ _ c.in_ok-parameters.ensures.fit c.in_ok-loops.ensures.fit

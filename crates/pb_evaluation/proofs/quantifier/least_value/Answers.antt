@@ -8,4 +8,4 @@ returns-in-Enum-clause-values c = by_length (values_of c.args.carrier.now) _ _ (
 
 pub returns-in-Range-clause-values : goal.returns-in-Range-clause-values
 returns-in-Range-clause-values c =
-    interval_by_length (values_of c.args.carrier.now) _ c.in-Range.range.lo c.in-Range.range.hi (ap values_of c.in-Range.is) (search rules)
+    interval_by_length (values_of c.args.carrier.now) _ c.in-Range.range.low c.in-Range.range.high (ap values_of c.in-Range.is) (search rules)

@@ -24,7 +24,7 @@ returns-clause-few c =
     let items = c.loop-k.signatures.items in
     let xs = map signature_of es in
     let layout = c.layout-layout.ensures in
-    let many : length es ≡ c.equation_count-k-end.result = omega (arith, c.equation_count-k-end.ensures.count, ap length layout, length-map es (λ (e : EquationContents). e.params)) in
+    let many : length es ≡ c.equation_count-k-end.result = omega (arith, c.equation_count-k-end.ensures.count, ap length layout, length-map es (λ (e : EquationContents). e.parameters)) in
     let all : map plain items ≡ xs = c.loop-k.invariant ∙ take_all c.loop-k.k xs (omega (arith, many, length-map es signature_of)) in
     let count : c.count-few.result ≡ total xs = c.count-few.ensures.count ∙ (ap count_of layout ∙ count_is_total c.args.verified.now) in
     omega (arith, ap total all, count, c.count-few.ensures.few)
@@ -45,7 +45,7 @@ returns-clause-count c =
     let xs = map signature_of es in
     let same : module_contents m ≡ c.args.verified.now = c.module-module.ensures in
     let few : length es ≤ 64 = few_equations c.args.verified.now (subst (λ (x : Contents). fits x ≡ true) same m.within_limits) in
-    let many : length es ≡ c.equation_count-k-end.result = omega (arith, c.equation_count-k-end.ensures.count, ap length c.layout-layout.ensures, length-map es (λ (e : EquationContents). e.params)) in
+    let many : length es ≡ c.equation_count-k-end.result = omega (arith, c.equation_count-k-end.ensures.count, ap length c.layout-layout.ensures, length-map es (λ (e : EquationContents). e.parameters)) in
     let all : map plain items ≡ xs = c.loop-k.invariant ∙ take_all c.loop-k.k xs (omega (arith, many, length-map es signature_of)) in
     omega (arith, few, ap length all, length-map items plain, length-map es signature_of)
 
@@ -58,7 +58,7 @@ loop-k-preserved c =
     let e = equation_contents equation in
     let same : module_contents c.module-module.result.now ≡ c.args.verified.now = c.module-module.ensures in
     let layout = c.layout-layout.ensures in
-    let many : length es ≡ c.equation_count-k-end.result = omega (arith, c.equation_count-k-end.ensures.count, ap length layout, length-map es (λ (x : EquationContents). x.params)) in
+    let many : length es ≡ c.equation_count-k-end.result = omega (arith, c.equation_count-k-end.ensures.count, ap length layout, length-map es (λ (x : EquationContents). x.parameters)) in
     let listed : map equation_contents c.module-module.result.now.equations.items ≡ es = ap (λ (m : Contents). m.equations) same in
     let count : length c.module-module.result.now.equations.items ≡ length es =
     sym (length-map c.module-module.result.now.equations.items equation_contents) ∙ ap length listed in

@@ -23,7 +23,7 @@ returns-in_err-write g c =
     let at = subst (λ (x : List (List Carrier)). slice_get (instances (carriers_of x)) c.args.number ≡ Some i) c.layout.ensures c.instance-instance.ensures in
     let e = c.index-equation.result.now in
     let held = c.module-module.result.now in
-    let rest = arguments (map sort_contents held.sorts.items) e.params.items i.values in
+    let rest = arguments (map sort_contents held.sorts.items) e.parameters.items i.values in
     let name : c.as_bytes.result.now ++ rest ≡ text_of e.name ++ rest = ap (λ xs. xs ++ rest) c.as_bytes.ensures.value in
     sends_as _ _ _ _ _ _ _ _ _ (name ∙ name_is c.args.verified.now held c.module-module.ensures c.args.number i at e c.index-equation.ensures)
     (sends_err _ _ _ _ _ _ _ c.as_bytes.result.now rest c.from_residual.ensures.0 c.in_err-write.ensures)
@@ -45,10 +45,10 @@ returns g c =
     let held = c.module-module.result.now in
     let front = c.as_bytes.result.now in
     let rest = arguments (map sort_contents c.deref.result.now) c.deref-2.result.now c.deref-3.result.now in
-    let name : front ++ rest ≡ text_of e.name ++ arguments (map sort_contents held.sorts.items) e.params.items i.values =
+    let name : front ++ rest ≡ text_of e.name ++ arguments (map sort_contents held.sorts.items) e.parameters.items i.values =
     ap (λ xs. xs ++ rest) c.as_bytes.ensures.value
     ∙ (ap (λ (sorts : List Sort). text_of e.name ++ arguments (map sort_contents sorts) c.deref-2.result.now c.deref-3.result.now) c.deref.ensures.value
     ∙ (ap (λ (cs : List Carrier). text_of e.name ++ arguments (map sort_contents held.sorts.items) cs c.deref-3.result.now) c.deref-2.ensures.value
-    ∙ ap (λ (vs : Tuple). text_of e.name ++ arguments (map sort_contents held.sorts.items) e.params.items vs) c.deref-3.ensures)) in
+    ∙ ap (λ (vs : Tuple). text_of e.name ++ arguments (map sort_contents held.sorts.items) e.parameters.items vs) c.deref-3.ensures)) in
     sends_as _ _ _ _ _ _ _ _ _ (name ∙ name_is c.args.verified.now held c.module-module.ensures c.args.number i at e c.index-equation.ensures)
     (sends_then _ _ _ _ _ _ _ _ _ _ front rest c.in_ok-write.ensures c.write_arguments.ensures)

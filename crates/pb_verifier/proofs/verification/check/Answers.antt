@@ -27,7 +27,7 @@ layout_of-requires-clause-equations c =
 pub layout_of-requires-clause-parameters : goal.layout_of-requires-clause-parameters
 layout_of-requires-clause-parameters c =
     let o = is_of c.args.module.now c.deref.result.now c.deref-2.result.now c.deref-5.result.now c.in_ok-sorts.sorts.items c.deref-3.result.now c.in_ok-callees.callees.items c.deref-6.result.now c.deref.ensures.value c.deref-2.ensures.value c.in_ok-sorts.ensures c.in_ok-callees.ensures c.deref-3.ensures.value c.deref-6.ensures.value c.deref-5.ensures.value in
-    few_each c.deref-6.result.now (layout_fits c.args.module.now c.deref-3.result.now (map vec_items c.deref-6.result.now) c.deref-5.result.now o c.args.module.now.within_limits).params
+    few_each c.deref-6.result.now (layout_fits c.args.module.now c.deref-3.result.now (map vec_items c.deref-6.result.now) c.deref-5.result.now o c.args.module.now.within_limits).parameters
 
 pub layout_of-requires-clause-instances : goal.layout_of-requires-clause-instances
 layout_of-requires-clause-instances c =

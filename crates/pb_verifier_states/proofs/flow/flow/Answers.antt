@@ -11,24 +11,24 @@ returns-in-JumpIf-clause-refused c = fails _ _ c.args.state (op.JumpIf c.in-Jump
 
 pub returns-in-InRange-clause-flows : goal.returns-in-InRange-clause-flows
 returns-in-InRange-clause-flows c =
-    let lo : to_z w32 (of_z w32 c.in-InRange.lo) ≡ c.in-InRange.lo = search rules in
-    let hi : to_z w32 (of_z w32 c.in-InRange.hi) ≡ c.in-InRange.hi = search rules in
-    flows_to _ _ c.args.state (op.InRange c.in-InRange.lo c.in-InRange.hi c.in-InRange.target) c.args.op c.in_range.result c.in-InRange.is (rw (lo, hi) at (c.in_range.ensures.flows))
+    let low : to_z w32 (of_z w32 c.in-InRange.low) ≡ c.in-InRange.low = search rules in
+    let high : to_z w32 (of_z w32 c.in-InRange.high) ≡ c.in-InRange.high = search rules in
+    flows_to _ _ c.args.state (op.InRange c.in-InRange.low c.in-InRange.high c.in-InRange.target) c.args.op c.in_range.result c.in-InRange.is (rw (low, high) at (c.in_range.ensures.flows))
 
 pub returns-in-InRange-clause-refused : goal.returns-in-InRange-clause-refused
 returns-in-InRange-clause-refused c =
-    let lo : to_z w32 (of_z w32 c.in-InRange.lo) ≡ c.in-InRange.lo = search rules in
-    let hi : to_z w32 (of_z w32 c.in-InRange.hi) ≡ c.in-InRange.hi = search rules in
-    fails _ _ c.args.state (op.InRange c.in-InRange.lo c.in-InRange.hi c.in-InRange.target) c.args.op c.in_range.result c.in-InRange.is (rw (lo, hi) at (c.in_range.ensures.refused))
+    let low : to_z w32 (of_z w32 c.in-InRange.low) ≡ c.in-InRange.low = search rules in
+    let high : to_z w32 (of_z w32 c.in-InRange.high) ≡ c.in-InRange.high = search rules in
+    fails _ _ c.args.state (op.InRange c.in-InRange.low c.in-InRange.high c.in-InRange.target) c.args.op c.in_range.result c.in-InRange.is (rw (low, high) at (c.in_range.ensures.refused))
 
 pub returns-in-SlotInRange-clause-flows : goal.returns-in-SlotInRange-clause-flows
 returns-in-SlotInRange-clause-flows c =
-    let lo : to_z w32 (of_z w32 c.in-SlotInRange.lo) ≡ c.in-SlotInRange.lo = search rules in
-    let hi : to_z w32 (of_z w32 c.in-SlotInRange.hi) ≡ c.in-SlotInRange.hi = search rules in
-    flows_to _ _ c.args.state (op.SlotInRange c.in-SlotInRange.slot c.in-SlotInRange.lo c.in-SlotInRange.hi c.in-SlotInRange.target) c.args.op c.slot_in_range.result c.in-SlotInRange.is (rw (lo, hi) at (c.slot_in_range.ensures.flows))
+    let low : to_z w32 (of_z w32 c.in-SlotInRange.low) ≡ c.in-SlotInRange.low = search rules in
+    let high : to_z w32 (of_z w32 c.in-SlotInRange.high) ≡ c.in-SlotInRange.high = search rules in
+    flows_to _ _ c.args.state (op.SlotInRange c.in-SlotInRange.slot c.in-SlotInRange.low c.in-SlotInRange.high c.in-SlotInRange.target) c.args.op c.slot_in_range.result c.in-SlotInRange.is (rw (low, high) at (c.slot_in_range.ensures.flows))
 
 pub returns-in-SlotInRange-clause-refused : goal.returns-in-SlotInRange-clause-refused
 returns-in-SlotInRange-clause-refused c =
-    let lo : to_z w32 (of_z w32 c.in-SlotInRange.lo) ≡ c.in-SlotInRange.lo = search rules in
-    let hi : to_z w32 (of_z w32 c.in-SlotInRange.hi) ≡ c.in-SlotInRange.hi = search rules in
-    fails _ _ c.args.state (op.SlotInRange c.in-SlotInRange.slot c.in-SlotInRange.lo c.in-SlotInRange.hi c.in-SlotInRange.target) c.args.op c.slot_in_range.result c.in-SlotInRange.is (rw (lo, hi) at (c.slot_in_range.ensures.refused))
+    let low : to_z w32 (of_z w32 c.in-SlotInRange.low) ≡ c.in-SlotInRange.low = search rules in
+    let high : to_z w32 (of_z w32 c.in-SlotInRange.high) ≡ c.in-SlotInRange.high = search rules in
+    fails _ _ c.args.state (op.SlotInRange c.in-SlotInRange.slot c.in-SlotInRange.low c.in-SlotInRange.high c.in-SlotInRange.target) c.args.op c.slot_in_range.result c.in-SlotInRange.is (rw (low, high) at (c.slot_in_range.ensures.refused))

@@ -9,10 +9,10 @@ returns-then-equation-equations c = rw (c.fault.ensures) (initial_none c.args.eq
 pub returns-in_err-values : goal.returns-in_err-values
 returns-in_err-values c =
     let p = err_from_is_err_and c.from_residual-in_err-values.result c.from_residual-in_err-values.ensures.1 in
-    let params = c.deref.ensures.value in
-    rw (p.1, p.2) (initial_fails c.in_err-values.field-0.0 c.args.equations.now _ c.args.bytes.now c.in_ok-equation.rest.now c.in_ok-equation.equation c.deref.result.now c.in_ok-equation.ensures (omega (arith, c.if-equation-equations.false)) params c.in_err-values.ensures)
+    let parameters = c.deref.ensures.value in
+    rw (p.1, p.2) (initial_fails c.in_err-values.field-0.0 c.args.equations.now _ c.args.bytes.now c.in_ok-equation.rest.now c.in_ok-equation.equation c.deref.result.now c.in_ok-equation.ensures (omega (arith, c.if-equation-equations.false)) parameters c.in_err-values.ensures)
 
 pub returns : goal.returns
 returns c =
-    let params = c.deref.ensures.value in
-    initial_read c.args.equations.now _ c.args.bytes.now c.in_ok-equation.rest.now c.in_ok-values.rest.now c.in_ok-equation.equation c.deref.result.now c.in_ok-values.values.items c.in_ok-equation.ensures (omega (arith, c.if-equation-equations.false)) params c.in_ok-values.ensures
+    let parameters = c.deref.ensures.value in
+    initial_read c.args.equations.now _ c.args.bytes.now c.in_ok-equation.rest.now c.in_ok-values.rest.now c.in_ok-equation.equation c.deref.result.now c.in_ok-values.values.items c.in_ok-equation.ensures (omega (arith, c.if-equation-equations.false)) parameters c.in_ok-values.ensures

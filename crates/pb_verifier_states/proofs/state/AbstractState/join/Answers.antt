@@ -10,6 +10,6 @@ invariant_of-result c =
     let long : length c.in_ok-operands.operands.items ≡ length c.self.inside.operands.items = hulls_long c.self.inside.operands.items c.deref.result.now c.in_ok-operands.operands.items (sym c.in_ok-operands.ensures) in (
       omega (arith),
       hulls_ordered c.self.inside.operands.items c.deref.result.now c.in_ok-operands.operands.items (sym c.in_ok-operands.ensures) mine.1 (rw (c.deref.ensures.value) (theirs.1)),
-      hulls_ordered c.self.inside.params.items c.deref-2.result.now c.in_ok-params.params.items (sym c.in_ok-params.ensures) mine.2 (rw (c.deref-2.ensures.value) (theirs.2)),
+      hulls_ordered c.self.inside.parameters.items c.deref-2.result.now c.in_ok-parameters.parameters.items (sym c.in_ok-parameters.ensures) mine.2 (rw (c.deref-2.ensures.value) (theirs.2)),
       loop_hulls_ordered c.self.inside.loops.items c.deref-3.result.now c.in_ok-loops.loops.items (sym c.in_ok-loops.ensures) mine.3 (rw (c.deref-3.ensures.value) (theirs.3)),
     )
