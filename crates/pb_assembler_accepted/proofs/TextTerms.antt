@@ -174,7 +174,7 @@ module _ (counts : List ℕ) (ls : List (ℕ × AbstractValue)) (ps : List Abstr
   same_back (abstract.Enum s n) (abstract.Int m k) e = e
 
   abbrev position_enumerator : (p : Position) → IsPosition 0 counts p → IsEnumerator counts p.sort p.place
-  position_enumerator p h = record { count = p.count; declared = struct_known counts p.sort p.count h.struct; operands_below = h.operands_below }
+  position_enumerator p h = record { count = p.count; declared = struct_known counts p.sort p.count h.struct; below = h.below }
 
   recognised : (p : Position) → IsPosition 0 counts p → (t : Term) (s : Shape) → Fits t s → may_be_alike (Places p.sort p.count) s ≡ true → Fits (Recognised p.sort p.place t) Truths
   recognised p h t s f e = (
