@@ -45,20 +45,20 @@ of_each P xs all k x at = subst P (get_or_from_slice_get xs k x x at) (all k x (
 module _ (text : SpecForm) (faultless : is_faultless text ≡ true) (callees : List (List Carrier)) (es : List Equation)
     (rights : right_views es ≡ normal_equations (erase text))
     (loops : map (λ (e : Equation). shapes_of e.loops.items) es ≡ map (equation_loops (erase text)) (erase text).equations)
-    (parameters : map shapes_of callees ≡ parameter_shapes (erase text) (erase text).equations)
+    (declared : map shapes_of callees ≡ parameter_shapes (erase text) (erase text).equations)
     (kept : EachKeepsLimits (erase text)) (named : has_names (erase text) ≡ true)
     (small : All (IsSmallWhereLoopsAreFew (erase text)) (erase text).equations) where
   both_named : (list_all has_enumerator_names (erase text).sorts ≡ true) × (list_all (λ (X : syntax.Equation). is_name X.name) (erase text).equations ≡ true)
   both_named = and_parts (list_all has_enumerator_names (erase text).sorts) (list_all (λ (X : syntax.Equation). is_name X.name) (erase text).equations) named
 
   forms : AreFormsOf (erase text) (map erased_equation text.equations) callees es
-  forms = record { rights = rights; loops = loops; parameters = parameters }
+  forms = record { rights = rights; loops = loops; parameters = declared }
 
   sound : AreSound (erase text) (map erased_equation text.equations)
   sound = record { kept = kept; small = λ k X at. of_each (IsSmallWhereLoopsAreFew (erase text)) (erase text).equations small k X at; named = both_named.1 }
 
   pub all_ready : AreReady callees callees text.equations es
-  all_ready = ready (erase text) callees parameters text.equations callees es forms sound
+  all_ready = ready (erase text) callees declared text.equations callees es forms sound
 
   module _ (S : List SortContents) (Q : List EquationContents) (I : InitialContents) (sorts : S ≡ struct_names (erase text).sorts) (equations : Q ≡ all_compiled callees callees text.equations es)
       (place : I.equation ≡ initial_place (erase text)) (values : I.values ≡ initial_values (erase text)) where
@@ -66,7 +66,7 @@ module _ (text : SpecForm) (faultless : is_faultless text ≡ true) (callees : L
     whole = record { version = version.One; sorts = S; equations = Q; initial = I }
 
     pub parameters_are : parameters whole ≡ callees
-    parameters_are = ap (λ (cs : List EquationContents). map (λ (e : EquationContents). e.parameters) cs) equations ∙ compiled_parameters (erase text) callees parameters text.equations callees es all_ready
+    parameters_are = ap (λ (cs : List EquationContents). map (λ (e : EquationContents). e.parameters) cs) equations ∙ compiled_parameters (erase text) callees declared text.equations callees es all_ready
 
     pub compiled : IsCompiledModule (erase text) whole
     compiled = record {
@@ -74,7 +74,7 @@ module _ (text : SpecForm) (faultless : is_faultless text ≡ true) (callees : L
       sorts = sorts;
       equations =
           subst (λ (cs : List EquationContents). AreEquationsOf (erase text) whole (erase text).equations cs) (sym equations)
-          (are_equations (erase text) callees parameters whole parameters_are text.equations callees es forms all_ready);
+          (are_equations (erase text) callees declared whole parameters_are text.equations callees es forms all_ready);
       initial = place;
       values = values;
     }
@@ -108,13 +108,13 @@ module _ (text : SpecForm) (faultless : is_faultless text ≡ true) (callees : L
 
       instances_within : nat_le (instance_count Q) 4194304 ≡ true
       instances_within =
-          let e = ap instance_count equations ∙ instances_same (erase text) callees text.equations callees es parameters all_ready in
+          let e = ap instance_count equations ∙ instances_same (erase text) callees text.equations callees es declared all_ready in
           let d = (accepted-well-typed text faultless).declarations.few_instances in
           le-leb (instance_count Q) 4194304 (omega (arith, e, d))
 
       initial_within : fits_initial Q I ≡ true
       initial_within =
-          let at = compiled_at (erase text) callees text.equations callees es parameters all_ready (initial_place (erase text)) there.equation there.there in
+          let at = compiled_at (erase text) callees text.equations callees es declared all_ready (initial_place (erase text)) there.equation there.there in
           let here : slice_get Q I.equation ≡ Some at.0 = ap (λ (cs : List EquationContents). slice_get cs I.equation) equations ∙ ap (slice_get (all_compiled callees callees text.equations es)) place ∙ at.1 in
           let inside : is_within (map values_of at.0.parameters) I.values ≡ true =
           ap (λ (vs : List carriers.Carrier). is_within vs I.values) at.2 ∙ ap (is_within (carriers_of (erase text) there.equation.parameters)) values ∙ there.within in
