@@ -81,27 +81,21 @@ unary_monotone UnaryOperation.AbsoluteValue i k n p = absolute_monotone i k n p
 
 -- ---- operations on two numbers
 
+low_included : (i k : IntegerInterval) → IsNonEmpty i → IsWithin i k → Includes k i.low
+low_included i k n p = let x = p.0 in let y = p.1 in (x, omega (arith, ints))
+
+high_included : (i k : IntegerInterval) → IsNonEmpty i → IsWithin i k → Includes k i.high
+high_included i k n p = let x = p.0 in let y = p.1 in (omega (arith, ints), y)
+
 module _ (i j k l : IntegerInterval) (n : IsNonEmpty i) (m : IsNonEmpty j) (p : IsWithin i k) (q : IsWithin j l) where
-  low_left : Includes k i.low
-  low_left = let x = p.0 in let y = p.1 in (x, omega (arith, ints))
-
-  high_left : Includes k i.high
-  high_left = let x = p.0 in let y = p.1 in (omega (arith, ints), y)
-
-  low_right : Includes l j.low
-  low_right = let x = q.0 in let y = q.1 in (x, omega (arith, ints))
-
-  high_right : Includes l j.high
-  high_right = let x = q.0 in let y = q.1 in (omega (arith, ints), y)
-
   -- an operation's values at the ends are those of larger operands
   at_ends_monotone : (o : BinaryOperation) → IsDefined o l → IsWithin (span_of_four (binary_value o i.low j.low) (binary_value o i.low j.high) (binary_value o i.high j.low) (binary_value o i.high j.high)) (binary_interval o k l)
   at_ends_monotone o d =
       four_within _ _ _ _ (binary_interval o k l)
-      (binary_sound o k l i.low j.low d low_left low_right)
-      (binary_sound o k l i.low j.high d low_left high_right)
-      (binary_sound o k l i.high j.low d high_left low_right)
-      (binary_sound o k l i.high j.high d high_left high_right)
+      (binary_sound o k l i.low j.low d (low_included i k n p) (low_included j l m q))
+      (binary_sound o k l i.low j.high d (low_included i k n p) (high_included j l m q))
+      (binary_sound o k l i.high j.low d (high_included i k n p) (low_included j l m q))
+      (binary_sound o k l i.high j.high d (high_included i k n p) (high_included j l m q))
 
   remainder_ends : (b c : Bool) → int_le (pos 0) i.low ≡ b → int_le (pos 0) k.low ≡ c → pos 1 ≤ℤ l.low
       → cond b (int_min i.high (j.high -ℤ pos 1)) (j.high -ℤ pos 1) ≤ℤ cond c (int_min k.high (l.high -ℤ pos 1)) (l.high -ℤ pos 1)

@@ -4,6 +4,7 @@ use Rattle.std.proofs.lemmas.List.{map-append, get_or_push, get_or_append_left, 
 use Rattle.std.specs.List.{slice_get}
 use Rattle.std.proofs.lemmas.Option.{get_or_from_slice_get}
 use Rattle.std.proofs.lemmas.Bool.{cases_lt}
+use Rattle.pb_sorts.specs.declared.limits.TheConstants.{MAX_EQUATIONS, MAX_PARAMETERS, MAX_INSTANCES}
 use Rattle.pb_sorts.specs.declared.carrier.Carrier.{Carrier}
 use Rattle.pb_sorts.specs.Instance.{first_of}
 use Rattle.pb_sorts.specs.Layout.{carriers_of, count_of, lists_of, IsNumbered, IsWithinLimits}
@@ -51,18 +52,18 @@ element_at (x ∷ xs) zero below = record { element = x; at = refl }
 element_at (x ∷ xs) (suc k) below = let rest : HasElement xs k = element_at xs k (omega (arith, below)) in record { element = rest.element; at = rest.at }
 
 -- each list is as short as its vector
-parameters_few : {A : Type 0} (vs : List (Vec Carrier A)) (k : ℕ) (d : List Carrier) → k < length vs → All (λ (v : Vec Carrier A). vec_len v ≤ 8) vs → length (get_or (lists_of vs) k d) ≤ 8
+parameters_few : {A : Type 0} (vs : List (Vec Carrier A)) (k : ℕ) (d : List Carrier) → k < length vs → All (λ (v : Vec Carrier A). vec_len v ≤ MAX_PARAMETERS) vs → length (get_or (lists_of vs) k d) ≤ MAX_PARAMETERS
 parameters_few {A} vs k d below few =
     let e : HasElement vs k = element_at vs k below in
     let list : get_or (lists_of vs) k d ≡ e.element.items = get_or_from_slice_get (lists_of vs) k e.element.items d (slice_get-mapped (λ (u : Vec Carrier A). u.items) vs k e.element e.at) in
     let vector : get_or vs k e.element ≡ e.element = get_or_from_slice_get vs k e.element e.element e.at in
-    let short : vec_len (get_or vs k e.element) ≤ 8 = few k e.element below in
+    let short : vec_len (get_or vs k e.element) ≤ MAX_PARAMETERS = few k e.element below in
     omega (arith, short, ap length list, ap (λ (v : Vec Carrier A). vec_len v) vector, e.element.ok.0)
 
 -- the lists are those of a layout
 pub built : {A : Type 0} (vs done : List (Vec Carrier A)) (xs ys : List ℕ) (x k : ℕ) → length vs ≤ k → k ≤ length vs → lists_of done ++ lists_of (drop k vs) ≡ lists_of vs
     → ys ≡ xs ++ x ∷ [] → length xs ≡ k → x ≡ first_of (carriers_of (lists_of vs)) k → ((j : ℕ) → j < k → get_or xs j 0 ≡ first_of (carriers_of (lists_of vs)) j)
-    → length vs ≤ 64 → All (λ (v : Vec Carrier A). vec_len v ≤ 8) vs → count_of (lists_of vs) ≤ 4194304
+    → length vs ≤ MAX_EQUATIONS → All (λ (v : Vec Carrier A). vec_len v ≤ MAX_PARAMETERS) vs → count_of (lists_of vs) ≤ MAX_INSTANCES
     → IsNumbered (lists_of done) ys × IsWithinLimits (lists_of done)
 built {A} vs done xs ys x k past within so_far ys_is long x_is starts few_equations few_parameters few_instances =
     subst (λ (es : List (List Carrier)). IsNumbered es ys × IsWithinLimits es) (sym (copied_all vs done k past so_far)) (

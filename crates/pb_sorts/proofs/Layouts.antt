@@ -6,6 +6,7 @@ use Rattle.std.proofs.lemmas.Option.{slice_get_within, slice_get-get_or, same_So
 use Rattle.std.proofs.lemmas.Bool.{cases_lt}
 use Rattle.pb_carriers.specs.Carrier as carriers
 use Rattle.pb_carriers.specs.Carrier.{Tuple, tuples, tuple_count, is_within}
+use Rattle.pb_sorts.specs.declared.limits.TheConstants.{MAX_PARAMETERS, MAX_INSTANCES}
 use Rattle.pb_sorts.specs.declared.carrier.Carrier.{Carrier}
 use Rattle.pb_sorts.specs.Carrier.{values_of}
 use Rattle.pb_sorts.specs.Instance.{instances, is_instance, is_tuple_of, first_of, size_of, owns_number}
@@ -111,13 +112,13 @@ pub is_instance-at : (equations : List (List Carrier)) (k : ℕ) (ps : List Carr
 is_instance-at equations k ps vs at = ap (λ (o : Option (List carriers.Carrier)). is_tuple_of o vs) (slice_get-carriers_of equations k ps at)
 
 -- an equation's tuples are few
-pub tuples_are_few : (equations : List (List Carrier)) (k : ℕ) (ps : List Carrier) → IsWithinLimits equations → slice_get equations k ≡ Some ps → tuple_count (map values_of ps) ≤ 4194304
+pub tuples_are_few : (equations : List (List Carrier)) (k : ℕ) (ps : List Carrier) → IsWithinLimits equations → slice_get equations k ≡ Some ps → tuple_count (map values_of ps) ≤ MAX_INSTANCES
 tuples_are_few equations k ps limits at = omega (arith, ends_within equations k ps at, limits.few_instances)
 
 -- and so are its parameters
-pub parameters_are_few : (equations : List (List Carrier)) (k : ℕ) (ps : List Carrier) → IsWithinLimits equations → slice_get equations k ≡ Some ps → length ps ≤ 8
+pub parameters_are_few : (equations : List (List Carrier)) (k : ℕ) (ps : List Carrier) → IsWithinLimits equations → slice_get equations k ≡ Some ps → length ps ≤ MAX_PARAMETERS
 parameters_are_few equations k ps limits at =
-    let few : length (get_or equations k ps) ≤ 8 = limits.few_parameters k ps (slice_get_within equations k ps at) in
+    let few : length (get_or equations k ps) ≤ MAX_PARAMETERS = limits.few_parameters k ps (slice_get_within equations k ps at) in
     omega (arith, few, ap length (get_or_from_slice_get equations k ps ps at))
 
 -- ---- the fields of a layout, as the methods read them: vs are its carriers, and contracts see the list `equations`

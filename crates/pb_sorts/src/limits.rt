@@ -1,5 +1,11 @@
 //! Limits of equation systems, of texts and of modules.
 
+/// How many structs there may be: the sorts of a module.
+pub const MAX_STRUCTS: usize = 255;
+
+/// How many enumerators a struct may have.
+pub const MAX_ENUMERATORS: usize = 255;
+
 /// How many equations there may be.
 pub const MAX_EQUATIONS: usize = 64;
 
@@ -11,3 +17,9 @@ pub const MAX_INSTANCES: u32 = 4_194_304;
 
 /// How many bytes the name of an enumerator or of a predicate variable may have.
 pub const MAX_NAME_BYTES: usize = 64;
+
+/// How many loop slots the code of an equation may have.
+pub const MAX_LOOP_SLOTS: usize = 240;
+
+/// How many instructions the code of an equation may have: a jump's target is a number of 16 bits.
+pub const MAX_INSTRUCTIONS: u32 = 65_535;

@@ -1,3 +1,4 @@
 pub mod Positive
 pub mod Instances
 pub mod Bounded
+pub mod Truths

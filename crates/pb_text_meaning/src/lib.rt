@@ -1,5 +1,6 @@
-//! What a specification means: the abstract syntax of the whole language, the carriers of its sorts, the value of a
-//! term, the truth of a formula and the answer, all in `specs/`, with laws about them.
+//! What a specification means: the abstract syntax of the whole language, the carriers of its
+//! sorts, the value of a term, the truth of a formula and the answer, all in `specs/`, with laws
+//! about them.
 #![tactic(auto)]
 
 ghost use Rattle.std.specs.Prelude.{◌≡◌, true, false, List, [], ◌∷◌, map, pos, negsuc, codes};
@@ -14,10 +15,11 @@ ghost use Rattle.pb_text_meaning.specs.Meaning.{answer, equation_of};
 ghost use Rattle.pb_text_meaning.specs.Positive.{ArePositive};
 ghost use Rattle.pb_text_meaning.specs.Examples as example;
 
-/// In a text whose right sides are positive, the set that an equation gets is a fixpoint of its operator,
-/// the least for `mu` and the greatest for `nu` (Groote and Willemse 2005).
+/// In a text whose right sides are positive, the set that an equation gets is a fixpoint of its
+/// operator, the least for `mu` and the greatest for `nu` (Groote and Willemse 2005).
 pub fn sets_of_texts_are_extreme_fixpoints()
-    ensures { (spec : Spec) (X : Equation) (E : List Equation) (t : Environment Instance) → ArePositive (X ∷ E) → IsSolved (equation_of spec X) (map (equation_of spec) E) t }
+    ensures { (spec : Spec) (X : Equation) (E : List Equation) (t : Environment Instance)
+        → ArePositive (X ∷ E) → IsSolved (equation_of spec X) (map (equation_of spec) E) t }
 {}
 
 /// The answers of small systems without data, as the definitions compute them.
@@ -38,10 +40,13 @@ pub fn worked_examples_over_data()
     ensures all_others { answer example.all_others ≡ true }
     ensures two_states { answer example.two_states ≡ true }
     ensures rounding_down { answer example.rounding_down ≡ true }
-    ensures alias_of_alias { carrier_of example.alias_of_alias (codes "A") ≡ negsuc 0 ∷ pos 0 ∷ pos 1 ∷ [] }
+    ensures alias_of_alias { carrier_of example.alias_of_alias (codes "A")
+        ≡ negsuc 0 ∷ pos 0 ∷ pos 1 ∷ [] }
 {}
 
-/// The value of a term that fits is within 2^62: such terms and formulas can be evaluated in 64 bits.
+/// The value of a term that fits is within 2^62: such terms and formulas can be evaluated in 64
+/// bits.
 pub fn what_fits_is_bounded()
-    ensures { (spec : Spec) (a : Assignment) (x : Term) → Fits spec a x → IsBounded (value spec a x) }
+    ensures { (spec : Spec) (a : Assignment) (x : Term) → Fits spec a x
+        → IsBounded (value spec a x) }
 {}

@@ -1,9 +1,9 @@
-//! The syntax tree of a text, as it is read: each part with the place of its token. It stands below the reader and
-//! below whatever reads the tree, so that these need not know each other.
+//! The syntax tree of a text, as it is read: each part with the place of its token. It stands below
+//! the reader and below whatever reads the tree, so that these need not know each other.
 //!
-//! A chain of one connective, as `a && b && c`, is one node with a list of links, and so is a chain of arithmetic, so
-//! that a long chain is neither read, released nor passed over by recursion. `specs/Form.antt` says which binary nodes a
-//! chain stands for.
+//! A chain of one connective, as `a && b && c`, is one node with a list of links, and so is a chain
+//! of arithmetic, so that a long chain is neither read, released nor passed over by recursion.
+//! `specs/Form.antt` says which binary nodes a chain stands for.
 #![tactic(auto)]
 
 pub mod formula;

@@ -26,7 +26,8 @@ pub struct SortDeclaration {
     pub sort: Sort,
 }
 
-/// A range line: the carrier of an integer sort, both bounds within it. The place is the line's first column.
+/// A range line: the carrier of an integer sort, both bounds within it. The place is the line's
+/// first column.
 #[derive(Debug, Drop)]
 pub struct Range {
     pub place: Place,

@@ -15,7 +15,8 @@ pub struct Equation {
     pub right: Formula,
 }
 
-/// What a text says: sorts and ranges, equations, the earlier ones dominating, and the instance that is asked for.
+/// What a text says: sorts and ranges, equations, the earlier ones dominating, and the instance
+/// that is asked for.
 #[derive(Debug, Drop)]
 pub struct Spec {
     pub sorts: Vec<SortDeclaration>,

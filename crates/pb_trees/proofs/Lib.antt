@@ -4,4 +4,5 @@ pub mod Numbers
 pub mod Members
 pub mod Rising
 pub mod Lengths
+pub mod Calls
 mod Total

@@ -6,11 +6,11 @@ use Rattle.std.proofs.lemmas.Bool.{cond_both, ltb-true, ltb-false, eqb-false}
 use Rattle.pb_trees.specs.Game.{with_number, rising, rising_or}
 
 -- the list rises, from above m
-abbrev Above : ℕ → List ℕ → Type 0
+abbrev pub Above : ℕ → List ℕ → Type 0
 Above m [] = Unit {0}
 Above m (x ∷ xs) = (m < x) × Above x xs
 
-abbrev Rises : List ℕ → Type 0
+abbrev pub Rises : List ℕ → Type 0
 Rises [] = Unit {0}
 Rises (x ∷ xs) = Above x xs
 
@@ -28,7 +28,7 @@ rises_with n (x ∷ xs) r =
     (λ g. cond_both (n == x) (x ∷ xs) (x ∷ with_number n xs) Rises (λ _. r)
     (λ d. above_with x n xs (let ge = ltb-false n x g in let ne = eqb-false n x d in grind (arith, ge, ne)) r))
 
-rising-rises : (xs : List ℕ) → Rises (rising xs)
+pub rising-rises : (xs : List ℕ) → Rises (rising xs)
 rising-rises [] = tt
 rising-rises (x ∷ xs) = rises_with x (rising xs) (rising-rises xs)
 

@@ -4,6 +4,7 @@ use Rattle.std.proofs.lemmas.Option.{none-some}
 use Rattle.pb_sorts.specs.declared.carrier.Carrier.{Carrier}
 use Rattle.std.specs.List.{slice_get}
 use Rattle.pb_carriers.specs.Carrier.{tuple_count}
+use Rattle.pb_sorts.specs.declared.limits.TheConstants.{MAX_INSTANCES}
 use Rattle.pb_sorts.specs.Carrier.{values_of}
 use Rattle.pb_sorts.specs.Instance.{first_of}
 use Rattle.pb_sorts.specs.Layout.{carriers_of, lists_of, count_of}
@@ -15,7 +16,7 @@ above : (m n : ℕ) → (m ≤ n → false ≡ true) → n < m
 above m n fails = ⊎_elim (λ (h : n < m). h) (λ (h : m ≤ n). absurd (true≢false (sym (fails h)))) (cases_lt n m)
 
 -- too many instances, and no answer
-refused : (o : Option ℕ) (n : ℕ) → o ≡ None → 4194304 < n → (IsSome o → n ≤ 4194304) × (n ≤ 4194304 → IsSome o)
+refused : (o : Option ℕ) (n : ℕ) → o ≡ None → MAX_INSTANCES < n → (IsSome o → n ≤ MAX_INSTANCES) × (n ≤ MAX_INSTANCES → IsSome o)
 refused None n is many = (λ h. absurd (true≢false (sym h)), λ h. absurd (omega (arith, h, many)))
 refused (Some m) n is many = absurd (none-some m (sym is))
 
@@ -27,7 +28,7 @@ returns-in_err-count-clause-fits c =
     let at : slice_get (lists_of vs) k ≡ Some ps = slice_get-lists_of vs k c.parameters-item.result c.loop-parameters-test.true c.parameters-item.is in
     let ends : first_of (carriers_of (lists_of vs)) k + tuple_count (map values_of ps) ≤ count_of (lists_of vs) = ends_within (lists_of vs) k ps at in
     let same : tuple_count (map values_of c.deref.result.now) ≡ tuple_count (map values_of ps) = ap (λ (xs : List Carrier). tuple_count (map values_of xs)) c.deref.ensures.value in
-    let many : 4194304 < tuple_count (map values_of c.deref.result.now) = above (tuple_count (map values_of c.deref.result.now)) 4194304 c.in_err-count.ensures.fits.1 in
+    let many : MAX_INSTANCES < tuple_count (map values_of c.deref.result.now) = above (tuple_count (map values_of c.deref.result.now)) MAX_INSTANCES c.in_err-count.ensures.fits.1 in
     refused c.from_residual.result (count_of (lists_of vs)) c.from_residual.ensures (omega (arith, many, same, ends))
 
 pub returns-then-count-gt-MAX_INSTANCES-clause-fits : goal.returns-then-count-gt-MAX_INSTANCES-clause-fits

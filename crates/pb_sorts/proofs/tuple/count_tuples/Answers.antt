@@ -1,5 +1,6 @@
 use Rattle.std.proofs.Common.{◌<◌, map, arith}
 use Rattle.pb_carriers.specs.Carrier.{tuple_count}
+use Rattle.pb_sorts.specs.declared.limits.TheConstants.{MAX_INSTANCES}
 use Rattle.pb_sorts.specs.Carrier.{values_of}
 use Rattle.pb_sorts.proofs.Counts.{too_many}
 use Rattle.pb_sorts.proofs.tuple.count_tuples.Goals as goal
@@ -7,6 +8,6 @@ use Rattle.pb_sorts.proofs.tuple.count_tuples.Goals as goal
 pub returns-then-count-clause-fits : goal.returns-then-count-clause-fits
 returns-then-count-clause-fits c =
     let loop = c.loop-carrier in
-    let more : 4194304 < tuple_count (map values_of c.args.carriers.now) =
-    too_many c.args.carriers.now loop.carrier-index c.carrier-item.result loop.count 4194304 c.loop-carrier-test.true c.carrier-item.is loop.invariant.product (rw (← c.size-count.ensures.count) c.if-count.true) in
+    let more : MAX_INSTANCES < tuple_count (map values_of c.args.carriers.now) =
+    too_many c.args.carriers.now loop.carrier-index c.carrier-item.result loop.count MAX_INSTANCES c.loop-carrier-test.true c.carrier-item.is loop.invariant.product (rw (← c.size-count.ensures.count) c.if-count.true) in
     grind (arith, more)

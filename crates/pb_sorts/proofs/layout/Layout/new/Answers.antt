@@ -2,6 +2,7 @@ use Rattle.std.proofs.Common.{◌≡◌, ℕ, ◌+◌, ◌≤◌, Option, None, 
 use Rattle.std.specs.List.{slice_get}
 use Rattle.std.proofs.lemmas.Option.{none-some, same_Some}
 use Rattle.pb_carriers.specs.Carrier.{tuple_count}
+use Rattle.pb_sorts.specs.declared.limits.TheConstants.{MAX_INSTANCES}
 use Rattle.pb_sorts.specs.declared.carrier.Carrier.{Carrier}
 use Rattle.pb_sorts.specs.Carrier.{values_of}
 use Rattle.pb_sorts.specs.Instance.{first_of}
@@ -15,7 +16,7 @@ unwrap-requires c =
     let vs = c.args.equations.now in
     let k = c.loop-parameters.parameters-index in
     let ps = c.parameters-item.result.items in
-    let few : count_of (lists_of vs) ≤ 4194304 = c.count_instances.ensures.fits.0 c.if-is_none.ensures in
+    let few : count_of (lists_of vs) ≤ MAX_INSTANCES = c.count_instances.ensures.fits.0 c.if-is_none.ensures in
     let at : slice_get (lists_of vs) k ≡ Some ps = slice_get-lists_of vs k c.parameters-item.result c.loop-parameters-test.true c.parameters-item.is in
     let ends : first_of (carriers_of (lists_of vs)) k + tuple_count (map values_of ps) ≤ count_of (lists_of vs) = ends_within (lists_of vs) k ps at in
     let same : tuple_count (map values_of c.deref-in-loop-parameters.result.now) ≡ tuple_count (map values_of ps) = ap (λ (xs : List Carrier). tuple_count (map values_of xs)) c.deref-in-loop-parameters.ensures.value in
@@ -30,7 +31,7 @@ overflow_add-first c =
     let vs = c.args.equations.now in
     let k = c.loop-parameters.parameters-index in
     let ps = c.parameters-item.result.items in
-    let few : count_of (lists_of vs) ≤ 4194304 = c.count_instances.ensures.fits.0 c.if-is_none.ensures in
+    let few : count_of (lists_of vs) ≤ MAX_INSTANCES = c.count_instances.ensures.fits.0 c.if-is_none.ensures in
     let at : slice_get (lists_of vs) k ≡ Some ps = slice_get-lists_of vs k c.parameters-item.result c.loop-parameters-test.true c.parameters-item.is in
     let ends : first_of (carriers_of (lists_of vs)) k + tuple_count (map values_of ps) ≤ count_of (lists_of vs) = ends_within (lists_of vs) k ps at in
     let same : tuple_count (map values_of c.deref-in-loop-parameters.result.now) ≡ tuple_count (map values_of ps) = ap (λ (xs : List Carrier). tuple_count (map values_of xs)) c.deref-in-loop-parameters.ensures.value in
