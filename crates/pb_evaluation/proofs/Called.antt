@@ -4,6 +4,7 @@ use Rattle.std.specs.Prelude.{position, slice_index_or}
 use Rattle.std.specs.List.{slice_get}
 use Rattle.std.proofs.lemmas.List.Quantifiers.{position-Some}
 use Rattle.std.proofs.lemmas.List.{drop_all}
+use Rattle.std.proofs.Math.Bool.{and_self_left}
 use Rattle.pb_carriers.specs.Carrier as carriers
 use Rattle.pb_carriers.specs.Carrier.{Tuple, Value}
 use Rattle.pb_sorts.specs.declared.carrier.Carrier.{Carrier}
@@ -42,10 +43,6 @@ fits_there S p (X ∷ E) vs k e =
     let at = position-Some p (X ∷ E) k X e in
     ap (λ (o : Option Equation). fits S o vs) (first_found p (X ∷ E) k X at.0 at.1 at.2) ∙ fits_mapped S (X ∷ E) vs k
 
-and_twice : (a b : Bool) → (a && (a && b)) ≡ (a && b)
-and_twice true b = refl
-and_twice false b = refl
-
 abbrev at_place : ℕ → Tuple → numbered.Instance
 at_place k vs = record { equation = k; values = vs }
 
@@ -54,7 +51,7 @@ pub called : (S : Spec) (truths : List Bool) (x : Name) (vs : Tuple) (k : ℕ) �
 called S truths x vs k e =
     let here = is_tuple_of (slice_get (all_carriers S) k) vs in
     ap (λ (b : Bool). b && truth_of (all_carriers S) truths (place_named S.equations x) vs) (fits_there S (λ X. same_name X.name x) S.equations vs k e)
-    ∙ (ap (λ (o : Option ℕ). here && truth_of (all_carriers S) truths o vs) e ∙ and_twice here (slice_index_or truths (number_of (all_carriers S) (at_place k vs)) false))
+    ∙ (ap (λ (o : Option ℕ). here && truth_of (all_carriers S) truths o vs) e ∙ and_self_left here (slice_index_or truths (number_of (all_carriers S) (at_place k vs)) false))
 
 -- ---- numbers
 

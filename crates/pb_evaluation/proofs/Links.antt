@@ -1,5 +1,5 @@
 -- The value of chains, link by link, and why their operands fit.
-use Rattle.std.proofs.Common.{◌≡◌, ℕ, zero, suc, ◌+◌, ◌<◌, ◌≤◌, Bool, true, false, List, [], ◌∷◌, length, get_or, drop, refl, sym, ◌∙◌, ap, arith, add-one, subst}
+use Rattle.std.proofs.Common.{◌≡◌, ℕ, zero, suc, ◌+◌, ◌<◌, Bool, List, [], ◌∷◌, length, get_or, drop, refl, sym, ◌∙◌, ap, arith, subst}
 use Rattle.std.specs.Prelude.{⊤}
 use Rattle.pb_sorts.proofs.Places.{drop-at}
 use Rattle.pb_text_tree.specs.declared.operator.Connective.{Connective}
@@ -12,6 +12,7 @@ use Rattle.pb_text_meaning.specs.Syntax.{Spec}
 use Rattle.pb_text_meaning.specs.Value.{Assignment, value, binary, is_true}
 use Rattle.pb_text_meaning.specs.Erase.{erased_term, of_connective, of_arithmetic}
 use Rattle.pb_text_meaning.specs.Fits.{Fits, IsBounded, DivisorFits}
+use Rattle.pb_text_meaning.proofs.Truths.{is_true-of_bool}
 use Rattle.pb_evaluation.specs.Connective.{connected_truth}
 
 -- the value of a form
@@ -43,10 +44,6 @@ link_fits S a [] k link f lt at = absurd (omega arith)
 link_fits S a (l ∷ links) zero link f lt at = subst (λ (m : TermLink). Fits S a (erased_term (term_form m.operand))) (sym at) f.0
 link_fits S a (l ∷ links) (suc k) link f lt at = link_fits S a links k link f.1 (omega arith) at
 
-bool-value : (b : Bool) → is_true (of_bool b) ≡ b
-bool-value true = refl
-bool-value false = refl
-
 -- a binary node of a connective
 binary-connected : (c : Connective) (v w : Value) → binary (of_connective c) v w ≡ of_bool (connected_truth c (is_true v) (is_true w))
 binary-connected And v w = refl
@@ -59,8 +56,8 @@ truth-chain S a c v [] = refl
 truth-chain S a c v (link ∷ links) =
     let rest = chain_value S a c (value_of S a (term_form link.operand)) links in
     binary-connected c (of_bool (is_true v)) rest
-    ∙ (ap (λ b. of_bool (connected_truth c b (is_true rest))) (bool-value (is_true v))
-    ∙ (sym (ap of_bool (bool-value (connected_truth c (is_true v) (is_true rest))))
+    ∙ (ap (λ b. of_bool (connected_truth c b (is_true rest))) (is_true-of_bool (is_true v))
+    ∙ (sym (ap of_bool (is_true-of_bool (connected_truth c (is_true v) (is_true rest))))
     ∙ ap (λ w. of_bool (is_true w)) (sym (binary-connected c v rest))))
 
 -- an operand that decides

@@ -12,7 +12,8 @@ ghost use Rattle.pb_text_meaning.specs.Sorts.{carrier_of};
 ghost use Rattle.pb_text_meaning.specs.Syntax as syntax;
 ghost use Rattle.pb_text_meaning.specs.Syntax.{Spec, Variable};
 ghost use Rattle.pb_text_meaning.specs.Value.{Assignment, looked_up};
-ghost use Rattle.pb_evaluation.specs.Binding.{AreBindings, AreFirst, AreLast, AreNext, bound, value_at};
+ghost use Rattle.pb_evaluation.specs.Binding.{AreBindings, AreFirst, AreLast, AreNext, bound};
+ghost use Rattle.pb_evaluation.specs.Binding.{value_at};
 ghost use Rattle.pb_evaluation.specs.Quantifier.{variables_of};
 
 use crate::quantifier::{Numbers, sort_values};
@@ -42,7 +43,8 @@ pub(crate) fn bindings_of<'a>(
     variables: &'a Vec<Variables>,
     declarations: &Declarations<'_>,
 ) -> Result<Vec<Binding<'a>>, AllocError>
-    ensures bindings { IfOk result (λ bindings. AreBindings (spec_of declarations.now) (erased_variables (variable_forms variables.now.items)) bindings.items) }
+    ensures bindings { IfOk result (λ bindings. AreBindings (spec_of declarations.now)
+        (erased_variables (variable_forms variables.now.items)) bindings.items) }
     ensures first { IfOk result (λ bindings. AreFirst bindings.items) }
 {
     let mut bindings = Vec::new(*variables.allocator());
@@ -59,7 +61,10 @@ fn with_names<'a>(
     names: &'a [Name],
     numbers: Numbers,
 ) -> Result<Vec<Binding<'a>>, AllocError>
-    ensures bindings { (spec : Spec) (xs : List Variable) (sort : syntax.Name) → carrier_of spec sort ≡ numbers_from numbers.least numbers.count → AreBindings spec xs bindings.entry.items → IfOk result (λ more. AreBindings spec (xs ++ variables_of names.now sort) more.items) }
+    ensures bindings { (spec : Spec) (xs : List Variable) (sort : syntax.Name)
+        → carrier_of spec sort ≡ numbers_from numbers.least numbers.count
+        → AreBindings spec xs bindings.entry.items
+        → IfOk result (λ more. AreBindings spec (xs ++ variables_of names.now sort) more.items) }
     ensures first { AreFirst bindings.entry.items → IfOk result (λ more. AreFirst more.items) }
 {
     for name in names {
@@ -79,7 +84,8 @@ pub(crate) fn has_no_values(bindings: &[Binding<'_>]) -> bool
     bindings.iter().any(|binding| binding.numbers.count == 0)
 }
 
-/// Goes on to the next values, those of the last variable running fastest, and answers false where there are none.
+/// Goes on to the next values, those of the last variable running fastest, and answers false where
+/// there are none.
 pub(crate) fn advance(bindings: &mut [Binding<'_>]) -> bool
     ensures next { result ≡ true → AreNext bindings.old bindings.new }
     ensures last { result ≡ false → AreLast bindings.old }
@@ -97,7 +103,9 @@ pub(crate) fn advance(bindings: &mut [Binding<'_>]) -> bool
 
 /// The value of the last variable of a name among them.
 pub(crate) fn bound_value(name: &str, bindings: &[Binding<'_>]) -> Option<i64>
-    ensures { (a : Assignment) → MatchOption result (looked_up (bound bindings.now a) name.now ≡ looked_up a name.now) (λ v. looked_up (bound bindings.now a) name.now ≡ Some v) }
+    ensures { (a : Assignment) → MatchOption result
+        (looked_up (bound bindings.now a) name.now ≡ looked_up a name.now)
+        (λ v. looked_up (bound bindings.now a) name.now ≡ Some v) }
 {
     for index in (0..bindings.len()).rev() {
         let binding = bindings[index];

@@ -8,7 +8,8 @@ ghost use Rattle.pb_evaluation.specs.Environment.{all_carriers};
 use pb_sorts::Layout;
 use pb_typing_declarations::Declarations;
 
-/// An environment (Groote and Willemse 2005) over what a text declares: a truth for each instance, at its number.
+/// An environment (Groote and Willemse 2005) over what a text declares: a truth for each instance,
+/// at its number.
 #[derive(Clone, Copy)]
 pub struct Environment<'a, 'd> {
     pub declarations: &'a Declarations<'d>,

@@ -22,8 +22,8 @@ use std::alloc::AllocError;
 
 /// The truth of a formula (Groote and Willemse 2005).
 ///
-/// Each value on the way must be within 2^62 and each divisor at least 1, as type checking ensures. Recursion goes as
-/// deep as formulas nest.
+/// Each value on the way must be within 2^62 and each divisor at least 1, as type checking ensures.
+/// Recursion goes as deep as formulas nest.
 ///
 /// # Errors
 /// Memory was refused, which only quantifiers ask for.
@@ -33,8 +33,12 @@ pub fn formula_truth<'a>(
     scope: &'a Scope<'a>,
     environment: &Environment<'_, '_>,
 ) -> Result<bool, AllocError>
-    requires { FormulaFits (spec_of environment.now.declarations.now) (assignment_of scope.now) (erased_formula (formula_form formula.now)) }
-    ensures { IfOk result (λ holds. holds ≡ truth (spec_of environment.now.declarations.now) (assignment_of scope.now) (environment_of (spec_of environment.now.declarations.now) environment.now.truths.now) (erased_formula (formula_form formula.now))) }
+    requires { FormulaFits (spec_of environment.now.declarations.now) (assignment_of scope.now)
+        (erased_formula (formula_form formula.now)) }
+    ensures { IfOk result (λ holds. holds ≡ truth (spec_of environment.now.declarations.now)
+        (assignment_of scope.now) (environment_of
+        (spec_of environment.now.declarations.now) environment.now.truths.now)
+        (erased_formula (formula_form formula.now))) }
 {
     match formula {
         Formula::Constant { value, .. } => Ok(*value),
@@ -79,8 +83,16 @@ fn quantified<'a>(
     scope: &'a Scope<'a>,
     environment: &Environment<'_, '_>,
 ) -> Result<bool, AllocError>
-    requires { FitsFor (spec_of environment.now.declarations.now) (erased_variables (variable_forms variables.now.items)) (λ a. FormulaFits (spec_of environment.now.declarations.now) a (erased_formula (formula_form body.now))) (assignment_of scope.now) }
-    ensures { IfOk result (λ holds. holds ≡ meaning.quantified (spec_of environment.now.declarations.now) quantifier (erased_variables (variable_forms variables.now.items)) (λ a. truth (spec_of environment.now.declarations.now) a (environment_of (spec_of environment.now.declarations.now) environment.now.truths.now) (erased_formula (formula_form body.now))) (assignment_of scope.now)) }
+    requires { FitsFor (spec_of environment.now.declarations.now)
+        (erased_variables (variable_forms variables.now.items))
+        (λ a. FormulaFits (spec_of environment.now.declarations.now) a
+        (erased_formula (formula_form body.now))) (assignment_of scope.now) }
+    ensures { IfOk result (λ holds. holds ≡ meaning.quantified
+        (spec_of environment.now.declarations.now) quantifier
+        (erased_variables (variable_forms variables.now.items))
+        (λ a. truth (spec_of environment.now.declarations.now) a
+        (environment_of (spec_of environment.now.declarations.now) environment.now.truths.now)
+        (erased_formula (formula_form body.now))) (assignment_of scope.now)) }
 {
     let mut bindings = bindings_of(variables, environment.declarations)?;
     if has_no_values(&bindings) {
@@ -98,7 +110,8 @@ fn quantified<'a>(
     }
 }
 
-/// The truth of an instance: false where its values are outside their carriers or no equation has its name.
+/// The truth of an instance: false where its values are outside their carriers or no equation has
+/// its name.
 ///
 /// # Errors
 /// Memory was refused, which only quantifiers ask for.
@@ -107,8 +120,12 @@ pub fn instance_truth<'a>(
     scope: &'a Scope<'a>,
     environment: &Environment<'_, '_>,
 ) -> Result<bool, AllocError>
-    requires { AllFit (spec_of environment.now.declarations.now) (assignment_of scope.now) (erased_arguments (instance_form instance.now).arguments) }
-    ensures { IfOk result (λ holds. holds ≡ truth (spec_of environment.now.declarations.now) (assignment_of scope.now) (environment_of (spec_of environment.now.declarations.now) environment.now.truths.now) (erased_formula (FormulaForm.instance (instance_form instance.now)))) }
+    requires { AllFit (spec_of environment.now.declarations.now) (assignment_of scope.now)
+        (erased_arguments (instance_form instance.now).arguments) }
+    ensures { IfOk result (λ holds. holds ≡ truth (spec_of environment.now.declarations.now)
+        (assignment_of scope.now) (environment_of
+        (spec_of environment.now.declarations.now) environment.now.truths.now)
+        (erased_formula (FormulaForm.instance (instance_form instance.now)))) }
 {
     let Some(equation) = environment.declarations.equation(&instance.name.text) else {
         return Ok(false);

@@ -18,10 +18,11 @@ pub(crate) fn is_true(value: i64) -> bool
     value != 0
 }
 
-/// The truth of two operands that are connected, where the left one decides it: any truth of the right one gives it.
-/// Where it doesn't, the truth is that of the right one.
+/// The truth of two operands that are connected, where the left one decides it: any truth of the
+/// right one gives it. Where it doesn't, the truth is that of the right one.
 pub(crate) fn decided_by(connective: Connective, left: bool) -> Option<bool>
-    ensures { MatchOption result ((right : Bool) → connected_truth connective left right ≡ right) (λ decided. (right : Bool) → connected_truth connective left right ≡ decided) }
+    ensures { MatchOption result ((right : Bool) → connected_truth connective left right ≡ right)
+        (λ decided. (right : Bool) → connected_truth connective left right ≡ decided) }
 {
     match connective {
         Connective::And => (!left).then_some(false),
@@ -77,7 +78,8 @@ pub(crate) fn function_of_one(name: &str, x: i64, declarations: &Declarations<'_
     }
 }
 
-/// Whether a recogniser's enumerator has this place, and false where there is no recogniser of this name.
+/// Whether a recogniser's enumerator has this place, and false where there is no recogniser of this
+/// name.
 fn recognises(name: &str, place: i64, declarations: &Declarations<'_>) -> bool
     ensures { of_bool result ≡ meaning.recognised (spec_of declarations.now) name.now place }
 {

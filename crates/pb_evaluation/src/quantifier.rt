@@ -33,7 +33,8 @@ pub(crate) struct Numbers {
 
 /// The values of a sort, none where there is no such sort.
 pub(crate) fn sort_values(sort: &str, declarations: &Declarations<'_>) -> Numbers
-    ensures { carrier_of (spec_of declarations.now) sort.now ≡ numbers_from result.least result.count }
+    ensures { carrier_of (spec_of declarations.now) sort.now
+        ≡ numbers_from result.least result.count }
 {
     match declarations.carrier(sort) {
         None => Numbers { least: 0, count: 0 },

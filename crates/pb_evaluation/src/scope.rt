@@ -8,7 +8,8 @@ ghost use Rattle.pb_evaluation.specs.Scope.{assignment_of};
 use crate::binding::{Binding, bound_value};
 use pb_typing_declarations::Declarations;
 
-/// The variables in scope with their values, the innermost outside: an inner variable hides an outer one of its name.
+/// The variables in scope with their values, the innermost outside: an inner variable hides an
+/// outer one of its name.
 #[derive(Clone, Copy)]
 pub enum Scope<'a> {
     Outermost,
@@ -18,7 +19,8 @@ pub enum Scope<'a> {
 
 /// The value of a variable in scope, else an enumerator's place, and 0 where the name is neither.
 pub(crate) fn named_value(name: &str, scope: &Scope<'_>, declarations: &Declarations<'_>) -> i64
-    ensures { result ≡ named_value (spec_of declarations.now) (looked_up (assignment_of scope.now) name.now) name.now }
+    ensures { result ≡ named_value (spec_of declarations.now)
+        (looked_up (assignment_of scope.now) name.now) name.now }
 {
     match scope {
         Scope::Outermost => match declarations.enumerator(name) {

@@ -1,7 +1,8 @@
 //! The value of a data term under a scope.
 
 ghost use Rattle.std.specs.Prelude.{◌≡◌, IfOk};
-ghost use Rattle.pb_text_tree.specs.Form.{TermForm, argument_forms, arithmetic_links, calculated, chained, term_form, term_links, variable_forms};
+ghost use Rattle.pb_text_tree.specs.Form.{TermForm, argument_forms, arithmetic_links, calculated};
+ghost use Rattle.pb_text_tree.specs.Form.{chained, term_form, term_links, variable_forms};
 ghost use Rattle.pb_typing_declarations.specs.View.{spec_of};
 ghost use Rattle.pb_text_meaning.specs.Erase.{erased_arguments, erased_term, erased_variables};
 ghost use Rattle.pb_text_meaning.specs.Value as meaning;
@@ -20,8 +21,8 @@ use std::alloc::AllocError;
 
 /// The value of a data term: false is 0 and true is 1, an enumerator is its place.
 ///
-/// Each value on the way must be within 2^62 and each divisor at least 1, as type checking ensures. Recursion goes as
-/// deep as terms nest.
+/// Each value on the way must be within 2^62 and each divisor at least 1, as type checking ensures.
+/// Recursion goes as deep as terms nest.
 ///
 /// # Errors
 /// Memory was refused, which only quantifiers ask for.
@@ -31,8 +32,10 @@ pub fn value<'a>(
     scope: &'a Scope<'a>,
     declarations: &Declarations<'_>,
 ) -> Result<i64, AllocError>
-    requires { Fits (spec_of declarations.now) (assignment_of scope.now) (erased_term (term_form term.now)) }
-    ensures { IfOk result (λ v. v ≡ meaning.value (spec_of declarations.now) (assignment_of scope.now) (erased_term (term_form term.now))) }
+    requires { Fits (spec_of declarations.now) (assignment_of scope.now)
+        (erased_term (term_form term.now)) }
+    ensures { IfOk result (λ v. v ≡ meaning.value (spec_of declarations.now)
+        (assignment_of scope.now) (erased_term (term_form term.now))) }
 {
     match term {
         Term::Constant { value, .. } => Ok(i64::from(*value)),
@@ -87,8 +90,12 @@ fn chain_value<'a>(
     scope: &'a Scope<'a>,
     declarations: &Declarations<'_>,
 ) -> Result<i64, AllocError>
-    requires { Fits (spec_of declarations.now) (assignment_of scope.now) (erased_term (chained (TermForm.connected connective) (term_form first.now) (term_links links.now))) }
-    ensures { IfOk result (λ v. v ≡ meaning.value (spec_of declarations.now) (assignment_of scope.now) (erased_term (chained (TermForm.connected connective) (term_form first.now) (term_links links.now)))) }
+    requires { Fits (spec_of declarations.now) (assignment_of scope.now)
+        (erased_term (chained (TermForm.connected connective) (term_form first.now)
+        (term_links links.now))) }
+    ensures { IfOk result (λ v. v ≡ meaning.value (spec_of declarations.now)
+        (assignment_of scope.now) (erased_term
+        (chained (TermForm.connected connective) (term_form first.now) (term_links links.now)))) }
 {
     let mut current = value(first, scope, declarations)?;
     for link in links {
@@ -109,8 +116,11 @@ fn arithmetic_value<'a>(
     scope: &'a Scope<'a>,
     declarations: &Declarations<'_>,
 ) -> Result<i64, AllocError>
-    requires { Fits (spec_of declarations.now) (assignment_of scope.now) (erased_term (calculated (term_form first.now) (arithmetic_links links.now))) }
-    ensures { IfOk result (λ v. v ≡ meaning.value (spec_of declarations.now) (assignment_of scope.now) (erased_term (calculated (term_form first.now) (arithmetic_links links.now)))) }
+    requires { Fits (spec_of declarations.now) (assignment_of scope.now)
+        (erased_term (calculated (term_form first.now) (arithmetic_links links.now))) }
+    ensures { IfOk result (λ v. v ≡ meaning.value (spec_of declarations.now)
+        (assignment_of scope.now) (erased_term
+        (calculated (term_form first.now) (arithmetic_links links.now)))) }
 {
     let mut current = value(first, scope, declarations)?;
     for link in links {
@@ -128,8 +138,11 @@ fn application_value<'a>(
     scope: &'a Scope<'a>,
     declarations: &Declarations<'_>,
 ) -> Result<i64, AllocError>
-    requires { AllFit (spec_of declarations.now) (assignment_of scope.now) (erased_arguments (argument_forms arguments.now)) }
-    ensures { IfOk result (λ v. v ≡ meaning.function_value (spec_of declarations.now) function.now (meaning.values (spec_of declarations.now) (assignment_of scope.now) (erased_arguments (argument_forms arguments.now)))) }
+    requires { AllFit (spec_of declarations.now) (assignment_of scope.now)
+        (erased_arguments (argument_forms arguments.now)) }
+    ensures { IfOk result (λ v. v ≡ meaning.function_value (spec_of declarations.now) function.now
+        (meaning.values (spec_of declarations.now) (assignment_of scope.now)
+        (erased_arguments (argument_forms arguments.now)))) }
 {
     match arguments {
         [x] => {
@@ -160,8 +173,14 @@ fn quantified<'a>(
     scope: &'a Scope<'a>,
     declarations: &Declarations<'_>,
 ) -> Result<bool, AllocError>
-    requires { FitsFor (spec_of declarations.now) (erased_variables (variable_forms variables.now.items)) (λ a. Fits (spec_of declarations.now) a (erased_term (term_form body.now))) (assignment_of scope.now) }
-    ensures { IfOk result (λ holds. holds ≡ meaning.quantified (spec_of declarations.now) quantifier (erased_variables (variable_forms variables.now.items)) (λ a. meaning.is_true (meaning.value (spec_of declarations.now) a (erased_term (term_form body.now)))) (assignment_of scope.now)) }
+    requires { FitsFor (spec_of declarations.now)
+        (erased_variables (variable_forms variables.now.items))
+        (λ a. Fits (spec_of declarations.now) a (erased_term (term_form body.now)))
+        (assignment_of scope.now) }
+    ensures { IfOk result (λ holds. holds ≡ meaning.quantified (spec_of declarations.now) quantifier
+        (erased_variables (variable_forms variables.now.items))
+        (λ a. meaning.is_true (meaning.value (spec_of declarations.now) a
+        (erased_term (term_form body.now)))) (assignment_of scope.now)) }
 {
     let mut bindings = bindings_of(variables, declarations)?;
     if has_no_values(&bindings) {

@@ -1,5 +1,5 @@
-//! The plain solver of parameterised Boolean equation systems. It computes the nested fixpoint solution (Groote and
-//! Willemse 2005) equation by equation, over the sets of all instances.
+//! The plain solver of parameterised Boolean equation systems. It computes the nested fixpoint
+//! solution (Groote and Willemse 2005) equation by equation, over the sets of all instances.
 #![tactic(auto)]
 
 mod right;

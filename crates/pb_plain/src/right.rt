@@ -23,8 +23,13 @@ pub(crate) fn right_truth<'a>(
     right: &'a Formula,
     environment: &Environment<'_, '_>,
 ) -> Result<bool, AllocError>
-    requires { FormulaFits (spec_of environment.now.declarations.now) (named_with (names_of parameters.now) values.now (assignment_of scope.now)) (erased_formula (formula_form right.now)) }
-    ensures { IfOk result (λ holds. holds ≡ truth (spec_of environment.now.declarations.now) (named_with (names_of parameters.now) values.now (assignment_of scope.now)) (environment_of (spec_of environment.now.declarations.now) environment.now.truths.now) (erased_formula (formula_form right.now))) }
+    requires { FormulaFits (spec_of environment.now.declarations.now)
+        (named_with (names_of parameters.now) values.now (assignment_of scope.now))
+        (erased_formula (formula_form right.now)) }
+    ensures { IfOk result (λ holds. holds ≡ truth (spec_of environment.now.declarations.now)
+        (named_with (names_of parameters.now) values.now (assignment_of scope.now))
+        (environment_of (spec_of environment.now.declarations.now) environment.now.truths.now)
+        (erased_formula (formula_form right.now))) }
 {
     match parameters.split_first() {
         None => formula_truth(right, scope, environment),
@@ -44,8 +49,13 @@ fn right_truth_of_group<'a>(
     right: &'a Formula,
     environment: &Environment<'_, '_>,
 ) -> Result<bool, AllocError>
-    requires { FormulaFits (spec_of environment.now.declarations.now) (named_with (names_in names.now ++ names_of rest.now) values.now (assignment_of scope.now)) (erased_formula (formula_form right.now)) }
-    ensures { IfOk result (λ holds. holds ≡ truth (spec_of environment.now.declarations.now) (named_with (names_in names.now ++ names_of rest.now) values.now (assignment_of scope.now)) (environment_of (spec_of environment.now.declarations.now) environment.now.truths.now) (erased_formula (formula_form right.now))) }
+    requires { FormulaFits (spec_of environment.now.declarations.now)
+        (named_with (names_in names.now ++ names_of rest.now) values.now (assignment_of scope.now))
+        (erased_formula (formula_form right.now)) }
+    ensures { IfOk result (λ holds. holds ≡ truth (spec_of environment.now.declarations.now)
+        (named_with (names_in names.now ++ names_of rest.now) values.now (assignment_of scope.now))
+        (environment_of (spec_of environment.now.declarations.now) environment.now.truths.now)
+        (erased_formula (formula_form right.now))) }
 {
     let Some((name, names)) = names.split_first() else {
         return right_truth(rest, values, scope, right, environment);

@@ -10,7 +10,8 @@ ghost use Rattle.pb_text_meaning.specs.Erase.{erased_equation};
 ghost use Rattle.pb_text_meaning.specs.Syntax as syntax;
 ghost use Rattle.pb_evaluation.specs.Environment.{all_carriers, environment_of};
 ghost use Rattle.pb_plain.specs.Side.{side_of};
-ghost use Rattle.pb_plain.specs.Step.{ChangesOnly, FitsAt, IsSolvable, JoinsRight, TakesSet, right_truth_at};
+ghost use Rattle.pb_plain.specs.Step.{ChangesOnly, FitsAt, IsSolvable, JoinsRight, TakesSet};
+ghost use Rattle.pb_plain.specs.Step.{right_truth_at};
 
 use crate::right::right_truth;
 use pb_evaluation::{Environment, Scope};
@@ -31,7 +32,8 @@ pub(crate) struct Numbers {
 pub(crate) fn numbers_of(layout: &Layout, equation: usize) -> Numbers
     requires { equation < length layout.now }
     ensures start { result.start ≡ first_of (carriers_of layout.now) equation }
-    ensures end { result.end ≡ first_of (carriers_of layout.now) equation + size_of (carriers_of layout.now) equation }
+    ensures end { result.end ≡ first_of (carriers_of layout.now) equation
+        + size_of (carriers_of layout.now) equation }
     ensures within { result.end ≤ count_of layout.now }
     ensures few { result.end ≤ 4194304 }
 {
@@ -82,8 +84,9 @@ fn starts_full(sign: Sign) -> bool
     }
 }
 
-/// Joins the set of the equation at a place with what its right side gives under an environment, and says whether the
-/// set is another then. A right side is evaluated only where its truth may still change the set.
+/// Joins the set of the equation at a place with what its right side gives under an environment,
+/// and says whether the set is another then. A right side is evaluated only where its truth may
+/// still change the set.
 ///
 /// # Errors
 /// Memory was refused.
@@ -101,9 +104,13 @@ pub(crate) fn improve(
     requires solvable { IsSolvable (spec_of declarations.now) }
     requires truths { length truths.old ≡ count_of layout.now }
     requires below { length below.now ≡ count_of layout.now }
-    ensures joins { OnOk result ((X : syntax.Equation) → slice_get (spec_of declarations.now).equations equation ≡ Some X → JoinsRight (spec_of declarations.now) layout.now equation X below.now truths.old truths.new) }
+    ensures joins { OnOk result ((X : syntax.Equation)
+        → slice_get (spec_of declarations.now).equations equation ≡ Some X
+        → JoinsRight
+        (spec_of declarations.now) layout.now equation X below.now truths.old truths.new) }
     ensures others { OnOk result (ChangesOnly layout.now equation truths.old truths.new) }
-    ensures unchanged { IfOk result (λ changed. changed ≡ false → TakesSet layout.now equation truths.old truths.new) }
+    ensures unchanged { IfOk result (λ changed. changed ≡ false
+        → TakesSet layout.now equation truths.old truths.new) }
 {
     let right_side = &spec.equations[equation];
     let environment = Environment {
@@ -133,8 +140,12 @@ fn right_truth_of(
     environment: &Environment<'_, '_>,
 ) -> Result<bool, AllocError>
     requires number { number < count_of environment.now.layout.now }
-    requires fits { FitsAt (spec_of environment.now.declarations.now) environment.now.layout.now (erased_equation (equation_form equation.now)) number }
-    ensures { IfOk result (λ holds. holds ≡ right_truth_at (spec_of environment.now.declarations.now) (environment_of (spec_of environment.now.declarations.now) environment.now.truths.now) (erased_equation (equation_form equation.now)) environment.now.layout.now number) }
+    requires fits { FitsAt (spec_of environment.now.declarations.now) environment.now.layout.now
+        (erased_equation (equation_form equation.now)) number }
+    ensures { IfOk result (λ holds. holds ≡ right_truth_at
+        (spec_of environment.now.declarations.now)
+        (environment_of (spec_of environment.now.declarations.now) environment.now.truths.now)
+        (erased_equation (equation_form equation.now)) environment.now.layout.now number) }
 {
     let instance = environment.layout.instance(number);
     right_truth(

@@ -1,6 +1,7 @@
 //! The nested solution, equation by equation.
 
-ghost use Rattle.std.specs.Prelude.{◌≡◌, ◌≤◌, ◌<◌, not, true, false, length, drop, IfOk, OnOk, Some, [], vec_len};
+ghost use Rattle.std.specs.Prelude.{◌≡◌, ◌≤◌, ◌<◌, not, true, false, length, drop, IfOk, OnOk};
+ghost use Rattle.std.specs.Prelude.{Some, [], vec_len};
 ghost use Rattle.std.specs.List.{slice_get};
 ghost use Rattle.pb_fixpoint.specs.Solution.{solution};
 ghost use Rattle.pb_text_tree.specs.Form.{spec_form};
@@ -28,7 +29,8 @@ use std::alloc::{AllocError, Global};
 
 /// Brings an environment to the solution of the equations from `first` on under it.
 ///
-/// The sets of these equations lie between `least` and `greatest`; where both are the same, so is the set.
+/// The sets of these equations lie between `least` and `greatest`; where both are the same, so is
+/// the set.
 #[cycle(solver)]
 fn solve_from(
     system: &System<'_, '_>,
@@ -43,9 +45,18 @@ fn solve_from(
     requires count { vec_len truths.old ≡ count_of system.now.layout.now }
     requires lower { length least.now ≡ count_of system.now.layout.now }
     requires upper { length greatest.now ≡ count_of system.now.layout.now }
-    requires least { AreBounds true (drop first (equations_of (spec_of system.now.declarations.now))) (environment_of (spec_of system.now.declarations.now) truths.old.items) (environment_of (spec_of system.now.declarations.now) least.now) }
-    requires greatest { AreBounds false (drop first (equations_of (spec_of system.now.declarations.now))) (environment_of (spec_of system.now.declarations.now) truths.old.items) (environment_of (spec_of system.now.declarations.now) greatest.now) }
-    ensures solved { OnOk result (environment_of (spec_of system.now.declarations.now) truths.new.items ≡ solution (drop first (equations_of (spec_of system.now.declarations.now))) (environment_of (spec_of system.now.declarations.now) truths.old.items)) }
+    requires least { AreBounds true (drop first
+        (equations_of (spec_of system.now.declarations.now)))
+        (environment_of (spec_of system.now.declarations.now) truths.old.items)
+        (environment_of (spec_of system.now.declarations.now) least.now) }
+    requires greatest { AreBounds false (drop first
+        (equations_of (spec_of system.now.declarations.now)))
+        (environment_of (spec_of system.now.declarations.now) truths.old.items)
+        (environment_of (spec_of system.now.declarations.now) greatest.now) }
+    ensures solved { OnOk result (environment_of
+        (spec_of system.now.declarations.now) truths.new.items
+        ≡ solution (drop first (equations_of (spec_of system.now.declarations.now)))
+        (environment_of (spec_of system.now.declarations.now) truths.old.items)) }
     ensures count { OnOk result (vec_len truths.new ≡ count_of system.now.layout.now) }
 {
     if first == system.layout.equation_count() {
@@ -61,11 +72,12 @@ fn solve_from(
     }
 }
 
-/// The same for one equation and those behind it: `near` bounds its sets on the side where the steps begin, and `far`
-/// on the other side.
+/// The same for one equation and those behind it: `near` bounds its sets on the side where the
+/// steps begin, and `far` on the other side.
 ///
-/// The set moves from its near bound towards the fixpoint, at most as often as it has instances; a step that changes
-/// nothing has reached it. What the equations behind had at one step is a near bound of what they get at the next one.
+/// The set moves from its near bound towards the fixpoint, at most as often as it has instances; a
+/// step that changes nothing has reached it. What the equations behind had at one step is a near
+/// bound of what they get at the next one.
 #[cycle(solver)]
 fn approach(
     system: &System<'_, '_>,
@@ -80,9 +92,22 @@ fn approach(
     requires count { vec_len truths.old ≡ count_of system.now.layout.now }
     requires lower { length near.now ≡ count_of system.now.layout.now }
     requires upper { length far.now ≡ count_of system.now.layout.now }
-    requires near { (X : syntax.Equation) → slice_get (spec_of system.now.declarations.now).equations first ≡ Some X → AreBounds (side_of X.sign) (drop first (equations_of (spec_of system.now.declarations.now))) (environment_of (spec_of system.now.declarations.now) truths.old.items) (environment_of (spec_of system.now.declarations.now) near.now) }
-    requires far { (X : syntax.Equation) → slice_get (spec_of system.now.declarations.now).equations first ≡ Some X → AreBounds (not (side_of X.sign)) (drop first (equations_of (spec_of system.now.declarations.now))) (environment_of (spec_of system.now.declarations.now) truths.old.items) (environment_of (spec_of system.now.declarations.now) far.now) }
-    ensures solved { OnOk result (environment_of (spec_of system.now.declarations.now) truths.new.items ≡ solution (drop first (equations_of (spec_of system.now.declarations.now))) (environment_of (spec_of system.now.declarations.now) truths.old.items)) }
+    requires near { (X : syntax.Equation) → slice_get
+        (spec_of system.now.declarations.now).equations first ≡ Some X
+        → AreBounds (side_of X.sign) (drop first
+        (equations_of (spec_of system.now.declarations.now)))
+        (environment_of (spec_of system.now.declarations.now) truths.old.items)
+        (environment_of (spec_of system.now.declarations.now) near.now) }
+    requires far { (X : syntax.Equation) → slice_get
+        (spec_of system.now.declarations.now).equations first ≡ Some X
+        → AreBounds (not (side_of X.sign)) (drop first
+        (equations_of (spec_of system.now.declarations.now)))
+        (environment_of (spec_of system.now.declarations.now) truths.old.items)
+        (environment_of (spec_of system.now.declarations.now) far.now) }
+    ensures solved { OnOk result (environment_of
+        (spec_of system.now.declarations.now) truths.new.items
+        ≡ solution (drop first (equations_of (spec_of system.now.declarations.now)))
+        (environment_of (spec_of system.now.declarations.now) truths.old.items)) }
     ensures count { OnOk result (vec_len truths.new ≡ count_of system.now.layout.now) }
 {
     let sign = system.spec.equations[first].sign;
@@ -124,9 +149,18 @@ fn solve_toward(
     requires count { vec_len truths.old ≡ count_of system.now.layout.now }
     requires lower { length near.now ≡ count_of system.now.layout.now }
     requires upper { length far.now ≡ count_of system.now.layout.now }
-    requires near { AreBounds (side_of sign) (drop first (equations_of (spec_of system.now.declarations.now))) (environment_of (spec_of system.now.declarations.now) truths.old.items) (environment_of (spec_of system.now.declarations.now) near.now) }
-    requires far { AreBounds (not (side_of sign)) (drop first (equations_of (spec_of system.now.declarations.now))) (environment_of (spec_of system.now.declarations.now) truths.old.items) (environment_of (spec_of system.now.declarations.now) far.now) }
-    ensures solved { OnOk result (environment_of (spec_of system.now.declarations.now) truths.new.items ≡ solution (drop first (equations_of (spec_of system.now.declarations.now))) (environment_of (spec_of system.now.declarations.now) truths.old.items)) }
+    requires near { AreBounds (side_of sign) (drop first
+        (equations_of (spec_of system.now.declarations.now)))
+        (environment_of (spec_of system.now.declarations.now) truths.old.items)
+        (environment_of (spec_of system.now.declarations.now) near.now) }
+    requires far { AreBounds (not (side_of sign))
+        (drop first (equations_of (spec_of system.now.declarations.now)))
+        (environment_of (spec_of system.now.declarations.now) truths.old.items)
+        (environment_of (spec_of system.now.declarations.now) far.now) }
+    ensures solved { OnOk result (environment_of
+        (spec_of system.now.declarations.now) truths.new.items
+        ≡ solution (drop first (equations_of (spec_of system.now.declarations.now)))
+        (environment_of (spec_of system.now.declarations.now) truths.old.items)) }
     ensures count { OnOk result (vec_len truths.new ≡ count_of system.now.layout.now) }
 {
     match sign {
@@ -135,12 +169,14 @@ fn solve_toward(
     }
 }
 
-/// The truth of the initial instance in the nested fixpoint solution of a text's equations (Groote and Willemse 2005).
+/// The truth of the initial instance in the nested fixpoint solution of a text's equations (Groote
+/// and Willemse 2005).
 ///
-/// The text is well typed, none of its declarations is at fault, and `layout` has the carriers of its parameters, as
-/// type checking answers. The only error is want of memory. Recursion goes as deep as there are equations, and as
-/// formulas nest. Sets of one sign are kept from one step of an outer equation to the next, so that the time grows
-/// exponentially with the number of alternations alone.
+/// The text is well typed, none of its declarations is at fault, and `layout` has the carriers of
+/// its parameters, as type checking answers. The only error is want of memory. Recursion goes as
+/// deep as there are equations, and as formulas nest. Sets of one sign are kept from one step of an
+/// outer equation to the next, so that the time grows exponentially with the number of alternations
+/// alone.
 pub(crate) fn solve_spec(alloc: Global, spec: &Spec, layout: &Layout) -> Result<bool, AllocError>
     requires faultless { declaration_faults (spec_form spec.now) ≡ [] }
     requires well_typed { IsWellTyped (erase (spec_form spec.now)) }

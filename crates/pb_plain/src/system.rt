@@ -1,4 +1,5 @@
-//! What the equations of a text are solved over: its declarations, and the numbers of its instances.
+//! What the equations of a text are solved over: its declarations, and the numbers of its
+//! instances.
 
 ghost use Rattle.std.specs.Prelude.{◌≡◌, length};
 ghost use Rattle.pb_typing_declarations.specs.View.{spec_of};

@@ -9,8 +9,8 @@ use crate::solver::solve_spec;
 use pb_typing::Typed;
 use std::alloc::{AllocError, Global};
 
-/// Whether the initial instance is true in the nested fixpoint solution of the text's equations (Groote and Willemse
-/// 2005).
+/// Whether the initial instance is true in the nested fixpoint solution of the text's equations
+/// (Groote and Willemse 2005).
 ///
 /// # Errors
 /// Memory was refused.

@@ -4,10 +4,10 @@ use Rattle.pb_text_tree.specs.Form.{EnumeratorForm, SortForm, SortDeclarationFor
 use Rattle.pb_text_lexer.specs.declared.kind.Kind.{Kind}
 use Rattle.pb_text_lexer.specs.declared.kind.Kind.TheVariants as k
 use Rattle.pb_text_lexer.specs.Kinds.{same_kind, is_last}
-use Rattle.pb_text_lexer.specs.Grammar.{State, Reads, Is, Nothing, One, First, Series, last, more}
+use Rattle.pb_text_lexer.specs.Grammar.{State, Is, One, First, Series, last, more}
 use Rattle.pb_text_lexer.specs.Grammar as grammar
 use Rattle.pb_text_lexer.specs.LeftGrammar.{Listed}
-use Rattle.pb_text_lexer.specs.Steps.{ends, Step, pure, take_token, expect, refuse, unless_next, nothing_between}
+use Rattle.pb_text_lexer.specs.Steps.{ends, Step, pure, take_token, expect, unless_next, nothing_between}
 use Rattle.pb_text_lexer.specs.Steps as step
 use Rattle.pb_text_lexer.specs.Tokens.{Tok}
 use Rattle.pb_text_lexer.proofs.TokenLemmas.{kind-same, same-kind}
@@ -72,9 +72,6 @@ module _ {X : Type 0} (item : Family X) (g test : Kind → Bool) (depth : ℕ) (
   }
 
 -- ---- enumerators
-
-question-goes : Kind → Bool
-question-goes = going never is_question
 
 plain-correct : (depth : ℕ) → Correct Always plain (λ d. Plain) never depth
 plain-correct depth =

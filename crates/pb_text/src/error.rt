@@ -17,7 +17,8 @@ pub enum TextRule {
     UnexpectedToken,
     /// P03: a number above 2^62.
     LargeNumber,
-    /// P04: a token that opens level 65, or the 8,193rd operator with two operands in an equation or in `init`.
+    /// P04: a token that opens level 65, or the 8,193rd operator with two operands in an equation
+    /// or in `init`.
     LimitExceeded,
     /// P05: a range line that isn't a name and two bounds in order, each within 32 bits.
     RangeLine,

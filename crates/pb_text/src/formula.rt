@@ -1,8 +1,9 @@
-//! Reads formulas, by recursive descent. A chain of one connective is read by a loop, so that the recursion is as deep
-//! as brackets, negations and quantifiers nest.
+//! Reads formulas, by recursive descent. A chain of one connective is read by a loop, so that the
+//! recursion is as deep as brackets, negations and quantifiers nest.
 
 ghost use Rattle.std.specs.Prelude.{◌≡◌, ◌<◌, ◌≤◌, length, Ok, OnOk, IfOk};
-ghost use Rattle.pb_text_tree.specs.Form.{FormulaForm, formula_form, term_form, chained, link_forms};
+ghost use Rattle.pb_text_tree.specs.Form.{FormulaForm, formula_form, term_form, chained};
+ghost use Rattle.pb_text_tree.specs.Form.{link_forms};
 ghost use Rattle.pb_text_lexer.specs.Grammar.{State};
 ghost use Rattle.pb_text_lexer.specs.Steps as spec;
 ghost use Rattle.pb_text_lexer.specs.Steps.{Gives};
@@ -28,7 +29,8 @@ fn joined(
     links: Vec<Link>,
 ) -> Result<Formula, AllocError>
     ensures { IfOk result (λ f. formula_form f
-        ≡ chained (FormulaForm.connected connective) (formula_form first) (link_forms links.items)) }
+        ≡ chained (FormulaForm.connected connective) (formula_form first)
+        (link_forms links.items)) }
 {
     if links.is_empty() {
         return Ok(first);
@@ -97,7 +99,8 @@ fn value(input: &mut Input<'_>, alloc: Global, depth: u32) -> Result<Formula, Re
     Ok(Formula::Value { place, term })
 }
 
-/// A negation, a formula in brackets, a constant, a data term or an instance, in which so many levels may open.
+/// A negation, a formula in brackets, a constant, a data term or an instance, in which so many
+/// levels may open.
 #[cycle(formulas)]
 #[tactic(auto, unfolding(crate::specs::Reading::node))]
 fn node(input: &mut Input<'_>, alloc: Global, depth: u32) -> Result<Formula, ReadingFault>
@@ -161,7 +164,8 @@ fn operand(
     connective: Connective,
     depth: u32,
 ) -> Result<Formula, ReadingFault>
-    ensures reads { Gives formula_form (reading.operand connective depth input.old) result input.new }
+    ensures reads { Gives formula_form
+        (reading.operand connective depth input.old) result input.new }
     ensures fewer { OnOk result (length input.new.tokens < length input.old.tokens) }
 {
     match connective {
@@ -184,7 +188,9 @@ fn chain(
     depth: u32,
     first: Formula,
 ) -> Result<Formula, ReadingFault>
-    ensures reads { (s : State) → reading.operand connective depth s ≡ Ok (formula_form first, input.old) → length input.old.tokens < length s.tokens → Gives formula_form (reading.level connective depth s) result input.new }
+    ensures reads { (s : State) → reading.operand connective depth s
+        ≡ Ok (formula_form first, input.old) → length input.old.tokens < length s.tokens
+        → Gives formula_form (reading.level connective depth s) result input.new }
     ensures fewer { OnOk result (length input.new.tokens ≤ length input.old.tokens) }
 {
     let mut links = Vec::with_capacity(alloc, 1)?;
@@ -206,7 +212,9 @@ fn chain_behind(
     depth: u32,
     first: Formula,
 ) -> Result<Formula, ReadingFault>
-    ensures reads { (s : State) → reading.operand connective depth s ≡ Ok (formula_form first, input.old) → length input.old.tokens < length s.tokens → Gives formula_form (reading.level connective depth s) result input.new }
+    ensures reads { (s : State) → reading.operand connective depth s
+        ≡ Ok (formula_form first, input.old) → length input.old.tokens < length s.tokens
+        → Gives formula_form (reading.level connective depth s) result input.new }
     ensures fewer { OnOk result (length input.new.tokens ≤ length input.old.tokens) }
 {
     if !same_kind(input.kind(), symbol(connective)) {
@@ -242,7 +250,9 @@ fn connectives_behind(
     depth: u32,
     first: Formula,
 ) -> Result<Formula, ReadingFault>
-    ensures reads { (s : State) → reading.primary depth s ≡ Ok (formula_form first, input.old) → length input.old.tokens < length s.tokens → Gives formula_form (reading.formula depth s) result input.new }
+    ensures reads { (s : State) → reading.primary depth s ≡ Ok (formula_form first, input.old)
+        → length input.old.tokens < length s.tokens
+        → Gives formula_form (reading.formula depth s) result input.new }
     ensures fewer { OnOk result (length input.new.tokens ≤ length input.old.tokens) }
 {
     let conjunction = chain_behind(input, alloc, Connective::And, depth, first)?;
@@ -250,7 +260,8 @@ fn connectives_behind(
     chain_behind(input, alloc, Connective::Implies, depth, disjunction)
 }
 
-/// A formula, in which so many levels may open. Most often no connective follows its first part at all.
+/// A formula, in which so many levels may open. Most often no connective follows its first part at
+/// all.
 #[cycle(formulas)]
 pub fn formula(input: &mut Input<'_>, alloc: Global, depth: u32) -> Result<Formula, ReadingFault>
     ensures reads { Gives formula_form (reading.formula depth input.old) result input.new }

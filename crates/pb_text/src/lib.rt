@@ -1,7 +1,8 @@
 //! Reads the text of a parameterised Boolean equation system into its syntax tree.
 //!
-//! `specs/Grammar.antt` is the grammar, a relation between tokens and what they say. `specs/Reading.antt` is the same
-//! as a function, which the code computes; no public clause cites it. `specs/Parsing.antt` has what `parse` ensures.
+//! `specs/Grammar.antt` is the grammar, a relation between tokens and what they say.
+//! `specs/Reading.antt` is the same as a function, which the code computes; no public clause cites
+//! it. `specs/Parsing.antt` has what `parse` ensures.
 #![tactic(auto)]
 
 pub mod error;

@@ -29,7 +29,8 @@ pub fn open<'a>(input: &mut Input<'a>, depth: u32) -> Result<Token<'a>, ReadingF
 /// Refuses the next token if it is of this kind.
 pub fn unless(input: &Input<'_>, kind: Kind) -> Result<(), ReadingFault>
     ensures { MatchResult result (λ u. same_kind (spec.kind input.now) kind ≡ false)
-        (λ e. (same_kind (spec.kind input.now) kind ≡ true) × (e ≡ ReadingFault.At (spec.refusal ReadingRule.Unexpected input.now.tokens))) }
+        (λ e. (same_kind (spec.kind input.now) kind ≡ true)
+        × (e ≡ ReadingFault.At (spec.refusal ReadingRule.Unexpected input.now.tokens))) }
 {
     if same_kind(input.kind(), kind) {
         Err(input.refuse(ReadingRule::Unexpected))

@@ -37,7 +37,8 @@ fn enumerator(input: &mut Input<'_>, alloc: Global) -> Result<Enumerator, Readin
 
 /// Enumerators with `|` between them.
 fn enumerators(input: &mut Input<'_>, alloc: Global) -> Result<Vec<Enumerator>, ReadingFault>
-    ensures reads { Gives (λ v. map enumerator_form v.items) (reading.enumerators input.old) result input.new }
+    ensures reads { Gives (λ v. map enumerator_form v.items)
+        (reading.enumerators input.old) result input.new }
     ensures fewer { OnOk result (length input.new.tokens < length input.old.tokens) }
 {
     let mut enumerators = Vec::new(alloc);
@@ -87,7 +88,8 @@ fn declaration(input: &mut Input<'_>, alloc: Global) -> Result<SortDeclaration, 
 
 /// One declaration or more.
 fn declarations(input: &mut Input<'_>, alloc: Global) -> Result<Vec<SortDeclaration>, ReadingFault>
-    ensures reads { Gives (λ v. map sort_declaration_form v.items) (reading.declarations input.old) result input.new }
+    ensures reads { Gives (λ v. map sort_declaration_form v.items)
+        (reading.declarations input.old) result input.new }
     ensures fewer { OnOk result (length input.new.tokens < length input.old.tokens) }
 {
     let mut declarations = Vec::new(alloc);
@@ -103,7 +105,8 @@ fn declarations(input: &mut Input<'_>, alloc: Global) -> Result<Vec<SortDeclarat
 /// `sort` and its declarations.
 #[tactic(auto, unfolding(crate::specs::Reading::sort_part))]
 fn sort_part(input: &mut Input<'_>, alloc: Global) -> Result<Vec<SortDeclaration>, ReadingFault>
-    ensures reads { Gives (λ v. map sort_declaration_form v.items) (reading.sort_part input.old) result input.new }
+    ensures reads { Gives (λ v. map sort_declaration_form v.items)
+        (reading.sort_part input.old) result input.new }
     ensures fewer { OnOk result (length input.new.tokens < length input.old.tokens) }
 {
     input.expect(Kind::Sort)?;
@@ -115,7 +118,8 @@ pub fn sort_parts(
     input: &mut Input<'_>,
     alloc: Global,
 ) -> Result<Vec<SortDeclaration>, ReadingFault>
-    ensures { Gives (λ v. map sort_declaration_form v.items) (reading.sort_parts input.old) result input.new }
+    ensures { Gives (λ v. map sort_declaration_form v.items)
+        (reading.sort_parts input.old) result input.new }
 {
     unless(input, Kind::Name)?;
     let mut sorts = Vec::new(alloc);

@@ -1,7 +1,8 @@
 //! Reads equations and whole texts.
 
 ghost use Rattle.std.specs.Prelude.{◌≡◌, ◌<◌, ◌≤◌, length, OnOk, map, []};
-ghost use Rattle.pb_text_tree.specs.Form.{formula_form, variable_forms, equation_form, instance_form, range_form, spec_form};
+ghost use Rattle.pb_text_tree.specs.Form.{formula_form, variable_forms, equation_form};
+ghost use Rattle.pb_text_tree.specs.Form.{instance_form, range_form, spec_form};
 ghost use Rattle.pb_text_lexer.specs.Steps.{Gives};
 ghost use Rattle.pb_text.specs.Parsing.{depth_limit};
 ghost use Rattle.pb_text.specs.Reading as reading;
@@ -48,7 +49,8 @@ fn sign(input: &mut Input<'_>) -> Result<Sign, ReadingFault>
 /// The parameters of an equation, in brackets, if it has any.
 #[tactic(auto, unfolding(crate::specs::Reading::parameters))]
 fn parameters(input: &mut Input<'_>, alloc: Global) -> Result<Vec<Variables>, ReadingFault>
-    ensures reads { Gives (λ v. variable_forms v.items) (reading.parameters depth_limit input.old) result input.new }
+    ensures reads { Gives (λ v. variable_forms v.items)
+        (reading.parameters depth_limit input.old) result input.new }
     ensures fewer { OnOk result (length input.new.tokens ≤ length input.old.tokens) }
 {
     if !same_kind(input.kind(), Kind::Open) {
@@ -95,7 +97,8 @@ fn equation(input: &mut Input<'_>, alloc: Global) -> Result<Equation, ReadingFau
 
 /// One equation or more.
 fn equations(input: &mut Input<'_>, alloc: Global) -> Result<Vec<Equation>, ReadingFault>
-    ensures { Gives (λ v. map equation_form v.items) (reading.equations depth_limit input.old) result input.new }
+    ensures { Gives (λ v. map equation_form v.items)
+        (reading.equations depth_limit input.old) result input.new }
 {
     let mut equations = Vec::new(alloc);
     'equations: loop {
@@ -110,7 +113,8 @@ fn equations(input: &mut Input<'_>, alloc: Global) -> Result<Vec<Equation>, Read
 /// The instance that is asked for, with all the operators that its arguments may have.
 #[tactic(auto, unfolding(crate::specs::Reading::initial_instance))]
 fn initial_instance(input: &mut Input<'_>, alloc: Global) -> Result<Instance, ReadingFault>
-    ensures { Gives instance_form (reading.initial_instance depth_limit input.old) result input.new }
+    ensures { Gives instance_form
+        (reading.initial_instance depth_limit input.old) result input.new }
 {
     let allowed = input.operators();
     let initial = instance(input, alloc, DEPTH_LIMIT)?;

@@ -16,21 +16,24 @@ use std::alloc::Global;
 ///
 /// Range lines may stand anywhere in it; the tree has them in order.
 ///
-/// A text that says nothing is refused at its least fault: `TextRule::UnknownByte` (P01), `TextRule::LargeNumber` (P03) or
-/// `TextRule::RangeLine` (P05) where a token should stand and none does, `TextRule::UnexpectedToken` (P02) at the first token
-/// with which no text goes on, `TextRule::LimitExceeded` (P04) at a token that goes past a limit. Lines and columns count
-/// from 1, columns in bytes; the end of the text stands where its next byte would.
+/// A text that says nothing is refused at its least fault: `TextRule::UnknownByte` (P01),
+/// `TextRule::LargeNumber` (P03) or `TextRule::RangeLine` (P05) where a token should stand and none
+/// does, `TextRule::UnexpectedToken` (P02) at the first token with which no text goes on,
+/// `TextRule::LimitExceeded` (P04) at a token that goes past a limit. Lines and columns count from
+/// 1, columns in bytes; the end of the text stands where its next byte would.
 pub fn parse(alloc: Global, bytes: &[u8]) -> Result<Spec, TextError>
     requires { length bytes.now ≤ 67108864 }
     // It is what the bytes say, within the limits, places included.
     ensures reading { IfOk result (λ s. IsReading bytes.now (spec_form s)) }
     // They say nothing else, within any limits.
-    ensures only { IfOk result (λ s. (d n : ℕ) (x : SpecForm) → IsReadingWithin d n bytes.now x → x ≡ spec_form s) }
+    ensures only { IfOk result (λ s. (d n : ℕ) (x : SpecForm) → IsReadingWithin d n bytes.now x
+        → x ≡ spec_form s) }
     // Only where they say nothing within the limits, or memory runs out, is there no text.
     ensures refused { IfErr result (λ e. NoReading bytes.now e) }
-    // The fault stands at its place, and nothing that is no token stands before it. Some text begins with the tokens
-    // before it, so P02 stands at the first with which none goes on. At P04 none begins with that token within the limits,
-    // and with one level and one operator more some does.
+    // The fault stands at its place, and nothing that is no token stands before it. Some text
+    // begins with the tokens before it, so P02 stands at the first with which none goes on. At P04
+    // none begins with that token within the limits, and with one level and one operator more some
+    // does.
     ensures stands { IfErr result (λ e. IsFirstFault bytes.now e) }
 {
     let mut input = Input::new(bytes, OPERATOR_LIMIT);

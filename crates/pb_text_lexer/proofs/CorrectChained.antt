@@ -1,5 +1,6 @@
 -- Chains whose last operand may be open. A reading of an open level is followed by no connective; one of a closed level may be.
 use Rattle.std.proofs.Common.{◌≡◌, ℕ, zero, suc, ◌+◌, ◌≤◌, ◌<◌, Bool, true, false, cond, ◌⊎◌, inl, inr, List, [], ◌∷◌, ◌++◌, length, refl, sym, ◌∙◌, ap, subst, append_assoc, arith, Ok, Err}
+use Rattle.std.proofs.lemmas.Bool.{or_from}
 use Rattle.pb_text_lexer.specs.declared.kind.Kind.{Kind}
 use Rattle.pb_text_lexer.specs.declared.fault.ReadingRule.{ReadingRule}
 use Rattle.pb_text_lexer.specs.declared.fault.ReadingRule.TheVariants.{Limit}
@@ -12,7 +13,7 @@ use Rattle.pb_text_lexer.specs.Steps.{ends, head_kind, Step, Outcome, and_then, 
 use Rattle.pb_text_lexer.specs.Steps as step
 use Rattle.pb_text_lexer.proofs.TokenLemmas.{kind-same, same-kind}
 use Rattle.pb_text_lexer.proofs.Correct.{st, Family, Stops, never, stops-never, Readable, GoesOn, free-to, goes-to, Took, Refused, Answers, HeadIs, move, within-less, operator-answers}
-use Rattle.pb_text_lexer.proofs.CorrectSeries.{shorter, no-longer, going, Passes, or-none, stops-less, stops-at, goes-at, passes-at, passes-move, passes-is}
+use Rattle.pb_text_lexer.proofs.CorrectSeries.{shorter, no-longer, going, Passes, stops-less, stops-at, goes-at, passes-at, passes-move, passes-is}
 
 abbrev pub is_symbol : Kind → Kind → Bool
 is_symbol c kind = same_kind kind c
@@ -381,7 +382,7 @@ module _ {X : Type 0} (c : Kind) (join : X → Tok → X → X) (famC famO : Fam
 
         stops-of : (ts : List Tok) → Stops g ts → is_symbol c (head_kind ts) ≡ false → Stops gg ts
         stops-of [] h other = refl
-        stops-of (t ∷ ts) h other = or-none (g t.kind) _ h other
+        stops-of (t ∷ ts) h other = or_from (g t.kind) _ h other
 
         at-kind : (s1 : State) (x : X) → Opened famO famC g conn depth s x s1
             → ((s2 : State) → length s2.tokens ≤ n → ends s2.tokens ≡ true → AnswersOpen opens closeds gg conn depth s2 (chain c join op n s2))

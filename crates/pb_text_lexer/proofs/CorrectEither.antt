@@ -1,5 +1,7 @@
 -- A level whose last operand may be a quantifier, and the three levels of connectives over it.
 use Rattle.std.proofs.Common.{◌≡◌, ℕ, suc, ◌+◌, Bool, true, false, cond, if◌then◌else◌, ◌||◌, inl, inr, List, [], ◌∷◌, ◌++◌, refl, ap, ◌∙◌, Ok, Err}
+use Rattle.std.proofs.lemmas.Bool.{or_from, or_parts}
+use Rattle.std.proofs.Math.Bool.{or-true}
 use Rattle.pb_text_lexer.specs.declared.kind.Kind.{Kind}
 use Rattle.pb_text_lexer.specs.declared.kind.Kind.TheVariants.{And, Or, Implies}
 use Rattle.pb_text_lexer.specs.declared.fault.Refusal.{Refusal}
@@ -9,7 +11,7 @@ use Rattle.pb_text_lexer.specs.Grammar.{State, Within, going_on}
 use Rattle.pb_text_lexer.specs.OpenGrammar.{Either, Conjunction, Disjunction, Implication, Connected}
 use Rattle.pb_text_lexer.specs.Steps.{ends, head_kind, Step, Outcome, kind, either, conjunction, disjunction, connected}
 use Rattle.pb_text_lexer.proofs.Correct.{st, Family, Stops, free-to, goes-to, Took, Refused, Answers, Answering, Correct}
-use Rattle.pb_text_lexer.proofs.CorrectSeries.{going, Passes, passes-is, or-left, or-right, or-none}
+use Rattle.pb_text_lexer.proofs.CorrectSeries.{going, Passes, passes-is}
 use Rattle.pb_text_lexer.proofs.CorrectChained.{is_symbol, Like, Opened, RefusedOpen, AnswersOpen, CorrectOpen, open-chains-correct}
 
 -- ---- the lowest level: an operand, or a quantifier, by the first token
@@ -192,25 +194,25 @@ module _ {X : Type 0} (join : Kind → X → Tok → X → X) (node quant : Fami
     (node-starts : (d : ℕ) (s : State) (y : X) (z : State) → node d s y z → Passes (Not is_quant) s.tokens)
     (quant-starts : (d : ℕ) (s : State) (y : X) (z : State) → quant d s y z → Passes is_quant s.tokens) where
   less : (k : Kind) → connects g k ≡ false → g k ≡ false
-  less k h = or-left (g k) _ (or-left _ _ (or-left _ _ h))
+  less k h = (or_parts (g k) _ (or_parts _ _ (or_parts _ _ h).0).0).0
 
   on-and : (k : Kind) → is_symbol And k ≡ true → connects g k ≡ true
   on-and k h = ap (λ v. ((g k || v) || is_symbol Or k) || is_symbol Implies k) h
-      ∙ ap (λ v. (v || is_symbol Or k) || is_symbol Implies k) (or-right (g k))
+      ∙ ap (λ v. (v || is_symbol Or k) || is_symbol Implies k) (or-true (g k))
 
   on-or : (k : Kind) → is_symbol Or k ≡ true → connects g k ≡ true
-  on-or k h = ap (λ v. (going g (is_symbol And) k || v) || is_symbol Implies k) h ∙ ap (λ v. v || is_symbol Implies k) (or-right (going g (is_symbol And) k))
+  on-or k h = ap (λ v. (going g (is_symbol And) k || v) || is_symbol Implies k) h ∙ ap (λ v. v || is_symbol Implies k) (or-true (going g (is_symbol And) k))
 
   on-implies : (k : Kind) → is_symbol Implies k ≡ true → connects g k ≡ true
-  on-implies k h = ap (λ v. going (going g (is_symbol And)) (is_symbol Or) k || v) h ∙ or-right (going (going g (is_symbol And)) (is_symbol Or) k)
+  on-implies k h = ap (λ v. going (going g (is_symbol And)) (is_symbol Or) k || v) h ∙ or-true (going (going g (is_symbol And)) (is_symbol Or) k)
 
   or-apart : going g (is_symbol And) Or ≡ false
   unfolding same_kind
-  or-apart = or-none (g Or) false below.disjunction refl
+  or-apart = or_from (g Or) false below.disjunction refl
 
   implies-apart : going (going g (is_symbol And)) (is_symbol Or) Implies ≡ false
   unfolding same_kind
-  implies-apart = or-none (going g (is_symbol And) Implies) false (or-none (g Implies) false below.implication refl) refl
+  implies-apart = or_from (going g (is_symbol And) Implies) false (or_from (g Implies) false below.implication refl) refl
 
   -- three levels over a node and a quantifier
   pub connected-correct : (n q : Step X) → Correct (λ ts. Unit {0}) n node g depth → Answering (Passes is_quant) q quant (connects g) depth

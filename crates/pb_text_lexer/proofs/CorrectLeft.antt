@@ -1,13 +1,14 @@
 -- Chains that group to the left, chains of unmixed operators and comparisons are read rightly.
 use Rattle.std.proofs.Common.{◌≡◌, ◌≢◌, ℕ, suc, ◌+◌, ◌-◌, ◌≤◌, ◌<◌, Bool, true, false, cond, ◌||◌, ◌==◌, ◌⊎◌, inl, inr, List, [], ◌∷◌, ◌++◌, length, refl, sym, ◌∙◌, ap, subst, append_assoc, arith, Ok, Err}
 use Rattle.std.proofs.lemmas.Bool.Decides.{eqb_tells}
-use Rattle.std.proofs.Math.Bool.{or_assoc}
+use Rattle.std.proofs.Math.Bool.{or_assoc, or-true}
+use Rattle.std.proofs.lemmas.Bool.{or_from}
 use Rattle.pb_text_lexer.specs.declared.kind.Kind.{Kind}
 use Rattle.pb_text_lexer.specs.declared.fault.ReadingRule.TheVariants.{Unexpected, Limit}
 use Rattle.pb_text_lexer.specs.declared.fault.Refusal.{Refusal}
 use Rattle.pb_text_lexer.specs.Kinds.{is_last, is_limited}
 use Rattle.pb_text_lexer.specs.Tokens.{Tok}
-use Rattle.pb_text_lexer.specs.Grammar.{State, Within, going_on, Reads, Is, Series, last, more}
+use Rattle.pb_text_lexer.specs.Grammar.{State, Within, going_on, Is, last, more}
 use Rattle.pb_text_lexer.specs.Grammar as grammar
 use Rattle.pb_text_lexer.specs.OpenGrammar.{Either}
 use Rattle.pb_text_lexer.specs.LeftGrammar.{OperatorOf, Extended, Link, Links, Linked, LeftChain, UnmixedChain, Comparison, grouped}
@@ -15,7 +16,7 @@ use Rattle.pb_text_lexer.specs.Steps.{ends, head_kind, Step, Outcome, and_then, 
 use Rattle.pb_text_lexer.specs.Steps as step
 use Rattle.pb_text_lexer.proofs.TokenLemmas.{ends-behind}
 use Rattle.pb_text_lexer.proofs.Correct.{st, Family, Stops, never, GoesOn, free-to, goes-to, goes-ended, some-token, Took, Refused, Answers, Answering, Correct, move, one-took, refused-here, unlike, then-took, then-refused, then-answers, then-correct, pure-correct}
-use Rattle.pb_text_lexer.proofs.CorrectSeries.{going, Passes, or-none, or-right, stops-less, stops-at, goes-at, passes-at, passes-move, passes-is, shorter, no-longer, series-correct}
+use Rattle.pb_text_lexer.proofs.CorrectSeries.{going, Passes, stops-less, stops-at, goes-at, passes-at, passes-move, passes-is, shorter, no-longer, series-correct}
 use Rattle.pb_text_lexer.proofs.CorrectPlain.{Always, anywhere, then-plain-answers, is-correct}
 
 -- ---- tests of the next token
@@ -30,7 +31,7 @@ passes-head test (t ∷ ts) h = h
 
 head-stops : (g test : Kind → Bool) (ts : List Tok) → Stops g ts → test (head_kind ts) ≡ false → Stops (going g test) ts
 head-stops g test [] h other = refl
-head-stops g test (t ∷ ts) h other = or-none (g t.kind) _ h other
+head-stops g test (t ∷ ts) h other = or_from (g t.kind) _ h other
 
 -- operators with two operands, behind which more tokens stand
 pub record AreOperators (test : Kind → Bool) : Type 0 where
@@ -548,7 +549,7 @@ module _ {X : Type 0} (item : Family X) (g test other : Kind → Bool) (join : X
     where
       more-kinds : (ts : List Tok) → Passes other ts → Passes any ts
       more-kinds [] h = h
-      more-kinds (t ∷ ts) h = ap (λ v. test t.kind || v) h ∙ or-right (test t.kind)
+      more-kinds (t ∷ ts) h = ap (λ v. test t.kind || v) h ∙ or-true (test t.kind)
 
   pub unmixed_chain-correct : Correct Always (unmixed_chain test other join p) (λ d. UnmixedChain test other join (item d)) (going g any) depth
   unmixed_chain-correct =

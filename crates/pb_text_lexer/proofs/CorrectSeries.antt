@@ -1,9 +1,11 @@
 -- A series of items is read rightly, whatever the items are.
 use Rattle.std.proofs.Common.{◌≡◌, ℕ, zero, suc, ◌+◌, ◌≤◌, ◌<◌, Bool, true, false, cond, ◌||◌, ◌⊎◌, inl, inr, List, [], ◌∷◌, ◌++◌, length, refl, sym, ◌∙◌, ap, subst, append_assoc, arith, length-append, Ok, Err}
+use Rattle.std.proofs.lemmas.Bool.{or_from, or_parts}
+use Rattle.std.proofs.Math.Bool.{or-true}
 use Rattle.pb_text_lexer.specs.declared.kind.Kind.{Kind}
 use Rattle.pb_text_lexer.specs.declared.fault.Refusal.{Refusal}
 use Rattle.pb_text_lexer.specs.Tokens.{Tok}
-use Rattle.pb_text_lexer.specs.Grammar.{State, Within, going_on, Reads, Is, Series, last, more}
+use Rattle.pb_text_lexer.specs.Grammar.{State, Within, going_on, Is, Series, last, more}
 use Rattle.pb_text_lexer.specs.Grammar as grammar
 use Rattle.pb_text_lexer.specs.Steps.{ends, head_kind, Step, Outcome, and_then, pure, kind, series}
 use Rattle.pb_text_lexer.specs.Steps as step
@@ -18,21 +20,9 @@ abbrev pub Passes : (Kind → Bool) → List Tok → Type 0
 Passes test [] = ⊥
 Passes test (t ∷ ts) = test t.kind ≡ true
 
-pub or-left : (a b : Bool) → (a || b) ≡ false → a ≡ false
-or-left true b e = e
-or-left false b e = refl
-
-pub or-right : (a : Bool) → (a || true) ≡ true
-or-right true = refl
-or-right false = refl
-
-pub or-none : (a b : Bool) → a ≡ false → b ≡ false → (a || b) ≡ false
-or-none true b e f = e
-or-none false b e f = f
-
 pub stops-less : (g test : Kind → Bool) (ts : List Tok) → Stops (going g test) ts → Stops g ts
 stops-less g test [] h = refl
-stops-less g test (t ∷ ts) h = or-left (g t.kind) _ h
+stops-less g test (t ∷ ts) h = (or_parts (g t.kind) _ h).0
 
 pub stops-at : (g test : Kind → Bool) (ts : List Tok) → ((k : Kind) → test k ≡ true → g k ≡ false) → Passes test ts → Stops g ts
 stops-at g test [] apart h = absurd h
@@ -40,7 +30,7 @@ stops-at g test (t ∷ ts) apart h = apart t.kind h
 
 pub goes-at : (g test : Kind → Bool) (ts : List Tok) → Passes test ts → Stops (going g test) ts → ⊥
 goes-at g test [] h e = h
-goes-at g test (t ∷ ts) h e = let on : (g t.kind || test t.kind) ≡ true = ap (λ v. g t.kind || v) h ∙ or-right (g t.kind) in cc
+goes-at g test (t ∷ ts) h e = let on : (g t.kind || test t.kind) ≡ true = ap (λ v. g t.kind || v) h ∙ or-true (g t.kind) in cc
 
 pub head-at : (k : Kind) (ts us : List Tok) (t : Tok) → ts ≡ t ∷ us → t.kind ≡ k → HeadIs k ts
 head-at k ts us t e h = subst (λ (v : List Tok). HeadIs k v) (sym e) h
@@ -251,7 +241,7 @@ module _ {X T Y : Type 0} (item : Family X) (between : Family T) (end : X → Y)
 
         stops-of : (ts : List Tok) → Stops g ts → test (head_kind ts) ≡ false → Stops (going g test) ts
         stops-of [] h other = refl
-        stops-of (t ∷ ts) h other = or-none (g t.kind) _ h other
+        stops-of (t ∷ ts) h other = or_from (g t.kind) _ h other
 
         at-kind : (s1 : State) (x : X) → Took item g depth s x s1
             → ((s2 : State) → length s2.tokens ≤ n → ends s2.tokens ≡ true → Answers many (going g test) depth s2 (series p test q end join n s2))

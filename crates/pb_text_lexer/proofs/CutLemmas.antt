@@ -1,5 +1,6 @@
 -- A text is cut in one way, and each of its tokens stands where it is cut.
 use Rattle.std.proofs.Common.{◌≡◌, ℕ, ◌<◌, Bool, true, false, cond, inl, inr, List, [], ◌∷◌, ◌++◌, length, take, drop, refl, sym, ap, ◌∙◌, subst, arith}
+use Rattle.std.proofs.lemmas.List.{same_from_push}
 use Rattle.pb_text_tree.specs.declared.place.Place.{Place}
 use Rattle.pb_text_tree.specs.Form.{RangeForm}
 use Rattle.pb_text_lexer.specs.declared.kind.Kind.{Kind}
@@ -98,18 +99,6 @@ before-end (t ∷ ts) (f ∷ front) more e next m h =
     let found = before-end ts front more e next m q in
     (found.0, ap (λ v. v ∷ ts) p ∙ ap (λ v. f ∷ v) found.1)
 
--- two lists with one more at their ends
-same-ends : (ts us : List Tok) (e f : Tok) → ts ++ e ∷ [] ≡ us ++ f ∷ [] → (ts ≡ us) × (e ≡ f)
-same-ends [] [] e f h = let p : e ≡ f = cc in (refl, p)
-same-ends [] (u ∷ []) e f h = cc
-same-ends [] (u ∷ v ∷ us) e f h = cc
-same-ends (t ∷ []) [] e f h = cc
-same-ends (t ∷ v ∷ ts) [] e f h = cc
-same-ends (t ∷ ts) (u ∷ us) e f h =
-    let p : t ≡ u = cc in let q : ts ++ e ∷ [] ≡ us ++ f ∷ [] = cc in
-    let found = same-ends ts us e f q in
-    (ap (λ v. v ∷ ts) p ∙ ap (λ v. u ∷ v) found.0, found.1)
-
 -- behind the last token stands none
 none-behind : (front : List Tok) (next m : Tok) (more : List Tok) → is_last next.kind ≡ true → ends (front ++ next ∷ m ∷ more) ≡ true → ⊥
 none-behind [] next m more last h = let e : cond (is_last next.kind) false (ends (m ∷ more)) ≡ false = ap (λ v. cond v false (ends (m ∷ more))) last in cc
@@ -150,7 +139,7 @@ pub record Standing (bytes : List ℕ) (front : List Tok) (next : Tok) : Type 0 
 last-stands : (bytes : List ℕ) (front : List Tok) (next : Tok) → tokens_from bytes 0 start ≡ front ++ next ∷ [] → IsLexed start bytes (tokens_from bytes 0 start) (ranges_from bytes 0 start)
     → Standing bytes front next
 last-stands bytes front next e l =
-    let found = same-ends l.front front (token_at l.place l.kind []) next (sym l.is ∙ e) in
+    let found = same_from_push l.front front (token_at l.place l.kind []) next (sym l.is ∙ e) in
     let kind : l.kind ≡ next.kind = ap (λ v. v.kind) found.1 in
     let place : l.place ≡ next.place = ap (λ v. v.place) found.1 in
     record {
@@ -190,7 +179,7 @@ stands bytes front (m ∷ more) next e = record {
 pub whole-cut : (bytes : List ℕ) (front : List Tok) (end : Tok) → tokens_from bytes 0 start ≡ front ++ end ∷ [] → end.kind ≡ End → IsCut bytes (tokens_from bytes 0 start) (ranges_from bytes 0 start)
 whole-cut bytes front end e is =
     let l = lexed start bytes in
-    let found = same-ends l.front front (token_at l.place l.kind []) end (sym l.is ∙ e) in
+    let found = same_from_push l.front front (token_at l.place l.kind []) end (sym l.is ∙ e) in
     let at_end : l.kind ≡ End = ap (λ v. v.kind) found.1 ∙ is in
     let takes = stop-takes l.place l.rest l.kind (sym l.stops) in (
       l.front,

@@ -62,15 +62,6 @@ module _ {X T : Type 0} (item : Step X) (test : Kind → Bool) (between : Step T
   pub gathered-item-fails : (xs : List X) (n m : ℕ) (s : State) (bad : Refusal) → n ≡ suc m → item s ≡ Err bad → gathered xs n s ≡ Err bad
   gathered-item-fails xs n m s bad count reads = ap (λ k. gathered xs k s) count ∙ item-fails-suc xs m s bad reads
 
-  between-fails-suc : (xs : List X) (n : ℕ) (s s1 : State) (x : X) (bad : Refusal) → item s ≡ Ok (x, s1) → test (kind s1) ≡ true → between s1 ≡ Err bad
-      → gathered xs (suc n) s ≡ Err bad
-  unfolding series
-  between-fails-suc xs n s s1 x bad reads goes stands = rw reads (rw goes (rw stands refl))
-
-  pub gathered-between-fails : (xs : List X) (n m : ℕ) (s s1 : State) (x : X) (bad : Refusal) → n ≡ suc m → item s ≡ Ok (x, s1) → test (kind s1) ≡ true → between s1 ≡ Err bad
-      → gathered xs n s ≡ Err bad
-  gathered-between-fails xs n m s s1 x bad count reads goes stands = ap (λ k. gathered xs k s) count ∙ between-fails-suc xs m s s1 x bad reads goes stands
-
 -- ---- chains that are read to the right
 
 module _ {X : Type 0} (c : Kind) (join : Place → X → X → X) (op : Step X) where

@@ -2,19 +2,16 @@
 use Rattle.std.proofs.Common.{◌≡◌, ◌≢◌, ℕ, suc, ◌<◌, Bool, true, false, cond, ◌&&◌, List, [], ◌∷◌, length, nat_lt, refl, ap, ◌∙◌, arith}
 use Rattle.std.specs.Str.{bytes_eq}
 use Rattle.std.proofs.lemmas.Bool.Decides.{nat_tests}
+use Rattle.std.proofs.lemmas.Bool.{and_right}
 use Rattle.pb_text_lexer.specs.declared.kind.Kind.{Kind}
 use Rattle.pb_text_lexer.specs.declared.kind.Kind.TheVariants as k
 use Rattle.pb_text_lexer.specs.Bytes.{word_kind, kind_among, reserved}
-
-and-false : (a b : Bool) → b ≡ false → (a && b) ≡ false
-and-false true b h = h
-and-false false b h = refl
 
 other-length : (xs ys : List ℕ) → length xs ≢ length ys → bytes_eq xs ys ≡ false
 other-length [] [] other = absurd (other refl)
 other-length [] (y ∷ ys) other = refl
 other-length (x ∷ xs) [] other = refl
-other-length (x ∷ xs) (y ∷ ys) other = and-false _ _ (other-length xs ys (λ same. other (ap suc same)))
+other-length (x ∷ xs) (y ∷ ys) other = and_right _ _ (other-length xs ys (λ same. other (ap suc same)))
 
 -- each of the words has another length
 abbrev Others : List (List ℕ × Kind) → List ℕ → Type 0

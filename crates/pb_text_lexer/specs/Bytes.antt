@@ -1,5 +1,5 @@
 -- Bytes, words and digits of a text.
-use Rattle.std.specs.Prelude.{ℕ, Bool, false, not, ◌&&◌, ◌||◌, if◌then◌else◌, ◌==◌, ◌≤◌, nat_lt, List, [], ◌∷◌, length, take_while, codes, Option, Some, None, map}
+use Rattle.std.specs.Prelude.{ℕ, ◌^◌, Bool, false, not, ◌&&◌, ◌||◌, if◌then◌else◌, ◌==◌, ◌≤◌, nat_lt, List, [], ◌∷◌, length, take_while, codes, Option, Some, None, map}
 use Rattle.std.specs.Borrow.{Bor}
 use Rattle.std.specs.Char.{is_ascii_digit, is_ascii_alphabetic}
 use Rattle.std.specs.Str.{bytes_eq}
@@ -64,10 +64,14 @@ is_name (b ∷ bs) = is_letter b && length (name_bytes bs) == length bs && same_
 abbrev pub value_within : ℕ → List ℕ → Option ℕ
 value_within largest ds = if nat_lt largest (digits_value 10 ds) then None else Some (digits_value 10 ds)
 
--- digits that write a number of at most 2^62
+-- the largest number that a text may write
+abbrev pub largest_number : ℕ
+largest_number = 2 ^ 62
+
+-- digits that write a number of at most that
 pub record WritesNumber (ds : List ℕ) : Type 0 where
   pub digits : AllDigits 10 ds
-  pub small : digits_value 10 ds ≤ 4611686018427387904
+  pub small : digits_value 10 ds ≤ largest_number
 
 -- the same of a word that must be digits, one or more
 abbrev pub whole_within : ℕ → List ℕ → Option ℕ

@@ -8,6 +8,7 @@ use Rattle.pb_text_lexer.specs.declared.kind.Kind.TheVariants as k
 use Rattle.pb_text_lexer.specs.declared.piece.Piece.{Piece}
 use Rattle.pb_text_lexer.specs.declared.piece.Piece.TheVariants.{Blank, Token, Stop}
 use Rattle.pb_text_lexer.specs.Bytes.{is_blank, is_letter, name_bytes, digits, line, word_kind, value_within}
+pub use Rattle.pb_text_lexer.specs.Bytes.{largest_number}
 use Rattle.pb_text_lexer.specs.RangeLines.{behind_range, is_wrong, ranges_at}
 use Rattle.pb_text_lexer.specs.Tokens.{Tok, token_at}
 
@@ -40,10 +41,6 @@ symbol a None = one_byte_among one_byte_symbols a
 symbol a (Some b) = two_bytes_among two_byte_symbols a b
 
 -- ---- numbers
-
--- 2^62
-abbrev pub largest_number : ℕ
-largest_number = 4611686018427387904
 
 abbrev pub number_of : ℕ → Option ℕ → Piece
 number_of n None = Stop k.LargeNumber

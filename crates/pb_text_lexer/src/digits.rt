@@ -10,7 +10,7 @@ use crate::bytes::digits_len;
 pub fn value_within(digits: &[u8], largest: u64) -> Option<u64>
     requires digits { AllDigits 10 digits.now }
     requires room { 9 ≤ largest }
-    requires small { largest ≤ 4611686018427387904 }
+    requires small { largest ≤ spec.largest_number }
     ensures { result ≡ spec.value_within largest digits.now }
 {
     let mut value: u64 = 0;
@@ -24,10 +24,11 @@ pub fn value_within(digits: &[u8], largest: u64) -> Option<u64>
     Some(value)
 }
 
-/// The number that a word writes, if it is digits, one or more, and the number is no larger than this.
+/// The number that a word writes, if it is digits, one or more, and the number is no larger than
+/// this.
 pub fn whole_within(word: &[u8], largest: u64) -> Option<u64>
     requires room { 9 ≤ largest }
-    requires small { largest ≤ 4611686018427387904 }
+    requires small { largest ≤ spec.largest_number }
     ensures { result ≡ spec.whole_within largest word.now }
 {
     if word.is_empty() || digits_len(word) != word.len() {

@@ -19,7 +19,8 @@ use crate::token::Token;
 use pb_text_tree::Place;
 use std::marker::Model;
 
-/// What a reader has before it: tokens, which are cut as they are taken, and an allowance of operators.
+/// What a reader has before it: tokens, which are cut as they are taken, and an allowance of
+/// operators.
 #[derive(Drop)]
 pub struct Input<'a> {
     lexer: Lexer<'a>,
@@ -42,7 +43,10 @@ impl<'a> Input<'a> {
     /// All tokens of a text, with an allowance of operators with two operands.
     pub fn new(bytes: &'a [u8], operators: u32) -> Input<'a>
         requires { length bytes.now < 2 ^ 32 - 1 }
-        ensures { result ≡ record { tokens = tokens_from bytes.now 0 start; operators = operators } }
+        ensures { result ≡ record {
+          tokens = tokens_from bytes.now 0 start;
+          operators = operators;
+        } }
     {
         let place = Place { line: 1, column: 1 };
         Input {
@@ -112,7 +116,8 @@ impl<'a> Input<'a> {
 
     /// Takes the next token, which must be of this kind.
     ///
-    /// A token of another kind is refused as `ReadingRule::Unexpected`, which is the one error: no memory is asked for.
+    /// A token of another kind is refused as `ReadingRule::Unexpected`, which is the one error: no
+    /// memory is asked for.
     #[tactic(auto, unfolding(crate::specs::Steps::expect))]
     pub fn expect(&mut self, kind: Kind) -> Result<Token<'a>, ReadingFault>
         requires { is_last kind ≡ false }
@@ -129,10 +134,12 @@ impl<'a> Input<'a> {
 
     /// Takes the next token, which must be a name, and gives its place and its text.
     ///
-    /// A token of another kind is refused as `ReadingRule::Unexpected`, which is the one error: no memory is asked for.
+    /// A token of another kind is refused as `ReadingRule::Unexpected`, which is the one error: no
+    /// memory is asked for.
     #[tactic(auto, unfolding(crate::specs::Steps::expect))]
     pub fn expect_name(&mut self) -> Result<(Place, &'a str), ReadingFault>
-        ensures reads { Gives (λ name. token_at name.0 Kind.Name name.1.now) (spec.expect Kind.Name self.old) result self.new }
+        ensures reads { Gives (λ name. token_at name.0 Kind.Name name.1.now)
+            (spec.expect Kind.Name self.old) result self.new }
         ensures refused { OnlyRefuses ReadingRule.Unexpected self.old result }
         ensures fewer { OnOk result (length self.new.tokens < length self.old.tokens) }
     {
@@ -146,7 +153,8 @@ impl<'a> Input<'a> {
 
     /// Takes the next token, an operator with two operands.
     ///
-    /// Where no more of these may come it is refused as `ReadingRule::Limit`, which is the one error.
+    /// Where no more of these may come it is refused as `ReadingRule::Limit`, which is the one
+    /// error.
     #[tactic(auto, unfolding(crate::specs::Steps::take_operator))]
     pub fn take_operator(&mut self) -> Result<Token<'a>, ReadingFault>
         requires { is_last (spec.kind self.old) ≡ false }

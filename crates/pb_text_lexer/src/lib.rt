@@ -1,9 +1,10 @@
-//! The tokens of a text, given one at a time, and the steps that a reader of any grammar is made of.
+//! The tokens of a text, given one at a time, and the steps that a reader of any grammar is made
+//! of.
 //!
-//! `specs/Lexing.antt` says how a text is cut into tokens. `specs/Grammar.antt` has the words in which a grammar is
-//! written, as relations without position or lookahead. `specs/Steps.antt` has the same words as functions, which
-//! compute; `proofs/` shows, once for each word, that the functions meet the relations. The crates above write
-//! their productions in these words alone.
+//! `specs/Lexing.antt` says how a text is cut into tokens. `specs/Grammar.antt` has the words in
+//! which a grammar is written, as relations without position or lookahead. `specs/Steps.antt` has
+//! the same words as functions, which compute; `proofs/` shows, once for each word, that the
+//! functions meet the relations. The crates above write their productions in these words alone.
 #![tactic(auto)]
 
 pub mod bytes;

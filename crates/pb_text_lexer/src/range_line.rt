@@ -1,4 +1,5 @@
-//! Range lines: a comment `%range NAME LO HI` at the beginning of a line, which gives a sort its carrier.
+//! Range lines: a comment `%range NAME LO HI` at the beginning of a line, which gives a sort its
+//! carrier.
 
 ghost use Rattle.std.specs.Prelude.{◌≡◌, ◌≤◌, length};
 ghost use Rattle.pb_text_lexer.specs.Bytes.{line};
@@ -126,7 +127,8 @@ fn behind_range(line: &[u8]) -> Option<&[u8]>
     }
 }
 
-/// Whether a comment that begins its line and goes on with these bytes is a range line that says nothing.
+/// Whether a comment that begins its line and goes on with these bytes is a range line that says
+/// nothing.
 pub fn is_wrong(bytes: &[u8]) -> bool
     ensures { result ≡ spec.is_wrong (spec.behind_range (line bytes.now)) }
 {

@@ -1,6 +1,7 @@
 //! The range lines of a whole text.
 
-ghost use Rattle.std.specs.Prelude.{◌≡◌, ◌-◌, ◌<◌, ◌^◌, ◌++◌, ℕ, false, [], length, map, IfOk, OnOk};
+ghost use Rattle.std.specs.Prelude.{◌≡◌, ◌-◌, ◌<◌, ◌^◌, ◌++◌, ℕ, false, [], length, map, IfOk};
+ghost use Rattle.std.specs.Prelude.{OnOk};
 ghost use Rattle.pb_text_tree.specs.declared.place.Place.{Place};
 ghost use Rattle.pb_text_tree.specs.Form.{range_form};
 ghost use Rattle.pb_text_lexer.specs.Lexing.{start};
@@ -33,7 +34,8 @@ fn range_at(place: Place, bytes: &[u8]) -> Option<RangeLine<'_>>
 
 /// The range that a line at a place gives.
 fn range(alloc: Global, place: Place, line: RangeLine<'_>) -> Result<Range, AllocError>
-    ensures { IfOk result (λ r. range_form r ≡ spec.range_at_place place (spec.bounded_line line.entry)) }
+    ensures { IfOk result (λ r. range_form r ≡ spec.range_at_place place
+        (spec.bounded_line line.entry)) }
 {
     let RangeLine { name, low, high } = line;
     let name = name.to_owned(alloc)?;
@@ -45,15 +47,16 @@ fn range(alloc: Global, place: Place, line: RangeLine<'_>) -> Result<Range, Allo
     })
 }
 
-/// Adds the range of the line at a place, at the front of the bytes from there on, if a range line stands there, and
-/// says whether it did.
+/// Adds the range of the line at a place, at the front of the bytes from there on, if a range line
+/// stands there, and says whether it did.
 fn add_range(
     alloc: Global,
     ranges: &mut Vec<Range>,
     place: Place,
     bytes: &[u8],
 ) -> Result<bool, AllocError>
-    ensures { OnOk result (map range_form ranges.new.items ≡ map range_form ranges.old.items ++ spec.ranges_at place bytes.now) }
+    ensures { OnOk result (map range_form ranges.new.items
+        ≡ map range_form ranges.old.items ++ spec.ranges_at place bytes.now) }
 {
     match range_at(place, bytes) {
         None => Ok(false),
@@ -74,7 +77,8 @@ fn is_mark(bytes: &[u8]) -> bool
     }
 }
 
-/// Whether a range line may stand anywhere in the bytes: a quick test, so that most of a text isn't cut twice.
+/// Whether a range line may stand anywhere in the bytes: a quick test, so that most of a text isn't
+/// cut twice.
 fn may_follow(bytes: &[u8]) -> bool
     ensures { result ≡ false → (n : ℕ) (p : Place) → ranges_from bytes.now n p ≡ [] }
 {

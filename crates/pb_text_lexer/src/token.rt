@@ -3,7 +3,8 @@
 use crate::kind::Kind;
 use pb_text_tree::Place;
 
-/// A token, with the bytes of its text and the place of the first of them. Where no token stands the text is empty.
+/// A token, with the bytes of its text and the place of the first of them. Where no token stands
+/// the text is empty.
 #[derive(Clone, Copy, Debug)]
 pub struct Token<'a> {
     pub kind: Kind,

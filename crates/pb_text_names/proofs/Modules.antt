@@ -5,6 +5,7 @@ use Rattle.std.specs.List.{list_all}
 use Rattle.std.proofs.lemmas.List.Elements.{All-head, All-tail, All-cons, All-nil}
 use Rattle.std.proofs.lemmas.List.Concat.{flat_map-cons}
 use Rattle.std.proofs.lemmas.Bool.{or_left, and_from, and_parts, le-leb}
+use Rattle.pb_sorts.specs.declared.limits.TheConstants.{MAX_NAME_BYTES}
 use Rattle.pb_text_tree.specs.Form.{EnumeratorForm, SortForm, struct, alias, SortDeclarationForm, EquationForm, SpecForm}
 use Rattle.pb_text_meaning.specs.Syntax.{Enumerator, SortDeclaration, Equation}
 use Rattle.pb_text_meaning.specs.Erase.{erase, erased_enumerator, erased_sort, erased_declaration, erased_equation}
@@ -16,11 +17,11 @@ use Rattle.pb_text_names.specs.ModuleNames.{has_enumerator_names, has_names}
 use Rattle.pb_text_names.proofs.Texts.{reading_spelled}
 
 -- what is spelled as a name, and short, is a module's name
-module_name : (bs : List ℕ) → is_spelled bs ≡ true → length bs ≤ 64 → is_name bs ≡ true
+module_name : (bs : List ℕ) → is_spelled bs ≡ true → length bs ≤ MAX_NAME_BYTES → is_name bs ≡ true
 module_name [] h short = cc
 module_name (b ∷ bs) h short =
     let first = (and_parts (is_letter b) _ h).0 in
-    and_from (is_letter b) _ first (and_from (nat_le (length (b ∷ bs)) 64) _ (le-leb (length (b ∷ bs)) 64 short)
+    and_from (is_letter b) _ first (and_from (nat_le (length (b ∷ bs)) MAX_NAME_BYTES) _ (le-leb (length (b ∷ bs)) MAX_NAME_BYTES short)
     (and_from (is_name_byte b) (list_all is_name_byte bs) (or_left _ _ (or_left (is_letter b) _ first)) ((and_parts (is_letter b) _ h).1)))
 
 parts : {X : Type 0} (P : X → Type 0) (xs ys : List X) → All P (xs ++ ys) → All P xs × All P ys
@@ -39,10 +40,10 @@ abbrev EquationHasName : EquationForm → Type 0
 EquationHasName X = is_spelled X.name.text ≡ true
 
 abbrev IsShortEquation : Equation → Type 0
-IsShortEquation X = length X.name ≤ 64
+IsShortEquation X = length X.name ≤ MAX_NAME_BYTES
 
 abbrev IsShort : Enumerator → Type 0
-IsShort e = length e.name ≤ 64
+IsShort e = length e.name ≤ MAX_NAME_BYTES
 
 abbrev named : Enumerator → Bool
 named e = is_name e.name

@@ -1,6 +1,6 @@
 -- A chain of arithmetic whose brackets open before its first operand.
 use Rattle.std.proofs.Common.{◌≡◌, ℕ, ◌+◌, ◌-◌, ◌<◌, suc, arith, Bool, true, false, List, [], ◌∷◌, ◌++◌, length, get_or, drop, refl, sym, ◌∙◌, ap, append_assoc, Box, Vec, Global}
-use Rattle.std.specs.Prelude.{box_value, Option, Some, None}
+use Rattle.std.specs.Prelude.{if◌then◌else◌, box_value, Option, Some, None}
 use Rattle.std.specs.List.{slice_get}
 use Rattle.std.proofs.lemmas.List.{append-nil}
 use Rattle.pb_text_tree.specs.declared.place.Place.{Place}
@@ -11,30 +11,32 @@ use Rattle.pb_text_tree.specs.declared.term.ArithmeticLink.{ArithmeticLink}
 use Rattle.pb_text_tree.specs.Form.{TermForm, calculated, term_form, arithmetic_link, arithmetic_links}
 use Rattle.pb_text_tree.proofs.FormLemmas.{term-arithmetic}
 use Rattle.pb_text_printer.specs.declared.level.Level.{Level}
-use Rattle.pb_text_printer.specs.Words.{Word, put, fits, stands, goes_on, chains_with, term_words, arithmetic_word, arithmetic_level, open_word, close_word}
+use Rattle.pb_text_printer.specs.Words.{Word, put, fits, needs_no_brackets, goes_on, chains_with, term_words, arithmetic_word, arithmetic_level, open_word, close_word}
+use Rattle.pb_text_printer.specs.declared.level.Bracketing.{Bracketing}
+use Rattle.pb_text_printer.specs.declared.level.Bracketing.TheVariants.{Bare, Bracketed}
 use Rattle.pb_text_printer.specs.Page.{Page, after}
-use Rattle.pb_text_printer.specs.Parts.{continues, operation_words, left_words, bracket, opened, computed_words}
+use Rattle.pb_text_printer.specs.Parts.{continues, left_bracketing, operation_words, left_words, bracket, opened, computed_words}
 use Rattle.pb_text_printer.proofs.PageLemmas.{left, left-next, first-none, first-some}
 
 abbrev Link : Type 0
 Link = Arithmetic × Place × TermForm
 
-bracket-shift : (b : Bool) (r : List Word) → bracket b open_word ++ (open_word ∷ r) ≡ open_word ∷ (bracket b open_word ++ r)
-bracket-shift true r = refl
-bracket-shift false r = refl
+bracket-shift : (b : Bracketing) (r : List Word) → bracket b open_word ++ (open_word ∷ r) ≡ open_word ∷ (bracket b open_word ++ r)
+bracket-shift Bare r = refl
+bracket-shift Bracketed r = refl
 
 -- opening brackets are all the same
 opened-shift : (o : Option Arithmetic) (ls : List Link) (r : List Word) → opened o ls ++ (open_word ∷ r) ≡ open_word ∷ (opened o ls ++ r)
 opened-shift o [] r = refl
 opened-shift o (l ∷ ls) r =
-    append_assoc (bracket (continues o l.0) open_word) (opened (Some l.0) ls) (open_word ∷ r)
-    ∙ ap (λ (v : List Word). bracket (continues o l.0) open_word ++ v) (opened-shift (Some l.0) ls r)
-    ∙ bracket-shift (continues o l.0) (opened (Some l.0) ls ++ r)
-    ∙ ap (λ (v : List Word). open_word ∷ v) (sym (append_assoc (bracket (continues o l.0) open_word) (opened (Some l.0) ls) r))
+    append_assoc (bracket (left_bracketing o l.0) open_word) (opened (Some l.0) ls) (open_word ∷ r)
+    ∙ ap (λ (v : List Word). bracket (left_bracketing o l.0) open_word ++ v) (opened-shift (Some l.0) ls r)
+    ∙ bracket-shift (left_bracketing o l.0) (opened (Some l.0) ls ++ r)
+    ∙ ap (λ (v : List Word). open_word ∷ v) (sym (append_assoc (bracket (left_bracketing o l.0) open_word) (opened (Some l.0) ls) r))
 
 -- what is computed, in brackets or not, before an operator with its right side
 wrapped : (b : Bool) (opens x y r : List Word) → ((z : List Word) → opens ++ (open_word ∷ z) ≡ open_word ∷ (opens ++ z))
-    → opens ++ ((put b (λ e. x) false ++ y) ++ r) ≡ (bracket b open_word ++ opens) ++ (x ++ (bracket b close_word ++ (y ++ r)))
+    → opens ++ ((put b (λ e. x) false ++ y) ++ r) ≡ (bracket (if b then Bare else Bracketed) open_word ++ opens) ++ (x ++ (bracket (if b then Bare else Bracketed) close_word ++ (y ++ r)))
 wrapped true opens x y r shift = ap (λ (v : List Word). opens ++ v) (append_assoc x y r)
 wrapped false opens x y r shift =
     shift (((x ++ close_word ∷ []) ++ y) ++ r)
@@ -46,7 +48,7 @@ behind-computed : (o : Arithmetic) (place : Place) (x y : TermForm) (ls : List L
 behind-computed o place x y [] ends = sym (append-nil (left_words o x ++ operation_words o y))
 behind-computed o place x y (l ∷ ls) ends =
     behind-computed l.0 l.1 (TermForm.computed o place x y) l.2 ls ends
-    ∙ wrapped (continues (Some o) l.0) (opened (Some l.0) ls) (left_words o x ++ operation_words o y) (operation_words l.0 l.2) (computed_words (Some l.0) ls) (opened-shift (Some l.0) ls)
+    ∙ wrapped (continues o l.0) (opened (Some l.0) ls) (left_words o x ++ operation_words o y) (operation_words l.0 l.2) (computed_words (Some l.0) ls) (opened-shift (Some l.0) ls)
 
 arithmetic-words : (x : TermForm) (l : Link) (ls : List Link) (ends : Bool) → term_words (calculated x (l ∷ ls)) ends ≡ opened None (l ∷ ls) ++ (left_words l.0 x ++ computed_words None (l ∷ ls))
 arithmetic-words x l ls ends =
@@ -54,19 +56,19 @@ arithmetic-words x l ls ends =
 
 -- ---- loops
 
-pub opened-next : (o : Option Arithmetic) (ls : List ArithmeticLink) (k : ℕ) (l : ArithmeticLink) (p q : Page) → k < length ls → l ≡ get_or ls k l → q ≡ after (bracket (continues o l.operator) open_word) p
+pub opened-next : (o : Option Arithmetic) (ls : List ArithmeticLink) (k : ℕ) (l : ArithmeticLink) (p q : Page) → k < length ls → l ≡ get_or ls k l → q ≡ after (bracket (left_bracketing o l.operator) open_word) p
     → after (opened (Some l.operator) (arithmetic_links (drop (k + 1) ls))) q ≡ after (opened o (arithmetic_links (drop k ls))) p
 opened-next o ls k l p q below at first =
-    left (bracket (continues o l.operator) open_word) (opened (Some l.operator) (arithmetic_links (drop (k + 1) ls))) p q first
+    left (bracket (left_bracketing o l.operator) open_word) (opened (Some l.operator) (arithmetic_links (drop (k + 1) ls))) p q first
     ∙ ap (λ (v : List ArithmeticLink). after (opened o (arithmetic_links v)) p) (sym (left-next ls k l below at))
 
-pub computed-next : (o : Option Arithmetic) (ls : List ArithmeticLink) (k : ℕ) (l : ArithmeticLink) (p q r : Page) → k < length ls → l ≡ get_or ls k l → q ≡ after (bracket (continues o l.operator) close_word) p
+pub computed-next : (o : Option Arithmetic) (ls : List ArithmeticLink) (k : ℕ) (l : ArithmeticLink) (p q r : Page) → k < length ls → l ≡ get_or ls k l → q ≡ after (bracket (left_bracketing o l.operator) close_word) p
     → r ≡ after (operation_words l.operator (term_form l.operand)) q
     → after (computed_words (Some l.operator) (arithmetic_links (drop (k + 1) ls))) r ≡ after (computed_words o (arithmetic_links (drop k ls))) p
 computed-next o ls k l p q r below at first second =
     let rest = computed_words (Some l.operator) (arithmetic_links (drop (k + 1) ls)) in
     left (operation_words l.operator (term_form l.operand)) rest q r second
-    ∙ left (bracket (continues o l.operator) close_word) (operation_words l.operator (term_form l.operand) ++ rest) p q first
+    ∙ left (bracket (left_bracketing o l.operator) close_word) (operation_words l.operator (term_form l.operand) ++ rest) p q first
     ∙ ap (λ (v : List ArithmeticLink). after (computed_words o (arithmetic_links v)) p) (sym (left-next ls k l below at))
 
 -- ---- in the code's words
@@ -99,9 +101,9 @@ outer-of x v ls l t is are last =
     let o = outer (term_form (box_value x)) ls l last in
     record { place = o.place; before = o.before; same = sym (form-of x v ls t is are) ∙ o.same }
 
-pub arithmetic-stands : (x : Box Term Global) (v : Vec ArithmeticLink Global) (ls : List ArithmeticLink) (l : ArithmeticLink) (t : Term) (asked : Level) (ends : Bool) → t ≡ term.Arithmetic x v → ls ≡ v.items
-    → Some l ≡ slice_get ls (length ls - 1) → fits (arithmetic_level l.operator) asked ≡ stands (term_form t) asked ends
-arithmetic-stands x v ls l t asked ends is are last = ap (λ (f : TermForm). stands f asked ends) (sym (outer-of x v ls l t is are last).same)
+pub arithmetic-needs_no_brackets : (x : Box Term Global) (v : Vec ArithmeticLink Global) (ls : List ArithmeticLink) (l : ArithmeticLink) (t : Term) (asked : Level) (ends : Bool) → t ≡ term.Arithmetic x v → ls ≡ v.items
+    → Some l ≡ slice_get ls (length ls - 1) → fits (arithmetic_level l.operator) asked ≡ needs_no_brackets (term_form t) asked ends
+arithmetic-needs_no_brackets x v ls l t asked ends is are last = ap (λ (f : TermForm). needs_no_brackets f asked ends) (sym (outer-of x v ls l t is are last).same)
 
 pub arithmetic-goes-on : (o : Arithmetic) (x : Box Term Global) (v : Vec ArithmeticLink Global) (ls : List ArithmeticLink) (l : ArithmeticLink) (t : Term) → t ≡ term.Arithmetic x v → ls ≡ v.items
     → Some l ≡ slice_get ls (length ls - 1) → chains_with o (arithmetic_word l.operator).kind ≡ goes_on o (term_form t)

@@ -16,9 +16,9 @@ use Rattle.pb_text.specs.Grammar.{Begun, IsNode, IsFormula}
 use Rattle.pb_text_printer.specs.declared.level.Level.{Level}
 use Rattle.pb_text_printer.specs.declared.level.Level.TheVariants as level
 use Rattle.pb_text_printer.specs.Unplaced.{nowhere, unplaced_term, unplaced_formula}
-use Rattle.pb_text_printer.specs.Words.{Spells, Word, open_word, close_word, put, fits, formula_stands, connective_level, formula_side, term_words, formula_words}
+use Rattle.pb_text_printer.specs.Words.{Spells, Word, open_word, close_word, put, fits, formula_needs_no_brackets, connective_level, formula_side, term_words, formula_words}
 use Rattle.pb_text_printer.specs.Sayable.{formula_operators, IsPut, FormulaSayable}
-use Rattle.pb_text_printer.proofs.SayableLemmas.{formula-stands-whole}
+use Rattle.pb_text_printer.proofs.SayableLemmas.{formula-needs_no_brackets-whole}
 use Rattle.pb_text_printer.proofs.BackLemmas.{Split, spells-split, Back, Restores, at-end, at-last, first-back, quantified-back}
 use Rattle.pb_text_printer.proofs.BackConnected.{Ended, ended, LevelOf, SideOf, connected-back}
 use Rattle.pb_text_printer.proofs.BackTerm.{TermBelow, term-back, whole-back, arguments-back, instance-back}
@@ -84,7 +84,7 @@ own-quantified l true d s z y e h = from-node l true d s z y (inr h)
 own-node : (l : Level) (ends : Bool) (d : ℕ) (s z : State) (y : FormulaForm) → IsNode d s y z → LevelAt l ends d s y z
 own-node l ends d s z y h = from-node l ends d s z y (ended ends (IsNode d) (QuantifiedAt d) s y z h)
 
-own-level : (x : FormulaForm) (l : Level) (ends : Bool) (d : ℕ) (s z : State) (y : FormulaForm) → formula_stands x l ends ≡ true → ReadingOf x ends d s y z → LevelAt l ends d s y z
+own-level : (x : FormulaForm) (l : Level) (ends : Bool) (d : ℕ) (s z : State) (y : FormulaForm) → formula_needs_no_brackets x l ends ≡ true → ReadingOf x ends d s y z → LevelAt l ends d s y z
 own-level (FormulaForm.connected c p x w) l ends d s z y e h = own-connected c l ends d s z y e h
 own-level (FormulaForm.quantified q p vars x) l ends d s z y e h = own-quantified l ends d s z y e h
 own-level (FormulaForm.constant p value) l ends d s z y e h = own-node l ends d s z y h
@@ -101,7 +101,7 @@ PlainBack x = (ends : Bool) (d : ℕ) → FormulaSayable x ends d → Restores (
 whole-plain : (x : FormulaForm) (d : ℕ) → PlainBack x → FormulaSayable x true d → Restores (IsFormula d) unplaced_formula x (formula_operators x) (formula_words x true)
 whole-plain x d plain h s r a b e w =
     let p = plain true d h s r a b e w in
-    record { said = p.said; reads = whole-reads d (st s a) (st r b) p.said (own-level x level.Implication true d (st s a) (st r b) p.said (formula-stands-whole x) p.reads); same = p.same }
+    record { said = p.said; reads = whole-reads d (st s a) (st r b) p.said (own-level x level.Implication true d (st s a) (st r b) p.said (formula-needs_no_brackets-whole x) p.reads); same = p.same }
 
 bracketed-back : (x : FormulaForm) (d : ℕ) → PlainBack x → FormulaSayable x true d
     → Restores (IsNode (suc d)) unplaced_formula x (formula_operators x) (open_word ∷ formula_words x true ++ close_word ∷ [])
@@ -117,11 +117,11 @@ bracketed-back x d plain h s r a b e (t, m, f, i, z, rest) = go (spells-split (f
           same = p.same;
         }
 
-put-back : (x : FormulaForm) (l : Level) (ends : Bool) (d : ℕ) → PlainBack x → IsPut (formula_stands x l ends) (FormulaSayable x) ends d
-    → Restores (LevelAt l ends d) unplaced_formula x (formula_operators x) (put (formula_stands x l ends) (formula_words x) ends)
-put-back x l ends d plain h s r a b e w = go (formula_stands x l ends) refl d h w
+put-back : (x : FormulaForm) (l : Level) (ends : Bool) (d : ℕ) → PlainBack x → IsPut (formula_needs_no_brackets x l ends) (FormulaSayable x) ends d
+    → Restores (LevelAt l ends d) unplaced_formula x (formula_operators x) (put (formula_needs_no_brackets x l ends) (formula_words x) ends)
+put-back x l ends d plain h s r a b e w = go (formula_needs_no_brackets x l ends) refl d h w
   where
-    go : (v : Bool) → formula_stands x l ends ≡ v → (d : ℕ) → IsPut v (FormulaSayable x) ends d → Spells (put v (formula_words x) ends) s r → Back (LevelAt l ends d) unplaced_formula x (st s a) (st r b)
+    go : (v : Bool) → formula_needs_no_brackets x l ends ≡ v → (d : ℕ) → IsPut v (FormulaSayable x) ends d → Spells (put v (formula_words x) ends) s r → Back (LevelAt l ends d) unplaced_formula x (st s a) (st r b)
     go true f d h w =
         let p = plain ends d h s r a b e w in
         record { said = p.said; reads = own-level x l ends d (st s a) (st r b) p.said f p.reads; same = p.same }
@@ -193,9 +193,9 @@ side-back connective.Implies d x n ws h = h
 connects-back : (c : Connective) (p : Place) (x y : FormulaForm) → PlainBack x → PlainBack y → PlainBack (FormulaForm.connected c p x y)
 connects-back c p x y first second ends d h =
     connected-back FormulaForm.connected (IsNode d) (QuantifiedAt d) unplaced_formula (λ c p o x y u v e f. cc) c ends p x y (formula_operators x) (formula_operators y)
-    (put (formula_stands x (formula_side c) false) (formula_words x) false) (put (formula_stands y (connective_level c) ends) (formula_words y) ends)
-    (side-back c d x (formula_operators x) (put (formula_stands x (formula_side c) false) (formula_words x) false) (put-back x (formula_side c) false d first h.0))
-    (level-back c ends d y (formula_operators y) (put (formula_stands y (connective_level c) ends) (formula_words y) ends) (put-back y (connective_level c) ends d second h.1))
+    (put (formula_needs_no_brackets x (formula_side c) false) (formula_words x) false) (put (formula_needs_no_brackets y (connective_level c) ends) (formula_words y) ends)
+    (side-back c d x (formula_operators x) (put (formula_needs_no_brackets x (formula_side c) false) (formula_words x) false) (put-back x (formula_side c) false d first h.0))
+    (level-back c ends d y (formula_operators y) (put (formula_needs_no_brackets y (connective_level c) ends) (formula_words y) ends) (put-back y (connective_level c) ends d second h.1))
 
 quantifies-back : (q : Quantifier) (p : Place) (vars : List VariableForm) (x : FormulaForm) → PlainBack x → PlainBack (FormulaForm.quantified q p vars x)
 quantifies-back q p vars x plain ends zero h = absurd h.1

@@ -25,11 +25,11 @@ use Rattle.pb_text_terms.specs.Grammar.{Placed, Instance, arguments_of, applied,
 use Rattle.pb_text_printer.specs.declared.level.Level.{Level}
 use Rattle.pb_text_printer.specs.declared.level.Level.TheVariants as level
 use Rattle.pb_text_printer.specs.Unplaced.{nowhere, unplaced_name, unplaced_term, unplaced_arguments, unplaced_instance}
-use Rattle.pb_text_printer.specs.Words.{Spells, Word, name_word, list_words, more_words, open_word, close_word, put, fits, stands, goes_on, arithmetic_side, arithmetic_word, chains_with, comparison_side, comparison_word, connective_level, term_side, term_words}
+use Rattle.pb_text_printer.specs.Words.{Spells, Word, name_word, list_words, more_words, open_word, close_word, put, fits, needs_no_brackets, goes_on, arithmetic_side, arithmetic_word, chains_with, comparison_side, comparison_word, connective_level, term_side, term_words}
 use Rattle.pb_text_printer.specs.Sayable.{operators, list_operators, IsPut, IsName, IsSayable, MoreSayable, SomeSayable}
 use Rattle.pb_text_printer.proofs.BackLemmas.{Split, spells-split, Back, Restores, at-end, at-last, first-back, quantified-back}
 use Rattle.pb_text_printer.proofs.BackConnected.{Ended, ended, LevelOf, SideOf, connected-back}
-use Rattle.pb_text_printer.proofs.SayableLemmas.{stands-whole}
+use Rattle.pb_text_printer.proofs.SayableLemmas.{needs_no_brackets-whole}
 use Rattle.pb_text_printer.proofs.BackLinks.{append-link}
 
 -- ---- what is read within so many levels
@@ -142,7 +142,7 @@ own-quantified level.Sum true d s z y e h = inr h
 own-quantified level.Product true d s z y e h = inr h
 own-quantified level.Unary true d s z y e h = inr h
 
-own-level : (x : TermForm) (l : Level) (ends : Bool) (d : ℕ) (s z : State) (y : TermForm) → stands x l ends ≡ true → ReadingOf x ends d s y z → LevelAt l ends d s y z
+own-level : (x : TermForm) (l : Level) (ends : Bool) (d : ℕ) (s z : State) (y : TermForm) → needs_no_brackets x l ends ≡ true → ReadingOf x ends d s y z → LevelAt l ends d s y z
 own-level (TermForm.connected c p x w) l ends d s z y e h = own-connected c l ends d s z y e h
 own-level (TermForm.compared comparison.Equal p x w) l ends d s z y e h = from-equality l ends d s z y e (ended ends (NodeAt d) (QuantifiedAt d) s y z h)
 own-level (TermForm.compared comparison.NotEqual p x w) l ends d s z y e h = from-equality l ends d s z y e (ended ends (NodeAt d) (QuantifiedAt d) s y z h)
@@ -182,16 +182,16 @@ bracketed-back x d plain h s r a b e (t, m, f, i, z, rest) = go (spells-split (t
             t,
             st m a,
             (f, i, refl),
-            (p.said, st mid b, whole-reads d (st m a) (st mid b) p.said (own-level x level.Implication true d (st m a) (st mid b) p.said (stands-whole x) p.reads), (u, st n b, (g, j, refl), (refl, at-end n r b b end refl))),
+            (p.said, st mid b, whole-reads d (st m a) (st mid b) p.said (own-level x level.Implication true d (st m a) (st mid b) p.said (needs_no_brackets-whole x) p.reads), (u, st n b, (g, j, refl), (refl, at-end n r b b end refl))),
           );
           same = p.same;
         }
 
-pub put-back : (x : TermForm) (l : Level) (ends : Bool) (d : ℕ) → PlainBack x → IsPut (stands x l ends) (IsSayable x) ends d
-    → Restores (LevelAt l ends d) unplaced_term x (operators x) (put (stands x l ends) (term_words x) ends)
-put-back x l ends d plain h s r a b e w = go (stands x l ends) refl d h w
+pub put-back : (x : TermForm) (l : Level) (ends : Bool) (d : ℕ) → PlainBack x → IsPut (needs_no_brackets x l ends) (IsSayable x) ends d
+    → Restores (LevelAt l ends d) unplaced_term x (operators x) (put (needs_no_brackets x l ends) (term_words x) ends)
+put-back x l ends d plain h s r a b e w = go (needs_no_brackets x l ends) refl d h w
   where
-    go : (v : Bool) → stands x l ends ≡ v → (d : ℕ) → IsPut v (IsSayable x) ends d → Spells (put v (term_words x) ends) s r → Back (LevelAt l ends d) unplaced_term x (st s a) (st r b)
+    go : (v : Bool) → needs_no_brackets x l ends ≡ v → (d : ℕ) → IsPut v (IsSayable x) ends d → Spells (put v (term_words x) ends) s r → Back (LevelAt l ends d) unplaced_term x (st s a) (st r b)
     go true f d h w =
         let p = plain ends d h s r a b e w in
         record { said = p.said; reads = own-level x l ends d (st s a) (st r b) p.said f p.reads; same = p.same }
@@ -239,11 +239,11 @@ own-lead arithmetic.Mod (TermForm.computed arithmetic.Div p u v) d s z y e h = i
 own-lead arithmetic.Mod (TermForm.computed arithmetic.Mod p u v) d s z y e h = inr h
 own-lead _ _ d s z y e h = cc
 
-lead-back : (o : Arithmetic) (x : TermForm) (d : ℕ) → PlainBack x → IsPut (goes_on o x || stands x (arithmetic_side o) false) (IsSayable x) false d
-    → Restores (LeadAt o d) unplaced_term x (operators x) (put (goes_on o x || stands x (arithmetic_side o) false) (term_words x) false)
+lead-back : (o : Arithmetic) (x : TermForm) (d : ℕ) → PlainBack x → IsPut (goes_on o x || needs_no_brackets x (arithmetic_side o) false) (IsSayable x) false d
+    → Restores (LeadAt o d) unplaced_term x (operators x) (put (goes_on o x || needs_no_brackets x (arithmetic_side o) false) (term_words x) false)
 lead-back o x d plain h s r a b e w = go (goes_on o x) refl h w
   where
-    go : (v : Bool) → goes_on o x ≡ v → IsPut (v || stands x (arithmetic_side o) false) (IsSayable x) false d → Spells (put (v || stands x (arithmetic_side o) false) (term_words x) false) s r
+    go : (v : Bool) → goes_on o x ≡ v → IsPut (v || needs_no_brackets x (arithmetic_side o) false) (IsSayable x) false d → Spells (put (v || needs_no_brackets x (arithmetic_side o) false) (term_words x) false) s r
         → Back (LeadAt o d) unplaced_term x (st s a) (st r b)
     go true f h w =
         let p = plain false d h s r a b e w in
@@ -316,7 +316,7 @@ compared-back comparison.GreaterEqual p x y d us vs left right = comparison-back
 pub whole-back : (x : TermForm) (d : ℕ) → PlainBack x → IsSayable x true d → Restores (IsTerm d) unplaced_term x (operators x) (term_words x true)
 whole-back x d plain h s r a b e w =
     let p = plain true d h s r a b e w in
-    record { said = p.said; reads = whole-reads d (st s a) (st r b) p.said (own-level x level.Implication true d (st s a) (st r b) p.said (stands-whole x) p.reads); same = p.same }
+    record { said = p.said; reads = whole-reads d (st s a) (st r b) p.said (own-level x level.Implication true d (st s a) (st r b) p.said (needs_no_brackets-whole x) p.reads); same = p.same }
 
 -- arguments and the bracket behind them
 pub record ListBack (d : ℕ) (xs : ArgumentForms) (s z : State) : Type 0 where
@@ -460,9 +460,9 @@ side-back connective.Implies d x n ws h = h
 connects-back : (c : Connective) (p : Place) (x y : TermForm) → PlainBack x → PlainBack y → PlainBack (TermForm.connected c p x y)
 connects-back c p x y first second ends d h =
     connected-back TermForm.connected (NodeAt d) (QuantifiedAt d) unplaced_term (λ c p o x y u v e f. cc) c ends p x y (operators x) (operators y)
-    (put (stands x (term_side c) false) (term_words x) false) (put (stands y (connective_level c) ends) (term_words y) ends)
-    (side-back c d x (operators x) (put (stands x (term_side c) false) (term_words x) false) (put-back x (term_side c) false d first h.0))
-    (level-back c ends d y (operators y) (put (stands y (connective_level c) ends) (term_words y) ends) (put-back y (connective_level c) ends d second h.1))
+    (put (needs_no_brackets x (term_side c) false) (term_words x) false) (put (needs_no_brackets y (connective_level c) ends) (term_words y) ends)
+    (side-back c d x (operators x) (put (needs_no_brackets x (term_side c) false) (term_words x) false) (put-back x (term_side c) false d first h.0))
+    (level-back c ends d y (operators y) (put (needs_no_brackets y (connective_level c) ends) (term_words y) ends) (put-back y (connective_level c) ends d second h.1))
 
 quantifies-back : (q : Quantifier) (p : Place) (vars : List VariableForm) (x : TermForm) → PlainBack x → PlainBack (TermForm.quantified q p vars x)
 quantifies-back q p vars x plain ends zero h = absurd h.1
@@ -483,10 +483,10 @@ mutual
   term-back (TermForm.negative p x) = negative-back p x (term-back x)
   term-back (TermForm.connected c p x y) = connects-back c p x y (term-back x) (term-back y)
   term-back (TermForm.compared c p x y) = λ ends d h.
-      compared-back c p x y d (put (stands x (comparison_side c) false) (term_words x) false) (put (stands y (comparison_side c) false) (term_words y) false)
+      compared-back c p x y d (put (needs_no_brackets x (comparison_side c) false) (term_words x) false) (put (needs_no_brackets y (comparison_side c) false) (term_words y) false)
       (put-back x (comparison_side c) false d (term-back x) h.0) (put-back y (comparison_side c) false d (term-back y) h.1)
   term-back (TermForm.computed o p x y) = λ ends d h.
-      computed-back o p x y d (put (goes_on o x || stands x (arithmetic_side o) false) (term_words x) false) (put (stands y (arithmetic_side o) false) (term_words y) false)
+      computed-back o p x y d (put (goes_on o x || needs_no_brackets x (arithmetic_side o) false) (term_words x) false) (put (needs_no_brackets y (arithmetic_side o) false) (term_words y) false)
       (lead-back o x d (term-back x) h.0) (put-back y (arithmetic_side o) false d (term-back y) h.1)
   term-back (TermForm.application f xs) = application-back f xs (arguments-back xs)
   term-back (TermForm.quantified q p vars x) = quantifies-back q p vars x (term-back x)

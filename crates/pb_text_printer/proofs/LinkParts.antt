@@ -14,7 +14,7 @@ use Rattle.pb_text_tree.specs.declared.formula.Link.{Link}
 use Rattle.pb_text_tree.specs.Form.{TermForm, FormulaForm, chained, term_form, term_link, term_links, formula_form, link_form, link_forms}
 use Rattle.pb_text_tree.proofs.FormLemmas.{term-chain, formula-chain}
 use Rattle.pb_text_printer.specs.declared.level.Level.{Level}
-use Rattle.pb_text_printer.specs.Words.{Word, put, fits, stands, term_words, formula_stands, formula_words, connective_word, connective_level, term_side, formula_side}
+use Rattle.pb_text_printer.specs.Words.{Word, put, fits, needs_no_brackets, term_words, formula_needs_no_brackets, formula_words, connective_word, connective_level, term_side, formula_side}
 use Rattle.pb_text_printer.specs.Page.{Page, after}
 use Rattle.pb_text_printer.specs.Parts.{placed_words, placed_formula, chain_words, link_words, formula_link_words}
 use Rattle.pb_text_printer.proofs.PageLemmas.{left, left-next, left-end, first-none, first-some}
@@ -79,9 +79,9 @@ pub chain-of-more : (c : Connective) (x : Box Term Global) (v : Vec TermLink Glo
 chain-of-more c x v ls l t is are some =
     ap (λ (m : List TermLink). chained (TermForm.connected c) (term_form (box_value x)) (term_links m)) (sym (first-some ls l some) ∙ are) ∙ sym (term-chain c x v) ∙ ap term_form (sym is)
 
-pub chain-stands : (c : Connective) (x : Box Term Global) (v : Vec TermLink Global) (ls : List TermLink) (l : TermLink) (t : Term) (asked : Level) (ends : Bool) → t ≡ term.Chain c x v → ls ≡ v.items
-    → Some l ≡ slice_get ls 0 → fits (connective_level c) asked ≡ stands (term_form t) asked ends
-chain-stands c x v ls l t asked ends is are some = ap (λ (f : TermForm). stands f asked ends) (chain-of-more c x v ls l t is are some)
+pub chain-needs_no_brackets : (c : Connective) (x : Box Term Global) (v : Vec TermLink Global) (ls : List TermLink) (l : TermLink) (t : Term) (asked : Level) (ends : Bool) → t ≡ term.Chain c x v → ls ≡ v.items
+    → Some l ≡ slice_get ls 0 → fits (connective_level c) asked ≡ needs_no_brackets (term_form t) asked ends
+chain-needs_no_brackets c x v ls l t asked ends is are some = ap (λ (f : TermForm). needs_no_brackets f asked ends) (chain-of-more c x v ls l t is are some)
 
 pub chain-words : (c : Connective) (x : Box Term Global) (v : Vec TermLink Global) (ls ms : List TermLink) (l : TermLink) (t : Term) (ends : Bool) (p q : Page) → t ≡ term.Chain c x v → ls ≡ v.items → ms ≡ v.items
     → Some l ≡ slice_get ls 0 → q ≡ after (placed_words (term_form (box_value x)) (term_side c) false) p → after (link_words c ends (term_links ms)) q ≡ after (term_words (term_form t) ends) p
@@ -100,9 +100,9 @@ formula-of-more : (c : Connective) (x : Box Formula Global) (v : Vec Link Global
 formula-of-more c x v ls l t is are some =
     ap (λ (m : List Link). chained (FormulaForm.connected c) (formula_form (box_value x)) (link_forms m)) (sym (first-some ls l some) ∙ are) ∙ sym (formula-chain c x v) ∙ ap formula_form (sym is)
 
-pub formula-stands : (c : Connective) (x : Box Formula Global) (v : Vec Link Global) (ls : List Link) (l : Link) (t : Formula) (asked : Level) (ends : Bool) → t ≡ formula.Chain c x v → ls ≡ v.items
-    → Some l ≡ slice_get ls 0 → fits (connective_level c) asked ≡ formula_stands (formula_form t) asked ends
-formula-stands c x v ls l t asked ends is are some = ap (λ (f : FormulaForm). formula_stands f asked ends) (formula-of-more c x v ls l t is are some)
+pub formula-needs_no_brackets : (c : Connective) (x : Box Formula Global) (v : Vec Link Global) (ls : List Link) (l : Link) (t : Formula) (asked : Level) (ends : Bool) → t ≡ formula.Chain c x v → ls ≡ v.items
+    → Some l ≡ slice_get ls 0 → fits (connective_level c) asked ≡ formula_needs_no_brackets (formula_form t) asked ends
+formula-needs_no_brackets c x v ls l t asked ends is are some = ap (λ (f : FormulaForm). formula_needs_no_brackets f asked ends) (formula-of-more c x v ls l t is are some)
 
 pub formula-chain-words : (c : Connective) (x : Box Formula Global) (v : Vec Link Global) (ls ms : List Link) (l : Link) (t : Formula) (ends : Bool) (p q : Page) → t ≡ formula.Chain c x v → ls ≡ v.items → ms ≡ v.items
     → Some l ≡ slice_get ls 0 → q ≡ after (placed_formula (formula_form (box_value x)) (formula_side c) false) p → after (formula_link_words c ends (link_forms ms)) q ≡ after (formula_words (formula_form t) ends) p

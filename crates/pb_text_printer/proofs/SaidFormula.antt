@@ -8,16 +8,16 @@ use Rattle.pb_text_terms.specs.Grammar.{Quantified, IsTerm}
 use Rattle.pb_text.specs.Grammar.{Begun, Connections, IsNode, IsFormula}
 use Rattle.pb_text_printer.specs.declared.level.Level.{Level}
 use Rattle.pb_text_printer.specs.declared.level.Level.TheVariants as level
-use Rattle.pb_text_printer.specs.Words.{formula_stands}
+use Rattle.pb_text_printer.specs.Words.{formula_needs_no_brackets}
 use Rattle.pb_text_printer.specs.Sayable.{list_operators, formula_operators, IsPut, InstanceSayable, FormulaSayable}
-use Rattle.pb_text_printer.proofs.SayableLemmas.{formula-bends, puts-bracketed, formula-stands-whole, formula-loosens, formula-freer}
+use Rattle.pb_text_printer.proofs.SayableLemmas.{formula-bends, puts-bracketed, formula-needs_no_brackets-whole, formula-loosens, formula-freer}
 use Rattle.pb_text_printer.proofs.SaidLemmas.{Said, EachReadingIs, one-said, finish, first-said, quantified-said}
 use Rattle.pb_text_printer.proofs.SaidConnected.{connected-said}
 use Rattle.pb_text_printer.proofs.SaidTerm.{instance-said, alone-said, term-said}
 
 -- what can be said of a formula where a level is asked for
 abbrev At : ℕ → FormulaForm → Level → Bool → Type 0
-At d x l ends = IsPut (formula_stands x l ends) (FormulaSayable x) ends d
+At d x l ends = IsPut (formula_needs_no_brackets x l ends) (FormulaSayable x) ends d
 
 true-said : (d : ℕ) → EachReadingIs (Begun Nothing Nothing Nothing k.True) (λ x. At d x level.Unary false) formula_operators
 true-said d s z x lex (t, m, r, e) =
@@ -54,7 +54,7 @@ module _ (d : ℕ) (Node Formula : Reads FormulaForm) (node : EachReadingIs Node
       let h = one-said k.Open s m t lex r in let g = formula m o y h.rest q in let f = one-said k.Close o w u g.rest c in
       let a = h.count in let b = g.count in let i = f.count in
       finish (λ x. At (suc d) x level.Unary false) formula_operators y x s w z e.0 e.1
-      (record { says = puts-bracketed (FormulaSayable y) (formula-bends y) (formula_stands y level.Unary false) d g.says; rest = f.rest; count = omega arith })
+      (record { says = puts-bracketed (FormulaSayable y) (formula-bends y) (formula_needs_no_brackets y level.Unary false) d g.says; rest = f.rest; count = omega arith })
   begun-said k.True s z x lex h = true-said (suc d) s z x lex h
   begun-said k.False s z x lex h = false-said (suc d) s z x lex h
   begun-said k.Val s z x lex (t, m, r, (v, n, l, (y, o, q, (u, w, c, e)))) =
@@ -72,7 +72,7 @@ connections-said d Node Body node quantifier s z x lex r =
     let h = connected-said FormulaForm.connected Node (Quantified FormulaForm.quantified Body) (At d) formula_operators level.Unary
     node quantifier (λ x l h. formula-freer x l true d h) (λ x l m ends e h. formula-loosens x l m ends d e h) refl
     (λ p x y ends h g. (h, g)) (λ p x y ends h g. (h, g)) (λ p x y ends h g. (h, g)) (λ c p x y. refl) s z x lex r in
-    record { says = subst (λ (b : Bool). IsPut b (FormulaSayable x) true d) (formula-stands-whole x) h.says; rest = h.rest; count = h.count }
+    record { says = subst (λ (b : Bool). IsPut b (FormulaSayable x) true d) (formula-needs_no_brackets-whole x) h.says; rest = h.rest; count = h.count }
 
 mutual
   pub node-said : (d : ℕ) → EachReadingIs (IsNode d) (λ x. At d x level.Unary false) formula_operators

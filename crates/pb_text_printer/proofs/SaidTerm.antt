@@ -15,15 +15,15 @@ use Rattle.pb_text_terms.specs.Operators.{is_equality, is_order, comparison_of, 
 use Rattle.pb_text_terms.specs.Grammar.{Placed, arguments_of, Arguments, Instance, applied, Begun, Product, Sum, Ordered, Equated, Quantified, Connections, IsUnary, IsTerm}
 use Rattle.pb_text_printer.specs.declared.level.Level.{Level}
 use Rattle.pb_text_printer.specs.declared.level.Level.TheVariants as level
-use Rattle.pb_text_printer.specs.Words.{fits, stands, goes_on, arithmetic_side, arithmetic_word}
+use Rattle.pb_text_printer.specs.Words.{fits, needs_no_brackets, goes_on, arithmetic_side, arithmetic_word}
 use Rattle.pb_text_printer.specs.Sayable.{Each, EachOf, operators, list_operators, IsPut, IsName, IsSayable, AreSayable, MoreSayable, SomeSayable, InstanceSayable}
-use Rattle.pb_text_printer.proofs.SayableLemmas.{term-bends, puts, puts-bracketed, stands-whole, term-looser, term-freer}
+use Rattle.pb_text_printer.proofs.SayableLemmas.{term-bends, puts, puts-bracketed, needs_no_brackets-whole, term-looser, term-freer}
 use Rattle.pb_text_printer.proofs.SaidLemmas.{Said, EachReadingIs, one-said, operator_of-said, finish, first-said, total, listed-said, comma-said, nothing-said, name-said, quantified-said}
 use Rattle.pb_text_printer.proofs.SaidConnected.{connected-said}
 
 -- what can be said of a term where a level is asked for
 abbrev pub At : ℕ → TermForm → Level → Bool → Type 0
-At d x l ends = IsPut (stands x l ends) (IsSayable x) ends d
+At d x l ends = IsPut (needs_no_brackets x l ends) (IsSayable x) ends d
 
 -- ---- arguments
 
@@ -143,7 +143,7 @@ module _ (d : ℕ) (Unary Term : Reads TermForm) (unary : EachReadingIs Unary (�
       let h = one-said k.Open s m t lex r in let g = term m o y h.rest q in let f = one-said k.Close o w u g.rest c in
       let a = h.count in let b = g.count in let i = f.count in
       finish (λ x. At (suc d) x level.Unary false) operators y x s w z e.0 e.1
-      (record { says = puts-bracketed (IsSayable y) (term-bends y) (stands y level.Unary false) d g.says; rest = f.rest; count = omega arith })
+      (record { says = puts-bracketed (IsSayable y) (term-bends y) (needs_no_brackets y level.Unary false) d g.says; rest = f.rest; count = omega arith })
   begun-said k.Number s z x lex h = number-said (suc d) false s z x lex h
   begun-said k.True s z x lex h = true-said (suc d) false s z x lex h
   begun-said k.False s z x lex h = false-said (suc d) false s z x lex h
@@ -154,12 +154,12 @@ module _ (d : ℕ) (Unary Term : Reads TermForm) (unary : EachReadingIs Unary (�
 
 -- what can stand before an operator that passes the test
 abbrev Leads : ℕ → (Kind → Bool) → TermForm → Type 0
-Leads d test x = (o : Arithmetic) → test (arithmetic_word o).kind ≡ true → IsPut (goes_on o x || stands x (arithmetic_side o) false) (IsSayable x) false d
+Leads d test x = (o : Arithmetic) → test (arithmetic_word o).kind ≡ true → IsPut (goes_on o x || needs_no_brackets x (arithmetic_side o) false) (IsSayable x) false d
 
-leads-item : (d : ℕ) (x : TermForm) (o : Arithmetic) → At d x (arithmetic_side o) false → IsPut (goes_on o x || stands x (arithmetic_side o) false) (IsSayable x) false d
+leads-item : (d : ℕ) (x : TermForm) (o : Arithmetic) → At d x (arithmetic_side o) false → IsPut (goes_on o x || needs_no_brackets x (arithmetic_side o) false) (IsSayable x) false d
 leads-item d x o h =
-    puts (IsSayable x) (term-bends x) (stands x (arithmetic_side o) false) (goes_on o x || stands x (arithmetic_side o) false) false d
-    (or_right (goes_on o x) (stands x (arithmetic_side o) false)) h
+    puts (IsSayable x) (term-bends x) (needs_no_brackets x (arithmetic_side o) false) (goes_on o x || needs_no_brackets x (arithmetic_side o) false) false d
+    (or_right (goes_on o x) (needs_no_brackets x (arithmetic_side o) false)) h
 
 -- A chain: its operators, its level, and that of its operands.
 pub record IsChain (d : ℕ) (test : Kind → Bool) (own side : Level) : Type 0 where
@@ -322,7 +322,7 @@ connections-said d Unary Body unary quantifier s z x lex r =
     let h = connected-said TermForm.connected (Equated Unary) (Quantified TermForm.quantified Body) (At d) operators level.Equality
     (equated-said d Unary unary) quantifier (λ x l h. term-freer x l true d h) (λ x l m ends e h. term-looser x l m ends d e h) refl
     (λ p x y ends h g. (h, g)) (λ p x y ends h g. (h, g)) (λ p x y ends h g. (h, g)) (λ c p x y. refl) s z x lex r in
-    record { says = subst (λ (b : Bool). IsPut b (IsSayable x) true d) (stands-whole x) h.says; rest = h.rest; count = h.count }
+    record { says = subst (λ (b : Bool). IsPut b (IsSayable x) true d) (needs_no_brackets-whole x) h.says; rest = h.rest; count = h.count }
 
 mutual
   pub unary-said : (d : ℕ) → EachReadingIs (IsUnary d) (λ x. At d x level.Unary false) operators

@@ -4,7 +4,7 @@ use Rattle.std.proofs.lemmas.Bool.Decides.{nat_tests}
 use Rattle.pb_text_tree.specs.Form.{TermForm, ArgumentForms, no_arguments, argument, FormulaForm}
 use Rattle.pb_text_printer.specs.declared.level.Level.{Level}
 use Rattle.pb_text_printer.specs.declared.level.Level.TheVariants as level
-use Rattle.pb_text_printer.specs.Words.{rank, fits, comparison_level, arithmetic_level, stands, goes_on, formula_stands, connective_level, term_side, formula_side, comparison_side, arithmetic_side}
+use Rattle.pb_text_printer.specs.Words.{rank, fits, comparison_level, arithmetic_level, needs_no_brackets, goes_on, formula_needs_no_brackets, connective_level, term_side, formula_side, comparison_side, arithmetic_side}
 use Rattle.pb_text_printer.specs.Sayable.{Opens, IsPut, IsSayable, AreSayable, MoreSayable, SomeSayable, FormulaSayable}
 
 -- ---- one level more
@@ -25,14 +25,14 @@ mutual
   says-more (TermForm.constant p value) ends d h = h
   says-more (TermForm.number p n) ends d h = h
   says-more (TermForm.name n) ends d h = h
-  says-more (TermForm.not p x) ends d h = opens-more (IsPut (stands x level.Unary false) (IsSayable x) false) (λ e. put-more (stands x level.Unary false) (IsSayable x) false e (says-more x)) d h
-  says-more (TermForm.negative p x) ends d h = opens-more (IsPut (stands x level.Unary false) (IsSayable x) false) (λ e. put-more (stands x level.Unary false) (IsSayable x) false e (says-more x)) d h
+  says-more (TermForm.not p x) ends d h = opens-more (IsPut (needs_no_brackets x level.Unary false) (IsSayable x) false) (λ e. put-more (needs_no_brackets x level.Unary false) (IsSayable x) false e (says-more x)) d h
+  says-more (TermForm.negative p x) ends d h = opens-more (IsPut (needs_no_brackets x level.Unary false) (IsSayable x) false) (λ e. put-more (needs_no_brackets x level.Unary false) (IsSayable x) false e (says-more x)) d h
   says-more (TermForm.connected c p x y) ends d h =
-      (put-more (stands x (term_side c) false) (IsSayable x) false d (says-more x) h.0, put-more (stands y (connective_level c) ends) (IsSayable y) ends d (says-more y) h.1)
+      (put-more (needs_no_brackets x (term_side c) false) (IsSayable x) false d (says-more x) h.0, put-more (needs_no_brackets y (connective_level c) ends) (IsSayable y) ends d (says-more y) h.1)
   says-more (TermForm.compared c p x y) ends d h =
-      (put-more (stands x (comparison_side c) false) (IsSayable x) false d (says-more x) h.0, put-more (stands y (comparison_side c) false) (IsSayable y) false d (says-more y) h.1)
+      (put-more (needs_no_brackets x (comparison_side c) false) (IsSayable x) false d (says-more x) h.0, put-more (needs_no_brackets y (comparison_side c) false) (IsSayable y) false d (says-more y) h.1)
   says-more (TermForm.computed o p x y) ends d h =
-      (put-more (goes_on o x || stands x (arithmetic_side o) false) (IsSayable x) false d (says-more x) h.0, put-more (stands y (arithmetic_side o) false) (IsSayable y) false d (says-more y) h.1)
+      (put-more (goes_on o x || needs_no_brackets x (arithmetic_side o) false) (IsSayable x) false d (says-more x) h.0, put-more (needs_no_brackets y (arithmetic_side o) false) (IsSayable y) false d (says-more y) h.1)
   says-more (TermForm.application f xs) ends d h = (h.0, list-more xs d h.1)
   says-more (TermForm.quantified q p vars x) ends d h = (h.0, opens-more (IsSayable x true) (says-more x true) d h.1)
 
@@ -53,10 +53,10 @@ formula-more (FormulaForm.constant p value) ends d h = h
 formula-more (FormulaForm.val p x) ends d h = opens-more (IsSayable x true) (says-more x true) d h
 formula-more (FormulaForm.instance i) ends d h = (h.0, instance-more i.arguments d h.1)
 formula-more (FormulaForm.negation p x) ends d h =
-    opens-more (IsPut (formula_stands x level.Unary false) (FormulaSayable x) false) (λ e. put-more (formula_stands x level.Unary false) (FormulaSayable x) false e (formula-more x)) d h
+    opens-more (IsPut (formula_needs_no_brackets x level.Unary false) (FormulaSayable x) false) (λ e. put-more (formula_needs_no_brackets x level.Unary false) (FormulaSayable x) false e (formula-more x)) d h
 formula-more (FormulaForm.connected c p x y) ends d h = (
-  put-more (formula_stands x (formula_side c) false) (FormulaSayable x) false d (formula-more x) h.0,
-  put-more (formula_stands y (connective_level c) ends) (FormulaSayable y) ends d (formula-more y) h.1,
+  put-more (formula_needs_no_brackets x (formula_side c) false) (FormulaSayable x) false d (formula-more x) h.0,
+  put-more (formula_needs_no_brackets y (connective_level c) ends) (FormulaSayable y) ends d (formula-more y) h.1,
 )
 formula-more (FormulaForm.quantified q p vars x) ends d h = (h.0, opens-more (FormulaSayable x true) (formula-more x true) d h.1)
 
@@ -84,22 +84,22 @@ put-opened true false P d grows opening freer h = opens-out (P true) (grows true
 put-opened false true P d grows opening freer h = let e : false ≡ true = freer refl in cc
 put-opened false false P d grows opening freer h = h
 
-stands-open : (x : TermForm) (l : Level) → stands x l false ≡ true → stands x l true ≡ true
-stands-open (TermForm.quantified q p vars x) l h = refl
-stands-open (TermForm.constant p value) l h = h
-stands-open (TermForm.number p n) l h = h
-stands-open (TermForm.name n) l h = h
-stands-open (TermForm.not p x) l h = h
-stands-open (TermForm.negative p x) l h = h
-stands-open (TermForm.connected c p x y) l h = h
-stands-open (TermForm.compared c p x y) l h = h
-stands-open (TermForm.computed o p x y) l h = h
-stands-open (TermForm.application f xs) l h = h
+needs_no_brackets-open : (x : TermForm) (l : Level) → needs_no_brackets x l false ≡ true → needs_no_brackets x l true ≡ true
+needs_no_brackets-open (TermForm.quantified q p vars x) l h = refl
+needs_no_brackets-open (TermForm.constant p value) l h = h
+needs_no_brackets-open (TermForm.number p n) l h = h
+needs_no_brackets-open (TermForm.name n) l h = h
+needs_no_brackets-open (TermForm.not p x) l h = h
+needs_no_brackets-open (TermForm.negative p x) l h = h
+needs_no_brackets-open (TermForm.connected c p x y) l h = h
+needs_no_brackets-open (TermForm.compared c p x y) l h = h
+needs_no_brackets-open (TermForm.computed o p x y) l h = h
+needs_no_brackets-open (TermForm.application f xs) l h = h
 
 says-closed : (x : TermForm) (d : ℕ) → IsSayable x true d → IsSayable x false (suc d)
 says-closed (TermForm.connected c p x y) d h = (
-  put-more (stands x (term_side c) false) (IsSayable x) false d (says-more x) h.0,
-  put-closed (stands y (connective_level c) true) (stands y (connective_level c) false) (IsSayable y) d (says-more y) (says-closed y d) (stands-open y (connective_level c)) h.1,
+  put-more (needs_no_brackets x (term_side c) false) (IsSayable x) false d (says-more x) h.0,
+  put-closed (needs_no_brackets y (connective_level c) true) (needs_no_brackets y (connective_level c) false) (IsSayable y) d (says-more y) (says-closed y d) (needs_no_brackets-open y (connective_level c)) h.1,
 )
 says-closed (TermForm.constant p value) d h = h
 says-closed (TermForm.number p n) d h = h
@@ -113,7 +113,7 @@ says-closed (TermForm.quantified q p vars x) d h = says-more (TermForm.quantifie
 
 says-opened : (x : TermForm) (d : ℕ) → IsSayable x false d → IsSayable x true d
 says-opened (TermForm.connected c p x y) d h =
-    (h.0, put-opened (stands y (connective_level c) true) (stands y (connective_level c) false) (IsSayable y) d (says-more y) (says-opened y d) (stands-open y (connective_level c)) h.1)
+    (h.0, put-opened (needs_no_brackets y (connective_level c) true) (needs_no_brackets y (connective_level c) false) (IsSayable y) d (says-more y) (says-opened y d) (needs_no_brackets-open y (connective_level c)) h.1)
 says-opened (TermForm.constant p value) d h = h
 says-opened (TermForm.number p n) d h = h
 says-opened (TermForm.name n) d h = h
@@ -127,19 +127,19 @@ says-opened (TermForm.quantified q p vars x) d h = h
 pub term-bends : (x : TermForm) → Bends (IsSayable x)
 term-bends x = record { more = says-more x; closed = says-closed x; opened = says-opened x }
 
-formula-stands-open : (x : FormulaForm) (l : Level) → formula_stands x l false ≡ true → formula_stands x l true ≡ true
-formula-stands-open (FormulaForm.quantified q p vars x) l h = refl
-formula-stands-open (FormulaForm.constant p value) l h = h
-formula-stands-open (FormulaForm.val p x) l h = h
-formula-stands-open (FormulaForm.instance i) l h = h
-formula-stands-open (FormulaForm.negation p x) l h = h
-formula-stands-open (FormulaForm.connected c p x y) l h = h
+formula-needs_no_brackets-open : (x : FormulaForm) (l : Level) → formula_needs_no_brackets x l false ≡ true → formula_needs_no_brackets x l true ≡ true
+formula-needs_no_brackets-open (FormulaForm.quantified q p vars x) l h = refl
+formula-needs_no_brackets-open (FormulaForm.constant p value) l h = h
+formula-needs_no_brackets-open (FormulaForm.val p x) l h = h
+formula-needs_no_brackets-open (FormulaForm.instance i) l h = h
+formula-needs_no_brackets-open (FormulaForm.negation p x) l h = h
+formula-needs_no_brackets-open (FormulaForm.connected c p x y) l h = h
 
 formula-closed : (x : FormulaForm) (d : ℕ) → FormulaSayable x true d → FormulaSayable x false (suc d)
 formula-closed (FormulaForm.connected c p x y) d h = (
-  put-more (formula_stands x (formula_side c) false) (FormulaSayable x) false d (formula-more x) h.0,
-  put-closed (formula_stands y (connective_level c) true) (formula_stands y (connective_level c) false) (FormulaSayable y) d (formula-more y) (formula-closed y d)
-      (formula-stands-open y (connective_level c)) h.1,
+  put-more (formula_needs_no_brackets x (formula_side c) false) (FormulaSayable x) false d (formula-more x) h.0,
+  put-closed (formula_needs_no_brackets y (connective_level c) true) (formula_needs_no_brackets y (connective_level c) false) (FormulaSayable y) d (formula-more y) (formula-closed y d)
+      (formula-needs_no_brackets-open y (connective_level c)) h.1,
 )
 formula-closed (FormulaForm.constant p value) d h = h
 formula-closed (FormulaForm.val p x) d h = formula-more (FormulaForm.val p x) false d h
@@ -150,8 +150,8 @@ formula-closed (FormulaForm.quantified q p vars x) d h = formula-more (FormulaFo
 formula-opened : (x : FormulaForm) (d : ℕ) → FormulaSayable x false d → FormulaSayable x true d
 formula-opened (FormulaForm.connected c p x y) d h = (
   h.0,
-  put-opened (formula_stands y (connective_level c) true) (formula_stands y (connective_level c) false) (FormulaSayable y) d (formula-more y) (formula-opened y d)
-      (formula-stands-open y (connective_level c)) h.1,
+  put-opened (formula_needs_no_brackets y (connective_level c) true) (formula_needs_no_brackets y (connective_level c) false) (FormulaSayable y) d (formula-more y) (formula-opened y d)
+      (formula-needs_no_brackets-open y (connective_level c)) h.1,
 )
 formula-opened (FormulaForm.constant p value) d h = h
 formula-opened (FormulaForm.val p x) d h = h
@@ -188,7 +188,7 @@ fits-more : (a b c : ℕ) → nat_le b a ≡ true → nat_le c b ≡ true → na
 fits-more a b c h g = grind (arith, nat_tests)
 
 -- what stands at a level stands at a looser one
-pub looser : (x : TermForm) (l m : Level) (ends : Bool) → fits l m ≡ true → stands x l ends ≡ true → stands x m ends ≡ true
+pub looser : (x : TermForm) (l m : Level) (ends : Bool) → fits l m ≡ true → needs_no_brackets x l ends ≡ true → needs_no_brackets x m ends ≡ true
 looser (TermForm.connected c p x y) l m ends e h = fits-more (rank (connective_level c)) (rank l) (rank m) h e
 looser (TermForm.compared c p x y) l m ends e h = fits-more (rank (comparison_level c)) (rank l) (rank m) h e
 looser (TermForm.computed o p x y) l m ends e h = fits-more (rank (arithmetic_level o)) (rank l) (rank m) h e
@@ -200,7 +200,7 @@ looser (TermForm.not p x) l m ends e h = h
 looser (TermForm.negative p x) l m ends e h = h
 looser (TermForm.application f xs) l m ends e h = h
 
-pub formula-looser : (x : FormulaForm) (l m : Level) (ends : Bool) → fits l m ≡ true → formula_stands x l ends ≡ true → formula_stands x m ends ≡ true
+pub formula-looser : (x : FormulaForm) (l m : Level) (ends : Bool) → fits l m ≡ true → formula_needs_no_brackets x l ends ≡ true → formula_needs_no_brackets x m ends ≡ true
 formula-looser (FormulaForm.connected c p x y) l m ends e h = fits-more (rank (connective_level c)) (rank l) (rank m) h e
 formula-looser (FormulaForm.quantified q p vars x) l m ends e h = h
 formula-looser (FormulaForm.constant p value) l m ends e h = h
@@ -212,38 +212,38 @@ fits-lowest : (n : ℕ) → nat_le 0 n ≡ true
 fits-lowest n = grind (arith, nat_tests)
 
 -- where anything may stand, nothing needs brackets
-pub stands-whole : (x : TermForm) → stands x level.Implication true ≡ true
-stands-whole (TermForm.connected c p x y) = fits-lowest (rank (connective_level c))
-stands-whole (TermForm.compared c p x y) = fits-lowest (rank (comparison_level c))
-stands-whole (TermForm.computed o p x y) = fits-lowest (rank (arithmetic_level o))
-stands-whole (TermForm.quantified q p vars x) = refl
-stands-whole (TermForm.constant p value) = refl
-stands-whole (TermForm.number p n) = refl
-stands-whole (TermForm.name n) = refl
-stands-whole (TermForm.not p x) = refl
-stands-whole (TermForm.negative p x) = refl
-stands-whole (TermForm.application f xs) = refl
+pub needs_no_brackets-whole : (x : TermForm) → needs_no_brackets x level.Implication true ≡ true
+needs_no_brackets-whole (TermForm.connected c p x y) = fits-lowest (rank (connective_level c))
+needs_no_brackets-whole (TermForm.compared c p x y) = fits-lowest (rank (comparison_level c))
+needs_no_brackets-whole (TermForm.computed o p x y) = fits-lowest (rank (arithmetic_level o))
+needs_no_brackets-whole (TermForm.quantified q p vars x) = refl
+needs_no_brackets-whole (TermForm.constant p value) = refl
+needs_no_brackets-whole (TermForm.number p n) = refl
+needs_no_brackets-whole (TermForm.name n) = refl
+needs_no_brackets-whole (TermForm.not p x) = refl
+needs_no_brackets-whole (TermForm.negative p x) = refl
+needs_no_brackets-whole (TermForm.application f xs) = refl
 
-pub formula-stands-whole : (x : FormulaForm) → formula_stands x level.Implication true ≡ true
-formula-stands-whole (FormulaForm.connected c p x y) = fits-lowest (rank (connective_level c))
-formula-stands-whole (FormulaForm.quantified q p vars x) = refl
-formula-stands-whole (FormulaForm.constant p value) = refl
-formula-stands-whole (FormulaForm.val p x) = refl
-formula-stands-whole (FormulaForm.instance i) = refl
-formula-stands-whole (FormulaForm.negation p x) = refl
+pub formula-needs_no_brackets-whole : (x : FormulaForm) → formula_needs_no_brackets x level.Implication true ≡ true
+formula-needs_no_brackets-whole (FormulaForm.connected c p x y) = fits-lowest (rank (connective_level c))
+formula-needs_no_brackets-whole (FormulaForm.quantified q p vars x) = refl
+formula-needs_no_brackets-whole (FormulaForm.constant p value) = refl
+formula-needs_no_brackets-whole (FormulaForm.val p x) = refl
+formula-needs_no_brackets-whole (FormulaForm.instance i) = refl
+formula-needs_no_brackets-whole (FormulaForm.negation p x) = refl
 
 -- ---- a looser level
 
-pub term-looser : (x : TermForm) (l m : Level) (ends : Bool) (d : ℕ) → fits l m ≡ true → IsPut (stands x l ends) (IsSayable x) ends d → IsPut (stands x m ends) (IsSayable x) ends d
-term-looser x l m ends d e h = puts (IsSayable x) (term-bends x) (stands x l ends) (stands x m ends) ends d (looser x l m ends e) h
+pub term-looser : (x : TermForm) (l m : Level) (ends : Bool) (d : ℕ) → fits l m ≡ true → IsPut (needs_no_brackets x l ends) (IsSayable x) ends d → IsPut (needs_no_brackets x m ends) (IsSayable x) ends d
+term-looser x l m ends d e h = puts (IsSayable x) (term-bends x) (needs_no_brackets x l ends) (needs_no_brackets x m ends) ends d (looser x l m ends e) h
 
-pub term-freer : (x : TermForm) (l : Level) (ends : Bool) (d : ℕ) → IsPut (stands x l false) (IsSayable x) false d → IsPut (stands x l ends) (IsSayable x) ends d
+pub term-freer : (x : TermForm) (l : Level) (ends : Bool) (d : ℕ) → IsPut (needs_no_brackets x l false) (IsSayable x) false d → IsPut (needs_no_brackets x l ends) (IsSayable x) ends d
 term-freer x l false d h = h
-term-freer x l true d h = puts-open (IsSayable x) (term-bends x) (stands x l false) (stands x l true) d (stands-open x l) h
+term-freer x l true d h = puts-open (IsSayable x) (term-bends x) (needs_no_brackets x l false) (needs_no_brackets x l true) d (needs_no_brackets-open x l) h
 
-pub formula-loosens : (x : FormulaForm) (l m : Level) (ends : Bool) (d : ℕ) → fits l m ≡ true → IsPut (formula_stands x l ends) (FormulaSayable x) ends d → IsPut (formula_stands x m ends) (FormulaSayable x) ends d
-formula-loosens x l m ends d e h = puts (FormulaSayable x) (formula-bends x) (formula_stands x l ends) (formula_stands x m ends) ends d (formula-looser x l m ends e) h
+pub formula-loosens : (x : FormulaForm) (l m : Level) (ends : Bool) (d : ℕ) → fits l m ≡ true → IsPut (formula_needs_no_brackets x l ends) (FormulaSayable x) ends d → IsPut (formula_needs_no_brackets x m ends) (FormulaSayable x) ends d
+formula-loosens x l m ends d e h = puts (FormulaSayable x) (formula-bends x) (formula_needs_no_brackets x l ends) (formula_needs_no_brackets x m ends) ends d (formula-looser x l m ends e) h
 
-pub formula-freer : (x : FormulaForm) (l : Level) (ends : Bool) (d : ℕ) → IsPut (formula_stands x l false) (FormulaSayable x) false d → IsPut (formula_stands x l ends) (FormulaSayable x) ends d
+pub formula-freer : (x : FormulaForm) (l : Level) (ends : Bool) (d : ℕ) → IsPut (formula_needs_no_brackets x l false) (FormulaSayable x) false d → IsPut (formula_needs_no_brackets x l ends) (FormulaSayable x) ends d
 formula-freer x l false d h = h
-formula-freer x l true d h = puts-open (FormulaSayable x) (formula-bends x) (formula_stands x l false) (formula_stands x l true) d (formula-stands-open x l) h
+formula-freer x l true d h = puts-open (FormulaSayable x) (formula-bends x) (formula_needs_no_brackets x l false) (formula_needs_no_brackets x l true) d (formula-needs_no_brackets-open x l) h

@@ -19,7 +19,7 @@ use Rattle.pb_text_tree.specs.declared.operator.Quantifier.TheVariants.{Forall, 
 use Rattle.pb_text_tree.specs.Form.{Named, VariableForm, TermForm, ArgumentForms, no_arguments, argument, FormulaForm}
 use Rattle.pb_text_lexer.specs.Bytes.{is_name, is_letter}
 use Rattle.pb_text_printer.specs.declared.level.Level.TheVariants as level
-use Rattle.pb_text_printer.specs.Words.{Word, word, open_word, list_word, close_word, comma_word, colon_word, period_word, not_word, minus_word, name_word, truth_word, quantifier_word, connective_word, comparison_word, arithmetic_word, put, stands, goes_on, formula_stands, connective_level, term_side, formula_side, comparison_side, arithmetic_side, variable_words, binding_words, term_words, list_words, more_words, formula_words}
+use Rattle.pb_text_printer.specs.Words.{Word, word, open_word, list_word, close_word, comma_word, colon_word, period_word, not_word, minus_word, name_word, truth_word, quantifier_word, connective_word, comparison_word, arithmetic_word, put, needs_no_brackets, goes_on, formula_needs_no_brackets, connective_level, term_side, formula_side, comparison_side, arithmetic_side, variable_words, binding_words, term_words, list_words, more_words, formula_words}
 use Rattle.pb_text_printer.specs.Sayable.{Opens, IsPut, IsName, AreNames, AreVariables, IsSayable, AreSayable, MoreSayable, SomeSayable, FormulaSayable}
 use Rattle.pb_text_printer.proofs.CutLemmas.{NotEquals, IsCutAsToken}
 use Rattle.pb_text_printer.proofs.CutWords.{open-cut, list-cut, close-cut, comma-cut, colon-cut, period-cut, not-cut, minus-cut, truth-cut, quantifier-cut, connective-cut, comparison-cut, arithmetic-cut, val-cut, name-cut, number-cut}
@@ -178,18 +178,18 @@ mutual
   term-solid (TermForm.constant p value) ends d h = truth-solid value
   term-solid (TermForm.number p n) ends d h = solid-number n h
   term-solid (TermForm.name n) ends d h = solid-name n h
-  term-solid (TermForm.not p x) ends d h = not-solid (stands x level.Unary false) d (IsSayable x) (term_words x) (term-solid x) h
-  term-solid (TermForm.negative p x) ends d h = minus-solid (stands x level.Unary false) d (IsSayable x) (term_words x) (term-solid x) h
+  term-solid (TermForm.not p x) ends d h = not-solid (needs_no_brackets x level.Unary false) d (IsSayable x) (term_words x) (term-solid x) h
+  term-solid (TermForm.negative p x) ends d h = minus-solid (needs_no_brackets x level.Unary false) d (IsSayable x) (term_words x) (term-solid x) h
   term-solid (TermForm.connected c p x y) ends d h =
-      connective-between c (put (stands x (term_side c) false) (term_words x) false) (put (stands y (connective_level c) ends) (term_words y) ends)
-      (solid-put (stands x (term_side c) false) false d (IsSayable x) (term_words x) (term-solid x) h.0) (solid-put (stands y (connective_level c) ends) ends d (IsSayable y) (term_words y) (term-solid y) h.1)
+      connective-between c (put (needs_no_brackets x (term_side c) false) (term_words x) false) (put (needs_no_brackets y (connective_level c) ends) (term_words y) ends)
+      (solid-put (needs_no_brackets x (term_side c) false) false d (IsSayable x) (term_words x) (term-solid x) h.0) (solid-put (needs_no_brackets y (connective_level c) ends) ends d (IsSayable y) (term_words y) (term-solid y) h.1)
   term-solid (TermForm.compared c p x y) ends d h =
-      comparison-between c (put (stands x (comparison_side c) false) (term_words x) false) (put (stands y (comparison_side c) false) (term_words y) false)
-      (solid-put (stands x (comparison_side c) false) false d (IsSayable x) (term_words x) (term-solid x) h.0) (solid-put (stands y (comparison_side c) false) false d (IsSayable y) (term_words y) (term-solid y) h.1)
+      comparison-between c (put (needs_no_brackets x (comparison_side c) false) (term_words x) false) (put (needs_no_brackets y (comparison_side c) false) (term_words y) false)
+      (solid-put (needs_no_brackets x (comparison_side c) false) false d (IsSayable x) (term_words x) (term-solid x) h.0) (solid-put (needs_no_brackets y (comparison_side c) false) false d (IsSayable y) (term_words y) (term-solid y) h.1)
   term-solid (TermForm.computed o p x y) ends d h =
-      arithmetic-between o (put (goes_on o x || stands x (arithmetic_side o) false) (term_words x) false) (put (stands y (arithmetic_side o) false) (term_words y) false)
-      (solid-put (goes_on o x || stands x (arithmetic_side o) false) false d (IsSayable x) (term_words x) (term-solid x) h.0)
-      (solid-put (stands y (arithmetic_side o) false) false d (IsSayable y) (term_words y) (term-solid y) h.1)
+      arithmetic-between o (put (goes_on o x || needs_no_brackets x (arithmetic_side o) false) (term_words x) false) (put (needs_no_brackets y (arithmetic_side o) false) (term_words y) false)
+      (solid-put (goes_on o x || needs_no_brackets x (arithmetic_side o) false) false d (IsSayable x) (term_words x) (term-solid x) h.0)
+      (solid-put (needs_no_brackets y (arithmetic_side o) false) false d (IsSayable y) (term_words y) (term-solid y) h.1)
   term-solid (TermForm.application f xs) ends d h = named-solid f (list_words xs) h.0 (list-solid xs d h.1)
   term-solid (TermForm.quantified q p vars x) ends d h = binding-solid q vars (term_words x true) h.0 (opens-solid d (IsSayable x true) (term_words x true) (term-solid x true) h.1)
 
@@ -219,9 +219,9 @@ pub formula-solid : (x : FormulaForm) (ends : Bool) (d : ℕ) → FormulaSayable
 formula-solid (FormulaForm.constant p value) ends d h = truth-solid value
 formula-solid (FormulaForm.val p x) ends d h = opens-solid d (IsSayable x true) (formula_words (FormulaForm.val p x) ends) (val-solid x) h
 formula-solid (FormulaForm.instance i) ends d h = instance-solid i.name i.arguments d h.0 h.1
-formula-solid (FormulaForm.negation p x) ends d h = not-solid (formula_stands x level.Unary false) d (FormulaSayable x) (formula_words x) (formula-solid x) h
+formula-solid (FormulaForm.negation p x) ends d h = not-solid (formula_needs_no_brackets x level.Unary false) d (FormulaSayable x) (formula_words x) (formula-solid x) h
 formula-solid (FormulaForm.connected c p x y) ends d h =
-    connective-between c (put (formula_stands x (formula_side c) false) (formula_words x) false) (put (formula_stands y (connective_level c) ends) (formula_words y) ends)
-    (solid-put (formula_stands x (formula_side c) false) false d (FormulaSayable x) (formula_words x) (formula-solid x) h.0)
-    (solid-put (formula_stands y (connective_level c) ends) ends d (FormulaSayable y) (formula_words y) (formula-solid y) h.1)
+    connective-between c (put (formula_needs_no_brackets x (formula_side c) false) (formula_words x) false) (put (formula_needs_no_brackets y (connective_level c) ends) (formula_words y) ends)
+    (solid-put (formula_needs_no_brackets x (formula_side c) false) false d (FormulaSayable x) (formula_words x) (formula-solid x) h.0)
+    (solid-put (formula_needs_no_brackets y (connective_level c) ends) ends d (FormulaSayable y) (formula_words y) (formula-solid y) h.1)
 formula-solid (FormulaForm.quantified q p vars x) ends d h = binding-solid q vars (formula_words x true) h.0 (opens-solid d (FormulaSayable x true) (formula_words x true) (formula-solid x true) h.1)

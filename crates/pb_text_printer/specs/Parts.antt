@@ -7,15 +7,17 @@ use Rattle.pb_text_tree.specs.declared.operator.Arithmetic.{Arithmetic}
 use Rattle.pb_text_tree.specs.Form.{Named, VariableForm, TermForm, ArgumentForms, FormulaForm, EnumeratorForm, RangeForm}
 use Rattle.pb_text_lexer.specs.declared.kind.Kind.TheVariants as k
 use Rattle.pb_text_printer.specs.declared.level.Level.{Level}
-use Rattle.pb_text_printer.specs.Words.{Word, word, open_word, close_word, comma_word, colon_word, list_word, name_word, connective_word, arithmetic_word, put, stands, term_words, list_words, more_words, formula_stands, formula_words, connective_level, term_side, formula_side, arithmetic_level, arithmetic_side, chains_with, goes_on, fits, enumerator_words, enumerators_words, range_bytes}
+use Rattle.pb_text_printer.specs.declared.level.Bracketing.{Bracketing}
+use Rattle.pb_text_printer.specs.declared.level.Bracketing.TheVariants.{Bare, Bracketed}
+use Rattle.pb_text_printer.specs.Words.{Word, word, open_word, close_word, comma_word, colon_word, list_word, name_word, connective_word, arithmetic_word, put, needs_no_brackets, term_words, list_words, more_words, formula_needs_no_brackets, formula_words, connective_level, term_side, formula_side, arithmetic_level, arithmetic_side, chains_with, goes_on, fits, enumerator_words, enumerators_words, range_bytes}
 use Rattle.pb_text_printer.specs.Page.{Page, broken, typed}
 
 -- a term, in brackets where it needs them
 abbrev pub placed_words : TermForm → Level → Bool → List Word
-placed_words x asked ends = put (stands x asked ends) (term_words x) ends
+placed_words x asked ends = put (needs_no_brackets x asked ends) (term_words x) ends
 
 abbrev pub placed_formula : FormulaForm → Level → Bool → List Word
-placed_formula x asked ends = put (formula_stands x asked ends) (formula_words x) ends
+placed_formula x asked ends = put (formula_needs_no_brackets x asked ends) (formula_words x) ends
 
 -- `val` and its data term
 abbrev pub value_words : TermForm → List Word
@@ -79,10 +81,14 @@ formula_link_words c ends = chain_words (connective_word c) (λ y. placed_formul
 
 -- ---- chains of arithmetic
 
--- whether what an operator computes stands without brackets before another, where there is one
-abbrev pub continues : Option Arithmetic → Arithmetic → Bool
-continues None p = true
-continues (Some o) p = chains_with p (arithmetic_word o).kind || fits (arithmetic_level o) (arithmetic_side p)
+-- whether what an operator computes stands without brackets before another
+abbrev pub continues : Arithmetic → Arithmetic → Bool
+continues o p = chains_with p (arithmetic_word o).kind || fits (arithmetic_level o) (arithmetic_side p)
+
+-- how an operator's left side is written, where the operator before it computes that side, if there is one
+abbrev pub left_bracketing : Option Arithmetic → Arithmetic → Bracketing
+left_bracketing None p = Bare
+left_bracketing (Some o) p = if continues o p then Bare else Bracketed
 
 -- an operator with its right side
 abbrev pub operation_words : Arithmetic → TermForm → List Word
@@ -90,22 +96,22 @@ operation_words o y = arithmetic_word o ∷ placed_words y (arithmetic_side o) f
 
 -- the left side of an operator
 abbrev pub left_words : Arithmetic → TermForm → List Word
-left_words o x = put (goes_on o x || stands x (arithmetic_side o) false) (term_words x) false
+left_words o x = put (goes_on o x || needs_no_brackets x (arithmetic_side o) false) (term_words x) false
 
 -- a bracket, or none
-abbrev pub bracket : Bool → Word → List Word
-bracket true w = []
-bracket false w = w ∷ []
+abbrev pub bracket : Bracketing → Word → List Word
+bracket Bare w = []
+bracket Bracketed w = w ∷ []
 
 -- the brackets that open before a chain, one for each operator whose left side is computed and needs them
 abbrev pub opened : Option Arithmetic → List (Arithmetic × Place × TermForm) → List Word
 opened before [] = []
-opened before (l ∷ ls) = bracket (continues before l.0) open_word ++ opened (Some l.0) ls
+opened before (l ∷ ls) = bracket (left_bracketing before l.0) open_word ++ opened (Some l.0) ls
 
 -- the links of a chain, each behind the bracket that closes before it, if one does
 abbrev pub computed_words : Option Arithmetic → List (Arithmetic × Place × TermForm) → List Word
 computed_words before [] = []
-computed_words before (l ∷ ls) = bracket (continues before l.0) close_word ++ (operation_words l.0 l.2 ++ computed_words (Some l.0) ls)
+computed_words before (l ∷ ls) = bracket (left_bracketing before l.0) close_word ++ (operation_words l.0 l.2 ++ computed_words (Some l.0) ls)
 
 -- ---- texts
 

@@ -4,7 +4,7 @@ use Rattle.pb_text_tree.specs.Form.{Named, VariableForm, TermForm, ArgumentForms
 use Rattle.pb_text_lexer.specs.Bytes.{is_name}
 use Rattle.pb_text_lexer.specs.Lexing.{largest_number}
 use Rattle.pb_text_printer.specs.declared.level.Level.TheVariants as level
-use Rattle.pb_text_printer.specs.Words.{stands, goes_on, formula_stands, connective_level, term_side, formula_side, comparison_side, arithmetic_side}
+use Rattle.pb_text_printer.specs.Words.{needs_no_brackets, goes_on, formula_needs_no_brackets, connective_level, term_side, formula_side, comparison_side, arithmetic_side}
 
 -- ---- operators with two operands
 
@@ -63,14 +63,14 @@ abbrev mutual
   IsSayable (TermForm.constant p value) ends depth = Unit {0}
   IsSayable (TermForm.number p n) ends depth = n ≤ largest_number
   IsSayable (TermForm.name n) ends depth = IsName n
-  IsSayable (TermForm.not p x) ends depth = Opens depth (IsPut (stands x level.Unary false) (IsSayable x) false)
-  IsSayable (TermForm.negative p x) ends depth = Opens depth (IsPut (stands x level.Unary false) (IsSayable x) false)
+  IsSayable (TermForm.not p x) ends depth = Opens depth (IsPut (needs_no_brackets x level.Unary false) (IsSayable x) false)
+  IsSayable (TermForm.negative p x) ends depth = Opens depth (IsPut (needs_no_brackets x level.Unary false) (IsSayable x) false)
   IsSayable (TermForm.connected c p x y) ends depth =
-      IsPut (stands x (term_side c) false) (IsSayable x) false depth × IsPut (stands y (connective_level c) ends) (IsSayable y) ends depth
+      IsPut (needs_no_brackets x (term_side c) false) (IsSayable x) false depth × IsPut (needs_no_brackets y (connective_level c) ends) (IsSayable y) ends depth
   IsSayable (TermForm.compared c p x y) ends depth =
-      IsPut (stands x (comparison_side c) false) (IsSayable x) false depth × IsPut (stands y (comparison_side c) false) (IsSayable y) false depth
+      IsPut (needs_no_brackets x (comparison_side c) false) (IsSayable x) false depth × IsPut (needs_no_brackets y (comparison_side c) false) (IsSayable y) false depth
   IsSayable (TermForm.computed o p x y) ends depth =
-      IsPut (goes_on o x || stands x (arithmetic_side o) false) (IsSayable x) false depth × IsPut (stands y (arithmetic_side o) false) (IsSayable y) false depth
+      IsPut (goes_on o x || needs_no_brackets x (arithmetic_side o) false) (IsSayable x) false depth × IsPut (needs_no_brackets y (arithmetic_side o) false) (IsSayable y) false depth
   IsSayable (TermForm.application f xs) ends depth = IsName f × AreSayable xs depth
   IsSayable (TermForm.quantified q p vars x) ends depth = AreVariables vars × Opens depth (IsSayable x true)
 
@@ -95,9 +95,9 @@ abbrev pub FormulaSayable : FormulaForm → Bool → ℕ → Type 0
 FormulaSayable (FormulaForm.constant p value) ends depth = Unit {0}
 FormulaSayable (FormulaForm.val p x) ends depth = Opens depth (IsSayable x true)
 FormulaSayable (FormulaForm.instance i) ends depth = InstanceSayable i depth
-FormulaSayable (FormulaForm.negation p x) ends depth = Opens depth (IsPut (formula_stands x level.Unary false) (FormulaSayable x) false)
+FormulaSayable (FormulaForm.negation p x) ends depth = Opens depth (IsPut (formula_needs_no_brackets x level.Unary false) (FormulaSayable x) false)
 FormulaSayable (FormulaForm.connected c p x y) ends depth =
-    IsPut (formula_stands x (formula_side c) false) (FormulaSayable x) false depth × IsPut (formula_stands y (connective_level c) ends) (FormulaSayable y) ends depth
+    IsPut (formula_needs_no_brackets x (formula_side c) false) (FormulaSayable x) false depth × IsPut (formula_needs_no_brackets y (connective_level c) ends) (FormulaSayable y) ends depth
 FormulaSayable (FormulaForm.quantified q p vars x) ends depth = AreVariables vars × Opens depth (FormulaSayable x true)
 
 -- ---- texts

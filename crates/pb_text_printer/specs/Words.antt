@@ -19,6 +19,8 @@ use Rattle.pb_text_lexer.specs.Tokens.{Tok}
 use Rattle.pb_text_terms.specs.Operators.{is_additive, is_times, is_division}
 use Rattle.pb_text_printer.specs.declared.level.Level.{Level}
 use Rattle.pb_text_printer.specs.declared.level.Level.TheVariants as level
+use Rattle.pb_text_printer.specs.declared.level.RightEnd.{RightEnd}
+use Rattle.pb_text_printer.specs.declared.level.RightEnd.TheVariants.{Open, Closed}
 
 -- Its token, whether a space goes before it where one may, whether one may go behind it, and whether it ends its line.
 pub record Word : Type 0 where
@@ -163,23 +165,28 @@ chains_with arithmetic.Mod = is_division
 
 -- ---- brackets
 
--- Whether a term stands without brackets where a level is asked for, and where a quantifier may end it or not.
-abbrev pub stands : TermForm → Level → Bool → Bool
-stands (TermForm.connected c p x y) asked ends = fits (connective_level c) asked
-stands (TermForm.compared c p x y) asked ends = fits (comparison_level c) asked
-stands (TermForm.computed o p x y) asked ends = fits (arithmetic_level o) asked
-stands (TermForm.quantified q p vars x) asked ends = ends
-stands _ asked ends = true
+-- whether a quantifier may stand at a right end
+abbrev pub is_open : RightEnd → Bool
+is_open Open = true
+is_open Closed = false
+
+-- Whether a term needs no brackets where a level is asked for, and where a quantifier may end it or not.
+abbrev pub needs_no_brackets : TermForm → Level → Bool → Bool
+needs_no_brackets (TermForm.connected c p x y) asked ends = fits (connective_level c) asked
+needs_no_brackets (TermForm.compared c p x y) asked ends = fits (comparison_level c) asked
+needs_no_brackets (TermForm.computed o p x y) asked ends = fits (arithmetic_level o) asked
+needs_no_brackets (TermForm.quantified q p vars x) asked ends = ends
+needs_no_brackets _ asked ends = true
 
 -- whether a term's operators and one behind it are one chain
 abbrev pub goes_on : Arithmetic → TermForm → Bool
 goes_on o (TermForm.computed q p x y) = chains_with o (arithmetic_word q).kind
 goes_on o _ = false
 
-abbrev pub formula_stands : FormulaForm → Level → Bool → Bool
-formula_stands (FormulaForm.connected c p x y) asked ends = fits (connective_level c) asked
-formula_stands (FormulaForm.quantified q p vars x) asked ends = ends
-formula_stands _ asked ends = true
+abbrev pub formula_needs_no_brackets : FormulaForm → Level → Bool → Bool
+formula_needs_no_brackets (FormulaForm.connected c p x y) asked ends = fits (connective_level c) asked
+formula_needs_no_brackets (FormulaForm.quantified q p vars x) asked ends = ends
+formula_needs_no_brackets _ asked ends = true
 
 -- words that stand by themselves, or else in brackets, where anything may end them
 abbrev pub put : Bool → (Bool → List Word) → Bool → List Word
@@ -207,14 +214,14 @@ abbrev mutual
   term_words (TermForm.constant p value) ends = truth_word value ∷ []
   term_words (TermForm.number p n) ends = word k.Number (decimal n) ∷ []
   term_words (TermForm.name n) ends = name_word n ∷ []
-  term_words (TermForm.not p x) ends = not_word ∷ put (stands x level.Unary false) (term_words x) false
-  term_words (TermForm.negative p x) ends = minus_word ∷ put (stands x level.Unary false) (term_words x) false
+  term_words (TermForm.not p x) ends = not_word ∷ put (needs_no_brackets x level.Unary false) (term_words x) false
+  term_words (TermForm.negative p x) ends = minus_word ∷ put (needs_no_brackets x level.Unary false) (term_words x) false
   term_words (TermForm.connected c p x y) ends =
-      put (stands x (term_side c) false) (term_words x) false ++ connective_word c ∷ put (stands y (connective_level c) ends) (term_words y) ends
+      put (needs_no_brackets x (term_side c) false) (term_words x) false ++ connective_word c ∷ put (needs_no_brackets y (connective_level c) ends) (term_words y) ends
   term_words (TermForm.compared c p x y) ends =
-      put (stands x (comparison_side c) false) (term_words x) false ++ comparison_word c ∷ put (stands y (comparison_side c) false) (term_words y) false
+      put (needs_no_brackets x (comparison_side c) false) (term_words x) false ++ comparison_word c ∷ put (needs_no_brackets y (comparison_side c) false) (term_words y) false
   term_words (TermForm.computed o p x y) ends =
-      put (goes_on o x || stands x (arithmetic_side o) false) (term_words x) false ++ arithmetic_word o ∷ put (stands y (arithmetic_side o) false) (term_words y) false
+      put (goes_on o x || needs_no_brackets x (arithmetic_side o) false) (term_words x) false ++ arithmetic_word o ∷ put (needs_no_brackets y (arithmetic_side o) false) (term_words y) false
   term_words (TermForm.application f xs) ends = name_word f ∷ list_words xs
   term_words (TermForm.quantified q p vars x) ends = binding_words q vars (term_words x true)
 
@@ -237,9 +244,9 @@ abbrev pub formula_words : FormulaForm → Bool → List Word
 formula_words (FormulaForm.constant p value) ends = truth_word value ∷ []
 formula_words (FormulaForm.val p x) ends = word k.Val (codes "val") ∷ list_word ∷ term_words x true ++ close_word ∷ []
 formula_words (FormulaForm.instance i) ends = instance_words i
-formula_words (FormulaForm.negation p x) ends = not_word ∷ put (formula_stands x level.Unary false) (formula_words x) false
+formula_words (FormulaForm.negation p x) ends = not_word ∷ put (formula_needs_no_brackets x level.Unary false) (formula_words x) false
 formula_words (FormulaForm.connected c p x y) ends =
-    put (formula_stands x (formula_side c) false) (formula_words x) false ++ connective_word c ∷ put (formula_stands y (connective_level c) ends) (formula_words y) ends
+    put (formula_needs_no_brackets x (formula_side c) false) (formula_words x) false ++ connective_word c ∷ put (formula_needs_no_brackets y (connective_level c) ends) (formula_words y) ends
 formula_words (FormulaForm.quantified q p vars x) ends = binding_words q vars (formula_words x true)
 
 -- ---- texts

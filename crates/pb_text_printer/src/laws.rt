@@ -6,14 +6,16 @@ ghost use Rattle.pb_text.specs.Parsing.{IsReading};
 ghost use Rattle.pb_text_printer.specs.Printing.{IsPrinted, ReadsAs};
 ghost use Rattle.pb_text_printer.specs.Words.{text_bytes};
 
-/// The words of a text that was read are read back as that text but for places, within the same limits of nesting and
-/// of operators: whatever bytes are cut into these words, with the text's range lines, say it.
+/// The words of a text that was read are read back as that text but for places, within the same
+/// limits of nesting and of operators: whatever bytes are cut into these words, with the text's
+/// range lines, say it.
 pub fn printed_words_are_read_back()
-    ensures { (bytes printed : List ℕ) (x : SpecForm) → IsReading bytes x → IsPrinted printed x → ReadsAs printed x }
+    ensures { (bytes printed : List ℕ) (x : SpecForm) → IsReading bytes x → IsPrinted printed x
+        → ReadsAs printed x }
 {}
 
-/// A text that was read can be printed: its range lines, and then its words with brackets only where the grammar needs
-/// them, say that text but for places, within the same limits.
+/// A text that was read can be printed: its range lines, and then its words with brackets only
+/// where the grammar needs them, say that text but for places, within the same limits.
 pub fn printed_text_is_read_back()
     ensures { (bytes : List ℕ) (x : SpecForm) → IsReading bytes x → ReadsAs (text_bytes x) x }
 {}

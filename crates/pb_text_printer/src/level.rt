@@ -1,6 +1,6 @@
 //! Where an expression stands, and whether it needs brackets there.
 
-ghost use Rattle.std.specs.Prelude.{◌≡◌, false};
+ghost use Rattle.std.specs.Prelude.{◌≡◌};
 ghost use Rattle.pb_text_printer.specs.Parts as parts;
 ghost use Rattle.pb_text_printer.specs.Words as words;
 
@@ -27,7 +27,8 @@ impl Level {
         self as u8
     }
 
-    /// Whether an expression of this level stands without brackets where one of the other is asked for.
+    /// Whether an expression of this level stands without brackets where one of the other is asked
+    /// for.
     pub fn fits(self, asked: Level) -> bool
         ensures { result ≡ words.fits self asked }
     {
@@ -35,26 +36,46 @@ impl Level {
     }
 }
 
-/// Where an expression stands: the level that is asked for, and whether a quantifier may stand at its right end.
+/// Whether a quantifier, which reaches as far to the right as it can, may stand at the right end of
+/// an expression.
+#[derive(Clone, Copy, Debug)]
+pub enum RightEnd {
+    Open,
+    Closed,
+}
+
+impl RightEnd {
+    /// Whether a quantifier may stand there.
+    pub fn is_open(self) -> bool
+        ensures { result ≡ words.is_open self }
+    {
+        matches!(self, RightEnd::Open)
+    }
+}
+
+/// Where an expression stands: the level that is asked for, and its right end.
 #[derive(Clone, Copy, Debug)]
 pub struct Position {
     pub level: Level,
-    pub ends: bool,
+    pub right_end: RightEnd,
 }
 
 impl Position {
     /// Where no quantifier may end the expression.
     pub fn closed(level: Level) -> Position
-        ensures { result ≡ record { level = level; ends = false } }
+        ensures { result ≡ record { level = level; right_end = RightEnd.Closed } }
     {
-        Position { level, ends: false }
+        Position {
+            level,
+            right_end: RightEnd::Closed,
+        }
     }
 
-    /// Where the last operand of a chain stands, which a quantifier may end or not.
-    pub fn last(level: Level, ends: bool) -> Position
-        ensures { result ≡ record { level = level; ends = ends } }
+    /// Where the last operand of a chain stands, whose right end is that of the chain.
+    pub fn last(level: Level, right_end: RightEnd) -> Position
+        ensures { result ≡ record { level = level; right_end = right_end } }
     {
-        Position { level, ends }
+        Position { level, right_end }
     }
 }
 
@@ -104,18 +125,31 @@ pub fn chains_with(operator: Arithmetic, other: Arithmetic) -> bool
     }
 }
 
-/// Whether what an operator computes stands without brackets before another, where there is one.
-pub fn continues(before: Option<Arithmetic>, next: Arithmetic) -> bool
-    ensures { result ≡ parts.continues before next }
+/// Whether brackets stand around an expression.
+#[derive(Clone, Copy, Debug)]
+pub enum Bracketing {
+    Bare,
+    Bracketed,
+}
+
+/// Whether what an operator computes stands without brackets before another.
+fn continues(operator: Arithmetic, next: Arithmetic) -> bool
+    ensures { result ≡ parts.continues operator next }
+{
+    chains_with(next, operator)
+        || arithmetic_levels(operator)
+            .0
+            .fits(arithmetic_levels(next).1)
+}
+
+/// How the left side of an operator is written, where the operator before it computes that side, if
+/// there is one.
+pub fn left_bracketing(before: Option<Arithmetic>, next: Arithmetic) -> Bracketing
+    ensures { result ≡ parts.left_bracketing before next }
 {
     match before {
-        None => true,
-        Some(operator) => {
-            chains_with(next, operator)
-                || arithmetic_levels(operator)
-                    .0
-                    .fits(arithmetic_levels(next).1)
-        }
+        Some(operator) if !continues(operator, next) => Bracketing::Bracketed,
+        _ => Bracketing::Bare,
     }
 }
 

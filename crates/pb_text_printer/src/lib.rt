@@ -1,8 +1,8 @@
 //! Prints texts, and copies data terms.
 //!
-//! A text is printed with brackets only where the grammar needs them to be read as the same tree: `specs/Words.antt` says
-//! what is written. What is printed of a text that was read is read back as that text but for places, and
-//! `specs/Unplaced.antt` says what that is.
+//! A text is printed with brackets only where the grammar needs them to be read as the same tree:
+//! `specs/Words.antt` says what is written. What is printed of a text that was read is read back as
+//! that text but for places, and `specs/Unplaced.antt` says what that is.
 #![tactic(auto)]
 
 mod formula;

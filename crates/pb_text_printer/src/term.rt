@@ -2,14 +2,15 @@
 
 ghost use Rattle.std.specs.Prelude.{◌≡◌, ◌∷◌, [], None};
 ghost use Rattle.std.specs.Result.{OnOk};
-ghost use Rattle.pb_text_tree.specs.Form.{argument_forms, arithmetic_links, instance_form, term_form, term_links};
+ghost use Rattle.pb_text_tree.specs.Form.{argument_forms, arithmetic_links, instance_form};
+ghost use Rattle.pb_text_tree.specs.Form.{term_form, term_links};
 ghost use Rattle.pb_text_printer.specs.Page.{after, page};
 ghost use Rattle.pb_text_printer.specs.Parts as parts;
 ghost use Rattle.pb_text_printer.specs.Words as words;
 
 use crate::level::{
-    Level, Position, arithmetic_levels, arithmetic_token, chains_with, comparison_levels,
-    comparison_token, connective_level, connective_token, continues,
+    Bracketing, Level, Position, RightEnd, arithmetic_levels, arithmetic_token, chains_with,
+    comparison_levels, comparison_token, connective_level, connective_token, left_bracketing,
 };
 use crate::variables::write_quantifier;
 use crate::writer::Writer;
@@ -27,9 +28,10 @@ fn operand_level(connective: Connective) -> Level
     }
 }
 
-/// Whether a term stands without brackets at a position.
-fn stands(term: &Term, position: Position) -> bool
-    ensures { result ≡ words.stands (term_form term.now) position.level position.ends }
+/// Whether a term needs no brackets at a position.
+fn needs_no_brackets(term: &Term, position: Position) -> bool
+    ensures { result ≡ words.needs_no_brackets (term_form term.now) position.level
+        (words.is_open position.right_end) }
 {
     match term {
         Term::Chain {
@@ -38,21 +40,22 @@ fn stands(term: &Term, position: Position) -> bool
             links,
         } => match links.first() {
             Some(_) => connective_level(*connective).fits(position.level),
-            None => stands(first, position),
+            None => needs_no_brackets(first, position),
         },
         Term::Comparison { comparison, .. } => {
             comparison_levels(*comparison).0.fits(position.level)
         }
         Term::Arithmetic { first, links } => match links.last() {
             Some(link) => arithmetic_levels(link.operator).0.fits(position.level),
-            None => stands(first, position),
+            None => needs_no_brackets(first, position),
         },
-        Term::Quantified { .. } => position.ends,
+        Term::Quantified { .. } => position.right_end.is_open(),
         _ => true,
     }
 }
 
-/// Whether an operator goes on with the chain that a term is, so that they are one chain without brackets.
+/// Whether an operator goes on with the chain that a term is, so that they are one chain without
+/// brackets.
 fn goes_on(operator: Arithmetic, term: &Term) -> bool
     ensures { result ≡ words.goes_on operator (term_form term.now) }
 {
@@ -98,14 +101,15 @@ fn write_arguments(
     alloc: Global,
     arguments: &[Argument],
 ) -> Result<(), AllocError>
-    ensures { OnOk result (page out.new ≡ after (words.list_words (argument_forms arguments.now)) (page out.old)) }
+    ensures { OnOk result (page out.new ≡ after (words.list_words (argument_forms arguments.now))
+        (page out.old)) }
 {
     if arguments.is_empty() {
         return Ok(());
     }
     for (index, argument) in arguments.iter().enumerate() {
         write_separator(out, index)?;
-        write_plain(out, alloc, &argument.term, true)?;
+        write_plain(out, alloc, &argument.term, RightEnd::Open)?;
     }
     out.close(")")
 }
@@ -116,28 +120,31 @@ pub fn write_instance(
     alloc: Global,
     instance: &Instance,
 ) -> Result<(), AllocError>
-    ensures { OnOk result (page out.new ≡ after (words.instance_words (instance_form instance.now)) (page out.old)) }
+    ensures { OnOk result (page out.new ≡ after (words.instance_words (instance_form instance.now))
+        (page out.old)) }
 {
     out.word(instance.name.text.as_str())?;
     write_arguments(out, alloc, &instance.arguments)
 }
 
-/// The links of a chain, behind its first operand, where a quantifier may end the last or not.
+/// The links of a chain, behind its first operand, with the right end of the chain.
 #[cycle(terms)]
 fn write_links(
     out: &mut Writer,
     alloc: Global,
     connective: Connective,
     links: &[TermLink],
-    ends: bool,
+    right_end: RightEnd,
 ) -> Result<(), AllocError>
-    ensures { OnOk result (page out.new ≡ after (parts.link_words connective ends (term_links links.now)) (page out.old)) }
+    ensures { OnOk result (page out.new ≡ after
+        (parts.link_words connective (words.is_open right_end) (term_links links.now))
+        (page out.old)) }
 {
     let side = Position::closed(operand_level(connective));
     for (index, link) in links.iter().enumerate() {
         out.word(connective_token(connective))?;
         if index + 1 == links.len() {
-            let last = Position::last(connective_level(connective), ends);
+            let last = Position::last(connective_level(connective), right_end);
             return write_term(out, alloc, &link.operand, last);
         }
         write_term(out, alloc, &link.operand, side)?;
@@ -145,27 +152,37 @@ fn write_links(
     Ok(())
 }
 
-/// An opening bracket, unless what is behind it stands without.
-fn open_bracket(out: &mut Writer, stands: bool) -> Result<(), AllocError>
-    ensures { OnOk result (page out.new ≡ after (parts.bracket stands words.open_word) (page out.old)) }
+/// The opening bracket, if there is one.
+fn open_bracket(out: &mut Writer, bracketing: Bracketing) -> Result<(), AllocError>
+    ensures { OnOk result (page out.new ≡ after (parts.bracket bracketing words.open_word)
+        (page out.old)) }
 {
-    if stands { Ok(()) } else { out.open("(") }
+    match bracketing {
+        Bracketing::Bare => Ok(()),
+        Bracketing::Bracketed => out.open("("),
+    }
 }
 
-/// A closing bracket, unless what is before it stands without.
-fn close_bracket(out: &mut Writer, stands: bool) -> Result<(), AllocError>
-    ensures { OnOk result (page out.new ≡ after (parts.bracket stands words.close_word) (page out.old)) }
+/// The closing bracket, if there is one.
+fn close_bracket(out: &mut Writer, bracketing: Bracketing) -> Result<(), AllocError>
+    ensures { OnOk result (page out.new ≡ after (parts.bracket bracketing words.close_word)
+        (page out.old)) }
 {
-    if stands { Ok(()) } else { out.close(")") }
+    match bracketing {
+        Bracketing::Bare => Ok(()),
+        Bracketing::Bracketed => out.close(")"),
+    }
 }
 
-/// The brackets that open before a chain of arithmetic for the operators whose left sides need them.
+/// The brackets that open before a chain of arithmetic for the operators whose left sides need
+/// them.
 fn open_brackets(out: &mut Writer, links: &[ArithmeticLink]) -> Result<(), AllocError>
-    ensures { OnOk result (page out.new ≡ after (parts.opened None (arithmetic_links links.now)) (page out.old)) }
+    ensures { OnOk result (page out.new ≡ after (parts.opened None (arithmetic_links links.now))
+        (page out.old)) }
 {
     let mut before = None;
     for link in links {
-        open_bracket(out, continues(before, link.operator))?;
+        open_bracket(out, left_bracketing(before, link.operator))?;
         before = Some(link.operator);
     }
     Ok(())
@@ -178,11 +195,12 @@ fn write_operations(
     alloc: Global,
     links: &[ArithmeticLink],
 ) -> Result<(), AllocError>
-    ensures { OnOk result (page out.new ≡ after (parts.computed_words None (arithmetic_links links.now)) (page out.old)) }
+    ensures { OnOk result (page out.new ≡ after
+        (parts.computed_words None (arithmetic_links links.now)) (page out.old)) }
 {
     let mut before = None;
     for link in links {
-        close_bracket(out, continues(before, link.operator))?;
+        close_bracket(out, left_bracketing(before, link.operator))?;
         write_operation(out, alloc, link)?;
         before = Some(link.operator);
     }
@@ -192,7 +210,8 @@ fn write_operations(
 /// An operator with its right side.
 #[cycle(terms)]
 fn write_operation(out: &mut Writer, alloc: Global, link: &ArithmeticLink) -> Result<(), AllocError>
-    ensures { OnOk result (page out.new ≡ after (parts.operation_words link.now.operator (term_form link.now.operand)) (page out.old)) }
+    ensures { OnOk result (page out.new ≡ after
+        (parts.operation_words link.now.operator (term_form link.now.operand)) (page out.old)) }
 {
     out.word(arithmetic_token(link.operator))?;
     let side = arithmetic_levels(link.operator).1;
@@ -207,10 +226,11 @@ fn write_left(
     operator: Arithmetic,
     first: &Term,
 ) -> Result<(), AllocError>
-    ensures { OnOk result (page out.new ≡ after (parts.left_words operator (term_form first.now)) (page out.old)) }
+    ensures { OnOk result (page out.new ≡ after (parts.left_words operator (term_form first.now))
+        (page out.old)) }
 {
     if goes_on(operator, first) {
-        return write_plain(out, alloc, first, false);
+        return write_plain(out, alloc, first, RightEnd::Closed);
     }
     let side = arithmetic_levels(operator).1;
     write_term(out, alloc, first, Position::closed(side))
@@ -224,25 +244,28 @@ pub fn write_term(
     term: &Term,
     position: Position,
 ) -> Result<(), AllocError>
-    ensures { OnOk result (page out.new ≡ after (parts.placed_words (term_form term.now) position.level position.ends) (page out.old)) }
+    ensures { OnOk result (page out.new ≡ after
+        (parts.placed_words (term_form term.now) position.level (words.is_open position.right_end))
+        (page out.old)) }
 {
-    if stands(term, position) {
-        return write_plain(out, alloc, term, position.ends);
+    if needs_no_brackets(term, position) {
+        return write_plain(out, alloc, term, position.right_end);
     }
     out.open("(")?;
-    write_plain(out, alloc, term, true)?;
+    write_plain(out, alloc, term, RightEnd::Open)?;
     out.close(")")
 }
 
-/// A term without brackets around it, which a quantifier may end or not.
+/// A term without brackets around it, whose right end is open to a quantifier or closed.
 #[cycle(terms)]
 pub fn write_plain(
     out: &mut Writer,
     alloc: Global,
     term: &Term,
-    ends: bool,
+    right_end: RightEnd,
 ) -> Result<(), AllocError>
-    ensures { OnOk result (page out.new ≡ after (words.term_words (term_form term.now) ends) (page out.old)) }
+    ensures { OnOk result (page out.new ≡ after
+        (words.term_words (term_form term.now) (words.is_open right_end)) (page out.old)) }
 {
     match term {
         Term::Constant { value, .. } => write_truth(out, *value),
@@ -261,11 +284,11 @@ pub fn write_plain(
             first,
             links,
         } => match links.first() {
-            None => write_plain(out, alloc, first, ends),
+            None => write_plain(out, alloc, first, right_end),
             Some(_) => {
                 let side = Position::closed(operand_level(*connective));
                 write_term(out, alloc, first, side)?;
-                write_links(out, alloc, *connective, links, ends)
+                write_links(out, alloc, *connective, links, right_end)
             }
         },
         Term::Comparison {
@@ -280,7 +303,7 @@ pub fn write_plain(
             write_term(out, alloc, right, side)
         }
         Term::Arithmetic { first, links } => match links.first() {
-            None => write_plain(out, alloc, first, ends),
+            None => write_plain(out, alloc, first, right_end),
             Some(link) => {
                 open_brackets(out, links)?;
                 write_left(out, alloc, link.operator, first)?;
@@ -301,7 +324,7 @@ pub fn write_plain(
             ..
         } => {
             write_quantifier(out, *quantifier, variables)?;
-            write_plain(out, alloc, body, true)
+            write_plain(out, alloc, body, RightEnd::Open)
         }
     }
 }

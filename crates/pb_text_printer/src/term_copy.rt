@@ -1,7 +1,8 @@
 //! Copies data terms, places included.
 
 ghost use Rattle.std.specs.Prelude.{◌≡◌, map, IfOk};
-ghost use Rattle.pb_text_tree.specs.Form.{named, variables_form, term_form, term_links, arithmetic_links};
+ghost use Rattle.pb_text_tree.specs.Form.{named, variables_form, term_form, term_links};
+ghost use Rattle.pb_text_tree.specs.Form.{arithmetic_links};
 ghost use Rattle.pb_text_printer.specs.Copied.{placed_argument};
 
 use pb_text_tree::{Argument, ArithmeticLink, Name, Term, TermLink, Variables};

@@ -1,13 +1,18 @@
-//! Writes whole texts: ranges, sorts, equations and the instance that is asked for, each on its line.
+//! Writes whole texts: ranges, sorts, equations and the instance that is asked for, each on its
+//! line.
 
-ghost use Rattle.std.specs.Prelude.{◌≡◌, ◌==◌, ◌∷◌, [], ◌++◌, length, false, true, flat_map, map, string_bytes, IfOk};
+ghost use Rattle.std.specs.Prelude.{◌≡◌, ◌==◌, ◌∷◌, [], ◌++◌, length, false, true, flat_map, map};
+ghost use Rattle.std.specs.Prelude.{string_bytes, IfOk};
 ghost use Rattle.std.specs.Result.{OnOk};
-ghost use Rattle.pb_text_tree.specs.Form.{enumerator_form, equation_form, range_form, recogniser_form, sort_declaration_form, sort_form, spec_form, variable_forms};
+ghost use Rattle.pb_text_tree.specs.Form.{enumerator_form, equation_form, range_form};
+ghost use Rattle.pb_text_tree.specs.Form.{recogniser_form, sort_declaration_form, sort_form};
+ghost use Rattle.pb_text_tree.specs.Form.{spec_form, variable_forms};
 ghost use Rattle.pb_text_printer.specs.Page.{after, broken, page, typed};
 ghost use Rattle.pb_text_printer.specs.Parts as parts;
 ghost use Rattle.pb_text_printer.specs.Words as words;
 
 use crate::formula::write_plain;
+use crate::level::RightEnd;
 use crate::term::write_instance;
 use crate::variables::write_variables;
 use crate::writer::Writer;
@@ -17,7 +22,8 @@ use std::alloc::{AllocError, Global};
 
 /// A range line.
 fn write_range(out: &mut Writer, alloc: Global, range: &Range) -> Result<(), AllocError>
-    ensures { OnOk result (page out.new ≡ broken (typed false true (words.range_bytes (range_form range.now)) (page out.old))) }
+    ensures { OnOk result (page out.new ≡ broken
+        (typed false true (words.range_bytes (range_form range.now)) (page out.old))) }
 {
     let Range {
         name,
@@ -32,7 +38,8 @@ fn write_range(out: &mut Writer, alloc: Global, range: &Range) -> Result<(), All
 
 /// The range lines.
 fn write_ranges(out: &mut Writer, alloc: Global, ranges: &[Range]) -> Result<(), AllocError>
-    ensures { OnOk result (page out.new ≡ parts.behind_ranges (map range_form ranges.now) (page out.old)) }
+    ensures { OnOk result (page out.new ≡ parts.behind_ranges (map range_form ranges.now)
+        (page out.old)) }
 {
     for range in ranges {
         write_range(out, alloc, range)?;
@@ -49,7 +56,8 @@ fn write_bar(out: &mut Writer, index: usize) -> Result<(), AllocError>
 
 /// A recogniser, if there is one.
 fn write_recogniser(out: &mut Writer, recogniser: &Option<Name>) -> Result<(), AllocError>
-    ensures { OnOk result (page out.new ≡ after (words.recogniser_words (recogniser_form recogniser.now)) (page out.old)) }
+    ensures { OnOk result (page out.new ≡ after
+        (words.recogniser_words (recogniser_form recogniser.now)) (page out.old)) }
 {
     match recogniser {
         None => Ok(()),
@@ -62,7 +70,8 @@ fn write_recogniser(out: &mut Writer, recogniser: &Option<Name>) -> Result<(), A
 
 /// An enumerator, with its recogniser if it has one.
 fn write_enumerator(out: &mut Writer, enumerator: &Enumerator) -> Result<(), AllocError>
-    ensures { OnOk result (page out.new ≡ after (words.enumerator_words (enumerator_form enumerator.now)) (page out.old)) }
+    ensures { OnOk result (page out.new ≡ after
+        (words.enumerator_words (enumerator_form enumerator.now)) (page out.old)) }
 {
     out.word(enumerator.name.text.as_str())?;
     write_recogniser(out, &enumerator.recogniser)
@@ -70,7 +79,8 @@ fn write_enumerator(out: &mut Writer, enumerator: &Enumerator) -> Result<(), All
 
 /// Enumerators with bars between them.
 fn write_enumerators(out: &mut Writer, enumerators: &[Enumerator]) -> Result<(), AllocError>
-    ensures { OnOk result (page out.new ≡ after (words.enumerators_words (map enumerator_form enumerators.now)) (page out.old)) }
+    ensures { OnOk result (page out.new ≡ after
+        (words.enumerators_words (map enumerator_form enumerators.now)) (page out.old)) }
 {
     for (index, enumerator) in enumerators.iter().enumerate() {
         write_bar(out, index)?;
@@ -81,7 +91,8 @@ fn write_enumerators(out: &mut Writer, enumerators: &[Enumerator]) -> Result<(),
 
 /// What a sort is declared to be.
 fn write_sort(out: &mut Writer, sort: &Sort) -> Result<(), AllocError>
-    ensures { OnOk result (page out.new ≡ after (words.sort_words (sort_form sort.now)) (page out.old)) }
+    ensures { OnOk result (page out.new ≡ after (words.sort_words (sort_form sort.now))
+        (page out.old)) }
 {
     match sort {
         Sort::Struct(enumerators) => {
@@ -102,7 +113,8 @@ fn write_semicolon(out: &mut Writer) -> Result<(), AllocError>
 
 /// The declaration of a sort.
 fn write_declaration(out: &mut Writer, declaration: &SortDeclaration) -> Result<(), AllocError>
-    ensures { OnOk result (page out.new ≡ after (words.declaration_words (sort_declaration_form declaration.now)) (page out.old)) }
+    ensures { OnOk result (page out.new ≡ after
+        (words.declaration_words (sort_declaration_form declaration.now)) (page out.old)) }
 {
     out.word(declaration.name.text.as_str())?;
     out.word("=")?;
@@ -112,7 +124,9 @@ fn write_declaration(out: &mut Writer, declaration: &SortDeclaration) -> Result<
 
 /// Declarations of sorts.
 fn write_declarations(out: &mut Writer, declarations: &[SortDeclaration]) -> Result<(), AllocError>
-    ensures { OnOk result (page out.new ≡ after (flat_map words.declaration_words (map sort_declaration_form declarations.now)) (page out.old)) }
+    ensures { OnOk result (page out.new ≡ after
+        (flat_map words.declaration_words (map sort_declaration_form declarations.now))
+        (page out.old)) }
 {
     for declaration in declarations {
         write_declaration(out, declaration)?;
@@ -122,7 +136,8 @@ fn write_declarations(out: &mut Writer, declarations: &[SortDeclaration]) -> Res
 
 /// Sorts under one word, or nothing where there are none.
 fn write_sorts(out: &mut Writer, declarations: &[SortDeclaration]) -> Result<(), AllocError>
-    ensures { OnOk result (page out.new ≡ after (words.sorts_words (map sort_declaration_form declarations.now)) (page out.old)) }
+    ensures { OnOk result (page out.new ≡ after
+        (words.sorts_words (map sort_declaration_form declarations.now)) (page out.old)) }
 {
     if declarations.is_empty() {
         return Ok(());
@@ -163,7 +178,8 @@ fn are_none(groups: &[Variables]) -> bool
 
 /// Parameters in brackets, or nothing where there are none.
 fn write_parameters(out: &mut Writer, parameters: &[Variables]) -> Result<(), AllocError>
-    ensures { OnOk result (page out.new ≡ after (words.parameter_words (variable_forms parameters.now)) (page out.old)) }
+    ensures { OnOk result (page out.new ≡ after
+        (words.parameter_words (variable_forms parameters.now)) (page out.old)) }
 {
     if are_none(parameters) {
         return Ok(());
@@ -175,13 +191,14 @@ fn write_parameters(out: &mut Writer, parameters: &[Variables]) -> Result<(), Al
 
 /// An equation.
 fn write_equation(out: &mut Writer, alloc: Global, equation: &Equation) -> Result<(), AllocError>
-    ensures { OnOk result (page out.new ≡ after (words.equation_words (equation_form equation.now)) (page out.old)) }
+    ensures { OnOk result (page out.new ≡ after (words.equation_words (equation_form equation.now))
+        (page out.old)) }
 {
     write_sign(out, equation.sign)?;
     out.word(equation.name.text.as_str())?;
     write_parameters(out, &equation.parameters)?;
     out.word("=")?;
-    write_plain(out, alloc, &equation.right, true)?;
+    write_plain(out, alloc, &equation.right, RightEnd::Open)?;
     write_semicolon(out)
 }
 
@@ -191,7 +208,8 @@ fn write_equations(
     alloc: Global,
     equations: &[Equation],
 ) -> Result<(), AllocError>
-    ensures { OnOk result (page out.new ≡ after (flat_map words.equation_words (map equation_form equations.now)) (page out.old)) }
+    ensures { OnOk result (page out.new ≡ after
+        (flat_map words.equation_words (map equation_form equations.now)) (page out.old)) }
 {
     for equation in equations {
         write_equation(out, alloc, equation)?;

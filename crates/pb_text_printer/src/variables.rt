@@ -1,6 +1,7 @@
 //! Writes variables with their sorts, and quantifiers with their variables.
 
-ghost use Rattle.std.specs.Prelude.{◌≡◌, ◌∷◌, ◌++◌, List, [], IfOk, None, Some, option_map, option_copied};
+ghost use Rattle.std.specs.Prelude.{◌≡◌, ◌∷◌, ◌++◌, List, [], IfOk, None, Some, option_map};
+ghost use Rattle.std.specs.Prelude.{option_copied};
 ghost use Rattle.std.specs.Result.{OnOk};
 ghost use Rattle.pb_text_tree.specs.Form.{VariableForm, named, variables_form, variable_forms};
 ghost use Rattle.pb_text_printer.specs.Page.{after, page};
@@ -18,7 +19,9 @@ fn write_variable(
     name: &Name,
     sort: &Name,
 ) -> Result<(), AllocError>
-    ensures { OnOk result (page out.new ≡ after (variable_behind (option_map named (option_copied before.entry)) (named name.now) (named sort.now)) (page out.old)) }
+    ensures { OnOk result (page out.new ≡ after
+        (variable_behind (option_map named (option_copied before.entry)) (named name.now)
+        (named sort.now)) (page out.old)) }
 {
     if let Some(before) = before {
         if before.text != sort.text {
@@ -32,7 +35,8 @@ fn write_variable(
 
 /// The sort of the last variable, if there is one.
 fn write_last_sort(out: &mut Writer, before: Option<&Name>) -> Result<(), AllocError>
-    ensures { OnOk result (page out.new ≡ after (last_sort (option_map named (option_copied before.entry))) (page out.old)) }
+    ensures { OnOk result (page out.new ≡ after
+        (last_sort (option_map named (option_copied before.entry))) (page out.old)) }
 {
     match before {
         None => Ok(()),
@@ -51,7 +55,8 @@ fn write_group<'t>(
 ) -> Result<Option<&'t Name>, AllocError>
     ensures { IfOk result (λ last. (vs : List VariableForm)
         → after (variables_behind (option_map named (option_copied last)) vs) (page out.new)
-        ≡ after (variables_behind (option_map named (option_copied before.entry)) (variables_form group.now ++ vs)) (page out.old)) }
+        ≡ after (variables_behind (option_map named (option_copied before.entry))
+        (variables_form group.now ++ vs)) (page out.old)) }
 {
     let mut last = before;
     for name in &group.names {
@@ -63,7 +68,8 @@ fn write_group<'t>(
 
 /// Variables with their sorts, each sort once for those that follow one another.
 pub fn write_variables(out: &mut Writer, groups: &[Variables]) -> Result<(), AllocError>
-    ensures { OnOk result (page out.new ≡ after (variable_words (variable_forms groups.now)) (page out.old)) }
+    ensures { OnOk result (page out.new ≡ after (variable_words (variable_forms groups.now))
+        (page out.old)) }
 {
     let mut last = None;
     for group in groups {
@@ -88,7 +94,9 @@ pub fn write_quantifier(
     quantifier: Quantifier,
     variables: &[Variables],
 ) -> Result<(), AllocError>
-    ensures { OnOk result (page out.new ≡ after (quantifier_word quantifier ∷ variable_words (variable_forms variables.now) ++ period_word ∷ []) (page out.old)) }
+    ensures { OnOk result (page out.new ≡ after
+        (quantifier_word quantifier ∷ variable_words (variable_forms variables.now)
+        ++ period_word ∷ []) (page out.old)) }
 {
     write_binder(out, quantifier)?;
     write_variables(out, variables)?;

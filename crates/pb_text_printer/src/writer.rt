@@ -1,4 +1,5 @@
-//! Text that is written token by token, with a space between two tokens but beside brackets and punctuation.
+//! Text that is written token by token, with a space between two tokens but beside brackets and
+//! punctuation.
 
 ghost use Rattle.std.specs.Prelude.{◌≡◌, false, true, List, [], codes, string_bytes};
 ghost use Rattle.std.specs.Result.{OnOk};

@@ -279,12 +279,6 @@ unfolding take_token
 number-is depth s s1 t is taken =
     begun-at depth s k.Number is ∙ rw taken (ap (λ text. closed (TermForm.number t.place (digits_value 10 text)) s1) (sym (text-of-taken s.tokens s.operators t s1 taken)))
 
-pub true-is : (depth : ℕ) (s s1 : State) (t : Tok) → kind s ≡ k.True → take_token s ≡ Ok (t, s1) → unary depth s ≡ closed (TermForm.constant t.place true) s1
-true-is depth s s1 t is taken = begun-at depth s k.True is ∙ rw taken refl
-
-pub false-is : (depth : ℕ) (s s1 : State) (t : Tok) → kind s ≡ k.False → take_token s ≡ Ok (t, s1) → unary depth s ≡ closed (TermForm.constant t.place false) s1
-false-is depth s s1 t is taken = begun-at depth s k.False is ∙ rw taken refl
-
 pub name-is : (depth : ℕ) (s z : State) (i : InstanceForm) → kind s ≡ k.Name → instance depth s ≡ Ok (i, z) → unary depth s ≡ Ok (applied i.name i.arguments, z)
 name-is depth s z i is reads = begun-at depth s k.Name is ∙ rw reads refl
 

@@ -49,10 +49,6 @@ some-of : (test : Kind → Bool) (ts : List Tok) → Passes test ts → Passes (
 some-of test [] h = h
 some-of test (t ∷ ts) h = refl
 
-head-some : (kind : Kind) (ts : List Tok) → HeadIs kind ts → Passes (λ kind. true) ts
-head-some kind [] h = h
-head-some kind (t ∷ ts) h = refl
-
 abbrev pub kinds : ℕ → Kind → Reads TermForm
 kinds d = Begun (deeper IsUnary d) (deeper IsTerm d)
 

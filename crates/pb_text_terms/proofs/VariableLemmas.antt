@@ -1,17 +1,12 @@
 -- Lists of names and of variables, as they are read.
 use Rattle.std.proofs.Common.{◌≡◌, List, [], ◌∷◌, ◌++◌, refl, ap, map, Ok, Err}
 use Rattle.std.specs.Prelude.{flat_map}
-use Rattle.std.proofs.lemmas.List.{map-append}
 use Rattle.pb_text_tree.specs.declared.name.Name.{Name}
 use Rattle.pb_text_tree.specs.declared.variable.Variables as declared
 use Rattle.pb_text_tree.specs.Form.{Named, VariableForm, named, variables_form, variable_forms}
 use Rattle.pb_text_lexer.specs.declared.fault.Refusal.{Refusal}
 use Rattle.pb_text_lexer.specs.Grammar.{State}
 use Rattle.pb_text_terms.specs.Reading.{groups, variables}
-
--- one item more
-pub mapped-last : {A B : Type 0} (f : A → B) (xs : List A) (x : A) → map f (xs ++ x ∷ []) ≡ map f xs ++ f x ∷ []
-mapped-last f xs x = map-append f xs (x ∷ [])
 
 pub names-of-sort : (sort : Named) (ns : List Name) → map {B = VariableForm} (λ n. record { name = n; sort = sort }) (map named ns) ≡ map {B = VariableForm} (λ n. record { name = named n; sort = sort }) ns
 names-of-sort sort [] = refl

@@ -2,7 +2,8 @@
 
 ghost use Rattle.std.specs.Prelude.{◌≡◌, ◌<◌, ℕ, false, length, OnOk, IfOk};
 ghost use Rattle.pb_text_tree.specs.Form as form;
-ghost use Rattle.pb_text_tree.specs.Form.{TermForm, term_form, term_links, arithmetic_links, argument_forms};
+ghost use Rattle.pb_text_tree.specs.Form.{TermForm, term_form, term_links, arithmetic_links};
+ghost use Rattle.pb_text_tree.specs.Form.{argument_forms};
 ghost use Rattle.pb_text_lexer.specs.Kinds.{is_last};
 ghost use Rattle.pb_text_lexer.specs.Steps as steps;
 ghost use Rattle.pb_text_lexer.specs.Steps.{Gives};
@@ -26,7 +27,8 @@ pub fn joined(
     first: Term,
     links: Vec<TermLink>,
 ) -> Result<Term, AllocError>
-    ensures { IfOk result (λ t. term_form t ≡ form.chained (TermForm.connected connective) (term_form first) (term_links links.items)) }
+    ensures { IfOk result (λ t. term_form t ≡ form.chained (TermForm.connected connective)
+        (term_form first) (term_links links.items)) }
 {
     if links.is_empty() {
         return Ok(first);
@@ -45,7 +47,8 @@ pub fn calculated(
     first: Term,
     links: Vec<ArithmeticLink>,
 ) -> Result<Term, AllocError>
-    ensures { IfOk result (λ t. term_form t ≡ form.calculated (term_form first) (arithmetic_links links.items)) }
+    ensures { IfOk result (λ t. term_form t ≡ form.calculated (term_form first)
+        (arithmetic_links links.items)) }
 {
     let first = Box::new(alloc, first)?;
     Ok(Term::Arithmetic { first, links })
@@ -53,7 +56,8 @@ pub fn calculated(
 
 /// The node of two terms with a comparison's sign between them.
 pub fn compared(alloc: Global, sign: Token<'_>, left: Term, right: Term) -> Result<Term, AllocError>
-    ensures { IfOk result (λ t. term_form t ≡ operators.compared_by (term_form left) (tok sign.entry) (term_form right)) }
+    ensures { IfOk result (λ t. term_form t ≡ operators.compared_by (term_form left)
+        (tok sign.entry) (term_form right)) }
 {
     let left = Box::new(alloc, left)?;
     let right = Box::new(alloc, right)?;
@@ -67,7 +71,8 @@ pub fn compared(alloc: Global, sign: Token<'_>, left: Term, right: Term) -> Resu
 
 /// A name without arguments, or a function's application.
 pub fn applied(instance: Instance) -> Term
-    ensures { term_form result ≡ grammar.applied (form.named instance.name) (argument_forms instance.arguments.items) }
+    ensures { term_form result ≡ grammar.applied (form.named instance.name)
+        (argument_forms instance.arguments.items) }
 {
     let Instance { name, arguments } = instance;
     if arguments.is_empty() {

@@ -1,5 +1,5 @@
-//! Reads data terms, by recursive descent. A chain of operators is read by a loop, so that the recursion is as deep as
-//! brackets, signs and quantifiers nest.
+//! Reads data terms, by recursive descent. A chain of operators is read by a loop, so that the
+//! recursion is as deep as brackets, signs and quantifiers nest.
 
 ghost use Rattle.std.specs.Prelude.{◌≡◌, ◌<◌, ◌≤◌, true, length, map, Ok, OnOk, IsTrue};
 ghost use Rattle.pb_text_tree.specs.Form.{TermForm, term_form, arithmetic_links, instance_form};
@@ -93,7 +93,8 @@ fn argument_list(
     alloc: Global,
     depth: u32,
 ) -> Result<Vec<Argument>, ReadingFault>
-    ensures reads { Gives (λ v. map argument_pair v.items) (reading.argument_list (reading.term depth) input.old) result input.new }
+    ensures reads { Gives (λ v. map argument_pair v.items)
+        (reading.argument_list (reading.term depth) input.old) result input.new }
     ensures fewer { OnOk result (length input.new.tokens < length input.old.tokens) }
 {
     let mut arguments = Vec::with_capacity(alloc, 1)?;
@@ -108,7 +109,8 @@ fn argument_list(
     }
 }
 
-/// A name, alone or with arguments, in which so many levels may open. Behind the arguments no bracket may open.
+/// A name, alone or with arguments, in which so many levels may open. Behind the arguments no
+/// bracket may open.
 #[cycle(terms)]
 pub fn instance(input: &mut Input<'_>, alloc: Global, depth: u32) -> Result<Instance, ReadingFault>
     ensures reads { Gives instance_form (reading.instance depth input.old) result input.new }
@@ -136,7 +138,8 @@ fn operand_of(
     operators: Operators,
     depth: u32,
 ) -> Result<Term, ReadingFault>
-    ensures reads { Gives term_form (reading.operand_of operators (reading.unary depth) input.old) result input.new }
+    ensures reads { Gives term_form (reading.operand_of operators
+        (reading.unary depth) input.old) result input.new }
     ensures fewer { OnOk result (length input.new.tokens < length input.old.tokens) }
 {
     match operators {
@@ -154,7 +157,9 @@ fn operations(
     depth: u32,
 ) -> Result<Vec<ArithmeticLink>, ReadingFault>
     requires { IsTrue (reading.is_among operators (steps.kind input.old)) }
-    ensures reads { Gives (λ v. arithmetic_links v.items) (reading.operations operators (reading.operand_of operators (reading.unary depth)) input.old) result input.new }
+    ensures reads { Gives (λ v. arithmetic_links v.items)
+        (reading.operations operators (reading.operand_of operators
+        (reading.unary depth)) input.old) result input.new }
     ensures fewer { OnOk result (length input.new.tokens < length input.old.tokens) }
 {
     let mut links = Vec::with_capacity(alloc, 1)?;
@@ -181,7 +186,8 @@ fn product_behind(
     depth: u32,
     first: Term,
 ) -> Result<Term, ReadingFault>
-    ensures reads { (s : State) → reading.unary depth s ≡ Ok (term_form first, input.old) → Gives term_form (reading.product (reading.unary depth) s) result input.new }
+    ensures reads { (s : State) → reading.unary depth s ≡ Ok (term_form first, input.old)
+        → Gives term_form (reading.product (reading.unary depth) s) result input.new }
     ensures fewer { OnOk result (length input.new.tokens ≤ length input.old.tokens) }
 {
     if is_among(Operators::Times, input.kind()) {
@@ -201,10 +207,12 @@ fn product_behind(
     Ok(first)
 }
 
-/// Operands of `*` alone, or of `div` and `mod` alone. Most often no operator follows the first at all.
+/// Operands of `*` alone, or of `div` and `mod` alone. Most often no operator follows the first at
+/// all.
 #[cycle(terms)]
 fn product(input: &mut Input<'_>, alloc: Global, depth: u32) -> Result<Term, ReadingFault>
-    ensures reads { Gives term_form (reading.product (reading.unary depth) input.old) result input.new }
+    ensures reads { Gives term_form (reading.product
+        (reading.unary depth) input.old) result input.new }
     ensures fewer { OnOk result (length input.new.tokens < length input.old.tokens) }
 {
     let first = unary(input, alloc, depth);
@@ -224,7 +232,9 @@ fn summed(
     first: Term,
 ) -> Result<Term, ReadingFault>
     requires { operators.is_additive (steps.kind input.old) ≡ true }
-    ensures reads { (s : State) → reading.product (reading.unary depth) s ≡ Ok (term_form first, input.old) → Gives term_form (reading.sum (reading.unary depth) s) result input.new }
+    ensures reads { (s : State) → reading.product (reading.unary depth) s
+        ≡ Ok (term_form first, input.old) → Gives term_form
+        (reading.sum (reading.unary depth) s) result input.new }
     ensures fewer { OnOk result (length input.new.tokens ≤ length input.old.tokens) }
 {
     let links = operations(input, alloc, Operators::Additive, depth)?;
@@ -240,7 +250,9 @@ fn sum_behind(
     depth: u32,
     first: Term,
 ) -> Result<Term, ReadingFault>
-    ensures reads { (s : State) → reading.product (reading.unary depth) s ≡ Ok (term_form first, input.old) → Gives term_form (reading.sum (reading.unary depth) s) result input.new }
+    ensures reads { (s : State) → reading.product (reading.unary depth) s
+        ≡ Ok (term_form first, input.old) → Gives term_form
+        (reading.sum (reading.unary depth) s) result input.new }
     ensures fewer { OnOk result (length input.new.tokens ≤ length input.old.tokens) }
 {
     if !is_among(Operators::Additive, input.kind()) {
@@ -269,7 +281,9 @@ fn in_order(
     left: Term,
 ) -> Result<Term, ReadingFault>
     requires { operators.is_order (steps.kind input.old) ≡ true }
-    ensures reads { (s : State) → reading.sum (reading.unary depth) s ≡ Ok (term_form left, input.old) → Gives term_form (reading.ordered (reading.unary depth) s) result input.new }
+    ensures reads { (s : State) → reading.sum (reading.unary depth) s
+        ≡ Ok (term_form left, input.old) → Gives term_form
+        (reading.ordered (reading.unary depth) s) result input.new }
     ensures fewer { OnOk result (length input.new.tokens ≤ length input.old.tokens) }
 {
     let sign = input.take_operator()?;
@@ -289,7 +303,9 @@ fn ordered_behind(
     depth: u32,
     left: Term,
 ) -> Result<Term, ReadingFault>
-    ensures reads { (s : State) → reading.sum (reading.unary depth) s ≡ Ok (term_form left, input.old) → Gives term_form (reading.ordered (reading.unary depth) s) result input.new }
+    ensures reads { (s : State) → reading.sum (reading.unary depth) s
+        ≡ Ok (term_form left, input.old) → Gives term_form
+        (reading.ordered (reading.unary depth) s) result input.new }
     ensures fewer { OnOk result (length input.new.tokens ≤ length input.old.tokens) }
 {
     if !is_order(input.kind()) {
@@ -307,7 +323,8 @@ fn sums_behind(
     depth: u32,
     first: Term,
 ) -> Result<Term, ReadingFault>
-    ensures reads { (s : State) → reading.unary depth s ≡ Ok (term_form first, input.old) → Gives term_form (reading.ordered (reading.unary depth) s) result input.new }
+    ensures reads { (s : State) → reading.unary depth s ≡ Ok (term_form first, input.old)
+        → Gives term_form (reading.ordered (reading.unary depth) s) result input.new }
     ensures fewer { OnOk result (length input.new.tokens ≤ length input.old.tokens) }
 {
     let product = product_behind(input, alloc, depth, first)?;
@@ -318,7 +335,8 @@ fn sums_behind(
 /// One sum, or two that an order compares. Most often no operator follows the first operand at all.
 #[cycle(terms)]
 fn ordered(input: &mut Input<'_>, alloc: Global, depth: u32) -> Result<Term, ReadingFault>
-    ensures reads { Gives term_form (reading.ordered (reading.unary depth) input.old) result input.new }
+    ensures reads { Gives term_form (reading.ordered
+        (reading.unary depth) input.old) result input.new }
     ensures fewer { OnOk result (length input.new.tokens < length input.old.tokens) }
 {
     let first = unary(input, alloc, depth);
@@ -337,7 +355,9 @@ fn equated_behind(
     depth: u32,
     left: Term,
 ) -> Result<Term, ReadingFault>
-    ensures reads { (s : State) → reading.ordered (reading.unary depth) s ≡ Ok (term_form left, input.old) → Gives term_form (reading.equated (reading.unary depth) s) result input.new }
+    ensures reads { (s : State) → reading.ordered (reading.unary depth) s
+        ≡ Ok (term_form left, input.old) → Gives term_form
+        (reading.equated (reading.unary depth) s) result input.new }
     ensures fewer { OnOk result (length input.new.tokens ≤ length input.old.tokens) }
 {
     if !is_equality(input.kind()) {
@@ -351,7 +371,8 @@ fn equated_behind(
     Ok(compared(alloc, sign, left, right)?)
 }
 
-/// What operators of arithmetic and comparisons make of a first operand and of what stands behind it.
+/// What operators of arithmetic and comparisons make of a first operand and of what stands behind
+/// it.
 #[cycle(terms)]
 #[inline(never)]
 fn operators_behind(
@@ -360,7 +381,8 @@ fn operators_behind(
     depth: u32,
     first: Term,
 ) -> Result<Term, ReadingFault>
-    ensures reads { (s : State) → reading.unary depth s ≡ Ok (term_form first, input.old) → Gives term_form (reading.equated (reading.unary depth) s) result input.new }
+    ensures reads { (s : State) → reading.unary depth s ≡ Ok (term_form first, input.old)
+        → Gives term_form (reading.equated (reading.unary depth) s) result input.new }
     ensures fewer { OnOk result (length input.new.tokens ≤ length input.old.tokens) }
 {
     if is_equality(input.kind()) {
@@ -370,10 +392,12 @@ fn operators_behind(
     equated_behind(input, alloc, depth, left)
 }
 
-/// One term without connectives, or two that are compared for equality. Most often no operator follows at all.
+/// One term without connectives, or two that are compared for equality. Most often no operator
+/// follows at all.
 #[cycle(terms)]
 fn equated(input: &mut Input<'_>, alloc: Global, depth: u32) -> Result<Term, ReadingFault>
-    ensures reads { Gives term_form (reading.equated (reading.unary depth) input.old) result input.new }
+    ensures reads { Gives term_form (reading.equated
+        (reading.unary depth) input.old) result input.new }
     ensures fewer { OnOk result (length input.new.tokens < length input.old.tokens) }
 {
     let operand = unary(input, alloc, depth);
@@ -414,7 +438,8 @@ fn operand(
     connective: Connective,
     depth: u32,
 ) -> Result<Term, ReadingFault>
-    ensures reads { Gives term_form (reading.operand TermForm.connected connective (reading.lowest depth) input.old) result input.new }
+    ensures reads { Gives term_form (reading.operand TermForm.connected connective
+        (reading.lowest depth) input.old) result input.new }
     ensures fewer { OnOk result (length input.new.tokens < length input.old.tokens) }
 {
     match connective {
@@ -440,7 +465,11 @@ fn chain(
     depth: u32,
     first: Term,
 ) -> Result<Term, ReadingFault>
-    ensures reads { (s : State) → reading.operand TermForm.connected connective (reading.lowest depth) s ≡ Ok (term_form first, input.old) → length input.old.tokens < length s.tokens → Gives term_form (reading.level TermForm.connected connective (reading.lowest depth) s) result input.new }
+    ensures reads { (s : State) → reading.operand TermForm.connected connective
+        (reading.lowest depth) s ≡ Ok (term_form first, input.old)
+        → length input.old.tokens < length s.tokens
+        → Gives term_form (reading.level TermForm.connected connective
+        (reading.lowest depth) s) result input.new }
     ensures fewer { OnOk result (length input.new.tokens ≤ length input.old.tokens) }
 {
     let mut links = Vec::with_capacity(alloc, 1)?;
@@ -462,7 +491,11 @@ fn chain_behind(
     depth: u32,
     first: Term,
 ) -> Result<Term, ReadingFault>
-    ensures reads { (s : State) → reading.operand TermForm.connected connective (reading.lowest depth) s ≡ Ok (term_form first, input.old) → length input.old.tokens < length s.tokens → Gives term_form (reading.level TermForm.connected connective (reading.lowest depth) s) result input.new }
+    ensures reads { (s : State) → reading.operand TermForm.connected connective
+        (reading.lowest depth) s ≡ Ok (term_form first, input.old)
+        → length input.old.tokens < length s.tokens
+        → Gives term_form (reading.level TermForm.connected connective
+        (reading.lowest depth) s) result input.new }
     ensures fewer { OnOk result (length input.new.tokens ≤ length input.old.tokens) }
 {
     if !same_kind(input.kind(), symbol(connective)) {
@@ -479,7 +512,8 @@ fn level(
     connective: Connective,
     depth: u32,
 ) -> Result<Term, ReadingFault>
-    ensures reads { Gives term_form (reading.level TermForm.connected connective (reading.lowest depth) input.old) result input.new }
+    ensures reads { Gives term_form (reading.level TermForm.connected connective
+        (reading.lowest depth) input.old) result input.new }
     ensures fewer { OnOk result (length input.new.tokens < length input.old.tokens) }
 {
     let first = operand(input, alloc, connective, depth);
@@ -498,7 +532,9 @@ fn connectives_behind(
     depth: u32,
     first: Term,
 ) -> Result<Term, ReadingFault>
-    ensures reads { (s : State) → reading.lowest depth s ≡ Ok (term_form first, input.old) → length input.old.tokens < length s.tokens → Gives term_form (reading.term depth s) result input.new }
+    ensures reads { (s : State) → reading.lowest depth s ≡ Ok (term_form first, input.old)
+        → length input.old.tokens < length s.tokens
+        → Gives term_form (reading.term depth s) result input.new }
     ensures fewer { OnOk result (length input.new.tokens ≤ length input.old.tokens) }
 {
     let conjunction = chain_behind(input, alloc, Connective::And, depth, first)?;
@@ -506,7 +542,8 @@ fn connectives_behind(
     chain_behind(input, alloc, Connective::Implies, depth, disjunction)
 }
 
-/// A term, at whose right end a quantifier may stand. Most often no connective follows its first part at all.
+/// A term, at whose right end a quantifier may stand. Most often no connective follows its first
+/// part at all.
 #[cycle(terms)]
 fn connected(input: &mut Input<'_>, alloc: Global, depth: u32) -> Result<Term, ReadingFault>
     ensures reads { Gives term_form (reading.term depth input.old) result input.new }

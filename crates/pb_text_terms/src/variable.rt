@@ -52,7 +52,8 @@ fn group(input: &mut Input<'_>, alloc: Global) -> Result<Variables, ReadingFault
 
 /// Data variables with their sorts, of one sort or of several.
 pub fn variables(input: &mut Input<'_>, alloc: Global) -> Result<Vec<Variables>, ReadingFault>
-    ensures reads { Gives (λ v. variable_forms v.items) (reading.variables input.old) result input.new }
+    ensures reads { Gives (λ v. variable_forms v.items)
+        (reading.variables input.old) result input.new }
     ensures fewer { OnOk result (length input.new.tokens < length input.old.tokens) }
 {
     let mut variables = Vec::with_capacity(alloc, 1)?;

@@ -9,6 +9,7 @@ use Rattle.pb_typing_declarations.specs.declared.fault.TypingRule.TheVariants as
 use Rattle.pb_typing_declarations.specs.declared.fault.TypingFault.{TypingFault}
 use Rattle.pb_typing_declarations.specs.Faults.{unless}
 use Rattle.pb_typing_declarations.specs.Shapes as model
+use Rattle.pb_typing_declarations.proofs.Parts.{no_whole}
 use Rattle.pb_typing_rules.specs.Functions.{Function, function_named, arity, result_shape}
 use Rattle.pb_typing_rules.specs.Scope.{Scope}
 use Rattle.pb_typing_rules.specs.Term.{shape, shapes, applied_shape}
@@ -43,15 +44,12 @@ applied S a f xs g ss is none same =
           ∙ ap (λ (o : Option Function). applied_shape o all) (sym is.0);
     }
 
-both_clear : (fs gs : List TypingFault) → fs ≡ [] → gs ≡ [] → fs ++ gs ≡ []
-both_clear fs gs none nothing = ap (λ (hs : List TypingFault). hs ++ gs) none ∙ nothing
-
 pub one_applied : (S : Spec) (a : Scope) (f : Named) (xs : List Argument) (g : Function) (x : Argument) (s : model.Shape) → IsFunction S f g xs
     → xs ≡ x ∷ [] → IsTyped S a s x → IsApplied S a f xs g (s ∷ [])
 one_applied S a f xs g x s is these typed =
     let P : List Argument → Type 0 = λ ys. IsFunction S f g ys → IsApplied S a f ys g (s ∷ []) in
     subst P (sym these)
-    (λ is. applied S a f (x ∷ []) g (s ∷ []) is (both_clear _ [] typed.0 refl) (ap (λ (t : model.Shape). t ∷ []) typed.1))
+    (λ is. applied S a f (x ∷ []) g (s ∷ []) is (no_whole _ [] typed.0 refl) (ap (λ (t : model.Shape). t ∷ []) typed.1))
     is
 
 pub two_applied : (S : Spec) (a : Scope) (f : Named) (xs : List Argument) (g : Function) (x y : Argument) (s t : model.Shape) → IsFunction S f g xs
@@ -60,7 +58,7 @@ two_applied S a f xs g x y s t is these first second =
     let P : List Argument → Type 0 = λ ys. IsFunction S f g ys → IsApplied S a f ys g (s ∷ t ∷ []) in
     subst P (sym these)
     (λ is. applied S a f (x ∷ y ∷ []) g (s ∷ t ∷ []) is
-    (both_clear _ _ first.0 (both_clear _ [] second.0 refl))
+    (no_whole _ _ first.0 (no_whole _ [] second.0 refl))
     (ap (λ (u : model.Shape). u ∷ t ∷ []) first.1 ∙ ap (λ (u : model.Shape). shape S a (erased_term (term_form x.term)) ∷ u ∷ []) second.1))
     is
 
@@ -70,7 +68,7 @@ three_applied S a f xs g x y z s t u is these first second third =
     let P : List Argument → Type 0 = λ ys. IsFunction S f g ys → IsApplied S a f ys g (s ∷ t ∷ u ∷ []) in
     subst P (sym these)
     (λ is. applied S a f (x ∷ y ∷ z ∷ []) g (s ∷ t ∷ u ∷ []) is
-    (both_clear _ _ first.0 (both_clear _ _ second.0 (both_clear _ [] third.0 refl)))
+    (no_whole _ _ first.0 (no_whole _ _ second.0 (no_whole _ [] third.0 refl)))
     (ap (λ (v : model.Shape). v ∷ t ∷ u ∷ []) first.1
     ∙ ap (λ (v : model.Shape). shape S a (erased_term (term_form x.term)) ∷ v ∷ u ∷ []) second.1
     ∙ ap (λ (v : model.Shape). shape S a (erased_term (term_form x.term)) ∷ shape S a (erased_term (term_form y.term)) ∷ v ∷ []) third.1))

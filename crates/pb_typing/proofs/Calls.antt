@@ -1,7 +1,7 @@
 -- Calls of predicate variables: arguments against parameters.
-use Rattle.std.proofs.Common.{◌≡◌, ℕ, zero, suc, ◌+◌, ◌<◌, ◌≤◌, Bool, false, List, [], ◌∷◌, ◌++◌, map, length, get_or, drop, refl, sym, ◌∙◌, ap, subst, arith, Option, Some, None, string_bytes}
+use Rattle.std.proofs.Common.{◌≡◌, ℕ, zero, suc, ◌+◌, ◌<◌, Bool, false, List, [], ◌∷◌, ◌++◌, map, length, get_or, drop, refl, sym, ◌∙◌, ap, subst, arith, Option, Some, None, string_bytes}
 use Rattle.std.specs.Prelude.{◌==◌}
-use Rattle.std.proofs.lemmas.List.{append_assoc, drop_all}
+use Rattle.std.proofs.lemmas.List.{append_assoc}
 use Rattle.pb_sorts.proofs.Places.{drop-at}
 use Rattle.pb_text_tree.specs.declared.place.Place.{Place}
 use Rattle.pb_text_tree.specs.declared.name.Name as ast
@@ -72,14 +72,6 @@ arguments_next S a groups k group left here behind s sort below at parts long so
     ∙ (ap (λ (xs : List Argument). argument_faults S a (argument_forms xs) (erased_variables (variable_forms (group ∷ drop (k + 1) groups)))) parts
     ∙ (arguments-group S a group group.names.items (variable_forms (drop (k + 1) groups)) here behind long
     ∙ ap (λ (h : Shape). each_faults S a here h ++ argument_faults S a (argument_forms behind) (erased_variables (variable_forms (drop (k + 1) groups)))) (sym (shape_is ∙ ap (sort_shape S) sort_is))))
-
-pub arguments_ended : (S : Spec) (a : Scope) (groups : List Variables) (k : ℕ) (left : List Argument) → length groups ≤ k → length left ≡ parameter_count (drop k groups)
-    → argument_faults S a (argument_forms left) (erased_variables (variable_forms (drop k groups))) ≡ []
-arguments_ended S a groups k left h e = none left (e ∙ ap parameter_count (drop_all k groups h))
-  where
-    none : (xs : List Argument) → length xs ≡ 0 → argument_faults S a (argument_forms xs) (erased_variables (variable_forms (drop k groups))) ≡ []
-    none [] f = refl
-    none (x ∷ xs) f = absurd (omega (arith, f))
 
 pub count-next : (groups : List Variables) (k : ℕ) (group : Variables) → k < length groups → group ≡ get_or groups k group → parameter_count (drop k groups) ≡ length group.names.items + parameter_count (drop (k + 1) groups)
 count-next groups k group below at = ap parameter_count (drop-at groups k group below at)

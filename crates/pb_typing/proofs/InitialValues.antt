@@ -1,9 +1,10 @@
 -- The values of the initial instance's arguments, against the carriers of its equation's parameters.
-use Rattle.std.proofs.Common.{◌≡◌, ℕ, zero, suc, ◌≤◌, Bool, true, false, List, [], ◌∷◌, map, length, Option, Some, None, cond, refl, sym, ◌∙◌, ap, subst, arith, tests, find, true≢false}
+use Rattle.std.proofs.Common.{◌≡◌, ℕ, zero, suc, Bool, true, false, List, [], ◌∷◌, map, length, Option, Some, None, cond, refl, sym, ◌∙◌, ap, subst, arith, find, true≢false}
 use Rattle.std.specs.Prelude.{Result, Ok, Err, MatchResult, nat_lt, position}
 use Rattle.std.specs.List.{slice_get, position_or_len}
 use Rattle.std.proofs.lemmas.List.Folds.{find_at}
 use Rattle.std.proofs.lemmas.Option.{slice_get_past}
+use Rattle.std.proofs.lemmas.Bool.{ltb-false}
 use Rattle.pb_carriers.specs.Carrier as carriers
 use Rattle.pb_carriers.specs.Carrier.{Value, contains}
 use Rattle.pb_sorts.specs.declared.carrier.Carrier.{Carrier}
@@ -116,11 +117,8 @@ no_place : (b : Bool) (n : ℕ) → cond b (Some n) None ≡ None → b ≡ fals
 no_place true n e = cc
 no_place false n e = refl
 
-past_all : (n m : ℕ) → nat_lt n m ≡ false → m ≤ n
-past_all n m e = grind (arith, tests)
-
 not_found : (p : Equation → Bool) (E : List Equation) → position p E ≡ None → find p E ≡ None
-not_found p E e = find_at p E ∙ slice_get_past E (position_or_len p E) (past_all (position_or_len p E) (length E) (no_place (nat_lt (position_or_len p E) (length E)) (position_or_len p E) e))
+not_found p E e = find_at p E ∙ slice_get_past E (position_or_len p E) (ltb-false (position_or_len p E) (length E) (no_place (nat_lt (position_or_len p E) (length E)) (position_or_len p E) e))
 
 same_parameters : (S : Spec) (o : Option Equation) (cs : List carriers.Carrier) → carriers_at S o ≡ Some cs → cs ≡ carriers_of S (parameters_named o)
 same_parameters S None cs e = cc

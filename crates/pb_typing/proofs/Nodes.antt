@@ -35,6 +35,11 @@ at_node S stands a t u e is h = subst (λ (x : Term). IsAmong (term_faults S sta
 at_part : (S : Spec) (stands : Bool) (a : Scope) (x y : Term) (e : TypeError) → x ≡ y → IsAmong (term_faults S stands a (term_form x)) e → IsAmong (term_faults S stands a (term_form y)) e
 at_part S stands a x y e is h = subst (λ (z : Term). IsAmong (term_faults S stands a (term_form z)) e) is h
 
+pub negative_operand : (S : Spec) (stands : Bool) (a : Scope) (t x : Term) (p : Place) (operand : Box Term Global) (e : TypeError) → t ≡ term.Negative p operand → x ≡ box_value operand
+    → IsAmong (term_faults S false a (term_form x)) e → IsAmong (term_faults S stands a (term_form t)) e
+negative_operand S stands a t x p operand e is same h =
+    at_node S stands a t (term.Negative p operand) e is (among_left (term_faults S false a (term_form (box_value operand))) _ e (at_part S false a x (box_value operand) e same h))
+
 pub comparison_left : (S : Spec) (stands : Bool) (a : Scope) (t x : Term) (p : Place) (o : Comparison) (left right : Box Term Global) (e : TypeError) → t ≡ term.Comparison p o left right → x ≡ box_value left
     → IsAmong (term_faults S false a (term_form x)) e → IsAmong (term_faults S stands a (term_form t)) e
 comparison_left S stands a t x p o left right e is same h =

@@ -15,6 +15,10 @@ use Rattle.pb_typing.specs.declared.operation.BinaryOperation.{BinaryOperation}
 use Rattle.pb_typing.specs.declared.operation.BinaryOperation.TheVariants as binary
 use Rattle.pb_typing.specs.declared.function.Function.{Function}
 use Rattle.pb_typing.specs.declared.function.Function.TheVariants as function
+use Rattle.pb_typing.specs.declared.polarity.Polarity.{Polarity}
+use Rattle.pb_typing.specs.declared.polarity.Polarity.TheVariants.{Positive, Negative}
+use Rattle.pb_typing.specs.declared.quantifiers.Quantifiers.{Quantifiers}
+use Rattle.pb_typing.specs.declared.quantifiers.Quantifiers.TheVariants.{Allowed, Forbidden}
 use Rattle.pb_typing.specs.declared.shape.Shape.{Shape}
 use Rattle.pb_typing.specs.declared.shape.Shape.TheVariants as code
 
@@ -57,6 +61,16 @@ function_view (function.OfOne o) = functions.OfOne (unary_operation o)
 function_view function.Maximum = functions.OfTwo operations.Maximum
 function_view function.Minimum = functions.OfTwo operations.Minimum
 function_view (function.Recogniser s) = functions.Recogniser (shape_view s)
+
+-- whether the negations around are even in number
+abbrev pub is_positive : Polarity → Bool
+is_positive Positive = true
+is_positive Negative = false
+
+-- whether a quantifier may stand there
+abbrev pub are_allowed : Quantifiers → Bool
+are_allowed Allowed = true
+are_allowed Forbidden = false
 
 abbrev pub is_no_link : List ArithmeticLink → Bool
 is_no_link [] = true

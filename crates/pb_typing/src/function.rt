@@ -32,7 +32,8 @@ pub(crate) enum Function {
 impl Function {
     /// A function of one argument, at its shape. A function of more gives what is unknown.
     pub(crate) fn apply_one(self, shape: Shape, place: Place) -> Result<Shape, TypingFault>
-        ensures { Finds (kind_faults (function_view self) (shape_view shape ∷ []) place) (functions.shape_of_one (function_view self) (shape_view shape)) result }
+        ensures { Finds (kind_faults (function_view self) (shape_view shape ∷ []) place)
+            (functions.shape_of_one (function_view self) (shape_view shape)) result }
     {
         match self {
             Function::Conversion => whole(shape, place),
@@ -58,7 +59,10 @@ impl Function {
         right: Shape,
         place: Place,
     ) -> Result<Shape, TypingFault>
-        ensures { Finds (kind_faults (function_view self) (shape_view left ∷ shape_view right ∷ []) place) (functions.shape_of_two (function_view self) (shape_view left) (shape_view right)) result }
+        ensures { Finds (kind_faults (function_view self)
+            (shape_view left ∷ shape_view right ∷ []) place)
+            (functions.shape_of_two (function_view self) (shape_view left)
+            (shape_view right)) result }
     {
         match self {
             Function::Maximum => extreme(BinaryOperation::Maximum, left, right, place),
@@ -78,7 +82,10 @@ impl Function {
         right: Shape,
         place: Place,
     ) -> Result<Shape, TypingFault>
-        ensures { Finds (kind_faults (function_view self) (shape_view condition ∷ shape_view left ∷ shape_view right ∷ []) place) (functions.shape_of_three (function_view self) (shape_view condition) (shape_view left) (shape_view right)) result }
+        ensures { Finds (kind_faults (function_view self)
+            (shape_view condition ∷ shape_view left ∷ shape_view right ∷ []) place)
+            (functions.shape_of_three (function_view self) (shape_view condition) (shape_view left)
+            (shape_view right)) result }
     {
         match self {
             Function::Choice => choose(condition, left, right, place),
@@ -104,7 +111,9 @@ impl Function {
 
 /// One of two values, as a condition says.
 fn choose(condition: Shape, left: Shape, right: Shape, place: Place) -> Result<Shape, TypingFault>
-    ensures { Finds (kind_faults functions.Choice (shape_view condition ∷ shape_view left ∷ shape_view right ∷ []) place) (hull (shape_view left) (shape_view right)) result }
+    ensures { Finds (kind_faults functions.Choice
+        (shape_view condition ∷ shape_view left ∷ shape_view right ∷ []) place)
+        (hull (shape_view left) (shape_view right)) result }
 {
     let accepted = may_choose(&condition, &left, &right);
     require(accepted, TypingRule::WrongKind, place)?;
@@ -113,14 +122,16 @@ fn choose(condition: Shape, left: Shape, right: Shape, place: Place) -> Result<S
 
 /// Whether a condition may choose between two values.
 fn may_choose(condition: &Shape, left: &Shape, right: &Shape) -> bool
-    ensures { result ≡ (may_be_truth (shape_view condition.now) && may_be_alike (shape_view left.now) (shape_view right.now)) }
+    ensures { result ≡ (may_be_truth (shape_view condition.now) && may_be_alike
+        (shape_view left.now) (shape_view right.now)) }
 {
     condition.may_be_truth() && left.may_be_alike(right)
 }
 
 /// A number that is kept.
 fn whole(shape: Shape, place: Place) -> Result<Shape, TypingFault>
-    ensures { Finds (kind_faults functions.Conversion (shape_view shape ∷ []) place) (functions.kept (shape_view shape)) result }
+    ensures { Finds (kind_faults functions.Conversion (shape_view shape ∷ []) place)
+        (functions.kept (shape_view shape)) result }
 {
     match shape {
         Shape::Unknown => Ok(Shape::Unknown),
@@ -139,7 +150,8 @@ fn extreme(
 ) -> Result<Shape, TypingFault>
     requires { operations.divides (binary_operation operation) ≡ false }
     ensures { Finds
-        (kind_faults (functions.OfTwo (binary_operation operation)) (shape_view left ∷ shape_view right ∷ []) place)
+        (kind_faults (functions.OfTwo (binary_operation operation))
+        (shape_view left ∷ shape_view right ∷ []) place)
         (binary_shape (binary_operation operation) (shape_view left) (shape_view right)) result }
 {
     operation.check(left, right, place)

@@ -13,6 +13,7 @@ ghost use Rattle.pb_typing_rules.specs.Faults.{initial_faults, parameters_named,
 ghost use Rattle.pb_typing.specs.Typed.{IsLayout};
 
 use crate::instance::check_instance;
+use crate::polarity::Polarity;
 use crate::scope::Scope;
 use pb_evaluation::value;
 use pb_sorts::{Carrier, Layout};
@@ -20,7 +21,8 @@ use pb_text_tree::{Argument, Spec};
 use pb_typing_declarations::{Declarations, TypeError, TypingRule, require};
 use std::alloc::Global;
 
-/// Checks the initial instance: it is well typed, and each argument's value is in its parameter's carrier.
+/// Checks the initial instance: it is well typed, and each argument's value is in its parameter's
+/// carrier.
 pub(crate) fn check_initial(
     alloc: Global,
     declarations: &Declarations<'_>,
@@ -34,7 +36,14 @@ pub(crate) fn check_initial(
         (IsAmong (initial_faults (spec_of declarations.now) (instance_form spec.now.initial))) }
 {
     let initial = &spec.initial;
-    check_instance(alloc, declarations, spec, &Scope::Outermost, true, initial)?;
+    check_instance(
+        alloc,
+        declarations,
+        spec,
+        &Scope::Outermost,
+        Polarity::Positive,
+        initial,
+    )?;
     match declarations.equation(&initial.name.text) {
         Some(equation) => check_values(declarations, layout.carriers(equation), &initial.arguments),
         None => Ok(()),
@@ -47,8 +56,10 @@ fn check_values(
     carriers: &[Carrier],
     arguments: &[Argument],
 ) -> Result<(), TypeError>
-    requires { AllFit (spec_of declarations.now) [] (erased_arguments (argument_forms arguments.now)) }
-    ensures { (xs : List Variable) → map values_of carriers.now ≡ carriers_of (spec_of declarations.now) xs → MatchResult result
+    requires { AllFit (spec_of declarations.now) []
+        (erased_arguments (argument_forms arguments.now)) }
+    ensures { (xs : List Variable) → map values_of carriers.now
+        ≡ carriers_of (spec_of declarations.now) xs → MatchResult result
         (λ _. value_faults (spec_of declarations.now) (argument_forms arguments.now) xs ≡ [])
         (IsAmong (value_faults (spec_of declarations.now) (argument_forms arguments.now) xs)) }
 {

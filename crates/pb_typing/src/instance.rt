@@ -8,9 +8,11 @@ ghost use Rattle.pb_typing_declarations.specs.Faults.{IsAmong, unless};
 ghost use Rattle.pb_typing_declarations.specs.View.{spec_of, text_of};
 ghost use Rattle.pb_typing.specs.Arguments.{each_faults, parameter_count};
 ghost use Rattle.pb_typing.specs.Scopes.{scope_view};
-ghost use Rattle.pb_typing.specs.View.{shape_view};
+ghost use Rattle.pb_typing.specs.View.{is_positive, shape_view};
 
 use crate::operation::fault;
+use crate::polarity::Polarity;
+use crate::quantifiers::Quantifiers;
 use crate::scope::{Scope, sort_shape};
 use crate::shape::Shape;
 use crate::term::check_term;
@@ -18,26 +20,28 @@ use pb_text_tree::{Argument, Instance, Place, Spec, Variables};
 use pb_typing_declarations::{Declarations, TypeError, TypingRule, require};
 use std::alloc::Global;
 
-/// Checks a predicate variable with its arguments, where `even` says whether the negations around it are even in number.
-/// A name that no equation declares is no predicate variable, so that it breaks no rule of negations.
+/// Checks a predicate variable with its arguments, which has to be of positive polarity. A name
+/// that no equation declares is no predicate variable, so that it breaks no rule of negations.
 pub(crate) fn check_instance<'t>(
     alloc: Global,
     declarations: &Declarations<'_>,
     spec: &Spec,
     scope: &Scope<'_, 't>,
-    even: bool,
+    polarity: Polarity,
     instance: &'t Instance,
 ) -> Result<(), TypeError>
     requires { text_of declarations.now ≡ spec_form spec.now }
     ensures { MatchResult result
-        (λ _. instance_faults (spec_of declarations.now) even (scope_view scope.now) (instance_form instance.now) ≡ [])
-        (IsAmong (instance_faults (spec_of declarations.now) even (scope_view scope.now) (instance_form instance.now))) }
+        (λ _. instance_faults (spec_of declarations.now) (is_positive polarity)
+        (scope_view scope.now) (instance_form instance.now) ≡ [])
+        (IsAmong (instance_faults (spec_of declarations.now) (is_positive polarity)
+        (scope_view scope.now) (instance_form instance.now))) }
 {
     let place = instance.name.place;
     match declarations.equation(&instance.name.text) {
         Some(index) => {
             let parameters = &spec.equations[index].parameters;
-            require(even, TypingRule::OddNegations, place)?;
+            require(polarity.is_positive(), TypingRule::OddNegations, place)?;
             check_call(
                 alloc,
                 declarations,
@@ -61,8 +65,15 @@ fn check_call<'t>(
     place: Place,
 ) -> Result<(), TypeError>
     ensures { MatchResult result
-        (λ _. unless (length arguments.now == parameter_count parameters.now) TypingRule.WrongCount place ++ argument_faults (spec_of declarations.now) (scope_view scope.now) (argument_forms arguments.now) (erased_variables (variable_forms parameters.now)) ≡ [])
-        (IsAmong (unless (length arguments.now == parameter_count parameters.now) TypingRule.WrongCount place ++ argument_faults (spec_of declarations.now) (scope_view scope.now) (argument_forms arguments.now) (erased_variables (variable_forms parameters.now)))) }
+        (λ _. unless
+        (length arguments.now == parameter_count parameters.now) TypingRule.WrongCount place
+        ++ argument_faults (spec_of declarations.now) (scope_view scope.now)
+        (argument_forms arguments.now) (erased_variables (variable_forms parameters.now)) ≡ [])
+        (IsAmong
+        (unless
+        (length arguments.now == parameter_count parameters.now) TypingRule.WrongCount place
+        ++ argument_faults (spec_of declarations.now) (scope_view scope.now)
+        (argument_forms arguments.now) (erased_variables (variable_forms parameters.now)))) }
 {
     let is_count = are_counted(parameters, arguments.len());
     require(is_count, TypingRule::WrongCount, place)?;
@@ -94,8 +105,10 @@ fn check_arguments<'t>(
 ) -> Result<(), TypeError>
     requires { length arguments.now ≡ parameter_count parameters.now }
     ensures { MatchResult result
-        (λ _. argument_faults (spec_of declarations.now) (scope_view scope.now) (argument_forms arguments.now) (erased_variables (variable_forms parameters.now)) ≡ [])
-        (IsAmong (argument_faults (spec_of declarations.now) (scope_view scope.now) (argument_forms arguments.now) (erased_variables (variable_forms parameters.now)))) }
+        (λ _. argument_faults (spec_of declarations.now) (scope_view scope.now)
+        (argument_forms arguments.now) (erased_variables (variable_forms parameters.now)) ≡ [])
+        (IsAmong (argument_faults (spec_of declarations.now) (scope_view scope.now)
+        (argument_forms arguments.now) (erased_variables (variable_forms parameters.now)))) }
 {
     let mut rest = arguments;
     for group in parameters {
@@ -116,11 +129,19 @@ fn check_each<'t>(
     parameter: &Shape,
 ) -> Result<(), TypeError>
     ensures { MatchResult result
-        (λ _. each_faults (spec_of declarations.now) (scope_view scope.now) arguments.now (shape_view parameter.now) ≡ [])
-        (IsAmong (each_faults (spec_of declarations.now) (scope_view scope.now) arguments.now (shape_view parameter.now))) }
+        (λ _. each_faults (spec_of declarations.now) (scope_view scope.now) arguments.now
+        (shape_view parameter.now) ≡ [])
+        (IsAmong (each_faults (spec_of declarations.now) (scope_view scope.now) arguments.now
+        (shape_view parameter.now))) }
 {
     for argument in arguments {
-        let shape = check_term(alloc, declarations, scope, false, &argument.term)?;
+        let shape = check_term(
+            alloc,
+            declarations,
+            scope,
+            Quantifiers::Forbidden,
+            &argument.term,
+        )?;
         let accepted = shape.may_be_alike(parameter);
         require(accepted, TypingRule::WrongKind, argument.place)?;
     }

@@ -1,4 +1,5 @@
-//! Kinds, intervals and positivity: whether a text that was read may be solved, and if not, a rule that fails and where.
+//! Kinds, intervals and positivity: whether a text that was read may be solved, and if not, a rule
+//! that fails and where.
 #![tactic(auto)]
 
 mod formula;
@@ -8,7 +9,8 @@ mod instance;
 mod name;
 mod operation;
 mod operator;
-mod parity;
+mod polarity;
+mod quantifiers;
 mod scope;
 mod shape;
 mod shape_of_term;
@@ -16,7 +18,7 @@ mod spec;
 mod term;
 mod typed;
 
-pub use parity::operand_parity;
+pub use polarity::{Polarity, operand_polarity};
 pub use scope::{Scope, variable_shapes};
 pub use shape::Shape;
 pub use shape_of_term::term_shape;

@@ -30,8 +30,11 @@ pub(crate) fn name_shape(
     scope: &Scope<'_, '_>,
     name: &Name,
 ) -> Result<Shape, TypingFault>
-    ensures { Finds (name_faults (spec_of declarations.now) (named_shape (spec_of declarations.now) (scope_view scope.now) (named name.now).text) (named name.now))
-        (shape_or_unknown (named_shape (spec_of declarations.now) (scope_view scope.now) (named name.now).text)) result }
+    ensures { Finds (name_faults (spec_of declarations.now)
+        (named_shape (spec_of declarations.now) (scope_view scope.now) (named name.now).text)
+        (named name.now))
+        (shape_or_unknown (named_shape (spec_of declarations.now) (scope_view scope.now)
+        (named name.now).text)) result }
 {
     match known_shape(declarations, scope, &name.text) {
         Some(shape) => limited(shape, name.place),
@@ -45,7 +48,8 @@ pub(crate) fn known_shape(
     scope: &Scope<'_, '_>,
     name: &str,
 ) -> Option<Shape>
-    ensures { option_map shape_view result ≡ named_shape (spec_of declarations.now) (scope_view scope.now) name.now }
+    ensures { option_map shape_view result ≡ named_shape (spec_of declarations.now)
+        (scope_view scope.now) name.now }
 {
     match variable_shape(scope, name) {
         Some(shape) => Some(shape),
@@ -68,7 +72,8 @@ fn struct_shape(enumerator: Option<Enumerator>) -> Option<Shape>
 
 /// A shape whose values are within 2^62.
 fn limited(shape: Shape, place: Place) -> Result<Shape, TypingFault>
-    ensures { Finds (unless (is_limited (shape_view shape)) TypingRule.LargeInterval place) (shape_view shape) result }
+    ensures { Finds (unless (is_limited (shape_view shape)) TypingRule.LargeInterval place)
+        (shape_view shape) result }
 {
     let accepted = shape.is_limited();
     require(accepted, TypingRule::LargeInterval, place)?;
@@ -92,8 +97,12 @@ pub(crate) fn find_function(
     count: usize,
 ) -> Result<Function, TypingFault>
     ensures { MatchResult result
-        (λ f. (function_named (spec_of declarations.now) (named name.now).text ≡ Some (function_view f)) × (arity (function_view f) ≡ count))
-        (λ e. (ss : List model.Shape) → length ss ≡ count → Contains (function_faults (spec_of declarations.now) (function_named (spec_of declarations.now) (named name.now).text) ss (named name.now)) e) }
+        (λ f. (function_named (spec_of declarations.now) (named name.now).text
+        ≡ Some (function_view f)) × (arity (function_view f) ≡ count))
+        (λ e. (ss : List model.Shape) → length ss ≡ count
+        → Contains (function_faults (spec_of declarations.now)
+        (function_named (spec_of declarations.now) (named name.now).text) ss
+        (named name.now)) e) }
 {
     match function_named(declarations, &name.text) {
         Some(function) => {
@@ -140,7 +149,8 @@ pub(crate) fn function_named(declarations: &Declarations<'_>, name: &str) -> Opt
 
 /// Whether the name is that of a conversion between integer sorts.
 fn is_conversion(name: &str) -> bool
-    ensures { result ≡ (same_name name.now (codes "Pos2Nat") || same_name name.now (codes "Pos2Int") || same_name name.now (codes "Nat2Int")) }
+    ensures { result ≡ (same_name name.now (codes "Pos2Nat") || same_name name.now
+        (codes "Pos2Int") || same_name name.now (codes "Nat2Int")) }
 {
     name == "Pos2Nat" || name == "Pos2Int" || name == "Nat2Int"
 }

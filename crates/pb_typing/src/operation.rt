@@ -1,4 +1,5 @@
-//! Operations on whole numbers at the shapes of their operands: what comes out, and which rule fails.
+//! Operations on whole numbers at the shapes of their operands: what comes out, and which rule
+//! fails.
 
 ghost use Rattle.std.specs.Prelude.{◌≡◌, [], ◌∷◌, true};
 ghost use Rattle.pb_intervals.specs.Interval.{within, literals};
@@ -34,7 +35,8 @@ pub(crate) enum UnaryOperation {
 impl UnaryOperation {
     /// The interval of what it gives, if that is within 2^62.
     fn interval(self, operand: Interval) -> Option<Interval>
-        ensures { result ≡ within literals (operations.unary_interval (unary_operation self) operand) }
+        ensures { result ≡ within literals (operations.unary_interval
+            (unary_operation self) operand) }
     {
         let limits = Interval::literals();
         match self {
@@ -105,7 +107,8 @@ impl BinaryOperation {
     /// The interval of what it gives, if that is within 2^62.
     fn interval(self, left: Interval, right: Interval) -> Option<Interval>
         requires { may_divide (binary_operation self) (model.Wholes right.low right.high) ≡ true }
-        ensures { result ≡ within literals (operations.binary_interval (binary_operation self) left right) }
+        ensures { result ≡ within literals (operations.binary_interval
+            (binary_operation self) left right) }
     {
         let limits = Interval::literals();
         match self {
@@ -121,7 +124,8 @@ impl BinaryOperation {
 
     /// The shape of what it gives.
     pub(crate) fn shape(self, left: Shape, right: Shape) -> Shape
-        ensures { shape_view result ≡ binary_shape (binary_operation self) (shape_view left) (shape_view right) }
+        ensures { shape_view result ≡ binary_shape (binary_operation self) (shape_view left)
+            (shape_view right) }
     {
         match left {
             Shape::Wholes(left) => match right {
@@ -145,7 +149,8 @@ impl BinaryOperation {
     /// The same, where no rule fails.
     pub(crate) fn check(self, left: Shape, right: Shape, place: Place) -> Result<Shape, TypingFault>
         ensures { Finds
-            (operator_faults (Computed (binary_operation self)) (shape_view left) (shape_view right) place)
+            (operator_faults (Computed (binary_operation self)) (shape_view left)
+            (shape_view right) place)
             (binary_shape (binary_operation self) (shape_view left) (shape_view right)) result }
     {
         match left {
@@ -177,7 +182,8 @@ impl BinaryOperation {
         ensures { Finds
             (operator_faults (Computed (binary_operation self))
             (model.Wholes left.low left.high) (model.Wholes right.low right.high) place)
-            (binary_shape (binary_operation self) (model.Wholes left.low left.high) (model.Wholes right.low right.high))
+            (binary_shape (binary_operation self) (model.Wholes left.low left.high)
+            (model.Wholes right.low right.high))
             result }
     {
         let divides = self.may_divide(right);

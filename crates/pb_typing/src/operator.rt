@@ -16,7 +16,8 @@ use pb_typing_declarations::{TypingFault, TypingRule, require};
 
 /// The negation of a number.
 pub(crate) fn negative(shape: Shape, place: Place) -> Result<Shape, TypingFault>
-    ensures { Finds (negative_faults (shape_view shape) place) (unary_shape operations.Negation (shape_view shape)) result }
+    ensures { Finds (negative_faults (shape_view shape) place)
+        (unary_shape operations.Negation (shape_view shape)) result }
 {
     UnaryOperation::Negation.check(shape, place)
 }
@@ -29,7 +30,8 @@ pub(crate) fn compare(
     place: Place,
 ) -> Result<Shape, TypingFault>
     ensures { Finds
-        (operator_faults (kind_of (of_comparison comparison)) (shape_view left) (shape_view right) place) model.Truths
+        (operator_faults (kind_of (of_comparison comparison)) (shape_view left)
+        (shape_view right) place) model.Truths
         result }
 {
     let accepted = match comparison {
@@ -56,7 +58,8 @@ fn operation_of(operator: Arithmetic) -> BinaryOperation
 
 /// The shape of an operation on two numbers.
 pub(crate) fn operation_shape(operator: Arithmetic, left: Shape, right: Shape) -> Shape
-    ensures { shape_view result ≡ binary_shape (operation_of operator) (shape_view left) (shape_view right) }
+    ensures { shape_view result ≡ binary_shape (operation_of operator) (shape_view left)
+        (shape_view right) }
 {
     operation_of(operator).shape(left, right)
 }
@@ -69,7 +72,8 @@ pub(crate) fn compute(
     place: Place,
 ) -> Result<Shape, TypingFault>
     ensures { Finds
-        (operator_faults (Computed (operation_of operator)) (shape_view left) (shape_view right) place)
+        (operator_faults (Computed (operation_of operator)) (shape_view left)
+        (shape_view right) place)
         (binary_shape (operation_of operator) (shape_view left) (shape_view right)) result }
 {
     operation_of(operator).check(left, right, place)

@@ -20,8 +20,8 @@ use pb_typing_declarations::Declarations;
 use std::alloc::{AllocError, Global};
 use std::collections::HashMap;
 
-/// The variables in scope, one table for each list of variables, the innermost outside: an inner variable hides an
-/// outer one of its name.
+/// The variables in scope, one table for each list of variables, the innermost outside: an inner
+/// variable hides an outer one of its name.
 #[derive(Clone, Copy)]
 pub enum Scope<'a, 't> {
     Outermost,
@@ -50,7 +50,9 @@ pub fn variable_shapes<'a>(
     declarations: &Declarations<'_>,
     groups: &'a [Variables],
 ) -> Result<HashMap<&'a str, Shape>, AllocError>
-    ensures { IfOk result (λ table. (x : syntax.Name) → table_view table x ≡ scopes.bound (spec_of declarations.now) (erased_variables (variable_forms groups.now)) scopes.outermost x) }
+    ensures { IfOk result (λ table. (x : syntax.Name)
+        → table_view table x ≡ scopes.bound (spec_of declarations.now)
+        (erased_variables (variable_forms groups.now)) scopes.outermost x) }
 {
     let mut table = HashMap::new(alloc);
     for group in groups {
@@ -66,7 +68,9 @@ fn with_names<'a, V: Copy>(
     names: &'a [Name],
     value: V,
 ) -> Result<HashMap<&'a str, V>, AllocError>
-    ensures { IfOk result (λ more. (x : syntax.Name) → looked_up {V = V} more x ≡ looked_up_with {V = V} names.now value (looked_up {V = V} table.entry) x) }
+    ensures { IfOk result (λ more. (x : syntax.Name)
+        → looked_up {V = V} more x ≡ looked_up_with {V = V} names.now value
+        (looked_up {V = V} table.entry) x) }
 {
     for name in names {
         table.insert(name.text.as_str(), value)?;

@@ -14,7 +14,8 @@ pub enum Shape {
     Unknown,
     /// False and true.
     Truths,
-    /// The enumerators of the struct with the number `sort` among the structs in declared order, `count` in number.
+    /// The enumerators of the struct with the number `sort` among the structs in declared order,
+    /// `count` in number.
     Places { sort: u8, count: u8 },
     /// The whole numbers of an interval.
     Wholes(Interval),

@@ -1,7 +1,9 @@
-//! What is known of a data term's values, for any term: whether it is well typed isn't asked. It takes no memory.
+//! What is known of a data term's values, for any term: whether it is well typed isn't asked. It
+//! takes no memory.
 
 ghost use Rattle.std.specs.Prelude.{◌≡◌};
-ghost use Rattle.pb_text_tree.specs.Form.{TermForm, argument_forms, arithmetic_links, calculated, named, term_form};
+ghost use Rattle.pb_text_tree.specs.Form.{TermForm, argument_forms, arithmetic_links, calculated};
+ghost use Rattle.pb_text_tree.specs.Form.{named, term_form};
 ghost use Rattle.pb_text_meaning.specs.Erase.{erased_term};
 ghost use Rattle.pb_typing_rules.specs.Functions as functions;
 ghost use Rattle.pb_typing_rules.specs.Term.{shape};
@@ -19,15 +21,16 @@ use crate::shape::{Shape, literal_interval};
 use pb_text_tree::{Argument, ArithmeticLink, Name, Term};
 use pb_typing_declarations::Declarations;
 
-/// What is known of a data term's values: its kind, and the interval of a whole number (interval arithmetic, Moore 1966).
-/// It is `Unknown` where a part has a fault that leaves the kind open.
+/// What is known of a data term's values: its kind, and the interval of a whole number (interval
+/// arithmetic, Moore 1966). It is `Unknown` where a part has a fault that leaves the kind open.
 #[cycle(shapes)]
 pub fn term_shape<'t>(
     declarations: &Declarations<'_>,
     scope: &Scope<'_, 't>,
     term: &'t Term,
 ) -> Shape
-    ensures { shape_view result ≡ shape (spec_of declarations.now) (scope_view scope.now) (erased_term (term_form term.now)) }
+    ensures { shape_view result ≡ shape (spec_of declarations.now) (scope_view scope.now)
+        (erased_term (term_form term.now)) }
 {
     match term {
         Term::Constant { .. } => Shape::Truths,
@@ -65,7 +68,8 @@ fn arithmetic_shape<'t>(
     first: &'t Term,
     links: &'t [ArithmeticLink],
 ) -> Shape
-    ensures { shape_view result ≡ shape (spec_of declarations.now) (scope_view scope.now) (erased_term (calculated (term_form first.now) (arithmetic_links links.now))) }
+    ensures { shape_view result ≡ shape (spec_of declarations.now) (scope_view scope.now)
+        (erased_term (calculated (term_form first.now) (arithmetic_links links.now))) }
 {
     let mut left = term_shape(declarations, scope, first);
     for link in links {
@@ -83,7 +87,8 @@ fn application_shape<'t>(
     name: &Name,
     arguments: &'t [Argument],
 ) -> Shape
-    ensures { shape_view result ≡ shape (spec_of declarations.now) (scope_view scope.now) (erased_term (TermForm.application (named name.now) (argument_forms arguments.now))) }
+    ensures { shape_view result ≡ shape (spec_of declarations.now) (scope_view scope.now)
+        (erased_term (TermForm.application (named name.now) (argument_forms arguments.now))) }
 {
     match function_named(declarations, &name.text) {
         None => Shape::Unknown,
@@ -122,7 +127,8 @@ fn kept_shape(shape: Shape) -> Shape
 
 /// The shape of what a function gives of one argument.
 fn shape_of_one(function: Function, shape: Shape) -> Shape
-    ensures { shape_view result ≡ functions.shape_of_one (function_view function) (shape_view shape) }
+    ensures { shape_view result ≡ functions.shape_of_one (function_view function)
+        (shape_view shape) }
 {
     match function {
         Function::Conversion => kept_shape(shape),
@@ -136,7 +142,8 @@ fn shape_of_one(function: Function, shape: Shape) -> Shape
 
 /// The shape of what a function gives of two arguments.
 fn shape_of_two(function: Function, left: Shape, right: Shape) -> Shape
-    ensures { shape_view result ≡ functions.shape_of_two (function_view function) (shape_view left) (shape_view right) }
+    ensures { shape_view result ≡ functions.shape_of_two (function_view function) (shape_view left)
+        (shape_view right) }
 {
     match function {
         Function::Maximum => BinaryOperation::Maximum.shape(left, right),
@@ -150,7 +157,9 @@ fn shape_of_two(function: Function, left: Shape, right: Shape) -> Shape
 
 /// The shape of what a function gives of three arguments, of which the first is a condition.
 fn shape_of_three(function: Function, left: Shape, right: Shape) -> Shape
-    ensures { (condition : model.Shape) → shape_view result ≡ functions.shape_of_three (function_view function) condition (shape_view left) (shape_view right) }
+    ensures { (condition : model.Shape) → shape_view result
+        ≡ functions.shape_of_three (function_view function) condition (shape_view left)
+        (shape_view right) }
 {
     match function {
         Function::Choice => left.hull(right),

@@ -12,6 +12,7 @@ ghost use Rattle.pb_typing.specs.Typed.{IsLayout};
 
 use crate::formula::check_formula;
 use crate::initial::check_initial;
+use crate::polarity::Polarity;
 use crate::scope::{Scope, variable_shapes};
 use crate::typed::Typed;
 use pb_sorts::Layout;
@@ -19,17 +20,19 @@ use pb_text_tree::{Equation, Spec};
 use pb_typing_declarations::{Declarations, TypeError};
 use std::alloc::Global;
 
-/// Accepts a text exactly where it is well typed and positive within the limits (Groote and Mousavi 2014: kinds of
-/// terms, and predicate formulas that are monotone since predicate variables stand under an even number of negations).
+/// Accepts a text exactly where it is well typed and positive within the limits (Groote and Mousavi
+/// 2014: kinds of terms, and predicate formulas that are monotone since predicate variables stand
+/// under an even number of negations).
 ///
 /// # Errors
-/// A refusal hands the text back with a rule that fails at its place; where several fail, any one of them.
-/// `TypeError::Memory` comes only where memory was refused.
+/// A refusal hands the text back with a rule that fails at its place; where several fail, any one
+/// of them. `TypeError::Memory` comes only where memory was refused.
 pub fn check(alloc: Global, spec: Spec) -> Result<Typed, (Spec, TypeError)>
     ensures kept { MatchResult result (λ typed. typed.spec ≡ spec) (λ refused. refused.0 ≡ spec) }
     ensures accepted { OnOk result (IsWellTyped (erase (spec_form spec))) }
     ensures fails { IfErr result (λ refused. IsAmong (faults (spec_form spec)) refused.1) }
-    ensures ill_typed { IfErr result (λ refused. refused.1 ≢ TypeError.Memory → ¬ IsWellTyped (erase (spec_form spec))) }
+    ensures ill_typed { IfErr result (λ refused. refused.1 ≢ TypeError.Memory
+        → ¬ IsWellTyped (erase (spec_form spec))) }
 {
     match check_spec(alloc, &spec) {
         Ok(layout) => Ok(Typed { spec, layout }),
@@ -40,7 +43,8 @@ pub fn check(alloc: Global, spec: Spec) -> Result<Typed, (Spec, TypeError)>
 /// Checks the declarations, then each right side, then the initial instance.
 fn check_spec(alloc: Global, spec: &Spec) -> Result<Layout, TypeError>
     ensures { MatchResult result
-        (λ layout. (faults (spec_form spec.now) ≡ []) × IsLayout (erase (spec_form spec.now)) layout)
+        (λ layout. (faults (spec_form spec.now) ≡ [])
+        × IsLayout (erase (spec_form spec.now)) layout)
         (IsAmong (faults (spec_form spec.now))) }
 {
     let declarations = Declarations::read(alloc, spec)?;
@@ -76,10 +80,23 @@ fn check_right(
 ) -> Result<(), TypeError>
     requires { text_of declarations.now ≡ spec_form spec.now }
     ensures { MatchResult result
-        (λ _. formula_faults (spec_of declarations.now) true (bound (spec_of declarations.now) (erased_variables (equation_form equation.now).parameters) outermost) (equation_form equation.now).right ≡ [])
-        (IsAmong (formula_faults (spec_of declarations.now) true (bound (spec_of declarations.now) (erased_variables (equation_form equation.now).parameters) outermost) (equation_form equation.now).right)) }
+        (λ _. formula_faults (spec_of declarations.now) true
+        (bound (spec_of declarations.now)
+        (erased_variables (equation_form equation.now).parameters) outermost)
+        (equation_form equation.now).right ≡ [])
+        (IsAmong (formula_faults (spec_of declarations.now) true
+        (bound (spec_of declarations.now)
+        (erased_variables (equation_form equation.now).parameters) outermost)
+        (equation_form equation.now).right)) }
 {
     let parameters = variable_shapes(alloc, declarations, &equation.parameters)?;
     let scope = Scope::Inner(&parameters, &Scope::Outermost);
-    check_formula(alloc, declarations, spec, &scope, true, &equation.right)
+    check_formula(
+        alloc,
+        declarations,
+        spec,
+        &scope,
+        Polarity::Positive,
+        &equation.right,
+    )
 }

@@ -8,7 +8,8 @@ ghost use Rattle.pb_typing.specs.Typed.{is_faultless, IsLayout};
 use pb_sorts::Layout;
 use pb_text_tree::Spec;
 
-/// A text that is well typed and positive, within the limits, with the layout of its equations' instances.
+/// A text that is well typed and positive, within the limits, with the layout of its equations'
+/// instances.
 #[derive(Drop)]
 pub struct Typed {
     pub spec: Spec,

@@ -3,6 +3,7 @@ use Rattle.std.proofs.Common.{◌≡◌, ℕ, zero, suc, Bool, true, false, cond
 use Rattle.std.specs.Prelude.{⊤, All, flat_map, codes, not, is_some}
 use Rattle.std.specs.Cmp.Lexicographic.{same_text}
 use Rattle.std.proofs.lemmas.Bool.{not-true}
+use Rattle.std.proofs.lemmas.List.Elements.{All-head, All-tail}
 use Rattle.pb_text_tree.specs.Form.{Named, SortForm, struct, alias, SpecForm}
 use Rattle.pb_text_meaning.specs.Syntax.{Name, same_name, Sort, Struct, Alias, SortDeclaration, Spec}
 use Rattle.pb_text_meaning.specs.Erase.{erase, erased_sort, erased_declaration}
@@ -14,7 +15,7 @@ use Rattle.pb_typing_declarations.specs.Shapes.{Definition, Structure, Renaming,
 use Rattle.pb_typing_declarations.specs.Declarations.{is_endless, is_faulty, definition_faults, sort_faults, declaration_faults, tables_faults, checks_faults}
 use Rattle.pb_typing_declarations.specs.WellDeclared.{IsDefined, HaveEnds}
 use Rattle.pb_typing_declarations.proofs.Parts.{no_parts, holds_unless}
-use Rattle.pb_typing_declarations.proofs.Exact.{all_head, all_tail, each}
+use Rattle.pb_typing_declarations.proofs.Exact.{each}
 
 -- an alias's target is a sort, and its chain has an end
 abbrev pub IsLinked : Spec → Name → Sort → Type 0
@@ -37,11 +38,11 @@ linked_here S n x s t (Alias u) same h e =
 linked_at : (S : Spec) (n : ℕ) (ds : List SortDeclaration) (s t : Name) → AreLinked S ds → first (definitions_from n ds) s ≡ Some (Renaming t) → IsLinked S s (Alias t)
 linked_at S n [] s t all e = cc
 linked_at S n (d ∷ ds) s t all e =
-    by_test (same_name d.name s) (same_text d.name s) (linked_at S (number_behind n d.sort) ds s t (all_tail (Declared S) d ds all)) e
+    by_test (same_name d.name s) (same_text d.name s) (linked_at S (number_behind n d.sort) ds s t (All-tail (Declared S) d ds all)) e
   where
     by_test : (b : Bool) → (true ≡ b → d.name ≡ s) → (first (definitions_from (number_behind n d.sort) ds) s ≡ Some (Renaming t) → IsLinked S s (Alias t))
         → cond b (Some (definition_of n d.sort)) (first (definitions_from (number_behind n d.sort) ds) s) ≡ Some (Renaming t) → IsLinked S s (Alias t)
-    by_test true same later e = linked_here S n d.name s t d.sort (same refl) (all_head (Declared S) d ds all) e
+    by_test true same later e = linked_here S n d.name s t d.sort (same refl) (All-head (Declared S) d ds all) e
     by_test false same later e = later e
 
 -- ---- ends
@@ -78,9 +79,6 @@ integers_end i j k true c d = refl
 integers_end i j k false true d = refl
 integers_end i j k false false true = refl
 integers_end i j k false false false = refl
-
-abbrev built_in : Name → End
-built_in s = built_in_integers s
 
 is_true : (b : Bool) → (b || false) ≡ true → b ≡ true
 is_true true e = refl

@@ -2,6 +2,7 @@
 use Rattle.std.proofs.Common.{◌≡◌, List, [], length, map, sym, ◌∙◌, ap, subst, arith}
 use Rattle.std.specs.Prelude.{All, flat_map}
 use Rattle.std.proofs.lemmas.List.{length-map}
+use Rattle.pb_sorts.specs.declared.limits.TheConstants.{MAX_EQUATIONS}
 use Rattle.pb_text_tree.specs.Form.{Named, SortDeclarationForm, RangeForm, EquationForm, SpecForm}
 use Rattle.pb_text_meaning.specs.Syntax.{Enumerator, SortDeclaration, Range, Equation}
 use Rattle.pb_text_meaning.specs.Erase.{erase, erased_declaration, erased_range, erased_equation}
@@ -44,7 +45,7 @@ declared t e =
     let s = sorts (erase t) 0 t.sorts (omega arith) a.0 g.0 in
     let ends = sorts_have_ends t g.0 in
     let x = equations (erase t) 0 t.equations ends (omega arith) i.1 in
-    let few = few_names 64 (equation_names t.equations) i.0 in
+    let few = few_names MAX_EQUATIONS (equation_names t.equations) i.0 in
     let same = equation_length t.equations in
     record {
       sorts = subst AreApart (sort_texts t.sorts) (apart (sort_names t.sorts) d.0);
@@ -78,5 +79,5 @@ faultless t h =
     (apart_clear (sort_names t.sorts) (subst AreApart (sym (sort_texts t.sorts)) h.sorts))
     (apart_clear (map range_name t.ranges) (subst AreApart (sym (range_texts t.ranges)) h.ranges))
     (apart_clear (equation_names t.equations) (subst AreApart (sym (equation_texts t.equations)) h.predicate_variables)))
-    (part.checks_clear t s.1 r.1 (limit_clear 64 (equation_names t.equations) (omega (arith, h.few_equations, same)))
+    (part.checks_clear t s.1 r.1 (limit_clear MAX_EQUATIONS (equation_names t.equations) (omega (arith, h.few_equations, same)))
     (equations_clear (erase t) 0 t.equations (record { short = h.short_predicate_variables; few = h.few_parameters; parameters = h.parameters; instances = omega (arith, h.few_instances) })))

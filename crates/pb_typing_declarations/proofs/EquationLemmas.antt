@@ -7,6 +7,7 @@ use Rattle.pb_sorts.specs.Carrier.{values_of}
 use Rattle.pb_sorts.specs.Layout as layouts
 use Rattle.pb_sorts.specs.Layout.{lists_of}
 use Rattle.pb_carriers.specs.Carrier as carriers
+use Rattle.pb_sorts.specs.declared.limits.TheConstants.{MAX_PARAMETERS}
 use Rattle.pb_typing_declarations.specs.Entries.{shapes_of}
 
 abbrev Parameters : Type 0
@@ -28,7 +29,7 @@ shapes_pushed old new v is =
     ∙ map-append shapes_of (lists_of old) (v.items ∷ []))
 
 abbrev Short : List Carrier → Type 0
-Short cs = length cs ≤ 8
+Short cs = length cs ≤ MAX_PARAMETERS
 
 all_one : (xs : List (List Carrier)) (x : List Carrier) → All Short xs → Short x → All Short (xs ++ (x ∷ []))
 all_one [] x hs h zero d below = h
@@ -36,6 +37,6 @@ all_one [] x hs h (suc k) d below = absurd (omega (arith, below))
 all_one (y ∷ xs) x hs h zero d below = hs zero d (omega arith)
 all_one (y ∷ xs) x hs h (suc k) d below = all_one xs x (λ j e lt. hs (suc j) e (omega (arith, lt))) h k d (omega (arith, below))
 
-pub all_pushed : (old new : List Parameters) (v : Parameters) → new ≡ old ++ (v ∷ []) → All Short (lists_of old) → length v.items ≤ 8 → All Short (lists_of new)
+pub all_pushed : (old new : List Parameters) (v : Parameters) → new ≡ old ++ (v ∷ []) → All Short (lists_of old) → length v.items ≤ MAX_PARAMETERS → All Short (lists_of new)
 all_pushed old new v is hs h =
     subst (λ (ls : List (List Carrier)). All Short ls) (sym (ap lists_of is ∙ map-append (λ (u : Parameters). u.items) old (v ∷ []))) (all_one (lists_of old) v.items hs h)

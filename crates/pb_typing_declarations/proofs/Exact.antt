@@ -3,6 +3,7 @@ use Rattle.std.proofs.Common.{◌≡◌, ◌≢◌, ℕ, zero, suc, ◌<◌, fal
 use Rattle.std.specs.Prelude.{All, flat_map}
 use Rattle.std.specs.Cmp.Lexicographic.{other_text, same_text}
 use Rattle.std.proofs.lemmas.Bool.{or_parts, false_from_ne_true, not-true, not_from_false}
+use Rattle.std.proofs.lemmas.List.Elements.{All-cons, All-head, All-tail, All-nil}
 use Rattle.pb_text_tree.specs.Form.{Named}
 use Rattle.pb_text_meaning.specs.Syntax.{Name}
 use Rattle.pb_typing_declarations.specs.declared.fault.TypingRule.TheVariants.{NameTwice}
@@ -13,28 +14,15 @@ use Rattle.pb_typing_declarations.proofs.Parts.{no_parts, no_whole, holds_unless
 
 -- ---- facts of all items
 
-pub all_cons : {A : Type 0} (P : A → Type 0) (x : A) (xs : List A) → P x → All P xs → All P (x ∷ xs)
-all_cons P x xs h hs zero d below = h
-all_cons P x xs h hs (suc k) d below = hs k d (omega arith)
-
-pub all_head : {A : Type 0} (P : A → Type 0) (x : A) (xs : List A) → All P (x ∷ xs) → P x
-all_head P x xs h = h zero x (omega arith)
-
-pub all_tail : {A : Type 0} (P : A → Type 0) (x : A) (xs : List A) → All P (x ∷ xs) → All P xs
-all_tail P x xs h k d below = h (suc k) d (omega arith)
-
-pub all_none : {A : Type 0} (P : A → Type 0) → All P []
-all_none P k d below = absurd (omega (arith, below))
-
 -- no item has a fault exactly where each is as it must be
 module _ {A B : Type 0} (f : A → List TypingFault) (g : A → B) (P : B → Type 0) where
   pub each : ((x : A) → f x ≡ [] → P (g x)) → (xs : List A) → flat_map f xs ≡ [] → All P (map g xs)
-  each to [] e = all_none P
-  each to (x ∷ xs) e = let p = no_parts (f x) (flat_map f xs) e in all_cons P (g x) (map g xs) (to x p.0) (each to xs p.1)
+  each to [] e = All-nil P
+  each to (x ∷ xs) e = let p = no_parts (f x) (flat_map f xs) e in All-cons P (g x) (map g xs) (to x p.0) (each to xs p.1)
 
   pub each_clear : ((x : A) → P (g x) → f x ≡ []) → (xs : List A) → All P (map g xs) → flat_map f xs ≡ []
   each_clear from [] h = refl
-  each_clear from (x ∷ xs) h = no_whole (f x) (flat_map f xs) (from x (all_head P (g x) (map g xs) h)) (each_clear from xs (all_tail P (g x) (map g xs) h))
+  each_clear from (x ∷ xs) h = no_whole (f x) (flat_map f xs) (from x (All-head P (g x) (map g xs) h)) (each_clear from xs (All-tail P (g x) (map g xs) h))
 
 -- ---- names apart
 
@@ -70,7 +58,7 @@ stand_apart before (x ∷ xs) e =
     λ k d lt. or_parts (bytes_eq x.text (get_or (texts xs) k d)) (is_among before (get_or (texts xs) k d)) (rest.unseen k d lt) in
     record {
       apart = pairs_cons x.text (texts xs) (λ k d lt is. other_text x.text (get_or (texts xs) k d) (sym (behind k d lt).0) is) rest.apart;
-      unseen = all_cons (λ (y : Name). is_among before y ≡ false) x.text (texts xs) (not-true _ (holds_unless _ _ _ p.0)) (λ k d lt. (behind k d lt).1);
+      unseen = All-cons (λ (y : Name). is_among before y ≡ false) x.text (texts xs) (not-true _ (holds_unless _ _ _ p.0)) (λ k d lt. (behind k d lt).1);
     }
 
 stand_clear : (before : List Name) (xs : List Named) → StandApart before xs → repeated_after before xs ≡ []
@@ -78,12 +66,12 @@ stand_clear before [] h = refl
 stand_clear before (x ∷ xs) h =
     let first = pairs_head x.text (texts xs) h.apart in
     no_whole (unless (not (is_among before x.text)) NameTwice x.place) _
-    (unless_holds _ _ _ (not_from_false _ (all_head (λ (y : Name). is_among before y ≡ false) x.text (texts xs) h.unseen)))
+    (unless_holds _ _ _ (not_from_false _ (All-head (λ (y : Name). is_among before y ≡ false) x.text (texts xs) h.unseen)))
     (stand_clear (x.text ∷ before) xs (record {
       apart = pairs_tail x.text (texts xs) h.apart;
       unseen = λ k d lt.
           ap (λ b. b || is_among before (get_or (texts xs) k d)) (other_names x.text (get_or (texts xs) k d) (first k d lt))
-          ∙ all_tail (λ (y : Name). is_among before y ≡ false) x.text (texts xs) h.unseen k d lt;
+          ∙ All-tail (λ (y : Name). is_among before y ≡ false) x.text (texts xs) h.unseen k d lt;
     }))
 
 pub apart : (xs : List Named) → repeated xs ≡ [] → AreApart (texts xs)

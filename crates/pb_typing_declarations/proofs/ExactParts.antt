@@ -1,12 +1,13 @@
 -- The same of variables, of equations, of sorts and of ranges.
-use Rattle.std.proofs.Common.{◌≡◌, ℕ, suc, ◌+◌, ◌<◌, ◌≤◌, ◌≤ℤ◌, ℤ, Bool, true, false, not, ◌||◌, true≢false, List, [], ◌∷◌, ◌++◌, length, map, refl, sym, ◌∙◌, ap, subst, arith, rules, tests}
-use Rattle.std.specs.Prelude.{All, flat_map, nat_le, nat_lt, int_le, Option, Some, None}
+use Rattle.std.proofs.Common.{◌≡◌, ℕ, suc, ◌+◌, ◌≤◌, Bool, true, false, not, ◌||◌, true≢false, List, [], ◌∷◌, ◌++◌, length, map, refl, sym, ◌∙◌, ap, subst, arith, rules, tests}
+use Rattle.std.specs.Prelude.{All, flat_map, nat_lt, int_le, Option, Some, None}
 use Rattle.std.proofs.lemmas.Grind.{flat_map-append}
 use Rattle.std.proofs.lemmas.List.{map-append, length-map}
-use Rattle.std.proofs.lemmas.Bool.{not-true, not_from_false}
+use Rattle.std.proofs.lemmas.Bool.{not-true, not_from_false, leb-true as at_most, le-leb as at_most_true, ltb-true as below, lt-ltb as below_true}
+use Rattle.std.proofs.lemmas.List.Elements.{All-cons, All-head, All-tail, All-nil}
 use Rattle.pb_text_tree.specs.declared.place.Place.{Place}
 use Rattle.pb_text_tree.specs.Form.{Named, VariableForm, EnumeratorForm, SortForm, struct, alias, SortDeclarationForm, RangeForm, EquationForm}
-use Rattle.pb_sorts.specs.declared.limits.TheConstants.{MAX_INSTANCES}
+use Rattle.pb_sorts.specs.declared.limits.TheConstants.{MAX_STRUCTS, MAX_ENUMERATORS, MAX_PARAMETERS, MAX_INSTANCES, MAX_NAME_BYTES}
 use Rattle.pb_text_meaning.specs.Syntax.{Variable, Enumerator, SortDeclaration, Equation, Spec}
 use Rattle.pb_text_meaning.specs.Erase.{erased_variable, erased_variables, erased_enumerator, erased_recogniser, erased_sort, erased_declaration, erased_range, erased_equation}
 use Rattle.pb_typing_declarations.specs.declared.fault.TypingRule.TheVariants.{NameTwice, Limit, UnknownSort}
@@ -18,19 +19,7 @@ use Rattle.pb_typing_declarations.specs.WellDeclared.{AreApart, has_shape, AreVa
 use Rattle.pb_typing_declarations.proofs.Parts.{no_parts, no_whole, holds_unless, unless_holds}
 use Rattle.pb_typing_declarations.proofs.Passing.{stays, one_more_stays}
 use Rattle.pb_typing_declarations.proofs.VariableLemmas.{few_names, limit_clear}
-use Rattle.pb_typing_declarations.proofs.Exact.{all_cons, all_head, all_tail, all_none, each, each_clear, texts, apart, apart_clear, map-map}
-
-at_most : (n m : ℕ) → nat_le n m ≡ true → n ≤ m
-at_most n m e = search (rules, tests)
-
-at_most_true : (n m : ℕ) → n ≤ m → nat_le n m ≡ true
-at_most_true n m h = search (rules, tests)
-
-below : (n m : ℕ) → nat_lt n m ≡ true → n < m
-below n m e = search (rules, tests)
-
-below_true : (n m : ℕ) → n < m → nat_lt n m ≡ true
-below_true n m h = search (rules, tests)
+use Rattle.pb_typing_declarations.proofs.Exact.{each, each_clear, texts, apart, apart_clear, map-map}
 
 -- ---- variables
 
@@ -68,10 +57,10 @@ variables_clear S xs h =
 -- ---- equations
 
 abbrev pub ShortEquation : Equation → Type 0
-ShortEquation X = length X.name ≤ 64
+ShortEquation X = length X.name ≤ MAX_NAME_BYTES
 
 abbrev pub FewParameters : Equation → Type 0
-FewParameters X = length X.parameters ≤ 8
+FewParameters X = length X.parameters ≤ MAX_PARAMETERS
 
 abbrev pub Parameters : Spec → Equation → Type 0
 Parameters S X = AreVariables S X.parameters
@@ -82,8 +71,8 @@ parameters_length xs = length-map xs (λ (x : VariableForm). x.name) ∙ sym (le
 equation : (S : Spec) (X : EquationForm) → HaveEnds S → equation_faults S X ≡ [] → ShortEquation (erased_equation X) × FewParameters (erased_equation X) × Parameters S (erased_equation X)
 equation S X ends e =
     let p = no_parts (length_faults X.name) _ e in
-    let q = no_parts (limit_faults 8 (variable_names X.parameters)) _ p.1 in
-    let few = few_names 8 (variable_names X.parameters) q.0 in
+    let q = no_parts (limit_faults MAX_PARAMETERS (variable_names X.parameters)) _ p.1 in
+    let few = few_names MAX_PARAMETERS (variable_names X.parameters) q.0 in
     let same = parameters_length X.parameters in
     (at_most _ _ (holds_unless _ _ _ p.0), omega (arith, few, same), variables S X.parameters ends q.1)
 
@@ -91,7 +80,7 @@ equation_clear : (S : Spec) (X : EquationForm) → ShortEquation (erased_equatio
 equation_clear S X short few parameters =
     let same = parameters_length X.parameters in
     no_whole (length_faults X.name) _ (unless_holds _ _ _ (at_most_true _ _ short))
-    (no_whole (limit_faults 8 (variable_names X.parameters)) _ (limit_clear 8 (variable_names X.parameters) (omega (arith, few, same))) (variables_clear S X.parameters parameters))
+    (no_whole (limit_faults MAX_PARAMETERS (variable_names X.parameters)) _ (limit_clear MAX_PARAMETERS (variable_names X.parameters) (omega (arith, few, same))) (variables_clear S X.parameters parameters))
 
 -- what no fault says of equations behind n instances
 pub record EquationsHold (S : Spec) (n : ℕ) (E : List EquationForm) : Type 0 where
@@ -101,7 +90,7 @@ pub record EquationsHold (S : Spec) (n : ℕ) (E : List EquationForm) : Type 0 w
   pub instances : n + all_instances S (map erased_equation E) ≤ MAX_INSTANCES
 
 pub equations : (S : Spec) (n : ℕ) (E : List EquationForm) → HaveEnds S → n ≤ MAX_INSTANCES → equations_faults_behind S n E ≡ [] → EquationsHold S n E
-equations S n [] ends low e = record { short = all_none ShortEquation; few = all_none FewParameters; parameters = all_none (Parameters S); instances = omega (arith, low) }
+equations S n [] ends low e = record { short = All-nil ShortEquation; few = All-nil FewParameters; parameters = All-nil (Parameters S); instances = omega (arith, low) }
 equations S n (X ∷ E) ends low e =
     let size = instance_count S (erased_equation X) in
     let p = no_parts (equation_faults S X) _ e in
@@ -110,9 +99,9 @@ equations S n (X ∷ E) ends low e =
     let fits = at_most (n + size) MAX_INSTANCES (sym (stays MAX_INSTANCES n (n + size) low) ∙ holds_unless _ _ _ q.0) in
     let rest = equations S (n + size) E ends fits q.1 in
     record {
-      short = all_cons ShortEquation (erased_equation X) (map erased_equation E) first.0 rest.short;
-      few = all_cons FewParameters (erased_equation X) (map erased_equation E) first.1 rest.few;
-      parameters = all_cons (Parameters S) (erased_equation X) (map erased_equation E) first.2 rest.parameters;
+      short = All-cons ShortEquation (erased_equation X) (map erased_equation E) first.0 rest.short;
+      few = All-cons FewParameters (erased_equation X) (map erased_equation E) first.1 rest.few;
+      parameters = All-cons (Parameters S) (erased_equation X) (map erased_equation E) first.2 rest.parameters;
       instances = omega (arith, rest.instances);
     }
 
@@ -121,13 +110,13 @@ equations_clear S n [] h = refl
 equations_clear S n (X ∷ E) h =
     let size = instance_count S (erased_equation X) in
     no_whole (equation_faults S X) _
-    (equation_clear S X (all_head ShortEquation (erased_equation X) (map erased_equation E) h.short) (all_head FewParameters (erased_equation X) (map erased_equation E) h.few) (all_head (Parameters S) (erased_equation X) (map erased_equation E) h.parameters))
+    (equation_clear S X (All-head ShortEquation (erased_equation X) (map erased_equation E) h.short) (All-head FewParameters (erased_equation X) (map erased_equation E) h.few) (All-head (Parameters S) (erased_equation X) (map erased_equation E) h.parameters))
     (no_whole (unless (stays_within MAX_INSTANCES n (n + size)) Limit X.name.place) _
     (unless_holds _ _ _ (stays MAX_INSTANCES n (n + size) (omega (arith, h.instances)) ∙ at_most_true _ _ (omega (arith, h.instances))))
     (equations_clear S (n + size) E (record {
-      short = all_tail ShortEquation (erased_equation X) (map erased_equation E) h.short;
-      few = all_tail FewParameters (erased_equation X) (map erased_equation E) h.few;
-      parameters = all_tail (Parameters S) (erased_equation X) (map erased_equation E) h.parameters;
+      short = All-tail ShortEquation (erased_equation X) (map erased_equation E) h.short;
+      few = All-tail FewParameters (erased_equation X) (map erased_equation E) h.few;
+      parameters = All-tail (Parameters S) (erased_equation X) (map erased_equation E) h.parameters;
       instances = omega (arith, h.instances);
     })))
 
@@ -142,19 +131,19 @@ Defined S d = IsDefined S d.name d.sort
 -- what no fault says of one sort, where n structs stand before it
 record SortHolds (S : Spec) (n : ℕ) (s : Named) (sort : SortForm) : Type 0 where
   defined : IsDefined S s.text (erased_sort sort)
-  few : number_behind n (erased_sort sort) ≤ 255
+  few : number_behind n (erased_sort sort) ≤ MAX_STRUCTS
   enumerators : flat_map enumerator_faults (enumerators_of_sort sort) ≡ []
 
-one_sort : (S : Spec) (n : ℕ) (s : Named) (sort : SortForm) → n ≤ 255 → struct_faults n s.place sort ≡ [] → definition_faults S s sort ≡ [] → SortHolds S n s sort
+one_sort : (S : Spec) (n : ℕ) (s : Named) (sort : SortForm) → n ≤ MAX_STRUCTS → struct_faults n s.place sort ≡ [] → definition_faults S s sort ≡ [] → SortHolds S n s sort
 one_sort S n s (struct es) low e f =
-    let p = no_parts (unless (stays_within 255 n (suc n)) Limit s.place) _ e in
+    let p = no_parts (unless (stays_within MAX_STRUCTS n (suc n)) Limit s.place) _ e in
     let q = no_parts (unless (nat_lt 0 (length es)) Limit s.place) _ p.1 in
-    let r = no_parts (limit_faults 255 (own_names es)) _ q.1 in
+    let r = no_parts (limit_faults MAX_ENUMERATORS (own_names es)) _ q.1 in
     let named = length-map es (λ (e : EnumeratorForm). e.name) in
     let same = length-map es erased_enumerator in
     let some = below 0 (length es) (holds_unless _ _ _ q.0) in
-    let most = few_names 255 (own_names es) r.0 in
-    let fits = below n 255 (sym (one_more_stays 255 n low) ∙ holds_unless _ _ _ p.0) in
+    let most = few_names MAX_ENUMERATORS (own_names es) r.0 in
+    let fits = below n MAX_STRUCTS (sym (one_more_stays MAX_STRUCTS n low) ∙ holds_unless _ _ _ p.0) in
     record { defined = (omega (arith, same, some), omega (arith, same, named, most)); few = omega (arith, fits); enumerators = r.1 }
 one_sort S n s (alias t) low e f =
     let p = no_parts (unless (is_sort S t.text) UnknownSort t.place) _ f in
@@ -164,10 +153,10 @@ one_sort_clear : (S : Spec) (n : ℕ) (s : Named) (sort : SortForm) → SortHold
 one_sort_clear S n s (struct es) h =
     let same = length-map es erased_enumerator in
     let named = length-map es (λ (e : EnumeratorForm). e.name) in (
-      no_whole (unless (stays_within 255 n (suc n)) Limit s.place) _
-          (unless_holds _ _ _ (one_more_stays 255 n (omega (arith, h.few)) ∙ below_true n 255 (omega (arith, h.few))))
+      no_whole (unless (stays_within MAX_STRUCTS n (suc n)) Limit s.place) _
+          (unless_holds _ _ _ (one_more_stays MAX_STRUCTS n (omega (arith, h.few)) ∙ below_true n MAX_STRUCTS (omega (arith, h.few))))
           (no_whole (unless (nat_lt 0 (length es)) Limit s.place) _ (unless_holds _ _ _ (below_true 0 (length es) (omega (arith, same, h.defined.0))))
-          (no_whole (limit_faults 255 (own_names es)) _ (limit_clear 255 (own_names es) (omega (arith, same, named, h.defined.1))) h.enumerators)),
+          (no_whole (limit_faults MAX_ENUMERATORS (own_names es)) _ (limit_clear MAX_ENUMERATORS (own_names es) (omega (arith, same, named, h.defined.1))) h.enumerators)),
       refl,
     )
 one_sort_clear S n s (alias t) h =
@@ -176,11 +165,11 @@ one_sort_clear S n s (alias t) h =
 pub record SortsHold (S : Spec) (n : ℕ) (ds : List SortDeclarationForm) : Type 0 where
   pub new : All NewSort (map erased_declaration ds)
   pub defined : All (Defined S) (map erased_declaration ds)
-  pub few : structs_behind n (map erased_declaration ds) ≤ 255
+  pub few : structs_behind n (map erased_declaration ds) ≤ MAX_STRUCTS
   pub enumerators : flat_map enumerator_faults (all_enumerator_forms ds) ≡ []
 
-pub sorts : (S : Spec) (n : ℕ) (ds : List SortDeclarationForm) → n ≤ 255 → structs_faults n ds ≡ [] → flat_map (sort_faults S) ds ≡ [] → SortsHold S n ds
-sorts S n [] low e f = record { new = all_none NewSort; defined = all_none (Defined S); few = low; enumerators = refl }
+pub sorts : (S : Spec) (n : ℕ) (ds : List SortDeclarationForm) → n ≤ MAX_STRUCTS → structs_faults n ds ≡ [] → flat_map (sort_faults S) ds ≡ [] → SortsHold S n ds
+sorts S n [] low e f = record { new = All-nil NewSort; defined = All-nil (Defined S); few = low; enumerators = refl }
 sorts S n (d ∷ ds) low e f =
     let p = no_parts (struct_faults n d.name.place d.sort) _ e in
     let q = no_parts (sort_faults S d) _ f in
@@ -188,8 +177,8 @@ sorts S n (d ∷ ds) low e f =
     let first = one_sort S n d.name d.sort low p.0 r.1 in
     let rest = sorts S (number_behind n (erased_sort d.sort)) ds first.few p.1 q.1 in
     record {
-      new = all_cons NewSort (erased_declaration d) (map erased_declaration ds) (not-true _ (holds_unless _ _ _ r.0)) rest.new;
-      defined = all_cons (Defined S) (erased_declaration d) (map erased_declaration ds) first.defined rest.defined;
+      new = All-cons NewSort (erased_declaration d) (map erased_declaration ds) (not-true _ (holds_unless _ _ _ r.0)) rest.new;
+      defined = All-cons (Defined S) (erased_declaration d) (map erased_declaration ds) first.defined rest.defined;
       few = rest.few;
       enumerators = flat_map-append enumerator_faults (enumerators_of_sort d.sort) (all_enumerator_forms ds) ∙ no_whole _ _ first.enumerators rest.enumerators;
     }
@@ -211,16 +200,16 @@ sorts_clear S n [] h = (refl, refl)
 sorts_clear S n (d ∷ ds) h =
     let behind = behind_all (number_behind n (erased_sort d.sort)) ds in
     let parts = no_parts (flat_map enumerator_faults (enumerators_of_sort d.sort)) _ (sym (flat_map-append enumerator_faults (enumerators_of_sort d.sort) (all_enumerator_forms ds)) ∙ h.enumerators) in
-    let first = one_sort_clear S n d.name d.sort (record { defined = all_head (Defined S) (erased_declaration d) (map erased_declaration ds) h.defined; few = omega (arith, behind, h.few); enumerators = parts.0 }) in
+    let first = one_sort_clear S n d.name d.sort (record { defined = All-head (Defined S) (erased_declaration d) (map erased_declaration ds) h.defined; few = omega (arith, behind, h.few); enumerators = parts.0 }) in
     let rest = sorts_clear S (number_behind n (erased_sort d.sort)) ds (record {
-      new = all_tail NewSort (erased_declaration d) (map erased_declaration ds) h.new;
-      defined = all_tail (Defined S) (erased_declaration d) (map erased_declaration ds) h.defined;
+      new = All-tail NewSort (erased_declaration d) (map erased_declaration ds) h.new;
+      defined = All-tail (Defined S) (erased_declaration d) (map erased_declaration ds) h.defined;
       few = h.few;
       enumerators = parts.1;
     }) in (
       no_whole (struct_faults n d.name.place d.sort) _ first.0 rest.0,
       no_whole (sort_faults S d) _
-          (no_whole (unless (not (is_built_in d.name.text)) NameTwice d.name.place) _ (unless_holds _ _ _ (not_from_false _ (all_head NewSort (erased_declaration d) (map erased_declaration ds) h.new))) first.1)
+          (no_whole (unless (not (is_built_in d.name.text)) NameTwice d.name.place) _ (unless_holds _ _ _ (not_from_false _ (All-head NewSort (erased_declaration d) (map erased_declaration ds) h.new))) first.1)
           rest.1,
     )
 
@@ -249,18 +238,18 @@ enumerator_texts (e ∷ es) =
     one (Some x) = refl
 
 abbrev pub ShortName : Enumerator → Type 0
-ShortName e = length e.name ≤ 64
+ShortName e = length e.name ≤ MAX_NAME_BYTES
 
 abbrev pub NewFunction : Enumerator → Type 0
 NewFunction e = All (λ x. is_named_function x ≡ false) (given e.recogniser)
 
 recogniser : (r : Option Named) → recogniser_faults r ≡ [] → All (λ x. is_named_function x ≡ false) (given (erased_recogniser r))
-recogniser None e = all_none (λ x. is_named_function x ≡ false)
-recogniser (Some x) e = all_cons (λ y. is_named_function y ≡ false) x.text [] (not-true _ (holds_unless _ _ _ e)) (all_none (λ y. is_named_function y ≡ false))
+recogniser None e = All-nil (λ x. is_named_function x ≡ false)
+recogniser (Some x) e = All-cons (λ y. is_named_function y ≡ false) x.text [] (not-true _ (holds_unless _ _ _ e)) (All-nil (λ y. is_named_function y ≡ false))
 
 recogniser_clear : (r : Option Named) → All (λ x. is_named_function x ≡ false) (given (erased_recogniser r)) → recogniser_faults r ≡ []
 recogniser_clear None h = refl
-recogniser_clear (Some x) h = unless_holds _ _ _ (not_from_false _ (all_head (λ y. is_named_function y ≡ false) x.text [] h))
+recogniser_clear (Some x) h = unless_holds _ _ _ (not_from_false _ (All-head (λ y. is_named_function y ≡ false) x.text [] h))
 
 pub short_names : (es : List EnumeratorForm) → flat_map enumerator_faults es ≡ [] → All ShortName (map erased_enumerator es)
 short_names = each enumerator_faults erased_enumerator ShortName (λ e h. at_most _ _ (holds_unless _ _ _ (no_parts (length_faults e.name) (recogniser_faults e.recogniser) h).0))
@@ -272,17 +261,11 @@ pub enumerators_clear : (es : List EnumeratorForm) → All ShortName (map erased
 enumerators_clear [] h k = refl
 enumerators_clear (e ∷ es) h k =
     no_whole (enumerator_faults e) _
-    (no_whole (length_faults e.name) _ (unless_holds _ _ _ (at_most_true _ _ (all_head ShortName (erased_enumerator e) (map erased_enumerator es) h)))
-    (recogniser_clear e.recogniser (all_head NewFunction (erased_enumerator e) (map erased_enumerator es) k)))
-    (enumerators_clear es (all_tail ShortName (erased_enumerator e) (map erased_enumerator es) h) (all_tail NewFunction (erased_enumerator e) (map erased_enumerator es) k))
+    (no_whole (length_faults e.name) _ (unless_holds _ _ _ (at_most_true _ _ (All-head ShortName (erased_enumerator e) (map erased_enumerator es) h)))
+    (recogniser_clear e.recogniser (All-head NewFunction (erased_enumerator e) (map erased_enumerator es) k)))
+    (enumerators_clear es (All-tail ShortName (erased_enumerator e) (map erased_enumerator es) h) (All-tail NewFunction (erased_enumerator e) (map erased_enumerator es) k))
 
 -- ---- ranges
-
-low_high : (a b : ℤ) → int_le a b ≡ true → a ≤ℤ b
-low_high a b e = search (rules, tests)
-
-low_high_true : (a b : ℤ) → a ≤ℤ b → int_le a b ≡ true
-low_high_true a b h = search (rules, tests)
 
 integer_there : (e : End) (f : Bool) → f ≡ false → (is_integer e || f) ≡ true → is_integer e ≡ true
 integer_there (Unranged k) f clear h = refl
@@ -291,20 +274,22 @@ integer_there Undeclared f clear h = absurd (true≢false (sym h ∙ clear))
 integer_there Endless f clear h = absurd (true≢false (sym h ∙ clear))
 
 pub ranges : (S : Spec) (rs : List RangeForm) → HaveEnds S → flat_map empty_faults rs ≡ [] → flat_map (range_faults S) rs ≡ [] → All (IsRanged S) (map erased_range rs)
-ranges S [] ends e f = all_none (IsRanged S)
+ranges S [] ends e f = All-nil (IsRanged S)
 ranges S (r ∷ rs) ends e f =
     let p = no_parts (empty_faults r) _ e in
+    let ordered : int_le r.low r.high ≡ true = holds_unless _ _ _ p.0 in
     let q = no_parts (range_faults S r) _ f in
     let s = no_parts (unless (is_integer (base_of S r.name) || is_faulty (is_sort S r.name) (base_of S r.name)) UnknownSort r.place) _ q.0 in
-    all_cons (IsRanged S) (erased_range r) (map erased_range rs)
-    (record { integer = integer_there (base_of S r.name) _ (ends.bases r.name) (holds_unless _ _ _ s.0); least = holds_unless _ _ _ s.1; order = low_high r.low r.high (holds_unless _ _ _ p.0) })
+    All-cons (IsRanged S) (erased_range r) (map erased_range rs)
+    (record { integer = integer_there (base_of S r.name) _ (ends.bases r.name) (holds_unless _ _ _ s.0); least = holds_unless _ _ _ s.1; order = search (rules, tests, ordered) })
     (ranges S rs ends p.1 q.1)
 
 pub ranges_clear : (S : Spec) (rs : List RangeForm) → All (IsRanged S) (map erased_range rs) → (flat_map empty_faults rs ≡ []) × (flat_map (range_faults S) rs ≡ [])
 ranges_clear S [] h = (refl, refl)
 ranges_clear S (r ∷ rs) h =
-    let first = all_head (IsRanged S) (erased_range r) (map erased_range rs) h in
-    let rest = ranges_clear S rs (all_tail (IsRanged S) (erased_range r) (map erased_range rs) h) in (
-      no_whole (empty_faults r) _ (unless_holds _ _ _ (low_high_true r.low r.high first.order)) rest.0,
+    let first = All-head (IsRanged S) (erased_range r) (map erased_range rs) h in
+    let rest = ranges_clear S rs (All-tail (IsRanged S) (erased_range r) (map erased_range rs) h) in
+    let ordered : int_le r.low r.high ≡ true = search (rules, tests, first.order) in (
+      no_whole (empty_faults r) _ (unless_holds _ _ _ ordered) rest.0,
       no_whole (range_faults S r) _ (no_whole (unless (is_integer (base_of S r.name) || is_faulty (is_sort S r.name) (base_of S r.name)) UnknownSort r.place) _ (unless_holds _ _ _ (ap (λ b. b || is_faulty (is_sort S r.name) (base_of S r.name)) first.integer)) (unless_holds _ _ _ first.least)) rest.1,
     )

@@ -1,9 +1,10 @@
 -- The carriers of equations without a fault have a layout.
-use Rattle.std.proofs.Common.{◌≡◌, ◌≤◌, ◌<◌, ◌∙◌, ◌+◌, ℕ, zero, suc, List, [], ◌∷◌, length, get_or, map, refl, sym, ap, arith, rules, tests, Vec, Global}
-use Rattle.std.specs.Prelude.{All, vec_len, nat_le, true}
+use Rattle.std.proofs.Common.{◌≡◌, ◌≤◌, ◌<◌, ◌∙◌, ◌+◌, ℕ, zero, suc, List, [], ◌∷◌, length, get_or, map, refl, sym, ap, arith, Vec, Global}
+use Rattle.std.specs.Prelude.{All, vec_len}
 use Rattle.std.proofs.lemmas.List.{length-map}
+use Rattle.std.proofs.lemmas.Bool.{leb-true}
 use Rattle.pb_sorts.specs.declared.carrier.Carrier.{Carrier}
-use Rattle.pb_sorts.specs.declared.limits.TheConstants.{MAX_INSTANCES}
+use Rattle.pb_sorts.specs.declared.limits.TheConstants.{MAX_EQUATIONS, MAX_PARAMETERS, MAX_INSTANCES}
 use Rattle.pb_sorts.specs.Carrier.{values_of}
 use Rattle.pb_sorts.specs.Instance.{instances_from}
 use Rattle.pb_sorts.specs.Layout as layouts
@@ -25,11 +26,11 @@ use Rattle.pb_typing_declarations.proofs.VariableLemmas.{few_names}
 abbrev Parameters : Type 0
 Parameters = Vec Carrier Global
 
--- ---- at most 64 lists
+-- ---- at most MAX_EQUATIONS lists
 
-pub few_lists : (S : Spec) (E : List EquationForm) (vs : List Parameters) → HasCarriers S 0 E (lists_of vs) → limit_faults 64 (equation_names E) ≡ [] → length vs ≤ 64
+pub few_lists : (S : Spec) (E : List EquationForm) (vs : List Parameters) → HasCarriers S 0 E (lists_of vs) → limit_faults MAX_EQUATIONS (equation_names E) ≡ [] → length vs ≤ MAX_EQUATIONS
 few_lists S E vs has clear =
-    let few = few_names 64 (equation_names E) clear in
+    let few = few_names MAX_EQUATIONS (equation_names E) clear in
     let names = length-map E (λ (X : EquationForm). X.name) in
     let erased = length-map E erased_equation in
     let sorts = length-map (map erased_equation E) (λ (X : Equation). carriers_of S X.parameters) in
@@ -38,24 +39,21 @@ few_lists S E vs has clear =
     let same : length (layouts.carriers_of (lists_of vs)) ≡ length (map (λ (X : Equation). carriers_of S X.parameters) (map erased_equation E)) = ap length has.values in
     omega (arith, few, names, erased, sorts, values, lists, same)
 
--- ---- of at most 8 carriers
+-- ---- of at most MAX_PARAMETERS carriers
 
-pub few_carriers : (vs : List Parameters) → All (λ (cs : List Carrier). length cs ≤ 8) (lists_of vs) → (k : ℕ) (d : Parameters) → k < length vs → vec_len (get_or vs k d) ≤ 8
+pub few_carriers : (vs : List Parameters) → All (λ (cs : List Carrier). length cs ≤ MAX_PARAMETERS) (lists_of vs) → (k : ℕ) (d : Parameters) → k < length vs → vec_len (get_or vs k d) ≤ MAX_PARAMETERS
 few_carriers [] h k d below = absurd (omega (arith, below))
 few_carriers (v ∷ vs) h zero d below = let few = h zero v.items (omega arith) in omega (arith, few, v.ok.0)
 few_carriers (v ∷ vs) h (suc k) d below = few_carriers vs (λ j e lt. h (suc j) e (omega (arith, lt))) k d (omega (arith, below))
 
 -- ---- with few instances
 
-at_most : (n m : ℕ) → nat_le n m ≡ true → n ≤ m
-at_most n m e = search (rules, tests)
-
 pub within : (S : Spec) (n : ℕ) (E : List EquationForm) → equations_faults_behind S n E ≡ [] → n ≤ MAX_INSTANCES → n + all_instances S (map erased_equation E) ≤ MAX_INSTANCES
 within S n [] e low = omega (arith, low)
 within S n (X ∷ E) e low =
     let p = no_parts (equation_faults S X) _ e in
     let q = no_parts (unless (stays_within MAX_INSTANCES n (n + instance_count S (erased_equation X))) Limit X.name.place) _ p.1 in
-    let first = at_most (n + instance_count S (erased_equation X)) MAX_INSTANCES
+    let first = leb-true (n + instance_count S (erased_equation X)) MAX_INSTANCES
     (sym (stays MAX_INSTANCES n (n + instance_count S (erased_equation X)) low) ∙ holds_unless _ _ _ q.0) in
     let rest = within S (n + instance_count S (erased_equation X)) E q.1 first in
     omega (arith, rest)

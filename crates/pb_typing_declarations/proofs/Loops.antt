@@ -6,7 +6,7 @@ use Rattle.pb_sorts.proofs.Places.{drop-at}
 use Rattle.pb_typing_declarations.specs.declared.fault.TypingFault.{TypingFault}
 use Rattle.pb_typing_declarations.specs.declared.fault.TypeError.{TypeError}
 use Rattle.pb_typing_declarations.specs.Faults.{IsAmong}
-use Rattle.pb_typing_declarations.proofs.Parts.{among_first, first_clear}
+use Rattle.pb_typing_declarations.proofs.Parts.{among_first}
 
 module _ {X : Type 0} where
   pub one_more : (a : List X) (x : X) (z : List X) → a ++ (x ∷ z) ≡ (a ++ (x ∷ [])) ++ z
@@ -24,13 +24,6 @@ module _ {A B : Type 0} where
   among_item f g xs k x e below at left h =
       among_first (flat_map f (map g xs)) (f (g x)) (flat_map f (map g (drop (k + 1) xs))) e
       (left ∙ ap (λ (ys : List A). flat_map f (map g ys)) (drop-at xs k x below at)) h
-
-  -- where the next item has no fault, all faults are those of the items behind it
-  pub item_clear : (f : B → List TypingFault) (g : A → B) (xs : List A) (k : ℕ) (x : A) → k < length xs → x ≡ get_or xs k x
-      → flat_map f (map g xs) ≡ flat_map f (map g (drop k xs)) → f (g x) ≡ [] → flat_map f (map g xs) ≡ flat_map f (map g (drop (k + 1) xs))
-  item_clear f g xs k x below at left clear =
-      first_clear (flat_map f (map g xs)) (f (g x)) (flat_map f (map g (drop (k + 1) xs)))
-      (left ∙ ap (λ (ys : List A). flat_map f (map g ys)) (drop-at xs k x below at)) clear
 
   -- behind the last item there is none
   pub all_clear : (f : B → List TypingFault) (g : A → B) (xs : List A) (k : ℕ) → length xs ≤ k → flat_map f (map g xs) ≡ flat_map f (map g (drop k xs)) → flat_map f (map g xs) ≡ []

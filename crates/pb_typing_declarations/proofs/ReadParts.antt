@@ -1,6 +1,7 @@
 -- The faults that are found as names are gathered, and those that are found by the tables, part by part.
 use Rattle.std.proofs.Common.{◌≡◌, List, [], map, refl, subst, arith}
 use Rattle.std.specs.Prelude.{flat_map, Contains}
+use Rattle.pb_sorts.specs.declared.limits.TheConstants.{MAX_EQUATIONS}
 use Rattle.pb_text_tree.specs.Form.{SpecForm}
 use Rattle.pb_text_meaning.specs.Erase.{erase}
 use Rattle.pb_typing_declarations.specs.declared.fault.TypingFault.{TypingFault}
@@ -59,7 +60,7 @@ module _ (t : SpecForm) where
   ranges = flat_map (range_faults (erase t)) t.ranges
 
   abbrev pub too_many : List TypingFault
-  too_many = limit_faults 64 (equation_names t.equations)
+  too_many = limit_faults MAX_EQUATIONS (equation_names t.equations)
 
   abbrev pub equations : List TypingFault
   equations = equations_faults_behind (erase t) 0 t.equations
@@ -69,9 +70,6 @@ module _ (t : SpecForm) where
 
   pub in_ranges : (e : TypeError) → IsAmong ranges e → IsAmong (checks_faults t) e
   in_ranges e h = among_right sorts _ e (among_left ranges _ e h)
-
-  pub in_too_many : (e : TypeError) → IsAmong too_many e → IsAmong (checks_faults t) e
-  in_too_many e h = among_right sorts _ e (among_right ranges _ e (among_left too_many _ e h))
 
   pub in_equations : (e : TypeError) → IsAmong equations e → IsAmong (checks_faults t) e
   in_equations e h = among_right sorts _ e (among_right ranges _ e (among_right too_many _ e h))

@@ -2,6 +2,7 @@
 use Rattle.std.proofs.Common.{◌≡◌, ℕ, zero, suc, ◌+◌, ◌<◌, ◌≤◌, Bool, true, false, refl, List, [], ◌∷◌, ◌++◌, length, get_or, drop, map, sym, ◌∙◌, ap, arith, rules, tests, Vec, Global}
 use Rattle.std.specs.Prelude.{flat_map, nat_lt}
 use Rattle.std.proofs.lemmas.List.{map-append, length-map}
+use Rattle.pb_sorts.specs.declared.limits.TheConstants.{MAX_STRUCTS, MAX_ENUMERATORS}
 use Rattle.pb_sorts.proofs.Places.{drop-at}
 use Rattle.pb_text_tree.specs.declared.place.Place.{Place}
 use Rattle.pb_text_tree.specs.declared.sort.Enumerator as ast
@@ -25,17 +26,17 @@ use Rattle.pb_typing_declarations.proofs.Passing.{one_more_stays}
 use Rattle.pb_typing_declarations.proofs.Loops.{one_more, more}
 
 abbrev pub struct_parts : ℕ → Place → ℕ → List TypingFault → List TypingFault → List TypingFault
-struct_parts n place count few rest = unless (nat_lt n 255) Limit place ++ (unless (nat_lt 0 count) Limit place ++ (few ++ rest))
+struct_parts n place count few rest = unless (nat_lt n MAX_STRUCTS) Limit place ++ (unless (nat_lt 0 count) Limit place ++ (few ++ rest))
 
 abbrev pub count_faults : List ast.Enumerator → List TypingFault
-count_faults es = limit_faults 255 (own_names (map enumerator_form es))
+count_faults es = limit_faults MAX_ENUMERATORS (own_names (map enumerator_form es))
 
 -- the faults of a struct in the code's words
-pub struct_whole : (n : ℕ) (place : Place) (s : sort.Sort) (es : Vec ast.Enumerator Global) (count : ℕ) → n ≤ 255 → s ≡ sorts.Struct es → count ≡ length es.items
+pub struct_whole : (n : ℕ) (place : Place) (s : sort.Sort) (es : Vec ast.Enumerator Global) (count : ℕ) → n ≤ MAX_STRUCTS → s ≡ sorts.Struct es → count ≡ length es.items
     → struct_faults n place (sort_form s) ≡ struct_parts n place count (count_faults es.items) (flat_map enumerator_faults (map enumerator_form es.items))
 struct_whole n place s es count low is are =
     ap (λ (t : sort.Sort). struct_faults n place (sort_form t)) is
-    ∙ (ap (λ (b : Bool). unless b Limit place ++ (unless (nat_lt 0 (length (map enumerator_form es.items))) Limit place ++ (count_faults es.items ++ flat_map enumerator_faults (map enumerator_form es.items)))) (one_more_stays 255 n low)
+    ∙ (ap (λ (b : Bool). unless b Limit place ++ (unless (nat_lt 0 (length (map enumerator_form es.items))) Limit place ++ (count_faults es.items ++ flat_map enumerator_faults (map enumerator_form es.items)))) (one_more_stays MAX_STRUCTS n low)
     ∙ ap (λ (k : ℕ). struct_parts n place k (count_faults es.items) (flat_map enumerator_faults (map enumerator_form es.items))) (length-map es.items enumerator_form ∙ sym are))
 
 -- the fault of the enumerator that passes the limit
@@ -55,12 +56,12 @@ pub number_after : (n : ℕ) (d : SortForm) (definition : declared.Definition) �
 number_after n (struct es) definition is = ap (λ v. n + struct_count v) is ∙ omega arith
 number_after n (alias t) definition is = ap (λ v. n + struct_count v) is ∙ omega arith
 
-below_limit : (n : ℕ) → nat_lt n 255 ≡ true → suc n ≤ 255
+below_limit : (n : ℕ) → nat_lt n MAX_STRUCTS ≡ true → suc n ≤ MAX_STRUCTS
 below_limit n e = search (rules, tests)
 
-pub few_after : (n : ℕ) (place : Place) (d : SortForm) → n ≤ 255 → struct_faults n place d ≡ [] → number_behind n (erased_sort d) ≤ 255
+pub few_after : (n : ℕ) (place : Place) (d : SortForm) → n ≤ MAX_STRUCTS → struct_faults n place d ≡ [] → number_behind n (erased_sort d) ≤ MAX_STRUCTS
 few_after n place (struct es) h e =
-    below_limit n (sym (one_more_stays 255 n h) ∙ holds_unless _ _ _ (no_parts (unless (stays_within 255 n (suc n)) Limit place) _ e).0)
+    below_limit n (sym (one_more_stays MAX_STRUCTS n h) ∙ holds_unless _ _ _ (no_parts (unless (stays_within MAX_STRUCTS n (suc n)) Limit place) _ e).0)
 few_after n place (alias t) h e = h
 
 -- the faults from the sort at k on

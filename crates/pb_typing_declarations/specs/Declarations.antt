@@ -12,7 +12,7 @@ use Rattle.pb_typing_declarations.specs.declared.fault.TypingFault.{TypingFault}
 use Rattle.pb_typing_declarations.specs.Faults.{unless, is_among, repeated, length_faults}
 use Rattle.pb_typing_declarations.specs.Shapes.{End, Shaped, Unranged, Undeclared, Endless, end_of, base_of, is_sort, is_built_in, number_behind}
 use Rattle.pb_typing_declarations.specs.Instances.{instance_count}
-use Rattle.pb_sorts.specs.declared.limits.TheConstants.{MAX_INSTANCES}
+use Rattle.pb_sorts.specs.declared.limits.TheConstants.{MAX_STRUCTS, MAX_ENUMERATORS, MAX_EQUATIONS, MAX_PARAMETERS, MAX_INSTANCES}
 
 -- ---- limits
 
@@ -81,12 +81,12 @@ sort_faults spec d = unless (not (is_built_in d.name.text)) NameTwice d.name.pla
 abbrev pub own_names : List EnumeratorForm → List Named
 own_names es = map (λ (e : EnumeratorForm). e.name) es
 
--- behind n structs: the 256th passes the limit, and each has 1 to 255 enumerators
+-- behind n structs: the one after MAX_STRUCTS passes the limit, and each has 1 to MAX_ENUMERATORS enumerators
 abbrev pub struct_faults : ℕ → Place → SortForm → List TypingFault
 struct_faults n place (struct es) =
-    unless (stays_within 255 n (suc n)) Limit place
+    unless (stays_within MAX_STRUCTS n (suc n)) Limit place
     ++ (unless (nat_lt 0 (length es)) Limit place
-    ++ (limit_faults 255 (own_names es)
+    ++ (limit_faults MAX_ENUMERATORS (own_names es)
     ++ flat_map enumerator_faults es))
 struct_faults n place (alias target) = []
 
@@ -160,7 +160,7 @@ abbrev pub equation_names : List EquationForm → List Named
 equation_names E = map (λ (X : EquationForm). X.name) E
 
 abbrev pub equation_faults : Spec → EquationForm → List TypingFault
-equation_faults spec X = length_faults X.name ++ (limit_faults 8 (variable_names X.parameters) ++ variables_faults spec X.parameters)
+equation_faults spec X = length_faults X.name ++ (limit_faults MAX_PARAMETERS (variable_names X.parameters) ++ variables_faults spec X.parameters)
 
 -- behind so many instances: a predicate variable is as it must be, and its instances don't pass the limit
 abbrev pub equations_faults_behind : Spec → ℕ → List EquationForm → List TypingFault
@@ -190,7 +190,7 @@ abbrev pub checks_faults : SpecForm → List TypingFault
 checks_faults text =
     flat_map (sort_faults (erase text)) text.sorts
     ++ (flat_map (range_faults (erase text)) text.ranges
-    ++ (limit_faults 64 (equation_names text.equations)
+    ++ (limit_faults MAX_EQUATIONS (equation_names text.equations)
     ++ equations_faults_behind (erase text) 0 text.equations))
 
 abbrev pub declaration_faults : SpecForm → List TypingFault

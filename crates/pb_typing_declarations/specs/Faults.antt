@@ -1,6 +1,7 @@
 -- Faults: rules that fail, each with its place in the text.
 use Rattle.std.specs.Prelude.{Bool, true, false, not, nat_le, List, [], ◌∷◌, ◌++◌, length, Contains, ⊤}
 use Rattle.std.specs.List.{list_any}
+use Rattle.pb_sorts.specs.declared.limits.TheConstants.{MAX_NAME_BYTES}
 use Rattle.pb_text_tree.specs.declared.place.Place.{Place}
 use Rattle.pb_text_tree.specs.Form.{Named}
 use Rattle.pb_text_meaning.specs.Syntax.{Name, same_name}
@@ -33,6 +34,6 @@ repeated_after before (x ∷ xs) = unless (not (is_among before x.text)) NameTwi
 abbrev pub repeated : List Named → List TypingFault
 repeated = repeated_after []
 
--- a name of at most 64 bytes
+-- a name of at most MAX_NAME_BYTES bytes
 abbrev pub length_faults : Named → List TypingFault
-length_faults x = unless (nat_le (length x.text) 64) Limit x.place
+length_faults x = unless (nat_le (length x.text) MAX_NAME_BYTES) Limit x.place

@@ -9,7 +9,7 @@ use Rattle.pb_typing_declarations.specs.declared.definition.Definitions.{Definit
 use Rattle.pb_typing_declarations.specs.Shapes.{definition_of, definitions_from, range_bounds, sort_shape, variable_shapes}
 use Rattle.pb_sorts.specs.declared.carrier.Range.{Range}
 use Rattle.pb_sorts.specs.declared.carrier.Carrier.{Carrier}
-use Rattle.pb_sorts.specs.declared.limits.TheConstants.{MAX_INSTANCES}
+use Rattle.pb_sorts.specs.declared.limits.TheConstants.{MAX_PARAMETERS, MAX_INSTANCES}
 use Rattle.pb_sorts.specs.Carrier.{values_of}
 use Rattle.pb_sorts.specs.Layout as layouts
 use Rattle.pb_carriers.specs.Carrier.{tuple_count}
@@ -81,7 +81,7 @@ pub record HasParameters (S : Spec) (X : EquationForm) (carriers : List Carrier)
   pub clear : equation_faults S X ≡ []
   pub values : map values_of carriers ≡ carriers_of S (erased_variables X.parameters)
   pub shapes : shapes_of carriers ≡ variable_shapes S (erased_variables X.parameters)
-  pub few : length carriers ≤ 8
+  pub few : length carriers ≤ MAX_PARAMETERS
 
 -- a sum of instances
 pub record AddsInstances (count : ℕ) (carriers : List (List ℤ)) (place : Place) (sum : ℕ) : Type 0 where
@@ -94,4 +94,4 @@ pub record HasCarriers (S : Spec) (n : ℕ) (E : List EquationForm) (carriers : 
   pub clear : equations_faults_behind S n E ≡ []
   pub values : layouts.carriers_of carriers ≡ map (λ (X : Equation). carriers_of S X.parameters) (map erased_equation E)
   pub shapes : map shapes_of carriers ≡ map (λ (X : Equation). variable_shapes S X.parameters) (map erased_equation E)
-  pub few : All (λ (cs : List Carrier). length cs ≤ 8) carriers
+  pub few : All (λ (cs : List Carrier). length cs ≤ MAX_PARAMETERS) carriers

@@ -4,7 +4,8 @@ ghost use Rattle.std.specs.Prelude.{◌≡◌, codes};
 ghost use Rattle.pb_text_meaning.specs.Syntax.{Name, same_name};
 ghost use Rattle.pb_typing_declarations.specs.Shapes as ends;
 ghost use Rattle.pb_typing_declarations.specs.Shapes.{end_by, is_built_in, built_in_integers};
-ghost use Rattle.pb_typing_declarations.specs.Entries.{end_shown, end_behind, range_in, definition_in};
+ghost use Rattle.pb_typing_declarations.specs.Entries.{end_shown, end_behind, range_in};
+ghost use Rattle.pb_typing_declarations.specs.Entries.{definition_in};
 
 use crate::definition::Definition;
 use crate::sorts::Integers;
@@ -27,7 +28,8 @@ pub(crate) enum End {
 impl End {
     ghost use Rattle.pb_typing_declarations.specs.Shapes.{end_shape};
     ghost use Rattle.pb_typing_declarations.specs.Entries.{carrier_shape};
-    ghost use Rattle.pb_typing_declarations.specs.Declarations.{is_endless, is_integer, may_begin_at};
+    ghost use Rattle.pb_typing_declarations.specs.Declarations.{is_endless, is_integer};
+    ghost use Rattle.pb_typing_declarations.specs.Declarations.{may_begin_at};
 
     /// The carrier, if the sort has values.
     pub fn carrier(self) -> Option<Carrier>
@@ -79,7 +81,8 @@ pub(crate) fn chain_step<'a>(
     sort: &str,
 ) -> Step<'a>
     ensures { (next : Name → ends.End) → end_behind result next
-        ≡ end_by (range_in ranges.now sort.now) (same_name sort.now (codes "Bool")) (definition_in definitions.now sort.now) (built_in_integers sort.now) next }
+        ≡ end_by (range_in ranges.now sort.now) (same_name sort.now (codes "Bool"))
+        (definition_in definitions.now sort.now) (built_in_integers sort.now) next }
 {
     if let Some(range) = ranges.get(sort) {
         return Step::Ends(End::Carrier(Carrier::Range(*range)));

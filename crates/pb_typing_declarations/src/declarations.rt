@@ -37,8 +37,8 @@ impl<'a> Declarations<'a> {
     /// What a text declares.
     ///
     /// # Errors
-    /// A fault of the declarations exactly where there is one; where several rules fail, any one of them.
-    /// `TypeError::Memory` comes only where memory was refused.
+    /// A fault of the declarations exactly where there is one; where several rules fail, any one of
+    /// them. `TypeError::Memory` comes only where memory was refused.
     pub fn read(alloc: Global, spec: &'a Spec) -> Result<Declarations<'a>, TypeError>
         ensures text { IfOk result (λ declarations. text_of declarations ≡ spec_form spec.now) }
         ensures checked { MatchResult result
@@ -63,7 +63,8 @@ impl<'a> Declarations<'a> {
     /// The enumerator of this name.
     pub fn enumerator(&self, name: &str) -> Option<Enumerator>
         ensures entry { result ≡ enumerator_of (spec_of self.now) name.now }
-        ensures place { option_map (λ e. e.place) result ≡ place_in (λ e. same_name e.name name.now) (spec_of self.now).sorts }
+        ensures place { option_map (λ e. e.place) result
+            ≡ place_in (λ e. same_name e.name name.now) (spec_of self.now).sorts }
     {
         as_enumerator(self.tables.data_name(name))
     }
@@ -71,7 +72,8 @@ impl<'a> Declarations<'a> {
     /// The enumerator whose recogniser has this name.
     pub fn recogniser(&self, name: &str) -> Option<Enumerator>
         ensures entry { result ≡ recogniser_of (spec_of self.now) name.now }
-        ensures place { option_map (λ e. e.place) result ≡ place_in (λ e. is_recogniser name.now e.recogniser) (spec_of self.now).sorts }
+        ensures place { option_map (λ e. e.place) result
+            ≡ place_in (λ e. is_recogniser name.now e.recogniser) (spec_of self.now).sorts }
     {
         as_recogniser(self.tables.data_name(name))
     }
@@ -83,8 +85,8 @@ impl<'a> Declarations<'a> {
         self.tables.equation(name)
     }
 
-    /// Checks one list of variables, a quantifier's or an equation's parameters: no name stands twice, and each sort has
-    /// values.
+    /// Checks one list of variables, a quantifier's or an equation's parameters: no name stands
+    /// twice, and each sort has values.
     pub fn check_variables(&self, alloc: Global, groups: &[Variables]) -> Result<(), TypeError>
         ensures { MatchResult result
             (λ _. variables_faults (spec_of self.now) (variable_forms groups.now) ≡ [])
@@ -95,11 +97,15 @@ impl<'a> Declarations<'a> {
         Ok(())
     }
 
-    /// The layout of the equations' instances, each parameter with its sort's carrier: the Booleans, a struct by its
-    /// number, or a range. The only error is want of memory.
+    /// The layout of the equations' instances, each parameter with its sort's carrier: the
+    /// Booleans, a struct by its number, or a range. The only error is want of memory.
     pub fn layout(&self, alloc: Global) -> Result<Layout, TypeError>
-        ensures carriers { IfOk result (λ layout. layouts.carriers_of layout ≡ map (λ (X : Equation). carriers_of (spec_of self.now) X.parameters) (spec_of self.now).equations) }
-        ensures shapes { IfOk result (λ layout. map shapes_of layout ≡ map (λ (X : Equation). variable_shapes (spec_of self.now) X.parameters) (spec_of self.now).equations) }
+        ensures carriers { IfOk result (λ layout. layouts.carriers_of layout
+            ≡ map (λ (X : Equation). carriers_of (spec_of self.now) X.parameters)
+            (spec_of self.now).equations) }
+        ensures shapes { IfOk result (λ layout. map shapes_of layout
+            ≡ map (λ (X : Equation). variable_shapes (spec_of self.now) X.parameters)
+            (spec_of self.now).equations) }
         ensures memory { IfErr result (λ error. error ≡ TypeError.Memory) }
     {
         let carriers = self.tables.carriers(alloc, &self.tables.spec.equations)?;

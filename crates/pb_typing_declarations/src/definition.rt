@@ -1,24 +1,24 @@
 //! What sorts and enumerators are declared to be, in the order of the text.
 
-ghost use Rattle.std.specs.Prelude.{◌≡◌, ◌≤◌, [], nat_le, map, flat_map, length, Contains, MatchResult};
-ghost use Rattle.pb_text_tree.specs.Form.{enumerator_form, sort_declaration_form, sort_form, recogniser_form, named};
+ghost use Rattle.std.specs.Prelude.{◌≡◌, ◌≤◌, [], nat_le, map, flat_map, length, Contains};
+ghost use Rattle.std.specs.Prelude.{MatchResult};
+ghost use Rattle.pb_text_tree.specs.Form.{enumerator_form, sort_declaration_form, sort_form};
+ghost use Rattle.pb_text_tree.specs.Form.{recogniser_form, named};
 ghost use Rattle.pb_typing_declarations.specs.Faults.{IsAmong};
-ghost use Rattle.pb_typing_declarations.specs.Declarations.{limit_faults, own_names, struct_faults, structs_faults, recogniser_faults, enumerator_faults, is_named_function, is_numeric_function, is_conversion};
+ghost use Rattle.pb_typing_declarations.specs.Declarations.{limit_faults, own_names, struct_faults};
+ghost use Rattle.pb_typing_declarations.specs.Declarations.{structs_faults, recogniser_faults};
+ghost use Rattle.pb_typing_declarations.specs.Declarations.{enumerator_faults, is_named_function};
+ghost use Rattle.pb_typing_declarations.specs.Declarations.{is_numeric_function, is_conversion};
 ghost use Rattle.pb_typing_declarations.specs.Entries.{as_enumerator, as_recogniser};
-ghost use Rattle.pb_typing_declarations.specs.Reading.{AreDefinitions, IsDefinition, HasEnumerators, HasRecogniser};
+ghost use Rattle.pb_typing_declarations.specs.Reading.{AreDefinitions, IsDefinition};
+ghost use Rattle.pb_typing_declarations.specs.Reading.{HasEnumerators, HasRecogniser};
 
 use crate::entry::Entry;
 use crate::fault::{TypeError, TypingFault, TypingRule, require};
 use crate::sorts::Enumerator;
-use pb_sorts::Enumeration;
+use pb_sorts::{Enumeration, MAX_ENUMERATORS, MAX_NAME_BYTES, MAX_STRUCTS};
 use pb_text_tree::{Name, Sort, SortDeclaration};
 use std::alloc::Global;
-
-/// How many structs a text may have, and how many enumerators a struct.
-const MAX_ENUMERATION: usize = 255;
-
-/// How long a predicate variable's or an enumerator's name may be, in bytes.
-pub const MAX_NAME_BYTES: usize = 64;
 
 /// What a sort is declared to be.
 #[derive(Clone, Copy)]
@@ -75,7 +75,8 @@ pub(crate) struct Definitions<'a> {
     pub names: Vec<Entry<'a, DataName>>,
 }
 
-/// All definitions, if the structs and their enumerators are within the limits and no recogniser has a function's name.
+/// All definitions, if the structs and their enumerators are within the limits and no recogniser
+/// has a function's name.
 pub(crate) fn read_definitions(
     alloc: Global,
     sorts: &[SortDeclaration],
@@ -102,22 +103,25 @@ pub(crate) fn read_definitions(
     })
 }
 
-/// The definition of a sort, where `number` structs stand before it. The names of its enumerators come to `names`.
+/// The definition of a sort, where `number` structs stand before it. The names of its enumerators
+/// come to `names`.
 fn read_definition<'a>(
     names: &mut Vec<Entry<'a, DataName>>,
     number: usize,
     declaration: &'a SortDeclaration,
 ) -> Result<Definition<'a>, TypeError>
-    requires { number ≤ 255 }
+    requires { number ≤ MAX_STRUCTS }
     ensures { MatchResult result
-        (λ definition. IsDefinition number (sort_declaration_form declaration.now) names.old.items names.new.items definition)
-        (IsAmong (struct_faults number declaration.now.name.place (sort_form declaration.now.sort))) }
+        (λ definition. IsDefinition number
+        (sort_declaration_form declaration.now) names.old.items names.new.items definition)
+        (IsAmong (struct_faults number declaration.now.name.place
+        (sort_form declaration.now.sort))) }
 {
     match &declaration.sort {
         Sort::Struct(enumerators) => {
             let place = declaration.name.place;
             let count = enumerators.len();
-            require(number < MAX_ENUMERATION, TypingRule::Limit, place)?;
+            require(number < MAX_STRUCTS, TypingRule::Limit, place)?;
             require(0 < count, TypingRule::Limit, place)?;
             check_count(enumerators)?;
             let enumeration = Enumeration {
@@ -134,10 +138,12 @@ fn read_definition<'a>(
 /// Whether a struct has few enough enumerators; the fault stands at the one that passes the limit.
 fn check_count(enumerators: &[pb_text_tree::Enumerator]) -> Result<(), TypingFault>
     ensures { MatchResult result
-        (λ _. (limit_faults 255 (own_names (map enumerator_form enumerators.now)) ≡ []) × (length enumerators.now ≤ 255))
-        (Contains (limit_faults 255 (own_names (map enumerator_form enumerators.now)))) }
+        (λ _. (limit_faults MAX_ENUMERATORS (own_names (map enumerator_form enumerators.now)) ≡ [])
+        × (length enumerators.now ≤ MAX_ENUMERATORS))
+        (Contains (limit_faults MAX_ENUMERATORS
+        (own_names (map enumerator_form enumerators.now)))) }
 {
-    match enumerators.get(MAX_ENUMERATION) {
+    match enumerators.get(MAX_ENUMERATORS) {
         None => Ok(()),
         Some(enumerator) => Err(TypingFault {
             rule: TypingRule::Limit,
@@ -152,9 +158,10 @@ fn push_enumerators<'a>(
     enumeration: Enumeration,
     enumerators: &'a [pb_text_tree::Enumerator],
 ) -> Result<(), TypeError>
-    requires { length enumerators.now ≤ 255 }
+    requires { length enumerators.now ≤ MAX_ENUMERATORS }
     ensures { MatchResult result
-        (λ _. HasEnumerators enumeration.sort enumeration.count 0 (map enumerator_form enumerators.now) names.old.items names.new.items)
+        (λ _. HasEnumerators enumeration.sort enumeration.count 0
+        (map enumerator_form enumerators.now) names.old.items names.new.items)
         (IsAmong (flat_map enumerator_faults (map enumerator_form enumerators.now))) }
 {
     for (index, enumerator) in enumerators.iter().enumerate() {
@@ -182,7 +189,8 @@ fn push_recogniser<'a>(
     recogniser: &'a Option<Name>,
 ) -> Result<(), TypeError>
     ensures { MatchResult result
-        (λ _. HasRecogniser position (recogniser_form recogniser.now) names.old.items names.new.items)
+        (λ _. HasRecogniser position
+        (recogniser_form recogniser.now) names.old.items names.new.items)
         (IsAmong (recogniser_faults (recogniser_form recogniser.now))) }
 {
     match recogniser {
@@ -203,9 +211,9 @@ fn push_recogniser<'a>(
     }
 }
 
-/// Whether a name has at most 64 bytes.
+/// Whether a name has at most `MAX_NAME_BYTES` bytes.
 pub(crate) fn is_short(name: &Name) -> bool
-    ensures { result ≡ nat_le (length (named name.now).text) 64 }
+    ensures { result ≡ nat_le (length (named name.now).text) MAX_NAME_BYTES }
 {
     let text = name.text.as_str();
     text.len() <= MAX_NAME_BYTES

@@ -1,5 +1,6 @@
-//! The ends of chains of aliases. What was found of an alias is kept, so that a long chain is followed once and not once
-//! for each alias on it: a text may hold millions of aliases of one another.
+//! The ends of chains of aliases. What was found of an alias is kept, so that a long chain is
+//! followed once and not once for each alias on it: a text may hold millions of aliases of one
+//! another.
 
 ghost use Rattle.std.specs.Prelude.{◌≡◌, ◌≤◌, ◌<◌, ◌+◌, ◌-◌, suc, IfOk, MatchOption, OnOk};
 ghost use Rattle.pb_typing_declarations.specs.Shapes as ends;
@@ -28,7 +29,8 @@ pub(crate) fn read_chains<'a>(
     ranges: &HashMap<&'a str, Range>,
     sorts: &'a [SortDeclaration],
 ) -> Result<HashMap<&'a str, Chain>, AllocError>
-    ensures { IfOk result (λ chains. AreChains (range_in ranges.now) (definition_in definitions.now) chains) }
+    ensures { IfOk result (λ chains. AreChains (range_in ranges.now)
+        (definition_in definitions.now) chains) }
 {
     let mut chains = HashMap::new(alloc);
     for declaration in sorts {
@@ -53,7 +55,8 @@ pub(crate) fn read_bases<'a>(
     read_chains(alloc, definitions, &ranges, sorts)
 }
 
-/// What stands at the end of the chain that begins at a sort. A chain of more than `limit` aliases has no end.
+/// What stands at the end of the chain that begins at a sort. A chain of more than `limit` aliases
+/// has no end.
 pub(crate) fn chain_end<'a>(
     definitions: &HashMap<&'a str, Definition<'a>>,
     ranges: &HashMap<&'a str, Range>,
@@ -62,7 +65,8 @@ pub(crate) fn chain_end<'a>(
     sort: &str,
 ) -> End
     requires { AreChains (range_in ranges.now) (definition_in definitions.now) chains.now }
-    ensures { end_shown result ≡ end_within (suc limit) (range_in ranges.now) (definition_in definitions.now) sort.now }
+    ensures { end_shown result ≡ end_within (suc limit) (range_in ranges.now)
+        (definition_in definitions.now) sort.now }
 {
     match find_chain(definitions, ranges, chains, limit, sort) {
         Some(chain) => chain.end,
@@ -70,8 +74,8 @@ pub(crate) fn chain_end<'a>(
     }
 }
 
-/// The chain that begins at a sort, if it has an end behind at most `limit` aliases. It is followed to its end or to the
-/// first alias that is kept.
+/// The chain that begins at a sort, if it has an end behind at most `limit` aliases. It is followed
+/// to its end or to the first alias that is kept.
 fn find_chain<'a>(
     definitions: &HashMap<&'a str, Definition<'a>>,
     ranges: &HashMap<&'a str, Range>,
@@ -81,8 +85,10 @@ fn find_chain<'a>(
 ) -> Option<Chain>
     requires { AreChains (range_in ranges.now) (definition_in definitions.now) chains.now }
     ensures { MatchOption result
-        (end_within (suc limit) (range_in ranges.now) (definition_in definitions.now) sort.now ≡ ends.Endless)
-        (λ chain. IsChain (range_in ranges.now) (definition_in definitions.now) sort.now chain × (chain.aliases ≤ limit)) }
+        (end_within (suc limit) (range_in ranges.now) (definition_in definitions.now) sort.now
+        ≡ ends.Endless)
+        (λ chain. IsChain (range_in ranges.now) (definition_in definitions.now) sort.now chain
+        × (chain.aliases ≤ limit)) }
 {
     let mut sort = sort;
     let mut left = limit;
@@ -106,11 +112,13 @@ fn find_chain<'a>(
     }
 }
 
-/// A chain with some more aliases before it, if there are at most `limit`. So many of them are `left` for the chain.
+/// A chain with some more aliases before it, if there are at most `limit`. So many of them are
+/// `left` for the chain.
 fn lengthen(chain: Chain, limit: usize, left: usize) -> Option<Chain>
     requires { left ≤ limit }
     ensures { MatchOption result (left < chain.aliases)
-        (λ longer. (longer.end ≡ chain.end) × (longer.aliases ≡ (limit - left) + chain.aliases) × (longer.aliases ≤ limit)) }
+        (λ longer. (longer.end ≡ chain.end) × (longer.aliases ≡ (limit - left) + chain.aliases)
+        × (longer.aliases ≤ limit)) }
 {
     if left < chain.aliases {
         return None;
@@ -131,7 +139,8 @@ fn keep_chain<'a>(
 ) -> Result<(), AllocError>
     requires kept { AreChains (range_in ranges.now) (definition_in definitions.now) chains.old }
     requires chain { IsChain (range_in ranges.now) (definition_in definitions.now) sort.now chain }
-    ensures { OnOk result (AreChains (range_in ranges.now) (definition_in definitions.now) chains.new) }
+    ensures { OnOk result (AreChains (range_in ranges.now)
+        (definition_in definitions.now) chains.new) }
 {
     let mut sort = sort;
     let mut aliases = chain.aliases;

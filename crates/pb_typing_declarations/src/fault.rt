@@ -12,20 +12,22 @@ use std::fmt;
 pub enum TypingRule {
     /// T01: a name that isn't declared where it is used. The place is that of the name.
     UnknownName,
-    /// T02: a name that is declared already, in its own name space. The place is that of the later name, and column 1 of
-    /// the later range line.
+    /// T02: a name that is declared already, in its own name space. The place is that of the later
+    /// name, and column 1 of the later range line.
     NameTwice,
-    /// T03: a sort that isn't there, an alias whose chain has no end, or a range of no integer sort. The place is that
-    /// of the sort's name, of the alias's declared name, and column 1 of the range line.
+    /// T03: a sort that isn't there, an alias whose chain has no end, or a range of no integer
+    /// sort. The place is that of the sort's name, of the alias's declared name, and column 1 of
+    /// the range line.
     UnknownSort,
-    /// T04: a term of the wrong kind. The place is that of the operator, the quantifier, the function name or `val`, and
-    /// for an argument that of its first token.
+    /// T04: a term of the wrong kind. The place is that of the operator, the quantifier, the
+    /// function name or `val`, and for an argument that of its first token.
     WrongKind,
-    /// T05: an integer sort of a variable without a range, or a range that begins below its sort's least value or is
-    /// empty. The place is that of the sort's name, and column 1 of the range line.
+    /// T05: an integer sort of a variable without a range, or a range that begins below its sort's
+    /// least value or is empty. The place is that of the sort's name, and column 1 of the range
+    /// line.
     MissingRange,
-    /// T06: a predicate variable under an odd number of negations, the left side of `=>` counting as one.
-    /// The place is that of the name.
+    /// T06: a predicate variable under an odd number of negations, the left side of `=>` counting
+    /// as one. The place is that of the name.
     OddNegations,
     /// T07: a predicate variable in data. The place is that of the name.
     PredicateInData,
@@ -33,12 +35,14 @@ pub enum TypingRule {
     WrongCount,
     /// T09: a divisor that may be below 1. The place is that of `div` or `mod`.
     Divisor,
-    /// T10: a term whose interval goes beyond 2^62. The place is that of the operator or the function name.
+    /// T10: a term whose interval goes beyond 2^62. The place is that of the operator or the
+    /// function name.
     LargeInterval,
-    /// T11: an argument of `init` outside its carrier. The place is that of the argument's first token.
+    /// T11: an argument of `init` outside its carrier. The place is that of the argument's first
+    /// token.
     OutsideCarrier,
-    /// T12: a limit. The place is that of the declared name that passes it, and for instances that of the predicate
-    /// variable.
+    /// T12: a limit. The place is that of the declared name that passes it, and for instances that
+    /// of the predicate variable.
     Limit,
     /// T13: a quantifier in data where it may not stand. The place is that of the quantifier.
     QuantifierInData,
@@ -128,7 +132,8 @@ impl From<TypingFault> for TypeError {
 
 /// The rule fails at the place unless the test holds.
 pub fn require(test: bool, rule: TypingRule, place: Place) -> Result<(), TypingFault>
-    ensures { MatchResult result (λ _. unless test rule place ≡ []) (Contains (unless test rule place)) }
+    ensures { MatchResult result (λ _. unless test rule place ≡ [])
+        (Contains (unless test rule place)) }
 {
     if test {
         Ok(())

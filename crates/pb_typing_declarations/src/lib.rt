@@ -1,6 +1,6 @@
-//! What a text declares: its sorts with their ranges, enumerators and recognisers, and predicate variables with their
-//! parameters. It stands below whatever reads terms and formulas, which look names up here, and has the errors of all
-//! typing rules.
+//! What a text declares: its sorts with their ranges, enumerators and recognisers, and predicate
+//! variables with their parameters. It stands below whatever reads terms and formulas, which look
+//! names up here, and has the errors of all typing rules.
 #![tactic(auto)]
 
 mod chain;
@@ -17,7 +17,7 @@ mod tables;
 mod variables;
 
 pub use declarations::Declarations;
-pub use definition::{MAX_NAME_BYTES, is_named_function};
+pub use definition::is_named_function;
 pub use fault::{TypeError, TypingFault, TypingRule, require};
 pub use laws::{
     declared_sorts_have_ends, no_faults_where_declared, no_faults_where_variables,

@@ -39,7 +39,8 @@ pub(crate) fn read_ranges(
 /// The bounds of a range that isn't empty.
 fn read_range(range: &pb_text_tree::Range) -> Result<Range, TypingFault>
     ensures { MatchResult result
-        (λ bounds. (empty_faults (range_form range.now) ≡ []) × (range_shown bounds ≡ (range.now.low, range.now.high)))
+        (λ bounds. (empty_faults (range_form range.now) ≡ [])
+        × (range_shown bounds ≡ (range.now.low, range.now.high)))
         (Contains (empty_faults (range_form range.now))) }
 {
     if range.low <= range.high {

@@ -11,8 +11,8 @@ pub enum Integers {
     Int,
 }
 
-/// An enumerator: the number of its struct among the structs in declared order, how many enumerators that struct has,
-/// and the enumerator's place among them. All count from 0.
+/// An enumerator: the number of its struct among the structs in declared order, how many
+/// enumerators that struct has, and the enumerator's place among them. All count from 0.
 #[derive(Clone, Copy, Debug, PartialEq, Eq)]
 pub struct Enumerator {
     pub sort: u8,

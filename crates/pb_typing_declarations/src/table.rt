@@ -17,7 +17,8 @@ pub(crate) fn table<'a, V: Copy>(
     entries: &[Entry<'a, V>],
 ) -> Result<HashMap<&'a str, V>, TypeError>
     ensures { MatchResult result
-        (λ table. (repeated (entry_names entries.now) ≡ []) × ((x : Name) → looked_up table x ≡ first (entry_values entries.now) x))
+        (λ table. (repeated (entry_names entries.now) ≡ [])
+        × ((x : Name) → looked_up table x ≡ first (entry_values entries.now) x))
         (IsAmong (repeated (entry_names entries.now))) }
 {
     let mut table = HashMap::new(alloc);

@@ -1,22 +1,30 @@
 //! Look-up tables of what a text declares, and the check of its declarations by them.
 
-ghost use Rattle.std.specs.Prelude.{◌≡◌, ◌+◌, ◌≤◌, nat_le, [], None, map, flat_map, Contains, MatchResult, IfOk};
+ghost use Rattle.std.specs.Prelude.{◌≡◌, ◌+◌, ◌≤◌, nat_le, [], None, map, flat_map, Contains};
+ghost use Rattle.std.specs.Prelude.{MatchResult, IfOk};
 ghost use Rattle.pb_carriers.specs.Carrier.{tuple_count};
 ghost use Rattle.pb_sorts.specs.Carrier.{values_of};
 ghost use Rattle.pb_sorts.specs.Layout.{lists_of};
-ghost use Rattle.pb_text_tree.specs.Form.{spec_form, sort_declaration_form, range_form, equation_form, named};
+ghost use Rattle.pb_text_tree.specs.Form.{spec_form, sort_declaration_form, range_form};
+ghost use Rattle.pb_text_tree.specs.Form.{equation_form, named};
 ghost use Rattle.pb_text_meaning.specs.Erase.{erase};
 ghost use Rattle.pb_typing_declarations.specs.Faults.{unless, IsAmong};
 ghost use Rattle.pb_typing_declarations.specs.Shapes.{end_of, base_of, is_sort};
 ghost use Rattle.pb_typing_declarations.specs.Enumerators.{enumerator_of, recogniser_of};
 ghost use Rattle.pb_typing_declarations.specs.Tables.{entry_names};
-ghost use Rattle.pb_typing_declarations.specs.Entries.{end_shown, as_enumerator, as_recogniser, definition_in, range_in};
+ghost use Rattle.pb_typing_declarations.specs.Entries.{end_shown, as_enumerator, as_recogniser};
+ghost use Rattle.pb_typing_declarations.specs.Entries.{definition_in, range_in};
 ghost use Rattle.pb_typing_declarations.specs.Chains.{AreChains};
 ghost use Rattle.pb_typing_declarations.specs.Variables.{variables_of};
 ghost use Rattle.pb_typing_declarations.specs.Agreement.{Agree, equation_place};
-ghost use Rattle.pb_typing_declarations.specs.Reading.{AreEquations, IsCarrier, HasVariables, HasParameters, AddsInstances, HasCarriers};
+ghost use Rattle.pb_typing_declarations.specs.Reading.{AreEquations, IsCarrier, HasVariables};
+ghost use Rattle.pb_typing_declarations.specs.Reading.{HasParameters, AddsInstances, HasCarriers};
 ghost use Rattle.pb_typing_declarations.specs.WellDeclared.{HaveEnds};
-ghost use Rattle.pb_typing_declarations.specs.Declarations.{tables_faults, checks_faults, sort_faults, range_faults, limit_faults, use_faults, variables_faults, equation_faults, equations_faults_behind};
+ghost use Rattle.pb_typing_declarations.specs.Declarations.{tables_faults, checks_faults};
+ghost use Rattle.pb_typing_declarations.specs.Declarations.{sort_faults, range_faults};
+ghost use Rattle.pb_typing_declarations.specs.Declarations.{limit_faults, use_faults};
+ghost use Rattle.pb_typing_declarations.specs.Declarations.{variables_faults, equation_faults};
+ghost use Rattle.pb_typing_declarations.specs.Declarations.{equations_faults_behind};
 
 use crate::chain::{End, is_built_in};
 use crate::definition::{DataName, Definition, is_short, read_definitions};
@@ -48,7 +56,8 @@ pub(crate) struct Tables<'a> {
 }
 
 impl<'a> Tables<'a> {
-    /// The tables of a text, if no name is declared twice, structs are within their limits and no range is empty.
+    /// The tables of a text, if no name is declared twice, structs are within their limits and no
+    /// range is empty.
     pub fn read(alloc: Global, spec: &'a Spec) -> Result<Tables<'a>, TypeError>
         ensures { MatchResult result
             (λ tables. (tables.spec.now ≡ spec.now) × (tables_faults (spec_form spec.now) ≡ []))
@@ -93,8 +102,10 @@ impl<'a> Tables<'a> {
 
     /// What a name in data is declared to be.
     pub fn data_name(&self, name: &str) -> Option<DataName>
-        ensures enumerators { as_enumerator result ≡ enumerator_of (erase (spec_form self.now.spec.now)) name.now }
-        ensures recognisers { as_recogniser result ≡ recogniser_of (erase (spec_form self.now.spec.now)) name.now }
+        ensures enumerators { as_enumerator result
+            ≡ enumerator_of (erase (spec_form self.now.spec.now)) name.now }
+        ensures recognisers { as_recogniser result
+            ≡ recogniser_of (erase (spec_form self.now.spec.now)) name.now }
     {
         self.names.get(name).copied()
     }
@@ -122,8 +133,10 @@ impl<'a> Tables<'a> {
 
     fn check_sorts(&self, alloc: Global, sorts: &[SortDeclaration]) -> Result<(), TypingFault>
         ensures { MatchResult result
-            (λ _. flat_map (sort_faults (erase (spec_form self.now.spec.now))) (map sort_declaration_form sorts.now) ≡ [])
-            (Contains (flat_map (sort_faults (erase (spec_form self.now.spec.now))) (map sort_declaration_form sorts.now))) }
+            (λ _. flat_map (sort_faults (erase (spec_form self.now.spec.now)))
+            (map sort_declaration_form sorts.now) ≡ [])
+            (Contains (flat_map (sort_faults (erase (spec_form self.now.spec.now)))
+            (map sort_declaration_form sorts.now))) }
     {
         for declaration in sorts {
             self.check_sort(alloc, declaration)?;
@@ -134,8 +147,10 @@ impl<'a> Tables<'a> {
     /// A sort isn't a built-in one; an alias's target is a sort, and its chain has an end.
     fn check_sort(&self, alloc: Global, declaration: &SortDeclaration) -> Result<(), TypingFault>
         ensures { MatchResult result
-            (λ _. sort_faults (erase (spec_form self.now.spec.now)) (sort_declaration_form declaration.now) ≡ [])
-            (Contains (sort_faults (erase (spec_form self.now.spec.now)) (sort_declaration_form declaration.now))) }
+            (λ _. sort_faults (erase (spec_form self.now.spec.now))
+            (sort_declaration_form declaration.now) ≡ [])
+            (Contains (sort_faults (erase (spec_form self.now.spec.now))
+            (sort_declaration_form declaration.now))) }
     {
         let name = &declaration.name;
         require(!is_built_in(&name.text), TypingRule::NameTwice, name.place)?;
@@ -162,8 +177,10 @@ impl<'a> Tables<'a> {
     fn check_ranges(&self, alloc: Global, ranges: &[pb_text_tree::Range]) -> Result<(), TypingFault>
         requires { HaveEnds (erase (spec_form self.now.spec.now)) }
         ensures { MatchResult result
-            (λ _. flat_map (range_faults (erase (spec_form self.now.spec.now))) (map range_form ranges.now) ≡ [])
-            (Contains (flat_map (range_faults (erase (spec_form self.now.spec.now))) (map range_form ranges.now))) }
+            (λ _. flat_map (range_faults (erase (spec_form self.now.spec.now)))
+            (map range_form ranges.now) ≡ [])
+            (Contains (flat_map (range_faults (erase (spec_form self.now.spec.now)))
+            (map range_form ranges.now))) }
     {
         for range in ranges {
             self.check_range(alloc, range)?;
@@ -187,8 +204,8 @@ impl<'a> Tables<'a> {
         )
     }
 
-    /// The carriers of each equation's parameters, if its predicate variable is as it must be and there are few enough
-    /// instances.
+    /// The carriers of each equation's parameters, if its predicate variable is as it must be and
+    /// there are few enough instances.
     pub fn carriers(
         &self,
         alloc: Global,
@@ -196,8 +213,10 @@ impl<'a> Tables<'a> {
     ) -> Result<Vec<Vec<Carrier>>, TypeError>
         requires { HaveEnds (erase (spec_form self.now.spec.now)) }
         ensures { MatchResult result
-            (λ carriers. HasCarriers (erase (spec_form self.now.spec.now)) 0 (map equation_form equations.now) (lists_of carriers.items))
-            (IsAmong (equations_faults_behind (erase (spec_form self.now.spec.now)) 0 (map equation_form equations.now))) }
+            (λ carriers. HasCarriers (erase (spec_form self.now.spec.now)) 0
+            (map equation_form equations.now) (lists_of carriers.items))
+            (IsAmong (equations_faults_behind (erase (spec_form self.now.spec.now)) 0
+            (map equation_form equations.now))) }
     {
         let mut carriers = Vec::new(alloc);
         let mut count = 0;
@@ -213,8 +232,10 @@ impl<'a> Tables<'a> {
     fn parameters(&self, alloc: Global, equation: &Equation) -> Result<Vec<Carrier>, TypeError>
         requires { HaveEnds (erase (spec_form self.now.spec.now)) }
         ensures { MatchResult result
-            (λ carriers. HasParameters (erase (spec_form self.now.spec.now)) (equation_form equation.now) carriers.items)
-            (IsAmong (equation_faults (erase (spec_form self.now.spec.now)) (equation_form equation.now))) }
+            (λ carriers. HasParameters (erase (spec_form self.now.spec.now))
+            (equation_form equation.now) carriers.items)
+            (IsAmong (equation_faults (erase (spec_form self.now.spec.now))
+            (equation_form equation.now))) }
     {
         let name = &equation.name;
         require(is_short(name), TypingRule::Limit, name.place)?;
@@ -223,7 +244,8 @@ impl<'a> Tables<'a> {
         self.variable_carriers(alloc, &variables)
     }
 
-    /// The carriers of one list of variables, if no name stands twice in it and each sort has values.
+    /// The carriers of one list of variables, if no name stands twice in it and each sort has
+    /// values.
     pub fn variable_carriers(
         &self,
         alloc: Global,
@@ -231,8 +253,10 @@ impl<'a> Tables<'a> {
     ) -> Result<Vec<Carrier>, TypeError>
         requires { HaveEnds (erase (spec_form self.now.spec.now)) }
         ensures { MatchResult result
-            (λ carriers. HasVariables (erase (spec_form self.now.spec.now)) (variables_of variables.now) carriers.items)
-            (IsAmong (variables_faults (erase (spec_form self.now.spec.now)) (variables_of variables.now))) }
+            (λ carriers. HasVariables (erase (spec_form self.now.spec.now))
+            (variables_of variables.now) carriers.items)
+            (IsAmong (variables_faults (erase (spec_form self.now.spec.now))
+            (variables_of variables.now))) }
     {
         table(alloc, variables)?;
         let mut carriers = Vec::new(alloc);
@@ -267,7 +291,8 @@ fn add_instances(count: u32, parameters: &[Carrier], place: Place) -> Result<u32
     requires { count ≤ MAX_INSTANCES }
     ensures { MatchResult result
         (λ sum. AddsInstances count (map values_of parameters.now) place sum)
-        (Contains (unless (nat_le (count + tuple_count (map values_of parameters.now)) MAX_INSTANCES) TypingRule.Limit place)) }
+        (Contains (unless (nat_le (count + tuple_count
+        (map values_of parameters.now)) MAX_INSTANCES) TypingRule.Limit place)) }
 {
     match count_tuples(parameters) {
         Some(size) if count + size <= MAX_INSTANCES => Ok(count + size),
@@ -283,7 +308,8 @@ fn equation_entries(
     alloc: Global,
     equations: &[Equation],
 ) -> Result<Vec<Entry<'_, usize>>, AllocError>
-    ensures { IfOk result (λ entries. AreEquations (map equation_form equations.now) entries.items) }
+    ensures { IfOk result (λ entries. AreEquations
+        (map equation_form equations.now) entries.items) }
 {
     let mut entries = Vec::new(alloc);
     for (index, equation) in equations.iter().enumerate() {

@@ -26,7 +26,8 @@ fn push_group<'a>(
     variables: &mut Vec<Entry<'a, &'a Name>>,
     group: &'a Variables,
 ) -> Result<(), AllocError>
-    ensures { OnOk result (variables_of variables.new.items ≡ variables_of variables.old.items ++ variables_form group.now) }
+    ensures { OnOk result (variables_of variables.new.items
+        ≡ variables_of variables.old.items ++ variables_form group.now) }
 {
     for name in group.names.iter() {
         variables.push(Entry {

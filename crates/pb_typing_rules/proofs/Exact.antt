@@ -24,7 +24,7 @@ use Rattle.pb_typing_rules.specs.Term.{shape, shapes, passes, IsNamed, IsApplied
 use Rattle.pb_typing_rules.specs.Formula.{count, AreArguments, IsCalled, IsProper}
 use Rattle.pb_typing_rules.specs.Faults.{unknown_faults, name_faults, operator_faults, function_faults, term_faults, terms_faults, argument_faults, called_faults, instance_faults, left_parity, formula_faults}
 use Rattle.pb_typing_declarations.proofs.Parts.{no_parts, no_whole, holds_unless, unless_holds}
-use Rattle.pb_typing_rules.proofs.Declared.{variables_clear, clear_variables}
+use Rattle.pb_typing_declarations.proofs.ExactParts.{variables, variables_clear}
 
 -- ---- operators
 
@@ -143,7 +143,7 @@ mutual
       let u = no_parts _ _ r.1 in
       let v = no_parts _ _ u.1 in (
         holds_unless _ _ _ r.0,
-        clear_variables spec xs ends u.0,
+        variables spec xs ends u.0,
         typed spec ends stands (bound spec (erased_variables xs) scope) x v.0,
         holds_unless _ _ _ v.1,
       )
@@ -242,7 +242,7 @@ proper spec ends even scope (FormulaForm.negation p f) e = proper spec ends (not
 proper spec ends even scope (FormulaForm.connected c p f g) e =
     let q = no_parts _ _ e in join_proper spec c even scope p f g (proper spec ends (left_parity c even) scope f q.0) (proper spec ends even scope g q.1)
 proper spec ends even scope (FormulaForm.quantified q p xs f) e =
-    let r = no_parts _ _ e in (clear_variables spec xs ends r.0, proper spec ends even (bound spec (erased_variables xs) scope) f r.1)
+    let r = no_parts _ _ e in (variables spec xs ends r.0, proper spec ends even (bound spec (erased_variables xs) scope) f r.1)
 
 pub formula_clear : (spec : Spec) (even : Bool) (scope : Scope) (f : FormulaForm) → IsProper spec even scope (erased_formula f) → formula_faults spec even scope f ≡ []
 formula_clear spec even scope (FormulaForm.constant p b) h = refl

@@ -1,4 +1,3 @@
-pub mod Declared
 pub mod Values
 pub mod Names
 pub mod Operations

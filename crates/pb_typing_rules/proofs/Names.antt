@@ -11,10 +11,10 @@ use Rattle.pb_carriers.specs.Carrier.{contains}
 use Rattle.pb_text_meaning.specs.Fits.{FitsFor}
 use Rattle.pb_typing_declarations.specs.Shapes.{Shape, Places, first, number_behind, sort_shape}
 use Rattle.pb_typing_declarations.specs.Enumerators.{Position, positioned, enumerators_from, enumerators_in, all_enumerators, enumerator_of, position_shape, enumerator_shape}
+use Rattle.pb_typing_declarations.proofs.ShapeLaws.{shape_carrier-sort_shape}
 use Rattle.pb_typing_rules.specs.Shapes.{IsValueOf}
 use Rattle.pb_typing_rules.specs.Scope.{Scope, declare, bound, or_else, named_shape, Agree, Within}
 use Rattle.pb_typing_rules.specs.Term.{shape_or_unknown, IsNamed}
-use Rattle.pb_typing_rules.proofs.Declared.{shape_is_carrier}
 use Rattle.pb_typing_rules.proofs.Values.{Contained, bounded_value, carrier_value}
 
 -- ---- enumerators
@@ -81,7 +81,7 @@ within_declared a scope y s v h within = λ x. by_test x (same_name y x)
     by_test x false = within x
 
 pub sort_value : (spec : Spec) (s : Name) (v : ℤ) → contains (carrier_of spec s) v ≡ true → IsValueOf (sort_shape spec s) v
-sort_value spec s v e = carrier_value (sort_shape spec s) v (subst (λ c. contains c v ≡ true) (sym (shape_is_carrier spec s)) e)
+sort_value spec s v e = carrier_value (sort_shape spec s) v (subst (λ c. contains c v ≡ true) (sym (shape_carrier-sort_shape spec s)) e)
 
 -- a fact of each assignment within the variables' scope
 pub for_variables : (spec : Spec) (xs : List Variable) (scope : Scope) (a : Assignment) (P : Assignment → Type 0) → Within a scope → ((b : Assignment) → Within b (bound spec xs scope) → P b) → FitsFor spec xs P a

@@ -16,7 +16,7 @@ use Rattle.pb_typing_rules.specs.Shapes.{may_be_whole, may_be_alike, IsValueOf, 
 use Rattle.pb_typing_rules.specs.Term.{IsOperation}
 use Rattle.pb_typing_rules.proofs.Values.{Contained, whole_value, truth_value}
 
-not_or : (a b : Bool) → a ≡ true → (not a || b) ≡ true → b ≡ true
+pub not_or : (a b : Bool) → a ≡ true → (not a || b) ≡ true → b ≡ true
 not_or true b p e = e
 not_or false b p e = absurd (true≢false (sym p))
 

@@ -3,6 +3,7 @@ use Rattle.std.proofs.Common.{◌≡◌, ℕ, zero, suc, ◌<◌, ◌≤◌, Boo
 use Rattle.std.specs.Prelude.{⊤, All, ℤ, pos, ◌≤ℤ◌, ◌+ℤ◌, ◌-ℤ◌, codes}
 use Rattle.std.specs.Option.{IfSome}
 use Rattle.std.proofs.lemmas.Int.{ints}
+use Rattle.std.proofs.lemmas.List.Elements.{All-head, All-tail}
 use Rattle.pb_carriers.specs.Carrier.{at_least_none, interval, numbers_from}
 use Rattle.pb_sorts.proofs.Intervals.{length-numbers_from, count-interval}
 use Rattle.pb_text_meaning.specs.Syntax.{Name, same_name, Sort, Struct, Alias, SortDeclaration, Range, Spec}
@@ -11,8 +12,7 @@ use Rattle.pb_typing_declarations.specs.declared.sorts.Integers.{Integers}
 use Rattle.pb_typing_declarations.specs.declared.sorts.Integers.TheVariants as integers
 use Rattle.pb_typing_declarations.specs.Shapes.{shape_carrier, Definition, Structure, Renaming, definition_of, definitions_from, definitions, number_behind, first, Bounds, range_bounds, End, Unranged, Undeclared, built_in_integers, end_by, end_within, end_of, end_shape}
 use Rattle.pb_typing_declarations.specs.WellDeclared.{IsDeclared, IsDefined, IsRanged, has_shape}
-use Rattle.pb_typing_declarations.proofs.Exact.{all_head, all_tail}
-use Rattle.pb_typing_rules.proofs.Declared.{shape_is_carrier}
+use Rattle.pb_typing_declarations.proofs.ShapeLaws.{shape_carrier-sort_shape}
 
 -- ---- what is declared
 
@@ -25,10 +25,10 @@ HasEnumerators (Renaming s) = ⊤
 
 ordered_bounds : (spec : Spec) (rs : List Range) (s : Name) → All (IsRanged spec) rs → IfSome (first (range_bounds rs) s) IsOrdered
 ordered_bounds spec [] s all = tt
-ordered_bounds spec (r ∷ rs) s all = by_test (same_name r.name s) (ordered_bounds spec rs s (all_tail (IsRanged spec) r rs all))
+ordered_bounds spec (r ∷ rs) s all = by_test (same_name r.name s) (ordered_bounds spec rs s (All-tail (IsRanged spec) r rs all))
   where
     by_test : (b : Bool) → IfSome (first (range_bounds rs) s) IsOrdered → IfSome (cond b (Some (r.low, r.high)) (first (range_bounds rs) s)) IsOrdered
-    by_test true rest = (all_head (IsRanged spec) r rs all).order
+    by_test true rest = (All-head (IsRanged spec) r rs all).order
     by_test false rest = rest
 
 abbrev Defined : Spec → SortDeclaration → Type 0
@@ -41,11 +41,11 @@ some_enumerators spec n s (Alias t) h = tt
 definition_enumerators : (spec : Spec) (n : ℕ) (ds : List SortDeclaration) (s : Name) → All (Defined spec) ds → IfSome (first (definitions_from n ds) s) HasEnumerators
 definition_enumerators spec n [] s all = tt
 definition_enumerators spec n (d ∷ ds) s all =
-    by_test (same_name d.name s) (definition_enumerators spec (number_behind n d.sort) ds s (all_tail (Defined spec) d ds all))
+    by_test (same_name d.name s) (definition_enumerators spec (number_behind n d.sort) ds s (All-tail (Defined spec) d ds all))
   where
     by_test : (b : Bool) → IfSome (first (definitions_from (number_behind n d.sort) ds) s) HasEnumerators
         → IfSome (cond b (Some (definition_of n d.sort)) (first (definitions_from (number_behind n d.sort) ds) s)) HasEnumerators
-    by_test true rest = some_enumerators spec n d.name d.sort (all_head (Defined spec) d ds all)
+    by_test true rest = some_enumerators spec n d.name d.sort (All-head (Defined spec) d ds all)
     by_test false rest = rest
 
 -- ---- ends of chains
@@ -87,6 +87,6 @@ within_value (suc n) bounds definition r e s =
 -- a sort with an end has a value
 pub some_value : (spec : Spec) (s : Name) → IsDeclared spec → has_shape (end_of spec s) ≡ true → 1 ≤ length (carrier_of spec s)
 some_value spec s d h =
-    subst (λ c. 1 ≤ length c) (shape_is_carrier spec s)
+    subst (λ c. 1 ≤ length c) (shape_carrier-sort_shape spec s)
     (within_value (suc (length spec.sorts)) (first (range_bounds spec.ranges)) (first (definitions spec))
     (λ t. ordered_bounds spec spec.ranges t d.ranged) (λ t. definition_enumerators spec 0 spec.sorts t d.defined) s h)

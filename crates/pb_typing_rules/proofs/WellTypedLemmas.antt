@@ -4,6 +4,7 @@ use Rattle.std.specs.Prelude.{All}
 use Rattle.std.specs.List.{Contains}
 use Rattle.std.specs.Option.{IfSome}
 use Rattle.std.proofs.lemmas.Bool.{and_parts}
+use Rattle.std.proofs.lemmas.List.Elements.{All-head, All-tail}
 use Rattle.pb_text_tree.specs.Form.{ArgumentForms, no_arguments, argument, EquationForm, SpecForm}
 use Rattle.pb_carriers.specs.Carrier.{Carrier, Value, is_within, contains}
 use Rattle.pb_text_meaning.specs.Syntax.{Name, same_name, Variable, Equation, Spec}
@@ -17,13 +18,13 @@ use Rattle.pb_typing_declarations.specs.declared.fault.TypeError.TheVariants.{Me
 use Rattle.pb_typing_declarations.specs.Faults.{IsAmong}
 use Rattle.pb_typing_declarations.specs.Declarations.{declaration_faults}
 use Rattle.pb_typing_declarations.specs.WellDeclared.{HaveEnds, IsDeclared}
-use Rattle.pb_typing_declarations.proofs.Exact.{all_head, all_tail}
 use Rattle.pb_typing_rules.specs.Scope.{outermost, bound}
 use Rattle.pb_typing_rules.specs.Formula.{count, IsCalled}
 use Rattle.pb_typing_rules.specs.Faults.{instance_faults, right_faults, may_have, value_faults, parameters_named, and_then, faults}
 use Rattle.pb_typing_rules.specs.WellTyped.{AreProper, IsWellTyped}
-use Rattle.pb_typing_rules.proofs.Declared.{clear_declarations, declarations_clear, declared_ends}
 use Rattle.pb_typing_declarations.proofs.Parts.{no_parts, no_whole, holds_unless, unless_holds}
+use Rattle.pb_typing_declarations.proofs.DeclaredEnds.{faultless_ends}
+use Rattle.pb_typing_declarations.proofs.DeclaredLaw as declaration
 use Rattle.pb_typing_rules.proofs.SortValues.{some_value}
 use Rattle.pb_typing_rules.proofs.Exact.{proper, formula_clear, instance_proper, instance_clear}
 
@@ -58,9 +59,9 @@ within_of_clear spec no_arguments (x ∷ xs) some n e = absurd (omega (arith, n)
 within_of_clear spec (argument p y es) [] some n e = absurd (omega (arith, n))
 within_of_clear spec (argument p y es) (x ∷ xs) some n e =
     let q = no_parts _ _ e in
-    let here = sym (may_have_of_some (carrier_of spec x.sort) (value spec [] (erased_term y)) (all_head (HasValues spec) x xs some)) ∙ holds_unless _ _ _ q.0 in
+    let here = sym (may_have_of_some (carrier_of spec x.sort) (value spec [] (erased_term y)) (All-head (HasValues spec) x xs some)) ∙ holds_unless _ _ _ q.0 in
     ap (λ b. b && is_within (carriers_of spec xs) (values spec [] (erased_arguments es))) here
-    ∙ within_of_clear spec es xs (all_tail (HasValues spec) x xs some) (omega (arith, n)) q.1
+    ∙ within_of_clear spec es xs (All-tail (HasValues spec) x xs some) (omega (arith, n)) q.1
 
 values_clear : (spec : Spec) (es : ArgumentForms) (xs : List Variable) → is_within (carriers_of spec xs) (values spec [] (erased_arguments es)) ≡ true → value_faults spec es xs ≡ []
 values_clear spec no_arguments xs e = refl
@@ -76,10 +77,10 @@ HaveValues spec X = All (HasValues spec) X.parameters
 -- an equation's parameters have values, where it is declared as it must be
 equation_values : (spec : Spec) (x : Name) (E : List Equation) → All (HaveValues spec) E → IfSome (equation_named E x) (HaveValues spec)
 equation_values spec x [] all = tt
-equation_values spec x (X ∷ E) all = by_test (same_name X.name x) (equation_values spec x E (all_tail (HaveValues spec) X E all))
+equation_values spec x (X ∷ E) all = by_test (same_name X.name x) (equation_values spec x E (All-tail (HaveValues spec) X E all))
   where
     by_test : (b : Bool) → IfSome (equation_named E x) (HaveValues spec) → IfSome (cond b (Some X) (equation_named E x)) (HaveValues spec)
-    by_test true rest = all_head (HaveValues spec) X E all
+    by_test true rest = All-head (HaveValues spec) X E all
     by_test false rest = rest
 
 parameters_values : (spec : Spec) → IsDeclared spec → All (HaveValues spec) spec.equations
@@ -111,9 +112,9 @@ well_typed text e =
     let q = no_parts (declaration_faults text) _ e in
     let r = no_parts (right_faults spec text.equations) _ q.1 in
     let u = and_then_parts (instance_faults spec true outermost i) _ r.1 in
-    let ends = declared_ends text q.0 in
+    let ends = faultless_ends text q.0 in
     let initial = instance_proper spec ends true outermost i u.0 in
-    let declared = clear_declarations text q.0 in
+    let declared = declaration.declared text q.0 in
     let some = equation_values spec i.name.text spec.equations (parameters_values spec declared) in
     record {
       declarations = declared;
@@ -126,7 +127,7 @@ pub faultless : (text : SpecForm) → IsWellTyped (erase text) → faults text �
 faultless text h =
     let spec = erase text in
     let i = text.initial in
-    no_whole (declaration_faults text) _ (declarations_clear text h.declarations)
+    no_whole (declaration_faults text) _ (declaration.faultless text h.declarations)
     (no_whole (right_faults spec text.equations) _ (rights_clear spec text.equations h.rights)
     (and_then_whole (instance_faults spec true outermost i) _ (instance_clear spec true outermost i h.initial)
     (instance_values_clear spec i.arguments (equation_named spec.equations i.name.text) h.values)))

@@ -1,4 +1,5 @@
-//! Laws of kinds and intervals. The functions do nothing: each law stands on its function's contract.
+//! Laws of kinds and intervals. The functions do nothing: each law stands on its function's
+//! contract.
 
 ghost use Rattle.std.specs.Prelude.{◌≡◌, ◌↔◌, Bool, []};
 ghost use Rattle.pb_text_tree.specs.Form.{SpecForm};
@@ -14,12 +15,17 @@ ghost use Rattle.pb_typing_rules.specs.Scope.{Scope, Within};
 ghost use Rattle.pb_typing_rules.specs.Shapes.{IsValueOf};
 ghost use Rattle.pb_typing_rules.specs.Term.{IsTyped, shape};
 
-/// Where each variable has a value of its shape, the value of a well-typed term is one of the term's shape, each value
-/// on the way lies within 2^62, and no divisor is below 1. So does each term of a well-typed formula.
+/// Where each variable has a value of its shape, the value of a well-typed term is one of the
+/// term's shape, each value on the way lies within 2^62, and no divisor is below 1. So does each
+/// term of a well-typed formula.
 pub fn values_are_contained()
-    ensures term { (spec : Spec) (stands : Bool) (scope : Scope) (a : Assignment) (x : Term) → Within a scope → IsTyped spec stands scope x → IsValueOf (shape spec scope x) (value spec a x) }
-    ensures fits { (spec : Spec) (stands : Bool) (scope : Scope) (a : Assignment) (x : Term) → Within a scope → IsTyped spec stands scope x → Fits spec a x }
-    ensures formula_fits { (spec : Spec) (even : Bool) (scope : Scope) (a : Assignment) (f : Formula) → Within a scope → IsProper spec even scope f → FormulaFits spec a f }
+    ensures term { (spec : Spec) (stands : Bool) (scope : Scope) (a : Assignment) (x : Term)
+        → Within a scope → IsTyped spec stands scope x
+        → IsValueOf (shape spec scope x) (value spec a x) }
+    ensures fits { (spec : Spec) (stands : Bool) (scope : Scope) (a : Assignment) (x : Term)
+        → Within a scope → IsTyped spec stands scope x → Fits spec a x }
+    ensures formula_fits { (spec : Spec) (even : Bool) (scope : Scope) (a : Assignment)
+        (f : Formula) → Within a scope → IsProper spec even scope f → FormulaFits spec a f }
 {}
 
 /// A text has no fault exactly where what it says is well typed.
@@ -27,7 +33,8 @@ pub fn no_faults_where_well_typed()
     ensures { (text : SpecForm) → (faults text ≡ []) ↔ IsWellTyped (erase text) }
 {}
 
-/// Each term of a well-typed specification fits, whatever instance is looked at, and each right side is positive.
+/// Each term of a well-typed specification fits, whatever instance is looked at, and each right
+/// side is positive.
 pub fn well_typed_specifications_fit()
     ensures fits { (spec : Spec) → IsWellTyped spec → SpecFits spec }
     ensures positive { (spec : Spec) → IsWellTyped spec → ArePositive spec.equations }

@@ -1,6 +1,7 @@
-use Rattle.std.proofs.Common.{◌≡◌, ◌<◌, ◌++◌, ◌∙◌, sym, ap, subst, arith, SFits, w64, to_z, of_z, to_z-of_z, List, ℕ, ℤ, length, get_or, string_bytes, Bool, true, false, IsTrue, refl, true≢false}
+use Rattle.std.proofs.Common.{◌≡◌, ◌<◌, ◌++◌, ◌∙◌, sym, ap, subst, arith, SFits, w64, to_z, of_z, to_z-of_z, List, ℕ, ℤ, length, get_or, string_bytes, true, false, true≢false}
 use Rattle.std.proofs.lemmas.List.{length_push}
 use Rattle.std.proofs.lemmas.Option.{slice_get_within}
+use Rattle.std.proofs.lemmas.Bool.{false_from_ne_true}
 use Rattle.pb_typing_declarations.specs.View.{spec_of}
 use Rattle.pb_sorts.specs.Instance.{instances}
 use Rattle.pb_sorts.specs.Layout.{carriers_of}
@@ -14,10 +15,6 @@ use Rattle.pb_evaluation.specs.Scope.{assignment_of}
 use Rattle.pb_evaluation.proofs.Arguments.{argument_fits}
 use Rattle.pb_evaluation.proofs.Called.{called, wrong_length, counted, not_counted, length-values, values_more, values_all}
 use Rattle.pb_evaluation.proofs.formula.instance_truth.Goals as goal
-
-not_true : (b : Bool) → (IsTrue b → ⊥) → b ≡ false
-not_true true h = absurd (h refl)
-not_true false h = refl
 
 pub returns-then-carriers-len : goal.returns-then-carriers-len
 returns-then-carriers-len c =
@@ -105,4 +102,4 @@ returns c =
     let all = values_all S a xs c.loop-argument.argument-index c.loop-argument.values.items vs (omega (arith, c.loop-argument-test.false, ap length c.deref-argument-items.ensures.value)) c.loop-argument.invariant.so_far in
     sym (called S truths name vs k at
     ∙ (ap (λ (ws : List ℤ). truth_at (all_carriers S) truths (record { equation = k; values = ws })) (sym all)
-    ∙ not_counted c.args.environment.now.layout.now (all_carriers S) truths (record { equation = k; values = c.loop-argument.values.items }) c.args.environment.now.laid_out (not_true _ (λ h. true≢false (sym (c.in-None.ensures.exists.1 h))))))
+    ∙ not_counted c.args.environment.now.layout.now (all_carriers S) truths (record { equation = k; values = c.loop-argument.values.items }) c.args.environment.now.laid_out (false_from_ne_true _ (λ h. true≢false (sym (c.in-None.ensures.exists.1 h))))))

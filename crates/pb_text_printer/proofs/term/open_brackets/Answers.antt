@@ -1,6 +1,7 @@
-use Rattle.std.proofs.Common.{List, ◌∙◌, sym, ap, refl, Bool}
+use Rattle.std.proofs.Common.{List, ◌∙◌, sym, ap, refl}
 use Rattle.pb_text_tree.specs.declared.term.ArithmeticLink.{ArithmeticLink}
 use Rattle.pb_text_tree.specs.Form.{arithmetic_links}
+use Rattle.pb_text_printer.specs.declared.level.Bracketing.{Bracketing}
 use Rattle.pb_text_printer.specs.Page.{after, page}
 use Rattle.pb_text_printer.specs.Words.{open_word}
 use Rattle.pb_text_printer.specs.Parts.{opened, bracket}
@@ -14,7 +15,7 @@ loop-link-init c = refl
 pub loop-link-preserved : goal.loop-link-preserved
 loop-link-preserved c =
     opened-next c.loop-link.before c.args.links.now c.loop-link.link-index c.link-item.result (page c.loop-link.out) (page c.open_bracket.new.out) c.loop-link-test.true c.link-item.is
-    (c.in_ok-open_bracket.ensures ∙ ap (λ (b : Bool). after (bracket b open_word) (page c.loop-link.out)) c.continues.ensures)
+    (c.in_ok-open_bracket.ensures ∙ ap (λ (b : Bracketing). after (bracket b open_word) (page c.loop-link.out)) c.left_bracketing.ensures)
     ∙ c.loop-link.invariant
 
 pub returns : goal.returns

@@ -1,17 +1,17 @@
-use Rattle.std.proofs.Common.{rules, ℕ, arith, ◌≡◌, ◌<◌, ◌-◌, suc, length, map, true, false, vec_len, [], ◌∙◌, ap, sym, subst, refl, Ok}
+use Rattle.std.proofs.Common.{rules, arith, ◌≡◌, ◌<◌, ◌-◌, suc, length, map, true, false, vec_len, [], ◌∙◌, ap, refl, Ok}
 use Rattle.std.proofs.lemmas.Result.{err_from_is_err_and}
+use Rattle.std.proofs.lemmas.List.{map_push}
 use Rattle.pb_text_tree.specs.declared.operator.Connective.TheVariants.{And, Or}
 use Rattle.pb_text_tree.specs.Form.{TermForm, instance_form, named, term_form, term_links, arithmetic_links}
 use Rattle.pb_text_lexer.specs.declared.kind.Kind.TheVariants as k
 use Rattle.pb_text_lexer.specs.Kinds.{same_kind}
-use Rattle.pb_text_lexer.specs.Steps.{Outcome, Gives, kind, take_operator, take_token, nothing_between}
+use Rattle.pb_text_lexer.specs.Steps.{kind, take_operator, take_token, nothing_between}
 use Rattle.pb_text_lexer.specs.Tokens.{tok}
 use Rattle.pb_text_lexer.proofs.LoopLemmas.{fails-as, gathered-more, gathered-end, gathered-item-fails, resumed-first, resumed-first-fails, resumed-more, resumed-end, resumed-operator-fails, resumed-operand-fails}
 use Rattle.pb_text_terms.specs.declared.operator.Operators.TheVariants.{Additive, Times, Division}
 use Rattle.pb_text_terms.specs.Operators.{symbol, is_connective, is_equality, is_order, is_additive, is_times, is_division, is_quantifier, is_operator, compared_by, arithmetic_of}
-use Rattle.pb_text_terms.specs.Reading.{closed, unary, lowest, term, level, operand, equated, ordered, sum, product, placed, argument_pair, argument_list, instance, is_comma, is_open, operation, operations, operand_of, is_among}
-use Rattle.pb_text_terms.proofs.VariableLemmas.{mapped-last}
-use Rattle.pb_text_terms.proofs.ReadLemmas.{left-fails, left-alone, sign-fails, right-fails, right-goes-on, both-read, operation-fails, operation-operand-fails, operation-read, sum-first-fails, sum-alone, sum-fails, sum-read, product-first-fails, product-alone, times-fail, times-mixed, times-read, division-fails, division-mixed, division-read, arguments-fail, arguments-again, arguments-read, arguments-is, begun-at, inner-fails, name-is, unary-other, lowest-node, placed-fails, placed-read, on-fewer, resumed-alone-or-fails, equated-first-fails, equated-alone-or-fails, equated-ordered-fails, product-alone-or-fails, ordered-product-fails, ordered-sum-fails, ordered-first-fails, ordered-alone-or-fails, ordered-before-equality, conjunction-fails, disjunction-fails, connected-fails, connected-alone-or-fails}
+use Rattle.pb_text_terms.specs.Reading.{unary, lowest, term, level, operand, equated, ordered, sum, product, placed, argument_pair, argument_list, instance, is_comma, is_open, operation, operations, operand_of, is_among}
+use Rattle.pb_text_terms.proofs.ReadLemmas.{left-alone, sign-fails, right-fails, right-goes-on, both-read, operation-fails, operation-operand-fails, operation-read, sum-first-fails, sum-alone, sum-fails, sum-read, product-first-fails, product-alone, times-fail, times-mixed, times-read, division-fails, division-mixed, division-read, arguments-fail, arguments-again, arguments-read, arguments-is, begun-at, inner-fails, name-is, unary-other, lowest-node, placed-fails, placed-read, on-fewer, resumed-alone-or-fails, equated-first-fails, equated-alone-or-fails, equated-ordered-fails, product-alone-or-fails, ordered-product-fails, ordered-sum-fails, ordered-first-fails, ordered-alone-or-fails, ordered-before-equality, conjunction-fails, disjunction-fails, connected-fails, connected-alone-or-fails}
 use Rattle.pb_text_terms.proofs.term.+terms.Goals as goal
 
 pub argument_list-returns-in_err-term-clause-reads : goal.argument_list-returns-in_err-term-clause-reads
@@ -23,7 +23,7 @@ pub argument_list-returns-then-not-same_kind-clause-reads : goal.argument_list-r
 argument_list-returns-then-not-same_kind-clause-reads t c =
     let stops : is_comma (kind c.connected.new.input) ≡ false = search rules in
     let end = gathered-end (placed (term c.args.depth)) is_comma take_token (map argument_pair c.arguments.arguments.items) (suc (length c.args.input.now.tokens) - vec_len c.arguments.arguments) (length c.args.input.now.tokens - vec_len c.arguments.arguments) c.arguments.input c.connected.new.input (c.place-place.result, term_form c.in_ok-term.term) (omega arith) (placed-read (term c.args.depth) c.arguments.input c.connected.new.input c.place-place.result (term_form c.in_ok-term.term) c.place-place.ensures c.in_ok-term.ensures.reads) stops in
-    rw (c.in_ok-push.ensures.items, mapped-last) (c.arguments.invariant.reads ∙ end)
+    rw (c.in_ok-push.ensures.items, map_push) (c.arguments.invariant.reads ∙ end)
 
 pub argument_list-arguments-preserved : goal.argument_list-arguments-preserved
 argument_list-arguments-preserved t c =
@@ -31,7 +31,7 @@ argument_list-arguments-preserved t c =
     let more = gathered-more (placed (term c.args.depth)) is_comma take_token (map argument_pair c.arguments.arguments.items) (suc (length c.args.input.now.tokens) - vec_len c.arguments.arguments) (suc (length c.args.input.now.tokens) - vec_len c.push.new.self) c.arguments.input c.connected.new.input c.take.new.self
     (c.place-place.result, term_form c.in_ok-term.term) (tok c.take.result) (omega (arith, c.in_ok-push.ensures.len, c.in_ok-term.ensures.fewer)) (placed-read (term c.args.depth) c.arguments.input c.connected.new.input c.place-place.result (term_form c.in_ok-term.term) c.place-place.ensures c.in_ok-term.ensures.reads) goes c.take.ensures.reads in
     record {
-      reads = rw (c.in_ok-push.ensures.items, mapped-last) (c.arguments.invariant.reads ∙ more);
+      reads = rw (c.in_ok-push.ensures.items, map_push) (c.arguments.invariant.reads ∙ more);
       room = omega (arith, c.in_ok-push.ensures.len, c.in_ok-term.ensures.fewer, c.take.ensures.fewer);
     }
 
@@ -132,7 +132,7 @@ pub chain-links-preserved : goal.chain-links-preserved
 chain-links-preserved t c =
     let same : same_kind (kind c.links.input) (symbol c.args.connective) ≡ true = search rules in
     record {
-      reads = λ s h fewer. rw (c.in_ok-push.ensures.items, mapped-last) (c.links.invariant.reads s h fewer ∙ resumed-more (symbol c.args.connective) (TermForm.connected c.args.connective) (operand TermForm.connected c.args.connective (lowest c.args.depth)) (length s.tokens - vec_len c.links.links) (length s.tokens - vec_len c.push.new.self) _ (term_links c.links.links.items) c.links.input c.take_operator.new.self c.operand.new.input
+      reads = λ s h fewer. rw (c.in_ok-push.ensures.items, map_push) (c.links.invariant.reads s h fewer ∙ resumed-more (symbol c.args.connective) (TermForm.connected c.args.connective) (operand TermForm.connected c.args.connective (lowest c.args.depth)) (length s.tokens - vec_len c.links.links) (length s.tokens - vec_len c.push.new.self) _ (term_links c.links.links.items) c.links.input c.take_operator.new.self c.operand.new.input
           (tok c.in_ok-place.field-0) (term_form c.in_ok-operand.operand) (omega (arith, c.in_ok-push.ensures.len, c.links.invariant.room)) same c.in_ok-place.ensures.reads c.in_ok-operand.ensures.reads);
       room = omega (arith, c.in_ok-place.ensures.fewer, c.in_ok-operand.ensures.fewer, c.in_ok-push.ensures.len);
     }
@@ -161,7 +161,7 @@ pub operations-returns-then-not-is_among-clause-reads : goal.operations-returns-
 operations-returns-then-not-is_among-clause-reads t c =
     let stops : is_among c.args.operators (kind c.operand_of.new.input) ≡ false = search rules in
     let end = gathered-end (operation c.args.operators (operand_of c.args.operators (unary c.args.depth))) (is_among c.args.operators) nothing_between (arithmetic_links c.operations.links.items) (suc (length c.args.input.now.tokens) - vec_len c.operations.links) (length c.args.input.now.tokens - vec_len c.operations.links) c.operations.input c.operand_of.new.input (arithmetic_of c.in_ok-sign.sign.kind, c.in_ok-sign.sign.place, term_form c.in_ok-operand.operand) (omega arith) (operation-read c.args.operators (operand_of c.args.operators (unary c.args.depth)) c.operations.input c.take_operator.new.self c.operand_of.new.input (tok c.in_ok-sign.sign) (term_form c.in_ok-operand.operand) c.operations.invariant.stands c.in_ok-sign.ensures.reads c.in_ok-operand.ensures.reads) stops in
-    rw (c.in_ok-push.ensures.items, mapped-last, c.arithmetic.ensures) (c.operations.invariant.reads ∙ end)
+    rw (c.in_ok-push.ensures.items, map_push, c.arithmetic.ensures) (c.operations.invariant.reads ∙ end)
 
 pub operations-operations-preserved : goal.operations-operations-preserved
 operations-operations-preserved t c =
@@ -169,7 +169,7 @@ operations-operations-preserved t c =
     let more = gathered-more (operation c.args.operators (operand_of c.args.operators (unary c.args.depth))) (is_among c.args.operators) nothing_between (arithmetic_links c.operations.links.items) (suc (length c.args.input.now.tokens) - vec_len c.operations.links) (suc (length c.args.input.now.tokens) - vec_len c.push.new.self) c.operations.input c.operand_of.new.input c.operand_of.new.input (arithmetic_of c.in_ok-sign.sign.kind, c.in_ok-sign.sign.place, term_form c.in_ok-operand.operand) tt
     (omega (arith, c.in_ok-push.ensures.len, c.in_ok-sign.ensures.fewer, c.in_ok-operand.ensures.fewer)) (operation-read c.args.operators (operand_of c.args.operators (unary c.args.depth)) c.operations.input c.take_operator.new.self c.operand_of.new.input (tok c.in_ok-sign.sign) (term_form c.in_ok-operand.operand) c.operations.invariant.stands c.in_ok-sign.ensures.reads c.in_ok-operand.ensures.reads) goes refl in
     record {
-      reads = rw (c.in_ok-push.ensures.items, mapped-last, c.arithmetic.ensures) (c.operations.invariant.reads ∙ more);
+      reads = rw (c.in_ok-push.ensures.items, map_push, c.arithmetic.ensures) (c.operations.invariant.reads ∙ more);
       room = omega (arith, c.in_ok-push.ensures.len, c.in_ok-sign.ensures.fewer, c.in_ok-operand.ensures.fewer);
       stands = goes;
     }

@@ -1,11 +1,12 @@
 use Rattle.std.proofs.Common.{rules, arith, ◌≡◌, ◌∙◌, ◌-◌, suc, true, false, length, map, vec_len}
 use Rattle.std.proofs.lemmas.Result.{err_from_is_err_and}
+use Rattle.std.proofs.lemmas.List.{map_push}
 use Rattle.pb_text_tree.specs.Form.{variables_form}
 use Rattle.pb_text_lexer.specs.Steps.{kind, take_token}
 use Rattle.pb_text_lexer.specs.Tokens.{tok}
 use Rattle.pb_text_lexer.proofs.LoopLemmas.{fails-as, gathered-more, gathered-end, gathered-item-fails}
 use Rattle.pb_text_terms.specs.Reading.{group, variables, is_comma}
-use Rattle.pb_text_terms.proofs.VariableLemmas.{mapped-last, variables-read, variables-fail}
+use Rattle.pb_text_terms.proofs.VariableLemmas.{variables-read, variables-fail}
 use Rattle.pb_text_terms.proofs.variable.variables.Goals as goal
 
 pub returns-in_err-group-clause-reads : goal.returns-in_err-group-clause-reads
@@ -21,7 +22,7 @@ returns-then-not-same_kind-clause-reads c =
     let stops : is_comma (kind c.group.new.input) ≡ false = search rules in
     let end = gathered-end group is_comma take_token (map variables_form c.groups.variables.items) (suc (length c.args.input.now.tokens) - vec_len c.groups.variables)
     (length c.args.input.now.tokens - vec_len c.groups.variables) c.groups.input c.group.new.input (variables_form c.in_ok-group.group) (omega arith) c.in_ok-group.ensures.reads stops in
-    variables-read c.args.input.now c.group.new.input c.push.new.self.items (rw (c.in_ok-push.ensures.items, mapped-last) (c.groups.invariant.reads ∙ end))
+    variables-read c.args.input.now c.group.new.input c.push.new.self.items (rw (c.in_ok-push.ensures.items, map_push) (c.groups.invariant.reads ∙ end))
 
 pub groups-preserved : goal.groups-preserved
 groups-preserved c =
@@ -30,6 +31,6 @@ groups-preserved c =
     (suc (length c.args.input.now.tokens) - vec_len c.push.new.self) c.groups.input c.group.new.input c.take.new.self (variables_form c.in_ok-group.group) (tok c.take.result)
     (omega (arith, c.in_ok-push.ensures.len, c.in_ok-group.ensures.fewer)) c.in_ok-group.ensures.reads goes c.take.ensures.reads in
     record {
-      reads = rw (c.in_ok-push.ensures.items, mapped-last) (c.groups.invariant.reads ∙ more);
+      reads = rw (c.in_ok-push.ensures.items, map_push) (c.groups.invariant.reads ∙ more);
       room = omega (arith, c.in_ok-push.ensures.len, c.in_ok-group.ensures.fewer, c.take.ensures.fewer);
     }

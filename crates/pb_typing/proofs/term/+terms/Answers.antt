@@ -22,10 +22,10 @@ use Rattle.pb_typing_declarations.specs.View.{spec_of}
 use Rattle.pb_typing_declarations.proofs.Parts.{among_left, among_right, among_first, first_clear}
 use Rattle.pb_typing_declarations.specs.declared.fault.TypingFault.{TypingFault}
 use Rattle.pb_typing.specs.Scopes.{scope_view, table_view, inner_view}
-use Rattle.pb_typing.specs.View.{Judges, shape_view, function_view, operation_of, is_no_link}
+use Rattle.pb_typing.specs.View.{Judges, shape_view, function_view, operation_of, are_allowed, is_no_link}
 use Rattle.pb_evaluation.proofs.Weight.{weight, weight-chain, weight-arithmetic, weight-application, links_weight, arithmetic_weight, arguments_weight, link_lighter, operand_lighter}
 use Rattle.pb_typing.proofs.Links.{chained-faults, chained-shape, arithmetic_faults, calculated-faults, calculated-shape, calculated_shape, some_link_shape}
-use Rattle.pb_typing.proofs.Nodes.{comparison_left, comparison_right, quantified_variables, quantified_body, inner_scope, length-shapes, one_argument, two_arguments, three_arguments, application_faults, first_fault, second_fault, third_fault}
+use Rattle.pb_typing.proofs.Nodes.{negative_operand, comparison_left, comparison_right, quantified_variables, quantified_body, inner_scope, length-shapes, one_argument, two_arguments, three_arguments, application_faults, first_fault, second_fault, third_fault}
 use Rattle.pb_typing.proofs.Applications.{one_applied, two_applied, three_applied}
 use Rattle.pb_typing.proofs.term.+terms.Goals as goal
 use Rattle.pb_typing.specs.Chains.{link_faults, chain_faults, chain_shape}
@@ -189,7 +189,7 @@ pub check_chain-returns-in_err-left : goal.check_chain-returns-in_err-left
 check_chain-returns-in_err-left t c =
     let S = spec_of c.args.declarations.now in
     let a = scope_view c.args.scope.now in
-    let whole = chain_faults S c.args.stands a (term_form c.args.first.now) c.args.links.now in
+    let whole = chain_faults S (are_allowed c.args.quantifiers) a (term_form c.args.first.now) c.args.links.now in
     let h : IsAmong whole c.in_err-left.field-0.0 = among_first whole _ _ c.in_err-left.field-0.0 refl c.in_err-left.ensures in
     search rules
 
@@ -201,7 +201,7 @@ check_chain-loop-index-init t c =
     record {
       left =
           first_clear _ _ _ refl checked.0
-          ∙ ap (λ (s : model.Shape). link_faults S c.args.stands a s c.args.links.now) (sym checked.1);
+          ∙ ap (λ (s : model.Shape). link_faults S (are_allowed c.args.quantifiers) a s c.args.links.now) (sym checked.1);
       first = λ _. checked.1;
     }
 
@@ -213,8 +213,8 @@ pub check_chain-returns-in_err-left-2 : goal.check_chain-returns-in_err-left-2
 check_chain-returns-in_err-left-2 t c =
     let S = spec_of c.args.declarations.now in
     let a = scope_view c.args.scope.now in
-    let whole = chain_faults S c.args.stands a (term_form c.args.first.now) c.args.links.now in
-    let next = ap (link_faults S c.args.stands a (shape_view c.loop-index.left)) (drop-at c.args.links.now c.loop-index.index c.index-links-index.result c.loop-index-test.true c.index-links-index.is) in
+    let whole = chain_faults S (are_allowed c.args.quantifiers) a (term_form c.args.first.now) c.args.links.now in
+    let next = ap (link_faults S (are_allowed c.args.quantifiers) a (shape_view c.loop-index.left)) (drop-at c.args.links.now c.loop-index.index c.index-links-index.result c.loop-index-test.true c.index-links-index.is) in
     let place = c.index-links-index.result.place in
     let passed = sym (ap (λ (b : Bool). unless b rule.WrongKind place) c.may_be_truth.ensures) ∙ c.in_ok-require.ensures in
     let h : IsAmong whole (c.in_err-left-2).field-0.0 =
@@ -227,10 +227,10 @@ pub check_arithmetic-returns-in_err-left : goal.check_arithmetic-returns-in_err-
 check_arithmetic-returns-in_err-left t c =
     let S = spec_of c.args.declarations.now in
     let a = scope_view c.args.scope.now in
-    let whole = term_faults S c.args.stands a (calculated (term_form c.args.first.now) (arithmetic_links c.args.links.now)) in
-    let all = calculated-faults S c.args.stands a (term_form c.args.first.now) c.args.links.now in
-    let here : IsAmong (term_faults S (c.args.stands && is_no_link c.args.links.now) a (term_form c.args.first.now)) c.in_err-left.field-0.0 =
-    subst (λ (b : Bool). IsAmong (term_faults S b a (term_form c.args.first.now)) c.in_err-left.field-0.0) c.may_stand-alone.ensures c.in_err-left.ensures in
+    let whole = term_faults S (are_allowed c.args.quantifiers) a (calculated (term_form c.args.first.now) (arithmetic_links c.args.links.now)) in
+    let all = calculated-faults S (are_allowed c.args.quantifiers) a (term_form c.args.first.now) c.args.links.now in
+    let here : IsAmong (term_faults S ((are_allowed c.args.quantifiers) && is_no_link c.args.links.now) a (term_form c.args.first.now)) c.in_err-left.field-0.0 =
+    subst (λ (b : Bool). IsAmong (term_faults S b a (term_form c.args.first.now)) c.in_err-left.field-0.0) c.in_first_operand-in_first.ensures c.in_err-left.ensures in
     let h : IsAmong whole c.in_err-left.field-0.0 = among_first whole _ _ c.in_err-left.field-0.0 all here in
     search rules
 
@@ -241,10 +241,10 @@ check_arithmetic-loop-link-init t c =
     let links = c.args.links.now in
     let first = term_form c.args.first.now in
     let checked = c.in_ok-left.ensures in
-    let none : term_faults S (c.args.stands && is_no_link links) a first ≡ [] = subst (λ (b : Bool). term_faults S b a first ≡ []) c.may_stand-alone.ensures checked.0 in
+    let none : term_faults S ((are_allowed c.args.quantifiers) && is_no_link links) a first ≡ [] = subst (λ (b : Bool). term_faults S b a first ≡ []) c.in_first_operand-in_first.ensures checked.0 in
     record {
       left =
-          first_clear _ _ _ (calculated-faults S c.args.stands a first links) none
+          first_clear _ _ _ (calculated-faults S (are_allowed c.args.quantifiers) a first links) none
           ∙ ap (λ (s : model.Shape). arithmetic_faults S a s links) (sym checked.1);
       whole = calculated-shape S a first links ∙ ap (λ (s : model.Shape). calculated_shape S a s links) (sym checked.1);
     }
@@ -257,7 +257,7 @@ pub check_arithmetic-returns-in_err-right : goal.check_arithmetic-returns-in_err
 check_arithmetic-returns-in_err-right t c =
     let S = spec_of c.args.declarations.now in
     let a = scope_view c.args.scope.now in
-    let whole = term_faults S c.args.stands a (calculated (term_form c.args.first.now) (arithmetic_links c.args.links.now)) in
+    let whole = term_faults S (are_allowed c.args.quantifiers) a (calculated (term_form c.args.first.now) (arithmetic_links c.args.links.now)) in
     let next = ap (arithmetic_faults S a (shape_view c.loop-link.left)) (drop-at c.args.links.now c.loop-link.link-index c.link-item.result c.loop-link-test.true c.link-item.is) in
     let h : IsAmong whole c.in_err-right.field-0.0 =
     among_first whole _ _ c.in_err-right.field-0.0 (c.loop-link.invariant.left ∙ next) c.in_err-right.ensures in
@@ -267,7 +267,7 @@ pub check_arithmetic-returns-in_err-left-2 : goal.check_arithmetic-returns-in_er
 check_arithmetic-returns-in_err-left-2 t c =
     let S = spec_of c.args.declarations.now in
     let a = scope_view c.args.scope.now in
-    let whole = term_faults S c.args.stands a (calculated (term_form c.args.first.now) (arithmetic_links c.args.links.now)) in
+    let whole = term_faults S (are_allowed c.args.quantifiers) a (calculated (term_form c.args.first.now) (arithmetic_links c.args.links.now)) in
     let link = c.link-item.result in
     let next = ap (arithmetic_faults S a (shape_view c.loop-link.left)) (drop-at c.args.links.now c.loop-link.link-index link c.loop-link-test.true c.link-item.is) in
     let checked = c.in_ok-right.ensures in
@@ -290,12 +290,12 @@ check_term-returns-in-Chain t c =
     let f = c.in-Chain.first in
     let ls = c.in-Chain.links in
     let is = ap term_form c.in-Chain.is ∙ term-chain o f ls in
-    let here : Judges (chain_faults S c.args.stands a (term_form f.value) ls.items) (chain_shape (shape S a (erased_term (term_form f.value))) ls.items) c.check_chain.result =
-    subst (λ (ys : List TermLink). Judges (chain_faults S c.args.stands a (term_form f.value) ys) (chain_shape (shape S a (erased_term (term_form f.value))) ys) c.check_chain.result) c.deref-in-Chain-2.ensures.value
-    (subst (λ (x : Term). Judges (chain_faults S c.args.stands a (term_form x) c.deref-in-Chain-2.result.now) (chain_shape (shape S a (erased_term (term_form x))) c.deref-in-Chain-2.result.now) c.check_chain.result) c.deref-in-Chain.ensures c.check_chain.ensures) in
-    subst (λ (x : TermForm). Judges (term_faults S c.args.stands a x) (shape S a (erased_term x)) c.check_chain.result) (sym is)
-    (subst (λ (fs : List TypingFault). Judges fs (shape S a (erased_term (chained (TermForm.connected o) (term_form f.value) (term_links ls.items)))) c.check_chain.result) (sym (chained-faults S c.args.stands a o (term_form f.value) ls.items))
-    (subst (λ (s : model.Shape). Judges (chain_faults S c.args.stands a (term_form f.value) ls.items) s c.check_chain.result) (sym (chained-shape S a o (term_form f.value) ls.items)) here))
+    let here : Judges (chain_faults S (are_allowed c.args.quantifiers) a (term_form f.value) ls.items) (chain_shape (shape S a (erased_term (term_form f.value))) ls.items) c.check_chain.result =
+    subst (λ (ys : List TermLink). Judges (chain_faults S (are_allowed c.args.quantifiers) a (term_form f.value) ys) (chain_shape (shape S a (erased_term (term_form f.value))) ys) c.check_chain.result) c.deref-in-Chain-2.ensures.value
+    (subst (λ (x : Term). Judges (chain_faults S (are_allowed c.args.quantifiers) a (term_form x) c.deref-in-Chain-2.result.now) (chain_shape (shape S a (erased_term (term_form x))) c.deref-in-Chain-2.result.now) c.check_chain.result) c.deref-in-Chain.ensures c.check_chain.ensures) in
+    subst (λ (x : TermForm). Judges (term_faults S (are_allowed c.args.quantifiers) a x) (shape S a (erased_term x)) c.check_chain.result) (sym is)
+    (subst (λ (fs : List TypingFault). Judges fs (shape S a (erased_term (chained (TermForm.connected o) (term_form f.value) (term_links ls.items)))) c.check_chain.result) (sym (chained-faults S (are_allowed c.args.quantifiers) a o (term_form f.value) ls.items))
+    (subst (λ (s : model.Shape). Judges (chain_faults S (are_allowed c.args.quantifiers) a (term_form f.value) ls.items) s c.check_chain.result) (sym (chained-shape S a o (term_form f.value) ls.items)) here))
 
 pub check_term-check_arithmetic-requires : goal.check_term-check_arithmetic-requires
 check_term-check_arithmetic-requires t c =
@@ -309,7 +309,7 @@ check_term-returns-in-Arithmetic t c =
     let is = ap term_form c.in-Arithmetic.is ∙ term-arithmetic f c.in-Arithmetic.links in
     let same = ap (λ (x : Term). calculated (term_form x) (arithmetic_links c.deref-in-Arithmetic-2.result.now)) c.deref-in-Arithmetic.ensures
     ∙ (ap (λ (ls : List ArithmeticLink). calculated (term_form f.value) (arithmetic_links ls)) c.deref-in-Arithmetic-2.ensures.value ∙ sym is) in
-    subst (λ (x : TermForm). Judges (term_faults S c.args.stands a x) (shape S a (erased_term x)) c.check_arithmetic.result) same c.check_arithmetic.ensures
+    subst (λ (x : TermForm). Judges (term_faults S (are_allowed c.args.quantifiers) a x) (shape S a (erased_term x)) c.check_arithmetic.result) same c.check_arithmetic.ensures
 
 pub check_term-check_application-requires : goal.check_term-check_application-requires
 check_term-check_application-requires t c =
@@ -321,14 +321,23 @@ check_term-returns-in-Application t c =
     let a = scope_view c.args.scope.now in
     let is = ap term_form c.in-Application.is ∙ term-application c.in-Application.function c.in-Application.arguments in
     let same = ap (λ (xs : List Argument). TermForm.application (named c.in-Application.function) (argument_forms xs)) c.deref-in-Application.ensures.value ∙ sym is in
-    subst (λ (x : TermForm). Judges (term_faults S c.args.stands a x) (shape S a (erased_term x)) c.check_application.result) same c.check_application.ensures
+    subst (λ (x : TermForm). Judges (term_faults S (are_allowed c.args.quantifiers) a x) (shape S a (erased_term x)) c.check_application.result) same c.check_application.ensures
+
+pub check_term-returns-in_err-shape-in-Negative : goal.check_term-returns-in_err-shape-in-Negative
+check_term-returns-in_err-shape-in-Negative t c =
+    let S = spec_of c.args.declarations.now in
+    let a = scope_view c.args.scope.now in
+    let h : IsAmong (term_faults S (are_allowed c.args.quantifiers) a (term_form c.args.term.now)) c.in_err-shape-in-Negative.field-0.0 =
+    negative_operand S (are_allowed c.args.quantifiers) a c.args.term.now c.deref-in-Negative.result.now c.in-Negative.place c.in-Negative.operand _
+    c.in-Negative.is c.deref-in-Negative.ensures c.in_err-shape-in-Negative.ensures in
+    search rules
 
 pub check_term-returns-in_err-left-in-Comparison : goal.check_term-returns-in_err-left-in-Comparison
 check_term-returns-in_err-left-in-Comparison t c =
     let S = spec_of c.args.declarations.now in
     let a = scope_view c.args.scope.now in
-    let h : IsAmong (term_faults S c.args.stands a (term_form c.args.term.now)) c.in_err-left-in-Comparison.field-0.0 =
-    comparison_left S c.args.stands a c.args.term.now c.deref-in-Comparison.result.now c.in-Comparison.place c.in-Comparison.comparison c.in-Comparison.left c.in-Comparison.right _
+    let h : IsAmong (term_faults S (are_allowed c.args.quantifiers) a (term_form c.args.term.now)) c.in_err-left-in-Comparison.field-0.0 =
+    comparison_left S (are_allowed c.args.quantifiers) a c.args.term.now c.deref-in-Comparison.result.now c.in-Comparison.place c.in-Comparison.comparison c.in-Comparison.left c.in-Comparison.right _
     c.in-Comparison.is c.deref-in-Comparison.ensures c.in_err-left-in-Comparison.ensures in
     search rules
 
@@ -336,8 +345,8 @@ pub check_term-returns-in_err-right-in-Comparison : goal.check_term-returns-in_e
 check_term-returns-in_err-right-in-Comparison t c =
     let S = spec_of c.args.declarations.now in
     let a = scope_view c.args.scope.now in
-    let h : IsAmong (term_faults S c.args.stands a (term_form c.args.term.now)) c.in_err-right-in-Comparison.field-0.0 =
-    comparison_right S c.args.stands a c.args.term.now c.deref-in-Comparison-2.result.now c.in-Comparison.place c.in-Comparison.comparison c.in-Comparison.left c.in-Comparison.right _
+    let h : IsAmong (term_faults S (are_allowed c.args.quantifiers) a (term_form c.args.term.now)) c.in_err-right-in-Comparison.field-0.0 =
+    comparison_right S (are_allowed c.args.quantifiers) a c.args.term.now c.deref-in-Comparison-2.result.now c.in-Comparison.place c.in-Comparison.comparison c.in-Comparison.left c.in-Comparison.right _
     c.in-Comparison.is c.deref-in-Comparison-2.ensures c.in_err-right-in-Comparison.ensures in
     search rules
 
@@ -348,8 +357,8 @@ check_term-returns-in_err-check_variables-in-Quantified t c =
     let S = spec_of c.args.declarations.now in
     let a = scope_view c.args.scope.now in
     let q = c.in-Quantified in
-    let h : IsAmong (term_faults S c.args.stands a (term_form c.args.term.now)) c.in_err-check_variables-in-Quantified.field-0.0 =
-    quantified_variables S c.args.stands a c.args.term.now q.place q.quantifier q.variables q.body c.deref-in-Quantified.result.now _ q.is c.deref-in-Quantified.ensures.value c.in_err-check_variables-in-Quantified.ensures in
+    let h : IsAmong (term_faults S (are_allowed c.args.quantifiers) a (term_form c.args.term.now)) c.in_err-check_variables-in-Quantified.field-0.0 =
+    quantified_variables S (are_allowed c.args.quantifiers) a c.args.term.now q.place q.quantifier q.variables q.body c.deref-in-Quantified.result.now _ q.is c.deref-in-Quantified.ensures.value c.in_err-check_variables-in-Quantified.ensures in
     search rules
 
 pub check_term-returns-in_ok-table-in-Quantified : goal.check_term-returns-in_ok-table-in-Quantified
@@ -360,9 +369,9 @@ check_term-returns-in_ok-table-in-Quantified t c =
     let table = table_view c.in_ok-table-in-Quantified.table in
     let groups = c.deref-in-Quantified.result.now in
     let xs = erased_variables (variable_forms groups) in
-    quantified_body S c.args.stands a (inner_view c.in_ok-table-in-Quantified.table a) c.args.term.now c.deref-in-Quantified-3.result.now q.place q.quantifier q.variables q.body groups c.check_boolean-in-Quantified.result
+    quantified_body S (are_allowed c.args.quantifiers) a (inner_view c.in_ok-table-in-Quantified.table a) c.args.term.now c.deref-in-Quantified-3.result.now q.place q.quantifier q.variables q.body groups c.check_boolean-in-Quantified.result
     q.is c.deref-in-Quantified-3.ensures c.deref-in-Quantified.ensures.value
-    c.in_ok-require-in-Quantified.ensures c.in_ok-check_variables-in-Quantified.ensures
+    (sym (ap (λ (b : Bool). unless b rule.QuantifierInData q.place) c.are_allowed-allowed.ensures) ∙ c.in_ok-require-in-Quantified.ensures) c.in_ok-check_variables-in-Quantified.ensures
     (inner_scope S xs table a (λ x. c.in_ok-table-in-Quantified.ensures x ∙ ap (λ (gs : List Variables). bound S (erased_variables (variable_forms gs)) outermost x) (c.deref-in-Quantified-2.ensures.value ∙ sym c.deref-in-Quantified.ensures.value)))
     c.check_boolean-in-Quantified.ensures
 
@@ -370,8 +379,8 @@ pub check_boolean-returns-in_err-shape : goal.check_boolean-returns-in_err-shape
 check_boolean-returns-in_err-shape t c =
     let S = spec_of c.args.declarations.now in
     let a = scope_view c.args.scope.now in
-    let h : IsAmong (term_faults S c.args.stands a (term_form c.args.operand.now) ++ unless (may_be_truth (shape S a (erased_term (term_form c.args.operand.now)))) rule.WrongKind c.args.place) c.in_err-shape.field-0.0 =
-    among_left (term_faults S c.args.stands a (term_form c.args.operand.now)) _ c.in_err-shape.field-0.0 c.in_err-shape.ensures in
+    let h : IsAmong (term_faults S (are_allowed c.args.quantifiers) a (term_form c.args.operand.now) ++ unless (may_be_truth (shape S a (erased_term (term_form c.args.operand.now)))) rule.WrongKind c.args.place) c.in_err-shape.field-0.0 =
+    among_left (term_faults S (are_allowed c.args.quantifiers) a (term_form c.args.operand.now)) _ c.in_err-shape.field-0.0 c.in_err-shape.ensures in
     search rules
 
 pub check_chain-returns-else-is_empty : goal.check_chain-returns-else-is_empty
@@ -379,6 +388,6 @@ check_chain-returns-else-is_empty t c =
     let S = spec_of c.args.declarations.now in
     let a = scope_view c.args.scope.now in
     let links = c.args.links.now in (
-      c.loop-index.invariant.left ∙ ap (link_faults S c.args.stands a (shape_view c.loop-index.left)) (drop_all c.loop-index.index links (omega (arith, c.loop-index-test.false))),
+      c.loop-index.invariant.left ∙ ap (link_faults S (are_allowed c.args.quantifiers) a (shape_view c.loop-index.left)) (drop_all c.loop-index.index links (omega (arith, c.loop-index-test.false))),
       some_link_shape (shape S a (erased_term (term_form c.args.first.now))) links (sym c.is_empty.ensures ∙ c.if-is_empty.false),
     )

@@ -5,7 +5,7 @@ use Rattle.pb_typing_rules.specs.Faults.{term_faults}
 use Rattle.pb_typing_rules.specs.Term.{shape}
 use Rattle.pb_typing_declarations.specs.View.{spec_of}
 use Rattle.pb_typing.specs.Scopes.{scope_view}
-use Rattle.pb_typing.specs.View.{shape_view}
+use Rattle.pb_typing.specs.View.{shape_view, are_allowed}
 use Rattle.pb_evaluation.proofs.Weight.{weight, links_weight, arithmetic_weight, arguments_weight}
 use Rattle.pb_typing.proofs.Links.{arithmetic_faults, calculated_shape}
 use Rattle.pb_typing.proofs.term.+terms.Given as goal
@@ -29,7 +29,7 @@ invariant-check_chain-loop-index l =
     let S = spec_of l.declarations in
     let a = scope_view l.scope in
     record {
-      left : chain_faults S l.stands a (term_form l.first) l.links ≡ link_faults S l.stands a (shape_view l.left) (drop l.index l.links);
+      left : chain_faults S (are_allowed l.quantifiers) a (term_form l.first) l.links ≡ link_faults S (are_allowed l.quantifiers) a (shape_view l.left) (drop l.index l.links);
       first : l.index ≡ 0 → shape_view l.left ≡ shape S a (erased_term (term_form l.first));
     }
 
@@ -39,7 +39,7 @@ invariant-check_arithmetic-loop-link l =
     let S = spec_of l.declarations in
     let a = scope_view l.scope in
     record {
-      left : term_faults S l.stands a (calculated (term_form l.first) (arithmetic_links l.links)) ≡ arithmetic_faults S a (shape_view l.left) (drop l.link-index l.links);
+      left : term_faults S (are_allowed l.fn.quantifiers) a (calculated (term_form l.first) (arithmetic_links l.links)) ≡ arithmetic_faults S a (shape_view l.left) (drop l.link-index l.links);
       whole : shape S a (erased_term (calculated (term_form l.first) (arithmetic_links l.links))) ≡ calculated_shape S a (shape_view l.left) (drop l.link-index l.links);
     }
 

@@ -1,5 +1,6 @@
 use Rattle.std.proofs.Common.{rules, arith, map, List, subst}
 use Rattle.std.specs.Prelude.{flat_map, nat_lt}
+use Rattle.pb_sorts.specs.declared.limits.TheConstants.{MAX_STRUCTS}
 use Rattle.pb_text_tree.specs.Form.{enumerator_form, sort_form}
 use Rattle.pb_text_tree.specs.declared.sort.Enumerator.{Enumerator}
 use Rattle.pb_typing_declarations.specs.declared.fault.TypingRule.TheVariants.{Limit}
@@ -22,7 +23,7 @@ returns-in_err-require-in-Struct-2 c =
     let h : IsAmong whole e =
     among_same whole (struct_parts n place count (count_faults E.items) (flat_map enumerator_faults (map enumerator_form E.items))) e
     (struct_whole n place c.args.declaration.now.sort E count c.requires c.in-Struct.is (omega (arith, c.len-count.ensures, E.ok.0)))
-    (among_right (unless (nat_lt n 255) Limit place) _ e (among_left (unless (nat_lt 0 count) Limit place) _ e c.in_err-require-in-Struct-2.ensures)) in
+    (among_right (unless (nat_lt n MAX_STRUCTS) Limit place) _ e (among_left (unless (nat_lt 0 count) Limit place) _ e c.in_err-require-in-Struct-2.ensures)) in
     search rules
 
 pub returns-in_err-check_count-in-Struct : goal.returns-in_err-check_count-in-Struct
@@ -36,7 +37,7 @@ returns-in_err-check_count-in-Struct c =
     let h : IsAmong whole e =
     among_same whole (struct_parts n place count (count_faults E.items) (flat_map enumerator_faults (map enumerator_form E.items))) e
     (struct_whole n place c.args.declaration.now.sort E count c.requires c.in-Struct.is (omega (arith, c.len-count.ensures, E.ok.0)))
-    (among_right (unless (nat_lt n 255) Limit place) _ e (among_right (unless (nat_lt 0 count) Limit place) _ e
+    (among_right (unless (nat_lt n MAX_STRUCTS) Limit place) _ e (among_right (unless (nat_lt 0 count) Limit place) _ e
     (among_left (count_faults E.items) _ e
     (subst (λ (es : List Enumerator). IsAmong (count_faults es) e) c.deref.ensures.value c.in_err-check_count-in-Struct.ensures)))) in
     search rules
@@ -52,7 +53,7 @@ returns-in_err-push_enumerators-in-Struct c =
     let h : IsAmong whole e =
     among_same whole (struct_parts n place count (count_faults E.items) (flat_map enumerator_faults (map enumerator_form E.items))) e
     (struct_whole n place c.args.declaration.now.sort E count c.requires c.in-Struct.is (omega (arith, c.len-count.ensures, E.ok.0)))
-    (among_right (unless (nat_lt n 255) Limit place) _ e (among_right (unless (nat_lt 0 count) Limit place) _ e
+    (among_right (unless (nat_lt n MAX_STRUCTS) Limit place) _ e (among_right (unless (nat_lt 0 count) Limit place) _ e
     (among_right (count_faults E.items) _ e
     (subst (λ (es : List Enumerator). IsAmong (flat_map enumerator_faults (map enumerator_form es)) e) c.deref-in-Struct.ensures.value c.in_err-push_enumerators-in-Struct.ensures)))) in
     search rules

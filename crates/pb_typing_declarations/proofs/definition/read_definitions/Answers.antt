@@ -1,6 +1,7 @@
 use Rattle.std.proofs.Common.{◌≡◌, ◌++◌, ◌+◌, ℕ, List, [], ◌∷◌, drop, rules, map, sym, ap, subst, ◌∙◌, ◌≤◌, string_bytes}
 use Rattle.std.specs.Prelude.{flat_map}
 use Rattle.std.proofs.lemmas.Grind.{flat_map-append}
+use Rattle.pb_sorts.specs.declared.limits.TheConstants.{MAX_STRUCTS}
 use Rattle.pb_sorts.proofs.Places.{drop-at}
 use Rattle.pb_text_tree.specs.declared.sort.SortDeclaration.{SortDeclaration}
 use Rattle.pb_text_tree.specs.Form.{SortDeclarationForm, named, sort_form, sort_declaration_form}
@@ -46,7 +47,7 @@ loop-declaration-preserved c =
     let inv = c.loop-declaration.invariant in
     let pushed = c.in_ok-push.ensures.items in
     record {
-      few = subst (λ (v : ℕ). v ≤ 255) (sym number) (few_after n d.name.place (sort_form d.sort) inv.few is.clear);
+      few = subst (λ (v : ℕ). v ≤ MAX_STRUCTS) (sym number) (few_after n d.name.place (sort_form d.sort) inv.few is.clear);
       left =
           first_clear _ _ _ (inv.left ∙ faults_next ds k n d c.loop-declaration-test.true c.declaration-item.is) is.clear
           ∙ ap (λ (v : ℕ). structs_faults v (map sort_declaration_form rest)) (sym number);

@@ -1,5 +1,6 @@
 use Rattle.std.proofs.Common.{◌≡◌, ◌≤◌, ◌++◌, drop, map}
 use Rattle.std.specs.Prelude.{flat_map}
+use Rattle.pb_sorts.specs.declared.limits.TheConstants.{MAX_STRUCTS}
 use Rattle.pb_text_tree.specs.Form.{SortDeclarationForm, sort_declaration_form}
 use Rattle.pb_text_meaning.specs.Erase.{erased_declaration}
 use Rattle.pb_typing_declarations.specs.Shapes.{definitions_from}
@@ -11,7 +12,7 @@ use Rattle.pb_typing_declarations.proofs.definition.read_definitions.Given as go
 -- all faults are those of the sorts that are left, and so are the entries that are still to come
 abbrev pub invariant-loop-declaration : goal.invariant-loop-declaration
 invariant-loop-declaration l = record {
-  few : l.number ≤ 255;
+  few : l.number ≤ MAX_STRUCTS;
   left : structs_faults 0 (map sort_declaration_form l.sorts) ≡ structs_faults l.number (map sort_declaration_form (drop l.declaration-index l.sorts));
   sort_names : map (λ (d : SortDeclarationForm). d.name) (map sort_declaration_form l.sorts)
       ≡ entry_names l.definitions.items ++ map (λ (d : SortDeclarationForm). d.name) (map sort_declaration_form (drop l.declaration-index l.sorts));

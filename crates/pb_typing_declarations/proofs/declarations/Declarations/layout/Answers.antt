@@ -3,7 +3,7 @@ use Rattle.pb_sorts.specs.declared.carrier.Carrier.{Carrier}
 use Rattle.std.specs.Prelude.{Err, vec_len}
 use Rattle.pb_text_tree.specs.declared.spec.Equation.{Equation}
 use Rattle.pb_text_tree.specs.Form.{equation_form}
-use Rattle.pb_sorts.specs.declared.limits.TheConstants.{MAX_INSTANCES}
+use Rattle.pb_sorts.specs.declared.limits.TheConstants.{MAX_EQUATIONS, MAX_PARAMETERS, MAX_INSTANCES}
 use Rattle.pb_sorts.specs.Layout.{lists_of, count_of}
 use Rattle.pb_typing_declarations.specs.declared.fault.TypeError.TheVariants.{Memory}
 use Rattle.pb_typing_declarations.specs.Declarations.{limit_faults, equation_names, equations_faults_behind}
@@ -28,13 +28,13 @@ returns-in_err-carriers-clause-memory c =
 pub new-requires-clause-equations : goal.new-requires-clause-equations
 new-requires-clause-equations c =
     let d = c.args.self.now in
-    subst (λ (vs : List (Vec Carrier Global)). length vs ≤ 64) (sym (c.deref-2).ensures.value)
+    subst (λ (vs : List (Vec Carrier Global)). length vs ≤ MAX_EQUATIONS) (sym (c.deref-2).ensures.value)
     (few_lists (spec_of d) (map equation_form c.deref.result.now) c.in_ok-carriers.carriers.items c.in_ok-carriers.ensures
-    (ap (λ (E : List Equation). limit_faults 64 (equation_names (map equation_form E))) c.deref.ensures.value ∙ few_clear (text_of d) d.faultless))
+    (ap (λ (E : List Equation). limit_faults MAX_EQUATIONS (equation_names (map equation_form E))) c.deref.ensures.value ∙ few_clear (text_of d) d.faultless))
 
 pub new-requires-clause-parameters : goal.new-requires-clause-parameters
 new-requires-clause-parameters c =
-    subst (λ (vs : List (Vec Carrier Global)). (k : ℕ) (e : Vec Carrier Global) → k < length vs → vec_len (get_or vs k e) ≤ 8) (sym (c.deref-2).ensures.value)
+    subst (λ (vs : List (Vec Carrier Global)). (k : ℕ) (e : Vec Carrier Global) → k < length vs → vec_len (get_or vs k e) ≤ MAX_PARAMETERS) (sym (c.deref-2).ensures.value)
     (few_carriers c.in_ok-carriers.carriers.items c.in_ok-carriers.ensures.few)
 
 pub unreachable-requires : goal.unreachable-requires

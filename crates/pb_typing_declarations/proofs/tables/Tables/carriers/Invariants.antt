@@ -1,7 +1,7 @@
 use Rattle.std.proofs.Common.{◌≡◌, ◌≤◌, ◌++◌, List, length, drop, map}
 use Rattle.std.specs.Prelude.{All}
 use Rattle.pb_sorts.specs.declared.carrier.Carrier.{Carrier}
-use Rattle.pb_sorts.specs.declared.limits.TheConstants.{MAX_INSTANCES}
+use Rattle.pb_sorts.specs.declared.limits.TheConstants.{MAX_PARAMETERS, MAX_INSTANCES}
 use Rattle.pb_sorts.specs.Layout as layouts
 use Rattle.pb_sorts.specs.Layout.{lists_of}
 use Rattle.pb_text_tree.specs.Form.{spec_form, equation_form}
@@ -24,5 +24,5 @@ invariant-loop-equation l =
           ≡ layouts.carriers_of (lists_of l.carriers.items) ++ map (λ (X : Equation). carriers_of S X.parameters) (map erased_equation (map equation_form (drop l.equation-index l.equations)));
       shapes : map (λ (X : Equation). variable_shapes S X.parameters) (map erased_equation (map equation_form l.equations))
           ≡ map shapes_of (lists_of l.carriers.items) ++ map (λ (X : Equation). variable_shapes S X.parameters) (map erased_equation (map equation_form (drop l.equation-index l.equations)));
-      short : All (λ (cs : List Carrier). length cs ≤ 8) (lists_of l.carriers.items);
+      short : All (λ (cs : List Carrier). length cs ≤ MAX_PARAMETERS) (lists_of l.carriers.items);
     }

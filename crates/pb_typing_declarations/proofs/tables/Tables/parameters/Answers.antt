@@ -1,4 +1,5 @@
 use Rattle.std.proofs.Common.{◌≡◌, ◌∙◌, Bool, List, rules, sym, ap, subst}
+use Rattle.pb_sorts.specs.declared.limits.TheConstants.{MAX_PARAMETERS}
 use Rattle.pb_text_tree.specs.Form.{Named, spec_form, equation_form, variable_forms}
 use Rattle.pb_text_meaning.specs.Erase.{erase}
 use Rattle.pb_typing_declarations.specs.declared.fault.TypingRule.TheVariants.{Limit}
@@ -21,8 +22,8 @@ returns-in_err-check_limit c =
     ap entry_names (c.deref-2).ensures.value ∙ (names-variables_of c.in_ok-variables.variables.items
     ∙ ap variable_names (c.in_ok-variables.ensures ∙ ap variable_forms c.deref.ensures.value)) in
     let h : IsAmong (equation_faults S X) e =
-    among_right (length_faults X.name) _ e (among_left (limit_faults 8 (variable_names X.parameters)) _ e
-    (subst (λ (xs : List Named). IsAmong (limit_faults 8 xs) e) names c.in_err-check_limit.ensures)) in
+    among_right (length_faults X.name) _ e (among_left (limit_faults MAX_PARAMETERS (variable_names X.parameters)) _ e
+    (subst (λ (xs : List Named). IsAmong (limit_faults MAX_PARAMETERS xs) e) names c.in_err-check_limit.ensures)) in
     search rules
 
 pub returns : goal.returns
@@ -36,5 +37,5 @@ returns c =
     ap variables_of (c.deref-3).ensures.value ∙ (c.in_ok-variables.ensures ∙ ap variable_forms c.deref.ensures.value) in
     parameters_are S X (variables_of (c.deref-3).result.now) c.variable_carriers.result variables
     (ap (λ (b : Bool). unless b Limit X.name.place) (sym c.is_short.ensures) ∙ c.in_ok-require.ensures)
-    (ap (limit_faults 8) (sym names) ∙ c.in_ok-check_limit.ensures)
+    (ap (limit_faults MAX_PARAMETERS) (sym names) ∙ c.in_ok-check_limit.ensures)
     c.variable_carriers.ensures
