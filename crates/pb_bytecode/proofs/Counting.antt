@@ -4,14 +4,14 @@ use Rattle.std.specs.Prelude.{ℤ, nat_lt}
 use Rattle.pb_sorts.specs.declared.carrier.Carrier.{Carrier}
 use Rattle.std.proofs.lemmas.Bool.{lt-ltb, le-ltb}
 use Rattle.std.proofs.lemmas.List.{length-map}
-use Rattle.std.proofs.Common.{Ok, Err, append_assoc}
+use Rattle.std.proofs.Common.{Ok, Err}
 use Rattle.std.proofs.lemmas.List.{append-nil}
 use Rattle.std.proofs.Math.ListN.{drop_of_length-le}
 use Rattle.pb_bytecode.specs.declared.fault.ModuleRule.TheVariants as rule
 use Rattle.pb_bytecode.specs.declared.fault.ReadError.{ReadError}
 use Rattle.pb_bytecode.specs.declared.fault.ReadError.TheVariants as errors
 use Rattle.pb_bytecode.specs.Reading.{◌>>=◌, Fails, Field, parameters_at, byte_at, value_at, values_at, initial_at}
-use Rattle.pb_bytecode.proofs.Loop.{with_front}
+use Rattle.pb_bytecode.proofs.Loop.{with_front, regroup}
 use Rattle.pb_bytecode.specs.declared.equation.Equation.{Equation}
 use Rattle.pb_bytecode.specs.Limits.{instance_count}
 use Rattle.pb_bytecode.specs.Views.{equation_contents}
@@ -31,10 +31,6 @@ values_fold (c ∷ cs) d zero bytes h = refl
 values_fold (c ∷ cs) d (suc i) bytes h =
     let z : suc i + 1 ≡ suc (i + 1) = omega arith in
     values_fold cs d i bytes (omega arith) ∙ ap (λ m. value_at (get_or cs i d) bytes >>= λ z. values_at (drop m (c ∷ cs)) z.1 >>= λ zs. Ok (z.0 ∷ zs.0, zs.1)) (sym z)
-
-regroup : (front : List ℤ) (a : ℤ) (read : Field (List ℤ)) → with_front front (read >>= λ x. Ok (a ∷ x.0, x.1)) ≡ with_front (front ++ a ∷ []) read
-regroup front a (Ok x) = ap (λ (ns : List ℤ). Ok (ns, x.1)) (sym (append_assoc front (a ∷ []) x.0))
-regroup front a (Err f) = refl
 
 pub value_read : (front : List ℤ) (cs : List Carrier) (c : Carrier) (i : ℕ) (bytes rest : List ℕ) (z : ℤ) (total : Field (List ℤ)) → i < length cs → c ≡ get_or cs i c → value_at c bytes ≡ Ok (z, rest) → with_front front (values_at (drop i cs) bytes) ≡ total → with_front (front ++ z ∷ []) (values_at (drop (i + 1) cs) rest) ≡ total
 value_read front cs c i bytes rest z total h same r so_far =

@@ -9,7 +9,7 @@ use Rattle.pb_bytecode.specs.Reading.{◌>>=◌, Fails, Field, items_at}
 abbrev pub with_front : {A : Type 0} → List A → Field (List A) → Field (List A)
 with_front front read = read >>= λ x. Ok (front ++ x.0, x.1)
 
-regroup : {A : Type 0} (front : List A) (a : A) (read : Field (List A)) → with_front front (read >>= λ x. Ok (a ∷ x.0, x.1)) ≡ with_front (front ++ a ∷ []) read
+pub regroup : {A : Type 0} (front : List A) (a : A) (read : Field (List A)) → with_front front (read >>= λ x. Ok (a ∷ x.0, x.1)) ≡ with_front (front ++ a ∷ []) read
 regroup {A} front a (Ok x) = ap (λ (ns : List A). Ok (ns, x.1)) (sym (append_assoc front (a ∷ []) x.0))
 regroup front a (Err f) = refl
 

@@ -4,7 +4,7 @@ use Rattle.std.specs.Prelude.{ℤ, nat_le, nat_lt, ◌==◌}
 use Rattle.std.specs.Int.{w32, w64}
 use Rattle.std.specs.List.{flat_map, list_all}
 use Rattle.std.proofs.lemmas.Bool.{and_parts, and_from, le-ltb, ltb-true, lt-ltb, eqb-true}
-use Rattle.pb_sorts.specs.declared.limits.TheConstants.{MAX_EQUATIONS, MAX_PARAMETERS, MAX_INSTANCES}
+use Rattle.pb_sorts.specs.declared.limits.TheConstants.{MAX_STRUCTS, MAX_EQUATIONS, MAX_PARAMETERS, MAX_INSTANCES, MAX_LOOP_SLOTS, MAX_INSTRUCTIONS}
 use Rattle.pb_sorts.specs.declared.carrier.Carrier.{Carrier}
 use Rattle.pb_bytecode.specs.declared.fault.ModuleFault.{ModuleFault}
 use Rattle.pb_bytecode.specs.declared.fault.ModuleRule.TheVariants as rule
@@ -103,10 +103,10 @@ equation_reads v sizes =
     (close _ _ _ (then (λ c. sign_at) (λ c. Spelling.sign_bytes) (λ c s. true) _ (λ e. tt) (λ e. e.sign) _ _ (λ c. sign_reads)
     (then (λ (c : Unit {0} × Sign). name_at) (λ c. Spelling.name_bytes) (λ c. is_name) _ (λ e. (tt, e.sign)) (λ e. e.name) _ _ (λ c. name_reads)
     (then (λ (c : (Unit {0} × Sign) × Text). counted_at 0 (MAX_PARAMETERS + 1) (carrier_at sizes)) (λ c. Spelling.counted Spelling.carrier_bytes) (λ c. carrier_list_fits (MAX_PARAMETERS + 1) sizes) _ (λ e. ((tt, e.sign), e.name)) (λ e. e.parameters) _ _ (λ c. counted_reads 0 (MAX_PARAMETERS + 1) (carrier_at sizes) Spelling.carrier_bytes (fits_carrier sizes) (omega arith) (carrier_reads sizes))
-    (then (λ (c : ((Unit {0} × Sign) × Text) × List Carrier). counted_at 0 241 (carrier_at sizes)) (λ c. Spelling.counted Spelling.carrier_bytes) (λ c. carrier_list_fits 241 sizes) _ (λ e. (((tt, e.sign), e.name), e.parameters)) (λ e. e.loops) _ _ (λ c. counted_reads 0 241 (carrier_at sizes) Spelling.carrier_bytes (fits_carrier sizes) (omega arith) (carrier_reads sizes))
+    (then (λ (c : ((Unit {0} × Sign) × Text) × List Carrier). counted_at 0 (MAX_LOOP_SLOTS + 1) (carrier_at sizes)) (λ c. Spelling.counted Spelling.carrier_bytes) (λ c. carrier_list_fits (MAX_LOOP_SLOTS + 1) sizes) _ (λ e. (((tt, e.sign), e.name), e.parameters)) (λ e. e.loops) _ _ (λ c. counted_reads 0 (MAX_LOOP_SLOTS + 1) (carrier_at sizes) Spelling.carrier_bytes (fits_carrier sizes) (omega arith) (carrier_reads sizes))
     (then (λ (c : (((Unit {0} × Sign) × Text) × List Carrier) × List Carrier). number_at w32) (λ c. Spelling.u32) (λ c. is_u32) _ (λ e. ((((tt, e.sign), e.name), e.parameters), e.loops)) (λ e. e.steps) _ _ (λ c. u32_reads)
     (then (λ (c : ((((Unit {0} × Sign) × Text) × List Carrier) × List Carrier) × ℕ). number_at w32) (λ c. Spelling.u32) (λ c. is_u32) _ (λ e. (((((tt, e.sign), e.name), e.parameters), e.loops), e.steps)) (λ e. e.tokens) _ _ (λ c. u32_reads)
-    (last (λ (c : (((((Unit {0} × Sign) × Text) × List Carrier) × List Carrier) × ℕ) × ℕ). code_at v sizes) (λ c code. Spelling.u16 (length code) ++ flat_map Spelling.op_bytes code) (λ c code. is_between 1 (2 ^ 16) (length code) && list_all (fits_op v sizes) code)
+    (last (λ (c : (((((Unit {0} × Sign) × Text) × List Carrier) × List Carrier) × ℕ) × ℕ). code_at v sizes) (λ c code. Spelling.u16 (length code) ++ flat_map Spelling.op_bytes code) (λ c code. is_between 1 (MAX_INSTRUCTIONS + 1) (length code) && list_all (fits_op v sizes) code)
     (λ c. record { sign = c.0.0.0.0.0.0.1; name = c.0.0.0.0.0.1; parameters = c.0.0.0.0.1; loops = c.0.0.0.1; steps = c.0.0.1; tokens = c.0.1; code = c.1 })
     (λ e. ((((((tt, e.sign), e.name), e.parameters), e.loops), e.steps), e.tokens)) (λ e. e.code) (λ e. refl) (λ c. refl) (λ c. code_reads v sizes)))))))))
 
@@ -244,7 +244,7 @@ initial_reads es =
 -- ---- whole modules
 
 abbrev sorts_fit : List SortContents → Bool
-sorts_fit sorts = is_between 0 256 (length sorts) && list_all fits_sort sorts
+sorts_fit sorts = is_between 0 (MAX_STRUCTS + 1) (length sorts) && list_all fits_sort sorts
 
 abbrev equations_fit : Version → List ℕ → List EquationContents → Bool
 equations_fit v sizes es = (is_between 1 (MAX_EQUATIONS + 1) (length es) && list_all (fits_equation v sizes) es) && nat_le (instance_count es) MAX_INSTANCES
@@ -265,7 +265,7 @@ contents_reads =
     and_from _ _ a.0 (and_from _ _ (and_from _ _ b.0 d.0) d.1))
     (close _ _ _ (then (λ c. mark_at) (λ c u. Spelling.mark) (λ c u. true) _ (λ m. tt) (λ m. tt) _ _ (λ c. mark_reads)
     (then (λ (c : Unit {0} × Unit {0}). version_at) (λ c. Spelling.version_bytes) (λ c v. true) _ (λ m. (tt, tt)) (λ m. m.version) _ _ (λ c. version_reads)
-    (then (λ (c : (Unit {0} × Unit {0}) × Version). counted_at 0 256 sort_at) (λ c. Spelling.counted Spelling.sort_bytes) (λ c. sorts_fit) _ (λ m. ((tt, tt), m.version)) (λ m. m.sorts) _ _ (λ c. counted_reads 0 256 sort_at Spelling.sort_bytes fits_sort (omega arith) sort_reads)
+    (then (λ (c : (Unit {0} × Unit {0}) × Version). counted_at 0 (MAX_STRUCTS + 1) sort_at) (λ c. Spelling.counted Spelling.sort_bytes) (λ c. sorts_fit) _ (λ m. ((tt, tt), m.version)) (λ m. m.sorts) _ _ (λ c. counted_reads 0 (MAX_STRUCTS + 1) sort_at Spelling.sort_bytes fits_sort (omega arith) sort_reads)
     (then (λ (c : ((Unit {0} × Unit {0}) × Version) × List SortContents). equations_at c.0.1 (counts c.1)) (λ c. Spelling.counted Spelling.equation_bytes) (λ c. equations_fit c.0.1 (counts c.1)) _ (λ m. (((tt, tt), m.version), m.sorts)) (λ m. m.equations) _ _ (λ c. equations_reads c.0.1 (counts c.1))
     (last (λ (c : (((Unit {0} × Unit {0}) × Version) × List SortContents) × List EquationContents). initial_at c.1) (λ c. Spelling.initial_bytes) (λ c. fits_initial c.1)
     (λ c. record { version = c.0.0.0.1; sorts = c.0.0.1; equations = c.0.1; initial = c.1 }) (λ m. ((((tt, tt), m.version), m.sorts), m.equations)) (λ m. m.initial) (λ m. refl) (λ c. refl) (λ c. initial_reads c.1)))))))

@@ -1,11 +1,12 @@
 -- Laws of names, sorts and carriers.
-use Rattle.std.proofs.Common.{◌≡◌, ℕ, zero, suc, ◌<◌, ◌≤◌, Bool, true, false, cond, ◌&&◌, ltb, List, ◌∷◌, ◌++◌, length, take, drop, Some, None, Ok, Err, refl, sym, ap, subst, ◌∙◌, append_assoc, length-append, arith}
+use Rattle.std.proofs.Common.{◌≡◌, ℕ, zero, suc, ◌+◌, ◌<◌, ◌≤◌, Bool, true, false, cond, ◌&&◌, ltb, List, ◌∷◌, ◌++◌, length, take, drop, Some, None, Ok, Err, refl, sym, ap, subst, ◌∙◌, append_assoc, length-append, arith}
 use Rattle.std.specs.Prelude.{ℤ, int_le, nat_le, nat_lt, ◌==◌}
 use Rattle.std.specs.Int.{w32}
 use Rattle.std.specs.List.{flat_map, list_all}
 use Rattle.std.proofs.lemmas.Bool.{and_parts, and_from, ltb-false, le-ltb, ltb-true, lt-ltb, eqb-true, eq-eqb}
 use Rattle.std.proofs.lemmas.List.{take_at, drop_at, take-append-drop, length-take}
 use Rattle.std.proofs.lemmas.Option.{same_Some}
+use Rattle.pb_sorts.specs.declared.limits.TheConstants.{MAX_ENUMERATORS}
 use Rattle.pb_sorts.specs.declared.carrier.Carrier.{Carrier}
 use Rattle.pb_sorts.specs.declared.carrier.Enumeration.{Enumeration}
 use Rattle.pb_sorts.specs.declared.carrier.Range.{Range}
@@ -96,7 +97,7 @@ name_reads = record {
 
 pub sort_reads : Reads sort_at Spelling.sort_bytes fits_sort
 unfolding sort_at
-sort_reads = counted_reads 1 256 name_at Spelling.name_bytes is_name (omega arith) name_reads
+sort_reads = counted_reads 1 (MAX_ENUMERATORS + 1) name_at Spelling.name_bytes is_name (omega arith) name_reads
 
 -- ---- bounds and carriers
 

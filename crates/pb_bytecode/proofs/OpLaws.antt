@@ -13,6 +13,7 @@ use Rattle.pb_bytecode.proofs.Readers.{IsBytes, bind_ok, bind_err, ok_is, Took, 
 use Rattle.pb_bytecode.proofs.FieldLaws.{byte_reads, number_reads, wide16, i64_reads}
 use Rattle.pb_bytecode.proofs.NameLaws.{between_reads, bounds_reads, behind}
 use Rattle.std.specs.Prelude.{slice_get}
+use Rattle.pb_sorts.specs.declared.limits.TheConstants.{MAX_INSTRUCTIONS}
 use Rattle.pb_bytecode_program.specs.declared.instruction.Op.{Op}
 use Rattle.pb_bytecode_program.specs.declared.instruction.Op.TheVariants as op
 use Rattle.pb_bytecode_program.specs.declared.instruction.Arithmetic.TheVariants as arithmetic
@@ -400,7 +401,7 @@ op_reads v sizes = record {
       omega (arith, ap length k.1));
 }
 
-pub code_reads : (v : Version) (sizes : List ℕ) → Reads (code_at v sizes) (λ code. Spelling.u16 (length code) ++ flat_map Spelling.op_bytes code) (λ code. is_between 1 (2 ^ 16) (length code) && list_all (fits_op v sizes) code)
+pub code_reads : (v : Version) (sizes : List ℕ) → Reads (code_at v sizes) (λ code. Spelling.u16 (length code) ++ flat_map Spelling.op_bytes code) (λ code. is_between 1 (MAX_INSTRUCTIONS + 1) (length code) && list_all (fits_op v sizes) code)
 unfolding code_at
 code_reads v sizes =
     same_test (code_at v sizes) (λ code. Spelling.u16 (length code) ++ flat_map Spelling.op_bytes code) (λ code. (is_u16 (length code) && nat_le 1 (length code)) && list_all (fits_op v sizes) code) _
@@ -409,8 +410,8 @@ code_reads v sizes =
     let b = and_parts (is_u16 (length code)) (nat_le 1 (length code)) a.0 in
     and_from _ _ (and_from _ _ b.1 b.0) a.1)
     (λ code h.
-    let a = and_parts (is_between 1 (2 ^ 16) (length code)) (list_all (fits_op v sizes) code) h in
-    let b = and_parts (nat_le 1 (length code)) (nat_lt (length code) (2 ^ 16)) a.0 in
+    let a = and_parts (is_between 1 (MAX_INSTRUCTIONS + 1) (length code)) (list_all (fits_op v sizes) code) h in
+    let b = and_parts (nat_le 1 (length code)) (nat_lt (length code) (MAX_INSTRUCTIONS + 1)) a.0 in
     and_from _ _ (and_from _ _ b.1 b.0) a.1)
     (behind (checked (number_at w16) (kept (λ n. nat_le 1 n)) rule.Limit) Spelling.u16 (λ n. is_u16 n && nat_le 1 n) (op_at v sizes) Spelling.op_bytes (fits_op v sizes)
     (keep (number_at w16) Spelling.u16 is_u16 (λ n. nat_le 1 n) rule.Limit u16_reads) (op_reads v sizes))

@@ -3,6 +3,7 @@ use Rattle.std.proofs.Common.{◌≡◌, ℕ, zero, suc, ◌<◌, ◌≤◌, Boo
 use Rattle.std.specs.List.{flat_map, list_all}
 use Rattle.std.proofs.lemmas.Bool.{and_parts, and_from}
 use Rattle.std.proofs.lemmas.List.Concat.{flat_map-cons}
+use Rattle.std.proofs.Math.Bool.{and-true}
 use Rattle.pb_bytecode.specs.declared.fault.ModuleFault.{ModuleFault}
 use Rattle.pb_bytecode.specs.declared.fault.ModuleRule.{ModuleRule}
 use Rattle.pb_bytecode.specs.Reading.{◌>>=◌, Field, known, checked, kept, items_at}
@@ -182,10 +183,6 @@ items {A} item spell test reads = record { takes = item_takes; again = item_agai
         (λ g. let w = item_within n x.1 e t.left g in omega arith)
         (λ y ok' g. absurd cc))
 
-and_true : (b : Bool) → (b && true) ≡ b
-and_true true = refl
-and_true false = refl
-
 -- the last field
 pub last : {A B C : Type 0} (read : C → List ℕ → Field A) (spell : C → A → List ℕ) (test : C → A → Bool) (make : C × A → B) (part : B → C) (field : B → A)
     → ((b : B) → make (part b, field b) ≡ b) → ((c : C × A) → (part (make c), field (make c)) ≡ c)
@@ -196,8 +193,8 @@ last {A} {B} {C} read spell test make part field back forth first =
     record {
       takes = λ c bytes x fits e.
           let t = r.takes c bytes x fits e in
-          (t.0, record { parts = t.1.parts ∙ ap (λ (z : List ℕ). z ++ x.1) (append-nil (spell (part x.0) (field x.0))); left = t.1.left; fits = sym (and_true _) ∙ t.1.fits });
-      again = λ b rest h. ap (λ (z : List ℕ). read (part b) (z ++ rest) >>= λ x. Ok (make (part b, x.0), x.1)) (sym (append-nil (spell (part b) (field b)))) ∙ r.again b rest (and_true _ ∙ h);
+          (t.0, record { parts = t.1.parts ∙ ap (λ (z : List ℕ). z ++ x.1) (append-nil (spell (part x.0) (field x.0))); left = t.1.left; fits = sym (and-true _) ∙ t.1.fits });
+      again = λ b rest h. ap (λ (z : List ℕ). read (part b) (z ++ rest) >>= λ x. Ok (make (part b, x.0), x.1)) (sym (append-nil (spell (part b) (field b)))) ∙ r.again b rest (and-true _ ∙ h);
       within = r.within;
     }
 

@@ -9,5 +9,7 @@ pub mod Views
 pub mod Decoded
 pub mod Countable
 pub mod Meaning
+pub mod Solved
+pub mod Examples
 pub mod RuleNumber
 pub mod ErrorText

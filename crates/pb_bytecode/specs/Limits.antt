@@ -2,7 +2,7 @@
 use Rattle.std.specs.Prelude.{ℕ, ◌+◌, ◌^◌, Bool, true, false, ◌&&◌, ◌==◌, nat_le, nat_lt, List, [], ◌∷◌, length, map, Option, Some, None, unwrap_or, slice_get, ℤ, pos, negsuc, int_le}
 use Rattle.std.specs.List.{list_all}
 use Rattle.pb_carriers.specs.Carrier.{Tuple, is_within, tuple_count}
-use Rattle.pb_sorts.specs.declared.limits.TheConstants.{MAX_EQUATIONS, MAX_PARAMETERS, MAX_INSTANCES}
+use Rattle.pb_sorts.specs.declared.limits.TheConstants.{MAX_STRUCTS, MAX_ENUMERATORS, MAX_EQUATIONS, MAX_PARAMETERS, MAX_INSTANCES, MAX_LOOP_SLOTS, MAX_INSTRUCTIONS}
 use Rattle.pb_sorts.specs.Carrier.{values_of}
 use Rattle.pb_sorts.specs.declared.carrier.Carrier.{Carrier}
 use Rattle.pb_sorts.specs.declared.carrier.Carrier.TheVariants as carrier
@@ -41,9 +41,9 @@ are_bounds low high = (is_i32 low && is_i32 high) && int_le low high
 
 -- ---- sorts and carriers
 
--- a sort has 1 to 255 enumerators
+-- a sort has 1 to MAX_ENUMERATORS enumerators
 abbrev pub fits_sort : SortContents → Bool
-fits_sort names = is_between 1 256 (length names) && list_all is_name names
+fits_sort names = is_between 1 (MAX_ENUMERATORS + 1) (length names) && list_all is_name names
 
 -- how many enumerators a sort has
 abbrev pub count_of : List ℕ → ℕ → ℕ
@@ -79,15 +79,15 @@ fits_op v sizes _ = true
 
 -- ---- equations
 
--- at most 8 parameters, 240 loop slots, and 1 to 65535 instructions
+-- at most MAX_PARAMETERS parameters and MAX_LOOP_SLOTS loop slots, and 1 to MAX_INSTRUCTIONS instructions
 abbrev pub fits_equation : Version → List ℕ → EquationContents → Bool
 fits_equation v sizes e =
     is_name e.name
     && ((is_between 0 (MAX_PARAMETERS + 1) (length e.parameters) && list_all (fits_carrier sizes) e.parameters)
-    && ((is_between 0 241 (length e.loops) && list_all (fits_carrier sizes) e.loops)
+    && ((is_between 0 (MAX_LOOP_SLOTS + 1) (length e.loops) && list_all (fits_carrier sizes) e.loops)
     && (is_u32 e.steps
     && (is_u32 e.tokens
-    && (is_between 1 (2 ^ 16) (length e.code) && list_all (fits_op v sizes) e.code)))))
+    && (is_between 1 (MAX_INSTRUCTIONS + 1) (length e.code) && list_all (fits_op v sizes) e.code)))))
 
 -- how many instances the equations' predicate variables have
 abbrev pub instance_count : List EquationContents → ℕ
@@ -112,10 +112,10 @@ is_tuple (Some parameters) values = fits_values parameters values
 abbrev pub fits_initial : List EquationContents → InitialContents → Bool
 fits_initial equations i = is_byte i.equation && is_tuple (parameters_of (slice_get equations i.equation)) i.values
 
--- at most 255 sorts, 1 to 64 equations, and 2^22 instances over all carriers
+-- at most MAX_STRUCTS sorts, 1 to MAX_EQUATIONS equations, and MAX_INSTANCES instances over all carriers
 abbrev pub fits : Contents → Bool
 fits m =
-    (is_between 0 256 (length m.sorts) && list_all fits_sort m.sorts)
+    (is_between 0 (MAX_STRUCTS + 1) (length m.sorts) && list_all fits_sort m.sorts)
     && ((is_between 1 (MAX_EQUATIONS + 1) (length m.equations) && list_all (fits_equation m.version (counts m.sorts)) m.equations)
     && (nat_le (instance_count m.equations) MAX_INSTANCES
     && fits_initial m.equations m.initial))

@@ -7,7 +7,7 @@ use Rattle.std.specs.Int.{Width, w16, w32, w64, byte_len, from_le_bytes, cast_si
 use Rattle.pb_carriers.specs.Carrier.{Tuple, contains}
 use Rattle.pb_fixpoint.specs.declared.Sign.{Sign}
 use Rattle.pb_fixpoint.specs.declared.Sign.TheVariants.{Mu, Nu}
-use Rattle.pb_sorts.specs.declared.limits.TheConstants.{MAX_EQUATIONS, MAX_PARAMETERS, MAX_INSTANCES}
+use Rattle.pb_sorts.specs.declared.limits.TheConstants.{MAX_STRUCTS, MAX_ENUMERATORS, MAX_EQUATIONS, MAX_PARAMETERS, MAX_INSTANCES, MAX_LOOP_SLOTS}
 use Rattle.pb_sorts.specs.Carrier.{values_of}
 use Rattle.pb_sorts.specs.declared.carrier.Carrier.{Carrier}
 use Rattle.pb_sorts.specs.declared.carrier.Carrier.TheVariants as carrier
@@ -111,7 +111,7 @@ name_at bytes = do
   if nat_lt (length n.1) n.0 then Err truncated else known (kept is_name (take n.0 n.1)) rule.Limit bytes (drop n.0 n.1)
 
 unfoldable pub sort_at : List ℕ → Field SortContents
-sort_at bytes = counted_at 1 256 name_at bytes
+sort_at bytes = counted_at 1 (MAX_ENUMERATORS + 1) name_at bytes
 
 -- the carrier of these bounds, unless it is empty
 abbrev pub range_from : (low high : ℤ) (b : Bool) → int_le low high ≡ b → Option Carrier
@@ -207,7 +207,7 @@ equation_at v sizes bytes = do
   sign ← sign_at bytes
   name ← name_at sign.1
   parameters ← counted_at 0 (MAX_PARAMETERS + 1) (carrier_at sizes) name.1
-  loops ← counted_at 0 241 (carrier_at sizes) parameters.1
+  loops ← counted_at 0 (MAX_LOOP_SLOTS + 1) (carrier_at sizes) parameters.1
   steps ← number_at w32 loops.1
   tokens ← number_at w32 steps.1
   code ← code_at v sizes tokens.1
@@ -260,7 +260,7 @@ unfoldable pub contents_at : List ℕ → Field Contents
 contents_at bytes = do
   mark ← mark_at bytes
   v ← version_at mark.1
-  sorts ← counted_at 0 256 sort_at v.1
+  sorts ← counted_at 0 (MAX_STRUCTS + 1) sort_at v.1
   equations ← equations_at v.0 (counts sorts.0) sorts.1
   initial ← initial_at equations.0 equations.1
   Ok (record { version = v.0; sorts = sorts.0; equations = equations.0; initial = initial.0 }, initial.1)

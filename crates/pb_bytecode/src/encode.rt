@@ -157,7 +157,8 @@ fn code_of(op: &Op) -> u8
 
 /// Two bounds and a target.
 fn put_test(out: &mut Vec<u8>, low: &i32, high: &i32, target: u16) -> Result<(), AllocError>
-    ensures { OnOk result (out.new.items ≡ out.old.items ++ (bounds low.now high.now ++ u16 target)) }
+    ensures { OnOk result (out.new.items ≡ out.old.items
+        ++ (bounds low.now high.now ++ u16 target)) }
 {
     put_bounds(out, low, high)?;
     out.extend_from_slice(&target.to_le_bytes())

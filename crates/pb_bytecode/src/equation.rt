@@ -11,9 +11,9 @@ use pb_sorts::Carrier;
 pub struct Equation {
     pub sign: Sign,
     pub name: Name,
-    /// Carriers of the parameters, at most 8. They are the first slots.
+    /// Carriers of the parameters, at most `MAX_PARAMETERS`. They are the first slots.
     pub parameters: Vec<Carrier>,
-    /// Carriers of the loop slots, at most 240, which follow the parameters.
+    /// Carriers of the loop slots, at most `MAX_LOOP_SLOTS`, which follow the parameters.
     pub loops: Vec<Carrier>,
     /// How many steps a run takes at most, as the module states it.
     pub steps: u32,

@@ -89,8 +89,9 @@ impl<T: Drop> From<AllocFailed<T>> for ReadError {
 pub enum ModuleError {
     /// Memory ran out.
     Memory,
-    /// The first fault from the left, and the byte at which its field begins, counted from 0. Where the input ends
-    /// inside a field it is the input's length, and where the mark is wrong the first byte that differs.
+    /// The first fault from the left, and the byte at which its field begins, counted from 0. Where
+    /// the input ends inside a field it is the input's length, and where the mark is wrong the
+    /// first byte that differs.
     ModuleFault { rule: ModuleRule, byte: usize },
 }
 

@@ -14,7 +14,7 @@ use crate::version::Version;
 pub struct Module {
     pub version: Version,
     pub sorts: Vec<Sort>,
-    /// The equations, 1 to 64, the earlier ones dominating.
+    /// The equations, 1 to `MAX_EQUATIONS`, the earlier ones dominating.
     pub equations: Vec<Equation>,
     pub initial: Initial,
     pub ghost within_limits: { fits (contents_of version sorts.items equations.items initial)

@@ -5,8 +5,8 @@ ghost use Rattle.pb_bytecode.specs.Names.{begins_with_letter, is_letter, is_name
 
 use pb_sorts::MAX_NAME_BYTES;
 
-/// A name: a letter or `_`, then letters, digits, `_` and `'`, at most 64 bytes in all. Reserved
-/// words of texts are names, too.
+/// A name: a letter or `_`, then letters, digits, `_` and `'`, at most `MAX_NAME_BYTES` bytes in
+/// all. Reserved words of texts are names, too.
 #[derive(Debug, Drop)]
 pub struct Name {
     pub text: String,

@@ -1,12 +1,13 @@
 //! Sorts of enumerators.
-ghost use Rattle.std.specs.Prelude.{◌<◌, vec_len};
+ghost use Rattle.std.specs.Prelude.{◌≤◌, vec_len};
+ghost use Rattle.pb_sorts.specs.declared.limits.TheConstants.{MAX_ENUMERATORS};
 
 use crate::name::Name;
 
-/// A sort, by its enumerators' names in order. A module has at most 255 sorts with 1 to 255
-/// enumerators each.
+/// A sort, by its enumerators' names in order. A module has at most `MAX_STRUCTS` sorts with 1 to
+/// `MAX_ENUMERATORS` enumerators each.
 #[derive(Debug, Drop)]
 pub struct Sort {
     pub enumerators: Vec<Name>,
-    pub ghost few: { vec_len enumerators < 256 },
+    pub ghost few: { vec_len enumerators ≤ MAX_ENUMERATORS },
 }

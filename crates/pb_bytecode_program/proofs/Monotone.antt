@@ -34,6 +34,11 @@ abbrev pub Holds : (ℕ → AbstractState → Type 0) → Flow → Type 0
 Holds P None = ⊥
 Holds P (Some es) = AllEdges P es
 
+pub self_covers : (b : Carrier) → is_inhabited b ≡ true → Covers (abstraction_of b) (abstraction_of b)
+self_covers carrier.Bool e = tt
+self_covers (carrier.Enum enum) e = (refl, omega arith)
+self_covers (carrier.Range range) e = (≤ℤ_refl range.low, le_true range.low range.high e, ≤ℤ_refl range.high)
+
 -- ---- lists
 
 each_length : (ss ts : List AbstractValue) → CoversEach ss ts → length ss ≡ length ts
@@ -307,11 +312,6 @@ module _ (P Q : ℕ → AbstractState → Type 0) (down : (to : ℕ) (k m : Abst
     less_end (x ∷ ls) [] n n' r r' d e f h = absurd d
     less_end [] [] n zero r (suc zero) d e f h = rw (e, f) tt
     less_end [] [] n zero r (suc (suc r')) d e f h = absurd h
-
-    self_covers : (b : Carrier) → is_inhabited b ≡ true → Covers (abstraction_of b) (abstraction_of b)
-    self_covers carrier.Bool e = tt
-    self_covers (carrier.Enum enum) e = (refl, omega arith)
-    self_covers (carrier.Range range) e = (≤ℤ_refl range.low, le_true range.low range.high e, ≤ℤ_refl range.high)
 
     less_loop : (q j : ℕ) (b : Option Carrier) → Holds P (abstract_loop q m j b) → Holds Q (abstract_loop q k j b)
     less_loop q j None h = absurd h

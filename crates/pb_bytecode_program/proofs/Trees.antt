@@ -43,8 +43,8 @@ opening-token connective.Or = refl
 abbrev AreOf : List Carrier → List Value → Type 0
 AreOf cs vs = carriers.is_within (map values_of cs) (map untagged vs) ≡ true
 
-reverse_more : (c : Carrier) (cs ds : List Carrier) → reverse (c ∷ cs) ++ ds ≡ reverse cs ++ c ∷ ds
-reverse_more c cs ds = ap (λ es. es ++ ds) (reverse-append (c ∷ []) cs) ∙ append_assoc (reverse cs) (c ∷ []) ds
+pub reverse_more : {X : Type 0} (x : X) (xs ys : List X) → reverse (x ∷ xs) ++ ys ≡ reverse xs ++ x ∷ ys
+reverse_more x xs ys = ap (λ es. es ++ ys) (reverse-append (x ∷ []) xs) ∙ append_assoc (reverse xs) (x ∷ []) ys
 
 -- values of a callee's carriers are an instance
 callee-instance : (callees : List (List Carrier)) (eq : ℕ) (cs : List Carrier) (values : List ℤ) → slice_get callees eq ≡ Some cs → carriers.is_within (map values_of cs) values ≡ true → is_instance (carriers_of callees) (record { equation = eq; values = values }) ≡ true

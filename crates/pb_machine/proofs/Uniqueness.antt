@@ -10,6 +10,7 @@ use Rattle.pb_trees.specs.declared.Token.{Token}
 use Rattle.pb_trees.specs.Tree.{Connective, Leaf, Yes, No, Cut, Call, Operands, End, LeafThen, BracketThen, Tree, Single, Root, LeafCalls, OperandsCall, TreeCalls, joined, leaf_truth, operands_truth, tree_truth}
 use Rattle.pb_trees.specs.Equations.{Signature, equation, numbered, solved, total}
 use Rattle.pb_trees.specs.Laws.{TokensAreOneTree}
+use Rattle.pb_trees.proofs.Calls.{tree_weaker}
 use Rattle.pb_sorts.specs.Instance.{Instance, instances}
 use Rattle.pb_sorts.specs.Layout.{carriers_of, count_of}
 use Rattle.pb_sorts.proofs.Numbers.{number-is_instance, number_of-slice_get}
@@ -40,23 +41,6 @@ module _ (u v : Environment ℕ) where
   tree_alike : (t : Tree) → TreeCalls Alike t → tree_truth u t ≡ tree_truth v t
   tree_alike (Single leaf) h = leaf_alike leaf h
   tree_alike (Root c operands) h = operands_alike c operands h
-
--- a tree whose calls have P, and so Q
-module _ (P Q : ℕ → Type 0) (f : (n : ℕ) → P n → Q n) where
-  leaf_more : (l : Leaf) → LeafCalls P l → LeafCalls Q l
-  leaf_more Yes h = tt
-  leaf_more No h = tt
-  leaf_more Cut h = tt
-  leaf_more (Call n) h = f n h
-
-  operands_more : (o : Operands) → OperandsCall P o → OperandsCall Q o
-  operands_more End h = tt
-  operands_more (LeafThen leaf after) h = (leaf_more leaf h.0, operands_more after h.1)
-  operands_more (BracketThen c inside after) h = (operands_more inside h.0, operands_more after h.1)
-
-  tree_more : (t : Tree) → TreeCalls P t → TreeCalls Q t
-  tree_more (Single leaf) h = leaf_more leaf h
-  tree_more (Root c operands) h = operands_more operands h
 
 -- ---- a number that no equation owns stays as it was
 
@@ -103,7 +87,7 @@ module _ (one_tree : TokensAreOneTree) (m : Contents) (s t : ℕ → Tree) (firs
       let number : n ≡ number_at m h.0.equation h.0.values = number_of-slice_get (parameters m) n h.0 h.1 in
       let calls = (second h.0.equation f.equation h.0.values f.declared f.within).calls in
       subst (λ k. TreeCalls (λ j. j < count_of (parameters m)) (t k)) (sym number)
-      (tree_more (IsInstance (program_of m f.equation)) (λ k. k < count_of (parameters m)) (instance_inside f.equation) (t (number_at m h.0.equation h.0.values)) calls)
+      (tree_weaker (IsInstance (program_of m f.equation)) (λ k. k < count_of (parameters m)) (instance_inside f.equation) (t (number_at m h.0.equation h.0.values)) calls)
     where
       instance_inside : (e : EquationContents) (k : ℕ) → IsInstance (program_of m e) k → k < count_of (parameters m)
       instance_inside e k i =
@@ -124,7 +108,7 @@ module _ (one_tree : TokensAreOneTree) (m : Contents) (s t : ℕ → Tree) (firs
       owns = λ n k. refl;
       holds = λ u v match n k.
           let inside = ltb-true n (count_of (parameters m)) k in
-          tree_alike v u (t n) (tree_more (λ j. j < count_of (parameters m)) (Alike v u) (λ j below. match j (lt-ltb j (count_of (parameters m)) below)) (t n) (calls_inside n inside))
+          tree_alike v u (t n) (tree_weaker (λ j. j < count_of (parameters m)) (Alike v u) (λ j below. match j (lt-ltb j (count_of (parameters m)) below)) (t n) (calls_inside n inside))
           ∙ sym (ap (tree_truth u) (tree_is_one n inside));
     },
     same_from (first + x.size) signatures,

@@ -60,8 +60,10 @@ impl Machine {
     /// Executes one instruction. Answers whether the run goes on.
     fn execute(&mut self, layout: &Layout, loops: &[Carrier], op: &Op) -> bool
         requires few { count_of layout.now ≤ MAX_INSTANCES }
-        requires ready { (p : Program) × CallsOf p layout.now × (p.loops ≡ loops.now) × IsReady p self.old op.now }
-        ensures { (p : Program) → CallsOf p layout.now → p.loops ≡ loops.now → Executes p op.now self.old self.new result }
+        requires ready { (p : Program) × CallsOf p layout.now × (p.loops ≡ loops.now)
+            × IsReady p self.old op.now }
+        ensures { (p : Program) → CallsOf p layout.now → p.loops ≡ loops.now
+            → Executes p op.now self.old self.new result }
     {
         match op {
             Op::End => return false,
@@ -99,7 +101,9 @@ impl Machine {
     /// Makes ready for a run on these arguments, with room for all operands and loops that code may
     /// have and all tokens that it may write, so that no instruction tests for room.
     fn begin(&mut self, code: &Code, arguments: &[i64]) -> Result<(), AllocError>
-        ensures { IfOk result (λ _. (p : Program) → p.loops ≡ code.now.loops.now → p.stated_tokens ≡ code.now.tokens → AreArguments p.parameters arguments.now → Mirrors p self.new (start (tagged_arguments p.parameters arguments.now))) }
+        ensures { IfOk result (λ _. (p : Program) → p.loops ≡ code.now.loops.now
+            → p.stated_tokens ≡ code.now.tokens → AreArguments p.parameters arguments.now
+            → Mirrors p self.new (start (tagged_arguments p.parameters arguments.now))) }
     {
         self.place = 0;
         self.operands.clear();
@@ -112,8 +116,9 @@ impl Machine {
         Ok(())
     }
 
-    /// Runs this code on these arguments. The output is then that of the tagged machine at its END: the tokens of the
-    /// tree with which it ends. Instances that the code calls are numbered by the layout.
+    /// Runs this code on these arguments. The output is then that of the tagged machine at its END:
+    /// the tokens of the tree with which it ends. Instances that the code calls are numbered by the
+    /// layout.
     ///
     /// # Errors
     /// Memory was refused: for operands, loops, slots and the tokens that the code states, which is

@@ -1,10 +1,10 @@
 -- What the limits of modules say of the equations' code and of the layout.
-use Rattle.std.proofs.Common.{◌≡◌, ℕ, zero, suc, ◌^◌, ◌<◌, ◌≤◌, Bool, true, ◌&&◌, List, [], ◌∷◌, length, map, Some, subst, arith, ◌+◌}
+use Rattle.std.proofs.Common.{◌≡◌, ℕ, zero, suc, ◌<◌, ◌≤◌, Bool, true, ◌&&◌, List, [], ◌∷◌, length, map, Some, subst, arith, ◌+◌}
 use Rattle.std.specs.Prelude.{All, nat_le, nat_lt, slice_get, int_le}
 use Rattle.std.specs.List.{list_all}
 use Rattle.std.proofs.lemmas.Bool.{and_parts, leb-true, ltb-true}
 use Rattle.std.proofs.lemmas.List.{length-map}
-use Rattle.pb_sorts.specs.declared.limits.TheConstants.{MAX_EQUATIONS, MAX_PARAMETERS, MAX_INSTANCES}
+use Rattle.pb_sorts.specs.declared.limits.TheConstants.{MAX_STRUCTS, MAX_EQUATIONS, MAX_PARAMETERS, MAX_INSTANCES, MAX_LOOP_SLOTS, MAX_INSTRUCTIONS}
 use Rattle.pb_sorts.specs.Layout.{count_of}
 use Rattle.pb_sorts.specs.declared.carrier.Carrier.{Carrier}
 use Rattle.pb_bytecode_program.proofs.Ints.{le_true}
@@ -39,29 +39,29 @@ pub record EquationsFit (m : Contents) : Type 0 where
 
 equations_fit : (m : Contents) → fits m ≡ true → EquationsFit m
 equations_fit m h =
-    let a = and_parts (is_between 0 256 (length m.sorts) && list_all fits_sort m.sorts) ((is_between 1 (MAX_EQUATIONS + 1) (length m.equations) && list_all (fits_equation m.version (counts m.sorts)) m.equations) && (nat_le (instance_count m.equations) MAX_INSTANCES && fits_initial m.equations m.initial)) h in
+    let a = and_parts (is_between 0 (MAX_STRUCTS + 1) (length m.sorts) && list_all fits_sort m.sorts) ((is_between 1 (MAX_EQUATIONS + 1) (length m.equations) && list_all (fits_equation m.version (counts m.sorts)) m.equations) && (nat_le (instance_count m.equations) MAX_INSTANCES && fits_initial m.equations m.initial)) h in
     let b = and_parts (is_between 1 (MAX_EQUATIONS + 1) (length m.equations) && list_all (fits_equation m.version (counts m.sorts)) m.equations) (nat_le (instance_count m.equations) MAX_INSTANCES && fits_initial m.equations m.initial) a.1 in
     let c = and_parts (is_between 1 (MAX_EQUATIONS + 1) (length m.equations)) (list_all (fits_equation m.version (counts m.sorts)) m.equations) b.0 in
     record { few = c.0; each = c.1; instances = (and_parts (nat_le (instance_count m.equations) MAX_INSTANCES) (fits_initial m.equations m.initial) b.1).0 }
 
 pub record CodeFits (v : Version) (sizes : List ℕ) (e : EquationContents) : Type 0 where
   pub parameters : is_between 0 (MAX_PARAMETERS + 1) (length e.parameters) ≡ true
-  pub code : is_between 1 (2 ^ 16) (length e.code) ≡ true
+  pub code : is_between 1 (MAX_INSTRUCTIONS + 1) (length e.code) ≡ true
   pub ops : list_all (fits_op v sizes) e.code ≡ true
 
 code_fits : (v : Version) (sizes : List ℕ) (e : EquationContents) → fits_equation v sizes e ≡ true → CodeFits v sizes e
 code_fits v sizes e h =
-    let code = is_between 1 (2 ^ 16) (length e.code) && list_all (fits_op v sizes) e.code in
+    let code = is_between 1 (MAX_INSTRUCTIONS + 1) (length e.code) && list_all (fits_op v sizes) e.code in
     let tokens = is_u32 e.tokens && code in
     let steps = is_u32 e.steps && tokens in
-    let loops = is_between 0 241 (length e.loops) && list_all (fits_carrier sizes) e.loops in
+    let loops = is_between 0 (MAX_LOOP_SLOTS + 1) (length e.loops) && list_all (fits_carrier sizes) e.loops in
     let parameters = is_between 0 (MAX_PARAMETERS + 1) (length e.parameters) && list_all (fits_carrier sizes) e.parameters in
     let a = and_parts (is_name e.name) (parameters && (loops && steps)) h in
     let b = and_parts parameters (loops && steps) a.1 in
     let c = and_parts loops steps b.1 in
     let d = and_parts (is_u32 e.steps) tokens c.1 in
     let f = and_parts (is_u32 e.tokens) code d.1 in
-    let g = and_parts (is_between 1 (2 ^ 16) (length e.code)) (list_all (fits_op v sizes) e.code) f.1 in
+    let g = and_parts (is_between 1 (MAX_INSTRUCTIONS + 1) (length e.code)) (list_all (fits_op v sizes) e.code) f.1 in
     record { parameters = (and_parts (is_between 0 (MAX_PARAMETERS + 1) (length e.parameters)) (list_all (fits_carrier sizes) e.parameters) b.0).0; code = g.0; ops = g.1 }
 
 -- ---- code
@@ -99,8 +99,8 @@ code_within_limits m k e h at =
     let parts = equations_fit m h in
     let fit = code_fits m.version (counts m.sorts) e (all_at (fits_equation m.version (counts m.sorts)) m.equations k e parts.each at) in
     record {
-      some = let a = above 1 (2 ^ 16) (length e.code) fit.code in omega arith;
-      short = below 1 (2 ^ 16) (length e.code) fit.code;
+      some = let a = above 1 (MAX_INSTRUCTIONS + 1) (length e.code) fit.code in omega arith;
+      short = let a = below 1 (MAX_INSTRUCTIONS + 1) (length e.code) fit.code in omega arith;
       bounds = λ q i here. ordered m.version (counts m.sorts) i (all_at (fits_op m.version (counts m.sorts)) e.code q i fit.ops here);
     }
 

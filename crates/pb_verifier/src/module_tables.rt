@@ -29,7 +29,8 @@ pub(crate) fn parameter_carriers(
     alloc: Global,
     equations: &[Equation],
 ) -> Result<Vec<Vec<Carrier>>, AllocError>
-    ensures { IfOk result (λ carriers. map vec_items carriers.items ≡ map parameters_of equations.now) }
+    ensures { IfOk result (λ carriers. map vec_items carriers.items
+        ≡ map parameters_of equations.now) }
 {
     let mut carriers = Vec::with_capacity(alloc, equations.len())?;
     for equation in equations {

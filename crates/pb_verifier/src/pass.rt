@@ -1,7 +1,7 @@
 //! The pass over the code of an equation: each place's state flows on to later places, from the
 //! first place to the last.
 
-ghost use Rattle.std.specs.Prelude.{◌≡◌, ◌<◌, [], ◌∷◌, IfOk, List, None, OnOk, Some, ℕ, map};
+ghost use Rattle.std.specs.Prelude.{◌≡◌, ◌<◌, ◌≤◌, [], ◌∷◌, IfOk, List, None, OnOk, Some, ℕ, map};
 ghost use Rattle.std.specs.Prelude.{replicate, slice_set, true, false, vec_items, vec_len};
 ghost use Rattle.pb_verifier_states.specs.Refusals.{OnRefused};
 ghost use Rattle.pb_bytecode_program.specs.Accepted.{state_at};
@@ -14,6 +14,7 @@ ghost use Rattle.pb_verifier.specs.Pass.{code_passes, homes_after, opening, visi
 ghost use Rattle.pb_verifier.specs.Programs.{program_in};
 ghost use Rattle.pb_verifier.specs.Names.{program_with};
 ghost use Rattle.pb_verifier_structure.specs.Structure.{IsWithinLimits};
+ghost use Rattle.pb_sorts.specs.declared.limits.TheConstants.{MAX_INSTRUCTIONS};
 ghost use Rattle.pb_sorts.specs.declared.carrier.Carrier.{Carrier as carrier_type};
 
 use crate::equation_error::EquationError;
@@ -97,7 +98,7 @@ impl PassState {
         instruction: Op,
     ) -> Result<(), FlowError>
         requires bounds { HasOrderedRange instruction }
-        requires small { place < 65536 }
+        requires small { place ≤ MAX_INSTRUCTIONS }
         ensures flows { OnOk result (visited (program_with names.now equation.now) place instruction
             (state_at self.old.table.items place) self.old.open
             (slice_set self.old.table.items place None) ≡ Some self.new.table.items) }
@@ -129,7 +130,7 @@ impl PassState {
         place: usize,
         known: Option<AbstractState>,
     ) -> Result<(), FlowError>
-        requires { place < 65536 }
+        requires { place ≤ MAX_INSTRUCTIONS }
         ensures flows { OnOk result ((sorts : List ℕ) (callees : List (List carrier_type))
             → visited (program_in sorts callees equation.now) place
             (op.Loop slot) known self.old.open self.old.table.items ≡ Some self.new.table.items) }
@@ -154,7 +155,7 @@ impl PassState {
 
     // The end of a loop, of which this is known.
     fn end_loop(&mut self, place: usize, known: Option<AbstractState>) -> Result<(), FlowError>
-        requires { place < 65536 }
+        requires { place ≤ MAX_INSTRUCTIONS }
         ensures flows { OnOk result ((p : Program)
             → visited p place op.Next known self.old.open self.old.table.items
             ≡ Some self.new.table.items) }

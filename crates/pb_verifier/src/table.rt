@@ -1,6 +1,7 @@
 //! What is known of the places to come.
 
-ghost use Rattle.std.specs.Prelude.{◌≡◌, ◌<◌, OnErr, OnOk, Some, None};
+ghost use Rattle.std.specs.Prelude.{◌≡◌, ◌≤◌, OnErr, OnOk, Some, None};
+ghost use Rattle.pb_sorts.specs.declared.limits.TheConstants.{MAX_INSTRUCTIONS};
 ghost use Rattle.pb_verifier_states.specs.Edges.{edges_of};
 ghost use Rattle.pb_verifier.specs.Pass.{merge_edges as merged_edges, merge_state as merged_state};
 
@@ -39,7 +40,7 @@ pub(crate) fn merge_edges(
     place: usize,
     edges: Edges,
 ) -> Result<(), AcceptanceRule>
-    requires { place < 65536 }
+    requires { place ≤ MAX_INSTRUCTIONS }
     ensures ok { OnOk result (merged_edges table.old.items (edges_of place edges.next edges.jump)
         ≡ Some table.new.items) }
     ensures err { OnErr result (merged_edges table.old.items (edges_of place edges.next edges.jump)

@@ -1,6 +1,7 @@
 //! One place of the pass.
 
-ghost use Rattle.std.specs.Prelude.{◌≡◌, ◌<◌, None, OnOk, Option, Some};
+ghost use Rattle.std.specs.Prelude.{◌≡◌, ◌≤◌, None, OnOk, Option, Some};
+ghost use Rattle.pb_sorts.specs.declared.limits.TheConstants.{MAX_INSTRUCTIONS};
 ghost use Rattle.pb_bytecode_program.specs.Monotone.{HasOrderedRange};
 ghost use Rattle.pb_verifier_states.specs.Refusals.{OnRefused};
 ghost use Rattle.pb_bytecode_program.specs.Counts.{Straight, loop_effect};
@@ -37,7 +38,7 @@ pub(crate) fn visit(
 ) -> Result<(), FlowError>
     requires straight { loop_effect instruction ≡ Straight }
     requires bounds { HasOrderedRange instruction }
-    requires small { place < 65536 }
+    requires small { place ≤ MAX_INSTRUCTIONS }
     ensures ok { OnOk result (FlowsTo names.now place instruction state table.old.items
         (Some table.new.items)) }
     ensures refused { OnRefused result
@@ -58,7 +59,7 @@ pub(crate) fn visit_loop(
     place: usize,
     table: &mut Vec<Option<AbstractState>>,
 ) -> Result<(), FlowError>
-    requires { place < 65536 }
+    requires { place ≤ MAX_INSTRUCTIONS }
     ensures ok { OnOk result ((p : Program) (home : Option Known) → carrier_of p slot ≡ carrier
         → then_table (transfer p home place (op.Loop slot) state.now) (merged_edges table.old.items)
         ≡ Some table.new.items) }
@@ -82,7 +83,7 @@ pub(crate) fn visit_next(
     place: usize,
     table: &mut Vec<Option<AbstractState>>,
 ) -> Result<(), FlowError>
-    requires { place < 65536 }
+    requires { place ≤ MAX_INSTRUCTIONS }
     ensures ok { OnOk result ((p : Program) → then_table (transfer p home place op.Next state.now)
         (merged_edges table.old.items) ≡ Some table.new.items) }
     ensures refused { OnRefused result ((p : Program)

@@ -1,6 +1,7 @@
 -- The loops around a place are told by the innermost of them: the body of a LOOP stands in the body around it.
 use Rattle.std.proofs.Common.{◌≡◌, ℕ, zero, suc, ◌+◌, ◌<◌, ◌≤◌, List, [], ◌∷◌, ◌++◌, length, Option, Some, None, refl, sym, ap, ◌∙◌, subst, arith, length-append, ◌⊎◌, inl, inr, ⊎_elim}
 use Rattle.std.specs.Prelude.{slice_get}
+use Rattle.pb_sorts.proofs.Places.{slice_get-append_right}
 use Rattle.pb_bytecode_program.specs.Counts.{LoopEffect, Enters, Leaves, Straight, loop_effect, loops_after, loops_around}
 use Rattle.pb_bytecode_program.specs.declared.instruction.Op.{Op}
 use Rattle.pb_bytecode_program.proofs.Places.{AllBelow, around_below, around_next}
@@ -75,10 +76,6 @@ get_before [] x k h = absurd (omega arith)
 get_before (y ∷ xs) x zero h = refl
 get_before (y ∷ xs) x (suc k) h = get_before xs x k (omega arith)
 
-get_here : {X : Type 0} (xs : List X) (x : X) → slice_get (xs ++ x ∷ []) (length xs) ≡ Some x
-get_here [] x = refl
-get_here (y ∷ xs) x = get_here xs x
-
 pub split : (k q : ℕ) → k < q + 1 → (k < q) ⊎ (k ≡ q)
 split zero zero h = inr refl
 split zero (suc q) h = inl (omega arith)
@@ -95,7 +92,7 @@ one_more code q table o t e = record {
   long = length-append table (o ∷ []) ∙ (let l = t.long in omega arith);
   each = λ k h. ⊎_elim
       (λ (less : k < q). let l = t.long in get_before table o k (omega arith) ∙ t.each k less)
-      (λ (same : k ≡ q). ap (slice_get (table ++ o ∷ [])) (same ∙ sym t.long) ∙ get_here table o ∙ ap Some (e ∙ ap (λ z. innermost_of (loops_around code z)) (sym same)))
+      (λ (same : k ≡ q). ap (slice_get (table ++ o ∷ [])) (same ∙ sym t.long) ∙ slice_get-append_right table (o ∷ []) (length table) 0 (omega arith) ∙ ap Some (e ∙ ap (λ z. innermost_of (loops_around code z)) (sym same)))
       (split k q h);
 }
 

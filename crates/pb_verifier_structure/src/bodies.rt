@@ -1,8 +1,10 @@
 //! Bodies of loops: which LOOP is the innermost one around each place. A body's LOOP stands in the
 //! body around it, so that this table leads from a place outwards through all loops around it.
 
-ghost use Rattle.std.specs.Prelude.{◌≡◌, ◌<◌, ◌↔◌, IfOk, IsTrue, OnErr, OnOk, List, Some, Contains};
+ghost use Rattle.std.specs.Prelude.{◌≡◌, ◌<◌, ◌≤◌, ◌↔◌, IfOk, IsTrue, OnErr, OnOk, List, Some};
+ghost use Rattle.std.specs.Prelude.{Contains};
 ghost use Rattle.std.specs.Prelude.{length, slice_get};
+ghost use Rattle.pb_sorts.specs.declared.limits.TheConstants.{MAX_INSTRUCTIONS};
 ghost use Rattle.pb_bytecode_program.specs.Accepted.{IsTarget, loop_slots};
 ghost use Rattle.pb_bytecode_program.specs.Counts.{loops_around};
 ghost use Rattle.pb_bytecode_program.specs.declared.instruction.Op.{Op};
@@ -38,7 +40,7 @@ impl Bodies {
     /// `Refused` exactly where loops do not nest: for the first NEXT without a LOOP, END in a body
     /// or LOOP nested too deep, and else for the first LOOP without a NEXT.
     pub(crate) fn of(alloc: Global, code: &[Op]) -> Result<Bodies, StructureError>
-        requires { length code.now < 65536 }
+        requires { length code.now ≤ MAX_INSTRUCTIONS }
         ensures innermost { IfOk result (λ bodies. IsInnermost code.now bodies.innermost.items) }
         ensures nested { OnOk result (IsNested code.now) }
         ensures refused { OnRefused result (IsNested code.now → ⊥) }

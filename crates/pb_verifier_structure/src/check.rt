@@ -1,8 +1,9 @@
 //! The rules by position: how loops nest, which places jumps lead to, and which slots and equations
 //! instructions name.
 
-ghost use Rattle.std.specs.Prelude.{◌≡◌, ◌<◌, ◌↔◌, IsSome, IsTrue, OnErr, OnOk, Some, length};
+ghost use Rattle.std.specs.Prelude.{◌≡◌, ◌<◌, ◌≤◌, ◌↔◌, IsSome, IsTrue, OnErr, OnOk, Some, length};
 ghost use Rattle.std.specs.Prelude.{slice_get};
+ghost use Rattle.pb_sorts.specs.declared.limits.TheConstants.{MAX_INSTRUCTIONS};
 ghost use Rattle.pb_bytecode_program.specs.Accepted.{HasValidTarget, IsVisible, NamesInScope};
 ghost use Rattle.pb_bytecode_program.specs.Machine.{Program, carrier_of};
 ghost use Rattle.pb_bytecode_program.specs.declared.instruction.Op.TheVariants as op;
@@ -137,7 +138,7 @@ fn check_instruction(
 /// the first LOOP without a NEXT. Where loops nest, it names the first place that breaks another
 /// rule, and there a name (V09) before a target (V05, V06, V07). `Memory` where memory is refused.
 pub fn check_structure(alloc: Global, code: &EquationCode) -> Result<(), StructureError>
-    requires { length code.now.instructions.now < 65536 }
+    requires { length code.now.instructions.now ≤ MAX_INSTRUCTIONS }
     ensures ok { OnOk result ((p : Program) → IsProgramOf p code.now → IsStructured p) }
     ensures refused { OnRefused result ((p : Program) → IsProgramOf p code.now → IsStructured p
         → ⊥) }

@@ -16,7 +16,7 @@ use crate::initial::Initial;
 use crate::instances::has_few_instances;
 use crate::version::Version;
 use pb_fixpoint::Sign;
-use pb_sorts::{Carrier, MAX_EQUATIONS, MAX_PARAMETERS};
+use pb_sorts::{Carrier, MAX_EQUATIONS, MAX_LOOP_SLOTS, MAX_PARAMETERS};
 use std::alloc::Global;
 
 #[tactic(auto, unfolding(crate::specs::Reading::sign_at))]
@@ -44,7 +44,7 @@ fn equation_at<'a>(
     let (sign, rest) = sign_at(bytes)?;
     let (name, rest) = name_at(alloc, rest)?;
     let (parameters, rest) = carriers_at(alloc, sizes, MAX_PARAMETERS + 1, rest)?;
-    let (loops, rest) = carriers_at(alloc, sizes, 241, rest)?;
+    let (loops, rest) = carriers_at(alloc, sizes, MAX_LOOP_SLOTS + 1, rest)?;
     let (steps, rest) = u32_at(rest)?;
     let (tokens, rest) = u32_at(rest)?;
     let (code, rest) = code_at(alloc, version, sizes, rest)?;

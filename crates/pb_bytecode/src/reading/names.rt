@@ -1,5 +1,5 @@
 //! Names and sorts.
-ghost use Rattle.std.specs.Prelude.{◌≡◌, IfOk, map, vec_len};
+ghost use Rattle.std.specs.Prelude.{◌≡◌, ◌+◌, IfOk, map, vec_len};
 ghost use Rattle.pb_bytecode.specs.Contents.{counts};
 ghost use Rattle.pb_bytecode.specs.Reading.{Gives, counted_at, items_at, name_at, sort_at};
 ghost use Rattle.pb_bytecode.specs.Views.{sort_contents, text_of};
@@ -8,6 +8,7 @@ use super::numbers::{between_at, fault, truncated, u8_at};
 use crate::fault::{ModuleRule, ReadError};
 use crate::name::{Name, is_name};
 use crate::sort::Sort;
+use pb_sorts::{MAX_ENUMERATORS, MAX_STRUCTS};
 use std::alloc::{AllocError, Global};
 
 #[tactic(auto, unfolding(crate::specs::Reading::name_at))]
@@ -52,7 +53,7 @@ fn names_at(alloc: Global, count: u8, bytes: &[u8]) -> Result<(Vec<Name>, &[u8])
 fn sort_at(alloc: Global, bytes: &[u8]) -> Result<(Sort, &[u8]), ReadError>
     ensures { Gives (λ x. (sort_contents x.0, x.1.now)) result (sort_at bytes.now) }
 {
-    let (count, rest) = between_at(1, 256, bytes)?;
+    let (count, rest) = between_at(1, MAX_ENUMERATORS + 1, bytes)?;
     let (enumerators, rest) = names_at(alloc, count, rest)?;
     Ok((Sort { enumerators }, rest))
 }
@@ -75,9 +76,9 @@ fn items_at(alloc: Global, count: u8, bytes: &[u8]) -> Result<(Vec<Sort>, &[u8])
 #[tactic(auto, unfolding(crate::specs::Reading::counted_at))]
 pub(crate) fn sorts_at(alloc: Global, bytes: &[u8]) -> Result<(Vec<Sort>, &[u8]), ReadError>
     ensures { Gives (λ x. (map sort_contents x.0.items, x.1.now)) result
-        (counted_at 0 256 sort_at bytes.now) }
+        (counted_at 0 (MAX_STRUCTS + 1) sort_at bytes.now) }
 {
-    let (count, rest) = between_at(0, 256, bytes)?;
+    let (count, rest) = between_at(0, MAX_STRUCTS + 1, bytes)?;
     items_at(alloc, count, rest)
 }
 

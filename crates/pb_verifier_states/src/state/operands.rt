@@ -24,7 +24,8 @@ impl AbstractState {
         requires { HasOrderedEnds value }
         ensures pushed { OnOk result (self.new
             ≡ record self.old { operands = value ∷ self.old.operands }) }
-        ensures room { OnOk result (nat_lt (length self.old.operands + self.old.operands_below) MAX_OPERANDS
+        ensures room { OnOk result (nat_lt (length self.old.operands
+            + self.old.operands_below) MAX_OPERANDS
             ≡ true) }
         ensures full { OnRefused result
             (nat_lt (length self.old.operands + self.old.operands_below) MAX_OPERANDS ≡ false) }
