@@ -1,5 +1,5 @@
 -- Emitting arguments, one in front of the others, and calls.
-use Rattle.std.proofs.Common.{◌≡◌, ℕ, Bool, true, cond, List, [], ◌∷◌, ◌++◌, length, map, Option, Some, None, refl, sym, subst, arith}
+use Rattle.std.proofs.Common.{◌≡◌, ℕ, Bool, true, cond, List, [], ◌∷◌, ◌++◌, length, map, Option, Some, None, sym, subst}
 use Rattle.std.specs.Prelude.{ℤ, unwrap_or}
 use Rattle.std.specs.List.{slice_set}
 use Rattle.pb_sorts.specs.declared.carrier.Carrier.{Carrier}
@@ -8,35 +8,13 @@ use Rattle.pb_bytecode_program.specs.declared.instruction.Leaf.TheVariants as le
 use Rattle.pb_bytecode_program.specs.declared.instruction.Op.TheVariants as op
 use Rattle.pb_normal.specs.declared.formula.Argument.{Argument}
 use Rattle.pb_normal.specs.Normal as normal
-use Rattle.pb_normal.specs.Normal.{Term, Number, Slot, Negative, Absolute, Successor, Predecessor, Binary, Maximum, Minimum, Choice, Recognised}
 use Rattle.pb_normal.specs.View.{argument_view, term_view}
 use Rattle.pb_assembler_scheme.specs.Pieces.{Piece, Plain, Then, Block, Leave}
 use Rattle.pb_assembler_scheme.specs.Scheme.{data_piece, tested_range, any_tested, guarded, arguments_piece, call_piece}
-use Rattle.pb_assembler_accepted.proofs.Positions.{HasNoLeave}
-use Rattle.pb_assembler_accepted.proofs.Sites.{binary_stays}
+use Rattle.pb_assembler_accepted.proofs.Sites.{data_stays}
 use Rattle.pb_assembler.specs.Draft.{Draft, Places}
 use Rattle.pb_assembler.specs.Emitted.{Emits, nowhere, block_end, called_piece}
 use Rattle.pb_assembler.proofs.Emitting.{emits_then, emits_anywhere, block_emitted}
-
-data_stays : (t : Term) → HasNoLeave (data_piece t)
-data_stays (Term.Truth b) = tt
-data_stays (Number n) = tt
-data_stays (Term.Enumerator s i) = tt
-data_stays (Slot s) = tt
-data_stays (Term.Not x) = (data_stays x, tt)
-data_stays (Negative x) = (data_stays x, tt)
-data_stays (Absolute x) = (data_stays x, tt)
-data_stays (Successor x) = (data_stays x, (tt, tt))
-data_stays (Predecessor x) = (data_stays x, (tt, tt))
-data_stays (Binary o x y) = binary_stays o (data_piece x) (data_piece y) (data_stays x) (data_stays y)
-data_stays (Maximum x y) = (data_stays x, (data_stays y, tt))
-data_stays (Minimum x y) = (data_stays x, (data_stays y, tt))
-data_stays (Choice c x y) = (data_stays c, (data_stays x, data_stays y))
-data_stays (Recognised s i x) = (data_stays x, (tt, tt))
-
-pub nothing : {X : Type 0} (xs : List X) → length xs ≡ 0 → xs ≡ []
-nothing [] e = refl
-nothing (x ∷ xs) e = absurd (omega (arith, e))
 
 -- an argument without a parameter
 pub argument_alone : (equation : ℕ) (l : Option ℕ) (Cs : List Carrier) (Xs : List Argument) (X : Argument) (xs : List Argument) (d d1 d2 : Draft)

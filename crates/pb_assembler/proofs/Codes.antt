@@ -1,5 +1,6 @@
 -- The code of whole equations, as the builder's calls make it.
 use Rattle.std.proofs.Common.{◌≡◌, ◌≤◌, Bool, List, [], length, subst, arith}
+use Rattle.pb_sorts.specs.declared.limits.TheConstants.{MAX_INSTRUCTIONS}
 use Rattle.pb_sorts.specs.declared.carrier.Carrier.{Carrier}
 use Rattle.pb_bytecode_program.specs.declared.instruction.Connective.{Connective}
 use Rattle.pb_bytecode_program.specs.declared.instruction.Op.TheVariants as op
@@ -25,6 +26,6 @@ equation_emitted callees f m k d0 d1 d2 d3 d4 is kind new opened inner closed en
     subst (λ (d : Draft). Emits (equation_piece callees f) nowhere d d4) new
     (subst (λ (h : Bool). Emits (Then (bracketed h (formula_piece callees h f)) (Plain op.End)) nowhere d0 d4) is whole)
 
-pub code_short : (callees : List (List Carrier)) (f : Formula) (d : Draft) → length (equation_code callees f) ≤ 65535 → Emits (equation_piece callees f) nowhere empty d → length d.ops ≤ 65535
+pub code_short : (callees : List (List Carrier)) (f : Formula) (d : Draft) → length (equation_code callees f) ≤ MAX_INSTRUCTIONS → Emits (equation_piece callees f) nowhere empty d → length d.ops ≤ MAX_INSTRUCTIONS
 code_short callees f d few h =
     omega (arith, emitted_long (equation_piece callees f) nowhere empty d (place_of d.places) h (λ l q at. at), long 0 0 (equation_piece callees f), few)

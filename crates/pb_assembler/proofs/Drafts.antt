@@ -1,6 +1,5 @@
 -- What is known of a builder's labels.
 use Rattle.std.proofs.Common.{◌≡◌, ℕ, zero, suc, ◌<◌, ◌≤◌, Bool, true, false, List, [], ◌∷◌, ◌++◌, length, get_or, Option, Some, None, refl, sym, ap, ◌∙◌, arith, true≢false}
-use Rattle.std.specs.Prelude.{is_some}
 use Rattle.std.specs.List.{slice_set, list_all}
 use Rattle.std.proofs.lemmas.Bool.{and_parts, and_from, lt-ltb, le-leb, ltb-true, leb-true}
 use Rattle.std.proofs.lemmas.List.Folds.{list_all-append, list_all_at}
@@ -45,6 +44,3 @@ one_of p xs i d below h = by (p (get_or xs i d)) refl
     by : (b : Bool) → p (get_or xs i d) ≡ b → b ≡ true
     by true e = refl
     by false e = absurd (true≢false (sym h ∙ list_all_at p xs i d below e))
-
-pub no_place : (o : Option ℕ) → o ≡ None → is_some o ≡ true → ⊥
-no_place o e h = true≢false (sym h ∙ ap is_some e)

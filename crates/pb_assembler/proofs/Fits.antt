@@ -1,5 +1,5 @@
 -- The module that is compiled is within the limits of the format.
-use Rattle.std.proofs.Common.{◌≡◌, ℕ, zero, suc, ◌<◌, ◌≤◌, ◌^◌, true, List, [], ◌∷◌, map, length, Some, refl, sym, ap, ◌∙◌, subst, arith}
+use Rattle.std.proofs.Common.{◌≡◌, ℕ, zero, suc, ◌+◌, ◌<◌, ◌≤◌, ◌^◌, true, List, [], ◌∷◌, map, length, Some, refl, sym, ap, ◌∙◌, subst, arith}
 use Rattle.std.specs.Prelude.{unwrap_or}
 use Rattle.std.specs.List.{list_all, slice_get, All}
 use Rattle.std.proofs.lemmas.Bool.{and_parts, and_from, lt-ltb, le-leb, eq-eqb}
@@ -7,6 +7,7 @@ use Rattle.std.proofs.lemmas.List.{length-map}
 use Rattle.std.proofs.lemmas.List.Folds.{list_all-map}
 use Rattle.pb_carriers.specs.Carrier.{tuple_count}
 use Rattle.pb_intervals.proofs.Ends.{from_le}
+use Rattle.pb_sorts.specs.declared.limits.TheConstants.{MAX_ENUMERATORS, MAX_PARAMETERS, MAX_LOOP_SLOTS, MAX_INSTRUCTIONS}
 use Rattle.pb_sorts.specs.Carrier.{values_of}
 use Rattle.pb_sorts.specs.declared.carrier.Carrier.{Carrier}
 use Rattle.pb_sorts.specs.declared.carrier.Carrier.TheVariants as carrier
@@ -45,14 +46,14 @@ between low end n l h = and_from _ _ (le-leb low n l) (lt-ltb n end h)
 -- ---- sorts
 
 abbrev Few : List ℕ → Type 0
-Few ns = All (λ (n : ℕ). (0 < n) × (n ≤ 255)) ns
+Few ns = All (λ (n : ℕ). (0 < n) × (n ≤ MAX_ENUMERATORS)) ns
 
-pub names_fit : (es : List Enumerator) → (0 < length es) × (length es ≤ 255) → list_all (λ (e : Enumerator). is_name e.name) es ≡ true → fits_sort (map (λ (e : Enumerator). e.name) es) ≡ true
+pub names_fit : (es : List Enumerator) → (0 < length es) × (length es ≤ MAX_ENUMERATORS) → list_all (λ (e : Enumerator). is_name e.name) es ≡ true → fits_sort (map (λ (e : Enumerator). e.name) es) ≡ true
 names_fit es few named =
     let count = length-map es (λ (e : Enumerator). e.name) in
     let some = few.0 in
     let most = few.1 in
-    and_from _ _ (between 1 256 (length (map (λ (e : Enumerator). e.name) es)) (omega arith) (omega arith)) (list_all-map is_name (λ (e : Enumerator). e.name) es ∙ named)
+    and_from _ _ (between 1 (MAX_ENUMERATORS + 1) (length (map (λ (e : Enumerator). e.name) es)) (omega arith) (omega arith)) (list_all-map is_name (λ (e : Enumerator). e.name) es ∙ named)
 
 pub sorts_fit : (ds : List SortDeclaration) → Few (struct_counts ds) → list_all has_enumerator_names ds ≡ true → list_all fits_sort (struct_names ds) ≡ true
 sorts_fit [] few named = refl
@@ -86,7 +87,7 @@ module _ (spec : Spec) where
   pub record AreKnown (E : List syntax.Equation) : Type 0 where
     pub shapes : All (HasDeclaredShapes spec) E
     pub bounds : All (HasBounds spec) E
-    pub parameters : All (λ (X : syntax.Equation). length X.parameters ≤ 8) E
+    pub parameters : All (λ (X : syntax.Equation). length X.parameters ≤ MAX_PARAMETERS) E
 
   later : (X : syntax.Equation) (E : List syntax.Equation) → AreKnown (X ∷ E) → AreKnown E
   later X E h = record { shapes = λ i Y b. h.shapes (suc i) Y (omega arith); bounds = λ i Y b. h.bounds (suc i) Y (omega arith); parameters = λ i Y b. h.parameters (suc i) Y (omega arith) }
@@ -132,11 +133,11 @@ module _ (spec : Spec) (sizes : List ℕ) (same : struct_counts spec.sorts ≡ s
         let f = formula_view e.right in
         let bounded = subst (λ (g : Formula). is_bounded_formula (bounds_of spec X) g ≡ true) (sym right) bounds in
         and_from _ _ r.named
-        (and_from _ _ (and_from _ _ (between 0 9 (length cs) (omega arith) (omega arith)) (parameters_fit X cs shapes parameters both.0))
-        (and_from _ _ (and_from _ _ (between 0 241 (length e.loops.items) (omega arith) (omega arith)) (carriers_fit sizes e.loops.items (equation_loops spec X) loops (subst (λ (ns : List ℕ). All (IsDeclaredShape ns) (equation_loops spec X)) same shapes.loops) both.1))
+        (and_from _ _ (and_from _ _ (between 0 (MAX_PARAMETERS + 1) (length cs) (omega arith) (omega arith)) (parameters_fit X cs shapes parameters both.0))
+        (and_from _ _ (and_from _ _ (between 0 (MAX_LOOP_SLOTS + 1) (length e.loops.items) (omega arith) (omega arith)) (carriers_fit sizes e.loops.items (equation_loops spec X) loops (subst (λ (ns : List ℕ). All (IsDeclaredShape ns) (equation_loops spec X)) same shapes.loops) both.1))
         (and_from _ _ (lt-ltb (static_steps (bare_program callees cs e)) (2 ^ 32) (omega (arith, steps)))
         (and_from _ _ (lt-ltb (static_tokens (bare_program callees cs e)) (2 ^ 32) (omega (arith, tokens)))
-        (and_from _ _ (between 1 (2 ^ 16) (length (equation_code callees f)) (code_some sizes few (bounds_of spec X) same callees callees_are f) (omega (arith, code))) (code_fits sizes few (bounds_of spec X) same callees callees_are f r.small bounded code))))))
+        (and_from _ _ (between 1 (MAX_INSTRUCTIONS + 1) (length (equation_code callees f)) (code_some sizes few (bounds_of spec X) same callees callees_are f) (omega (arith, code))) (code_fits sizes few (bounds_of spec X) same callees callees_are f r.small bounded code))))))
 
     pub equations_fit : (E : List EquationForm) (css : List (List Carrier)) (es : List Equation) → AreFormsOf spec (map erased_equation E) css es → AreReady callees css E es → AreKnown spec (map erased_equation E)
         → list_all has_fitting_carriers (all_compiled callees css E es) ≡ true → list_all (fits_equation version.One sizes) (all_compiled callees css E es) ≡ true

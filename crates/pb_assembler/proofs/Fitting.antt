@@ -8,6 +8,7 @@ use Rattle.std.proofs.lemmas.Int.{ints}
 use Rattle.std.proofs.lemmas.Option.{slice_get_within}
 use Rattle.pb_intervals.proofs.Ends.{from_le}
 use Rattle.pb_intervals.specs.Interval.{is_within}
+use Rattle.pb_sorts.specs.declared.limits.TheConstants.{MAX_ENUMERATORS, MAX_INSTRUCTIONS}
 use Rattle.pb_sorts.specs.declared.carrier.Carrier.{Carrier}
 use Rattle.pb_sorts.specs.declared.carrier.Carrier.TheVariants as carrier
 use Rattle.pb_text_meaning.specs.Syntax.{Operator}
@@ -89,7 +90,7 @@ module _ (sizes : List ℕ) where
             let most = among sizes s n at few.enumerators in
             and_from _ _ (and_from _ _ (lt-ltb s 256 (omega arith)) (lt-ltb s (length sizes) there)) (and_from _ _ (lt-ltb i 256 (omega (arith, below, count, most))) h)
           where
-            among : (ns : List ℕ) (k n : ℕ) → slice_get ns k ≡ Some n → All (λ (m : ℕ). (0 < m) × (m ≤ 255)) ns → n ≤ 255
+            among : (ns : List ℕ) (k n : ℕ) → slice_get ns k ≡ Some n → All (λ (m : ℕ). (0 < m) × (m ≤ MAX_ENUMERATORS)) ns → n ≤ MAX_ENUMERATORS
             among [] k n at all = cc
             among (m ∷ ns) zero n at all = let same : m ≡ n = cc in let w = (all 0 m (omega arith)).1 in omega arith
             among (m ∷ ns) (suc k) n at all = among ns k n at (λ j d l. all (suc j) d (omega arith))
@@ -239,7 +240,7 @@ module _ (sizes : List ℕ) where
             call_fits equation (parameters (slice_get callees equation)) xs p.0 (callee_fits equation) p.1 q.1
 
         -- an equation's code, where it keeps the machine's limit
-        pub code_fits : (f : Formula) → is_small_formula f ≡ true → is_bounded_formula b f ≡ true → length (equation_code callees f) ≤ 65535 → list_all (fits_op version.One sizes) (equation_code callees f) ≡ true
+        pub code_fits : (f : Formula) → is_small_formula f ≡ true → is_bounded_formula b f ≡ true → length (equation_code callees f) ≤ MAX_INSTRUCTIONS → list_all (fits_op version.One sizes) (equation_code callees f) ≡ true
         code_fits f h k short =
             flat_fits (equation_piece callees f) 0 0 ((refl, (formula_fits f (head f) h k, refl)), refl)
             (let l = long 0 0 (equation_piece callees f) in omega (arith, short)) (omega arith)

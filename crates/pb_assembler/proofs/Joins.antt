@@ -3,14 +3,18 @@ use Rattle.std.proofs.Common.{◌≡◌, ℕ, zero, suc, ◌+◌, ◌<◌, Bool,
 use Rattle.std.proofs.lemmas.Bool.{and_parts, ltb-true}
 use Rattle.std.specs.Prelude.{nat_lt, box_value}
 use Rattle.std.specs.List.{slice_get}
-use mathlib.Core.Bool.{beq}
+use Rattle.std.proofs.lemmas.List.{nil_from_length}
+use denote.Enum.Bare.{sameb}
 use Rattle.pb_sorts.specs.declared.carrier.Carrier.{Carrier}
 use Rattle.pb_sorts.specs.Layout.{lists_of}
 use Rattle.pb_normal.specs.Normal as normal
 use Rattle.pb_normal.specs.Normal.{Term, Test, Join, Each, Call}
+use Rattle.pb_normal.specs.contracts.formula.Junction.{the_type}
+use Rattle.pb_normal.specs.declared.formula.Junction.{Junction}
+use Rattle.pb_normal.specs.declared.formula.Junction.TheVariants.{And, Or}
 use Rattle.pb_normal.specs.declared.formula.Formula as formula
 use Rattle.pb_normal.specs.declared.formula.Formula.{Formula}
-use Rattle.pb_normal.specs.View.{chained, nested, formula_view, formula_views}
+use Rattle.pb_normal.specs.View.{chained, nested, formula_view, formula_views, is_and}
 use Rattle.pb_bytecode_program.specs.declared.instruction.Op.TheVariants as op
 use Rattle.pb_assembler_scheme.specs.Pieces.{Piece, Plain, Then, Unless, Choose, Repeat}
 use Rattle.pb_assembler_scheme.specs.Scheme.{data_piece, test_of, tested_piece, join_piece, under, bracketed, deciding, connective_of, formula_piece, parameters}
@@ -20,7 +24,6 @@ use Rattle.pb_assembler.specs.Operands.{Guarded, early_test, guarded_by, IsLeft}
 use Rattle.pb_normal.specs.Small.{is_small, is_small_formula}
 use Rattle.pb_assembler.proofs.Emitting.{emits_then, emits_repeat, adds_from}
 use Rattle.pb_assembler.proofs.FormulaWeight.{weight, formulas_weight, positive, join_is}
-use Rattle.pb_assembler.proofs.Calls.{nothing}
 
 -- ---- the first test decides
 
@@ -79,13 +82,13 @@ tested_other true t x = refl
 tested_other false t x = refl
 
 -- a chain of one operand, and one of several
-pub alone : (t x : Formula) (c : Bool) (first : Box Formula Global) (v : Vec Formula Global) → t ≡ formula.Join c first v → x ≡ box_value first → length v.items ≡ 0 → formula_view x ≡ formula_view t
-alone t x c first v is same none = join_is t x c first v [] is same (sym (nothing v.items none))
+pub alone : (t x : Formula) (c : Junction) (first : Box Formula Global) (v : Vec Formula Global) → t ≡ formula.Join c first v → x ≡ box_value first → length v.items ≡ 0 → formula_view x ≡ formula_view t
+alone t x c first v is same none = join_is t x c first v [] is same (sym (nil_from_length v.items none))
 
-pub several : (t : Formula) (c : Bool) (first : Box Formula Global) (v : Vec Formula Global) → t ≡ formula.Join c first v → 0 < length v.items → None ≡ test_of (formula_view t)
+pub several : (t : Formula) (c : Junction) (first : Box Formula Global) (v : Vec Formula Global) → t ≡ formula.Join c first v → 0 < length v.items → None ≡ test_of (formula_view t)
 several t c first v is some = by v.items some ∙ ap test_of (join_is t (box_value first) c first v v.items is refl refl)
   where
-    by : (fs : List Formula) → 0 < length fs → None ≡ test_of (chained (Join c) (formula_view (box_value first)) (formula_views fs))
+    by : (fs : List Formula) → 0 < length fs → None ≡ test_of (chained (Join (is_and c)) (formula_view (box_value first)) (formula_views fs))
     by [] l = absurd (omega arith)
     by (f ∷ fs) l = refl
 
@@ -115,10 +118,6 @@ small_parts m f (g ∷ gs) h =
     by None (Some t) e k [] h i = (subst (λ o. IfSome o (λ t. is_small t ≡ true)) (sym k) (small_test g i), h)
     by None (Some t) e k (x ∷ xs) h i = tt
     by None None e k gs h i = tt
-
-pub small_first : (m : Bool) (f : normal.Formula) (gs : List normal.Formula) → is_small_formula (chained (Join m) f gs) ≡ true → is_small_formula f ≡ true
-small_first m f [] h = h
-small_first m f (g ∷ gs) h = (and_parts (is_small_formula f) (is_small_formula (chained (Join m) g gs)) h).0
 
 pub small_rest : (m : Bool) (f g : normal.Formula) (gs : List normal.Formula) → is_small_formula (chained (Join m) f (g ∷ gs)) ≡ true → is_small_formula (chained (Join m) g gs) ≡ true
 small_rest m f g gs h = (and_parts (is_small_formula f) (is_small_formula (chained (Join m) g gs)) h).1
@@ -174,13 +173,10 @@ each_repeated callees m s (c ∷ cs) f =
     ∙ ap (Repeat s) (each_repeated callees m (suc s) cs f)
     ∙ repeated_front s (length cs) (formula_piece callees m f)
 
-differ : (m a : Bool) (x : Piece) → beq m a ≡ false → under m a x ≡ bracketed m x
-differ true true x n = absurd (true≢false n)
-differ true false x n = refl
-differ false true x n = refl
-differ false false x n = absurd (true≢false n)
+differ : (m a : Bool) (x : Piece) → m ≡ not a → under m a x ≡ bracketed m x
+differ m a x n = subst (λ (k : Bool). under k a x ≡ bracketed k x) (sym n) (under_other a x)
 
-pub each_other : (callees : List (List Carrier)) (m a : Bool) (s : ℕ) (cs : List Carrier) (f : normal.Formula) → beq m a ≡ false → 0 < length cs
+pub each_other : (callees : List (List Carrier)) (m a : Bool) (s : ℕ) (cs : List Carrier) (f : normal.Formula) → m ≡ not a → 0 < length cs
     → formula_piece callees a (nested m s cs f) ≡ bracketed m (formula_piece callees m (nested m s cs f))
 each_other callees m a s [] f n l = absurd (omega arith)
 each_other callees m a s (c ∷ cs) f n l =
@@ -223,11 +219,11 @@ pub bracket_emitted : (m : Bool) (x : Piece) (d d1 d2 d3 : Draft) → Emits (Pla
 bracket_emitted m x d d1 d2 d3 h hx k =
     emits_then (Plain (op.Open (connective_of m))) (Then x (Plain op.Close)) nowhere d d1 d3 h (emits_then x (Plain op.Close) nowhere d1 d2 d3 hx k)
 
-pub other_kind : (m a : Bool) → beq m a ≡ false → m ≡ not a
-other_kind true true n = absurd (true≢false n)
-other_kind true false n = refl
-other_kind false true n = refl
-other_kind false false n = absurd (true≢false n)
+pub other_kind : (m a : Junction) (b : Bool) → b ≡ sameb the_type m a → b ≡ false → is_and m ≡ not (is_and a)
+other_kind And And b e n = absurd (true≢false (sym e ∙ n))
+other_kind And Or b e n = refl
+other_kind Or And b e n = refl
+other_kind Or Or b e n = absurd (true≢false (sym e ∙ n))
 
 pub untested : (callees : List (List Carrier)) (a : Bool) (f : normal.Formula) (gs : List Formula) → 0 < length gs → early_test f (formula_views gs) ≡ None
     → formula_piece callees a (chained (Join (not a)) f (formula_views gs)) ≡ bracketed (not a) (formula_piece callees (not a) (chained (Join (not a)) f (formula_views gs)))
@@ -245,8 +241,8 @@ not_there [] i l = refl
 not_there (c ∷ cs) zero l = absurd (omega arith)
 not_there (c ∷ cs) (suc i) l = not_there cs i (omega arith)
 
-pub same_kind : (m a : Bool) → beq m a ≡ true → m ≡ a
-same_kind true true e = refl
-same_kind true false e = absurd (true≢false (sym e))
-same_kind false true e = absurd (true≢false (sym e))
-same_kind false false e = refl
+pub same_kind : (m a : Junction) (b : Bool) → b ≡ sameb the_type m a → b ≡ true → is_and m ≡ is_and a
+same_kind And And b e is = refl
+same_kind And Or b e is = absurd (true≢false (sym is ∙ e))
+same_kind Or And b e is = absurd (true≢false (sym is ∙ e))
+same_kind Or Or b e is = refl

@@ -124,12 +124,6 @@ module _ (callees : List (List Carrier)) (m around : Bool) (f g : normal.Formula
       ap (λ o. join_tally m around o (test_of g) (formula_tally callees around f) (formula_tally callees around g) (formula_tally callees m f) (formula_tally callees m g)) e
       ∙ ap (λ p. join_tally m around o p (formula_tally callees around f) (formula_tally callees around g) (formula_tally callees m f) (formula_tally callees m g)) h
 
-  pub first_test : (load : Load) (rest : Tally) → Some load ≡ load_by (test_of f) → rest ≡ capped_tally (formula_tally callees (kind_by (test_of f) m around) g) → capped_tally (tested_tally m around load rest) ≡ capped_tally (formula_tally callees around (Join m f g))
-  first_test load rest e h =
-      let s = some_load (test_of f) load e in
-      tested_by m around load (term_load s.0) rest (formula_tally callees around g) s.1.1 (h ∙ ap (λ o. capped_tally (formula_tally callees (kind_by o m around) g)) s.1.0)
-      ∙ sym (ap capped_tally (joined_by (Some s.0) (test_of g) s.1.0 refl))
-
   pub second_test : (load : Load) (own : Tally) → None ≡ load_by (test_of f) → Some load ≡ load_by (test_of g) → own ≡ capped_tally (formula_tally callees around f) → capped_tally (tested_tally m around load own) ≡ capped_tally (formula_tally callees around (Join m f g))
   second_test load own n e h =
       let s = some_load (test_of g) load e in

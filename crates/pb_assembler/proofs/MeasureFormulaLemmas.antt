@@ -4,12 +4,14 @@ use Rattle.std.specs.Prelude.{box_value, is_some}
 use Rattle.std.specs.List.{slice_get}
 use mathlib.Core.Former.{Count}
 use Rattle.pb_sorts.specs.declared.carrier.Carrier.{Carrier}
+use Rattle.pb_text_tree.specs.declared.operator.Quantifier.{Quantifier}
 use Rattle.pb_normal.specs.Normal as normal
 use Rattle.pb_normal.specs.Normal.{Join, Each}
 use Rattle.pb_normal.specs.declared.formula.Argument.{Argument}
+use Rattle.pb_normal.specs.declared.formula.Junction.{Junction}
 use Rattle.pb_normal.specs.declared.formula.Formula as formula
 use Rattle.pb_normal.specs.declared.formula.Formula.{Formula, Row_of-Formula, end_of-Formula, more_of-Formula, items-the_row-Formula, items_hidden-the_row-Formula-0}
-use Rattle.pb_normal.specs.View.{argument_view, chained, formula_view, formula_views, nested, term_view}
+use Rattle.pb_normal.specs.View.{argument_view, chained, formula_view, formula_views, is_and, is_forall, nested, term_view}
 use Rattle.pb_normal.proofs.Views.{formula-join}
 use Rattle.pb_assembler_scheme.specs.Scheme.{any_tested, tested_range, test_of}
 use Rattle.pb_assembler.specs.MeasureTerms.{term_load}
@@ -82,7 +84,7 @@ abbrev form_row_in : Formula → (n : Count) × Row_of-Formula n
 form_row_in (formula.Join' m p first shape row) = (_, row)
 form_row_in _ = (_, end_of-Formula)
 
-pub weight-join : (m : Bool) (first : Box Formula Global) (v : Vec Formula Global) → weight (formula.Join m first v) ≡ 4 + (weight (box_value first) + forms_weight v.items)
+pub weight-join : (m : Junction) (first : Box Formula Global) (v : Vec Formula Global) → weight (formula.Join m first v) ≡ 4 + (weight (box_value first) + forms_weight v.items)
 weight-join m first v =
     let row = form_row_in (formula.Join m first v) in
     ap (λ w. 4 + (weight (box_value first) + w)) (forms-items row.0 row.1 ∙ ap forms_weight (items_hidden-the_row-Formula-0 v))
@@ -92,32 +94,18 @@ form_lighter [] k f lt at = absurd (omega arith)
 form_lighter (g ∷ fs) zero f lt at = omega (arith, ap weight at)
 form_lighter (g ∷ fs) (suc k) f lt at = omega (arith, form_lighter fs k f (omega arith) at)
 
-pub join_is : (x f : Formula) (m : Bool) (first : Box Formula Global) (v : Vec Formula Global) (rest : List Formula) → x ≡ formula.Join m first v → f ≡ box_value first → rest ≡ v.items
-    → chained (Join m) (formula_view f) (formula_views rest) ≡ formula_view x
-join_is x f m first v rest is same are =
-    ap (λ (y : Formula). chained (Join m) (formula_view y) (formula_views rest)) same
-    ∙ ap (λ (ls : List Formula). chained (Join m) (formula_view (box_value first)) (formula_views ls)) are
-    ∙ sym (ap formula_view is ∙ formula-join m first v)
-
 -- ---- which formulas are one test
 
 more_none : (m : Bool) (f : normal.Formula) (fs : List Formula) → 0 < length fs → test_of (chained (Join m) f (formula_views fs)) ≡ None
 more_none m f [] l = absurd (omega arith)
 more_none m f (g ∷ gs) l = refl
 
-pub only_one : (m : Bool) (f : normal.Formula) (fs : List Formula) → length fs ≡ 0 → chained (Join m) f (formula_views fs) ≡ f
-only_one m f [] l = refl
-only_one m f (g ∷ gs) l = absurd (omega arith)
-
-pub join_none : (x : Formula) (m : Bool) (first : Box Formula Global) (v : Vec Formula Global) → x ≡ formula.Join m first v → 0 < length v.items → None ≡ load_by (test_of (formula_view x))
-join_none x m first v is some = sym (ap (λ (y : Formula). load_by (test_of (formula_view y))) is ∙ ap (λ y. load_by (test_of y)) (formula-join m first v) ∙ ap load_by (more_none m (formula_view (box_value first)) v.items some))
-
-pub join_one : (x f : Formula) (m : Bool) (first : Box Formula Global) (v : Vec Formula Global) → x ≡ formula.Join m first v → f ≡ box_value first → length v.items ≡ 0 → formula_view f ≡ formula_view x
-join_one x f m first v is same none = sym (ap formula_view is ∙ formula-join m first v ∙ only_one m (formula_view (box_value first)) v.items none ∙ sym (ap formula_view same))
+pub join_none : (x : Formula) (m : Junction) (first : Box Formula Global) (v : Vec Formula Global) → x ≡ formula.Join m first v → 0 < length v.items → None ≡ load_by (test_of (formula_view x))
+join_none x m first v is some = sym (ap (λ (y : Formula). load_by (test_of (formula_view y))) is ∙ ap (λ y. load_by (test_of y)) (formula-join m first v) ∙ ap load_by (more_none (is_and m) (formula_view (box_value first)) v.items some))
 
 each_more : (u : Bool) (s : ℕ) (cs : List Carrier) (f : normal.Formula) → 0 < length cs → test_of (nested u s cs f) ≡ None
 each_more u s [] f l = absurd (omega arith)
 each_more u s (c ∷ cs) f l = refl
 
-pub each_none : (x : Formula) (u : Bool) (s : ℕ) (cs : Vec Carrier Global) (body : Box Formula Global) → x ≡ formula.Each u s cs body → 0 < length cs.items → None ≡ load_by (test_of (formula_view x))
-each_none x u s cs body is some = sym (ap (λ (y : Formula). load_by (test_of (formula_view y))) is ∙ ap load_by (each_more u s cs.items (formula_view (box_value body)) some))
+pub each_none : (x : Formula) (q : Quantifier) (s : ℕ) (cs : Vec Carrier Global) (body : Box Formula Global) → x ≡ formula.Each q s cs body → 0 < length cs.items → None ≡ load_by (test_of (formula_view x))
+each_none x q s cs body is some = sym (ap (λ (y : Formula). load_by (test_of (formula_view y))) is ∙ ap load_by (each_more (is_forall q) s cs.items (formula_view (box_value body)) some))

@@ -1,28 +1,23 @@
 -- The quantifiers of a normal form take the slots behind the parameters, with the carriers of the text's variables.
-use Rattle.std.proofs.Common.{◌≡◌, ℕ, suc, ◌+◌, Bool, true, List, [], ◌∷◌, ◌++◌, length, Some, refl, sym, ap, ◌∙◌, arith}
+use Rattle.std.proofs.Common.{◌≡◌, ℕ, suc, true, List, [], ◌∷◌, length, Some, refl, sym, ap, ◌∙◌}
 use Rattle.pb_sorts.specs.declared.carrier.Carrier.{Carrier}
 use Rattle.pb_text_meaning.specs.Syntax as syntax
-use Rattle.pb_text_meaning.specs.Syntax.{Variable, Equation, Spec}
-use Rattle.pb_typing_declarations.specs.Shapes.{Shape, sort_shape}
+use Rattle.pb_text_meaning.specs.Syntax.{Equation, Spec}
+use Rattle.pb_typing_declarations.specs.Shapes.{Shape}
 use Rattle.pb_typing_declarations.specs.Entries.{carrier_shape}
 use Rattle.pb_typing_rules.specs.WellTyped.{parameters_of}
 use Rattle.pb_normal.specs.Equations.{normal_equation}
 use Rattle.pb_normal.specs.Expansion.{expanded}
-use Rattle.pb_normal.specs.Loops.{variable_shapes, loops, equation_loops}
-use Rattle.pb_normal.specs.Normal.{Formula}
-use Rattle.pb_normal.specs.Normalisation.{Slotting, unslotted, with_slot, with_slots, width, each, normal}
+use Rattle.pb_normal.specs.Loops.{equation_loops}
+use Rattle.pb_normal.specs.Normalisation.{unslotted, with_slots}
 use Rattle.pb_normal.specs.View.{shapes_of}
-use Rattle.pb_normal.proofs.LoopSlots.{normal-quantifiers, length-loops}
+use Rattle.pb_normal.proofs.LoopSlots.{normal-quantifiers}
 use Rattle.pb_assembler_scheme.specs.Correct.{quantifiers, slots_from}
 
 -- shapes with the slots from n on
 abbrev pub numbered : ℕ → List Shape → List (ℕ × Shape)
 numbered n [] = []
 numbered n (s ∷ ss) = (n, s) ∷ numbered (suc n) ss
-
-numbered_append : (n m : ℕ) (ss ts : List Shape) → m ≡ n + length ss → numbered n (ss ++ ts) ≡ numbered n ss ++ numbered m ts
-numbered_append n m [] ts e = let f : n ≡ m = omega arith in ap (λ k. numbered k ts) f
-numbered_append n m (s ∷ ss) ts e = ap (λ (xs : List (ℕ × Shape)). (n, s) ∷ xs) (numbered_append (suc n) m ss ts (omega arith))
 
 slots_numbered : (n : ℕ) (cs : List Carrier) → numbered n (shapes_of cs) ≡ slots_from n cs
 slots_numbered n [] = refl

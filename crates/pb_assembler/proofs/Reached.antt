@@ -1,7 +1,7 @@
 -- The scheme's code reaches the operands and brackets that are counted on the right side.
 use Rattle.std.proofs.Common.{◌≡◌, ℕ, suc, ◌+◌, ◌<◌, ◌≤◌, Bool, true, false, cond, ◌||◌, List, [], ◌∷◌, length, Option, Some, None, refl, sym, ap, ◌∙◌, subst, arith, inl, inr, ⊎_elim}
 use Rattle.std.specs.Prelude.{ℤ, is_some, max, slice_get}
-use Rattle.std.proofs.lemmas.Bool.{cases_lt, true≢false}
+use Rattle.std.proofs.lemmas.Bool.{cases_lt, true≢false, or_parts}
 use Rattle.pb_sorts.specs.declared.carrier.Carrier.{Carrier}
 use Rattle.pb_text_meaning.specs.Syntax.{Operator}
 use Rattle.pb_bytecode_program.specs.Machine.{Program}
@@ -10,9 +10,11 @@ use Rattle.pb_bytecode_program.specs.declared.instruction.Op.{Op}
 use Rattle.pb_bytecode_program.specs.declared.instruction.Op.TheVariants as op
 use Rattle.pb_normal.specs.Normal.{Term, Number, Slot, Negative, Absolute, Successor, Predecessor, Binary, Maximum, Minimum, Choice, Recognised, Argument, Formula, Test, Join, Each, Call}
 use Rattle.pb_assembler_scheme.specs.Pieces.{Piece, Plain, Then, Unless, Choose, Repeat, Block, Leave, end, HasPieceAt}
-use Rattle.pb_assembler_scheme.specs.Scheme.{data_piece, binary_piece, in_order, swapped, bracketed, under, test_piece, tested_piece, test_of, join_piece, tested_range, any_tested, guarded, arguments_piece, call_piece, parameters, formula_piece, head, equation_piece, equation_code}
+use Rattle.pb_assembler_scheme.specs.Scheme.{data_piece, binary_piece, in_order, swapped, bracketed, under, test_piece, tested_piece, test_of, join_piece, tested_range, any_tested, guarded, arguments_piece, call_piece, parameters, formula_piece, head}
 use Rattle.pb_assembler_scheme.specs.Correct.{HasFullCalls, IsCompiled, IsFullCall}
 use Rattle.pb_assembler_scheme.proofs.Flat as code
+use Rattle.pb_assembler_scheme.proofs.Calls.{full_length}
+use Rattle.pb_assembler_scheme.proofs.Whole.{equation_stands}
 use Rattle.pb_assembler_accepted.specs.Limits.{one_kept, binary_operands, term_operands, argument_operands, formula_operands, brackets_under, join_brackets, formula_brackets}
 use Rattle.pb_assembler.specs.Reached.{Height, taken, given, opened, closed, LeadsTo, IsReached, HoldsOperands, HoldsBrackets}
 
@@ -271,10 +273,6 @@ module _ (p : Program) where
   guarded_comes None true x q e n b s h = record { place = q; stands = s.0; at = h; ends = λ c. absurd (true≢false c) }
   guarded_comes None false x q e n b s h = record { place = q; stands = s; at = h; ends = λ c. refl }
 
-  neither : (a b : Bool) → (a || b) ≡ false → b ≡ false
-  neither true b e = absurd (true≢false e)
-  neither false b e = e
-
   -- all arguments are pushed
   arguments_come : (cs : List Carrier) (xs : List Argument) (last : Piece) (q e n b : ℕ) → HasPieceAt p.code q e (arguments_piece cs xs last) → At q n b
       → Comes (arguments_piece cs xs last) last q e (n + length xs) b (any_tested cs xs) × HoldsOperands p (n + argument_operands xs)
@@ -290,7 +288,7 @@ module _ (p : Program) where
           place = rest.0.place;
           stands = rest.0.stands;
           at = subst (λ m. At rest.0.place m b) long rest.0.at;
-          ends = λ d. kept.ends d ∙ rest.0.ends (neither (is_some o) later d);
+          ends = λ d. kept.ends d ∙ rest.0.ends (or_parts (is_some o) later d).1;
         },
         operands_max (n + term_operands x.term) ((n + 1) + argument_operands xs) (n + argument_operands (x ∷ xs)) (omega arith) own.1 rest.1,
       )
@@ -317,13 +315,9 @@ module _ (p : Program) where
       let none : n ≡ n + 0 = omega arith in
       (record { place = q; stands = s; at = subst (λ m. At q m b) none h; ends = λ d. refl }, operands_here q n b (n + 0) h none)
 
-  pub full : (o : Option (List Carrier)) (xs : List Argument) → IsFullCall o xs → length xs ≡ length (parameters o)
-  full None xs h = absurd h
-  full (Some cs) xs h = h
-
   called : (equation : ℕ) (xs : List Argument) (q b : ℕ) → IsFullCall (slice_get p.callees equation) xs → slice_get p.code q ≡ Some (op.Call equation) → At q (0 + length xs) b → At (q + 1) 0 b
   called equation xs q b f s h =
-      step (op.Call equation) q (0 + length xs) b (q + 1) 0 b 0 s refl (ap (λ n. 0 + n) (full (slice_get p.callees equation) xs f)) refl refl h
+      step (op.Call equation) q (0 + length xs) b (q + 1) 0 b 0 s refl (ap (λ n. 0 + n) (full_length (slice_get p.callees equation) xs f)) refl refl h
 
   call_passes : (equation : ℕ) (xs : List Argument) → IsFullCall (slice_get p.callees equation) xs → Passes (call_piece equation (parameters (slice_get p.callees equation)) xs) (argument_operands xs) 0
   call_passes equation xs f = by (any_tested cs xs) refl
@@ -359,18 +353,13 @@ module _ (p : Program) where
 -- ---- equations
 
 module _ (p : Program) (f : Formula) (compiled : IsCompiled p f) (full : HasFullCalls p.callees f) where
-  pub stands : HasPieceAt p.code 0 0 (equation_piece p.callees f)
-  stands =
-      code.stands p.code 0 0 (equation_piece p.callees f)
-      (subst (λ (is : List Op). code.HasAt is 0 (equation_code p.callees f)) (sym compiled.code) (code.has_all (equation_code p.callees f)))
-
   start : IsReached p (record { place = 0; operands = 0; brackets = 0 })
   start = (0, (refl, refl, refl))
 
   pub operands_reached : HoldsOperands p (formula_operands f)
-  operands_reached = (bracketed_passes p (head f) (formula_piece p.callees (head f) f) (formula_operands f) (formula_brackets (head f) f) (formula_passes p f (head f) full) 0 0 0 stands.0 start).1
+  operands_reached = (bracketed_passes p (head f) (formula_piece p.callees (head f) f) (formula_operands f) (formula_brackets (head f) f) (formula_passes p f (head f) full) 0 0 0 (equation_stands p f compiled).0 start).1
 
   pub brackets_reached : HoldsBrackets p (suc (formula_brackets (head f) f))
   brackets_reached =
       brackets_as p (0 + suc (formula_brackets (head f) f)) (suc (formula_brackets (head f) f)) (omega arith)
-      (bracketed_passes p (head f) (formula_piece p.callees (head f) f) (formula_operands f) (formula_brackets (head f) f) (formula_passes p f (head f) full) 0 0 0 stands.0 start).2
+      (bracketed_passes p (head f) (formula_piece p.callees (head f) f) (formula_operands f) (formula_brackets (head f) f) (formula_passes p f (head f) full) 0 0 0 (equation_stands p f compiled).0 start).2

@@ -1,7 +1,7 @@
 -- No place of the scheme's code is reached with more operands or brackets than are counted on the right side.
 use Rattle.std.proofs.Common.{◌≡◌, ℕ, zero, suc, ◌+◌, ◌<◌, ◌≤◌, Bool, true, false, cond, ◌||◌, List, [], ◌∷◌, length, Option, Some, None, refl, sym, ap, ◌∙◌, subst, arith, ⊎_elim}
 use Rattle.std.specs.Prelude.{ℤ, is_some, max, slice_get}
-use Rattle.std.proofs.lemmas.Bool.{true≢false}
+use Rattle.std.proofs.lemmas.Bool.{true≢false, or_parts}
 use Rattle.pb_sorts.specs.declared.carrier.Carrier.{Carrier}
 use Rattle.pb_text_meaning.specs.Syntax.{Operator}
 use Rattle.pb_bytecode_program.specs.Machine.{Program}
@@ -12,9 +12,10 @@ use Rattle.pb_normal.specs.Normal.{Term, Number, Slot, Negative, Absolute, Succe
 use Rattle.pb_assembler_scheme.specs.Pieces.{Piece, Plain, Then, Unless, Choose, Repeat, Block, Leave, end, HasPieceAt}
 use Rattle.pb_assembler_scheme.specs.Scheme.{data_piece, binary_piece, in_order, swapped, bracketed, under, test_piece, tested_piece, test_of, join_piece, tested_range, any_tested, guarded, arguments_piece, call_piece, parameters, formula_piece, head}
 use Rattle.pb_assembler_scheme.specs.Correct.{HasFullCalls, IsCompiled, IsFullCall}
+use Rattle.pb_assembler_scheme.proofs.Calls.{full_length}
+use Rattle.pb_assembler_scheme.proofs.Whole.{equation_stands}
 use Rattle.pb_assembler_accepted.specs.Limits.{one_kept, binary_operands, term_operands, argument_operands, formula_operands, brackets_under, join_brackets, formula_brackets}
 use Rattle.pb_assembler.specs.Reached.{Height, taken, given, opened, closed, LeadsTo, Leads, IsReachedIn, IsReached}
-use Rattle.pb_assembler.proofs.Reached.{stands, full}
 
 -- ---- each term's code holds an operand
 
@@ -319,10 +320,6 @@ module _ (p : Program) where
         inner q s.0 (λ l. pop) (λ d. absurd (true≢false d))
     guarded_safe None false x q e n b s few shallow done inner = inner q s (λ l. absurd (true≢false (sym l))) (λ d. refl)
 
-    neither : (a b : Bool) → (a || b) ≡ false → b ≡ false
-    neither true b e = absurd (true≢false e)
-    neither false b e = e
-
     arguments_safe : (cs : List Carrier) (xs : List Argument) (last : Piece) (q e n b : ℕ) → HasPieceAt p.code q e (arguments_piece cs xs last) → n + argument_operands xs ≤ most_operands → b ≤ most_brackets
         → (any_tested cs xs ≡ true → Safe (end q (arguments_piece cs xs last)) n b)
         → ((r : ℕ) → HasPieceAt p.code r e last → (any_tested cs xs ≡ false → end q (arguments_piece cs xs last) ≡ end r last) → Safe r (n + length xs) b)
@@ -337,7 +334,7 @@ module _ (p : Program) where
         term_pushed x.term q e n b s.0 (omega arith) shallow
         (guarded_safe o later rest r e n b s.1 one shallow done (λ z st failed ends.
         arguments_safe cs xs last z e (n + 1) b st (omega arith) shallow failed (λ y at stops.
-        subst (λ m. Safe y m b) (sym long) (behind y at (λ d. ends d ∙ stops (neither (is_some o) later d))))))
+        subst (λ m. Safe y m b) (sym long) (behind y at (λ d. ends d ∙ stops (or_parts (is_some o) later d).1)))))
     arguments_safe [] (x ∷ xs) last q e n b s few shallow done behind =
         let r = end q (data_piece x.term) in
         let long : (n + 1) + length xs ≡ n + suc (length xs) = omega arith in
@@ -353,7 +350,7 @@ module _ (p : Program) where
 
     called : (equation : ℕ) (xs : List Argument) (q b : ℕ) → IsFullCall (slice_get p.callees equation) xs → slice_get p.code q ≡ Some (op.Call equation) → 0 + length xs ≤ most_operands → b ≤ most_brackets → Safe (q + 1) 0 b → Safe q (0 + length xs) b
     called equation xs q b f s few shallow h =
-        step (op.Call equation) q (0 + length xs) b 0 b 0 s (ap (λ n. 0 + n) (full p (slice_get p.callees equation) xs f)) refl refl few shallow (λ r e. subst (λ y. Safe y 0 b) (sym e) h)
+        step (op.Call equation) q (0 + length xs) b 0 b 0 s (ap (λ n. 0 + n) (full_length (slice_get p.callees equation) xs f)) refl refl few shallow (λ r e. subst (λ y. Safe y 0 b) (sym e) h)
 
     enough : (xs : List Argument) → length xs ≤ argument_operands xs
     enough [] = omega arith
@@ -402,12 +399,12 @@ module _ (p : Program) (f : Formula) (compiled : IsCompiled p f) (calls : HasFul
   -- END is the last instruction
   ended : Safe p (formula_operands f) most (end 0 (bracketed (head f) (formula_piece p.callees (head f) f))) 0 0
   ended =
-      step p (formula_operands f) most op.End (end 0 (bracketed (head f) (formula_piece p.callees (head f) f))) 0 0 0 0 0 (stands p f compiled calls).1 refl refl refl (omega arith) (omega arith) (λ r to. absurd to)
+      step p (formula_operands f) most op.End (end 0 (bracketed (head f) (formula_piece p.callees (head f) f))) 0 0 0 0 0 (equation_stands p f compiled).1 refl refl refl (omega arith) (omega arith) (λ r to. absurd to)
 
   from_start : Safe p (formula_operands f) most 0 0 0
   from_start =
       bracketed_passes p (formula_operands f) most (head f) (formula_piece p.callees (head f) f) (formula_operands f) (formula_brackets (head f) f) (formula_passes p (formula_operands f) most f (head f) calls)
-      0 0 0 (stands p f compiled calls).0 (omega arith) (omega arith) ended
+      0 0 0 (equation_stands p f compiled).0 (omega arith) (omega arith) ended
 
   pub operands_bounded : (h : Height) → IsReached p h → h.operands ≤ formula_operands f
   operands_bounded h r = (from_start r.0 h (runs p r.0 h r.1)).operands

@@ -3,6 +3,7 @@ use Rattle.std.proofs.Common.{◌≡◌, ℕ, suc, ◌≤◌, true, List, [], �
 use Rattle.std.specs.List.{list_all, slice_get}
 use Rattle.std.proofs.lemmas.Bool.{and_parts}
 use Rattle.std.proofs.lemmas.List.{length-map}
+use Rattle.pb_sorts.specs.declared.limits.TheConstants.{MAX_LOOP_SLOTS}
 use Rattle.pb_sorts.specs.declared.carrier.Carrier.{Carrier}
 use Rattle.pb_text_tree.specs.Form.{EquationForm}
 use Rattle.pb_text_meaning.specs.Erase.{erased_equation}
@@ -31,7 +32,7 @@ use Rattle.pb_assembler.proofs.MeasureMade.{cost_same, program, program_made}
 -- what is known of each of the equations
 pub record AreSound (spec : Spec) (E : List syntax.Equation) : Type 0 where
   pub kept : (k : ℕ) (X : syntax.Equation) → slice_get E k ≡ Some X → (p : Program) → IsMadeOf spec X p → KeepsLimits p (normal_equation spec X)
-  pub small : (k : ℕ) (X : syntax.Equation) → slice_get E k ≡ Some X → length (equation_loops spec X) ≤ 240 → is_small_formula (normal_equation spec X) ≡ true
+  pub small : (k : ℕ) (X : syntax.Equation) → slice_get E k ≡ Some X → length (equation_loops spec X) ≤ MAX_LOOP_SLOTS → is_small_formula (normal_equation spec X) ≡ true
   pub named : list_all (λ (X : syntax.Equation). is_name X.name) E ≡ true
 
 later : (spec : Spec) (X : syntax.Equation) (E : List syntax.Equation) → AreSound spec (X ∷ E) → AreSound spec E

@@ -2,6 +2,7 @@
 use Rattle.std.proofs.Common.{◌≡◌, ℕ, ◌+◌, ◌<◌, ◌≤◌, true, List, [], ◌∷◌, ◌++◌, map, length, get_or, drop, refl, sym, ap, ◌∙◌, subst, arith, string_bytes}
 use Rattle.std.specs.List.{list_all}
 use Rattle.std.proofs.lemmas.List.{append_assoc, length-map, map_push}
+use Rattle.pb_sorts.specs.declared.limits.TheConstants.{MAX_ENUMERATORS}
 use Rattle.pb_sorts.proofs.Places.{drop-at}
 use Rattle.pb_text_tree.specs.declared.sort.Enumerator as tree
 use Rattle.pb_text_tree.specs.declared.sort.SortDeclaration.{SortDeclaration}
@@ -39,7 +40,7 @@ module _ (all : List SortDeclaration) (k : ℕ) (d : SortDeclaration) (below : k
   fits_next done h = (subst (λ (ds : List SortDeclaration). AreSorts (erased_all ds)) split h.fit).0
 
   -- a struct's enumerators have names, and are few
-  pub struct_fits : (done : List bytecode.Sort) (es : List tree.Enumerator) → IsSort (syntax.Sort.Struct (map erased_enumerator (map enumerator_form es))) → (length es ≤ 255) × (list_all (λ (e : tree.Enumerator). is_name (string_bytes e.name.text)) es ≡ true)
+  pub struct_fits : (done : List bytecode.Sort) (es : List tree.Enumerator) → IsSort (syntax.Sort.Struct (map erased_enumerator (map enumerator_form es))) → (length es ≤ MAX_ENUMERATORS) × (list_all (λ (e : tree.Enumerator). is_name (string_bytes e.name.text)) es ≡ true)
   struct_fits done es h =
       let few = h.0 in
       (omega (arith, few, length-map (map enumerator_form es) erased_enumerator, length-map es enumerator_form), sym (enumerators_named es) ∙ h.1)

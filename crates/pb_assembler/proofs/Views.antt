@@ -5,19 +5,10 @@ use Rattle.pb_text_tree.specs.declared.operator.Connective.{Connective}
 use Rattle.pb_text_meaning.specs.Erase.{of_connective}
 use Rattle.pb_normal.specs.Normal.{Binary}
 use Rattle.pb_normal.specs.declared.term.Term as term
-use Rattle.pb_normal.specs.declared.term.Term.{Term, Row_of-Term, end_of-Term, Row_of-Link, end_of-Link}
+use Rattle.pb_normal.specs.declared.term.Term.{Term}
 use Rattle.pb_normal.specs.declared.term.Link.{Link}
 use Rattle.pb_normal.specs.View.{term_view, term_views, link_views, chained, calculated}
 use Rattle.pb_normal.proofs.Views.{term-chain, term-arithmetic}
-use mathlib.Core.Former.{Count}
-
-abbrev term_row_in : Term → (n : Count) × Row_of-Term n
-term_row_in (term.Chain' c p first shape row) = (_, row)
-term_row_in _ = (_, end_of-Term)
-
-abbrev link_row_in : Term → (n : Count) × Row_of-Link n
-link_row_in (term.Arithmetic' p first shape row) = (_, row)
-link_row_in _ = (_, end_of-Link)
 
 -- in the code's words
 pub chain_is : (t x : Term) (o : Connective) (first : Box Term Global) (v : Vec Term Global) (links : List Term) → t ≡ term.Chain o first v → x ≡ box_value first → links ≡ v.items

@@ -1,5 +1,5 @@
 -- The module that is compiled, as a whole.
-use Rattle.std.proofs.Common.{◌≡◌, ℕ, true, List, map, length, Option, Some, refl, sym, ap, ◌∙◌, subst, arith, Vec, Global}
+use Rattle.std.proofs.Common.{◌≡◌, ℕ, ◌+◌, true, List, map, length, Option, Some, refl, sym, ap, ◌∙◌, subst, arith, Vec, Global}
 use Rattle.std.specs.Prelude.{nat_le}
 use Rattle.std.specs.List.{list_all, slice_get, All}
 use Rattle.std.proofs.lemmas.List.{length-map}
@@ -7,6 +7,7 @@ use Rattle.std.proofs.lemmas.Bool.{and_parts, and_from, le-leb}
 use Rattle.std.proofs.lemmas.Option.{slice_get_within, get_or_from_slice_get}
 use Rattle.pb_carriers.specs.Carrier as carriers
 use Rattle.pb_carriers.specs.Carrier.{is_within}
+use Rattle.pb_sorts.specs.declared.limits.TheConstants.{MAX_STRUCTS, MAX_EQUATIONS, MAX_INSTANCES}
 use Rattle.pb_sorts.specs.Carrier.{values_of}
 use Rattle.pb_sorts.specs.declared.carrier.Carrier.{Carrier}
 use Rattle.pb_sorts.specs.Layout.{lists_of}
@@ -106,11 +107,11 @@ module _ (text : SpecForm) (faultless : is_faultless text ≡ true) (callees : L
           (callees_fit (erase text) (counts S) counted few_here callees text.equations callees es forms all_ready known all_fields)
           text.equations callees es forms all_ready known all_fields)
 
-      instances_within : nat_le (instance_count Q) 4194304 ≡ true
+      instances_within : nat_le (instance_count Q) MAX_INSTANCES ≡ true
       instances_within =
           let e = ap instance_count equations ∙ instances_same (erase text) callees text.equations callees es declared all_ready in
           let d = (accepted-well-typed text faultless).declarations.few_instances in
-          le-leb (instance_count Q) 4194304 (omega (arith, e, d))
+          le-leb (instance_count Q) MAX_INSTANCES (omega (arith, e, d))
 
       initial_within : fits_initial Q I ≡ true
       initial_within =
@@ -127,8 +128,8 @@ module _ (text : SpecForm) (faultless : is_faultless text ≡ true) (callees : L
           let long = ap length equations ∙ compiled_long (erase text) callees text.equations callees es all_ready in
           let few_equations = (accepted-well-typed text faultless).declarations.few_equations in
           let some = slice_get_within (erase text).equations (initial_place (erase text)) there.equation there.there in
-          and_from _ _ (and_from _ _ (between 0 256 (length S) (omega arith) (omega (arith, sort_count, sorts_few))) sorts_within)
-          (and_from _ _ (and_from _ _ (between 1 65 (length Q) (omega (arith, long, some)) (omega (arith, long, few_equations))) equations_within)
+          and_from _ _ (and_from _ _ (between 0 (MAX_STRUCTS + 1) (length S) (omega arith) (omega (arith, sort_count, sorts_few))) sorts_within)
+          (and_from _ _ (and_from _ _ (between 1 (MAX_EQUATIONS + 1) (length Q) (omega (arith, long, some)) (omega (arith, long, few_equations))) equations_within)
           (and_from _ _ instances_within initial_within))
 
 -- ---- what measuring asks for, of the program's lists

@@ -1,6 +1,7 @@
 -- What the parts of a compiled module are made of.
 use Rattle.std.specs.Prelude.{◌≡◌, ◌≤◌, Bool, true, ◌&&◌, ⊤, List, [], ◌∷◌, length}
 use Rattle.std.specs.List.{list_all}
+use Rattle.pb_sorts.specs.declared.limits.TheConstants.{MAX_ENUMERATORS}
 use Rattle.pb_sorts.specs.declared.carrier.Carrier.{Carrier}
 use Rattle.pb_sorts.specs.declared.carrier.Carrier.TheVariants as carrier
 use Rattle.pb_text_tree.specs.Form.{EquationForm}
@@ -55,9 +56,9 @@ all_compiled callees css texts E = []
 
 -- ---- what may be compiled
 
--- a struct has names that a module may have, and at most 255 enumerators
+-- a struct has names that a module may have, and at most MAX_ENUMERATORS enumerators
 abbrev pub IsSort : Sort → Type 0
-IsSort (Struct es) = (length es ≤ 255) × (list_all (λ (e : Enumerator). is_name e.name) es ≡ true)
+IsSort (Struct es) = (length es ≤ MAX_ENUMERATORS) × (list_all (λ (e : Enumerator). is_name e.name) es ≡ true)
 IsSort (Alias s) = ⊤
 
 abbrev pub AreSorts : List SortDeclaration → Type 0

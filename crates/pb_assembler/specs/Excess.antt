@@ -1,6 +1,7 @@
 -- Which limit of the machine a program exceeds first, and what it is for a text to be refused by it.
 use Rattle.std.specs.Prelude.{◌≡◌, ℕ, suc, ◌<◌, nat_lt, ◌||◌, length, min, Option, Some, None, if◌then◌else◌}
 use Rattle.std.specs.List.{slice_get}
+use Rattle.pb_sorts.specs.declared.limits.TheConstants.{MAX_LOOP_SLOTS, MAX_INSTRUCTIONS}
 use Rattle.pb_text_meaning.specs.Syntax.{Equation, Spec}
 use Rattle.pb_bytecode_program.specs.declared.limits.TheConstants.{MAX_OPERANDS, MAX_BRACKETS, MAX_LOOPS, MAX_STEPS, MAX_TOKENS}
 use Rattle.pb_bytecode_program.specs.Machine.{Program}
@@ -8,7 +9,6 @@ use Rattle.pb_bytecode_program.specs.Counts.{static_steps, static_tokens}
 use Rattle.pb_normal.specs.Normal.{Formula}
 use Rattle.pb_normal.specs.Equations.{normal_equation}
 use Rattle.pb_assembler_scheme.specs.Scheme.{head}
-use Rattle.pb_assembler_accepted.specs.declared.limits.TheConstants.{MAX_INSTRUCTIONS, MAX_LOOP_SLOTS}
 use Rattle.pb_assembler_accepted.specs.Limits.{formula_operands, formula_brackets, formula_loops, KeepsLimits}
 use Rattle.pb_assembler_accepted.specs.Made.{IsMadeOf}
 use Rattle.pb_assembler.specs.declared.limit.Limit.{Limit}

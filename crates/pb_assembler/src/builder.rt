@@ -1,8 +1,12 @@
 //! Code in the making, whose jumps name labels in place of places.
 
-ghost use Rattle.std.specs.Prelude.{◌≡◌, ◌≤◌, ◌<◌, ◌++◌, ◌∷◌, [], true, false, length, map, IfOk, OnOk, OnErr, Some, None, option_map};
+ghost use Rattle.std.specs.Prelude.{◌≡◌, ◌≤◌, ◌<◌, ◌++◌, ◌∷◌, [], true, false, length, map, IfOk};
+ghost use Rattle.std.specs.Prelude.{OnOk, OnErr, Some, None, option_map};
 ghost use Rattle.std.specs.List.{list_any, slice_get, slice_set};
-ghost use Rattle.pb_assembler.specs.Draft.{are_placed, are_within, is_label, is_slot_test, place_of, resolved, resolved_op, version_of, with_target};
+ghost use Rattle.pb_sorts.specs.declared.limits.TheConstants.{MAX_INSTRUCTIONS};
+ghost use Rattle.pb_assembler.specs.Draft.{are_placed, are_within, is_label, is_slot_test};
+ghost use Rattle.pb_assembler.specs.Draft.{place_of, resolved, resolved_op, version_of};
+ghost use Rattle.pb_assembler.specs.Draft.{with_target};
 
 use pb_bytecode_program::Op;
 use std::alloc::{AllocError, Global};
@@ -14,8 +18,8 @@ pub struct Label {
     number: usize,
 }
 
-/// Instructions in order, and labels for the targets of jumps. Contracts see the instructions, each with its target's
-/// label, and the places of the labels so far (`specs/Draft.antt`).
+/// Instructions in order, and labels for the targets of jumps. Contracts see the instructions, each
+/// with its target's label, and the places of the labels so far (`specs/Draft.antt`).
 #[derive(Drop)]
 pub struct Builder {
     ops: Vec<(Op, Option<usize>)>,
@@ -30,7 +34,8 @@ impl Model for Builder {
 
     ghost view = { λ builder. record { ops = builder.ops.items; places = builder.places.items } };
 
-    ghost invariant = { λ builder. (names_labels (length builder.places.items) builder.ops.items ≡ true) × (are_within (length builder.ops.items) builder.places.items ≡ true) };
+    ghost invariant = { λ builder. (names_labels (length builder.places.items) builder.ops.items
+        ≡ true) × (are_within (length builder.ops.items) builder.places.items ≡ true) };
 }
 
 /// The instruction with this target, where it has a target.
@@ -77,7 +82,7 @@ fn is_slot_test(op: Op) -> bool
 fn resolve(places: &[Option<usize>], op: Op, label: Option<usize>) -> Op
     requires label { is_label (length places.now) label ≡ true }
     requires placed { are_placed places.now ≡ true }
-    requires within { are_within 65535 places.now ≡ true }
+    requires within { are_within MAX_INSTRUCTIONS places.now ≡ true }
     ensures { result ≡ resolved_op (place_of places.now) (op, label) }
 {
     let Some(label) = label else {
@@ -125,7 +130,8 @@ impl Builder {
     /// Memory was refused; nothing has changed.
     pub fn label(&mut self) -> Result<Label, AllocError>
         ensures label { IfOk result (λ label. label.number ≡ length self.old.places) }
-        ensures ok { OnOk result (self.new ≡ record self.old { places = self.old.places ++ None ∷ [] }) }
+        ensures ok { OnOk result (self.new ≡ record self.old
+            { places = self.old.places ++ None ∷ [] }) }
         ensures err { OnErr result (self.new ≡ self.old) }
     {
         let number = self.places.len();
@@ -136,7 +142,10 @@ impl Builder {
     /// Gives a label its place: the next instruction's.
     pub fn place(&mut self, label: Label)
         requires { slice_get self.old.places label.number ≡ Some None }
-        ensures { self.new ≡ record self.old { places = slice_set self.old.places label.number (Some (length self.old.ops)) } }
+        ensures { self.new ≡ record self.old {
+          places = slice_set self.old.places label.number
+              (Some (length self.old.ops));
+        } }
     {
         let place = self.ops.len();
         self.places[label.number] = Some(place);
@@ -147,8 +156,10 @@ impl Builder {
     /// # Errors
     /// Memory was refused; nothing has changed.
     pub fn emit(&mut self, op: Op, target: Option<Label>) -> Result<(), AllocError>
-        requires { is_label (length self.old.places) (option_map (λ label. label.number) target) ≡ true }
-        ensures ok { OnOk result (self.new ≡ record self.old { ops = self.old.ops ++ (op, option_map (λ label. label.number) target) ∷ [] }) }
+        requires { is_label (length self.old.places) (option_map (λ label. label.number) target)
+            ≡ true }
+        ensures ok { OnOk result (self.new ≡ record self.old
+            { ops = self.old.ops ++ (op, option_map (λ label. label.number) target) ∷ [] }) }
         ensures err { OnErr result (self.new ≡ self.old) }
     {
         let label = match target {
@@ -166,7 +177,8 @@ impl Builder {
         self.places.iter().all(|place| place.is_some())
     }
 
-    /// The version of the module format that the instructions need: 2 exactly where a slot's range is tested.
+    /// The version of the module format that the instructions need: 2 exactly where a slot's range
+    /// is tested.
     pub fn version(&self) -> u8
         ensures { result ≡ version_of self.now.ops }
     {
@@ -185,7 +197,7 @@ impl Builder {
     /// Memory was refused.
     pub fn finish(self, alloc: Global) -> Result<Vec<Op>, AllocError>
         requires placed { are_placed self.places ≡ true }
-        requires few { length self.ops ≤ 65535 }
+        requires few { length self.ops ≤ MAX_INSTRUCTIONS }
         ensures { IfOk result (λ ops. ops.items ≡ resolved (place_of self.places) self.ops) }
     {
         let mut ops = Vec::with_capacity(alloc, self.ops.len())?;

@@ -1,10 +1,12 @@
 //! Code of calls.
 
-ghost use Rattle.std.specs.Prelude.{◌≡◌, ◌<◌, ◌&&◌, true, false, length, map, option_map, Option, Some, None, OnOk};
+ghost use Rattle.std.specs.Prelude.{◌≡◌, ◌<◌, ◌&&◌, true, false, length, map, option_map, Option};
+ghost use Rattle.std.specs.Prelude.{Some, None, OnOk};
 ghost use Rattle.pb_normal.specs.View.{argument_view};
 ghost use Rattle.pb_typing.specs.View.{shape_view};
 ghost use Rattle.pb_assembler_scheme.specs.Pieces.{Guard};
-ghost use Rattle.pb_assembler_scheme.specs.Scheme.{any_tested, arguments_piece, call_piece, tested_range};
+ghost use Rattle.pb_assembler_scheme.specs.Scheme.{any_tested, arguments_piece, call_piece};
+ghost use Rattle.pb_assembler_scheme.specs.Scheme.{tested_range};
 ghost use Rattle.pb_assembler.specs.Draft.{is_label};
 ghost use Rattle.pb_assembler.specs.Emitted.{Emits, block_end, called_piece, nowhere};
 ghost use Rattle.pb_normal.specs.Small.{are_small};
@@ -18,7 +20,8 @@ use pb_sorts::{Carrier, Range};
 use pb_typing::Shape;
 use std::alloc::AllocError;
 
-/// The range that an argument is tested for: its parameter's, unless all that is known of the argument lies within.
+/// The range that an argument is tested for: its parameter's, unless all that is known of the
+/// argument lies within.
 fn tested_range(carrier: Carrier, shape: Shape) -> Option<Range>
     ensures { option_map (λ r. (r.low, r.high)) result ≡ tested_range carrier (shape_view shape) }
 {
@@ -52,7 +55,8 @@ fn any_tested(carriers: &[Carrier], arguments: &[Argument]) -> bool
 /// The call, and the jump to the end of the block around it, if there is one.
 fn emit_called(builder: &mut Builder, equation: u8, end: Option<Label>) -> Result<(), AllocError>
     requires { is_label (length builder.old.places) (option_map (λ l. l.number) end) ≡ true }
-    ensures { OnOk result (Emits (called_piece equation (option_map (λ l. l.number) end)) (block_end (option_map (λ l. l.number) end)) builder.old builder.new) }
+    ensures { OnOk result (Emits (called_piece equation (option_map (λ l. l.number) end))
+        (block_end (option_map (λ l. l.number) end)) builder.old builder.new) }
 {
     builder.emit(Op::Call { equation }, None)?;
     match end {
@@ -72,7 +76,9 @@ fn emit_arguments(
 ) -> Result<(), AllocError>
     requires label { is_label (length builder.old.places) (option_map (λ l. l.number) end) ≡ true }
     requires small { are_small (map argument_view arguments.now) ≡ true }
-    ensures { OnOk result (Emits (arguments_piece carriers.now (map argument_view arguments.now) (called_piece equation (option_map (λ l. l.number) end))) (block_end (option_map (λ l. l.number) end)) builder.old builder.new) }
+    ensures { OnOk result (Emits (arguments_piece carriers.now (map argument_view arguments.now)
+        (called_piece equation (option_map (λ l. l.number) end)))
+        (block_end (option_map (λ l. l.number) end)) builder.old builder.new) }
 {
     let Some((argument, arguments)) = arguments.split_first() else {
         return emit_called(builder, equation, end);
@@ -105,7 +111,10 @@ fn emit_tested(
 ) -> Result<(), AllocError>
     requires label { is_label (length builder.old.places) (option_map (λ l. l.number) end) ≡ true }
     requires small { are_small (map argument_view arguments.now) ≡ true }
-    ensures { OnOk result (Emits (Guard range.low range.high (arguments_piece carriers.now (map argument_view arguments.now) (called_piece equation (option_map (λ l. l.number) end)))) (block_end (option_map (λ l. l.number) end)) builder.old builder.new) }
+    ensures { OnOk result (Emits (Guard range.low range.high
+        (arguments_piece carriers.now (map argument_view arguments.now)
+        (called_piece equation (option_map (λ l. l.number) end))))
+        (block_end (option_map (λ l. l.number) end)) builder.old builder.new) }
 {
     let outside = builder.label()?;
     let test = Op::InRange {
@@ -119,8 +128,8 @@ fn emit_tested(
     builder.emit(Op::Pop, None)
 }
 
-/// The code of a call of the equation that has these parameters, or of a cut where an argument lies outside of its
-/// parameter.
+/// The code of a call of the equation that has these parameters, or of a cut where an argument lies
+/// outside of its parameter.
 ///
 /// # Errors
 /// Memory was refused.
@@ -132,7 +141,8 @@ pub(crate) fn emit_call(
 ) -> Result<(), AllocError>
     requires few { equation < 256 }
     requires small { are_small (map argument_view arguments.now) ≡ true }
-    ensures { OnOk result (Emits (call_piece equation carriers.now (map argument_view arguments.now)) nowhere builder.old builder.new) }
+    ensures { OnOk result (Emits (call_piece equation carriers.now
+        (map argument_view arguments.now)) nowhere builder.old builder.new) }
 {
     let equation = equation as u8;
     if any_tested(carriers, arguments) {

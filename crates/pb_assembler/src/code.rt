@@ -2,6 +2,7 @@
 
 ghost use Rattle.std.specs.Prelude.{◌≡◌, ◌≤◌, true, length, IfOk};
 ghost use Rattle.pb_sorts.specs.Layout.{lists_of};
+ghost use Rattle.pb_sorts.specs.declared.limits.TheConstants.{MAX_INSTRUCTIONS};
 ghost use Rattle.pb_normal.specs.View.{formula_view};
 ghost use Rattle.pb_assembler_scheme.specs.Scheme.{equation_code};
 ghost use Rattle.pb_normal.specs.Small.{is_small_formula};
@@ -15,8 +16,8 @@ use pb_normal::Formula;
 use pb_sorts::Carrier;
 use std::alloc::{AllocError, Global};
 
-/// The code of an equation with this right side, where the equations have these parameters: its outermost bracket is of
-/// the kind of its head. So many instructions are expected.
+/// The code of an equation with this right side, where the equations have these parameters: its
+/// outermost bracket is of the kind of its head. So many instructions are expected.
 ///
 /// # Errors
 /// Memory was refused.
@@ -27,8 +28,10 @@ pub(crate) fn equation_code(
     instructions: usize,
 ) -> Result<Vec<Op>, AllocError>
     requires small { is_small_formula (formula_view right.now) ≡ true }
-    requires few { length (equation_code (lists_of callees.now) (formula_view right.now)) ≤ 65535 }
-    ensures { IfOk result (λ code. code.items ≡ equation_code (lists_of callees.now) (formula_view right.now)) }
+    requires few { length (equation_code (lists_of callees.now) (formula_view right.now))
+        ≤ MAX_INSTRUCTIONS }
+    ensures { IfOk result (λ code. code.items
+        ≡ equation_code (lists_of callees.now) (formula_view right.now)) }
 {
     let kind = outermost(right);
     let mut builder = Builder::with_capacity(alloc, instructions)?;

@@ -9,11 +9,12 @@ use thiserror::Error;
 /// Why a text has no compiled module.
 #[derive(Debug, Drop, Error)]
 pub enum CompileError {
-    /// `C01` to `C06`: the code of the equation at this place, counted from 0, exceeds a limit of the machine.
+    /// `C01` to `C06`: the code of the equation at this place, counted from 0, exceeds a limit of
+    /// the machine.
     #[error("{limit} equation {equation}")]
     Limit { limit: Limit, equation: usize },
-    /// An enumerator's or a predicate variable's name isn't one of the grammar, so that no module can have it. No text
-    /// that was read has such a name.
+    /// An enumerator's or a predicate variable's name isn't one of the grammar, so that no module
+    /// can have it. No text that was read has such a name.
     #[error("a name that the grammar lacks")]
     Name,
     /// `M01`: memory was refused.

@@ -33,11 +33,14 @@ fn module_of(
     normal: &Normal<'_>,
     callees: &[Vec<Carrier>],
 ) -> Result<Module, AllocError>
-    requires parameters { map shapes_of (lists_of callees.now) ≡ parameter_shapes (said normal.now.typed.now) (said normal.now.typed.now).equations }
+    requires parameters { map shapes_of (lists_of callees.now)
+        ≡ parameter_shapes (said normal.now.typed.now) (said normal.now.typed.now).equations }
     requires named { has_names (said normal.now.typed.now) ≡ true }
     requires kept { EachKeepsLimits (said normal.now.typed.now) }
-    ensures module { IfOk result (λ m. IsCompiledModule (said normal.now.typed.now) (module_contents m)) }
-    ensures kept { IfOk result (λ m. KeepsAllLimits (said normal.now.typed.now) (module_contents m)) }
+    ensures module { IfOk result (λ m. IsCompiledModule (said normal.now.typed.now)
+        (module_contents m)) }
+    ensures kept { IfOk result (λ m. KeepsAllLimits (said normal.now.typed.now)
+        (module_contents m)) }
 {
     pb_normal::limits::normal_forms_are_small();
     pb_normal::limits::normal_forms_keep_bounds();
@@ -56,20 +59,25 @@ fn module_of(
     })
 }
 
-/// The module that the compile scheme makes of a text's normal form (Groote and Willemse 2005: the right sides of its
-/// equations are code that writes and/or trees). It is always accepted.
+/// The module that the compile scheme makes of a text's normal form (Groote and Willemse 2005: the
+/// right sides of its equations are code that writes and/or trees). It is always accepted.
 ///
 /// # Errors
-/// `Limit` exactly where the code of an equation exceeds a limit of the machine: the first such equation, with the least
-/// of its limits in the order of their numbers. `Name` comes only where a name is none of the grammar's, which no text
-/// that was read has, and `Memory` only where memory was refused.
+/// `Limit` exactly where the code of an equation exceeds a limit of the machine: the first such
+/// equation, with the least of its limits in the order of their numbers. `Name` comes only where a
+/// name is none of the grammar's, which no text that was read has, and `Memory` only where memory
+/// was refused.
 pub fn compile(alloc: Global, normal: &Normal<'_>) -> Result<Module, CompileError>
     // The module is the scheme's.
-    ensures module { IfOk result (λ m. IsCompiledModule (erase (spec_form normal.now.typed.now.spec)) (module_contents m)) }
+    ensures module { IfOk result (λ m. IsCompiledModule
+        (erase (spec_form normal.now.typed.now.spec)) (module_contents m)) }
     // Its code keeps the machine's limits.
-    ensures kept { IfOk result (λ m. KeepsAllLimits (erase (spec_form normal.now.typed.now.spec)) (module_contents m)) }
-    // The first equation that exceeds a limit, with its least limit; or else a name that no module has.
-    ensures refused { IfErr result (λ e. let spec = erase (spec_form normal.now.typed.now.spec) in IsRefusal spec (IsFirstExcess spec) e) }
+    ensures kept { IfOk result (λ m. KeepsAllLimits (erase (spec_form normal.now.typed.now.spec))
+        (module_contents m)) }
+    // The first equation that exceeds a limit, with its least limit; or else a name that no module
+    // has.
+    ensures refused { IfErr result (λ e. let spec = erase
+        (spec_form normal.now.typed.now.spec) in IsRefusal spec (IsFirstExcess spec) e) }
 {
     let spec = &normal.typed.spec;
     let declarations = read_declarations(alloc, normal.typed)?;

@@ -5,7 +5,9 @@ ghost use Rattle.std.specs.List.{list_all};
 ghost use Rattle.pb_sorts.specs.Layout.{lists_of};
 ghost use Rattle.pb_text_tree.specs.Form.{equation_form};
 ghost use Rattle.pb_bytecode.specs.Views.{equation_contents};
-ghost use Rattle.pb_assembler.specs.Compiled.{all_compiled, compiled_contents, has_fitting_carriers, has_fitting_fields, AreReady, IsReady};
+ghost use Rattle.pb_assembler.specs.Compiled.{all_compiled, compiled_contents};
+ghost use Rattle.pb_assembler.specs.Compiled.{has_fitting_carriers, has_fitting_fields, AreReady};
+ghost use Rattle.pb_assembler.specs.Compiled.{IsReady};
 
 use crate::code::equation_code;
 use crate::measure_equation::measure;
@@ -35,7 +37,8 @@ fn copy_carriers(alloc: Global, carriers: &[Carrier]) -> Result<Vec<Carrier>, Al
     Ok(copies)
 }
 
-/// An equation of a text, whose normal form is given, with the carriers of its parameters and exactly its static counts.
+/// An equation of a text, whose normal form is given, with the carriers of its parameters and
+/// exactly its static counts.
 fn compile_equation(
     alloc: Global,
     callees: &[Vec<Carrier>],
@@ -44,7 +47,9 @@ fn compile_equation(
     normal: &pb_normal::Equation,
 ) -> Result<Equation, AllocError>
     requires { IsReady (lists_of callees.now) parameters.now (equation_form text.now) normal.now }
-    ensures contents { IfOk result (λ X. equation_contents X ≡ compiled_contents (lists_of callees.now) parameters.now (equation_form text.now) normal.now) }
+    ensures contents { IfOk result (λ X. equation_contents X
+        ≡ compiled_contents (lists_of callees.now) parameters.now
+        (equation_form text.now) normal.now) }
     ensures fields { IfOk result (λ X. has_fitting_carriers (equation_contents X) ≡ true) }
 {
     let measures = measure(callees, normal);
@@ -74,9 +79,13 @@ pub(crate) fn compile_equations(
     texts: &[pb_text_tree::Equation],
     normals: &[pb_normal::Equation],
 ) -> Result<Vec<Equation>, AllocError>
-    requires { AreReady (lists_of callees.now) (lists_of callees.now) (map equation_form texts.now) normals.now }
-    ensures contents { IfOk result (λ equations. map equation_contents equations.items ≡ all_compiled (lists_of callees.now) (lists_of callees.now) (map equation_form texts.now) normals.now) }
-    ensures fields { IfOk result (λ equations. list_all has_fitting_carriers (map equation_contents equations.items) ≡ true) }
+    requires { AreReady (lists_of callees.now) (lists_of callees.now)
+        (map equation_form texts.now) normals.now }
+    ensures contents { IfOk result (λ equations. map equation_contents equations.items
+        ≡ all_compiled (lists_of callees.now) (lists_of callees.now)
+        (map equation_form texts.now) normals.now) }
+    ensures fields { IfOk result (λ equations. list_all has_fitting_carriers
+        (map equation_contents equations.items) ≡ true) }
 {
     let mut equations = Vec::with_capacity(alloc, normals.len())?;
     for (place, normal) in normals.iter().enumerate() {

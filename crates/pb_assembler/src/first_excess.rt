@@ -15,11 +15,13 @@ pub(crate) struct Excess {
     pub equation: usize,
 }
 
-/// The first equation whose code exceeds a limit, with the least of its limits, where the equations' parameters have
-/// these carriers.
+/// The first equation whose code exceeds a limit, with the least of its limits, where the
+/// equations' parameters have these carriers.
 pub(crate) fn first_excess_of(callees: &[Vec<Carrier>], equations: &[Equation]) -> Option<Excess>
-    ensures kept { OfEachText callees.now equations.now (λ spec. IfNone result (EachKeepsLimits spec)) }
-    ensures exceeded { OfEachText callees.now equations.now (λ spec. IfSome result (IsExcess spec)) }
+    ensures kept { OfEachText callees.now equations.now
+        (λ spec. IfNone result (EachKeepsLimits spec)) }
+    ensures exceeded { OfEachText callees.now equations.now
+        (λ spec. IfSome result (IsExcess spec)) }
 {
     let mut place = 0;
     while place < equations.len() {

@@ -1,10 +1,13 @@
 //! Code of formulas.
 
-ghost use Rattle.std.specs.Prelude.{◌≡◌, not, true, length, map, option_map, Option, None, IfSome, OnOk};
+ghost use Rattle.std.specs.Prelude.{◌≡◌, not, true, length, map, option_map, Option, None, IfSome};
+ghost use Rattle.std.specs.Prelude.{OnOk};
 ghost use Rattle.pb_sorts.specs.Layout.{lists_of};
 ghost use Rattle.pb_normal.specs.Normal.{Join};
-ghost use Rattle.pb_normal.specs.View.{chained, formula_view, formula_views, nested, term_view};
-ghost use Rattle.pb_assembler_scheme.specs.Scheme.{connective_of, deciding, formula_piece, test_of, test_piece};
+ghost use Rattle.pb_normal.specs.View.{chained, formula_view, formula_views, is_and, is_forall};
+ghost use Rattle.pb_normal.specs.View.{nested, term_view};
+ghost use Rattle.pb_assembler_scheme.specs.Scheme.{connective_of, deciding, formula_piece, test_of};
+ghost use Rattle.pb_assembler_scheme.specs.Scheme.{test_piece};
 ghost use Rattle.pb_assembler.specs.Emitted.{Emits, nowhere};
 ghost use Rattle.pb_assembler.specs.Operands.{early_test, IsLeft};
 ghost use Rattle.pb_normal.specs.Small.{is_small, is_small_formula};
@@ -14,25 +17,48 @@ use crate::call::emit_call;
 use crate::emission::emit_plain;
 use crate::term::emit_term;
 use pb_bytecode_program::{Connective, Leaf, Op};
-use pb_normal::{Formula, Term};
+use pb_normal::{Formula, Junction, Term};
 use pb_sorts::Carrier;
+use pb_text_tree::Quantifier;
 use std::alloc::AllocError;
 
 /// The leaf that decides a bracket of this kind.
-fn deciding(kind: bool) -> Leaf
-    ensures { result ≡ deciding kind }
+fn deciding(kind: Junction) -> Leaf
+    ensures { result ≡ deciding (is_and kind) }
 {
-    if kind { Leaf::No } else { Leaf::Yes }
+    match kind {
+        Junction::And => Leaf::No,
+        Junction::Or => Leaf::Yes,
+    }
+}
+
+/// The truth value that decides nothing in a bracket of this kind.
+fn neutral(kind: Junction) -> bool
+    ensures { result ≡ is_and kind }
+{
+    match kind {
+        Junction::And => true,
+        Junction::Or => false,
+    }
 }
 
 /// The connective of a bracket of this kind.
-pub(crate) fn connective_of(kind: bool) -> Connective
-    ensures { result ≡ connective_of kind }
+pub(crate) fn connective_of(kind: Junction) -> Connective
+    ensures { result ≡ connective_of (is_and kind) }
 {
-    if kind {
-        Connective::And
-    } else {
-        Connective::Or
+    match kind {
+        Junction::And => Connective::And,
+        Junction::Or => Connective::Or,
+    }
+}
+
+/// The kind of the bracket that a quantifier's instances stand in.
+pub(crate) fn junction_of(quantifier: Quantifier) -> Junction
+    ensures { is_and result ≡ is_forall quantifier }
+{
+    match quantifier {
+        Quantifier::Forall => Junction::And,
+        Quantifier::Exists => Junction::Or,
     }
 }
 
@@ -60,13 +86,17 @@ fn as_test(formula: &Formula) -> Option<&Term>
     }
 }
 
-/// The test that decides first whether the other operands run, and those operands, where an operand of the first pair is
-/// a test.
+/// The test that decides first whether the other operands run, and those operands, where an operand
+/// of the first pair is a test.
 fn early_test<'a>(
     first: &'a Formula,
     rest: &'a [Formula],
 ) -> Option<(&'a Term, &'a Formula, &'a [Formula])>
-    ensures views { option_map (λ r. (term_view r.0.now, (formula_view r.1.now, formula_views r.2.now))) result ≡ early_test (formula_view first.now) (formula_views rest.now) }
+    ensures views { option_map (λ r. (
+      term_view r.0.now,
+      (formula_view r.1.now, formula_views r.2.now),
+    )) result
+        ≡ early_test (formula_view first.now) (formula_views rest.now) }
     ensures left { IfSome result (λ r. IsLeft first.now rest.now r.1.now r.2.now) }
 {
     let Some((next, others)) = rest.split_first() else {
@@ -84,7 +114,7 @@ fn early_test<'a>(
     }
 }
 
-/// The code of a formula under a bracket of the kind `around`, conjunctive or not, where the equations have these
+/// The code of a formula under a bracket of the kind `around`, where the equations have these
 /// parameters.
 ///
 /// # Errors
@@ -93,34 +123,35 @@ fn early_test<'a>(
 pub(crate) fn emit_formula(
     builder: &mut Builder,
     callees: &[Vec<Carrier>],
-    around: bool,
+    around: Junction,
     formula: &Formula,
 ) -> Result<(), AllocError>
     requires { is_small_formula (formula_view formula.now) ≡ true }
-    ensures { OnOk result (Emits (formula_piece (lists_of callees.now) around (formula_view formula.now)) nowhere builder.old builder.new) }
+    ensures { OnOk result (Emits (formula_piece (lists_of callees.now) (is_and around)
+        (formula_view formula.now)) nowhere builder.old builder.new) }
 {
     match formula {
         Formula::Test(term) => emit_test(builder, around, term),
         Formula::Join {
-            conjunctive,
+            junction,
             first,
             rest,
         } => {
-            if *conjunctive == around {
+            if *junction == around {
                 emit_inside(builder, callees, around, first, rest)
             } else {
                 emit_outside(builder, callees, around, first, rest)
             }
         }
         Formula::Each {
-            universal,
+            quantifier,
             slot,
             carriers,
             body,
         } => {
             let first = *slot;
             let slots = Slots { first, carriers };
-            emit_each(builder, callees, around, *universal, slots, body)
+            emit_each(builder, callees, around, *quantifier, slots, body)
         }
         Formula::Call {
             equation,
@@ -133,14 +164,15 @@ pub(crate) fn emit_formula(
 }
 
 /// A test alone.
-fn emit_test(builder: &mut Builder, around: bool, test: &Term) -> Result<(), AllocError>
+fn emit_test(builder: &mut Builder, around: Junction, test: &Term) -> Result<(), AllocError>
     requires { is_small (term_view test.now) ≡ true }
-    ensures { OnOk result (Emits (test_piece around (term_view test.now)) nowhere builder.old builder.new) }
+    ensures { OnOk result (Emits (test_piece (is_and around)
+        (term_view test.now)) nowhere builder.old builder.new) }
 {
     emit_term(builder, test)?;
     let passed = builder.label()?;
     let jump = Op::JumpIf {
-        condition: around,
+        condition: neutral(around),
         target: 0,
     };
     builder.emit(jump, Some(passed))?;
@@ -161,60 +193,52 @@ struct Slots<'a> {
 fn emit_each(
     builder: &mut Builder,
     callees: &[Vec<Carrier>],
-    around: bool,
-    universal: bool,
+    around: Junction,
+    quantifier: Quantifier,
     slots: Slots<'_>,
     body: &Formula,
 ) -> Result<(), AllocError>
-    requires { is_small_formula (nested universal slots.first slots.carriers.now (formula_view body.now)) ≡ true }
-    ensures { OnOk result (Emits (formula_piece (lists_of callees.now) around (nested universal slots.entry.first slots.entry.carriers.now (formula_view body.now))) nowhere builder.old builder.new) }
+    requires { is_small_formula (nested (is_forall quantifier) slots.first slots.carriers.now
+        (formula_view body.now)) ≡ true }
+    ensures { OnOk result (Emits (formula_piece (lists_of callees.now) (is_and around)
+        (nested (is_forall quantifier) slots.entry.first slots.entry.carriers.now
+        (formula_view body.now))) nowhere builder.old builder.new) }
 {
     if slots.carriers.is_empty() {
         return emit_formula(builder, callees, around, body);
     }
-    if universal == around {
-        return emit_loops(
-            builder,
-            callees,
-            universal,
-            slots.first,
-            slots.carriers,
-            body,
-        );
+    let kind = junction_of(quantifier);
+    if kind == around {
+        return emit_loops(builder, callees, quantifier, slots, body);
     }
-    emit_plain(builder, Op::Open(connective_of(universal)))?;
-    emit_loops(
-        builder,
-        callees,
-        universal,
-        slots.first,
-        slots.carriers,
-        body,
-    )?;
+    emit_plain(builder, Op::Open(connective_of(kind)))?;
+    emit_loops(builder, callees, quantifier, slots, body)?;
     emit_plain(builder, Op::Close)
 }
 
-/// Quantifiers over the values of slots, from `slot` on, in a bracket of their kind.
+/// Quantifiers over the values of slots, in a bracket of their kind.
 #[cycle(formulas)]
 fn emit_loops(
     builder: &mut Builder,
     callees: &[Vec<Carrier>],
-    universal: bool,
-    slot: usize,
-    carriers: &[Carrier],
+    quantifier: Quantifier,
+    slots: Slots<'_>,
     body: &Formula,
 ) -> Result<(), AllocError>
-    requires { is_small_formula (nested universal slot carriers.now (formula_view body.now)) ≡ true }
-    ensures { OnOk result (Emits (formula_piece (lists_of callees.now) universal (nested universal slot carriers.now (formula_view body.now))) nowhere builder.old builder.new) }
+    requires { is_small_formula (nested (is_forall quantifier) slots.first slots.carriers.now
+        (formula_view body.now)) ≡ true }
+    ensures { OnOk result (Emits (formula_piece (lists_of callees.now) (is_forall quantifier)
+        (nested (is_forall quantifier) slots.entry.first slots.entry.carriers.now
+        (formula_view body.now))) nowhere builder.old builder.new) }
 {
-    let count = carriers.len();
+    let count = slots.carriers.len();
     let mut begun = 0;
     while begun < count {
-        let slot = (slot + begun) as u8;
+        let slot = (slots.first + begun) as u8;
         builder.emit(Op::Loop { slot }, None)?;
         begun += 1;
     }
-    emit_formula(builder, callees, universal, body)?;
+    emit_formula(builder, callees, junction_of(quantifier), body)?;
     let mut ended = 0;
     while ended < count {
         builder.emit(Op::Next, None)?;
@@ -228,12 +252,15 @@ fn emit_loops(
 fn emit_inside(
     builder: &mut Builder,
     callees: &[Vec<Carrier>],
-    kind: bool,
+    kind: Junction,
     first: &Formula,
     rest: &[Formula],
 ) -> Result<(), AllocError>
-    requires { is_small_formula (chained (Join kind) (formula_view first.now) (formula_views rest.now)) ≡ true }
-    ensures { OnOk result (Emits (formula_piece (lists_of callees.now) kind (chained (Join kind) (formula_view first.now) (formula_views rest.now))) nowhere builder.old builder.new) }
+    requires { is_small_formula (chained (Join (is_and kind)) (formula_view first.now)
+        (formula_views rest.now)) ≡ true }
+    ensures { OnOk result (Emits (formula_piece (lists_of callees.now) (is_and kind)
+        (chained (Join (is_and kind)) (formula_view first.now)
+        (formula_views rest.now))) nowhere builder.old builder.new) }
 {
     let last = builder.label()?;
     let mut left = first;
@@ -243,7 +270,7 @@ fn emit_inside(
             emit_term(builder, test)?;
             let passed = builder.label()?;
             let jump = Op::JumpIf {
-                condition: kind,
+                condition: neutral(kind),
                 target: 0,
             };
             builder.emit(jump, Some(passed))?;
@@ -263,17 +290,21 @@ fn emit_inside(
     Ok(())
 }
 
-/// Operands joined in a bracket of the other kind, `around`: the tests before all other operands need no bracket.
+/// Operands joined in a bracket of the other kind, `around`: the tests before all other operands
+/// need no bracket.
 #[cycle(formulas)]
 fn emit_outside(
     builder: &mut Builder,
     callees: &[Vec<Carrier>],
-    around: bool,
+    around: Junction,
     first: &Formula,
     rest: &[Formula],
 ) -> Result<(), AllocError>
-    requires { is_small_formula (chained (Join (not around)) (formula_view first.now) (formula_views rest.now)) ≡ true }
-    ensures { OnOk result (Emits (formula_piece (lists_of callees.now) around (chained (Join (not around)) (formula_view first.now) (formula_views rest.now))) nowhere builder.old builder.new) }
+    requires { is_small_formula (chained (Join (not (is_and around))) (formula_view first.now)
+        (formula_views rest.now)) ≡ true }
+    ensures { OnOk result (Emits (formula_piece (lists_of callees.now) (is_and around)
+        (chained (Join (not (is_and around))) (formula_view first.now)
+        (formula_views rest.now))) nowhere builder.old builder.new) }
 {
     let last = builder.label()?;
     let mut left = first;
@@ -281,7 +312,7 @@ fn emit_outside(
     while let Some((test, guarded, more)) = early_test(left, behind) {
         emit_term(builder, test)?;
         let jump = Op::JumpIf {
-            condition: around,
+            condition: neutral(around),
             target: 0,
         };
         builder.emit(jump, Some(last))?;
@@ -298,18 +329,22 @@ fn emit_outside(
 fn emit_untested(
     builder: &mut Builder,
     callees: &[Vec<Carrier>],
-    around: bool,
+    around: Junction,
     first: &Formula,
     rest: &[Formula],
 ) -> Result<(), AllocError>
-    requires small { is_small_formula (chained (Join (not around)) (formula_view first.now) (formula_views rest.now)) ≡ true }
+    requires small { is_small_formula (chained (Join (not (is_and around))) (formula_view first.now)
+        (formula_views rest.now)) ≡ true }
     requires untested { early_test (formula_view first.now) (formula_views rest.now) ≡ None }
-    ensures { OnOk result (Emits (formula_piece (lists_of callees.now) around (chained (Join (not around)) (formula_view first.now) (formula_views rest.now))) nowhere builder.old builder.new) }
+    ensures { OnOk result (Emits (formula_piece (lists_of callees.now) (is_and around)
+        (chained (Join (not (is_and around))) (formula_view first.now)
+        (formula_views rest.now))) nowhere builder.old builder.new) }
 {
     if rest.is_empty() {
         return emit_formula(builder, callees, around, first);
     }
-    emit_plain(builder, Op::Open(connective_of(!around)))?;
-    emit_inside(builder, callees, !around, first, rest)?;
+    let kind = around.dual();
+    emit_plain(builder, Op::Open(connective_of(kind)))?;
+    emit_inside(builder, callees, kind, first, rest)?;
     emit_plain(builder, Op::Close)
 }

@@ -25,7 +25,8 @@ fn push_value(values: &mut Vec<i64>, value: i64) -> Result<(), AllocError>
 /// Memory was refused.
 pub(crate) fn initial(alloc: Global, normal: &Normal<'_>) -> Result<Initial, AllocError>
     ensures equation { IfOk result (λ i. i.equation ≡ initial_place (said normal.now.typed.now)) }
-    ensures values { IfOk result (λ i. i.values.items ≡ initial_values (said normal.now.typed.now)) }
+    ensures values { IfOk result (λ i. i.values.items
+        ≡ initial_values (said normal.now.typed.now)) }
     ensures byte { IfOk result (λ i. is_byte i.equation ≡ true) }
     ensures words { IfOk result (λ i. list_all is_i64 i.values.items ≡ true) }
 {

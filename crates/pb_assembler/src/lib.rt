@@ -1,6 +1,7 @@
-//! The compiler, from normal forms to modules. What the code of each equation takes of the machine's limits is counted
-//! before any code is made; then code with labels is made piece by piece, and its targets are resolved at the end.
-//! `specs/Excess.antt` says which texts are refused, and `specs/Emitted.antt` what it is to have emitted a piece.
+//! The compiler, from normal forms to modules. What the code of each equation takes of the
+//! machine's limits is counted before any code is made; then code with labels is made piece by
+//! piece, and its targets are resolved at the end. `specs/Excess.antt` says which texts are
+//! refused, and `specs/Emitted.antt` what it is to have emitted a piece.
 #![tactic(auto)]
 
 pub mod builder;
@@ -14,6 +15,7 @@ mod equation;
 mod first_excess;
 mod formula;
 mod initial;
+pub mod laws;
 pub mod limit;
 mod measure_equation;
 mod measure_formula;

@@ -1,21 +1,22 @@
 //! How much the code of an equation takes of what the machine limits.
 
 ghost use Rattle.std.specs.Prelude.{◌≡◌};
-ghost use Rattle.pb_normal.specs.View.{formula_view};
+ghost use Rattle.pb_normal.specs.View.{formula_view, is_and};
 ghost use Rattle.pb_assembler_scheme.specs.Scheme.{head};
 ghost use Rattle.pb_assembler.specs.MeasureFormulas.{callees_of};
 ghost use Rattle.pb_assembler.specs.MeasureEquations.{AreMeasuresOf, equation_measures};
 
+use crate::formula::junction_of;
 use crate::limit::Measures;
 use crate::measure_formula::measure_formula;
 use crate::measure_load::add;
 use crate::measure_tally::Tally;
-use pb_assembler_accepted::{MAX_INSTRUCTIONS, MAX_LOOP_SLOTS};
 use pb_bytecode_program::{MAX_BRACKETS, MAX_LOOPS, MAX_OPERANDS, MAX_TOKENS};
-use pb_normal::{Equation, Formula};
-use pb_sorts::Carrier;
+use pb_normal::{Equation, Formula, Junction};
+use pb_sorts::{Carrier, MAX_INSTRUCTIONS, MAX_LOOP_SLOTS};
 
-/// The measures of an equation's code, given those of its right side and how many loop slots there are.
+/// The measures of an equation's code, given those of its right side and how many loop slots there
+/// are.
 fn bounded(tally: Tally, slots: usize) -> Measures
     ensures { result ≡ equation_measures tally slots }
 {
@@ -24,32 +25,32 @@ fn bounded(tally: Tally, slots: usize) -> Measures
         operands: tally.operands.min(MAX_OPERANDS as u32 + 1),
         brackets: add(tally.brackets, 1).min(u32::from(MAX_BRACKETS) + 1),
         nesting: tally.nesting.min(MAX_LOOPS as u32 + 1),
-        slots: slots.min(MAX_LOOP_SLOTS as usize + 1) as u32,
+        slots: slots.min(MAX_LOOP_SLOTS + 1) as u32,
         steps: add(tally.steps, 3),
         tokens: add(tally.tokens, 2).min(MAX_TOKENS + 1),
     }
 }
 
-/// Whether the outermost bracket of a formula's code is conjunctive.
+/// The kind of the outermost bracket of a formula's code.
 #[cycle(heads)]
-pub(crate) fn outermost(formula: &Formula) -> bool
-    ensures { result ≡ head (formula_view formula.now) }
+pub(crate) fn outermost(formula: &Formula) -> Junction
+    ensures { is_and result ≡ head (formula_view formula.now) }
 {
     match formula {
-        Formula::Test(_) | Formula::Call { .. } => false,
+        Formula::Test(_) | Formula::Call { .. } => Junction::Or,
         Formula::Join {
-            conjunctive,
+            junction,
             first,
             rest,
         } => {
             if rest.is_empty() {
                 outermost(first)
             } else {
-                *conjunctive
+                *junction
             }
         }
         Formula::Each {
-            universal,
+            quantifier,
             carriers,
             body,
             ..
@@ -57,14 +58,14 @@ pub(crate) fn outermost(formula: &Formula) -> bool
             if carriers.is_empty() {
                 outermost(body)
             } else {
-                *universal
+                junction_of(*quantifier)
             }
         }
     }
 }
 
-/// How much the code of an equation takes, where the equations have these parameters. It is counted before any code is
-/// made, in one pass over the normal form.
+/// How much the code of an equation takes, where the equations have these parameters. It is counted
+/// before any code is made, in one pass over the normal form.
 pub(crate) fn measure(callees: &[Vec<Carrier>], equation: &Equation) -> Measures
     ensures { AreMeasuresOf result (callees_of callees.now) equation.now }
 {

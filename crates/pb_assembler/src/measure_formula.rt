@@ -3,20 +3,26 @@
 ghost use Rattle.std.specs.Prelude.{◌≡◌, ◌<◌, ◌||◌, ℕ, Bool, None, drop, length, map};
 ghost use Rattle.std.specs.List.{slice_get};
 ghost use Rattle.pb_normal.specs.Normal.{Call, Join};
-ghost use Rattle.pb_normal.specs.View.{argument_view, chained, formula_view, formula_views, nested};
+ghost use Rattle.pb_normal.specs.View.{argument_view, chained, formula_view, formula_views, is_and};
+ghost use Rattle.pb_normal.specs.View.{is_forall, nested};
 ghost use Rattle.pb_assembler_scheme.specs.Scheme.{any_tested, parameters, test_of};
 ghost use Rattle.pb_typing.specs.View.{shape_view};
 ghost use Rattle.pb_assembler.specs.MeasureTerms.{capped_load};
-ghost use Rattle.pb_assembler.specs.MeasureFormulas.{arguments_load, call_tally, callees_of, capped_tally, form_chain, formula_tally, is_tested, kind_at, kind_behind, kind_by, leading_tests, load_by};
+ghost use Rattle.pb_assembler.specs.MeasureFormulas.{arguments_load, call_tally, callees_of};
+ghost use Rattle.pb_assembler.specs.MeasureFormulas.{capped_tally, form_chain, formula_tally};
+ghost use Rattle.pb_assembler.specs.MeasureFormulas.{is_tested, kind_at, kind_behind, kind_by};
+ghost use Rattle.pb_assembler.specs.MeasureFormulas.{leading_tests, load_by};
 
+use crate::formula::junction_of;
 use crate::measure_load::Load;
 use crate::measure_tally::{
     Tally, after, argument_load, ended_call, is_tested, looped, nothing, test_tally, tested_tally,
     under_tally,
 };
 use crate::measure_term::measure_term;
-use pb_normal::{Argument, Formula};
+use pb_normal::{Argument, Formula, Junction};
 use pb_sorts::Carrier;
+use pb_text_tree::Quantifier;
 
 /// Whether an argument at a place is tested for its parameter's range.
 fn tested_at(carriers: &[Carrier], place: usize, argument: &Argument) -> bool
@@ -37,7 +43,8 @@ fn either(a: bool, b: bool) -> bool
 /// Whether an argument is tested, and how much the code of all arguments takes.
 fn measure_arguments(carriers: &[Carrier], arguments: &[Argument]) -> (bool, Load)
     ensures tested { result.0 ≡ any_tested carriers.now (map argument_view arguments.now) }
-    ensures load { result.1 ≡ capped_load (arguments_load carriers.now (map argument_view arguments.now)) }
+    ensures load { result.1 ≡ capped_load (arguments_load carriers.now
+        (map argument_view arguments.now)) }
 {
     let mut any = false;
     let mut load = nothing();
@@ -55,7 +62,9 @@ fn measure_arguments(carriers: &[Carrier], arguments: &[Argument]) -> (bool, Loa
 
 /// How much the code of a call takes.
 fn measure_call(callees: &[Vec<Carrier>], equation: usize, arguments: &[Argument]) -> Tally
-    ensures { result ≡ capped_tally (call_tally (parameters (slice_get (callees_of callees.now) equation)) (map argument_view arguments.now)) }
+    ensures { result ≡ capped_tally (call_tally
+        (parameters (slice_get (callees_of callees.now) equation))
+        (map argument_view arguments.now)) }
 {
     if equation < callees.len() {
         let (any, load) = measure_arguments(&callees[equation], arguments);
@@ -92,12 +101,13 @@ fn test_load(formula: &Formula) -> Option<Load>
 }
 
 /// The kind of the bracket that is open behind an operand of a chain.
-fn kind_behind(conjunctive: bool, around: bool, operand: &Formula) -> bool
-    ensures { result ≡ kind_behind conjunctive around (formula_view operand.now) }
+fn kind_behind(junction: Junction, around: Junction, operand: &Formula) -> Junction
+    ensures { is_and result ≡ kind_behind (is_and junction) (is_and around)
+        (formula_view operand.now) }
 {
     match test_load(operand) {
         Some(_) => around,
-        None => conjunctive,
+        None => junction,
     }
 }
 
@@ -117,30 +127,35 @@ fn leading_tests(operands: &[Formula]) -> usize
 }
 
 /// The kind of the bracket that is open in front of an operand at a place.
-fn kind_at(conjunctive: bool, kind: bool, leading: usize, place: usize) -> bool
-    ensures { result ≡ kind_at conjunctive kind leading place }
+fn kind_at(junction: Junction, kind: Junction, leading: usize, place: usize) -> Junction
+    ensures { is_and result ≡ kind_at (is_and junction) (is_and kind) leading place }
 {
-    if place <= leading { kind } else { conjunctive }
+    if place <= leading { kind } else { junction }
 }
 
 /// How much the code of a formula takes, in a bracket of this kind.
 #[cycle(formulas)]
-pub(crate) fn measure_formula(callees: &[Vec<Carrier>], around: bool, formula: &Formula) -> Tally
-    ensures { result ≡ capped_tally (formula_tally (callees_of callees.now) around (formula_view formula.now)) }
+pub(crate) fn measure_formula(
+    callees: &[Vec<Carrier>],
+    around: Junction,
+    formula: &Formula,
+) -> Tally
+    ensures { result ≡ capped_tally (formula_tally (callees_of callees.now) (is_and around)
+        (formula_view formula.now)) }
 {
     match formula {
         Formula::Test(term) => test_tally(measure_term(term)),
         Formula::Join {
-            conjunctive,
+            junction,
             first,
             rest,
-        } => measure_join(callees, *conjunctive, around, first, rest),
+        } => measure_join(callees, *junction, around, first, rest),
         Formula::Each {
-            universal,
+            quantifier,
             carriers,
             body,
             ..
-        } => measure_each(callees, *universal, around, carriers, body),
+        } => measure_each(callees, *quantifier, around, carriers, body),
         Formula::Call {
             equation,
             arguments,
@@ -152,31 +167,35 @@ pub(crate) fn measure_formula(callees: &[Vec<Carrier>], around: bool, formula: &
 #[cycle(formulas)]
 fn measure_each(
     callees: &[Vec<Carrier>],
-    universal: bool,
-    around: bool,
+    quantifier: Quantifier,
+    around: Junction,
     carriers: &[Carrier],
     body: &Formula,
 ) -> Tally
-    ensures { (slot : ℕ) → result ≡ capped_tally (formula_tally (callees_of callees.now) around (nested universal slot carriers.now (formula_view body.now))) }
+    ensures { (slot : ℕ) → result ≡ capped_tally
+        (formula_tally (callees_of callees.now) (is_and around)
+        (nested (is_forall quantifier) slot carriers.now (formula_view body.now))) }
 {
     if carriers.is_empty() {
         return measure_formula(callees, around, body);
     }
-    let mut tally = measure_formula(callees, universal, body);
+    let kind = junction_of(quantifier);
+    let mut tally = measure_formula(callees, kind, body);
     let mut left = carriers.len();
     while left > 0 {
         left -= 1;
         let count = carriers[left].size();
         tally = looped(count, tally);
     }
-    under_tally(universal, around, tally)
+    under_tally(kind, around, tally)
 }
 
-/// The connective of a chain, and the kind of the bracket that is open in front of one of its operands.
+/// The connective of a chain, and the kind of the bracket that is open in front of one of its
+/// operands.
 #[derive(Clone, Copy)]
 struct Chain {
-    conjunctive: bool,
-    around: bool,
+    junction: Junction,
+    around: Junction,
 }
 
 /// An operand of a chain in front of those from a place on, which are measured.
@@ -190,11 +209,15 @@ fn measure_link(
     rest: Tally,
 ) -> Tally
     requires some { place < length operands.now }
-    requires rest { rest ≡ capped_tally (formula_tally (callees_of callees.now) (kind_behind chain.conjunctive chain.around (formula_view operand.now)) (form_chain chain.conjunctive (drop place operands.now))) }
-    ensures { result ≡ capped_tally (formula_tally (callees_of callees.now) chain.around (Join chain.conjunctive (formula_view operand.now) (form_chain chain.conjunctive (drop place operands.now)))) }
+    requires rest { rest ≡ capped_tally (formula_tally (callees_of callees.now)
+        (kind_behind (is_and chain.junction) (is_and chain.around) (formula_view operand.now))
+        (form_chain (is_and chain.junction) (drop place operands.now))) }
+    ensures { result ≡ capped_tally (formula_tally (callees_of callees.now) (is_and chain.around)
+        (Join (is_and chain.junction) (formula_view operand.now)
+        (form_chain (is_and chain.junction) (drop place operands.now)))) }
 {
     match test_load(operand) {
-        Some(load) => tested_tally(chain.conjunctive, chain.around, load, rest),
+        Some(load) => tested_tally(chain.junction, chain.around, load, rest),
         None => measure_untested(callees, chain, operand, operands, place, rest),
     }
 }
@@ -211,18 +234,22 @@ fn measure_untested(
 ) -> Tally
     requires some { place < length operands.now }
     requires untested { None ≡ load_by (test_of (formula_view operand.now)) }
-    requires rest { rest ≡ capped_tally (formula_tally (callees_of callees.now) (kind_behind chain.conjunctive chain.around (formula_view operand.now)) (form_chain chain.conjunctive (drop place operands.now))) }
-    ensures { result ≡ capped_tally (formula_tally (callees_of callees.now) chain.around (Join chain.conjunctive (formula_view operand.now) (form_chain chain.conjunctive (drop place operands.now)))) }
+    requires rest { rest ≡ capped_tally (formula_tally (callees_of callees.now)
+        (kind_behind (is_and chain.junction) (is_and chain.around) (formula_view operand.now))
+        (form_chain (is_and chain.junction) (drop place operands.now))) }
+    ensures { result ≡ capped_tally (formula_tally (callees_of callees.now) (is_and chain.around)
+        (Join (is_and chain.junction) (formula_view operand.now)
+        (form_chain (is_and chain.junction) (drop place operands.now)))) }
 {
     match last_test(operands, place) {
         Some(load) => {
             let own = measure_formula(callees, chain.around, operand);
-            tested_tally(chain.conjunctive, chain.around, load, own)
+            tested_tally(chain.junction, chain.around, load, own)
         }
         None => {
-            let own = measure_formula(callees, chain.conjunctive, operand);
+            let own = measure_formula(callees, chain.junction, operand);
             let both = after(own, rest);
-            under_tally(chain.conjunctive, chain.around, both)
+            under_tally(chain.junction, chain.around, both)
         }
     }
 }
@@ -231,42 +258,41 @@ fn measure_untested(
 #[cycle(formulas)]
 fn measure_join(
     callees: &[Vec<Carrier>],
-    conjunctive: bool,
-    around: bool,
+    junction: Junction,
+    around: Junction,
     first: &Formula,
     rest: &[Formula],
 ) -> Tally
-    ensures { result ≡ capped_tally (formula_tally (callees_of callees.now) around (chained (Join conjunctive) (formula_view first.now) (formula_views rest.now))) }
+    ensures { result ≡ capped_tally (formula_tally (callees_of callees.now) (is_and around)
+        (chained (Join (is_and junction)) (formula_view first.now) (formula_views rest.now))) }
 {
     if rest.is_empty() {
         return measure_formula(callees, around, first);
     }
-    let kind = kind_behind(conjunctive, around, first);
+    let kind = kind_behind(junction, around, first);
     let leading = leading_tests(rest);
     let mut left = rest.len() - 1;
-    let last = kind_at(conjunctive, kind, leading, left);
+    let last = kind_at(junction, kind, leading, left);
     let mut tally = measure_formula(callees, last, &rest[left]);
     while left > 0 {
         let behind = left;
         left -= 1;
-        let own = kind_at(conjunctive, kind, leading, left);
+        let own = kind_at(junction, kind, leading, left);
         let chain = Chain {
-            conjunctive,
+            junction,
             around: own,
         };
         tally = measure_link(callees, chain, &rest[left], rest, behind, tally);
     }
-    let chain = Chain {
-        conjunctive,
-        around,
-    };
+    let chain = Chain { junction, around };
     measure_link(callees, chain, first, rest, 0, tally)
 }
 
 /// The load of the operand at a place, where it is the last one and a test.
 fn last_test(operands: &[Formula], place: usize) -> Option<Load>
     requires { place < length operands.now }
-    ensures { (conjunctive : Bool) → result ≡ load_by (test_of (form_chain conjunctive (drop place operands.now))) }
+    ensures { (joined : Bool) → result ≡ load_by
+        (test_of (form_chain joined (drop place operands.now))) }
 {
     if operands.len() - place > 1 {
         None

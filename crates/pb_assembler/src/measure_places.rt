@@ -2,10 +2,11 @@
 
 ghost use Rattle.pb_text_meaning.specs.Syntax.{Spec};
 ghost use Rattle.pb_typing_rules.specs.WellTyped.{IsWellTyped};
-ghost use Rattle.pb_assembler.specs.Reached.{BracketsAreCounted, HoldWhatIsCounted, OperandsAreCounted};
+ghost use Rattle.pb_assembler.specs.Reached.{BracketsAreCounted, HoldWhatIsCounted};
+ghost use Rattle.pb_assembler.specs.Reached.{OperandsAreCounted};
 
-/// The operands and brackets that are counted on the right side are the most that any place of the scheme's code is
-/// reached with, as if every test could go both ways.
+/// The operands and brackets that are counted on the right side are the most that any place of the
+/// scheme's code is reached with, as if every test could go both ways.
 pub fn places_hold_what_is_counted()
     ensures operands { OperandsAreCounted }
     ensures brackets { BracketsAreCounted }

@@ -1,18 +1,23 @@
 //! How much the code of formulas takes, counted no further than just above a million.
 
 ghost use Rattle.std.specs.Prelude.{◌≡◌, ◌*◌, ◌&&◌, int_le, is_some};
+ghost use Rattle.pb_normal.specs.View.{is_and};
 ghost use Rattle.pb_assembler_scheme.specs.Scheme.{tested_range};
 ghost use Rattle.pb_typing.specs.View.{shape_view};
 ghost use Rattle.pb_assembler.specs.MeasureTerms.{capped, capped_load};
-ghost use Rattle.pb_assembler.specs.MeasureFormulas.{after, argument_load, bracketed_tally, capped_tally, deciding, ended_call, looped, nothing, passing, test_tally, tested_tally, under_tally};
+ghost use Rattle.pb_assembler.specs.MeasureFormulas.{after, argument_load, bracketed_tally};
+ghost use Rattle.pb_assembler.specs.MeasureFormulas.{capped_tally, deciding, ended_call, looped};
+ghost use Rattle.pb_assembler.specs.MeasureFormulas.{nothing, passing, test_tally, tested_tally};
+ghost use Rattle.pb_assembler.specs.MeasureFormulas.{under_tally};
 
 use crate::measure_load::{Load, add};
 use pb_intervals::Interval;
+use pb_normal::Junction;
 use pb_sorts::{Carrier, Range};
 use pb_typing::Shape;
 
-/// How many instructions, steps and tokens a formula's code has, and how many operands, brackets and loops it holds open
-/// at most.
+/// How many instructions, steps and tokens a formula's code has, and how many operands, brackets
+/// and loops it holds open at most.
 #[derive(Clone, Copy, Debug, PartialEq, Eq)]
 pub(crate) struct Tally {
     pub instructions: u32,
@@ -74,12 +79,13 @@ fn deciding(load: Load, rest: Tally) -> Tally
 }
 
 /// A test joined with what follows under the bracket that is open.
-pub(crate) fn tested_tally(conjunctive: bool, around: bool, load: Load, rest: Tally) -> Tally
-    ensures { result ≡ capped_tally (tested_tally conjunctive around load rest) }
+pub(crate) fn tested_tally(junction: Junction, around: Junction, load: Load, rest: Tally) -> Tally
+    ensures { result ≡ capped_tally (tested_tally (is_and junction) (is_and around) load rest) }
 {
-    match (conjunctive, around) {
-        (true, true) | (false, false) => deciding(load, rest),
-        (true, false) | (false, true) => passing(load, rest),
+    if junction == around {
+        deciding(load, rest)
+    } else {
+        passing(load, rest)
     }
 }
 
@@ -110,12 +116,13 @@ fn same(tally: Tally) -> Tally
 }
 
 /// What joins, in a bracket of its own unless one of its kind is open already.
-pub(crate) fn under_tally(conjunctive: bool, around: bool, tally: Tally) -> Tally
-    ensures { result ≡ capped_tally (under_tally conjunctive around tally) }
+pub(crate) fn under_tally(junction: Junction, around: Junction, tally: Tally) -> Tally
+    ensures { result ≡ capped_tally (under_tally (is_and junction) (is_and around) tally) }
 {
-    match (conjunctive, around) {
-        (true, true) | (false, false) => same(tally),
-        (true, false) | (false, true) => bracketed(tally),
+    if junction == around {
+        same(tally)
+    } else {
+        bracketed(tally)
     }
 }
 
@@ -150,7 +157,8 @@ pub(crate) fn looped(count: u64, body: Tally) -> Tally
 
 /// Whether an interval lies within a range.
 fn is_inside(range: &Range, known: &Interval) -> bool
-    ensures { result ≡ (int_le range.now.low known.now.low && int_le known.now.high range.now.high) }
+    ensures { result
+        ≡ (int_le range.now.low known.now.low && int_le known.now.high range.now.high) }
 {
     range.low as i64 <= known.low() && known.high() <= range.high as i64
 }

@@ -4,7 +4,8 @@ ghost use Rattle.std.specs.Prelude.{◌≡◌};
 ghost use Rattle.pb_text_meaning.specs.Erase.{of_comparison, of_connective};
 ghost use Rattle.pb_normal.specs.Normal.{Binary};
 ghost use Rattle.pb_normal.specs.View.{calculated, chained, link_views, term_view, term_views};
-ghost use Rattle.pb_assembler.specs.MeasureTerms.{both, capped_load, chosen, connected, followed, single, term_load};
+ghost use Rattle.pb_assembler.specs.MeasureTerms.{both, capped_load, chosen, connected, followed};
+ghost use Rattle.pb_assembler.specs.MeasureTerms.{single, term_load};
 
 use crate::measure_load::{Load, both, chosen, followed, single};
 use pb_normal::{Link, Term};
@@ -55,7 +56,8 @@ fn measure_one(operand: &Term) -> Load
 /// Two operands in order, then an instruction.
 #[cycle(measures)]
 fn measure_two(left: &Term, right: &Term) -> Load
-    ensures { result ≡ capped_load (followed (both (term_load (term_view left.now)) (term_load (term_view right.now)))) }
+    ensures { result ≡ capped_load (followed (both (term_load (term_view left.now))
+        (term_load (term_view right.now)))) }
 {
     let left = measure_term(left);
     let right = measure_term(right);
@@ -65,7 +67,8 @@ fn measure_two(left: &Term, right: &Term) -> Load
 /// A comparison of two operands.
 #[cycle(measures)]
 fn measure_comparison(comparison: pb_text_tree::Comparison, left: &Term, right: &Term) -> Load
-    ensures { result ≡ capped_load (term_load (Binary (of_comparison comparison) (term_view left.now) (term_view right.now))) }
+    ensures { result ≡ capped_load (term_load
+        (Binary (of_comparison comparison) (term_view left.now) (term_view right.now))) }
 {
     match comparison {
         pb_text_tree::Comparison::Equal => measure_two(left, right),
@@ -89,7 +92,8 @@ fn measure_beside(operand: &Term) -> Load
 /// One of two operands, as the condition says.
 #[cycle(measures)]
 fn measure_choice(condition: &Term, positive: &Term, negative: &Term) -> Load
-    ensures { result ≡ capped_load (chosen (term_load (term_view condition.now)) (term_load (term_view positive.now)) (term_load (term_view negative.now))) }
+    ensures { result ≡ capped_load (chosen (term_load (term_view condition.now))
+        (term_load (term_view positive.now)) (term_load (term_view negative.now))) }
 {
     let condition = measure_term(condition);
     let positive = measure_term(positive);
@@ -110,7 +114,9 @@ fn connected(connective: Connective, behind: Load, operand: Load) -> Load
 /// Operands of one connective, the last one first.
 #[cycle(measures)]
 fn measure_chain(connective: Connective, first: &Term, links: &[Term]) -> Load
-    ensures { result ≡ capped_load (term_load (chained (Binary (of_connective connective)) (term_view first.now) (term_views links.now))) }
+    ensures { result ≡ capped_load (term_load
+        (chained (Binary (of_connective connective)) (term_view first.now)
+        (term_views links.now))) }
 {
     if links.is_empty() {
         return measure_term(first);
@@ -129,7 +135,8 @@ fn measure_chain(connective: Connective, first: &Term, links: &[Term]) -> Load
 /// Operands of arithmetic, the first one first.
 #[cycle(measures)]
 fn measure_arithmetic(first: &Term, links: &[Link]) -> Load
-    ensures { result ≡ capped_load (term_load (calculated (term_view first.now) (link_views links.now))) }
+    ensures { result ≡ capped_load (term_load
+        (calculated (term_view first.now) (link_views links.now))) }
 {
     let mut load = measure_term(first);
     for link in links {

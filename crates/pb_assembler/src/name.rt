@@ -22,7 +22,8 @@ fn are_enumerator_names(enumerators: &[Enumerator]) -> bool
 
 /// Whether a module may have the names of the sort's enumerators.
 fn has_enumerator_names(declaration: &SortDeclaration) -> bool
-    ensures { result ≡ has_enumerator_names (erased_declaration (sort_declaration_form declaration.now)) }
+    ensures { result ≡ has_enumerator_names (erased_declaration
+        (sort_declaration_form declaration.now)) }
 {
     match &declaration.sort {
         Sort::Struct(enumerators) => are_enumerator_names(enumerators),
@@ -31,7 +32,8 @@ fn has_enumerator_names(declaration: &SortDeclaration) -> bool
 }
 
 fn have_enumerator_names(declarations: &[SortDeclaration]) -> bool
-    ensures { result ≡ list_all (λ d. has_enumerator_names (erased_declaration (sort_declaration_form d))) declarations.now }
+    ensures { result ≡ list_all (λ d. has_enumerator_names
+        (erased_declaration (sort_declaration_form d))) declarations.now }
 {
     declarations
         .iter()
@@ -46,7 +48,8 @@ fn are_equation_names(equations: &[Equation]) -> bool
         .all(|equation| is_name(equation.name.text.as_bytes()))
 }
 
-/// Whether a module may have the names of a text's enumerators and predicate variables. So it may where the text was read.
+/// Whether a module may have the names of a text's enumerators and predicate variables. So it may
+/// where the text was read.
 pub(crate) fn has_names(spec: &Spec) -> bool
     ensures { result ≡ has_names (erase (spec_form spec.now)) }
 {

@@ -36,7 +36,9 @@ fn parameter_carriers(
     groups: &[Variables],
 ) -> Result<Vec<Carrier>, AllocError>
     requires { AreShaped (spec_of declarations.now) (erased_variables (variable_forms groups.now)) }
-    ensures { IfOk result (λ carriers. shapes_of carriers.items ≡ variable_shapes (spec_of declarations.now) (erased_variables (variable_forms groups.now))) }
+    ensures { IfOk result (λ carriers. shapes_of carriers.items
+        ≡ variable_shapes (spec_of declarations.now)
+        (erased_variables (variable_forms groups.now))) }
 {
     let mut carriers = Vec::new(alloc);
     for group in groups {
@@ -58,7 +60,9 @@ pub(crate) fn all_parameter_carriers(
     equations: &[Equation],
 ) -> Result<Vec<Vec<Carrier>>, AllocError>
     requires { AreShapedParameters (spec_of declarations.now) (map equation_form equations.now) }
-    ensures { IfOk result (λ all. map shapes_of (lists_of all.items) ≡ parameter_shapes (spec_of declarations.now) (map erased_equation (map equation_form equations.now))) }
+    ensures { IfOk result (λ all. map shapes_of (lists_of all.items)
+        ≡ parameter_shapes (spec_of declarations.now)
+        (map erased_equation (map equation_form equations.now))) }
 {
     let mut all = Vec::with_capacity(alloc, equations.len())?;
     for equation in equations {

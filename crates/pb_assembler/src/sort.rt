@@ -18,7 +18,8 @@ use std::alloc::{AllocError, Global};
 /// The names of enumerators, in order.
 fn enumerator_names(alloc: Global, enumerators: &[Enumerator]) -> Result<Vec<Name>, AllocError>
     requires { list_all (λ e. is_name (string_bytes e.name.text)) enumerators.now ≡ true }
-    ensures { IfOk result (λ names. map text_of names.items ≡ map (λ e. string_bytes e.name.text) enumerators.now) }
+    ensures { IfOk result (λ names. map text_of names.items
+        ≡ map (λ e. string_bytes e.name.text) enumerators.now) }
 {
     let mut names = Vec::with_capacity(alloc, enumerators.len())?;
     for enumerator in enumerators {
@@ -37,7 +38,8 @@ pub(crate) fn sorts(
     declarations: &[SortDeclaration],
 ) -> Result<Vec<Sort>, AllocError>
     requires { AreSorts (map erased_declaration (map sort_declaration_form declarations.now)) }
-    ensures { IfOk result (λ sorts. map sort_contents sorts.items ≡ struct_names (map erased_declaration (map sort_declaration_form declarations.now))) }
+    ensures { IfOk result (λ sorts. map sort_contents sorts.items
+        ≡ struct_names (map erased_declaration (map sort_declaration_form declarations.now))) }
 {
     let mut sorts = Vec::new(alloc);
     for declaration in declarations {

@@ -23,7 +23,8 @@ use std::alloc::AllocError;
 #[cycle(terms)]
 pub(crate) fn emit_term(builder: &mut Builder, term: &Term) -> Result<(), AllocError>
     requires { is_small (term_view term.now) ≡ true }
-    ensures { OnOk result (Emits (data_piece (term_view term.now)) nowhere builder.old builder.new) }
+    ensures { OnOk result
+        (Emits (data_piece (term_view term.now)) nowhere builder.old builder.new) }
 {
     match term {
         Term::Constant(value) => emit_plain(builder, Op::PushBool(*value)),
@@ -92,7 +93,8 @@ pub(crate) fn emit_term(builder: &mut Builder, term: &Term) -> Result<(), AllocE
 #[cycle(terms)]
 fn emit_one(builder: &mut Builder, operand: &Term, op: Op) -> Result<(), AllocError>
     requires { is_small (term_view operand.now) ≡ true }
-    ensures { OnOk result (Emits (Then (data_piece (term_view operand.now)) (Plain op)) nowhere builder.old builder.new) }
+    ensures { OnOk result (Emits (Then (data_piece (term_view operand.now))
+        (Plain op)) nowhere builder.old builder.new) }
 {
     emit_term(builder, operand)?;
     emit_plain(builder, op)
@@ -102,7 +104,8 @@ fn emit_one(builder: &mut Builder, operand: &Term, op: Op) -> Result<(), AllocEr
 #[cycle(terms)]
 fn emit_two(builder: &mut Builder, left: &Term, right: &Term, op: Op) -> Result<(), AllocError>
     requires { is_small (term_view left.now) && is_small (term_view right.now) ≡ true }
-    ensures { OnOk result (Emits (in_order op (data_piece (term_view left.now)) (data_piece (term_view right.now))) nowhere builder.old builder.new) }
+    ensures { OnOk result (Emits (in_order op (data_piece (term_view left.now))
+        (data_piece (term_view right.now))) nowhere builder.old builder.new) }
 {
     emit_term(builder, left)?;
     emit_term(builder, right)?;
@@ -118,7 +121,8 @@ fn emit_beside(
     op: Op,
 ) -> Result<(), AllocError>
     requires { is_small (term_view operand.now) ≡ true }
-    ensures { OnOk result (Emits (in_order op (data_piece (term_view operand.now)) (Plain constant)) nowhere builder.old builder.new) }
+    ensures { OnOk result (Emits (in_order op (data_piece (term_view operand.now))
+        (Plain constant)) nowhere builder.old builder.new) }
 {
     emit_term(builder, operand)?;
     emit_plain(builder, constant)?;
@@ -134,7 +138,8 @@ fn emit_comparison(
     right: &Term,
 ) -> Result<(), AllocError>
     requires { is_small (term_view left.now) && is_small (term_view right.now) ≡ true }
-    ensures { OnOk result (Emits (data_piece (Binary (of_comparison comparison) (term_view left.now) (term_view right.now))) nowhere builder.old builder.new) }
+    ensures { OnOk result (Emits (data_piece (Binary (of_comparison comparison) (term_view left.now)
+        (term_view right.now))) nowhere builder.old builder.new) }
 {
     let op = comparison_op(comparison);
     emit_two(builder, left, right, op)
@@ -148,8 +153,11 @@ fn emit_choice(
     positive: &Term,
     negative: &Term,
 ) -> Result<(), AllocError>
-    requires { is_small (term_view condition.now) && (is_small (term_view positive.now) && is_small (term_view negative.now)) ≡ true }
-    ensures { OnOk result (Emits (Then (data_piece (term_view condition.now)) (Choose false (data_piece (term_view positive.now)) (data_piece (term_view negative.now)))) nowhere builder.old builder.new) }
+    requires { is_small (term_view condition.now) &&
+        (is_small (term_view positive.now) && is_small (term_view negative.now)) ≡ true }
+    ensures { OnOk result (Emits (Then (data_piece (term_view condition.now))
+        (Choose false (data_piece (term_view positive.now))
+        (data_piece (term_view negative.now)))) nowhere builder.old builder.new) }
 {
     emit_term(builder, condition)?;
     let other = builder.label()?;
@@ -175,7 +183,8 @@ fn emit_operand(
     operand: &Term,
 ) -> Result<(), AllocError>
     requires { is_small (term_view operand.now) ≡ true }
-    ensures { OnOk result (Emits (connected_behind connective (data_piece (term_view operand.now))) nowhere builder.old builder.new) }
+    ensures { OnOk result (Emits (connected_behind connective
+        (data_piece (term_view operand.now))) nowhere builder.old builder.new) }
 {
     match connective {
         pb_text_tree::Connective::And => emit_one(builder, operand, Op::Logic(Connective::And)),
@@ -195,8 +204,10 @@ fn emit_chain(
     first: &Term,
     links: &[Term],
 ) -> Result<(), AllocError>
-    requires { is_small (chained (Binary (of_connective connective)) (term_view first.now) (term_views links.now)) ≡ true }
-    ensures { OnOk result (Emits (data_piece (chained (Binary (of_connective connective)) (term_view first.now) (term_views links.now))) nowhere builder.old builder.new) }
+    requires { is_small (chained (Binary (of_connective connective)) (term_view first.now)
+        (term_views links.now)) ≡ true }
+    ensures { OnOk result (Emits (data_piece (chained (Binary (of_connective connective))
+        (term_view first.now) (term_views links.now))) nowhere builder.old builder.new) }
 {
     if links.is_empty() {
         return emit_term(builder, first);
@@ -214,7 +225,8 @@ fn emit_chain(
 #[cycle(terms)]
 fn emit_arithmetic(builder: &mut Builder, first: &Term, links: &[Link]) -> Result<(), AllocError>
     requires { is_small (calculated (term_view first.now) (link_views links.now)) ≡ true }
-    ensures { OnOk result (Emits (data_piece (calculated (term_view first.now) (link_views links.now))) nowhere builder.old builder.new) }
+    ensures { OnOk result (Emits (data_piece (calculated (term_view first.now)
+        (link_views links.now))) nowhere builder.old builder.new) }
 {
     emit_term(builder, first)?;
     for link in links {

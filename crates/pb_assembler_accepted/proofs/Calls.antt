@@ -1,6 +1,6 @@
 -- The code of a well-typed call leads from what is known back to it: an argument whose interval isn't within its range is
 -- tested, and behind the test it is.
-use Rattle.std.proofs.Common.{◌≡◌, ℕ, suc, ◌+◌, ◌≤◌, Bool, true, false, cond, ◌&&◌, ◌||◌, List, [], ◌∷◌, ◌++◌, length, Option, Some, None, true≢false, refl, sym, ap, ◌∙◌, subst, arith, append_assoc, append-nil}
+use Rattle.std.proofs.Common.{◌≡◌, ℕ, ◌+◌, ◌≤◌, Bool, true, false, cond, ◌&&◌, ◌||◌, List, [], ◌∷◌, ◌++◌, length, Option, Some, None, true≢false, refl, sym, ap, ◌∙◌, subst, arith, append_assoc, append-nil}
 use Rattle.std.specs.Int.{int_max, int_min}
 use Rattle.std.specs.Prelude.{ℤ, ◌≤ℤ◌, int_le, slice_get, is_some, reverse}
 use Rattle.std.proofs.lemmas.List.{reverse-append}
@@ -88,12 +88,6 @@ each_solid [] [] h = tt
 each_solid (o ∷ os) (e ∷ es) h = (covered_solid o e h.0, each_solid os es h.1)
 each_solid [] (e ∷ es) h = absurd h
 each_solid (o ∷ os) [] h = absurd h
-
-each_length : (os es : List AbstractValue) → CoversEach os es → length es ≡ length os
-each_length [] [] h = refl
-each_length (o ∷ os) (e ∷ es) h = ap suc (each_length os es h.1)
-each_length [] (e ∷ es) h = absurd h
-each_length (o ∷ os) [] h = absurd h
 
 -- what is known of a number behind its test
 module _ (l h low high : ℤ) (a : l ≤ℤ h) (b : low ≤ℤ high) (c : l ≤ℤ high) (d : low ≤ℤ h) where

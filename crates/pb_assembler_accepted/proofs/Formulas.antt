@@ -2,22 +2,21 @@
 use Rattle.std.proofs.Common.{◌≡◌, ℕ, suc, ◌+◌, ◌≤◌, max, Bool, true, false, cond, not, List, [], ◌∷◌, length, Option, Some, None, refl, ap, ◌∙◌, arith, add-one}
 use Rattle.std.specs.Prelude.{slice_get}
 use Rattle.std.proofs.lemmas.Bool.{le-leb, lt-ltb, and_from}
-use Rattle.std.proofs.lemmas.Int.{ints}
 use Rattle.pb_sorts.specs.declared.carrier.Carrier.{Carrier}
 use Rattle.pb_sorts.specs.declared.carrier.Carrier.TheVariants as carrier
 use Rattle.pb_typing_declarations.specs.Shapes.{Shape, Unknown, Truths, Places, Wholes}
 use Rattle.pb_bytecode_program.specs.Values.{is_inhabited}
-use Rattle.pb_bytecode_program.specs.Abstract.{Covers, abstraction_of}
+use Rattle.pb_bytecode_program.specs.Abstract.{abstraction_of}
 use Rattle.pb_bytecode_program.specs.declared.abstract_value.AbstractValue.{AbstractValue}
 use Rattle.pb_bytecode_program.specs.declared.abstract_value.AbstractValue.TheVariants as abstract
 use Rattle.pb_bytecode_program.specs.Machine.{Program, carrier_of}
 use Rattle.pb_bytecode_program.specs.Transfer
 use Rattle.pb_bytecode_program.specs.Transfer.{AbstractState, Flow, to_next_place, among}
 use Rattle.pb_bytecode_program.specs.Accepted.{IsCovered}
-use Rattle.pb_bytecode_program.proofs.Ints.{le_true}
 use Rattle.pb_bytecode_program.specs.declared.instruction.Leaf.{Leaf}
 use Rattle.pb_bytecode_program.specs.declared.instruction.Leaf.TheVariants as leaf
 use Rattle.pb_bytecode_program.specs.declared.instruction.Op.TheVariants as op
+use Rattle.pb_bytecode_program.proofs.Monotone.{self_covers}
 use Rattle.pb_normal.specs.Normal.{Term, Argument, Formula, Test, Join, Each, Call}
 use Rattle.pb_assembler_scheme.specs.Pieces.{Piece, Plain, Then, Unless, Choose, Repeat}
 use Rattle.pb_assembler_scheme.specs.Scheme.{data_piece, deciding, bracketed, under, test_piece, tested_piece, test_of, join_piece, call_piece, parameters, formula_piece}
@@ -141,14 +140,9 @@ module _ (p : Program) where
 
   -- ---- loops
 
-  pub inhabited_solid : (c : Carrier) → is_inhabited c ≡ true → Covers (abstraction_of c) (abstraction_of c)
-  inhabited_solid carrier.Bool e = tt
-  inhabited_solid (carrier.Enum n) e = (refl, omega arith)
-  inhabited_solid (carrier.Range r) e = let o = le_true r.low r.high e in (omega (arith, ints), o, omega (arith, ints))
-
   inside_settled : (k : AbstractState) (s : ℕ) (c : Carrier) → Settled k → is_inhabited c ≡ true → Settled (inside p k s c)
   inside_settled k s c t e = record {
-    self = record { operands = tt; operands_below = refl; parameters = t.self.parameters; loops = (refl, inhabited_solid c e, t.self.loops); brackets = refl; brackets_below = refl; roots = refl };
+    self = record { operands = tt; operands_below = refl; parameters = t.self.parameters; loops = (refl, self_covers c e, t.self.loops); brackets = refl; brackets_below = refl; roots = refl };
     outer = t.outer;
     open_one = t.open_one;
     brackets_below = omega arith;

@@ -36,7 +36,7 @@ binary_stays Operator.Times x y a b = (a, (b, tt))
 binary_stays Operator.Div x y a b = (a, (b, tt))
 binary_stays Operator.Mod x y a b = (a, (b, tt))
 
-data_stays : (t : Term) → HasNoLeave (data_piece t)
+pub data_stays : (t : Term) → HasNoLeave (data_piece t)
 data_stays (Term.Truth b) = tt
 data_stays (Number n) = tt
 data_stays (Term.Enumerator s i) = tt

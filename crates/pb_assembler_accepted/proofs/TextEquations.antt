@@ -1,5 +1,5 @@
 -- The scheme's programs of a well-typed specification's equations are accepted, where they keep the limits.
-use Rattle.std.proofs.Common.{◌≡◌, ℕ, zero, suc, ◌+◌, Bool, true, false, cond, List, [], ◌∷◌, map, length, Some, refl, sym, ap, ◌∙◌, subst, arith}
+use Rattle.std.proofs.Common.{◌≡◌, ℕ, zero, suc, ◌+◌, Bool, true, false, cond, List, [], ◌∷◌, map, length, Some, refl, ap, ◌∙◌, subst, arith}
 use Rattle.std.specs.Prelude.{slice_get}
 use Rattle.std.specs.List.{All}
 use Rattle.pb_sorts.specs.declared.carrier.Carrier.{Carrier}
@@ -30,17 +30,14 @@ use Rattle.pb_assembler_accepted.specs.Limits.{KeepsLimits}
 use Rattle.pb_assembler_accepted.specs.Made.{struct_counts, parameter_shapes, IsMadeOf}
 use Rattle.pb_assembler_accepted.proofs.Formulas.{known_of}
 use Rattle.pb_assembler_accepted.proofs.Whole.{AreInhabited, parameters_solid, has_table}
-use Rattle.pb_assembler_accepted.proofs.Shapes.{IsDeclaredShape, sort_known, HasCarrier, has_carrier}
+use Rattle.pb_assembler_accepted.proofs.Shapes.{HasCarrier, has_carrier}
 use Rattle.pb_assembler_accepted.proofs.TextTerms.{IsKnown, InSlot}
-use Rattle.pb_assembler_accepted.proofs.TextFormulas.{declared_known, more_slots, formula_types}
+use Rattle.pb_assembler_accepted.proofs.TextFormulas.{declared_known, more_slots, formula_types, variable_known}
 
 abbrev AreShaped : Spec → List Variable → Type 0
 AreShaped spec xs = All (λ (x : Variable). has_shape (end_of spec x.sort) ≡ true) xs
 
 module _ (spec : Spec) (declared : IsDeclared spec) (p : Program) (same : p.sorts ≡ struct_counts spec.sorts) where
-  shape_known : (x : Variable) → has_shape (end_of spec x.sort) ≡ true → IsDeclaredShape p.sorts (sort_shape spec x.sort)
-  shape_known x e = subst (λ (k : List ℕ). IsDeclaredShape k (sort_shape spec x.sort)) (sym same) (sort_known spec declared x.sort e)
-
   same_carrier : (d : Carrier) (s : Shape) (k : HasCarrier p.sorts (Some d) s) → d ≡ k.carrier
   same_carrier d s k = let e = k.is in cc
 
@@ -49,7 +46,7 @@ module _ (spec : Spec) (declared : IsDeclared spec) (p : Program) (same : p.sort
   inhabited [] (d ∷ cs) e shaped = cc
   inhabited (x ∷ xs) (d ∷ cs) e shaped =
       let here : carrier_shape (Some d) ≡ sort_shape spec x.sort = cc in
-      let k = has_carrier p.sorts (Some d) (sort_shape spec x.sort) here (shape_known x (shaped 0 x (omega arith))) in
+      let k = has_carrier p.sorts (Some d) (sort_shape spec x.sort) here (variable_known spec declared p same x (shaped 0 x (omega arith))) in
       (ap is_inhabited (same_carrier d (sort_shape spec x.sort) k) ∙ k.inhabited, inhabited xs cs (cc) (λ i y l. shaped (suc i) y (omega arith)))
 
   module _ (ps : List AbstractValue) where
@@ -67,7 +64,7 @@ module _ (spec : Spec) (declared : IsDeclared spec) (p : Program) (same : p.sort
     parameters_agree (x ∷ xs) (d ∷ cs) n m scope c l e shaped have slots =
         let s = sort_shape spec x.sort in
         let here : carrier_shape (Some d) ≡ s = cc in
-        let known = shape_known x (shaped 0 x (omega arith)) in
+        let known = variable_known spec declared p same x (shaped 0 x (omega arith)) in
         let k = has_carrier p.sorts (Some d) s here known in
         let zero_on : n ≡ n + 0 = omega arith in
         let at : slice_get ps n ≡ Some (known_of s) = ap (slice_get ps) zero_on ∙ have 0 ∙ ap (λ (b : Carrier). Some (abstraction_of b)) (same_carrier d s k) ∙ ap Some k.known in

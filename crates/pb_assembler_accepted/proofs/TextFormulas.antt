@@ -1,7 +1,7 @@
 -- Well-typed right sides of a text are well typed over slots, in normal form.
 use Rattle.std.proofs.Common.{◌≡◌, ℕ, suc, ◌+◌, ◌<◌, ◌≤◌, Bool, true, false, cond, not, ◌&&◌, ◌||◌, if◌then◌else◌, List, [], ◌∷◌, map, length, Option, Some, None, refl, sym, ap, ◌∙◌, subst, arith, true≢false}
 use Rattle.std.specs.Prelude.{slice_get, ◌==◌, All}
-use Rattle.std.proofs.lemmas.Bool.{and_parts, eqb-true, eq-eqb}
+use Rattle.std.proofs.lemmas.Bool.{and_parts, eqb-true, eq-eqb, ne_eqb}
 use Rattle.pb_sorts.specs.declared.carrier.Carrier.{Carrier}
 use Rattle.pb_sorts.specs.declared.carrier.Carrier.TheVariants as carrier
 use Rattle.pb_text_meaning.specs.Syntax as syntax
@@ -21,6 +21,7 @@ use Rattle.pb_bytecode_program.specs.declared.abstract_value.AbstractValue.TheVa
 use Rattle.pb_bytecode_program.specs.Machine.{Program, carrier_of}
 use Rattle.pb_bytecode_program.specs.Transfer.{abstract_slot, among}
 use Rattle.pb_bytecode_program.specs.Accepted.{CoversEach, CoversLoops}
+use Rattle.pb_bytecode_program.proofs.Monotone.{self_covers}
 use Rattle.pb_normal.specs.Expansion.{has_quantifier, connected, expanded_term, expanded}
 use Rattle.pb_normal.specs.Loops.{variable_shapes}
 use Rattle.pb_normal.specs.View.{shapes_of}
@@ -29,7 +30,7 @@ use Rattle.pb_normal.specs.Normalisation.{Slotting, with_slot, slotted, width, s
 use Rattle.pb_assembler_scheme.proofs.Numbered.{HasSlots}
 use Rattle.pb_assembler_accepted.specs.Made.{struct_counts, parameter_shapes}
 use Rattle.pb_assembler_accepted.proofs.Typing.{Typed}
-use Rattle.pb_assembler_accepted.proofs.Formulas.{known_of, FitsKind, TypedArguments, TypedCall, TypedFormula, inhabited_solid}
+use Rattle.pb_assembler_accepted.proofs.Formulas.{known_of, FitsKind, TypedArguments, TypedCall, TypedFormula}
 use Rattle.pb_assembler_accepted.proofs.Shapes.{IsDeclaredShape, sort_known, HasCarrier, has_carrier}
 use Rattle.pb_assembler_accepted.proofs.TextTerms.{IsKnown, InSlot, fits_truth, term_fits}
 
@@ -60,13 +61,6 @@ fits_kind counts (carrier.Range r) Unknown a b e = absurd a
 fits_kind counts (carrier.Range r) Truths a b e = absurd (true≢false (sym e))
 fits_kind counts (carrier.Range r) (Places s m) a b e = absurd (true≢false (sym e))
 
-below_differs : (i n : ℕ) → i < n → (i == n) ≡ false
-below_differs i n l = by (i == n) refl
-  where
-    by : (b : Bool) → (i == n) ≡ b → b ≡ false
-    by true e = let same = eqb-true i n e in absurd (omega arith)
-    by false e = refl
-
 above_differs : (i n : ℕ) → n < i → (i == n) ≡ false
 above_differs i n l = by (i == n) refl
   where
@@ -79,6 +73,9 @@ more_slots counts ls ps n m None None le h = tt
 more_slots counts ls ps n m (Some i) (Some s) le h = (let l = h.0 in omega arith, h.1, h.2)
 more_slots counts ls ps n m None (Some s) le h = absurd h
 more_slots counts ls ps n m (Some i) None le h = absurd h
+
+pub variable_known : (spec : Spec) → IsDeclared spec → (p : Program) → p.sorts ≡ struct_counts spec.sorts → (x : Variable) → has_shape (end_of spec x.sort) ≡ true → IsDeclaredShape p.sorts (sort_shape spec x.sort)
+variable_known spec declared p same x e = subst (λ (k : List ℕ). IsDeclaredShape k (sort_shape spec x.sort)) (sym same) (sort_known spec declared x.sort e)
 
 module _ (spec : Spec) (declared : IsDeclared spec) (p : Program) (same : p.sorts ≡ struct_counts spec.sorts) (ps : List AbstractValue) (cp : CoversEach ps ps) where
   abbrev Loops : Type 0
@@ -95,7 +92,7 @@ module _ (spec : Spec) (declared : IsDeclared spec) (p : Program) (same : p.sort
 
   inner_slot : (ls : Loops) (n : ℕ) (v : AbstractValue) (o : Option ℕ) (s : Option Shape) → InSlot p.sorts ls ps n o s → InSlot p.sorts ((n, v) ∷ ls) ps (suc n) o s
   inner_slot ls n v None None h = tt
-  inner_slot ls n v (Some i) (Some s) h = (let l = h.0 in omega arith, ap (λ b. cond b (Some v) (abstract_slot ls ps i)) (below_differs i n h.0) ∙ h.1, h.2)
+  inner_slot ls n v (Some i) (Some s) h = (let l = h.0 in omega arith, ap (λ b. cond b (Some v) (abstract_slot ls ps i)) (ne_eqb i n (λ e. omega (arith, e, h.0))) ∙ h.1, h.2)
   inner_slot ls n v None (Some s) h = absurd h
   inner_slot ls n v (Some i) None h = absurd h
 
@@ -104,7 +101,7 @@ module _ (spec : Spec) (declared : IsDeclared spec) (p : Program) (same : p.sort
   declares ls scope c n y s h known a = record {
     slots = λ x. by x (same_name y x);
     fresh = λ i l. ap (λ b. b || among ls i) (above_differs i n (omega arith)) ∙ a.fresh i (omega arith);
-    solid = (refl, inhabited_solid p h.carrier h.inhabited, a.solid);
+    solid = (refl, self_covers h.carrier h.inhabited, a.solid);
   }
     where
       by : (x : Name) (b : Bool) → InSlot p.sorts ((n, abstraction_of h.carrier) ∷ ls) ps (suc n) (cond b (Some n) (c x)) (cond b (Some s) (scope x))
@@ -119,14 +116,11 @@ module _ (spec : Spec) (declared : IsDeclared spec) (p : Program) (same : p.sort
   abbrev FormulaTypes : Scope → syntax.Formula → Type 0
   FormulaTypes scope f = (even : Bool) → Types scope (λ c n. normal spec even c scope n f)
 
-  variable_known : (x : Variable) → has_shape (end_of spec x.sort) ≡ true → IsDeclaredShape p.sorts (sort_shape spec x.sort)
-  variable_known x e = subst (λ (k : List ℕ). IsDeclaredShape k (sort_shape spec x.sort)) (sym same) (sort_known spec declared x.sort e)
-
   each_types : (m : Bool) (xs : List Variable) (scope : Scope) (body : Slotting → ℕ → Formula) → All (λ (x : Variable). has_shape (end_of spec x.sort) ≡ true) xs → Types (bound spec xs scope) body → Types scope (λ c n. each spec m xs c n body)
   each_types m [] scope body shaped t ls c n a h = t ls c n a h
   each_types m (x ∷ xs) scope body shaped t ls c n a h =
       let shape = sort_shape spec x.sort in
-      let d = variable_known x (shaped 0 x (omega arith)) in
+      let d = variable_known spec declared p same x (shaped 0 x (omega arith)) in
       let k = has_carrier p.sorts (carrier_of p n) shape h.0 d in (
         k.carrier,
         k.is,
@@ -197,7 +191,7 @@ module _ (spec : Spec) (declared : IsDeclared spec) (p : Program) (same : p.sort
     arguments_typed (Terms.Then t es) (x ∷ xs) [] l h shaped e = cc
     arguments_typed (Terms.Then t es) (x ∷ xs) (d ∷ cs) l h shaped e =
         let head = heads (carrier_shape (Some d)) (sort_shape spec x.sort) (shapes_of cs) (variable_shapes spec xs) e in
-        let known = variable_known x (shaped 0 x (omega arith)) in
+        let known = variable_known spec declared p same x (shaped 0 x (omega arith)) in
         let f = term_fits p.sorts ls ps a.solid cp spec same scope c n a.slots false t h.0 in
         let k = has_carrier p.sorts (Some d) (sort_shape spec x.sort) head known in (
           f.0,
@@ -259,5 +253,3 @@ module _ (spec : Spec) (declared : IsDeclared spec) (p : Program) (same : p.sort
         each_types (is_universal q even) xs scope (λ d m. normal spec even d (bound spec xs scope) m (expanded f)) h.0.shaped (formula_types even (bound spec xs scope) f h.1) ls c n a slots
     formula_types even scope (syntax.Formula.Call x es) h ls c n a slots =
         call_typed ls scope c n a es (place_of 0 spec.equations x) (finds ls scope c n a es p.callees spec.equations 0 x callees declared.parameters h.1)
-
--- ---- equations

@@ -16,6 +16,7 @@ use Rattle.pb_typing_rules.specs.Functions.{Function, function_named, OfOne, OfT
 use Rattle.pb_typing_rules.specs.Functions as functions
 use Rattle.pb_typing_rules.specs.Scope.{Scope, or_else, named_shape}
 use Rattle.pb_typing_rules.specs.Term.{shape, shapes, shape_or_unknown, applied_shape, IsNamed, IsApplied, IsOperation, passes, IsTyped, AreTyped}
+use Rattle.pb_typing_rules.proofs.Operations.{not_or}
 use Rattle.pb_bytecode_program.specs.Values.{divides, fits64, operation_of}
 use Rattle.pb_bytecode_program.specs.Abstract.{same_kind, Covers}
 use Rattle.pb_bytecode_program.specs.declared.abstract_value.AbstractValue.{AbstractValue}
@@ -66,15 +67,11 @@ no_divisor : (d : Bool) (m : ℤ) → (not d || int_le (pos 1) m) ≡ true → (
 no_divisor true m e = from_below m (le_true (pos 1) m e)
 no_divisor false m e = refl
 
-not_limited : (b c : Bool) → b ≡ true → (not b || c) ≡ true → c ≡ true
-not_limited true c e h = h
-not_limited false c e h = absurd (true≢false (sym e))
-
 pub computed : (counts : List ℕ) (c : Arithmetic) (s t : Shape) → IsKnown counts s → IsKnown counts t → (may_be_whole s && may_be_whole t) ≡ true → may_divide (operation_of c) t ≡ true → binary_is_limited (operation_of c) s t ≡ true
     → Computes c (known_of s) (known_of t) (known_of (binary_shape (operation_of c) s t)) × IsKnown counts (binary_shape (operation_of c) s t)
 computed counts c (Wholes l h) (Wholes m k) a b w d e =
     let i = binary_interval (operation_of c) (interval l h) (interval m k) in
-    let fits : is_within i literals ≡ true = not_limited (may_divide (operation_of c) (Wholes m k)) (is_within i literals) d e in
+    let fits : is_within i literals ≡ true = not_or (may_divide (operation_of c) (Wholes m k)) (is_within i literals) d e in
     subst (λ z. Computes c (abstract.Int l h) (abstract.Int m k) (known_of (cond z (of_interval (within literals i)) Unknown)) × IsKnown counts (cond z (of_interval (within literals i)) Unknown)) (sym d)
     (limited counts (λ v. Computes c (abstract.Int l h) (abstract.Int m k) v) i fits (no_divisor (divides c) m d, fits_words i fits, refl))
 computed counts c Unknown t a b w d e = absurd a
@@ -100,12 +97,6 @@ module _ (counts : List ℕ) (ls : List (ℕ × AbstractValue)) (ps : List Abstr
   fits_truth t s f e = subst (λ (u : Shape). Typed counts ls ps t (known_of u)) (truth_shape counts s f.1 e) f.0
 
   -- ---- one whole number
-
-  unary_term : UnaryOperation → Term → Term
-  unary_term UnaryOperation.Negation t = Negative t
-  unary_term UnaryOperation.AbsoluteValue t = Absolute t
-  unary_term UnaryOperation.Successor t = Successor t
-  unary_term UnaryOperation.Predecessor t = Predecessor t
 
   negative : (t : Term) (s : Shape) → Fits t s → may_be_whole s ≡ true → unary_is_limited UnaryOperation.Negation s ≡ true → Fits (Negative t) (unary_shape UnaryOperation.Negation s)
   negative t (Wholes l h) f w e =

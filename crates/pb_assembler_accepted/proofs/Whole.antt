@@ -13,14 +13,16 @@ use Rattle.pb_bytecode_program.specs.Accepted.{Accepted, Table, loop_slots, Cove
 use Rattle.pb_bytecode_program.specs.declared.instruction.Op.{Op}
 use Rattle.pb_bytecode_program.specs.declared.instruction.Op.TheVariants as op
 use Rattle.pb_bytecode_program.proofs.Places.{around_next}
+use Rattle.pb_bytecode_program.proofs.Monotone.{self_covers}
 use Rattle.pb_normal.specs.Normal.{Formula}
-use Rattle.pb_assembler_scheme.specs.Pieces.{Piece, end, HasPieceAt}
-use Rattle.pb_assembler_scheme.specs.Scheme.{head, bracketed, formula_piece, equation_piece, equation_code}
+use Rattle.pb_assembler_scheme.specs.Pieces.{Piece, end}
+use Rattle.pb_assembler_scheme.specs.Scheme.{head, bracketed, formula_piece, equation_piece}
 use Rattle.pb_assembler_scheme.specs.Correct.{IsCompiled}
 use Rattle.pb_assembler_scheme.proofs.Flat as code
+use Rattle.pb_assembler_scheme.proofs.Whole.{equation_stands}
 use Rattle.pb_assembler_accepted.specs.Limits.{KeepsLimits}
 use Rattle.pb_assembler_accepted.proofs.Tables.{Flows, states, HasStates, long, first, noted_front, noted_back, each_in, each_both, each_one, EachIn, around_end}
-use Rattle.pb_assembler_accepted.proofs.Formulas.{TypedFormula, Settled, formula_flows, inhabited_solid}
+use Rattle.pb_assembler_accepted.proofs.Formulas.{TypedFormula, Settled, formula_flows}
 use Rattle.pb_assembler_accepted.proofs.Calls.{calls_flow}
 use Rattle.pb_assembler_accepted.proofs.Positions.{IsInScope, HasNoLeave, straight, placed, EachPlaced, placed_one, placed_both}
 use Rattle.pb_assembler_accepted.proofs.Sites.{formula_scope, formula_stays}
@@ -31,7 +33,7 @@ AreInhabited (c ∷ cs) = (is_inhabited c ≡ true) × AreInhabited cs
 
 pub parameters_solid : Program → (cs : List Carrier) → AreInhabited cs → CoversEach (map abstraction_of cs) (map abstraction_of cs)
 parameters_solid p [] h = tt
-parameters_solid p (c ∷ cs) h = (inhabited_solid p c h.0, parameters_solid p cs h.1)
+parameters_solid p (c ∷ cs) h = (self_covers c h.0, parameters_solid p cs h.1)
 
 module _ (p : Program) (f : Formula) (compiled : IsCompiled p f) (typed : TypedFormula p [] (map abstraction_of p.parameters) f) (inhabited : AreInhabited p.parameters) (limits : KeepsLimits p f) where
   abbrev inner : Piece
@@ -67,11 +69,6 @@ module _ (p : Program) (f : Formula) (compiled : IsCompiled p f) (typed : TypedF
 
   -- ---- where it stands
 
-  stands : HasPieceAt p.code 0 0 (equation_piece p.callees f)
-  stands =
-      code.stands p.code 0 0 (equation_piece p.callees f)
-      (subst (λ (is : List Op). code.HasAt is 0 (equation_code p.callees f)) (sym compiled.code) (code.has_all (equation_code p.callees f)))
-
   code_long : length p.code ≡ end 0 body + 1
   code_long = ap length compiled.code ∙ sym (let l = code.long 0 0 (equation_piece p.callees f) in omega (arith, l))
 
@@ -82,7 +79,7 @@ module _ (p : Program) (f : Formula) (compiled : IsCompiled p f) (typed : TypedF
   stays = (tt, (formula_stays p.callees f (head f), tt))
 
   around_last : loops_around p.code (end 0 body) ≡ []
-  around_last = around_end p [] body (straight p [] body scope) 0 0 stands.0 ∙ start p.code
+  around_last = around_end p [] body (straight p [] body scope) 0 0 (equation_stands p f compiled).0 ∙ start p.code
     where
       start : (is : List Op) → loops_around is 0 ≡ []
       start [] = refl
@@ -118,14 +115,14 @@ module _ (p : Program) (f : Formula) (compiled : IsCompiled p f) (typed : TypedF
   each : EachIn p table 0 (end 0 body + 1)
   each =
       each_both p table 0 (end 0 body) (end 0 body + 1)
-      (each_in p table body (entry p) (entry p) last body_flows (straight p [] body scope) 0 0 stands.0 at_first front at_last)
-      (each_one p table (end 0 body) op.End last stands.1 at_last tt)
+      (each_in p table body (entry p) (entry p) last body_flows (straight p [] body scope) 0 0 (equation_stands p f compiled).0 at_first front at_last)
+      (each_one p table (end 0 body) op.End last (equation_stands p f compiled).1 at_last tt)
 
   all_placed : EachPlaced p 0 (end 0 body + 1)
   all_placed =
       placed_both p 0 (end 0 body) (end 0 body + 1)
-      (placed p body [] scope 0 0 stands.0 (record { slots = around_zero p.code; deep = deep_zero p.code }) (let l = code_long in omega arith) (inl stays))
-      (placed_one p (end 0 body) op.End stands.1 (record { target = tt; names = around_last; closes = λ e. cc }))
+      (placed p body [] scope 0 0 (equation_stands p f compiled).0 (record { slots = around_zero p.code; deep = deep_zero p.code }) (let l = code_long in omega arith) (inl stays))
+      (placed_one p (end 0 body) op.End (equation_stands p f compiled).1 (record { target = tt; names = around_last; closes = λ e. cc }))
     where
       around_zero : (is : List Op) → loop_slots is (loops_around is 0) ≡ []
       around_zero [] = refl
@@ -142,7 +139,7 @@ module _ (p : Program) (f : Formula) (compiled : IsCompiled p f) (typed : TypedF
   accepted = record {
     placed = λ q i at. (all_placed q i (omega arith) (below q i at) at).target;
     sited = λ q i at. (all_placed q i (omega arith) (below q i at) at).names;
-    all_closed = ap (loops_around p.code) code_long ∙ around_next p.code (end 0 body) op.End stands.1 ∙ around_last;
+    all_closed = ap (loops_around p.code) code_long ∙ around_next p.code (end 0 body) op.End (equation_stands p f compiled).1 ∙ around_last;
     closes = λ q i at. (all_placed q i (omega arith) (below q i at) at).closes;
     begins = record { known = entry p; there = at_first; covered = solid 0 0 };
     each = λ q i k at known. each q i k (omega arith) (below q i at) at known;

@@ -2,13 +2,13 @@
 -- and loops are open at once is counted on the right side, as if every test of a truth value or of a range could go both
 -- ways.
 use Rattle.std.specs.Prelude.{ℕ, suc, ◌≤◌, max, Bool, true, false, List, [], ◌∷◌, length, Option, Some, None}
+use Rattle.pb_sorts.specs.declared.limits.TheConstants.{MAX_LOOP_SLOTS, MAX_INSTRUCTIONS}
 use Rattle.pb_text_meaning.specs.Syntax.{Operator}
 use Rattle.pb_bytecode_program.specs.declared.limits.TheConstants.{MAX_OPERANDS, MAX_BRACKETS, MAX_LOOPS, MAX_STEPS, MAX_TOKENS}
 use Rattle.pb_bytecode_program.specs.Machine.{Program}
 use Rattle.pb_bytecode_program.specs.Counts.{static_steps, static_tokens}
 use Rattle.pb_normal.specs.Normal.{Term, Number, Slot, Negative, Absolute, Successor, Predecessor, Binary, Maximum, Minimum, Choice, Recognised, Argument, Formula, Test, Join, Each, Call}
 use Rattle.pb_assembler_scheme.specs.Scheme.{test_of, head}
-use Rattle.pb_assembler_accepted.specs.declared.limits.TheConstants.{MAX_INSTRUCTIONS, MAX_LOOP_SLOTS}
 
 -- ---- operands
 

@@ -13,21 +13,26 @@ ghost use Rattle.pb_verifier.specs.Acceptance.{IsAccepted};
 ghost use Rattle.pb_assembler_modules.specs.Answers.{SaysTheSame};
 ghost use Rattle.pb_assembler_modules.specs.Module.{IsCompiledModule, KeepsAllLimits};
 
-/// The module that the scheme makes of a well-typed specification, and so of a text that typing accepts, is accepted,
-/// where its code keeps the machine's limits.
+/// The module that the scheme makes of a well-typed specification, and so of a text that typing
+/// accepts, is accepted, where its code keeps the machine's limits.
 pub fn compiled_modules_are_accepted()
-    ensures well_typed { (spec : Spec) → IsWellTyped spec → (m : Contents) → IsCompiledModule spec m → KeepsAllLimits spec m → IsAccepted m }
-    ensures accepted { (text : SpecForm) → is_faultless text ≡ true → (m : Contents) → IsCompiledModule (erase text) m → KeepsAllLimits (erase text) m → IsAccepted m }
+    ensures well_typed { (spec : Spec) → IsWellTyped spec → (m : Contents) → IsCompiledModule spec m
+        → KeepsAllLimits spec m → IsAccepted m }
+    ensures accepted { (text : SpecForm) → is_faultless text ≡ true → (m : Contents)
+        → IsCompiledModule (erase text) m → KeepsAllLimits (erase text) m → IsAccepted m }
 {
     pb_assembler_accepted::compiled_equations_are_accepted();
 }
 
-/// Whatever trees the runs of its instances end with, the module has the answer of the specification, and so of a text
-/// that typing accepts; each of its instances is true exactly where the text's is, and each tree exactly where the text's
-/// equation holds.
+/// Whatever trees the runs of its instances end with, the module has the answer of the
+/// specification, and so of a text that typing accepts; each of its instances is true exactly where
+/// the text's is, and each tree exactly where the text's equation holds.
 pub fn compiled_modules_have_the_answer()
-    ensures well_typed { (spec : Spec) → IsWellTyped spec → (m : Contents) → IsCompiledModule spec m → (trees : ℕ → Tree) → AreTrees m trees → SaysTheSame spec m trees }
-    ensures accepted { (text : SpecForm) → is_faultless text ≡ true → (m : Contents) → IsCompiledModule (erase text) m → (trees : ℕ → Tree) → AreTrees m trees → SaysTheSame (erase text) m trees }
+    ensures well_typed { (spec : Spec) → IsWellTyped spec → (m : Contents) → IsCompiledModule spec m
+        → (trees : ℕ → Tree) → AreTrees m trees → SaysTheSame spec m trees }
+    ensures accepted { (text : SpecForm) → is_faultless text ≡ true → (m : Contents)
+        → IsCompiledModule (erase text) m → (trees : ℕ → Tree) → AreTrees m trees
+        → SaysTheSame (erase text) m trees }
 {
     pb_assembler_accepted::made_programs_are_the_schemes();
     pb_assembler_scheme::compiled_equations_decide();

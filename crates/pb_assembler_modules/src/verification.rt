@@ -12,13 +12,14 @@ use pb_bytecode::Module;
 use pb_verifier::{Verified, VerifyError, verify};
 use std::alloc::{AllocError, Global};
 
-/// Verifies the module that the scheme makes of a well-typed specification, whose code keeps the machine's limits. It is
-/// never refused.
+/// Verifies the module that the scheme makes of a well-typed specification, whose code keeps the
+/// machine's limits. It is never refused.
 ///
 /// # Errors
 /// Memory was refused.
 pub fn verify_compiled(alloc: Global, module: Module) -> Result<Verified, AllocError>
-    requires { (spec : Spec) × IsWellTyped spec × IsCompiledModule spec (module_contents «module») × KeepsAllLimits spec (module_contents «module») }
+    requires { (spec : Spec) × IsWellTyped spec × IsCompiledModule spec (module_contents «module»)
+        × KeepsAllLimits spec (module_contents «module») }
     ensures { IfOk result (λ verified. verified ≡ module_contents «module») }
 {
     compiled_modules_are_accepted();

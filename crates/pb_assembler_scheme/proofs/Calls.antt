@@ -72,7 +72,7 @@ length_values : (a : Slots) (xs : List Argument) → length (argument_values a x
 length_values a [] = refl
 length_values a (x ∷ xs) = ap suc (length_values a xs)
 
-full_length : (o : Option (List Carrier)) (xs : List Argument) → IsFullCall o xs → length xs ≡ length (parameters o)
+pub full_length : (o : Option (List Carrier)) (xs : List Argument) → IsFullCall o xs → length xs ≡ length (parameters o)
 full_length None xs h = absurd h
 full_length (Some cs) xs h = h
 

@@ -7,12 +7,7 @@ use Rattle.std.proofs.lemmas.Bool.{eqb-true, eq-eqb, and_parts, and_from}
 use Rattle.std.proofs.lemmas.Bool.Decides.{Decides-int_eq}
 use Rattle.std.proofs.lemmas.Int.{ints}
 use Rattle.pb_carriers.specs.Carrier.{of_bool}
-use Rattle.pb_text_meaning.specs.Value.{is_true}
 use Rattle.pb_bytecode_program.proofs.Ints.{le_true, from_le}
-
-pub true_of : (b : Bool) → is_true (of_bool b) ≡ b
-true_of true = refl
-true_of false = refl
 
 pub same_bools : (a b : Bool) → ((a && b) || (not a && not b)) ≡ int_eq (of_bool a) (of_bool b)
 same_bools true true = refl
@@ -33,18 +28,6 @@ same_numbers a b = both_ways (int_le a b && int_le b a) (int_eq a b)
     let y = le_true b a two.1 in
     (Decides-int_eq a b).1 (omega (arith, ints)))
     (λ h. let e = (Decides-int_eq a b).0 h in and_from _ _ (from_le a b (omega (arith, ints))) (from_le b a (omega (arith, ints))))
-
-pub and_comm : (b c : Bool) → (b && c) ≡ (c && b)
-and_comm true true = refl
-and_comm true false = refl
-and_comm false true = refl
-and_comm false false = refl
-
-pub or_comm : (b c : Bool) → (b || c) ≡ (c || b)
-or_comm true true = refl
-or_comm true false = refl
-or_comm false true = refl
-or_comm false false = refl
 
 pub chosen_then : (b : Bool) (x y : ℤ) → b ≡ true → x ≡ cond b x y
 chosen_then b x y e = ap (λ c. cond c x y) (sym e)

@@ -1,9 +1,7 @@
 -- The scheme's programs decide the equations of a well-typed specification.
-use Rattle.std.proofs.Common.{◌≡◌, zero, suc, true, List, [], ◌∷◌, length, Some, refl, sym, ap, ◌∙◌, subst, arith, true≢false}
-use Rattle.std.specs.Prelude.{pos}
+use Rattle.std.proofs.Common.{◌≡◌, zero, suc, true, List, [], ◌∷◌, length, refl, sym, ap, ◌∙◌, subst, arith, true≢false}
 use Rattle.std.specs.List.{All}
 use Rattle.std.proofs.lemmas.Bool.{and_parts}
-use Rattle.std.proofs.lemmas.Option.{slice_get-get_or, unwrap_or-slice_get}
 use Rattle.std.proofs.lemmas.List.{length-map}
 use Rattle.pb_carriers.specs.Carrier.{Carrier, Tuple, contains, is_within}
 use Rattle.pb_trees.specs.Tree.{Tree}
@@ -15,8 +13,9 @@ use Rattle.pb_typing_rules.specs.WellTyped.{parameters_of, AreProper, IsWellType
 use Rattle.pb_bytecode_program.specs.Machine.{Program}
 use Rattle.pb_bytecode_program.specs.Safety.{AreArguments, EndsWith}
 use Rattle.pb_normal.specs.Normal.{Formula}
-use Rattle.pb_normal.specs.Equations.{normal_equation, Hold, KeepsTruth}
+use Rattle.pb_normal.specs.Equations.{normal_equation, KeepsTruth}
 use Rattle.pb_normal.specs.Answer.{slots_of}
+use Rattle.pb_normal.proofs.Answer.{slots-hold}
 use Rattle.pb_assembler_scheme.specs.Correct.{Declares, HasFullCalls, HasTruth, IsCompiled}
 use Rattle.pb_assembler_scheme.specs.Equations.{IsProgramOf, DecidesEquation}
 use Rattle.pb_assembler_scheme.proofs.FullCalls.{equation-full}
@@ -26,9 +25,6 @@ within-length [] [] e = refl
 within-length [] (v ∷ vs) e = absurd (true≢false (sym e))
 within-length (c ∷ cs) [] e = absurd (true≢false (sym e))
 within-length (c ∷ cs) (v ∷ vs) e = ap suc (within-length cs vs (and_parts (contains c v) (is_within cs vs) e).1)
-
-slots-hold : (vs : Tuple) → Hold (slots_of vs) vs
-slots-hold vs s below = slice_get-get_or vs s (pos 0) below ∙ ap Some (sym (unwrap_or-slice_get vs s (pos 0)))
 
 -- what is proved of programs whose run ends with a tree
 abbrev pub EndedLaw : Type 0

@@ -3,10 +3,12 @@ use Rattle.std.proofs.Common.{◌≡◌, ℕ, ◌+◌, Bool, true, false, cond, 
 use Rattle.std.specs.Prelude.{ℤ, pos, neg_ℤ, int_lt, ◌==◌}
 use Rattle.std.specs.List.{slice_get}
 use Rattle.std.specs.Ordering.{int_eq}
+use Rattle.std.proofs.Math.Bool.{and_comm, or_comm}
 use Rattle.pb_carriers.specs.Carrier.{of_bool}
 use Rattle.pb_trees.specs.declared.Token.{Token}
 use Rattle.pb_text_meaning.specs.Syntax.{Operator}
 use Rattle.pb_text_meaning.specs.Value.{is_true}
+use Rattle.pb_text_meaning.proofs.Truths.{is_true-of_bool}
 use Rattle.pb_bytecode_program.specs.Values.{Value, BoolValue, IntValue, EnumValue, untagged, arithmetic, divides, absolute, compares, equals, answers, connects}
 use Rattle.pb_bytecode_program.specs.Machine
 use Rattle.pb_bytecode_program.specs.Machine.{Program, State}
@@ -22,7 +24,7 @@ use Rattle.pb_bytecode_program.specs.declared.instruction.Op.TheVariants as op
 use Rattle.pb_normal.specs.Normal.{Term, Number, Slot, Negative, Absolute, Successor, Predecessor, Binary, Maximum, Minimum, Choice, Recognised, Slots, value}
 use Rattle.pb_assembler_scheme.specs.Pieces.{Piece, Plain, Then, end, HasPieceAt}
 use Rattle.pb_assembler_scheme.specs.Scheme.{data_piece, in_order, swapped}
-use Rattle.pb_assembler_scheme.proofs.Equality.{true_of, same_bools, same_places, same_numbers, and_comm, or_comm, chosen_then, chosen_else}
+use Rattle.pb_assembler_scheme.proofs.Equality.{same_bools, same_places, same_numbers, chosen_then, chosen_else}
 use Rattle.pb_assembler_scheme.proofs.Wins.{Wins, After, one, avoids_fault, pushed, pushed_int, popped_int, popped_bool}
 
 -- what the machine's slots hold is what the formula's slots hold
@@ -60,7 +62,7 @@ module _ (p : Program) (Q : List Token → Type 0) where
       → Wins p Q st
   jumps st on to v vs e at there next =
       one p Q st _ at (subst (λ (ws : List Value). After p Q (Machine.pop_bool ws (λ b ws. cond (cond on b (not b)) (Machine.jump_to st to ws) (Machine.jump_to st (st.place + 1) ws)))) (sym e)
-      (popped_bool p Q v vs _ (λ b k. by on b (sym (true_of b) ∙ ap is_true k) there next)))
+      (popped_bool p Q v vs _ (λ b k. by on b (sym (is_true-of_bool b) ∙ ap is_true k) there next)))
     where
       by : (on b : Bool) → b ≡ is_true (untagged v) → (is_true (untagged v) ≡ on → Wins p Q (record st { place = to; operands = vs }))
           → (is_true (untagged v) ≡ not on → Wins p Q (record st { place = st.place + 1; operands = vs }))
@@ -82,7 +84,7 @@ module _ (p : Program) (Q : List Token → Type 0) where
   at_absolute st q v vs h k = one p Q (put st q (v ∷ vs)) op.Absolute h (popped_int p Q v vs _ (pushed_int p Q (put st q (v ∷ vs)) vs _ k))
 
   at_not : (st : State) (q : ℕ) (v : Value) (vs : List Value) → slice_get p.code q ≡ Some op.Not → Wins p Q (put st (q + 1) (BoolValue (not (is_true (untagged v))) ∷ vs)) → Wins p Q (put st q (v ∷ vs))
-  at_not st q v vs h k = one p Q (put st q (v ∷ vs)) op.Not h (popped_bool p Q v vs _ (λ b e. pushed p Q (put st q (v ∷ vs)) vs _ (subst (λ c. Wins p Q (put st (q + 1) (BoolValue (not c) ∷ vs))) (ap is_true (sym e) ∙ true_of b) k)))
+  at_not st q v vs h k = one p Q (put st q (v ∷ vs)) op.Not h (popped_bool p Q v vs _ (λ b e. pushed p Q (put st q (v ∷ vs)) vs _ (subst (λ c. Wins p Q (put st (q + 1) (BoolValue (not c) ∷ vs))) (ap is_true (sym e) ∙ is_true-of_bool b) k)))
 
   at_arithmetic : (c : Arithmetic) (st : State) (q : ℕ) (v w : Value) (vs : List Value) → slice_get p.code q ≡ Some (op.Arithmetic c) → Wins p Q (put st (q + 1) (IntValue (arithmetic c (untagged v) (untagged w)) ∷ vs)) → Wins p Q (put st q (w ∷ v ∷ vs))
   at_arithmetic c st q v w vs h k = one p Q (put st q (w ∷ v ∷ vs)) (op.Arithmetic c) h (popped_int p Q w (v ∷ vs) _ (popped_int p Q v vs _ (avoids_fault p Q (divides c && int_lt (untagged w) (pos 1)) _ _ (pushed_int p Q (put st q (w ∷ v ∷ vs)) vs _ k))))
@@ -96,7 +98,7 @@ module _ (p : Program) (Q : List Token → Type 0) where
   at_logic : (c : Connective) (st : State) (q : ℕ) (v w : Value) (vs : List Value) → slice_get p.code q ≡ Some (op.Logic c) → Wins p Q (put st (q + 1) (BoolValue (connects c (is_true (untagged v)) (is_true (untagged w))) ∷ vs)) → Wins p Q (put st q (w ∷ v ∷ vs))
   at_logic c st q v w vs h k =
       one p Q (put st q (w ∷ v ∷ vs)) (op.Logic c) h (popped_bool p Q w (v ∷ vs) (λ b us. Machine.pop_bool us (λ a ws. Machine.push (put st q (w ∷ v ∷ vs)) ws (BoolValue (connects c a b)))) (λ b e. popped_bool p Q v vs _ (λ a f. pushed p Q (put st q (w ∷ v ∷ vs)) vs _
-      (subst (λ d. Wins p Q (put st (q + 1) (BoolValue (connects c d b) ∷ vs))) (ap is_true (sym f) ∙ true_of a) (subst (λ d. Wins p Q (put st (q + 1) (BoolValue (connects c (is_true (untagged v)) d) ∷ vs))) (ap is_true (sym e) ∙ true_of b) k)))))
+      (subst (λ d. Wins p Q (put st (q + 1) (BoolValue (connects c d b) ∷ vs))) (ap is_true (sym f) ∙ is_true-of_bool a) (subst (λ d. Wins p Q (put st (q + 1) (BoolValue (connects c (is_true (untagged v)) d) ∷ vs))) (ap is_true (sym e) ∙ is_true-of_bool b) k)))))
 
   pub at_jump : (st : State) (q to : ℕ) (vs : List Value) → slice_get p.code q ≡ Some (op.Jump to) → Wins p Q (put st to vs) → Wins p Q (put st q vs)
   at_jump st q to vs h k = one p Q (put st q vs) (op.Jump to) h k
@@ -152,7 +154,7 @@ module _ (p : Program) (Q : List Token → Type 0) where
   binary_gives Operator.Or x y hx hy =
       same_value (data_piece (Binary Operator.Or x y)) _ _ (λ a. ap of_bool (or_comm (is_true (value a y)) (is_true (value a x)))) (connected (data_piece x) (data_piece y) (of x) (of y) hx hy connective.Or)
   binary_gives Operator.Implies x y hx hy =
-      same_value (data_piece (Binary Operator.Implies x y)) _ _ (λ a. ap of_bool (or_comm (is_true (value a y)) (is_true (of_bool (not (is_true (value a x))))) ∙ ap (λ b. b || is_true (value a y)) (true_of (not (is_true (value a x))))))
+      same_value (data_piece (Binary Operator.Implies x y)) _ _ (λ a. ap of_bool (or_comm (is_true (value a y)) (is_true (of_bool (not (is_true (value a x))))) ∙ ap (λ b. b || is_true (value a y)) (is_true-of_bool (not (is_true (value a x))))))
       (connected (Then (data_piece x) (Plain op.Not)) (data_piece y) _ (of y) (negated (data_piece x) (of x) hx) hy connective.Or)
   binary_gives Operator.Equal x y hx hy = equated (data_piece x) (data_piece y) (of x) (of y) hx hy equality.Equal
   binary_gives Operator.NotEqual x y hx hy = equated (data_piece x) (data_piece y) (of x) (of y) hx hy equality.NotEqual

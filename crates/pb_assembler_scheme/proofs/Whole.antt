@@ -30,6 +30,11 @@ use Rattle.pb_assembler_scheme.proofs.Calls.{call_runs}
 use Rattle.pb_assembler_scheme.proofs.Flat.{stands, HasAt, has_all}
 use Rattle.pb_assembler_scheme.proofs.Slots.{start-slots, program-slots}
 
+pub equation_stands : (p : Program) (f : Formula) → IsCompiled p f → HasPieceAt p.code 0 0 (equation_piece p.callees f)
+equation_stands p f compiled =
+    stands p.code 0 0 (equation_piece p.callees f)
+    (subst (λ (code : List Op). HasAt code 0 (equation_code p.callees f)) (sym compiled.code) (has_all (equation_code p.callees f)))
+
 module _ (p : Program) (f : Formula) (args : List Value) (slots : Slots) where
   -- the tokens are those of a tree with the formula's truth
   pub record IsDecided (out : List Token) : Type 0 where
@@ -64,11 +69,6 @@ longer-fault p (suc m) k st g e =
     by (Faults f) h e = e
 
 module _ (spec : Spec) (p : Program) (f : Formula) (tuple : Tuple) (compiled : IsCompiled p f) (full : HasFullCalls p.callees f) (declares : Declares spec p.callees) (fit : AreArguments p.parameters tuple) where
-  code-stands : HasPieceAt p.code 0 0 (equation_piece p.callees f)
-  code-stands =
-      stands p.code 0 0 (equation_piece p.callees f)
-      (subst (λ (code : List Op). HasAt code 0 (equation_code p.callees f)) (sym compiled.code) (has_all (equation_code p.callees f)))
-
   decided : (n : ℕ) (x : Outcome) → run p n (start (arguments p.parameters tuple)) ≡ x → EndsIn (IsDecided p f (arguments p.parameters tuple) (slots_of tuple)) x → IsFaultless p tuple → Decides spec p f tuple
   decided n (Continues st) e h ok = absurd h
   decided n (Faults g) e h ok = absurd (ok n g e)
@@ -81,13 +81,10 @@ module _ (spec : Spec) (p : Program) (f : Formula) (tuple : Tuple) (compiled : I
 
   pub decides : IsFaultless p tuple → Decides spec p f tuple
   decides ok =
-      let w = wins p f (arguments p.parameters tuple) (slots_of tuple) full (start-slots p.parameters tuple fit) code-stands in
+      let w = wins p f (arguments p.parameters tuple) (slots_of tuple) full (start-slots p.parameters tuple fit) (equation_stands p f compiled) in
       decided w.steps (run p w.steps (start (arguments p.parameters tuple))) refl w.ending ok
 
   -- ---- runs that end with a tree
-
-  same-end : (xs ys : List Token) → Ends xs ≡ Ends ys → xs ≡ ys
-  same-end xs ys e = cc
 
   ends-faultless : (tree : Tree) → EndsWith p tuple tree → IsFaultless p tuple
   ends-faultless tree ended n g e =
@@ -105,6 +102,7 @@ module _ (spec : Spec) (p : Program) (f : Formula) (tuple : Tuple) (compiled : I
       let n = d.steps + static_steps p in
       let late = longer p d.steps (static_steps p) st (tree_tokens d.tree) d.ends in
       let early = ended.ends n (omega arith) in
-      let tokens : tree_tokens d.tree ≡ tree_tokens tree = same-end _ _ (sym late ∙ early) in
+      let same-end = sym late ∙ early in
+      let tokens : tree_tokens d.tree ≡ tree_tokens tree = cc in
       let same : d.tree ≡ tree = (one-tree d.tree tree [] [] (append-nil (tree_tokens d.tree) ∙ tokens ∙ sym (append-nil (tree_tokens tree)))).0 in
       subst (HasTruth spec f tuple) same d.has_truth

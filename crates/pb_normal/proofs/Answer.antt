@@ -17,7 +17,7 @@ use Rattle.pb_normal.specs.Answer.{slots_of, equation_by, equations_by, answer_b
 use Rattle.pb_normal.proofs.Equations.{equations-keep-truth}
 use Rattle.pb_normal.proofs.Sequences.{HoldsAlike, same-solution}
 
-slots-hold : (vs : Tuple) → Hold (slots_of vs) vs
+pub slots-hold : (vs : Tuple) → Hold (slots_of vs) vs
 slots-hold vs s below = slice_get-get_or vs s (pos 0) below ∙ ap Some (sym (unwrap_or-slice_get vs s (pos 0)))
 
 -- a tuple within carriers has a value for each

@@ -1,8 +1,7 @@
 -- Chains, arithmetic and arguments over slots, operand by operand.
-use Rattle.std.proofs.Common.{◌≡◌, ℕ, ◌+◌, ◌<◌, ◌≤◌, List, [], ◌∷◌, ◌++◌, map, length, get_or, drop, refl, sym, ◌∙◌, ap, Box, Vec, Global}
+use Rattle.std.proofs.Common.{◌≡◌, ℕ, ◌≤◌, List, [], ◌∷◌, ◌++◌, map, length, drop, refl, sym, ◌∙◌, ap, Box, Vec, Global}
 use Rattle.std.specs.Prelude.{box_value}
-use Rattle.std.proofs.lemmas.List.{append-nil, append_assoc, drop_all}
-use Rattle.pb_sorts.proofs.Places.{drop-at}
+use Rattle.std.proofs.lemmas.List.{append-nil, drop_all}
 use Rattle.pb_text_tree.specs.declared.operator.Arithmetic.{Arithmetic}
 use Rattle.pb_text_tree.specs.declared.operator.Connective.{Connective}
 use Rattle.pb_text_tree.specs.declared.name.Name.{Name}
@@ -75,20 +74,8 @@ other-count S c f (x ∷ (y ∷ (z ∷ (w ∷ ws)))) one two three = refl
 
 -- ---- operand by operand: what is done, and the operands that are left
 
-pub links_next : (S : Spec) (c : Slotting) (links : List TermLink) (k : ℕ) (link : TermLink) (done : List normal.Term) (all : List normal.Term) → k < length links → link ≡ get_or links k link
-    → all ≡ done ++ link_terms S c (drop k links) → all ≡ (done ++ (over_slots S c link.operand ∷ [])) ++ link_terms S c (drop (k + 1) links)
-links_next S c links k link done all below at h =
-    h ∙ (ap (λ (ls : List TermLink). done ++ link_terms S c ls) (drop-at links k link below at)
-    ∙ sym (append_assoc done (over_slots S c link.operand ∷ []) (link_terms S c (drop (k + 1) links))))
-
 pub links_done : (S : Spec) (c : Slotting) (links : List TermLink) (k : ℕ) (done all : List normal.Term) → length links ≤ k → all ≡ done ++ link_terms S c (drop k links) → all ≡ done
 links_done S c links k done all h e = e ∙ (ap (λ (ls : List TermLink). done ++ link_terms S c ls) (drop_all k links h) ∙ append-nil done)
-
-pub arithmetic_next : (S : Spec) (c : Slotting) (links : List ArithmeticLink) (k : ℕ) (link : ArithmeticLink) (done all : List (Arithmetic × normal.Term)) → k < length links → link ≡ get_or links k link
-    → all ≡ done ++ arithmetic_terms S c (drop k links) → all ≡ (done ++ ((link.operator, over_slots S c link.operand) ∷ [])) ++ arithmetic_terms S c (drop (k + 1) links)
-arithmetic_next S c links k link done all below at h =
-    h ∙ (ap (λ (ls : List ArithmeticLink). done ++ arithmetic_terms S c ls) (drop-at links k link below at)
-    ∙ sym (append_assoc done ((link.operator, over_slots S c link.operand) ∷ []) (arithmetic_terms S c (drop (k + 1) links))))
 
 pub arithmetic_done : (S : Spec) (c : Slotting) (links : List ArithmeticLink) (k : ℕ) (done all : List (Arithmetic × normal.Term)) → length links ≤ k → all ≡ done ++ arithmetic_terms S c (drop k links) → all ≡ done
 arithmetic_done S c links k done all h e = e ∙ (ap (λ (ls : List ArithmeticLink). done ++ arithmetic_terms S c ls) (drop_all k links h) ∙ append-nil done)

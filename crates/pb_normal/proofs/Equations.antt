@@ -1,5 +1,5 @@
 -- The normal form of each equation of a well-typed specification has the truth of the equation's right side.
-use Rattle.std.proofs.Common.{◌≡◌, zero, suc, true, List, [], ◌∷◌, length, refl, sym, ◌∙◌, arith}
+use Rattle.std.proofs.Common.{zero, suc, true, List, [], ◌∷◌, length, sym, ◌∙◌, arith}
 use Rattle.std.specs.List.{All}
 use Rattle.pb_text_meaning.specs.Syntax.{Equation, Spec}
 use Rattle.pb_text_meaning.specs.Meaning.{assigned}

@@ -3,11 +3,12 @@ use Rattle.std.proofs.Common.{◌≡◌, Bool, true, false, not, ◌&&◌, ◌||
 use Rattle.pb_fixpoint.specs.Solution.{Environment}
 use Rattle.pb_text_tree.specs.declared.operator.Quantifier.{Quantifier}
 use Rattle.pb_text_tree.specs.declared.operator.Quantifier.TheVariants.{Forall, Exists}
-use Rattle.pb_carriers.specs.Carrier.{Value, Carrier, of_bool}
+use Rattle.pb_carriers.specs.Carrier.{Value, Carrier}
 use Rattle.pb_text_meaning.specs.Syntax.{Variable, Operator, Term, Formula, Spec}
 use Rattle.pb_text_meaning.specs.Sorts.{carrier_of}
 use Rattle.pb_text_meaning.specs.Value.{Assignment, of_values, quantified, is_true, value}
 use Rattle.pb_text_meaning.specs.Formula.{Instance, truth}
+use Rattle.pb_text_meaning.proofs.Truths.{is_true-of_bool}
 use Rattle.pb_normal.specs.Expansion.{has_quantifier, connected, expanded_term, expanded}
 
 -- ---- quantifiers take equal predicates to equal truths
@@ -25,16 +26,12 @@ same-quantified spec q (x ∷ xs) p p' h a =
 
 -- ---- truth
 
-true-of-bool : (b : Bool) → is_true (of_bool b) ≡ b
-true-of-bool true = refl
-true-of-bool false = refl
-
 pub expanded-connected : (spec : Spec) (a : Assignment) (t : Environment Instance) (o : Operator) (x y : Term) (f g : Formula)
     → truth spec a t f ≡ is_true (value spec a x) → truth spec a t g ≡ is_true (value spec a y)
     → truth spec a t (connected o f g (Formula.Val (Term.Binary o x y))) ≡ is_true (value spec a (Term.Binary o x y))
-expanded-connected spec a t Operator.And x y f g h k = ap (λ b. b && truth spec a t g) h ∙ ap (λ b. is_true (value spec a x) && b) k ∙ sym (true-of-bool _)
-expanded-connected spec a t Operator.Or x y f g h k = ap (λ b. b || truth spec a t g) h ∙ ap (λ b. is_true (value spec a x) || b) k ∙ sym (true-of-bool _)
-expanded-connected spec a t Operator.Implies x y f g h k = ap (λ b. not b || truth spec a t g) h ∙ ap (λ b. not (is_true (value spec a x)) || b) k ∙ sym (true-of-bool _)
+expanded-connected spec a t Operator.And x y f g h k = ap (λ b. b && truth spec a t g) h ∙ ap (λ b. is_true (value spec a x) && b) k ∙ sym (is_true-of_bool _)
+expanded-connected spec a t Operator.Or x y f g h k = ap (λ b. b || truth spec a t g) h ∙ ap (λ b. is_true (value spec a x) || b) k ∙ sym (is_true-of_bool _)
+expanded-connected spec a t Operator.Implies x y f g h k = ap (λ b. not b || truth spec a t g) h ∙ ap (λ b. not (is_true (value spec a x)) || b) k ∙ sym (is_true-of_bool _)
 expanded-connected spec a t Operator.Equal x y f g h k = refl
 expanded-connected spec a t Operator.NotEqual x y f g h k = refl
 expanded-connected spec a t Operator.Less x y f g h k = refl
@@ -57,14 +54,14 @@ expanded-term-truth spec t (Term.Number n) a = refl
 expanded-term-truth spec t (Term.Named x) a = refl
 expanded-term-truth spec t (Term.Not x) a =
     choose-formula spec a t (has_quantifier x) (is_true (value spec a (Term.Not x))) (Formula.Not (expanded_term x)) (Formula.Val (Term.Not x))
-    (ap not (expanded-term-truth spec t x a) ∙ sym (true-of-bool _)) refl
+    (ap not (expanded-term-truth spec t x a) ∙ sym (is_true-of_bool _)) refl
 expanded-term-truth spec t (Term.Negative x) a = refl
 expanded-term-truth spec t (Term.Binary o x y) a =
     choose-formula spec a t (has_quantifier x || has_quantifier y) (is_true (value spec a (Term.Binary o x y))) (connected o (expanded_term x) (expanded_term y) (Formula.Val (Term.Binary o x y))) (Formula.Val (Term.Binary o x y))
     (expanded-connected spec a t o x y (expanded_term x) (expanded_term y) (expanded-term-truth spec t x a) (expanded-term-truth spec t y a)) refl
 expanded-term-truth spec t (Term.Apply f xs) a = refl
 expanded-term-truth spec t (Term.Quantified q xs x) a =
-    same-quantified spec q xs (λ b. truth spec b t (expanded_term x)) (λ b. is_true (value spec b x)) (expanded-term-truth spec t x) a ∙ sym (true-of-bool _)
+    same-quantified spec q xs (λ b. truth spec b t (expanded_term x)) (λ b. is_true (value spec b x)) (expanded-term-truth spec t x) a ∙ sym (is_true-of_bool _)
 
 -- under every assignment and every environment
 pub expanded-truth : (spec : Spec) (t : Environment Instance) (f : Formula) (a : Assignment) → truth spec a t (expanded f) ≡ truth spec a t f

@@ -7,11 +7,8 @@ use Rattle.std.proofs.lemmas.Iterator.Adapters.{position_from-zero}
 use Rattle.std.proofs.lemmas.List.{append-nil, append_assoc, length-drop, drop_all}
 use Rattle.pb_sorts.specs.declared.carrier.Carrier.{Carrier}
 use Rattle.pb_sorts.proofs.Places.{drop-at}
-use Rattle.pb_text_tree.specs.declared.place.Place.{Place}
 use Rattle.pb_text_tree.specs.declared.operator.Connective.{Connective}
 use Rattle.pb_text_tree.specs.declared.operator.Connective.TheVariants.{And, Or, Implies}
-use Rattle.pb_text_tree.specs.declared.operator.Quantifier.{Quantifier}
-use Rattle.pb_text_tree.specs.declared.variable.Variables.{Variables}
 use Rattle.pb_text_tree.specs.declared.term.Argument.{Argument}
 use Rattle.pb_text_tree.specs.declared.formula.Formula as ast
 use Rattle.pb_text_tree.specs.declared.formula.Link.{Link}
@@ -19,7 +16,7 @@ use Rattle.pb_text_tree.specs.Form as form
 use Rattle.pb_text_tree.specs.Form.{FormulaForm, formula_form, link_forms, argument_forms, term_form}
 use Rattle.pb_text_tree.proofs.FormLemmas.{formula-chain}
 use Rattle.pb_text_meaning.specs.Syntax as syntax
-use Rattle.pb_text_meaning.specs.Syntax.{Name, same_name, Variable, Equation, Spec}
+use Rattle.pb_text_meaning.specs.Syntax.{Name, same_name, Equation, Spec}
 use Rattle.pb_text_meaning.specs.Erase.{erased_formula, erased_arguments, erased_term, joined}
 use Rattle.pb_typing_declarations.specs.Agreement.{equation_place}
 use Rattle.pb_typing_declarations.specs.Shapes.{Shape}
@@ -35,7 +32,7 @@ use Rattle.pb_normal.specs.Loops.{IsShaped, loops}
 use Rattle.pb_normal.specs.Normal as model
 use Rattle.pb_normal.specs.Normal.{Formula, Join}
 use Rattle.pb_normal.specs.Normalisation.{Slotting, arguments, normal, place_of, slotted, width}
-use Rattle.pb_normal.specs.Tree.{formula_chain_of, formula_of, quantified_formula}
+use Rattle.pb_normal.specs.Tree.{formula_chain_of, formula_of}
 use Rattle.pb_normal.specs.View.{argument_view, chained, shapes_of, term_view, formula_view, formula_views}
 use Rattle.pb_normal.proofs.NormalChains.{link_normals, link_width, chained-normal}
 use Rattle.pb_normal.proofs.ValueLemmas.{grown, joined-loops, joined_shaped}
@@ -165,11 +162,6 @@ pub chain-node : (t x : ast.Formula) (o : Connective) (first : Box ast.Formula G
 chain-node t x o first v links is same are =
     ap (λ (f : FormulaForm). expanded (erased_formula f)) (ap formula_form is ∙ formula-chain o first v)
     ∙ (ap (λ (y : ast.Formula). formula_chain_of o y v.items) (sym same) ∙ ap (formula_chain_of o x) (sym are))
-
-pub quantified-node : (t x : ast.Formula) (p : Place) (q : Quantifier) (vs : Vec Variables Global) (body : Box ast.Formula Global) (groups : List Variables) → t ≡ ast.Quantified p q vs body → x ≡ box_value body → groups ≡ vs.items
-    → formula_of t ≡ quantified_formula q groups x
-quantified-node t x p q vs body groups is same are =
-    ap formula_of is ∙ (ap (quantified_formula q vs.items) (sym same) ∙ ap (λ (gs : List Variables). quantified_formula q gs x) (sym are))
 
 -- ---- calls
 

@@ -5,6 +5,7 @@ use Rattle.std.specs.List.{slice_get}
 use Rattle.std.proofs.lemmas.List.Folds.{find_at}
 use Rattle.std.proofs.lemmas.Option.{slice_get_within}
 use Rattle.std.proofs.lemmas.Bool.{lt-ltb}
+use Rattle.pb_sorts.specs.declared.limits.TheConstants.{MAX_EQUATIONS}
 use Rattle.pb_text_meaning.specs.Syntax.{same_name, Equation, Spec}
 use Rattle.pb_text_meaning.specs.Formula.{equation_named, fits}
 use Rattle.pb_text_meaning.specs.Fits.{AllFit}
@@ -33,7 +34,7 @@ pub initial-at : (spec : Spec) (k : ℕ) → IsWellTyped spec → equation_place
 initial-at spec k h e = ap (λ (o : Option ℕ). unwrap_or o 0) (sym e ∙ initial-found spec h)
 
 -- which a byte holds
-pub initial-small : (spec : Spec) (k : ℕ) → IsWellTyped spec → equation_place spec spec.initial ≡ Some k → k < 64
+pub initial-small : (spec : Spec) (k : ℕ) → IsWellTyped spec → equation_place spec spec.initial ≡ Some k → k < MAX_EQUATIONS
 initial-small spec k h e =
     let p = initial-there spec h in
     let below = slice_get_within spec.equations (initial_place spec) p.equation p.there in

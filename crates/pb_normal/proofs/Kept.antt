@@ -1,8 +1,8 @@
 -- The value of each argument in normal form is one of the shape that is kept with it.
-use Rattle.std.proofs.Common.{◌≡◌, ℕ, zero, suc, ◌+◌, Bool, true, false, not, ◌||◌, if◌then◌else◌, List, [], ◌∷◌, length, Option, Some, None, sym, subst, arith, true≢false}
+use Rattle.std.proofs.Common.{◌≡◌, ℕ, zero, suc, ◌+◌, Bool, true, false, not, ◌||◌, if◌then◌else◌, List, [], ◌∷◌, length, Option, Some, None, sym, subst, arith}
 use Rattle.std.specs.List.{All}
 use Rattle.std.proofs.lemmas.Bool.{and_parts}
-use Rattle.pb_carriers.specs.Carrier.{Value, Tuple, Carrier, is_within, contains}
+use Rattle.pb_carriers.specs.Carrier.{Value, Carrier, is_within, contains}
 use Rattle.pb_text_meaning.specs.Syntax as syntax
 use Rattle.pb_text_meaning.specs.Syntax.{same_name, Variable, Operator, Terms, Equation, Spec}
 use Rattle.pb_text_meaning.specs.Sorts.{carrier_of}
@@ -18,6 +18,7 @@ use Rattle.pb_typing_rules.specs.Formula.{IsProper}
 use Rattle.pb_typing_rules.specs.WellTyped.{parameters_of, AreProper, IsWellTyped}
 use Rattle.pb_typing_rules.proofs.Names.{within_declared, sort_value}
 use Rattle.pb_typing_rules.proofs.Contained.{contained, called_typed}
+use Rattle.pb_typing_rules.proofs.Fitting.{assigned_within}
 use Rattle.pb_normal.specs.Expansion.{has_quantifier, connected, expanded_term, expanded}
 use Rattle.pb_normal.specs.Normal.{Term, Argument, Formula, Slots, set, value}
 use Rattle.pb_normal.specs.Normalisation.{Slotting, unslotted, with_slot, with_slots, slotted, width, signed_test, is_universal, each, arguments, place_of, call, normal}
@@ -124,14 +125,6 @@ formula-fits spec even scope (syntax.Formula.Call X es) h c n a g free agree wit
 -- ---- equations
 
 -- the values of an instance are of the shapes of their parameters
-parameters-within : (spec : Spec) (xs : List Variable) (vs : Tuple) (scope : Scope) (g : Assignment) → is_within (carriers_of spec xs) vs ≡ true → Within g scope → Within (assigned xs vs g) (bound spec xs scope)
-parameters-within spec [] vs scope g e within = within
-parameters-within spec (x ∷ xs) [] scope g e within = absurd (true≢false (sym e))
-parameters-within spec (x ∷ xs) (v ∷ vs) scope g e within =
-    let inside = and_parts (contains (carrier_of spec x.sort) v) (is_within (carriers_of spec xs) vs) e in
-    parameters-within spec xs vs (declare x.name (sort_shape spec x.sort) scope) ((x.name, v) ∷ g) inside.1
-    (within_declared g scope x.name (sort_shape spec x.sort) v (sort_value spec x.sort v inside.0) within)
-
 keeps-shapes : (spec : Spec) (X : Equation) → IsProper spec true (parameters_of spec X) X.right → KeepsShapes spec X
 keeps-shapes spec X proper slots i own hold =
     let inside = and_parts (same_name X.name i.name) (is_within (carriers_of spec X.parameters) i.values) own in
@@ -139,7 +132,7 @@ keeps-shapes spec X proper slots i own hold =
     (with_slots X.parameters 0 unslotted) (length X.parameters) slots (assigned X.parameters i.values [])
     (free-parameters X.parameters)
     (agree-parameters X.parameters i.values slots (within-count spec X.parameters i.values inside.1) hold)
-    (parameters-within spec X.parameters i.values outermost [] inside.1 (λ x. tt))
+    (assigned_within spec X.parameters i.values outermost [] inside.1 (λ x. tt))
 
 rights-keep-shapes : (spec : Spec) (E : List Equation) → AreProper spec E → All (KeepsShapes spec) E
 rights-keep-shapes spec [] proper k d below = absurd (omega arith)

@@ -17,7 +17,7 @@ mod Plain
 mod Parameters
 pub mod Equations
 pub mod Sequences
-mod Answer
+pub mod Answer
 mod Kept
 mod SlotLaws
 pub mod Structs

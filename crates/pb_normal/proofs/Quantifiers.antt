@@ -1,9 +1,7 @@
 -- Quantifiers among the operands of chains and among arguments.
-use Rattle.std.proofs.Common.{◌≡◌, ℕ, ◌+◌, ◌<◌, ◌≤◌, Bool, true, false, ◌||◌, List, [], ◌∷◌, length, get_or, drop, refl, sym, ◌∙◌, ap, Box, Vec, Global}
+use Rattle.std.proofs.Common.{◌≡◌, Bool, ◌||◌, List, [], ◌∷◌, sym, ◌∙◌, ap, Box, Vec, Global}
 use Rattle.std.specs.Prelude.{box_value}
-use Rattle.std.proofs.lemmas.List.{drop_all}
-use Rattle.std.proofs.Math.Bool.{or_assoc}
-use Rattle.pb_sorts.proofs.Places.{drop-at}
+use Rattle.std.proofs.Math.Bool.{or_assoc, or-false}
 use Rattle.pb_text_tree.specs.declared.operator.Connective.{Connective}
 use Rattle.pb_text_tree.specs.declared.name.Name.{Name}
 use Rattle.pb_text_tree.specs.declared.term.Term as term
@@ -20,18 +18,14 @@ use Rattle.pb_normal.specs.Links.{links_have_quantifier, arithmetic_have_quantif
 abbrev pub quantified : Term → Bool
 quantified x = has_quantifier (erased_term (term_form x))
 
-or-false : (b : Bool) → b ≡ (b || false)
-or-false true = refl
-or-false false = refl
-
 pub chained-quantifier : (c : Connective) (first : TermForm) (links : List TermLink)
     → has_quantifier (erased_term (chained (TermForm.connected c) first (term_links links))) ≡ (has_quantifier (erased_term first) || links_have_quantifier links)
-chained-quantifier c first [] = or-false _
+chained-quantifier c first [] = sym (or-false _)
 chained-quantifier c first (l ∷ ls) = ap (λ (b : Bool). has_quantifier (erased_term first) || b) (chained-quantifier c (term_form l.operand) ls)
 
 pub calculated-quantifier : (first : TermForm) (links : List ArithmeticLink)
     → has_quantifier (erased_term (calculated first (arithmetic_links links))) ≡ (has_quantifier (erased_term first) || arithmetic_have_quantifier links)
-calculated-quantifier first [] = or-false _
+calculated-quantifier first [] = sym (or-false _)
 calculated-quantifier first (l ∷ ls) =
     calculated-quantifier (TermForm.computed l.operator l.place first (term_form l.operand)) ls ∙ or_assoc (has_quantifier (erased_term first)) (quantified l.operand) (arithmetic_have_quantifier ls)
 
@@ -58,17 +52,5 @@ application t f v xs is are =
 
 -- ---- element by element
 
-pub links_next : (links : List TermLink) (k : ℕ) (link : TermLink) → k < length links → link ≡ get_or links k link → links_have_quantifier (drop k links) ≡ (quantified link.operand || links_have_quantifier (drop (k + 1) links))
-links_next links k link below at = ap links_have_quantifier (drop-at links k link below at)
-
-pub arithmetic_next : (links : List ArithmeticLink) (k : ℕ) (link : ArithmeticLink) → k < length links → link ≡ get_or links k link → arithmetic_have_quantifier (drop k links) ≡ (quantified link.operand || arithmetic_have_quantifier (drop (k + 1) links))
-arithmetic_next links k link below at = ap arithmetic_have_quantifier (drop-at links k link below at)
-
 abbrev pub arguments_quantified : List Argument → Bool
 arguments_quantified xs = have_quantifier (erased_arguments (argument_forms xs))
-
-pub arguments_next : (xs : List Argument) (k : ℕ) (x : Argument) → k < length xs → x ≡ get_or xs k x → arguments_quantified (drop k xs) ≡ (quantified x.term || arguments_quantified (drop (k + 1) xs))
-arguments_next xs k x below at = ap arguments_quantified (drop-at xs k x below at)
-
-pub arguments_ended : (xs : List Argument) (k : ℕ) → length xs ≤ k → arguments_quantified (drop k xs) ≡ false
-arguments_ended xs k h = ap arguments_quantified (drop_all k xs h)

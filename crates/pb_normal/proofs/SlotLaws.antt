@@ -2,7 +2,7 @@
 use Rattle.std.proofs.Common.{◌≡◌, ℕ, zero, suc, ◌+◌, ◌≤◌, ◌==◌, Bool, true, false, not, ◌&&◌, ◌||◌, if◌then◌else◌, List, [], ◌∷◌, ◌++◌, length, Option, Some, None, refl, sym, ◌∙◌, ap, subst, arith, tests, codes}
 use Rattle.std.specs.List.{All, range_with_len}
 use Rattle.std.specs.Prelude.{nat_lt, unwrap_or}
-use Rattle.std.proofs.lemmas.Bool.{or_from, and_from, lt-ltb}
+use Rattle.std.proofs.lemmas.Bool.{or_from, and_from, lt-ltb, eq-eqb, le-ltb}
 use Rattle.pb_text_meaning.specs.Syntax as syntax
 use Rattle.pb_text_meaning.specs.Syntax.{Name, same_name, Variable, Terms, Equation, Spec}
 use Rattle.pb_typing_declarations.specs.Enumerators.{Position, enumerator_of, recogniser_of}
@@ -155,9 +155,6 @@ call-closed : (known : ℕ → Bool) (o : Option ℕ) (es : List Argument) → A
 call-closed known None es all = refl
 call-closed known (Some X) es all = all
 
-same-number : (s : ℕ) → (s == s) ≡ true
-same-number s = grind (arith, tests)
-
 above : (s n : ℕ) → suc n ≤ s → (s == n) ≡ false
 above s n le = grind (arith, tests)
 
@@ -168,7 +165,7 @@ in-scope-next c known y n inside x s e = by-name (same_name y x) e
     by-name : (same : Bool) → (if same then Some n else c x) ≡ Some s → (s == n || known s) ≡ true
     by-name true e =
         let f : n ≡ s = ap (λ o. unwrap_or o 0) e in
-        subst (λ (m : ℕ). (s == m || known s) ≡ true) (sym f) (ap (λ b. b || known s) (same-number s))
+        subst (λ (m : ℕ). (s == m || known s) ≡ true) (sym f) (ap (λ b. b || known s) (eq-eqb s s refl))
     by-name false e = either-right (s == n) (known s) (inside x s e)
 
 none-next : (known : ℕ → Bool) (n : ℕ) → NoneFrom n known → NoneFrom (suc n) (λ k. k == n || known k)
@@ -203,11 +200,8 @@ normal-closed spec (syntax.Formula.Quantified q xs f) even scope c n known insid
 normal-closed spec (syntax.Formula.Call X es) even scope c n known inside none =
     call-closed known (place_of 0 spec.equations X) (arguments spec c scope es) (arguments-closed spec c scope known inside es)
 
-is-above : (s n : ℕ) → n ≤ s → nat_lt s n ≡ false
-is-above s n h = grind (arith, tests)
-
 pub equation-closed : (spec : Spec) (X : Equation) → IsClosed (λ s. nat_lt s (length X.parameters)) (normal_equation spec X)
 equation-closed spec X =
     let count = length X.parameters in
     normal-closed spec (expanded X.right) true (parameters_of spec X) (with_slots X.parameters 0 unslotted) count (λ s. nat_lt s count)
-    (λ x s e. lt-ltb s count (free-parameters X.parameters x s e)) (λ s le. is-above s count le)
+    (λ x s e. lt-ltb s count (free-parameters X.parameters x s e)) (λ s le. le-ltb s count le)

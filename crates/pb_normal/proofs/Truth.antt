@@ -1,13 +1,14 @@
 -- A formula in normal form has the truth of the formula that it comes from.
-use Rattle.std.proofs.Common.{◌≡◌, ℕ, suc, ◌+◌, ◌<◌, ◌≤◌, ◌==◌, Bool, true, false, not, ◌||◌, ◌&&◌, if◌then◌else◌, List, [], ◌∷◌, map, Option, Some, None, refl, sym, ◌∙◌, ap, arith, tests}
+use Rattle.std.proofs.Common.{◌≡◌, ℕ, suc, ◌+◌, ◌<◌, ◌≤◌, Bool, true, false, not, ◌||◌, ◌&&◌, if◌then◌else◌, List, [], ◌∷◌, map, Option, Some, None, refl, sym, ◌∙◌, ap, arith}
 use Rattle.std.specs.List.{slice_get}
 use Rattle.std.specs.Option.{option_map}
 use Rattle.std.specs.Prelude.{unwrap_or}
 use Rattle.std.specs.Cmp.Lexicographic.{same_text}
+use Rattle.std.proofs.lemmas.Bool.{ne_eqb, eq-eqb}
 use Rattle.pb_fixpoint.specs.Solution.{Environment}
 use Rattle.pb_text_tree.specs.declared.operator.Quantifier.{Quantifier}
 use Rattle.pb_text_tree.specs.declared.operator.Quantifier.TheVariants.{Forall, Exists}
-use Rattle.pb_carriers.specs.Carrier.{Value, Carrier, of_bool}
+use Rattle.pb_carriers.specs.Carrier.{Value, Carrier}
 use Rattle.pb_text_meaning.specs.Syntax as syntax
 use Rattle.pb_text_meaning.specs.Syntax.{Name, same_name, Variable, Terms, Equation, Spec}
 use Rattle.pb_text_meaning.specs.Sorts.{carrier_of}
@@ -15,6 +16,7 @@ use Rattle.pb_text_meaning.specs.Value.{Assignment, looked_up, of_values, quanti
 use Rattle.pb_text_meaning.specs.Formula as meaning
 use Rattle.pb_text_meaning.specs.Formula.{Instance, equation_named, fits, call_truth}
 use Rattle.pb_text_meaning.specs.Positive.{IsPositive}
+use Rattle.pb_text_meaning.proofs.Truths.{is_true-of_bool}
 use Rattle.pb_typing_declarations.specs.Shapes.{shape_carrier, sort_shape}
 use Rattle.pb_typing_rules.specs.Scope.{Scope, bound}
 use Rattle.pb_normal.specs.Normal.{Term, Argument, Formula, Slots, set, joined, quantifier, name_of, truth, value}
@@ -26,10 +28,6 @@ use Rattle.pb_normal.proofs.Expanded.{same-of-values}
 use Rattle.pb_normal.proofs.Slotted.{slotted-value, slotted-values}
 
 -- ---- signs
-
-true-of-bool : (b : Bool) → is_true (of_bool b) ≡ b
-true-of-bool true = refl
-true-of-bool false = refl
 
 signed-not : (even b : Bool) → signed (not even) b ≡ signed even (not b)
 signed-not true b = refl
@@ -61,21 +59,15 @@ signed-values Exists false p (v ∷ vs) = ap (λ b. not (p v) && b) (signed-valu
 
 signed-test : (spec : Spec) (a : Slots) (t : Environment Instance) (even : Bool) (x : Term) → truth spec a t (signed_test even x) ≡ signed even (is_true (value a x))
 signed-test spec a t true x = refl
-signed-test spec a t false x = true-of-bool _
+signed-test spec a t false x = is_true-of_bool _
 
 -- ---- slots
 
-not-same : (i s : ℕ) → i < s → (i == s) ≡ false
-not-same i s lt = grind (arith, tests)
-
 kept : (a : Slots) (s i : ℕ) (v : Value) → i < s → set a s v i ≡ a i
-kept a s i v lt = ap (λ b. if b then v else a i) (not-same i s lt)
-
-same-number : (s : ℕ) → (s == s) ≡ true
-same-number s = grind (arith, tests)
+kept a s i v lt = ap (λ b. if b then v else a i) (ne_eqb i s (λ e. omega (arith, e, lt)))
 
 written : (a : Slots) (s : ℕ) (v : Value) → set a s v s ≡ v
-written a s v = ap (λ b. if b then v else a s) (same-number s)
+written a s v = ap (λ b. if b then v else a s) (eq-eqb s s refl)
 
 pub more-free : (c : Slotting) (n m : ℕ) → n ≤ m → AreFree c n → AreFree c m
 more-free c n m le free x s e = let lt = free x s e in omega (arith, lt, le)
@@ -162,7 +154,7 @@ call-kept spec t c scope a g agree X es (Some k) h plain =
 
 pub normal-truth : (spec : Spec) (t : Environment Instance) (f : syntax.Formula) (even : Bool) (scope : Scope) → HasCarriers spec → IsPositive even f → IsPlain f
     → HasTruth spec t even (λ g. meaning.truth spec g t f) (λ c n. made.normal spec even c scope n f)
-normal-truth spec t (syntax.Formula.Truth b) even scope carriers positive plain c n a g free agree = signed-test spec a t even (Term.Truth b) ∙ ap (signed even) (true-of-bool b)
+normal-truth spec t (syntax.Formula.Truth b) even scope carriers positive plain c n a g free agree = signed-test spec a t even (Term.Truth b) ∙ ap (signed even) (is_true-of_bool b)
 normal-truth spec t (syntax.Formula.Val x) even scope carriers positive plain c n a g free agree =
     signed-test spec a t even (slotted spec c x) ∙ ap (λ v. signed even (is_true v)) (slotted-value spec c a g agree x plain)
 normal-truth spec t (syntax.Formula.Not f) even scope carriers positive plain c n a g free agree =

@@ -5,12 +5,10 @@ use Rattle.std.specs.Prelude.{box_value}
 use Rattle.std.proofs.lemmas.List.{append-nil, append_assoc, get_or_append_left, length-drop}
 use Rattle.pb_sorts.specs.declared.carrier.Carrier.{Carrier}
 use Rattle.pb_sorts.proofs.Places.{drop-at}
-use Rattle.pb_text_tree.specs.declared.place.Place.{Place}
 use Rattle.pb_text_tree.specs.declared.operator.Arithmetic.{Arithmetic}
 use Rattle.pb_text_tree.specs.declared.operator.Arithmetic.TheVariants as arithmetic
 use Rattle.pb_text_tree.specs.declared.operator.Connective.{Connective}
 use Rattle.pb_text_tree.specs.declared.operator.Quantifier.{Quantifier}
-use Rattle.pb_text_tree.specs.declared.variable.Variables.{Variables}
 use Rattle.pb_text_tree.specs.declared.term.Term as ast
 use Rattle.pb_text_tree.specs.declared.term.TermLink.{TermLink}
 use Rattle.pb_text_tree.specs.declared.term.ArithmeticLink.{ArithmeticLink}
@@ -31,7 +29,7 @@ use Rattle.pb_normal.specs.Loops.{IsShaped, loops, variable_shapes}
 use Rattle.pb_normal.specs.Normal.{Formula, Join}
 use Rattle.pb_normal.specs.Normalisation.{Slotting, with_slots, is_universal, normal, signed_test, slotted, width}
 use Rattle.pb_normal.specs.Tail.{tail_tests}
-use Rattle.pb_normal.specs.Tree.{chain_of, quantified_value, value_of}
+use Rattle.pb_normal.specs.Tree.{chain_of, value_of}
 use Rattle.pb_normal.specs.View.{chained, nested, shapes_of, formula_view, formula_views}
 use Rattle.pb_normal.proofs.LinkCount.{counted, behind_count}
 use Rattle.pb_normal.proofs.NormalChains.{each-nested}
@@ -162,11 +160,6 @@ no-links f (l ∷ ls) e = absurd (omega (arith, e))
 pub operand-node : (t x : ast.Term) (first : Box ast.Term Global) (v : Vec ArithmeticLink Global) → t ≡ ast.Arithmetic first v → x ≡ box_value first → length v.items ≡ 0 → erased_term (term_form t) ≡ erased_term (term_form x)
 operand-node t x first v is same none =
     ap erased_term (ap term_form is ∙ (term-arithmetic first v ∙ no-links (term_form (box_value first)) v.items none)) ∙ ap (λ (y : ast.Term). erased_term (term_form y)) (sym same)
-
-pub quantified-node : (t x : ast.Term) (p : Place) (q : Quantifier) (vs : Vec Variables Global) (body : Box ast.Term Global) (groups : List Variables) → t ≡ ast.Quantified p q vs body → x ≡ box_value body → groups ≡ vs.items
-    → value_of t ≡ quantified_value q groups x
-quantified-node t x p q vs body groups is same are =
-    ap value_of is ∙ (ap (quantified_value q vs.items) (sym same) ∙ ap (λ (gs : List Variables). quantified_value q gs x) (sym are))
 
 -- ---- terms that no connective and no quantifier is above
 

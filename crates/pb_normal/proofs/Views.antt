@@ -1,5 +1,5 @@
 -- The operands of a chain, as they stand in its node, are those of its vector.
-use Rattle.std.proofs.Common.{◌≡◌, Bool, refl, ◌∙◌, ap, ◌∷◌, Vec, Global, Box}
+use Rattle.std.proofs.Common.{◌≡◌, refl, ◌∙◌, ap, ◌∷◌, Vec, Global, Box}
 use Rattle.std.specs.Prelude.{box_value}
 use Rattle.pb_text_tree.specs.declared.operator.Connective.{Connective}
 use Rattle.pb_text_meaning.specs.Erase.{of_connective}
@@ -7,9 +7,10 @@ use Rattle.pb_normal.specs.Normal.{Binary, Join}
 use Rattle.pb_normal.specs.declared.term.Term as term
 use Rattle.pb_normal.specs.declared.term.Term.{Term, Row_of-Term, end_of-Term, more_of-Term, items-the_row-Term, items_hidden-the_row-Term-0, Row_of-Link, end_of-Link, more_of-Link, items-the_row-Link, items_hidden-the_row-Link-1}
 use Rattle.pb_normal.specs.declared.term.Link.{Link}
+use Rattle.pb_normal.specs.declared.formula.Junction.{Junction}
 use Rattle.pb_normal.specs.declared.formula.Formula as formula
 use Rattle.pb_normal.specs.declared.formula.Formula.{Formula, Row_of-Formula, end_of-Formula, more_of-Formula, items-the_row-Formula, items_hidden-the_row-Formula-0}
-use Rattle.pb_normal.specs.View.{term_view, terms_in, links_in, term_views, link_views, chained, calculated, formula_view, formulas_in, formula_views}
+use Rattle.pb_normal.specs.View.{term_view, terms_in, links_in, term_views, link_views, chained, calculated, is_and, formula_view, formulas_in, formula_views}
 use mathlib.Core.Former.{Count}
 
 pub terms-items : (n : _) (row : Row_of-Term n) → terms_in row ≡ term_views (items-the_row-Term n row)
@@ -46,7 +47,7 @@ abbrev formula_row_in : Formula → (n : Count) × Row_of-Formula n
 formula_row_in (formula.Join' c p first shape row) = (_, row)
 formula_row_in _ = (_, end_of-Formula)
 
-pub formula-join : (m : Bool) (first : Box Formula Global) (v : Vec Formula Global) → formula_view (formula.Join m first v) ≡ chained (Join m) (formula_view (box_value first)) (formula_views v.items)
+pub formula-join : (m : Junction) (first : Box Formula Global) (v : Vec Formula Global) → formula_view (formula.Join m first v) ≡ chained (Join (is_and m)) (formula_view (box_value first)) (formula_views v.items)
 formula-join m first v =
     let row = formula_row_in (formula.Join m first v) in
-    ap (chained (Join m) (formula_view (box_value first))) (formulas-items row.0 row.1 ∙ ap formula_views (items_hidden-the_row-Formula-0 v))
+    ap (chained (Join (is_and m)) (formula_view (box_value first))) (formulas-items row.0 row.1 ∙ ap formula_views (items_hidden-the_row-Formula-0 v))

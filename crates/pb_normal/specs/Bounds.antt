@@ -1,6 +1,7 @@
 -- What bounds the numbers of a normal form: those that stand in it, its slots, its callees and its enumerators.
 use Rattle.std.specs.Prelude.{◌≡◌, ◌≤◌, ℕ, ◌+◌, ◌^◌, nat_le, nat_lt, Bool, true, ◌&&◌, List, length}
 use Rattle.std.specs.List.{All, list_all}
+use Rattle.pb_sorts.specs.declared.limits.TheConstants.{MAX_LOOP_SLOTS}
 use Rattle.pb_text_meaning.specs.Syntax.{Equation, Spec}
 use Rattle.pb_normal.specs.Equations.{normal_equation}
 use Rattle.pb_normal.specs.Loops.{equation_loops}
@@ -59,7 +60,7 @@ HasBounds spec X = is_bounded_formula (bounds_of spec X) (normal_equation spec X
 
 -- where it has no more slots than the machine, its numbers fit instructions
 abbrev pub IsSmallWhereLoopsAreFew : Spec → Equation → Type 0
-IsSmallWhereLoopsAreFew spec X = length (equation_loops spec X) ≤ 240 → is_small_formula (normal_equation spec X) ≡ true
+IsSmallWhereLoopsAreFew spec X = length (equation_loops spec X) ≤ MAX_LOOP_SLOTS → is_small_formula (normal_equation spec X) ≡ true
 
 -- of each equation
 abbrev pub AreBounded : Spec → Type 0

@@ -1,6 +1,7 @@
 -- The structs that are declared, by their numbers, and which shapes and enumerators there are.
 use Rattle.std.specs.Prelude.{◌≡◌, ℕ, ◌<◌, ◌≤◌, ◌≤ℤ◌, nat_lt, Bool, ⊤, List, [], ◌∷◌, length, Some, unwrap_or}
 use Rattle.std.specs.List.{All, slice_get}
+use Rattle.pb_sorts.specs.declared.limits.TheConstants.{MAX_STRUCTS, MAX_ENUMERATORS}
 use Rattle.pb_text_meaning.specs.Syntax.{Sort, Struct, Alias, SortDeclaration, Equation, Spec}
 use Rattle.pb_typing_declarations.specs.Shapes.{Shape, Unknown, Truths, Places, Wholes}
 use Rattle.pb_normal.specs.Loops.{equation_loops, variable_shapes}
@@ -14,10 +15,10 @@ abbrev pub struct_counts : List SortDeclaration → List ℕ
 struct_counts [] = []
 struct_counts (d ∷ ds) = with_count d.sort (struct_counts ds)
 
--- at most 255 structs, each with 1 to 255 enumerators
+-- at most MAX_STRUCTS structs, each with 1 to MAX_ENUMERATORS enumerators
 pub record AreFew (counts : List ℕ) : Type 0 where
-  pub structs : length counts ≤ 255
-  pub enumerators : All (λ (n : ℕ). (0 < n) × (n ≤ 255)) counts
+  pub structs : length counts ≤ MAX_STRUCTS
+  pub enumerators : All (λ (n : ℕ). (0 < n) × (n ≤ MAX_ENUMERATORS)) counts
 
 -- the struct with this number has an enumerator at this place
 abbrev pub has_enumerator : List ℕ → (sort place : ℕ) → Bool

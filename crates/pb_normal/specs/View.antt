@@ -1,8 +1,10 @@
 -- What a normal form of the code says, without boxes and vectors: a chain is folded to nested binary nodes, and a
 -- quantifier stands for one variable.
-use Rattle.std.specs.Prelude.{ℕ, suc, Bool, List, [], ◌∷◌, map, Some}
+use Rattle.std.specs.Prelude.{ℕ, suc, Bool, true, false, List, [], ◌∷◌, map, Some}
 use Rattle.pb_sorts.specs.declared.carrier.Carrier.{Carrier}
 use Rattle.pb_text_tree.specs.declared.operator.Arithmetic.{Arithmetic}
+use Rattle.pb_text_tree.specs.declared.operator.Quantifier.{Quantifier}
+use Rattle.pb_text_tree.specs.declared.operator.Quantifier.TheVariants.{Forall, Exists}
 use Rattle.pb_text_meaning.specs.Erase.{of_connective, of_comparison, of_arithmetic}
 use Rattle.pb_typing_declarations.specs.Shapes.{Shape}
 use Rattle.pb_typing_declarations.specs.Entries.{carrier_shape}
@@ -14,6 +16,8 @@ use Rattle.pb_normal.specs.declared.term.Term.{Term, Row_of-Term, end_of-Term, m
 use Rattle.pb_normal.specs.declared.term.Link.{Link}
 use Rattle.pb_normal.specs.declared.formula.Argument as declared_argument
 use Rattle.pb_normal.specs.declared.normal.Equation as declared_equation
+use Rattle.pb_normal.specs.declared.formula.Junction.{Junction}
+use Rattle.pb_normal.specs.declared.formula.Junction.TheVariants.{And, Or}
 use Rattle.pb_normal.specs.declared.formula.Formula as formula
 use Rattle.pb_normal.specs.declared.formula.Formula.{Formula, Row_of-Formula, end_of-Formula, more_of-Formula}
 
@@ -74,14 +78,24 @@ nested universal slot (c ∷ cs) f = Each universal slot (carrier_shape (Some c)
 
 -- ---- formulas
 
+-- whether operands are a conjunction
+abbrev pub is_and : Junction → Bool
+is_and And = true
+is_and Or = false
+
+-- whether a quantifier is for all values
+abbrev pub is_forall : Quantifier → Bool
+is_forall Forall = true
+is_forall Exists = false
+
 abbrev pub argument_view : declared_argument.Argument → normal.Argument
 argument_view e = record { term = term_view e.term; shape = shape_view e.shape }
 
 abbrev mutual
   pub formula_view : Formula → normal.Formula
   formula_view (formula.Test x) = Test (term_view x)
-  formula_view (formula.Join' conjunctive p first shape row) = chained (Join conjunctive) (formula_view first) (formulas_in row)
-  formula_view (formula.Each' universal slot carriers p body) = nested universal slot carriers.items (formula_view body)
+  formula_view (formula.Join' junction p first shape row) = chained (Join (is_and junction)) (formula_view first) (formulas_in row)
+  formula_view (formula.Each' quantifier slot carriers p body) = nested (is_forall quantifier) slot carriers.items (formula_view body)
   formula_view (formula.Call equation arguments) = Call equation (map argument_view arguments.items)
 
   pub formulas_in : {m : _} → Row_of-Formula m → List normal.Formula

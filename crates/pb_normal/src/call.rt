@@ -30,8 +30,10 @@ pub(crate) fn normal_call<'t>(
     instance: &'t Instance,
 ) -> Result<Formula, AllocError>
     ensures { IfOk result (λ f. formula_view f ≡ normalisation.call
-        (normalisation.place_of 0 (spec_of declarations.now).equations (instance_form instance.now).name.text)
-        (normalisation.arguments (spec_of declarations.now) (slotting slots.now) (scope_view scope.now) (erased_arguments (instance_form instance.now).arguments))) }
+        (normalisation.place_of 0 (spec_of declarations.now).equations
+        (instance_form instance.now).name.text)
+        (normalisation.arguments (spec_of declarations.now) (slotting slots.now)
+        (scope_view scope.now) (erased_arguments (instance_form instance.now).arguments))) }
 {
     match declarations.equation(&instance.name.text) {
         Some(equation) => Ok(Formula::Call {
@@ -50,7 +52,9 @@ fn normal_arguments<'t>(
     slots: &Slots<'_, 't>,
     arguments: &'t [pb_text_tree::Argument],
 ) -> Result<Vec<Argument>, AllocError>
-    ensures { IfOk result (λ normal. map argument_view normal.items ≡ normalisation.arguments (spec_of declarations.now) (slotting slots.now) (scope_view scope.now) (erased_arguments (argument_forms arguments.now))) }
+    ensures { IfOk result (λ normal. map argument_view normal.items
+        ≡ normalisation.arguments (spec_of declarations.now) (slotting slots.now)
+        (scope_view scope.now) (erased_arguments (argument_forms arguments.now))) }
 {
     let mut normal = Vec::new(alloc);
     for argument in arguments {

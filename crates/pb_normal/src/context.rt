@@ -5,7 +5,8 @@ use pb_typing::Scope;
 use pb_typing_declarations::Declarations;
 use std::alloc::Global;
 
-/// What the normal form of a data term reads: what the text declares, and the slots of the variables in scope.
+/// What the normal form of a data term reads: what the text declares, and the slots of the
+/// variables in scope.
 #[derive(Clone, Copy)]
 pub(crate) struct Context<'a, 'd, 't> {
     pub alloc: Global,

@@ -1,7 +1,8 @@
 //! Data terms over slots.
 
 ghost use Rattle.std.specs.Prelude.{◌≡◌, ◌∷◌, IfOk};
-ghost use Rattle.pb_text_tree.specs.Form.{TermForm, argument_forms, arithmetic_links, calculated, chained, named, term_form, term_links};
+ghost use Rattle.pb_text_tree.specs.Form.{TermForm, argument_forms, arithmetic_links, calculated};
+ghost use Rattle.pb_text_tree.specs.Form.{chained, named, term_form, term_links};
 ghost use Rattle.pb_text_meaning.specs.Erase.{erased_arguments, erased_term};
 ghost use Rattle.pb_typing_declarations.specs.View.{spec_of};
 ghost use Rattle.pb_normal.specs.Normalisation.{applied, slotted, slotted_all};
@@ -26,7 +27,8 @@ pub(crate) fn slot_term(
     slots: &Slots<'_, '_>,
     term: &pb_text_tree::Term,
 ) -> Result<Term, AllocError>
-    ensures { IfOk result (λ x. term_view x ≡ slotted (spec_of declarations.now) (slotting slots.now) (erased_term (term_form term.now))) }
+    ensures { IfOk result (λ x. term_view x ≡ slotted (spec_of declarations.now)
+        (slotting slots.now) (erased_term (term_form term.now))) }
 {
     match term {
         pb_text_tree::Term::Constant { value, .. } => Ok(Term::Constant(*value)),
@@ -80,7 +82,9 @@ pub(crate) fn slot_chain(
     first: &pb_text_tree::Term,
     links: &[TermLink],
 ) -> Result<Term, AllocError>
-    ensures { IfOk result (λ x. term_view x ≡ slotted (spec_of declarations.now) (slotting slots.now) (erased_term (chained (TermForm.connected connective) (term_form first.now) (term_links links.now)))) }
+    ensures { IfOk result (λ x. term_view x ≡ slotted (spec_of declarations.now)
+        (slotting slots.now) (erased_term (chained (TermForm.connected connective)
+        (term_form first.now) (term_links links.now)))) }
 {
     let head = slot_term(alloc, declarations, slots, first)?;
     let mut operands = Vec::new(alloc);
@@ -104,7 +108,9 @@ fn slot_arithmetic(
     first: &pb_text_tree::Term,
     links: &[ArithmeticLink],
 ) -> Result<Term, AllocError>
-    ensures { IfOk result (λ x. term_view x ≡ slotted (spec_of declarations.now) (slotting slots.now) (erased_term (calculated (term_form first.now) (arithmetic_links links.now)))) }
+    ensures { IfOk result (λ x. term_view x ≡ slotted (spec_of declarations.now)
+        (slotting slots.now) (erased_term (calculated (term_form first.now)
+        (arithmetic_links links.now)))) }
 {
     let head = slot_term(alloc, declarations, slots, first)?;
     let mut operands = Vec::new(alloc);
@@ -130,7 +136,9 @@ fn slot_application(
     function: &Name,
     arguments: &[Argument],
 ) -> Result<Term, AllocError>
-    ensures { IfOk result (λ x. term_view x ≡ applied (spec_of declarations.now) (named function.now).text (slotted_all (spec_of declarations.now) (slotting slots.now) (erased_arguments (argument_forms arguments.now)))) }
+    ensures { IfOk result (λ x. term_view x ≡ applied (spec_of declarations.now)
+        (named function.now).text (slotted_all (spec_of declarations.now) (slotting slots.now)
+        (erased_arguments (argument_forms arguments.now)))) }
 {
     match arguments {
         [x] => {

@@ -15,7 +15,8 @@ use std::alloc::{AllocError, Global};
 
 /// A variable in scope, else an enumerator.
 pub(crate) fn name_term(declarations: &Declarations<'_>, slots: &Slots<'_, '_>, name: &str) -> Term
-    ensures { term_view result ≡ normalisation.named (spec_of declarations.now) (slotting slots.now name.now) name.now }
+    ensures { term_view result ≡ normalisation.named (spec_of declarations.now)
+        (slotting slots.now name.now) name.now }
 {
     match variable_slot(slots, name) {
         Some(slot) => Term::Slot(slot),
@@ -25,7 +26,8 @@ pub(crate) fn name_term(declarations: &Declarations<'_>, slots: &Slots<'_, '_>, 
 
 /// An enumerator; where none has the name, a number that stands for nothing.
 fn enumerator_term(declarations: &Declarations<'_>, name: &str) -> Term
-    ensures { term_view result ≡ normalisation.enumerator (enumerator_of (spec_of declarations.now) name.now) }
+    ensures { term_view result ≡ normalisation.enumerator
+        (enumerator_of (spec_of declarations.now) name.now) }
 {
     match declarations.enumerator(name) {
         Some(found) => Term::Enumerator(Enumerator {
@@ -46,7 +48,8 @@ pub(crate) fn apply_one(
     name: &str,
     x: Term,
 ) -> Result<Term, AllocError>
-    ensures { IfOk result (λ y. term_view y ≡ normalisation.applied_to_one (spec_of declarations.now) name.now (term_view x)) }
+    ensures { IfOk result (λ y. term_view y ≡ normalisation.applied_to_one
+        (spec_of declarations.now) name.now (term_view x)) }
 {
     if name == "succ" {
         Ok(Term::Successor(Box::new(alloc, x)?))
@@ -63,7 +66,8 @@ pub(crate) fn apply_one(
 
 /// Whether the name is that of a conversion between integer sorts.
 fn is_conversion(name: &str) -> bool
-    ensures { result ≡ (same_name name.now (codes "Pos2Nat") || same_name name.now (codes "Pos2Int") || same_name name.now (codes "Nat2Int")) }
+    ensures { result ≡ (same_name name.now (codes "Pos2Nat") || same_name name.now
+        (codes "Pos2Int") || same_name name.now (codes "Nat2Int")) }
 {
     name == "Pos2Nat" || name == "Pos2Int" || name == "Nat2Int"
 }
@@ -75,7 +79,8 @@ fn recognise(
     name: &str,
     x: Term,
 ) -> Result<Term, AllocError>
-    ensures { IfOk result (λ y. term_view y ≡ normalisation.recognised (recogniser_of (spec_of declarations.now) name.now) (term_view x)) }
+    ensures { IfOk result (λ y. term_view y ≡ normalisation.recognised
+        (recogniser_of (spec_of declarations.now) name.now) (term_view x)) }
 {
     match declarations.recogniser(name) {
         Some(found) => Ok(Term::Recognised {
@@ -94,7 +99,8 @@ fn recognise(
 /// # Errors
 /// Memory was refused.
 pub(crate) fn apply_two(alloc: Global, name: &str, x: Term, y: Term) -> Result<Term, AllocError>
-    ensures { IfOk result (λ z. term_view z ≡ normalisation.applied_to_two name.now (term_view x) (term_view y)) }
+    ensures { IfOk result (λ z. term_view z ≡ normalisation.applied_to_two name.now (term_view x)
+        (term_view y)) }
 {
     if name == "max" {
         Ok(Term::Maximum(Box::new(alloc, x)?, Box::new(alloc, y)?))
@@ -116,7 +122,8 @@ pub(crate) fn apply_three(
     y: Term,
     z: Term,
 ) -> Result<Term, AllocError>
-    ensures { IfOk result (λ r. term_view r ≡ normalisation.applied_to_three name.now (term_view x) (term_view y) (term_view z)) }
+    ensures { IfOk result (λ r. term_view r ≡ normalisation.applied_to_three name.now (term_view x)
+        (term_view y) (term_view z)) }
 {
     if name == "if" {
         Ok(Term::Choice {

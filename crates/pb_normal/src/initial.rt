@@ -1,4 +1,5 @@
-//! The initial instance of a normal form: the instance that a text asks for, by the place of its equation.
+//! The initial instance of a normal form: the instance that a text asks for, by the place of its
+//! equation.
 
 ghost use Rattle.std.specs.Prelude.{◌≡◌, [], IfOk};
 ghost use Rattle.pb_text_tree.specs.Form.{argument_forms};
@@ -15,7 +16,8 @@ use pb_text_tree::Argument;
 use pb_typing_declarations::Declarations;
 use std::alloc::{AllocError, Global};
 
-/// An instance of a predicate variable: the place of its equation, and a value for each of the equation's parameters.
+/// An instance of a predicate variable: the place of its equation, and a value for each of the
+/// equation's parameters.
 #[derive(Debug, Drop)]
 pub struct Initial {
     pub equation: u8,
@@ -28,7 +30,8 @@ pub struct Initial {
 /// Memory was refused.
 pub fn initial_instance(alloc: Global, normal: &Normal<'_>) -> Result<Initial, AllocError>
     ensures equation { IfOk result (λ i. i.equation ≡ initial_place (said normal.now.typed.now)) }
-    ensures values { IfOk result (λ i. i.values.items ≡ initial_values (said normal.now.typed.now)) }
+    ensures values { IfOk result (λ i. i.values.items
+        ≡ initial_values (said normal.now.typed.now)) }
 {
     let declarations = read_declarations(alloc, normal.typed)?;
     let instance = &normal.typed.spec.initial;
@@ -47,8 +50,10 @@ fn argument_values(
     declarations: &Declarations<'_>,
     arguments: &[Argument],
 ) -> Result<Vec<i64>, AllocError>
-    requires { AllFit (spec_of declarations.now) [] (erased_arguments (argument_forms arguments.now)) }
-    ensures { IfOk result (λ vs. vs.items ≡ values (spec_of declarations.now) [] (erased_arguments (argument_forms arguments.now))) }
+    requires { AllFit (spec_of declarations.now) []
+        (erased_arguments (argument_forms arguments.now)) }
+    ensures { IfOk result (λ vs. vs.items ≡ values (spec_of declarations.now) []
+        (erased_arguments (argument_forms arguments.now))) }
 {
     let mut values = Vec::new(alloc);
     for argument in arguments {

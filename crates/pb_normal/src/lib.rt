@@ -1,5 +1,5 @@
-//! Positive normal form: negations are driven down to data terms, a data term with quantifiers becomes a formula, and
-//! variables become slots.
+//! Positive normal form: negations are driven down to data terms, a data term with quantifiers
+//! becomes a formula, and variables become slots.
 #![tactic(auto)]
 
 mod call;
@@ -19,7 +19,7 @@ pub mod term;
 mod value;
 mod variables;
 
-pub use formula::{Argument, Formula};
+pub use formula::{Argument, Formula, Junction};
 pub use initial::{Initial, initial_instance};
 pub use normal::{Equation, Normal, normalise};
 pub use term::{Enumerator, Link, Term};

@@ -18,12 +18,12 @@ use crate::operand::normal_formula;
 use crate::slots::Slots;
 use crate::variables::{carriers_from, declare_variables};
 use pb_sorts::Carrier;
-use pb_typing::{Scope, Typed, variable_shapes};
+use pb_typing::{Polarity, Scope, Typed, variable_shapes};
 use pb_typing_declarations::{Declarations, TypeError};
 use std::alloc::{AllocError, Global};
 
-/// An accepted text with the right sides of its equations in positive normal form. Signs, names, parameters and the
-/// initial instance are those of the text.
+/// An accepted text with the right sides of its equations in positive normal form. Signs, names,
+/// parameters and the initial instance are those of the text.
 #[derive(Drop)]
 pub struct Normal<'a> {
     pub typed: &'a Typed,
@@ -35,8 +35,8 @@ pub struct Normal<'a> {
     pub ghost loops: { loop_shapes equations.items ≡ all_loops (said typed.now) } by { shapes-prop _ _ },
 }
 
-/// The right side of an equation over slots: its parameters have the first slots, and the variables of its quantifiers
-/// the next, in the order of the normal form.
+/// The right side of an equation over slots: its parameters have the first slots, and the variables
+/// of its quantifiers the next, in the order of the normal form.
 #[derive(Debug, Drop)]
 pub struct Equation {
     pub right: Formula,
@@ -44,8 +44,8 @@ pub struct Equation {
     pub loops: Vec<Carrier>,
 }
 
-/// The positive normal form of each right side (Groote and Willemse 2005): negation stands on data alone, and each
-/// variable is a slot.
+/// The positive normal form of each right side (Groote and Willemse 2005): negation stands on data
+/// alone, and each variable is a slot.
 ///
 /// # Errors
 /// Memory was refused.
@@ -53,11 +53,14 @@ pub fn normalise(alloc: Global, typed: &Typed) -> Result<Normal<'_>, AllocError>
     // It borrows the text.
     ensures text { IfOk result (λ normal. normal.typed.now ≡ typed.now) }
     // Each right side is the positive normal form of the text's.
-    ensures rights { IfOk result (λ normal. right_views normal.equations.items ≡ normal_equations (said typed.now)) }
+    ensures rights { IfOk result (λ normal. right_views normal.equations.items
+        ≡ normal_equations (said typed.now)) }
     // They have the answer of the text.
-    ensures answer { IfOk result (λ normal. answer_by (said typed.now) (right_views normal.equations.items) ≡ answer (said typed.now)) }
+    ensures answer { IfOk result (λ normal. answer_by (said typed.now)
+        (right_views normal.equations.items) ≡ answer (said typed.now)) }
     // The slots behind the parameters are those of the quantified variables, in order.
-    ensures loops { IfOk result (λ normal. loop_shapes normal.equations.items ≡ all_loops (said typed.now)) }
+    ensures loops { IfOk result (λ normal. loop_shapes normal.equations.items
+        ≡ all_loops (said typed.now)) }
 {
     let declarations = read_declarations(alloc, typed)?;
     let mut equations = Vec::new(alloc);
@@ -88,9 +91,14 @@ fn normal_equation(
     declarations: &Declarations<'_>,
     equation: &pb_text_tree::Equation,
 ) -> Result<Equation, AllocError>
-    requires { IsShapedEquation (spec_of declarations.now) (erased_equation (equation_form equation.now)) }
-    ensures right { IfOk result (λ X. formula_view X.right ≡ normal_equation (spec_of declarations.now) (erased_equation (equation_form equation.now))) }
-    ensures loops { IfOk result (λ X. shapes_of X.loops.items ≡ equation_loops (spec_of declarations.now) (erased_equation (equation_form equation.now))) }
+    requires { IsShapedEquation (spec_of declarations.now)
+        (erased_equation (equation_form equation.now)) }
+    ensures right { IfOk result (λ X. formula_view X.right
+        ≡ normal_equation (spec_of declarations.now)
+        (erased_equation (equation_form equation.now))) }
+    ensures loops { IfOk result (λ X. shapes_of X.loops.items
+        ≡ equation_loops (spec_of declarations.now)
+        (erased_equation (equation_form equation.now))) }
 {
     let mut carriers = Vec::new(alloc);
     let shapes = variable_shapes(alloc, declarations, &equation.parameters)?;
@@ -107,7 +115,7 @@ fn normal_equation(
         values,
         scope: &scope,
     };
-    let right = normal_formula(&context, true, &mut carriers, &equation.right)?;
+    let right = normal_formula(&context, Polarity::Positive, &mut carriers, &equation.right)?;
     let loops = carriers_from(alloc, &carriers, parameters)?;
     Ok(Equation { right, loops })
 }

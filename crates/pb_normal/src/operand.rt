@@ -2,46 +2,53 @@
 
 ghost use Rattle.std.specs.Prelude.{IfOk, OnOk};
 ghost use Rattle.pb_typing.specs.Scopes.{inner_view};
-ghost use Rattle.pb_normal.specs.Contexts.{slots_in, scope_in, IsShapedIn, IsNormalFormula, AddsLoops};
+ghost use Rattle.pb_typing.specs.View.{is_positive};
+ghost use Rattle.pb_normal.specs.Contexts.{slots_in, scope_in, IsShapedIn, IsNormalFormula};
+ghost use Rattle.pb_normal.specs.Contexts.{AddsLoops};
 ghost use Rattle.pb_normal.specs.Slots.{inner_slots};
 ghost use Rattle.pb_normal.specs.Tree.{formula_chain_of, formula_of, quantified_formula};
 
 use crate::call::normal_call;
 use crate::context::{Context, FormulaContext};
 use crate::formula::Formula;
-use crate::sign::{is_conjunctive, is_universal};
+use crate::sign::{signed_junction, signed_quantifier};
 use crate::slots::Slots;
 use crate::term::Term;
 use crate::value::{normal_value, test};
 use crate::variables::bind_variables;
 use pb_sorts::Carrier;
 use pb_text_tree::{Connective, Link, Quantifier, Variables};
-use pb_typing::{Scope, Shape, operand_parity, variable_shapes};
+use pb_typing::{Polarity, Scope, Shape, operand_polarity, variable_shapes};
 use std::alloc::AllocError;
 use std::collections::HashMap;
 
-/// The normal form of a formula, where `even` says whether the negations around it are even in number. The carriers are
-/// those of the slots so far, to which it adds those of its own.
+/// The normal form of a formula of a polarity. The carriers are those of the slots so far, to which
+/// it adds those of its own.
 ///
 /// # Errors
 /// Memory was refused.
 #[cycle(formulas)]
 pub(crate) fn normal_formula<'t>(
     context: &FormulaContext<'_, '_, 't>,
-    even: bool,
+    polarity: Polarity,
     carriers: &mut Vec<Carrier>,
     formula: &'t pb_text_tree::Formula,
 ) -> Result<Formula, AllocError>
     requires { IsShapedIn context.now.values (formula_of formula.now) }
-    ensures form { IfOk result (IsNormalFormula context.now.values (slots_in context.now.values) (scope_in context.now) even carriers.old.items (formula_of formula.now)) }
-    ensures carriers { OnOk result (AddsLoops context.now.values carriers.old.items carriers.new.items (formula_of formula.now)) }
+    ensures form { IfOk result (IsNormalFormula context.now.values (slots_in context.now.values)
+        (scope_in context.now) (is_positive polarity) carriers.old.items (formula_of formula.now)) }
+    ensures carriers { OnOk result
+        (AddsLoops context.now.values carriers.old.items carriers.new.items
+        (formula_of formula.now)) }
 {
     let values = &context.values;
     match formula {
         pb_text_tree::Formula::Constant { value, .. } => {
-            test(values.alloc, even, Term::Constant(*value))
+            test(values.alloc, polarity, Term::Constant(*value))
         }
-        pb_text_tree::Formula::Value { term, .. } => { normal_value(values, even, carriers, term) }
+        pb_text_tree::Formula::Value { term, .. } => {
+            normal_value(values, polarity, carriers, term)
+        }
         pb_text_tree::Formula::Instance(instance) => {
             normal_call(
                 values.alloc,
@@ -52,19 +59,19 @@ pub(crate) fn normal_formula<'t>(
             )
         }
         pb_text_tree::Formula::Negation { operand, .. } => {
-            normal_formula(context, !even, carriers, operand)
+            normal_formula(context, polarity.opposite(), carriers, operand)
         }
         pb_text_tree::Formula::Chain {
             connective,
             first,
             links,
-        } => normal_chain(context, even, carriers, *connective, first, links),
+        } => normal_chain(context, polarity, carriers, *connective, first, links),
         pb_text_tree::Formula::Quantified {
             quantifier,
             variables,
             body,
             ..
-        } => normal_quantified(context, even, carriers, *quantifier, variables, body),
+        } => normal_quantified(context, polarity, carriers, *quantifier, variables, body),
     }
 }
 
@@ -72,43 +79,53 @@ pub(crate) fn normal_formula<'t>(
 #[cycle(formulas)]
 fn normal_quantified<'t>(
     context: &FormulaContext<'_, '_, 't>,
-    even: bool,
+    polarity: Polarity,
     carriers: &mut Vec<Carrier>,
     quantifier: Quantifier,
     variables: &'t [Variables],
     body: &'t pb_text_tree::Formula,
 ) -> Result<Formula, AllocError>
-    requires { IsShapedIn context.now.values (quantified_formula quantifier variables.now body.now) }
-    ensures form { IfOk result (IsNormalFormula context.now.values (slots_in context.now.values) (scope_in context.now) even carriers.old.items (quantified_formula quantifier variables.now body.now)) }
-    ensures carriers { OnOk result (AddsLoops context.now.values carriers.old.items carriers.new.items (quantified_formula quantifier variables.now body.now)) }
+    requires { IsShapedIn context.now.values
+        (quantified_formula quantifier variables.now body.now) }
+    ensures form { IfOk result (IsNormalFormula context.now.values (slots_in context.now.values)
+        (scope_in context.now) (is_positive polarity) carriers.old.items
+        (quantified_formula quantifier variables.now body.now)) }
+    ensures carriers { OnOk result
+        (AddsLoops context.now.values carriers.old.items carriers.new.items
+        (quantified_formula quantifier variables.now body.now)) }
 {
     let alloc = context.values.alloc;
     let declarations = context.values.declarations;
     let slot = carriers.len();
     let shapes = variable_shapes(alloc, declarations, variables)?;
     let (table, own) = bind_variables(alloc, declarations, variables, carriers)?;
-    let body = normal_body(context, &shapes, &table, even, carriers, body)?;
+    let body = normal_body(context, &shapes, &table, polarity, carriers, body)?;
     Ok(Formula::Each {
-        universal: is_universal(quantifier, even),
+        quantifier: signed_quantifier(quantifier, polarity),
         slot,
         carriers: own,
         body: Box::new(alloc, body)?,
     })
 }
 
-/// The normal form of a quantifier's body, whose variables have the shapes and the slots of two tables.
+/// The normal form of a quantifier's body, whose variables have the shapes and the slots of two
+/// tables.
 #[cycle(formulas)]
 fn normal_body<'a, 't>(
     outer: &'a FormulaContext<'a, '_, 't>,
     shapes: &'a HashMap<&'t str, Shape>,
     table: &'a HashMap<&'t str, usize>,
-    even: bool,
+    polarity: Polarity,
     carriers: &mut Vec<Carrier>,
     body: &'t pb_text_tree::Formula,
 ) -> Result<Formula, AllocError>
     requires { IsShapedIn outer.now.values (formula_of body.now) }
-    ensures form { IfOk result (IsNormalFormula outer.now.values (inner_slots table.now (slots_in outer.now.values)) (inner_view shapes.now (scope_in outer.now)) even carriers.old.items (formula_of body.now)) }
-    ensures carriers { OnOk result (AddsLoops outer.now.values carriers.old.items carriers.new.items (formula_of body.now)) }
+    ensures form { IfOk result (IsNormalFormula outer.now.values
+        (inner_slots table.now (slots_in outer.now.values))
+        (inner_view shapes.now (scope_in outer.now)) (is_positive polarity) carriers.old.items
+        (formula_of body.now)) }
+    ensures carriers { OnOk result (AddsLoops outer.now.values carriers.old.items carriers.new.items
+        (formula_of body.now)) }
 {
     let scope = Scope::Inner(shapes, outer.scope);
     let slots = Slots::Inner(table, outer.values.slots);
@@ -121,34 +138,38 @@ fn normal_body<'a, 't>(
         values,
         scope: &scope,
     };
-    normal_formula(&context, even, carriers, body)
+    normal_formula(&context, polarity, carriers, body)
 }
 
 /// The normal form of operands of one connective: one node.
 #[cycle(formulas)]
 fn normal_chain<'t>(
     context: &FormulaContext<'_, '_, 't>,
-    even: bool,
+    polarity: Polarity,
     carriers: &mut Vec<Carrier>,
     connective: Connective,
     first: &'t pb_text_tree::Formula,
     links: &'t [Link],
 ) -> Result<Formula, AllocError>
     requires { IsShapedIn context.now.values (formula_chain_of connective first.now links.now) }
-    ensures form { IfOk result (IsNormalFormula context.now.values (slots_in context.now.values) (scope_in context.now) even carriers.old.items (formula_chain_of connective first.now links.now)) }
-    ensures carriers { OnOk result (AddsLoops context.now.values carriers.old.items carriers.new.items (formula_chain_of connective first.now links.now)) }
+    ensures form { IfOk result (IsNormalFormula context.now.values (slots_in context.now.values)
+        (scope_in context.now) (is_positive polarity) carriers.old.items
+        (formula_chain_of connective first.now links.now)) }
+    ensures carriers { OnOk result
+        (AddsLoops context.now.values carriers.old.items carriers.new.items
+        (formula_chain_of connective first.now links.now)) }
 {
     let alloc = context.values.alloc;
-    let parity = operand_parity(connective, even, links.len());
-    let head = normal_formula(context, parity, carriers, first)?;
+    let of_first = operand_polarity(connective, polarity, links.len());
+    let head = normal_formula(context, of_first, carriers, first)?;
     let mut rest = Vec::new(alloc);
     for (index, link) in links.iter().enumerate() {
-        let parity = operand_parity(connective, even, links.len() - index - 1);
-        let operand = normal_formula(context, parity, carriers, &link.operand)?;
+        let of_link = operand_polarity(connective, polarity, links.len() - index - 1);
+        let operand = normal_formula(context, of_link, carriers, &link.operand)?;
         rest.push(operand)?;
     }
     Ok(Formula::Join {
-        conjunctive: is_conjunctive(connective, even),
+        junction: signed_junction(connective, polarity),
         first: Box::new(alloc, head)?,
         rest,
     })

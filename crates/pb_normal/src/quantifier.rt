@@ -1,7 +1,8 @@
 //! Whether a data term has a quantifier.
 
 ghost use Rattle.std.specs.Prelude.{◌≡◌};
-ghost use Rattle.pb_text_tree.specs.Form.{TermForm, argument_forms, arithmetic_links, calculated, chained, term_form, term_links};
+ghost use Rattle.pb_text_tree.specs.Form.{TermForm, argument_forms, arithmetic_links, calculated};
+ghost use Rattle.pb_text_tree.specs.Form.{chained, term_form, term_links};
 ghost use Rattle.pb_text_meaning.specs.Erase.{erased_arguments, erased_term};
 ghost use Rattle.pb_normal.specs.Expansion.{has_quantifier, have_quantifier};
 ghost use Rattle.pb_normal.specs.Links.{arithmetic_have_quantifier, links_have_quantifier};

@@ -1,28 +1,40 @@
 //! What negations turn round (De Morgan).
 
 ghost use Rattle.std.specs.Prelude.{◌≡◌};
-ghost use Rattle.pb_normal.specs.Normalisation as normalisation;
+ghost use Rattle.pb_typing.specs.View.{is_positive};
+ghost use Rattle.pb_normal.specs.Normalisation.{is_universal};
 ghost use Rattle.pb_normal.specs.Chains.{joins};
+ghost use Rattle.pb_normal.specs.View.{is_and, is_forall};
 
+use crate::formula::Junction;
 use pb_text_tree::{Connective, Quantifier};
+use pb_typing::Polarity;
 
-/// Whether a quantifier is for all values, where `even` says whether the negations around it are even in number.
-pub(crate) fn is_universal(quantifier: Quantifier, even: bool) -> bool
-    ensures { result ≡ normalisation.is_universal quantifier even }
+/// What becomes of a quantifier under a polarity.
+pub(crate) fn signed_quantifier(quantifier: Quantifier, polarity: Polarity) -> Quantifier
+    ensures { is_forall result ≡ is_universal quantifier (is_positive polarity) }
 {
-    match quantifier {
-        Quantifier::Forall => even,
-        Quantifier::Exists => !even,
+    match (quantifier, polarity) {
+        (Quantifier::Forall, Polarity::Positive) | (Quantifier::Exists, Polarity::Negative) => {
+            Quantifier::Forall
+        }
+        (Quantifier::Exists, Polarity::Positive) | (Quantifier::Forall, Polarity::Negative) => {
+            Quantifier::Exists
+        }
     }
 }
 
-/// Whether operands of a connective are a conjunction, where `even` says whether the negations around them are even in
-/// number. The left side of `=>` counts as negated.
-pub(crate) fn is_conjunctive(connective: Connective, even: bool) -> bool
-    ensures { result ≡ joins connective even }
+/// What joins the operands of a connective under a polarity. The left side of `=>` counts as
+/// negated.
+pub(crate) fn signed_junction(connective: Connective, polarity: Polarity) -> Junction
+    ensures { is_and result ≡ joins connective (is_positive polarity) }
 {
-    match connective {
-        Connective::And => even,
-        Connective::Or | Connective::Implies => !even,
+    let junction = match connective {
+        Connective::And => Junction::And,
+        Connective::Or | Connective::Implies => Junction::Or,
+    };
+    match polarity {
+        Polarity::Positive => junction,
+        Polarity::Negative => junction.dual(),
     }
 }

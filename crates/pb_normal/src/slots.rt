@@ -5,8 +5,8 @@ ghost use Rattle.pb_normal.specs.Slots.{slotting};
 
 use std::collections::HashMap;
 
-/// The variables in scope with their slots, one table for each list of variables, the innermost outside: an inner
-/// variable hides an outer one of its name.
+/// The variables in scope with their slots, one table for each list of variables, the innermost
+/// outside: an inner variable hides an outer one of its name.
 #[derive(Clone, Copy)]
 pub(crate) enum Slots<'a, 't> {
     Outermost,

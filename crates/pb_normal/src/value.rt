@@ -1,9 +1,10 @@
-//! Data terms of kind Bool as formulas: the connectives and quantifiers above the last quantifier become those of the
-//! formula, and what has no quantifier is one test.
+//! Data terms of kind Bool as formulas: the connectives and quantifiers above the last quantifier
+//! become those of the formula, and what has no quantifier is one test.
 
 ghost use Rattle.std.specs.Prelude.{◌≡◌, ◌++◌, true, IfOk, OnOk};
 ghost use Rattle.pb_text_tree.specs.Form.{term_form};
 ghost use Rattle.pb_text_meaning.specs.Erase.{erased_term};
+ghost use Rattle.pb_typing.specs.View.{is_positive};
 ghost use Rattle.pb_normal.specs.Expansion.{expanded_term, has_quantifier};
 ghost use Rattle.pb_normal.specs.Links.{quantified_count};
 ghost use Rattle.pb_normal.specs.Contexts.{text_in, slots_in, IsShapedIn, IsNormalValue, AddsLoops};
@@ -17,71 +18,80 @@ use crate::context::Context;
 use crate::data::{slot_chain, slot_term};
 use crate::formula::Formula;
 use crate::quantifier::has_quantifier;
-use crate::sign::{is_conjunctive, is_universal};
+use crate::sign::{signed_junction, signed_quantifier};
 use crate::slots::Slots;
 use crate::term::Term;
 use crate::variables::bind_variables;
 use pb_sorts::Carrier;
 use pb_text_tree::{Connective, Quantifier, TermLink, Variables};
-use pb_typing::operand_parity;
+use pb_typing::{Polarity, operand_polarity};
 use std::alloc::{AllocError, Global};
 use std::collections::HashMap;
 
-/// A test, negated where the negations around it are odd in number.
-pub(crate) fn test(alloc: Global, even: bool, term: Term) -> Result<Formula, AllocError>
-    ensures { IfOk result (λ f. formula_view f ≡ signed_test even (term_view term)) }
+/// A test, negated where the polarity is negative.
+pub(crate) fn test(alloc: Global, polarity: Polarity, term: Term) -> Result<Formula, AllocError>
+    ensures { IfOk result (λ f. formula_view f
+        ≡ signed_test (is_positive polarity) (term_view term)) }
 {
-    if even {
-        Ok(Formula::Test(term))
-    } else {
-        Ok(Formula::Test(Term::Not(Box::new(alloc, term)?)))
+    match polarity {
+        Polarity::Positive => Ok(Formula::Test(term)),
+        Polarity::Negative => Ok(Formula::Test(Term::Not(Box::new(alloc, term)?))),
     }
 }
 
 /// A data term as one test.
 fn plain_test(
     context: &Context<'_, '_, '_>,
-    even: bool,
+    polarity: Polarity,
     term: &pb_text_tree::Term,
 ) -> Result<Formula, AllocError>
-    ensures { IfOk result (λ f. formula_view f ≡ signed_test even (slotted (text_in context.now) (slots_in context.now) (erased_term (term_form term.now)))) }
+    ensures { IfOk result (λ f. formula_view f
+        ≡ signed_test (is_positive polarity) (slotted (text_in context.now) (slots_in context.now)
+        (erased_term (term_form term.now)))) }
 {
     let alloc = context.alloc;
     let term = slot_term(alloc, context.declarations, context.slots, term)?;
-    test(alloc, even, term)
+    test(alloc, polarity, term)
 }
 
-/// The normal form of a data term of kind Bool. The carriers are those of the slots so far, to which it adds those of
-/// its own.
+/// The normal form of a data term of kind Bool. The carriers are those of the slots so far, to
+/// which it adds those of its own.
 ///
 /// # Errors
 /// Memory was refused.
 #[cycle(values)]
 pub(crate) fn normal_value<'t>(
     context: &Context<'_, '_, 't>,
-    even: bool,
+    polarity: Polarity,
     carriers: &mut Vec<Carrier>,
     term: &'t pb_text_tree::Term,
 ) -> Result<Formula, AllocError>
     requires { IsShapedIn context.now (value_of term.now) }
-    ensures form { IfOk result (IsNormalValue context.now (slots_in context.now) even carriers.old.items (value_of term.now)) }
-    ensures carriers { OnOk result (AddsLoops context.now carriers.old.items carriers.new.items (value_of term.now)) }
+    ensures form { IfOk result (IsNormalValue context.now (slots_in context.now)
+        (is_positive polarity) carriers.old.items (value_of term.now)) }
+    ensures carriers { OnOk result (AddsLoops context.now carriers.old.items carriers.new.items
+        (value_of term.now)) }
 {
     if !has_quantifier(term) {
-        return plain_test(context, even, term);
+        return plain_test(context, polarity, term);
     }
     match term {
-        pb_text_tree::Term::Not { operand, .. } => normal_value(context, !even, carriers, operand),
+        pb_text_tree::Term::Not { operand, .. } => normal_value(
+            context,
+            polarity.opposite(),
+            carriers,
+            operand,
+        ),
         pb_text_tree::Term::Chain {
             connective,
             first,
             links,
-        } => normal_operands(context, even, carriers, *connective, first, links),
+        } => normal_operands(context, polarity, carriers, *connective, first, links),
         pb_text_tree::Term::Arithmetic { first, links } => {
             if links.is_empty() {
-                normal_value(context, even, carriers, first)
+                normal_value(context, polarity, carriers, first)
             } else {
-                plain_test(context, even, term)
+                plain_test(context, polarity, term)
             }
         }
         pb_text_tree::Term::Quantified {
@@ -89,13 +99,13 @@ pub(crate) fn normal_value<'t>(
             variables,
             body,
             ..
-        } => normal_quantified(context, even, carriers, *quantifier, variables, body),
+        } => normal_quantified(context, polarity, carriers, *quantifier, variables, body),
         pb_text_tree::Term::Constant { .. }
         | pb_text_tree::Term::Number { .. }
         | pb_text_tree::Term::Name(_)
         | pb_text_tree::Term::Negative { .. }
         | pb_text_tree::Term::Comparison { .. }
-        | pb_text_tree::Term::Application { .. } => plain_test(context, even, term),
+        | pb_text_tree::Term::Application { .. } => plain_test(context, polarity, term),
     }
 }
 
@@ -103,22 +113,25 @@ pub(crate) fn normal_value<'t>(
 #[cycle(values)]
 fn normal_quantified<'t>(
     context: &Context<'_, '_, 't>,
-    even: bool,
+    polarity: Polarity,
     carriers: &mut Vec<Carrier>,
     quantifier: Quantifier,
     variables: &'t [Variables],
     body: &'t pb_text_tree::Term,
 ) -> Result<Formula, AllocError>
     requires { IsShapedIn context.now (quantified_value quantifier variables.now body.now) }
-    ensures form { IfOk result (IsNormalValue context.now (slots_in context.now) even carriers.old.items (quantified_value quantifier variables.now body.now)) }
-    ensures carriers { OnOk result (AddsLoops context.now carriers.old.items carriers.new.items (quantified_value quantifier variables.now body.now)) }
+    ensures form { IfOk result (IsNormalValue context.now (slots_in context.now)
+        (is_positive polarity) carriers.old.items
+        (quantified_value quantifier variables.now body.now)) }
+    ensures carriers { OnOk result (AddsLoops context.now carriers.old.items carriers.new.items
+        (quantified_value quantifier variables.now body.now)) }
 {
     let alloc = context.alloc;
     let slot = carriers.len();
     let (table, own) = bind_variables(alloc, context.declarations, variables, carriers)?;
-    let body = normal_body(context, &table, even, carriers, body)?;
+    let body = normal_body(context, &table, polarity, carriers, body)?;
     Ok(Formula::Each {
-        universal: is_universal(quantifier, even),
+        quantifier: signed_quantifier(quantifier, polarity),
         slot,
         carriers: own,
         body: Box::new(alloc, body)?,
@@ -130,13 +143,15 @@ fn normal_quantified<'t>(
 fn normal_body<'a, 't>(
     outer: &'a Context<'a, '_, 't>,
     table: &'a HashMap<&'t str, usize>,
-    even: bool,
+    polarity: Polarity,
     carriers: &mut Vec<Carrier>,
     body: &'t pb_text_tree::Term,
 ) -> Result<Formula, AllocError>
     requires { IsShapedIn outer.now (value_of body.now) }
-    ensures form { IfOk result (IsNormalValue outer.now (inner_slots table.now (slots_in outer.now)) even carriers.old.items (value_of body.now)) }
-    ensures carriers { OnOk result (AddsLoops outer.now carriers.old.items carriers.new.items (value_of body.now)) }
+    ensures form { IfOk result (IsNormalValue outer.now (inner_slots table.now (slots_in outer.now))
+        (is_positive polarity) carriers.old.items (value_of body.now)) }
+    ensures carriers { OnOk result (AddsLoops outer.now carriers.old.items carriers.new.items
+        (value_of body.now)) }
 {
     let slots = Slots::Inner(table, outer.slots);
     let context = Context {
@@ -144,37 +159,42 @@ fn normal_body<'a, 't>(
         declarations: outer.declarations,
         slots: &slots,
     };
-    normal_value(&context, even, carriers, body)
+    normal_value(&context, polarity, carriers, body)
 }
 
-/// The normal form of operands of one connective. What stands behind the last quantifier is one test.
+/// The normal form of operands of one connective. What stands behind the last quantifier is one
+/// test.
 #[cycle(values)]
 fn normal_operands<'t>(
     context: &Context<'_, '_, 't>,
-    even: bool,
+    polarity: Polarity,
     carriers: &mut Vec<Carrier>,
     connective: Connective,
     first: &'t pb_text_tree::Term,
     links: &'t [TermLink],
 ) -> Result<Formula, AllocError>
-    requires shaped { IsShapedIn context.now (expanded_term (chain_of connective first.now links.now)) }
+    requires shaped { IsShapedIn context.now (expanded_term
+        (chain_of connective first.now links.now)) }
     requires quantified { has_quantifier (chain_of connective first.now links.now) ≡ true }
-    ensures form { IfOk result (IsNormalValue context.now (slots_in context.now) even carriers.old.items (expanded_term (chain_of connective first.now links.now))) }
-    ensures carriers { OnOk result (AddsLoops context.now carriers.old.items carriers.new.items (expanded_term (chain_of connective first.now links.now))) }
+    ensures form { IfOk result (IsNormalValue context.now (slots_in context.now)
+        (is_positive polarity) carriers.old.items
+        (expanded_term (chain_of connective first.now links.now))) }
+    ensures carriers { OnOk result (AddsLoops context.now carriers.old.items carriers.new.items
+        (expanded_term (chain_of connective first.now links.now))) }
 {
     let alloc = context.alloc;
-    let parity = operand_parity(connective, even, links.len());
-    let head = normal_value(context, parity, carriers, first)?;
+    let of_first = operand_polarity(connective, polarity, links.len());
+    let head = normal_value(context, of_first, carriers, first)?;
     let (operands, tail) = links.split_at(quantified_links(links));
     let mut rest = Vec::new(alloc);
     for (index, link) in operands.iter().enumerate() {
-        let parity = operand_parity(connective, even, links.len() - index - 1);
-        let operand = normal_value(context, parity, carriers, &link.operand)?;
+        let of_link = operand_polarity(connective, polarity, links.len() - index - 1);
+        let operand = normal_value(context, of_link, carriers, &link.operand)?;
         rest.push(operand)?;
     }
-    let rest = with_tail(context, even, connective, rest, tail)?;
+    let rest = with_tail(context, polarity, connective, rest, tail)?;
     Ok(Formula::Join {
-        conjunctive: is_conjunctive(connective, even),
+        junction: signed_junction(connective, polarity),
         first: Box::new(alloc, head)?,
         rest,
     })
@@ -197,12 +217,14 @@ fn quantified_links(links: &[TermLink]) -> usize
 /// Adds the operands behind the last quantifier, if there are any, as one test.
 fn with_tail(
     context: &Context<'_, '_, '_>,
-    even: bool,
+    polarity: Polarity,
     connective: Connective,
     mut operands: Vec<Formula>,
     tail: &[TermLink],
 ) -> Result<Vec<Formula>, AllocError>
-    ensures { IfOk result (λ all. formula_views all.items ≡ formula_views operands.items ++ tail_tests (text_in context.now) even (slots_in context.now) connective tail.now) }
+    ensures { IfOk result (λ all. formula_views all.items
+        ≡ formula_views operands.items ++ tail_tests (text_in context.now) (is_positive polarity)
+        (slots_in context.now) connective tail.now) }
 {
     let alloc = context.alloc;
     match tail.split_first() {
@@ -216,7 +238,7 @@ fn with_tail(
                 &next.operand,
                 behind,
             )?;
-            operands.push(test(alloc, even, term)?)?;
+            operands.push(test(alloc, polarity, term)?)?;
             Ok(operands)
         }
     }

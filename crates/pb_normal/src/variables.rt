@@ -28,8 +28,12 @@ pub(crate) fn declare_variables<'t>(
     carriers: &mut Vec<Carrier>,
 ) -> Result<HashMap<&'t str, usize>, AllocError>
     requires { AreShaped (spec_of declarations.now) (erased_variables (variable_forms groups.now)) }
-    ensures slots { IfOk result (λ table. (x : syntax.Name) → looked_up table x ≡ with_slots (erased_variables (variable_forms groups.now)) (length carriers.old.items) unslotted x) }
-    ensures carriers { OnOk result (shapes_of carriers.new.items ≡ shapes_of carriers.old.items ++ variable_shapes (spec_of declarations.now) (erased_variables (variable_forms groups.now))) }
+    ensures slots { IfOk result (λ table. (x : syntax.Name)
+        → looked_up table x ≡ with_slots (erased_variables (variable_forms groups.now))
+        (length carriers.old.items) unslotted x) }
+    ensures carriers { OnOk result (shapes_of carriers.new.items
+        ≡ shapes_of carriers.old.items ++ variable_shapes (spec_of declarations.now)
+        (erased_variables (variable_forms groups.now))) }
 {
     let mut table = HashMap::new(alloc);
     for group in groups {
@@ -41,7 +45,8 @@ pub(crate) fn declare_variables<'t>(
     Ok(table)
 }
 
-/// The same for the variables of a quantifier, of which it also hands out the carriers alone, in order.
+/// The same for the variables of a quantifier, of which it also hands out the carriers alone, in
+/// order.
 ///
 /// # Errors
 /// Memory was refused.
@@ -52,9 +57,15 @@ pub(crate) fn bind_variables<'t>(
     carriers: &mut Vec<Carrier>,
 ) -> Result<(HashMap<&'t str, usize>, Vec<Carrier>), AllocError>
     requires { AreShaped (spec_of declarations.now) (erased_variables (variable_forms groups.now)) }
-    ensures slots { IfOk result (λ bound. (x : syntax.Name) → looked_up bound.0 x ≡ with_slots (erased_variables (variable_forms groups.now)) (length carriers.old.items) unslotted x) }
-    ensures own { IfOk result (λ bound. shapes_of bound.1.items ≡ variable_shapes (spec_of declarations.now) (erased_variables (variable_forms groups.now))) }
-    ensures carriers { OnOk result (shapes_of carriers.new.items ≡ shapes_of carriers.old.items ++ variable_shapes (spec_of declarations.now) (erased_variables (variable_forms groups.now))) }
+    ensures slots { IfOk result (λ bound. (x : syntax.Name)
+        → looked_up bound.0 x ≡ with_slots (erased_variables (variable_forms groups.now))
+        (length carriers.old.items) unslotted x) }
+    ensures own { IfOk result (λ bound. shapes_of bound.1.items
+        ≡ variable_shapes (spec_of declarations.now)
+        (erased_variables (variable_forms groups.now))) }
+    ensures carriers { OnOk result (shapes_of carriers.new.items
+        ≡ shapes_of carriers.old.items ++ variable_shapes (spec_of declarations.now)
+        (erased_variables (variable_forms groups.now))) }
 {
     let first = carriers.len();
     let table = declare_variables(alloc, declarations, groups, carriers)?;
@@ -84,8 +95,11 @@ fn declare_names<'t>(
     carrier: Carrier,
     carriers: &mut Vec<Carrier>,
 ) -> Result<HashMap<&'t str, usize>, AllocError>
-    ensures slots { IfOk result (λ more. (x : syntax.Name) → looked_up more x ≡ named_slots names.now (length carriers.old.items) (looked_up table.entry) x) }
-    ensures carriers { OnOk result (carriers.new.items ≡ carriers.old.items ++ replicate (length names.now) carrier) }
+    ensures slots { IfOk result (λ more. (x : syntax.Name)
+        → looked_up more x ≡ named_slots names.now (length carriers.old.items)
+        (looked_up table.entry) x) }
+    ensures carriers { OnOk result (carriers.new.items
+        ≡ carriers.old.items ++ replicate (length names.now) carrier) }
 {
     for name in names {
         table.insert(name.text.as_str(), carriers.len())?;

@@ -1,5 +1,6 @@
 use Rattle.std.proofs.Common.{◌∙◌, refl, true, false, sym, ap, Option, Some, None, option_map, map, ◌∷◌, [], ◌++◌, SFits, w32, to_z, of_z, to_z-of_z, arith}
 use Rattle.std.specs.Prelude.{ℤ}
+use Rattle.std.proofs.lemmas.List.{nil_from_length}
 use Rattle.pb_bytecode_program.specs.declared.instruction.Op.TheVariants as op
 use Rattle.pb_assembler.specs.Draft.{Draft}
 use Rattle.pb_sorts.specs.declared.carrier.Range.{Range}
@@ -7,7 +8,7 @@ use Rattle.pb_normal.specs.View.{argument_view}
 use Rattle.pb_assembler_scheme.specs.Scheme.{arguments_piece}
 use Rattle.pb_assembler.specs.Emitted.{block_end, called_piece}
 use Rattle.pb_assembler.specs.declared.builder.Label.{Label}
-use Rattle.pb_assembler.proofs.Calls.{argument_alone, argument_first, nothing, popped}
+use Rattle.pb_assembler.proofs.Calls.{argument_alone, argument_first, popped}
 use Rattle.pb_assembler.proofs.Emitting.{adds_from, guard_emitted, on_ok}
 use Rattle.pb_assembler.proofs.call.+calls.Goals as goal
 
@@ -16,7 +17,7 @@ emit_arguments-returns-in_default-split_first t c =
     let l = option_map (λ (l : Label). l.number) c.args.end in
     on_ok c.emit_arguments.result _ _ c.emit_arguments.ensures (λ h.
     argument_alone c.args.equation l c.args.carriers.now c.args.arguments.now c.in-Some.argument.now c.in-Some.arguments.now c.args.builder.now c.emit_term.new.builder c.emit_arguments.new.builder
-    (nothing c.args.carriers.now c.in_default-split_first.ensures.cases) c.in-Some.ensures.cases.0 c.in_ok-emit_term.ensures h)
+    (nil_from_length c.args.carriers.now c.in_default-split_first.ensures.cases) c.in-Some.ensures.cases.0 c.in_ok-emit_term.ensures h)
 
 pub emit_arguments-returns-in-Some-tested_range : goal.emit_arguments-returns-in-Some-tested_range
 emit_arguments-returns-in-Some-tested_range t c =

@@ -1,7 +1,7 @@
 use Rattle.std.proofs.Common.{◌≡◌, List, subst, IfOk}
 use Rattle.pb_bytecode_program.specs.declared.instruction.Op.{Op}
 use Rattle.pb_sorts.specs.Layout.{lists_of}
-use Rattle.pb_normal.specs.View.{formula_view}
+use Rattle.pb_normal.specs.View.{formula_view, is_and}
 use Rattle.pb_assembler_scheme.specs.Scheme.{equation_piece}
 use Rattle.pb_assembler.specs.Emitted.{nowhere}
 use Rattle.pb_assembler.proofs.Codes.{equation_emitted, code_short}
@@ -13,7 +13,7 @@ finish-requires-clause-placed c =
     let cs = lists_of c.args.callees.now in
     let f = formula_view c.args.right.now in
     all_settled (equation_piece cs f) nowhere (c.emit_plain-3).new.builder
-    (equation_emitted cs f c.outermost-kind.result c.connective_of.result c.in_ok-builder.builder c.emit_plain.new.builder c.emit_formula.new.builder (c.emit_plain-2).new.builder (c.emit_plain-3).new.builder
+    (equation_emitted cs f (is_and c.outermost-kind.result) c.connective_of.result c.in_ok-builder.builder c.emit_plain.new.builder c.emit_formula.new.builder (c.emit_plain-2).new.builder (c.emit_plain-3).new.builder
     c.outermost-kind.ensures c.connective_of.ensures c.in_ok-builder.ensures c.in_ok-emit_plain.ensures c.in_ok-emit_formula.ensures (c.in_ok-emit_plain-2).ensures (c.in_ok-emit_plain-3).ensures)
 
 pub finish-requires-clause-few : goal.finish-requires-clause-few
@@ -21,13 +21,13 @@ finish-requires-clause-few c =
     let cs = lists_of c.args.callees.now in
     let f = formula_view c.args.right.now in
     code_short cs f (c.emit_plain-3).new.builder c.requires.few
-    (equation_emitted cs f c.outermost-kind.result c.connective_of.result c.in_ok-builder.builder c.emit_plain.new.builder c.emit_formula.new.builder (c.emit_plain-2).new.builder (c.emit_plain-3).new.builder
+    (equation_emitted cs f (is_and c.outermost-kind.result) c.connective_of.result c.in_ok-builder.builder c.emit_plain.new.builder c.emit_formula.new.builder (c.emit_plain-2).new.builder (c.emit_plain-3).new.builder
     c.outermost-kind.ensures c.connective_of.ensures c.in_ok-builder.ensures c.in_ok-emit_plain.ensures c.in_ok-emit_formula.ensures (c.in_ok-emit_plain-2).ensures (c.in_ok-emit_plain-3).ensures)
 
 pub returns : goal.returns
 returns c =
     let cs = lists_of c.args.callees.now in
     let f = formula_view c.args.right.now in
-    let emitted = equation_emitted cs f c.outermost-kind.result c.connective_of.result c.in_ok-builder.builder c.emit_plain.new.builder c.emit_formula.new.builder (c.emit_plain-2).new.builder (c.emit_plain-3).new.builder
+    let emitted = equation_emitted cs f (is_and c.outermost-kind.result) c.connective_of.result c.in_ok-builder.builder c.emit_plain.new.builder c.emit_formula.new.builder (c.emit_plain-2).new.builder (c.emit_plain-3).new.builder
     c.outermost-kind.ensures c.connective_of.ensures c.in_ok-builder.ensures c.in_ok-emit_plain.ensures c.in_ok-emit_formula.ensures (c.in_ok-emit_plain-2).ensures (c.in_ok-emit_plain-3).ensures in
     subst (λ (is : List Op). IfOk c.finish.result (λ ops. ops.items ≡ is)) (finished (equation_piece cs f) nowhere (c.emit_plain-3).new.builder emitted) c.finish.ensures

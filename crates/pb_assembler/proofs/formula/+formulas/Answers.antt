@@ -1,5 +1,6 @@
 use Rattle.std.proofs.Common.{◌≡◌, ◌∙◌, ◌<◌, ℕ, refl, sym, ap, subst, arith, add-one, true, not, Bool, List, length, Some, OnOk, map}
 use Rattle.std.specs.List.{slice_get}
+use Rattle.std.proofs.lemmas.List.{nil_from_length}
 use Rattle.pb_sorts.specs.Layout.{lists_of}
 use Rattle.pb_bytecode_program.specs.declared.instruction.Connective.{Connective}
 use Rattle.pb_bytecode_program.specs.declared.instruction.Leaf.{Leaf}
@@ -7,9 +8,9 @@ use Rattle.pb_bytecode_program.specs.declared.instruction.Op.TheVariants as op
 use Rattle.pb_normal.specs.Normal as normal
 use Rattle.pb_normal.specs.Normal.{Join}
 use Rattle.pb_normal.specs.declared.formula.Formula.{Formula}
-use Rattle.pb_normal.specs.View.{argument_view, chained, formula_view, formula_views, nested, term_view}
+use Rattle.pb_normal.specs.View.{argument_view, chained, formula_view, formula_views, is_and, is_forall, nested, term_view}
 use Rattle.pb_assembler_scheme.specs.Pieces.{Piece, Plain, Unless, Choose}
-use Rattle.pb_assembler_scheme.specs.Scheme.{data_piece, deciding, formula_piece, call_piece, parameters}
+use Rattle.pb_assembler_scheme.specs.Scheme.{connective_of, data_piece, deciding, formula_piece, call_piece, parameters}
 use Rattle.pb_assembler.specs.Emitted.{Emits, nowhere}
 use Rattle.pb_assembler.specs.Operands.{Guarded}
 use Rattle.pb_normal.specs.Small.{is_small_formula}
@@ -17,71 +18,80 @@ use Rattle.pb_assembler.proofs.Awaited.{Awaits, awaits_all, passed_place, awaits
 use Rattle.pb_assembler.proofs.Emitting.{on_ok}
 use Rattle.pb_assembler.proofs.FormulaWeight.{formulas_weight, join_is, join_weighs}
 use Rattle.pb_assembler.proofs.Joins.{Begins, Closes, repeated, test_step, test_small, left_weighs, tested_own, tested_other, next_own, small_rest, small_slot, small_body, begins_more, closes_more, each_repeated, each_other, bracket_emitted, other_kind, same_kind, untested, there, not_there}
-use Rattle.pb_assembler.proofs.Calls.{nothing}
 use Rattle.pb_normal.specs.declared.formula.Argument.{Argument}
 use Rattle.pb_sorts.specs.declared.carrier.Carrier.{Carrier}
 use Rattle.pb_assembler.proofs.formula.+formulas.Goals as goal
 
+pub emit_each-returns-then-eq : goal.emit_each-returns-then-eq
+emit_each-returns-then-eq t c =
+    let kind = c.junction_of-kind in
+    let m = is_forall c.args.quantifier in
+    let X = nested m c.args.slots.first c.args.slots.carriers.now (formula_view c.args.body.now) in
+    let same : m ≡ is_and c.args.around = sym kind.ensures ∙ same_kind kind.result c.args.around c.eq.result c.eq.ensures c.if-eq.true in
+    subst (λ (k : Bool). OnOk c.emit_loops.result (Emits (formula_piece (lists_of c.args.callees.now) k X) nowhere c.args.builder.now c.emit_loops.new.builder)) same c.emit_loops.ensures
+
 pub emit_each-returns : goal.emit_each-returns
 emit_each-returns t c =
-    let m = c.args.universal in
+    let m = is_forall c.args.quantifier in
+    let kind = c.junction_of-kind in
     let cs = lists_of c.args.callees.now in
     let e = c.is_empty.ensures in
     let f = c.if-is_empty.false in
+    let other : m ≡ not (is_and c.args.around) = sym kind.ensures ∙ other_kind kind.result c.args.around c.eq.result c.eq.ensures c.if-eq.false in
     let some : 0 < length c.args.slots.carriers.now = grind (arith, e, f) in
     let d = c.args.builder.now in
     let d1 = c.emit_plain.new.builder in
     let X = nested m c.args.slots.first c.args.slots.carriers.now (formula_view c.args.body.now) in
     on_ok (c.emit_plain-2).result _ _ (c.emit_plain-2).ensures (λ h.
-    subst (λ (q : Piece). Emits q nowhere d (c.emit_plain-2).new.builder) (sym (each_other cs m c.args.around c.args.slots.first c.args.slots.carriers.now (formula_view c.args.body.now) c.if-universal-around.false some))
+    subst (λ (q : Piece). Emits q nowhere d (c.emit_plain-2).new.builder) (sym (each_other cs m (is_and c.args.around) c.args.slots.first c.args.slots.carriers.now (formula_view c.args.body.now) other some))
     (bracket_emitted m (formula_piece cs m X) d d1 (c.emit_loops-2).new.builder (c.emit_plain-2).new.builder
-    (subst (λ (k : Connective). Emits (Plain (op.Open k)) nowhere d d1) c.connective_of.ensures c.in_ok-emit_plain.ensures) c.in_ok-emit_loops.ensures h))
+    (subst (λ (k : Connective). Emits (Plain (op.Open k)) nowhere d d1) (c.connective_of.ensures ∙ ap connective_of kind.ensures) c.in_ok-emit_plain.ensures) c.in_ok-emit_loops.ensures h))
 
 pub emit_formula-emit_inside-requires : goal.emit_formula-emit_inside-requires
 emit_formula-emit_inside-requires t c =
     let x = c.deref.result.now in
-    let rest = (c.deref-then-conjunctive-around).result.now in
+    let rest = (c.deref-then-eq).result.now in
     let j = c.in-Join in
-    let same : j.conjunctive ≡ c.args.around = same_kind j.conjunctive c.args.around c.if-conjunctive-around.true in (
-      omega (arith, c.decreases, join_weighs c.args.formula.now x j.conjunctive j.first j.rest rest j.is c.deref.ensures (c.deref-then-conjunctive-around).ensures.value),
+    let same : is_and j.junction ≡ is_and c.args.around = same_kind j.junction c.args.around c.eq.result c.eq.ensures c.if-eq.true in (
+      omega (arith, c.decreases, join_weighs c.args.formula.now x j.junction j.first j.rest rest j.is c.deref.ensures (c.deref-then-eq).ensures.value),
       subst (λ (m : Bool). is_small_formula (chained (Join m) (formula_view x) (formula_views rest)) ≡ true) same
-          (ap is_small_formula (join_is c.args.formula.now x j.conjunctive j.first j.rest rest j.is c.deref.ensures (c.deref-then-conjunctive-around).ensures.value) ∙ c.requires),
+          (ap is_small_formula (join_is c.args.formula.now x j.junction j.first j.rest rest j.is c.deref.ensures (c.deref-then-eq).ensures.value) ∙ c.requires),
     )
 
 pub emit_formula-emit_outside-requires : goal.emit_formula-emit_outside-requires
 emit_formula-emit_outside-requires t c =
-    let x = (c.deref-else-conjunctive-around).result.now in
-    let rest = (c.deref-else-conjunctive-around-2).result.now in
+    let x = (c.deref-else-eq).result.now in
+    let rest = (c.deref-else-eq-2).result.now in
     let j = c.in-Join in
-    let same : j.conjunctive ≡ not c.args.around = other_kind j.conjunctive c.args.around c.if-conjunctive-around.false in (
-      omega (arith, c.decreases, join_weighs c.args.formula.now x j.conjunctive j.first j.rest rest j.is (c.deref-else-conjunctive-around).ensures (c.deref-else-conjunctive-around-2).ensures.value),
+    let same : is_and j.junction ≡ not (is_and c.args.around) = other_kind j.junction c.args.around c.eq.result c.eq.ensures c.if-eq.false in (
+      omega (arith, c.decreases, join_weighs c.args.formula.now x j.junction j.first j.rest rest j.is (c.deref-else-eq).ensures (c.deref-else-eq-2).ensures.value),
       subst (λ (m : Bool). is_small_formula (chained (Join m) (formula_view x) (formula_views rest)) ≡ true) same
-          (ap is_small_formula (join_is c.args.formula.now x j.conjunctive j.first j.rest rest j.is (c.deref-else-conjunctive-around).ensures (c.deref-else-conjunctive-around-2).ensures.value) ∙ c.requires),
+          (ap is_small_formula (join_is c.args.formula.now x j.junction j.first j.rest rest j.is (c.deref-else-eq).ensures (c.deref-else-eq-2).ensures.value) ∙ c.requires),
     )
 
-pub emit_formula-returns-then-conjunctive-around : goal.emit_formula-returns-then-conjunctive-around
-emit_formula-returns-then-conjunctive-around t c =
+pub emit_formula-returns-then-eq : goal.emit_formula-returns-then-eq
+emit_formula-returns-then-eq t c =
     let x = c.deref.result.now in
-    let rest = (c.deref-then-conjunctive-around).result.now in
+    let rest = (c.deref-then-eq).result.now in
     let j = c.in-Join in
-    let same : j.conjunctive ≡ c.args.around = same_kind j.conjunctive c.args.around c.if-conjunctive-around.true in
-    subst (λ (y : normal.Formula). OnOk c.emit_inside.result (Emits (formula_piece (lists_of c.args.callees.now) c.args.around y) nowhere c.args.builder.now c.emit_inside.new.builder))
-    (ap (λ (m : Bool). chained (Join m) (formula_view x) (formula_views rest)) (sym same) ∙ join_is c.args.formula.now x j.conjunctive j.first j.rest rest j.is c.deref.ensures (c.deref-then-conjunctive-around).ensures.value)
+    let same : is_and j.junction ≡ is_and c.args.around = same_kind j.junction c.args.around c.eq.result c.eq.ensures c.if-eq.true in
+    subst (λ (y : normal.Formula). OnOk c.emit_inside.result (Emits (formula_piece (lists_of c.args.callees.now) (is_and c.args.around) y) nowhere c.args.builder.now c.emit_inside.new.builder))
+    (ap (λ (m : Bool). chained (Join m) (formula_view x) (formula_views rest)) (sym same) ∙ join_is c.args.formula.now x j.junction j.first j.rest rest j.is c.deref.ensures (c.deref-then-eq).ensures.value)
     c.emit_inside.ensures
 
-pub emit_formula-returns-else-conjunctive-around : goal.emit_formula-returns-else-conjunctive-around
-emit_formula-returns-else-conjunctive-around t c =
-    let x = (c.deref-else-conjunctive-around).result.now in
-    let rest = (c.deref-else-conjunctive-around-2).result.now in
+pub emit_formula-returns-else-eq : goal.emit_formula-returns-else-eq
+emit_formula-returns-else-eq t c =
+    let x = (c.deref-else-eq).result.now in
+    let rest = (c.deref-else-eq-2).result.now in
     let j = c.in-Join in
-    let same : j.conjunctive ≡ not c.args.around = other_kind j.conjunctive c.args.around c.if-conjunctive-around.false in
-    subst (λ (y : normal.Formula). OnOk c.emit_outside.result (Emits (formula_piece (lists_of c.args.callees.now) c.args.around y) nowhere c.args.builder.now c.emit_outside.new.builder))
-    (ap (λ (m : Bool). chained (Join m) (formula_view x) (formula_views rest)) (sym same) ∙ join_is c.args.formula.now x j.conjunctive j.first j.rest rest j.is (c.deref-else-conjunctive-around).ensures (c.deref-else-conjunctive-around-2).ensures.value)
+    let same : is_and j.junction ≡ not (is_and c.args.around) = other_kind j.junction c.args.around c.eq.result c.eq.ensures c.if-eq.false in
+    subst (λ (y : normal.Formula). OnOk c.emit_outside.result (Emits (formula_piece (lists_of c.args.callees.now) (is_and c.args.around) y) nowhere c.args.builder.now c.emit_outside.new.builder))
+    (ap (λ (m : Bool). chained (Join m) (formula_view x) (formula_views rest)) (sym same) ∙ join_is c.args.formula.now x j.junction j.first j.rest rest j.is (c.deref-else-eq).ensures (c.deref-else-eq-2).ensures.value)
     c.emit_outside.ensures
 
 pub emit_inside-loop-next-preserved-in-Some-early_test : goal.emit_inside-loop-next-preserved-in-Some-early_test
 emit_inside-loop-next-preserved-in-Some-early_test t c =
-    let m = c.args.kind in
+    let m = is_and c.args.kind in
     let cs = lists_of c.args.callees.now in
     let s = c.in-Some-early_test in
     let i = c.loop-next.invariant in
@@ -93,6 +103,7 @@ emit_inside-loop-next-preserved-in-Some-early_test t c =
     let l = c.in_ok-last.last.number in
     let d0 = c.args.builder.now in
     let leaf = Plain (op.Emit (deciding m)) in
+    let jumps = rw c.neutral.ensures at c.in_ok-emit.ensures.ok in
     let same = test_step cs m m f gs (Some r) r refl s.ensures.views ∙ tested_own m (term_view s.test.now) rest in
     let a1 = subst (λ (q : Piece). Awaits whole q l d0 c.loop-next.builder) same i.awaits in
     let a2 = awaits_then whole (data_piece (term_view s.test.now)) (Choose m leaf rest) l d0 c.loop-next.builder c.emit_term.new.builder a1 c.in_ok-emit_term.ensures in
@@ -101,7 +112,7 @@ emit_inside-loop-next-preserved-in-Some-early_test t c =
     let w2 = i.lighter in
     record {
       awaits = awaits_choose whole m leaf rest 0 0 l c.in_ok-passed.passed.number d0 c.emit_term.new.builder (c.label-in-Some-early_test).new.self c.emit.new.self c.emit_plain.new.builder (c.emit-in-Some-early_test).new.self c.place.new.self a2
-          c.in_ok-passed.ensures.label c.in_ok-passed.ensures.ok c.in_ok-emit.ensures.ok
+          c.in_ok-passed.ensures.label c.in_ok-passed.ensures.ok jumps
           (subst (λ (z : Leaf). Emits (Plain (op.Emit z)) nowhere c.emit.new.self c.emit_plain.new.builder) c.deciding.ensures c.in_ok-emit_plain.ensures)
           (c.in_ok-emit-2).ensures.ok c.place.ensures;
       small = (test_small m f gs (Some r) r refl s.ensures.views i.small).1;
@@ -110,7 +121,7 @@ emit_inside-loop-next-preserved-in-Some-early_test t c =
 
 pub emit_inside-loop-next-preserved : goal.emit_inside-loop-next-preserved
 emit_inside-loop-next-preserved t c =
-    let m = c.args.kind in
+    let m = is_and c.args.kind in
     let cs = lists_of c.args.callees.now in
     let s = c.in-Some in
     let i = c.loop-next.invariant in
@@ -131,12 +142,12 @@ emit_inside-loop-next-preserved t c =
 pub emit_loops-overflow_add-slot : goal.emit_loops-overflow_add-slot
 emit_loops-overflow_add-slot t c =
     let b = c.loop-begun-test.true in
-    let h = small_slot c.args.universal c.args.slot c.args.carriers.now (formula_view c.args.body.now) c.loop-begun.begun (omega (arith, b)) c.requires in omega (arith, h)
+    let h = small_slot (is_forall c.args.quantifier) c.args.slots.first c.args.slots.carriers.now (formula_view c.args.body.now) c.loop-begun.begun (omega (arith, b)) c.requires in omega (arith, h)
 
 pub emit_loops-overflow_cast-slot : goal.emit_loops-overflow_cast-slot
 emit_loops-overflow_cast-slot t c =
     let b = c.loop-begun-test.true in
-    let h = small_slot c.args.universal c.args.slot c.args.carriers.now (formula_view c.args.body.now) c.loop-begun.begun (omega (arith, b)) c.requires in omega (arith, h)
+    let h = small_slot (is_forall c.args.quantifier) c.args.slots.first c.args.slots.carriers.now (formula_view c.args.body.now) c.loop-begun.begun (omega (arith, b)) c.requires in omega (arith, h)
 
 pub emit_loops-loop-begun-preserved : goal.emit_loops-loop-begun-preserved
 emit_loops-loop-begun-preserved t c =
@@ -144,11 +155,11 @@ emit_loops-loop-begun-preserved t c =
     let k = c.loop-begun.begun in
     record {
       below = omega (arith, b);
-      begins = subst (λ (n : ℕ). Begins c.args.slot n c.args.builder.now c.emit.new.self) (sym (add-one k)) (begins_more c.args.slot k c.args.builder.now c.loop-begun.builder c.emit.new.self c.loop-begun.invariant.begins c.in_ok-emit.ensures.ok);
+      begins = subst (λ (n : ℕ). Begins c.args.slots.first n c.args.builder.now c.emit.new.self) (sym (add-one k)) (begins_more c.args.slots.first k c.args.builder.now c.loop-begun.builder c.emit.new.self c.loop-begun.invariant.begins c.in_ok-emit.ensures.ok);
     }
 
 pub emit_loops-emit_formula-requires : goal.emit_loops-emit_formula-requires
-emit_loops-emit_formula-requires t c = (omega (arith, c.decreases), small_body c.args.universal c.args.slot c.args.carriers.now (formula_view c.args.body.now) c.requires)
+emit_loops-emit_formula-requires t c = (omega (arith, c.decreases), small_body (is_forall c.args.quantifier) c.args.slots.first c.args.slots.carriers.now (formula_view c.args.body.now) c.requires)
 
 pub emit_loops-loop-ended-preserved : goal.emit_loops-loop-ended-preserved
 emit_loops-loop-ended-preserved t c =
@@ -162,21 +173,23 @@ emit_loops-loop-ended-preserved t c =
 pub emit_loops-returns : goal.emit_loops-returns
 emit_loops-returns t c =
     let cs = lists_of c.args.callees.now in
-    let m = c.args.universal in
+    let m = is_forall c.args.quantifier in
     let body = formula_piece cs m (formula_view c.args.body.now) in
     let b1 = c.loop-begun-test.false in
     let b2 = c.loop-begun.invariant.below in
     let e1 = c.loop-ended-test.false in
     let e2 = c.loop-ended.invariant.below in
-    let begun : c.loop-begun.begun ≡ length c.args.carriers.now = omega (arith, b1, b2) in
+    let begun : c.loop-begun.begun ≡ length c.args.slots.carriers.now = omega (arith, b1, b2) in
     let ended : c.loop-ended.ended ≡ c.loop-begun.begun = omega (arith, b1, b2, e1, e2) in
-    let all = c.loop-begun.invariant.begins body c.emit_formula.new.builder c.loop-ended.builder c.in_ok-emit_formula.ensures
+    let inner : Emits body nowhere c.loop-begun.builder c.emit_formula.new.builder =
+    subst (λ (k : Bool). Emits (formula_piece cs k (formula_view c.args.body.now)) nowhere c.loop-begun.builder c.emit_formula.new.builder) c.junction_of.ensures c.in_ok-emit_formula.ensures in
+    let all = c.loop-begun.invariant.begins body c.emit_formula.new.builder c.loop-ended.builder inner
     (subst (λ (k : ℕ). Closes k c.emit_formula.new.builder c.loop-ended.builder) ended c.loop-ended.invariant.closes) in
-    subst (λ (q : Piece). Emits q nowhere c.args.builder.now c.loop-ended.builder) (ap (λ (k : ℕ). repeated c.args.slot k body) begun ∙ sym (each_repeated cs m c.args.slot c.args.carriers.now (formula_view c.args.body.now))) all
+    subst (λ (q : Piece). Emits q nowhere c.args.builder.now c.loop-ended.builder) (ap (λ (k : ℕ). repeated c.args.slots.first k body) begun ∙ sym (each_repeated cs m c.args.slots.first c.args.slots.carriers.now (formula_view c.args.body.now))) all
 
 pub emit_outside-loop-test-preserved : goal.emit_outside-loop-test-preserved
 emit_outside-loop-test-preserved t c =
-    let a = c.args.around in
+    let a = is_and c.args.around in
     let m = not a in
     let cs = lists_of c.args.callees.now in
     let s = c.in-Some in
@@ -195,25 +208,26 @@ emit_outside-loop-test-preserved t c =
     let w1 = w.1 in
     let w2 = i.lighter in
     record {
-      awaits = awaits_unless whole a rest 0 l d0 c.emit_term.new.builder c.emit.new.self a2 c.in_ok-emit.ensures.ok;
+      awaits = awaits_unless whole a rest 0 l d0 c.emit_term.new.builder c.emit.new.self a2 (rw c.neutral.ensures at c.in_ok-emit.ensures.ok);
       small = (test_small m f gs (Some r) r refl s.ensures.views i.small).1;
       lighter = omega (arith, w1, w2);
     }
 
 pub emit_untested-returns : goal.emit_untested-returns
 emit_untested-returns t c =
-    let a = c.args.around in
+    let a = is_and c.args.around in
     let cs = lists_of c.args.callees.now in
     let e = c.is_empty.ensures in
     let f = c.if-is_empty.false in
     let some : 0 < length c.args.rest.now = grind (arith, e, f) in
     let d = c.args.builder.now in
     let d1 = c.emit_plain.new.builder in
-    let X = chained (Join (not a)) (formula_view c.args.first.now) (formula_views c.args.rest.now) in
+    let piece : Bool → Piece = λ m. formula_piece cs m (chained (Join m) (formula_view c.args.first.now) (formula_views c.args.rest.now)) in
+    let inner = subst (λ (m : Bool). Emits (piece m) nowhere d1 c.emit_inside.new.builder) c.dual-kind.ensures c.in_ok-emit_inside.ensures in
     on_ok (c.emit_plain-2).result _ _ (c.emit_plain-2).ensures (λ h.
     subst (λ (q : Piece). Emits q nowhere d (c.emit_plain-2).new.builder) (sym (untested cs a (formula_view c.args.first.now) c.args.rest.now some c.requires.untested))
-    (bracket_emitted (not a) (formula_piece cs (not a) X) d d1 c.emit_inside.new.builder (c.emit_plain-2).new.builder
-    (subst (λ (k : Connective). Emits (Plain (op.Open k)) nowhere d d1) c.connective_of.ensures c.in_ok-emit_plain.ensures) c.in_ok-emit_inside.ensures h))
+    (bracket_emitted (not a) (piece (not a)) d d1 c.emit_inside.new.builder (c.emit_plain-2).new.builder
+    (subst (λ (k : Connective). Emits (Plain (op.Open k)) nowhere d d1) (c.connective_of.ensures ∙ ap connective_of c.dual-kind.ensures) c.in_ok-emit_plain.ensures) inner h))
 
 pub emit_outside-place-requires : goal.emit_outside-place-requires
 emit_outside-place-requires t c =
@@ -229,13 +243,13 @@ emit_inside-place-requires-2 t c =
 
 pub emit_inside-returns : goal.emit_inside-returns
 emit_inside-returns t c =
-    let m = c.args.kind in
+    let m = is_and c.args.kind in
     let cs = lists_of c.args.callees.now in
     let left = c.loop-next.left.now in
     let whole = formula_piece cs m (chained (Join m) (formula_view c.args.first.now) (formula_views c.args.rest.now)) in
     let l = c.in_ok-last.last.number in
     let d0 = c.args.builder.now in
-    let none = nothing c.loop-next.behind.now c.in_default.ensures.cases in
+    let none = nil_from_length c.loop-next.behind.now c.in_default.ensures.cases in
     awaits_no_more whole (formula_piece cs m (formula_view left)) l d0 c.loop-next.builder (c.emit_formula-2).new.builder (c.place-2).new.self
     (subst (λ (zs : List Formula). Awaits whole (formula_piece cs m (chained (Join m) (formula_view left) (formula_views zs))) l d0 c.loop-next.builder) none c.loop-next.invariant.awaits)
     (c.in_ok-emit_formula-2).ensures (c.place-2).ensures
@@ -249,7 +263,7 @@ emit_formula-returns-in-Some t c =
     subst (λ (q : Piece). OnOk c.emit_call.result (Emits q nowhere c.args.builder.now c.emit_call.new.builder))
     (ap (λ (ks : List Carrier). call_piece i ks (map argument_view (c.deref-in-Some-2).result.now)) (c.deref-in-Some.ensures.value ∙ sym (there cs i c.in-Some.carriers.now below told.1))
     ∙ ap (λ (xs : List Argument). call_piece i (parameters (slice_get (lists_of cs) i)) (map argument_view xs)) (c.deref-in-Some-2).ensures.value
-    ∙ sym (ap (λ (f : Formula). formula_piece (lists_of cs) c.args.around (formula_view f)) c.in-Call.is))
+    ∙ sym (ap (λ (f : Formula). formula_piece (lists_of cs) (is_and c.args.around) (formula_view f)) c.in-Call.is))
     c.emit_call.ensures
 
 pub emit_formula-returns-in-None : goal.emit_formula-returns-in-None
@@ -260,12 +274,12 @@ emit_formula-returns-in-None t c =
     subst (λ (q : Piece). OnOk (c.emit_call-in-None).result (Emits q nowhere c.args.builder.now (c.emit_call-in-None).new.builder))
     (ap (λ (ks : List Carrier). call_piece i ks (map argument_view c.deref-in-None.result.now)) (sym (not_there cs i (omega (arith, told))))
     ∙ ap (λ (xs : List Argument). call_piece i (parameters (slice_get (lists_of cs) i)) (map argument_view xs)) c.deref-in-None.ensures.value
-    ∙ sym (ap (λ (f : Formula). formula_piece (lists_of cs) c.args.around (formula_view f)) c.in-Call.is))
+    ∙ sym (ap (λ (f : Formula). formula_piece (lists_of cs) (is_and c.args.around) (formula_view f)) c.in-Call.is))
     (c.emit_call-in-None).ensures
 
 pub emit_inside-loop-next-init : goal.emit_inside-loop-next-init
 emit_inside-loop-next-init t c =
-    let m = c.args.kind in
+    let m = is_and c.args.kind in
     let whole = formula_piece (lists_of c.args.callees.now) m (chained (Join m) (formula_view c.args.first.now) (formula_views c.args.rest.now)) in record {
       awaits = awaits_all whole c.in_ok-last.last.number c.args.builder.now c.label.new.self c.in_ok-last.ensures.label c.in_ok-last.ensures.ok;
       small = c.requires;
@@ -274,7 +288,7 @@ emit_inside-loop-next-init t c =
 
 pub emit_outside-loop-test-init : goal.emit_outside-loop-test-init
 emit_outside-loop-test-init t c =
-    let a = c.args.around in
+    let a = is_and c.args.around in
     let whole = formula_piece (lists_of c.args.callees.now) a (chained (Join (not a)) (formula_view c.args.first.now) (formula_views c.args.rest.now)) in record {
       awaits = awaits_all whole c.in_ok-last.last.number c.args.builder.now c.label.new.self c.in_ok-last.ensures.label c.in_ok-last.ensures.ok;
       small = c.requires;

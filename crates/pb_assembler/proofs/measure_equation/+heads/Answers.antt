@@ -1,26 +1,26 @@
 use Rattle.std.proofs.Common.{◌≡◌, ◌<◌, length, ap, ◌∙◌, arith}
 use Rattle.pb_assembler_scheme.specs.Scheme.{head}
-use Rattle.pb_assembler.proofs.MeasureFormulaLemmas.{join_one}
 use Rattle.pb_assembler.proofs.MeasureHeads.{join_head, each_head}
 use Rattle.pb_assembler.proofs.measure_equation.+heads.Goals as goal
+use Rattle.pb_assembler.proofs.Joins.{alone as join_one}
 
 pub returns-then-is_empty : goal.returns-then-is_empty
 returns-then-is_empty t c =
     let e = c.is_empty.ensures in
     let f = c.if-is_empty.true in
     let none : length c.in-Join.rest.items ≡ 0 = grind (arith, e, f) in
-    c.outermost.ensures ∙ ap head (join_one c.args.formula.now c.deref.result.now c.in-Join.conjunctive c.in-Join.first c.in-Join.rest c.in-Join.is c.deref.ensures none)
+    c.outermost.ensures ∙ ap head (join_one c.args.formula.now c.deref.result.now c.in-Join.junction c.in-Join.first c.in-Join.rest c.in-Join.is c.deref.ensures none)
 
 pub returns-else-is_empty : goal.returns-else-is_empty
 returns-else-is_empty t c =
     let e = c.is_empty.ensures in
     let f = c.if-is_empty.false in
     let some : 0 < length c.in-Join.rest.items = grind (arith, e, f) in
-    join_head c.args.formula.now c.in-Join.conjunctive c.in-Join.first c.in-Join.rest c.in-Join.is some
+    join_head c.args.formula.now c.in-Join.junction c.in-Join.first c.in-Join.rest c.in-Join.is some
 
 pub returns-else-is_empty-2 : goal.returns-else-is_empty-2
 returns-else-is_empty-2 t c =
     let e = (c.is_empty-in-Each).ensures in
     let f = c.if-is_empty-2.false in
     let some : 0 < length c.in-Each.carriers.items = grind (arith, e, f) in
-    each_head c.args.formula.now c.in-Each.universal c.in-Each.slot c.in-Each.carriers c.in-Each.body c.in-Each.is some
+    c.junction_of.ensures ∙ each_head c.args.formula.now c.in-Each.quantifier c.in-Each.slot c.in-Each.carriers c.in-Each.body c.in-Each.is some

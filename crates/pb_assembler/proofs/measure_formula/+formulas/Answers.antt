@@ -1,20 +1,21 @@
 use Rattle.std.proofs.Common.{◌≡◌, ◌-◌, ◌<◌, suc, sym, ap, ◌∙◌, arith, length, drop}
 use Rattle.pb_sorts.specs.Carrier.{values_of}
 use Rattle.pb_normal.specs.Normal.{Join}
-use Rattle.pb_normal.specs.View.{formula_view}
+use Rattle.pb_normal.specs.View.{formula_view, is_and, nested}
 use Rattle.pb_assembler_scheme.specs.Scheme.{test_of}
 use Rattle.pb_assembler.specs.MeasureFormulas.{callees_of, capped_tally, form_chain, formula_tally, kind_at, kind_by, loops_tally, under_tally}
-use Rattle.pb_assembler.proofs.MeasureFormulaLemmas.{weight, forms_weight, weight-join, form_lighter, join_is}
+use Rattle.pb_assembler.proofs.MeasureFormulaLemmas.{weight, forms_weight, weight-join, form_lighter}
 use Rattle.pb_assembler.proofs.MeasureTallies.{looped_by, under_by}
 use Rattle.pb_assembler.proofs.MeasureChains.{nested_tally, loops_step, all_loops, kind_step, link_step, second_test, no_test}
 use Rattle.pb_assembler.proofs.measure_formula.+formulas.Goals as goal
+use Rattle.pb_assembler.proofs.FormulaWeight.{join_is}
 
 pub measure_each-loop-left-preserved : goal.measure_each-loop-left-preserved
 measure_each-loop-left-preserved t c =
     let cs = c.args.carriers.now in
     let k = c.loop-left.left - 1 in
     let x = c.index-carriers-left.result in
-    let own = formula_tally (callees_of c.args.callees.now) c.args.universal (formula_view c.args.body.now) in
+    let own = formula_tally (callees_of c.args.callees.now) (is_and c.junction_of-kind.result) (formula_view c.args.body.now) in
     let a = c.loop-left.invariant.0 in
     let b = c.loop-left-test.true in
     let same : suc k ≡ c.loop-left.left = omega (arith, b) in
@@ -27,20 +28,25 @@ pub measure_each-returns : goal.measure_each-returns
 measure_each-returns t c slot =
     let cs = c.args.carriers.now in
     let callees = callees_of c.args.callees.now in
-    let own = formula_tally callees c.args.universal (formula_view c.args.body.now) in
+    let m = is_and c.junction_of-kind.result in
+    let a = is_and c.args.around in
+    let own = formula_tally callees m (formula_view c.args.body.now) in
     let e = c.is_empty.ensures in
     let f = c.if-is_empty.false in
     let some : 0 < length cs = grind (arith, e, f) in
     let b = c.loop-left-test.false in
-    c.under_tally.ensures ∙ under_by c.args.universal c.args.around c.loop-left.tally (loops_tally cs own) (c.loop-left.invariant.1 ∙ ap capped_tally (all_loops cs c.loop-left.left own (omega (arith, b)))) ∙ sym (ap capped_tally (nested_tally callees c.args.universal c.args.around slot cs (formula_view c.args.body.now) some))
+    c.under_tally.ensures
+    ∙ under_by m a c.loop-left.tally (loops_tally cs own) (c.loop-left.invariant.1 ∙ ap capped_tally (all_loops cs c.loop-left.left own (omega (arith, b))))
+    ∙ sym (ap capped_tally (nested_tally callees m a slot cs (formula_view c.args.body.now) some))
+    ∙ ap (λ k. capped_tally (formula_tally callees a (nested k slot cs (formula_view c.args.body.now)))) c.junction_of-kind.ensures
 
 pub measure_formula-measure_join-requires : goal.measure_formula-measure_join-requires
 measure_formula-measure_join-requires t c =
-    omega (arith, c.decreases, ap weight c.in-Join.is ∙ weight-join c.in-Join.conjunctive c.in-Join.first c.in-Join.rest, ap weight c.deref.ensures, ap forms_weight c.deref-in-Join.ensures.value)
+    omega (arith, c.decreases, ap weight c.in-Join.is ∙ weight-join c.in-Join.junction c.in-Join.first c.in-Join.rest, ap weight c.deref.ensures, ap forms_weight c.deref-in-Join.ensures.value)
 
 pub measure_formula-returns-in-Join : goal.measure_formula-returns-in-Join
 measure_formula-returns-in-Join t c =
-    c.measure_join.ensures ∙ ap (λ y. capped_tally (formula_tally (callees_of c.args.callees.now) c.args.around y)) (join_is c.args.formula.now c.deref.result.now c.in-Join.conjunctive c.in-Join.first c.in-Join.rest c.deref-in-Join.result.now c.in-Join.is c.deref.ensures c.deref-in-Join.ensures.value)
+    c.measure_join.ensures ∙ ap (λ y. capped_tally (formula_tally (callees_of c.args.callees.now) (is_and c.args.around) y)) (join_is c.args.formula.now c.deref.result.now c.in-Join.junction c.in-Join.first c.in-Join.rest c.deref-in-Join.result.now c.in-Join.is c.deref.ensures c.deref-in-Join.ensures.value)
 
 pub measure_join-measure_formula-tally-requires : goal.measure_join-measure_formula-tally-requires
 measure_join-measure_formula-tally-requires t c =
@@ -51,12 +57,12 @@ measure_join-measure_formula-tally-requires t c =
 
 pub measure_join-measure_link-tally-requires : goal.measure_join-measure_link-tally-requires
 measure_join-measure_link-tally-requires t c =
-    let m = c.args.conjunctive in
+    let m = is_and c.args.junction in
     let rest = c.args.rest.now in
     let left = c.loop-left.left in
     let k = left - 1 in
     let x = (c.index-rest-left-in-loop-left).result in
-    let kind = c.kind_behind-kind.result in
+    let kind = is_and c.kind_behind-kind.result in
     let lead = c.leading_tests-leading.ensures in
     let leading = c.leading_tests-leading.result in
     let a = c.loop-left.invariant.0 in
@@ -75,7 +81,7 @@ measure_join-measure_link-tally-requires t c =
 
 pub measure_join-loop-left-preserved : goal.measure_join-loop-left-preserved
 measure_join-loop-left-preserved t c =
-    let m = c.args.conjunctive in
+    let m = is_and c.args.junction in
     let rest = c.args.rest.now in
     let left = c.loop-left.left in
     let k = left - 1 in
@@ -87,20 +93,20 @@ measure_join-loop-left-preserved t c =
       omega (arith, a),
       c.measure_link-tally.ensures
           ∙ ap (λ d. capped_tally (formula_tally callees d (Join m (formula_view x) (form_chain m (drop left rest))))) c.kind_at-own.ensures
-          ∙ ap (λ y. capped_tally (formula_tally callees (kind_at m c.kind_behind-kind.result c.leading_tests-leading.result k) y)) (ap (λ n. Join m (formula_view x) (form_chain m (drop n rest))) (sym same) ∙ link_step m rest k x (omega (arith, a, b)) (c.index-rest-left-in-loop-left).is),
+          ∙ ap (λ y. capped_tally (formula_tally callees (kind_at m (is_and c.kind_behind-kind.result) c.leading_tests-leading.result k) y)) (ap (λ n. Join m (formula_view x) (form_chain m (drop n rest))) (sym same) ∙ link_step m rest k x (omega (arith, a, b)) (c.index-rest-left-in-loop-left).is),
     )
 
 pub measure_untested-returns-in-Some : goal.measure_untested-returns-in-Some
 measure_untested-returns-in-Some t c =
-    let m = c.args.chain.conjunctive in
+    let m = is_and c.args.chain.junction in
     let chain = form_chain m (drop c.args.place c.args.operands.now) in
     c.tested_tally.ensures
-    ∙ second_test (callees_of c.args.callees.now) m c.args.chain.around (formula_view c.args.operand.now) chain c.in-Some.load c.measure_formula-own.result c.requires.untested (sym c.in-Some.is ∙ c.last_test.ensures m) c.measure_formula-own.ensures
+    ∙ second_test (callees_of c.args.callees.now) m (is_and c.args.chain.around) (formula_view c.args.operand.now) chain c.in-Some.load c.measure_formula-own.result c.requires.untested (sym c.in-Some.is ∙ c.last_test.ensures m) c.measure_formula-own.ensures
 
 pub measure_untested-returns-in-None : goal.measure_untested-returns-in-None
 measure_untested-returns-in-None t c =
-    let m = c.args.chain.conjunctive in
+    let m = is_and c.args.chain.junction in
     let chain = form_chain m (drop c.args.place c.args.operands.now) in
     c.under_tally.ensures
-    ∙ ap (λ y. capped_tally (under_tally m c.args.chain.around y)) c.after-both.ensures
-    ∙ no_test (callees_of c.args.callees.now) m c.args.chain.around (formula_view c.args.operand.now) chain (c.measure_formula-own-in-None).result c.args.rest c.requires.untested (sym c.in-None.is ∙ c.last_test.ensures m) (c.measure_formula-own-in-None).ensures c.requires.rest
+    ∙ ap (λ y. capped_tally (under_tally m (is_and c.args.chain.around) y)) c.after-both.ensures
+    ∙ no_test (callees_of c.args.callees.now) m (is_and c.args.chain.around) (formula_view c.args.operand.now) chain (c.measure_formula-own-in-None).result c.args.rest c.requires.untested (sym c.in-None.is ∙ c.last_test.ensures m) (c.measure_formula-own-in-None).ensures c.requires.rest

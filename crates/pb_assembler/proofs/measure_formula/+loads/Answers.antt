@@ -1,26 +1,27 @@
 use Rattle.std.proofs.Common.{◌≡◌, ◌<◌, length, ap, ◌∙◌, arith}
 use Rattle.pb_assembler_scheme.specs.Scheme.{test_of}
 use Rattle.pb_assembler.specs.MeasureFormulas.{load_by}
-use Rattle.pb_assembler.proofs.MeasureFormulaLemmas.{join_none, join_one, each_none}
+use Rattle.pb_assembler.proofs.MeasureFormulaLemmas.{join_none, each_none}
 use Rattle.pb_assembler.proofs.measure_formula.+loads.Goals as goal
+use Rattle.pb_assembler.proofs.Joins.{alone as join_one}
 
 pub returns-then-is_empty : goal.returns-then-is_empty
 returns-then-is_empty t c =
     let e = c.is_empty.ensures in
     let f = c.if-is_empty.true in
     let none : length c.in-Join.rest.items ≡ 0 = grind (arith, e, f) in
-    c.test_load.ensures ∙ ap (λ y. load_by (test_of y)) (join_one c.args.formula.now c.deref.result.now c.in-Join.conjunctive c.in-Join.first c.in-Join.rest c.in-Join.is c.deref.ensures none)
+    c.test_load.ensures ∙ ap (λ y. load_by (test_of y)) (join_one c.args.formula.now c.deref.result.now c.in-Join.junction c.in-Join.first c.in-Join.rest c.in-Join.is c.deref.ensures none)
 
 pub returns-else-is_empty : goal.returns-else-is_empty
 returns-else-is_empty t c =
     let e = c.is_empty.ensures in
     let f = c.if-is_empty.false in
     let some : 0 < length c.in-Join.rest.items = grind (arith, e, f) in
-    join_none c.args.formula.now c.in-Join.conjunctive c.in-Join.first c.in-Join.rest c.in-Join.is some
+    join_none c.args.formula.now c.in-Join.junction c.in-Join.first c.in-Join.rest c.in-Join.is some
 
 pub returns-else-is_empty-2 : goal.returns-else-is_empty-2
 returns-else-is_empty-2 t c =
     let e = (c.is_empty-in-Each).ensures in
     let f = c.if-is_empty-2.false in
     let some : 0 < length c.in-Each.carriers.items = grind (arith, e, f) in
-    each_none c.args.formula.now c.in-Each.universal c.in-Each.slot c.in-Each.carriers c.in-Each.body c.in-Each.is some
+    each_none c.args.formula.now c.in-Each.quantifier c.in-Each.slot c.in-Each.carriers c.in-Each.body c.in-Each.is some

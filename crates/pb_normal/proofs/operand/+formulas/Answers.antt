@@ -3,6 +3,7 @@ use Rattle.std.specs.Prelude.{box_value}
 use Rattle.pb_typing_declarations.specs.View.{spec_of}
 use Rattle.pb_typing_rules.specs.Scope.{Scope}
 use Rattle.pb_typing.specs.Scopes.{scope_view, table_view}
+use Rattle.pb_typing.specs.View.{is_positive}
 use Rattle.pb_evaluation.proofs.FormulaWeight.{weight, weight-chain, links_weight, link_lighter}
 use Rattle.pb_typing.proofs.Nodes.{inner_scope}
 use Rattle.pb_normal.specs.declared.formula.Formula.{Formula}
@@ -10,7 +11,7 @@ use Rattle.pb_normal.specs.Loops.{IsShaped}
 use Rattle.pb_normal.specs.Normalisation.{normal}
 use Rattle.pb_normal.specs.Slots.{inner_slots, slotting}
 use Rattle.pb_normal.specs.Tree.{formula_of}
-use Rattle.pb_normal.specs.View.{nested, formula_view}
+use Rattle.pb_normal.specs.View.{nested, is_and, is_forall, formula_view}
 use Rattle.pb_normal.proofs.FormulaSteps.{done_begun, done_next, shaped_at, shapes_ended, chain-view, chain-node, chain_shaped, says_same}
 use Rattle.pb_normal.proofs.SlotLemmas.{inner_slotting, variables_of}
 use Rattle.pb_normal.proofs.ValueSteps.{grows_same, quantified-view}
@@ -25,8 +26,8 @@ normal_chain-normal_formula-requires t c =
 
 pub normal_chain-loop-index-init : goal.normal_chain-loop-index-init
 normal_chain-loop-index-init t c =
-    done_begun (spec_of c.args.context.now.values.declarations.now) c.args.connective c.args.even (slotting c.args.context.now.values.slots.now) (scope_view c.args.context.now.scope.now) c.args.first.now c.args.links.now c.args.carriers.now.items c.normal_formula.new.carriers.items
-    c.in_ok-head.head c.new-rest.result.items c.operand_parity-parity.result c.operand_parity-parity.ensures c.new-rest.ensures.items
+    done_begun (spec_of c.args.context.now.values.declarations.now) c.args.connective (is_positive c.args.polarity) (slotting c.args.context.now.values.slots.now) (scope_view c.args.context.now.scope.now) c.args.first.now c.args.links.now c.args.carriers.now.items c.normal_formula.new.carriers.items
+    c.in_ok-head.head c.new-rest.result.items (is_positive c.operand_polarity-of_first.result) c.operand_polarity-of_first.ensures c.new-rest.ensures.items
     c.requires c.in_ok-head.ensures.form c.in_ok-head.ensures.carriers
 
 pub normal_chain-normal_formula-requires-in-loop-index : goal.normal_chain-normal_formula-requires-in-loop-index
@@ -38,19 +39,19 @@ normal_chain-normal_formula-requires-in-loop-index t c =
 
 pub normal_chain-loop-index-preserved : goal.normal_chain-loop-index-preserved
 normal_chain-loop-index-preserved t c =
-    done_next (spec_of c.args.context.now.values.declarations.now) c.args.connective c.args.even (slotting c.args.context.now.values.slots.now) (scope_view c.args.context.now.scope.now) c.args.first.now c.args.links.now c.args.carriers.now.items c.loop-index.carriers.items c.normal_formula-in-loop-index.new.carriers.items
-    c.loop-index.index c.index-links-index.result _ c.in_ok-operand.operand c.loop-index.rest.items c.push.new.self.items c.operand_parity-parity-in-loop-index.result
-    c.loop-index-test.true c.index-links-index.is c.operand_parity-parity-in-loop-index.ensures c.in_ok-push.ensures.items c.in_ok-operand.ensures.form c.in_ok-operand.ensures.carriers c.loop-index.invariant
+    done_next (spec_of c.args.context.now.values.declarations.now) c.args.connective (is_positive c.args.polarity) (slotting c.args.context.now.values.slots.now) (scope_view c.args.context.now.scope.now) c.args.first.now c.args.links.now c.args.carriers.now.items c.loop-index.carriers.items c.normal_formula-in-loop-index.new.carriers.items
+    c.loop-index.index c.index-links-index.result _ c.in_ok-operand.operand c.loop-index.rest.items c.push.new.self.items (is_positive c.operand_polarity-of_link.result)
+    c.loop-index-test.true c.index-links-index.is c.operand_polarity-of_link.ensures c.in_ok-push.ensures.items c.in_ok-operand.ensures.form c.in_ok-operand.ensures.carriers c.loop-index.invariant
 
 pub normal_chain-returns-clause-form : goal.normal_chain-returns-clause-form
 normal_chain-returns-clause-form t c =
-    formula-join c.is_conjunctive.result c.in_ok-new.field-0 c.loop-index.rest
-    ∙ chain-view (spec_of c.args.context.now.values.declarations.now) c.args.connective c.args.even (slotting c.args.context.now.values.slots.now) (scope_view c.args.context.now.scope.now) c.args.first.now c.args.links.now c.args.carriers.now.items c.loop-index.carriers.items
-    c.loop-index.index _ c.loop-index.rest.items c.is_conjunctive.result (formula_view (box_value c.in_ok-new.field-0)) c.loop-index-test.false c.is_conjunctive.ensures (ap formula_view c.in_ok-new.ensures.ok) c.loop-index.invariant
+    formula-join c.signed_junction.result c.in_ok-new.field-0 c.loop-index.rest
+    ∙ chain-view (spec_of c.args.context.now.values.declarations.now) c.args.connective (is_positive c.args.polarity) (slotting c.args.context.now.values.slots.now) (scope_view c.args.context.now.scope.now) c.args.first.now c.args.links.now c.args.carriers.now.items c.loop-index.carriers.items
+    c.loop-index.index _ c.loop-index.rest.items (is_and c.signed_junction.result) (formula_view (box_value c.in_ok-new.field-0)) c.loop-index-test.false c.signed_junction.ensures (ap formula_view c.in_ok-new.ensures.ok) c.loop-index.invariant
 
 pub normal_chain-returns-clause-carriers : goal.normal_chain-returns-clause-carriers
 normal_chain-returns-clause-carriers t c =
-    shapes_ended (spec_of c.args.context.now.values.declarations.now) c.args.connective c.args.even (slotting c.args.context.now.values.slots.now) (scope_view c.args.context.now.scope.now) c.args.first.now c.args.links.now c.args.carriers.now.items c.loop-index.carriers.items c.loop-index.index _ c.loop-index.rest.items
+    shapes_ended (spec_of c.args.context.now.values.declarations.now) c.args.connective (is_positive c.args.polarity) (slotting c.args.context.now.values.slots.now) (scope_view c.args.context.now.scope.now) c.args.first.now c.args.links.now c.args.carriers.now.items c.loop-index.carriers.items c.loop-index.index _ c.loop-index.rest.items
     c.loop-index-test.false c.loop-index.invariant
 
 -- ---- quantifiers
@@ -61,11 +62,11 @@ normal_quantified-returns-clause-form t c =
     let xs = variables_of c.args.variables.now in
     let scope = scope_view c.args.context.now.scope.now in
     let inner = inner_scope S xs (table_view c.in_ok-shapes.shapes) scope c.in_ok-shapes.ensures in
-    ap (λ (f : Formula). nested c.is_universal.result c.len-slot.result c.in_ok-table.own.items (formula_view f)) c.in_ok-new.ensures.ok
-    ∙ quantified-view S c.args.even c.args.quantifier xs (slotting c.args.context.now.values.slots.now) _ scope (formula_of c.args.body.now) c.args.carriers.now.items c.bind_variables.new.carriers.items c.in_ok-table.own.items c.is_universal.result c.len-slot.result c.in_ok-body.body
-    (omega (arith, c.len-slot.ensures, c.args.carriers.now.ok.0)) c.is_universal.ensures (inner_slotting xs (length c.args.carriers.now.items) c.in_ok-table.table (slotting c.args.context.now.values.slots.now) c.in_ok-table.ensures.slots)
+    ap (λ (f : Formula). nested (is_forall c.signed_quantifier.result) c.len-slot.result c.in_ok-table.own.items (formula_view f)) c.in_ok-new.ensures.ok
+    ∙ quantified-view S (is_positive c.args.polarity) c.args.quantifier xs (slotting c.args.context.now.values.slots.now) _ scope (formula_of c.args.body.now) c.args.carriers.now.items c.bind_variables.new.carriers.items c.in_ok-table.own.items (is_forall c.signed_quantifier.result) c.len-slot.result c.in_ok-body.body
+    (omega (arith, c.len-slot.ensures, c.args.carriers.now.ok.0)) c.signed_quantifier.ensures (inner_slotting xs (length c.args.carriers.now.items) c.in_ok-table.table (slotting c.args.context.now.values.slots.now) c.in_ok-table.ensures.slots)
     c.in_ok-table.ensures.own c.in_ok-table.ensures.carriers
-    (c.in_ok-body.ensures.form ∙ ap (λ (s : Scope). normal S c.args.even (inner_slots c.in_ok-table.table (slotting c.args.context.now.values.slots.now)) s (length c.bind_variables.new.carriers.items) (formula_of c.args.body.now)) inner)
+    (c.in_ok-body.ensures.form ∙ ap (λ (s : Scope). normal S (is_positive c.args.polarity) (inner_slots c.in_ok-table.table (slotting c.args.context.now.values.slots.now)) s (length c.bind_variables.new.carriers.items) (formula_of c.args.body.now)) inner)
 
 -- ---- nodes
 
@@ -79,7 +80,7 @@ normal_formula-normal_chain-requires t c =
 pub normal_formula-returns-in-Chain-clause-form : goal.normal_formula-returns-in-Chain-clause-form
 normal_formula-returns-in-Chain-clause-form t c =
     let node = chain-node c.args.formula.now c.deref-in-Chain.result.now c.in-Chain.connective c.in-Chain.first c.in-Chain.links (c.deref-in-Chain-2).result.now c.in-Chain.is c.deref-in-Chain.ensures (c.deref-in-Chain-2).ensures.value in
-    says_same (spec_of c.args.context.now.values.declarations.now) c.args.even (slotting c.args.context.now.values.slots.now) (scope_view c.args.context.now.scope.now) (length c.args.carriers.now.items) c.normal_chain.result _ _ node c.normal_chain.ensures.form
+    says_same (spec_of c.args.context.now.values.declarations.now) (is_positive c.args.polarity) (slotting c.args.context.now.values.slots.now) (scope_view c.args.context.now.scope.now) (length c.args.carriers.now.items) c.normal_chain.result _ _ node c.normal_chain.ensures.form
 
 pub normal_formula-returns-in-Chain-clause-carriers : goal.normal_formula-returns-in-Chain-clause-carriers
 normal_formula-returns-in-Chain-clause-carriers t c =

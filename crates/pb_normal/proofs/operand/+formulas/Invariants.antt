@@ -1,6 +1,7 @@
 use Rattle.std.proofs.Common.{◌+◌, ◌*◌}
 use Rattle.pb_typing_declarations.specs.View.{spec_of}
 use Rattle.pb_typing.specs.Scopes.{scope_view}
+use Rattle.pb_typing.specs.View.{is_positive}
 use Rattle.pb_evaluation.proofs.FormulaWeight.{weight, links_weight}
 use Rattle.pb_normal.specs.Slots.{slotting}
 use Rattle.pb_normal.proofs.FormulaSteps.{AreDone}
@@ -20,4 +21,4 @@ decreases-normal_chain l = 3 * (weight l.first.now + links_weight l.links.now) +
 
 abbrev pub invariant-normal_chain-loop-index : goal.invariant-normal_chain-loop-index
 invariant-normal_chain-loop-index l =
-    AreDone (spec_of l.context.values.declarations.now) l.connective l.even (slotting l.context.values.slots.now) (scope_view l.context.scope.now) l.first l.links l.fn.carriers.items l.index l.head l.rest.items l.carriers.items
+    AreDone (spec_of l.context.values.declarations.now) l.connective (is_positive l.polarity) (slotting l.context.values.slots.now) (scope_view l.context.scope.now) l.first l.links l.fn.carriers.items l.index l.head l.rest.items l.carriers.items

@@ -7,6 +7,7 @@ use Rattle.pb_text_meaning.specs.Syntax as syntax
 use Rattle.pb_text_meaning.specs.Erase.{erased_term}
 use Rattle.pb_typing_declarations.specs.View.{spec_of}
 use Rattle.pb_typing_rules.specs.Scope.{bound}
+use Rattle.pb_typing.specs.View.{is_positive}
 use Rattle.pb_evaluation.proofs.Weight.{weight, weight-chain, weight-arithmetic, links_weight, link_lighter}
 use Rattle.pb_normal.specs.declared.formula.Formula.{Formula}
 use Rattle.pb_normal.specs.Expansion.{expanded_term, has_quantifier}
@@ -15,7 +16,7 @@ use Rattle.pb_normal.specs.Links.{quantified_count}
 use Rattle.pb_normal.specs.Slots.{slotting}
 use Rattle.pb_normal.specs.Tail.{tail_tests}
 use Rattle.pb_normal.specs.Tree.{value_of}
-use Rattle.pb_normal.specs.View.{nested, formula_view, formula_views}
+use Rattle.pb_normal.specs.View.{nested, is_and, is_forall, formula_view, formula_views}
 use Rattle.pb_normal.proofs.LinkCount.{count_within}
 use Rattle.pb_normal.proofs.NormalChains.{plain-expanded}
 use Rattle.pb_normal.proofs.SlotLemmas.{inner_slotting, variables_of}
@@ -35,8 +36,8 @@ normal_operands-split_at-requires t c = omega (arith, c.quantified_links.ensures
 
 pub normal_operands-loop-index-init : goal.normal_operands-loop-index-init
 normal_operands-loop-index-init t c =
-    done_begun (spec_of c.args.context.now.declarations.now) c.args.connective c.args.even (slotting c.args.context.now.slots.now) c.args.first.now c.args.links.now c.args.carriers.now.items c.normal_value.new.carriers.items
-    c.in_ok-head.head c.new-rest.result.items c.operand_parity-parity.result c.operand_parity-parity.ensures c.new-rest.ensures.items
+    done_begun (spec_of c.args.context.now.declarations.now) c.args.connective (is_positive c.args.polarity) (slotting c.args.context.now.slots.now) c.args.first.now c.args.links.now c.args.carriers.now.items c.normal_value.new.carriers.items
+    c.in_ok-head.head c.new-rest.result.items (is_positive c.operand_polarity-of_first.result) c.operand_polarity-of_first.ensures c.new-rest.ensures.items
     c.requires.shaped c.in_ok-head.ensures.form c.in_ok-head.ensures.carriers
 
 pub normal_operands-normal_value-requires-in-loop-index : goal.normal_operands-normal_value-requires-in-loop-index
@@ -56,9 +57,9 @@ normal_operands-loop-index-preserved t c =
     let counts : k < quantified_count links = omega (arith, c.loop-index-test.true, c.split_at.ensures.front_len, c.quantified_links.ensures) in
     let below : k < length links = omega (arith, counts, count_within links) in
     let at = link_at links c.split_at.result.0.now c.split_at.result.1.now k link c.loop-index-test.true c.split_at.ensures.by_index.0 c.index-operands-index.is in
-    done_next (spec_of c.args.context.now.declarations.now) c.args.connective c.args.even (slotting c.args.context.now.slots.now) c.args.first.now links c.args.carriers.now.items c.loop-index.carriers.items c.normal_value-in-loop-index.new.carriers.items k link
-    _ c.in_ok-operand.operand c.loop-index.rest.items c.push.new.self.items c.operand_parity-parity-in-loop-index.result
-    below at counts c.operand_parity-parity-in-loop-index.ensures c.in_ok-push.ensures.items c.in_ok-operand.ensures.form c.in_ok-operand.ensures.carriers c.loop-index.invariant
+    done_next (spec_of c.args.context.now.declarations.now) c.args.connective (is_positive c.args.polarity) (slotting c.args.context.now.slots.now) c.args.first.now links c.args.carriers.now.items c.loop-index.carriers.items c.normal_value-in-loop-index.new.carriers.items k link
+    _ c.in_ok-operand.operand c.loop-index.rest.items c.push.new.self.items (is_positive c.operand_polarity-of_link.result)
+    below at counts c.operand_polarity-of_link.ensures c.in_ok-push.ensures.items c.in_ok-operand.ensures.form c.in_ok-operand.ensures.carriers c.loop-index.invariant
 
 pub normal_operands-returns-clause-form : goal.normal_operands-returns-clause-form
 normal_operands-returns-clause-form t c = λ scope.
@@ -68,15 +69,15 @@ normal_operands-returns-clause-form t c = λ scope.
     let k = c.loop-index.index in
     let all : k ≡ quantified_count links = omega (arith, c.loop-index-test.false, c.loop-index.auto.index-end, c.split_at.ensures.front_len, c.quantified_links.ensures) in
     let left : c.split_at.result.1.now ≡ drop k links = c.split_at.ensures.back ∙ ap (λ (n : ℕ). drop n links) (c.quantified_links.ensures ∙ sym all) in
-    let others = done_ended S c.args.connective c.args.even slots c.args.first.now links c.args.carriers.now.items c.loop-index.carriers.items k _ c.loop-index.rest.items all c.loop-index.invariant scope
-    ∙ (ap (λ (ls : List TermLink). formula_views c.loop-index.rest.items ++ tail_tests S c.args.even slots c.args.connective ls) (sym left) ∙ sym c.in_ok-rest.ensures) in
-    formula-join c.is_conjunctive.result c.in_ok-new.field-0 c.in_ok-rest.rest
-    ∙ chain-view S c.args.connective c.args.even slots scope (length c.args.carriers.now.items) c.args.first.now links c.is_conjunctive.result (formula_view (box_value c.in_ok-new.field-0)) (formula_views c.in_ok-rest.rest.items)
-    c.is_conjunctive.ensures (ap formula_view c.in_ok-new.ensures.ok ∙ c.loop-index.invariant.head scope) others c.requires.quantified
+    let others = done_ended S c.args.connective (is_positive c.args.polarity) slots c.args.first.now links c.args.carriers.now.items c.loop-index.carriers.items k _ c.loop-index.rest.items all c.loop-index.invariant scope
+    ∙ (ap (λ (ls : List TermLink). formula_views c.loop-index.rest.items ++ tail_tests S (is_positive c.args.polarity) slots c.args.connective ls) (sym left) ∙ sym c.in_ok-rest.ensures) in
+    formula-join c.signed_junction.result c.in_ok-new.field-0 c.in_ok-rest.rest
+    ∙ chain-view S c.args.connective (is_positive c.args.polarity) slots scope (length c.args.carriers.now.items) c.args.first.now links (is_and c.signed_junction.result) (formula_view (box_value c.in_ok-new.field-0)) (formula_views c.in_ok-rest.rest.items)
+    c.signed_junction.ensures (ap formula_view c.in_ok-new.ensures.ok ∙ c.loop-index.invariant.head scope) others c.requires.quantified
 
 pub normal_operands-returns-clause-carriers : goal.normal_operands-returns-clause-carriers
 normal_operands-returns-clause-carriers t c =
-    shapes_ended (spec_of c.args.context.now.declarations.now) c.args.connective c.args.even (slotting c.args.context.now.slots.now) c.args.first.now c.args.links.now c.args.carriers.now.items c.loop-index.carriers.items c.loop-index.index _ c.loop-index.rest.items
+    shapes_ended (spec_of c.args.context.now.declarations.now) c.args.connective (is_positive c.args.polarity) (slotting c.args.context.now.slots.now) c.args.first.now c.args.links.now c.args.carriers.now.items c.loop-index.carriers.items c.loop-index.index _ c.loop-index.rest.items
     (omega (arith, c.loop-index-test.false, c.loop-index.auto.index-end, c.split_at.ensures.front_len, c.quantified_links.ensures)) c.loop-index.invariant
 
 -- ---- quantifiers
@@ -85,16 +86,16 @@ pub normal_quantified-returns-clause-form : goal.normal_quantified-returns-claus
 normal_quantified-returns-clause-form t c = λ scope.
     let S = spec_of c.args.context.now.declarations.now in
     let xs = variables_of c.args.variables.now in
-    ap (λ (f : Formula). nested c.is_universal.result c.len-slot.result c.in_ok-table.own.items (formula_view f)) c.in_ok-new.ensures.ok
-    ∙ quantified-view S c.args.even c.args.quantifier xs (slotting c.args.context.now.slots.now) _ scope (value_of c.args.body.now) c.args.carriers.now.items c.bind_variables.new.carriers.items c.in_ok-table.own.items c.is_universal.result c.len-slot.result c.in_ok-body.body
-    (omega (arith, c.len-slot.ensures, c.args.carriers.now.ok.0)) c.is_universal.ensures (inner_slotting xs (length c.args.carriers.now.items) c.in_ok-table.table (slotting c.args.context.now.slots.now) c.in_ok-table.ensures.slots)
+    ap (λ (f : Formula). nested (is_forall c.signed_quantifier.result) c.len-slot.result c.in_ok-table.own.items (formula_view f)) c.in_ok-new.ensures.ok
+    ∙ quantified-view S (is_positive c.args.polarity) c.args.quantifier xs (slotting c.args.context.now.slots.now) _ scope (value_of c.args.body.now) c.args.carriers.now.items c.bind_variables.new.carriers.items c.in_ok-table.own.items (is_forall c.signed_quantifier.result) c.len-slot.result c.in_ok-body.body
+    (omega (arith, c.len-slot.ensures, c.args.carriers.now.ok.0)) c.signed_quantifier.ensures (inner_slotting xs (length c.args.carriers.now.items) c.in_ok-table.table (slotting c.args.context.now.slots.now) c.in_ok-table.ensures.slots)
     c.in_ok-table.ensures.own c.in_ok-table.ensures.carriers (c.in_ok-body.ensures.form (bound S xs scope))
 
 -- ---- nodes
 
 pub normal_value-returns-then-not-has_quantifier-clause-form : goal.normal_value-returns-then-not-has_quantifier-clause-form
 normal_value-returns-then-not-has_quantifier-clause-form t c =
-    plain_says (spec_of c.args.context.now.declarations.now) c.args.even (slotting c.args.context.now.slots.now) (length c.args.carriers.now.items) c.plain_test.result (value_of c.args.term.now) (erased_term (term_form c.args.term.now))
+    plain_says (spec_of c.args.context.now.declarations.now) (is_positive c.args.polarity) (slotting c.args.context.now.slots.now) (length c.args.carriers.now.items) c.plain_test.result (value_of c.args.term.now) (erased_term (term_form c.args.term.now))
     (plain-expanded (erased_term (term_form c.args.term.now)) (sym c.has_quantifier.ensures ∙ c.if-not-has_quantifier.true)) c.plain_test.ensures
 
 pub normal_value-returns-then-not-has_quantifier-clause-carriers : goal.normal_value-returns-then-not-has_quantifier-clause-carriers
@@ -115,7 +116,7 @@ normal_value-normal_operands-requires t c =
 pub normal_value-returns-in-Chain-clause-form : goal.normal_value-returns-in-Chain-clause-form
 normal_value-returns-in-Chain-clause-form t c =
     let node = chain-node c.args.term.now c.deref-in-Chain.result.now c.in-Chain.connective c.in-Chain.first c.in-Chain.links (c.deref-in-Chain-2).result.now c.in-Chain.is c.deref-in-Chain.ensures (c.deref-in-Chain-2).ensures.value in
-    says_same (spec_of c.args.context.now.declarations.now) c.args.even (slotting c.args.context.now.slots.now) (length c.args.carriers.now.items) c.normal_operands.result _ _ (ap expanded_term node) c.normal_operands.ensures.form
+    says_same (spec_of c.args.context.now.declarations.now) (is_positive c.args.polarity) (slotting c.args.context.now.slots.now) (length c.args.carriers.now.items) c.normal_operands.result _ _ (ap expanded_term node) c.normal_operands.ensures.form
 
 pub normal_value-returns-in-Chain-clause-carriers : goal.normal_value-returns-in-Chain-clause-carriers
 normal_value-returns-in-Chain-clause-carriers t c =
@@ -137,7 +138,7 @@ normal_value-returns-then-is_empty-clause-form t c =
     let links = c.in-Arithmetic.links in
     let none : length links.items ≡ 0 = omega (arith, eqb-true (vec_len links) 0 (sym c.is_empty.ensures ∙ c.if-is_empty.true), links.ok.0) in
     let node = operand-node c.args.term.now c.deref-then-is_empty.result.now c.in-Arithmetic.first links c.in-Arithmetic.is c.deref-then-is_empty.ensures none in
-    says_same (spec_of c.args.context.now.declarations.now) c.args.even (slotting c.args.context.now.slots.now) (length c.args.carriers.now.items) c.normal_value-then-is_empty.result _ _ (ap expanded_term node) c.normal_value-then-is_empty.ensures.form
+    says_same (spec_of c.args.context.now.declarations.now) (is_positive c.args.polarity) (slotting c.args.context.now.slots.now) (length c.args.carriers.now.items) c.normal_value-then-is_empty.result _ _ (ap expanded_term node) c.normal_value-then-is_empty.ensures.form
 
 pub normal_value-returns-then-is_empty-clause-carriers : goal.normal_value-returns-then-is_empty-clause-carriers
 normal_value-returns-then-is_empty-clause-carriers t c =
@@ -150,7 +151,7 @@ pub normal_value-returns-else-is_empty-clause-form : goal.normal_value-returns-e
 normal_value-returns-else-is_empty-clause-form t c =
     let links = c.in-Arithmetic.links in
     let some : length links.items ≡ 0 → ⊥ = λ e. true≢false (sym (ap (λ (n : ℕ). n == 0) (empty-count links e)) ∙ (sym c.is_empty.ensures ∙ c.if-is_empty.false)) in
-    plain_says (spec_of c.args.context.now.declarations.now) c.args.even (slotting c.args.context.now.slots.now) (length c.args.carriers.now.items) c.plain_test-else-is_empty.result (value_of c.args.term.now) (erased_term (term_form c.args.term.now))
+    plain_says (spec_of c.args.context.now.declarations.now) (is_positive c.args.polarity) (slotting c.args.context.now.slots.now) (length c.args.carriers.now.items) c.plain_test-else-is_empty.result (value_of c.args.term.now) (erased_term (term_form c.args.term.now))
     (arithmetic-node c.args.term.now c.in-Arithmetic.first links c.in-Arithmetic.is some) c.plain_test-else-is_empty.ensures
 
 pub normal_value-returns-else-is_empty-clause-carriers : goal.normal_value-returns-else-is_empty-clause-carriers

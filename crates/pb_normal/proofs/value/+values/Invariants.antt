@@ -1,5 +1,6 @@
 use Rattle.std.proofs.Common.{◌+◌, ◌*◌}
 use Rattle.pb_typing_declarations.specs.View.{spec_of}
+use Rattle.pb_typing.specs.View.{is_positive}
 use Rattle.pb_evaluation.proofs.Weight.{weight, links_weight}
 use Rattle.pb_normal.specs.Slots.{slotting}
 use Rattle.pb_normal.proofs.ValueSteps.{AreDone}
@@ -19,4 +20,4 @@ decreases-normal_operands l = 3 * (weight l.first.now + links_weight l.links.now
 
 abbrev pub invariant-normal_operands-loop-index : goal.invariant-normal_operands-loop-index
 invariant-normal_operands-loop-index l =
-    AreDone (spec_of l.context.declarations.now) l.connective l.even (slotting l.context.slots.now) l.first l.links l.fn.carriers.items l.index l.head l.rest.items l.carriers.items
+    AreDone (spec_of l.context.declarations.now) l.connective (is_positive l.polarity) (slotting l.context.slots.now) l.first l.links l.fn.carriers.items l.index l.head l.rest.items l.carriers.items
