@@ -12,8 +12,8 @@ use pb_game::Game;
 use pb_game_certificate::Solution;
 use std::alloc::AllocError;
 
-/// Finds to where plays from `v` lead, over vertices of brackets; the nearest first. Marks stand at the vertices of
-/// instances.
+/// Finds to where plays from `v` lead, over vertices of brackets; the nearest first. Marks stand at
+/// the vertices of instances.
 pub(crate) fn search(
     game: &Game,
     solution: &Solution,
@@ -61,7 +61,8 @@ fn find_next(game: &Game, solution: &Solution, v: u32, found: &mut Found) -> Res
 fn is_kept(game: &Game, solution: &Solution, v: u32, u: u32) -> bool
     requires lengths { HasLengths game.now solution.now }
     requires vertex { v < vertex_count game.now }
-    ensures { IsTrue result ↔ (owner_of game.now v ≡ winner_of solution.now v → choice_of solution.now v ≡ u) }
+    ensures { IsTrue result ↔ (owner_of game.now v ≡ winner_of solution.now v
+        → choice_of solution.now v ≡ u) }
 {
     game.owner(v) != solution.winner(v) || solution.choice(v) == u
 }

@@ -9,7 +9,9 @@ ghost use Rattle.pb_game_answer.specs.Explored.{HaveTrees};
 ghost use Rattle.pb_report_texts.specs.Report.{truth_line};
 ghost use Rattle.pb_report_texts.specs.InstanceName.{instance_name};
 ghost use Rattle.pb_report_texts.specs.Sending.{Sends, Writes, IsOutOfMemory};
-ghost use Rattle.pb_evidence_texts.specs.EvidenceText.{truth_mark, dependency_text, dependencies_text, line_end, evidence_line, evidence_lines};
+ghost use Rattle.pb_evidence_texts.specs.EvidenceText.{truth_mark, dependency_text};
+ghost use Rattle.pb_evidence_texts.specs.EvidenceText.{dependencies_text, line_end, evidence_line};
+ghost use Rattle.pb_evidence_texts.specs.EvidenceText.{evidence_lines};
 ghost use Rattle.pb_evidence_texts.specs.ModuleEvidence.{IsModuleEvidence, module_evidence_text};
 
 use pb_evidence::Evidence;
@@ -20,7 +22,8 @@ use pb_verifier::Verified;
 use std::alloc::Global;
 
 fn write_answer<S: Sink>(buffer: &mut TextBuffer, truth: bool, sink: &mut S) -> Result<(), E02>
-    ensures { Sends result (S.taken sink.old) (S.taken sink.new) (S.has_failed sink.old) (S.has_failed sink.new) buffer.old.bytes.items buffer.new.bytes.items (truth_line truth) }
+    ensures { Sends result (S.taken sink.old) (S.taken sink.new) (S.has_failed sink.old)
+        (S.has_failed sink.new) buffer.old.bytes.items buffer.new.bytes.items (truth_line truth) }
 {
     if truth {
         buffer.write(b"answer true\n", sink)
@@ -30,7 +33,8 @@ fn write_answer<S: Sink>(buffer: &mut TextBuffer, truth: bool, sink: &mut S) -> 
 }
 
 fn write_truth<S: Sink>(buffer: &mut TextBuffer, truth: bool, sink: &mut S) -> Result<(), E02>
-    ensures { Sends result (S.taken sink.old) (S.taken sink.new) (S.has_failed sink.old) (S.has_failed sink.new) buffer.old.bytes.items buffer.new.bytes.items (truth_mark truth) }
+    ensures { Sends result (S.taken sink.old) (S.taken sink.new) (S.has_failed sink.old)
+        (S.has_failed sink.new) buffer.old.bytes.items buffer.new.bytes.items (truth_mark truth) }
 {
     if truth {
         buffer.write(b" true:", sink)
@@ -47,7 +51,9 @@ fn write_dependency<S: Sink>(
     sink: &mut S,
 ) -> Result<(), E02>
     requires { number < count_of (parameters verified.now) }
-    ensures { Sends result (S.taken sink.old) (S.taken sink.new) (S.has_failed sink.old) (S.has_failed sink.new) buffer.old.bytes.items buffer.new.bytes.items (dependency_text (instance_name verified.now) number) }
+    ensures { Sends result (S.taken sink.old) (S.taken sink.new) (S.has_failed sink.old)
+        (S.has_failed sink.new) buffer.old.bytes.items buffer.new.bytes.items
+        (dependency_text (instance_name verified.now) number) }
 {
     buffer.write(b" ", sink)?;
     write_instance_name(buffer, verified, number, sink)
@@ -60,8 +66,11 @@ fn write_dependencies<S: Sink>(
     numbers: &[u32],
     sink: &mut S,
 ) -> Result<(), E02>
-    requires { (k : ℕ) → k < length numbers.now → slice_index numbers.now k < count_of (parameters verified.now) }
-    ensures { Sends result (S.taken sink.old) (S.taken sink.new) (S.has_failed sink.old) (S.has_failed sink.new) buffer.old.bytes.items buffer.new.bytes.items (dependencies_text (instance_name verified.now) numbers.now) }
+    requires { (k : ℕ) → k < length numbers.now
+        → slice_index numbers.now k < count_of (parameters verified.now) }
+    ensures { Sends result (S.taken sink.old) (S.taken sink.new) (S.has_failed sink.old)
+        (S.has_failed sink.new) buffer.old.bytes.items buffer.new.bytes.items
+        (dependencies_text (instance_name verified.now) numbers.now) }
 {
     for k in 0..numbers.len() {
         write_dependency(buffer, verified, numbers[k], sink)?;
@@ -77,8 +86,11 @@ fn write_line_end<S: Sink>(
     dependencies: &[u32],
     sink: &mut S,
 ) -> Result<(), E02>
-    requires { (k : ℕ) → k < length dependencies.now → slice_index dependencies.now k < count_of (parameters verified.now) }
-    ensures { Sends result (S.taken sink.old) (S.taken sink.new) (S.has_failed sink.old) (S.has_failed sink.new) buffer.old.bytes.items buffer.new.bytes.items (line_end (instance_name verified.now) truth dependencies.now) }
+    requires { (k : ℕ) → k < length dependencies.now
+        → slice_index dependencies.now k < count_of (parameters verified.now) }
+    ensures { Sends result (S.taken sink.old) (S.taken sink.new) (S.has_failed sink.old)
+        (S.has_failed sink.new) buffer.old.bytes.items buffer.new.bytes.items
+        (line_end (instance_name verified.now) truth dependencies.now) }
 {
     write_truth(buffer, truth, sink)?;
     write_dependencies(buffer, verified, dependencies, sink)?;
@@ -96,8 +108,10 @@ fn write_line<S: Sink>(
     requires place { place < length evidence.now.instances.items }
     requires trees { HaveTrees verified.now }
     requires evidence { IsModuleEvidence verified.now evidence.now }
-    ensures { Sends result (S.taken sink.old) (S.taken sink.new) (S.has_failed sink.old) (S.has_failed sink.new) buffer.old.bytes.items buffer.new.bytes.items
-        (evidence_line (instance_name verified.now) evidence.now.truth (slice_index evidence.now.instances.items place)
+    ensures { Sends result (S.taken sink.old) (S.taken sink.new) (S.has_failed sink.old)
+        (S.has_failed sink.new) buffer.old.bytes.items buffer.new.bytes.items
+        (evidence_line (instance_name verified.now) evidence.now.truth
+        (slice_index evidence.now.instances.items place)
         ((graph_of evidence.now).dependencies (slice_index evidence.now.instances.items place))) }
 {
     write_instance_name(buffer, verified, evidence.instances[place], sink)?;
@@ -119,8 +133,10 @@ fn write_lines<S: Sink>(
 ) -> Result<(), E02>
     requires trees { HaveTrees verified.now }
     requires evidence { IsModuleEvidence verified.now evidence.now }
-    ensures { Sends result (S.taken sink.old) (S.taken sink.new) (S.has_failed sink.old) (S.has_failed sink.new) buffer.old.bytes.items buffer.new.bytes.items
-        (evidence_lines (instance_name verified.now) evidence.now.truth (graph_of evidence.now).dependencies evidence.now.instances.items) }
+    ensures { Sends result (S.taken sink.old) (S.taken sink.new) (S.has_failed sink.old)
+        (S.has_failed sink.new) buffer.old.bytes.items buffer.new.bytes.items
+        (evidence_lines (instance_name verified.now) evidence.now.truth
+        (graph_of evidence.now).dependencies evidence.now.instances.items) }
 {
     for place in 0..evidence.instances.len() {
         write_line(buffer, verified, evidence, place, sink)?;
@@ -136,17 +152,21 @@ fn write_evidence<S: Sink>(
 ) -> Result<(), E02>
     requires trees { HaveTrees verified.now }
     requires evidence { IsModuleEvidence verified.now evidence.now }
-    ensures { Sends result (S.taken sink.old) (S.taken sink.new) (S.has_failed sink.old) (S.has_failed sink.new) buffer.old.bytes.items buffer.new.bytes.items (module_evidence_text verified.now evidence.now) }
+    ensures { Sends result (S.taken sink.old) (S.taken sink.new) (S.has_failed sink.old)
+        (S.has_failed sink.new) buffer.old.bytes.items buffer.new.bytes.items
+        (module_evidence_text verified.now evidence.now) }
 {
     write_answer(buffer, evidence.truth, sink)?;
     write_lines(buffer, verified, evidence, sink)
 }
 
-/// Appends evidence for the truth of a module's initial instance: the answer, and then a line for each instance with the
-/// instances that it rests on, the initial one first and the nearest before others.
+/// Appends evidence for the truth of a module's initial instance: the answer, and then a line for
+/// each instance with the instances that it rests on, the initial one first and the nearest before
+/// others.
 ///
 /// # Errors
-/// `Memory` before the first byte. After `Failed` a part that begins the text, and not the whole of it, went out.
+/// `Memory` before the first byte. After `Failed` a part that begins the text, and not the whole of
+/// it, went out.
 pub fn evidence_text<S: Sink>(
     alloc: Global,
     verified: &Verified,
@@ -155,7 +175,8 @@ pub fn evidence_text<S: Sink>(
 ) -> Result<(), WriteError>
     requires trees { HaveTrees verified.now }
     requires evidence { IsModuleEvidence verified.now evidence.now }
-    ensures text { Writes result (S.taken sink.old) (S.taken sink.new) (S.has_failed sink.old) (S.has_failed sink.new) (module_evidence_text verified.now evidence.now) }
+    ensures text { Writes result (S.taken sink.old) (S.taken sink.new) (S.has_failed sink.old)
+        (S.has_failed sink.new) (module_evidence_text verified.now evidence.now) }
     ensures silent { IfErr result (λ e. IsOutOfMemory e → sink.new ≡ sink.old) }
 {
     let mut buffer = TextBuffer::new(alloc)?;

@@ -6,7 +6,8 @@ ghost use Rattle.pb_report_texts.specs.VertexNames.{AreRising};
 use pb_rows::IndexedRows;
 use std::alloc::{AllocError, Global};
 
-/// A mark and a number for each vertex of a game: marks stand at the vertices of instances, whose numbers are beside them.
+/// A mark and a number for each vertex of a game: marks stand at the vertices of instances, whose
+/// numbers are beside them.
 #[derive(Drop)]
 pub(crate) struct InstanceMarks {
     pub marks: Vec<bool>,
@@ -28,7 +29,8 @@ impl InstanceMarks {
         requires rising { AreRising vertices.now }
         ensures marks { IfOk result (λ x. length x.marks.items ≡ count) }
         ensures numbers { IfOk result (λ x. length x.numbers.items ≡ count) }
-        ensures marked { IfOk result (λ x. AreMarked vertices.now rows.now (length rows.now) x.marks.items x.numbers.items) }
+        ensures marked { IfOk result (λ x. AreMarked vertices.now rows.now
+            (length rows.now) x.marks.items x.numbers.items) }
     {
         let mut marks = vec![in alloc; false; count as usize]?;
         let mut numbers = vec![in alloc; 0u32; count as usize]?;

@@ -1,5 +1,5 @@
-//! Why a module's initial instance is true or false: its evidence, from the solved game of the reached instances, and the
-//! text of it, which streams to a sink through a buffer of fixed size.
+//! Why a module's initial instance is true or false: its evidence, from the solved game of the
+//! reached instances, and the text of it, which streams to a sink through a buffer of fixed size.
 #![tactic(auto)]
 
 pub mod evidence_text;

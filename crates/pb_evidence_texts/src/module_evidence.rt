@@ -12,17 +12,20 @@ use pb_rows::IndexedRows;
 use pb_strategy::Checked;
 use std::alloc::{AllocError, Global};
 
-/// Why the initial instance of a module has its truth value, as a proof graph (Cranen, Luttik and Willemse 2013), from the
-/// solved game of the module's reached instances.
+/// Why the initial instance of a module has its truth value, as a proof graph (Cranen, Luttik and
+/// Willemse 2013), from the solved game of the module's reached instances.
 ///
-/// The work is linear in the number of the game's vertices, and of the edges from those that the winner's plays come to.
+/// The work is linear in the number of the game's vertices, and of the edges from those that the
+/// winner's plays come to.
 pub fn evidence_of(
     alloc: Global,
     solved: &Solved,
     rows: &IndexedRows,
 ) -> Result<Evidence, AllocError>
-    requires { (m : Contents) × HaveTrees m × AreModuleRows m rows.now × IsModuleGame m rows.now solved.now.built }
-    ensures { IfOk result (λ e. (m : Contents) → AreModuleRows m rows.now → IsModuleGame m rows.now solved.now.built → IsModuleEvidence m e) }
+    requires { (m : Contents) × HaveTrees m × AreModuleRows m rows.now
+        × IsModuleGame m rows.now solved.now.built }
+    ensures { IfOk result (λ e. (m : Contents) → AreModuleRows m rows.now
+        → IsModuleGame m rows.now solved.now.built → IsModuleEvidence m e) }
 {
     pb_trees::games_of_rows_are_total();
     let built = &solved.built;

@@ -1,5 +1,5 @@
 -- Whether a number is in a list, as a test and by its place.
-use Rattle.std.proofs.Common.{◌≡◌, ℕ, zero, suc, ◌<◌, Bool, true, false, List, [], ◌∷◌, length, get_or, arith, refl, sym, ◌∙◌, inl, inr}
+use Rattle.std.proofs.Common.{◌≡◌, ℕ, zero, suc, ◌<◌, true, false, List, [], ◌∷◌, length, get_or, arith, ◌∙◌, inl, inr}
 use Rattle.std.specs.Prelude.{◌==◌, Contains}
 use Rattle.std.proofs.lemmas.Bool.{cases_eq}
 use Rattle.std.proofs.lemmas.Bool.Decides.{nat_tests}
@@ -37,10 +37,3 @@ contains_at xs x k h = (k, h.within, get_or_default xs k x 0 h.within ∙ h.ther
 
 pub contains_place : (xs : List ℕ) (x : ℕ) → Contains xs x → (k : ℕ) × IsAt xs x k
 contains_place xs x h = (h.0, record { within = h.1; there = get_or_default xs h.0 0 x h.1 ∙ h.2 })
-
--- two tests that pass together are one
-pub same_tests : (b c : Bool) → (b ≡ true → c ≡ true) → (c ≡ true → b ≡ true) → b ≡ c
-same_tests true true f g = refl
-same_tests true false f g = sym (f refl)
-same_tests false true f g = g refl
-same_tests false false f g = refl

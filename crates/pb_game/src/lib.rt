@@ -1,12 +1,13 @@
 //! Parity games as flat lists.
 //!
-//! A parity game (Zielonka 1998) has finitely many vertices, each owned by player 0 or 1, with a priority and
-//! at least one successor. A token moves along the edges for ever, and player 0 wins a play exactly where the
-//! greatest priority that occurs infinitely often is even. A [`Game`] keeps beside the successors of each
-//! vertex its predecessors, which attractors are computed by.
+//! A parity game (Zielonka 1998) has finitely many vertices, each owned by player 0 or 1, with a
+//! priority and at least one successor. A token moves along the edges for ever, and player 0 wins a
+//! play exactly where the greatest priority that occurs infinitely often is even. A [`Game`] keeps
+//! beside the successors of each vertex its predecessors, which attractors are computed by.
 #![tactic(auto)]
 
-ghost use Rattle.std.specs.Prelude.{◌≡◌, ℕ, ◌<◌, ◌≤◌, length, slice_index, IfOk, IfErr, IsTrue, Contains, ◌↔◌};
+ghost use Rattle.std.specs.Prelude.{◌≡◌, ℕ, ◌<◌, ◌≤◌, length, slice_index, IfOk, IfErr, IsTrue};
+ghost use Rattle.std.specs.Prelude.{Contains, ◌↔◌};
 ghost use Rattle.pb_game.specs.Adjacency.{IsFlatGame};
 
 mod adjacency;
@@ -18,7 +19,8 @@ pub use parts::{GameError, Parts};
 use predecessors::{Predecessors, transpose};
 use std::alloc::Global;
 
-/// A parity game of at most 2^24 vertices, which are the numbers below [`Game::len`], and 256 priorities.
+/// A parity game of at most 2^24 vertices, which are the numbers below [`Game::len`], and 256
+/// priorities.
 #[derive(Drop)]
 pub struct Game {
     owners: Vec<u8>,
@@ -32,7 +34,8 @@ pub struct Game {
 }
 
 impl Game {
-    ghost use Rattle.pb_game.specs.Games.{vertex_count, owner_of, priority_of, greatest_priority, successors_of, predecessors_of, HasEdge, IsGame};
+    ghost use Rattle.pb_game.specs.Games.{vertex_count, owner_of, priority_of, greatest_priority};
+    ghost use Rattle.pb_game.specs.Games.{successors_of, predecessors_of, HasEdge, IsGame};
     ghost use Rattle.pb_game.specs.Parts.{IsGameOf, Refuses};
 
     /// The greatest number of vertices, 2^24.
@@ -119,7 +122,8 @@ impl Game {
     pub fn successors(&self, v: u32) -> &[u32]
         requires { v < vertex_count self.now }
         ensures list { result.now ≡ successors_of self.now v }
-        ensures closed { (k : ℕ) → k < length result.now → slice_index result.now k < vertex_count self.now }
+        ensures closed { (k : ℕ) → k < length result.now
+            → slice_index result.now k < vertex_count self.now }
     {
         row_of(&self.places, &self.successors, v as usize)
     }
@@ -129,8 +133,10 @@ impl Game {
     pub fn predecessors(&self, v: u32) -> &[u32]
         requires { v < vertex_count self.now }
         ensures list { result.now ≡ predecessors_of self.now v }
-        ensures exact { (u : ℕ) → u < vertex_count self.now → Contains result.now u ↔ HasEdge self.now u v }
-        ensures closed { (k : ℕ) → k < length result.now → slice_index result.now k < vertex_count self.now }
+        ensures exact { (u : ℕ) → u < vertex_count self.now
+            → Contains result.now u ↔ HasEdge self.now u v }
+        ensures closed { (k : ℕ) → k < length result.now
+            → slice_index result.now k < vertex_count self.now }
     {
         row_of(&self.predecessor_places, &self.predecessors, v as usize)
     }

@@ -9,8 +9,8 @@ use crate::adjacency::row_of;
 use std::alloc::AllocError;
 use std::fmt;
 
-/// The parts of a game, by vertex: owners (0 or 1), priorities, and where a vertex's successors begin in the
-/// list of all successors. Behind the last place stands the number of all successors.
+/// The parts of a game, by vertex: owners (0 or 1), priorities, and where a vertex's successors
+/// begin in the list of all successors. Behind the last place stands the number of all successors.
 #[derive(Drop)]
 pub struct Parts {
     pub owners: Vec<u8>,
@@ -30,8 +30,8 @@ pub enum GameError {
     Owners,
     /// G03: the vertices and the priorities differ in number.
     Priorities,
-    /// G04: the places are not one more than the vertices, don't begin at 0, don't rise from vertex to vertex (each
-    /// vertex has a successor), or don't end behind the last successor.
+    /// G04: the places are not one more than the vertices, don't begin at 0, don't rise from vertex
+    /// to vertex (each vertex has a successor), or don't end behind the last successor.
     Places,
     /// G05: a successor is no vertex, or the successors of a vertex don't rise.
     Successors,

@@ -1,7 +1,8 @@
 //! From the reached instances of a module to their game.
 ghost use Rattle.std.specs.Prelude.{◌≡◌, IfOk, Err};
 ghost use Rattle.pb_game_of_trees.specs.declared.tree_game.BuildError.TheVariants.{TooManyVertices};
-ghost use Rattle.pb_game_answer.specs.Explored.{HaveTrees, AreModuleRows, IsModuleGame, IsModuleTooLarge};
+ghost use Rattle.pb_game_answer.specs.Explored.{HaveTrees, AreModuleRows, IsModuleGame};
+ghost use Rattle.pb_game_answer.specs.Explored.{IsModuleTooLarge};
 
 use crate::signatures::signatures_of;
 use pb_game_of_trees::{BuildError, TreeGame};

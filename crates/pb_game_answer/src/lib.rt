@@ -1,5 +1,5 @@
-//! The game of a verified module's reached instances, and the truth that its winners say: the winner of an instance's vertex
-//! is its truth in the solution of the module's equations.
+//! The game of a verified module's reached instances, and the truth that its winners say: the
+//! winner of an instance's vertex is its truth in the solution of the module's equations.
 #![tactic(auto)]
 
 pub mod game;

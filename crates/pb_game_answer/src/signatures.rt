@@ -13,7 +13,8 @@ pub(crate) fn signatures_of(
     alloc: Global,
     verified: &Verified,
 ) -> Result<Vec<Signature>, AllocError>
-    ensures equations { IfOk result (λ signatures. equations_of signatures.items ≡ map signature_of verified.now.equations) }
+    ensures equations { IfOk result (λ signatures. equations_of signatures.items
+        ≡ map signature_of verified.now.equations) }
     ensures few { IfOk result (λ signatures. total (equations_of signatures.items) ≤ 4194304) }
     ensures count { IfOk result (λ signatures. length signatures.items ≤ 64) }
 {

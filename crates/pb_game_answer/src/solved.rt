@@ -45,8 +45,12 @@ impl Solved {
 
     /// The truth of the initial instance.
     pub fn truth(&self) -> bool
-        requires { (signatures : List Signature) × (trees : ℕ → Tree) × (reached : List Row) × (initial : ℕ) × IsTreeGame signatures trees reached initial self.now.built × IsReached reached initial }
-        ensures { (signatures : List Signature) (trees : ℕ → Tree) (reached : List Row) (initial : ℕ) → IsTreeGame signatures trees reached initial self.now.built → IsReached reached initial → result ≡ solved signatures trees initial }
+        requires { (signatures : List Signature) × (trees : ℕ → Tree) × (reached : List Row)
+            × (initial : ℕ) × IsTreeGame signatures trees reached initial self.now.built
+            × IsReached reached initial }
+        ensures { (signatures : List Signature) (trees : ℕ → Tree) (reached : List Row)
+            (initial : ℕ) → IsTreeGame signatures trees reached initial self.now.built
+            → IsReached reached initial → result ≡ solved signatures trees initial }
     {
         pb_trees::games_of_rows_are_total();
         self.truth_at(self.built.start)
@@ -54,8 +58,12 @@ impl Solved {
 
     /// The truth of a row's instance.
     pub fn row_truth(&self, k: usize) -> bool
-        requires { (signatures : List Signature) × (trees : ℕ → Tree) × (reached : List Row) × (initial : ℕ) × IsTreeGame signatures trees reached initial self.now.built × (k < length reached) }
-        ensures { (signatures : List Signature) (trees : ℕ → Tree) (reached : List Row) (initial : ℕ) (row : Row) → IsTreeGame signatures trees reached initial self.now.built → slice_get reached k ≡ Some row → result ≡ solved signatures trees row.number }
+        requires { (signatures : List Signature) × (trees : ℕ → Tree) × (reached : List Row)
+            × (initial : ℕ) × IsTreeGame signatures trees reached initial self.now.built
+            × (k < length reached) }
+        ensures { (signatures : List Signature) (trees : ℕ → Tree) (reached : List Row)
+            (initial : ℕ) (row : Row) → IsTreeGame signatures trees reached initial self.now.built
+            → slice_get reached k ≡ Some row → result ≡ solved signatures trees row.number }
     {
         pb_trees::games_of_rows_are_total();
         self.truth_at(self.built.vertices[k])

@@ -1,8 +1,9 @@
 //! Certificates of a parity game's winners.
 //!
-//! A [`Solution`] names for each vertex the player who wins from there, that player's choice where it moves, and
-//! one count for each priority: a progress measure (Jurdzinski 2000). It is a certificate of its game where the
-//! five rules of [`CertificateRule`] hold, and then its winners are the winners of the game.
+//! A [`Solution`] names for each vertex the player who wins from there, that player's choice where
+//! it moves, and one count for each priority: a progress measure (Jurdzinski 2000). It is a
+//! certificate of its game where the five rules of [`CertificateRule`] hold, and then its winners
+//! are the winners of the game.
 #![tactic(auto)]
 
 ghost use Rattle.std.specs.Prelude.{◌≡◌, ◌+◌, ◌*◌, ◌^◌, ◌<◌, length};
@@ -12,8 +13,9 @@ ghost use Rattle.pb_game_certificate.specs.Solutions.{winner_of, choice_of, coun
 use pb_game::Game;
 use std::fmt;
 
-/// For each vertex its winner (0 names player 0, any other byte player 1), the winner's choice, and one count
-/// for each priority. Vertex `v`'s counts stand from `v * (d + 1)`, where `d` is the game's greatest priority.
+/// For each vertex its winner (0 names player 0, any other byte player 1), the winner's choice, and
+/// one count for each priority. Vertex `v`'s counts stand from `v * (d + 1)`, where `d` is the
+/// game's greatest priority.
 #[derive(Drop)]
 pub struct Solution {
     pub winner: Vec<u8>,
@@ -32,7 +34,8 @@ pub enum CertificateRule {
     NoSuccessor,
     /// K02: a kept edge leaves the winner's region.
     LeavesRegion,
-    /// K03: along a kept edge the counts of the loser's parity from the vertex's priority on increase.
+    /// K03: along a kept edge the counts of the loser's parity from the vertex's priority on
+    /// increase.
     Increases,
     /// K04: the priority has the loser's parity, and along a kept edge those counts don't decrease.
     NoDecrease,

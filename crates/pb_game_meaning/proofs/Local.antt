@@ -1,10 +1,11 @@
 -- The truth of a bracket from that of what its kept edges lead to.
 use Rattle.std.proofs.Common.{◌≡◌, ℕ, suc, ◌+◌, ◌<◌, ◌≤◌, Bool, true, false, not, List, Some, refl, sym, ap, ◌∙◌, subst, inl, inr, arith}
 use Rattle.std.specs.Prelude.{Contains, slice_get}
+use Rattle.std.proofs.Math.Bool.{not-not}
 use Rattle.pb_fixpoint.specs.Solution.{Environment}
 use Rattle.pb_trees.specs.Tree.{Connective, Conjunction, Disjunction, Leaf, Yes, No, Cut, Call, Operands, End, LeafThen, BracketThen, LeafCalls, OperandsCall, of_none, leaf_truth, operands_truth}
 use Rattle.pb_trees.specs.Game.{Vertex, brackets, target, targets, owner_of, bracket_successors, bracket_vertex, inner_vertices}
-use Rattle.pb_game_meaning.proofs.Players.{player, choosing, connective_cases, not_not, owner-choosing, owner-other, of_none-choosing, joined_left, joined_right, joined_both}
+use Rattle.pb_game_meaning.proofs.Players.{player, choosing, connective_cases, owner-choosing, owner-other, of_none-choosing, joined_left, joined_right, joined_both}
 use Rattle.pb_trees.proofs.Members.{Among, among_of_contains, contains_of_among, among_rising, among_from_rising}
 use Rattle.pb_game_meaning.proofs.Standing.{StandAt, BracketStands, bracket_stands}
 
@@ -50,7 +51,7 @@ module _ (b : Bool) (vertices : List Vertex) (winner choice : ℕ → ℕ)
 
   -- all successors in S, at the other player's
   others : (f : Operands) (v : ℕ) → Values f v → ((w : ℕ) → Among (bracket_successors at (choosing (not b)) f v) w → S w) → operands_truth t (choosing (not b)) f ≡ b
-  others End v values h = of_none-choosing (not b) ∙ not_not b
+  others End v values h = of_none-choosing (not b) ∙ not-not b
   others (LeafThen l after) v values h = values.all (λ w among. h w (among_rising (targets at (LeafThen l after) v) w among))
   others (BracketThen c inside after) v values h = values.all (λ w among. h w (among_rising (targets at (BracketThen c inside after) v) w among))
 
@@ -87,7 +88,7 @@ module _ (b : Bool) (vertices : List Vertex) (winner choice : ℕ → ℕ)
   AreInner f n = (k : ℕ) → n ≤ k → k < n + brackets f → IsInner k
 
   pub values : (f : Operands) (n : ℕ) → OperandsCall Reached f → AreInner f n → StandAt vertices n (inner_vertices at f n) → Values f n
-  values End n h inner stand = record { one = λ w among s. absurd among; all = λ _. of_none-choosing (not b) ∙ not_not b }
+  values End n h inner stand = record { one = λ w among s. absurd among; all = λ _. of_none-choosing (not b) ∙ not-not b }
   values (LeafThen l after) n h inner stand =
       let later : Values after n = values after n h.1 inner stand in
       record {

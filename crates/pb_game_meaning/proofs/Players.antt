@@ -44,10 +44,6 @@ pub not_other : (b : Bool) → not b ≡ b → ⊥
 not_other true h = true≢false (sym h)
 not_other false h = true≢false h
 
-pub not_not : (b : Bool) → not (not b) ≡ b
-not_not true = refl
-not_not false = refl
-
 pub owner-choosing : (b : Bool) → owner_of (choosing b) ≡ player b
 owner-choosing true = refl
 owner-choosing false = refl

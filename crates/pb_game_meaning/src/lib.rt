@@ -1,15 +1,18 @@
-//! What a certificate of the game of trees means: its winners are the truth values of the nested fixpoint solution.
-//! It ties the games of `pb_game` and the certificates of `pb_game_certificate`, which know nothing of equations, to the
-//! solution of `pb_fixpoint` over the trees of `pb_trees`. Definitions and laws alone: the definitions stand in
-//! `specs/`, and each law is the contract of a function that does nothing when it runs.
+//! What a certificate of the game of trees means: its winners are the truth values of the nested
+//! fixpoint solution. It ties the games of `pb_game` and the certificates of `pb_game_certificate`,
+//! which know nothing of equations, to the solution of `pb_fixpoint` over the trees of `pb_trees`.
+//! Definitions and laws alone: the definitions stand in `specs/`, and each law is the contract of a
+//! function that does nothing when it runs.
 #![tactic(auto)]
 
-ghost use Rattle.pb_game_meaning.specs.Examples.{AlternatingInstances, EachOther, GreatestFirst, GreatestOfItself, LeastFirst, LeastOfItself, NestedBracket, TrueOperand, WrongWinner};
+ghost use Rattle.pb_game_meaning.specs.Examples.{AlternatingInstances, EachOther, GreatestFirst};
+ghost use Rattle.pb_game_meaning.specs.Examples.{GreatestOfItself, LeastFirst, LeastOfItself};
+ghost use Rattle.pb_game_meaning.specs.Examples.{NestedBracket, TrueOperand, WrongWinner};
 ghost use Rattle.pb_game_meaning.specs.Meaning.{WinnersAreSolved};
 
-/// In the game of a system's reached instances, each certificate gives player 0 exactly the vertices of the instances
-/// that are true in the system's nested solution (Groote and Willemse 2005). The rows of reached instances need only be
-/// closed under calls.
+/// In the game of a system's reached instances, each certificate gives player 0 exactly the
+/// vertices of the instances that are true in the system's nested solution (Groote and Willemse
+/// 2005). The rows of reached instances need only be closed under calls.
 pub fn winners_are_solved()
     ensures { WinnersAreSolved }
 {}

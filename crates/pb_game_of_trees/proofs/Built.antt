@@ -6,6 +6,7 @@ use Rattle.pb_trees.specs.Equations.{Signature, total}
 use Rattle.pb_trees.specs.Rows.{Row, IsReached}
 use Rattle.pb_trees.specs.Game.{Vertex, vertex_of, priority_from, row_vertices, false_sink, true_sink, game_vertices}
 use Rattle.pb_trees.specs.Laws.{GameIsTotal}
+use Rattle.pb_trees.proofs.Calls.{tree_weaker}
 use Rattle.pb_rows.specs.Row as in_memory
 use Rattle.pb_game_of_trees.specs.Held.{held}
 use Rattle.pb_game_of_trees.specs.declared.levels.Level.{Level}
@@ -15,7 +16,7 @@ use Rattle.pb_game_of_trees.specs.Places.{vertex_behind, vertices_from, numbers,
 use Rattle.pb_game_of_trees.proofs.Reached.{AreReached}
 use Rattle.pb_game_of_trees.proofs.EquationLevels.{priority_in-levels}
 use Rattle.pb_game_of_trees.proofs.LowPriorities.{low_vertices}
-use Rattle.pb_game_of_trees.proofs.Vertices.{none, IsTable, table_at, tree_calls, rows_same, length-row_vertices, length-vertices_from}
+use Rattle.pb_game_of_trees.proofs.Vertices.{none, IsTable, table_at, rows_same, length-row_vertices, length-vertices_from}
 
 module _ (signatures : List Signature) (trees : ℕ → Tree) (rows : List in_memory.Row) (reached : List Row) (are : AreReached signatures trees rows reached) where
   pub count_rows : length reached ≡ length rows
@@ -35,7 +36,7 @@ module _ (signatures : List Signature) (trees : ℕ → Tree) (rows : List in_me
 
   pub call_below : (count : ℕ) → count ≡ total signatures → CallBelow count reached
   call_below count e = λ row contains.
-      tree_calls (IsReached reached) (λ n. n < count) (λ n is. omega (arith, reached_below n is, e)) row.tree (are.are.closed row contains)
+      tree_weaker (IsReached reached) (λ n. n < count) (λ n is. omega (arith, reached_below n is, e)) row.tree (are.are.closed row contains)
 
   pub built : (table : List ℕ) (levels : List Level) → IsTable table reached → levels ≡ levels_from 0 signatures →
       false_sink ∷ (true_sink ∷ row_vertices (slice_index table) (priority_in levels) reached 2) ≡ game_vertices signatures reached

@@ -13,22 +13,6 @@ use Rattle.pb_game_of_trees.specs.Places.{vertex_behind, vertices_from, numbers}
 
 -- ---- vertices of numbers
 
-module _ (P Q : ℕ → Type 0) (weaker : (n : ℕ) → P n → Q n) where
-  leaf_calls : (l : Leaf) → LeafCalls P l → LeafCalls Q l
-  leaf_calls Yes h = tt
-  leaf_calls No h = tt
-  leaf_calls Cut h = tt
-  leaf_calls (Call n) h = weaker n h
-
-  operands_call : (f : Operands) → OperandsCall P f → OperandsCall Q f
-  operands_call End h = tt
-  operands_call (LeafThen l after) h = (leaf_calls l h.0, operands_call after h.1)
-  operands_call (BracketThen c inside after) h = (operands_call inside h.0, operands_call after h.1)
-
-  pub tree_calls : (tree : Tree) → TreeCalls P tree → TreeCalls Q tree
-  tree_calls (Single l) h = leaf_calls l h
-  tree_calls (Root c f) h = operands_call f h
-
 tail : (x : ℕ) (xs : List ℕ) → IsStrictlyIncreasing (x ∷ xs) → IsStrictlyIncreasing xs
 tail x xs h k l = rw (add-one k) (rw (add-one (suc k)) at (rw (add-one k) at (h (k + 1) (omega arith))))
 

@@ -1,12 +1,15 @@
-//! A game that is built from its last vertex to its first. The tokens of a tree are read from the last one to the first,
-//! so that a bracket's operands are known when its opening token comes, and its vertex goes before those of the brackets
-//! inside it.
-ghost use Rattle.std.specs.Prelude.{◌≡◌, ◌∷◌, ◌++◌, ◌<◌, ◌≤◌, ℕ, OnOk, List, [], reverse, length, slice_index};
-ghost use Rattle.pb_trees.specs.Tree.{Operands, End, LeafThen, BracketThen, Leaf, Root, Single, Tree, TreeCalls};
+//! A game that is built from its last vertex to its first. The tokens of a tree are read from the
+//! last one to the first, so that a bracket's operands are known when its opening token comes, and
+//! its vertex goes before those of the brackets inside it.
+ghost use Rattle.std.specs.Prelude.{◌≡◌, ◌∷◌, ◌++◌, ◌<◌, ◌≤◌, ℕ, OnOk, List, [], reverse, length};
+ghost use Rattle.std.specs.Prelude.{slice_index};
+ghost use Rattle.pb_trees.specs.Tree.{Operands, End, LeafThen, BracketThen, Leaf, Root, Single};
+ghost use Rattle.pb_trees.specs.Tree.{Tree, TreeCalls};
 ghost use Rattle.pb_trees.specs.Tokens.{tree_tokens};
 ghost use Rattle.pb_trees.specs.Game.{Vertex, rising_or, owner_of, sink_of, target, inner};
 ghost use Rattle.pb_game_of_trees.specs.Draft.{IsDraft};
-ghost use Rattle.pb_game_of_trees.specs.Builder.{CallsBelow, IsAt, IsBefore, IsBeforeFirst, HasFrame, HasFinished, HasTree, connective};
+ghost use Rattle.pb_game_of_trees.specs.Builder.{CallsBelow, IsAt, IsBefore, IsBeforeFirst};
+ghost use Rattle.pb_game_of_trees.specs.Builder.{HasFrame, HasFinished, HasTree, connective};
 
 use crate::bracket::{Bracket, owner, sink};
 use crate::draft::Draft;
@@ -23,14 +26,15 @@ pub(crate) struct Builder {
     pub draft: Draft,
     /// The number of the first of them.
     pub next: u32,
-    /// Where the operands lead that were read of the open brackets: the outermost bracket's first, and of each bracket
-    /// the last operand's first.
+    /// Where the operands lead that were read of the open brackets: the outermost bracket's first,
+    /// and of each bracket the last operand's first.
     pub targets: Vec<u32>,
     /// Where those of each open bracket begin, the outermost first.
     pub starts: Vec<usize>,
 }
 
-/// How many operands of a tree may wait for their brackets: none where it is a leaf, else no more than it has tokens.
+/// How many operands of a tree may wait for their brackets: none where it is a leaf, else no more
+/// than it has tokens.
 fn most_waiting(tokens: &[Token]) -> usize
     ensures { result ≤ length tokens.now }
 {
@@ -44,8 +48,8 @@ fn most_waiting(tokens: &[Token]) -> usize
     }
 }
 
-/// The most of it among some rows' trees. Trees that lie far apart are fetched side by side by this short loop, and are
-/// near when they are built.
+/// The most of it among some rows' trees. Trees that lie far apart are fetched side by side by this
+/// short loop, and are near when they are built.
 fn most_waiting_of(rows: &IndexedRows, from: usize, to: usize) -> usize
     requires { to ≤ length rows.now }
 {
@@ -57,10 +61,12 @@ fn most_waiting_of(rows: &IndexedRows, from: usize, to: usize) -> usize
 }
 
 impl Builder {
-    /// Makes room for the operands of the next rows' trees, where `left` rows are still to be built.
+    /// Makes room for the operands of the next rows' trees, where `left` rows are still to be
+    /// built.
     pub fn make_room(&mut self, rows: &IndexedRows, left: usize) -> Result<(), AllocError>
         requires { left ≤ length rows.now }
-        ensures { OnOk result ((at : ℕ → ℕ) (fs : List Operands) (behind : List Vertex) (limit : ℕ) → IsAt at self.old fs behind limit → IsAt at self.new fs behind limit) }
+        ensures { OnOk result ((at : ℕ → ℕ) (fs : List Operands) (behind : List Vertex) (limit : ℕ)
+            → IsAt at self.old fs behind limit → IsAt at self.new fs behind limit) }
     {
         if left % BLOCK == 0 {
             let waiting = most_waiting_of(rows, left.saturating_sub(BLOCK), left);
@@ -71,7 +77,8 @@ impl Builder {
 
     /// Reads a closing token.
     pub fn close(&mut self) -> Result<(), AllocError>
-        ensures { OnOk result ((at : ℕ → ℕ) (fs : List Operands) (behind : List Vertex) (limit : ℕ) → IsAt at self.old fs behind limit → IsAt at self.new (End ∷ fs) behind limit) }
+        ensures { OnOk result ((at : ℕ → ℕ) (fs : List Operands) (behind : List Vertex) (limit : ℕ)
+            → IsAt at self.old fs behind limit → IsAt at self.new (End ∷ fs) behind limit) }
     {
         self.starts.push(self.targets.len())?;
         Ok(())
@@ -79,16 +86,27 @@ impl Builder {
 
     /// Reads a leaf, which leads to this vertex.
     pub fn leaf(&mut self, vertex: u32) -> Result<(), AllocError>
-        ensures { OnOk result ((at : ℕ → ℕ) (l : Leaf) (f : Operands) (fs : List Operands) (behind : List Vertex) (limit : ℕ) → vertex ≡ target at l → IsAt at self.old (f ∷ fs) behind limit → IsAt at self.new (LeafThen l f ∷ fs) behind limit) }
+        ensures { OnOk result ((at : ℕ → ℕ) (l : Leaf) (f : Operands) (fs : List Operands)
+            (behind : List Vertex) (limit : ℕ) → vertex ≡ target at l
+            → IsAt at self.old (f ∷ fs) behind limit
+            → IsAt at self.new (LeafThen l f ∷ fs) behind limit) }
     {
         self.targets.push(vertex)?;
         Ok(())
     }
 
-    /// Puts the vertex of the innermost open bracket, all of whose operands were read, before the others.
+    /// Puts the vertex of the innermost open bracket, all of whose operands were read, before the
+    /// others.
     fn finish(&mut self, bracket: Bracket, priority: u32) -> Result<(), AllocError>
         requires { (front outer operands : List ℕ) × HasFrame self.old front outer operands }
-        ensures { OnOk result ((front outer operands : List ℕ) (vertices : List Vertex) → HasFrame self.old front outer operands → IsDraft self.old.draft vertices → HasFinished self.old self.new front outer (record { owner = owner_of (connective bracket); priority = priority; successors = rising_or (sink_of (connective bracket)) operands } ∷ vertices)) }
+        ensures { OnOk result ((front outer operands : List ℕ) (vertices : List Vertex)
+            → HasFrame self.old front outer operands → IsDraft self.old.draft vertices
+            → HasFinished self.old self.new front outer
+            (record {
+              owner = owner_of (connective bracket);
+              priority = priority;
+              successors = rising_or (sink_of (connective bracket)) operands;
+            } ∷ vertices)) }
     {
         let start = self.starts.pop().unwrap();
         if start == self.targets.len() {
@@ -103,8 +121,13 @@ impl Builder {
     /// Reads the opening token of a bracket within a tree.
     fn open(&mut self, bracket: Bracket) -> Result<(), AllocError>
         requires some { 0 < self.old.next }
-        requires brackets { (at : ℕ → ℕ) × (inside after : Operands) × (fs : List Operands) × (behind : List Vertex) × (limit : ℕ) × IsAt at self.old (inside ∷ (after ∷ fs)) behind limit }
-        ensures { OnOk result ((at : ℕ → ℕ) (inside after : Operands) (fs : List Operands) (behind : List Vertex) (limit : ℕ) → IsAt at self.old (inside ∷ (after ∷ fs)) behind limit → IsAt at self.new (BracketThen (connective bracket) inside after ∷ fs) behind limit) }
+        requires brackets { (at : ℕ → ℕ) × (inside after : Operands) × (fs : List Operands)
+            × (behind : List Vertex) × (limit : ℕ)
+            × IsAt at self.old (inside ∷ (after ∷ fs)) behind limit }
+        ensures { OnOk result ((at : ℕ → ℕ) (inside after : Operands) (fs : List Operands)
+            (behind : List Vertex) (limit : ℕ)
+            → IsAt at self.old (inside ∷ (after ∷ fs)) behind limit
+            → IsAt at self.new (BracketThen (connective bracket) inside after ∷ fs) behind limit) }
     {
         self.next -= 1;
         self.finish(bracket, 0)?;
@@ -115,8 +138,11 @@ impl Builder {
     /// Reads the opening token of a whole tree.
     fn open_root(&mut self, bracket: Bracket, priority: u32) -> Result<(), AllocError>
         requires some { 0 < self.old.next }
-        requires bracket { (at : ℕ → ℕ) × (operands : Operands) × (behind : List Vertex) × (limit : ℕ) × IsAt at self.old (operands ∷ []) behind limit }
-        ensures { OnOk result ((at : ℕ → ℕ) (operands : Operands) (behind : List Vertex) (limit : ℕ) → IsAt at self.old (operands ∷ []) behind limit → HasTree at self.new priority (Root (connective bracket) operands) behind limit) }
+        requires bracket { (at : ℕ → ℕ) × (operands : Operands) × (behind : List Vertex)
+            × (limit : ℕ) × IsAt at self.old (operands ∷ []) behind limit }
+        ensures { OnOk result ((at : ℕ → ℕ) (operands : Operands) (behind : List Vertex) (limit : ℕ)
+            → IsAt at self.old (operands ∷ []) behind limit
+            → HasTree at self.new priority (Root (connective bracket) operands) behind limit) }
     {
         self.next -= 1;
         self.finish(bracket, priority)?;
@@ -126,7 +152,9 @@ impl Builder {
     /// Reads a tree that is a leaf.
     fn single(&mut self, vertex: u32, priority: u32) -> Result<(), AllocError>
         requires { 0 < self.old.next }
-        ensures { OnOk result ((at : ℕ → ℕ) (l : Leaf) (behind : List Vertex) (limit : ℕ) → vertex ≡ target at l → IsAt at self.old [] behind limit → HasTree at self.new priority (Single l) behind limit) }
+        ensures { OnOk result ((at : ℕ → ℕ) (l : Leaf) (behind : List Vertex) (limit : ℕ)
+            → vertex ≡ target at l → IsAt at self.old [] behind limit
+            → HasTree at self.new priority (Single l) behind limit) }
     {
         self.draft.put(0, priority, &mut [vertex])?;
         self.next -= 1;
@@ -137,8 +165,11 @@ impl Builder {
     fn read(&mut self, vertices: &[u32], token: Token) -> Result<(), AllocError>
         requires some { 0 < self.old.next }
         requires call { CallsBelow (length vertices.now) token }
-        requires before { (fs : List Operands) × (behind : List Vertex) × (limit : ℕ) × IsBefore (slice_index vertices.now) self.old fs token behind limit }
-        ensures { OnOk result ((fs : List Operands) (behind : List Vertex) (limit : ℕ) → IsBefore (slice_index vertices.now) self.old fs token behind limit → IsAt (slice_index vertices.now) self.new fs behind limit) }
+        requires before { (fs : List Operands) × (behind : List Vertex) × (limit : ℕ)
+            × IsBefore (slice_index vertices.now) self.old fs token behind limit }
+        ensures { OnOk result ((fs : List Operands) (behind : List Vertex) (limit : ℕ)
+            → IsBefore (slice_index vertices.now) self.old fs token behind limit
+            → IsAt (slice_index vertices.now) self.new fs behind limit) }
     {
         match token {
             Token::And => self.open(Bracket::And),
@@ -160,8 +191,11 @@ impl Builder {
     ) -> Result<(), AllocError>
         requires some { 0 < self.old.next }
         requires call { CallsBelow (length vertices.now) token }
-        requires before { (tree : Tree) × (behind : List Vertex) × (limit : ℕ) × IsBeforeFirst (slice_index vertices.now) self.old tree token behind limit }
-        ensures { OnOk result ((tree : Tree) (behind : List Vertex) (limit : ℕ) → IsBeforeFirst (slice_index vertices.now) self.old tree token behind limit → HasTree (slice_index vertices.now) self.new priority tree behind limit) }
+        requires before { (tree : Tree) × (behind : List Vertex) × (limit : ℕ)
+            × IsBeforeFirst (slice_index vertices.now) self.old tree token behind limit }
+        ensures { OnOk result ((tree : Tree) (behind : List Vertex) (limit : ℕ)
+            → IsBeforeFirst (slice_index vertices.now) self.old tree token behind limit
+            → HasTree (slice_index vertices.now) self.new priority tree behind limit) }
     {
         match token {
             Token::And => self.open_root(Bracket::And, priority),
@@ -174,16 +208,22 @@ impl Builder {
         }
     }
 
-    /// Puts the vertices of an instance with this tree before the others. `vertices` are those of all instances.
+    /// Puts the vertices of an instance with this tree before the others. `vertices` are those of
+    /// all instances.
     pub fn put_tree(
         &mut self,
         vertices: &[u32],
         tokens: &[Token],
         priority: u32,
     ) -> Result<(), AllocError>
-        requires spelled { (tree : Tree) × (tokens.now ≡ tree_tokens tree) × (inner tree < self.old.next) × TreeCalls (λ n. n < length vertices.now) tree }
-        requires before { (behind : List Vertex) × (limit : ℕ) × IsAt (slice_index vertices.now) self.old [] behind limit }
-        ensures { OnOk result ((tree : Tree) (behind : List Vertex) (limit : ℕ) → tokens.now ≡ tree_tokens tree → IsAt (slice_index vertices.now) self.old [] behind limit → HasTree (slice_index vertices.now) self.new priority tree behind limit) }
+        requires spelled { (tree : Tree) × (tokens.now ≡ tree_tokens tree)
+            × (inner tree < self.old.next) × TreeCalls (λ n. n < length vertices.now) tree }
+        requires before { (behind : List Vertex) × (limit : ℕ)
+            × IsAt (slice_index vertices.now) self.old [] behind limit }
+        ensures { OnOk result ((tree : Tree) (behind : List Vertex) (limit : ℕ)
+            → tokens.now ≡ tree_tokens tree → IsAt
+            (slice_index vertices.now) self.old [] behind limit
+            → HasTree (slice_index vertices.now) self.new priority tree behind limit) }
     {
         let mut k = tokens.len();
         while k > 1 {

@@ -1,5 +1,6 @@
-//! The vertices of a game from some vertex to the last one, as flat lists that begin with the last one. A vertex that is
-//! put before them goes to the end of each list, so nothing moves until all lists are turned round at the end.
+//! The vertices of a game from some vertex to the last one, as flat lists that begin with the last
+//! one. A vertex that is put before them goes to the end of each list, so nothing moves until all
+//! lists are turned round at the end.
 ghost use Rattle.std.specs.Prelude.{◌≡◌, ◌∷◌, ◌-◌, ◌≤◌, All, IfOk, OnOk, List, [], map, reverse};
 ghost use Rattle.pb_trees.specs.Game.{Vertex, rising};
 ghost use Rattle.pb_game_of_trees.specs.Draft.{IsDraft, ArePartsOf};
@@ -35,7 +36,12 @@ impl Draft {
 
     /// Puts a vertex before the others. Its targets come in reverse.
     pub fn put(&mut self, owner: u8, priority: u32, targets: &mut [u32]) -> Result<(), AllocError>
-        ensures { OnOk result ((vertices : List Vertex) → IsDraft self.old vertices → IsDraft self.new (record { owner = owner; priority = priority; successors = rising (reverse targets.old) } ∷ vertices)) }
+        ensures { OnOk result ((vertices : List Vertex) → IsDraft self.old vertices
+            → IsDraft self.new (record {
+              owner = owner;
+              priority = priority;
+              successors = rising (reverse targets.old);
+            } ∷ vertices)) }
     {
         push_falling(&mut self.successors, targets)?;
         self.edges.push(self.successors.len())?;

@@ -7,7 +7,8 @@ use std::alloc::AllocError;
 
 /// Adds the numbers of a list that is read from its end: rising, each once, and the last first.
 pub(crate) fn push_falling(list: &mut Vec<u32>, numbers: &mut [u32]) -> Result<(), AllocError>
-    ensures { OnOk result (list.new.items ≡ list.old.items ++ reverse (rising (reverse numbers.old))) }
+    ensures { OnOk result (list.new.items ≡ list.old.items
+        ++ reverse (rising (reverse numbers.old))) }
 {
     if !is_falling(numbers) {
         numbers.sort_unstable();
@@ -31,7 +32,8 @@ fn is_falling(numbers: &[u32]) -> bool
 /// Adds numbers that fall, each once.
 fn push_each_once(list: &mut Vec<u32>, numbers: &[u32]) -> Result<(), AllocError>
     requires { IsFalling numbers.now }
-    ensures { OnOk result (list.new.items ≡ list.old.items ++ reverse (rising (reverse numbers.now))) }
+    ensures { OnOk result (list.new.items ≡ list.old.items
+        ++ reverse (rising (reverse numbers.now))) }
 {
     for k in 0..numbers.len() {
         if k > 0 && numbers[k - 1] == numbers[k] {

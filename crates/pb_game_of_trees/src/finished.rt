@@ -10,7 +10,8 @@ use std::alloc::{AllocError, Global};
 /// The game of parts that stand for the vertices of a game.
 pub(crate) fn game_of(alloc: Global, parts: Parts) -> Result<Game, AllocError>
     requires { (vertices : List Vertex) × ArePartsOf parts vertices × MakeGame vertices }
-    ensures { IfOk result (λ game. (vertices : List Vertex) → ArePartsOf parts vertices → HasVertices game vertices) }
+    ensures { IfOk result (λ game. (vertices : List Vertex) → ArePartsOf parts vertices
+        → HasVertices game vertices) }
 {
     match Game::from_parts(alloc, parts) {
         Ok(game) => Ok(game),

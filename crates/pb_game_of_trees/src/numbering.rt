@@ -12,7 +12,8 @@ use std::alloc::{AllocError, Global};
 /// The vertex of each row.
 pub(crate) fn vertices_of_rows(alloc: Global, rows: &IndexedRows) -> Result<Vec<u32>, AllocError>
     requires { (plain : List plain_row) × Hold rows.now plain × (vertex_behind plain 2 ≤ 16777216) }
-    ensures { IfOk result (λ vertices. (plain : List plain_row) → Hold rows.now plain → vertices.items ≡ vertices_from plain 2) }
+    ensures { IfOk result (λ vertices. (plain : List plain_row) → Hold rows.now plain
+        → vertices.items ≡ vertices_from plain 2) }
 {
     let mut vertices = Vec::with_capacity(alloc, rows.len())?;
     let mut next: u32 = 2;
@@ -31,8 +32,12 @@ pub(crate) fn vertices_by_number(
     count: usize,
 ) -> Result<Vec<u32>, AllocError>
     requires lengths { length vertices.now ≡ length rows.now }
-    requires within { (plain : List plain_row) × Hold rows.now plain × IsStrictlyIncreasing (numbers plain) × ((k : ℕ) → k < length plain → slice_index (numbers plain) k < count) }
-    ensures { IfOk result (λ table. (plain : List plain_row) → Hold rows.now plain → (length table.items ≡ count) × ((k : ℕ) → k < length plain → slice_index table.items (slice_index (numbers plain) k) ≡ slice_index vertices.now k)) }
+    requires within { (plain : List plain_row) × Hold rows.now plain
+        × IsStrictlyIncreasing (numbers plain)
+        × ((k : ℕ) → k < length plain → slice_index (numbers plain) k < count) }
+    ensures { IfOk result (λ table. (plain : List plain_row) → Hold rows.now plain
+        → (length table.items ≡ count) × ((k : ℕ) → k < length plain
+        → slice_index table.items (slice_index (numbers plain) k) ≡ slice_index vertices.now k)) }
 {
     let mut table = vec![in alloc; 0u32; count]?;
     for k in 0..rows.len() {

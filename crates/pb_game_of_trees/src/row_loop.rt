@@ -24,8 +24,11 @@ pub(crate) fn draft_of(
     size: Size,
 ) -> Result<Draft, AllocError>
     requires small { size.vertices ≤ 16777216 }
-    requires rows { (plain : List plain_row) × Hold rows.now plain × (size.vertices ≡ vertex_behind plain 2) × CallBelow (length vertices.now) plain }
-    ensures { IfOk result (λ draft. (plain : List plain_row) → Hold rows.now plain → IsDraft draft (false_sink ∷ (true_sink ∷ row_vertices (slice_index vertices.now) (priority_in levels.now) plain 2))) }
+    requires rows { (plain : List plain_row) × Hold rows.now plain
+        × (size.vertices ≡ vertex_behind plain 2) × CallBelow (length vertices.now) plain }
+    ensures { IfOk result (λ draft. (plain : List plain_row) → Hold rows.now plain
+        → IsDraft draft (false_sink ∷ (true_sink ∷ row_vertices (slice_index vertices.now)
+        (priority_in levels.now) plain 2))) }
 {
     let mut builder = Builder {
         draft: Draft::with_capacity(alloc, size.vertices, size.edges)?,

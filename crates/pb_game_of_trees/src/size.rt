@@ -39,7 +39,8 @@ fn count_closing(tokens: &[Token]) -> usize
 /// How many tokens the least tree has that has a bracket inside its root.
 const LEAST_NESTED: usize = 4;
 
-/// How many brackets there are inside a tree, its root not counted. The tokens of a small tree need no look.
+/// How many brackets there are inside a tree, its root not counted. The tokens of a small tree need
+/// no look.
 pub(crate) fn inner_brackets(tokens: &[Token]) -> usize
     ensures inner { (tree : Tree) → tokens.now ≡ tree_tokens tree → result ≡ inner tree }
     ensures bound { result ≤ length tokens.now }
@@ -52,7 +53,9 @@ pub(crate) fn inner_brackets(tokens: &[Token]) -> usize
 
 /// The size of the game of these rows; none where it has more vertices than a game may have.
 pub(crate) fn size_of(rows: &IndexedRows) -> Option<Size>
-    ensures size { (plain : List plain_row) → Hold rows.now plain → MatchOption result (16777216 < vertex_behind plain 2) (λ size. size.vertices ≡ vertex_behind plain 2) }
+    ensures size { (plain : List plain_row) → Hold rows.now plain
+        → MatchOption result (16777216 < vertex_behind plain 2)
+        (λ size. size.vertices ≡ vertex_behind plain 2) }
     ensures small { IfSome result (λ size. size.vertices ≤ 16777216) }
 {
     let mut vertices = 2;

@@ -50,8 +50,8 @@ impl TreeGame {
     ghost use Rattle.pb_game_of_trees.specs.TreeGame.{HaveTrees, IsGameOf, IsRefusedExactly};
     ghost use Rattle.pb_game_of_trees.specs.Places.{IsSizeOf};
 
-    /// The game of the reached instances of these equations, where `initial` is one of them. How many vertices it has is
-    /// found before anything of that size is made.
+    /// The game of the reached instances of these equations, where `initial` is one of them. How
+    /// many vertices it has is found before anything of that size is made.
     ///
     /// # Errors
     /// `TooManyVertices` exactly where there would be more than 2^24; else `Memory`.
@@ -65,7 +65,8 @@ impl TreeGame {
         requires numbers { total (equations_of signatures.now) < 4294967296 }
         requires reached { HaveTrees (equations_of signatures.now) rows.now initial }
         ensures game { IfOk result (IsGameOf (equations_of signatures.now) rows.now initial) }
-        ensures too_many { IsRefusedExactly (result ≡ Err BuildError.TooManyVertices) (equations_of signatures.now) rows.now }
+        ensures too_many { IsRefusedExactly (result ≡ Err BuildError.TooManyVertices)
+            (equations_of signatures.now) rows.now }
     {
         match size_of(rows) {
             None => Err(BuildError::TooManyVertices),

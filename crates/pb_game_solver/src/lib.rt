@@ -1,8 +1,9 @@
 //! The solvers of parity games, and one call for all of them.
 //!
-//! [`solve`] answers with a certificate, whichever [`Solver`] is asked for. Lifting (Jurdzinski 2000) may have no
-//! answer, and then Zielonka's algorithm (Zielonka 1998), which always has one, answers in its place. A game has one
-//! partition into winning regions, so all solvers name the same winners; their strategies and measures may differ.
+//! [`solve`] answers with a certificate, whichever [`Solver`] is asked for. Lifting (Jurdzinski
+//! 2000) may have no answer, and then Zielonka's algorithm (Zielonka 1998), which always has one,
+//! answers in its place. A game has one partition into winning regions, so all solvers name the
+//! same winners; their strategies and measures may differ.
 #![tactic(auto)]
 
 ghost use Rattle.std.specs.Prelude.{◌≡◌, ◌<◌, IfOk};
@@ -20,13 +21,13 @@ use pb_strategy::check;
 use std::alloc::{AllocError, Global};
 use std::thread::Threads;
 
-/// The winners of all vertices, with a certificate. The workers are those of lifting, and the gate sees each of
-/// their lifts; Zielonka's algorithm takes neither.
+/// The winners of all vertices, with a certificate. The workers are those of lifting, and the gate
+/// sees each of their lifts; Zielonka's algorithm takes neither.
 ///
 /// # Errors
 ///
-/// Memory alone: where lifting has more ranks than a word, or the checker refuses its solution, Zielonka's algorithm
-/// answers.
+/// Memory alone: where lifting has more ranks than a word, or the checker refuses its solution,
+/// Zielonka's algorithm answers.
 pub fn solve<G: Gate + Sync, R: Threads + Sync>(
     rt: &R,
     alloc: Global,

@@ -19,12 +19,14 @@ use std::alloc::{AllocError, Global};
 use std::thread;
 use std::thread::Threads;
 
-/// The solution that the least measures of both players say: player 0 wins where its rank isn't top, the counts are
-/// the winner's rank, and the choice is the least successor towards which that rank is enough.
+/// The solution that the least measures of both players say: player 0 wins where its rank isn't
+/// top, the counts are the winner's rank, and the choice is the least successor towards which that
+/// rank is enough.
 ///
 /// # Errors
 ///
-/// `TooManyRanks` exactly where for one of the players a word is too small for the ranks; or memory.
+/// `TooManyRanks` exactly where for one of the players a word is too small for the ranks; or
+/// memory.
 pub fn lift<G: Gate + Sync, R: Threads + Sync>(
     rt: &R,
     alloc: Global,
@@ -128,7 +130,8 @@ fn run_jobs<G: Gate + Sync, R: Threads + Sync>(
         rt,
         jobs,
         &|job: Job| -> LiftSeat
-            requires { IsSeatOf ranks.now job.seat × (game.now ≡ game_at ranks.now) × (0 < workers) }
+            requires { IsSeatOf ranks.now job.seat × (game.now ≡ game_at ranks.now)
+                × (0 < workers) }
             ensures { IsSameSeat job.seat result }
         { do_job(ranks, game, workers, gate, job) },
     )?;

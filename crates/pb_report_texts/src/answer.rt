@@ -12,8 +12,8 @@ use pb_rows::IndexedRows;
 use pb_sorts::{E02, Sink};
 use std::alloc::Global;
 
-/// What was found: whether the initial instance is true, how many instances were reached, how many of these meet a cut,
-/// and how many vertices the game has.
+/// What was found: whether the initial instance is true, how many instances were reached, how many
+/// of these meet a cut, and how many vertices the game has.
 #[derive(Clone, Copy, Debug, PartialEq, Eq)]
 pub struct Answer {
     pub truth: bool,
@@ -29,8 +29,10 @@ impl Answer {
 
     /// What was found about a module whose game is solved and whose reached instances these are.
     pub fn of_solved(solved: &Solved, rows: &IndexedRows) -> Answer
-        requires { (m : Contents) × HaveTrees m × AreModuleRows m rows.now × IsModuleGame m rows.now solved.now.built }
-        ensures { (m : Contents) → AreModuleRows m rows.now → IsModuleGame m rows.now solved.now.built → IsAnswer m rows.now result }
+        requires { (m : Contents) × HaveTrees m × AreModuleRows m rows.now
+            × IsModuleGame m rows.now solved.now.built }
+        ensures { (m : Contents) → AreModuleRows m rows.now
+            → IsModuleGame m rows.now solved.now.built → IsAnswer m rows.now result }
     {
         Answer {
             truth: solved.truth(),
@@ -42,7 +44,8 @@ impl Answer {
 }
 
 fn write_truth<S: Sink>(buffer: &mut TextBuffer, truth: bool, sink: &mut S) -> Result<(), E02>
-    ensures { Sends result (S.taken sink.old) (S.taken sink.new) (S.has_failed sink.old) (S.has_failed sink.new) buffer.old.bytes.items buffer.new.bytes.items (truth_line truth) }
+    ensures { Sends result (S.taken sink.old) (S.taken sink.new) (S.has_failed sink.old)
+        (S.has_failed sink.new) buffer.old.bytes.items buffer.new.bytes.items (truth_line truth) }
 {
     if truth {
         buffer.write(b"answer true\n", sink)
@@ -57,7 +60,9 @@ fn write_count<S: Sink>(
     count: u32,
     sink: &mut S,
 ) -> Result<(), E02>
-    ensures { Sends result (S.taken sink.old) (S.taken sink.new) (S.has_failed sink.old) (S.has_failed sink.new) buffer.old.bytes.items buffer.new.bytes.items (count_line label.now count) }
+    ensures { Sends result (S.taken sink.old) (S.taken sink.new) (S.has_failed sink.old)
+        (S.has_failed sink.new) buffer.old.bytes.items buffer.new.bytes.items
+        (count_line label.now count) }
 {
     buffer.write(label, sink)?;
     buffer.write_number(count, sink)?;
@@ -65,7 +70,9 @@ fn write_count<S: Sink>(
 }
 
 fn write_counts<S: Sink>(buffer: &mut TextBuffer, answer: &Answer, sink: &mut S) -> Result<(), E02>
-    ensures { Sends result (S.taken sink.old) (S.taken sink.new) (S.has_failed sink.old) (S.has_failed sink.new) buffer.old.bytes.items buffer.new.bytes.items (counts_text answer.now) }
+    ensures { Sends result (S.taken sink.old) (S.taken sink.new) (S.has_failed sink.old)
+        (S.has_failed sink.new) buffer.old.bytes.items buffer.new.bytes.items
+        (counts_text answer.now) }
 {
     write_count(buffer, b"instances ", answer.instances, sink)?;
     write_count(buffer, b"cut ", answer.cut, sink)?;
@@ -73,7 +80,9 @@ fn write_counts<S: Sink>(buffer: &mut TextBuffer, answer: &Answer, sink: &mut S)
 }
 
 fn write_report<S: Sink>(buffer: &mut TextBuffer, answer: &Answer, sink: &mut S) -> Result<(), E02>
-    ensures { Sends result (S.taken sink.old) (S.taken sink.new) (S.has_failed sink.old) (S.has_failed sink.new) buffer.old.bytes.items buffer.new.bytes.items (report_text answer.now) }
+    ensures { Sends result (S.taken sink.old) (S.taken sink.new) (S.has_failed sink.old)
+        (S.has_failed sink.new) buffer.old.bytes.items buffer.new.bytes.items
+        (report_text answer.now) }
 {
     write_truth(buffer, answer.truth, sink)?;
     write_counts(buffer, answer, sink)
@@ -82,9 +91,11 @@ fn write_report<S: Sink>(buffer: &mut TextBuffer, answer: &Answer, sink: &mut S)
 /// Appends the report of an answer.
 ///
 /// # Errors
-/// `Memory` before the first byte. After `Failed` a part that begins the report, and not the whole of it, went out.
+/// `Memory` before the first byte. After `Failed` a part that begins the report, and not the whole
+/// of it, went out.
 pub fn report<S: Sink>(alloc: Global, answer: &Answer, sink: &mut S) -> Result<(), WriteError>
-    ensures text { Writes result (S.taken sink.old) (S.taken sink.new) (S.has_failed sink.old) (S.has_failed sink.new) (report_text answer.now) }
+    ensures text { Writes result (S.taken sink.old) (S.taken sink.new) (S.has_failed sink.old)
+        (S.has_failed sink.new) (report_text answer.now) }
     ensures silent { IfErr result (λ e. IsOutOfMemory e → sink.new ≡ sink.old) }
 {
     let mut buffer = TextBuffer::new(alloc)?;

@@ -1,5 +1,6 @@
 //! A buffer between a text and a sink. Its memory is taken once, before the first byte goes out.
-ghost use Rattle.std.specs.Prelude.{◌≡◌, ◌≤◌, ◌+◌, ◌++◌, IfOk, OnOk, OnErr, true, [], decimal, length, vec_len, vec_capacity};
+ghost use Rattle.std.specs.Prelude.{◌≡◌, ◌≤◌, ◌+◌, ◌++◌, IfOk, OnOk, OnErr, true, [], decimal};
+ghost use Rattle.std.specs.Prelude.{length, vec_len, vec_capacity};
 ghost use Rattle.pb_report_texts.specs.declared.buffer.WriteError.TheVariants.{Memory, Failed};
 
 use itoa::Buffer;
@@ -74,7 +75,8 @@ impl TextBuffer {
 
     /// Sends text after that which is in the buffer.
     pub fn write<S: Sink>(&mut self, text: &[u8], sink: &mut S) -> Result<(), E02>
-        ensures { Sends result (S.taken sink.old) (S.taken sink.new) (S.has_failed sink.old) (S.has_failed sink.new) self.old.bytes.items self.new.bytes.items text.now }
+        ensures { Sends result (S.taken sink.old) (S.taken sink.new) (S.has_failed sink.old)
+            (S.has_failed sink.new) self.old.bytes.items self.new.bytes.items text.now }
     {
         if text.len() > CAPACITY - self.bytes.len() {
             put(&self.bytes, sink)?;
@@ -89,7 +91,8 @@ impl TextBuffer {
 
     /// Sends a number in decimal.
     pub fn write_number<S: Sink>(&mut self, number: u32, sink: &mut S) -> Result<(), E02>
-        ensures { Sends result (S.taken sink.old) (S.taken sink.new) (S.has_failed sink.old) (S.has_failed sink.new) self.old.bytes.items self.new.bytes.items (decimal number) }
+        ensures { Sends result (S.taken sink.old) (S.taken sink.new) (S.has_failed sink.old)
+            (S.has_failed sink.new) self.old.bytes.items self.new.bytes.items (decimal number) }
     {
         let mut digits = Buffer::new();
         self.write(digits.format(number).as_bytes(), sink)
@@ -97,7 +100,9 @@ impl TextBuffer {
 
     /// Sends a number in decimal, which may be below 0.
     pub fn write_signed<S: Sink>(&mut self, number: i64, sink: &mut S) -> Result<(), E02>
-        ensures { Sends result (S.taken sink.old) (S.taken sink.new) (S.has_failed sink.old) (S.has_failed sink.new) self.old.bytes.items self.new.bytes.items (signed_decimal number) }
+        ensures { Sends result (S.taken sink.old) (S.taken sink.new) (S.has_failed sink.old)
+            (S.has_failed sink.new) self.old.bytes.items self.new.bytes.items
+            (signed_decimal number) }
     {
         let mut digits = Buffer::new();
         self.write(digits.format(number).as_bytes(), sink)
@@ -105,9 +110,11 @@ impl TextBuffer {
 
     /// Sends what is in the buffer.
     pub fn finish<S: Sink>(&mut self, sink: &mut S) -> Result<(), E02>
-        ensures sent { OnOk result (Appends (S.taken sink.old) (S.taken sink.new) self.old.bytes.items) }
+        ensures sent { OnOk result (Appends (S.taken sink.old)
+            (S.taken sink.new) self.old.bytes.items) }
         ensures ok_failed { OnOk result (S.has_failed sink.new ≡ S.has_failed sink.old) }
-        ensures prefix { OnErr result (AppendsPrefix (S.taken sink.old) (S.taken sink.new) self.old.bytes.items) }
+        ensures prefix { OnErr result (AppendsPrefix (S.taken sink.old)
+            (S.taken sink.new) self.old.bytes.items) }
         ensures err_failed { OnErr result (S.has_failed sink.new ≡ true) }
         ensures empty { OnOk result (self.new.bytes.items ≡ []) }
     {

@@ -5,7 +5,9 @@ ghost use Rattle.pb_sorts.specs.Layout.{count_of};
 ghost use Rattle.pb_bytecode.specs.Meaning.{parameters};
 ghost use Rattle.pb_bytecode.specs.Views.{sort_contents};
 ghost use Rattle.pb_report_texts.specs.Sending.{Sends};
-ghost use Rattle.pb_report_texts.specs.InstanceName.{bool_name, enumerator_name, value_name, next_value, more_values, values_text, arguments, instance_name};
+ghost use Rattle.pb_report_texts.specs.InstanceName.{bool_name, enumerator_name, value_name};
+ghost use Rattle.pb_report_texts.specs.InstanceName.{next_value, more_values, values_text};
+ghost use Rattle.pb_report_texts.specs.InstanceName.{arguments, instance_name};
 
 use crate::buffer::TextBuffer;
 use pb_bytecode::Sort;
@@ -43,7 +45,9 @@ fn write_value<S: Sink>(
     value: &i64,
     sink: &mut S,
 ) -> Result<(), E02>
-    ensures { Sends result (S.taken sink.old) (S.taken sink.new) (S.has_failed sink.old) (S.has_failed sink.new) buffer.old.bytes.items buffer.new.bytes.items (value_name (map sort_contents sorts.now) carrier.now value.now) }
+    ensures { Sends result (S.taken sink.old) (S.taken sink.new) (S.has_failed sink.old)
+        (S.has_failed sink.new) buffer.old.bytes.items buffer.new.bytes.items
+        (value_name (map sort_contents sorts.now) carrier.now value.now) }
 {
     match carrier {
         Carrier::Bool => buffer.write(bool_name(*value), sink),
@@ -62,7 +66,9 @@ fn write_next_value<S: Sink>(
     value: &i64,
     sink: &mut S,
 ) -> Result<(), E02>
-    ensures { Sends result (S.taken sink.old) (S.taken sink.new) (S.has_failed sink.old) (S.has_failed sink.new) buffer.old.bytes.items buffer.new.bytes.items (next_value (map sort_contents sorts.now) carrier.now value.now) }
+    ensures { Sends result (S.taken sink.old) (S.taken sink.new) (S.has_failed sink.old)
+        (S.has_failed sink.new) buffer.old.bytes.items buffer.new.bytes.items
+        (next_value (map sort_contents sorts.now) carrier.now value.now) }
 {
     buffer.write(b",", sink)?;
     write_value(buffer, sorts, carrier, value, sink)
@@ -78,7 +84,9 @@ fn write_more_values<S: Sink>(
 ) -> Result<(), E02>
     requires some { 0 < length carriers.now }
     requires lengths { length values.now ≡ length carriers.now }
-    ensures { Sends result (S.taken sink.old) (S.taken sink.new) (S.has_failed sink.old) (S.has_failed sink.new) buffer.old.bytes.items buffer.new.bytes.items (more_values (map sort_contents sorts.now) (drop 1 carriers.now) (drop 1 values.now)) }
+    ensures { Sends result (S.taken sink.old) (S.taken sink.new) (S.has_failed sink.old)
+        (S.has_failed sink.new) buffer.old.bytes.items buffer.new.bytes.items
+        (more_values (map sort_contents sorts.now) (drop 1 carriers.now) (drop 1 values.now)) }
 {
     for k in 1..carriers.len() {
         write_next_value(buffer, sorts, &carriers[k], &values[k], sink)?;
@@ -96,7 +104,9 @@ fn write_values<S: Sink>(
 ) -> Result<(), E02>
     requires some { 0 < length carriers.now }
     requires lengths { length values.now ≡ length carriers.now }
-    ensures { Sends result (S.taken sink.old) (S.taken sink.new) (S.has_failed sink.old) (S.has_failed sink.new) buffer.old.bytes.items buffer.new.bytes.items (values_text (map sort_contents sorts.now) carriers.now values.now) }
+    ensures { Sends result (S.taken sink.old) (S.taken sink.new) (S.has_failed sink.old)
+        (S.has_failed sink.new) buffer.old.bytes.items buffer.new.bytes.items
+        (values_text (map sort_contents sorts.now) carriers.now values.now) }
 {
     write_value(buffer, sorts, &carriers[0], &values[0], sink)?;
     write_more_values(buffer, sorts, carriers, values, sink)
@@ -111,7 +121,9 @@ fn write_arguments<S: Sink>(
     sink: &mut S,
 ) -> Result<(), E02>
     requires { length values.now ≡ length carriers.now }
-    ensures { Sends result (S.taken sink.old) (S.taken sink.new) (S.has_failed sink.old) (S.has_failed sink.new) buffer.old.bytes.items buffer.new.bytes.items (arguments (map sort_contents sorts.now) carriers.now values.now) }
+    ensures { Sends result (S.taken sink.old) (S.taken sink.new) (S.has_failed sink.old)
+        (S.has_failed sink.new) buffer.old.bytes.items buffer.new.bytes.items
+        (arguments (map sort_contents sorts.now) carriers.now values.now) }
 {
     if carriers.is_empty() {
         return buffer.write(b"", sink);
@@ -129,7 +141,9 @@ pub fn write_instance_name<S: Sink>(
     sink: &mut S,
 ) -> Result<(), E02>
     requires { number < count_of (parameters verified.now) }
-    ensures { Sends result (S.taken sink.old) (S.taken sink.new) (S.has_failed sink.old) (S.has_failed sink.new) buffer.old.bytes.items buffer.new.bytes.items (instance_name verified.now number) }
+    ensures { Sends result (S.taken sink.old) (S.taken sink.new) (S.has_failed sink.old)
+        (S.has_failed sink.new) buffer.old.bytes.items buffer.new.bytes.items
+        (instance_name verified.now number) }
 {
     let module = verified.module();
     let instance = verified.layout().instance(number);

@@ -18,7 +18,8 @@ use pb_verifier::Verified;
 use std::alloc::Global;
 
 fn write_truth<S: Sink>(buffer: &mut TextBuffer, truth: bool, sink: &mut S) -> Result<(), E02>
-    ensures { Sends result (S.taken sink.old) (S.taken sink.new) (S.has_failed sink.old) (S.has_failed sink.new) buffer.old.bytes.items buffer.new.bytes.items (truth_end truth) }
+    ensures { Sends result (S.taken sink.old) (S.taken sink.new) (S.has_failed sink.old)
+        (S.has_failed sink.new) buffer.old.bytes.items buffer.new.bytes.items (truth_end truth) }
 {
     if truth {
         buffer.write(b" true\n", sink)
@@ -35,7 +36,9 @@ fn write_line<S: Sink>(
     sink: &mut S,
 ) -> Result<(), E02>
     requires { number < count_of (parameters verified.now) }
-    ensures { Sends result (S.taken sink.old) (S.taken sink.new) (S.has_failed sink.old) (S.has_failed sink.new) buffer.old.bytes.items buffer.new.bytes.items (solution_line (instance_name verified.now number) truth) }
+    ensures { Sends result (S.taken sink.old) (S.taken sink.new) (S.has_failed sink.old)
+        (S.has_failed sink.new) buffer.old.bytes.items buffer.new.bytes.items
+        (solution_line (instance_name verified.now number) truth) }
 {
     write_instance_name(buffer, verified, number, sink)?;
     write_truth(buffer, truth, sink)
@@ -52,7 +55,10 @@ fn write_lines<S: Sink>(
     requires trees { HaveTrees verified.now }
     requires rows { AreModuleRows verified.now rows.now }
     requires game { IsModuleGame verified.now rows.now solved.now.built }
-    ensures { (trees : ℕ → Tree) → AreTrees verified.now trees → Sends result (S.taken sink.old) (S.taken sink.new) (S.has_failed sink.old) (S.has_failed sink.new) buffer.old.bytes.items buffer.new.bytes.items (module_solution_text verified.now trees rows.now) }
+    ensures { (trees : ℕ → Tree) → AreTrees verified.now trees
+        → Sends result (S.taken sink.old) (S.taken sink.new) (S.has_failed sink.old)
+        (S.has_failed sink.new) buffer.old.bytes.items buffer.new.bytes.items
+        (module_solution_text verified.now trees rows.now) }
 {
     for k in 0..rows.len() {
         let truth = solved.row_truth(k);
@@ -61,10 +67,12 @@ fn write_lines<S: Sink>(
     Ok(())
 }
 
-/// Appends the solution at the reached instances: a line for each, by rising number, with its name and its truth.
+/// Appends the solution at the reached instances: a line for each, by rising number, with its name
+/// and its truth.
 ///
 /// # Errors
-/// `Memory` before the first byte. After `Failed` a part that begins the text, and not the whole of it, went out.
+/// `Memory` before the first byte. After `Failed` a part that begins the text, and not the whole of
+/// it, went out.
 pub fn solution_text<S: Sink>(
     alloc: Global,
     verified: &Verified,
@@ -75,7 +83,9 @@ pub fn solution_text<S: Sink>(
     requires trees { HaveTrees verified.now }
     requires rows { AreModuleRows verified.now rows.now }
     requires game { IsModuleGame verified.now rows.now solved.now.built }
-    ensures text { (trees : ℕ → Tree) → AreTrees verified.now trees → Writes result (S.taken sink.old) (S.taken sink.new) (S.has_failed sink.old) (S.has_failed sink.new) (module_solution_text verified.now trees rows.now) }
+    ensures text { (trees : ℕ → Tree) → AreTrees verified.now trees
+        → Writes result (S.taken sink.old) (S.taken sink.new) (S.has_failed sink.old)
+        (S.has_failed sink.new) (module_solution_text verified.now trees rows.now) }
     ensures silent { IfErr result (λ e. IsOutOfMemory e → sink.new ≡ sink.old) }
 {
     let mut buffer = TextBuffer::new(alloc)?;

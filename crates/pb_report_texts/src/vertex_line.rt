@@ -2,14 +2,16 @@
 ghost use Rattle.std.specs.Prelude.{◌<◌, length, Some};
 ghost use Rattle.pb_game.specs.Games.{vertex_count, successors_of};
 ghost use Rattle.pb_report_texts.specs.Sending.{Sends};
-ghost use Rattle.pb_report_texts.specs.GameText.{field, head, item, more_numbers, numbers_text, name_part, vertex_at, vertex_text};
+ghost use Rattle.pb_report_texts.specs.GameText.{field, head, item, more_numbers, numbers_text};
+ghost use Rattle.pb_report_texts.specs.GameText.{name_part, vertex_at, vertex_text};
 
 use crate::buffer::TextBuffer;
 use pb_game::Game;
 use pb_sorts::{E02, Sink};
 
 fn write_field<S: Sink>(buffer: &mut TextBuffer, number: u32, sink: &mut S) -> Result<(), E02>
-    ensures { Sends result (S.taken sink.old) (S.taken sink.new) (S.has_failed sink.old) (S.has_failed sink.new) buffer.old.bytes.items buffer.new.bytes.items (field number) }
+    ensures { Sends result (S.taken sink.old) (S.taken sink.new) (S.has_failed sink.old)
+        (S.has_failed sink.new) buffer.old.bytes.items buffer.new.bytes.items (field number) }
 {
     buffer.write_number(number, sink)?;
     buffer.write(b" ", sink)
@@ -22,7 +24,9 @@ fn write_head<S: Sink>(
     owner: u32,
     sink: &mut S,
 ) -> Result<(), E02>
-    ensures { Sends result (S.taken sink.old) (S.taken sink.new) (S.has_failed sink.old) (S.has_failed sink.new) buffer.old.bytes.items buffer.new.bytes.items (head vertex priority owner) }
+    ensures { Sends result (S.taken sink.old) (S.taken sink.new) (S.has_failed sink.old)
+        (S.has_failed sink.new) buffer.old.bytes.items buffer.new.bytes.items
+        (head vertex priority owner) }
 {
     write_field(buffer, vertex, sink)?;
     write_field(buffer, priority, sink)?;
@@ -30,14 +34,17 @@ fn write_head<S: Sink>(
 }
 
 fn write_item<S: Sink>(buffer: &mut TextBuffer, number: u32, sink: &mut S) -> Result<(), E02>
-    ensures { Sends result (S.taken sink.old) (S.taken sink.new) (S.has_failed sink.old) (S.has_failed sink.new) buffer.old.bytes.items buffer.new.bytes.items (item number) }
+    ensures { Sends result (S.taken sink.old) (S.taken sink.new) (S.has_failed sink.old)
+        (S.has_failed sink.new) buffer.old.bytes.items buffer.new.bytes.items (item number) }
 {
     buffer.write(b",", sink)?;
     buffer.write_number(number, sink)
 }
 
 fn write_more<S: Sink>(buffer: &mut TextBuffer, numbers: &[u32], sink: &mut S) -> Result<(), E02>
-    ensures { Sends result (S.taken sink.old) (S.taken sink.new) (S.has_failed sink.old) (S.has_failed sink.new) buffer.old.bytes.items buffer.new.bytes.items (more_numbers numbers.now) }
+    ensures { Sends result (S.taken sink.old) (S.taken sink.new) (S.has_failed sink.old)
+        (S.has_failed sink.new) buffer.old.bytes.items buffer.new.bytes.items
+        (more_numbers numbers.now) }
 {
     for k in 0..numbers.len() {
         write_item(buffer, numbers[k], sink)?;
@@ -47,7 +54,9 @@ fn write_more<S: Sink>(buffer: &mut TextBuffer, numbers: &[u32], sink: &mut S) -
 
 fn write_numbers<S: Sink>(buffer: &mut TextBuffer, numbers: &[u32], sink: &mut S) -> Result<(), E02>
     requires { 0 < length numbers.now }
-    ensures { Sends result (S.taken sink.old) (S.taken sink.new) (S.has_failed sink.old) (S.has_failed sink.new) buffer.old.bytes.items buffer.new.bytes.items (numbers_text numbers.now) }
+    ensures { Sends result (S.taken sink.old) (S.taken sink.new) (S.has_failed sink.old)
+        (S.has_failed sink.new) buffer.old.bytes.items buffer.new.bytes.items
+        (numbers_text numbers.now) }
 {
     buffer.write_number(numbers[0], sink)?;
     write_more(buffer, &numbers[1..], sink)
@@ -59,7 +68,9 @@ pub(crate) fn write_name<S: Sink>(
     name: &[u8],
     sink: &mut S,
 ) -> Result<(), E02>
-    ensures { Sends result (S.taken sink.old) (S.taken sink.new) (S.has_failed sink.old) (S.has_failed sink.new) buffer.old.bytes.items buffer.new.bytes.items (name_part (Some name.now)) }
+    ensures { Sends result (S.taken sink.old) (S.taken sink.new) (S.has_failed sink.old)
+        (S.has_failed sink.new) buffer.old.bytes.items buffer.new.bytes.items
+        (name_part (Some name.now)) }
 {
     buffer.write(b" \"", sink)?;
     buffer.write(name, sink)?;
@@ -75,7 +86,9 @@ pub(crate) fn write_vertex<S: Sink>(
 ) -> Result<(), E02>
     requires vertex { vertex < vertex_count game.now }
     requires edges { 0 < length (successors_of game.now vertex) }
-    ensures { Sends result (S.taken sink.old) (S.taken sink.new) (S.has_failed sink.old) (S.has_failed sink.new) buffer.old.bytes.items buffer.new.bytes.items (vertex_text vertex (vertex_at game.now vertex)) }
+    ensures { Sends result (S.taken sink.old) (S.taken sink.new) (S.has_failed sink.old)
+        (S.has_failed sink.new) buffer.old.bytes.items buffer.new.bytes.items
+        (vertex_text vertex (vertex_at game.now vertex)) }
 {
     write_head(
         buffer,

@@ -14,10 +14,10 @@ use pb_verifier::Verified;
 use std::alloc::Global;
 use std::thread::Threads;
 
-/// Answers a verified module, which is solved as by `solve_module`: the truth of the initial instance in the nested
-/// solution of the module's equations (Groote and Willemse 2005), how many instances were reached, how many of these meet a
-/// cut, and how many vertices the game has. The trees of the instances go before their game is solved, so that this takes
-/// less memory.
+/// Answers a verified module, which is solved as by `solve_module`: the truth of the initial
+/// instance in the nested solution of the module's equations (Groote and Willemse 2005), how many
+/// instances were reached, how many of these meet a cut, and how many vertices the game has. The
+/// trees of the instances go before their game is solved, so that this takes less memory.
 ///
 /// # Errors
 /// As with `solve_module`.

@@ -54,7 +54,8 @@ pub(crate) fn solve_game<R: Threads + Sync, G: Gate + Sync>(
     gate: &G,
 ) -> Result<Solved, AllocError>
     ensures built { IfOk result (λ s. s.built ≡ built) }
-    ensures lifted { options.solver ≡ Lift → IfOk result (λ s. IsLiftedOrNone s.built.game s.solution) }
+    ensures lifted { options.solver ≡ Lift → IfOk result
+        (λ s. IsLiftedOrNone s.built.game s.solution) }
 {
     let solution = solve(
         rt,

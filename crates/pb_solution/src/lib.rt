@@ -1,5 +1,6 @@
-//! From a verified module to its answer: its reached instances are explored, their game is built and solved, and what the
-//! winners say is the truth of the instances in the nested solution of the module's equations.
+//! From a verified module to its answer: its reached instances are explored, their game is built
+//! and solved, and what the winners say is the truth of the instances in the nested solution of the
+//! module's equations.
 #![tactic(auto)]
 
 mod answer;

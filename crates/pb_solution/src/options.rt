@@ -3,8 +3,8 @@ ghost use Rattle.std.specs.Prelude.{◌<◌, ◌≤◌};
 
 use pb_solver_names::Solver;
 
-/// How a module is solved: by so many workers, which explore it and, where the solver is lifting, lift its game too.
-/// What the answer is depends on neither.
+/// How a module is solved: by so many workers, which explore it and, where the solver is lifting,
+/// lift its game too. What the answer is depends on neither.
 #[derive(Clone, Copy, Debug, PartialEq, Eq)]
 pub struct SolveOptions {
     pub workers: u32,

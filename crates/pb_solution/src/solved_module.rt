@@ -31,9 +31,9 @@ pub struct SolvedModule {
     pub solved: Solved,
 }
 
-/// Solves a verified module: workers explore its reached instances, and the game of these is solved (Mader 1997) by the
-/// solver that is asked for, with a certificate of its winners. The gate sees each attempt of a worker to
-/// take an instance, and to lift a vertex.
+/// Solves a verified module: workers explore its reached instances, and the game of these is solved
+/// (Mader 1997) by the solver that is asked for, with a certificate of its winners. The gate sees
+/// each attempt of a worker to take an instance, and to lift a vertex.
 ///
 /// # Errors
 /// `TooManyVertices` where the game would have more than 2^24 vertices; else `Memory`.
@@ -45,7 +45,8 @@ pub fn solve_module<R: Threads + Sync, G: Gate + Sync>(
     gate: &G,
 ) -> Result<SolvedModule, BuildError>
     ensures solved { IfOk result (IsSolutionOf verified.now) }
-    ensures lifted { options.solver ≡ Lift → IfOk result (λ s. IsLiftedOrNone s.solved.built.game s.solved.solution) }
+    ensures lifted { options.solver ≡ Lift → IfOk result
+        (λ s. IsLiftedOrNone s.solved.built.game s.solved.solution) }
     ensures too_many { result ≡ Err TooManyVertices → IsTooLarge verified.now }
 {
     match build_module(rt, alloc, verified, options.workers, gate) {
@@ -61,7 +62,8 @@ impl SolvedModule {
     /// Appends the game of the reached instances, in the form that PGSolver reads.
     ///
     /// # Errors
-    /// `Memory` before the first byte. After `Failed` a part that begins the text, and not the whole of it, went out.
+    /// `Memory` before the first byte. After `Failed` a part that begins the text, and not the
+    /// whole of it, went out.
     pub fn write_game<S: Sink>(
         &self,
         alloc: Global,
@@ -69,7 +71,8 @@ impl SolvedModule {
         sink: &mut S,
     ) -> Result<(), WriteError>
         requires { IsSolutionOf verified.now self.now }
-        ensures text { Sends (ForGameText verified.now) result (S.taken sink.old) (S.taken sink.new) (S.has_failed sink.old) (S.has_failed sink.new) }
+        ensures text { Sends (ForGameText verified.now) result (S.taken sink.old) (S.taken sink.new)
+            (S.has_failed sink.old) (S.has_failed sink.new) }
         ensures silent { IfErr result (λ e. IsOutOfMemory e → sink.new ≡ sink.old) }
     {
         instances_have_trees(verified);
@@ -93,15 +96,17 @@ impl SolvedModule {
         sink: &mut S,
     ) -> Result<(), WriteError>
         requires { IsSolutionOf verified.now self.now }
-        ensures text { Sends (ForSolutionText verified.now) result (S.taken sink.old) (S.taken sink.new) (S.has_failed sink.old) (S.has_failed sink.new) }
+        ensures text { Sends (ForSolutionText verified.now) result (S.taken sink.old)
+            (S.taken sink.new) (S.has_failed sink.old) (S.has_failed sink.new) }
         ensures silent { IfErr result (λ e. IsOutOfMemory e → sink.new ≡ sink.old) }
     {
         instances_have_trees(verified);
         solution_text(alloc, verified, &self.solved, self.explored.rows(), sink)
     }
 
-    /// Appends why the initial instance has its truth value: the answer, and then a line for each instance of a proof graph
-    /// (Cranen, Luttik and Willemse 2013), the initial one first and the nearest before others.
+    /// Appends why the initial instance has its truth value: the answer, and then a line for each
+    /// instance of a proof graph (Cranen, Luttik and Willemse 2013), the initial one first and the
+    /// nearest before others.
     ///
     /// # Errors
     /// As with `write_game`.
@@ -112,7 +117,8 @@ impl SolvedModule {
         sink: &mut S,
     ) -> Result<(), WriteError>
         requires { IsSolutionOf verified.now self.now }
-        ensures text { Sends (ForEvidenceText verified.now) result (S.taken sink.old) (S.taken sink.new) (S.has_failed sink.old) (S.has_failed sink.new) }
+        ensures text { Sends (ForEvidenceText verified.now) result (S.taken sink.old)
+            (S.taken sink.new) (S.has_failed sink.old) (S.has_failed sink.new) }
         ensures silent { IfErr result (λ e. IsOutOfMemory e → sink.new ≡ sink.old) }
     {
         instances_have_trees(verified);

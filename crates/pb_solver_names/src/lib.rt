@@ -1,4 +1,5 @@
-//! The solvers of parity games by their names: the command line reads them, and the solver is called by them.
+//! The solvers of parity games by their names: the command line reads them, and the solver is
+//! called by them.
 #![tactic(auto)]
 
 mod solver;

@@ -1,10 +1,12 @@
 //! The tests of one vertex: its kept edges, and how the counts change along them.
 
-ghost use Rattle.std.specs.Prelude.{◌≡◌, ◌≢◌, ℕ, ◌+◌, ◌%◌, ◌<◌, ◌≤◌, ◌↔◌, length, IsTrue, MatchBool, MatchOption};
+ghost use Rattle.std.specs.Prelude.{◌≡◌, ◌≢◌, ℕ, ◌+◌, ◌%◌, ◌<◌, ◌≤◌, ◌↔◌, length, IsTrue};
+ghost use Rattle.std.specs.Prelude.{MatchBool, MatchOption};
 ghost use Rattle.pb_game.specs.Games.{vertex_count, owner_of, priority_count, HasEdge};
 ghost use Rattle.pb_game_certificate.specs.Solutions.{winner_of, choice_of, HasLengths};
 ghost use Rattle.pb_game_certificate.specs.Certificates.{IsCertifiedAt};
-ghost use Rattle.pb_game_certificate.specs.Flaws.{LeavesAlong, IncreasesAlong, StaysAlong, IsFirstRule};
+ghost use Rattle.pb_game_certificate.specs.Flaws.{LeavesAlong, IncreasesAlong, StaysAlong};
+ghost use Rattle.pb_game_certificate.specs.Flaws.{IsFirstRule};
 ghost use Rattle.pb_strategy.specs.Comparisons.{Compares, DecreasesAlong, DontIncrease, EachKept};
 
 use pb_game::Game;
@@ -15,7 +17,8 @@ use std::cmp::Ordering;
 pub(crate) fn flaw_at(game: &Game, solution: &Solution, v: u32) -> Option<CertificateRule>
     requires lengths { HasLengths game.now solution.now }
     requires vertex { v < vertex_count game.now }
-    ensures { MatchOption result (IsCertifiedAt game.now solution.now v) (λ rule. IsFirstRule game.now solution.now v rule) }
+    ensures { MatchOption result (IsCertifiedAt game.now solution.now v)
+        (λ rule. IsFirstRule game.now solution.now v rule) }
 {
     let winner = solution.winner(v);
     if game.owner(v) == winner {
@@ -54,7 +57,8 @@ fn has_edge(game: &Game, v: u32, u: u32) -> bool
 fn is_kept(game: &Game, solution: &Solution, v: u32, u: u32) -> bool
     requires lengths { HasLengths game.now solution.now }
     requires vertex { v < vertex_count game.now }
-    ensures { IsTrue result ↔ (owner_of game.now v ≡ winner_of solution.now v → choice_of solution.now v ≡ u) }
+    ensures { IsTrue result ↔ (owner_of game.now v ≡ winner_of solution.now v
+        → choice_of solution.now v ≡ u) }
 {
     game.owner(v) != solution.winner(v) || solution.choice(v) == u
 }
@@ -63,7 +67,9 @@ fn is_kept(game: &Game, solution: &Solution, v: u32, u: u32) -> bool
 fn leaves_region(game: &Game, solution: &Solution, v: u32) -> bool
     requires lengths { HasLengths game.now solution.now }
     requires vertex { v < vertex_count game.now }
-    ensures { MatchBool result ((u : ℕ) × LeavesAlong game.now solution.now v u) (EachKept game.now solution.now v (λ u. winner_of solution.now u ≡ winner_of solution.now v)) }
+    ensures { MatchBool result ((u : ℕ) × LeavesAlong game.now solution.now v u)
+        (EachKept game.now solution.now v (λ u. winner_of solution.now u
+        ≡ winner_of solution.now v)) }
 {
     for &target in game.successors(v) {
         if is_kept(game, solution, v, target) {
@@ -79,7 +85,8 @@ fn leaves_region(game: &Game, solution: &Solution, v: u32) -> bool
 fn increases(game: &Game, solution: &Solution, v: u32) -> bool
     requires lengths { HasLengths game.now solution.now }
     requires vertex { v < vertex_count game.now }
-    ensures { MatchBool result ((u : ℕ) × IncreasesAlong game.now solution.now v u) (EachKept game.now solution.now v (λ u. DontIncrease game.now solution.now v u)) }
+    ensures { MatchBool result ((u : ℕ) × IncreasesAlong game.now solution.now v u)
+        (EachKept game.now solution.now v (λ u. DontIncrease game.now solution.now v u)) }
 {
     for &target in game.successors(v) {
         if is_kept(game, solution, v, target) {
@@ -95,7 +102,8 @@ fn increases(game: &Game, solution: &Solution, v: u32) -> bool
 fn stays(game: &Game, solution: &Solution, v: u32) -> bool
     requires lengths { HasLengths game.now solution.now }
     requires vertex { v < vertex_count game.now }
-    ensures { MatchBool result ((u : ℕ) × StaysAlong game.now solution.now v u) (EachKept game.now solution.now v (λ u. DecreasesAlong game.now solution.now v u)) }
+    ensures { MatchBool result ((u : ℕ) × StaysAlong game.now solution.now v u)
+        (EachKept game.now solution.now v (λ u. DecreasesAlong game.now solution.now v u)) }
 {
     for &target in game.successors(v) {
         if is_kept(game, solution, v, target) {
@@ -107,7 +115,8 @@ fn stays(game: &Game, solution: &Solution, v: u32) -> bool
     false
 }
 
-/// How the counts that matter to the winner of `v` change from `v` to `u`: the highest priority comes first.
+/// How the counts that matter to the winner of `v` change from `v` to `u`: the highest priority
+/// comes first.
 fn compare(game: &Game, solution: &Solution, v: u32, u: u32) -> Ordering
     requires lengths { HasLengths game.now solution.now }
     requires from { v < vertex_count game.now }

@@ -1,8 +1,9 @@
 //! The checker of certificates.
 //!
-//! [`check`] takes a game and lists that claim to solve it, from whatever solver, and answers with the lists'
-//! winners only where they are a certificate: winning regions with strategies and progress measures (Jurdzinski
-//! 2000). It takes no memory, and reads each edge a few times for each priority.
+//! [`check`] takes a game and lists that claim to solve it, from whatever solver, and answers with
+//! the lists' winners only where they are a certificate: winning regions with strategies and
+//! progress measures (Jurdzinski 2000). It takes no memory, and reads each edge a few times for
+//! each priority.
 #![tactic(auto)]
 
 ghost use Rattle.std.specs.Prelude.{◌≡◌, ◌*◌, ◌<◌, ◌↔◌, length, IsTrue, IsOk, IfErr, IfOk};
@@ -28,8 +29,8 @@ pub struct Checked<'a> {
 impl Checked<'_> {
     ghost use Rattle.pb_game_meaning.specs.Meaning.{IsSolvedAt};
 
-    /// Whether player 0 wins `v`. Of whatever Boolean equation system the game was built, this is the truth of the
-    /// instance whose vertex `v` is (Groote and Willemse 2005).
+    /// Whether player 0 wins `v`. Of whatever Boolean equation system the game was built, this is
+    /// the truth of the instance whose vertex `v` is (Groote and Willemse 2005).
     pub fn truth(&self, v: u32) -> bool
         requires { v < vertex_count self.now.game.now }
         ensures winner { IsTrue result ↔ (winner_of self.now.solution.now v ≡ 0) }
@@ -43,11 +44,12 @@ impl Checked<'_> {
 ///
 /// # Errors
 ///
-/// The least vertex at which a rule fails, with the first such rule, where the solution is no certificate. A
-/// list of a wrong length is a flaw at vertex 0, before all others.
+/// The least vertex at which a rule fails, with the first such rule, where the solution is no
+/// certificate. A list of a wrong length is a flaw at vertex 0, before all others.
 pub fn check<'a>(game: &'a Game, solution: &'a Solution) -> Result<Checked<'a>, Flaw>
     ensures certificate { IsOk result ↔ IsCertificate game.entry.now solution.entry.now }
-    ensures flaw { IfErr result (λ flaw. IsFirstFlaw game.entry.now solution.entry.now flaw.vertex flaw.rule) }
+    ensures flaw { IfErr result
+        (λ flaw. IsFirstFlaw game.entry.now solution.entry.now flaw.vertex flaw.rule) }
     ensures same_game { IfOk result (λ checked. checked.game.now ≡ game.entry.now) }
     ensures same_solution { IfOk result (λ checked. checked.solution.now ≡ solution.entry.now) }
 {

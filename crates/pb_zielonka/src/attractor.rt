@@ -1,8 +1,8 @@
 //! Attractors: from where a player forces a visit to a target within a region (Zielonka 1998).
 //!
-//! Round by round the attractor takes in the vertices from which the player can force a visit to what the rounds
-//! before took in. A round looks only at the predecessors of what the last round took in, the frontier, and
-//! takes in what a look at all vertices would.
+//! Round by round the attractor takes in the vertices from which the player can force a visit to
+//! what the rounds before took in. A round looks only at the predecessors of what the last round
+//! took in, the frontier, and takes in what a look at all vertices would.
 
 ghost use Rattle.std.specs.Prelude.{◌≡◌, ℕ, ◌<◌, ◌≤◌, length, IfOk, map, cond};
 ghost use Rattle.pb_game.specs.Games.{vertex_count};
@@ -27,9 +27,11 @@ pub(crate) struct Attractor {
     pub passed: Vec<u32>,
 }
 
-/// From where the arena's player forces a visit to the target within its region, which is a subgame.
+/// From where the arena's player forces a visit to the target within its region, which is a
+/// subgame.
 ///
-/// The work is linear in the number of edges to and from what is taken in, and in the number of vertices.
+/// The work is linear in the number of edges to and from what is taken in, and in the number of
+/// vertices.
 pub(crate) fn attract(
     rt: &(impl Threads + Sync),
     alloc: Global,
@@ -61,7 +63,8 @@ pub(crate) fn attract(
     }
 }
 
-/// Rank 1 at the target, and 0 elsewhere. All room is asked for at once: where `collect` is refused it asks again for less.
+/// Rank 1 at the target, and 0 elsewhere. All room is asked for at once: where `collect` is refused
+/// it asks again for less.
 fn start_ranks(alloc: Global, target: &[bool]) -> Result<Vec<u32>, AllocError>
     ensures { IfOk result (λ rank. rank.items ≡ map (λ inside. cond inside 1 0) target.now) }
 {

@@ -22,8 +22,8 @@ pub(crate) struct Remainder {
     pub rounds: u32,
 }
 
-/// Attracts for the turn's player the vertices of the greatest priority of what is left, and writes them as won by
-/// that player.
+/// Attracts for the turn's player the vertices of the greatest priority of what is left, and writes
+/// them as won by that player.
 pub(crate) fn claim_front(
     rt: &(impl Threads + Sync),
     alloc: Global,
@@ -33,7 +33,8 @@ pub(crate) fn claim_front(
     requires lengths { HasLengths turn.now.game.now solution.old }
     requires left { IsSubgame turn.now.game.now turn.now.left.now }
     ensures lengths { HasLengths turn.now.game.now solution.new }
-    ensures claimed { IfOk result (λ front. ClaimsFront turn.now solution.old solution.new front.region front.rounds) }
+    ensures claimed { IfOk result
+        (λ front. ClaimsFront turn.now solution.old solution.new front.region front.rounds) }
 {
     let left = turn.left.unpack(alloc)?;
     let target = of_priority(alloc, turn.game, &left, turn.top)?;

@@ -1,7 +1,7 @@
 //! A round of an attractor, over the predecessors of the last frontier.
 //!
-//! What a round decides at a vertex depends on the ranks of the rounds before alone, so that the order in which
-//! it looks at the vertices doesn't matter.
+//! What a round decides at a vertex depends on the ranks of the rounds before alone, so that the
+//! order in which it looks at the vertices doesn't matter.
 
 ghost use Rattle.std.specs.Prelude.{◌≡◌, ℕ, ◌+◌, ◌^◌, ◌<◌, length, slice_index, OnOk, IfOk, []};
 ghost use Rattle.std.specs.Bool.{OnFalse};
@@ -11,7 +11,9 @@ ghost use Rattle.std.specs.Ordering.{nat_cmp};
 ghost use Rattle.pb_game.specs.Games.{vertex_count, HasEdge};
 ghost use Rattle.pb_zielonka.specs.Attractors.{IsTaken};
 ghost use Rattle.pb_zielonka.specs.Rounds.{Grows, IsFrontier, IsTakenVertex};
-ghost use Rattle.pb_zielonka.specs.Searches.{DecidesAt, IsReadyFor, IsIdleFor, AreIdleUnflagged, IsSearchIn, IsLeftOut, IsIdleIn, IsLookedAtIn, IsForcingIn, IsSettledIn, ArePassedIn, IsRoundIn};
+ghost use Rattle.pb_zielonka.specs.Searches.{DecidesAt, IsReadyFor, IsIdleFor, AreIdleUnflagged};
+ghost use Rattle.pb_zielonka.specs.Searches.{IsSearchIn, IsLeftOut, IsIdleIn, IsLookedAtIn};
+ghost use Rattle.pb_zielonka.specs.Searches.{IsForcingIn, IsSettledIn, ArePassedIn, IsRoundIn};
 
 use crate::attractor::Attractor;
 use crate::scopes::Arena;
@@ -23,8 +25,8 @@ use std::thread::Threads;
 /// From this size on a frontier is looked at by several threads.
 const LARGE: usize = 512;
 
-/// What a decision reads: the ranks of the rounds so far, the last of them, and how many successors of each of the
-/// opponent's vertices are known to be no way out.
+/// What a decision reads: the ranks of the rounds so far, the last of them, and how many successors
+/// of each of the opponent's vertices are known to be no way out.
 #[derive(Clone, Copy)]
 pub(crate) struct Found<'a> {
     pub rank: &'a [u32],
@@ -43,7 +45,8 @@ pub(crate) enum Verdict {
 
 /// What the round decides at the predecessor `v` of the frontier's vertex `u`.
 ///
-/// At the opponent's vertices the search for a way out goes on behind the successors that it passed before.
+/// At the opponent's vertices the search for a way out goes on behind the successors that it passed
+/// before.
 fn decide(arena: &Arena<'_>, found: &Found<'_>, v: u32, u: u32) -> Verdict
     requires ready { IsReadyFor arena.now found.now }
     requires vertex { v < vertex_count arena.now.game.now }
@@ -84,8 +87,10 @@ fn visit(
     requires search { IsSearchIn arena.now attractor.old next.old.items }
     ensures search { OnOk result (IsSearchIn arena.now attractor.new next.new.items) }
     ensures rounds { attractor.new.rounds ≡ attractor.old.rounds }
-    ensures grows { OnOk result (Grows attractor.old.rank.items attractor.new.rank.items attractor.old.rounds) }
-    ensures outside { OnOk result (IsLeftOut arena.now attractor.new.rank.items attractor.old.rounds v) }
+    ensures grows { OnOk result
+        (Grows attractor.old.rank.items attractor.new.rank.items attractor.old.rounds) }
+    ensures outside { OnOk result
+        (IsLeftOut arena.now attractor.new.rank.items attractor.old.rounds v) }
 {
     let last = attractor.rounds;
     if !arena.region[v as usize] || attractor.rank[v as usize] != 0 {
@@ -121,8 +126,10 @@ fn visit_predecessors(
     requires search { IsSearchIn arena.now attractor.old next.old.items }
     ensures search { OnOk result (IsSearchIn arena.now attractor.new next.new.items) }
     ensures rounds { attractor.new.rounds ≡ attractor.old.rounds }
-    ensures grows { OnOk result (Grows attractor.old.rank.items attractor.new.rank.items attractor.old.rounds) }
-    ensures outside { OnOk result (IsIdleIn arena.now attractor.new.rank.items attractor.old.rounds u) }
+    ensures grows { OnOk result
+        (Grows attractor.old.rank.items attractor.new.rank.items attractor.old.rounds) }
+    ensures outside { OnOk result
+        (IsIdleIn arena.now attractor.new.rank.items attractor.old.rounds u) }
 {
     for &v in arena.game.predecessors(u) {
         visit(arena, attractor, next, v, u)?;
@@ -143,8 +150,10 @@ fn visit_frontier(
     requires search { IsSearchIn arena.now attractor.old next.old.items }
     ensures search { OnOk result (IsSearchIn arena.now attractor.new next.new.items) }
     ensures rounds { attractor.new.rounds ≡ attractor.old.rounds }
-    ensures grows { OnOk result (Grows attractor.old.rank.items attractor.new.rank.items attractor.old.rounds) }
-    ensures outside { OnOk result (IsLookedAtIn arena.now attractor.new.rank.items attractor.old.rounds frontier.now) }
+    ensures grows { OnOk result
+        (Grows attractor.old.rank.items attractor.new.rank.items attractor.old.rounds) }
+    ensures outside { OnOk result
+        (IsLookedAtIn arena.now attractor.new.rank.items attractor.old.rounds frontier.now) }
 {
     for &u in frontier {
         visit_predecessors(arena, attractor, next, u)?;
@@ -178,7 +187,9 @@ fn feeding(
     frontier: &[u32],
 ) -> Result<Vec<bool>, AllocError>
     requires ready { IsReadyFor arena.now found.now }
-    requires frontier { (k : ℕ) → k < length frontier.now → IsTakenVertex arena.now.game.now found.now.rank.now found.now.last (slice_index frontier.now k) }
+    requires frontier { (k : ℕ) → k < length frontier.now
+        → IsTakenVertex arena.now.game.now found.now.rank.now found.now.last
+        (slice_index frontier.now k) }
     ensures size { IfOk result (λ flags. length flags.items ≡ length frontier.now) }
     ensures idle { IfOk result (λ flags. AreIdleUnflagged arena.now found.now.rank.now found.now.last frontier.now flags.items) }
 {
@@ -194,7 +205,8 @@ fn feeding(
         .collect(rt, alloc)
 }
 
-/// Looks at the predecessors of those of the frontier's vertices from which the round takes something in.
+/// Looks at the predecessors of those of the frontier's vertices from which the round takes
+/// something in.
 fn visit_feeding(
     arena: &Arena<'_>,
     attractor: &mut Attractor,
@@ -210,8 +222,10 @@ fn visit_feeding(
     requires search { IsSearchIn arena.now attractor.old next.old.items }
     ensures search { OnOk result (IsSearchIn arena.now attractor.new next.new.items) }
     ensures rounds { attractor.new.rounds ≡ attractor.old.rounds }
-    ensures grows { OnOk result (Grows attractor.old.rank.items attractor.new.rank.items attractor.old.rounds) }
-    ensures outside { OnOk result (IsLookedAtIn arena.now attractor.new.rank.items attractor.old.rounds frontier.now) }
+    ensures grows { OnOk result
+        (Grows attractor.old.rank.items attractor.new.rank.items attractor.old.rounds) }
+    ensures outside { OnOk result
+        (IsLookedAtIn arena.now attractor.new.rank.items attractor.old.rounds frontier.now) }
 {
     for k in 0..frontier.len() {
         if flags[k] {
@@ -223,8 +237,8 @@ fn visit_feeding(
 
 /// Takes in what a look at all vertices would, and lists it.
 ///
-/// A small frontier is looked at on the calling thread. For a large one several threads first find, from the ranks
-/// of the rounds before alone, from which of its vertices something is taken in.
+/// A small frontier is looked at on the calling thread. For a large one several threads first find,
+/// from the ranks of the rounds before alone, from which of its vertices something is taken in.
 fn look(
     rt: &(impl Threads + Sync),
     alloc: Global,
@@ -241,7 +255,8 @@ fn look(
     requires frontier { IsFrontier attractor.old.rank.items attractor.old.rounds frontier.now }
     requires next { next.old.items ≡ [] }
     ensures round { OnOk result (IsRoundIn arena.now attractor.old attractor.new) }
-    ensures grows { OnOk result (Grows attractor.old.rank.items attractor.new.rank.items attractor.old.rounds) }
+    ensures grows { OnOk result
+        (Grows attractor.old.rank.items attractor.new.rank.items attractor.old.rounds) }
     ensures search { OnOk result (IsSearchIn arena.now attractor.new next.new.items) }
 {
     if frontier.len() < LARGE {
@@ -266,8 +281,8 @@ fn arrange(vertices: &mut Vec<u32>)
     }
 }
 
-/// The round after the rounds so far: it takes in what a look at all vertices would, and lists it by rising number,
-/// each vertex once.
+/// The round after the rounds so far: it takes in what a look at all vertices would, and lists it
+/// by rising number, each vertex once.
 pub(crate) fn take_round(
     rt: &(impl Threads + Sync),
     alloc: Global,
@@ -284,7 +299,8 @@ pub(crate) fn take_round(
     requires frontier { IsFrontier attractor.old.rank.items attractor.old.rounds frontier.now }
     requires next { next.old.items ≡ [] }
     ensures round { OnOk result (IsRoundIn arena.now attractor.old attractor.new) }
-    ensures grows { OnOk result (Grows attractor.old.rank.items attractor.new.rank.items attractor.old.rounds) }
+    ensures grows { OnOk result
+        (Grows attractor.old.rank.items attractor.new.rank.items attractor.old.rounds) }
     ensures search { OnOk result (IsSearchIn arena.now attractor.new next.new.items) }
     ensures rising { OnOk result (IsStrictlyIncreasing next.new.items) }
 {
