@@ -1,5 +1,5 @@
 -- What the words of the command line ask.
-use Rattle.std.specs.Prelude.{◌≡◌, ℕ, true, List, [], ◌∷◌, Option, Some, None, option_map, option_and_then, pos, codes}
+use Rattle.std.specs.Prelude.{◌≡◌, ◌≢◌, ⊤, ℕ, true, List, [], ◌∷◌, Option, Some, None, option_map, option_and_then, pos, codes}
 use Rattle.clap.specs.declared.error.kind.ErrorKind.{ErrorKind}
 use Rattle.clap.specs.declared.error.kind.ErrorKind.TheVariants.{OutOfMemory}
 use Rattle.clap.specs.declared.builder.value_parser.ValueParser.TheVariants as value_parser
@@ -81,3 +81,10 @@ IsChosenBy (Some word) solver = word ≡ solver_name solver
 -- behind the program's name stands one word, that of a command
 abbrev pub AskPlainly : List (List ℕ) → Type 0
 AskPlainly words = (name : List ℕ) × (command : Command) × (words ≡ name ∷ command_name command ∷ [])
+
+-- behind the program's name stands nothing, or one word that is no command's
+abbrev pub AskNothing : List (List ℕ) → Type 0
+AskNothing [] = ⊤
+AskNothing (name ∷ []) = ⊤
+AskNothing (name ∷ word ∷ []) = (command : Command) → word ≢ command_name command
+AskNothing (name ∷ word ∷ other ∷ more) = ⊥

@@ -45,7 +45,8 @@ impl Command {
     /// The command for which a word asks.
     pub(crate) fn named(name: &str) -> Option<Command>
         ensures named { IfSome result (λ command. name.now ≡ command_name command) }
-        ensures every { (command : Command) → name.now ≡ command_name command → result ≡ Some command }
+        ensures every { (command : Command) → name.now ≡ command_name command
+            → result ≡ Some command }
     {
         match name {
             "solve" => Some(Command::Solve),

@@ -4,8 +4,10 @@ ghost use Rattle.clap.specs.Simple.{app_of, new_shape, with_subcommand};
 ghost use Rattle.clap.specs.Matches.{found_of, first_value};
 ghost use Rattle.clap.specs.Walk.{rule_of};
 ghost use Rattle.pb_solver_names.specs.declared.solver.Solver.TheVariants.{Zielonka};
-ghost use Rattle.pb_command_line.specs.Words.{command_line, exploring_shape, solving_shape, workers_rule, solver_rule};
-ghost use Rattle.pb_command_line.specs.Words.{solver_word, Asks, AskPlainly, IsChosenBy};
+ghost use Rattle.pb_command_line.specs.Words.{command_line, exploring_shape, solving_shape};
+ghost use Rattle.pb_command_line.specs.Words.{workers_rule, solver_rule};
+ghost use Rattle.pb_command_line.specs.Words.{solver_word, Asks, AskNothing, AskPlainly};
+ghost use Rattle.pb_command_line.specs.Words.{IsChosenBy};
 
 use crate::command::Command;
 use crate::request::Request;
@@ -18,8 +20,8 @@ use std::convert::AsStr;
 /// Why the words ask nothing.
 #[derive(Clone, Copy, Debug, PartialEq, Eq)]
 pub enum WordsError {
-    /// `U01`: no command, an unknown one, a word too many, a wrong number of workers, an unknown solver, or a call for
-    /// help.
+    /// `U01`: no command, an unknown one, a word too many, a wrong number of workers, an unknown
+    /// solver, or a call for help.
     Usage,
     /// A request for memory was refused.
     Memory,
@@ -73,7 +75,8 @@ fn with_plain<'a>(
     line: clap::Command<'a>,
     name: &'a str,
 ) -> Result<clap::Command<'a>, AllocError>
-    ensures { IfOk result (λ c. app_of c ≡ with_subcommand (app_of line.entry) (new_shape name.now)) }
+    ensures { IfOk result (λ c. app_of c ≡ with_subcommand (app_of line.entry)
+        (new_shape name.now)) }
 {
     line.subcommand(clap::Command::new(alloc, name))
 }
@@ -84,7 +87,8 @@ fn with_exploring<'a>(
     line: clap::Command<'a>,
     name: &'a str,
 ) -> Result<clap::Command<'a>, AllocError>
-    ensures { IfOk result (λ c. app_of c ≡ with_subcommand (app_of line.entry) (exploring_shape name.now)) }
+    ensures { IfOk result (λ c. app_of c ≡ with_subcommand (app_of line.entry)
+        (exploring_shape name.now)) }
 {
     let command = clap::Command::new(alloc, name).arg(workers_option(alloc))?;
     line.subcommand(command)
@@ -96,7 +100,8 @@ fn with_solving<'a>(
     line: clap::Command<'a>,
     name: &'a str,
 ) -> Result<clap::Command<'a>, AllocError>
-    ensures { IfOk result (λ c. app_of c ≡ with_subcommand (app_of line.entry) (solving_shape name.now)) }
+    ensures { IfOk result (λ c. app_of c ≡ with_subcommand (app_of line.entry)
+        (solving_shape name.now)) }
 {
     let command = clap::Command::new(alloc, name)
         .arg(workers_option(alloc))?
@@ -120,7 +125,8 @@ fn command_line<'a>(alloc: Global) -> Result<clap::Command<'a>, AllocError>
     Ok(line)
 }
 
-// How many workers a command is given, 1 where the words don't say. No other number than 1 to 16 is read.
+// How many workers a command is given, 1 where the words don't say. No other number than 1 to 16 is
+// read.
 fn workers_of(matches: &ArgMatches) -> u32
     ensures { (0 < result) × (result ≤ 16) }
 {
@@ -129,8 +135,10 @@ fn workers_of(matches: &ArgMatches) -> u32
 
 // The solver that a command is given, Zielonka's algorithm where the words don't say.
 fn solver_of(matches: &ArgMatches) -> Result<Solver, WordsError>
-    ensures chosen { IfOk result (IsChosenBy (first_value (found_of matches.now) (codes "solver"))) }
-    ensures unnamed { first_value (found_of matches.now) (codes "solver") ≡ None → result ≡ Ok Zielonka }
+    ensures chosen { IfOk result (IsChosenBy (first_value (found_of matches.now)
+        (codes "solver"))) }
+    ensures unnamed { first_value (found_of matches.now) (codes "solver") ≡ None
+        → result ≡ Ok Zielonka }
 {
     match matches.get_str("solver") {
         None => Ok(Solver::Zielonka),
@@ -141,12 +149,15 @@ fn solver_of(matches: &ArgMatches) -> Result<Solver, WordsError>
     }
 }
 
-/// What the words ask, the first of them being the program's name. Which other words ask the same is as `clap`
-/// reads them.
+/// What the words ask, the first of them being the program's name. Which other words ask the same
+/// is as `clap` reads them.
 pub fn request_of<S: AsStr>(alloc: Global, words: &[S]) -> Result<Request, WordsError>
     ensures command { IfOk result (λ request. Asks (map S.text words.now) request.command) }
-    ensures solver { IfOk result (λ request. IsChosenBy (solver_word (map S.text words.now)) request.solver) }
-    ensures understood { AskPlainly (map S.text words.now) → IfErr result (λ e. e ≡ WordsError.Memory) }
+    ensures solver { IfOk result (λ request. IsChosenBy
+        (solver_word (map S.text words.now)) request.solver) }
+    ensures understood { AskPlainly (map S.text words.now)
+        → IfErr result (λ e. e ≡ WordsError.Memory) }
+    ensures refused { AskNothing (map S.text words.now) → IfOk result (λ request. ⊥) }
 {
     let matches = command_line(alloc)?.try_get_matches_from(words)?;
     let Some((name, found)) = matches.subcommand() else {

@@ -15,8 +15,9 @@ pub trait ErrorLine {
     // The line, with its line feed.
     ghost line: { Self → List ℕ };
 
-    /// The line of this error, with its line feed: the rule's number and its place, as `P02 line 1 column 22`, or
-    /// `M01` where the error is want of memory. The one error of this call is want of memory for the line.
+    /// The line of this error, with its line feed: the rule's number and its place, as `P02 line 1
+    /// column 22`, or `M01` where the error is want of memory. The one error of this call is want
+    /// of memory for the line.
     fn error_line(&self, alloc: Global) -> Result<String, AllocError>
         ensures { IfOk result (λ s. string_bytes s ≡ line self.now) };
 }

@@ -5,7 +5,8 @@ ghost use Rattle.pb_report.specs.Lines.{limit_line};
 use pb_assembler::Limit;
 use std::alloc::{AllocError, Global};
 
-/// The line, with its line feed: the limit's number, and the place of the equation, counted from 0, as `C06 equation 0`.
+/// The line, with its line feed: the limit's number, and the place of the equation, counted from 0,
+/// as `C06 equation 0`.
 ///
 /// # Errors
 /// Memory was refused.

@@ -2,7 +2,8 @@
 ghost use Rattle.std.specs.Prelude.{◌≡◌, ◌≢◌, true, IfOk, OnOk, IfErr, Err};
 ghost use Rattle.std.specs.Io.KnownBytes.{Appends};
 ghost use Rattle.pb_sorts.specs.Sink.{AppendsPrefix};
-ghost use Rattle.pb_command_line.specs.declared.command.Command.TheVariants.{Verify, List, SolveCode};
+ghost use Rattle.pb_command_line.specs.declared.command.Command.TheVariants.{Verify, List};
+ghost use Rattle.pb_command_line.specs.declared.command.Command.TheVariants.{SolveCode};
 ghost use Rattle.pb_report_texts.specs.Report.{report_text};
 ghost use Rattle.pbsolve.specs.Answers.{IsAnswerOfCode, IsModuleOfCode};
 ghost use Rattle.pbsolve.specs.Refusals.{IsRefusedBytes};
@@ -33,12 +34,14 @@ fn verified_code(alloc: Global, bytes: &[u8]) -> Result<Verified, SolveError>
     }
 }
 
-/// Answers a module, given by its bytes, as `solve_text` answers a text: the truth of its initial instance in the nested
-/// fixpoint solution of its equations, whose right sides are the trees with which the runs of its code end.
+/// Answers a module, given by its bytes, as `solve_text` answers a text: the truth of its initial
+/// instance in the nested fixpoint solution of its equations, whose right sides are the trees with
+/// which the runs of its code end.
 ///
 /// # Errors
-/// `Module` says what is wrong with the bytes and where, `Acceptance` which rule the code breaks and where. Others are as
-/// with `solve_text`, but for `Text`, `Typing` and `Limit`, which never come.
+/// `Module` says what is wrong with the bytes and where, `Acceptance` which rule the code breaks
+/// and where. Others are as with `solve_text`, but for `Text`, `Typing` and `Limit`, which never
+/// come.
 pub fn solve_code<R: Threads + Sync, G: Gate + Sync, S: Sink>(
     rt: &R,
     alloc: Global,
@@ -66,8 +69,9 @@ pub fn solve_code<R: Threads + Sync, G: Gate + Sync, S: Sink>(
 /// Verifies a module, given by its bytes, and writes `accepted` and a line feed.
 ///
 /// # Errors
-/// `Module` says what is wrong with the bytes and where, `Acceptance` which rule the code breaks and where; `Memory` comes
-/// where a request for memory was refused, and `Write` where the text could not be written whole.
+/// `Module` says what is wrong with the bytes and where, `Acceptance` which rule the code breaks
+/// and where; `Memory` comes where a request for memory was refused, and `Write` where the text
+/// could not be written whole.
 pub fn verify_code<S: Sink>(alloc: Global, bytes: &[u8], writer: &mut S) -> Result<(), SolveError>
     ensures accepted { OnOk result
         (Outputs Verify bytes.now (Appends (S.taken writer.old) (S.taken writer.new))) }
@@ -87,8 +91,8 @@ pub fn verify_code<S: Sink>(alloc: Global, bytes: &[u8], writer: &mut S) -> Resu
 /// Lists a module, given by its bytes, whose code need not be accepted.
 ///
 /// # Errors
-/// `Module` says what is wrong with the bytes and where; `Memory` comes where a request for memory was refused, and `Write`
-/// where the listing could not be written whole.
+/// `Module` says what is wrong with the bytes and where; `Memory` comes where a request for memory
+/// was refused, and `Write` where the listing could not be written whole.
 pub fn list_code<S: Sink>(alloc: Global, bytes: &[u8], writer: &mut S) -> Result<(), SolveError>
     ensures listed { OnOk result
         (Outputs List bytes.now (Appends (S.taken writer.old) (S.taken writer.new))) }

@@ -72,8 +72,9 @@ pub(crate) fn verified_text(alloc: Global, bytes: &[u8]) -> Result<Verified, Sol
 /// Compiles a text, and writes the bytes of its module.
 ///
 /// # Errors
-/// `Text`, `Typing` and `Limit` say which rule the text breaks, or which limit its code exceeds, and where; `Memory` comes
-/// where a request for memory was refused, and `Write` where the bytes could not be written whole.
+/// `Text`, `Typing` and `Limit` say which rule the text breaks, or which limit its code exceeds,
+/// and where; `Memory` comes where a request for memory was refused, and `Write` where the bytes
+/// could not be written whole.
 pub fn compile_text<S: Sink>(alloc: Global, bytes: &[u8], writer: &mut S) -> Result<(), SolveError>
     requires { length bytes.now ≤ INPUT_LIMIT }
     ensures module { OnOk result

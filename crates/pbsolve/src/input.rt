@@ -32,7 +32,8 @@ impl From<AllocError> for InputError {
     }
 }
 
-/// Reads to the end of the input. Of a failure and of too many bytes it answers what the reading meets first.
+/// Reads to the end of the input. Of a failure and of too many bytes it answers what the reading
+/// meets first.
 pub(crate) fn read_input<R: Source>(alloc: Global, reader: &mut R) -> Result<Vec<u8>, InputError>
     ensures short { IfOk result (λ text. vec_len text ≤ INPUT_LIMIT) }
     ensures whole { IfOk result (λ text. IsWhole (R.left reader.old) text.items) }

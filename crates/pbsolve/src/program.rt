@@ -6,7 +6,8 @@ ghost use Rattle.pb_report.specs.declared.fault.ProgramFault.TheVariants as faul
 ghost use Rattle.pb_report.specs.Lines.{line_of};
 ghost use Rattle.pb_command_line.specs.Words.{AskPlainly};
 ghost use Rattle.pbsolve.specs.Outputs.{Outputs, IsRefusedFor};
-ghost use Rattle.pbsolve.specs.Program.{fault_status, status_of, error_line_of, Answers, IsRefusedBy, IsToldAs, Tells, Refuses};
+ghost use Rattle.pbsolve.specs.Program.{fault_status, status_of, error_line_of, Answers};
+ghost use Rattle.pbsolve.specs.Program.{IsRefusedBy, IsToldAs, Tells, Refuses};
 
 use crate::code::{list_code, solve_code, verify_code};
 use crate::compile::compile_text;
@@ -158,11 +159,12 @@ fn tell<E: Sink>(alloc: Global, error: &RunError, err: &mut E) -> Status
 
 /// Runs the program, and answers its exit status.
 ///
-/// `words` are those of the command line, the program's name first; `gate` sees each attempt of a worker to take an
-/// instance, and to lift a vertex; `streams` are what it reads and writes. Statuses: 0 answered; 1 the input is refused;
-/// 2 the words ask for nothing that the program does; 3 a request for memory was refused; 4 reading or writing failed.
-/// With a status that isn't 0 one line on the error stream says why, by the number of the fault or the rule and, where
-/// there is one, the place.
+/// `words` are those of the command line, the program's name first; `gate` sees each attempt of a
+/// worker to take an instance, and to lift a vertex; `streams` are what it reads and writes.
+/// Statuses: 0 answered; 1 the input is refused; 2 the words ask for nothing that the program does;
+/// 3 a request for memory was refused; 4 reading or writing failed. With a status that isn't 0 one
+/// line on the error stream says why, by the number of the fault or the rule and, where there is
+/// one, the place.
 pub fn run<T: Threads + Sync, S: AsStr, G: Gate + Sync, R: Source, O: Sink, E: Sink>(
     rt: &T,
     alloc: Global,

@@ -2,7 +2,8 @@
 ghost use Rattle.std.specs.Prelude.{◌≡◌, ◌≢◌, ◌≤◌, ◌<◌, true, length, IfOk, OnOk, IfErr, Err};
 ghost use Rattle.std.specs.Io.KnownBytes.{Appends};
 ghost use Rattle.pb_sorts.specs.Sink.{AppendsPrefix};
-ghost use Rattle.pb_command_line.specs.declared.command.Command.TheVariants.{Solve, Game, Solution, Explain};
+ghost use Rattle.pb_command_line.specs.declared.command.Command.TheVariants.{Solve, Game, Solution};
+ghost use Rattle.pb_command_line.specs.declared.command.Command.TheVariants.{Explain};
 ghost use Rattle.pb_report_texts.specs.Report.{report_text};
 ghost use Rattle.pbsolve.specs.Answers.{IsAnswer};
 ghost use Rattle.pbsolve.specs.Refusals.{IsRefused};
@@ -21,18 +22,19 @@ use pb_sorts::Sink;
 use std::alloc::Global;
 use std::thread::Threads;
 
-/// Answers a text: reads it, checks it, compiles it to a module, explores that by so many workers, solves the game of what
-/// they reached by the solver that is asked for, and writes the report once the answer is known. The bytes are the same
-/// with any number of workers and either solver.
+/// Answers a text: reads it, checks it, compiles it to a module, explores that by so many workers,
+/// solves the game of what they reached by the solver that is asked for, and writes the report once
+/// the answer is known. The bytes are the same with any number of workers and either solver.
 ///
-/// The text is that of a fixpoint equation system (Groote and Willemse 2005; Groote and Mousavi 2014), and the answer is the
-/// truth of its initial instance in the nested fixpoint solution. `gate` sees each attempt of a worker to take an
-/// instance, and to lift a vertex.
+/// The text is that of a fixpoint equation system (Groote and Willemse 2005; Groote and Mousavi
+/// 2014), and the answer is the truth of its initial instance in the nested fixpoint solution.
+/// `gate` sees each attempt of a worker to take an instance, and to lift a vertex.
 ///
 /// # Errors
-/// `Text` and `Typing` say which rule the text breaks and where, `Limit` which limit of the machine the code of which
-/// equation exceeds. `TooManyVertices` comes where the game would have more than 2^24 vertices, `Memory` where a request for
-/// memory was refused, and `Write` where the report could not be written whole. No other error comes.
+/// `Text` and `Typing` say which rule the text breaks and where, `Limit` which limit of the machine
+/// the code of which equation exceeds. `TooManyVertices` comes where the game would have more than
+/// 2^24 vertices, `Memory` where a request for memory was refused, and `Write` where the report
+/// could not be written whole. No other error comes.
 pub fn solve_text<R: Threads + Sync, G: Gate + Sync, S: Sink>(
     rt: &R,
     alloc: Global,
@@ -43,7 +45,8 @@ pub fn solve_text<R: Threads + Sync, G: Gate + Sync, S: Sink>(
 ) -> Result<Answer, SolveError>
     requires input { length bytes.now ≤ INPUT_LIMIT }
 
-    // The answer is the truth of the initial instance in the solution of what the text says, and is reported.
+    // The answer is the truth of the initial instance in the solution of what the text says, and is
+    // reported.
     ensures answer { IfOk result (IsAnswer bytes.now) }
     ensures report { IfOk result
         (λ answer. Appends (S.taken writer.old) (S.taken writer.new) (report_text answer)) }
@@ -95,7 +98,8 @@ pub fn game_of<R: Threads + Sync, G: Gate + Sync, S: Sink>(
     write_game(rt, alloc, &verified, workers, gate, writer)
 }
 
-/// Writes the truth of each reached instance of a text in its solution: a line for each, by rising number.
+/// Writes the truth of each reached instance of a text in its solution: a line for each, by rising
+/// number.
 ///
 /// # Errors
 /// As with `solve_text`.
@@ -123,11 +127,13 @@ pub fn solution_of<R: Threads + Sync, G: Gate + Sync, S: Sink>(
     write_solution(rt, alloc, &verified, options, gate, writer)
 }
 
-/// Writes why a text's initial instance has its truth value: the answer, and then a line for each instance of a proof graph
-/// (Cranen, Luttik and Willemse 2013), with its name, its truth value, and behind a colon the instances that this rests on.
+/// Writes why a text's initial instance has its truth value: the answer, and then a line for each
+/// instance of a proof graph (Cranen, Luttik and Willemse 2013), with its name, its truth value,
+/// and behind a colon the instances that this rests on.
 ///
-/// By itself a proof graph shows the answer. The initial instance stands first in it, each instance once, and the nearest
-/// before others, so that a violated safety property shows its shortest way under the winner's strategy, line by line.
+/// By itself a proof graph shows the answer. The initial instance stands first in it, each instance
+/// once, and the nearest before others, so that a violated safety property shows its shortest way
+/// under the winner's strategy, line by line.
 ///
 /// # Errors
 /// As with `solve_text`.

@@ -13,7 +13,8 @@ use pb_verifier::VerifyError;
 use std::alloc::{AllocError, Global};
 use thiserror::Error;
 
-/// Why there is no answer, or none that was written. No case but `Memory` ever holds want of memory.
+/// Why there is no answer, or none that was written. No case but `Memory` ever holds want of
+/// memory.
 #[derive(Debug, Drop, Error)]
 pub enum SolveError {
     /// The text is not in the grammar, or passes a limit of it.
@@ -22,7 +23,8 @@ pub enum SolveError {
     /// The text is in the grammar, and breaks a rule of typing.
     #[error("the text breaks a rule of typing")]
     Typing(TypeError),
-    /// `C01` to `C06`: the text is well typed, and the code of the equation at this place exceeds this limit.
+    /// `C01` to `C06`: the text is well typed, and the code of the equation at this place exceeds
+    /// this limit.
     #[error("{limit} equation {equation}")]
     Limit { limit: Limit, equation: usize },
     /// `B01` to `B07`: the bytes spell no module.

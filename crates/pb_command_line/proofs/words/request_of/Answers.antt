@@ -3,6 +3,7 @@ use Rattle.std.proofs.Common.{◌∙◌, ℕ, List, Option, Some, ap, sym, subst
 use Rattle.clap.specs.Matches.{found_of}
 use Rattle.pb_command_line.specs.Words.{IsChosenBy}
 use Rattle.pb_command_line.proofs.CommandLine.{takes_command, meets_command, meets_solver, name_met, no_solver_is_met, memory_alone}
+use Rattle.pb_command_line.proofs.OneWord.{nothing_is_asked}
 use Rattle.pb_command_line.proofs.words.request_of.Goals as goal
 
 pub returns-in_err-matches-clause-understood : goal.returns-in_err-matches-clause-understood
@@ -33,3 +34,8 @@ returns-clause-solver g c =
     let met = meets_solver _ _ c.in_ok-matches.matches c.in_ok-command_line.ensures c.in_ok-matches.ensures.matches
     (found_of c.in-Some.found.now) c.in-Some.ensures.rows in
     subst (λ (w : Option (List ℕ)). IsChosenBy w c.in_ok-solver.solver) met c.in_ok-solver.ensures.chosen
+
+pub returns-clause-refused : goal.returns-clause-refused
+returns-clause-refused g c nothing =
+    let met = meets_command _ _ c.in_ok-matches.matches c.in_ok-command_line.ensures c.in_ok-matches.ensures.matches in
+    nothing_is_asked _ _ nothing (sym met ∙ (sym c.in-Some.ensures.name ∙ ap (λ (n : List ℕ). Some n) c.in-Some-named.ensures.named))
