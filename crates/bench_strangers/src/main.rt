@@ -1,7 +1,8 @@
-//! Strangers by the hundred thousand: reads lines `KIND FIRST COUNT MOST`, makes an input of each of `COUNT` seeds from
-//! `FIRST` on and has it checked, and prints whether all was as wanted. Of an accepted module at most `MOST` instances are run. The
-//! kinds are `modules` and `texts`; `bytes` takes no seeds: it sets each byte of the known modules to each value. With a
-//! fifth word, `counts`, it tells what became of them.
+//! Strangers by the hundred thousand: reads lines `KIND FIRST COUNT MOST`, makes an input of each
+//! of `COUNT` seeds from `FIRST` on and has it checked, and prints whether all was as wanted. Of an
+//! accepted module at most `MOST` instances are run. The kinds are `modules` and `texts`; `bytes`
+//! takes no seeds: it sets each byte of the known modules to each value. With a fifth word,
+//! `counts`, it tells what became of them.
 #![tactic(auto)]
 
 use std::alloc::{AllocError, Global};

@@ -1,5 +1,5 @@
-//! Calls. An argument is tested only where its interval isn't within its parameter's range, and where a test fails, what
-//! was computed for the call is taken away before the instance is cut.
+//! Calls. An argument is tested only where its interval isn't within its parameter's range, and
+//! where a test fails, what was computed for the call is taken away before the instance is cut.
 
 use crate::compiled::{listed, numbered};
 use std::test::Fail;
@@ -7,7 +7,8 @@ use std::test::Fail;
 /// A right side, its steps and tokens, and its instructions.
 type Case = (&'static str, u32, u32, &'static str);
 
-/// The slots: `n` and `m`, from 0 to 9, are 0 and 1, and `b` is 2. `Y` has a parameter from 1 to 4, and `Z` has none.
+/// The slots: `n` and `m`, from 0 to 9, are 0 and 1, and `b` is 2. `Y` has a parameter from 1 to 4,
+/// and `Z` has none.
 const CASES: [Case; 20] = [
     ("Z", 4, 3, "OR; CALL 2; CLOSE; END"),
     (

@@ -1,5 +1,5 @@
-//! Texts at the limits of what is read, which are compiled on a thread with a stack of 2 MiB: chains of 8,192 operators, and
-//! nesting of 64 levels.
+//! Texts at the limits of what is read, which are compiled on a thread with a stack of 2 MiB:
+//! chains of 8,192 operators, and nesting of 64 levels.
 
 use crate::compiled::{counted, push_repeated};
 use std::alloc::{AllocError, Global};
@@ -9,8 +9,8 @@ use std::thread::Builder;
 /// The stack, in bytes.
 const STACK: usize = 2 << 20;
 
-/// A right side in parts: what stands first, what is repeated and how often, what stands in the middle, what closes each
-/// piece, and the end.
+/// A right side in parts: what stands first, what is repeated and how often, what stands in the
+/// middle, what closes each piece, and the end.
 type RightSide = (
     &'static str,
     &'static str,

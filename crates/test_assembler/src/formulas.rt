@@ -1,5 +1,6 @@
-//! Each form of formula under an open `AND` and under an open `OR`. A test writes no bracket of its own and decides whether
-//! what it stands beside is written; a connective or a quantifier opens a bracket only under one of the other kind.
+//! Each form of formula under an open `AND` and under an open `OR`. A test writes no bracket of its
+//! own and decides whether what it stands beside is written; a connective or a quantifier opens a
+//! bracket only under one of the other kind.
 
 use crate::compiled::{listed, numbered};
 use std::test::Fail;

@@ -1,5 +1,6 @@
-//! Tests of the compiler on texts: the modules of small texts, in bytes and as they are listed, and texts at the limits of
-//! the machine and of what is read. What is expected was written by hand from the compile scheme.
+//! Tests of the compiler on texts: the modules of small texts, in bytes and as they are listed, and
+//! texts at the limits of the machine and of what is read. What is expected was written by hand
+//! from the compile scheme.
 #![tactic(auto)]
 
 #[cfg(test)]

@@ -4,7 +4,8 @@ use crate::compiled::{counted, push_repeated};
 use std::alloc::{AllocError, Global};
 use std::test::Fail;
 
-/// A text in parts: what stands first, what is repeated, what stands in the middle, what closes each piece, and the end.
+/// A text in parts: what stands first, what is repeated, what stands in the middle, what closes
+/// each piece, and the end.
 #[derive(Clone, Copy)]
 struct Repeated {
     before: &'static str,

@@ -6,7 +6,8 @@ use std::test::Fail;
 const DIFFERENT: &str =
     "sort D = struct a | b | c; pbes nu X(d: D) = forall e: D . val(e != d) => X(e); init X(a);";
 
-/// Mark and version, the sort, the equation with its carriers, counts and code, and the initial instance.
+/// Mark and version, the sort, the equation with its carriers, counts and code, and the initial
+/// instance.
 const DIFFERENT_BYTES: [u8; 61] = [
     0x50, 0x42, 0x45, 0x53, 0x01, 0x01, 0x03, 0x01, 0x61, 0x01, 0x62, 0x01, 0x63, 0x01, 0x01, 0x01,
     0x58, 0x01, 0x01, 0x00, 0x01, 0x01, 0x00, 0x1c, 0x00, 0x00, 0x00, 0x05, 0x00, 0x00, 0x00, 0x0c,
@@ -61,7 +62,8 @@ const MODULES: [(&str, &str); 9] = [
         "%range Int 1 99999\npbes nu X = forall n: Int . val(n > 0); init X;",
         "C06 equation 0",
     ),
-    // Signs and names in order, parameters of each kind, and an initial instance of an equation that isn't the first.
+    // Signs and names in order, parameters of each kind, and an initial instance of an equation
+    // that isn't the first.
     (
         "%range Int -3 4\nsort D = struct a | b; sort E = struct c | d | e; pbes nu X = Y(-3, e, true); mu Y(n: Int, m: E, p: Bool) = X; nu Z(d: D) = X; init Y(-2, d, true);",
         "sort 0 a b\nsort 1 c d e\nequation 0 nu X\nsteps 8\ntokens 3\n0 OR\n1 INT 3\n2 NEG\n3 ENUM 1 2\n4 BOOL 1\n5 CALL 1\n6 CLOSE\n7 END\nequation 1 mu Y\nparam 0 Range -3 4\nparam 1 Enum 1\nparam 2 Bool\nsteps 4\ntokens 3\n0 OR\n1 CALL 0\n2 CLOSE\n3 END\nequation 2 nu Z\nparam 0 Enum 0\nsteps 4\ntokens 3\n0 OR\n1 CALL 0\n2 CLOSE\n3 END\ninit 1 -2 1 1\n",

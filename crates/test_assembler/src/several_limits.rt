@@ -1,11 +1,12 @@
-//! Texts that are above two limits: the first equation above one is named, and the least of the limits that it is above.
+//! Texts that are above two limits: the first equation above one is named, and the least of the
+//! limits that it is above.
 
 use crate::compiled::{counted, push_repeated};
 use std::alloc::{AllocError, Global};
 use std::test::Fail;
 
-/// A conjunct in parts: what stands first, what is repeated and how often, what stands in the middle, and what closes each
-/// piece.
+/// A conjunct in parts: what stands first, what is repeated and how often, what stands in the
+/// middle, and what closes each piece.
 type Conjunct = (&'static str, &'static str, u32, &'static str, &'static str);
 
 /// Each is above one limit alone, in the order of the limits' numbers.
@@ -26,7 +27,8 @@ fn push_conjunct(text: &mut String, conjunct: Conjunct) -> Result<(), AllocError
     push_repeated(text, closing, pieces)
 }
 
-/// A text whose equation 1 begins with one conjunct. Another one follows in the same equation, or in the next one.
+/// A text whose equation 1 begins with one conjunct. Another one follows in the same equation, or
+/// in the next one.
 fn text_of(
     alloc: Global,
     first: Conjunct,

@@ -1,4 +1,5 @@
-//! Each operator and function of data, in an equation of one test. The connectives take their second operand first.
+//! Each operator and function of data, in an equation of one test. The connectives take their
+//! second operand first.
 
 use crate::compiled::{listed, numbered};
 use std::test::Fail;

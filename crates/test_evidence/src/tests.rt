@@ -89,7 +89,8 @@ fn explained(
     }
 }
 
-/// What evidence has: its truth value, its instances, the number of dependencies of each, and these.
+/// What evidence has: its truth value, its instances, the number of dependencies of each, and
+/// these.
 fn assert_evidence<R: Abort>(
     rt: &R,
     evidence: Option<Evidence>,
@@ -112,7 +113,8 @@ fn assert_evidence<R: Abort>(
     }
 }
 
-/// `nu X0 = X1 && X3 && X2; X1 = X2 && X0; X2 = X3; X3 = X4; X4 = false`: the shortest path to the violation, X4.
+/// `nu X0 = X1 && X3 && X2; X1 = X2 && X0; X2 = X3; X3 = X4; X4 = false`: the shortest path to the
+/// violation, X4.
 #[test]
 fn safety(rt: HostRuntime) -> Result<(), Fail> {
     let mut builder = Builder::new(rt.alloc())?;

@@ -37,7 +37,8 @@ fn work_branded<B: Limit>(
     Ok((rows, close(alloc, verified, table)))
 }
 
-/// What one worker does alone: its rows, or that it was refused memory, and the statuses at its end.
+/// What one worker does alone: its rows, or that it was refused memory, and the statuses at its
+/// end.
 ///
 /// # Errors
 /// Memory was refused before its work began.

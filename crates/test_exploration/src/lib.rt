@@ -1,5 +1,6 @@
-//! Tests of exploration, on one small module: steps of the reference, words that two seats step on, one worker alone
-//! with and without memory, and two workers that overlap. The helpers keep the conditions of what they call.
+//! Tests of exploration, on one small module: steps of the reference, words that two seats step on,
+//! one worker alone with and without memory, and two workers that overlap. The helpers keep the
+//! conditions of what they call.
 #![tactic(auto)]
 
 pub mod alone;

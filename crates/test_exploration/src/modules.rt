@@ -4,7 +4,8 @@ use pb_verifier::{Verified, VerifyError, verify};
 use std::alloc::Global;
 use std::test::Fail;
 
-/// `nu X(x) = forall y: y == x || X(y)`, with x and y of a sort of three enumerators; the initial instance is X(a).
+/// `nu X(x) = forall y: y == x || X(y)`, with x and y of a sort of three enumerators; the initial
+/// instance is X(a).
 #[rattlefmt::skip]
 const ALL_OTHERS: [u8; 61] = [
     // mark, version
@@ -25,7 +26,8 @@ const ALL_OTHERS: [u8; 61] = [
     0x00, 0x00, 0x00, 0x00, 0x00, 0x00, 0x00, 0x00, 0x00,
 ];
 
-/// The module, verified. Its instances are X(a), X(b) and X(c), with the numbers 0, 1 and 2; each calls the two others.
+/// The module, verified. Its instances are X(a), X(b) and X(c), with the numbers 0, 1 and 2; each
+/// calls the two others.
 ///
 /// # Errors
 /// Memory was refused.

@@ -22,8 +22,9 @@ impl Progress {
     }
 }
 
-/// Holds the first worker that tries an instance other than 0 until the other worker has taken such an instance, and a
-/// worker that did not get instance 0 until the other has tried such an instance.
+/// Holds the first worker that tries an instance other than 0 until the other worker has taken such
+/// an instance, and a worker that did not get instance 0 until the other has tried such an
+/// instance.
 #[derive(Drop)]
 pub struct Overlap {
     begun: AtomicCell<bool>,

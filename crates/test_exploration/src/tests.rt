@@ -80,7 +80,8 @@ fn events_are_shown(rt: HostRuntime) -> Result<(), Fail> {
     Ok(())
 }
 
-/// The first seat takes instance 0, marks what it calls, and finishes it, before the eyes of the second.
+/// The first seat takes instance 0, marks what it calls, and finishes it, before the eyes of the
+/// second.
 fn first_is_finished(
     rt: &impl Abort,
     module: &Verified,
@@ -177,8 +178,8 @@ fn two_seats(rt: HostRuntime) -> Result<(), Fail> {
     Ok(())
 }
 
-// One worker alone finds all three instances, from the initial one as its only hint, and words that are settled give
-// the same rows.
+// One worker alone finds all three instances, from the initial one as its only hint, and words that
+// are settled give the same rows.
 #[test]
 fn one_worker(rt: HostRuntime) -> Result<(), Fail> {
     let alloc = rt.alloc();
@@ -202,8 +203,9 @@ fn one_worker(rt: HostRuntime) -> Result<(), Fail> {
     Ok(())
 }
 
-// After refused memory nothing is taken: the seat gave back what it held and kept what it marked, be it at its first,
-// its second or its third instance. `--fail-alloc` makes the requests fail in turn.
+// After refused memory nothing is taken: the seat gave back what it held and kept what it marked,
+// be it at its first, its second or its third instance. `--fail-alloc` makes the requests fail in
+// turn.
 #[test]
 fn worker_without_memory(rt: HostRuntime) -> Result<(), Fail> {
     let alloc = rt.alloc();
@@ -236,7 +238,8 @@ fn many_workers(rt: HostRuntime) -> Result<(), Fail> {
     Ok(())
 }
 
-// Two workers overlap: each takes an instance that one of them discovered, and the three are taken once each.
+// Two workers overlap: each takes an instance that one of them discovered, and the three are taken
+// once each.
 #[test]
 fn workers_overlap(rt: HostRuntime) -> Result<(), Fail> {
     let alloc = rt.alloc();

@@ -1,4 +1,5 @@
-//! Tests of what is printed about modules: reports, games and solutions, from the bytes of a module to the text.
+//! Tests of what is printed about modules: reports, games and solutions, from the bytes of a module
+//! to the text.
 #![tactic(auto)]
 
 pub mod modules;

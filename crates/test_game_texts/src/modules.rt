@@ -1,9 +1,9 @@
-//! Modules of small equation systems, in bytes. The code of a right side that has a bracket is written as the compile scheme
-//! writes it.
+//! Modules of small equation systems, in bytes. The code of a right side that has a bracket is
+//! written as the compile scheme writes it.
 use std::alloc::{AllocError, Global};
 
-/// An equation in bytes: its sign (0 mu, 1 nu), its name, the carriers of its parameters and loop slots behind their
-/// counts, and so many instructions.
+/// An equation in bytes: its sign (0 mu, 1 nu), its name, the carriers of its parameters and loop
+/// slots behind their counts, and so many instructions.
 #[derive(Clone, Copy)]
 pub struct EquationBytes<'a> {
     pub sign: u8,
@@ -13,8 +13,8 @@ pub struct EquationBytes<'a> {
     pub code: &'a [u8],
 }
 
-/// The bytes of a module with these sorts and equations, which ends with its initial instance. Each equation states as
-/// many steps and tokens as it may.
+/// The bytes of a module with these sorts and equations, which ends with its initial instance. Each
+/// equation states as many steps and tokens as it may.
 pub fn module(
     alloc: Global,
     sorts: &[u8],
@@ -87,7 +87,8 @@ pub fn counts_down(alloc: Global) -> Result<Vec<u8>, AllocError> {
         name: b'X',
         carriers: b"\x01\x02\x00\x00\x00\x00\x09\x00\x00\x00\x00",
         instructions: 17,
-        // OR, GET 0, INT 0, EQ, JF 7, YES, JMP 15, GET 0, INT 1, SUB, RNG 0 9 13, CALL 0, JMP 15, POP, CUT, CLOSE, END
+        // OR, GET 0, INT 0, EQ, JF 7, YES, JMP 15, GET 0, INT 1, SUB, RNG 0 9 13, CALL 0, JMP 15,
+        // POP, CUT, CLOSE, END
         code: b"\x1f\x04\x00\x01\x00\x00\x00\x00\x00\x00\x00\x00\x13\x1a\x07\x00\x21\x18\x0f\x00\x04\x00\x01\x01\x00\x00\x00\x00\x00\x00\x00\x07\x1b\x00\x00\x00\x00\x09\x00\x00\x00\x0d\x00\x24\x00\x18\x0f\x00\x05\x23\x20\x00",
     };
     module(alloc, &NO_SORT, &[equation], &[0, 9, 0, 0, 0, 0, 0, 0, 0])
@@ -140,7 +141,8 @@ pub fn two_states(alloc: Global) -> Result<Vec<u8>, AllocError> {
             name: b'Y',
             carriers: &[1, 1, 0, 0],
             instructions: 15,
-            // OR, GET 0, ENUM 0 0, EQ, JF 7, ENUM 0 1, CALL 0, GET 0, ENUM 0 1, EQ, JF 13, ENUM 0 0, CALL 1, CLOSE, END
+            // OR, GET 0, ENUM 0 0, EQ, JF 7, ENUM 0 1, CALL 0, GET 0, ENUM 0 1, EQ, JF 13, ENUM 0
+            // 0, CALL 1, CLOSE, END
             code: b"\x1f\x04\x00\x03\x00\x00\x13\x1a\x07\x00\x03\x00\x01\x24\x00\x04\x00\x03\x00\x01\x13\x1a\x0d\x00\x03\x00\x00\x24\x01\x20\x00",
         },
     ];
@@ -310,7 +312,8 @@ pub fn two_thirds(alloc: Global) -> Result<Vec<u8>, AllocError> {
         name: b'X',
         carriers: b"\x01\x02\x01\x00\x00\x00\x04\x00\x00\x00\x00",
         instructions: 15,
-        // AND, INT 2, GET 0, MUL, INT 3, DIV, INT 1, EQ, JT 11, NO, JMP 13, GET 0, CALL 0, CLOSE, END
+        // AND, INT 2, GET 0, MUL, INT 3, DIV, INT 1, EQ, JT 11, NO, JMP 13, GET 0, CALL 0, CLOSE,
+        // END
         code: b"\x1e\x01\x02\x00\x00\x00\x00\x00\x00\x00\x04\x00\x08\x01\x03\x00\x00\x00\x00\x00\x00\x00\x0a\x01\x01\x00\x00\x00\x00\x00\x00\x00\x13\x19\x0b\x00\x22\x18\x0d\x00\x04\x00\x24\x00\x20\x00",
     };
     module(alloc, &NO_SORT, &[equation], &[0, 2, 0, 0, 0, 0, 0, 0, 0])

@@ -161,7 +161,8 @@ fn reports_of_arithmetic(rt: HostRuntime) -> Result<(), Fail> {
     )
 }
 
-/// One instance in a bracket, one of 2^20 that could be reached, and one whose code takes as many steps as it may.
+/// One instance in a bracket, one of 2^20 that could be reached, and one whose code takes as many
+/// steps as it may.
 #[test]
 fn reports_of_one_instance(rt: HostRuntime) -> Result<(), Fail> {
     let alloc = rt.alloc();

@@ -1,5 +1,5 @@
-//! The depth of the solver's recursion, which is that of a game's priorities: the most that a game can have are solved
-//! within the stack of a thread.
+//! The depth of the solver's recursion, which is that of a game's priorities: the most that a game
+//! can have are solved within the stack of a thread.
 
 use pb_game::{Game, GameError, Parts};
 use pb_strategy::check;

@@ -1,13 +1,15 @@
-//! A plain solver by small progress measures (Jurdzinski 2000): measures of player 0, lifted until none changes.
-//! It shares nothing with the solver that is tested.
+//! A plain solver by small progress measures (Jurdzinski 2000): measures of player 0, lifted until
+//! none changes. It shares nothing with the solver that is tested.
 
 use pb_game::Game;
 use std::alloc::{AllocError, Global};
 
-/// A measure is one number: its digits to this base are the counts of the odd priorities, the highest first.
+/// A measure is one number: its digits to this base are the counts of the odd priorities, the
+/// highest first.
 const BASE: u64 = 16;
 
-/// How much one more at the priority weighs, for an odd one; what is dropped below it, for an even one.
+/// How much one more at the priority weighs, for an odd one; what is dropped below it, for an even
+/// one.
 fn weight(priority: u32) -> u64 {
     let mut weight = 1u64;
     for _ in 0..(priority / 2).min(14) {

@@ -139,7 +139,8 @@ fn true_operand(rt: HostRuntime) -> Result<(), Fail> {
     assert_winners(&rt, rt.alloc(), &game, &[1, 0, 0, 0])
 }
 
-/// `nu A = F && E; mu F = F; mu E = A || E`: the player of the greatest priority loses it to a region below.
+/// `nu A = F && E; mu F = F; mu E = A || E`: the player of the greatest priority loses it to a
+/// region below.
 #[test]
 fn opponent_region(rt: HostRuntime) -> Result<(), Fail> {
     let mut builder = Builder::with_sinks(rt.alloc())?;
@@ -263,8 +264,8 @@ fn count_won(checked: &pb_strategy::Checked) -> u32 {
     won
 }
 
-/// Each vertex has a priority of its own: the recursion is 64 levels deep. Player 0 wins where it can stay at an
-/// even priority that is the greatest on its cycle.
+/// Each vertex has a priority of its own: the recursion is 64 levels deep. Player 0 wins where it
+/// can stay at an even priority that is the greatest on its cycle.
 #[test]
 fn many_priorities(rt: HostRuntime) -> Result<(), Fail> {
     let alloc = rt.alloc();
@@ -279,7 +280,8 @@ fn many_priorities(rt: HostRuntime) -> Result<(), Fail> {
     Ok(())
 }
 
-/// 2,000 cycles of three vertices, whose greatest priority is even in every second one. Frontiers are large.
+/// 2,000 cycles of three vertices, whose greatest priority is even in every second one. Frontiers
+/// are large.
 #[test]
 fn many_components(rt: HostRuntime) -> Result<(), Fail> {
     let alloc = rt.alloc();

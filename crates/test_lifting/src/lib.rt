@@ -1,5 +1,5 @@
-//! Worked games: the words and solutions that lifting gives, overlapping workers, games whose ranks are too many,
-//! and generated games whose winners both solvers name.
+//! Worked games: the words and solutions that lifting gives, overlapping workers, games whose ranks
+//! are too many, and generated games whose winners both solvers name.
 #![tactic(auto)]
 
 #[cfg(test)]

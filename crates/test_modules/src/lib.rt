@@ -1,5 +1,6 @@
-//! Tests of the crates round the verifier: modules of known bytes, abstract states, the rules by position with the static
-//! counts, and the trees of instances. The expected values were worked out by hand.
+//! Tests of the crates round the verifier: modules of known bytes, abstract states, the rules by
+//! position with the static counts, and the trees of instances. The expected values were worked out
+//! by hand.
 #![tactic(auto)]
 
 #[cfg(test)]

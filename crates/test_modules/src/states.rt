@@ -1,4 +1,5 @@
-//! Each public function once, with ample memory. The expected values are worked by hand from the rules.
+//! Each public function once, with ample memory. The expected values are worked by hand from the
+//! rules.
 
 use pb_bytecode_program::{AbstractValue, Arithmetic, Leaf, Op};
 use pb_sorts::Carrier;

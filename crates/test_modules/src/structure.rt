@@ -14,7 +14,8 @@ use std::test::Fail;
 
 const NUMBERS: Carrier = Carrier::Range(Range { low: 0, high: 9 });
 
-/// What is found of code with one parameter, slot 0, and nine loop slots behind it, in a system of two equations.
+/// What is found of code with one parameter, slot 0, and nine loop slots behind it, in a system of
+/// two equations.
 fn found(alloc: Global, instructions: &[Op]) -> Result<StaticCounts, StructureError>
     requires { length instructions.now < 65536 }
 {

@@ -1,4 +1,5 @@
-//! Tests of pb_normal on texts: normal forms as they are written by hand, and texts at the limits of what is read.
+//! Tests of pb_normal on texts: normal forms as they are written by hand, and texts at the limits
+//! of what is read.
 #![tactic(auto)]
 
 #[cfg(test)]

@@ -7,7 +7,8 @@ use std::test::Fail;
 /// Longer than any text of these tests.
 const MAX_LENGTH: usize = 1 << 20;
 
-/// What the first equation of a text is in normal form, as it is shown; of a text that isn't accepted, nothing.
+/// What the first equation of a text is in normal form, as it is shown; of a text that isn't
+/// accepted, nothing.
 pub fn shown(alloc: Global, text: &[u8]) -> Result<String, Fail> {
     let mut shown = String::new(alloc);
     if text.len() > MAX_LENGTH {
@@ -38,7 +39,8 @@ pub fn initial_shown(alloc: Global, text: &[u8]) -> Result<String, Fail> {
     Ok(shown)
 }
 
-/// How many operands stand behind the first of the chain that the first equation is; none where it is no chain.
+/// How many operands stand behind the first of the chain that the first equation is; none where it
+/// is no chain.
 pub fn operands(alloc: Global, text: &[u8]) -> Result<Option<usize>, Fail> {
     if text.len() > MAX_LENGTH {
         return Ok(None);

@@ -1,10 +1,11 @@
 //! Runs the program once, with one of its requests for memory refused by whoever runs this one.
 //!
-//! `rt try --fail-alloc 2000` refuses the 2000th request. The numbers on standard input say what is run, and which of its
-//! requests that is: the requests before it are made here. At request 0 none of the run's is refused. A run that met the
-//! refusal must answer `M01` with nothing on standard output, and one that met none as ever; of several workers one may do
-//! without a thread that could not be started. Whether the refusal was met shows afterwards: a request made here then meets
-//! it, or none does.
+//! `rt try --fail-alloc 2000` refuses the 2000th request. The numbers on standard input say what is
+//! run, and which of its requests that is: the requests before it are made here. At request 0 none
+//! of the run's is refused. A run that met the refusal must answer `M01` with nothing on standard
+//! output, and one that met none as ever; of several workers one may do without a thread that could
+//! not be started. Whether the refusal was met shows afterwards: a request made here then meets it,
+//! or none does.
 #![tactic(auto)]
 
 mod cases;

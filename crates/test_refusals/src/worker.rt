@@ -8,9 +8,9 @@ use std::alloc::Global;
 use test_exploration::alone::work_alone;
 use test_exploration::steps::three_statuses;
 
-/// Whether a worker that is refused memory has given back what it took and kept what it marked, be it at its first, its
-/// second or its third instance; and one that isn't refused has finished all three. Before its work began there is nothing to
-/// be seen.
+/// Whether a worker that is refused memory has given back what it took and kept what it marked, be
+/// it at its first, its second or its third instance; and one that isn't refused has finished all
+/// three. Before its work began there is nothing to be seen.
 pub fn works_as_wanted(alloc: Global) -> bool {
     let Ok(module) = decode(alloc, MODULE) else {
         return true;

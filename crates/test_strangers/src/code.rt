@@ -1,4 +1,5 @@
-//! Code that is mostly accepted: operands are made for what takes them, brackets, loops and jumps are closed in order.
+//! Code that is mostly accepted: operands are made for what takes them, brackets, loops and jumps
+//! are closed in order.
 
 use crate::random::Generator;
 use crate::shapes::{Kind, Shape, Slots};
@@ -236,7 +237,8 @@ impl<'a> Coder<'a> {
         }
     }
 
-    /// Calls an equation whose first argument is tested: where it is outside its carrier a cut stands in place of the call.
+    /// Calls an equation whose first argument is tested: where it is outside its carrier a cut
+    /// stands in place of the call.
     fn tested_call(
         &mut self,
         equation: u8,
@@ -361,7 +363,8 @@ impl<'a> Coder<'a> {
         }
     }
 
-    /// Writes a whole code, mostly one bracket with all else in it: how many instructions, and their bytes.
+    /// Writes a whole code, mostly one bracket with all else in it: how many instructions, and
+    /// their bytes.
     pub fn equation(mut self) -> Result<(u16, Vec<u8>), AllocError> {
         if !self.generator.once_in(20) {
             self.open_bracket()?;

@@ -1,6 +1,6 @@
-//! Modules and texts as strangers may make them: each byte of known modules set to each value, and generated and changed
-//! modules and texts, each made from its seed. Accepted code is run beside a tagged machine and its answer compared with
-//! the definition's, both written here.
+//! Modules and texts as strangers may make them: each byte of known modules set to each value, and
+//! generated and changed modules and texts, each made from its seed. Accepted code is run beside a
+//! tagged machine and its answer compared with the definition's, both written here.
 #![tactic(auto)]
 
 pub mod code;

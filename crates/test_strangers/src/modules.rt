@@ -1,5 +1,6 @@
-//! What is asked of the bytes of a stranger's module: they are read exactly or refused; accepted code never faults in the
-//! tagged machine, ends within the steps that it states, and has its tree; and the solver's answer is the definition's.
+//! What is asked of the bytes of a stranger's module: they are read exactly or refused; accepted
+//! code never faults in the tagged machine, ends within the steps that it states, and has its tree;
+//! and the solver's answer is the definition's.
 
 use crate::definition::{INSTANCES, answer};
 use crate::flaw::Flaw;
@@ -119,7 +120,8 @@ fn solve<R: Threads + Sync>(
     }
 }
 
-/// Reads, verifies, runs and solves what the bytes spell. Of more instances than `most` so many are run, evenly spread.
+/// Reads, verifies, runs and solves what the bytes spell. Of more instances than `most` so many are
+/// run, evenly spread.
 ///
 /// # Errors
 /// The first thing that isn't as it must be.

@@ -1,4 +1,5 @@
-//! Headers of generated modules: sorts, equations with their carriers, and the spelling round their code.
+//! Headers of generated modules: sorts, equations with their carriers, and the spelling round their
+//! code.
 
 use crate::random::Generator;
 use std::alloc::{AllocError, Global};

@@ -1,4 +1,5 @@
-//! Modules as strangers may make them: generated ones, most of which are accepted, and changed ones.
+//! Modules as strangers may make them: generated ones, most of which are accepted, and changed
+//! ones.
 
 use crate::code::Coder;
 use crate::known::{COUNTS_DOWN, OTHERS};
@@ -35,7 +36,8 @@ fn change(generator: &mut Generator, bytes: &mut [u8]) {
     }
 }
 
-/// The module of a seed: a generated one; or a generated or known one of which up to three bytes are changed.
+/// The module of a seed: a generated one; or a generated or known one of which up to three bytes
+/// are changed.
 pub fn module_of(alloc: Global, seed: u64) -> Result<Vec<u8>, AllocError> {
     let mut generator = Generator::new(seed);
     let mut bytes = match generator.below(8) {

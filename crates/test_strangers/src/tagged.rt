@@ -1,5 +1,5 @@
-//! The tagged machine, written from its definition for these tests alone: operands carry their kinds, and each rule is
-//! tested at each step. Accepted code never faults in it.
+//! The tagged machine, written from its definition for these tests alone: operands carry their
+//! kinds, and each rule is tested at each step. Accepted code never faults in it.
 
 use crate::flaw::{Fault, Flaw};
 use crate::numbers::{number_of, values_of};

@@ -1,5 +1,5 @@
-//! Texts at the limits of nesting and of operators, read and released on a stack of 2 MB: what reading recurses by is
-//! how deep a text nests, never how long its chains are.
+//! Texts at the limits of nesting and of operators, read and released on a stack of 2 MB: what
+//! reading recurses by is how deep a text nests, never how long its chains are.
 
 use crate::answer::{Answer, answered};
 use pb_text::TextRule;

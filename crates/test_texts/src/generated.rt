@@ -1,6 +1,6 @@
-//! Token sequences made at random from the grammar's table, most of them with one token changed: pb_text reads exactly
-//! those that the recogniser accepts, refuses the others at the first token with which no text goes on, and lets no
-//! such refusal stand before another fault.
+//! Token sequences made at random from the grammar's table, most of them with one token changed:
+//! pb_text reads exactly those that the recogniser accepts, refuses the others at the first token
+//! with which no text goes on, and lets no such refusal stand before another fault.
 
 use crate::recogniser::{Form, first_unexpected, grammar, is_level};
 use pb_text::{TextError, TextRule};
@@ -292,7 +292,8 @@ fn sequences(rt: HostRuntime) -> Result<(), Fail> {
     Ok(())
 }
 
-/// Neither an unexpected token nor a limit is reported before a defect that stands at an earlier place.
+/// Neither an unexpected token nor a limit is reported before a defect that stands at an earlier
+/// place.
 #[test]
 fn defects(rt: HostRuntime) -> Result<(), Fail> {
     let a = rt.alloc();

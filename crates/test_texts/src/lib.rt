@@ -1,8 +1,9 @@
-//! Tests of the crates that read and print texts, of what no contract says. Before a token with which no text goes on stands
-//! the beginning of a text, so that no other fault is reported too early: all sequences of three tokens are tried, and
-//! sentences of the grammar's table that are made at random, most of them with a change, are compared with a recogniser.
-//! Texts at the limits of nesting and of operators are read, printed and released on a small stack. Tokens, terms, whole
-//! texts and what is printed of them are compared with what was worked out by hand.
+//! Tests of the crates that read and print texts, of what no contract says. Before a token with
+//! which no text goes on stands the beginning of a text, so that no other fault is reported too
+//! early: all sequences of three tokens are tried, and sentences of the grammar's table that are
+//! made at random, most of them with a change, are compared with a recogniser. Texts at the limits
+//! of nesting and of operators are read, printed and released on a small stack. Tokens, terms,
+//! whole texts and what is printed of them are compared with what was worked out by hand.
 #![tactic(auto)]
 
 #[cfg(test)]

@@ -1,5 +1,5 @@
-//! Printing and copying at the limits of nesting and of operators, on a stack of 2 MB: what a tree makes them recurse
-//! by is its nesting, never the length of its chains.
+//! Printing and copying at the limits of nesting and of operators, on a stack of 2 MB: what a tree
+//! makes them recurse by is its nesting, never the length of its chains.
 
 use pb_text::parse;
 use pb_text_printer::{copy, print};
@@ -10,7 +10,8 @@ use std::thread;
 
 const STACK: usize = 2 * 1024 * 1024;
 
-/// A right side: `before`, so many times `open`, so many times `link`, the operand, so many times `close`, and `after`.
+/// A right side: `before`, so many times `open`, so many times `link`, the operand, so many times
+/// `close`, and `after`.
 struct Shape {
     before: &'static str,
     open: &'static str,

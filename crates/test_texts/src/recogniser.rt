@@ -1,13 +1,13 @@
-//! The grammar of texts as a table, and a recogniser of token sequences that keeps a set of states (Earley's method):
-//! it is written from the table alone, so that the reader of pb_text, which goes down recursively, is compared with
-//! something that is made in another way.
+//! The grammar of texts as a table, and a recogniser of token sequences that keeps a set of states
+//! (Earley's method): it is written from the table alone, so that the reader of pb_text, which goes
+//! down recursively, is compared with something that is made in another way.
 
 use std::alloc::{AllocError, Global};
 
 /// A level, and what may stand for it.
 ///
-/// The grammar is a table of these. A word that begins with a capital letter is a level, any other word is a token.
-/// The first form of each level is the one that leads to an end soonest.
+/// The grammar is a table of these. A word that begins with a capital letter is a level, any other
+/// word is a token. The first form of each level is the one that leads to an end soonest.
 pub type Form = (&'static str, &'static [&'static str]);
 
 /// Texts and sorts.
@@ -332,7 +332,8 @@ fn behind(
     Ok(next)
 }
 
-/// The index of the first token with which no text goes on, if there is one. The last token should be `END`.
+/// The index of the first token with which no text goes on, if there is one. The last token should
+/// be `END`.
 pub fn first_unexpected(
     alloc: Global,
     forms: &[Form],

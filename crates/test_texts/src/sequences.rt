@@ -1,4 +1,5 @@
-//! All sequences of three tokens, as the right side of an equation and as the beginning of a data term.
+//! All sequences of three tokens, as the right side of an equation and as the beginning of a data
+//! term.
 
 use crate::answer::{Answer, answered};
 use pb_text::TextRule;
@@ -47,7 +48,8 @@ fn is_continued(alloc: Global, front: &[u8]) -> Result<bool, AllocError> {
     Ok(false)
 }
 
-/// Checks the beginning of a text: some text begins so, and a byte of no token behind it is the fault.
+/// Checks the beginning of a text: some text begins so, and a byte of no token behind it is the
+/// fault.
 fn check_front(rt: &impl Abort, alloc: Global, front: &[u8]) -> Result<(), AllocError> {
     let continued = is_continued(alloc, front)?;
     assert!(rt; continued, "{}", str::from_utf8(front).unwrap_or("no text"));
@@ -62,8 +64,8 @@ fn check_front(rt: &impl Abort, alloc: Global, front: &[u8]) -> Result<(), Alloc
     Ok(())
 }
 
-/// Checks all texts with this beginning. Most that follow one another are refused at the same token, and what stands before
-/// it is checked once.
+/// Checks all texts with this beginning. Most that follow one another are refused at the same
+/// token, and what stands before it is checked once.
 fn check(rt: &impl Abort, alloc: Global, beginning: &[u8]) -> Result<(), AllocError> {
     let mut checked = Vec::new(alloc);
     for number in 0..4096u32 {

@@ -148,7 +148,8 @@ fn show(alloc: Global, out: &mut String, term: &Term) -> Result<(), AllocError> 
     Ok(())
 }
 
-/// The term that the whole text is, with all its brackets; or the rule that it breaks, and the column.
+/// The term that the whole text is, with all its brackets; or the rule that it breaks, and the
+/// column.
 fn outcome(rt: &impl Abort, alloc: Global, text: &[u8]) -> Result<String, Fail> {
     assert!(rt; text.len() < 100_000);
     let mut input = Input::new(text, OPERATORS);

@@ -4,7 +4,8 @@ use pb_text::{TextError, TextRule, parse};
 use std::alloc::{AllocError, Global};
 use std::test::Fail;
 
-/// What reading a text gives: how many sorts, ranges and equations, or the rule's number with the line and the column.
+/// What reading a text gives: how many sorts, ranges and equations, or the rule's number with the
+/// line and the column.
 #[derive(Clone, Copy, Debug, PartialEq, Eq)]
 enum Answer {
     Read(usize, usize, usize),

@@ -1,5 +1,6 @@
-//! A text at all limits at once: 255 structs of 255 enumerators, 64 equations of 8 parameters, and in each equation 8,192
-//! operators or nesting of 64 levels. It is checked on a thread with a stack of 2 MB.
+//! A text at all limits at once: 255 structs of 255 enumerators, 64 equations of 8 parameters, and
+//! in each equation 8,192 operators or nesting of 64 levels. It is checked on a thread with a stack
+//! of 2 MB.
 
 use crate::answer::{Answer, checked};
 use std::alloc::{AllocError, Global};

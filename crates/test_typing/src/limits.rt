@@ -51,8 +51,9 @@ struct LongText {
     column: u32,
 }
 
-/// A text that begins with `front`, declares as many names as said, `NAME0`, `NAME1` and so on, each between `before` and
-/// `behind`, and ends with `end`. In `behind` a `#` stands for the name's number.
+/// A text that begins with `front`, declares as many names as said, `NAME0`, `NAME1` and so on,
+/// each between `before` and `behind`, and ends with `end`. In `behind` a `#` stands for the name's
+/// number.
 fn text_of_names(
     alloc: Global,
     parts: (&str, &str, &str, &str),

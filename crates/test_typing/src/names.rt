@@ -1,4 +1,5 @@
-//! Names, sorts, aliases and ranges: a text for each way in which a declaration or a use can be wrong.
+//! Names, sorts, aliases and ranges: a text for each way in which a declaration or a use can be
+//! wrong.
 
 use crate::answer::Answer::{Accepted, Refused};
 use crate::answer::{Answer, check_all};

@@ -1,4 +1,5 @@
-//! Terms and formulas: a text for each way in which one can be wrong, and what stands near it and is right.
+//! Terms and formulas: a text for each way in which one can be wrong, and what stands near it and
+//! is right.
 
 use crate::answer::Answer::{Accepted, Refused};
 use crate::answer::{Answer, check_all};

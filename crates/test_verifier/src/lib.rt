@@ -1,5 +1,5 @@
-//! Tests of the verifier on modules in bytes: the worked rows, and small codes for each rule and each reason for which
-//! it refuses.
+//! Tests of the verifier on modules in bytes: the worked rows, and small codes for each rule and
+//! each reason for which it refuses.
 #![tactic(auto)]
 
 #[cfg(test)]

@@ -33,7 +33,8 @@ pub const MOST: Stated = Stated {
     tokens: 100_000,
 };
 
-/// The bytes of a module without sorts, of the given version, with one equation `mu X` of so many instructions.
+/// The bytes of a module without sorts, of the given version, with one equation `mu X` of so many
+/// instructions.
 pub fn module_of(
     alloc: Global,
     version: u8,

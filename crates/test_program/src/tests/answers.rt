@@ -81,7 +81,8 @@ fn nests_to_the_limit(rt: HostRuntime) -> Result<(), Fail> {
     Ok(())
 }
 
-// So many equations, each of them `nu`, the first of the name and the others of a letter and a number.
+// So many equations, each of them `nu`, the first of the name and the others of a letter and a
+// number.
 fn many(alloc: Global, first: &str, equations: usize) -> Result<String, AllocError> {
     let mut text = format!(in alloc; "pbes nu {first} = true;")?;
     for index in 1..equations {

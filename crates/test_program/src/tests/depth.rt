@@ -1,5 +1,6 @@
-//! Texts at the limits of nesting and of operators, and with long lists of variables, on a stack of 2 MB: what a text
-//! makes the program recurse by is its nesting, never the length of its chains or lists.
+//! Texts at the limits of nesting and of operators, and with long lists of variables, on a stack of
+//! 2 MB: what a text makes the program recurse by is its nesting, never the length of its chains or
+//! lists.
 use super::asked;
 use std::alloc::{AllocError, Global};
 use std::test::Fail;
@@ -11,7 +12,8 @@ const STACK: usize = 2 * 1024 * 1024;
 // More variables than a stack of 2 MB, or of 8 MB, has room for calls.
 const VARIABLES: usize = 200_000;
 
-// A right side: `head`, so many times `open`, so many times `link`, `last`, so many times `close`, and `tail`.
+// A right side: `head`, so many times `open`, so many times `link`, `last`, so many times `close`,
+// and `tail`.
 #[derive(Clone, Copy)]
 struct Shape {
     head: &'static str,
@@ -24,8 +26,8 @@ struct Shape {
     tail: &'static str,
 }
 
-// What the program says of a system whose one instance has one vertex, or has a bracket inside, and where it has too many
-// loops, operands or instructions for the machine.
+// What the program says of a system whose one instance has one vertex, or has a bracket inside, and
+// where it has too many loops, operands or instructions for the machine.
 const ONE: &str = "answer true\ninstances 1\ncut 0\nvertices 3\n";
 
 const BRACKET: &str = "answer true\ninstances 1\ncut 0\nvertices 4\n";
@@ -59,7 +61,8 @@ type TermRow = (
     &'static str,
 );
 
-// Data terms, of which `val(` is a level and the connective before it an operator, as is a comparison.
+// Data terms, of which `val(` is a level and the connective before it an operator, as is a
+// comparison.
 const TERMS: [TermRow; 11] = [
     ("(", 63, "true&&", 8_191, "true", ")", ")", ONE),
     ("(", 63, "false||", 8_191, "true", ")", ")", ONE),

@@ -14,9 +14,9 @@ const ROOM: usize = 10_000;
 /// How many systems are made.
 const SYSTEMS: u64 = 100;
 
-/// Two jugs, of 5 and of 3 litres, in which there are never 4 litres: they are filled, emptied, and poured from one into the
-/// other. The shortest way to 4 litres has 6 steps, and no other way is as short: fill the large one, pour, empty the small
-/// one, pour, fill the large one, pour.
+/// Two jugs, of 5 and of 3 litres, in which there are never 4 litres: they are filled, emptied, and
+/// poured from one into the other. The shortest way to 4 litres has 6 steps, and no other way is as
+/// short: fill the large one, pour, empty the small one, pour, fill the large one, pour.
 const JUGS: &str =
     "%range Int 0 5\npbes nu S(l, s: Int) = val(l != 4) && S(5, s) && S(l, 3) && S(0, s) && S(l, 0) && S(max(l + s - 3, 0), min(l + s, 3)) && S(min(l + s, 5), max(l + s - 5, 0)); init S(0, 0);";
 

@@ -47,7 +47,8 @@ pub(super) struct Equation {
     pub(super) right: String,
 }
 
-/// A system of equations over the numbers 0 to 2 and the sort of `a` and `b`, with the initial instance `X(0, a)`.
+/// A system of equations over the numbers 0 to 2 and the sort of `a` and `b`, with the initial
+/// instance `X(0, a)`.
 #[derive(Drop)]
 pub(super) struct System {
     pub(super) equations: Vec<Equation>,

@@ -1,7 +1,8 @@
-//! A checker of evidence of the tests' own, from what a proof graph is alone (Cranen, Luttik and Willemse 2013).
+//! A checker of evidence of the tests' own, from what a proof graph is alone (Cranen, Luttik and
+//! Willemse 2013).
 //!
-//! An instance's right side is evaluated by the plain solver, in a text where just those on which the instance rests have
-//! the truth value that is shown.
+//! An instance's right side is evaluated by the plain solver, in a text where just those on which
+//! the instance rests have the truth value that is shown.
 use super::generated::{DECLARATIONS, System, push_equation};
 use super::plain::plain_line;
 use std::alloc::{AllocError, Global};
@@ -38,7 +39,8 @@ fn parts_of(line: &str, truth: bool) -> Option<(&str, &str)> {
     line.split_once(if truth { " true:" } else { " false:" })
 }
 
-/// The places of the names, each of which has a space before it; none where one of them stands nowhere.
+/// The places of the names, each of which has a space before it; none where one of them stands
+/// nowhere.
 fn places_of(
     alloc: Global,
     names: &[&str],
@@ -61,8 +63,8 @@ fn places_of(
 }
 
 impl<'a> Graph<'a> {
-    /// The graph that a text of evidence shows; none where a line is no line of evidence, where a name stands twice, or where
-    /// an instance rests on one that has no line.
+    /// The graph that a text of evidence shows; none where a line is no line of evidence, where a
+    /// name stands twice, or where an instance rests on one that has no line.
     pub(super) fn read(alloc: Global, text: &'a str) -> Result<Option<Graph<'a>>, AllocError> {
         let Some((first, rest)) = text.split_once('\n') else {
             return Ok(None);
@@ -120,7 +122,8 @@ impl<'a> Graph<'a> {
         self.names.get(place).copied().unwrap_or("")
     }
 
-    /// Whether the right side of the instance at a place has the truth value where just those on which it rests have it.
+    /// Whether the right side of the instance at a place has the truth value where just those on
+    /// which it rests have it.
     fn suffices(&self, alloc: Global, system: &System, place: usize) -> Result<bool, AllocError> {
         let mut text = String::from_str(alloc, DECLARATIONS)?;
         let Some((name, values)) = self.name(place).split_once('(') else {
@@ -148,7 +151,8 @@ impl<'a> Graph<'a> {
         )
     }
 
-    /// A right side for the predicate variable: the truth value at those on which the instance rests, else the other one.
+    /// A right side for the predicate variable: the truth value at those on which the instance
+    /// rests, else the other one.
     fn members(&self, alloc: Global, name: &str, place: usize) -> Result<String, AllocError> {
         let mut right = String::from_str(alloc, if self.truth { "val(" } else { "val(!(" })?;
         for member in self.next(place) {
@@ -166,8 +170,8 @@ impl<'a> Graph<'a> {
         Ok(right)
     }
 
-    /// The place of the equation of an instance among those of the system, and whether its sign supports the truth value:
-    /// `nu` supports true, and `mu` false.
+    /// The place of the equation of an instance among those of the system, and whether its sign
+    /// supports the truth value: `nu` supports true, and `mu` false.
     fn equation(&self, system: &System, place: usize) -> (usize, bool) {
         for (rank, equation) in system.equations.iter().enumerate() {
             if let Some((owner, _)) = self.name(place).split_once('(')
@@ -179,8 +183,8 @@ impl<'a> Graph<'a> {
         (0, false)
     }
 
-    /// Whether a cycle through the instance at a place, whose sign doesn't support the truth value, leads over instances of no
-    /// equation that stands before its own.
+    /// Whether a cycle through the instance at a place, whose sign doesn't support the truth value,
+    /// leads over instances of no equation that stands before its own.
     fn leads_back(&self, alloc: Global, system: &System, place: usize) -> Result<bool, AllocError> {
         let (rank, supports) = self.equation(system, place);
         if supports {
@@ -203,7 +207,8 @@ impl<'a> Graph<'a> {
         Ok(reached.get(place).copied().unwrap_or(false))
     }
 
-    /// Whether each instance is one that the first leads to, and none stands before one that is nearer.
+    /// Whether each instance is one that the first leads to, and none stands before one that is
+    /// nearer.
     pub(super) fn is_nearest_first(&self, alloc: Global) -> Result<bool, AllocError> {
         let count = self.names.len();
         let mut steps = vec![in alloc; count; count]?;

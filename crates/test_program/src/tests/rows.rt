@@ -1,4 +1,5 @@
-//! The worked rows, with the bytes that each command writes: by 1, 2 and 16 workers these are the same.
+//! The worked rows, with the bytes that each command writes: by 1, 2 and 16 workers these are the
+//! same.
 use super::{Outcome, ROOM, run_on};
 use pb_sorts::In;
 use std::alloc::Global;

@@ -65,8 +65,8 @@ fn module_by_either_solver(rt: HostRuntime) -> Result<(), Fail> {
     Ok(())
 }
 
-// 64 equations over four numbers in signs that alternate, each of them the next one for all numbers. Each player has more
-// than 5^31 ranks, which is more than a word counts.
+// 64 equations over four numbers in signs that alternate, each of them the next one for all
+// numbers. Each player has more than 5^31 ranks, which is more than a word counts.
 fn alternating(alloc: Global) -> Result<String, AllocError> {
     let mut text = String::from_str(alloc, "%range Int 0 3\npbes")?;
     for index in 0..64u32 {

@@ -2,8 +2,7 @@ use Rattle.std.proofs.Common.{◌≡◌, length, ap, ◌∙◌, arith}
 use Rattle.std.specs.Prelude.{slice_get}
 use Rattle.pb_instances.specs.Rule.{mark_of}
 use Rattle.pb_instances.specs.Seats.{module_of, workers_of, view_of}
-use Rattle.pb_instances.proofs.Seating.{fresh_low}
-use Rattle.pb_exploration.proofs.Lists.{get_last}
+use Rattle.pb_instances.proofs.Seating.{fresh_low, get_last}
 use Rattle.test_exploration.proofs.alone.work_branded.Goals as goal
 
 pub work-rows-requires-clause-free : goal.work-rows-requires-clause-free
