@@ -8,6 +8,7 @@ use Rattle.std.proofs.Common.{Ok, Err}
 use Rattle.std.proofs.lemmas.List.{append-nil}
 use Rattle.std.proofs.Math.ListN.{drop_of_length-le}
 use Rattle.pb_bytecode.specs.declared.fault.ModuleRule.TheVariants as rule
+use Rattle.pb_bytecode.specs.declared.fault.ModuleFault.{ModuleFault}
 use Rattle.pb_bytecode.specs.declared.fault.ReadError.{ReadError}
 use Rattle.pb_bytecode.specs.declared.fault.ReadError.TheVariants as errors
 use Rattle.pb_bytecode.specs.Reading.{◌>>=◌, Fails, Field, parameters_at, byte_at, value_at, values_at, initial_at}
@@ -39,9 +40,8 @@ value_read front cs c i bytes rest z total h same r so_far =
     ap (with_front front) (values_fold cs c i bytes h) ∙ rw r' (regroup front z (values_at (drop (i + 1) cs) rest)) in
     sym one ∙ so_far
 
-pub value_fails : (e : ReadError) (front : List ℤ) (cs : List Carrier) (c : Carrier) (i : ℕ) (bytes : List ℕ) (total : Field (List ℤ)) → i < length cs → c ≡ get_or cs i c → Fails e (value_at c bytes) → with_front front (values_at (drop i cs) bytes) ≡ total → Fails e total
-value_fails errors.Memory front cs c i bytes total h same f so_far = tt
-value_fails (errors.ModuleFault e) front cs c i bytes total h same f so_far =
+pub value_fails : (e : ModuleFault) (front : List ℤ) (cs : List Carrier) (c : Carrier) (i : ℕ) (bytes : List ℕ) (total : Field (List ℤ)) → i < length cs → c ≡ get_or cs i c → value_at c bytes ≡ Err e → with_front front (values_at (drop i cs) bytes) ≡ total → total ≡ Err e
+value_fails e front cs c i bytes total h same f so_far =
     let f' : value_at (get_or cs i c) bytes ≡ Err e = ap (λ x. value_at x bytes) (sym same) ∙ f in
     sym so_far ∙ ap (with_front front) (values_fold cs c i bytes h) ∙ rw f' refl
 

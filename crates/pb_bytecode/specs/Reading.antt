@@ -34,7 +34,12 @@ abbrev pub ◌>>=◌ : {A B : Type 0} → Result A ModuleFault → (A → Result
 (Ok x) >>= f = f x
 (Err e) >>= f = Err e
 
--- what a function returned, seen by view, is what reading gives, unless memory ran out
+-- what a function returned, seen by view, is what reading gives
+abbrev pub IsRead : {X Y : Type 0} → (X → Y) → Result X ModuleFault → Result Y ModuleFault → Type 0
+IsRead view (Ok x) read = read ≡ Ok (view x)
+IsRead view (Err f) read = read ≡ Err f
+
+-- the same of a function that takes memory, unless memory ran out
 abbrev pub Fails : {Y : Type 0} → ReadError → Result Y ModuleFault → Type 0
 Fails errors.Memory read = Unit {0}
 Fails (errors.ModuleFault f) read = read ≡ Err f

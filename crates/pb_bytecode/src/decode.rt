@@ -3,12 +3,12 @@ ghost use Rattle.std.specs.Prelude.{◌≡◌, ◌+◌, length, true, Ok, Err, I
 ghost use Rattle.pb_bytecode.specs.Contents.{Contents};
 ghost use Rattle.pb_bytecode.specs.Decoded.{IsFirstFault, IsModuleOf, module_contents};
 ghost use Rattle.pb_bytecode.specs.Limits.{fits};
-ghost use Rattle.pb_bytecode.specs.Reading.{Gives, all_of, mark_at, version_at};
+ghost use Rattle.pb_bytecode.specs.Reading.{Gives, IsRead, all_of, mark_at, version_at};
 ghost use Rattle.pb_bytecode.specs.Spelling.{spelling};
 ghost use Rattle.pb_bytecode.specs.Views.{contents_of};
 
 use crate::equation::Equation;
-use crate::fault::{ModuleError, ModuleRule, ReadError};
+use crate::fault::{ModuleError, ModuleFault, ModuleRule, ReadError};
 use crate::initial::Initial;
 use crate::module::Module;
 use crate::reading::{equations_at, fault, initial_at, sizes_of, sorts_at, truncated, u8_at};
@@ -21,8 +21,8 @@ pub(crate) const MARK: [u8; 4] = *b"PBES";
 
 /// The bytes behind the mark.
 #[tactic(auto, unfolding(crate::specs::Reading::mark_at))]
-fn mark_at(bytes: &[u8]) -> Result<&[u8], ReadError>
-    ensures { Gives (λ x. (tt, x.now)) result (mark_at bytes.now) }
+fn mark_at(bytes: &[u8]) -> Result<&[u8], ModuleFault>
+    ensures { IsRead (λ x. (tt, x.now)) result (mark_at bytes.now) }
 {
     match bytes {
         [b'P', b'B', b'E', b'S', rest @ ..] => Ok(rest),
@@ -35,8 +35,8 @@ fn mark_at(bytes: &[u8]) -> Result<&[u8], ReadError>
 }
 
 #[tactic(auto, unfolding(crate::specs::Reading::version_at))]
-fn version_at(bytes: &[u8]) -> Result<(Version, &[u8]), ReadError>
-    ensures { Gives (λ x. (x.0, x.1.now)) result (version_at bytes.now) }
+fn version_at(bytes: &[u8]) -> Result<(Version, &[u8]), ModuleFault>
+    ensures { IsRead (λ x. (x.0, x.1.now)) result (version_at bytes.now) }
 {
     let (number, rest) = u8_at(bytes)?;
     match number {
@@ -63,7 +63,7 @@ fn fields(
     if rest.is_empty() {
         Ok((version, sorts, equations, initial))
     } else {
-        Err(fault(ModuleRule::Trailing, rest))
+        Err(ReadError::ModuleFault(fault(ModuleRule::Trailing, rest)))
     }
 }
 

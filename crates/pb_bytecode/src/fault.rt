@@ -1,6 +1,6 @@
 //! Why bytes are no module.
 ghost use Rattle.std.specs.Prelude.{◌≡◌};
-ghost use Rattle.pb_bytecode.specs.declared.fault.ReadError.TheVariants.{Memory};
+ghost use Rattle.pb_bytecode.specs.declared.fault.ReadError.TheVariants as errors;
 
 use std::alloc::{AllocError, AllocFailed};
 use std::fmt;
@@ -61,15 +61,23 @@ pub(crate) struct ModuleFault {
     pub(crate) left: usize,
 }
 
-/// Why a field could not be read.
+/// Why a field whose reading takes memory could not be read.
 #[derive(Debug, Drop)]
 pub(crate) enum ReadError {
     Memory,
     ModuleFault(ModuleFault),
 }
 
+impl From<ModuleFault> for ReadError {
+    ghost from_gives = { λ fault e. e ≡ errors.ModuleFault fault };
+
+    fn from(fault: ModuleFault) -> ReadError {
+        ReadError::ModuleFault(fault)
+    }
+}
+
 impl From<AllocError> for ReadError {
-    ghost from_gives = { λ _ e. e ≡ Memory };
+    ghost from_gives = { λ _ e. e ≡ errors.Memory };
 
     fn from(_e: AllocError) -> ReadError {
         ReadError::Memory
@@ -77,7 +85,7 @@ impl From<AllocError> for ReadError {
 }
 
 impl<T: Drop> From<AllocFailed<T>> for ReadError {
-    ghost from_gives = { λ _ e. e ≡ Memory };
+    ghost from_gives = { λ _ e. e ≡ errors.Memory };
 
     fn from(_e: AllocFailed<T>) -> ReadError {
         ReadError::Memory

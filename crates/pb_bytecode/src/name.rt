@@ -1,8 +1,9 @@
 //! Names of enumerators and of predicate variables.
 ghost use Rattle.std.specs.Prelude.{◌≡◌, true, string_bytes};
 ghost use Rattle.std.specs.List.{list_all};
-ghost use Rattle.pb_bytecode.specs.Names.{begins_with_letter, is_letter, is_name, is_name_byte};
+ghost use Rattle.pb_bytecode.specs.Names.{begins_with_letter, is_name, is_name_byte};
 
+use pb_names::{is_letter, is_name_byte};
 use pb_sorts::MAX_NAME_BYTES;
 
 /// A name: a letter or `_`, then letters, digits, `_` and `'`, at most `MAX_NAME_BYTES` bytes in
@@ -11,18 +12,6 @@ use pb_sorts::MAX_NAME_BYTES;
 pub struct Name {
     pub text: String,
     pub ghost spelled: { is_name (string_bytes text) ≡ true },
-}
-
-fn is_letter(byte: u8) -> bool
-    ensures { result ≡ is_letter byte }
-{
-    byte.is_ascii_alphabetic() || byte == b'_'
-}
-
-fn is_name_byte(byte: u8) -> bool
-    ensures { result ≡ is_name_byte byte }
-{
-    is_letter(byte) || byte.is_ascii_digit() || byte == b'\''
 }
 
 fn begins_with_letter(text: &[u8]) -> bool

@@ -51,6 +51,20 @@ impl From<Error> for WordsError {
     }
 }
 
+// A word that names no solver.
+#[derive(Debug, Drop)]
+struct UnknownSolver;
+
+impl From<UnknownSolver> for WordsError {
+    ghost use Rattle.pb_command_line.specs.declared.words.WordsError.TheVariants.{Usage};
+
+    ghost from_gives = { λ _ e. e ≡ Usage };
+
+    fn from(_unknown: UnknownSolver) -> WordsError {
+        WordsError::Usage
+    }
+}
+
 // The option `--workers`.
 fn workers_option<'a>(alloc: Global) -> Arg<'a>
     ensures rule { rule_of result ≡ workers_rule }
@@ -134,7 +148,7 @@ fn workers_of(matches: &ArgMatches) -> u32
 }
 
 // The solver that a command is given, Zielonka's algorithm where the words don't say.
-fn solver_of(matches: &ArgMatches) -> Result<Solver, WordsError>
+fn solver_of(matches: &ArgMatches) -> Result<Solver, UnknownSolver>
     ensures chosen { IfOk result (IsChosenBy (first_value (found_of matches.now)
         (codes "solver"))) }
     ensures unnamed { first_value (found_of matches.now) (codes "solver") ≡ None
@@ -144,7 +158,7 @@ fn solver_of(matches: &ArgMatches) -> Result<Solver, WordsError>
         None => Ok(Solver::Zielonka),
         Some(word) => match Solver::named(word) {
             Some(solver) => Ok(solver),
-            None => Err(WordsError::Usage),
+            None => Err(UnknownSolver),
         },
     }
 }

@@ -1,25 +1,15 @@
 -- What is found by one step after another.
-use Rattle.std.proofs.Common.{◌≡◌, ℕ, ◌+◌, ◌<◌, ◌≤◌, ◌⊎◌, length, get_or, inl, inr, refl, sym, ap, ◌∙◌, subst, arith}
+use Rattle.std.proofs.Common.{◌≡◌, ℕ, ◌+◌, ◌<◌, ◌≤◌, ◌⊎◌, length, get_or, inl, inr, sym, ap, ◌∙◌, subst, arith}
 use Rattle.std.specs.Prelude.{Contains}
 use Rattle.std.proofs.lemmas.Bool.{cases_eq}
+use Rattle.std.proofs.lemmas.List.Elements.{Contains-get_or}
 use Rattle.pb_game.specs.declared.Game.{Game}
 use Rattle.pb_game.specs.Games.{successors_of}
 use Rattle.pb_game_certificate.specs.declared.Solution.{Solution}
 use Rattle.pb_game_certificate.specs.Certificates.{IsKept}
 use Rattle.pb_evidence.specs.declared.found.Found.{Found}
-use Rattle.pb_evidence.specs.Finding.{IsFound, Gains}
-use Rattle.pb_evidence.proofs.Finding.{place_of, contains_at}
-
--- nothing has the property
-pub gains_none : (P : ℕ → Type 0) (f : Found) → IsFound f → ((u : ℕ) → P u → ⊥) → Gains P f f
-gains_none P f is none = record {
-  found = is;
-  width = refl;
-  longer = omega arith;
-  same = λ k h. refl;
-  all = λ u h. absurd (none u h);
-  only = λ u h. inl h;
-}
+use Rattle.pb_evidence.specs.Finding.{Gains}
+use Rattle.pb_evidence.proofs.Finding.{place_of}
 
 -- the same property in other words
 pub gains_as : (P Q : ℕ → Type 0) (old new : Found) → Gains P old new → ((u : ℕ) → P u → Q u) → ((u : ℕ) → Q u → P u) → Gains Q old new
@@ -39,7 +29,7 @@ still_there P old new gains u h =
     let longer = gains.longer in
     let within = at.within in
     subst (λ x. Contains new.vertices.items x) (gains.same at.place at.within ∙ at.there)
-    (contains_at new.vertices.items at.place (omega arith))
+    (Contains-get_or new.vertices.items at.place 0 (omega arith))
 
 pub gains_then : (P Q R : ℕ → Type 0) (a b c : Found) → Gains P a b → Gains Q b c →
     ((u : ℕ) → P u → R u) → ((u : ℕ) → Q u → R u) → ((u : ℕ) → R u → P u ⊎ Q u) → Gains R a c

@@ -2,6 +2,7 @@
 use Rattle.std.proofs.Common.{◌≡◌, ℕ, ◌+◌, ◌<◌, ◌≤◌, Bool, List, [], ◌∷◌, ◌++◌, length, get_or, inl, inr, sym, ap, ◌∙◌, subst, arith}
 use Rattle.std.specs.Prelude.{Contains}
 use Rattle.std.proofs.lemmas.Bool.{cases_eq}
+use Rattle.std.proofs.lemmas.List.Elements.{Contains-get_or}
 use Rattle.pb_game.specs.declared.Game.{Game}
 use Rattle.pb_game.specs.Games.{vertex_count}
 use Rattle.pb_game_certificate.specs.declared.Solution.{Solution}
@@ -11,7 +12,7 @@ use Rattle.pb_proof_graph.proofs.Strategies.{path_then}
 use Rattle.pb_evidence.specs.declared.found.Found.{Found}
 use Rattle.pb_evidence.specs.Finding.{IsFound, Gains}
 use Rattle.pb_evidence.specs.Searching.{IsOpen, LeadsTo, IsSearched}
-use Rattle.pb_evidence.proofs.Finding.{place_of, contains_at, listed_within}
+use Rattle.pb_evidence.proofs.Finding.{place_of, listed_within}
 use Rattle.pb_evidence.proofs.Gaining.{still_there}
 
 -- the first k of what was found were looked at
@@ -59,7 +60,7 @@ module _ (g : Game) (s : Solution) (marks : List Bool) (v : ℕ) where
           some = λ w h. elim (gains.only w h) [
             | inl before ↦ is.some w before
             | inr kept ↦
-                let path = is.some u (contains_at f.vertices.items k below) in
+                let path = is.some u (Contains-get_or f.vertices.items k 0 below) in
                 (path.0 ++ u ∷ [], path_then g s (IsOpen g marks) v path.0 u w path.1 is_open kept)
           ];
           first = λ w kept. still_there (λ x. IsKept g s u x) f new gains w (is.first w kept);

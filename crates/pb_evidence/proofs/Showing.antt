@@ -3,6 +3,7 @@ use Rattle.std.proofs.Common.{◌≡◌, ◌≢◌, ℕ, ◌+◌, ◌<◌, Bool,
 use Rattle.std.specs.Prelude.{Contains, ◌==◌, IsTrue, ◌↔◌}
 use Rattle.std.proofs.lemmas.Bool.{cases_Bool, false≢true, eqb-true}
 use Rattle.std.proofs.lemmas.List.{get_or-map, length-map}
+use Rattle.std.proofs.lemmas.List.Elements.{Contains-get_or}
 use Rattle.pb_game.specs.declared.Game.{Game}
 use Rattle.pb_game.specs.Adjacency.{row}
 use Rattle.pb_game_certificate.specs.declared.Solution.{Solution}
@@ -26,7 +27,7 @@ use Rattle.pb_evidence.specs.Searching.{IsOpen}
 use Rattle.pb_evidence.specs.Exploring.{ListsNext, IsExplored}
 use Rattle.pb_evidence.specs.Divided.{IsDivided}
 use Rattle.pb_evidence.specs.Evidence.{AreNumbers, graph_of, Shows}
-use Rattle.pb_evidence.proofs.Finding.{place_of, contains_at, marked_within}
+use Rattle.pb_evidence.proofs.Finding.{place_of, marked_within}
 use Rattle.pb_evidence.specs.Nearest.{IsNearestFirst}
 use Rattle.pb_evidence.proofs.Nearest.{nearest_first}
 use Rattle.pb_evidence.proofs.Rows.{row_named, IsNamed, named_of, named_contained, looked_up}
@@ -93,7 +94,7 @@ module _ (g : Game) (s : Solution) (marks : List Bool) (start : ℕ) (x : Explor
         let there = place_of names n h in
         let below : there.place < length vertices = (let w = there.within in let z = size in omega arith) in
         let v = get_or vertices there.place 0 in
-        let v_has = has v (explored.marked v (contains_at vertices there.place below)) in
+        let v_has = has v (explored.marked v (Contains-get_or vertices there.place 0 below)) in
         let is : name v ≡ n = sym (name_at there.place below) ∙ there.there in
         record {
           place = there.place;
@@ -110,8 +111,8 @@ module _ (g : Game) (s : Solution) (marks : List Bool) (start : ℕ) (x : Explor
         let u = get_or vertices j 0 in
         let i_below : i < length vertices = omega arith in
         let j_below : j < length vertices = omega arith in
-        let v_has = has v (explored.marked v (contains_at vertices i i_below)) in
-        let u_has = has u (explored.marked u (contains_at vertices j j_below)) in
+        let v_has = has v (explored.marked v (Contains-get_or vertices i 0 i_below)) in
+        let u_has = has u (explored.marked u (Contains-get_or vertices j 0 j_below)) in
         let same : name v ≡ name u = sym (name_at i i_below) ∙ (e' ∙ name_at j j_below) in
         explored.found.once i j less j_below (sym v_has.place ∙ (ap at same ∙ u_has.place))
 
@@ -130,7 +131,7 @@ module _ (g : Game) (s : Solution) (marks : List Bool) (start : ℕ) (x : Explor
         let found = named_of name list (name v)
         (subst (λ n. Contains (map name list) n) (name_at i h) (subst (λ (xs : List ℕ). Contains xs (get_or names i 0)) (row_at p) there)) in
         let u_has = has found.element (explored.marked found.element (explored.closed p found.element l found.contained)) in
-        let v_has = has v (explored.marked v (contains_at vertices i h)) in
+        let v_has = has v (explored.marked v (Contains-get_or vertices i 0 h)) in
         subst (λ u. Contains list u) (sym u_has.place ∙ (ap at found.names ∙ v_has.place)) found.contained
 
     breadth_first : IsBreadthFirst names e.places.items e.dependencies.items (length names)
@@ -181,7 +182,7 @@ module _ (g : Game) (s : Solution) (marks : List Bool) (start : ℕ) (x : Explor
       reached = λ n h. (stands n h).reached;
       won = λ n h.
           let st = stands n h in
-          ap (winner_of s) (sym st.vertex) ∙ (explored.won (get_or vertices st.place 0) (contains_at vertices st.place st.within) ∙ wins);
+          ap (winner_of s) (sym st.vertex) ∙ (explored.won (get_or vertices st.place 0) (Contains-get_or vertices st.place 0 st.within) ∙ wins);
       closed = λ n m h.
           let st = stands n h.0 in
           let next = named_next n m st h.1 in
@@ -231,7 +232,7 @@ shown g s marks numbers start x explored certificate e instances places dependen
       truth = meaning signatures trees rows game reached.0 reached.1 (ap (vertex_of rows) reached.2 ∙ is) ∙ ap (solved signatures trees) reached.2;
       graph = proof g s marks start x explored name e instances places dependencies signatures trees rows game certificate
           numbered.number numbered.marked numbered.only e.truth wins;
-      initial = subst (λ k. Contains e.instances.items k) first (contains_at e.instances.items 0 some);
+      initial = subst (λ k. Contains e.instances.items k) first (Contains-get_or e.instances.items 0 0 some);
       first = first;
       once = once g s marks start x explored name e instances places dependencies signatures trees rows game certificate
           numbered.number numbered.marked numbered.only e.truth wins;
@@ -246,7 +247,7 @@ pub known_within : (g : Game) (s : Solution) (marks : List Bool) (start : ℕ) (
     (k : ℕ) → k < length x.dependencies.items → get_or x.dependencies.items k 0 < length x.reached.marks.items
 known_within g s marks start x explored k h =
     let u = get_or x.dependencies.items k 0 in
-    marked_within x.reached.marks.items u (explored.found.listed u (explored.known u (contains_at x.dependencies.items k h)))
+    marked_within x.reached.marks.items u (explored.found.listed u (explored.known u (Contains-get_or x.dependencies.items k 0 h)))
 
 -- the rows of what was explored, under the vertices' names
 pub divided : (g : Game) (s : Solution) (marks : List Bool) (start : ℕ) (x : Exploration) → IsExplored g s marks start x → (name : ℕ → ℕ) →

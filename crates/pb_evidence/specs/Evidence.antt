@@ -1,5 +1,7 @@
--- What evidence is: a proof graph for the truth value of the initial instance, which stands first in it.
-use Rattle.std.specs.Prelude.{◌≡◌, ◌≢◌, ℕ, suc, ◌<◌, ◌==◌, Bool, List, [], ◌∷◌, length, slice_index, Contains, if◌then◌else◌}
+-- What evidence is: a proof graph for the truth value of the initial instance, which stands first
+-- in it.
+use Rattle.std.specs.Prelude.{◌≡◌, ◌≢◌, ℕ, suc, ◌<◌, ◌==◌, Bool, List, [], ◌∷◌, length, slice_index}
+use Rattle.std.specs.Prelude.{Contains, if◌then◌else◌}
 use Rattle.pb_game.specs.declared.Game.{Game}
 use Rattle.pb_game.specs.Adjacency.{row}
 use Rattle.pb_trees.specs.Tree.{Tree}
@@ -21,7 +23,8 @@ pub record AreNumbers (rows : List Row) (marks : List Bool) (numbers : List ℕ)
 -- the row of the first place, from k on, at which n stands
 abbrev pub dependencies_from : List ℕ → List ℕ → List ℕ → ℕ → ℕ → List ℕ
 dependencies_from [] places dependencies k n = []
-dependencies_from (x ∷ xs) places dependencies k n = if x == n then row places dependencies k else dependencies_from xs places dependencies (suc k) n
+dependencies_from (x ∷ xs) places dependencies k n =
+    if x == n then row places dependencies k else dependencies_from xs places dependencies (suc k) n
 
 -- its instances, each with its row of dependencies
 abbrev pub graph_of : Evidence → Graph
@@ -31,17 +34,23 @@ graph_of e = record {
 }
 
 -- e shows the truth of the system's instance n
-pub record Shows (signatures : List Signature) (trees : ℕ → Tree) (n : ℕ) (e : Evidence) : Type 0 where
+pub record Shows (signatures : List Signature) (trees : ℕ → Tree) (n : ℕ) (e : Evidence)
+    : Type 0 where
   pub truth : e.truth ≡ solved signatures trees n
   pub graph : IsProofGraph signatures trees e.truth (graph_of e)
   pub initial : Contains e.instances.items n
   pub first : slice_index e.instances.items 0 ≡ n
-  pub once : (i j : ℕ) → i < j → j < length e.instances.items → slice_index e.instances.items i ≢ slice_index e.instances.items j
+  pub once : (i j : ℕ) → i < j → j < length e.instances.items
+      → slice_index e.instances.items i ≢ slice_index e.instances.items j
   pub nearest : IsNearestFirst (graph_of e)
-  pub each : (k : ℕ) → k < length e.instances.items → (graph_of e).dependencies (slice_index e.instances.items k) ≡ row e.places.items e.dependencies.items k
+  pub each : (k : ℕ) → k < length e.instances.items
+      → (graph_of e).dependencies (slice_index e.instances.items k)
+      ≡ row e.places.items e.dependencies.items k
 
 -- of whatever system the game was built, e shows the truth of the instance whose vertex is `start`
 abbrev pub IsEvidenceAt : Game → List Bool → List ℕ → ℕ → Evidence → Type 0
 IsEvidenceAt g marks numbers start e =
-    (signatures : List Signature) (trees : ℕ → Tree) (rows : List Row) → IsGameOfRows signatures trees rows g →
-    AreNumbers rows marks numbers → (n : ℕ) → IsReached rows n → vertex_of rows n ≡ start → Shows signatures trees n e
+    (signatures : List Signature) (trees : ℕ → Tree) (rows : List Row) →
+    IsGameOfRows signatures trees rows g →
+    AreNumbers rows marks numbers → (n : ℕ) → IsReached rows n → vertex_of rows n ≡ start
+    → Shows signatures trees n e

@@ -1,5 +1,6 @@
 -- The graph that the winner's plays from a vertex give, over the vertices of instances.
-use Rattle.std.specs.Prelude.{◌≡◌, ℕ, ◌+◌, ◌<◌, ◌≤◌, Bool, List, [], ◌∷◌, ◌++◌, length, slice_index, Contains}
+use Rattle.std.specs.Prelude.{◌≡◌, ℕ, ◌+◌, ◌<◌, ◌≤◌, Bool, List, [], ◌∷◌, ◌++◌, length, slice_index}
+use Rattle.std.specs.Prelude.{Contains}
 use Rattle.pb_game.specs.declared.Game.{Game}
 use Rattle.pb_game.specs.Adjacency.{row}
 use Rattle.pb_game.specs.Games.{vertex_count}
@@ -17,12 +18,14 @@ pub record IsNext (g : Game) (s : Solution) (marks : List Bool) (v u : ℕ) : Ty
   pub leads : LeadsTo g s marks v u
 
 -- the list has the instances' vertices to which v leads next, and no others
-pub record ListsNext (g : Game) (s : Solution) (marks : List Bool) (v : ℕ) (list : List ℕ) : Type 0 where
+pub record ListsNext (g : Game) (s : Solution) (marks : List Bool) (v : ℕ) (list : List ℕ)
+    : Type 0 where
   pub some : (u : ℕ) → Contains list u → IsNext g s marks v u
   pub all : (u : ℕ) → IsNext g s marks v u → Contains list u
 
 -- v was visited: its row stands behind the others, and what is in it was found
-pub record Visits (g : Game) (s : Solution) (marks : List Bool) (v : ℕ) (old new : Exploration) : Type 0 where
+pub record Visits (g : Game) (s : Solution) (marks : List Bool) (v : ℕ) (old new : Exploration)
+    : Type 0 where
   pub list : List ℕ
   pub next : ListsNext g s marks v list
   pub listed : new.dependencies.items ≡ old.dependencies.items ++ list
@@ -30,7 +33,8 @@ pub record Visits (g : Game) (s : Solution) (marks : List Bool) (v : ℕ) (old n
   pub reached : Gains (λ u. IsNext g s marks v u) old.reached new.reached
 
 -- the first k of the vertices that were found were visited
-pub record IsExploring (g : Game) (s : Solution) (marks : List Bool) (start k : ℕ) (e : Exploration) : Type 0 where
+pub record IsExploring (g : Game) (s : Solution) (marks : List Bool) (start k : ℕ) (e : Exploration)
+    : Type 0 where
   pub found : IsFound e.reached
   pub width : length e.reached.marks.items ≡ vertex_count g
   pub bound : k ≤ length e.reached.vertices.items
@@ -38,8 +42,11 @@ pub record IsExploring (g : Game) (s : Solution) (marks : List Bool) (start k : 
   pub last : slice_index e.places.items k ≡ length e.dependencies.items
   pub within : (j : ℕ) → j ≤ k → slice_index e.places.items j ≤ length e.dependencies.items
   pub ordered : (j : ℕ) → j < k → slice_index e.places.items j ≤ slice_index e.places.items (j + 1)
-  pub rows : (j : ℕ) → j < k → ListsNext g s marks (slice_index e.reached.vertices.items j) (row e.places.items e.dependencies.items j)
-  pub closed : (j u : ℕ) → j < k → Contains (row e.places.items e.dependencies.items j) u → Contains e.reached.vertices.items u
+  pub rows : (j : ℕ) → j < k
+      → ListsNext g s marks (slice_index e.reached.vertices.items j)
+      (row e.places.items e.dependencies.items j)
+  pub closed : (j u : ℕ) → j < k → Contains (row e.places.items e.dependencies.items j) u
+      → Contains e.reached.vertices.items u
   pub ahead : IsBreadthFirst e.reached.vertices.items e.places.items e.dependencies.items k
   pub known : (u : ℕ) → Contains e.dependencies.items u → Contains e.reached.vertices.items u
   pub marked : (u : ℕ) → Contains e.reached.vertices.items u → IsMarked marks u

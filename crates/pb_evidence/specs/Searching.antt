@@ -1,5 +1,5 @@
--- To which vertices the winner's play from a vertex leads before it comes to another instance's vertex. Marks stand at the
--- vertices of instances.
+-- To which vertices the winner's play from a vertex leads before it comes to another instance's
+-- vertex. Marks stand at the vertices of instances.
 use Rattle.std.specs.Prelude.{◌≡◌, ℕ, Bool, List, length, Contains}
 use Rattle.pb_game.specs.declared.Game.{Game}
 use Rattle.pb_game.specs.Games.{vertex_count, priority_of}
@@ -19,7 +19,8 @@ abbrev pub LeadsTo : Game → Solution → List Bool → ℕ → ℕ → Type 0
 LeadsTo g s marks v u = (over : List ℕ) × IsKeptPath g s (IsOpen g marks) v over u
 
 -- the vertices to which v leads are found, and no others
-pub record IsSearched (g : Game) (s : Solution) (marks : List Bool) (v : ℕ) (f : Found) : Type 0 where
+pub record IsSearched (g : Game) (s : Solution) (marks : List Bool) (v : ℕ) (f : Found)
+    : Type 0 where
   pub found : IsFound f
   pub width : length f.marks.items ≡ vertex_count g
   pub some : (u : ℕ) → Contains f.vertices.items u → LeadsTo g s marks v u

@@ -1,6 +1,6 @@
 //! To which vertices the winner's play from a vertex leads, over vertices of brackets alone.
 
-ghost use Rattle.std.specs.Prelude.{◌≡◌, ℕ, ◌<◌, ◌↔◌, length, IsTrue, OnOk, []};
+ghost use Rattle.std.specs.Prelude.{◌≡◌, ◌<◌, ◌↔◌, length, IsTrue, OnOk, []};
 ghost use Rattle.pb_game.specs.Games.{vertex_count, owner_of};
 ghost use Rattle.pb_game_certificate.specs.Solutions.{winner_of, choice_of, HasLengths};
 ghost use Rattle.pb_game_certificate.specs.Certificates.{IsKept};

@@ -5,6 +5,8 @@ use Rattle.pb_game.specs.declared.Game.{Game}
 use Rattle.pb_game.specs.declared.parts.Parts.{Parts}
 use Rattle.pb_game.specs.declared.parts.GameError.{GameError}
 use Rattle.pb_game.specs.declared.parts.GameError.TheVariants.{Memory, TooManyVertices, Owners, Priorities, Places, Successors, TooManyPriorities}
+use Rattle.pb_game.specs.declared.parts.PartsFault.{PartsFault}
+use Rattle.pb_game.specs.declared.parts.PartsFault.TheVariants as fault
 use Rattle.pb_game.specs.Adjacency.{row}
 use Rattle.pb_game.specs.Games.{vertex_count, owner_of, priority_of, successors_of}
 
@@ -44,6 +46,15 @@ pub record AreGame (p : Parts) : Type 0 where
   pub places : HasPlaces p
   pub successors : HasSuccessors p
   pub few_priorities : HasFewPriorities p
+
+-- the error that names a fault of parts
+abbrev pub error_of : PartsFault → GameError
+error_of fault.TooManyVertices = TooManyVertices
+error_of fault.Owners = Owners
+error_of fault.Priorities = Priorities
+error_of fault.Places = Places
+error_of fault.Successors = Successors
+error_of fault.TooManyPriorities = TooManyPriorities
 
 -- the first of the six that fails, in this order
 abbrev pub Refuses : Parts → GameError → Type 0

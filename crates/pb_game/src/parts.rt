@@ -71,6 +71,34 @@ impl fmt::Display for GameError {
 
 impl std::error::Error for GameError {}
 
+/// What is wrong with parts, which is found without memory.
+#[derive(Debug, Drop)]
+pub(crate) enum PartsFault {
+    TooManyVertices,
+    Owners,
+    Priorities,
+    Places,
+    Successors,
+    TooManyPriorities,
+}
+
+impl From<PartsFault> for GameError {
+    ghost use Rattle.pb_game.specs.Parts.{error_of};
+
+    ghost from_gives = { λ fault made. made ≡ error_of fault };
+
+    fn from(fault: PartsFault) -> Self {
+        match fault {
+            PartsFault::TooManyVertices => GameError::TooManyVertices,
+            PartsFault::Owners => GameError::Owners,
+            PartsFault::Priorities => GameError::Priorities,
+            PartsFault::Places => GameError::Places,
+            PartsFault::Successors => GameError::Successors,
+            PartsFault::TooManyPriorities => GameError::TooManyPriorities,
+        }
+    }
+}
+
 impl From<AllocError> for GameError {
     ghost from_gives = { λ error made. made ≡ Memory error };
 
@@ -80,34 +108,34 @@ impl From<AllocError> for GameError {
 }
 
 impl Parts {
-    ghost use Rattle.pb_game.specs.Parts.{AreGame, HasPlaces, HasSuccessors, Refuses};
+    ghost use Rattle.pb_game.specs.Parts.{AreGame, HasPlaces, HasSuccessors, Refuses, error_of};
 
     /// Tests that the parts make a game.
-    pub(crate) fn check(&self) -> Result<(), GameError>
+    pub(crate) fn check(&self) -> Result<(), PartsFault>
         ensures ok { IfOk result (λ _. AreGame self.now) }
-        ensures refused { IfErr result (λ error. Refuses self.now error) }
+        ensures refused { IfErr result (λ fault. Refuses self.now (error_of fault)) }
     {
         if self.owners.len() > crate::Game::LIMIT {
-            return Err(GameError::TooManyVertices);
+            return Err(PartsFault::TooManyVertices);
         }
         if !self.owners.iter().all(|&owner| owner < 2) {
-            return Err(GameError::Owners);
+            return Err(PartsFault::Owners);
         }
         if self.priorities.len() != self.owners.len() {
-            return Err(GameError::Priorities);
+            return Err(PartsFault::Priorities);
         }
         if !self.has_places() {
-            return Err(GameError::Places);
+            return Err(PartsFault::Places);
         }
         if !self.has_successors() {
-            return Err(GameError::Successors);
+            return Err(PartsFault::Successors);
         }
         if !self
             .priorities
             .iter()
             .all(|&priority| priority < crate::Game::PRIORITY_LIMIT)
         {
-            return Err(GameError::TooManyPriorities);
+            return Err(PartsFault::TooManyPriorities);
         }
         Ok(())
     }

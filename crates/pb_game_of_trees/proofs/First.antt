@@ -1,6 +1,7 @@
 -- The tokens of what is open, one after the other.
 use Rattle.std.proofs.Common.{◌≡◌, ℕ, zero, suc, ◌<◌, ◌≤◌, List, [], ◌∷◌, ◌++◌, length, get_or, drop, Option, Some, None, refl, sym, ap, ◌∙◌, subst, append_assoc, arith}
 use Rattle.std.specs.Prelude.{slice_get}
+use Rattle.std.proofs.Math.Seq.{drop-length}
 use Rattle.pb_trees.specs.declared.Token.{Token}
 use Rattle.pb_trees.specs.declared.Token.TheVariants as token
 use Rattle.pb_trees.specs.Tree.{Connective, Conjunction, Disjunction, Leaf, Yes, No, Cut, Call, Operands, End, LeafThen, BracketThen, Tree, Single, Root, OperandsCall, TreeCalls}
@@ -153,13 +154,9 @@ nothing_left : (fs : List Operands) → rest_tokens fs ≡ [] → fs ≡ []
 nothing_left [] e = refl
 nothing_left (f ∷ fs) e = absurd (some_left fs f e)
 
-drop-all : (xs : List Token) → drop (length xs) xs ≡ []
-drop-all [] = refl
-drop-all (x ∷ xs) = drop-all xs
-
 -- behind all tokens nothing is open
 pub rest_at-all : (fs : List Operands) → rest_at (length (rest_tokens fs)) fs ≡ []
-rest_at-all fs = nothing_left (rest_at (length (rest_tokens fs)) fs) (rest_tokens-at (length (rest_tokens fs)) fs ∙ drop-all (rest_tokens fs))
+rest_at-all fs = nothing_left (rest_at (length (rest_tokens fs)) fs) (rest_tokens-at (length (rest_tokens fs)) fs ∙ drop-length (rest_tokens fs))
 
 -- ---- what holds behind each token
 

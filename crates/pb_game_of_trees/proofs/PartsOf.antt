@@ -5,7 +5,7 @@ use Rattle.std.specs.List.Sorted.{IsStrictlyIncreasing}
 use Rattle.std.proofs.lemmas.List.{get_or-map, length-map, take_at, drop_at, take-append-drop, take_all, get_or_default}
 use Rattle.std.proofs.lemmas.List.Elements.{All-append}
 use Rattle.std.proofs.lemmas.List.Concat.{flat_map-append}
-use Rattle.std.proofs.lemmas.Option.{get_or_from_slice_get, slice_get-get_or}
+use Rattle.std.proofs.lemmas.Option.{slice_get_within, get_or_from_slice_get, slice_get-get_or}
 use Rattle.pb_trees.specs.Game.{Vertex}
 use Rattle.pb_game.specs.declared.Game.{Game}
 use Rattle.pb_game.specs.declared.parts.Parts.{Parts}
@@ -43,11 +43,6 @@ at_vertex (y ∷ vs) (suc v) x e =
     let n : suc v + 1 ≡ suc (v + 1) = omega arith in
     at_vertex vs v x e ∙ ap (λ (k : ℕ). x ∷ drop k (y ∷ vs)) (sym n)
 
-pub within : (vs : List Vertex) (v : ℕ) (x : Vertex) → slice_get vs v ≡ Some x → v < length vs
-within [] v x e = cc
-within (y ∷ vs) zero x e = omega arith
-within (y ∷ vs) (suc v) x e = omega (arith, within vs v x e)
-
 -- x's successors stand between those before it and those behind it
 cut : (before here behind : List ℕ) (i j : ℕ) → i ≡ length before → j ≡ length before + length here → slice_range (before ++ (here ++ behind)) i j ≡ here
 cut before here behind i j e f =
@@ -57,7 +52,7 @@ cut before here behind i j e f =
 place-more : (vs : List Vertex) (v : ℕ) (x : Vertex) → slice_get vs v ≡ Some x →
     length (successors (take (v + 1) vs)) ≡ length (successors (take v vs)) + length x.successors
 place-more vs v x e =
-    let l = within vs v x e in
+    let l = slice_get_within vs v x e in
     let now = ap length (parted vs v) in
     let now_parts = length-append (successors (take v vs)) (successors (drop v vs)) in
     let next = ap length (parted vs (v + 1)) in
@@ -68,7 +63,7 @@ place-more vs v x e =
 
 pub row_is : (vs : List Vertex) (v : ℕ) (x : Vertex) → slice_get vs v ≡ Some x → row (places vs) (successors vs) v ≡ x.successors
 row_is vs v x e =
-    let l = within vs v x e in
+    let l = slice_get_within vs v x e in
     let from = place-at vs v 0 (omega arith) in
     let to = place-at vs (v + 1) 0 (omega arith) ∙ place-more vs v x e in
     let list : successors vs ≡ successors (take v vs) ++ (x.successors ++ successors (drop (v + 1) vs)) =
@@ -142,7 +137,7 @@ has_vertices vs p g is game =
     record {
       count = game.vertices ∙ count;
       each = λ v x e.
-          let l = within vs v x e in
+          let l = slice_get_within vs v x e in
           let at : get_or vs v none ≡ x = get_or_from_slice_get vs v x none e in
           record {
             owner = game.owner v (omega arith) ∙ (ap (λ (xs : List ℕ). get_or xs v 0) is.owner ∙ (get_or-map (λ (y : Vertex). y.owner) vs v none 0 l ∙ ap (λ (y : Vertex). y.owner) at));

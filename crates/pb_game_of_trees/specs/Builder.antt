@@ -1,8 +1,10 @@
 -- What a builder has read of a tree: the operands that stand behind the tokens not yet read.
-use Rattle.std.specs.Prelude.{◌≡◌, ℕ, zero, suc, ◌+◌, ◌<◌, List, [], ◌∷◌, ◌++◌, length, reverse, Option, None, Some, slice_get}
+use Rattle.std.specs.Prelude.{◌≡◌, ℕ, zero, suc, ◌+◌, ◌<◌, List, [], ◌∷◌, ◌++◌, length, reverse}
+use Rattle.std.specs.Prelude.{Option, None, Some, slice_get}
 use Rattle.pb_trees.specs.declared.Token.{Token}
 use Rattle.pb_trees.specs.declared.Token.TheVariants as token
-use Rattle.pb_trees.specs.Tree.{Connective, Conjunction, Disjunction, Operands, End, LeafThen, BracketThen, Tree, Single, Root}
+use Rattle.pb_trees.specs.Tree.{Connective, Conjunction, Disjunction, Operands, End, LeafThen}
+use Rattle.pb_trees.specs.Tree.{BracketThen, Tree, Single, Root}
 use Rattle.pb_trees.specs.Tokens.{opening, leaf_token, operands_tokens, tree_tokens}
 use Rattle.pb_trees.specs.Game.{Vertex, brackets, targets, inner, inner_vertices, tree_vertices}
 use Rattle.pb_game_of_trees.specs.declared.bracket.Bracket.{Bracket}
@@ -14,7 +16,8 @@ abbrev pub connective : Bracket → Connective
 connective And = Conjunction
 connective Or = Disjunction
 
--- In the following, `fs` are the operands that are left of each open bracket, the innermost bracket's first.
+-- In the following, `fs` are the operands that are left of each open bracket, the innermost
+-- bracket's first.
 
 -- the token before which they stand is read next, and so on: those behind the first of their tokens
 abbrev pub behind_first : List Operands → List Operands
@@ -52,12 +55,14 @@ rest_brackets (f ∷ fs) = brackets f + rest_brackets fs
 -- where they lead, as a builder keeps it, the vertices of their brackets beginning at next
 abbrev pub rest_targets : (ℕ → ℕ) → List Operands → ℕ → List ℕ
 rest_targets at [] next = []
-rest_targets at (f ∷ fs) next = rest_targets at fs (next + brackets f) ++ reverse (targets at f next)
+rest_targets at (f ∷ fs) next =
+    rest_targets at fs (next + brackets f) ++ reverse (targets at f next)
 
 -- where there each bracket's targets begin
 abbrev pub rest_starts : (ℕ → ℕ) → List Operands → ℕ → List ℕ
 rest_starts at [] next = []
-rest_starts at (f ∷ fs) next = rest_starts at fs (next + brackets f) ++ length (rest_targets at fs (next + brackets f)) ∷ []
+rest_starts at (f ∷ fs) next =
+    rest_starts at fs (next + brackets f) ++ length (rest_targets at fs (next + brackets f)) ∷ []
 
 -- the vertices of their brackets
 abbrev pub rest_vertices : (ℕ → ℕ) → List Operands → ℕ → List Vertex
@@ -65,7 +70,8 @@ rest_vertices at [] next = []
 rest_vertices at (f ∷ fs) next = inner_vertices at f next ++ rest_vertices at fs (next + brackets f)
 
 -- the builder has read them, the vertices behind theirs being these, from `limit` on
-pub record IsAt (at : ℕ → ℕ) (builder : Builder) (fs : List Operands) (behind : List Vertex) (limit : ℕ) : Type 0 where
+pub record IsAt (at : ℕ → ℕ) (builder : Builder) (fs : List Operands) (behind : List Vertex)
+    (limit : ℕ) : Type 0 where
   pub targets : builder.targets.items ≡ rest_targets at fs builder.next
   pub starts : builder.starts.items ≡ rest_starts at fs builder.next
   pub draft : IsDraft builder.draft (rest_vertices at fs builder.next ++ behind)
@@ -77,14 +83,16 @@ pub record HasFrame (builder : Builder) (front outer operands : List ℕ) : Type
   pub starts : builder.starts.items ≡ outer ++ length front ∷ []
 
 -- the innermost open bracket has its vertex
-pub record HasFinished (old new : Builder) (front outer : List ℕ) (vertices : List Vertex) : Type 0 where
+pub record HasFinished (old new : Builder) (front outer : List ℕ) (vertices : List Vertex)
+    : Type 0 where
   pub targets : new.targets.items ≡ front
   pub starts : new.starts.items ≡ outer
   pub draft : IsDraft new.draft vertices
   pub next : new.next ≡ old.next
 
 -- the builder has read a whole tree, the vertices behind its being these, from `limit` on
-pub record HasTree (at : ℕ → ℕ) (builder : Builder) (priority : ℕ) (tree : Tree) (behind : List Vertex) (limit : ℕ) : Type 0 where
+pub record HasTree (at : ℕ → ℕ) (builder : Builder) (priority : ℕ) (tree : Tree)
+    (behind : List Vertex) (limit : ℕ) : Type 0 where
   pub targets : builder.targets.items ≡ []
   pub starts : builder.starts.items ≡ []
   pub draft : IsDraft builder.draft (tree_vertices at priority tree builder.next ++ behind)
@@ -101,11 +109,13 @@ CallsBelow count token.No = Unit {0}
 CallsBelow count token.Cut = Unit {0}
 
 -- the builder has read what is behind this token
-pub record IsBefore (at : ℕ → ℕ) (builder : Builder) (fs : List Operands) (next_token : Token) (behind : List Vertex) (limit : ℕ) : Type 0 where
+pub record IsBefore (at : ℕ → ℕ) (builder : Builder) (fs : List Operands) (next_token : Token)
+    (behind : List Vertex) (limit : ℕ) : Type 0 where
   pub first : first_token fs ≡ Some next_token
   pub rest : IsAt at builder (behind_first fs) behind limit
 
 -- the builder has read what is behind the first token of a tree, which is this one
-pub record IsBeforeFirst (at : ℕ → ℕ) (builder : Builder) (tree : Tree) (next_token : Token) (behind : List Vertex) (limit : ℕ) : Type 0 where
+pub record IsBeforeFirst (at : ℕ → ℕ) (builder : Builder) (tree : Tree) (next_token : Token)
+    (behind : List Vertex) (limit : ℕ) : Type 0 where
   pub first : slice_get (tree_tokens tree) 0 ≡ Some next_token
   pub rest : IsAt at builder (opened tree) behind limit

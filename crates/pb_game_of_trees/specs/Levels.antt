@@ -7,7 +7,9 @@ use Rattle.pb_game_of_trees.specs.declared.levels.Level.{Level}
 -- the level of each equation, where the numbers of the first one's instances begin at first
 abbrev pub levels_from : ℕ → List Signature → List Level
 levels_from first [] = []
-levels_from first (s ∷ signatures) = record { end = first + s.size; priority = first_priority (s ∷ signatures) } ∷ levels_from (first + s.size) signatures
+levels_from first (s ∷ signatures) =
+    record { end = first + s.size; priority = first_priority (s ∷ signatures) }
+    ∷ levels_from (first + s.size) signatures
 
 -- the priority of the first equation whose numbers end behind n
 abbrev pub priority_in : List Level → ℕ → ℕ

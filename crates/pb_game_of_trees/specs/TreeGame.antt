@@ -10,13 +10,16 @@ use Rattle.pb_game_meaning.specs.Meaning.{IsGameOfRows}
 use Rattle.pb_game_of_trees.specs.declared.tree_game.TreeGame.{TreeGame}
 
 -- the game of reached instances, with the vertex of each and that of the initial one
-pub record IsTreeGame (signatures : List Signature) (trees : ℕ → Tree) (reached : List plain.Row) (initial : ℕ) (built : TreeGame) : Type 0 where
+pub record IsTreeGame (signatures : List Signature) (trees : ℕ → Tree) (reached : List plain.Row)
+    (initial : ℕ) (built : TreeGame) : Type 0 where
   pub game : IsGameOfRows signatures trees reached built.game
-  pub vertices : built.vertices.items ≡ map (λ (row : plain.Row). vertex_of reached row.number) reached
+  pub vertices : built.vertices.items
+      ≡ map (λ (row : plain.Row). vertex_of reached row.number) reached
   pub start : built.start ≡ vertex_of reached initial
 
 -- the rows are a system's, and some row has the initial instance
-pub record AreRowsFrom (signatures : List Signature) (trees : ℕ → Tree) (rows : List Row) (initial : ℕ) : Type 0 where
+pub record AreRowsFrom (signatures : List Signature) (trees : ℕ → Tree) (rows : List Row)
+    (initial : ℕ) : Type 0 where
   pub are : AreRowsOf signatures trees rows
   pub found : Contains (numbers_of rows) initial
 
@@ -27,7 +30,8 @@ HaveTrees signatures rows initial = (trees : ℕ → Tree) × AreRowsFrom signat
 -- with whichever trees that is so, it is the game of the rows
 abbrev pub IsGameOf : List Signature → List Row → ℕ → TreeGame → Type 0
 IsGameOf signatures rows initial built =
-    (trees : ℕ → Tree) → AreRowsFrom signatures trees rows initial → IsTreeGame signatures trees (rows_of trees rows) initial built
+    (trees : ℕ → Tree) → AreRowsFrom signatures trees rows initial
+    → IsTreeGame signatures trees (rows_of trees rows) initial built
 
 -- the game of the rows has more vertices than a game may have
 abbrev pub IsTooLarge : List Signature → (ℕ → Tree) → List Row → Type 0
@@ -36,4 +40,5 @@ IsTooLarge signatures trees rows = 16777216 < length (game_vertices signatures (
 -- it is refused exactly where it is too large
 abbrev pub IsRefusedExactly : Type 0 → List Signature → List Row → Type 0
 IsRefusedExactly refused signatures rows =
-    (trees : ℕ → Tree) → AreRowsOf signatures trees rows → refused ↔ IsTooLarge signatures trees rows
+    (trees : ℕ → Tree) → AreRowsOf signatures trees rows
+    → refused ↔ IsTooLarge signatures trees rows

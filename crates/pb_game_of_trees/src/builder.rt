@@ -1,7 +1,7 @@
 //! A game that is built from its last vertex to its first. The tokens of a tree are read from the
 //! last one to the first, so that a bracket's operands are known when its opening token comes, and
 //! its vertex goes before those of the brackets inside it.
-ghost use Rattle.std.specs.Prelude.{◌≡◌, ◌∷◌, ◌++◌, ◌<◌, ◌≤◌, ℕ, OnOk, List, [], reverse, length};
+ghost use Rattle.std.specs.Prelude.{◌≡◌, ◌∷◌, ◌<◌, ◌≤◌, ℕ, OnOk, List, [], length};
 ghost use Rattle.std.specs.Prelude.{slice_index};
 ghost use Rattle.pb_trees.specs.Tree.{Operands, End, LeafThen, BracketThen, Leaf, Root, Single};
 ghost use Rattle.pb_trees.specs.Tree.{Tree, TreeCalls};

@@ -1,7 +1,6 @@
 //! The vertices of all rows, from the last row to the first.
-ghost use Rattle.std.specs.Prelude.{◌≡◌, ◌∷◌, ◌≤◌, ◌<◌, IfOk, List, Contains, length, slice_index};
+ghost use Rattle.std.specs.Prelude.{◌≡◌, ◌∷◌, ◌≤◌, ◌<◌, IfOk, List, length, slice_index};
 ghost use Rattle.pb_trees.specs.Rows.{Row as plain_row};
-ghost use Rattle.pb_trees.specs.Tree.{TreeCalls};
 ghost use Rattle.pb_trees.specs.Game.{row_vertices, false_sink, true_sink};
 ghost use Rattle.pb_game_of_trees.specs.Held.{Hold};
 ghost use Rattle.pb_game_of_trees.specs.Draft.{IsDraft};

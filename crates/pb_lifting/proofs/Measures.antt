@@ -1,8 +1,9 @@
 -- The least rank: it is monotone, at most every measure, and where no lift raises a word the words are a measure.
 use Rattle.std.proofs.Common.{◌≡◌, ◌⊎◌, ℕ, zero, suc, ◌+◌, ◌-◌, ◌*◌, ◌/◌, ◌%◌, ◌<◌, ◌≤◌, ◌==◌, if◌then◌else◌, Bool, true, false, min, List, length, replicate, set, length-set, refl, ap, ◌∙◌, inl, inr, ⊎_elim, eq-eqb, ne_eqb, div-mul-le_self, arith}
 use Rattle.std.specs.Prelude.{slice_index, Contains}
-use Rattle.std.proofs.lemmas.Nat.{le-div, div_below}
-use Rattle.std.proofs.lemmas.List.{get_or_default, get_or-set_same, get_or-set_other, length-replicate}
+use Rattle.std.proofs.lemmas.Nat.{le-div}
+use Rattle.std.proofs.lemmas.List.{get_or_past, get_or-replicate, get_or_default, get_or-set_same, get_or-set_other, length-replicate}
+use Rattle.std.proofs.lemmas.Bool.{cases_lt}
 use mathlib.Core.Logic.{dite}
 use native.Mathlib.Decide.{ℕ_discrete}
 use Rattle.pb_game.specs.declared.Game.{Game}
@@ -119,19 +120,8 @@ module _ (g : Game) (player : ℕ) where
   pub least_below : (known : List ℕ) (v : ℕ) → least_rank g player known v ≤ top_of g player
   least_below known v = best_below (owner_of g v == player) (top_of g player) (asked_by g player known v) (length (successors_of g v)) (λ j _. asked_below v _)
 
-  -- below a multiple, one step stays at most the multiple
-  step_fits : (u m s more : ℕ) → 0 < u → more ≤ 1 → s < m * u → (s / u + more) * u ≤ m * u
-  step_fits u m s more pos h b = let d = div_below s u m pos b in mul_grows (s / u + more) m u (omega arith)
-
   step_top : (u m s more : ℕ) → 0 < u → m * u ≤ s → m * u ≤ (s / u + more) * u
   step_top u m s more pos b = let d = le-div m s u pos b in mul_grows m (s / u + more) u (omega arith)
-
-  more_small : (p : ℕ) → more_of player p ≤ 1
-  more_small p = by_test (p % 2 == player)
-    where
-      by_test : (b : Bool) → (if b then 0 else 1) ≤ 1
-      by_test true = omega arith
-      by_test false = omega arith
 
   -- top asks for top
   pub asked_top : (v s : ℕ) → priority_of g v ≤ priority_count g → top_of g player ≤ s → asked g player v s ≡ top_of g player
@@ -196,13 +186,8 @@ module _ (g : Game) (player : ℕ) where
   -- the ranks that are all top are a measure, so words below all measures are at most top
   falls_to : (m : List ℕ) (v u : ℕ) → v < vertex_count g → slice_index m v < top_of g player → asked g player v (slice_index m u) ≤ slice_index m v → FallsTo g player m v u
   falls_to m v u h l a =
-      let low : slice_index m u < top_of g player = ⊎_elim (λ (x : slice_index m u < top_of g player). x) (λ (x : top_of g player ≤ slice_index m u). let t = asked_top v (slice_index m u) (inside v h) x in absurd (omega arith)) (lower (slice_index m u) (top_of g player)) in
+      let low : slice_index m u < top_of g player = ⊎_elim (λ (x : slice_index m u < top_of g player). x) (λ (x : top_of g player ≤ slice_index m u). let t = asked_top v (slice_index m u) (inside v h) x in absurd (omega arith)) (cases_lt (slice_index m u) (top_of g player)) in
       (low, meets v (slice_index m v) (slice_index m u) (inside v h) l low a)
-    where
-      lower : (a b : ℕ) → (a < b) ⊎ (b ≤ a)
-      lower a zero = inr (omega arith)
-      lower zero (suc b) = inl (omega arith)
-      lower (suc a) (suc b) = ⊎_elim (λ h. inl (omega arith)) (λ h. inr (omega arith)) (lower a b)
 
   -- ranks that no lift raises are a measure
   pub fixed_is_measure : (m : List ℕ) → length m ≡ vertex_count g → ((v : ℕ) → slice_index m v ≤ top_of g player) → IsFixed g player m → IsMeasure g player m
@@ -245,13 +230,8 @@ module _ (g : Game) (player : ℕ) where
   all_top : IsMeasure g player (replicate (vertex_count g) (top_of g player))
   all_top = record {
     sized = length-replicate {A = ℕ} (vertex_count g) (top_of g player);
-    ranked = λ v h. inl (top_at (vertex_count g) v h);
+    ranked = λ v h. inl (get_or-replicate (vertex_count g) v (top_of g player) 0 h);
   }
-    where
-      top_at : (n v : ℕ) → v < n → slice_index (replicate n (top_of g player)) v ≡ top_of g player
-      top_at zero v h = absurd (omega arith)
-      top_at (suc n) zero h = refl
-      top_at (suc n) (suc v) h = top_at n v (omega arith)
 
   never_above : (n v : ℕ) → slice_index (replicate n (top_of g player)) v ≤ top_of g player
   never_above zero v = omega arith
@@ -260,12 +240,7 @@ module _ (g : Game) (player : ℕ) where
 
   -- the word behind the vertices is 0
   pub last_is_zero : (words : List ℕ) (n : ℕ) → n ≡ vertex_count g → IsBelowAll g player words → slice_index words n ≡ 0
-  last_is_zero words n at below = let b = below _ all_top n in let z = behind (vertex_count g) n (omega arith) in omega arith
-    where
-      behind : (count n : ℕ) → count ≤ n → slice_index (replicate count (top_of g player)) n ≡ 0
-      behind zero n h = refl
-      behind (suc count) zero h = absurd (omega arith)
-      behind (suc count) (suc n) h = behind count n (omega arith)
+  last_is_zero words n at below = let b = below _ all_top n in let z = get_or_past (replicate (vertex_count g) (top_of g player)) n 0 (omega (arith, at, all_top.sized)) in omega arith
 
   -- words that no lift raises are the least measure
   pub fixed_is_least : (words : List ℕ) → AreWords g player words → IsFixed g player words → IsLeastMeasure g player words

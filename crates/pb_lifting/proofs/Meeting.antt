@@ -1,6 +1,5 @@
 -- The counts of a rank, those of top being 0, and when an edge meets the edge condition on them.
-use Rattle.std.proofs.Common.{◌≡◌, ◌≢◌, ℕ, ◌%◌, ◌<◌, ◌≤◌, ◌==◌, if◌then◌else◌, Bool, true, false, List, sym, refl, ap, ◌∙◌, subst, ⊎_elim, eq-eqb, ne_eqb, arith}
-use Rattle.std.specs.Prelude.{slice_index}
+use Rattle.std.proofs.Common.{◌≡◌, ◌≢◌, ℕ, ◌%◌, ◌<◌, ◌≤◌, ◌==◌, if◌then◌else◌, Bool, true, false, sym, refl, ap, ◌∙◌, subst, eq-eqb, ne_eqb, arith}
 use Rattle.std.proofs.Math.Nat.{zero-div, zero-mod}
 use mathlib.Core.Logic.{dite}
 use native.Mathlib.Decide.{ℕ_discrete}
@@ -8,7 +7,7 @@ use Rattle.pb_game.specs.declared.Game.{Game}
 use Rattle.pb_game.specs.Games.{vertex_count, priority_of, priority_count}
 use Rattle.pb_game_certificate.specs.Certificates.{IsProgress}
 use Rattle.pb_lifting.specs.Radix.{unit}
-use Rattle.pb_lifting.specs.Measures.{base_of, top_of, counts_of, asked, IsMeasure}
+use Rattle.pb_lifting.specs.Measures.{base_of, top_of, counts_of, asked}
 use Rattle.pb_lifting.specs.Solutions.{count_by_rank}
 use Rattle.pb_lifting.proofs.Measures.{meets, asks, inside}
 
@@ -55,7 +54,3 @@ module _ (g : Game) (player : ℕ) where
   needed v r s own h e rl sl p =
       let b = counted_below r (omega arith) rl in
       let a = asks g player v (counted r) s (inside g player v h) b sl (subst (λ x. x) (sym (same_progress v r s sl)) p) in omega arith
-
-  -- no rank of a measure is above top
-  pub measure_low : (m : List ℕ) → IsMeasure g player m → (v : ℕ) → v < vertex_count g → slice_index m v ≤ top_of g player
-  measure_low m is v h = ⊎_elim (λ e. omega arith) (λ l. let b = l.0 in omega arith) (is.ranked v h)

@@ -3,6 +3,7 @@ use Rattle.std.proofs.Common.{◌≡◌, ◌≢◌, ◌⊎◌, ℕ, zero, suc, �
 use Rattle.std.proofs.lemmas.Nat.{mul-le, mul-add-lt, mod-mul-add, div-mul-add, div_below, le-div, mod_below}
 use Rattle.std.proofs.Math.Nat.{mul-add-div_right}
 use Rattle.std.specs.Prelude.{slice_index}
+use Rattle.std.proofs.lemmas.Bool.{cases_lt}
 use mathlib.Core.Logic.{dite}
 use native.Mathlib.Decide.{ℕ_discrete}
 use Rattle.pb_game_certificate.specs.Certificates.{Decreases, IsSame, IsProgress}
@@ -64,12 +65,7 @@ pub step_below : (place top more m : ℕ) → step_up place top more m ≤ top
 step_below place top more m = omega arith
 
 apart : (a b : ℕ) → a ≢ b → (a < b) ⊎ (b < a)
-apart a b ne = ⊎_elim (λ (l : a ≤ b). inl (omega arith)) (λ (l : b < a). inr l) (le_or_lt a b)
-  where
-    le_or_lt : (a b : ℕ) → (a ≤ b) ⊎ (b < a)
-    le_or_lt zero b = inl (omega arith)
-    le_or_lt (suc a) zero = inr (omega arith)
-    le_or_lt (suc a) (suc b) = ⊎_elim (λ h. inl (omega arith)) (λ h. inr (omega arith)) (le_or_lt a b)
+apart a b ne = ⊎_elim (λ (l : b < a). inr l) (λ (l : a ≤ b). inl (omega arith)) (cases_lt b a)
 
 pub units_length : (base : ℕ → ℕ) (w : ℕ) → length (units base w) ≡ w + 1
 units_length base zero = refl

@@ -3,6 +3,7 @@
 use Rattle.std.proofs.Common.{◌≡◌, ◌≢◌, ◌⊎◌, ℕ, zero, suc, ◌+◌, ◌%◌, ◌<◌, ◌≤◌, ◌==◌, if◌then◌else◌, Bool, true, false, sym, refl, ap, ◌∙◌, subst, inl, inr, ⊎_elim, eq-eqb, ne_eqb, arith}
 use Rattle.std.proofs.lemmas.Nat.{mod_below}
 use Rattle.std.specs.Prelude.{slice_index}
+use Rattle.std.proofs.lemmas.Bool.{cases_lt}
 use mathlib.Core.Logic.{dite}
 use native.Mathlib.Decide.{ℕ_discrete}
 use Rattle.pb_game.specs.declared.Game.{Game}
@@ -99,14 +100,9 @@ module _ (g : Game) (s t : Solution) (v u : ℕ) where
   -- along an edge on which both measures make progress, both together fall
   falls : (p limit : ℕ) → IsProgress (count_of g s v) (count_of g s u) 0 p limit → IsProgress (count_of g t v) (count_of g t u) 1 p limit → Falls (both g s t v) (both g s t u) limit
   falls p limit (inl d) (inl e) = ⊎_elim
-      (λ (h : d.place ≤ e.place). falls_at_even p limit e (λ r k b o. d.same r (omega arith) b o))
       (λ (h : e.place < d.place). falls_at_odd p limit d (λ r k b o. e.same r (omega arith) b o))
-      (order d.place e.place)
-    where
-      order : (a b : ℕ) → (a ≤ b) ⊎ (b < a)
-      order zero b = inl (omega arith)
-      order (suc a) zero = inr (omega arith)
-      order (suc a) (suc b) = ⊎_elim (λ h. inl (omega arith)) (λ h. inr (omega arith)) (order a b)
+      (λ (h : d.place ≤ e.place). falls_at_even p limit e (λ r k b o. d.same r (omega arith) b o))
+      (cases_lt e.place d.place)
   falls p limit (inl d) (inr e) = falls_at_odd p limit d (λ r k b o. let a = d.above in e.1.same r (omega arith) b o)
   falls p limit (inr d) (inl e) = falls_at_even p limit e (λ r k b o. let a = e.above in d.1.same r (omega arith) b o)
   falls p limit (inr d) (inr e) = let x = d.0 in let y = e.0 in absurd (omega arith)

@@ -3,13 +3,17 @@ use Rattle.std.specs.Prelude.{◌↔◌, ℕ, ◌<◌, ◌≤◌, List, slice_in
 use Rattle.pb_game.specs.declared.Game.{Game}
 use Rattle.pb_game.specs.Games.{vertex_count, priority_of, priority_count}
 use Rattle.pb_game_certificate.specs.Certificates.{IsProgress}
-use Rattle.pb_lifting.specs.Measures.{top_of, counts_of, asked, least_rank, IsMeasure, IsFixed, IsLeastMeasure}
+use Rattle.pb_lifting.specs.Measures.{top_of, counts_of, asked, least_rank, IsMeasure, IsFixed}
+use Rattle.pb_lifting.specs.Measures.{IsLeastMeasure}
 use Rattle.pb_lifting.specs.Sweep.{AreWords}
 
 -- an edge from v makes progress exactly where v's rank is at least what the edge asks for
 abbrev pub EdgesAsk : Type 0
-EdgesAsk = (g : Game) (player v r s : ℕ) → v < vertex_count g → r < top_of g player → s < top_of g player
-    → IsProgress (counts_of g player r) (counts_of g player s) player (priority_of g v) (priority_count g) ↔ (asked g player v s ≤ r)
+EdgesAsk =
+    (g : Game) (player v r s : ℕ) → v < vertex_count g → r < top_of g player → s < top_of g player
+    → IsProgress (counts_of g player r) (counts_of g player s) player (priority_of g v)
+    (priority_count g)
+    ↔ (asked g player v s ≤ r)
 
 -- what is raised from ranks below a measure stays below it
 abbrev pub RaisesStayWithin : Type 0

@@ -1,14 +1,18 @@
--- Measures of a game for a player, and the least rank of a vertex over known ranks of its successors.
-use Rattle.std.specs.Prelude.{◌≡◌, ◌≢◌, ◌⊎◌, ℕ, zero, suc, ◌+◌, ◌%◌, ◌<◌, ◌≤◌, ◌==◌, if◌then◌else◌, List, length, slice_index}
+-- Measures of a game for a player, and the least rank of a vertex over known ranks of its
+-- successors.
+use Rattle.std.specs.Prelude.{◌≡◌, ◌≢◌, ◌⊎◌, ℕ, zero, suc, ◌+◌, ◌%◌, ◌<◌, ◌≤◌, ◌==◌, if◌then◌else◌}
+use Rattle.std.specs.Prelude.{List, length, slice_index}
 use Rattle.pb_game.specs.declared.Game.{Game}
-use Rattle.pb_game.specs.Games.{vertex_count, owner_of, priority_of, successors_of, priority_count, HasEdge}
+use Rattle.pb_game.specs.Games.{vertex_count, owner_of, priority_of, successors_of, priority_count}
+use Rattle.pb_game.specs.Games.{HasEdge}
 use Rattle.pb_game_certificate.specs.Certificates.{IsProgress}
 use Rattle.pb_lifting.specs.Radix.{unit, count_in, step_up, best}
 
 -- how many of the first n vertices have the priority
 abbrev pub vertices_upto : Game → ℕ → ℕ → ℕ
 vertices_upto g q zero = 0
-vertices_upto g q (suc n) = if priority_of g n == q then vertices_upto g q n + 1 else vertices_upto g q n
+vertices_upto g q (suc n) =
+    if priority_of g n == q then vertices_upto g q n + 1 else vertices_upto g q n
 
 -- how many counts there are at a priority: only those of the other parity are counted
 unfoldable pub base_of : Game → ℕ → ℕ → ℕ
@@ -36,7 +40,8 @@ counts_of g player rank = count_in (base_of g player) rank
 -- u's rank is not top, and on an edge from v the counts make progress
 abbrev pub FallsTo : Game → ℕ → List ℕ → ℕ → ℕ → Type 0
 FallsTo g player ranks v u = (slice_index ranks u < top_of g player)
-    × IsProgress (counts_of g player (slice_index ranks v)) (counts_of g player (slice_index ranks u)) player (priority_of g v) (priority_count g)
+    × IsProgress (counts_of g player (slice_index ranks v))
+    (counts_of g player (slice_index ranks u)) player (priority_of g v) (priority_count g)
 
 -- towards some successor where the player moves, and towards every one where the other does
 pub record Falls (g : Game) (player : ℕ) (ranks : List ℕ) (v : ℕ) : Type 0 where
@@ -46,7 +51,8 @@ pub record Falls (g : Game) (player : ℕ) (ranks : List ℕ) (v : ℕ) : Type 0
 pub record IsMeasure (g : Game) (player : ℕ) (ranks : List ℕ) : Type 0 where
   pub sized : length ranks ≡ vertex_count g
   pub ranked : (v : ℕ) → v < vertex_count g →
-      (slice_index ranks v ≡ top_of g player) ⊎ ((slice_index ranks v < top_of g player) × Falls g player ranks v)
+      (slice_index ranks v ≡ top_of g player)
+      ⊎ ((slice_index ranks v < top_of g player) × Falls g player ranks v)
 
 -- where the priority has the other parity the counts have to fall
 abbrev pub more_of : ℕ → ℕ → ℕ
@@ -54,23 +60,30 @@ more_of player p = if p % 2 == player then 0 else 1
 
 -- the least rank of v on an edge to a vertex of this rank
 unfoldable pub asked : Game → ℕ → ℕ → ℕ → ℕ
-asked g player v rank = step_up (unit (base_of g player) (priority_of g v)) (top_of g player) (more_of player (priority_of g v)) rank
+asked g player v rank =
+    step_up (unit (base_of g player) (priority_of g v)) (top_of g player)
+    (more_of player (priority_of g v)) rank
 
 -- what the j-th successor asks for
 abbrev pub asked_by : Game → ℕ → List ℕ → ℕ → ℕ → ℕ
-asked_by g player known v j = asked g player v (slice_index known (slice_index (successors_of g v) j))
+asked_by g player known v j =
+    asked g player v (slice_index known (slice_index (successors_of g v) j))
 
 -- the least rank of v over the known ranks of its successors
 abbrev pub least_rank : Game → ℕ → List ℕ → ℕ → ℕ
-least_rank g player known v = best (owner_of g v == player) (top_of g player) (asked_by g player known v) (length (successors_of g v))
+least_rank g player known v =
+    best (owner_of g v == player) (top_of g player) (asked_by g player known v)
+    (length (successors_of g v))
 
 -- each word is at most the rank of every measure
 abbrev pub IsBelowAll : Game → ℕ → List ℕ → Type 0
-IsBelowAll g player words = (m : List ℕ) → IsMeasure g player m → (v : ℕ) → slice_index words v ≤ slice_index m v
+IsBelowAll g player words =
+    (m : List ℕ) → IsMeasure g player m → (v : ℕ) → slice_index words v ≤ slice_index m v
 
 -- no lift raises a word
 abbrev pub IsFixed : Game → ℕ → List ℕ → Type 0
-IsFixed g player words = (v : ℕ) → v < vertex_count g → least_rank g player words v ≤ slice_index words v
+IsFixed g player words =
+    (v : ℕ) → v < vertex_count g → least_rank g player words v ≤ slice_index words v
 
 -- the ranks are a measure, and no measure is below them anywhere
 abbrev pub IsLeastMeasure : Game → ℕ → List ℕ → Type 0
@@ -78,5 +91,7 @@ IsLeastMeasure g player words = IsMeasure g player words × IsBelowAll g player 
 
 -- laws
 abbrev pub LeastRankIsMonotone : Type 0
-LeastRankIsMonotone = (g : Game) (player : ℕ) (known more : List ℕ) → ((v : ℕ) → slice_index known v ≤ slice_index more v)
+LeastRankIsMonotone =
+    (g : Game) (player : ℕ) (known more : List ℕ)
+    → ((v : ℕ) → slice_index known v ≤ slice_index more v)
     → (v : ℕ) → least_rank g player known v ≤ least_rank g player more v

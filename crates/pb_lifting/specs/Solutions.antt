@@ -1,8 +1,10 @@
 -- The solution as a function of the final words of both players.
-use Rattle.std.specs.Prelude.{◌≡◌, ◌≢◌, ◌⊎◌, ℕ, ◌+◌, ◌*◌, ◌<◌, ◌≤◌, ◌==◌, if◌then◌else◌, List, [], ◌∷◌, ◌++◌, length, slice_index, Option, None, Some, MatchOption, min}
+use Rattle.std.specs.Prelude.{◌≡◌, ◌≢◌, ◌⊎◌, ℕ, ◌+◌, ◌*◌, ◌<◌, ◌≤◌, ◌==◌, if◌then◌else◌, List, []}
+use Rattle.std.specs.Prelude.{◌∷◌, ◌++◌, length, slice_index, Option, None, Some, MatchOption, min}
 use Rattle.pb_game.specs.declared.Game.{Game}
 use Rattle.pb_game_certificate.specs.declared.Solution.{Solution}
-use Rattle.pb_game.specs.Games.{vertex_count, owner_of, priority_of, successors_of, priority_count, HasEdge}
+use Rattle.pb_game.specs.Games.{vertex_count, owner_of, priority_of, successors_of, priority_count}
+use Rattle.pb_game.specs.Games.{HasEdge}
 use Rattle.pb_game_certificate.specs.Certificates.{IsProgress}
 use Rattle.pb_game_certificate.specs.Solutions.{winner_of, choice_of, count_of, HasLengths}
 use Rattle.pb_lifting.specs.declared.measured.Measured.{Measured}
@@ -29,7 +31,8 @@ count_by_rank g player rank q = if rank == top_of g player then 0 else counts_of
 -- u's word is not top, and along an edge from v to u the counts make progress
 unfoldable pub Meets : Game → ℕ → List ℕ → ℕ → ℕ → Type 0
 Meets g player words v u = (slice_index words u < top_of g player)
-    × IsProgress (count_by_rank g player (slice_index words v)) (count_by_rank g player (slice_index words u)) player (priority_of g v) (priority_count g)
+    × IsProgress (count_by_rank g player (slice_index words v))
+    (count_by_rank g player (slice_index words u)) player (priority_of g v) (priority_count g)
 
 pub record IsLeastSuccessor (g : Game) (v u : ℕ) : Type 0 where
   pub edge : HasEdge g v u
@@ -45,18 +48,24 @@ MeetsNone g player words v = (w : ℕ) → HasEdge g v w → Meets g player word
 
 -- the least successor that meets, where there is one
 abbrev pub IsMeeting : Game → ℕ → List ℕ → ℕ → Option ℕ → Type 0
-IsMeeting g player words v found = MatchOption found (MeetsNone g player words v) (IsLeastMeeting g player words v)
+IsMeeting g player words v found =
+    MatchOption found (MeetsNone g player words v) (IsLeastMeeting g player words v)
 
 pub record IsChoice (g : Game) (player : ℕ) (words : List ℕ) (v u : ℕ) : Type 0 where
-  pub own : owner_of g v ≡ player → IsLeastMeeting g player words v u ⊎ (MeetsNone g player words v × IsLeastSuccessor g v u)
+  pub own : owner_of g v ≡ player
+      → IsLeastMeeting g player words v u ⊎ (MeetsNone g player words v × IsLeastSuccessor g v u)
   pub other : owner_of g v ≢ player → IsLeastSuccessor g v u
 
 pub record IsSolutionOf (g : Game) (zero_words one_words : List ℕ) (s : Solution) : Type 0 where
   pub lengths : HasLengths g s
   pub winner : (v : ℕ) → v < vertex_count g → winner_of s v ≡ winner_by g zero_words v
-  pub choice : (v : ℕ) → v < vertex_count g → IsChoice g (winner_by g zero_words v) (words_of (winner_by g zero_words v) zero_words one_words) v (choice_of s v)
+  pub choice : (v : ℕ) → v < vertex_count g
+      → IsChoice g (winner_by g zero_words v)
+      (words_of (winner_by g zero_words v) zero_words one_words) v (choice_of s v)
   pub counts : (v q : ℕ) → v < vertex_count g → q < priority_count g →
-      count_of g s v q ≡ count_by_rank g (winner_by g zero_words v) (slice_index (words_of (winner_by g zero_words v) zero_words one_words) v) q
+      count_of g s v q
+      ≡ count_by_rank g (winner_by g zero_words v)
+      (slice_index (words_of (winner_by g zero_words v) zero_words one_words) v) q
 
 abbrev pub lesser_of : Option ℕ → ℕ → ℕ
 lesser_of None u = u
@@ -64,30 +73,40 @@ lesser_of (Some w) u = min w u
 
 -- of the first n successors
 abbrev pub LeastSoFar : Game → ℕ → List ℕ → ℕ → ℕ → Option ℕ → Type 0
-LeastSoFar g player words v n None = (k : ℕ) → k < n → Meets g player words v (slice_index (successors_of g v) k) → ⊥
+LeastSoFar g player words v n None =
+    (k : ℕ) → k < n → Meets g player words v (slice_index (successors_of g v) k) → ⊥
 LeastSoFar g player words v n (Some u) = HasEdge g v u × Meets g player words v u ×
-    ((k : ℕ) → k < n → Meets g player words v (slice_index (successors_of g v) k) → u ≤ slice_index (successors_of g v) k)
+    ((k : ℕ) → k < n → Meets g player words v (slice_index (successors_of g v) k)
+    → u ≤ slice_index (successors_of g v) k)
 
 -- the solution at the first n vertices
-pub record IsSolutionTo (g : Game) (zero_words one_words : List ℕ) (s : Solution) (n : ℕ) : Type 0 where
+pub record IsSolutionTo (g : Game) (zero_words one_words : List ℕ) (s : Solution) (n : ℕ)
+    : Type 0 where
   pub winners : length s.winner.items ≡ n
   pub choices : length s.choice.items ≡ n
   pub rows : length s.counts.items ≡ n * priority_count g
   pub winner : (v : ℕ) → v < n → winner_of s v ≡ winner_by g zero_words v
-  pub choice : (v : ℕ) → v < n → IsChoice g (winner_by g zero_words v) (words_of (winner_by g zero_words v) zero_words one_words) v (choice_of s v)
+  pub choice : (v : ℕ) → v < n
+      → IsChoice g (winner_by g zero_words v)
+      (words_of (winner_by g zero_words v) zero_words one_words) v (choice_of s v)
   pub counts : (v q : ℕ) → v < n → q < priority_count g →
-      count_of g s v q ≡ count_by_rank g (winner_by g zero_words v) (slice_index (words_of (winner_by g zero_words v) zero_words one_words) v) q
+      count_of g s v q
+      ≡ count_by_rank g (winner_by g zero_words v)
+      (slice_index (words_of (winner_by g zero_words v) zero_words one_words) v) q
 
 -- the list with a vertex's counts behind it
 pub record AddsRow (g : Game) (player rank : ℕ) (old new : List ℕ) : Type 0 where
   pub sized : length new ≡ length old + priority_count g
   pub same : (k : ℕ) → k < length old → slice_index new k ≡ slice_index old k
-  pub row : (q : ℕ) → q < priority_count g → slice_index new (length old + q) ≡ count_by_rank g player rank q
+  pub row : (q : ℕ) → q < priority_count g
+      → slice_index new (length old + q) ≡ count_by_rank g player rank q
 
 -- v's entries are put behind the others
-pub record AddsVertex (g : Game) (player : ℕ) (words : List ℕ) (v : ℕ) (old new : Solution) : Type 0 where
+pub record AddsVertex (g : Game) (player : ℕ) (words : List ℕ) (v : ℕ) (old new : Solution)
+    : Type 0 where
   pub winner : new.winner.items ≡ old.winner.items ++ player ∷ []
-  pub choice : (u : ℕ) × (new.choice.items ≡ old.choice.items ++ u ∷ []) × IsChoice g player words v u
+  pub choice : (u : ℕ) × (new.choice.items ≡ old.choice.items ++ u ∷ [])
+      × IsChoice g player words v u
   pub row : AddsRow g player (slice_index words v) old.counts.items new.counts.items
 
 -- v's entries by its winner's words are put behind the others
@@ -102,4 +121,5 @@ AddsWinner g zero one v old new =
 -- the solution of the least measures of both players
 abbrev pub IsLiftedSolution : Game → Solution → Type 0
 IsLiftedSolution g s = (zero_words : List ℕ) × (one_words : List ℕ) ×
-    IsLeastMeasure g 0 zero_words × IsLeastMeasure g 1 one_words × IsSolutionOf g zero_words one_words s
+    IsLeastMeasure g 0 zero_words × IsLeastMeasure g 1 one_words
+    × IsSolutionOf g zero_words one_words s

@@ -1,5 +1,6 @@
 -- What lifting by one thread does to plain words.
-use Rattle.std.specs.Prelude.{◌≡◌, ℕ, ◌+◌, ◌-◌, ◌<◌, ◌≤◌, Bool, MatchBool, List, [], ◌∷◌, length, slice_index}
+use Rattle.std.specs.Prelude.{◌≡◌, ℕ, ◌+◌, ◌-◌, ◌<◌, ◌≤◌, Bool, MatchBool, List, [], ◌∷◌, length}
+use Rattle.std.specs.Prelude.{slice_index}
 use Rattle.pb_game.specs.declared.Game.{Game}
 use Rattle.pb_game.specs.Games.{vertex_count}
 use Rattle.pb_lifting.specs.Measures.{IsBelowAll, least_rank, top_of}
@@ -28,8 +29,10 @@ IsFixedAt g player v old new = (new ≡ old) × (least_rank g player old v ≤ s
 
 -- what a lift of v by one thread did, and whether it raised the word
 abbrev pub IsSweptAt : Game → ℕ → ℕ → Bool → List ℕ → List ℕ → Type 0
-IsSweptAt g player v raised old new = MatchBool raised (Rises g player old new) (IsFixedAt g player v old new)
+IsSweptAt g player v raised old new =
+    MatchBool raised (Rises g player old new) (IsFixedAt g player v old new)
 
 -- what a lift of each word did, and whether it raised one
 abbrev pub IsSweptOnce : Game → ℕ → Bool → List ℕ → List ℕ → Type 0
-IsSweptOnce g player raised old new = MatchBool raised (Rises g player old new) (IsFixedTo g player new (vertex_count g))
+IsSweptOnce g player raised old new =
+    MatchBool raised (Rises g player old new) (IsFixedTo g player new (vertex_count g))

@@ -1,10 +1,10 @@
 //! The place values of a player's ranks, and what an edge asks for.
 
-ghost use Rattle.std.specs.Prelude.{◌≡◌, ◌≢◌, ℕ, ◌+◌, ◌*◌, ◌<◌, ◌≤◌, ◌==◌, if◌then◌else◌, ◌%◌};
+ghost use Rattle.std.specs.Prelude.{◌≡◌, ℕ, ◌+◌, ◌*◌, ◌<◌, ◌≤◌, ◌==◌, if◌then◌else◌, ◌%◌};
 ghost use Rattle.std.specs.Prelude.{length, slice_index, IfOk, MatchOption};
-ghost use Rattle.pb_game.specs.Games.{vertex_count, priority_of, priority_count};
-ghost use Rattle.pb_lifting.specs.Radix.{unit, units, step_up, better};
-ghost use Rattle.pb_lifting.specs.Measures.{vertices_upto, base_of, top_of, more_of, asked};
+ghost use Rattle.pb_game.specs.Games.{vertex_count, priority_count};
+ghost use Rattle.pb_lifting.specs.Radix.{units, step_up, better};
+ghost use Rattle.pb_lifting.specs.Measures.{vertices_upto, base_of, top_of, asked};
 ghost use Rattle.pb_lifting.specs.Measures.{counts_of, HasTooManyRanks, IsTopOf};
 
 use pb_game::Game;

@@ -1,10 +1,9 @@
 //! The solution that the final words of both players say.
 
-ghost use Rattle.std.specs.Prelude.{◌≡◌, ◌≢◌, ℕ, ◌<◌, ◌≤◌, ◌↔◌, IsTrue, MatchOption, IfOk, OnOk};
-ghost use Rattle.std.specs.Prelude.{Some, length, slice_index, ◌==◌, if◌then◌else◌};
-ghost use Rattle.pb_game.specs.Games.{vertex_count, priority_count, HasEdge};
+ghost use Rattle.std.specs.Prelude.{◌≡◌, ◌<◌, ◌↔◌, IsTrue, IfOk, OnOk};
+ghost use Rattle.std.specs.Prelude.{Some, ◌==◌, if◌then◌else◌};
+ghost use Rattle.pb_game.specs.Games.{vertex_count, priority_count};
 ghost use Rattle.pb_lifting.specs.Scales.{IsScaleOf};
-ghost use Rattle.pb_lifting.specs.Measures.{top_of};
 ghost use Rattle.pb_lifting.specs.Solutions.{Meets, IsMeeting, IsLeastSuccessor, IsChoice};
 ghost use Rattle.pb_lifting.specs.Solutions.{winner_by, count_by_rank, lesser_of, AddsRow};
 ghost use Rattle.pb_lifting.specs.Solutions.{AddsMeasured, AddsWinner, IsSolutionOf, AreMeasured};

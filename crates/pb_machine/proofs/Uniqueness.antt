@@ -1,5 +1,5 @@
 -- A module means one tree for each instance, and has one answer.
-use Rattle.std.proofs.Common.{◌≡◌, ◌<◌, ◌≤◌, ◌+◌, ℕ, Bool, true, false, ◌&&◌, List, [], ◌∷◌, ◌++◌, map, Option, Some, None, refl, sym, ap, ◌∙◌, subst, ⊎_elim, if◌then◌else◌, arith}
+use Rattle.std.proofs.Common.{◌≡◌, ◌<◌, ◌≤◌, ◌+◌, ℕ, Bool, false, ◌&&◌, List, [], ◌∷◌, ◌++◌, map, Option, Some, None, refl, sym, ap, ◌∙◌, subst, ⊎_elim, if◌then◌else◌, arith}
 use Rattle.std.specs.Prelude.{nat_le, nat_lt, slice_get}
 use Rattle.std.proofs.lemmas.Bool.{cases_lt, lt-ltb, le-ltb, ltb-true}
 use Rattle.std.proofs.lemmas.Option.{slice_get-get_or}
@@ -15,6 +15,7 @@ use Rattle.pb_sorts.specs.Instance.{Instance, instances}
 use Rattle.pb_sorts.specs.Layout.{carriers_of, count_of}
 use Rattle.pb_sorts.proofs.Numbers.{number-is_instance, number_of-slice_get}
 use Rattle.std.proofs.lemmas.Option.{slice_get_within}
+use Rattle.std.proofs.Math.Bool.{and-false}
 use Rattle.pb_bytecode_program.specs.Safety.{IsInstance}
 use Rattle.pb_bytecode.specs.Contents.{EquationContents, Contents}
 use Rattle.pb_bytecode.specs.Meaning.{AreTrees, answer, initial_of, number_at, parameters, program_of, signature_of}
@@ -45,11 +46,7 @@ module _ (u v : Environment ℕ) where
 -- ---- a number that no equation owns stays as it was
 
 not_owned : (first size n : ℕ) → first + size ≤ n → (nat_le first n && nat_lt n (first + size)) ≡ false
-not_owned first size n past = rw (le-ltb n (first + size) past) (last_false (nat_le first n))
-  where
-    last_false : (b : Bool) → (b && false) ≡ false
-    last_false true = refl
-    last_false false = refl
+not_owned first size n past = rw (le-ltb n (first + size) past) (and-false (nat_le first n))
 
 untouched : (first : ℕ) (signatures : List Signature) (trees : ℕ → Tree) (t : Environment ℕ) (n : ℕ) → first + total signatures ≤ n → solution (numbered first signatures trees) t n ≡ t n
 untouched first [] trees t n past = refl

@@ -12,7 +12,8 @@ use Rattle.pb_machine.specs.Reachable.{successors, tree_calls}
 
 -- what has a tree is an instance
 abbrev pub TreesAreOfInstances : Type 0
-TreesAreOfInstances = (m : Contents) (n : ℕ) (tokens : List Token) → IsTreeAt m n tokens → n < count_of (parameters m)
+TreesAreOfInstances =
+    (m : Contents) (n : ℕ) (tokens : List Token) → IsTreeAt m n tokens → n < count_of (parameters m)
 
 -- a call in a tree is one of an instance
 abbrev pub CallsAreInstances : Type 0
@@ -30,7 +31,8 @@ TokensAreMeant =
 abbrev pub CallsAreSuccessors : Type 0
 CallsAreSuccessors =
     (m : Contents) (n : ℕ) (tokens : List Token) → IsTreeAt m n tokens →
-    (trees : ℕ → Tree) → AreTrees m trees → (k : ℕ) → Contains tokens (token.Call k) ↔ Contains (successors trees n) k
+    (trees : ℕ → Tree) → AreTrees m trees → (k : ℕ)
+    → Contains tokens (token.Call k) ↔ Contains (successors trees n) k
 
 -- what holds of a tree's calls holds of each number in the list of them, and the other way round
 abbrev pub CallsAreListed : Type 0
@@ -40,8 +42,11 @@ CallsAreListed =
 
 -- an instance has one tree in what the module means
 abbrev pub TreesAreUnique : Type 0
-TreesAreUnique = (m : Contents) (s t : ℕ → Tree) → AreTrees m s → AreTrees m t → (n : ℕ) → n < count_of (parameters m) → s n ≡ t n
+TreesAreUnique =
+    (m : Contents) (s t : ℕ → Tree) → AreTrees m s → AreTrees m t → (n : ℕ)
+    → n < count_of (parameters m) → s n ≡ t n
 
 -- a module has one answer
 abbrev pub AnswerIsUnique : Type 0
-AnswerIsUnique = (m : Contents) (s t : ℕ → Tree) → AreTrees m s → AreTrees m t → answer m s ≡ answer m t
+AnswerIsUnique =
+    (m : Contents) (s t : ℕ → Tree) → AreTrees m s → AreTrees m t → answer m s ≡ answer m t

@@ -1,6 +1,5 @@
 //! Runs: one instruction after another, up to END.
-ghost use Rattle.std.specs.Prelude.{◌≡◌, ◌≤◌, IfOk, List, Some, slice_get, length, true};
-ghost use Rattle.pb_bytecode_program.specs.Values.{Value};
+ghost use Rattle.std.specs.Prelude.{◌≡◌, ◌≤◌, IfOk, true};
 ghost use Rattle.pb_bytecode_program.specs.Machine.{Program, start};
 ghost use Rattle.pb_bytecode_program.specs.Safety.{AreArguments, arguments as tagged_arguments};
 ghost use Rattle.pb_bytecode_program.specs.declared.instruction.Op.TheVariants as op;
@@ -129,8 +128,12 @@ impl Machine {
         code: &Code,
         arguments: &[i64],
     ) -> Result<(), AllocError>
-        requires { (p : Program) × CanRun p layout.now code.now.instructions.now code.now.loops.now code.now.steps code.now.tokens arguments.now }
-        ensures { IfOk result (λ _. (p : Program) → CanRun p layout.now code.now.instructions.now code.now.loops.now code.now.steps code.now.tokens arguments.now → IsOutput p arguments.now self.new.output.items) }
+        requires { (p : Program) × CanRun p layout.now code.now.instructions.now code.now.loops.now
+            code.now.steps code.now.tokens arguments.now }
+        ensures { IfOk result (λ _. (p : Program)
+            → CanRun p layout.now code.now.instructions.now code.now.loops.now code.now.steps
+            code.now.tokens arguments.now
+            → IsOutput p arguments.now self.new.output.items) }
     {
         self.begin(code, arguments)?;
         let _known = layout.count();

@@ -1,5 +1,6 @@
 -- The order of sets towards a fixpoint, and that operators and solutions keep it.
 use Rattle.std.proofs.Common.{◌≡◌, Bool, true, false, not, if◌then◌else◌, List, refl, sym, ◌∙◌, true≢false}
+use Rattle.std.specs.Cmp.{both_ways}
 use Rattle.std.proofs.Math.Path.{fun_ext}
 use Rattle.pb_fixpoint.specs.declared.Sign.{Sign}
 use Rattle.pb_fixpoint.specs.declared.Sign.TheVariants.{Mu, Nu}
@@ -26,18 +27,8 @@ before_trans false x y z p q = λ e. p (q e)
 
 -- both ways
 pub before_both : (side x y : Bool) → Before side x y → Before side y x → x ≡ y
-before_both true x y p q = both x y p q
-  where
-    both : (x y : Bool) → (x ≡ true → y ≡ true) → (y ≡ true → x ≡ true) → x ≡ y
-    both true y p q = sym (p refl)
-    both false true p q = q refl
-    both false false p q = refl
-before_both false x y p q = both x y q p
-  where
-    both : (x y : Bool) → (x ≡ true → y ≡ true) → (y ≡ true → x ≡ true) → x ≡ y
-    both true y p q = sym (p refl)
-    both false true p q = q refl
-    both false false p q = refl
+before_both true x y p q = both_ways x y p q
+before_both false x y p q = both_ways x y q p
 
 pub before_not : (side x y : Bool) → Before side x y → Before (not side) y x
 before_not true x y p = p

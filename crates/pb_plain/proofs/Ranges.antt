@@ -2,7 +2,7 @@
 use Rattle.std.proofs.Common.{◌≡◌, ◌≢◌, ℕ, ◌+◌, ◌<◌, ◌≤◌, Bool, true, false, ◌&&◌, if◌then◌else◌, List, length, get_or, set, refl, sym, ◌∙◌, ap, subst, arith, get_or-set_other, get_or-set_same, inl, inr}
 use Rattle.std.specs.Cmp.{both_ways}
 use Rattle.std.specs.Prelude.{nat_le, nat_lt}
-use Rattle.std.proofs.lemmas.Bool.{cases_lt, false_from_ne_true, ltb-true, lt-ltb, leb-true, le-leb, and_parts, cond-true}
+use Rattle.std.proofs.lemmas.Bool.{cond-false, cases_lt, false_from_ne_true, ltb-true, lt-ltb, leb-true, le-leb, and_parts, cond-true}
 
 -- n is from `start` on and below `end`
 abbrev pub is_between : ℕ → ℕ → ℕ → Bool
@@ -27,11 +27,8 @@ between_step start k n ne =
 abbrev pub IsMixed : ℕ → ℕ → (ℕ → Bool) → List Bool → List Bool → Type 0
 IsMixed start end f old new = (n : ℕ) → get_or new n false ≡ (if is_between start end n then f n else get_or old n false)
 
-if_no : (b x y : Bool) → b ≡ false → (if b then x else y) ≡ y
-if_no b x y e = ap (λ (c : Bool). if c then x else y) e
-
 pub mixed_start : (start : ℕ) (f : ℕ → Bool) (old : List Bool) → IsMixed start start f old old
-mixed_start start f old n = sym (if_no (is_between start start n) (f n) (get_or old n false) (between_none start n))
+mixed_start start f old n = sym (cond-false (is_between start start n) (f n) (get_or old n false) (between_none start n))
 
 -- one number more
 mixed_step : (start k : ℕ) (f : ℕ → Bool) (old xs ys : List Bool) → start ≤ k → IsMixed start k f old xs → get_or ys k false ≡ f k → ((n : ℕ) → n ≢ k → get_or ys n false ≡ get_or xs n false) → IsMixed start (k + 1) f old ys
@@ -63,13 +60,13 @@ mixed_keep start k f old xs le is m = mixed_step start k f old xs xs le m is (λ
 
 -- a number that isn't reached yet
 pub mixed_ahead : (start k : ℕ) (f : ℕ → Bool) (old xs : List Bool) → IsMixed start k f old xs → get_or xs k false ≡ get_or old k false
-mixed_ahead start k f old xs m = m k ∙ if_no (is_between start k k) (f k) (get_or old k false) (false_from_ne_true (is_between start k k) (λ e. let p = between_bounds start k k e in omega (arith, p.1)))
+mixed_ahead start k f old xs m = m k ∙ cond-false (is_between start k k) (f k) (get_or old k false) (false_from_ne_true (is_between start k k) (λ e. let p = between_bounds start k k e in omega (arith, p.1)))
 
 pub mixed_inside : (start end : ℕ) (f : ℕ → Bool) (old new : List Bool) (n : ℕ) → IsMixed start end f old new → is_between start end n ≡ true → get_or new n false ≡ f n
 mixed_inside start end f old new n m e = m n ∙ cond-true (is_between start end n) (f n) (get_or old n false) e
 
 pub mixed_outside : (start end : ℕ) (f : ℕ → Bool) (old new : List Bool) (n : ℕ) → IsMixed start end f old new → is_between start end n ≡ false → get_or new n false ≡ get_or old n false
-mixed_outside start end f old new n m e = m n ∙ if_no (is_between start end n) (f n) (get_or old n false) e
+mixed_outside start end f old new n m e = m n ∙ cond-false (is_between start end n) (f n) (get_or old n false) e
 
 -- what holds within a range, and at the number behind it
 pub between_grows : (start k : ℕ) (P : ℕ → Type 0) → ((n : ℕ) → is_between start k n ≡ true → P n) → P k → (n : ℕ) → is_between start (k + 1) n ≡ true → P n

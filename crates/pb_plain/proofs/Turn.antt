@@ -1,6 +1,7 @@
 -- The solver's turn at one equation of a text.
-use Rattle.std.proofs.Common.{◌≡◌, ℕ, zero, suc, ◌+◌, ◌<◌, Bool, true, false, not, List, [], ◌∷◌, map, length, drop, Some, refl, sym, ◌∙◌, ap, subst, arith, add-one, slice_get, true≢false, Option, None, get_or, replicate, take, ◌++◌, append-nil, ◌≤◌}
+use Rattle.std.proofs.Common.{◌≡◌, ℕ, zero, suc, ◌+◌, ◌<◌, Bool, true, false, not, List, [], ◌∷◌, map, length, drop, Some, refl, sym, ◌∙◌, ap, subst, arith, add-one, slice_get, true≢false, Option, None, get_or, replicate, take, ◌++◌, append-nil}
 use Rattle.std.specs.Cmp.Lexicographic.{same_text}
+use Rattle.std.proofs.lemmas.List.{drop_all, drop-map, get_or-replicate, take_all}
 use Rattle.std.proofs.lemmas.Option.{slice_get_within, get_or_from_slice_get}
 use Rattle.pb_fixpoint.specs.Solution as fixpoint
 use Rattle.pb_fixpoint.specs.Solution.{Environment, solution, empty}
@@ -12,7 +13,7 @@ use Rattle.std.proofs.lemmas.Bool.{and_right, and_parts}
 use Rattle.pb_sorts.specs.Instance.{instances, number_of, size_of, tuples_of}
 use Rattle.pb_sorts.proofs.Equations.{length-carriers_of}
 use Rattle.pb_sorts.specs.Layout.{carriers_of, count_of}
-use Rattle.pb_sorts.proofs.Places.{slice_get-mapped, map_length}
+use Rattle.pb_sorts.proofs.Places.{slice_get-mapped, drop-slice_get, map_length}
 use Rattle.pb_text_meaning.specs.Syntax.{Equation, Spec, same_name}
 use Rattle.pb_text_meaning.specs.Formula as formula
 use Rattle.pb_text_meaning.specs.Formula.{Instance}
@@ -28,16 +29,6 @@ use Rattle.pb_plain.proofs.Approach.{OwnApart, IsApproach, begins, steps, moves,
 use Rattle.pb_plain.proofs.Sets.{HasPlace, has_place, changes_only, takes_set, joins_right}
 
 -- ---- lists
-
-pub drop_there : {A : Type 0} (xs : List A) (k : ℕ) (x : A) → slice_get xs k ≡ Some x → drop k xs ≡ x ∷ drop (suc k) xs
-drop_there [] k x at = cc
-drop_there (y ∷ xs) zero x at = let e : y ≡ x = cc in ap (λ z. z ∷ xs) e
-drop_there (y ∷ xs) (suc k) x at = drop_there xs k x at
-
-pub drop-map : {A B : Type 0} (f : A → B) (k : ℕ) (xs : List A) → drop k (map f xs) ≡ map f (drop k xs)
-drop-map f zero xs = refl
-drop-map f (suc k) [] = refl
-drop-map f (suc k) (x ∷ xs) = drop-map f k xs
 
 positive-drop : (k : ℕ) (E : List Equation) → ArePositive E → ArePositive (drop k E)
 positive-drop zero E p = p
@@ -80,13 +71,13 @@ module _ (S : Spec) (layout : List (List Carrier)) (laid : carriers_of layout �
   after = drop (k + 1) (equations_of S)
 
   pub here : drop k (equations_of S) ≡ read ∷ after
-  here = rw add-one (drop_there (equations_of S) k read (slice_get-mapped (equation_of S) S.equations k X at))
+  here = drop-slice_get (equations_of S) k read (slice_get-mapped (equation_of S) S.equations k X at)
 
   after-map : after ≡ map (equation_of S) (drop (suc k) S.equations)
   after-map = rw add-one (drop-map (equation_of S) (suc k) S.equations)
 
   positive_here : ArePositive (X ∷ drop (suc k) S.equations)
-  positive_here = subst ArePositive (drop_there S.equations k X at) (positive-drop k S.equations able.positive)
+  positive_here = subst ArePositive (drop-slice_get S.equations k X at ∙ ap (λ n. X ∷ drop n S.equations) (add-one k)) (positive-drop k S.equations able.positive)
 
   monotone : AreMonotone (read ∷ after)
   monotone = subst (λ (E : List (fixpoint.Equation Instance)). AreMonotone (read ∷ E)) (sym after-map) (are_monotone S (X ∷ drop (suc k) S.equations) positive_here)
@@ -171,11 +162,6 @@ module _ (S : Spec) (layout : List (List Carrier)) (laid : carriers_of layout �
 
 -- ---- where the solver begins
 
-get_or-replicate : {A : Type 0} (n k : ℕ) (a d : A) → k < n → get_or (replicate n a) k d ≡ a
-get_or-replicate zero k a d lt = absurd (omega arith)
-get_or-replicate (suc n) zero a d lt = refl
-get_or-replicate (suc n) (suc k) a d lt = get_or-replicate n k a d (omega arith)
-
 get_or-replicate_same : {A : Type 0} (n k : ℕ) (a : A) → get_or (replicate n a) k a ≡ a
 get_or-replicate_same zero k a = refl
 get_or-replicate_same (suc n) zero a = refl
@@ -207,20 +193,8 @@ upper_bounds S layout n t laid apart all =
 -- a vector's list after a write through its slice
 pub written : (items new : List Bool) (len : ℕ) → length new ≡ length items → length items ≡ len → take len (new ++ drop (length new) items) ≡ new
 written items new len same long =
-    ap (λ (ys : List Bool). take len (new ++ ys)) (drop-all items (length new) (omega (arith, same)))
-    ∙ (ap (take len) (append-nil new) ∙ take-all new len (omega (arith, same, long)))
-  where
-    drop-all : (xs : List Bool) (n : ℕ) → length xs ≤ n → drop n xs ≡ []
-    drop-all [] zero h = refl
-    drop-all [] (suc n) h = refl
-    drop-all (x ∷ xs) zero h = absurd (omega arith)
-    drop-all (x ∷ xs) (suc n) h = drop-all xs n (omega arith)
-
-    take-all : (xs : List Bool) (n : ℕ) → length xs ≤ n → take n xs ≡ xs
-    take-all [] zero h = refl
-    take-all [] (suc n) h = refl
-    take-all (x ∷ xs) zero h = absurd (omega arith)
-    take-all (x ∷ xs) (suc n) h = ap (λ ys. x ∷ ys) (take-all xs n (omega arith))
+    ap (λ (ys : List Bool). take len (new ++ ys)) (drop_all (length new) items (omega (arith, same)))
+    ∙ (ap (take len) (append-nil new) ∙ take_all len new (omega (arith, same, long)))
 
 -- ---- the equation at a place
 

@@ -1,4 +1,5 @@
--- Sets of instances, ordered towards the fixpoint that a sign asks for: upwards for mu, downwards for nu.
+-- Sets of instances, ordered towards the fixpoint that a sign asks for: upwards for mu, downwards
+-- for nu.
 use Rattle.std.specs.Prelude.{◌≡◌, Bool, true, false, ◌&&◌, ◌||◌}
 use Rattle.pb_fixpoint.specs.declared.Sign.{Sign}
 use Rattle.pb_fixpoint.specs.declared.Sign.TheVariants.{Mu, Nu}

@@ -1,5 +1,7 @@
--- One step of the solver at the equation at a place, on lists of truths that stand for environments.
-use Rattle.std.specs.Prelude.{◌≡◌, ℕ, Bool, true, false, List, [], ⊤, All, slice_index_or, Option, Some, None}
+-- One step of the solver at the equation at a place, on lists of truths that stand for
+-- environments.
+use Rattle.std.specs.Prelude.{◌≡◌, ℕ, Bool, true, false, List, [], ⊤, All, slice_index_or, Option}
+use Rattle.std.specs.Prelude.{Some, None}
 use Rattle.std.specs.List.{slice_get}
 use Rattle.pb_fixpoint.specs.Solution.{Environment}
 use Rattle.pb_sorts.specs.declared.carrier.Carrier.{Carrier}
@@ -28,21 +30,29 @@ right_truth spec t X (Some i) = truth spec (assigned X.parameters i.values []) t
 
 -- the same at a number
 abbrev pub right_truth_at : Spec → Environment Instance → Equation → List (List Carrier) → ℕ → Bool
-right_truth_at spec t X layout n = right_truth spec t X (slice_get (instances (carriers_of layout)) n)
+right_truth_at spec t X layout n =
+    right_truth spec t X (slice_get (instances (carriers_of layout)) n)
 
 -- only the set of the equation at place k is another
 abbrev pub ChangesOnly : List (List Carrier) → ℕ → List Bool → List Bool → Type 0
-ChangesOnly layout k old new = (n : ℕ) → owns_number (carriers_of layout) k n ≡ false → slice_index_or new n false ≡ slice_index_or old n false
+ChangesOnly layout k old new =
+    (n : ℕ) → owns_number (carriers_of layout) k n ≡ false
+    → slice_index_or new n false ≡ slice_index_or old n false
 
 -- the set of the equation at place k is the one in `from`
 abbrev pub TakesSet : List (List Carrier) → ℕ → List Bool → List Bool → Type 0
-TakesSet layout k from new = (n : ℕ) → owns_number (carriers_of layout) k n ≡ true → slice_index_or new n false ≡ slice_index_or from n false
+TakesSet layout k from new =
+    (n : ℕ) → owns_number (carriers_of layout) k n ≡ true
+    → slice_index_or new n false ≡ slice_index_or from n false
 
 -- each truth of X's set is joined with that of its right side under `below`
-abbrev pub JoinsRight : Spec → List (List Carrier) → ℕ → Equation → List Bool → List Bool → List Bool → Type 0
+abbrev pub JoinsRight : Spec → List (List Carrier) → ℕ → Equation → List Bool → List Bool
+    → List Bool → Type 0
 JoinsRight spec layout k X below old new =
     (n : ℕ) → owns_number (carriers_of layout) k n ≡ true
-    → slice_index_or new n false ≡ joined (side_of X.sign) (slice_index_or old n false) (right_truth_at spec (environment_of spec below) X layout n)
+    → slice_index_or new n false
+    ≡ joined (side_of X.sign) (slice_index_or old n false)
+    (right_truth_at spec (environment_of spec below) X layout n)
 
 -- an equation's right side fits at the instance with a number
 abbrev pub FitsAtInstance : Spec → Equation → Option numbered.Instance → Type 0

@@ -56,10 +56,6 @@ path_then g s Inner v [] u w h i k = (h, i, k)
 path_then g s Inner v (x ∷ xs) u w h i k = (h.0, h.1, path_then g s Inner x xs u w h.2 i k)
 
 module _ (g : Game) (s : Solution) (Inner : ℕ → Type 0) where
-  pub path_within : (v : ℕ) (xs : List ℕ) (u : ℕ) → v < vertex_count g → IsKeptPath g s Inner v xs u → u < vertex_count g
-  path_within v [] u below h = successors_closed g v u below h.edge
-  path_within v (x ∷ xs) u below h = path_within x xs u (successors_closed g v x below h.0.edge) h.2
-
   module _ (is : IsCertificate g s) where
     path_winner : (v : ℕ) (xs : List ℕ) (u : ℕ) → v < vertex_count g → IsKeptPath g s Inner v xs u → winner_of s u ≡ winner_of s v
     path_winner v [] u below h = (is.vertices v below).region u h

@@ -1,5 +1,5 @@
--- The graphs that a certificate's strategies give: an instance rests on those whose vertices its winner's play comes to
--- next, over vertices of brackets alone.
+-- The graphs that a certificate's strategies give: an instance rests on those whose vertices its
+-- winner's play comes to next, over vertices of brackets alone.
 use Rattle.std.specs.Prelude.{◌≡◌, ◌≢◌, ℕ, Bool, true, false, List, [], ◌∷◌, Contains}
 use Rattle.pb_game.specs.declared.Game.{Game}
 use Rattle.pb_game.specs.Games.{priority_of}
@@ -30,19 +30,24 @@ IsKeptPath g s Inner v (x ∷ xs) u = IsKept g s v x × Inner x × IsKeptPath g 
 
 -- the play from n's vertex can come to m's before it comes to another instance's
 abbrev pub ComesTo : Game → Solution → List Row → ℕ → ℕ → Type 0
-ComesTo g s rows n m = (over : List ℕ) × IsKeptPath g s (IsInner g rows) (vertex_of rows n) over (vertex_of rows m)
+ComesTo g s rows n m =
+    (over : List ℕ) × IsKeptPath g s (IsInner g rows) (vertex_of rows n) over (vertex_of rows m)
 
 -- instances whose vertices the player wins, each with those that the play comes to next
-pub record IsStrategyGraph (g : Game) (s : Solution) (rows : List Row) (player : ℕ) (graph : Graph) : Type 0 where
+pub record IsStrategyGraph (g : Game) (s : Solution) (rows : List Row) (player : ℕ) (graph : Graph)
+    : Type 0 where
   pub reached : (n : ℕ) → Contains graph.instances n → IsReached rows n
   pub won : (n : ℕ) → Contains graph.instances n → winner_of s (vertex_of rows n) ≡ player
   pub closed : (n m : ℕ) → RestsOn graph n m → Contains graph.instances m
   pub some : (n m : ℕ) → RestsOn graph n m → ComesTo g s rows n m
-  pub all : (n m : ℕ) → Contains graph.instances n → IsReached rows m → ComesTo g s rows n m → Contains (graph.dependencies n) m
+  pub all : (n m : ℕ) → Contains graph.instances n → IsReached rows m → ComesTo g s rows n m
+      → Contains (graph.dependencies n) m
 
 -- such a graph is a proof graph for the truth value that its player wants
 abbrev pub StrategiesProve : Type 0
 StrategiesProve =
     (g : Game) (s : Solution) → IsCertificate g s →
-    (signatures : List Signature) (trees : ℕ → Tree) (rows : List Row) → IsGameOfRows signatures trees rows g →
-    (b : Bool) (graph : Graph) → IsStrategyGraph g s rows (player_for b) graph → IsProofGraph signatures trees b graph
+    (signatures : List Signature) (trees : ℕ → Tree) (rows : List Row) →
+    IsGameOfRows signatures trees rows g →
+    (b : Bool) (graph : Graph) → IsStrategyGraph g s rows (player_for b) graph
+    → IsProofGraph signatures trees b graph

@@ -57,9 +57,6 @@ module _ (vs : List ℕ) (rising : AreRising vs) (k v : ℕ) (at : IsAtRow vs k 
         (cases_lt v (slice_index vs j));
   }
 
-pub first_row : (vs : List ℕ) → IsAtRow vs 0 0
-first_row vs = record { before = λ j below. absurd (omega (arith, below)); behind = λ j from below. omega arith }
-
 -- of the lines from v on, the first one and the others
 pub next_line : (names : ℕ → Option (List ℕ)) (g : Game) (n v : ℕ) → v < n →
     lines_of names g v (n - v) ≡ vertex_line v (vertex_at g v) (names v) ++ lines_of names g (v + 1) (n - (v + 1))
@@ -67,9 +64,6 @@ next_line names g n v l =
     let more : n - v ≡ suc (n - (v + 1)) = omega (arith, l) in
     let next : suc v ≡ v + 1 = omega arith in
     ap (lines_of names g v) more ∙ ap (λ (u : ℕ). vertex_line v (vertex_at g v) (names v) ++ lines_of names g u (n - (v + 1))) next
-
-pub no_line : (names : ℕ → Option (List ℕ)) (g : Game) (n v : ℕ) → n ≤ v → lines_of names g v (n - v) ≡ []
-no_line names g n v l = let none : n - v ≡ 0 = omega (arith, l) in ap (lines_of names g v) none
 
 pub is_there : (o : Option ℕ) → is_some o ≡ true → IsSome o
 is_there None e = cc

@@ -3,7 +3,7 @@ use Rattle.std.proofs.Common.{◌≡◌, ℕ, zero, suc, ◌+◌, ◌<◌, ℤ, 
 use Rattle.std.specs.Prelude.{codes}
 use Rattle.std.specs.List.{slice_get}
 use Rattle.std.proofs.lemmas.List.{length-map}
-use Rattle.std.proofs.lemmas.Option.{slice_get_within}
+use Rattle.std.proofs.lemmas.Option.{same_Some, slice_get_within}
 use Rattle.std.proofs.lemmas.Bool.{and_parts}
 use Rattle.pb_carriers.specs.Carrier.{Tuple, is_within}
 use Rattle.pb_sorts.specs.declared.carrier.Carrier.{Carrier}
@@ -76,10 +76,7 @@ module _ (m : Contents) (held : Module) (same : module_contents held ≡ m) (n :
   read e is = sym (ap (λ (xs : List EquationContents). slice_get xs i.equation) equations_same) ∙ contents_at held.equations.items i.equation e there is
 
   pub lengths : (e : Equation) → e ≡ get_or held.equations.items i.equation e → length i.values ≡ length e.parameters.items
-  lengths e is = found.lengths ∙ ap (λ (x : EquationContents). length x.parameters) (same_some (sym found.declared ∙ read e is))
-    where
-      same_some : {x y : EquationContents} → Some x ≡ Some y → x ≡ y
-      same_some e = cc
+  lengths e is = found.lengths ∙ ap (λ (x : EquationContents). length x.parameters) (same_Some _ _ (sym found.declared ∙ read e is))
 
   pub name_is : (e : Equation) → e ≡ get_or held.equations.items i.equation e →
       text_of e.name ++ arguments (map sort_contents held.sorts.items) e.parameters.items i.values ≡ instance_name m n

@@ -1,9 +1,10 @@
 -- One piece of text after another.
-use Rattle.std.proofs.Common.{◌≡◌, ℕ, suc, ◌+◌, Bool, true, List, [], ◌∷◌, ◌++◌, length, take, Option, Result, Ok, Err, sym, ap, ◌∙◌, subst, append_assoc, append-nil, length-append, arith}
+use Rattle.std.proofs.Common.{◌≡◌, ℕ, ◌+◌, Bool, true, List, [], ◌++◌, length, take, Option, Result, Ok, Err, sym, ap, ◌∙◌, subst, append_assoc, append-nil, length-append, arith}
 use Rattle.std.specs.Prelude.{OnOk, OnErr, IsErr}
 use Rattle.std.specs.Io.KnownBytes.{Appends}
 use Rattle.std.proofs.KnownBytes.{Appends-trans}
 use Rattle.std.proofs.lemmas.List.{take-append-le}
+use Rattle.std.proofs.Math.Seq.{take-append-add}
 use Rattle.pb_sorts.specs.Sink.{AppendsPrefix}
 use Rattle.pb_report_texts.specs.declared.buffer.WriteError.{WriteError}
 use Rattle.pb_report_texts.specs.declared.buffer.WriteError.TheVariants.{Failed}
@@ -17,12 +18,6 @@ prefix_more a b xs ys h =
     let l = h.1 in
     (n, omega (arith, length-append xs ys), subst (Appends a b) (sym (take-append-le n xs ys (omega arith))) h.2)
 
-take_after : (xs ys : List ℕ) (n : ℕ) → take (length xs + n) (xs ++ ys) ≡ xs ++ take n ys
-take_after [] ys n = let e : 0 + n ≡ n = omega arith in ap (λ (k : ℕ). take k ys) e
-take_after (x ∷ xs) ys n =
-    let e : suc (length xs) + n ≡ suc (length xs + n) = omega arith in
-    ap (λ (k : ℕ). take k (x ∷ (xs ++ ys))) e ∙ ap (λ (zs : List ℕ). x ∷ zs) (take_after xs ys n)
-
 -- after what went out, a part of what follows went out
 pub after_sent : (a b c : Option (List ℕ)) (sent ys : List ℕ) → Appends a b sent → AppendsPrefix b c ys → AppendsPrefix a c (sent ++ ys)
 after_sent a b c sent ys out h =
@@ -30,7 +25,7 @@ after_sent a b c sent ys out h =
     let l = h.1 in (
       length sent + n,
       omega (arith, length-append sent ys),
-      subst (Appends a c) (sym (take_after sent ys n)) (Appends-trans a b c sent (take n ys) out h.2),
+      subst (Appends a c) (sym (take-append-add sent ys n)) (Appends-trans a b c sent (take n ys) out h.2),
     )
 
 -- sent and then the rest, regrouped

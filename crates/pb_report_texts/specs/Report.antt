@@ -11,9 +11,12 @@ truth_line false = codes "answer false\n"
 abbrev pub count_line : List ℕ → ℕ → List ℕ
 count_line label n = label ++ (decimal n ++ codes "\n")
 
--- how many instances were reached, how many of these have a Cut in their trees, and how many vertices the game has
+-- how many instances were reached, how many of these have a Cut in their trees, and how many
+-- vertices the game has
 abbrev pub counts_text : Answer → List ℕ
-counts_text a = count_line (codes "instances ") a.instances ++ (count_line (codes "cut ") a.cut ++ count_line (codes "vertices ") a.vertices)
+counts_text a =
+    count_line (codes "instances ") a.instances
+    ++ (count_line (codes "cut ") a.cut ++ count_line (codes "vertices ") a.vertices)
 
 abbrev pub report_text : Answer → List ℕ
 report_text a = truth_line a.truth ++ counts_text a

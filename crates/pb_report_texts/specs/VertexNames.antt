@@ -1,5 +1,6 @@
 -- The names of the vertices of a game of reached instances: the sinks and the instances have one.
-use Rattle.std.specs.Prelude.{ℕ, zero, suc, ◌+◌, ◌-◌, ◌<◌, ◌≤◌, ◌==◌, List, [], ◌∷◌, ◌++◌, Option, Some, None, codes, decimal, length, slice_index, if◌then◌else◌}
+use Rattle.std.specs.Prelude.{ℕ, zero, suc, ◌+◌, ◌-◌, ◌<◌, ◌≤◌, ◌==◌, List, [], ◌∷◌, ◌++◌, Option}
+use Rattle.std.specs.Prelude.{Some, None, codes, decimal, length, slice_index, if◌then◌else◌}
 use Rattle.pb_trees.specs.Rows.{Row}
 use Rattle.pb_trees.specs.Game.{inner}
 use Rattle.pb_rows.specs.Row as in_memory
@@ -12,7 +13,8 @@ use Rattle.pb_report_texts.specs.GameText.{vertex_at, vertex_line}
 -- the number of the instance whose vertex this is, where the rows' vertices begin at next
 abbrev pub instance_at : List Row → ℕ → ℕ → Option ℕ
 instance_at [] next v = None
-instance_at (row ∷ rows) next v = if v == next then Some row.number else instance_at rows (suc (next + inner row.tree)) v
+instance_at (row ∷ rows) next v =
+    if v == next then Some row.number else instance_at rows (suc (next + inner row.tree)) v
 
 abbrev pub instance_named : Contents → Option ℕ → Option (List ℕ)
 instance_named m None = None
@@ -31,7 +33,8 @@ vertex_name m rows v = name_by m v (instance_at rows 2 v)
 
 -- the number of the row whose vertex this is
 abbrev pub number_in : List ℕ → List in_memory.Row → ℕ → Option ℕ
-number_in (x ∷ vertices) (row ∷ rows) v = if v == x then Some row.number else number_in vertices rows v
+number_in (x ∷ vertices) (row ∷ rows) v =
+    if v == x then Some row.number else number_in vertices rows v
 number_in (x ∷ vertices) [] v = None
 number_in [] rows v = None
 
@@ -44,7 +47,8 @@ pub record IsAtRow (vertices : List ℕ) (k v : ℕ) : Type 0 where
   pub behind : (j : ℕ) → k ≤ j → j < length vertices → v ≤ slice_index vertices j
 
 abbrev pub AreRising : List ℕ → Type 0
-AreRising vertices = (i j : ℕ) → i < j → j < length vertices → slice_index vertices i < slice_index vertices j
+AreRising vertices =
+    (i j : ℕ) → i < j → j < length vertices → slice_index vertices i < slice_index vertices j
 
 -- so many lines of a game, from the vertex v on
 abbrev pub lines_of : (ℕ → Option (List ℕ)) → Game → ℕ → ℕ → List ℕ

@@ -1,7 +1,5 @@
 //! The answer to a system, and its report.
-ghost use Rattle.std.specs.Prelude.{◌≡◌, ◌++◌, codes, OnOk, true, IfErr};
-ghost use Rattle.std.specs.Io.KnownBytes.{Appends};
-ghost use Rattle.pb_sorts.specs.Sink.{AppendsPrefix};
+ghost use Rattle.std.specs.Prelude.{◌≡◌, true, IfErr};
 ghost use Rattle.pb_report_texts.specs.Sending.{Sends, Writes, IsOutOfMemory};
 ghost use Rattle.pb_report_texts.specs.Report.{truth_line, count_line, counts_text, report_text};
 

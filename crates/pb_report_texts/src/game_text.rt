@@ -1,6 +1,6 @@
 //! The text of a game of reached instances, in the form that PGSolver reads.
-ghost use Rattle.std.specs.Prelude.{◌≡◌, ◌<◌, ◌-◌, ◌++◌, ◌↔◌, ℕ, List, map, IfSome, IsSome, Some};
-ghost use Rattle.std.specs.Prelude.{None, length, slice_index, slice_get, IfErr};
+ghost use Rattle.std.specs.Prelude.{◌≡◌, ◌<◌, ◌-◌, ◌↔◌, ℕ, IfSome, IsSome, Some};
+ghost use Rattle.std.specs.Prelude.{None, length, slice_index, IfErr};
 ghost use Rattle.pb_rows.specs.Row as in_memory;
 ghost use Rattle.pb_sorts.specs.Layout.{count_of};
 ghost use Rattle.pb_bytecode.specs.Meaning.{parameters, AreTrees};

@@ -1,6 +1,5 @@
 //! The names of instances.
 ghost use Rattle.std.specs.Prelude.{◌≡◌, ◌<◌, drop, length, map};
-ghost use Rattle.std.specs.Fmt.{signed_decimal};
 ghost use Rattle.pb_sorts.specs.Layout.{count_of};
 ghost use Rattle.pb_bytecode.specs.Meaning.{parameters};
 ghost use Rattle.pb_bytecode.specs.Views.{sort_contents};

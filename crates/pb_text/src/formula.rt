@@ -125,7 +125,7 @@ fn node(input: &mut Input<'_>, alloc: Global, depth: u32) -> Result<Formula, Rea
         }
         Kind::Val => value(input, alloc, depth),
         Kind::Name => Ok(Formula::Instance(instance(input, alloc, depth)?)),
-        _ => Err(input.refuse(ReadingRule::Unexpected)),
+        _ => Err(ReadingFault::At(input.refuse(ReadingRule::Unexpected))),
     }
 }
 

@@ -70,7 +70,7 @@ fn sort(input: &mut Input<'_>, alloc: Global) -> Result<Sort, ReadingFault>
             input.expect(Kind::Semicolon)?;
             Ok(Sort::Alias(target))
         }
-        _ => Err(input.refuse(ReadingRule::Unexpected)),
+        _ => Err(ReadingFault::At(input.refuse(ReadingRule::Unexpected))),
     }
 }
 

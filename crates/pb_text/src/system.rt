@@ -3,7 +3,7 @@
 ghost use Rattle.std.specs.Prelude.{◌≡◌, ◌<◌, ◌≤◌, length, OnOk, map, []};
 ghost use Rattle.pb_text_tree.specs.Form.{formula_form, variable_forms, equation_form};
 ghost use Rattle.pb_text_tree.specs.Form.{instance_form, range_form, spec_form};
-ghost use Rattle.pb_text_lexer.specs.Steps.{Gives};
+ghost use Rattle.pb_text_lexer.specs.Steps.{Gives, GivesExactly};
 ghost use Rattle.pb_text.specs.Parsing.{depth_limit};
 ghost use Rattle.pb_text.specs.Reading as reading;
 
@@ -12,7 +12,7 @@ use crate::limits::DEPTH_LIMIT;
 use crate::next::unless;
 use crate::sort::sort_parts;
 use pb_fixpoint::Sign;
-use pb_text_lexer::fault::{ReadingFault, ReadingRule};
+use pb_text_lexer::fault::{ReadingFault, ReadingRule, Refusal};
 use pb_text_lexer::input::Input;
 use pb_text_lexer::kind::{Kind, same_kind};
 use pb_text_terms::term::instance;
@@ -27,10 +27,10 @@ fn begins_equation(kind: Kind) -> bool
     same_kind(kind, Kind::Mu) || same_kind(kind, Kind::Nu)
 }
 
-/// `mu` or `nu`.
+/// `mu` or `nu`. Another token is refused as `ReadingRule::Unexpected`, which is the one error.
 #[tactic(auto, unfolding(crate::specs::Reading::sign_of))]
-fn sign(input: &mut Input<'_>) -> Result<Sign, ReadingFault>
-    ensures reads { Gives (λ x. x) (reading.sign_of input.old) result input.new }
+fn sign(input: &mut Input<'_>) -> Result<Sign, Refusal>
+    ensures reads { GivesExactly (λ x. x) (reading.sign_of input.old) result input.new }
     ensures fewer { OnOk result (length input.new.tokens < length input.old.tokens) }
 {
     match input.kind() {
@@ -150,6 +150,6 @@ pub fn whole(input: &mut Input<'_>, alloc: Global) -> Result<Spec, ReadingFault>
     if same_kind(input.kind(), Kind::End) {
         Ok(text)
     } else {
-        Err(input.refuse(ReadingRule::Unexpected))
+        Err(ReadingFault::At(input.refuse(ReadingRule::Unexpected)))
     }
 }

@@ -1,9 +1,10 @@
 -- Bytes, words and digits of a text.
 use Rattle.std.specs.Prelude.{ℕ, ◌^◌, Bool, false, not, ◌&&◌, ◌||◌, if◌then◌else◌, ◌==◌, ◌≤◌, nat_lt, List, [], ◌∷◌, length, take_while, codes, Option, Some, None, map}
 use Rattle.std.specs.Borrow.{Bor}
-use Rattle.std.specs.Char.{is_ascii_digit, is_ascii_alphabetic}
+use Rattle.std.specs.Char.{is_ascii_digit}
 use Rattle.std.specs.Str.{bytes_eq}
 use Rattle.std.specs.Str.Parse.{digits_value, AllDigits}
+pub use Rattle.pb_names.specs.Names.{is_letter, is_name_byte}
 use Rattle.pb_text_lexer.specs.declared.kind.Kind.{Kind}
 use Rattle.pb_text_lexer.specs.declared.kind.Kind.TheVariants as k
 use Rattle.pb_text_lexer.specs.Kinds.{same_kind}
@@ -13,12 +14,6 @@ use Rattle.pb_text_lexer.specs.Kinds.{same_kind}
 -- a space, a tab, a line feed, a carriage return
 abbrev pub is_blank : ℕ → Bool
 is_blank b = b == 32 || b == 9 || b == 10 || b == 13
-
-abbrev pub is_letter : ℕ → Bool
-is_letter b = is_ascii_alphabetic b || b == 95
-
-abbrev pub is_name_byte : ℕ → Bool
-is_name_byte b = is_letter b || is_ascii_digit b || b == 39
 
 abbrev pub name_bytes : List ℕ → List ℕ
 name_bytes = take_while is_name_byte

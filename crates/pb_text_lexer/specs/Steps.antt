@@ -1,5 +1,5 @@
 -- The words of a grammar as functions, which compute what is read or the token that is refused.
-use Rattle.std.specs.Prelude.{◌≡◌, ℕ, zero, suc, ◌-◌, Bool, false, if◌then◌else◌, ◌==◌, ◌||◌, List, [], ◌∷◌, length, Result, Ok, Err, IfErr}
+use Rattle.std.specs.Prelude.{◌≡◌, ℕ, zero, suc, ◌-◌, Bool, false, if◌then◌else◌, ◌==◌, ◌||◌, List, [], ◌∷◌, length, Result, Ok, Err}
 use Rattle.pb_text_tree.specs.declared.place.Place.{Place}
 use Rattle.pb_text_lexer.specs.declared.kind.Kind.{Kind}
 use Rattle.pb_text_lexer.specs.declared.kind.Kind.TheVariants.{End, And, Or, Implies}
@@ -193,8 +193,14 @@ comparison test join item = extended test item (λ x. unless_next test (do
   y ← item
   pure (join x operator y)))
 
--- ---- what a function of the code returned is what a step gives, unless memory ran out
+-- ---- what a function of the code returned is what a step gives
 
+-- where it asks for no memory: what is read, or the refusal
+abbrev pub GivesExactly : {X Y : Type 0} → (X → Y) → Outcome Y → Result X Refusal → State → Type 0
+GivesExactly view read (Ok x) new = read ≡ Ok (view x, new)
+GivesExactly view read (Err refused) new = read ≡ Err refused
+
+-- where it asks for memory: the same, unless memory ran out
 abbrev pub Fails : {Y : Type 0} → Outcome Y → ReadingFault → Type 0
 Fails read Memory = Unit {0}
 Fails read (At refused) = read ≡ Err refused
@@ -202,7 +208,3 @@ Fails read (At refused) = read ≡ Err refused
 abbrev pub Gives : {X Y : Type 0} → (X → Y) → Outcome Y → Result X ReadingFault → State → Type 0
 Gives view read (Ok x) new = read ≡ Ok (view x, new)
 Gives view read (Err e) new = Fails read e
-
--- the one error is the refusal of the next token by this rule, so that memory is never wanted
-abbrev pub OnlyRefuses : {X : Type 0} → ReadingRule → State → Result X ReadingFault → Type 0
-OnlyRefuses rule s result = IfErr result (λ fault. fault ≡ At (refusal rule s.tokens))

@@ -1,7 +1,9 @@
-//! Bytes of a text: white space, letters, and how far names, lines and digits reach.
+//! Bytes of a text: white space, and how far names, lines and digits reach.
 
 ghost use Rattle.std.specs.Prelude.{◌≡◌, ◌≤◌, length};
 ghost use Rattle.pb_text_lexer.specs.Bytes as spec;
+
+use pb_names::is_name_byte;
 
 /// Whether a byte is white space.
 #[inline(always)]
@@ -9,22 +11,6 @@ pub fn is_blank(b: u8) -> bool
     ensures { result ≡ spec.is_blank b }
 {
     b == b' ' || b == b'\t' || b == b'\n' || b == b'\r'
-}
-
-/// Whether a name may begin with a byte.
-#[inline(always)]
-pub fn is_letter(b: u8) -> bool
-    ensures { result ≡ spec.is_letter b }
-{
-    b.is_ascii_alphabetic() || b == b'_'
-}
-
-/// Whether a name may go on with a byte.
-#[inline(always)]
-fn is_name_byte(b: u8) -> bool
-    ensures { result ≡ spec.is_name_byte b }
-{
-    is_letter(b) || b.is_ascii_digit() || b == b'\''
 }
 
 /// How many bytes at the front a name may have.

@@ -21,11 +21,23 @@ pub struct Refusal {
     pub place: Place,
 }
 
-/// Why reading stops: a token is refused, or memory ran out.
+/// Why reading stops where memory is asked for: a token is refused, or memory ran out. What asks
+/// for none has the refusal alone as its error.
 #[derive(Clone, Copy, Debug)]
 pub enum ReadingFault {
     Memory,
     At(Refusal),
+}
+
+impl From<Refusal> for ReadingFault {
+    ghost use Rattle.std.specs.Prelude.{◌≡◌};
+    ghost use Rattle.pb_text_lexer.specs.declared.fault.ReadingFault.TheVariants.{At};
+
+    ghost from_gives = { λ refused e. e ≡ At refused };
+
+    fn from(refused: Refusal) -> ReadingFault {
+        ReadingFault::At(refused)
+    }
 }
 
 impl From<AllocError> for ReadingFault {

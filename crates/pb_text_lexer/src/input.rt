@@ -7,11 +7,11 @@ ghost use Rattle.pb_text_lexer.specs.Kinds.{is_last};
 ghost use Rattle.pb_text_lexer.specs.Lexing.{start};
 ghost use Rattle.pb_text_lexer.specs.Remaining.{tokens_from};
 ghost use Rattle.pb_text_lexer.specs.Steps as spec;
-ghost use Rattle.pb_text_lexer.specs.Steps.{Gives, OnlyRefuses};
+ghost use Rattle.pb_text_lexer.specs.Steps.{GivesExactly};
 ghost use Rattle.pb_text_lexer.specs.Tokens.{tok, token_at};
 
 use crate::digits::value_within;
-use crate::fault::{ReadingFault, ReadingRule, Refusal};
+use crate::fault::{ReadingRule, Refusal};
 use crate::kind::{Kind, same_kind};
 use crate::lexer::{Lexer, first_token, text_of};
 use crate::piece::LARGEST_NUMBER;
@@ -95,11 +95,11 @@ impl<'a> Input<'a> {
     }
 
     /// The refusal of the next token.
-    pub fn refuse(&self, rule: ReadingRule) -> ReadingFault
-        ensures { result ≡ ReadingFault.At (spec.refusal rule self.now.tokens) }
+    pub fn refuse(&self, rule: ReadingRule) -> Refusal
+        ensures { result ≡ spec.refusal rule self.now.tokens }
     {
         let Token { kind, place, .. } = self.lexer.token;
-        ReadingFault::At(Refusal { rule, kind, place })
+        Refusal { rule, kind, place }
     }
 
     /// Takes the next token.
@@ -116,13 +116,11 @@ impl<'a> Input<'a> {
 
     /// Takes the next token, which must be of this kind.
     ///
-    /// A token of another kind is refused as `ReadingRule::Unexpected`, which is the one error: no
-    /// memory is asked for.
+    /// A token of another kind is refused as `ReadingRule::Unexpected`, which is the one error.
     #[tactic(auto, unfolding(crate::specs::Steps::expect))]
-    pub fn expect(&mut self, kind: Kind) -> Result<Token<'a>, ReadingFault>
+    pub fn expect(&mut self, kind: Kind) -> Result<Token<'a>, Refusal>
         requires { is_last kind ≡ false }
-        ensures reads { Gives tok (spec.expect kind self.old) result self.new }
-        ensures refused { OnlyRefuses ReadingRule.Unexpected self.old result }
+        ensures reads { GivesExactly tok (spec.expect kind self.old) result self.new }
         ensures fewer { OnOk result (length self.new.tokens < length self.old.tokens) }
     {
         if same_kind(self.kind(), kind) {
@@ -134,13 +132,11 @@ impl<'a> Input<'a> {
 
     /// Takes the next token, which must be a name, and gives its place and its text.
     ///
-    /// A token of another kind is refused as `ReadingRule::Unexpected`, which is the one error: no
-    /// memory is asked for.
+    /// A token of another kind is refused as `ReadingRule::Unexpected`, which is the one error.
     #[tactic(auto, unfolding(crate::specs::Steps::expect))]
-    pub fn expect_name(&mut self) -> Result<(Place, &'a str), ReadingFault>
-        ensures reads { Gives (λ name. token_at name.0 Kind.Name name.1.now)
+    pub fn expect_name(&mut self) -> Result<(Place, &'a str), Refusal>
+        ensures reads { GivesExactly (λ name. token_at name.0 Kind.Name name.1.now)
             (spec.expect Kind.Name self.old) result self.new }
-        ensures refused { OnlyRefuses ReadingRule.Unexpected self.old result }
         ensures fewer { OnOk result (length self.new.tokens < length self.old.tokens) }
     {
         if !same_kind(self.kind(), Kind::Name) {
@@ -156,10 +152,9 @@ impl<'a> Input<'a> {
     /// Where no more of these may come it is refused as `ReadingRule::Limit`, which is the one
     /// error.
     #[tactic(auto, unfolding(crate::specs::Steps::take_operator))]
-    pub fn take_operator(&mut self) -> Result<Token<'a>, ReadingFault>
+    pub fn take_operator(&mut self) -> Result<Token<'a>, Refusal>
         requires { is_last (spec.kind self.old) ≡ false }
-        ensures reads { Gives tok (spec.take_operator self.old) result self.new }
-        ensures refused { OnlyRefuses ReadingRule.Limit self.old result }
+        ensures reads { GivesExactly tok (spec.take_operator self.old) result self.new }
         ensures fewer { OnOk result (length self.new.tokens < length self.old.tokens) }
     {
         if self.operators == 0 {
@@ -172,10 +167,9 @@ impl<'a> Input<'a> {
     /// Takes the next token, which opens a level, where so many levels may still open.
     ///
     /// Where none may, it is refused as `ReadingRule::Limit`, which is the one error.
-    pub fn enter(&mut self, depth: u32) -> Result<Token<'a>, ReadingFault>
+    pub fn enter(&mut self, depth: u32) -> Result<Token<'a>, Refusal>
         requires { is_last (spec.kind self.old) ≡ false }
-        ensures reads { Gives tok (spec.enter depth self.old) result self.new }
-        ensures refused { OnlyRefuses ReadingRule.Limit self.old result }
+        ensures reads { GivesExactly tok (spec.enter depth self.old) result self.new }
         ensures fewer { OnOk result (length self.new.tokens < length self.old.tokens) }
         ensures deeper { OnOk result (0 < depth) }
     {

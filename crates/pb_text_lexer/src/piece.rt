@@ -4,11 +4,12 @@ ghost use Rattle.std.specs.Prelude.{◌≡◌};
 ghost use Rattle.std.specs.Str.Parse.{AllDigits};
 ghost use Rattle.pb_text_lexer.specs.Lexing as spec;
 
-use crate::bytes::{digits_len, is_blank, is_letter, line_len, name_len};
+use crate::bytes::{digits_len, is_blank, line_len, name_len};
 use crate::digits::value_within;
 use crate::kind::Kind;
 use crate::range_line::is_wrong;
 use crate::word::word_kind;
+use pb_names::is_letter;
 use pb_text_tree::Place;
 
 /// What stands at the front of a text, with its length in bytes.

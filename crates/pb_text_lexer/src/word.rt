@@ -3,8 +3,9 @@
 ghost use Rattle.std.specs.Prelude.{◌≡◌};
 ghost use Rattle.pb_text_lexer.specs.Bytes as spec;
 
-use crate::bytes::{is_letter, name_len};
+use crate::bytes::name_len;
 use crate::kind::{Kind, same_kind};
+use pb_names::is_letter;
 
 /// The reserved words.
 const WORDS: [(&str, Kind); 24] = [

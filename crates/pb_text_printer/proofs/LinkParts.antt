@@ -2,6 +2,7 @@
 use Rattle.std.proofs.Common.{◌≡◌, ℕ, ◌+◌, ◌<◌, ◌≤◌, arith, Bool, true, false, List, [], ◌∷◌, ◌++◌, length, get_or, drop, map, refl, sym, ◌∙◌, ap, length-drop, Box, Vec, Global}
 use Rattle.std.specs.Prelude.{box_value, Some, None}
 use Rattle.std.specs.List.{slice_get}
+use Rattle.std.proofs.lemmas.List.{drop_all}
 use Rattle.pb_text_tree.specs.declared.place.Place.{Place}
 use Rattle.pb_text_tree.specs.declared.operator.Connective.{Connective}
 use Rattle.pb_text_tree.specs.declared.operator.Connective.TheVariants as connective
@@ -17,7 +18,7 @@ use Rattle.pb_text_printer.specs.declared.level.Level.{Level}
 use Rattle.pb_text_printer.specs.Words.{Word, put, fits, needs_no_brackets, term_words, formula_needs_no_brackets, formula_words, connective_word, connective_level, term_side, formula_side}
 use Rattle.pb_text_printer.specs.Page.{Page, after}
 use Rattle.pb_text_printer.specs.Parts.{placed_words, placed_formula, chain_words, link_words, formula_link_words}
-use Rattle.pb_text_printer.proofs.PageLemmas.{left, left-next, left-end, first-none, first-some}
+use Rattle.pb_text_printer.proofs.PageLemmas.{left, left-next, first-none, first-some}
 
 module _ {A F : Type 0} (form : A → Place × F) (w : Word) (inner last : F → List Word) where
   abbrev pub words_of : List A → List Word
@@ -39,11 +40,11 @@ module _ {A F : Type 0} (form : A → Place × F) (w : Word) (inner last : F →
       → q ≡ after (w ∷ []) p → after (last (form l).1) q ≡ after (words_of (drop k ls)) p
   link-last ls k l p q end at first =
       ap (after (last (form l).1)) first
-      ∙ ap (λ (v : List A). after (words_of (l ∷ v)) p) (sym (left-end ls (k + 1) (omega arith)))
+      ∙ ap (λ (v : List A). after (words_of (l ∷ v)) p) (sym (drop_all (k + 1) ls (omega arith)))
       ∙ ap (λ (v : List A). after (words_of v) p) (sym (left-next ls k l (omega arith) at))
 
   pub links-end : (ls : List A) (k : ℕ) (p : Page) → length ls ≤ k → p ≡ after (words_of (drop k ls)) p
-  links-end ls k p end = ap (λ (v : List A). after (words_of v) p) (sym (left-end ls k end))
+  links-end ls k p end = ap (λ (v : List A). after (words_of v) p) (sym (drop_all k ls end))
 
 fits-itself : (c : Connective) → fits (connective_level c) (connective_level c) ≡ true
 fits-itself connective.And = refl

@@ -1,17 +1,17 @@
 -- Arguments, enumerators and the lines of a text that are written one after another.
 use Rattle.std.proofs.Common.{◌≡◌, ℕ, ◌+◌, ◌<◌, ◌≤◌, zero, suc, arith, add-one, true, false, List, [], ◌∷◌, ◌++◌, length, get_or, drop, map, refl, sym, ◌∙◌, ap}
 use Rattle.std.specs.Prelude.{flat_map, codes, ◌==◌}
-use Rattle.std.proofs.lemmas.Bool.{eqb-true}
+use Rattle.std.proofs.lemmas.List.{append-nil, drop_all}
 use Rattle.pb_text_tree.specs.declared.place.Place.{Place}
 use Rattle.pb_text_tree.specs.declared.term.Argument.{Argument}
 use Rattle.pb_text_tree.specs.declared.sort.Enumerator.{Enumerator}
 use Rattle.pb_text_tree.specs.declared.sort.Range.{Range}
 use Rattle.pb_text_tree.specs.Form.{TermForm, ArgumentForms, argument, term_form, argument_forms, EnumeratorForm, enumerator_form, range_form}
 use Rattle.pb_text_lexer.specs.declared.kind.Kind.TheVariants as k
-use Rattle.pb_text_printer.specs.Words.{Word, word, term_words, list_words, more_words, close_word, enumerator_words, enumerators_words, range_bytes}
+use Rattle.pb_text_printer.specs.Words.{Word, word, term_words, more_words, close_word, enumerator_words, enumerators_words, range_bytes}
 use Rattle.pb_text_printer.specs.Page.{Page, after, typed, broken}
 use Rattle.pb_text_printer.specs.Parts.{separator, arguments_from, bar_words, barred_words, enumerators_from, behind_ranges}
-use Rattle.pb_text_printer.proofs.PageLemmas.{left, left-next, left-end}
+use Rattle.pb_text_printer.proofs.PageLemmas.{left, left-next}
 
 -- ---- arguments
 
@@ -35,20 +35,12 @@ argument-next xs n x p q r below at first second =
 pub arguments-end : (xs : List Argument) (n : ℕ) → length xs ≤ n → false ≡ (length xs == 0) → close_word ∷ [] ≡ arguments_from n (argument_forms (drop n xs))
 arguments-end [] n h some = cc
 arguments-end (x ∷ xs) zero h some = absurd (omega arith)
-arguments-end (x ∷ xs) (suc n) h some = ap (λ (v : List Argument). more_words (argument_forms v)) (sym (left-end xs n (omega arith)))
-
-pub no-arguments : (xs : List Argument) → true ≡ (length xs == 0) → [] ≡ list_words (argument_forms xs)
-no-arguments [] none = refl
-no-arguments (x ∷ xs) none = let none' : length (x ∷ xs) ≡ 0 = eqb-true (length (x ∷ xs)) 0 (sym none) in absurd (omega (arith, none'))
+arguments-end (x ∷ xs) (suc n) h some = ap (λ (v : List Argument). more_words (argument_forms v)) (sym (drop_all n xs (omega arith)))
 
 -- ---- enumerators
 
 barred : (e : EnumeratorForm) (es : List EnumeratorForm) → enumerators_words (e ∷ es) ≡ enumerator_words e ++ barred_words es
-barred e [] = sym (by (enumerator_words e))
-  where
-    by : (ws : List Word) → ws ++ [] ≡ ws
-    by [] = refl
-    by (w ∷ ws) = ap (λ (v : List Word). w ∷ v) (by ws)
+barred e [] = sym (append-nil (enumerator_words e))
 barred e (f ∷ es) = ap (λ (v : List Word). enumerator_words e ++ (word k.Bar (codes "|") ∷ v)) (barred f es)
 
 from-enumerator : (n : ℕ) (e : EnumeratorForm) (es : List EnumeratorForm) → enumerators_from n (e ∷ es) ≡ bar_words n ++ (enumerator_words e ++ barred_words es)
@@ -74,7 +66,7 @@ no-enumerators (suc n) = refl
 
 pub enumerators-end : (es : List Enumerator) (n : ℕ) (p : Page) → length es ≤ n → p ≡ after (enumerators_from n (map enumerator_form (drop n es))) p
 enumerators-end es n p h =
-    ap (λ (w : List Word). after w p) (no-enumerators n) ∙ ap (λ (v : List Enumerator). after (enumerators_from n (map enumerator_form v)) p) (sym (left-end es n h))
+    ap (λ (w : List Word). after w p) (no-enumerators n) ∙ ap (λ (v : List Enumerator). after (enumerators_from n (map enumerator_form v)) p) (sym (drop_all n es h))
 
 -- ---- lines
 
@@ -86,7 +78,7 @@ module _ {A F : Type 0} (form : A → F) (words : F → List Word) where
       ∙ ap (λ (v : List A). after (flat_map words (map form v)) p) (sym (left-next xs n x below at))
 
   pub lines-end : (xs : List A) (n : ℕ) (p : Page) → length xs ≤ n → p ≡ after (flat_map words (map form (drop n xs))) p
-  lines-end xs n p h = ap (λ (v : List A). after (flat_map words (map form v)) p) (sym (left-end xs n h))
+  lines-end xs n p h = ap (λ (v : List A). after (flat_map words (map form v)) p) (sym (drop_all n xs h))
 
 pub range-next : (xs : List Range) (n : ℕ) (x : Range) (p q : Page) → n < length xs → x ≡ get_or xs n x → q ≡ broken (typed false true (range_bytes (range_form x)) p)
     → behind_ranges (map range_form (drop (n + 1) xs)) q ≡ behind_ranges (map range_form (drop n xs)) p
@@ -94,4 +86,4 @@ range-next xs n x p q below at first =
     ap (behind_ranges (map range_form (drop (n + 1) xs))) first ∙ ap (λ (v : List Range). behind_ranges (map range_form v) p) (sym (left-next xs n x below at))
 
 pub ranges-end : (xs : List Range) (n : ℕ) (p : Page) → length xs ≤ n → p ≡ behind_ranges (map range_form (drop n xs)) p
-ranges-end xs n p h = ap (λ (v : List Range). behind_ranges (map range_form v) p) (sym (left-end xs n h))
+ranges-end xs n p h = ap (λ (v : List Range). behind_ranges (map range_form v) p) (sym (drop_all n xs h))

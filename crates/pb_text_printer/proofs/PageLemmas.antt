@@ -1,7 +1,9 @@
 -- Words that are written one after another, and the bytes that they are.
-use Rattle.std.proofs.Common.{◌≡◌, ℕ, ◌+◌, ◌<◌, ◌≤◌, zero, suc, arith, Bool, true, false, List, [], ◌∷◌, ◌++◌, length, get_or, drop, refl, sym, ◌∙◌, ap, add-one, append_assoc}
+use Rattle.std.proofs.Common.{◌≡◌, ℕ, ◌+◌, ◌<◌, suc, Bool, true, false, List, [], ◌∷◌, ◌++◌, length, get_or, drop, refl, sym, ◌∙◌, ap, add-one, append_assoc}
 use Rattle.std.specs.Prelude.{◌&&◌, if◌then◌else◌, Some, None}
 use Rattle.std.specs.List.{slice_get}
+use Rattle.std.proofs.Math.Bool.{and_comm}
+use Rattle.std.proofs.Math.Seq.{drop-cons}
 use Rattle.std.proofs.lemmas.List.{append-nil}
 use Rattle.pb_text_printer.specs.Words.{Word, written, put, open_word, close_word}
 use Rattle.pb_text_printer.specs.Page.{Page, typed, ended, with_word, after}
@@ -22,18 +24,7 @@ bracketed w b ends p q r none opens inner =
 module _ {A : Type 0} where
   -- the elements that are left from k on
   pub left-next : (xs : List A) (k : ℕ) (x : A) → k < length xs → x ≡ get_or xs k x → drop k xs ≡ x ∷ drop (k + 1) xs
-  left-next xs k x below at = rw add-one (by xs k below at)
-    where
-      by : (xs : List A) (k : ℕ) → k < length xs → x ≡ get_or xs k x → drop k xs ≡ x ∷ drop (suc k) xs
-      by [] k below at = absurd (omega arith)
-      by (y ∷ xs) zero below at = ap (λ v. v ∷ xs) (sym at)
-      by (y ∷ xs) (suc k) below at = by xs k (omega arith) at
-
-  pub left-end : (xs : List A) (k : ℕ) → length xs ≤ k → drop k xs ≡ []
-  left-end [] zero h = refl
-  left-end [] (suc k) h = refl
-  left-end (x ∷ xs) zero h = absurd (omega arith)
-  left-end (x ∷ xs) (suc k) h = left-end xs k (omega arith)
+  left-next xs k x below at = rw add-one (drop-cons xs k x below ∙ ap (λ v. v ∷ drop (suc k) xs) (sym at))
 
   pub first-none : (xs : List A) → None ≡ slice_get xs 0 → xs ≡ []
   first-none [] h = refl
@@ -48,12 +39,6 @@ module _ {A : Type 0} where
 broken-bytes : (b s t r : List ℕ) → (b ++ (s ++ t)) ++ r ≡ b ++ (s ++ (t ++ r))
 broken-bytes b s t r = append_assoc b (s ++ t) r ∙ ap (λ (v : List ℕ). b ++ v) (append_assoc s t r)
 
-flip-and : (a b : Bool) → (a && b) ≡ (b && a)
-flip-and true true = refl
-flip-and true false = refl
-flip-and false true = refl
-flip-and false false = refl
-
 -- the bytes behind a word
 word-bytes : (w : Word) (ends : Bool) (p : Page) (rest : Bool → List ℕ) →
     (if ends then ended (typed w.spaced w.gap w.text p) else typed w.spaced w.gap w.text p).bytes ++ rest w.gap
@@ -61,10 +46,10 @@ word-bytes : (w : Word) (ends : Bool) (p : Page) (rest : Bool → List ℕ) →
 word-bytes w true p rest =
     append_assoc (p.bytes ++ ((if w.spaced && p.gap then 32 ∷ [] else []) ++ w.text)) (10 ∷ []) (rest w.gap)
     ∙ broken-bytes p.bytes (if w.spaced && p.gap then 32 ∷ [] else []) w.text (10 ∷ rest w.gap)
-    ∙ ap (λ (v : Bool). p.bytes ++ ((if v then 32 ∷ [] else []) ++ (w.text ++ (10 ∷ rest w.gap)))) (flip-and w.spaced p.gap)
+    ∙ ap (λ (v : Bool). p.bytes ++ ((if v then 32 ∷ [] else []) ++ (w.text ++ (10 ∷ rest w.gap)))) (and_comm w.spaced p.gap)
 word-bytes w false p rest =
     broken-bytes p.bytes (if w.spaced && p.gap then 32 ∷ [] else []) w.text (rest w.gap)
-    ∙ ap (λ (v : Bool). p.bytes ++ ((if v then 32 ∷ [] else []) ++ (w.text ++ rest w.gap))) (flip-and w.spaced p.gap)
+    ∙ ap (λ (v : Bool). p.bytes ++ ((if v then 32 ∷ [] else []) ++ (w.text ++ rest w.gap))) (and_comm w.spaced p.gap)
 
 word-gap : (w : Word) (ends : Bool) (p : Page) → (if ends then ended (typed w.spaced w.gap w.text p) else typed w.spaced w.gap w.text p).gap ≡ w.gap
 word-gap w true p = refl

@@ -7,6 +7,7 @@ use Rattle.std.specs.Str.Parse.{digits_value}
 use Rattle.std.specs.List.{prefix_len, take_while}
 use Rattle.std.proofs.Math.Seq.{take-append_seam, drop-append_seam}
 use Rattle.std.proofs.lemmas.List.Folds.{length-prefix_len, prefix_len-append}
+use Rattle.std.proofs.lemmas.Bool.{and_parts, not-true}
 use Rattle.std.proofs.lemmas.Bool.Decides.{nat_tests}
 use Rattle.std.proofs.lemmas.Fmt.{decimal_is_IsNumeral}
 use Rattle.pb_text_lexer.specs.Bytes.{is_name_byte, is_letter, name_bytes, digits, is_name, value_within, whole_within}
@@ -66,10 +67,6 @@ space-ends (b ∷ bs) h = subst (λ (c : ℕ). prefix_len no_gap (c ∷ bs) ≡ 
 pub record WordAt (bs w rest : List ℕ) : Type 0 where
   pub first : word bs ≡ w
   pub behind : behind_word bs ≡ rest
-
-not-true : (b : Bool) → not b ≡ true → b ≡ false
-not-true true h = cc
-not-true false h = refl
 
 behind-space : (b : ℕ) (bs : List ℕ) → no_gap b ≡ true → behind_gap (32 ∷ b ∷ bs) ≡ b ∷ bs
 behind-space b bs h =
@@ -174,22 +171,14 @@ pub name-bytes : (text : List ℕ) → is_name text ≡ true → (0 < length tex
 name-bytes [] h = cc
 name-bytes (b ∷ bs) h = ((let q : 0 < length (b ∷ bs) = omega arith in q), (name-of b front, counted-passing is_name_byte bs (sym (length-prefix_len is_name_byte bs) ∙ count)))
   where
-    left : (x y : Bool) → (x && y) ≡ true → x ≡ true
-    left true y e = refl
-    left false y e = e
-
-    right : (x y : Bool) → (x && y) ≡ true → y ≡ true
-    right true y e = e
-    right false y e = cc
-
     both : (is_letter b && length (name_bytes bs) == length bs) ≡ true
-    both = left (is_letter b && length (name_bytes bs) == length bs) _ h
+    both = (and_parts (is_letter b && length (name_bytes bs) == length bs) _ h).0
 
     front : is_letter b ≡ true
-    front = left (is_letter b) (length (name_bytes bs) == length bs) both
+    front = (and_parts (is_letter b) (length (name_bytes bs) == length bs) both).0
 
     count : length (name_bytes bs) ≡ length bs
-    count = let e = right (is_letter b) (length (name_bytes bs) == length bs) both in grind (arith, nat_tests)
+    count = let e = (and_parts (is_letter b) (length (name_bytes bs) == length bs) both).1 in grind (arith, nat_tests)
 
     name-of : (b : ℕ) → is_letter b ≡ true → is_name_byte b ≡ true
     name-of b e = grind (arith, nat_tests)

@@ -13,10 +13,6 @@ use Rattle.pb_text_printer.specs.Parts.{are_none, behind_ranges}
 use Rattle.pb_text_printer.proofs.PageLemmas.{left, after-written}
 use Rattle.pb_text_printer.proofs.VariableParts.{sorted}
 
--- words in the middle
-pub middle : (a b : List Word) (p q r : Page) → q ≡ after a p → r ≡ after b q → r ≡ after (a ++ b) p
-middle a b p q r first second = second ∙ left a b p q first
-
 -- ---- parameters
 
 names-none : (sort : Name) (ns : List Name) (rest : List VariableForm) → true ≡ (length ns == 0) → are_none (sorted sort ns ++ rest) ≡ are_none rest

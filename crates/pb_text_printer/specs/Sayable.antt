@@ -1,10 +1,16 @@
 -- Which trees a text can say, and how many levels and operators their printed words need.
-use Rattle.std.specs.Prelude.{ℤ, pos, negsuc, int_le, ◌≡◌, ◌≤◌, ℕ, zero, suc, ◌+◌, Bool, true, false, ◌||◌, List, [], ◌∷◌, Option, Some, None}
-use Rattle.pb_text_tree.specs.Form.{Named, VariableForm, TermForm, ArgumentForms, no_arguments, argument, InstanceForm, FormulaForm, EnumeratorForm, SortForm, struct, alias, SortDeclarationForm, RangeForm, EquationForm, SpecForm}
+use Rattle.std.specs.Prelude.{ℤ, pos, negsuc, int_le, ◌≡◌, ◌≤◌, ℕ, zero, suc, ◌+◌, Bool, true}
+use Rattle.std.specs.Prelude.{false, ◌||◌, List, [], ◌∷◌, Option, Some, None}
+use Rattle.pb_text_tree.specs.Form.{Named, VariableForm, TermForm, ArgumentForms, no_arguments}
+use Rattle.pb_text_tree.specs.Form.{argument, InstanceForm, FormulaForm, EnumeratorForm, SortForm}
+use Rattle.pb_text_tree.specs.Form.{struct, alias, SortDeclarationForm, RangeForm, EquationForm}
+use Rattle.pb_text_tree.specs.Form.{SpecForm}
 use Rattle.pb_text_lexer.specs.Bytes.{is_name}
 use Rattle.pb_text_lexer.specs.Lexing.{largest_number}
 use Rattle.pb_text_printer.specs.declared.level.Level.TheVariants as level
-use Rattle.pb_text_printer.specs.Words.{needs_no_brackets, goes_on, formula_needs_no_brackets, connective_level, term_side, formula_side, comparison_side, arithmetic_side}
+use Rattle.pb_text_printer.specs.Words.{needs_no_brackets, goes_on, formula_needs_no_brackets}
+use Rattle.pb_text_printer.specs.Words.{connective_level, term_side, formula_side, comparison_side}
+use Rattle.pb_text_printer.specs.Words.{arithmetic_side}
 
 -- ---- operators with two operands
 
@@ -63,16 +69,22 @@ abbrev mutual
   IsSayable (TermForm.constant p value) ends depth = Unit {0}
   IsSayable (TermForm.number p n) ends depth = n ≤ largest_number
   IsSayable (TermForm.name n) ends depth = IsName n
-  IsSayable (TermForm.not p x) ends depth = Opens depth (IsPut (needs_no_brackets x level.Unary false) (IsSayable x) false)
-  IsSayable (TermForm.negative p x) ends depth = Opens depth (IsPut (needs_no_brackets x level.Unary false) (IsSayable x) false)
+  IsSayable (TermForm.not p x) ends depth =
+      Opens depth (IsPut (needs_no_brackets x level.Unary false) (IsSayable x) false)
+  IsSayable (TermForm.negative p x) ends depth =
+      Opens depth (IsPut (needs_no_brackets x level.Unary false) (IsSayable x) false)
   IsSayable (TermForm.connected c p x y) ends depth =
-      IsPut (needs_no_brackets x (term_side c) false) (IsSayable x) false depth × IsPut (needs_no_brackets y (connective_level c) ends) (IsSayable y) ends depth
+      IsPut (needs_no_brackets x (term_side c) false) (IsSayable x) false depth
+      × IsPut (needs_no_brackets y (connective_level c) ends) (IsSayable y) ends depth
   IsSayable (TermForm.compared c p x y) ends depth =
-      IsPut (needs_no_brackets x (comparison_side c) false) (IsSayable x) false depth × IsPut (needs_no_brackets y (comparison_side c) false) (IsSayable y) false depth
+      IsPut (needs_no_brackets x (comparison_side c) false) (IsSayable x) false depth
+      × IsPut (needs_no_brackets y (comparison_side c) false) (IsSayable y) false depth
   IsSayable (TermForm.computed o p x y) ends depth =
-      IsPut (goes_on o x || needs_no_brackets x (arithmetic_side o) false) (IsSayable x) false depth × IsPut (needs_no_brackets y (arithmetic_side o) false) (IsSayable y) false depth
+      IsPut (goes_on o x || needs_no_brackets x (arithmetic_side o) false) (IsSayable x) false depth
+      × IsPut (needs_no_brackets y (arithmetic_side o) false) (IsSayable y) false depth
   IsSayable (TermForm.application f xs) ends depth = IsName f × AreSayable xs depth
-  IsSayable (TermForm.quantified q p vars x) ends depth = AreVariables vars × Opens depth (IsSayable x true)
+  IsSayable (TermForm.quantified q p vars x) ends depth =
+      AreVariables vars × Opens depth (IsSayable x true)
 
   -- one argument or more
   pub AreSayable : ArgumentForms → ℕ → Type 0
@@ -95,10 +107,13 @@ abbrev pub FormulaSayable : FormulaForm → Bool → ℕ → Type 0
 FormulaSayable (FormulaForm.constant p value) ends depth = Unit {0}
 FormulaSayable (FormulaForm.val p x) ends depth = Opens depth (IsSayable x true)
 FormulaSayable (FormulaForm.instance i) ends depth = InstanceSayable i depth
-FormulaSayable (FormulaForm.negation p x) ends depth = Opens depth (IsPut (formula_needs_no_brackets x level.Unary false) (FormulaSayable x) false)
+FormulaSayable (FormulaForm.negation p x) ends depth =
+    Opens depth (IsPut (formula_needs_no_brackets x level.Unary false) (FormulaSayable x) false)
 FormulaSayable (FormulaForm.connected c p x y) ends depth =
-    IsPut (formula_needs_no_brackets x (formula_side c) false) (FormulaSayable x) false depth × IsPut (formula_needs_no_brackets y (connective_level c) ends) (FormulaSayable y) ends depth
-FormulaSayable (FormulaForm.quantified q p vars x) ends depth = AreVariables vars × Opens depth (FormulaSayable x true)
+    IsPut (formula_needs_no_brackets x (formula_side c) false) (FormulaSayable x) false depth
+    × IsPut (formula_needs_no_brackets y (connective_level c) ends) (FormulaSayable y) ends depth
+FormulaSayable (FormulaForm.quantified q p vars x) ends depth =
+    AreVariables vars × Opens depth (FormulaSayable x true)
 
 -- ---- texts
 
@@ -132,9 +147,12 @@ ParametersSayable (v ∷ vs) depth = Opens depth (λ d. AreVariables (v ∷ vs))
 
 -- within so many levels and operators
 abbrev pub EquationSayable : ℕ → ℕ → EquationForm → Type 0
-EquationSayable depth limit e = IsName e.name × ParametersSayable e.parameters depth × FormulaSayable e.right true depth × (formula_operators e.right ≤ limit)
+EquationSayable depth limit e =
+    IsName e.name × ParametersSayable e.parameters depth × FormulaSayable e.right true depth
+    × (formula_operators e.right ≤ limit)
 
--- A text that can be said, but for its range lines: each equation, and the initial instance, may have so many operators.
+-- A text that can be said, but for its range lines: each equation, and the initial instance, may
+-- have so many operators.
 pub record TextSayable (depth limit : ℕ) (s : SpecForm) : Type 0 where
   pub sorts : Each DeclarationSayable s.sorts
   pub equations : EachOf (EquationSayable depth limit) s.equations

@@ -1,7 +1,10 @@
 -- What a syntax tree says but for places: all of them are the text's first.
 use Rattle.std.specs.Prelude.{List, map, Option, Some, None}
 use Rattle.pb_text_tree.specs.declared.place.Place.{Place}
-use Rattle.pb_text_tree.specs.Form.{Named, VariableForm, TermForm, ArgumentForms, no_arguments, argument, InstanceForm, FormulaForm, EnumeratorForm, SortForm, struct, alias, SortDeclarationForm, RangeForm, EquationForm, SpecForm}
+use Rattle.pb_text_tree.specs.Form.{Named, VariableForm, TermForm, ArgumentForms, no_arguments}
+use Rattle.pb_text_tree.specs.Form.{argument, InstanceForm, FormulaForm, EnumeratorForm, SortForm}
+use Rattle.pb_text_tree.specs.Form.{struct, alias, SortDeclarationForm, RangeForm, EquationForm}
+use Rattle.pb_text_tree.specs.Form.{SpecForm}
 
 abbrev pub nowhere : Place
 nowhere = record { line = 1; column = 1 }
@@ -22,33 +25,42 @@ abbrev mutual
   unplaced_term (TermForm.name n) = TermForm.name (unplaced_name n)
   unplaced_term (TermForm.not p x) = TermForm.not nowhere (unplaced_term x)
   unplaced_term (TermForm.negative p x) = TermForm.negative nowhere (unplaced_term x)
-  unplaced_term (TermForm.connected c p x y) = TermForm.connected c nowhere (unplaced_term x) (unplaced_term y)
-  unplaced_term (TermForm.compared c p x y) = TermForm.compared c nowhere (unplaced_term x) (unplaced_term y)
-  unplaced_term (TermForm.computed o p x y) = TermForm.computed o nowhere (unplaced_term x) (unplaced_term y)
-  unplaced_term (TermForm.application f xs) = TermForm.application (unplaced_name f) (unplaced_arguments xs)
-  unplaced_term (TermForm.quantified q p vars x) = TermForm.quantified q nowhere (unplaced_variables vars) (unplaced_term x)
+  unplaced_term (TermForm.connected c p x y) =
+      TermForm.connected c nowhere (unplaced_term x) (unplaced_term y)
+  unplaced_term (TermForm.compared c p x y) =
+      TermForm.compared c nowhere (unplaced_term x) (unplaced_term y)
+  unplaced_term (TermForm.computed o p x y) =
+      TermForm.computed o nowhere (unplaced_term x) (unplaced_term y)
+  unplaced_term (TermForm.application f xs) =
+      TermForm.application (unplaced_name f) (unplaced_arguments xs)
+  unplaced_term (TermForm.quantified q p vars x) =
+      TermForm.quantified q nowhere (unplaced_variables vars) (unplaced_term x)
 
   pub unplaced_arguments : ArgumentForms → ArgumentForms
   unplaced_arguments no_arguments = no_arguments
   unplaced_arguments (argument p x xs) = argument nowhere (unplaced_term x) (unplaced_arguments xs)
 
 abbrev pub unplaced_instance : InstanceForm → InstanceForm
-unplaced_instance i = record { name = unplaced_name i.name; arguments = unplaced_arguments i.arguments }
+unplaced_instance i =
+    record { name = unplaced_name i.name; arguments = unplaced_arguments i.arguments }
 
 abbrev pub unplaced_formula : FormulaForm → FormulaForm
 unplaced_formula (FormulaForm.constant p value) = FormulaForm.constant nowhere value
 unplaced_formula (FormulaForm.val p x) = FormulaForm.val nowhere (unplaced_term x)
 unplaced_formula (FormulaForm.instance i) = FormulaForm.instance (unplaced_instance i)
 unplaced_formula (FormulaForm.negation p x) = FormulaForm.negation nowhere (unplaced_formula x)
-unplaced_formula (FormulaForm.connected c p x y) = FormulaForm.connected c nowhere (unplaced_formula x) (unplaced_formula y)
-unplaced_formula (FormulaForm.quantified q p vars x) = FormulaForm.quantified q nowhere (unplaced_variables vars) (unplaced_formula x)
+unplaced_formula (FormulaForm.connected c p x y) =
+    FormulaForm.connected c nowhere (unplaced_formula x) (unplaced_formula y)
+unplaced_formula (FormulaForm.quantified q p vars x) =
+    FormulaForm.quantified q nowhere (unplaced_variables vars) (unplaced_formula x)
 
 abbrev pub unplaced_recogniser : Option Named → Option Named
 unplaced_recogniser None = None
 unplaced_recogniser (Some n) = Some (unplaced_name n)
 
 abbrev pub unplaced_enumerator : EnumeratorForm → EnumeratorForm
-unplaced_enumerator e = record { name = unplaced_name e.name; recogniser = unplaced_recogniser e.recogniser }
+unplaced_enumerator e =
+    record { name = unplaced_name e.name; recogniser = unplaced_recogniser e.recogniser }
 
 abbrev pub unplaced_sort : SortForm → SortForm
 unplaced_sort (struct enumerators) = struct (map unplaced_enumerator enumerators)
@@ -61,7 +73,12 @@ abbrev pub unplaced_range : RangeForm → RangeForm
 unplaced_range r = record r { place = nowhere }
 
 abbrev pub unplaced_equation : EquationForm → EquationForm
-unplaced_equation e = record { sign = e.sign; name = unplaced_name e.name; parameters = unplaced_variables e.parameters; right = unplaced_formula e.right }
+unplaced_equation e = record {
+  sign = e.sign;
+  name = unplaced_name e.name;
+  parameters = unplaced_variables e.parameters;
+  right = unplaced_formula e.right;
+}
 
 abbrev pub unplaced : SpecForm → SpecForm
 unplaced s = record {

@@ -1,5 +1,7 @@
--- The words of a printed text: its tokens without their places. Brackets stand only where the grammar needs them.
-use Rattle.std.specs.Prelude.{◌≡◌, ℕ, Bool, true, false, ◌||◌, ◌&&◌, if◌then◌else◌, nat_le, List, [], ◌∷◌, ◌++◌, codes, decimal, flat_map, Option, Some, None}
+-- The words of a printed text: its tokens without their places. Brackets stand only where the
+-- grammar needs them.
+use Rattle.std.specs.Prelude.{◌≡◌, ℕ, Bool, true, false, ◌||◌, ◌&&◌, if◌then◌else◌, nat_le, List}
+use Rattle.std.specs.Prelude.{[], ◌∷◌, ◌++◌, codes, decimal, flat_map, Option, Some, None}
 use Rattle.std.specs.Fmt.{signed_decimal}
 use Rattle.std.specs.Str.{bytes_eq}
 use Rattle.pb_fixpoint.specs.declared.Sign.{Sign}
@@ -12,7 +14,10 @@ use Rattle.pb_text_tree.specs.declared.operator.Arithmetic.{Arithmetic}
 use Rattle.pb_text_tree.specs.declared.operator.Arithmetic.TheVariants as arithmetic
 use Rattle.pb_text_tree.specs.declared.operator.Quantifier.{Quantifier}
 use Rattle.pb_text_tree.specs.declared.operator.Quantifier.TheVariants.{Forall, Exists}
-use Rattle.pb_text_tree.specs.Form.{Named, VariableForm, TermForm, ArgumentForms, no_arguments, argument, InstanceForm, FormulaForm, EnumeratorForm, SortForm, struct, alias, SortDeclarationForm, RangeForm, EquationForm, SpecForm}
+use Rattle.pb_text_tree.specs.Form.{Named, VariableForm, TermForm, ArgumentForms, no_arguments}
+use Rattle.pb_text_tree.specs.Form.{argument, InstanceForm, FormulaForm, EnumeratorForm, SortForm}
+use Rattle.pb_text_tree.specs.Form.{struct, alias, SortDeclarationForm, RangeForm, EquationForm}
+use Rattle.pb_text_tree.specs.Form.{SpecForm}
 use Rattle.pb_text_lexer.specs.declared.kind.Kind.{Kind}
 use Rattle.pb_text_lexer.specs.declared.kind.Kind.TheVariants as k
 use Rattle.pb_text_lexer.specs.Tokens.{Tok}
@@ -22,7 +27,8 @@ use Rattle.pb_text_printer.specs.declared.level.Level.TheVariants as level
 use Rattle.pb_text_printer.specs.declared.level.RightEnd.{RightEnd}
 use Rattle.pb_text_printer.specs.declared.level.RightEnd.TheVariants.{Open, Closed}
 
--- Its token, whether a space goes before it where one may, whether one may go behind it, and whether it ends its line.
+-- Its token, whether a space goes before it where one may, whether one may go behind it, and
+-- whether it ends its line.
 pub record Word : Type 0 where
   pub kind : Kind
   pub text : List ℕ
@@ -35,11 +41,13 @@ word kind text = record { kind = kind; text = text; spaced = true; gap = true; e
 
 -- close to what is before it
 abbrev pub closing : Kind → List ℕ → Word
-closing kind text = record { kind = kind; text = text; spaced = false; gap = true; ends_line = false }
+closing kind text =
+    record { kind = kind; text = text; spaced = false; gap = true; ends_line = false }
 
 -- close to what is behind it
 abbrev pub opening : Kind → List ℕ → Word
-opening kind text = record { kind = kind; text = text; spaced = true; gap = false; ends_line = false }
+opening kind text =
+    record { kind = kind; text = text; spaced = true; gap = false; ends_line = false }
 
 abbrev pub last_of_line : Word → Word
 last_of_line w = record w { gap = false; ends_line = true }
@@ -170,7 +178,8 @@ abbrev pub is_open : RightEnd → Bool
 is_open Open = true
 is_open Closed = false
 
--- Whether a term needs no brackets where a level is asked for, and where a quantifier may end it or not.
+-- Whether a term needs no brackets where a level is asked for, and where a quantifier may end it or
+-- not.
 abbrev pub needs_no_brackets : TermForm → Level → Bool → Bool
 needs_no_brackets (TermForm.connected c p x y) asked ends = fits (connective_level c) asked
 needs_no_brackets (TermForm.compared c p x y) asked ends = fits (comparison_level c) asked
@@ -184,7 +193,8 @@ goes_on o (TermForm.computed q p x y) = chains_with o (arithmetic_word q).kind
 goes_on o _ = false
 
 abbrev pub formula_needs_no_brackets : FormulaForm → Level → Bool → Bool
-formula_needs_no_brackets (FormulaForm.connected c p x y) asked ends = fits (connective_level c) asked
+formula_needs_no_brackets (FormulaForm.connected c p x y) asked ends =
+    fits (connective_level c) asked
 formula_needs_no_brackets (FormulaForm.quantified q p vars x) asked ends = ends
 formula_needs_no_brackets _ asked ends = true
 
@@ -214,14 +224,21 @@ abbrev mutual
   term_words (TermForm.constant p value) ends = truth_word value ∷ []
   term_words (TermForm.number p n) ends = word k.Number (decimal n) ∷ []
   term_words (TermForm.name n) ends = name_word n ∷ []
-  term_words (TermForm.not p x) ends = not_word ∷ put (needs_no_brackets x level.Unary false) (term_words x) false
-  term_words (TermForm.negative p x) ends = minus_word ∷ put (needs_no_brackets x level.Unary false) (term_words x) false
+  term_words (TermForm.not p x) ends =
+      not_word ∷ put (needs_no_brackets x level.Unary false) (term_words x) false
+  term_words (TermForm.negative p x) ends =
+      minus_word ∷ put (needs_no_brackets x level.Unary false) (term_words x) false
   term_words (TermForm.connected c p x y) ends =
-      put (needs_no_brackets x (term_side c) false) (term_words x) false ++ connective_word c ∷ put (needs_no_brackets y (connective_level c) ends) (term_words y) ends
+      put (needs_no_brackets x (term_side c) false) (term_words x) false
+      ++ connective_word c ∷ put (needs_no_brackets y (connective_level c) ends) (term_words y) ends
   term_words (TermForm.compared c p x y) ends =
-      put (needs_no_brackets x (comparison_side c) false) (term_words x) false ++ comparison_word c ∷ put (needs_no_brackets y (comparison_side c) false) (term_words y) false
+      put (needs_no_brackets x (comparison_side c) false) (term_words x) false
+      ++ comparison_word c
+      ∷ put (needs_no_brackets y (comparison_side c) false) (term_words y) false
   term_words (TermForm.computed o p x y) ends =
-      put (goes_on o x || needs_no_brackets x (arithmetic_side o) false) (term_words x) false ++ arithmetic_word o ∷ put (needs_no_brackets y (arithmetic_side o) false) (term_words y) false
+      put (goes_on o x || needs_no_brackets x (arithmetic_side o) false) (term_words x) false
+      ++ arithmetic_word o
+      ∷ put (needs_no_brackets y (arithmetic_side o) false) (term_words y) false
   term_words (TermForm.application f xs) ends = name_word f ∷ list_words xs
   term_words (TermForm.quantified q p vars x) ends = binding_words q vars (term_words x true)
 
@@ -242,11 +259,15 @@ instance_words i = name_word i.name ∷ list_words i.arguments
 
 abbrev pub formula_words : FormulaForm → Bool → List Word
 formula_words (FormulaForm.constant p value) ends = truth_word value ∷ []
-formula_words (FormulaForm.val p x) ends = word k.Val (codes "val") ∷ list_word ∷ term_words x true ++ close_word ∷ []
+formula_words (FormulaForm.val p x) ends =
+    word k.Val (codes "val") ∷ list_word ∷ term_words x true ++ close_word ∷ []
 formula_words (FormulaForm.instance i) ends = instance_words i
-formula_words (FormulaForm.negation p x) ends = not_word ∷ put (formula_needs_no_brackets x level.Unary false) (formula_words x) false
+formula_words (FormulaForm.negation p x) ends =
+    not_word ∷ put (formula_needs_no_brackets x level.Unary false) (formula_words x) false
 formula_words (FormulaForm.connected c p x y) ends =
-    put (formula_needs_no_brackets x (formula_side c) false) (formula_words x) false ++ connective_word c ∷ put (formula_needs_no_brackets y (connective_level c) ends) (formula_words y) ends
+    put (formula_needs_no_brackets x (formula_side c) false) (formula_words x) false
+    ++ connective_word c
+    ∷ put (formula_needs_no_brackets y (connective_level c) ends) (formula_words y) ends
 formula_words (FormulaForm.quantified q p vars x) ends = binding_words q vars (formula_words x true)
 
 -- ---- texts
@@ -272,7 +293,8 @@ enumerator_words e = name_word e.name ∷ recogniser_words e.recogniser
 abbrev pub enumerators_words : List EnumeratorForm → List Word
 enumerators_words [] = []
 enumerators_words (e ∷ []) = enumerator_words e
-enumerators_words (e ∷ f ∷ es) = enumerator_words e ++ word k.Bar (codes "|") ∷ enumerators_words (f ∷ es)
+enumerators_words (e ∷ f ∷ es) =
+    enumerator_words e ++ word k.Bar (codes "|") ∷ enumerators_words (f ∷ es)
 
 abbrev pub sort_words : SortForm → List Word
 sort_words (struct es) = word k.Struct (codes "struct") ∷ enumerators_words es
@@ -287,28 +309,36 @@ parameter_words [] = []
 parameter_words (v ∷ vs) = list_word ∷ variable_words (v ∷ vs) ++ close_word ∷ []
 
 abbrev pub equation_words : EquationForm → List Word
-equation_words e = sign_word e.sign ∷ name_word e.name ∷ parameter_words e.parameters ++ (is_word ∷ formula_words e.right true ++ semicolon_word ∷ [])
+equation_words e =
+    sign_word e.sign ∷ name_word e.name ∷ parameter_words e.parameters
+    ++ (is_word ∷ formula_words e.right true ++ semicolon_word ∷ [])
 
 -- sorts under one word, or nothing where there are none
 abbrev pub sorts_words : List SortDeclarationForm → List Word
 sorts_words [] = []
-sorts_words (d ∷ ds) = last_of_line (word k.Sort (codes "sort")) ∷ flat_map declaration_words (d ∷ ds)
+sorts_words (d ∷ ds) =
+    last_of_line (word k.Sort (codes "sort")) ∷ flat_map declaration_words (d ∷ ds)
 
 -- a whole text, but for its range lines
 abbrev pub text_words : SpecForm → List Word
 text_words s =
-    sorts_words s.sorts ++ (last_of_line (word k.Pbes (codes "pbes")) ∷ flat_map equation_words s.equations ++ (word k.Init (codes "init") ∷ instance_words s.initial ++ semicolon_word ∷ []))
+    sorts_words s.sorts
+    ++ (last_of_line (word k.Pbes (codes "pbes")) ∷ flat_map equation_words s.equations
+    ++ (word k.Init (codes "init") ∷ instance_words s.initial ++ semicolon_word ∷ []))
 
 -- ---- words and bytes
 
 -- The bytes that words are written as, where a space may go before the first or not.
 abbrev pub written : Bool → List Word → List ℕ
 written gap [] = []
-written gap (w ∷ ws) = (if gap && w.spaced then 32 ∷ [] else []) ++ (w.text ++ ((if w.ends_line then 10 ∷ [] else []) ++ written w.gap ws))
+written gap (w ∷ ws) =
+    (if gap && w.spaced then 32 ∷ [] else [])
+    ++ (w.text ++ ((if w.ends_line then 10 ∷ [] else []) ++ written w.gap ws))
 
 -- a range line
 abbrev pub range_bytes : RangeForm → List ℕ
-range_bytes r = codes "%range" ++ (32 ∷ r.name ++ (32 ∷ signed_decimal r.low ++ (32 ∷ signed_decimal r.high)))
+range_bytes r =
+    codes "%range" ++ (32 ∷ r.name ++ (32 ∷ signed_decimal r.low ++ (32 ∷ signed_decimal r.high)))
 
 -- A whole text: its range lines, and then its words.
 abbrev pub text_bytes : SpecForm → List ℕ
@@ -319,4 +349,5 @@ text_bytes s = flat_map (λ r. range_bytes r ++ 10 ∷ []) s.ranges ++ written f
 -- from some tokens to others, these words stand
 abbrev pub Spells : List Word → List Tok → List Tok → Type 0
 Spells [] s r = s ≡ r
-Spells (w ∷ ws) s r = (t : Tok) × (m : List Tok) × (s ≡ t ∷ m) × (t.kind ≡ w.kind) × (t.text ≡ w.text) × Spells ws m r
+Spells (w ∷ ws) s r =
+    (t : Tok) × (m : List Tok) × (s ≡ t ∷ m) × (t.kind ≡ w.kind) × (t.text ≡ w.text) × Spells ws m r

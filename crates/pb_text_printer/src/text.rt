@@ -1,7 +1,7 @@
 //! Writes whole texts: ranges, sorts, equations and the instance that is asked for, each on its
 //! line.
 
-ghost use Rattle.std.specs.Prelude.{◌≡◌, ◌==◌, ◌∷◌, [], ◌++◌, length, false, true, flat_map, map};
+ghost use Rattle.std.specs.Prelude.{◌≡◌, ◌==◌, ◌∷◌, [], length, false, true, flat_map, map};
 ghost use Rattle.std.specs.Prelude.{string_bytes, IfOk};
 ghost use Rattle.std.specs.Result.{OnOk};
 ghost use Rattle.pb_text_tree.specs.Form.{enumerator_form, equation_form, range_form};

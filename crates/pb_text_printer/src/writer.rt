@@ -1,7 +1,7 @@
 //! Text that is written token by token, with a space between two tokens but beside brackets and
 //! punctuation.
 
-ghost use Rattle.std.specs.Prelude.{◌≡◌, false, true, List, [], codes, string_bytes};
+ghost use Rattle.std.specs.Prelude.{◌≡◌, false, true, [], codes, string_bytes};
 ghost use Rattle.std.specs.Result.{OnOk};
 ghost use Rattle.pb_text_printer.specs.Page.{page, typed, broken};
 

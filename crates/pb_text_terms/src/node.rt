@@ -6,14 +6,14 @@ ghost use Rattle.pb_text_tree.specs.Form.{TermForm, term_form, term_links, arith
 ghost use Rattle.pb_text_tree.specs.Form.{argument_forms};
 ghost use Rattle.pb_text_lexer.specs.Kinds.{is_last};
 ghost use Rattle.pb_text_lexer.specs.Steps as steps;
-ghost use Rattle.pb_text_lexer.specs.Steps.{Gives};
+ghost use Rattle.pb_text_lexer.specs.Steps.{GivesExactly};
 ghost use Rattle.pb_text_lexer.specs.Tokens.{tok};
 ghost use Rattle.pb_text_terms.specs.Grammar as grammar;
 ghost use Rattle.pb_text_terms.specs.Operators as operators;
 ghost use Rattle.pb_text_terms.specs.Reading as reading;
 
 use crate::operator::comparison;
-use pb_text_lexer::fault::{ReadingFault, ReadingRule};
+use pb_text_lexer::fault::{ReadingRule, Refusal};
 use pb_text_lexer::input::Input;
 use pb_text_lexer::kind::{Kind, same_kind};
 use pb_text_lexer::token::Token;
@@ -86,8 +86,10 @@ pub fn applied(instance: Instance) -> Term
 }
 
 /// A term behind which no bracket may open.
-pub fn closed(input: &Input<'_>, term: Term) -> Result<Term, ReadingFault>
-    ensures { Gives term_form (reading.closed (term_form term) input.now) result input.now }
+///
+/// A bracket that opens there is refused as `ReadingRule::Unexpected`, which is the one error.
+pub fn closed(input: &Input<'_>, term: Term) -> Result<Term, Refusal>
+    ensures { GivesExactly term_form (reading.closed (term_form term) input.now) result input.now }
 {
     if same_kind(input.kind(), Kind::Open) {
         Err(input.refuse(ReadingRule::Unexpected))
@@ -97,10 +99,13 @@ pub fn closed(input: &Input<'_>, term: Term) -> Result<Term, ReadingFault>
 }
 
 /// A number, behind which no bracket may open.
+///
+/// A bracket that opens there is refused as `ReadingRule::Unexpected`, which is the one error.
 #[inline(never)]
-pub fn number(input: &mut Input<'_>) -> Result<Term, ReadingFault>
+pub fn number(input: &mut Input<'_>) -> Result<Term, Refusal>
     requires { steps.kind input.old ≡ Kind.Number }
-    ensures reads { (depth : ℕ) → Gives term_form (reading.unary depth input.old) result input.new }
+    ensures reads { (depth : ℕ) → GivesExactly term_form
+        (reading.unary depth input.old) result input.new }
     ensures fewer { OnOk result (length input.new.tokens < length input.old.tokens) }
 {
     let value = input.number();
@@ -109,10 +114,12 @@ pub fn number(input: &mut Input<'_>) -> Result<Term, ReadingFault>
 }
 
 /// `true` or `false`, behind which no bracket may open.
+///
+/// A bracket that opens there is refused as `ReadingRule::Unexpected`, which is the one error.
 #[inline(never)]
-pub fn constant(input: &mut Input<'_>, value: bool) -> Result<Term, ReadingFault>
+pub fn constant(input: &mut Input<'_>, value: bool) -> Result<Term, Refusal>
     requires { is_last (steps.kind input.old) ≡ false }
-    ensures reads { Gives term_form (reading.truth value input.old) result input.new }
+    ensures reads { GivesExactly term_form (reading.truth value input.old) result input.new }
     ensures fewer { OnOk result (length input.new.tokens < length input.old.tokens) }
 {
     let place = input.take().place;

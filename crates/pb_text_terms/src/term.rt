@@ -61,7 +61,7 @@ fn bracketed(input: &mut Input<'_>, alloc: Global, depth: u32) -> Result<Term, R
     input.enter(depth)?;
     let inner = connected(input, alloc, depth - 1)?;
     input.expect(Kind::Close)?;
-    closed(input, inner)
+    Ok(closed(input, inner)?)
 }
 
 /// A sign, a bracket, a number, a constant or a name, in which so many levels may open.
@@ -74,14 +74,14 @@ fn unary(input: &mut Input<'_>, alloc: Global, depth: u32) -> Result<Term, Readi
         Kind::Not => negation(input, alloc, depth),
         Kind::Minus => negative(input, alloc, depth),
         Kind::Open => bracketed(input, alloc, depth),
-        Kind::Number => number(input),
-        Kind::True => constant(input, true),
-        Kind::False => constant(input, false),
+        Kind::Number => Ok(number(input)?),
+        Kind::True => Ok(constant(input, true)?),
+        Kind::False => Ok(constant(input, false)?),
         Kind::Name => {
             let instance = instance(input, alloc, depth)?;
             Ok(applied(instance))
         }
-        _ => Err(input.refuse(ReadingRule::Unexpected)),
+        _ => Err(ReadingFault::At(input.refuse(ReadingRule::Unexpected))),
     }
 }
 
@@ -125,7 +125,7 @@ pub fn instance(input: &mut Input<'_>, alloc: Global, depth: u32) -> Result<Inst
     let arguments = argument_list(input, alloc, depth - 1)?;
     input.expect(Kind::Close)?;
     if same_kind(input.kind(), Kind::Open) {
-        return Err(input.refuse(ReadingRule::Unexpected));
+        return Err(ReadingFault::At(input.refuse(ReadingRule::Unexpected)));
     }
     Ok(Instance { name, arguments })
 }
@@ -193,14 +193,14 @@ fn product_behind(
     if is_among(Operators::Times, input.kind()) {
         let links = operations(input, alloc, Operators::Times, depth)?;
         if is_among(Operators::Division, input.kind()) {
-            return Err(input.refuse(ReadingRule::Unexpected));
+            return Err(ReadingFault::At(input.refuse(ReadingRule::Unexpected)));
         }
         return Ok(calculated(alloc, first, links)?);
     }
     if is_among(Operators::Division, input.kind()) {
         let links = operations(input, alloc, Operators::Division, depth)?;
         if is_among(Operators::Times, input.kind()) {
-            return Err(input.refuse(ReadingRule::Unexpected));
+            return Err(ReadingFault::At(input.refuse(ReadingRule::Unexpected)));
         }
         return Ok(calculated(alloc, first, links)?);
     }
@@ -289,7 +289,7 @@ fn in_order(
     let sign = input.take_operator()?;
     let right = sum(input, alloc, depth)?;
     if is_order(input.kind()) {
-        return Err(input.refuse(ReadingRule::Unexpected));
+        return Err(ReadingFault::At(input.refuse(ReadingRule::Unexpected)));
     }
     Ok(compared(alloc, sign, left, right)?)
 }
@@ -366,7 +366,7 @@ fn equated_behind(
     let sign = input.take_operator()?;
     let right = ordered(input, alloc, depth)?;
     if is_equality(input.kind()) {
-        return Err(input.refuse(ReadingRule::Unexpected));
+        return Err(ReadingFault::At(input.refuse(ReadingRule::Unexpected)));
     }
     Ok(compared(alloc, sign, left, right)?)
 }
@@ -415,7 +415,7 @@ fn quantified(input: &mut Input<'_>, alloc: Global, depth: u32) -> Result<Term, 
     ensures fewer { OnOk result (length input.new.tokens < length input.old.tokens) }
 {
     let Some(quantifier) = quantifier(input.kind()) else {
-        return Err(input.refuse(ReadingRule::Unexpected));
+        return Err(ReadingFault::At(input.refuse(ReadingRule::Unexpected)));
     };
     let place = input.enter(depth)?.place;
     let variables = variables(input, alloc)?;

@@ -1,7 +1,7 @@
 -- The faults of a chain of formulas, link by link.
-use Rattle.std.proofs.Common.{◌≡◌, ℕ, zero, suc, ◌+◌, ◌-◌, ◌<◌, Bool, List, [], ◌∷◌, ◌++◌, length, get_or, drop, sym, ◌∙◌, ap, arith, add-one, Vec, Box, Global}
+use Rattle.std.proofs.Common.{◌≡◌, ℕ, ◌+◌, ◌-◌, ◌<◌, Bool, List, [], ◌∷◌, ◌++◌, length, get_or, drop, sym, ◌∙◌, ap, arith, Vec, Box, Global}
 use Rattle.std.specs.Prelude.{box_value}
-use Rattle.std.proofs.lemmas.List.{append-nil}
+use Rattle.std.proofs.lemmas.List.{length-drop, append-nil}
 use Rattle.pb_sorts.proofs.Places.{drop-at}
 use Rattle.pb_text_tree.specs.declared.operator.Connective.{Connective}
 use Rattle.pb_text_tree.specs.declared.formula.Formula as ast
@@ -34,12 +34,7 @@ chain_first S a even chain operand c first links n p is is_first are parity =
     ∙ ap (λ (q : Bool). formula_faults S q a (formula_form operand) ++ link_faults S a c even links.items) (sym (parity ∙ ap (operand_parity c even) are))))
 
 length-drop_next : (links : List Link) (k : ℕ) → k < length links → length (drop (k + 1) links) ≡ length links - k - 1
-length-drop_next links k below = rw add-one (by_suc links k below)
-  where
-    by_suc : (links : List Link) (k : ℕ) → k < length links → length (drop (suc k) links) ≡ length links - k - 1
-    by_suc [] k below = absurd (omega arith)
-    by_suc (l ∷ links) zero below = omega arith
-    by_suc (l ∷ links) (suc k) below = by_suc links k (omega arith) ∙ omega arith
+length-drop_next links k below = length-drop (k + 1) links ∙ omega arith
 
 -- and the operand of the link at k has the parity p
 pub chain_next : (S : Spec) (a : Scope) (c : Connective) (even : Bool) (links : List Link) (k : ℕ) (link : Link) (n : ℕ) (p : Bool)

@@ -3,7 +3,7 @@ use Rattle.std.proofs.Common.{◌≡◌, ℕ, zero, suc, Bool, true, false, List
 use Rattle.std.specs.Prelude.{Result, Ok, Err, MatchResult, nat_lt, position}
 use Rattle.std.specs.List.{slice_get, position_or_len}
 use Rattle.std.proofs.lemmas.List.Folds.{find_at}
-use Rattle.std.proofs.lemmas.Option.{slice_get_past}
+use Rattle.std.proofs.lemmas.Option.{cond_some, slice_get_past}
 use Rattle.std.proofs.lemmas.Bool.{ltb-false}
 use Rattle.pb_carriers.specs.Carrier as carriers
 use Rattle.pb_carriers.specs.Carrier.{Value, contains}
@@ -106,12 +106,8 @@ mapped S [] k = refl
 mapped S (X ∷ E) zero = refl
 mapped S (X ∷ E) (suc k) = mapped S E k
 
-the_place : (b : Bool) (n k : ℕ) → cond b (Some n) None ≡ Some k → n ≡ k
-the_place true n k e = cc
-the_place false n k e = cc
-
 found : (p : Equation → Bool) (E : List Equation) (k : ℕ) → position p E ≡ Some k → find p E ≡ slice_get E k
-found p E k e = find_at p E ∙ ap (slice_get E) (the_place (nat_lt (position_or_len p E) (length E)) (position_or_len p E) k e)
+found p E k e = find_at p E ∙ ap (slice_get E) (cond_some (nat_lt (position_or_len p E) (length E)) (position_or_len p E) k e).1
 
 no_place : (b : Bool) (n : ℕ) → cond b (Some n) None ≡ None → b ≡ false
 no_place true n e = cc

@@ -1,9 +1,9 @@
 -- The faults of chains, link by link.
 use Rattle.std.proofs.Common.{◌≡◌, Bool, true, false, ◌&&◌, List, [], ◌∷◌, ◌++◌, length, refl, sym, ◌∙◌, ap, arith}
 use Rattle.std.specs.Prelude.{◌==◌}
-use Rattle.std.proofs.Math.Dec.{eqb-suc-zero}
 use Rattle.std.proofs.lemmas.Bool.{eqb-true}
 use Rattle.std.proofs.lemmas.List.{append-nil, append_assoc}
+use Rattle.std.proofs.Math.Bool.{and-true, and-false}
 use Rattle.pb_text_tree.specs.declared.operator.Connective.{Connective}
 use Rattle.pb_text_tree.specs.declared.operator.Connective.TheVariants.{And, Or, Implies}
 use Rattle.pb_text_tree.specs.declared.term.TermLink.{TermLink}
@@ -73,10 +73,6 @@ abbrev pub calculated_shape : Spec → Scope → Shape → List ArithmeticLink �
 calculated_shape spec scope s [] = s
 calculated_shape spec scope s (link ∷ links) = calculated_shape spec scope (binary_shape (operation_of link.operator) s (arithmetic_shape spec scope link)) links
 
-pub no_link_empty : (links : List ArithmeticLink) → (length links == 0) ≡ is_no_link links
-no_link_empty [] = refl
-no_link_empty (l ∷ ls) = eqb-suc-zero (length ls)
-
 computed-shape : (spec : Spec) (scope : Scope) (first : TermForm) (l : ArithmeticLink)
     → shape spec scope (erased_term (TermForm.computed l.operator l.place first (term_form l.operand))) ≡ binary_shape (operation_of l.operator) (shape spec scope (erased_term first)) (arithmetic_shape spec scope l)
 computed-shape spec scope first l = ap (λ (k : OperatorKind). outcome k (shape spec scope (erased_term first)) (arithmetic_shape spec scope l)) (kind_of-arithmetic l.operator)
@@ -92,10 +88,6 @@ pub calculated-faults : (spec : Spec) (stands : Bool) (scope : Scope) (first : T
     → term_faults spec stands scope (calculated first (arithmetic_links links)) ≡ term_faults spec (stands && is_no_link links) scope first ++ arithmetic_faults spec scope (shape spec scope (erased_term first)) links
 calculated-faults spec stands scope first [] =
     ap (λ (b : Bool). term_faults spec b scope first) (sym (and-true stands)) ∙ sym (append-nil (term_faults spec (stands && true) scope first))
-  where
-    and-true : (b : Bool) → (b && true) ≡ b
-    and-true true = refl
-    and-true false = refl
 calculated-faults spec stands scope first (l ∷ ls) =
     let node = TermForm.computed l.operator l.place first (term_form l.operand) in
     let s = shape spec scope (erased_term first) in
@@ -110,7 +102,3 @@ calculated-faults spec stands scope first (l ∷ ls) =
     ∙ (append_assoc x (y ++ of) (arithmetic_faults spec scope b ls)
     ∙ (ap (λ (zs : List TypingFault). x ++ zs) (append_assoc y of (arithmetic_faults spec scope b ls))
     ∙ ap (λ (c : Bool). term_faults spec c scope first ++ (y ++ (of ++ arithmetic_faults spec scope b ls))) (sym (and-false stands))))))
-  where
-    and-false : (b : Bool) → (b && false) ≡ false
-    and-false true = refl
-    and-false false = refl

@@ -24,5 +24,6 @@ abbrev pub each_faults : Spec → Scope → List Argument → Shape → List Typ
 each_faults spec scope [] s = []
 each_faults spec scope (x ∷ xs) s =
     term_faults spec false scope (term_form x.term)
-    ++ (unless (may_be_alike (shape spec scope (erased_term (term_form x.term))) s) WrongKind x.place
+    ++ (unless (may_be_alike (shape spec scope (erased_term (term_form x.term))) s)
+    WrongKind x.place
     ++ each_faults spec scope xs s)

@@ -26,13 +26,15 @@ link_faults spec stands scope s [] = []
 link_faults spec stands scope s (link ∷ links) =
     unless (may_be_truth s) rule.WrongKind link.place
     ++ (term_faults spec stands scope (term_form link.operand)
-    ++ (unless (is_some_link links || may_be_truth (operand_shape spec scope link)) rule.WrongKind link.place
+    ++ (unless (is_some_link links || may_be_truth (operand_shape spec scope link))
+    rule.WrongKind link.place
     ++ link_faults spec stands scope (operand_shape spec scope link) links))
 
 -- the faults of a chain of operands, and its shape: which connective they have makes no difference
 abbrev pub chain_faults : Spec → Bool → Scope → TermForm → List TermLink → List TypingFault
 chain_faults spec stands scope first links =
-    term_faults spec stands scope first ++ link_faults spec stands scope (shape spec scope (erased_term first)) links
+    term_faults spec stands scope first
+    ++ link_faults spec stands scope (shape spec scope (erased_term first)) links
 
 abbrev pub chain_shape : Shape → List TermLink → Shape
 chain_shape s [] = s

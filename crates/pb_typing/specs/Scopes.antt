@@ -25,6 +25,8 @@ scope_view Outermost = outermost
 scope_view (Inner' table p outer) = inner_view table.now (scope_view outer)
 
 -- a look-up with some more names, the first first, each with the same value
-abbrev pub looked_up_with : {V : Type 0} → List Name → V → (names.Name → Option V) → names.Name → Option V
+abbrev pub looked_up_with : {V : Type 0} → List Name → V → (names.Name → Option V) → names.Name
+    → Option V
 looked_up_with [] v look = look
-looked_up_with (n ∷ names) v look = looked_up_with names v (λ x. if same_name (string_bytes n.text) x then Some v else look x)
+looked_up_with (n ∷ names) v look =
+    looked_up_with names v (λ x. if same_name (string_bytes n.text) x then Some v else look x)

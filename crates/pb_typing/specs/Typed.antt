@@ -18,8 +18,10 @@ is_none (f ∷ fs) = false
 abbrev pub is_faultless : SpecForm → Bool
 is_faultless text = is_none (faults text)
 
--- the layout has the carriers of each equation's parameters: their values, and what they are, the Booleans, a struct by
--- its number or a range
+-- the layout has the carriers of each equation's parameters: their values, and what they are, the
+-- Booleans, a struct by its number or a range
 pub record IsLayout (spec : Spec) (layout : List (List Carrier)) : Type 0 where
-  pub values : layouts.carriers_of layout ≡ map (λ (X : Equation). carriers_of spec X.parameters) spec.equations
-  pub shapes : map shapes_of layout ≡ map (λ (X : Equation). variable_shapes spec X.parameters) spec.equations
+  pub values : layouts.carriers_of layout
+      ≡ map (λ (X : Equation). carriers_of spec X.parameters) spec.equations
+  pub shapes : map shapes_of layout
+      ≡ map (λ (X : Equation). variable_shapes spec X.parameters) spec.equations

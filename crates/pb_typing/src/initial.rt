@@ -5,11 +5,11 @@ ghost use Rattle.pb_sorts.specs.Carrier.{values_of};
 ghost use Rattle.pb_text_meaning.specs.Syntax.{Variable};
 ghost use Rattle.pb_text_tree.specs.Form.{argument_forms, instance_form, spec_form};
 ghost use Rattle.pb_text_meaning.specs.Erase.{erased_arguments};
-ghost use Rattle.pb_text_meaning.specs.Formula.{carriers_of, equation_named};
+ghost use Rattle.pb_text_meaning.specs.Formula.{carriers_of};
 ghost use Rattle.pb_text_meaning.specs.Fits.{AllFit};
 ghost use Rattle.pb_typing_declarations.specs.Faults.{IsAmong};
 ghost use Rattle.pb_typing_declarations.specs.View.{spec_of, text_of};
-ghost use Rattle.pb_typing_rules.specs.Faults.{initial_faults, parameters_named, value_faults};
+ghost use Rattle.pb_typing_rules.specs.Faults.{initial_faults, value_faults};
 ghost use Rattle.pb_typing.specs.Typed.{IsLayout};
 
 use crate::instance::check_instance;

@@ -5,6 +5,7 @@ use Rattle.std.specs.Option.{option_map}
 use Rattle.std.specs.Cmp.Lexicographic.{same_text}
 use denote.Ref.{Bor}
 use Rattle.std.specs.HashMap.{IsEmpty, Updates}
+use Rattle.std.proofs.lemmas.Option.{none-some}
 use Rattle.pb_sorts.specs.declared.carrier.Range.{Range}
 use Rattle.pb_text_meaning.specs.Syntax.{Name}
 use Rattle.pb_typing_declarations.specs.declared.chain.End as chains
@@ -117,10 +118,7 @@ module _ (B : Name → Option Bounds) (D : Name → Option Definition) where
   -- ---- tables of chains
 
   pub none_kept : (table : Table Chain) → IsEmpty table → AreChains B D table
-  none_kept table empty = λ s chain found. absurd (none_some (sym (ap (λ (look : Name → Option Chain). look s) (none_in table empty)) ∙ found))
-    where
-      none_some : {chain : Chain} → None ≡ Some chain → ⊥
-      none_some h = cc
+  none_kept table empty = λ s chain found. absurd (none-some chain (sym (ap (λ (look : Name → Option Chain). look s) (none_in table empty)) ∙ found))
 
   pub one_kept : (old new : Table Chain) (key : Bor (List ℕ)) (chain : Chain) → AreChains B D old → IsChain B D key.now chain
       → Updates (λ x y. bytes_eq x.now y.now) old new key (Some chain) → AreChains B D new

@@ -2,7 +2,7 @@
 use Rattle.std.proofs.Common.{◌≡◌, ℕ, suc, Bool, true, false, cond, not, ◌||◌, List, [], ◌∷◌, ◌++◌, length, refl, sym, ◌∙◌, ap, true≢false}
 use Rattle.std.specs.Prelude.{Option, Some, None}
 use Rattle.std.specs.Cmp.Lexicographic.{same_text}
-use Rattle.std.proofs.lemmas.Bool.{or_right}
+use Rattle.std.proofs.lemmas.Bool.{not-true, or_right}
 use Rattle.pb_text_meaning.specs.Syntax.{Name, same_name, Enumerator, Sort, Struct, Alias, SortDeclaration}
 use Rattle.pb_typing_declarations.specs.declared.entry.Entry.{Entry}
 use Rattle.pb_typing_declarations.specs.declared.definition.DataName.{DataName}
@@ -41,11 +41,7 @@ abbrev Apart : List Name → List (Entry DataName) → Type 0
 Apart before es = repeated_after before (entry_names es) ≡ []
 
 new_name : (before : List Name) (e : Entry DataName) (es : List (Entry DataName)) → Apart before (e ∷ es) → is_among before e.name.now ≡ false
-new_name before e es h = negated _ (holds_unless _ _ _ (no_parts (unless (not (is_among before e.name.now)) NameTwice e.place) _ h).0)
-  where
-    negated : (b : Bool) → not b ≡ true → b ≡ false
-    negated true q = sym q
-    negated false q = refl
+new_name before e es h = not-true _ (holds_unless _ _ _ (no_parts (unless (not (is_among before e.name.now)) NameTwice e.place) _ h).0)
 
 behind : (before : List Name) (e : Entry DataName) (es : List (Entry DataName)) → Apart before (e ∷ es) → Apart (e.name.now ∷ before) es
 behind before e es h = (no_parts (unless (not (is_among before e.name.now)) NameTwice e.place) _ h).1

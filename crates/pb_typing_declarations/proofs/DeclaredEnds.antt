@@ -4,6 +4,7 @@ use Rattle.std.specs.Prelude.{⊤, All, flat_map, codes, not, is_some}
 use Rattle.std.specs.Cmp.Lexicographic.{same_text}
 use Rattle.std.proofs.lemmas.Bool.{not-true}
 use Rattle.std.proofs.lemmas.List.Elements.{All-head, All-tail}
+use Rattle.std.proofs.Math.Bool.{or-false}
 use Rattle.pb_text_tree.specs.Form.{Named, SortForm, struct, alias, SpecForm}
 use Rattle.pb_text_meaning.specs.Syntax.{Name, same_name, Sort, Struct, Alias, SortDeclaration, Spec}
 use Rattle.pb_text_meaning.specs.Erase.{erase, erased_sort, erased_declaration}
@@ -80,10 +81,6 @@ integers_end i j k false true d = refl
 integers_end i j k false false true = refl
 integers_end i j k false false false = refl
 
-is_true : (b : Bool) → (b || false) ≡ true → b ≡ true
-is_true true e = refl
-is_true false e = e
-
 module _ (S : Spec) (linked : AreLinked S S.sorts) where
   abbrev look : Name → Option Definition
   look = first (definitions S)
@@ -105,7 +102,7 @@ module _ (S : Spec) (linked : AreLinked S S.sorts) where
       by_tests behind false (Some (Structure m count)) e f = refl
       by_tests behind false (Some (Renaming t)) e f = behind t (linked_to s t f).0
       by_tests behind false None e f =
-          let there : is_built_in s ≡ true = is_true (is_built_in s) (sym (ap (λ (o : Option Definition). is_built_in s || is_some o) f) ∙ h) in
+          let there : is_built_in s ≡ true = sym (or-false (is_built_in s)) ∙ (sym (ap (λ (o : Option Definition). is_built_in s || is_some o) f) ∙ h) in
           integers_there integers.Pos integers.Nat integers.Int (same_name s (codes "Bool")) (same_name s (codes "Pos")) (same_name s (codes "Nat")) (same_name s (codes "Int")) there e
 
   end_behind : (s : Name) → is_endless (base_of S s) ≡ false

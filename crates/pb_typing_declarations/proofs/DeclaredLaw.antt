@@ -2,6 +2,7 @@
 use Rattle.std.proofs.Common.{◌≡◌, List, [], length, map, sym, ◌∙◌, ap, subst, arith}
 use Rattle.std.specs.Prelude.{All, flat_map}
 use Rattle.std.proofs.lemmas.List.{length-map}
+use Rattle.std.proofs.lemmas.Simd.{map-map}
 use Rattle.pb_sorts.specs.declared.limits.TheConstants.{MAX_EQUATIONS}
 use Rattle.pb_text_tree.specs.Form.{Named, SortDeclarationForm, RangeForm, EquationForm, SpecForm}
 use Rattle.pb_text_meaning.specs.Syntax.{Enumerator, SortDeclaration, Range, Equation}
@@ -11,7 +12,7 @@ use Rattle.pb_typing_declarations.specs.WellDeclared.{AreApart, IsDeclared, ever
 use Rattle.pb_typing_declarations.proofs.Parts.{no_parts, no_whole}
 use Rattle.pb_typing_declarations.proofs.VariableLemmas.{few_names, limit_clear}
 use Rattle.pb_typing_declarations.proofs.ReadParts as part
-use Rattle.pb_typing_declarations.proofs.Exact.{apart, apart_clear, map-map, texts}
+use Rattle.pb_typing_declarations.proofs.Exact.{apart, apart_clear, texts}
 use Rattle.pb_typing_declarations.proofs.DeclaredEnds.{sorts_have_ends}
 use Rattle.pb_typing_declarations.proofs.ExactParts.{equations, equations_clear, sorts, sorts_clear, ranges, ranges_clear, enumerators-erased, enumerator_texts, short_names, new_functions, enumerators_clear, ShortName, NewFunction}
 

@@ -79,8 +79,3 @@ apart xs e = (stand_apart [] xs e).apart
 
 pub apart_clear : (xs : List Named) → AreApart (texts xs) → repeated xs ≡ []
 apart_clear xs h = stand_clear [] xs (record { apart = h; unseen = λ k d below. refl })
-
--- the names of the items of a list
-pub map-map : {A B C : Type 0} (f : B → C) (g : A → B) (xs : List A) → map f (map g xs) ≡ map (λ x. f (g x)) xs
-map-map f g [] = refl
-map-map f g (x ∷ xs) = ap (λ ys. f (g x) ∷ ys) (map-map f g xs)

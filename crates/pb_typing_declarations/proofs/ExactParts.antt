@@ -5,6 +5,7 @@ use Rattle.std.proofs.lemmas.Grind.{flat_map-append}
 use Rattle.std.proofs.lemmas.List.{map-append, length-map}
 use Rattle.std.proofs.lemmas.Bool.{not-true, not_from_false, leb-true as at_most, le-leb as at_most_true, ltb-true as below, lt-ltb as below_true}
 use Rattle.std.proofs.lemmas.List.Elements.{All-cons, All-head, All-tail, All-nil}
+use Rattle.std.proofs.lemmas.Simd.{map-map}
 use Rattle.pb_text_tree.specs.declared.place.Place.{Place}
 use Rattle.pb_text_tree.specs.Form.{Named, VariableForm, EnumeratorForm, SortForm, struct, alias, SortDeclarationForm, RangeForm, EquationForm}
 use Rattle.pb_sorts.specs.declared.limits.TheConstants.{MAX_STRUCTS, MAX_ENUMERATORS, MAX_PARAMETERS, MAX_INSTANCES, MAX_NAME_BYTES}
@@ -19,7 +20,7 @@ use Rattle.pb_typing_declarations.specs.WellDeclared.{AreApart, has_shape, AreVa
 use Rattle.pb_typing_declarations.proofs.Parts.{no_parts, no_whole, holds_unless, unless_holds}
 use Rattle.pb_typing_declarations.proofs.Passing.{stays, one_more_stays}
 use Rattle.pb_typing_declarations.proofs.VariableLemmas.{few_names, limit_clear}
-use Rattle.pb_typing_declarations.proofs.Exact.{each, each_clear, texts, apart, apart_clear, map-map}
+use Rattle.pb_typing_declarations.proofs.Exact.{each, each_clear, texts, apart, apart_clear}
 
 -- ---- variables
 

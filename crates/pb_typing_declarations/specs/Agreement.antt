@@ -7,13 +7,15 @@ use Rattle.pb_typing_declarations.specs.declared.definition.DataName.{DataName}
 use Rattle.pb_typing_declarations.specs.Shapes.{first, definitions, range_bounds}
 use Rattle.pb_typing_declarations.specs.Enumerators.{enumerator_of, recogniser_of}
 use Rattle.pb_typing_declarations.specs.Tables.{Table, looked_up}
-use Rattle.pb_typing_declarations.specs.Entries.{definition_in, range_in, as_enumerator, as_recogniser}
+use Rattle.pb_typing_declarations.specs.Entries.{definition_in, range_in, as_enumerator}
+use Rattle.pb_typing_declarations.specs.Entries.{as_recogniser}
 
 -- the place of the first equation with this name
 abbrev pub equation_place : Spec → Name → Option ℕ
 equation_place S x = position (λ (X : Equation). same_name X.name x) S.equations
 
-pub record Agree (S : Spec) (sorts : Table Definition) (ranges : Table Range) (names : Table DataName) (equations : Table ℕ) : Type 0 where
+pub record Agree (S : Spec) (sorts : Table Definition) (ranges : Table Range)
+    (names : Table DataName) (equations : Table ℕ) : Type 0 where
   pub definitions : (x : Name) → definition_in sorts x ≡ first (definitions S) x
   pub bounds : (x : Name) → range_in ranges x ≡ first (range_bounds S.ranges) x
   pub enumerators : (x : Name) → as_enumerator (looked_up names x) ≡ enumerator_of S x

@@ -8,10 +8,13 @@ use Rattle.pb_typing_declarations.specs.Entries.{end_shown}
 use Rattle.pb_typing_declarations.specs.Tables.{Table, looked_up}
 
 -- the chain from a sort has this end behind so many aliases, and none through fewer sorts
-pub record IsChain (bounds : Name → Option Bounds) (definition : Name → Option Definition) (s : Name) (chain : Chain) : Type 0 where
-  pub ends : (n : ℕ) → end_within (suc (chain.aliases + n)) bounds definition s ≡ end_shown chain.end
+pub record IsChain (bounds : Name → Option Bounds) (definition : Name → Option Definition)
+    (s : Name) (chain : Chain) : Type 0 where
+  pub ends : (n : ℕ)
+      → end_within (suc (chain.aliases + n)) bounds definition s ≡ end_shown chain.end
   pub goes_on : end_within chain.aliases bounds definition s ≡ Endless
 
 -- each chain of a table is one
 abbrev pub AreChains : (Name → Option Bounds) → (Name → Option Definition) → Table Chain → Type 0
-AreChains bounds definition chains = (s : Name) → ForSome (looked_up chains s) (IsChain bounds definition s)
+AreChains bounds definition chains =
+    (s : Name) → ForSome (looked_up chains s) (IsChain bounds definition s)

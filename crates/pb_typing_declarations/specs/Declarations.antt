@@ -1,18 +1,25 @@
--- Where each rule of declarations fails: all faults of sorts, ranges, enumerators, recognisers, predicate variables and
--- their parameters.
-use Rattle.std.specs.Prelude.{ℕ, suc, ◌+◌, nat_le, nat_lt, Bool, true, false, not, ◌||◌, List, [], ◌∷◌, ◌++◌, map, flat_map, length, ℤ, pos, int_le, Option, Some, None, codes}
+-- Where each rule of declarations fails: all faults of sorts, ranges, enumerators, recognisers,
+-- predicate variables and their parameters.
+use Rattle.std.specs.Prelude.{ℕ, suc, ◌+◌, nat_le, nat_lt, Bool, true, false, not, ◌||◌, List, []}
+use Rattle.std.specs.Prelude.{◌∷◌, ◌++◌, map, flat_map, length, ℤ, pos, int_le, Option, Some, None}
+use Rattle.std.specs.Prelude.{codes}
 use Rattle.std.specs.List.{slice_get}
 use Rattle.pb_text_tree.specs.declared.place.Place.{Place}
-use Rattle.pb_text_tree.specs.Form.{Named, VariableForm, EnumeratorForm, SortForm, struct, alias, SortDeclarationForm, RangeForm, EquationForm, SpecForm}
+use Rattle.pb_text_tree.specs.Form.{Named, VariableForm, EnumeratorForm, SortForm, struct, alias}
+use Rattle.pb_text_tree.specs.Form.{SortDeclarationForm, RangeForm, EquationForm, SpecForm}
 use Rattle.pb_text_meaning.specs.Syntax.{Name, same_name, Spec}
 use Rattle.pb_text_meaning.specs.Erase.{erase, erased_sort, erased_equation}
 use Rattle.pb_typing_declarations.specs.declared.sorts.Integers.TheVariants as integers
-use Rattle.pb_typing_declarations.specs.declared.fault.TypingRule.TheVariants.{NameTwice, UnknownSort, MissingRange, Limit}
+use Rattle.pb_typing_declarations.specs.declared.fault.TypingRule.TheVariants.{NameTwice}
+use Rattle.pb_typing_declarations.specs.declared.fault.TypingRule.TheVariants.{UnknownSort}
+use Rattle.pb_typing_declarations.specs.declared.fault.TypingRule.TheVariants.{MissingRange, Limit}
 use Rattle.pb_typing_declarations.specs.declared.fault.TypingFault.{TypingFault}
 use Rattle.pb_typing_declarations.specs.Faults.{unless, is_among, repeated, length_faults}
-use Rattle.pb_typing_declarations.specs.Shapes.{End, Shaped, Unranged, Undeclared, Endless, end_of, base_of, is_sort, is_built_in, number_behind}
+use Rattle.pb_typing_declarations.specs.Shapes.{End, Shaped, Unranged, Undeclared, Endless, end_of}
+use Rattle.pb_typing_declarations.specs.Shapes.{base_of, is_sort, is_built_in, number_behind}
 use Rattle.pb_typing_declarations.specs.Instances.{instance_count}
-use Rattle.pb_sorts.specs.declared.limits.TheConstants.{MAX_STRUCTS, MAX_ENUMERATORS, MAX_EQUATIONS, MAX_PARAMETERS, MAX_INSTANCES}
+use Rattle.pb_sorts.specs.declared.limits.TheConstants.{MAX_STRUCTS, MAX_ENUMERATORS, MAX_EQUATIONS}
+use Rattle.pb_sorts.specs.declared.limits.TheConstants.{MAX_PARAMETERS, MAX_INSTANCES}
 
 -- ---- limits
 
@@ -24,7 +31,8 @@ limit_fault (Some x) = unless false Limit x.place
 abbrev pub limit_faults : ℕ → List Named → List TypingFault
 limit_faults limit xs = limit_fault (slice_get xs limit)
 
--- The limit isn't passed here: what stands before is beyond it already, or what is counted with this is still within.
+-- The limit isn't passed here: what stands before is beyond it already, or what is counted with
+-- this is still within.
 abbrev pub stays_within : ℕ → ℕ → ℕ → Bool
 stays_within limit before counted = nat_lt limit before || nat_le counted limit
 
@@ -46,7 +54,8 @@ all_enumerator_forms ds = flat_map (λ (d : SortDeclarationForm). enumerators_of
 
 -- the functions that are there
 abbrev pub is_numeric_function : Name → Bool
-is_numeric_function f = is_among (codes "succ" ∷ codes "pred" ∷ codes "max" ∷ codes "min" ∷ codes "abs" ∷ []) f
+is_numeric_function f =
+    is_among (codes "succ" ∷ codes "pred" ∷ codes "max" ∷ codes "min" ∷ codes "abs" ∷ []) f
 
 abbrev pub is_conversion : Name → Bool
 is_conversion f = is_among (codes "Pos2Nat" ∷ codes "Pos2Int" ∷ codes "Nat2Int" ∷ []) f
@@ -73,15 +82,19 @@ is_endless Undeclared = false
 abbrev pub definition_faults : Spec → Named → SortForm → List TypingFault
 definition_faults spec s (struct es) = []
 definition_faults spec s (alias target) =
-    unless (is_sort spec target.text) UnknownSort target.place ++ unless (not (is_endless (base_of spec s.text))) UnknownSort s.place
+    unless (is_sort spec target.text) UnknownSort target.place
+    ++ unless (not (is_endless (base_of spec s.text))) UnknownSort s.place
 
 abbrev pub sort_faults : Spec → SortDeclarationForm → List TypingFault
-sort_faults spec d = unless (not (is_built_in d.name.text)) NameTwice d.name.place ++ definition_faults spec d.name d.sort
+sort_faults spec d =
+    unless (not (is_built_in d.name.text)) NameTwice d.name.place
+    ++ definition_faults spec d.name d.sort
 
 abbrev pub own_names : List EnumeratorForm → List Named
 own_names es = map (λ (e : EnumeratorForm). e.name) es
 
--- behind n structs: the one after MAX_STRUCTS passes the limit, and each has 1 to MAX_ENUMERATORS enumerators
+-- behind n structs: the one after MAX_STRUCTS passes the limit, and each has 1 to MAX_ENUMERATORS
+-- enumerators
 abbrev pub struct_faults : ℕ → Place → SortForm → List TypingFault
 struct_faults n place (struct es) =
     unless (stays_within MAX_STRUCTS n (suc n)) Limit place
@@ -92,9 +105,11 @@ struct_faults n place (alias target) = []
 
 abbrev pub structs_faults : ℕ → List SortDeclarationForm → List TypingFault
 structs_faults n [] = []
-structs_faults n (d ∷ ds) = struct_faults n d.name.place d.sort ++ structs_faults (number_behind n (erased_sort d.sort)) ds
+structs_faults n (d ∷ ds) =
+    struct_faults n d.name.place d.sort ++ structs_faults (number_behind n (erased_sort d.sort)) ds
 
--- a declared sort whose chain has no end that is a sort: it fails where it is declared, and its uses don't fail for that
+-- a declared sort whose chain has no end that is a sort: it fails where it is declared, and its
+-- uses don't fail for that
 abbrev pub is_faulty : Bool → End → Bool
 is_faulty declared (Shaped h) = false
 is_faulty declared (Unranged k) = false
@@ -121,7 +136,9 @@ may_begin_at low Endless = true
 -- the range of an integer sort, which begins at its least value or above
 abbrev pub range_faults : Spec → RangeForm → List TypingFault
 range_faults spec r =
-    unless (is_integer (base_of spec r.name) || is_faulty (is_sort spec r.name) (base_of spec r.name)) UnknownSort r.place
+    unless
+    (is_integer (base_of spec r.name) || is_faulty (is_sort spec r.name) (base_of spec r.name))
+    UnknownSort r.place
     ++ unless (may_begin_at r.low (base_of spec r.name)) MissingRange r.place
 
 -- and isn't empty
@@ -160,14 +177,19 @@ abbrev pub equation_names : List EquationForm → List Named
 equation_names E = map (λ (X : EquationForm). X.name) E
 
 abbrev pub equation_faults : Spec → EquationForm → List TypingFault
-equation_faults spec X = length_faults X.name ++ (limit_faults MAX_PARAMETERS (variable_names X.parameters) ++ variables_faults spec X.parameters)
+equation_faults spec X =
+    length_faults X.name
+    ++ (limit_faults MAX_PARAMETERS (variable_names X.parameters)
+    ++ variables_faults spec X.parameters)
 
--- behind so many instances: a predicate variable is as it must be, and its instances don't pass the limit
+-- behind so many instances: a predicate variable is as it must be, and its instances don't pass the
+-- limit
 abbrev pub equations_faults_behind : Spec → ℕ → List EquationForm → List TypingFault
 equations_faults_behind spec n [] = []
 equations_faults_behind spec n (X ∷ E) =
     equation_faults spec X
-    ++ (unless (stays_within MAX_INSTANCES n (n + instance_count spec (erased_equation X))) Limit X.name.place
+    ++ (unless (stays_within MAX_INSTANCES n (n + instance_count spec (erased_equation X)))
+    Limit X.name.place
     ++ equations_faults_behind spec (n + instance_count spec (erased_equation X)) E)
 
 -- ---- all

@@ -13,7 +13,9 @@ use Rattle.pb_typing_declarations.specs.declared.chain.End as chains
 use Rattle.pb_typing_declarations.specs.declared.chain.End.TheVariants as chain
 use Rattle.pb_typing_declarations.specs.declared.chain.Step.{Step}
 use Rattle.pb_typing_declarations.specs.declared.chain.Step.TheVariants as steps
-use Rattle.pb_typing_declarations.specs.Shapes.{Shape, Unknown, Truths, Places, Wholes, Definition, Structure, Renaming, End, Shaped, Unranged, Undeclared, Endless, Bounds, number_behind}
+use Rattle.pb_typing_declarations.specs.Shapes.{Shape, Unknown, Truths, Places, Wholes, Definition}
+use Rattle.pb_typing_declarations.specs.Shapes.{Structure, Renaming, End, Shaped, Unranged}
+use Rattle.pb_typing_declarations.specs.Shapes.{Undeclared, Endless, Bounds, number_behind}
 use Rattle.pb_typing_declarations.specs.Enumerators.{Position, positioned}
 use Rattle.pb_typing_declarations.specs.Tables.{Table, looked_up}
 
@@ -74,7 +76,8 @@ abbrev pub data_from : ℕ → ℕ → ℕ → List Enumerator → List (Name ×
 data_from sort count place [] = []
 data_from sort count place (e ∷ es) =
     (e.name, data_name.Enumerator (positioned sort count place))
-    ∷ (data_of_recogniser (positioned sort count place) e.recogniser ++ data_from sort count (suc place) es)
+    ∷ (data_of_recogniser (positioned sort count place) e.recogniser
+    ++ data_from sort count (suc place) es)
 
 abbrev pub data_in : ℕ → Sort → List (Name × DataName)
 data_in n (Struct es) = data_from n (length es) 0 es

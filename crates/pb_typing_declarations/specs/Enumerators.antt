@@ -1,7 +1,8 @@
 -- Enumerators and recognisers, over all structs.
 use Rattle.std.specs.Prelude.{ℕ, suc, List, [], ◌∷◌, ◌++◌, length, Option, Some, None}
 use Rattle.std.specs.Option.{option_map}
-use Rattle.pb_text_meaning.specs.Syntax.{Name, Enumerator, Sort, Struct, Alias, SortDeclaration, Spec}
+use Rattle.pb_text_meaning.specs.Syntax.{Name, Enumerator, Sort, Struct, Alias, SortDeclaration}
+use Rattle.pb_text_meaning.specs.Syntax.{Spec}
 use Rattle.pb_typing_declarations.specs.declared.sorts.Enumerator as declared
 use Rattle.pb_typing_declarations.specs.Shapes.{Shape, Places, first, number_behind}
 
@@ -15,7 +16,8 @@ positioned sort count place = record { sort = sort; count = count; place = place
 -- the enumerators of a struct, from a place on
 abbrev pub enumerators_from : ℕ → ℕ → ℕ → List Enumerator → List (Name × Position)
 enumerators_from sort count place [] = []
-enumerators_from sort count place (e ∷ es) = (e.name, positioned sort count place) ∷ enumerators_from sort count (suc place) es
+enumerators_from sort count place (e ∷ es) =
+    (e.name, positioned sort count place) ∷ enumerators_from sort count (suc place) es
 
 abbrev pub enumerators_in : ℕ → Sort → List (Name × Position)
 enumerators_in n (Struct es) = enumerators_from n (length es) 0 es
@@ -32,7 +34,9 @@ recogniser_entry (Some x) p = (x, p) ∷ []
 
 abbrev pub recognisers_from : ℕ → ℕ → ℕ → List Enumerator → List (Name × Position)
 recognisers_from sort count place [] = []
-recognisers_from sort count place (e ∷ es) = recogniser_entry e.recogniser (positioned sort count place) ++ recognisers_from sort count (suc place) es
+recognisers_from sort count place (e ∷ es) =
+    recogniser_entry e.recogniser (positioned sort count place)
+    ++ recognisers_from sort count (suc place) es
 
 abbrev pub recognisers_in : ℕ → Sort → List (Name × Position)
 recognisers_in n (Struct es) = recognisers_from n (length es) 0 es

@@ -1,5 +1,6 @@
 -- Faults: rules that fail, each with its place in the text.
-use Rattle.std.specs.Prelude.{Bool, true, false, not, nat_le, List, [], ◌∷◌, ◌++◌, length, Contains, ⊤}
+use Rattle.std.specs.Prelude.{Bool, true, false, not, nat_le, List, [], ◌∷◌, ◌++◌, length, Contains}
+use Rattle.std.specs.Prelude.{⊤}
 use Rattle.std.specs.List.{list_any}
 use Rattle.pb_sorts.specs.declared.limits.TheConstants.{MAX_NAME_BYTES}
 use Rattle.pb_text_tree.specs.declared.place.Place.{Place}
@@ -29,7 +30,8 @@ is_among names x = list_any (λ y. same_name y x) names
 -- a name that was declared before, among names that stand behind others
 abbrev pub repeated_after : List Name → List Named → List TypingFault
 repeated_after before [] = []
-repeated_after before (x ∷ xs) = unless (not (is_among before x.text)) NameTwice x.place ++ repeated_after (x.text ∷ before) xs
+repeated_after before (x ∷ xs) =
+    unless (not (is_among before x.text)) NameTwice x.place ++ repeated_after (x.text ∷ before) xs
 
 abbrev pub repeated : List Named → List TypingFault
 repeated = repeated_after []

@@ -1,12 +1,17 @@
 -- What is read of a text: entries of its names, in order, where it has no fault.
-use Rattle.std.specs.Prelude.{◌≡◌, ◌≤◌, ◌+◌, nat_le, suc, ℤ, length, All, ℕ, List, [], ◌∷◌, ◌++◌, map, flat_map, Option}
-use Rattle.pb_text_tree.specs.Form.{Named, EnumeratorForm, SortDeclarationForm, RangeForm, EquationForm, VariableForm}
-use Rattle.pb_text_meaning.specs.Erase.{erased_enumerator, erased_declaration, erased_recogniser, erased_sort, erased_range, erased_equation, erased_variables}
+use Rattle.std.specs.Prelude.{◌≡◌, ◌≤◌, ◌+◌, nat_le, suc, ℤ, length, All, ℕ, List, [], ◌∷◌, ◌++◌}
+use Rattle.std.specs.Prelude.{map, flat_map, Option}
+use Rattle.pb_text_tree.specs.Form.{Named, EnumeratorForm, SortDeclarationForm, RangeForm}
+use Rattle.pb_text_tree.specs.Form.{EquationForm, VariableForm}
+use Rattle.pb_text_meaning.specs.Erase.{erased_enumerator, erased_declaration, erased_recogniser}
+use Rattle.pb_text_meaning.specs.Erase.{erased_sort, erased_range, erased_equation}
+use Rattle.pb_text_meaning.specs.Erase.{erased_variables}
 use Rattle.pb_typing_declarations.specs.declared.entry.Entry.{Entry}
 use Rattle.pb_typing_declarations.specs.declared.definition.Definition.{Definition}
 use Rattle.pb_typing_declarations.specs.declared.definition.DataName.{DataName}
 use Rattle.pb_typing_declarations.specs.declared.definition.Definitions.{Definitions}
-use Rattle.pb_typing_declarations.specs.Shapes.{definition_of, definitions_from, range_bounds, sort_shape, variable_shapes}
+use Rattle.pb_typing_declarations.specs.Shapes.{definition_of, definitions_from, range_bounds}
+use Rattle.pb_typing_declarations.specs.Shapes.{sort_shape, variable_shapes}
 use Rattle.pb_sorts.specs.declared.carrier.Range.{Range}
 use Rattle.pb_sorts.specs.declared.carrier.Carrier.{Carrier}
 use Rattle.pb_sorts.specs.declared.limits.TheConstants.{MAX_PARAMETERS, MAX_INSTANCES}
@@ -21,40 +26,62 @@ use Rattle.pb_typing_declarations.specs.declared.fault.TypingRule.TheVariants.{L
 use Rattle.pb_typing_declarations.specs.Faults.{unless}
 use Rattle.pb_typing_declarations.specs.Enumerators.{Position}
 use Rattle.pb_typing_declarations.specs.Tables.{entry_names, entry_values}
-use Rattle.pb_typing_declarations.specs.Entries.{shape_of, shapes_of, shown, shown_entries, range_shown, data_of_recogniser, data_from, data_in, all_data}
-use Rattle.pb_typing_declarations.specs.Declarations.{struct_faults, structs_faults, recogniser_faults, recogniser_name, enumerator_faults, names_of_enumerator, enumerators_of_sort, all_enumerator_forms, empty_faults, range_name, equation_names, use_faults, variables_faults, equation_faults, equations_faults_behind}
+use Rattle.pb_typing_declarations.specs.Entries.{shape_of, shapes_of, shown, shown_entries}
+use Rattle.pb_typing_declarations.specs.Entries.{range_shown, data_of_recogniser, data_from}
+use Rattle.pb_typing_declarations.specs.Entries.{data_in, all_data}
+use Rattle.pb_typing_declarations.specs.Declarations.{struct_faults, structs_faults}
+use Rattle.pb_typing_declarations.specs.Declarations.{recogniser_faults, recogniser_name}
+use Rattle.pb_typing_declarations.specs.Declarations.{enumerator_faults, names_of_enumerator}
+use Rattle.pb_typing_declarations.specs.Declarations.{enumerators_of_sort, all_enumerator_forms}
+use Rattle.pb_typing_declarations.specs.Declarations.{empty_faults, range_name, equation_names}
+use Rattle.pb_typing_declarations.specs.Declarations.{use_faults, variables_faults, equation_faults}
+use Rattle.pb_typing_declarations.specs.Declarations.{equations_faults_behind}
 
 -- new entries are old ones and then these names with these values
-pub record Adds {V : Type 0} (xs : List Named) (vs : List (List ℕ × V)) (old new : List (Entry V)) : Type 0 where
+pub record Adds {V : Type 0} (xs : List Named) (vs : List (List ℕ × V)) (old new : List (Entry V))
+    : Type 0 where
   pub names : entry_names new ≡ entry_names old ++ xs
   pub values : entry_values new ≡ entry_values old ++ vs
 
-pub record HasRecogniser (p : Position) (recogniser : Option Named) (old new : List (Entry DataName)) : Type 0 where
+pub record HasRecogniser (p : Position) (recogniser : Option Named)
+    (old new : List (Entry DataName)) : Type 0 where
   pub clear : recogniser_faults recogniser ≡ []
-  pub adds : Adds (recogniser_name recogniser) (data_of_recogniser p (erased_recogniser recogniser)) old new
+  pub adds :
+      Adds (recogniser_name recogniser) (data_of_recogniser p (erased_recogniser recogniser))
+      old new
 
-pub record HasEnumerators (sort count place : ℕ) (es : List EnumeratorForm) (old new : List (Entry DataName)) : Type 0 where
+pub record HasEnumerators (sort count place : ℕ) (es : List EnumeratorForm)
+    (old new : List (Entry DataName)) : Type 0 where
   pub clear : flat_map enumerator_faults es ≡ []
-  pub adds : Adds (flat_map names_of_enumerator es) (data_from sort count place (map erased_enumerator es)) old new
+  pub adds :
+      Adds (flat_map names_of_enumerator es) (data_from sort count place (map erased_enumerator es))
+      old new
 
 -- a sort's definition, where n structs stand before it
-pub record IsDefinition (n : ℕ) (d : SortDeclarationForm) (old new : List (Entry DataName)) (definition : Definition) : Type 0 where
+pub record IsDefinition (n : ℕ) (d : SortDeclarationForm) (old new : List (Entry DataName))
+    (definition : Definition) : Type 0 where
   pub clear : struct_faults n d.name.place d.sort ≡ []
   pub is : shown definition ≡ definition_of n (erased_sort d.sort)
-  pub adds : Adds (flat_map names_of_enumerator (enumerators_of_sort d.sort)) (data_in n (erased_sort d.sort)) old new
+  pub adds :
+      Adds (flat_map names_of_enumerator (enumerators_of_sort d.sort))
+      (data_in n (erased_sort d.sort)) old new
 
 pub record AreDefinitions (ds : List SortDeclarationForm) (definitions : Definitions) : Type 0 where
   pub clear : structs_faults 0 ds ≡ []
-  pub sort_names : entry_names definitions.sorts.items ≡ map (λ (d : SortDeclarationForm). d.name) ds
-  pub sorts : shown_entries (entry_values definitions.sorts.items) ≡ definitions_from 0 (map erased_declaration ds)
-  pub data_names : entry_names definitions.names.items ≡ flat_map names_of_enumerator (all_enumerator_forms ds)
+  pub sort_names : entry_names definitions.sorts.items
+      ≡ map (λ (d : SortDeclarationForm). d.name) ds
+  pub sorts : shown_entries (entry_values definitions.sorts.items)
+      ≡ definitions_from 0 (map erased_declaration ds)
+  pub data_names : entry_names definitions.names.items
+      ≡ flat_map names_of_enumerator (all_enumerator_forms ds)
   pub data_values : entry_values definitions.names.items ≡ all_data 0 (map erased_declaration ds)
 
 -- the ranges
 pub record AreRanges (rs : List RangeForm) (entries : List (Entry Range)) : Type 0 where
   pub clear : flat_map empty_faults rs ≡ []
   pub names : entry_names entries ≡ map range_name rs
-  pub values : map (λ e. (e.0, range_shown e.1)) (entry_values entries) ≡ range_bounds (map erased_range rs)
+  pub values : map (λ e. (e.0, range_shown e.1)) (entry_values entries)
+      ≡ range_bounds (map erased_range rs)
 
 -- names with their places in a list that begins at n
 abbrev pub numbered_from : ℕ → List Named → List (List ℕ × ℕ)
@@ -84,14 +111,18 @@ pub record HasParameters (S : Spec) (X : EquationForm) (carriers : List Carrier)
   pub few : length carriers ≤ MAX_PARAMETERS
 
 -- a sum of instances
-pub record AddsInstances (count : ℕ) (carriers : List (List ℤ)) (place : Place) (sum : ℕ) : Type 0 where
+pub record AddsInstances (count : ℕ) (carriers : List (List ℤ)) (place : Place) (sum : ℕ)
+    : Type 0 where
   pub clear : unless (nat_le (count + tuple_count carriers) MAX_INSTANCES) Limit place ≡ []
   pub is : sum ≡ count + tuple_count carriers
   pub few : sum ≤ MAX_INSTANCES
 
 -- the carriers of equations behind n instances
-pub record HasCarriers (S : Spec) (n : ℕ) (E : List EquationForm) (carriers : List (List Carrier)) : Type 0 where
+pub record HasCarriers (S : Spec) (n : ℕ) (E : List EquationForm) (carriers : List (List Carrier))
+    : Type 0 where
   pub clear : equations_faults_behind S n E ≡ []
-  pub values : layouts.carriers_of carriers ≡ map (λ (X : Equation). carriers_of S X.parameters) (map erased_equation E)
-  pub shapes : map shapes_of carriers ≡ map (λ (X : Equation). variable_shapes S X.parameters) (map erased_equation E)
+  pub values : layouts.carriers_of carriers
+      ≡ map (λ (X : Equation). carriers_of S X.parameters) (map erased_equation E)
+  pub shapes : map shapes_of carriers
+      ≡ map (λ (X : Equation). variable_shapes S X.parameters) (map erased_equation E)
   pub few : All (λ (cs : List Carrier). length cs ≤ MAX_PARAMETERS) carriers

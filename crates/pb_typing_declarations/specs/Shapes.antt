@@ -1,12 +1,15 @@
 -- What values a sort has: its kind, and for whole numbers their interval.
-use Rattle.std.specs.Prelude.{ℕ, zero, suc, ℤ, pos, Bool, true, false, if◌then◌else◌, ◌||◌, List, [], ◌∷◌, length, map, Option, Some, None, codes, is_some}
+use Rattle.std.specs.Prelude.{ℕ, zero, suc, ℤ, pos, Bool, true, false, if◌then◌else◌, ◌||◌, List}
+use Rattle.std.specs.Prelude.{[], ◌∷◌, length, map, Option, Some, None, codes, is_some}
 use Rattle.pb_carriers.specs.Carrier.{Carrier, of_bool, numbers_from, interval}
-use Rattle.pb_text_meaning.specs.Syntax.{Name, same_name, Variable, Sort, Struct, Alias, SortDeclaration, Range, Spec}
+use Rattle.pb_text_meaning.specs.Syntax.{Name, same_name, Variable, Sort, Struct, Alias}
+use Rattle.pb_text_meaning.specs.Syntax.{SortDeclaration, Range, Spec}
 use Rattle.pb_typing_declarations.specs.declared.sorts.Integers.{Integers}
 use Rattle.pb_typing_declarations.specs.declared.sorts.Integers.TheVariants as integers
 
--- Kind and interval together: no values are known; false and true; the enumerators of the struct with this number
--- among the structs in declared order, so many as stand second; the whole numbers from low to high.
+-- Kind and interval together: no values are known; false and true; the enumerators of the struct
+-- with this number among the structs in declared order, so many as stand second; the whole numbers
+-- from low to high.
 pub data Shape : Type 0 where
   Unknown : Shape
   Truths : Shape
@@ -43,7 +46,8 @@ first ((y, v) ∷ ys) x = if same_name y x then Some v else first ys x
 
 abbrev pub definitions_from : ℕ → List SortDeclaration → List (Name × Definition)
 definitions_from n [] = []
-definitions_from n (d ∷ ds) = (d.name, definition_of n d.sort) ∷ definitions_from (number_behind n d.sort) ds
+definitions_from n (d ∷ ds) =
+    (d.name, definition_of n d.sort) ∷ definitions_from (number_behind n d.sort) ds
 
 abbrev pub definitions : Spec → List (Name × Definition)
 definitions spec = definitions_from 0 spec.sorts
@@ -71,7 +75,8 @@ Bounds = ℤ × ℤ
 abbrev pub range_bounds : List Range → List (Name × Bounds)
 range_bounds rs = map (λ (r : Range). (r.name, (r.low, r.high))) rs
 
--- a range that is given, else Bool, else what is declared, an alias going on to its target; else what is built in
+-- a range that is given, else Bool, else what is declared, an alias going on to its target; else
+-- what is built in
 abbrev pub end_by : Option Bounds → Bool → Option Definition → End → (Name → End) → End
 end_by (Some (low, high)) is_bool definition other next = Shaped (Wholes low high)
 end_by None true definition other next = Shaped Truths
@@ -83,11 +88,14 @@ end_by None false None other next = other
 abbrev pub end_within : ℕ → (Name → Option Bounds) → (Name → Option Definition) → Name → End
 end_within zero bounds definition s = Endless
 end_within (suc n) bounds definition s =
-    end_by (bounds s) (same_name s (codes "Bool")) (definition s) (built_in_integers s) (end_within n bounds definition)
+    end_by (bounds s) (same_name s (codes "Bool")) (definition s) (built_in_integers s)
+    (end_within n bounds definition)
 
 -- no chain of aliases is longer than the list of sorts
 abbrev pub end_of : Spec → Name → End
-end_of spec s = end_within (suc (length spec.sorts)) (first (range_bounds spec.ranges)) (first (definitions spec)) s
+end_of spec s =
+    end_within (suc (length spec.sorts)) (first (range_bounds spec.ranges))
+    (first (definitions spec)) s
 
 -- the same without any ranges: the built-in sort or the struct behind the aliases
 abbrev pub base_of : Spec → Name → End
@@ -108,7 +116,9 @@ abbrev pub variable_shapes : Spec → List Variable → List Shape
 variable_shapes spec xs = map (λ (x : Variable). sort_shape spec x.sort) xs
 
 abbrev pub is_built_in : Name → Bool
-is_built_in s = same_name s (codes "Bool") || (same_name s (codes "Pos") || (same_name s (codes "Nat") || same_name s (codes "Int")))
+is_built_in s =
+    same_name s (codes "Bool")
+    || (same_name s (codes "Pos") || (same_name s (codes "Nat") || same_name s (codes "Int")))
 
 abbrev pub is_sort : Spec → Name → Bool
 is_sort spec s = is_built_in s || is_some (first (definitions spec) s)

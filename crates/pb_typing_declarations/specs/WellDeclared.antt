@@ -1,9 +1,15 @@
 -- What may be declared: the relation on what a text says, without places.
-use Rattle.std.specs.Prelude.{ℕ, ◌≡◌, ◌≢◌, ◌<◌, ◌≤◌, ◌≤ℤ◌, true, false, Bool, List, [], ◌∷◌, map, flat_map, length, All, AllPairs, Option, Some, None}
-use Rattle.pb_sorts.specs.declared.limits.TheConstants.{MAX_STRUCTS, MAX_ENUMERATORS, MAX_EQUATIONS, MAX_PARAMETERS, MAX_INSTANCES, MAX_NAME_BYTES}
-use Rattle.pb_text_meaning.specs.Syntax.{Name, Variable, Enumerator, Sort, Struct, Alias, SortDeclaration, Range, Equation, Spec}
-use Rattle.pb_typing_declarations.specs.Shapes.{End, Shaped, Unranged, Undeclared, Endless, end_of, base_of, is_sort, is_built_in, number_behind}
-use Rattle.pb_typing_declarations.specs.Declarations.{is_endless, is_faulty, is_integer, may_begin_at, is_named_function}
+use Rattle.std.specs.Prelude.{ℕ, ◌≡◌, ◌≢◌, ◌<◌, ◌≤◌, ◌≤ℤ◌, true, false, Bool, List, [], ◌∷◌, map}
+use Rattle.std.specs.Prelude.{flat_map, length, All, AllPairs, Option, Some, None}
+use Rattle.pb_sorts.specs.declared.limits.TheConstants.{MAX_STRUCTS, MAX_ENUMERATORS, MAX_EQUATIONS}
+use Rattle.pb_sorts.specs.declared.limits.TheConstants.{MAX_PARAMETERS, MAX_INSTANCES}
+use Rattle.pb_sorts.specs.declared.limits.TheConstants.{MAX_NAME_BYTES}
+use Rattle.pb_text_meaning.specs.Syntax.{Name, Variable, Enumerator, Sort, Struct, Alias}
+use Rattle.pb_text_meaning.specs.Syntax.{SortDeclaration, Range, Equation, Spec}
+use Rattle.pb_typing_declarations.specs.Shapes.{End, Shaped, Unranged, Undeclared, Endless, end_of}
+use Rattle.pb_typing_declarations.specs.Shapes.{base_of, is_sort, is_built_in, number_behind}
+use Rattle.pb_typing_declarations.specs.Declarations.{is_endless, is_faulty, is_integer}
+use Rattle.pb_typing_declarations.specs.Declarations.{may_begin_at, is_named_function}
 use Rattle.pb_typing_declarations.specs.Instances.{all_instances}
 
 -- no name stands twice
@@ -12,10 +18,12 @@ AreApart xs = AllPairs (λ (x y : Name). x ≢ y) xs
 
 -- ---- sorts and ranges
 
--- a struct has 1 to MAX_ENUMERATORS enumerators; an alias's target is a sort, and its chain has an end
+-- a struct has 1 to MAX_ENUMERATORS enumerators; an alias's target is a sort, and its chain has an
+-- end
 abbrev pub IsDefined : Spec → Name → Sort → Type 0
 IsDefined spec s (Struct es) = (0 < length es) × (length es ≤ MAX_ENUMERATORS)
-IsDefined spec s (Alias target) = (is_sort spec target ≡ true) × (is_endless (base_of spec s) ≡ false)
+IsDefined spec s (Alias target) =
+    (is_sort spec target ≡ true) × (is_endless (base_of spec s) ≡ false)
 
 -- each sort that is declared has an end, with its ranges and without
 pub record HaveEnds (spec : Spec) : Type 0 where
@@ -66,8 +74,8 @@ pub record AreVariables (spec : Spec) (xs : List Variable) : Type 0 where
 
 -- ---- all
 
--- Sorts, ranges, enumerators with their recognisers, and predicate variables are declared once, each in its own name
--- space, as they must be, and within the limits.
+-- Sorts, ranges, enumerators with their recognisers, and predicate variables are declared once,
+-- each in its own name space, as they must be, and within the limits.
 pub record IsDeclared (spec : Spec) : Type 0 where
   pub sorts : AreApart (map (λ (d : SortDeclaration). d.name) spec.sorts)
   pub new_sorts : All (λ (d : SortDeclaration). is_built_in d.name ≡ false) spec.sorts
@@ -76,10 +84,14 @@ pub record IsDeclared (spec : Spec) : Type 0 where
   pub ranges : AreApart (map (λ (r : Range). r.name) spec.ranges)
   pub ranged : All (IsRanged spec) spec.ranges
   pub enumerators : AreApart (flat_map enumerator_names (every_enumerator spec.sorts))
-  pub short_enumerators : All (λ (e : Enumerator). length e.name ≤ MAX_NAME_BYTES) (every_enumerator spec.sorts)
-  pub new_functions : All (λ (e : Enumerator). All (λ x. is_named_function x ≡ false) (given e.recogniser)) (every_enumerator spec.sorts)
+  pub short_enumerators :
+      All (λ (e : Enumerator). length e.name ≤ MAX_NAME_BYTES) (every_enumerator spec.sorts)
+  pub new_functions :
+      All (λ (e : Enumerator). All (λ x. is_named_function x ≡ false) (given e.recogniser))
+      (every_enumerator spec.sorts)
   pub predicate_variables : AreApart (map (λ (X : Equation). X.name) spec.equations)
-  pub short_predicate_variables : All (λ (X : Equation). length X.name ≤ MAX_NAME_BYTES) spec.equations
+  pub short_predicate_variables :
+      All (λ (X : Equation). length X.name ≤ MAX_NAME_BYTES) spec.equations
   pub few_equations : length spec.equations ≤ MAX_EQUATIONS
   pub few_parameters : All (λ (X : Equation). length X.parameters ≤ MAX_PARAMETERS) spec.equations
   pub parameters : All (λ (X : Equation). AreVariables spec X.parameters) spec.equations

@@ -2,13 +2,10 @@
 
 ghost use Rattle.std.specs.Prelude.{◌≡◌, [], flat_map, map, Contains, MatchResult};
 ghost use Rattle.pb_text_tree.specs.Form.{range_form};
-ghost use Rattle.pb_text_meaning.specs.Erase.{erased_range};
 ghost use Rattle.pb_typing_declarations.specs.Faults.{IsAmong};
-ghost use Rattle.pb_typing_declarations.specs.Shapes.{range_bounds};
-ghost use Rattle.pb_typing_declarations.specs.Tables.{entry_names, entry_values};
 ghost use Rattle.pb_typing_declarations.specs.Entries.{range_shown};
 ghost use Rattle.pb_typing_declarations.specs.Reading.{AreRanges};
-ghost use Rattle.pb_typing_declarations.specs.Declarations.{empty_faults, range_name};
+ghost use Rattle.pb_typing_declarations.specs.Declarations.{empty_faults};
 
 use crate::entry::Entry;
 use crate::fault::{TypeError, TypingFault, TypingRule};

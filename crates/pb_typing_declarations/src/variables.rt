@@ -1,6 +1,6 @@
 //! Lists of variables, flattened: each variable with its sort.
 
-ghost use Rattle.std.specs.Prelude.{◌≡◌, ◌++◌, IfOk, OnOk, map};
+ghost use Rattle.std.specs.Prelude.{◌≡◌, ◌++◌, IfOk, OnOk};
 ghost use Rattle.pb_text_tree.specs.Form.{variables_form, variable_forms};
 ghost use Rattle.pb_typing_declarations.specs.Variables.{variables_of};
 

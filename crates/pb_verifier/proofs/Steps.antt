@@ -1,11 +1,11 @@
 -- One place of the pass.
 use Rattle.std.proofs.lemmas.Option.{slice_get-get_or}
 use Rattle.std.proofs.Common.{◌≡◌, ℕ, ◌+◌, ◌<◌, ◌≤◌, ◌∙◌, get_or, Bool, true, false, List, [], ◌∷◌, length, drop, Option, Some, None, refl, sym, ap}
-use Rattle.std.specs.Prelude.{Result, Ok, Err, OnOk, slice_get, slice_set}
+use Rattle.std.specs.Prelude.{Result, Ok, Err, OnErr, OnOk, slice_get, slice_set}
 use Rattle.std.proofs.lemmas.List.{drop_all}
 use Rattle.pb_sorts.proofs.Places.{drop-slice_get}
 use Rattle.pb_bytecode_program.specs.Counts.{loop_effect}
-use Rattle.pb_verifier_states.specs.Refusals.{OnRefused, OnRefusedBy}
+use Rattle.pb_verifier_states.specs.Refusals.{OnRefusedBy}
 use Rattle.pb_verifier_states.specs.declared.flow_error.FlowError.{FlowError}
 use Rattle.pb_verifier_states.specs.declared.flow_error.FlowError.TheVariants.{Refused, Memory}
 use Rattle.pb_bytecode_program.specs.Machine.{Program}
@@ -28,9 +28,9 @@ pub where_refused_by : {P Q : Type 0} → (e : FlowError) → (P → Q) → OnRe
 where_refused_by (Refused rule) f h = f h
 where_refused_by Memory f h = h
 
-pub where_refused : {P Q : Type 0} → (r : Result (Unit {0}) FlowError) → (P → Q) → OnRefused r P → OnRefused r Q
-where_refused (Ok x) f h = h
-where_refused (Err e) f h = where_refused_by e f h
+pub where_err : {E : Type 0} {P Q : Type 0} → (r : Result (Unit {0}) E) → (P → Q) → OnErr r P → OnErr r Q
+where_err (Ok x) f h = h
+where_err (Err e) f h = f h
 
 -- ---- the instructions that are left
 

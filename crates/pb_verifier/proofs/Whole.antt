@@ -14,7 +14,7 @@ use Rattle.pb_bytecode_program.specs.declared.instruction.Op.{Op}
 use Rattle.pb_sorts.specs.declared.carrier.Carrier.{Carrier}
 use Rattle.pb_sorts.specs.declared.carrier.Carrier.TheVariants as carrier
 use lib.Signed.{≤ℤ_refl}
-use Rattle.std.proofs.lemmas.Option.{none-some, same_Some}
+use Rattle.std.proofs.lemmas.Option.{slice_get_within, none-some, same_Some}
 use Rattle.pb_verifier.specs.Pass.{Homes, homes_after, visited, passes, passes_on, opening, code_passes, innermost}
 use Rattle.pb_verifier_structure.specs.Structure.{IsStructured, IsWithinLimits}
 use Rattle.pb_verifier_structure.proofs.Around.{start_around}
@@ -40,11 +40,6 @@ end_at : (code : List Op) (q : ℕ) → drop q code ≡ [] → length code ≤ q
 end_at [] q e = omega arith
 end_at (j ∷ code) zero e = cc
 end_at (j ∷ code) (suc q) e = let w = end_at code q e in omega arith
-
-inside_at : (code : List Op) (q : ℕ) (i : Op) → slice_get code q ≡ Some i → q < length code
-inside_at [] q i e = cc
-inside_at (j ∷ code) zero i e = omega arith
-inside_at (j ∷ code) (suc q) i e = let w = inside_at code q i e in omega arith
 
 -- ---- homes
 
@@ -80,7 +75,7 @@ module _ (p : Program) (w : IsStructured p) (limits : IsWithinLimits p) where
       let at = head_at p.code q i is d in
       by (visited p q i (state_at t q) homes (slice_set t q None)) (visited p q i (state_at T q) homes T) refl (later T t homes q i at a) e
       (λ u U v s r. let m = earlier_more p w limits T U q i (innermost homes) (home_of p T t homes q a) c at (state_at T q) refl (same_visit T homes q i (state_at T q) ∙ v) in
-      all_kept is (q + 1) U u _ (tail_at p.code q i is d) (let x = inside_at p.code q i at in omega arith)
+      all_kept is (q + 1) U u _ (tail_at p.code q i is d) (let x = slice_get_within p.code q i at in omega arith)
       (kept_more p w limits T U q i (innermost homes) (home_of p T t homes q a) c at (state_at T q) refl (same_visit T homes q i (state_at T q) ∙ v))
       (agrees_more T U t u homes q i at a s m) r)
     where
@@ -167,7 +162,7 @@ pass_sound p w l a b c d e =
         all_closed = w.all_closed;
         closes = w.closes;
         begins = k.1.begins;
-        each = λ q i m at h. k.1.done q i m (inside_at p.code q i at) at h;
+        each = λ q i m at h. k.1.done q i m (slice_get_within p.code q i at) at h;
         long = k.1.long;
         steps_stated = a;
         steps_limit = b;

@@ -11,14 +11,16 @@ use Rattle.pb_bytecode_program.specs.Safety.{IsSafe}
 use Rattle.pb_bytecode.specs.Contents.{EquationContents, Contents}
 use Rattle.pb_bytecode.specs.Meaning.{initial_of, parameters, program_of}
 
--- a table of abstract states accepts the code, which states counts that are large enough and within the limits
+-- a table of abstract states accepts the code, which states counts that are large enough and within
+-- the limits
 pub record HasTable (p : Program) : Type 0 where
   pub table : Table
   pub accepted : Accepted p table
 
 -- the code of each equation is accepted
 pub record IsAccepted (m : Contents) : Type 0 where
-  pub codes : (k : ℕ) (e : EquationContents) → slice_get m.equations k ≡ Some e → HasTable (program_of m e)
+  pub codes : (k : ℕ) (e : EquationContents) → slice_get m.equations k ≡ Some e
+      → HasTable (program_of m e)
 
 -- the module is accepted, and the layout has the carriers of its equations' parameters
 pub record IsVerified (m : Contents) (layout : List (List Carrier)) : Type 0 where
@@ -37,7 +39,8 @@ pub record StatesCounts (p : Program) (steps tokens : ℕ) : Type 0 where
   pub enough_tokens : static_tokens p ≤ tokens
   pub few_tokens : tokens ≤ MAX_TOKENS
 
--- on any arguments of the declared carriers a run never faults, and it ends within the steps and tokens that are stated
+-- on any arguments of the declared carriers a run never faults, and it ends within the steps and
+-- tokens that are stated
 pub record RunsSafely (p : Program) : Type 0 where
   pub safe : IsSafe p
   pub steps : static_steps p ≤ p.stated_steps

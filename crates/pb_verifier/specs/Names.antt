@@ -9,7 +9,8 @@ use Rattle.pb_verifier.specs.declared.visit.Names.{Names}
 use Rattle.pb_verifier.specs.Pass.{merge_edges, then_table}
 use Rattle.pb_verifier.specs.Programs.{program_in}
 
--- joined into the table, what flows from the instruction gives this table, or none where they don't join
+-- joined into the table, what flows from the instruction gives this table, or none where they don't
+-- join
 abbrev pub FlowsTo : Names → ℕ → Op → AbstractState → Table → Option Table → Type 0
 FlowsTo names place i state old new = (p : Program) (home : Option AbstractState) →
     p.sorts ≡ names.sorts.now → p.callees ≡ map vec_items names.callees.now →

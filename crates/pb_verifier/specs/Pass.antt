@@ -1,6 +1,8 @@
--- One pass over code, from its first place to its last: what is known at each place flows to later ones, where it is
--- joined with what flows there from elsewhere. What was known at a place is given up once it has flowed on.
-use Rattle.std.specs.Prelude.{ℕ, ◌+◌, Bool, true, false, List, [], ◌∷◌, length, replicate, Option, Some, None, slice_get, slice_set}
+-- One pass over code, from its first place to its last: what is known at each place flows to later
+-- ones, where it is joined with what flows there from elsewhere. What was known at a place is given
+-- up once it has flowed on.
+use Rattle.std.specs.Prelude.{ℕ, ◌+◌, Bool, true, false, List, [], ◌∷◌, length, replicate, Option}
+use Rattle.std.specs.Prelude.{Some, None, slice_get, slice_set}
 use Rattle.pb_bytecode_program.specs.Machine.{Program}
 use Rattle.pb_bytecode_program.specs.Counts.{LoopEffect, Enters, Leaves, Straight, loop_effect}
 use Rattle.pb_bytecode_program.specs.Transfer.{AbstractState, Edge, transfer}
@@ -12,7 +14,8 @@ abbrev pub put : Table → ℕ → Option AbstractState → Option Table
 put t to None = None
 put t to (Some k) = Some (slice_set t to (Some k))
 
--- a state joined into what is known at a place: none where the place isn't there, or where they don't join
+-- a state joined into what is known at a place: none where the place isn't there, or where they
+-- don't join
 abbrev pub joined_at : Table → ℕ → Option (Option AbstractState) → AbstractState → Option Table
 joined_at t to None s = None
 joined_at t to (Some None) s = Some (slice_set t to (Some s))
@@ -59,7 +62,8 @@ passes_on (Some t) rest = rest t
 abbrev pub passes : Program → ℕ → List Op → Homes → Table → Bool
 passes p q [] homes t = true
 passes p q (i ∷ is) homes t =
-    passes_on (visited p q i (state_at t q) homes (slice_set t q None)) (passes p (q + 1) is (homes_after (loop_effect i) (state_at t q) homes))
+    passes_on (visited p q i (state_at t q) homes (slice_set t q None))
+    (passes p (q + 1) is (homes_after (loop_effect i) (state_at t q) homes))
 
 -- at the start the first place alone is known
 abbrev pub opening : Program → Table

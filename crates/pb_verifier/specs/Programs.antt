@@ -1,5 +1,5 @@
--- The code of an equation as a program, in a module whose sorts have these counts of enumerators and whose equations
--- have parameters of these carriers.
+-- The code of an equation as a program, in a module whose sorts have these counts of enumerators
+-- and whose equations have parameters of these carriers.
 use Rattle.std.specs.Prelude.{◌≡◌, ℕ, List, Some, slice_get}
 use Rattle.pb_sorts.specs.declared.carrier.Carrier.{Carrier}
 use Rattle.pb_bytecode_program.specs.Machine.{Program}
@@ -23,4 +23,5 @@ parameters_of e = e.parameters.items
 
 -- the code of each equation is accepted
 abbrev pub HaveTables : List ℕ → List (List Carrier) → List Equation → Type 0
-HaveTables sorts callees equations = (k : ℕ) (e : Equation) → slice_get equations k ≡ Some e → HasTable (program_in sorts callees e)
+HaveTables sorts callees equations =
+    (k : ℕ) (e : Equation) → slice_get equations k ≡ Some e → HasTable (program_in sorts callees e)

@@ -1,8 +1,8 @@
 //! The pass over the code of an equation: each place's state flows on to later places, from the
 //! first place to the last.
 
-ghost use Rattle.std.specs.Prelude.{◌≡◌, ◌<◌, ◌≤◌, [], ◌∷◌, IfOk, List, None, OnOk, Some, ℕ, map};
-ghost use Rattle.std.specs.Prelude.{replicate, slice_set, true, false, vec_items, vec_len};
+ghost use Rattle.std.specs.Prelude.{◌≡◌, ◌<◌, ◌≤◌, [], ◌∷◌, IfOk, List, None, OnErr, OnOk, Some, ℕ};
+ghost use Rattle.std.specs.Prelude.{map, replicate, slice_set, true, false, vec_items, vec_len};
 ghost use Rattle.pb_verifier_states.specs.Refusals.{OnRefused};
 ghost use Rattle.pb_bytecode_program.specs.Accepted.{state_at};
 ghost use Rattle.pb_bytecode_program.specs.Counts.{Leaves, loop_effect};
@@ -23,7 +23,7 @@ use crate::visit::{Names, visit, visit_loop, visit_next};
 use pb_bytecode::Equation;
 use pb_bytecode_program::Op;
 use pb_sorts::Carrier;
-use pb_verifier_states::{AbstractState, FlowError};
+use pb_verifier_states::{AbstractState, AcceptanceRule, FlowError};
 use std::alloc::{AllocError, Global};
 
 /// What is known in the midst of a pass: at the places to come, and at the starts of the loops
@@ -113,7 +113,7 @@ impl PassState {
         let known = take_state(&mut self.table, place);
         match instruction {
             Op::Loop { slot } => self.start_loop(alloc, equation, slot, place, known),
-            Op::Next => self.end_loop(place, known),
+            Op::Next => Ok(self.end_loop(place, known)?),
             _ => match known {
                 Some(state) => visit(state, alloc, names, place, instruction, &mut self.table),
                 None => Ok(()),
@@ -154,13 +154,13 @@ impl PassState {
     }
 
     // The end of a loop, of which this is known.
-    fn end_loop(&mut self, place: usize, known: Option<AbstractState>) -> Result<(), FlowError>
+    fn end_loop(&mut self, place: usize, known: Option<AbstractState>) -> Result<(), AcceptanceRule>
         requires { place ≤ MAX_INSTRUCTIONS }
         ensures flows { OnOk result ((p : Program)
             → visited p place op.Next known self.old.open self.old.table.items
             ≡ Some self.new.table.items) }
         ensures open { OnOk result (self.new.open ≡ homes_after Leaves known self.old.open) }
-        ensures refused { OnRefused result ((p : Program)
+        ensures err { OnErr result ((p : Program)
             → visited p place op.Next known self.old.open self.old.table.items ≡ None) }
     {
         let start = self.open.leave();

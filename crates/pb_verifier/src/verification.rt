@@ -4,7 +4,7 @@ ghost use Rattle.std.specs.Prelude.{◌≡◌, IfErr, IfOk, OnOk, Some, ℕ, map
 ghost use Rattle.pb_bytecode.specs.Decoded.{module_contents};
 ghost use Rattle.pb_bytecode.specs.Meaning.{parameters};
 ghost use Rattle.pb_bytecode.specs.declared.equation.Equation.{Equation as equation_type};
-ghost use Rattle.pb_verifier.specs.Acceptance.{HasTable, IsAccepted, IsInitial, IsVerified};
+ghost use Rattle.pb_verifier.specs.Acceptance.{IsAccepted, IsInitial, IsVerified};
 ghost use Rattle.pb_verifier.specs.Programs.{program_in, HaveTables};
 ghost use Rattle.pb_verifier.specs.Refusals.{WhereRefused};
 ghost use Rattle.pb_verifier_structure.specs.Structure.{IsWithinLimits};

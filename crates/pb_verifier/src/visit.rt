@@ -1,6 +1,6 @@
 //! One place of the pass.
 
-ghost use Rattle.std.specs.Prelude.{◌≡◌, ◌≤◌, None, OnOk, Option, Some};
+ghost use Rattle.std.specs.Prelude.{◌≡◌, ◌≤◌, None, OnErr, OnOk, Option, Some};
 ghost use Rattle.pb_sorts.specs.declared.limits.TheConstants.{MAX_INSTRUCTIONS};
 ghost use Rattle.pb_bytecode_program.specs.Monotone.{HasOrderedRange};
 ghost use Rattle.pb_verifier_states.specs.Refusals.{OnRefused};
@@ -82,18 +82,17 @@ pub(crate) fn visit_next(
     home: Option<AbstractState>,
     place: usize,
     table: &mut Vec<Option<AbstractState>>,
-) -> Result<(), FlowError>
+) -> Result<(), AcceptanceRule>
     requires { place ≤ MAX_INSTRUCTIONS }
     ensures ok { OnOk result ((p : Program) → then_table (transfer p home place op.Next state.now)
         (merged_edges table.old.items) ≡ Some table.new.items) }
-    ensures refused { OnRefused result ((p : Program)
+    ensures err { OnErr result ((p : Program)
         → then_table (transfer p home place op.Next state.now) (merged_edges table.old.items)
         ≡ None) }
 {
     let Some(known) = home else {
-        return Err(FlowError::Refused(AcceptanceRule::LoopStructure));
+        return Err(AcceptanceRule::LoopStructure);
     };
     let after = state.leave_loop(known)?;
-    merge(table, place + 1, after)?;
-    Ok(())
+    merge(table, place + 1, after)
 }

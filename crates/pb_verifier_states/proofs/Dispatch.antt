@@ -3,7 +3,7 @@ use Rattle.std.proofs.Common.{◌≡◌, ℕ, ◌<◌, List, Option, Some, None,
 use Rattle.std.specs.Prelude.{Result, Ok, Err, IfOk, slice_get}
 use Rattle.std.proofs.lemmas.Bool.{cond-true, lt-ltb}
 use Rattle.pb_bytecode_program.specs.Machine.{Program}
-use Rattle.pb_bytecode_program.specs.Transfer.{AbstractState, Flow, transfer, to_next_place, abstract_push, abstract_call}
+use Rattle.pb_bytecode_program.specs.Transfer.{AbstractState, Flow, transfer, to_next_place, abstract_push}
 use Rattle.pb_bytecode_program.specs.declared.abstract_value.AbstractValue.TheVariants as abstract
 use Rattle.pb_sorts.specs.declared.carrier.Carrier.{Carrier}
 use Rattle.pb_bytecode_program.specs.declared.instruction.Op.{Op}
@@ -42,14 +42,12 @@ module _ (ss : List ℕ) (cs : List (List Carrier)) (k : AbstractState) where
   fails_enum s x j (Err (Refused y)) e h = λ p home q a b. rw e (h p home q a)
   fails_enum s x j (Err Memory) e h = tt
 
-  pub goes_call : (eq : ℕ) (j : Op) (r : Result AbstractState FlowError) → j ≡ op.Call eq → IfOk r (λ m. (q : ℕ) → abstract_call q k (slice_get cs eq) ≡ to_next_place q m) → IfOk r (λ m. Does ss cs j k (λ q. to_next_place q m))
-  goes_call eq j (Ok m) e h = λ p home q a b. rw (e, b) (h q)
-  goes_call eq j (Err y) e h = h
+  -- the same, where a function takes no memory
+  pub goes_on : (i j : Op) (m : AbstractState) → j ≡ i → GoesOn i k m → Does ss cs j k (λ q. to_next_place q m)
+  goes_on i j m e h = λ p home q a b. rw e (h p home q)
 
-  pub fails_call : (eq : ℕ) (j : Op) (r : Result AbstractState FlowError) → j ≡ op.Call eq → OnRefused r ((q : ℕ) → abstract_call q k (slice_get cs eq) ≡ None) → OnRefused r (Does ss cs j k (λ q. None))
-  fails_call eq j (Ok m) e h = tt
-  fails_call eq j (Err (Refused y)) e h = λ p home q a b. rw (e, b) (h q)
-  fails_call eq j (Err Memory) e h = tt
+  pub fails_on : (i j : Op) → j ≡ i → Fails i k → Does ss cs j k (λ q. None)
+  fails_on i j e h = λ p home q a b. rw e (h p home q)
 
   -- an enumerator that the sort has
   enum_pushed : (s x n : ℕ) (F : ℕ → Flow) → Some n ≡ slice_get ss s → x < n → ((q : ℕ) → abstract_push q k k.operands (abstract.Enum s n) ≡ F q) → (p : Program) (home : Option AbstractState) (q : ℕ) → p.sorts ≡ ss → transfer p home q (op.PushEnum s x) k ≡ F q

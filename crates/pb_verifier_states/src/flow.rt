@@ -80,7 +80,7 @@ fn next_state(
         Op::PushBool(_) => control::push(state, AbstractValue::Bool),
         Op::PushEnum { sort, index } => control::push_enum(state, sorts, sort, index),
         Op::Get { slot } => control::get(state, slot),
-        Op::Pop => data::pop(state),
+        Op::Pop => Ok(data::pop(state)?),
         Op::Arithmetic(operator) => data::arithmetic(state, operator),
         Op::Negate => data::negate(state),
         Op::Absolute => data::absolute(state),
@@ -88,10 +88,10 @@ fn next_state(
         Op::Equality(wanted) => data::equality(state, wanted),
         Op::Not => data::negation(state),
         Op::Logic(connective) => data::logic(state, connective),
-        Op::Open(connective) => tree::open(state, connective),
-        Op::Close => tree::close(state),
-        Op::Emit(leaf) => tree::emit(state, leaf),
-        Op::Call { equation } => tree::call(state, callees, equation),
+        Op::Open(connective) => Ok(tree::open(state, connective)?),
+        Op::Close => Ok(tree::close(state)?),
+        Op::Emit(leaf) => Ok(tree::emit(state, leaf)?),
+        Op::Call { equation } => Ok(tree::call(state, callees, equation)?),
         _ => unreachable!(),
     }
 }

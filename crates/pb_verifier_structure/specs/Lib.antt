@@ -2,3 +2,4 @@ pub mod Structure
 pub mod Views
 pub mod Nesting
 pub mod Refusals
+pub mod FaultText

@@ -6,7 +6,8 @@ use pb_verifier_states::AcceptanceRule;
 use std::alloc::{AllocError, AllocFailed};
 use std::fmt;
 
-/// A rule by position that is broken, and the place of the instruction that breaks it.
+/// A rule by position that is broken, and the place of the instruction that breaks it. It shows as
+/// `V05 at place 3`.
 #[derive(Clone, Copy, Debug, PartialEq, Eq)]
 pub struct PositionFault {
     pub rule: AcceptanceRule,
@@ -23,6 +24,11 @@ pub enum StructureError {
 }
 
 impl fmt::Display for PositionFault {
+    ghost use Rattle.std.specs.Prelude.{Some};
+    ghost use Rattle.pb_verifier_structure.specs.FaultText.{fault_text};
+
+    ghost output = { λ fault. Some (fault_text fault) };
+
     fn fmt<W: fmt::Write>(&self, f: &mut fmt::Formatter<W>) -> fmt::Result {
         write!(f, "{} at place {}", self.rule, self.place)
     }

@@ -1,6 +1,7 @@
 //! Reading the whole input, up to its limit.
 ghost use Rattle.std.specs.Prelude.{◌≡◌, ◌≢◌, ◌≤◌, true, IfOk, OnOk, IfErr, Err, vec_len};
 ghost use Rattle.pb_sorts.specs.Source.{IsWhole, IsLongerThan};
+ghost use Rattle.pbsolve.specs.Program.{ReadsAtMost};
 
 use pb_sorts::Source;
 use std::alloc::{AllocError, Global};
@@ -40,6 +41,8 @@ pub(crate) fn read_input<R: Source>(alloc: Global, reader: &mut R) -> Result<Vec
     ensures too_long { result ≡ Err InputError.TooLong →
         IsLongerThan INPUT_LIMIT (R.left reader.old) }
     ensures failed { result ≡ Err InputError.Failed → R.has_failed reader.new ≡ true }
+    ensures failed_within { result ≡ Err InputError.Failed →
+        ReadsAtMost INPUT_LIMIT (R.left reader.old) (R.left reader.new) }
     ensures ok_failed { OnOk result (R.has_failed reader.new ≡ R.has_failed reader.old) }
     ensures err_failed { IfErr result (λ e. e ≢ InputError.Failed →
         R.has_failed reader.new ≡ R.has_failed reader.old) }

@@ -4,10 +4,10 @@ ghost use Rattle.std.specs.Io.KnownBytes.{Appends};
 ghost use Rattle.pb_sorts.specs.Sink.{AppendsPrefix};
 ghost use Rattle.pb_report.specs.declared.fault.ProgramFault.TheVariants as fault;
 ghost use Rattle.pb_report.specs.Lines.{line_of};
-ghost use Rattle.pb_command_line.specs.Words.{AskPlainly};
+ghost use Rattle.pb_command_line.specs.Words.{AskNothing, AskPlainly};
 ghost use Rattle.pbsolve.specs.Outputs.{Outputs, IsRefusedFor};
 ghost use Rattle.pbsolve.specs.Program.{fault_status, status_of, error_line_of, Answers};
-ghost use Rattle.pbsolve.specs.Program.{IsRefusedBy, IsToldAs, Tells, Refuses};
+ghost use Rattle.pbsolve.specs.Program.{IsRefusedBy, IsToldAs, Tells, ReadsAtMost, Refuses};
 
 use crate::code::{list_code, solve_code, verify_code};
 use crate::compile::compile_text;
@@ -84,10 +84,15 @@ fn attempt<T: Threads + Sync, S: AsStr, R: Source, G: Gate + Sync, O: Sink>(
     ensures read { OnOk result (R.has_failed reader.new ≡ R.has_failed reader.old) }
     ensures asked { AskPlainly (map S.text words.now) →
         result ≢ Err (RunError.ProgramFault fault.U01) }
+    ensures unasked { AskNothing (map S.text words.now) →
+        (result ≡ Err (RunError.ProgramFault fault.U01))
+        ⊎ (result ≡ Err (RunError.ProgramFault fault.M01)) }
     ensures usage { result ≡ Err (RunError.ProgramFault fault.U01) → reader.new ≡ reader.old }
     ensures refused { IfErr result (λ e. IsRefusedBy (map S.text words.now) (R.left reader.old) e) }
     ensures read_failed { result ≡ Err (RunError.ProgramFault fault.E01) →
         R.has_failed reader.new ≡ true }
+    ensures read_within { result ≡ Err (RunError.ProgramFault fault.E01) →
+        ReadsAtMost INPUT_LIMIT (R.left reader.old) (R.left reader.new) }
     ensures read_refused { IfErr result (λ e. e ≢ RunError.ProgramFault fault.E01 →
         R.has_failed reader.new ≡ R.has_failed reader.old) }
     ensures write { result ≡ Err (RunError.ProgramFault fault.E02) →
@@ -174,8 +179,9 @@ pub fn run<T: Threads + Sync, S: AsStr, G: Gate + Sync, R: Source, O: Sink, E: S
 ) -> u8
     ensures statuses { result ≤ 4 }
 
-    // Each command is understood.
+    // Each command is understood, and where none stands the words ask for nothing.
     ensures asked { AskPlainly (map S.text words.now) → result ≢ 2 }
+    ensures unasked { AskNothing (map S.text words.now) → (result ≡ 2) ⊎ (result ≡ 3) }
 
     // Answered: what the command writes for the input went out, and nothing on standard error.
     ensures answered { result ≡ 0 →
@@ -201,9 +207,10 @@ pub fn run<T: Threads + Sync, S: AsStr, G: Gate + Sync, R: Source, O: Sink, E: S
         Tells (E.taken streams.old.error) (E.taken streams.new.error)
         (E.has_failed streams.new.error) (codes "M01\n") }
 
-    // Reading failed, with nothing written, or writing failed.
+    // Reading failed before the limit was passed, with nothing written, or writing failed.
     ensures failed { result ≡ 4 →
         ((R.has_failed streams.new.input ≡ true) × (streams.new.output ≡ streams.old.output)
+        × ReadsAtMost INPUT_LIMIT (R.left streams.old.input) (R.left streams.new.input)
         × Tells (E.taken streams.old.error) (E.taken streams.new.error)
         (E.has_failed streams.new.error) (codes "E01\n"))
         ⊎ ((O.has_failed streams.new.output ≡ true)

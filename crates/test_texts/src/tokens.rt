@@ -2,7 +2,7 @@
 
 ghost use Rattle.std.specs.Prelude.{◌<◌, length};
 
-use pb_text_lexer::fault::{ReadingFault, ReadingRule};
+use pb_text_lexer::fault::{ReadingRule, Refusal};
 use pb_text_lexer::input::Input;
 use pb_text_lexer::kind::{Kind, is_last, same_kind};
 use pb_text_lexer::lexer::first_token;
@@ -155,11 +155,12 @@ fn places_tokens(rt: HostRuntime) -> Result<(), Fail> {
     Ok(())
 }
 
-/// The column of a refusal, or 0.
-fn column(fault: ReadingFault, rule: ReadingRule) -> u32 {
-    match fault {
-        ReadingFault::At(refusal) if refusal.rule == rule => refusal.place.column,
-        _ => 0,
+/// The column of a refusal by this rule, or 0.
+fn column(refusal: Refusal, rule: ReadingRule) -> u32 {
+    if refusal.rule == rule {
+        refusal.place.column
+    } else {
+        0
     }
 }
 
@@ -170,7 +171,7 @@ fn takes_tokens(rt: HostRuntime) -> Result<(), Fail> {
     assert!(rt; name.is_ok());
     let wrong = input.expect(Kind::Or);
     assert_eq!(rt;
-        wrong.map_or_else(|fault| column(fault, ReadingRule::Unexpected), |_| 0),
+        wrong.map_or_else(|refusal| column(refusal, ReadingRule::Unexpected), |_| 0),
         3
     );
     if is_last(input.kind()) {
@@ -183,7 +184,7 @@ fn takes_tokens(rt: HostRuntime) -> Result<(), Fail> {
     }
     let more = input.take_operator();
     assert_eq!(rt;
-        more.map_or_else(|fault| column(fault, ReadingRule::Limit), |_| 0),
+        more.map_or_else(|refusal| column(refusal, ReadingRule::Limit), |_| 0),
         6
     );
     input.allow(1);
@@ -196,7 +197,7 @@ fn takes_tokens(rt: HostRuntime) -> Result<(), Fail> {
     }
     let deep = input.enter(0);
     assert_eq!(rt;
-        deep.map_or_else(|fault| column(fault, ReadingRule::Limit), |_| 0),
+        deep.map_or_else(|refusal| column(refusal, ReadingRule::Limit), |_| 0),
         9
     );
     if is_last(input.kind()) {

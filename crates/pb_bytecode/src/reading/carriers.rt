@@ -1,18 +1,18 @@
 //! Carriers of parameters and of loop slots.
 ghost use Rattle.std.specs.Prelude.{◌≡◌, ◌≤ℤ◌};
 ghost use Rattle.pb_sorts.specs.Carrier.{IsRange};
-ghost use Rattle.pb_bytecode.specs.Reading.{Gives, carrier_at, counted_at, enum_at, items_at};
-ghost use Rattle.pb_bytecode.specs.Reading.{range_at};
+ghost use Rattle.pb_bytecode.specs.Reading.{Gives, IsRead, carrier_at, counted_at, enum_at};
+ghost use Rattle.pb_bytecode.specs.Reading.{items_at, range_at};
 
 use super::numbers::{between_at, fault, i32_at, u8_at};
-use crate::fault::{ModuleRule, ReadError};
+use crate::fault::{ModuleFault, ModuleRule, ReadError};
 use pb_sorts::{Carrier, Enumeration, Range};
 use std::alloc::Global;
 
 /// A sort, `sizes` giving how many enumerators each has.
 #[tactic(auto, unfolding(crate::specs::Reading::enum_at))]
-fn enum_at<'a>(sizes: &[u8], bytes: &'a [u8]) -> Result<(Carrier, &'a [u8]), ReadError>
-    ensures { Gives (λ x. (x.0, x.1.now)) result (enum_at sizes.now bytes.now) }
+fn enum_at<'a>(sizes: &[u8], bytes: &'a [u8]) -> Result<(Carrier, &'a [u8]), ModuleFault>
+    ensures { IsRead (λ x. (x.0, x.1.now)) result (enum_at sizes.now bytes.now) }
 {
     let (sort, rest) = u8_at(bytes)?;
     if (sort as usize) < sizes.len() && sizes[sort as usize] > 0 {
@@ -32,8 +32,8 @@ fn range_of(low: i32, high: i32) -> Carrier
 }
 
 #[tactic(auto, using(crate::proofs::Carriers::range_read), unfolding(crate::specs::Reading::range_at))]
-fn range_at(bytes: &[u8]) -> Result<(Carrier, &[u8]), ReadError>
-    ensures { Gives (λ x. (x.0, x.1.now)) result (range_at bytes.now) }
+fn range_at(bytes: &[u8]) -> Result<(Carrier, &[u8]), ModuleFault>
+    ensures { IsRead (λ x. (x.0, x.1.now)) result (range_at bytes.now) }
 {
     let (low, second) = i32_at(bytes)?;
     let (high, rest) = i32_at(second)?;
@@ -45,8 +45,8 @@ fn range_at(bytes: &[u8]) -> Result<(Carrier, &[u8]), ReadError>
 }
 
 #[tactic(auto, unfolding(crate::specs::Reading::carrier_at))]
-fn carrier_at<'a>(sizes: &[u8], bytes: &'a [u8]) -> Result<(Carrier, &'a [u8]), ReadError>
-    ensures { Gives (λ x. (x.0, x.1.now)) result (carrier_at sizes.now bytes.now) }
+fn carrier_at<'a>(sizes: &[u8], bytes: &'a [u8]) -> Result<(Carrier, &'a [u8]), ModuleFault>
+    ensures { IsRead (λ x. (x.0, x.1.now)) result (carrier_at sizes.now bytes.now) }
 {
     let (tag, rest) = between_at(0, 3, bytes)?;
     match tag {

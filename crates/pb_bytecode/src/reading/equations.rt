@@ -1,9 +1,9 @@
 //! Equations and the initial instance.
 ghost use Rattle.std.specs.Prelude.{◌≡◌, map, nat_le, sum_by};
 ghost use Rattle.pb_bytecode.specs.Limits.{instance_count};
-ghost use Rattle.pb_bytecode.specs.Reading.{Gives, counted_at, equation_at, equations_at};
-ghost use Rattle.pb_bytecode.specs.Reading.{initial_at, items_at, parameters_at, sign_at, value_at};
-ghost use Rattle.pb_bytecode.specs.Reading.{values_at};
+ghost use Rattle.pb_bytecode.specs.Reading.{Gives, IsRead, counted_at, equation_at};
+ghost use Rattle.pb_bytecode.specs.Reading.{equations_at, initial_at, items_at, parameters_at};
+ghost use Rattle.pb_bytecode.specs.Reading.{sign_at, value_at, values_at};
 ghost use Rattle.pb_bytecode.specs.Views.{equation_contents, initial_contents};
 
 use super::carriers::carriers_at;
@@ -11,7 +11,7 @@ use super::instructions::code_at;
 use super::names::name_at;
 use super::numbers::{between_at, fault, i64_at, u8_at, u32_at};
 use crate::equation::Equation;
-use crate::fault::{ModuleRule, ReadError};
+use crate::fault::{ModuleFault, ModuleRule, ReadError};
 use crate::initial::Initial;
 use crate::instances::has_few_instances;
 use crate::version::Version;
@@ -20,8 +20,8 @@ use pb_sorts::{Carrier, MAX_EQUATIONS, MAX_LOOP_SLOTS, MAX_PARAMETERS};
 use std::alloc::Global;
 
 #[tactic(auto, unfolding(crate::specs::Reading::sign_at))]
-fn sign_at(bytes: &[u8]) -> Result<(Sign, &[u8]), ReadError>
-    ensures { Gives (λ x. (x.0, x.1.now)) result (sign_at bytes.now) }
+fn sign_at(bytes: &[u8]) -> Result<(Sign, &[u8]), ModuleFault>
+    ensures { IsRead (λ x. (x.0, x.1.now)) result (sign_at bytes.now) }
 {
     let (code, rest) = u8_at(bytes)?;
     match code {
@@ -98,14 +98,14 @@ pub(crate) fn equations_at<'a>(
     if has_few_instances(&equations) {
         Ok((equations, rest))
     } else {
-        Err(fault(ModuleRule::Limit, rest))
+        Err(ReadError::ModuleFault(fault(ModuleRule::Limit, rest)))
     }
 }
 
 /// A value of the carrier.
 #[tactic(auto, unfolding(crate::specs::Reading::value_at))]
-fn value_at<'a>(carrier: &Carrier, bytes: &'a [u8]) -> Result<(i64, &'a [u8]), ReadError>
-    ensures { Gives (λ x. (x.0, x.1.now)) result (value_at carrier.now bytes.now) }
+fn value_at<'a>(carrier: &Carrier, bytes: &'a [u8]) -> Result<(i64, &'a [u8]), ModuleFault>
+    ensures { IsRead (λ x. (x.0, x.1.now)) result (value_at carrier.now bytes.now) }
 {
     let (value, rest) = i64_at(bytes)?;
     if carrier.contains(value) {
@@ -144,7 +144,7 @@ pub(crate) fn initial_at<'a>(
 {
     let (equation, rest) = u8_at(bytes)?;
     if equation as usize >= equations.len() {
-        return Err(fault(ModuleRule::Initial, bytes));
+        return Err(ReadError::ModuleFault(fault(ModuleRule::Initial, bytes)));
     }
     let (values, rest) = values_at(alloc, &equations[equation as usize].parameters, rest)?;
     Ok((Initial { equation, values }, rest))

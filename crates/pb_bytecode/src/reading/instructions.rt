@@ -1,10 +1,10 @@
 //! Instructions.
 ghost use Rattle.std.specs.Prelude.{◌≡◌};
-ghost use Rattle.pb_bytecode.specs.Reading.{Gives, code_at, enumerator_at, items_at, op_at};
-ghost use Rattle.pb_bytecode.specs.Reading.{operands_at, slot_test_at, test_at};
+ghost use Rattle.pb_bytecode.specs.Reading.{Gives, IsRead, code_at, enumerator_at, items_at};
+ghost use Rattle.pb_bytecode.specs.Reading.{op_at, operands_at, slot_test_at, test_at};
 
 use super::numbers::{between_at, bounds_at, fault, i64_at, u8_at, u16_at};
-use crate::fault::{ModuleRule, ReadError};
+use crate::fault::{ModuleFault, ModuleRule, ReadError};
 use crate::format::{Format, format_of};
 use crate::version::Version;
 use pb_bytecode_program::Op;
@@ -12,8 +12,8 @@ use std::alloc::Global;
 
 /// A sort and the place of one of its enumerators.
 #[tactic(auto, unfolding(crate::specs::Reading::enumerator_at))]
-fn enumerator_at<'a>(sizes: &[u8], bytes: &'a [u8]) -> Result<((u8, u8), &'a [u8]), ReadError>
-    ensures { Gives (λ x. ((x.0.0, x.0.1), x.1.now)) result (enumerator_at sizes.now bytes.now) }
+fn enumerator_at<'a>(sizes: &[u8], bytes: &'a [u8]) -> Result<((u8, u8), &'a [u8]), ModuleFault>
+    ensures { IsRead (λ x. ((x.0.0, x.0.1), x.1.now)) result (enumerator_at sizes.now bytes.now) }
 {
     let (sort, rest) = between_at(0, sizes.len(), bytes)?;
     let count = if (sort as usize) < sizes.len() {
@@ -27,8 +27,8 @@ fn enumerator_at<'a>(sizes: &[u8], bytes: &'a [u8]) -> Result<((u8, u8), &'a [u8
 
 /// Two bounds and a target.
 #[tactic(auto, unfolding(crate::specs::Reading::test_at))]
-fn test_at(bytes: &[u8]) -> Result<((i32, i32, u16), &[u8]), ReadError>
-    ensures { Gives (λ x. (((x.0.0, x.0.1), x.0.2), x.1.now)) result (test_at bytes.now) }
+fn test_at(bytes: &[u8]) -> Result<((i32, i32, u16), &[u8]), ModuleFault>
+    ensures { IsRead (λ x. (((x.0.0, x.0.1), x.0.2), x.1.now)) result (test_at bytes.now) }
 {
     let ((low, high), rest) = bounds_at(bytes)?;
     let (target, rest) = u16_at(rest)?;
@@ -41,8 +41,8 @@ fn operands_at<'a>(
     sizes: &[u8],
     format: Format,
     bytes: &'a [u8],
-) -> Result<(Op, &'a [u8]), ReadError>
-    ensures { Gives (λ x. (x.0, x.1.now)) result (operands_at sizes.now format bytes.now) }
+) -> Result<(Op, &'a [u8]), ModuleFault>
+    ensures { IsRead (λ x. (x.0, x.1.now)) result (operands_at sizes.now format bytes.now) }
 {
     match format {
         Format::Plain(op) => Ok((op, bytes)),
@@ -99,8 +99,8 @@ fn operands_at<'a>(
 }
 
 #[tactic(auto, unfolding(crate::specs::Reading::op_at))]
-fn op_at<'a>(version: Version, sizes: &[u8], bytes: &'a [u8]) -> Result<(Op, &'a [u8]), ReadError>
-    ensures { Gives (λ x. (x.0, x.1.now)) result (op_at version sizes.now bytes.now) }
+fn op_at<'a>(version: Version, sizes: &[u8], bytes: &'a [u8]) -> Result<(Op, &'a [u8]), ModuleFault>
+    ensures { IsRead (λ x. (x.0, x.1.now)) result (op_at version sizes.now bytes.now) }
 {
     let (code, rest) = u8_at(bytes)?;
     match format_of(version, code) {
@@ -142,7 +142,7 @@ pub(crate) fn code_at<'a>(
 {
     let (count, rest) = u16_at(bytes)?;
     if count == 0 {
-        return Err(fault(ModuleRule::Limit, bytes));
+        return Err(ReadError::ModuleFault(fault(ModuleRule::Limit, bytes)));
     }
     ops_at(alloc, version, sizes, count, rest)
 }

@@ -17,11 +17,11 @@ pub(crate) fn name_at(alloc: Global, bytes: &[u8]) -> Result<(Name, &[u8]), Read
 {
     let (len, rest) = u8_at(bytes)?;
     if rest.len() < len as usize {
-        return Err(truncated());
+        return Err(ReadError::ModuleFault(truncated()));
     }
     let (text, rest) = rest.split_at(len as usize);
     if !is_name(text) {
-        return Err(fault(ModuleRule::Limit, bytes));
+        return Err(ReadError::ModuleFault(fault(ModuleRule::Limit, bytes)));
     }
     match std::str::from_utf8(text) {
         Ok(text) => Ok((

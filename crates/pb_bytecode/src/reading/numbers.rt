@@ -1,34 +1,33 @@
 //! Numbers, and where a fault stands.
 ghost use Rattle.std.specs.Prelude.{◌≡◌, length};
 ghost use Rattle.std.specs.Int.{w16, w32, w64};
-ghost use Rattle.pb_bytecode.specs.Reading.{Gives, bounds_at, between_at, byte_at, number_at};
+ghost use Rattle.pb_bytecode.specs.Reading.{IsRead, bounds_at, between_at, byte_at, number_at};
 ghost use Rattle.pb_bytecode.specs.Reading.{signed_at, truncated};
-ghost use Rattle.pb_bytecode.specs.declared.fault.ReadError.TheVariants as errors;
 
-use crate::fault::{ModuleFault, ModuleRule, ReadError};
+use crate::fault::{ModuleFault, ModuleRule};
 
 /// A fault at the beginning of a field, `field` being the bytes from there on.
-pub(crate) fn fault(rule: ModuleRule, field: &[u8]) -> ReadError
-    ensures { result ≡ errors.ModuleFault (record { rule = rule; left = length field.now }) }
+pub(crate) fn fault(rule: ModuleRule, field: &[u8]) -> ModuleFault
+    ensures { result ≡ record { rule = rule; left = length field.now } }
 {
-    ReadError::ModuleFault(ModuleFault {
+    ModuleFault {
         rule,
         left: field.len(),
-    })
+    }
 }
 
 /// The input ends inside a field.
-pub(crate) fn truncated() -> ReadError
-    ensures { result ≡ errors.ModuleFault truncated }
+pub(crate) fn truncated() -> ModuleFault
+    ensures { result ≡ truncated }
 {
-    ReadError::ModuleFault(ModuleFault {
+    ModuleFault {
         rule: ModuleRule::Truncated,
         left: 0,
-    })
+    }
 }
 
-pub(crate) fn u8_at(bytes: &[u8]) -> Result<(u8, &[u8]), ReadError>
-    ensures { Gives (λ x. (x.0, x.1.now)) result (byte_at bytes.now) }
+pub(crate) fn u8_at(bytes: &[u8]) -> Result<(u8, &[u8]), ModuleFault>
+    ensures { IsRead (λ x. (x.0, x.1.now)) result (byte_at bytes.now) }
 {
     match bytes {
         [] => Err(truncated()),
@@ -36,8 +35,8 @@ pub(crate) fn u8_at(bytes: &[u8]) -> Result<(u8, &[u8]), ReadError>
     }
 }
 
-pub(crate) fn u16_at(bytes: &[u8]) -> Result<(u16, &[u8]), ReadError>
-    ensures { Gives (λ x. (x.0, x.1.now)) result (number_at w16 bytes.now) }
+pub(crate) fn u16_at(bytes: &[u8]) -> Result<(u16, &[u8]), ModuleFault>
+    ensures { IsRead (λ x. (x.0, x.1.now)) result (number_at w16 bytes.now) }
 {
     if bytes.len() < 2 {
         return Err(truncated());
@@ -47,8 +46,8 @@ pub(crate) fn u16_at(bytes: &[u8]) -> Result<(u16, &[u8]), ReadError>
     Ok((number, rest))
 }
 
-pub(crate) fn u32_at(bytes: &[u8]) -> Result<(u32, &[u8]), ReadError>
-    ensures { Gives (λ x. (x.0, x.1.now)) result (number_at w32 bytes.now) }
+pub(crate) fn u32_at(bytes: &[u8]) -> Result<(u32, &[u8]), ModuleFault>
+    ensures { IsRead (λ x. (x.0, x.1.now)) result (number_at w32 bytes.now) }
 {
     if bytes.len() < 4 {
         return Err(truncated());
@@ -58,8 +57,8 @@ pub(crate) fn u32_at(bytes: &[u8]) -> Result<(u32, &[u8]), ReadError>
     Ok((number, rest))
 }
 
-fn u64_at(bytes: &[u8]) -> Result<(u64, &[u8]), ReadError>
-    ensures { Gives (λ x. (x.0, x.1.now)) result (number_at w64 bytes.now) }
+fn u64_at(bytes: &[u8]) -> Result<(u64, &[u8]), ModuleFault>
+    ensures { IsRead (λ x. (x.0, x.1.now)) result (number_at w64 bytes.now) }
 {
     if bytes.len() < 8 {
         return Err(truncated());
@@ -72,16 +71,16 @@ fn u64_at(bytes: &[u8]) -> Result<(u64, &[u8]), ReadError>
 }
 
 #[tactic(auto, unfolding(crate::specs::Reading::signed_at))]
-pub(crate) fn i32_at(bytes: &[u8]) -> Result<(i32, &[u8]), ReadError>
-    ensures { Gives (λ x. (x.0, x.1.now)) result (signed_at w32 bytes.now) }
+pub(crate) fn i32_at(bytes: &[u8]) -> Result<(i32, &[u8]), ModuleFault>
+    ensures { IsRead (λ x. (x.0, x.1.now)) result (signed_at w32 bytes.now) }
 {
     let (number, rest) = u32_at(bytes)?;
     Ok((number.cast_signed(), rest))
 }
 
 #[tactic(auto, unfolding(crate::specs::Reading::signed_at))]
-pub(crate) fn i64_at(bytes: &[u8]) -> Result<(i64, &[u8]), ReadError>
-    ensures { Gives (λ x. (x.0, x.1.now)) result (signed_at w64 bytes.now) }
+pub(crate) fn i64_at(bytes: &[u8]) -> Result<(i64, &[u8]), ModuleFault>
+    ensures { IsRead (λ x. (x.0, x.1.now)) result (signed_at w64 bytes.now) }
 {
     let (number, rest) = u64_at(bytes)?;
     Ok((number.cast_signed(), rest))
@@ -89,8 +88,8 @@ pub(crate) fn i64_at(bytes: &[u8]) -> Result<(i64, &[u8]), ReadError>
 
 /// A byte from `low` on, and below `end`.
 #[tactic(auto, unfolding(crate::specs::Reading::between_at))]
-pub(crate) fn between_at(low: usize, end: usize, bytes: &[u8]) -> Result<(u8, &[u8]), ReadError>
-    ensures { Gives (λ x. (x.0, x.1.now)) result (between_at low end bytes.now) }
+pub(crate) fn between_at(low: usize, end: usize, bytes: &[u8]) -> Result<(u8, &[u8]), ModuleFault>
+    ensures { IsRead (λ x. (x.0, x.1.now)) result (between_at low end bytes.now) }
 {
     let (byte, rest) = u8_at(bytes)?;
     if low <= byte as usize && (byte as usize) < end {
@@ -102,8 +101,8 @@ pub(crate) fn between_at(low: usize, end: usize, bytes: &[u8]) -> Result<(u8, &[
 
 /// Two bounds, the second not below the first.
 #[tactic(auto, unfolding(crate::specs::Reading::bounds_at))]
-pub(crate) fn bounds_at(bytes: &[u8]) -> Result<((i32, i32), &[u8]), ReadError>
-    ensures { Gives (λ x. ((x.0.0, x.0.1), x.1.now)) result (bounds_at bytes.now) }
+pub(crate) fn bounds_at(bytes: &[u8]) -> Result<((i32, i32), &[u8]), ModuleFault>
+    ensures { IsRead (λ x. ((x.0.0, x.0.1), x.1.now)) result (bounds_at bytes.now) }
 {
     let (low, second) = i32_at(bytes)?;
     let (high, rest) = i32_at(second)?;

@@ -1,6 +1,6 @@
 //! What flows from the instructions on operands.
 
-ghost use Rattle.std.specs.Prelude.{◌≡◌, ◌&&◌, IfOk, int_lt, pos};
+ghost use Rattle.std.specs.Prelude.{◌≡◌, ◌&&◌, IfOk, OnErr, int_lt, pos};
 ghost use Rattle.pb_verifier_states.specs.Flows.{Fails, GoesOn};
 ghost use Rattle.pb_verifier_states.specs.Refusals.{OnRefused};
 ghost use Rattle.pb_bytecode_program.specs.Values.{divides};
@@ -15,9 +15,9 @@ use pb_bytecode_program::{AbstractValue, Arithmetic, Comparison, Connective, Equ
 use pb_intervals::Interval;
 
 /// Pops an operand.
-pub fn pop(mut state: AbstractState) -> Result<AbstractState, FlowError>
+pub fn pop(mut state: AbstractState) -> Result<AbstractState, AcceptanceRule>
     ensures flows { IfOk result (GoesOn op.Pop state) }
-    ensures refused { OnRefused result (Fails op.Pop state) }
+    ensures err { OnErr result (Fails op.Pop state) }
 {
     state.pop()?;
     Ok(state)

@@ -1,21 +1,22 @@
 //! What flows from the instructions that write the tree.
 
-ghost use Rattle.std.specs.Prelude.{◌≡◌, IfOk, None, Some, map, slice_get, vec_items, ℕ};
+ghost use Rattle.std.specs.Prelude.{◌≡◌, IfOk, None, OnErr, Some, map, slice_get, vec_items, ℕ};
 ghost use Rattle.pb_verifier_states.specs.Flows.{Fails, GoesOn};
-ghost use Rattle.pb_verifier_states.specs.Refusals.{OnRefused};
 ghost use Rattle.pb_bytecode_program.specs.Transfer.{abstract_call, to_next_place};
 ghost use Rattle.pb_bytecode_program.specs.declared.instruction.Op.TheVariants as op;
 
-use crate::flow_error::FlowError;
 use crate::rule::AcceptanceRule;
 use crate::state::AbstractState;
 use pb_bytecode_program::{Connective, Leaf};
 use pb_sorts::Carrier;
 
 /// Opens a bracket.
-pub fn open(mut state: AbstractState, connective: Connective) -> Result<AbstractState, FlowError>
+pub fn open(
+    mut state: AbstractState,
+    connective: Connective,
+) -> Result<AbstractState, AcceptanceRule>
     ensures flows { IfOk result (GoesOn (op.Open connective) state) }
-    ensures refused { OnRefused result (Fails (op.Open connective) state) }
+    ensures err { OnErr result (Fails (op.Open connective) state) }
 {
     state.test_brackets()?;
     state.add_root()?;
@@ -24,18 +25,18 @@ pub fn open(mut state: AbstractState, connective: Connective) -> Result<Abstract
 }
 
 /// Closes a bracket.
-pub fn close(mut state: AbstractState) -> Result<AbstractState, FlowError>
+pub fn close(mut state: AbstractState) -> Result<AbstractState, AcceptanceRule>
     ensures flows { IfOk result (GoesOn op.Close state) }
-    ensures refused { OnRefused result (Fails op.Close state) }
+    ensures err { OnErr result (Fails op.Close state) }
 {
     state.close_bracket()?;
     Ok(state)
 }
 
 /// Writes a leaf.
-pub fn emit(mut state: AbstractState, leaf: Leaf) -> Result<AbstractState, FlowError>
+pub fn emit(mut state: AbstractState, leaf: Leaf) -> Result<AbstractState, AcceptanceRule>
     ensures flows { IfOk result (GoesOn (op.Emit leaf) state) }
-    ensures refused { OnRefused result (Fails (op.Emit leaf) state) }
+    ensures err { OnErr result (Fails (op.Emit leaf) state) }
 {
     state.add_root()?;
     Ok(state)
@@ -46,25 +47,25 @@ pub fn call(
     state: AbstractState,
     callees: &[Vec<Carrier>],
     equation: u8,
-) -> Result<AbstractState, FlowError>
+) -> Result<AbstractState, AcceptanceRule>
     ensures flows { IfOk result (λ k. (q : ℕ)
         → abstract_call q state (slice_get (map vec_items callees.now) equation)
         ≡ to_next_place q k) }
-    ensures refused { OnRefused result ((q : ℕ)
+    ensures err { OnErr result ((q : ℕ)
         → abstract_call q state (slice_get (map vec_items callees.now) equation) ≡ None) }
 {
     let place = usize::from(equation);
     if place >= callees.len() {
-        return Err(FlowError::Refused(AcceptanceRule::UnknownName));
+        return Err(AcceptanceRule::UnknownName);
     }
     call_with(state, &callees[place])
 }
 
 // Writes a call of an equation with these parameters.
-fn call_with(mut state: AbstractState, callee: &[Carrier]) -> Result<AbstractState, FlowError>
+fn call_with(mut state: AbstractState, callee: &[Carrier]) -> Result<AbstractState, AcceptanceRule>
     ensures flows { IfOk result (λ k. (q : ℕ)
         → abstract_call q state (Some callee.now) ≡ to_next_place q k) }
-    ensures refused { OnRefused result ((q : ℕ) → abstract_call q state (Some callee.now) ≡ None) }
+    ensures err { OnErr result ((q : ℕ) → abstract_call q state (Some callee.now) ≡ None) }
 {
     state.pop_arguments(callee)?;
     state.add_root()?;

@@ -1,5 +1,6 @@
 use Rattle.std.proofs.Common.{◌≡◌, ◌+◌, ◌<◌, ◌∙◌, List, Bool, true, false, not, sym, ap, subst, arith, length, drop, Some}
 use Rattle.std.specs.List.{each_same, slice_get}
+use Rattle.std.proofs.lemmas.Option.{same_Some}
 use Rattle.std.proofs.lemmas.Result.{on_ok_weaker}
 use Rattle.pb_fixpoint.specs.declared.Sign.{Sign}
 use Rattle.pb_fixpoint.specs.Solution.{solution}
@@ -18,9 +19,6 @@ use Rattle.pb_plain.proofs.Approach.{IsApproach}
 use Rattle.pb_plain.proofs.Rights.{equation_said}
 use Rattle.pb_plain.proofs.Turn.{begun, stepped, stopped, ended, far, fixed_bounds, fixed, written, equation_exists}
 use Rattle.pb_plain.proofs.solver.+solver.Goals as goal
-
-some_same : (X Y : syntax.Equation) → Some X ≡ Some Y → X ≡ Y
-some_same X Y e = cc
 
 -- ---- both bounds are the same
 
@@ -94,7 +92,7 @@ solve_from-approach-requires t c =
     let R = c.index.result.now in
     let lt : k < length layout = omega (arith, c.if-first-equation_count.false, c.equation_count.ensures.count, c.requires.within) in
     let there = equation_said (text_of c.args.system.now.declarations.now) c.args.system.now.spec.now layout k R c.requires.said c.args.system.now.laid_out lt c.index.ensures in
-    let sign_is = λ (X : syntax.Equation) (at : slice_get S.equations k ≡ Some X). ap (λ (Y : syntax.Equation). Y.sign) (some_same X (erased_equation (equation_form R)) (sym at ∙ there)) ∙ c.in-Mu.is in (
+    let sign_is = λ (X : syntax.Equation) (at : slice_get S.equations k ≡ Some X). ap (λ (Y : syntax.Equation). Y.sign) (same_Some X (erased_equation (equation_form R)) (sym at ∙ there)) ∙ c.in-Mu.is in (
       omega (arith, c.decreases),
       (
         c.requires.said,
@@ -128,7 +126,7 @@ solve_from-approach-requires-in-Nu t c =
     let R = c.index.result.now in
     let lt : k < length layout = omega (arith, c.if-first-equation_count.false, c.equation_count.ensures.count, c.requires.within) in
     let there = equation_said (text_of c.args.system.now.declarations.now) c.args.system.now.spec.now layout k R c.requires.said c.args.system.now.laid_out lt c.index.ensures in
-    let sign_is = λ (X : syntax.Equation) (at : slice_get S.equations k ≡ Some X). ap (λ (Y : syntax.Equation). Y.sign) (some_same X (erased_equation (equation_form R)) (sym at ∙ there)) ∙ c.in-Nu.is in (
+    let sign_is = λ (X : syntax.Equation) (at : slice_get S.equations k ≡ Some X). ap (λ (Y : syntax.Equation). Y.sign) (same_Some X (erased_equation (equation_form R)) (sym at ∙ there)) ∙ c.in-Nu.is in (
       omega (arith, c.decreases),
       (
         c.requires.said,

@@ -3,7 +3,7 @@ use Rattle.std.proofs.lemmas.Result.{err_from_is_err_and}
 use Rattle.pb_text_tree.specs.declared.operator.Connective.TheVariants.{And, Or}
 use Rattle.pb_text_tree.specs.Form.{FormulaForm, formula_form, link_forms}
 use Rattle.pb_text_lexer.specs.Kinds.{same_kind}
-use Rattle.pb_text_lexer.specs.Steps.{kind, take_operator}
+use Rattle.pb_text_lexer.specs.Steps.{kind}
 use Rattle.pb_text_lexer.specs.Tokens.{tok}
 use Rattle.pb_text_lexer.proofs.LoopLemmas.{resumed-first, resumed-first-fails, resumed-end, resumed-more, resumed-operator-fails, resumed-operand-fails, fails-as}
 use Rattle.pb_text_terms.specs.Operators.{symbol, is_connective}
@@ -42,9 +42,8 @@ pub chain-returns-in_err-place-clause-reads : goal.chain-returns-in_err-place-cl
 chain-returns-in_err-place-clause-reads t c s h fewer =
     let p = err_from_is_err_and c.from_residual-in_err-place.result c.from_residual-in_err-place.ensures.1 in
     let same : same_kind (kind c.links.input) (symbol c.args.connective) ≡ true = search rules in
-    rw (p.1, p.2) (fails-as (take_operator c.links.input) (level c.args.connective c.args.depth s) c.in_err-place.field-0.0
-    (λ bad e. c.links.invariant.reads s h fewer ∙ resumed-operator-fails (symbol c.args.connective) (FormulaForm.connected c.args.connective) (operand c.args.connective c.args.depth)
-    (length s.tokens - vec_len c.links.links) _ (link_forms c.links.links.items) c.links.input bad same e) c.in_err-place.ensures.reads)
+    rw (p.1, p.2) (c.links.invariant.reads s h fewer ∙ resumed-operator-fails (symbol c.args.connective) (FormulaForm.connected c.args.connective) (operand c.args.connective c.args.depth)
+    (length s.tokens - vec_len c.links.links) _ (link_forms c.links.links.items) c.links.input c.in_err-place.field-0.0 same c.in_err-place.ensures.reads)
 
 pub chain-returns-in_err-operand-clause-reads : goal.chain-returns-in_err-operand-clause-reads
 chain-returns-in_err-operand-clause-reads t c s h fewer =

@@ -1,6 +1,7 @@
 use Rattle.std.proofs.Common.{◌≡◌, ◌∙◌, sym, ap, refl, subst, arith, List, [], ◌∷◌, ℕ, ◌+◌, true, false, length}
 use Rattle.std.specs.Prelude.{box_value}
 use Rattle.std.specs.Result.{OnOk}
+use Rattle.std.proofs.lemmas.List.{drop_all}
 use Rattle.pb_text_tree.specs.declared.term.Term.{Term}
 use Rattle.pb_text_tree.specs.declared.term.ArithmeticLink.{ArithmeticLink}
 use Rattle.pb_text_tree.specs.Form.{TermForm, term_form, term_link, arithmetic_links}
@@ -10,7 +11,7 @@ use Rattle.pb_text_printer.specs.declared.level.Position.{Position}
 use Rattle.pb_text_printer.specs.Words.{Word, close_word, connective_word, connective_level, term_side, term_words, comparison_side, is_open, needs_no_brackets}
 use Rattle.pb_text_printer.specs.Page.{Page, after, page, typed}
 use Rattle.pb_text_printer.specs.Parts.{placed_words, bracket, computed_words, left_words}
-use Rattle.pb_text_printer.proofs.PageLemmas.{bracketed, left-end}
+use Rattle.pb_text_printer.proofs.PageLemmas.{bracketed}
 use Rattle.pb_text_printer.proofs.ListParts.{argument-next, arguments-end}
 use Rattle.pb_text_printer.proofs.LinkParts as links
 use Rattle.pb_text_printer.proofs.ArithmeticParts.{computed-next, of-one-first, calculation}
@@ -120,7 +121,7 @@ write_operations-loop-link-preserved t c =
 
 pub write_operations-returns : goal.write_operations-returns
 write_operations-returns t c =
-    ap (λ (v : List ArithmeticLink). after (computed_words c.loop-link.before (arithmetic_links v)) (page c.loop-link.out)) (sym (left-end c.args.links.now c.loop-link.link-index c.loop-link-test.false))
+    ap (λ (v : List ArithmeticLink). after (computed_words c.loop-link.before (arithmetic_links v)) (page c.loop-link.out)) (sym (drop_all c.loop-link.link-index c.args.links.now c.loop-link-test.false))
     ∙ c.loop-link.invariant
 
 pub write_plain-returns-in-None-first : goal.write_plain-returns-in-None-first

@@ -1,11 +1,11 @@
 use Rattle.std.proofs.Common.{List, ◌∙◌, sym, ap, refl}
+use Rattle.std.proofs.lemmas.List.{drop_all}
 use Rattle.pb_text_tree.specs.declared.term.ArithmeticLink.{ArithmeticLink}
 use Rattle.pb_text_tree.specs.Form.{arithmetic_links}
 use Rattle.pb_text_printer.specs.declared.level.Bracketing.{Bracketing}
 use Rattle.pb_text_printer.specs.Page.{after, page}
 use Rattle.pb_text_printer.specs.Words.{open_word}
 use Rattle.pb_text_printer.specs.Parts.{opened, bracket}
-use Rattle.pb_text_printer.proofs.PageLemmas.{left-end}
 use Rattle.pb_text_printer.proofs.ArithmeticParts.{opened-next}
 use Rattle.pb_text_printer.proofs.term.open_brackets.Goals as goal
 
@@ -20,5 +20,5 @@ loop-link-preserved c =
 
 pub returns : goal.returns
 returns c =
-    ap (λ (v : List ArithmeticLink). after (opened c.loop-link.before (arithmetic_links v)) (page c.loop-link.out)) (sym (left-end c.args.links.now c.loop-link.link-index c.loop-link-test.false))
+    ap (λ (v : List ArithmeticLink). after (opened c.loop-link.before (arithmetic_links v)) (page c.loop-link.out)) (sym (drop_all c.loop-link.link-index c.args.links.now c.loop-link-test.false))
     ∙ c.loop-link.invariant

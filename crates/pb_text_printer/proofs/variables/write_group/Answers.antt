@@ -1,10 +1,10 @@
 use Rattle.std.proofs.Common.{◌++◌, List, refl, sym, ◌∙◌, ap}
 use Rattle.std.specs.Prelude.{option_map, option_copied}
+use Rattle.std.proofs.lemmas.List.{drop_all}
 use Rattle.pb_text_tree.specs.declared.name.Name.{Name}
 use Rattle.pb_text_tree.specs.Form.{named}
 use Rattle.pb_text_printer.specs.Page.{after, page}
 use Rattle.pb_text_printer.specs.Parts.{variables_behind}
-use Rattle.pb_text_printer.proofs.PageLemmas.{left-end}
 use Rattle.pb_text_printer.proofs.VariableParts.{sorted, variable-next}
 use Rattle.pb_text_printer.proofs.variables.write_group.Goals as goal
 
@@ -20,6 +20,6 @@ loop-name-preserved c = λ vs.
 pub returns : goal.returns
 returns c = λ vs.
     ap (λ (ns : List Name). after (variables_behind (option_map named (option_copied c.loop-name.last)) (sorted c.args.group.now.sort ns ++ vs)) (page c.loop-name.out))
-    (sym (left-end c.deref-name-items.result.now c.loop-name.name-index c.loop-name-test.false))
+    (sym (drop_all c.loop-name.name-index c.deref-name-items.result.now c.loop-name-test.false))
     ∙ c.loop-name.invariant vs
     ∙ ap (λ (ns : List Name). after (variables_behind (option_map named (option_copied c.args.before)) (sorted c.args.group.now.sort ns ++ vs)) (page c.args.out.now)) c.deref-name-items.ensures.value

@@ -5,7 +5,7 @@ use Rattle.pb_text_tree.specs.declared.operator.Connective.TheVariants.{And, Or}
 use Rattle.pb_text_tree.specs.Form.{TermForm, instance_form, named, term_form, term_links, arithmetic_links}
 use Rattle.pb_text_lexer.specs.declared.kind.Kind.TheVariants as k
 use Rattle.pb_text_lexer.specs.Kinds.{same_kind}
-use Rattle.pb_text_lexer.specs.Steps.{kind, take_operator, take_token, nothing_between}
+use Rattle.pb_text_lexer.specs.Steps.{kind, take_token, nothing_between}
 use Rattle.pb_text_lexer.specs.Tokens.{tok}
 use Rattle.pb_text_lexer.proofs.LoopLemmas.{fails-as, gathered-more, gathered-end, gathered-item-fails, resumed-first, resumed-first-fails, resumed-more, resumed-end, resumed-operator-fails, resumed-operand-fails}
 use Rattle.pb_text_terms.specs.declared.operator.Operators.TheVariants.{Additive, Times, Division}
@@ -46,7 +46,7 @@ unfolding equated
 equated_behind-returns-in_err-sign-clause-reads t c s h =
     let stands : is_equality (kind c.args.input.now) ≡ true = search rules in
     let p = err_from_is_err_and c.from_residual.result c.from_residual.ensures.1 in
-    rw (p.1, p.2) (fails-as (take_operator c.args.input.now) (equated (unary c.args.depth) s) c.in_err-sign.field-0.0 (λ bad e. sign-fails is_equality compared_by (ordered (unary c.args.depth)) s c.args.input.now (term_form c.args.left) bad h stands e) c.in_err-sign.ensures.reads)
+    rw (p.1, p.2) (sign-fails is_equality compared_by (ordered (unary c.args.depth)) s c.args.input.now (term_form c.args.left) c.in_err-sign.field-0.0 h stands c.in_err-sign.ensures.reads)
 
 pub equated_behind-returns-in_err-right-clause-reads : goal.equated_behind-returns-in_err-right-clause-reads
 unfolding equated
@@ -119,7 +119,7 @@ pub chain-returns-in_err-place-clause-reads : goal.chain-returns-in_err-place-cl
 chain-returns-in_err-place-clause-reads t c s h fewer =
     let same : same_kind (kind c.links.input) (symbol c.args.connective) ≡ true = search rules in
     let p = err_from_is_err_and c.from_residual-in_err-place.result c.from_residual-in_err-place.ensures.1 in
-    rw (p.1, p.2) (fails-as (take_operator c.links.input) (level TermForm.connected c.args.connective (lowest c.args.depth) s) c.in_err-place.field-0.0 (λ bad e. c.links.invariant.reads s h fewer ∙ resumed-operator-fails (symbol c.args.connective) (TermForm.connected c.args.connective) (operand TermForm.connected c.args.connective (lowest c.args.depth)) (length s.tokens - vec_len c.links.links) _ (term_links c.links.links.items) c.links.input bad same e) c.in_err-place.ensures.reads)
+    rw (p.1, p.2) (c.links.invariant.reads s h fewer ∙ resumed-operator-fails (symbol c.args.connective) (TermForm.connected c.args.connective) (operand TermForm.connected c.args.connective (lowest c.args.depth)) (length s.tokens - vec_len c.links.links) _ (term_links c.links.links.items) c.links.input c.in_err-place.field-0.0 same c.in_err-place.ensures.reads)
 
 pub chain-returns-in_err-operand-clause-reads : goal.chain-returns-in_err-operand-clause-reads
 chain-returns-in_err-operand-clause-reads t c s h fewer =
@@ -150,7 +150,7 @@ operand-returns-else-is_quantifier-clause-reads t c =
 pub operations-returns-in_err-sign-clause-reads : goal.operations-returns-in_err-sign-clause-reads
 operations-returns-in_err-sign-clause-reads t c =
     let p = err_from_is_err_and c.from_residual-in_err-sign.result c.from_residual-in_err-sign.ensures.1 in
-    rw (p.1, p.2) (fails-as (take_operator c.operations.input) (operations c.args.operators (operand_of c.args.operators (unary c.args.depth)) c.args.input.now) c.in_err-sign.field-0.0 (λ bad e. c.operations.invariant.reads ∙ gathered-item-fails (operation c.args.operators (operand_of c.args.operators (unary c.args.depth))) (is_among c.args.operators) nothing_between (arithmetic_links c.operations.links.items) (suc (length c.args.input.now.tokens) - vec_len c.operations.links) (length c.args.input.now.tokens - vec_len c.operations.links) c.operations.input bad (omega arith) (operation-fails c.args.operators (operand_of c.args.operators (unary c.args.depth)) c.operations.input bad c.operations.invariant.stands e)) c.in_err-sign.ensures.reads)
+    rw (p.1, p.2) (c.operations.invariant.reads ∙ gathered-item-fails (operation c.args.operators (operand_of c.args.operators (unary c.args.depth))) (is_among c.args.operators) nothing_between (arithmetic_links c.operations.links.items) (suc (length c.args.input.now.tokens) - vec_len c.operations.links) (length c.args.input.now.tokens - vec_len c.operations.links) c.operations.input c.in_err-sign.field-0.0 (omega arith) (operation-fails c.args.operators (operand_of c.args.operators (unary c.args.depth)) c.operations.input c.in_err-sign.field-0.0 c.operations.invariant.stands c.in_err-sign.ensures.reads))
 
 pub operations-returns-in_err-operand-clause-reads : goal.operations-returns-in_err-operand-clause-reads
 operations-returns-in_err-operand-clause-reads t c =
@@ -275,7 +275,7 @@ unfolding ordered
 in_order-returns-in_err-sign-clause-reads t c s h =
     let stands = c.requires in
     let p = err_from_is_err_and c.from_residual.result c.from_residual.ensures.1 in
-    rw (p.1, p.2) (fails-as (take_operator c.args.input.now) (ordered (unary c.args.depth) s) c.in_err-sign.field-0.0 (λ bad e. sign-fails is_order compared_by (sum (unary c.args.depth)) s c.args.input.now (term_form c.args.left) bad h stands e) c.in_err-sign.ensures.reads)
+    rw (p.1, p.2) (sign-fails is_order compared_by (sum (unary c.args.depth)) s c.args.input.now (term_form c.args.left) c.in_err-sign.field-0.0 h stands c.in_err-sign.ensures.reads)
 
 pub in_order-returns-in_err-right-clause-reads : goal.in_order-returns-in_err-right-clause-reads
 unfolding ordered
@@ -314,18 +314,35 @@ bracketed-returns-in_err-inner-clause-reads t c =
     let p = err_from_is_err_and c.from_residual-in_err-inner.result c.from_residual-in_err-inner.ensures.1 in
     rw (p.1, p.2) (fails-as (term (c.args.depth - 1) c.enter.new.self) (unary c.args.depth c.args.input.now) c.in_err-inner.field-0.0 (λ bad e. inner-fails c.args.depth c.args.input.now c.enter.new.self (tok c.in_ok-enter.field-0) bad c.in_ok-enter.ensures.deeper c.requires c.in_ok-enter.ensures.reads e) c.in_err-inner.ensures.reads)
 
-pub unary-returns-in-Number-clause-reads : goal.unary-returns-in-Number-clause-reads
-unary-returns-in-Number-clause-reads t c = c.number.ensures.reads c.args.depth
+pub unary-returns-in_ok-number-in-Number-clause-reads : goal.unary-returns-in_ok-number-in-Number-clause-reads
+unary-returns-in_ok-number-in-Number-clause-reads t c = c.in_ok-number-in-Number.ensures.reads c.args.depth
 
-pub unary-returns-in-True-clause-reads : goal.unary-returns-in-True-clause-reads
-unary-returns-in-True-clause-reads t c =
+pub unary-returns-in_err-number-in-Number-clause-reads : goal.unary-returns-in_err-number-in-Number-clause-reads
+unary-returns-in_err-number-in-Number-clause-reads t c =
+    let p = err_from_is_err_and c.from_residual.result c.from_residual.ensures.1 in
+    rw (p.1, p.2) (c.in_err-number-in-Number.ensures.reads c.args.depth)
+
+pub unary-returns-in_ok-constant-in-True-clause-reads : goal.unary-returns-in_ok-constant-in-True-clause-reads
+unary-returns-in_ok-constant-in-True-clause-reads t c =
     let is : kind c.args.input.now ≡ k.True = search rules in
-    rw (begun-at c.args.depth c.args.input.now k.True is) c.constant.ensures.reads
+    rw (begun-at c.args.depth c.args.input.now k.True is) c.in_ok-constant-in-True.ensures.reads
 
-pub unary-returns-in-False-clause-reads : goal.unary-returns-in-False-clause-reads
-unary-returns-in-False-clause-reads t c =
+pub unary-returns-in_err-constant-in-True-clause-reads : goal.unary-returns-in_err-constant-in-True-clause-reads
+unary-returns-in_err-constant-in-True-clause-reads t c =
+    let is : kind c.args.input.now ≡ k.True = search rules in
+    let p = err_from_is_err_and c.from_residual-in_err-constant-in-True.result c.from_residual-in_err-constant-in-True.ensures.1 in
+    rw (p.1, p.2, begun-at c.args.depth c.args.input.now k.True is) c.in_err-constant-in-True.ensures.reads
+
+pub unary-returns-in_ok-constant-in-False-clause-reads : goal.unary-returns-in_ok-constant-in-False-clause-reads
+unary-returns-in_ok-constant-in-False-clause-reads t c =
     let is : kind c.args.input.now ≡ k.False = search rules in
-    rw (begun-at c.args.depth c.args.input.now k.False is) c.constant-in-False.ensures.reads
+    rw (begun-at c.args.depth c.args.input.now k.False is) c.in_ok-constant-in-False.ensures.reads
+
+pub unary-returns-in_err-constant-in-False-clause-reads : goal.unary-returns-in_err-constant-in-False-clause-reads
+unary-returns-in_err-constant-in-False-clause-reads t c =
+    let is : kind c.args.input.now ≡ k.False = search rules in
+    let p = err_from_is_err_and c.from_residual-in_err-constant-in-False.result c.from_residual-in_err-constant-in-False.ensures.1 in
+    rw (p.1, p.2, begun-at c.args.depth c.args.input.now k.False is) c.in_err-constant-in-False.ensures.reads
 
 pub product-returns-in_err-first-clause-reads : goal.product-returns-in_err-first-clause-reads
 product-returns-in_err-first-clause-reads t c =

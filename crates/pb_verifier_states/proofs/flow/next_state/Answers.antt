@@ -1,5 +1,6 @@
 -- Each arm's instruction does what its function says.
-use Rattle.pb_verifier_states.proofs.Dispatch.{goes, fails, goes_enum, fails_enum, goes_call, fails_call}
+use Rattle.std.proofs.lemmas.Result.{err_from_is_err_and}
+use Rattle.pb_verifier_states.proofs.Dispatch.{goes, fails, goes_on, fails_on, goes_enum, fails_enum}
 use Rattle.pb_verifier_states.proofs.flow.next_state.Goals as goal
 
 pub returns-in-Get-clause-flows : goal.returns-in-Get-clause-flows
@@ -7,12 +8,6 @@ returns-in-Get-clause-flows c = goes _ _ c.args.state _ c.args.op c.get.result c
 
 pub returns-in-Get-clause-refused : goal.returns-in-Get-clause-refused
 returns-in-Get-clause-refused c = fails _ _ c.args.state _ c.args.op c.get.result c.in-Get.is c.get.ensures.refused
-
-pub returns-in-Pop-clause-flows : goal.returns-in-Pop-clause-flows
-returns-in-Pop-clause-flows c = goes _ _ c.args.state _ c.args.op c.pop.result c.in-Pop.is c.pop.ensures.flows
-
-pub returns-in-Pop-clause-refused : goal.returns-in-Pop-clause-refused
-returns-in-Pop-clause-refused c = fails _ _ c.args.state _ c.args.op c.pop.result c.in-Pop.is c.pop.ensures.refused
 
 pub returns-in-Arithmetic-clause-flows : goal.returns-in-Arithmetic-clause-flows
 returns-in-Arithmetic-clause-flows c = goes _ _ c.args.state _ c.args.op c.arithmetic.result c.in-Arithmetic.is c.arithmetic.ensures.flows
@@ -56,32 +51,40 @@ returns-in-Logic-clause-flows c = goes _ _ c.args.state _ c.args.op c.logic.resu
 pub returns-in-Logic-clause-refused : goal.returns-in-Logic-clause-refused
 returns-in-Logic-clause-refused c = fails _ _ c.args.state _ c.args.op c.logic.result c.in-Logic.is c.logic.ensures.refused
 
-pub returns-in-Open-clause-flows : goal.returns-in-Open-clause-flows
-returns-in-Open-clause-flows c = goes _ _ c.args.state _ c.args.op c.open.result c.in-Open.is c.open.ensures.flows
-
-pub returns-in-Open-clause-refused : goal.returns-in-Open-clause-refused
-returns-in-Open-clause-refused c = fails _ _ c.args.state _ c.args.op c.open.result c.in-Open.is c.open.ensures.refused
-
-pub returns-in-Close-clause-flows : goal.returns-in-Close-clause-flows
-returns-in-Close-clause-flows c = goes _ _ c.args.state _ c.args.op c.close.result c.in-Close.is c.close.ensures.flows
-
-pub returns-in-Close-clause-refused : goal.returns-in-Close-clause-refused
-returns-in-Close-clause-refused c = fails _ _ c.args.state _ c.args.op c.close.result c.in-Close.is c.close.ensures.refused
-
-pub returns-in-Emit-clause-flows : goal.returns-in-Emit-clause-flows
-returns-in-Emit-clause-flows c = goes _ _ c.args.state _ c.args.op c.emit.result c.in-Emit.is c.emit.ensures.flows
-
-pub returns-in-Emit-clause-refused : goal.returns-in-Emit-clause-refused
-returns-in-Emit-clause-refused c = fails _ _ c.args.state _ c.args.op c.emit.result c.in-Emit.is c.emit.ensures.refused
-
 pub returns-in-PushEnum-clause-flows : goal.returns-in-PushEnum-clause-flows
 returns-in-PushEnum-clause-flows c = goes_enum _ _ c.args.state c.in-PushEnum.sort c.in-PushEnum.index c.args.op c.push_enum.result c.in-PushEnum.is c.push_enum.ensures.flows
 
 pub returns-in-PushEnum-clause-refused : goal.returns-in-PushEnum-clause-refused
 returns-in-PushEnum-clause-refused c = fails_enum _ _ c.args.state c.in-PushEnum.sort c.in-PushEnum.index c.args.op c.push_enum.result c.in-PushEnum.is c.push_enum.ensures.refused
 
-pub returns-in-Call-clause-flows : goal.returns-in-Call-clause-flows
-returns-in-Call-clause-flows c = goes_call _ _ c.args.state c.in-Call.equation c.args.op c.call.result c.in-Call.is c.call.ensures.flows
+pub returns-in_ok-pop-in-Pop-clause-flows : goal.returns-in_ok-pop-in-Pop-clause-flows
+returns-in_ok-pop-in-Pop-clause-flows c = goes_on _ _ c.args.state _ c.args.op c.in_ok-pop-in-Pop.field-0 c.in-Pop.is c.in_ok-pop-in-Pop.ensures.flows
 
-pub returns-in-Call-clause-refused : goal.returns-in-Call-clause-refused
-returns-in-Call-clause-refused c = fails_call _ _ c.args.state c.in-Call.equation c.args.op c.call.result c.in-Call.is c.call.ensures.refused
+pub returns-in_err-pop-in-Pop-clause-refused : goal.returns-in_err-pop-in-Pop-clause-refused
+returns-in_err-pop-in-Pop-clause-refused c =
+    let p = err_from_is_err_and c.from_residual.result c.from_residual.ensures.1 in
+    rw (p.1, p.2) (fails_on _ _ c.args.state _ c.args.op c.in-Pop.is c.in_err-pop-in-Pop.ensures.err)
+
+pub returns-in_ok-open-in-Open-clause-flows : goal.returns-in_ok-open-in-Open-clause-flows
+returns-in_ok-open-in-Open-clause-flows c = goes_on _ _ c.args.state _ c.args.op c.in_ok-open-in-Open.field-0 c.in-Open.is c.in_ok-open-in-Open.ensures.flows
+
+pub returns-in_err-open-in-Open-clause-refused : goal.returns-in_err-open-in-Open-clause-refused
+returns-in_err-open-in-Open-clause-refused c =
+    let p = err_from_is_err_and c.from_residual-in_err-open-in-Open.result c.from_residual-in_err-open-in-Open.ensures.1 in
+    rw (p.1, p.2) (fails_on _ _ c.args.state _ c.args.op c.in-Open.is c.in_err-open-in-Open.ensures.err)
+
+pub returns-in_ok-close-in-Close-clause-flows : goal.returns-in_ok-close-in-Close-clause-flows
+returns-in_ok-close-in-Close-clause-flows c = goes_on _ _ c.args.state _ c.args.op c.in_ok-close-in-Close.field-0 c.in-Close.is c.in_ok-close-in-Close.ensures.flows
+
+pub returns-in_err-close-in-Close-clause-refused : goal.returns-in_err-close-in-Close-clause-refused
+returns-in_err-close-in-Close-clause-refused c =
+    let p = err_from_is_err_and c.from_residual-in_err-close-in-Close.result c.from_residual-in_err-close-in-Close.ensures.1 in
+    rw (p.1, p.2) (fails_on _ _ c.args.state _ c.args.op c.in-Close.is c.in_err-close-in-Close.ensures.err)
+
+pub returns-in_ok-emit-in-Emit-clause-flows : goal.returns-in_ok-emit-in-Emit-clause-flows
+returns-in_ok-emit-in-Emit-clause-flows c = goes_on _ _ c.args.state _ c.args.op c.in_ok-emit-in-Emit.field-0 c.in-Emit.is c.in_ok-emit-in-Emit.ensures.flows
+
+pub returns-in_err-emit-in-Emit-clause-refused : goal.returns-in_err-emit-in-Emit-clause-refused
+returns-in_err-emit-in-Emit-clause-refused c =
+    let p = err_from_is_err_and c.from_residual-in_err-emit-in-Emit.result c.from_residual-in_err-emit-in-Emit.ensures.1 in
+    rw (p.1, p.2) (fails_on _ _ c.args.state _ c.args.op c.in-Emit.is c.in_err-emit-in-Emit.ensures.err)

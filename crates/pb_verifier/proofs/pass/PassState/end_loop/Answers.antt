@@ -1,5 +1,5 @@
 use Rattle.pb_bytecode_program.specs.declared.instruction.Op.TheVariants as op
-use Rattle.pb_verifier.proofs.Steps.{known_flows, where_ok, where_refused}
+use Rattle.pb_verifier.proofs.Steps.{known_flows, where_ok, where_err}
 use Rattle.pb_verifier.proofs.pass.PassState.end_loop.Goals as goal
 
 pub returns-in-Some-clause-flows : goal.returns-in-Some-clause-flows
@@ -11,11 +11,11 @@ returns-in-Some-clause-flows c =
 pub returns-in-Some-clause-open : goal.returns-in-Some-clause-open
 returns-in-Some-clause-open c = where_ok c.visit_next.result (λ h. c.leave-start.ensures.left c.args.known) c.visit_next.ensures.ok
 
-pub returns-in-Some-clause-refused : goal.returns-in-Some-clause-refused
-returns-in-Some-clause-refused c =
-    where_refused c.visit_next.result
+pub returns-in-Some-clause-err : goal.returns-in-Some-clause-err
+returns-in-Some-clause-err c =
+    where_err c.visit_next.result
     (λ h p. known_flows p c.args.place op.Next c.args.known c.in-Some.state c.leave-start.result c.args.self.now.open c.args.self.now.table.items _ c.in-Some.is c.leave-start.ensures.start (h p))
-    c.visit_next.ensures.refused
+    c.visit_next.ensures.err
 
 pub returns-in-None-clause-open : goal.returns-in-None-clause-open
 returns-in-None-clause-open c = c.leave-start.ensures.left c.args.known
