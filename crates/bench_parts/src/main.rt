@@ -8,7 +8,8 @@
 //! - `exploration WORKERS KIND`: exploration
 //! - `games KIND VERTICES PRIORITIES SOLVER WORKERS`: the solvers of parity games
 //! - `game-texts KIND INSTANCES TURNS`: building a game and writing its text
-//! - `stages SOLVER`: each stage of `pbsolve solve`, on the text that stands behind this line, to the end
+//! - `stages SOLVER`: each stage of `pbsolve solve`, on the text that stands behind this line, to
+//!   the end
 //!
 //! A number that a line doesn't say is 1. What was found goes to standard output, times go to
 //! standard error.

@@ -30,7 +30,8 @@ pub struct Game {
     successors: Vec<u32>,
     predecessor_places: Vec<usize>,
     predecessors: Vec<u32>,
-    pub ghost well_formed: { IsFlatGame owners.items priorities.items greatest places.items successors.items predecessor_places.items predecessors.items },
+    pub ghost well_formed: { IsFlatGame owners.items priorities.items greatest
+        places.items successors.items predecessor_places.items predecessors.items },
 }
 
 impl Game {

@@ -191,14 +191,16 @@ fn feeding(
         → IsTakenVertex arena.now.game.now found.now.rank.now found.now.last
         (slice_index frontier.now k) }
     ensures size { IfOk result (λ flags. length flags.items ≡ length frontier.now) }
-    ensures idle { IfOk result (λ flags. AreIdleUnflagged arena.now found.now.rank.now found.now.last frontier.now flags.items) }
+    ensures idle { IfOk result (λ flags. AreIdleUnflagged arena.now
+        found.now.rank.now found.now.last frontier.now flags.items) }
 {
     frontier
         .par_iter()
         .map(
             |u: &u32| -> bool
                 requires ready { IsReadyFor arena.now found.now }
-                requires taken { IsTakenVertex arena.now.game.now found.now.rank.now found.now.last u.now }
+                requires taken { IsTakenVertex arena.now.game.now
+                    found.now.rank.now found.now.last u.now }
                 ensures { OnFalse result (IsIdleFor arena.entry.now found.entry.now u.now) }
             { feeds(arena, found, *u) },
         )
@@ -218,7 +220,8 @@ fn visit_feeding(
     requires started { 0 < attractor.old.rounds }
     requires frontier { IsFrontier attractor.old.rank.items attractor.old.rounds frontier.now }
     requires size { length flags.now ≡ length frontier.now }
-    requires idle { AreIdleUnflagged arena.now attractor.old.rank.items attractor.old.rounds frontier.now flags.now }
+    requires idle { AreIdleUnflagged arena.now
+        attractor.old.rank.items attractor.old.rounds frontier.now flags.now }
     requires search { IsSearchIn arena.now attractor.old next.old.items }
     ensures search { OnOk result (IsSearchIn arena.now attractor.new next.new.items) }
     ensures rounds { attractor.new.rounds ≡ attractor.old.rounds }
