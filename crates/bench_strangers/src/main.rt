@@ -7,11 +7,11 @@
 
 use std::alloc::{AllocError, Global};
 use std::thread::Threads;
-use test_strangers::flaw::Flaw;
-use test_strangers::known::{COUNTS_DOWN, OTHERS};
-use test_strangers::modules::{self, Tally};
-use test_strangers::strangers::module_of;
-use test_strangers::texts::{self, Statuses, text_of};
+use test_inputs::flaw::Flaw;
+use test_inputs::known::{COUNTS_DOWN, OTHERS};
+use test_inputs::modules::{self, Tally};
+use test_inputs::strangers::module_of;
+use test_inputs::texts::{self, Statuses, text_of};
 
 /// What a line asks for.
 #[derive(Clone, Copy)]

@@ -4,8 +4,10 @@
 #![tactic(auto)]
 
 pub mod alone;
-pub mod modules;
-pub mod overlap;
+#[cfg(test)]
+mod modules;
+#[cfg(test)]
+mod overlap;
 pub mod steps;
 #[cfg(test)]
 mod tests;

@@ -2,7 +2,9 @@
 //! to the text.
 #![tactic(auto)]
 
-pub mod modules;
-pub mod printing;
+#[cfg(test)]
+mod modules;
+#[cfg(test)]
+mod printing;
 #[cfg(test)]
 mod tests;

@@ -1,18 +1,6 @@
-//! Modules and texts as strangers may make them: each byte of known modules set to each value, and
-//! generated and changed modules and texts, each made from its seed. Accepted code is run beside a
-//! tagged machine and its answer compared with the definition's, both written here.
+//! Tests of the program on modules and texts as strangers may make them: a part of each kind, for the
+//! gate. The program `bench_strangers` tries more of them.
 #![tactic(auto)]
 
-pub mod code;
-pub mod definition;
-pub mod flaw;
-pub mod known;
-pub mod modules;
-pub mod numbers;
-pub mod random;
-pub mod shapes;
-pub mod strangers;
-pub mod tagged;
 #[cfg(test)]
 mod tests;
-pub mod texts;

@@ -1,11 +1,11 @@
-//! A part of each kind of input, for the gate.
+//! Each byte of known modules set to each value, and generated and changed modules and texts.
 
-use crate::known::{COUNTS_DOWN, OTHERS};
-use crate::modules::{Tally, check};
-use crate::random::Generator;
-use crate::strangers::module_of;
-use crate::texts::{self, Statuses, text_of};
 use std::test::Fail;
+use test_inputs::known::{COUNTS_DOWN, OTHERS};
+use test_inputs::modules::{Tally, check};
+use test_inputs::random::Generator;
+use test_inputs::strangers::module_of;
+use test_inputs::texts::{self, Statuses, text_of};
 
 /// How many instances of an accepted module are run.
 const MOST: u32 = 256;
