@@ -1,4 +1,4 @@
-//! What is not as it must be with an input of a stranger.
+//! What is not as it must be with an input.
 
 use std::alloc::{AllocError, AllocFailed};
 

@@ -1,4 +1,4 @@
-//! Modules that strangers change: known bytes.
+//! The known modules of which bytes are changed.
 
 /// A sort of three enumerators; `X(d)` calls `X` at each enumerator that differs from `d`.
 #[rattlefmt::skip]

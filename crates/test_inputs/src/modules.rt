@@ -1,6 +1,6 @@
-//! What is asked of the bytes of a stranger's module: they are read exactly or refused; accepted
-//! code never faults in the tagged machine, ends within the steps that it states, and has its tree;
-//! and the solver's answer is the definition's.
+//! What is asked of the bytes of a module: they are read exactly or refused; accepted code never
+//! faults in the tagged machine, ends within the steps that it states, and has its tree; and the
+//! solver's answer is the definition's.
 
 use crate::definition::{INSTANCES, answer};
 use crate::flaw::Flaw;

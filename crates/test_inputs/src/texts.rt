@@ -1,5 +1,5 @@
-//! Texts as strangers may make them: random tokens, and known texts of which some bytes or words
-//! are changed. Each is answered with a status from 0 to 4, and a refusal with one line.
+//! Generated and mutated texts: random tokens, and known texts of which some bytes or words are
+//! changed. Each is answered with a status from 0 to 4, and a refusal with one line.
 
 use crate::flaw::Flaw;
 use crate::random::Generator;

@@ -1,4 +1,4 @@
-//! Strangers by the hundred thousand: reads lines `KIND FIRST COUNT MOST`, makes an input of each
+//! Fuzzing by the hundred thousand: reads lines `KIND FIRST COUNT MOST`, makes an input of each
 //! of `COUNT` seeds from `FIRST` on and has it checked, and prints whether all was as wanted. Of an
 //! accepted module at most `MOST` instances are run. The kinds are `modules` and `texts`; `bytes`
 //! takes no seeds: it sets each byte of the known modules to each value. With a fifth word,
@@ -9,8 +9,8 @@ use std::alloc::{AllocError, Global};
 use std::thread::Threads;
 use test_inputs::flaw::Flaw;
 use test_inputs::known::{COUNTS_DOWN, OTHERS};
+use test_inputs::made_modules::module_of;
 use test_inputs::modules::{self, Tally};
-use test_inputs::strangers::module_of;
 use test_inputs::texts::{self, Statuses, text_of};
 
 /// What a line asks for.

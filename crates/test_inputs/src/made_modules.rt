@@ -1,5 +1,4 @@
-//! Modules as strangers may make them: generated ones, most of which are accepted, and changed
-//! ones.
+//! Generated modules, most of which are accepted, and mutated ones.
 
 use crate::code::Coder;
 use crate::known::{COUNTS_DOWN, OTHERS};

@@ -2,9 +2,9 @@
 
 use std::test::Fail;
 use test_inputs::known::{COUNTS_DOWN, OTHERS};
+use test_inputs::made_modules::module_of;
 use test_inputs::modules::{Tally, check};
 use test_inputs::random::Generator;
-use test_inputs::strangers::module_of;
 use test_inputs::texts::{self, Statuses, text_of};
 
 /// How many instances of an accepted module are run.
