@@ -8,7 +8,7 @@ use pb_sorts::In;
 use pbsolve::Streams;
 use std::alloc::{AllocError, Global};
 use std::thread::Threads;
-use test_program::budget::Budget;
+use test_streams::budget::Budget;
 
 /// More than the program writes of such a text.
 const ROOM: usize = 1 << 24;

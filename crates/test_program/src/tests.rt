@@ -11,12 +11,12 @@ mod proof_graphs;
 mod rows;
 mod solvers;
 
-use crate::budget::Budget;
 use pb_exploration::NoGate;
 use pb_sorts::{In, Source};
 use pbsolve::Streams;
 use std::alloc::{AllocError, Global};
 use std::thread::Threads;
+use test_streams::budget::Budget;
 
 // More than the program writes to either writer.
 const ROOM: usize = 1000;
