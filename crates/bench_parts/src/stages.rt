@@ -1,6 +1,6 @@
 //! The stages from a text to its report, as `pbsolve solve` goes through them: `read`, `check`,
 //! `normalise`, `compile`, `encode`, `decode`, `verify`, `explore-4`, `explore-2` and `explore-1`
-//! (by so many workers), `build`, `solve`, `certify`, `answer` and `report`.
+//! (by so many workers), `build`, `solve` (with the checker's run), `answer` and `report`.
 ghost use Rattle.pb_game_answer.specs.Explored.{AreModuleRows, HaveTrees};
 
 use crate::reached::explored;
@@ -84,10 +84,9 @@ fn answered<R: Threads + Sync>(
 {
     let built = build(alloc, verified, rows)?;
     watch.end("build")?;
-    let solution = solve(rt, alloc, &built.game, solver, 1, &NoGate)?;
+    let certified = solve(rt, alloc, &built.game, solver, 1, &NoGate)?;
     watch.end("solve")?;
-    let solved = Solved::new(built, solution);
-    watch.end("certify")?;
+    let solved = Solved::new(built, certified);
     let answer = Answer::of_solved(&solved, rows);
     watch.end("answer")?;
     Ok(answer)

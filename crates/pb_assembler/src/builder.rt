@@ -1,7 +1,7 @@
 //! Code in the making, whose jumps name labels in place of places.
 
 ghost use Rattle.std.specs.Prelude.{◌≡◌, ◌≤◌, ◌<◌, ◌++◌, ◌∷◌, [], true, false, length, map, IfOk};
-ghost use Rattle.std.specs.Prelude.{OnOk, OnErr, Some, None, option_map};
+ghost use Rattle.std.specs.Prelude.{IfErr, OnOk, OnErr, Some, None, option_map};
 ghost use Rattle.std.specs.List.{list_any, slice_get, slice_set};
 ghost use Rattle.pb_sorts.specs.declared.limits.TheConstants.{MAX_INSTRUCTIONS};
 ghost use Rattle.pb_assembler.specs.Draft.{are_placed, are_within, is_label, is_slot_test};
@@ -194,13 +194,28 @@ impl Builder {
     /// The instructions in order, each target being its label's place.
     ///
     /// # Errors
-    /// Memory was refused.
-    pub fn finish(self, alloc: Global) -> Result<Vec<Op>, AllocError>
+    /// Memory was refused; the builder is handed back.
+    pub fn finish(self) -> Result<Vec<Op>, (Builder, AllocError)>
         requires placed { are_placed self.places ≡ true }
         requires few { length self.ops ≤ MAX_INSTRUCTIONS }
-        ensures { IfOk result (λ ops. ops.items ≡ resolved (place_of self.places) self.ops) }
+        ensures finished { IfOk result (λ ops. ops.items
+            ≡ resolved (place_of self.places) self.ops) }
+        ensures handed_back { IfErr result (λ refused. refused.0 ≡ self) }
     {
-        let mut ops = Vec::with_capacity(alloc, self.ops.len())?;
+        match self.resolved_ops() {
+            Ok(ops) => Ok(ops),
+            Err(error) => Err((self, error)),
+        }
+    }
+
+    /// The same, for a builder that is kept.
+    fn resolved_ops(&self) -> Result<Vec<Op>, AllocError>
+        requires placed { are_placed self.now.places ≡ true }
+        requires few { length self.now.ops ≤ MAX_INSTRUCTIONS }
+        ensures { IfOk result (λ ops. ops.items
+            ≡ resolved (place_of self.now.places) self.now.ops) }
+    {
+        let mut ops = Vec::with_capacity(*self.ops.allocator(), self.ops.len())?;
         for (op, label) in &self.ops {
             let op = resolve(&self.places, *op, *label);
             ops.push(op)?;

@@ -39,5 +39,8 @@ pub(crate) fn equation_code(
     emit_formula(&mut builder, callees, kind, right)?;
     emit_plain(&mut builder, Op::Close)?;
     emit_plain(&mut builder, Op::End)?;
-    builder.finish(alloc)
+    match builder.finish() {
+        Ok(code) => Ok(code),
+        Err((_, error)) => Err(error),
+    }
 }

@@ -1,6 +1,6 @@
 //! Verifying compiled modules.
 
-ghost use Rattle.std.specs.Prelude.{◌≡◌, IfOk};
+ghost use Rattle.std.specs.Prelude.{◌≡◌, IfOk, IfErr};
 ghost use Rattle.pb_text_meaning.specs.Syntax.{Spec};
 ghost use Rattle.pb_typing_rules.specs.WellTyped.{IsWellTyped};
 ghost use Rattle.pb_bytecode.specs.Decoded.{module_contents};
@@ -16,16 +16,17 @@ use std::alloc::{AllocError, Global};
 /// machine's limits. It is never refused.
 ///
 /// # Errors
-/// Memory was refused.
-pub fn verify_compiled(alloc: Global, module: Module) -> Result<Verified, AllocError>
+/// Memory was refused; the module is handed back.
+pub fn verify_compiled(alloc: Global, module: Module) -> Result<Verified, (Module, AllocError)>
     requires { (spec : Spec) × IsWellTyped spec × IsCompiledModule spec (module_contents «module»)
         × KeepsAllLimits spec (module_contents «module») }
-    ensures { IfOk result (λ verified. verified ≡ module_contents «module») }
+    ensures same { IfOk result (λ verified. verified ≡ module_contents «module») }
+    ensures handed_back { IfErr result (λ refused. refused.0 ≡ «module») }
 {
     compiled_modules_are_accepted();
     match verify(alloc, module) {
         Ok(verified) => Ok(verified),
-        Err((_, VerifyError::Memory)) => Err(AllocError),
+        Err((module, VerifyError::Memory)) => Err((module, AllocError)),
         Err((_, VerifyError::Refusal { .. })) => unreachable!(),
     }
 }

@@ -1,117 +1,121 @@
--- What clap makes of a program's name and the word of a command.
-use Rattle.std.proofs.Common.{◌≡◌, ◌∙◌, ℕ, true, List, [], ◌∷◌, Option, Some, None, option_map, refl, sym, ap, ap₂, codes}
-use Rattle.std.specs.Prelude.{option_and_then}
+-- What clap makes of words: the request that it reads, or the fault that it finds.
+use Rattle.std.proofs.Common.{◌≡◌, ◌∙◌, ◌<◌, ◌≤◌, ℕ, true, List, [], ◌∷◌, Option, Some, None, option_map, refl, sym, ap, ap₂, subst, inl, inr, codes, arith}
+use Rattle.std.specs.Prelude.{Result, Ok, Err, IfErr}
+use Rattle.std.specs.Result.{IsErrAnd}
 use Rattle.std.specs.Global.{Box}
 use Rattle.std.specs.Box.{box_value}
+use Rattle.clap.specs.Faults.{fault_of, is_simple_and_free}
+use Rattle.clap.specs.Kinds.{HasKind, IsAmong}
 use Rattle.clap.specs.Simple.{App, HasMatchesOf, is_simple, subcommand_of, subcommand_rows}
-use Rattle.clap.specs.Takes.{takes}
-use Rattle.clap.specs.Walk.{Row, first_of, rows_of}
-use Rattle.clap.specs.Matches.{subcommand_name_of, first_value}
-use Rattle.clap.specs.declared.parser.matches.Found.{Found}
+use Rattle.clap.specs.Matches.{found_of, subcommand_name_of}
+use Rattle.clap.specs.Walk.{Row, rows_of}
+use Rattle.clap.specs.Words.{kind_of}
+use Rattle.clap.specs.declared.error.Error.{Error}
 use Rattle.clap.specs.declared.parser.matches.SubCommand.{SubCommand}
 use Rattle.clap.specs.declared.parser.matches.ArgMatches.{ArgMatches}
 use Rattle.clap.specs.declared.parser.matches.ArgMatches.TheViews.{out-ArgMatches, out-SubCommand}
 use Rattle.clap.proofs.OnLiterals.{clap_on_literals}
-use Rattle.clap.proofs.WalkLemmas.{first_value-rows}
-use Rattle.std.specs.Prelude.{Result, Ok, Err, IfErr}
-use Rattle.std.specs.Result.{IsErrAnd}
-use Rattle.clap.specs.Words.{kind_of}
-use Rattle.clap.specs.declared.error.Error.{Error}
-use Rattle.clap.specs.declared.error.kind.ErrorKind.TheVariants.{OutOfMemory}
+use Rattle.pb_solver_names.specs.declared.solver.Solver.TheVariants.{Zielonka}
 use Rattle.pb_command_line.specs.declared.command.Command.{Command}
 use Rattle.pb_command_line.specs.declared.command.Command.TheVariants.{Solve, Game, Solution, Explain, Compile, Verify, List as ListModule, SolveCode}
+use Rattle.pb_command_line.specs.declared.request.Request.{Request}
 use Rattle.pb_command_line.specs.declared.words.WordsError.{WordsError}
-use Rattle.pb_command_line.specs.declared.words.WordsError.TheVariants.{Memory}
-use Rattle.pb_command_line.specs.Words.{command_line, command_name, solver_word, words_error_of, Asks}
-
--- clap takes the word of each command behind any name
-command_is_taken : (name : List ℕ) (command : Command) → takes command_line (name ∷ command_name command ∷ []) ≡ true
-unfolding clap_on_literals
-command_is_taken name Solve = refl
-command_is_taken name Game = refl
-command_is_taken name Solution = refl
-command_is_taken name Explain = refl
-command_is_taken name Compile = refl
-command_is_taken name Verify = refl
-command_is_taken name ListModule = refl
-command_is_taken name SolveCode = refl
-
--- and reads that command in it
-command_is_asked : (name : List ℕ) (command : Command) → Asks (name ∷ command_name command ∷ []) command
-unfolding clap_on_literals
-command_is_asked name Solve = refl
-command_is_asked name Game = refl
-command_is_asked name Solution = refl
-command_is_asked name Explain = refl
-command_is_asked name Compile = refl
-command_is_asked name Verify = refl
-command_is_asked name ListModule = refl
-command_is_asked name SolveCode = refl
-
--- in which no solver is named
-no_solver_is_named : (name : List ℕ) (command : Command) → solver_word (name ∷ command_name command ∷ []) ≡ None
-unfolding clap_on_literals
-no_solver_is_named name Solve = refl
-no_solver_is_named name Game = refl
-no_solver_is_named name Solution = refl
-no_solver_is_named name Explain = refl
-no_solver_is_named name Compile = refl
-no_solver_is_named name Verify = refl
-no_solver_is_named name ListModule = refl
-no_solver_is_named name SolveCode = refl
+use Rattle.pb_command_line.specs.declared.words.WordsError.TheVariants.{Usage, Memory}
+use Rattle.pb_command_line.specs.Words.{command_line, command_name, words_error_of, AskFor, AskForSomething, AskPlainly, HaveFault, IsRequestOf}
 
 line_is_simple : is_simple command_line ≡ true
 unfolding clap_on_literals
 line_is_simple = refl
 
-pub takes_command : (a : App) (words : List (List ℕ)) (name : List ℕ) (command : Command) → a ≡ command_line
-    → words ≡ name ∷ command_name command ∷ [] → takes a words ≡ true
-takes_command a words name command app_is words_are = ap₂ takes app_is words_are ∙ command_is_taken name command
+line_is_free : is_simple_and_free command_line ≡ true
+unfolding clap_on_literals
+line_is_free = refl
 
-rows_name : (found : Option (Box SubCommand)) → option_map (λ p. p.0) (subcommand_rows found)
-    ≡ option_map (λ b. (out-SubCommand (box_value b)).name.now) found
-rows_name None = refl
-rows_name (Some b) = refl
+-- ---- the word of a command alone
 
--- the command that clap met is that which it reads in the words
-pub meets_command : (a : App) (words : List (List ℕ)) (m : ArgMatches) → a ≡ command_line → HasMatchesOf a words m
-    → subcommand_name_of m ≡ option_map (λ p. p.0) (subcommand_of command_line words)
-meets_command a words m app_is has =
-    let matches = has (ap is_simple app_is ∙ line_is_simple) in
-    sym (rows_name (out-ArgMatches m).subcommand)
-    ∙ ap (option_map (λ p. p.0)) (matches.1 ∙ ap (λ b. subcommand_of b words) app_is)
+-- clap finds no fault in the word of a command behind any name
+no_fault : (name : List ℕ) (command : Command) → fault_of command_line (name ∷ command_name command ∷ []) ≡ []
+unfolding clap_on_literals
+no_fault name Solve = refl
+no_fault name Game = refl
+no_fault name Solution = refl
+no_fault name Explain = refl
+no_fault name Compile = refl
+no_fault name Verify = refl
+no_fault name ListModule = refl
+no_fault name SolveCode = refl
 
-word_in_rows : (found : Option (List ℕ × List Row)) (rows : List Row) → Some rows ≡ option_map (λ p. p.1) found
-    → first_of (codes "solver") rows ≡ option_and_then (λ p. first_of (codes "solver") p.1) found
-word_in_rows None rows same = absurd (cc same)
-word_in_rows (Some p) rows same = let is : rows ≡ p.1 = cc same in ap (first_of (codes "solver")) is
+-- and reads that command in it, with no option
+command_alone : (name : List ℕ) (command : Command) → subcommand_of command_line (name ∷ command_name command ∷ []) ≡ Some (command_name command, [])
+unfolding clap_on_literals
+command_alone name Solve = refl
+command_alone name Game = refl
+command_alone name Solution = refl
+command_alone name Explain = refl
+command_alone name Compile = refl
+command_alone name Verify = refl
+command_alone name ListModule = refl
+command_alone name SolveCode = refl
 
--- the word that clap met behind `--solver` is that which it reads in the words
-pub meets_solver : (a : App) (words : List (List ℕ)) (m : ArgMatches) → a ≡ command_line → HasMatchesOf a words m
-    → (f : Found) → Some (rows_of f) ≡ option_map (λ p. p.1) (subcommand_rows (out-ArgMatches m).subcommand)
-    → first_value f (codes "solver") ≡ solver_word words
-meets_solver a words m app_is has f rows =
-    let matches = has (ap is_simple app_is ∙ line_is_simple) in
-    let same = matches.1 ∙ ap (λ b. subcommand_of b words) app_is in
-    first_value-rows f (codes "solver")
-    ∙ (word_in_rows (subcommand_rows (out-ArgMatches m).subcommand) (rows_of f) rows
-    ∙ ap (option_and_then (λ p. first_of (codes "solver") p.1)) same)
+plain_request : Command → Request
+plain_request command = record { command = command; workers = 1; solver = Zielonka; some = omega arith; few = omega arith }
 
--- behind a program's name and the word of a command it meets none
-pub no_solver_is_met : (words : List (List ℕ)) (name : List ℕ) (command : Command) → words ≡ name ∷ command_name command ∷ []
-    → solver_word words ≡ None
-no_solver_is_met words name command words_are = ap solver_word words_are ∙ no_solver_is_named name command
+-- so it asks for that command by one worker
+pub plain_words_ask : (words : List (List ℕ)) → AskPlainly words → AskForSomething words
+unfolding plain_request
+plain_words_ask words plain =
+    let read : IsRequestOf (Some (command_name plain.1, [])) (plain_request plain.1) = record { command = refl; workers = refl; solver = refl } in
+    let asked : AskFor (plain.0 ∷ command_name plain.1 ∷ []) (plain_request plain.1) = record {
+      faultless = no_fault plain.0 plain.1;
+      read = subst (λ found. IsRequestOf found (plain_request plain.1)) (sym (command_alone plain.0 plain.1)) read;
+    } in
+    (plain_request plain.1, subst (λ ws. AskFor ws (plain_request plain.1)) (sym plain.2) asked)
 
--- clap's want of memory is that of the words
-pub memory_alone : {T : Type 0} (r : Result T WordsError) (error : Error) → IsErrAnd r (λ e. e ≡ words_error_of (kind_of error))
-    → kind_of error ≡ OutOfMemory → IfErr r (λ e. e ≡ Memory)
-memory_alone (Ok x) error h kind = tt
-memory_alone (Err e) error h kind = h ∙ ap words_error_of kind
+-- words that ask for something are refused for want of memory alone
+pub memory_alone : {T : Type 0} (words : List (List ℕ)) (r : Result T WordsError) → (r ≡ Err Usage → HaveFault words)
+    → AskForSomething words → IfErr r (λ e. e ≡ Memory)
+memory_alone words (Ok x) faulty asked = tt
+memory_alone words (Err Memory) faulty asked = refl
+memory_alone words (Err Usage) faulty asked = absurd (faulty refl asked)
 
--- the name that clap met behind the word of a command is that word
-pub name_met : (words : List (List ℕ)) (name : List ℕ) (command : Command) → words ≡ name ∷ command_name command ∷ []
-    → (m : ArgMatches) (a : App) → a ≡ command_line → HasMatchesOf a words m → (met : List ℕ) → Some met ≡ subcommand_name_of m → met ≡ command_name command
-name_met words name command words_are m a app_is has met met_is =
-    let both = met_is ∙ meets_command a words m app_is has ∙ ap (λ ws. option_map (λ p. p.0) (subcommand_of command_line ws)) words_are
-    ∙ command_is_asked name command in
-    cc both
+-- ---- what clap reads
+
+-- what clap read of a command and its options is what stands in the words
+reads : (a : App) (words : List (List ℕ)) (m : ArgMatches) → a ≡ command_line → HasMatchesOf a words m
+    → subcommand_rows (out-ArgMatches m).subcommand ≡ subcommand_of command_line words
+reads a words m app_is has = (has (ap is_simple app_is ∙ line_is_simple)).1 ∙ ap (λ b. subcommand_of b words) app_is
+
+-- a command's name and its options are what clap read
+read_with : (found : Option (Box SubCommand)) (name : List ℕ) (rows : List Row)
+    → Some name ≡ option_map (λ b. (out-SubCommand (box_value b)).name.now) found → Some rows ≡ option_map (λ p. p.1) (subcommand_rows found)
+    → Some (name, rows) ≡ subcommand_rows found
+read_with None name rows same_name same_rows = absurd (cc same_name)
+read_with (Some b) name rows same_name same_rows =
+    let name_is : name ≡ (out-SubCommand (box_value b)).name.now = cc same_name in
+    let rows_are : rows ≡ rows_of (found_of (out-SubCommand (box_value b)).matches) = cc same_rows in
+    ap₂ (λ (n : List ℕ) (r : List Row). Some (n, r)) name_is rows_are
+
+pub met : (a : App) (words : List (List ℕ)) (m : ArgMatches) → a ≡ command_line → HasMatchesOf a words m → (name : List ℕ) (rows : List Row)
+    → Some name ≡ subcommand_name_of m → Some rows ≡ option_map (λ p. p.1) (subcommand_rows (out-ArgMatches m).subcommand)
+    → Some (name, rows) ≡ subcommand_of command_line words
+met a words m app_is has name rows same_name same_rows =
+    read_with (out-ArgMatches m).subcommand name rows same_name same_rows ∙ reads a words m app_is has
+
+-- ---- the faults that clap finds
+
+pub clap_takes : (a : App) (words : List (List ℕ)) → a ≡ command_line → (is_simple_and_free a ≡ true → fault_of a words ≡ [])
+    → fault_of command_line words ≡ []
+clap_takes a words app_is none = ap (λ b. fault_of b words) (sym app_is) ∙ none (ap is_simple_and_free app_is ∙ line_is_free)
+
+pub clap_refuses : (a : App) (words : List (List ℕ)) (error : Error) → a ≡ command_line → (is_simple_and_free a ≡ true → HasKind (fault_of a words) error)
+    → words_error_of (kind_of error) ≡ Usage → HaveFault words
+clap_refuses a words error app_is fails usage asked = elim (fails (ap is_simple_and_free app_is ∙ line_is_free)) [
+  | inl memory ↦ let wrong : Memory ≡ Usage = ap words_error_of (sym memory) ∙ usage in absurd (cc wrong)
+  | inr among ↦ subst (IsAmong (kind_of error)) (ap (λ b. fault_of b words) app_is ∙ asked.1.faultless) among
+]
+
+-- the error of the words that clap's error makes
+pub error_is : {T : Type 0} (r : Result T WordsError) (error : Error) → IsErrAnd r (λ e. e ≡ words_error_of (kind_of error)) → r ≡ Err Usage
+    → words_error_of (kind_of error) ≡ Usage
+error_is (Ok x) error made is = absurd made
+error_is (Err e) error made is = let same : e ≡ Usage = cc is in sym made ∙ same

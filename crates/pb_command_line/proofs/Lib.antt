@@ -1,2 +1,3 @@
 mod CommandLine
 mod OneWord
+mod Options

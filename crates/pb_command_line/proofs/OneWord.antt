@@ -1,17 +1,23 @@
 -- What clap makes of a program's name and one word, or none: it reads a command exactly where the word is the command's.
 use Rattle.std.proofs.Common.{◌≡◌, ◌∙◌, Bool, true, false, List, [], ◌∷◌, Option, Some, None, option_map, IfSome, refl, sym, ap, suc, length, arith}
-use Rattle.std.specs.Prelude.{⊤, find, if◌then◌else◌}
+use Rattle.std.specs.Prelude.{⊤, find, if◌then◌else◌, Result, Ok, Err, IfOk}
 use Rattle.std.specs.List.{list_all}
 use Rattle.std.specs.Str.{bytes_eq}
 use Rattle.std.proofs.lemmas.Slice.Eq.{bytes_eq-Decides}
 use Rattle.std.proofs.lemmas.Bool.{and_parts, eqb-true}
-use Rattle.clap.specs.Simple.{App, Shape, built, entered, names_of, label_of, rows_at}
+use Rattle.clap.specs.Simple.{App, Shape, built, entered, names_of, label_of, rows_at, subcommand_of}
 use Rattle.clap.specs.Walk.{Rule, Names, Text, Held, Walk, idle, Step, next, trailing, subcommand, value, Outcome, done, waits, plain, refused, answers_to, after_step, after_flag, arg_by_index, is_empty, long_or_other, nothing_held, short_or_plain, subcommand_or_other, to_positional, walk_from, walked}
 use Rattle.clap.specs.Lexer.{long_of, short_of}
 use Rattle.clap.proofs.SimpleLemmas.{label_first}
 use Rattle.clap.proofs.OnLiterals.{clap_on_literals}
 use Rattle.pb_command_line.specs.declared.command.Command.{Command}
-use Rattle.pb_command_line.specs.Words.{command_line, command_name, Asks, AskNothing}
+use Rattle.pb_command_line.specs.declared.request.Request.{Request}
+use Rattle.pb_command_line.specs.declared.words.WordsError.{WordsError}
+use Rattle.pb_command_line.specs.Words.{command_line, command_name, AskFor, AskNothing}
+
+-- clap reads this command in the words, the first of which is the program's name
+abbrev Asks : List Text → Command → Type 0
+Asks words command = option_map (λ p. p.0) (subcommand_of command_line words) ≡ Some (command_name command)
 
 -- ---- names without aliases
 
@@ -114,8 +120,13 @@ asked_by_name name word command asks =
     (sym (ap (λ x. option_map (λ p. p.0) (entered line x)) (one_word line.top.rules names word)) ∙ asks)
 
 -- words that ask for nothing ask for no command
-pub nothing_is_asked : (words : List Text) (command : Command) → AskNothing words → Asks words command → ⊥
+nothing_is_asked : (words : List Text) (command : Command) → AskNothing words → Asks words command → ⊥
 nothing_is_asked [] command nothing asks = absurd (cc asks)
 nothing_is_asked (name ∷ []) command nothing asks = absurd (cc asks)
 nothing_is_asked (name ∷ word ∷ []) command nothing asks = nothing command (sym (asked_by_name name word command asks))
 nothing_is_asked (name ∷ word ∷ other ∷ more) command nothing asks = nothing
+
+-- and are no request
+pub no_request : (words : List Text) → AskNothing words → (r : Result Request WordsError) → IfOk r (AskFor words) → IfOk r (λ request. ⊥)
+no_request words nothing (Ok request) asked = nothing_is_asked words request.command nothing asked.read.command
+no_request words nothing (Err e) asked = tt

@@ -1,15 +1,17 @@
 -- What the words of the command line ask.
-use Rattle.std.specs.Prelude.{◌≡◌, ◌≢◌, ⊤, ℕ, true, List, [], ◌∷◌, Option, Some, None, option_map, option_and_then, pos, codes}
+use Rattle.std.specs.Prelude.{◌≡◌, ◌≢◌, ⊤, ℕ, true, List, [], ◌∷◌, Option, Some, None, option_map, option_and_then, ◌<◌, ◌≤◌, codes}
+use Rattle.std.specs.Str.Parse.{IsNumeral, digits_value, without_leading_plus}
 use Rattle.clap.specs.declared.error.kind.ErrorKind.{ErrorKind}
 use Rattle.clap.specs.declared.error.kind.ErrorKind.TheVariants.{OutOfMemory}
-use Rattle.clap.specs.declared.builder.value_parser.ValueParser.TheVariants as value_parser
-use Rattle.clap.specs.Walk.{Rule, first_of}
+use Rattle.clap.specs.Faults.{fault_of}
+use Rattle.clap.specs.Walk.{Row, Rule, first_of}
 use Rattle.clap.specs.Simple.{App, Shape, new_app, new_shape, new_rule, on_top, with_subcommand, subcommand_of}
 use Rattle.pb_solver_names.specs.declared.solver.Solver.{Solver}
 use Rattle.pb_solver_names.specs.declared.solver.Solver.TheVariants.{Zielonka}
 use Rattle.pb_solver_names.specs.Names.{solver_name}
 use Rattle.pb_command_line.specs.declared.command.Command.{Command}
 use Rattle.pb_command_line.specs.declared.command.Command.TheVariants.{Solve, Game, Solution, Explain, Compile, Verify, List as ListModule, SolveCode}
+use Rattle.pb_command_line.specs.declared.request.Request.{Request}
 use Rattle.pb_command_line.specs.declared.words.WordsError.{WordsError}
 use Rattle.pb_command_line.specs.declared.words.WordsError.TheVariants.{Usage, Memory}
 
@@ -29,12 +31,9 @@ command_name Verify = codes "verify"
 command_name ListModule = codes "list"
 command_name SolveCode = codes "solve-code"
 
--- `--workers` with a whole number from 1 to 16
+-- `--workers` with any word
 abbrev pub workers_rule : Rule
-workers_rule = record (new_rule (codes "workers")) {
-  long = Some (codes "workers");
-  parser = Some (value_parser.Signed (pos 1) (pos 16));
-}
+workers_rule = record (new_rule (codes "workers")) { long = Some (codes "workers") }
 
 -- `--solver` with any word
 abbrev pub solver_rule : Rule
@@ -65,18 +64,39 @@ command_line =
     let listing = with_subcommand verify (new_shape (codes "list")) in
     with_subcommand listing (solving_shape (codes "solve-code"))
 
--- clap reads this command in the words, the first of which is the program's name
-abbrev pub Asks : List (List ℕ) → Command → Type 0
-Asks words command = option_map (λ p. p.0) (subcommand_of command_line words) ≡ Some (command_name command)
+-- the word that stands behind this option of a command, where clap read one
+abbrev pub option_word : List ℕ → Option (List ℕ × List Row) → Option (List ℕ)
+option_word name read = option_and_then (λ p. first_of name p.1) read
 
--- the word that clap reads behind `--solver` in the words, if it reads one
-abbrev pub solver_word : List (List ℕ) → Option (List ℕ)
-solver_word words = option_and_then (λ p. first_of (codes "solver") p.1) (subcommand_of command_line words)
+-- The word is a whole number from 1 to 16, in decimal digits behind a plus or none, and so many workers are asked for; where
+-- there is no word, one is.
+abbrev pub IsWorkersOf : Option (List ℕ) → ℕ → Type 0
+IsWorkersOf None workers = workers ≡ 1
+IsWorkersOf (Some word) workers =
+    IsNumeral 10 (without_leading_plus word) × (digits_value 10 (without_leading_plus word) ≡ workers) × (0 < workers) × (workers ≤ 16)
 
 -- the word is the solver's name; where there is none, Zielonka's algorithm is asked for
 abbrev pub IsChosenBy : Option (List ℕ) → Solver → Type 0
 IsChosenBy None solver = solver ≡ Zielonka
 IsChosenBy (Some word) solver = word ≡ solver_name solver
+
+-- a command and its options, as clap read them, make this request
+pub record IsRequestOf (read : Option (List ℕ × List Row)) (request : Request) : Type 0 where
+  pub command : option_map (λ p. p.0) read ≡ Some (command_name request.command)
+  pub workers : IsWorkersOf (option_word (codes "workers") read) request.workers
+  pub solver : IsChosenBy (option_word (codes "solver") read) request.solver
+
+-- the words, the first of which is the program's name, ask for this: clap finds no fault in them, and what it reads is the request
+pub record AskFor (words : List (List ℕ)) (request : Request) : Type 0 where
+  pub faultless : fault_of command_line words ≡ []
+  pub read : IsRequestOf (subcommand_of command_line words) request
+
+abbrev pub AskForSomething : List (List ℕ) → Type 0
+AskForSomething words = (request : Request) × AskFor words request
+
+-- the words have a fault: there is nothing for which they ask
+abbrev pub HaveFault : List (List ℕ) → Type 0
+HaveFault words = ¬ AskForSomething words
 
 -- behind the program's name stands one word, that of a command
 abbrev pub AskPlainly : List (List ℕ) → Type 0

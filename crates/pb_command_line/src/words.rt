@@ -1,18 +1,20 @@
 //! The words of the command line.
-ghost use Rattle.std.specs.Prelude.{◌≡◌, ◌<◌, ◌≤◌, false, map, codes, None, Ok, IfOk, IfErr};
+ghost use Rattle.std.specs.Prelude.{◌≡◌, ◌<◌, ◌≤◌, ℕ, false, map, codes, Some, Err, IfOk, IfErr};
+ghost use Rattle.std.specs.Prelude.{IfSome, IfNone};
 ghost use Rattle.clap.specs.Simple.{app_of, new_shape, with_subcommand};
 ghost use Rattle.clap.specs.Matches.{found_of, first_value};
-ghost use Rattle.clap.specs.Walk.{rule_of};
-ghost use Rattle.pb_solver_names.specs.declared.solver.Solver.TheVariants.{Zielonka};
+ghost use Rattle.clap.specs.Walk.{rule_of, rows_of};
+ghost use Rattle.pb_command_line.specs.declared.request.Request.{Request};
+ghost use Rattle.pb_solver_names.specs.declared.solver.Solver.{Solver};
 ghost use Rattle.pb_command_line.specs.Words.{command_line, exploring_shape, solving_shape};
 ghost use Rattle.pb_command_line.specs.Words.{workers_rule, solver_rule};
-ghost use Rattle.pb_command_line.specs.Words.{solver_word, Asks, AskNothing, AskPlainly};
-ghost use Rattle.pb_command_line.specs.Words.{IsChosenBy};
+ghost use Rattle.pb_command_line.specs.Words.{IsChosenBy, IsWorkersOf, IsRequestOf};
+ghost use Rattle.pb_command_line.specs.Words.{AskFor, HaveFault, AskNothing, AskPlainly};
 
 use crate::command::Command;
 use crate::request::Request;
 use clap::error::ErrorKind;
-use clap::{Arg, ArgMatches, Error, value_parser};
+use clap::{Arg, ArgMatches, Error};
 use pb_solver_names::Solver;
 use std::alloc::{AllocError, Global};
 use std::convert::AsStr;
@@ -51,31 +53,15 @@ impl From<Error> for WordsError {
     }
 }
 
-// A word that names no solver.
-#[derive(Debug, Drop)]
-struct UnknownSolver;
-
-impl From<UnknownSolver> for WordsError {
-    ghost use Rattle.pb_command_line.specs.declared.words.WordsError.TheVariants.{Usage};
-
-    ghost from_gives = { λ _ e. e ≡ Usage };
-
-    fn from(_unknown: UnknownSolver) -> WordsError {
-        WordsError::Usage
-    }
-}
-
-// The option `--workers`.
+// The option `--workers`, with any word: which words are numbers of workers is seen below.
 fn workers_option<'a>(alloc: Global) -> Arg<'a>
     ensures rule { rule_of result ≡ workers_rule }
     ensures local { result.global ≡ false }
 {
-    Arg::new(alloc, "workers")
-        .long("workers")
-        .value_parser(value_parser!(u32).range(1..=16))
+    Arg::new(alloc, "workers").long("workers")
 }
 
-// The option `--solver`.
+// The option `--solver`, with any word.
 fn solver_option<'a>(alloc: Global) -> Arg<'a>
     ensures rule { rule_of result ≡ solver_rule }
     ensures local { result.global ≡ false }
@@ -139,52 +125,85 @@ fn command_line<'a>(alloc: Global) -> Result<clap::Command<'a>, AllocError>
     Ok(line)
 }
 
-// How many workers a command is given, 1 where the words don't say. No other number than 1 to 16 is
-// read.
-fn workers_of(matches: &ArgMatches) -> u32
-    ensures { (0 < result) × (result ≤ 16) }
+// How many workers a command is given, 1 where the words don't say.
+fn workers_of(options: &ArgMatches) -> Option<u32>
+    ensures workers { IfSome result
+        (IsWorkersOf (first_value (found_of options.now) (codes "workers"))) }
+    ensures few { IfSome result (λ workers. (0 < workers) × (workers ≤ 16)) }
+    ensures none { IfNone result ((workers : ℕ)
+        → IsWorkersOf (first_value (found_of options.now) (codes "workers")) workers → ⊥) }
 {
-    matches.get_one::<u32>("workers").unwrap_or(1).clamp(1, 16)
+    let Some(word) = options.get_str("workers") else {
+        return Some(1);
+    };
+    let Ok(workers) = word.parse::<u32>() else {
+        return None;
+    };
+    if workers == 0 || 16 < workers {
+        return None;
+    }
+    Some(workers)
 }
 
 // The solver that a command is given, Zielonka's algorithm where the words don't say.
-fn solver_of(matches: &ArgMatches) -> Result<Solver, UnknownSolver>
-    ensures chosen { IfOk result (IsChosenBy (first_value (found_of matches.now)
-        (codes "solver"))) }
-    ensures unnamed { first_value (found_of matches.now) (codes "solver") ≡ None
-        → result ≡ Ok Zielonka }
+fn solver_of(options: &ArgMatches) -> Option<Solver>
+    ensures chosen { IfSome result
+        (IsChosenBy (first_value (found_of options.now) (codes "solver"))) }
+    ensures none { IfNone result ((solver : Solver)
+        → IsChosenBy (first_value (found_of options.now) (codes "solver")) solver → ⊥) }
 {
-    match matches.get_str("solver") {
-        None => Ok(Solver::Zielonka),
-        Some(word) => match Solver::named(word) {
-            Some(solver) => Ok(solver),
-            None => Err(UnknownSolver),
-        },
+    match options.get_str("solver") {
+        None => Some(Solver::Zielonka),
+        Some(word) => Solver::named(word),
     }
 }
 
-/// What the words ask, the first of them being the program's name. Which other words ask the same
-/// is as `clap` reads them.
-pub fn request_of<S: AsStr>(alloc: Global, words: &[S]) -> Result<Request, WordsError>
-    ensures command { IfOk result (λ request. Asks (map S.text words.now) request.command) }
-    ensures solver { IfOk result (λ request. IsChosenBy
-        (solver_word (map S.text words.now)) request.solver) }
-    ensures understood { AskPlainly (map S.text words.now)
-        → IfErr result (λ e. e ≡ WordsError.Memory) }
-    ensures refused { AskNothing (map S.text words.now) → IfOk result (λ request. ⊥) }
+// What a command asks with its options.
+fn request_with(name: &str, options: &ArgMatches) -> Option<Request>
+    ensures read { IfSome result
+        (IsRequestOf (Some (name.now, rows_of (found_of options.now)))) }
+    ensures none { IfNone result ((request : Request)
+        → IsRequestOf (Some (name.now, rows_of (found_of options.now))) request → ⊥) }
 {
-    let matches = command_line(alloc)?.try_get_matches_from(words)?;
-    let Some((name, found)) = matches.subcommand() else {
-        return Err(WordsError::Usage);
-    };
-    let Some(command) = Command::named(name) else {
-        return Err(WordsError::Usage);
-    };
-    let workers = workers_of(found);
-    let solver = solver_of(found)?;
-    Ok(Request {
+    let command = Command::named(name)?;
+    let workers = workers_of(options)?;
+    let solver = solver_of(options)?;
+    Some(Request {
         command,
         workers,
         solver,
     })
+}
+
+// What the words ask, by what `clap` makes of them.
+fn request_in<S: AsStr>(alloc: Global, words: &[S]) -> Result<Request, WordsError>
+    ensures asked { IfOk result (AskFor (map S.text words.now)) }
+    ensures faulty { result ≡ Err WordsError.Usage → HaveFault (map S.text words.now) }
+{
+    let matches = command_line(alloc)?.try_get_matches_from(words)?;
+    let Some((name, options)) = matches.subcommand() else {
+        return Err(WordsError::Usage);
+    };
+    match request_with(name, options) {
+        Some(request) => Ok(request),
+        None => Err(WordsError::Usage),
+    }
+}
+
+/// What the words ask, the first of them being the program's name: a command, and the number of
+/// workers and the solver that its options name.
+///
+/// # Errors
+/// `Usage` exactly where the words have a fault, unless memory is refused first: where `clap`
+/// refuses them, or an option names no such number or no solver.
+pub fn request_of<S: AsStr>(alloc: Global, words: &[S]) -> Result<Request, WordsError>
+    ensures asked { IfOk result (AskFor (map S.text words.now)) }
+    ensures faulty { result ≡ Err WordsError.Usage → HaveFault (map S.text words.now) }
+
+    // The word of each command asks for that alone; no word, or one that is none's, has a fault.
+    ensures understood { AskPlainly (map S.text words.now)
+        → IfErr result (λ e. e ≡ WordsError.Memory) }
+    ensures refused { AskNothing (map S.text words.now) → IfOk result (λ request. ⊥) }
+{
+    request_in(alloc, words)
 }

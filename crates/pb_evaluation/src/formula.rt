@@ -26,7 +26,7 @@ use std::alloc::AllocError;
 /// Recursion goes as deep as formulas nest.
 ///
 /// # Errors
-/// Memory was refused, which only quantifiers ask for.
+/// Memory was refused.
 #[cycle(formulas)]
 pub fn formula_truth<'a>(
     formula: &'a Formula,
@@ -114,7 +114,7 @@ fn quantified<'a>(
 /// its name.
 ///
 /// # Errors
-/// Memory was refused, which only quantifiers ask for.
+/// Memory was refused.
 pub fn instance_truth<'a>(
     instance: &'a Instance,
     scope: &'a Scope<'a>,

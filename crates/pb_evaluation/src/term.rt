@@ -25,7 +25,7 @@ use std::alloc::AllocError;
 /// Recursion goes as deep as terms nest.
 ///
 /// # Errors
-/// Memory was refused, which only quantifiers ask for.
+/// Memory was refused.
 #[cycle(terms)]
 pub fn value<'a>(
     term: &'a Term,

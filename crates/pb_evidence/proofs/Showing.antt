@@ -1,6 +1,6 @@
 -- What was explored is a strategy graph of whatever system the game was built of, and so a proof graph.
 use Rattle.std.proofs.Common.{◌≡◌, ◌≢◌, ℕ, ◌+◌, ◌<◌, Bool, true, false, List, [], ◌∷◌, length, get_or, map, inl, inr, refl, sym, ap, ◌∙◌, subst, arith}
-use Rattle.std.specs.Prelude.{Contains, ◌==◌, IsTrue, ◌↔◌}
+use Rattle.std.specs.Prelude.{Contains, AllPairs, ◌==◌, IsTrue, ◌↔◌}
 use Rattle.std.proofs.lemmas.Bool.{cases_Bool, false≢true, eqb-true}
 use Rattle.std.proofs.lemmas.List.{get_or-map, length-map}
 use Rattle.std.proofs.lemmas.List.Elements.{Contains-get_or}
@@ -17,8 +17,10 @@ use Rattle.pb_game_meaning.specs.Meaning.{IsGameOfRows, IsSolvedAt}
 use Rattle.pb_game_meaning.proofs.Players.{player}
 use Rattle.pb_game_meaning.proofs.Winners.{winner_is}
 use Rattle.pb_proof_graph.specs.ProofGraphs.{Graph, IsProofGraph}
+use Rattle.pb_proof_graph.specs.Supports.{RestsOnChoices}
 use Rattle.pb_proof_graph.specs.Strategies.{player_for, IsInner, IsKeptPath, IsStrategyGraph}
 use Rattle.pb_proof_graph.proofs.Strategies.{merely_prove}
+use Rattle.pb_proof_graph.proofs.Choices.{merely_choose}
 use Rattle.pb_evidence.specs.declared.exploration.Exploration.{Exploration}
 use Rattle.pb_evidence.specs.declared.Evidence.{Evidence}
 use Rattle.pb_evidence.specs.Marks.{IsMarked}
@@ -30,7 +32,7 @@ use Rattle.pb_evidence.specs.Evidence.{AreNumbers, graph_of, Shows}
 use Rattle.pb_evidence.proofs.Finding.{place_of, marked_within}
 use Rattle.pb_evidence.specs.Nearest.{IsNearestFirst}
 use Rattle.pb_evidence.proofs.Nearest.{nearest_first}
-use Rattle.pb_evidence.proofs.Rows.{row_named, IsNamed, named_of, named_contained, looked_up}
+use Rattle.pb_evidence.proofs.Rows.{row_named, IsNamed, named_of, named_contained, named_apart, looked_up}
 
 -- a path over some vertices is one over others
 pub path_as : (g : Game) (s : Solution) (P Q : ℕ → Type 0) → ((x : ℕ) → P x → Q x) → (v : ℕ) (xs : List ℕ) (u : ℕ) →
@@ -213,6 +215,19 @@ module _ (g : Game) (s : Solution) (marks : List Bool) (start : ℕ) (x : Explor
     pub proof : IsProofGraph signatures trees b graph
     proof = merely_prove g s certificate signatures trees rows game b graph strategy
 
+    pub choices : RestsOnChoices trees b graph
+    choices = merely_choose g s certificate signatures trees rows game b graph strategy
+
+    -- names of different vertices that are instances' are different
+    pub apart : (k : ℕ) → k < length names → AllPairs (λ (m p : ℕ). m ≢ p) (row e.places.items e.dependencies.items k)
+    apart k h =
+        let below : k < length vertices = (let z = size in omega arith) in
+        let list = row x.places.items x.dependencies.items k in
+        let next = explored.rows k below in
+        subst (λ (ns : List ℕ). AllPairs (λ (m p : ℕ). m ≢ p) ns) (sym (row_at k))
+        (named_apart name list (λ u. IsMarked marks u) (λ u c. (next.some u c).marked)
+        (λ u w u_marked w_marked same. sym (has u u_marked).place ∙ (ap at same ∙ (has w w_marked).place)) next.apart)
+
     pub initial : (n : ℕ) → IsReached rows n → at n ≡ start → get_or names 0 0 ≡ n
     initial n reached is = name_at 0 explored.some ∙ (ap name (explored.first ∙ sym is) ∙ numbered n reached)
 
@@ -240,6 +255,10 @@ shown g s marks numbers start x explored certificate e instances places dependen
           numbered.number numbered.marked numbered.only e.truth wins;
       each = each g s marks start x explored name e instances places dependencies signatures trees rows game certificate
           numbered.number numbered.marked numbered.only e.truth wins;
+      choices = choices g s marks start x explored name e instances places dependencies signatures trees rows game certificate
+          numbered.number numbered.marked numbered.only e.truth wins;
+      apart = apart g s marks start x explored name e instances places dependencies signatures trees rows game certificate
+          numbered.number numbered.marked numbered.only e.truth wins;
     }
 
 -- what was listed are vertices
@@ -258,6 +277,8 @@ divided g s marks start x explored name instances dependencies e d =
     let many : length dependencies ≡ length x.dependencies.items = ap length d ∙ length-map x.dependencies.items name in
     record {
       sized = explored.sized ∙ ap (λ n. n + 1) (sym size);
+      first = explored.first_place;
+      last = ap (λ n. get_or x.places.items n 0) size ∙ (explored.last ∙ sym many);
       ordered = λ k h. explored.ordered k (omega arith);
       within = λ k h. let low = explored.within (k + 1) (omega arith) in omega arith;
     }

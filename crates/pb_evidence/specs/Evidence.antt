@@ -1,7 +1,7 @@
 -- What evidence is: a proof graph for the truth value of the initial instance, which stands first
 -- in it.
 use Rattle.std.specs.Prelude.{◌≡◌, ◌≢◌, ℕ, suc, ◌<◌, ◌==◌, Bool, List, [], ◌∷◌, length, slice_index}
-use Rattle.std.specs.Prelude.{Contains, if◌then◌else◌}
+use Rattle.std.specs.Prelude.{Contains, AllPairs, if◌then◌else◌}
 use Rattle.pb_game.specs.declared.Game.{Game}
 use Rattle.pb_game.specs.Adjacency.{row}
 use Rattle.pb_trees.specs.Tree.{Tree}
@@ -10,6 +10,7 @@ use Rattle.pb_trees.specs.Game.{vertex_of}
 use Rattle.pb_trees.specs.Rows.{Row, IsReached}
 use Rattle.pb_game_meaning.specs.Meaning.{IsGameOfRows}
 use Rattle.pb_proof_graph.specs.ProofGraphs.{Graph, IsProofGraph}
+use Rattle.pb_proof_graph.specs.Supports.{RestsOnChoices}
 use Rattle.pb_evidence.specs.declared.Evidence.{Evidence}
 use Rattle.pb_evidence.specs.Marks.{IsMarked}
 use Rattle.pb_evidence.specs.Nearest.{IsNearestFirst}
@@ -33,11 +34,13 @@ graph_of e = record {
   dependencies = λ n. dependencies_from e.instances.items e.places.items e.dependencies.items 0 n;
 }
 
--- e shows the truth of the system's instance n
+-- e shows the truth of the system's instance n: by a proof graph in which each instance rests on
+-- what one choice through its tree names, each named once
 pub record Shows (signatures : List Signature) (trees : ℕ → Tree) (n : ℕ) (e : Evidence)
     : Type 0 where
   pub truth : e.truth ≡ solved signatures trees n
   pub graph : IsProofGraph signatures trees e.truth (graph_of e)
+  pub choices : RestsOnChoices trees e.truth (graph_of e)
   pub initial : Contains e.instances.items n
   pub first : slice_index e.instances.items 0 ≡ n
   pub once : (i j : ℕ) → i < j → j < length e.instances.items
@@ -46,6 +49,8 @@ pub record Shows (signatures : List Signature) (trees : ℕ → Tree) (n : ℕ) 
   pub each : (k : ℕ) → k < length e.instances.items
       → (graph_of e).dependencies (slice_index e.instances.items k)
       ≡ row e.places.items e.dependencies.items k
+  pub apart : (k : ℕ) → k < length e.instances.items
+      → AllPairs (λ (m p : ℕ). m ≢ p) (row e.places.items e.dependencies.items k)
 
 -- of whatever system the game was built, e shows the truth of the instance whose vertex is `start`
 abbrev pub IsEvidenceAt : Game → List Bool → List ℕ → ℕ → Evidence → Type 0

@@ -1,6 +1,6 @@
 -- The graph that the winner's plays from a vertex give, over the vertices of instances.
-use Rattle.std.specs.Prelude.{◌≡◌, ℕ, ◌+◌, ◌<◌, ◌≤◌, Bool, List, [], ◌∷◌, ◌++◌, length, slice_index}
-use Rattle.std.specs.Prelude.{Contains}
+use Rattle.std.specs.Prelude.{◌≡◌, ◌≢◌, ℕ, ◌+◌, ◌<◌, ◌≤◌, Bool, List, [], ◌∷◌, ◌++◌, length}
+use Rattle.std.specs.Prelude.{slice_index, Contains, AllPairs}
 use Rattle.pb_game.specs.declared.Game.{Game}
 use Rattle.pb_game.specs.Adjacency.{row}
 use Rattle.pb_game.specs.Games.{vertex_count}
@@ -17,11 +17,12 @@ pub record IsNext (g : Game) (s : Solution) (marks : List Bool) (v u : ℕ) : Ty
   pub marked : IsMarked marks u
   pub leads : LeadsTo g s marks v u
 
--- the list has the instances' vertices to which v leads next, and no others
+-- the list has the instances' vertices to which v leads next, each once, and no others
 pub record ListsNext (g : Game) (s : Solution) (marks : List Bool) (v : ℕ) (list : List ℕ)
     : Type 0 where
   pub some : (u : ℕ) → Contains list u → IsNext g s marks v u
   pub all : (u : ℕ) → IsNext g s marks v u → Contains list u
+  pub apart : AllPairs (λ (u w : ℕ). u ≢ w) list
 
 -- v was visited: its row stands behind the others, and what is in it was found
 pub record Visits (g : Game) (s : Solution) (marks : List Bool) (v : ℕ) (old new : Exploration)
@@ -39,6 +40,7 @@ pub record IsExploring (g : Game) (s : Solution) (marks : List Bool) (start k : 
   pub width : length e.reached.marks.items ≡ vertex_count g
   pub bound : k ≤ length e.reached.vertices.items
   pub sized : length e.places.items ≡ k + 1
+  pub first_place : slice_index e.places.items 0 ≡ 0
   pub last : slice_index e.places.items k ≡ length e.dependencies.items
   pub within : (j : ℕ) → j ≤ k → slice_index e.places.items j ≤ length e.dependencies.items
   pub ordered : (j : ℕ) → j < k → slice_index e.places.items j ≤ slice_index e.places.items (j + 1)

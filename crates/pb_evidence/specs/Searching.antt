@@ -9,12 +9,12 @@ use Rattle.pb_evidence.specs.declared.found.Found.{Found}
 use Rattle.pb_evidence.specs.Marks.{IsMarked}
 use Rattle.pb_evidence.specs.Finding.{IsFound}
 
--- v is a bracket's: of priority 0, and no instance's
+-- v has priority 0, and is no instance's: a bracket's, or the true sink, which leads to itself
 pub record IsOpen (g : Game) (marks : List Bool) (v : ℕ) : Type 0 where
   pub priority : priority_of g v ≡ 0
   pub unmarked : ¬ IsMarked marks v
 
--- kept edges lead from v over vertices of brackets to u
+-- kept edges lead from v over such vertices to u
 abbrev pub LeadsTo : Game → Solution → List Bool → ℕ → ℕ → Type 0
 LeadsTo g s marks v u = (over : List ℕ) × IsKeptPath g s (IsOpen g marks) v over u
 

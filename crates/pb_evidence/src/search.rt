@@ -67,7 +67,7 @@ fn is_kept(game: &Game, solution: &Solution, v: u32, u: u32) -> bool
     game.owner(v) != solution.winner(v) || solution.choice(v) == u
 }
 
-/// Whether `v` is a bracket's vertex.
+/// Whether plays go on over `v`: a bracket's vertex, or the true sink, which leads to itself alone.
 fn is_open(game: &Game, marks: &[bool], v: u32) -> bool
     requires marks { length marks.now ≡ vertex_count game.now }
     requires vertex { v < vertex_count game.now }

@@ -37,7 +37,7 @@ pub fn evidence_of(
     )?;
     let checked = Checked {
         game: &built.game,
-        solution: &solved.solution,
+        solution: solved.certified.solution(),
     };
     explain(alloc, &checked, &marks, &numbers, built.start)
 }

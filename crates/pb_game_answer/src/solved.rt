@@ -1,54 +1,57 @@
 //! Games of reached instances with their winners.
 ghost use Rattle.pb_game_certificate.specs.Certificates.{IsCertificate};
 
-use pb_game_certificate::Solution;
 use pb_game_of_trees::TreeGame;
-use pb_strategy::Checked;
+use pb_strategy::{Certified, Checked};
 
-/// A game of reached instances with a certificate of its winners.
+/// A game of reached instances with its winners, which the checker has certified.
 #[derive(Drop)]
 pub struct Solved {
     pub built: TreeGame,
-    pub solution: Solution,
-    pub ghost certificate: { ∥ IsCertificate built.game solution ∥₁ },
+    pub certified: Certified,
+    pub ghost certificate: { ∥ IsCertificate built.game certified ∥₁ },
 }
 
 impl Solved {
-    ghost use Rattle.std.specs.Prelude.{◌≡◌, ◌<◌, ℕ, List, Some, length, slice_get};
+    ghost use Rattle.std.specs.Prelude.{◌≡◌, ◌<◌, ◌↔◌, ℕ, IsTrue, List, Some, length, slice_get};
     ghost use Rattle.pb_trees.specs.Tree.{Tree};
     ghost use Rattle.pb_trees.specs.Equations.{Signature, solved};
     ghost use Rattle.pb_trees.specs.Rows.{Row, IsReached};
     ghost use Rattle.pb_game.specs.Games.{vertex_count};
+    ghost use Rattle.pb_game_certificate.specs.Solutions.{winner_of};
     ghost use Rattle.pb_game_meaning.specs.Meaning.{IsSolvedAt};
     ghost use Rattle.pb_game_of_trees.specs.TreeGame.{IsTreeGame};
 
-    /// The game with these winners, which are known to have a certificate.
-    pub fn new(built: TreeGame, solution: Solution) -> Solved
-        requires { IsCertificate built.game solution }
+    /// The game with these winners, which the checker has certified for it.
+    pub fn new(built: TreeGame, certified: Certified) -> Solved
+        requires { IsCertificate built.game certified }
         ensures built { result.built ≡ built }
-        ensures solution { result.solution ≡ solution }
+        ensures certified { result.certified ≡ certified }
     {
-        Solved { built, solution }
+        Solved { built, certified }
     }
 
     /// The truth of the instance whose vertex this is.
     fn truth_at(&self, vertex: u32) -> bool
         requires { vertex < vertex_count self.now.built.game }
-        ensures { IsSolvedAt self.now.built.game vertex result }
+        ensures winner { IsTrue result ↔ (winner_of self.now.certified vertex ≡ 0) }
+        ensures meaning { IsSolvedAt self.now.built.game vertex result }
     {
         Checked {
             game: &self.built.game,
-            solution: &self.solution,
+            solution: self.certified.solution(),
         }
         .truth(vertex)
     }
 
-    /// The truth of the initial instance.
+    /// The truth of the initial instance: whether player 0 wins its vertex.
     pub fn truth(&self) -> bool
         requires { (signatures : List Signature) × (trees : ℕ → Tree) × (reached : List Row)
             × (initial : ℕ) × IsTreeGame signatures trees reached initial self.now.built
             × IsReached reached initial }
-        ensures { (signatures : List Signature) (trees : ℕ → Tree) (reached : List Row)
+        ensures winner { IsTrue result
+            ↔ (winner_of self.now.certified self.now.built.start ≡ 0) }
+        ensures meaning { (signatures : List Signature) (trees : ℕ → Tree) (reached : List Row)
             (initial : ℕ) → IsTreeGame signatures trees reached initial self.now.built
             → IsReached reached initial → result ≡ solved signatures trees initial }
     {

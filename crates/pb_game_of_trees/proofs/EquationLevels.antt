@@ -1,7 +1,8 @@
 -- The levels of equations, from the last to the first.
-use Rattle.std.proofs.Common.{◌≡◌, ℕ, zero, suc, ◌+◌, ◌-◌, ◌<◌, ◌≤◌, List, [], ◌∷◌, ◌++◌, length, get_or, drop, map, reverse, refl, sym, ap, ◌∙◌, cond, arith}
+use Rattle.std.proofs.Common.{◌≡◌, ℕ, zero, suc, ◌+◌, ◌-◌, ◌<◌, ◌≤◌, List, [], ◌∷◌, ◌++◌, length, get_or, drop, map, reverse, refl, sym, ap, ◌∙◌, cond, slice_index, arith}
 use Rattle.std.proofs.lemmas.Grind.{reverse_onto}
 use Rattle.std.proofs.lemmas.List.{drop_more, drop_all, get_or-map, length-map}
+use Rattle.std.proofs.lemmas.Bool.{lt-ltb, le-ltb}
 use Rattle.std.specs.Prelude.{nat_lt}
 use Rattle.pb_fixpoint.specs.declared.Sign.{Sign}
 use Rattle.pb_fixpoint.specs.declared.Sign.TheVariants.{Mu, Nu}
@@ -10,7 +11,8 @@ use Rattle.pb_trees.specs.Equations.{total}
 use Rattle.pb_trees.specs.Game.{last_priority, priority_before, first_priority, priority_from}
 use Rattle.pb_game_of_trees.specs.declared.signature.Signature.{Signature}
 use Rattle.pb_game_of_trees.specs.Equations.{plain}
-use Rattle.pb_game_of_trees.specs.Levels.{levels_from, priority_in}
+use Rattle.pb_game_of_trees.specs.declared.levels.Level.{Level}
+use Rattle.pb_game_of_trees.specs.Levels.{levels_from, priority_in, ends, AreOrdered, EndBefore}
 
 total-drop : (xs : List equations.Signature) (k : ℕ) → total (drop k xs) ≤ total xs
 total-drop [] zero = omega arith
@@ -80,3 +82,40 @@ pub priority_in-levels : (first : ℕ) (xs : List equations.Signature) (n : ℕ)
 priority_in-levels first [] n = refl
 priority_in-levels first (s ∷ xs) n =
     ap (λ (p : ℕ). cond (nat_lt n (first + s.size)) (first_priority (s ∷ xs)) p) (priority_in-levels (first + s.size) xs n)
+
+-- numbers end no earlier than they begin
+ends_behind : (first : ℕ) (xs : List equations.Signature) (k : ℕ) → k < length (levels_from first xs) → first ≤ slice_index (ends (levels_from first xs)) k
+ends_behind first [] k h = absurd (omega arith)
+ends_behind first (s ∷ xs) zero h = omega arith
+ends_behind first (s ∷ xs) (suc k) h = let later = ends_behind (first + s.size) xs k (omega arith) in omega arith
+
+pub levels_ordered : (first : ℕ) (xs : List equations.Signature) → AreOrdered (levels_from first xs)
+levels_ordered first [] j k le h = absurd (omega arith)
+levels_ordered first (s ∷ xs) zero zero le h = omega arith
+levels_ordered first (s ∷ xs) zero (suc k) le h = ends_behind (first + s.size) xs k (omega arith)
+levels_ordered first (s ∷ xs) (suc j) zero le h = absurd (omega arith)
+levels_ordered first (s ∷ xs) (suc j) (suc k) le h = levels_ordered (first + s.size) xs j k (omega arith) (omega arith)
+
+abbrev pub no_level : Level
+no_level = record { end = 0; priority = 0 }
+
+-- where a level that is read ends
+pub end_at : (levels : List Level) (k : ℕ) → slice_index (ends levels) k ≡ (get_or levels k no_level).end
+end_at [] k = refl
+end_at (x ∷ xs) zero = refl
+end_at (x ∷ xs) (suc k) = end_at xs k
+
+-- the first level that ends behind a number says its priority
+pub priority_here : (levels : List Level) (k n : ℕ) → EndBefore levels k n → k < length levels → n < slice_index (ends levels) k → (get_or levels k no_level).priority ≡ priority_in levels n
+priority_here [] k n before h behind = absurd (omega arith)
+priority_here (x ∷ xs) zero n before h behind = sym (ap (λ b. cond b x.priority (priority_in xs n)) (lt-ltb n x.end behind))
+priority_here (x ∷ xs) (suc k) n before h behind =
+    priority_here xs k n (λ j l. before (suc j) (omega arith)) (omega arith) behind
+    ∙ sym (ap (λ b. cond b x.priority (priority_in xs n)) (le-ltb n x.end (before 0 (omega arith))))
+
+-- a number behind all levels
+pub priority_behind : (levels : List Level) (k n : ℕ) → EndBefore levels k n → length levels ≤ k → 0 ≡ priority_in levels n
+priority_behind [] k n before h = refl
+priority_behind (x ∷ xs) k n before h =
+    priority_behind xs (k - 1) n (λ j l. before (suc j) (omega arith)) (omega arith)
+    ∙ sym (ap (λ b. cond b x.priority (priority_in xs n)) (le-ltb n x.end (before 0 (omega arith))))

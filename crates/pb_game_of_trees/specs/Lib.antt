@@ -6,3 +6,4 @@ pub mod Levels
 pub mod Held
 pub mod Places
 pub mod TreeGame
+pub mod ErrorNumber

@@ -1,8 +1,9 @@
 //! The priorities of equations.
-ghost use Rattle.std.specs.Prelude.{◌≡◌, ◌<◌, IfOk, length, map};
+ghost use Rattle.std.specs.Prelude.{◌≡◌, ◌<◌, ◌≤◌, IfOk, length, map, slice_index};
 ghost use Rattle.pb_trees.specs.Equations.{total};
 ghost use Rattle.pb_trees.specs.Game.{last_priority, priority_before};
-ghost use Rattle.pb_game_of_trees.specs.Levels.{levels_from, priority_in};
+ghost use Rattle.pb_game_of_trees.specs.Levels.{levels_from, priority_in, ends, AreOrdered};
+ghost use Rattle.pb_game_of_trees.specs.Levels.{EndBefore};
 ghost use Rattle.pb_game_of_trees.specs.Equations.{plain};
 
 use crate::signature::Signature;
@@ -76,14 +77,52 @@ pub(crate) fn levels(alloc: Global, signatures: &[Signature]) -> Result<Vec<Leve
     Ok(levels)
 }
 
-/// The priority of the instance with this number.
-pub(crate) fn priority_at(levels: &[Level], number: u32) -> u32
-    ensures { result ≡ priority_in levels.now number }
+/// A place, at or before this one, before which each level ends at the number or before.
+fn back(levels: &[Level], from: usize, number: u32) -> usize
+    requires ordered { AreOrdered levels.now }
+    requires from { from ≤ length levels.now }
+    ensures within { result ≤ length levels.now }
+    ensures before { EndBefore levels.now result number }
 {
-    for level in levels {
-        if number < level.end {
-            return level.priority;
+    let mut place = from;
+    while place > 0 {
+        if levels[place - 1].end <= number {
+            return place;
+        }
+        place -= 1;
+    }
+    place
+}
+
+/// The place of the first level that ends behind the number, at or behind this one; the number of
+/// levels where there is none.
+fn forward(levels: &[Level], from: usize, number: u32) -> usize
+    requires from { from ≤ length levels.now }
+    requires before { EndBefore levels.now from number }
+    ensures within { result ≤ length levels.now }
+    ensures before { EndBefore levels.now result number }
+    ensures behind { result < length levels.now → number < slice_index (ends levels.now) result }
+{
+    for place in from..levels.len() {
+        if number < levels[place].end {
+            return place;
         }
     }
-    0
+    levels.len()
+}
+
+/// The priority of the instance with this number. The search begins at `place`, and leaves there
+/// where it ended, so that numbers in order pass each level once.
+pub(crate) fn priority_at(levels: &[Level], place: &mut usize, number: u32) -> u32
+    requires ordered { AreOrdered levels.now }
+    requires place { place.old ≤ length levels.now }
+    ensures place { place.new ≤ length levels.now }
+    ensures priority { result ≡ priority_in levels.now number }
+{
+    *place = forward(levels, back(levels, *place, number), number);
+    if *place < levels.len() {
+        levels[*place].priority
+    } else {
+        0
+    }
 }

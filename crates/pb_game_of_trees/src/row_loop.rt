@@ -4,7 +4,7 @@ ghost use Rattle.pb_trees.specs.Rows.{Row as plain_row};
 ghost use Rattle.pb_trees.specs.Game.{row_vertices, false_sink, true_sink};
 ghost use Rattle.pb_game_of_trees.specs.Held.{Hold};
 ghost use Rattle.pb_game_of_trees.specs.Draft.{IsDraft};
-ghost use Rattle.pb_game_of_trees.specs.Levels.{priority_in};
+ghost use Rattle.pb_game_of_trees.specs.Levels.{priority_in, AreOrdered};
 ghost use Rattle.pb_game_of_trees.specs.Places.{vertex_behind, CallBelow};
 
 use crate::builder::Builder;
@@ -22,6 +22,7 @@ pub(crate) fn draft_of(
     vertices: &[u32],
     size: Size,
 ) -> Result<Draft, AllocError>
+    requires levels { AreOrdered levels.now }
     requires small { size.vertices ≤ 16777216 }
     requires rows { (plain : List plain_row) × Hold rows.now plain
         × (size.vertices ≡ vertex_behind plain 2) × CallBelow (length vertices.now) plain }
@@ -35,15 +36,13 @@ pub(crate) fn draft_of(
         targets: Vec::new(alloc),
         starts: Vec::new(alloc),
     };
+    let mut level = levels.len();
     let mut k = rows.len();
     while k > 0 {
         builder.make_room(rows, k)?;
         k -= 1;
-        builder.put_tree(
-            vertices,
-            rows.tokens(k),
-            priority_at(levels, rows.number(k)),
-        )?;
+        let priority = priority_at(levels, &mut level, rows.number(k));
+        builder.put_tree(vertices, rows.tokens(k), priority)?;
     }
     let Builder {
         mut draft,

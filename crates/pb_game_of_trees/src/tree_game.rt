@@ -11,15 +11,15 @@ use crate::size::{Size, size_of};
 use pb_game::Game;
 use pb_rows::IndexedRows;
 use std::alloc::{AllocError, Global};
+use std::fmt;
 use thiserror::Error;
 
-/// Why no game was built.
+/// Why no game was built. Each error shows as its number.
 #[derive(Debug, Drop, Error)]
 pub enum BuildError {
-    #[error("no memory")]
+    /// `M01`: memory was refused.
     Memory(AllocError),
     /// `G01`: the game would have more than 2^24 vertices.
-    #[error("G01")]
     TooManyVertices,
 }
 
@@ -28,6 +28,20 @@ impl From<AllocError> for BuildError {
 
     fn from(error: AllocError) -> Self {
         BuildError::Memory(error)
+    }
+}
+
+impl fmt::Display for BuildError {
+    ghost use Rattle.std.specs.Prelude.{Some};
+    ghost use Rattle.pb_game_of_trees.specs.ErrorNumber.{error_number};
+
+    ghost output = { λ error. Some (error_number error) };
+
+    fn fmt<W: fmt::Write>(&self, f: &mut fmt::Formatter<W>) -> fmt::Result {
+        match self {
+            BuildError::Memory(_) => f.write_str("M01"),
+            BuildError::TooManyVertices => f.write_str("G01"),
+        }
     }
 }
 

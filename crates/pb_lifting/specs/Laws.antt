@@ -1,10 +1,13 @@
 -- What the laws say.
-use Rattle.std.specs.Prelude.{◌↔◌, ℕ, ◌<◌, ◌≤◌, List, slice_index}
+use Rattle.std.specs.Prelude.{◌≡◌, ◌↔◌, ℕ, ◌<◌, ◌≤◌, List, slice_index}
 use Rattle.pb_game.specs.declared.Game.{Game}
 use Rattle.pb_game.specs.Games.{vertex_count, priority_of, priority_count}
 use Rattle.pb_game_certificate.specs.Certificates.{IsProgress}
 use Rattle.pb_lifting.specs.Measures.{top_of, counts_of, asked, least_rank, IsMeasure, IsFixed}
 use Rattle.pb_lifting.specs.Measures.{IsLeastMeasure}
+use Rattle.pb_lifting.specs.declared.view.Key.{Key}
+use Rattle.pb_lifting.specs.declared.view.View.{View}
+use Rattle.pb_lifting.specs.Rule.{At, known_of, IsKept}
 use Rattle.pb_lifting.specs.Sweep.{AreWords}
 
 -- an edge from v makes progress exactly where v's rank is at least what the edge asks for
@@ -24,3 +27,9 @@ RaisesStayWithin = (g : Game) (player : ℕ) (known m : List ℕ) → IsMeasure 
 abbrev pub FixedWordsAreLeast : Type 0
 FixedWordsAreLeast = (g : Game) (player : ℕ) (words : List ℕ) → AreWords g player words →
     IsFixed g player words → IsLeastMeasure g player words
+
+-- a word of which no view knows more than 0 is 0
+abbrev pub UnknownWordsAreZero : Type 0
+UnknownWordsAreZero = (key : Key) (words : List ℕ) (views : List View) → IsKept key words views
+    → ((id : ℕ) (v : View) → At views id v → (n : ℕ) → known_of v n ≡ 0)
+    → (n : ℕ) → slice_index words n ≡ 0

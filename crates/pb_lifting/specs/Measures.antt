@@ -80,6 +80,10 @@ abbrev pub IsBelowAll : Game → ℕ → List ℕ → Type 0
 IsBelowAll g player words =
     (m : List ℕ) → IsMeasure g player m → (v : ℕ) → slice_index words v ≤ slice_index m v
 
+-- a word of v is at most v's rank in every measure
+abbrev pub IsWithinAll : Game → ℕ → ℕ → ℕ → Type 0
+IsWithinAll g player v word = (m : List ℕ) → IsMeasure g player m → word ≤ slice_index m v
+
 -- no lift raises a word
 abbrev pub IsFixed : Game → ℕ → List ℕ → Type 0
 IsFixed g player words =

@@ -1,20 +1,24 @@
 -- What contracts say of a table and its seats.
-use Rattle.std.specs.Prelude.{◌≡◌, ℕ, ◌≤◌, List, Some, slice_get, slice_index, Result, Ok, Err}
+use Rattle.std.specs.Prelude.{◌≡◌, ℕ, ◌+◌, ◌≤◌, List, length, Option, Some, slice_get, slice_index}
+use Rattle.atomic_table.specs.Seated.{TableId}
 use Rattle.pb_game.specs.declared.Game.{Game}
-use Rattle.pb_game.specs.Games.{vertex_count}
+use Rattle.pb_game.specs.Games.{successors_of}
+use Rattle.pb_lifting.specs.declared.view.Key.{Key}
 use Rattle.pb_lifting.specs.declared.view.View.{View}
 use Rattle.pb_lifting.specs.declared.ranks.Ranks.{Ranks}
 use Rattle.pb_lifting.specs.declared.ranks.LiftSeat.{LiftSeat}
-use Rattle.pb_lifting.specs.declared.ranks.LiftError.{LiftError}
-use Rattle.pb_lifting.specs.declared.ranks.LiftError.TheVariants.{TooManyRanks, Memory}
 use Rattle.pb_lifting.specs.Measures.{least_rank}
 use Rattle.pb_lifting.specs.Rule.{known_of, first_view}
 
 abbrev pub view_of : LiftSeat → View
 view_of s = s.inner.me.0
 
+-- what the table was told when it was made
+abbrev pub key_at : Ranks → Key
+key_at t = t.inner.shared.key
+
 abbrev pub game_at : Ranks → Game
-game_at t = t.inner.shared.key.game.value
+game_at t = (key_at t).game.value
 
 abbrev pub player_at : Ranks → ℕ
 player_at t = t.player
@@ -35,12 +39,24 @@ known_by s n = known_of (view_of s) n
 abbrev pub IsBelow : LiftSeat → List ℕ → Type 0
 IsBelow s words = (n : ℕ) → known_by s n ≤ slice_index words n
 
+-- the table that made the seat, and what that was told
+abbrev pub origin_of : LiftSeat → TableId × Option Key
+origin_of s = (s.inner.table_id, (view_of s).key)
+
 -- the seat was made by this table
 abbrev pub IsSeatOf : Ranks → LiftSeat → Type 0
-IsSeatOf t s = s.inner.table_id ≡ t.inner.shared.table_id
+IsSeatOf t s = origin_of s ≡ (t.inner.shared.table_id, Some (key_at t))
 
 abbrev pub IsSameSeat : LiftSeat → LiftSeat → Type 0
-IsSameSeat old new = new.inner.table_id ≡ old.inner.table_id
+IsSameSeat old new = origin_of new ≡ origin_of old
+
+-- how many word steps the seat made
+abbrev pub steps_of : LiftSeat → ℕ
+steps_of s = (view_of s).steps
+
+-- how many a lift of v makes: a read of each successor's word, and one raise
+abbrev pub lift_steps : Game → ℕ → ℕ
+lift_steps g v = length (successors_of g v) + 1
 
 -- the vertex of the seat's last step
 abbrev pub step_vertex : LiftSeat → ℕ
@@ -56,17 +72,8 @@ AreSeatsOf t seats = (k : ℕ) (s : LiftSeat) → slice_get seats k ≡ Some s �
 -- each seat knows of no word more than 0
 abbrev pub AreFresh : Ranks → List LiftSeat → Type 0
 AreFresh t seats = (k : ℕ) (s : LiftSeat) → slice_get seats k ≡ Some s →
-    view_of s ≡ first_view (vertex_count (game_at t))
+    view_of s ≡ first_view (key_at t)
 
 -- no word is below what some seat knows
 abbrev pub AreBelow : List LiftSeat → List ℕ → Type 0
 AreBelow seats words = (k : ℕ) (s : LiftSeat) → slice_get seats k ≡ Some s → IsBelow s words
-
--- the answer is that the ranks are more than a word has
-abbrev pub IsTooManyError : LiftError → Type 0
-IsTooManyError TooManyRanks = Unit {0}
-IsTooManyError Memory = ⊥
-
-abbrev pub IsTooMany : {A : Type 0} → Result A LiftError → Type 0
-IsTooMany (Ok x) = ⊥
-IsTooMany (Err e) = IsTooManyError e

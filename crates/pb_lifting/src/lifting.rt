@@ -2,12 +2,14 @@
 
 ghost use Rattle.std.specs.Prelude.{◌≡◌, ◌<◌, ◌↔◌, IfOk, vec_len};
 ghost use Rattle.pb_lifting.specs.Measures.{top_of, SomeHasTooManyRanks, IsLeastMeasure};
-ghost use Rattle.pb_lifting.specs.Seats.{game_at, IsSeatOf, IsSameSeat, AreSeatsOf, IsTooMany};
+ghost use Rattle.pb_lifting.specs.Seats.{game_at, IsSeatOf, IsSameSeat, AreSeatsOf};
+ghost use Rattle.pb_lifting.specs.Errors.{IsTooMany};
 ghost use Rattle.pb_lifting.specs.Solutions.{AreMeasured, IsLiftedSolution};
 ghost use Rattle.pb_lifting.specs.Jobs.{AreJobs};
 
+use crate::lift_error::LiftError;
 use crate::measured::Measured;
-use crate::ranks::{LiftError, LiftSeat, Ranks};
+use crate::ranks::{LiftSeat, Ranks};
 use crate::scale::{Scale, top_rank};
 use crate::solution::solution_of;
 use crate::sweep::sweep;
@@ -44,10 +46,7 @@ pub fn lift<G: Gate + Sync, R: Threads + Sync>(
     let Some(_top) = top_rank(game, 1) else {
         return Err(LiftError::TooManyRanks);
     };
-    match lift_both(rt, alloc, game, workers, gate) {
-        Ok(solution) => Ok(solution),
-        Err(AllocError) => Err(LiftError::Memory),
-    }
+    Ok(lift_both(rt, alloc, game, workers, gate)?)
 }
 
 /// The same where the ranks of both players fit a word.

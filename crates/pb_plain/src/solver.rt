@@ -24,7 +24,7 @@ use pb_evaluation::{Scope, instance_truth};
 use pb_fixpoint::Sign;
 use pb_sorts::Layout;
 use pb_text_tree::Spec;
-use pb_typing_declarations::Declarations;
+use pb_typing_declarations::{Declarations, TypeError};
 use std::alloc::{AllocError, Global};
 
 /// Brings an environment to the solution of the equations from `first` on under it.
@@ -185,8 +185,9 @@ pub(crate) fn solve_spec(alloc: Global, spec: &Spec, layout: &Layout) -> Result<
 {
     match Declarations::read(alloc, spec) {
         Ok(declarations) => solve_system(alloc, spec, &declarations, layout),
-        // Nothing that is declared is at fault, so memory was refused.
-        Err(_) => Err(AllocError),
+        Err(TypeError::Memory) => Err(AllocError),
+        // Nothing that is declared is at fault.
+        Err(TypeError::At(_)) => unreachable!(),
     }
 }
 

@@ -12,13 +12,14 @@ use Rattle.pb_trees.specs.Game.{vertex_of}
 use Rattle.pb_trees.specs.Rows.{Row, IsReached}
 use Rattle.pb_game_meaning.specs.Meaning.{IsGameOfRows}
 use Rattle.pb_proof_graph.specs.ProofGraphs.{Graph, RestsOn, IsProofGraph}
+use Rattle.pb_proof_graph.specs.Supports.{RestsOnChoices}
 
 -- the player who wants b: player 0 wants true, and player 1 false
 abbrev pub player_for : Bool → ℕ
 player_for true = 0
 player_for false = 1
 
--- v is a bracket's: it has priority 0, and is no instance's
+-- v has priority 0, and is no instance's: a bracket's, or the true sink, which leads to itself
 pub record IsInner (g : Game) (rows : List Row) (v : ℕ) : Type 0 where
   pub priority : priority_of g v ≡ 0
   pub bracket : (n : ℕ) → IsReached rows n → vertex_of rows n ≢ v
@@ -51,3 +52,12 @@ StrategiesProve =
     IsGameOfRows signatures trees rows g →
     (b : Bool) (graph : Graph) → IsStrategyGraph g s rows (player_for b) graph
     → IsProofGraph signatures trees b graph
+
+-- and in it each instance rests on what one choice through its tree names: the winner's strategy
+abbrev pub StrategiesChoose : Type 0
+StrategiesChoose =
+    (g : Game) (s : Solution) → IsCertificate g s →
+    (signatures : List Signature) (trees : ℕ → Tree) (rows : List Row) →
+    IsGameOfRows signatures trees rows g →
+    (b : Bool) (graph : Graph) → IsStrategyGraph g s rows (player_for b) graph
+    → RestsOnChoices trees b graph

@@ -1,7 +1,8 @@
 //! Answers of modules, where nothing else is asked for.
 ghost use Rattle.std.specs.Prelude.{◌≡◌, IfOk, Err};
 ghost use Rattle.pb_game_of_trees.specs.declared.tree_game.BuildError.TheVariants.{TooManyVertices};
-ghost use Rattle.pb_solution.specs.Answers.{IsAnswerOf, IsTooLarge};
+ghost use Rattle.pb_solver_names.specs.declared.solver.Solver.TheVariants.{Lift};
+ghost use Rattle.pb_solution.specs.Answers.{IsAnswerOf, IsLiftedAnswer, IsTooLarge};
 
 use crate::built_module::{BuiltModule, build_module, solve_game};
 use crate::options::SolveOptions;
@@ -29,6 +30,7 @@ pub fn answer_module<R: Threads + Sync, G: Gate + Sync>(
     gate: &G,
 ) -> Result<Answer, BuildError>
     ensures answer { IfOk result (IsAnswerOf verified.now) }
+    ensures lifted { options.solver ≡ Lift → IfOk result (IsLiftedAnswer verified.now) }
     ensures too_many { result ≡ Err TooManyVertices → IsTooLarge verified.now }
 {
     instances_have_trees(verified);

@@ -1,11 +1,12 @@
-//! Modules whose game is built: what is solved, whether its rows are kept behind it or not.
-ghost use Rattle.std.specs.Prelude.{◌≡◌, ◌<◌, ◌≤◌, IfOk, Err};
-ghost use Rattle.pb_exploration.specs.Rows.{AreExplored};
-ghost use Rattle.pb_game_answer.specs.Explored.{IsModuleGame};
+//! Modules whose game is built: what is solved, whether its rows are kept behind it or not, and what
+//! can be written of it before anybody solves it.
+ghost use Rattle.std.specs.Prelude.{◌≡◌, ◌<◌, ◌≤◌, IfOk, IfErr, Err};
 ghost use Rattle.pb_game_of_trees.specs.declared.tree_game.BuildError.TheVariants.{TooManyVertices};
 ghost use Rattle.pb_game_solver.specs.Lifting.{IsLiftedOrNone};
+ghost use Rattle.pb_report_texts.specs.Sending.{IsOutOfMemory};
 ghost use Rattle.pb_solver_names.specs.declared.solver.Solver.TheVariants.{Lift};
-ghost use Rattle.pb_solution.specs.Answers.{IsTooLarge};
+ghost use Rattle.pb_solution.specs.Answers.{IsBuiltModule, IsTooLarge};
+ghost use Rattle.pb_solution.specs.Texts.{ForGameText, Sends};
 
 use crate::options::SolveOptions;
 use pb_exploration::{Explored, Gate, explore};
@@ -13,19 +14,26 @@ use pb_game_answer::{Solved, build};
 use pb_game_of_trees::{BuildError, TreeGame};
 use pb_game_solver::solve;
 use pb_machine::instances_have_trees;
+use pb_report_texts::WriteError;
+use pb_report_texts::game_text::game_text;
+use pb_sorts::Sink;
 use pb_verifier::Verified;
 use std::alloc::{AllocError, Global};
 use std::thread::Threads;
 
 /// The reached instances of a module, with their game.
 #[derive(Drop)]
-pub(crate) struct BuiltModule {
+pub struct BuiltModule {
     pub explored: Explored,
     pub built: TreeGame,
 }
 
-/// Explores the reached instances of a module, and builds their game.
-pub(crate) fn build_module<R: Threads + Sync, G: Gate + Sync>(
+/// Explores the reached instances of a verified module, by so many workers, and builds their game.
+/// The gate sees each attempt of a worker to take an instance. Nothing is solved.
+///
+/// # Errors
+/// `TooManyVertices` where the game would have more than 2^24 vertices; else `Memory`.
+pub fn build_module<R: Threads + Sync, G: Gate + Sync>(
     rt: &R,
     alloc: Global,
     verified: &Verified,
@@ -33,8 +41,7 @@ pub(crate) fn build_module<R: Threads + Sync, G: Gate + Sync>(
     gate: &G,
 ) -> Result<BuiltModule, BuildError>
     requires { (0 < workers) × (workers ≤ 16) }
-    ensures explored { IfOk result (λ b. AreExplored verified.now b.explored) }
-    ensures game { IfOk result (λ b. IsModuleGame verified.now b.explored b.built) }
+    ensures built { IfOk result (IsBuiltModule verified.now) }
     ensures too_many { result ≡ Err TooManyVertices → IsTooLarge verified.now }
 {
     instances_have_trees(verified);
@@ -45,7 +52,29 @@ pub(crate) fn build_module<R: Threads + Sync, G: Gate + Sync>(
     }
 }
 
-/// Solves a game by the solver that is asked for.
+impl BuiltModule {
+    /// Appends the game of the reached instances, in the form that PGSolver reads.
+    ///
+    /// # Errors
+    /// `Memory` before the first byte. After `Failed` a part that begins the text, and not the
+    /// whole of it, went out.
+    pub fn write_game<S: Sink>(
+        &self,
+        alloc: Global,
+        verified: &Verified,
+        sink: &mut S,
+    ) -> Result<(), WriteError>
+        requires { IsBuiltModule verified.now self.now }
+        ensures text { Sends (ForGameText verified.now) result (S.taken sink.old) (S.taken sink.new)
+            (S.has_failed sink.old) (S.has_failed sink.new) }
+        ensures silent { IfErr result (λ e. IsOutOfMemory e → sink.new ≡ sink.old) }
+    {
+        instances_have_trees(verified);
+        game_text(alloc, verified, &self.built, self.explored.rows(), sink)
+    }
+}
+
+/// Solves a game by the solver that is asked for. The checker has certified the winners.
 pub(crate) fn solve_game<R: Threads + Sync, G: Gate + Sync>(
     rt: &R,
     alloc: Global,
@@ -55,9 +84,9 @@ pub(crate) fn solve_game<R: Threads + Sync, G: Gate + Sync>(
 ) -> Result<Solved, AllocError>
     ensures built { IfOk result (λ s. s.built ≡ built) }
     ensures lifted { options.solver ≡ Lift → IfOk result
-        (λ s. IsLiftedOrNone s.built.game s.solution) }
+        (λ s. IsLiftedOrNone s.built.game s.certified) }
 {
-    let solution = solve(
+    let certified = solve(
         rt,
         alloc,
         &built.game,
@@ -65,5 +94,5 @@ pub(crate) fn solve_game<R: Threads + Sync, G: Gate + Sync>(
         options.workers,
         gate,
     )?;
-    Ok(Solved::new(built, solution))
+    Ok(Solved::new(built, certified))
 }

@@ -4,10 +4,11 @@
 #![tactic(auto)]
 
 mod answer;
-mod built_module;
+pub mod built_module;
 pub mod options;
 pub mod solved_module;
 
 pub use answer::answer_module;
+pub use built_module::{BuiltModule, build_module};
 pub use options::SolveOptions;
 pub use solved_module::{SolvedModule, solve_module};

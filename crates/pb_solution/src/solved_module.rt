@@ -6,7 +6,7 @@ ghost use Rattle.pb_report_texts.specs.Sending.{IsOutOfMemory};
 ghost use Rattle.pb_solver_names.specs.declared.solver.Solver.TheVariants.{Lift};
 ghost use Rattle.pb_solution.specs.Answers.{IsSolutionOf, IsTooLarge};
 ghost use Rattle.pb_evidence_texts.specs.ModuleEvidence.{ForEvidenceText};
-ghost use Rattle.pb_solution.specs.Texts.{ForGameText, ForSolutionText, Sends};
+ghost use Rattle.pb_solution.specs.Texts.{ForSolutionText, Sends};
 
 use crate::built_module::{BuiltModule, build_module, solve_game};
 use crate::options::SolveOptions;
@@ -17,7 +17,6 @@ use pb_game_answer::Solved;
 use pb_game_of_trees::BuildError;
 use pb_machine::instances_have_trees;
 use pb_report_texts::WriteError;
-use pb_report_texts::game_text::game_text;
 use pb_report_texts::solution_text::solution_text;
 use pb_sorts::Sink;
 use pb_verifier::Verified;
@@ -46,7 +45,7 @@ pub fn solve_module<R: Threads + Sync, G: Gate + Sync>(
 ) -> Result<SolvedModule, BuildError>
     ensures solved { IfOk result (IsSolutionOf verified.now) }
     ensures lifted { options.solver ≡ Lift → IfOk result
-        (λ s. IsLiftedOrNone s.solved.built.game s.solved.solution) }
+        (λ s. IsLiftedOrNone s.solved.built.game s.solved.certified) }
     ensures too_many { result ≡ Err TooManyVertices → IsTooLarge verified.now }
 {
     match build_module(rt, alloc, verified, options.workers, gate) {
@@ -59,36 +58,10 @@ pub fn solve_module<R: Threads + Sync, G: Gate + Sync>(
 }
 
 impl SolvedModule {
-    /// Appends the game of the reached instances, in the form that PGSolver reads.
-    ///
-    /// # Errors
-    /// `Memory` before the first byte. After `Failed` a part that begins the text, and not the
-    /// whole of it, went out.
-    pub fn write_game<S: Sink>(
-        &self,
-        alloc: Global,
-        verified: &Verified,
-        sink: &mut S,
-    ) -> Result<(), WriteError>
-        requires { IsSolutionOf verified.now self.now }
-        ensures text { Sends (ForGameText verified.now) result (S.taken sink.old) (S.taken sink.new)
-            (S.has_failed sink.old) (S.has_failed sink.new) }
-        ensures silent { IfErr result (λ e. IsOutOfMemory e → sink.new ≡ sink.old) }
-    {
-        instances_have_trees(verified);
-        game_text(
-            alloc,
-            verified,
-            &self.solved.built,
-            self.explored.rows(),
-            sink,
-        )
-    }
-
     /// Appends the truth of each reached instance: a line for each, by rising number.
     ///
     /// # Errors
-    /// As with `write_game`.
+    /// As with `BuiltModule::write_game`.
     pub fn write_solution<S: Sink>(
         &self,
         alloc: Global,
@@ -109,7 +82,7 @@ impl SolvedModule {
     /// nearest before others.
     ///
     /// # Errors
-    /// As with `write_game`.
+    /// As with `BuiltModule::write_game`.
     pub fn write_evidence<S: Sink>(
         &self,
         alloc: Global,

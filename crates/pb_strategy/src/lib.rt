@@ -12,8 +12,10 @@ ghost use Rattle.pb_game_certificate.specs.Solutions.{winner_of, HasLengths};
 ghost use Rattle.pb_game_certificate.specs.Certificates.{IsCertificate};
 ghost use Rattle.pb_game_certificate.specs.Flaws.{IsFirstFlaw};
 
+mod certified;
 mod edges;
 
+pub use certified::{Certified, certify};
 use edges::flaw_at;
 use pb_game::Game;
 use pb_game_certificate::{CertificateRule, Flaw, Solution};

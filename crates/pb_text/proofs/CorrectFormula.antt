@@ -14,8 +14,8 @@ use Rattle.pb_text_lexer.proofs.TokenLemmas.{kind-same, same-kind}
 use Rattle.pb_text_lexer.proofs.Correct.{st, Family, Stops, never, readable-is, readable-one, some-token, Answers, Answering, Correct, then-correct, pure-correct, HeadIs, take-correct, expect-correct, refused-here, unlike, Free, Readable, goes-free, readable-free, free-to, free-then, free-one}
 use Rattle.pb_text_lexer.proofs.CorrectFamilies.{readable-first, readable-deeper, Nowhere, first-correct, deeper, deeper-correct, alike-correct}
 use Rattle.pb_text_lexer.proofs.CorrectSeries.{going, Passes, head-at}
-use Rattle.pb_text_lexer.proofs.CorrectPlain.{Always, anywhere, then-plain, is-correct, leaf-correct, nothing-correct}
-use Rattle.pb_text_lexer.proofs.CorrectLeft.{unless_next-correct}
+use Rattle.pb_text_lexer.proofs.CorrectPlain.{Always, anywhere, then-plain, then-behind, is-correct, leaf-correct, nothing-correct}
+use Rattle.pb_text_lexer.proofs.CorrectLeft.{unless_next-answers, unless_next-correct}
 use Rattle.pb_text_lexer.proofs.CorrectEither.{Not, connects, IsBelow, connected-correct}
 use Rattle.pb_text_lexer.specs.OpenGrammar.{last, Connected}
 use Rattle.pb_text_terms.specs.Grammar.{Instance, IsTerm, Quantified, QuantifiedBy}
@@ -166,12 +166,9 @@ readable-term-in : (word : Tok) → Readable (in_brackets word) 1
 readable-term-in word = readable-free (in_brackets word) 1 (some-token k.Open ∷ []) (free-term word (some-token k.Open) refl)
 
 -- no bracket may open
-opening-last : (word : Tok) (q : Tok → Step FormulaForm) → Correct Always (step.◌>>=◌ (opening (refuse Limit)) q) (in_brackets word) never 0
+opening-last : (word : Tok) (q : Tok → Step FormulaForm) → Answering Always (step.◌>>=◌ (opening (refuse Limit)) q) (in_brackets word) never 0
 unfolding opening
-opening-last word q = record {
-  answers = λ s end u. go s.tokens s.operators end;
-  some = readable-term-in word;
-}
+opening-last word q s ended u = go s.tokens s.operators ended
   where
     differs : (t u : Tok) (tail : List Tok) (n : ℕ) (m : State) → u.kind ≡ t.kind → is_open t.kind ≡ false → (y : Tok) → One k.Open (st (u ∷ tail) n) y m → ⊥
     differs t u tail n m head other y r =
@@ -190,10 +187,13 @@ opening-last word q = record {
     go [] n e = cc
     go (t ∷ ts) n e = at t ts n (is_open t.kind) refl e
 
-valued-last : Correct (HeadIs k.Val) (begun (refuse Limit) (refuse Limit) (refuse Limit) (refuse Limit) (expressions.instance 0) k.Val) (λ d. kinds d k.Val) node_goes 0
+valued-last : Answering (HeadIs k.Val) (begun (refuse Limit) (refuse Limit) (refuse Limit) (refuse Limit) (expressions.instance 0) k.Val) (λ d. kinds d k.Val) node_goes 0
 valued-last =
-    closed-correct (HeadIs k.Val) _ (λ d. kinds d k.Val) 0
-    (then-plain (λ d. One k.Val) in_brackets never 0 (HeadIs k.Val) take_token _ (take-correct k.Val 0 refl)
+    unless_next-answers (λ d. kinds d k.Val) never is_open 0 (HeadIs k.Val)
+    (step.◌>>=◌ take_token (λ word. step.◌>>=◌ (opening (refuse Limit)) (λ open_bracket. step.◌>>=◌ (refuse Limit) (λ x. step.◌>>=◌ (expect k.Close) (λ close_bracket. pure (FormulaForm.val word.place x))))))
+    (then-behind k.Val in_brackets never 0
+    (λ word. step.◌>>=◌ (opening (refuse Limit)) (λ open_bracket. step.◌>>=◌ (refuse Limit) (λ x. step.◌>>=◌ (expect k.Close) (λ close_bracket. pure (FormulaForm.val word.place x)))))
+    refl refl
     (λ word. opening-last word (λ open_bracket. step.◌>>=◌ (refuse Limit) (λ x. step.◌>>=◌ (expect k.Close) (λ close_bracket. pure (FormulaForm.val word.place x))))))
 
 at-last : (kind : Kind) → Answering (HeadIs kind) (begun (refuse Limit) (refuse Limit) (refuse Limit) (refuse Limit) (expressions.instance 0) kind) (λ d. kinds d kind) node_goes 0 ⊎ Nowhere (begun (refuse Limit) (refuse Limit) (refuse Limit) (refuse Limit) (expressions.instance 0) kind) (λ d. kinds d kind)
@@ -203,7 +203,7 @@ at-last k.Open = inl (λ s end h. refused-here (λ d. kinds d k.Open) node_goes 
     (λ t is. goes-free (λ d. kinds d k.Open) 1 (suc s.operators) (t ∷ []) (free-bracket t (is ∙ head-kind-is k.Open s.tokens h))))
 at-last k.True = inl (leaf k.True (λ t. FormulaForm.constant t.place true) 0 refl).answers
 at-last k.False = inl (leaf k.False (λ t. FormulaForm.constant t.place false) 0 refl).answers
-at-last k.Val = inl valued-last.answers
+at-last k.Val = inl valued-last
 at-last k.Name = inl (instances 0).answers
 at-last kind = inr nothing-correct
 
@@ -275,14 +275,15 @@ node-last : Correct Always (node 0) IsNode node_goes 0
 unfolding node
 node-last =
     alike-correct Always (node 0) (λ d. First (kinds d)) IsNode node_goes 0 to-node from-node
-    (first-correct kinds node_goes 0 (λ d kind. starts (deeper IsNode d) (deeper IsFormula d) (deeper IsTerm d) kind) (begun (refuse Limit) (refuse Limit) (refuse Limit) (refuse Limit) (expressions.instance 0)) at-last k.True (readable-true 1))
+    (first-correct kinds node_goes 0 (λ d kind. starts (deeper IsNode d) (deeper IsFormula d) (deeper IsTerm d) kind) (begun (refuse Limit) (refuse Limit) (refuse Limit) (refuse Limit) (expressions.instance 0)) at-last k.True (readable-true 0) (readable-true 1))
 
 node-over : (depth : ℕ) → Correct Always (node depth) IsNode node_goes depth → Correct Always (formula depth) IsFormula formula_goes depth → Correct Always (node (suc depth)) IsNode node_goes (suc depth)
 unfolding node
 node-over depth n f =
     alike-correct Always (node (suc depth)) (λ d. First (kinds d)) IsNode node_goes (suc depth) to-node from-node
     (first-correct kinds node_goes (suc depth) (λ d kind. starts (deeper IsNode d) (deeper IsFormula d) (deeper IsTerm d) kind)
-    (begun take_token (node depth) (formula depth) (data_term depth) (expressions.instance (suc depth))) (at-each depth n f) k.True (readable-true (suc (suc depth))))
+    (begun take_token (node depth) (formula depth) (data_term depth) (expressions.instance (suc depth))) (at-each depth n f) k.True
+    (readable-true (suc depth)) (readable-true (suc (suc depth))))
 
 -- ---- the connectives
 
@@ -332,7 +333,7 @@ pub record AreCorrect (depth : ℕ) : Type 0 where
 
 formulas-last : Correct Always (formula 0) IsFormula formula_goes 0
 unfolding node formula
-formulas-last = connections-correct 0 (node 0) (expressions.quantified FormulaForm.quantified (refuse Limit) (refuse Limit)) node-last (quantified-last FormulaForm.quantified IsFormula formula_goes (readable-formula 0) (refuse Limit)).answers
+formulas-last = connections-correct 0 (node 0) (expressions.quantified FormulaForm.quantified (refuse Limit) (refuse Limit)) node-last (quantified-last FormulaForm.quantified IsFormula formula_goes (readable-formula 0) (refuse Limit))
 
 formulas-over : (depth : ℕ) → Correct Always (node (suc depth)) IsNode node_goes (suc depth) → Correct Always (formula depth) IsFormula formula_goes depth
     → Correct Always (formula (suc depth)) IsFormula formula_goes (suc depth)

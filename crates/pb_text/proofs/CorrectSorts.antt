@@ -14,7 +14,7 @@ use Rattle.pb_text_lexer.proofs.TokenLemmas.{kind-same, same-kind}
 use Rattle.pb_text_lexer.proofs.Correct.{st, Family, Stops, never, Took, Answers, Answering, Correct, then-correct, pure-correct, HeadIs, take-correct, expect-correct}
 use Rattle.pb_text_lexer.proofs.CorrectFamilies.{Nowhere, first-correct, weaker-correct}
 use Rattle.pb_text_lexer.proofs.CorrectSeries.{going, Passes, head-at, passes-at, shorter, no-longer, readable-series, series-correct}
-use Rattle.pb_text_lexer.proofs.CorrectPlain.{Always, anywhere, then-plain, is-correct, nothing-correct}
+use Rattle.pb_text_lexer.proofs.CorrectPlain.{Always, anywhere, then-plain, is-correct, nothing-correct, unlimited-token, unlimited-nothing}
 use Rattle.pb_text_lexer.proofs.CorrectLeft.{unless_next-correct, extended-correct}
 use Rattle.pb_text_terms.specs.Grammar.{Name}
 use Rattle.pb_text_terms.specs.Reading.{name}
@@ -56,7 +56,8 @@ module _ {X : Type 0} (item : Family X) (g test : Kind → Bool) (depth : ℕ) (
       series-correct item (λ d. Is {X = Unit {0}} tt) end join g test depth apart
       (λ d m t o y z between rest. subst (λ (v : State). Passes test v.tokens) between.1 (many-start end join d o y z rest))
       p right.answers nothing_between (anywhere (Passes test) nothing_between (λ d. Is {X = Unit {0}} tt) never depth (is-correct tt depth)).answers
-      (λ m bad is. right.some)
+      (λ m bad is. (right.here, right.some))
+      (λ m t z a. unlimited-nothing depth m t z a)
       (λ s0 s1 s2 x t a b. fewer s0 s1 s2 x t a b) (suc (length s.tokens)) s (omega arith) ended
     where
       fewer : (s0 s1 s2 : State) (x : X) (t : Unit {0}) → Took item g depth s0 x s1 → Took (λ d. Is {X = Unit {0}} tt) never depth s1 t s2 → length s2.tokens < length s0.tokens
@@ -68,6 +69,7 @@ module _ {X : Type 0} (item : Family X) (g test : Kind → Bool) (depth : ℕ) (
       → Correct Always (λ s. step.series p test nothing_between end join (suc (length s.tokens)) s) (λ d. Series (item d) (Is {X = Unit {0}} tt) end join) (going g test) depth
   many-correct end join p right = record {
     answers = λ s ended u. many-answers end join p right s ended;
+    here = readable-series item (λ d. Is {X = Unit {0}} tt) end join depth right.here;
     some = readable-series item (λ d. Is {X = Unit {0}} tt) end join (suc depth) right.some;
   }
 
@@ -108,8 +110,10 @@ enumerators-correct depth = record {
       series-correct (λ d. Enumerator) (λ d. One k.Bar) (λ x. x ∷ []) (λ x t xs. x ∷ xs) (going never is_question) is_bar depth bar-apart
       (λ d m t o y z between rest. passes-kind k.Bar m.tokens o.tokens t between.0 between.1)
       enumerator (enumerator-correct depth).answers take_token (weaker-correct (HeadIs k.Bar) (Passes is_bar) take_token (λ d. One k.Bar) never depth (head-of k.Bar) (take-correct k.Bar depth refl)).answers
-      (λ m bad is. (enumerator-correct depth).some)
+      (λ m bad is. ((enumerator-correct depth).here, (enumerator-correct depth).some))
+      (λ m t z a. unlimited-token k.Bar depth refl m t z a)
       (λ s0 s1 s2 x t a b. less s0.tokens s1.tokens s2.tokens a.front b.front t a.tokens b.tokens (b.reads []).0) (suc (length s.tokens)) s (omega arith) ended;
+  here = readable-series (λ d. Enumerator) (λ d. One k.Bar) (λ x. x ∷ []) (λ x t xs. x ∷ xs) depth (enumerator-correct depth).here;
   some = readable-series (λ d. Enumerator) (λ d. One k.Bar) (λ x. x ∷ []) (λ x t xs. x ∷ xs) (suc depth) (enumerator-correct depth).some;
 }
   where
@@ -157,7 +161,7 @@ at-sort depth kind = inr nothing-correct
 
 sort-correct : (depth : ℕ) → Correct Always sort (λ d. First SortBy) never depth
 unfolding sort
-sort-correct depth = first-correct (λ d. SortBy) never depth (λ d. sort-starts) sort_by (at-sort depth) k.Name (alias-correct depth).some
+sort-correct depth = first-correct (λ d. SortBy) never depth (λ d. sort-starts) sort_by (at-sort depth) k.Name (alias-correct depth).here (alias-correct depth).some
 
 declaration-correct : (depth : ℕ) → Correct Always declaration (λ d. SortDecl) never depth
 unfolding declaration

@@ -16,8 +16,8 @@ use Rattle.pb_text_lexer.specs.Steps.{ends, Step, Outcome, and_then, pure, take_
 use Rattle.pb_text_lexer.specs.Steps as step
 use Rattle.pb_text_lexer.specs.Tokens.{Tok}
 use Rattle.pb_text_lexer.proofs.TokenLemmas.{kind-same, same-kind}
-use Rattle.pb_text_lexer.proofs.Correct.{st, Family, Stops, never, stops-never, GoesOn, goes-ended, readable-is, readable-one, some-token, Took, Answers, Answering, Correct, move, then-correct, HeadIs, take-correct, expect-correct, refused-here, unlike, Free, Readable, goes-free, readable-free, free-to, free-then, free-one}
-use Rattle.pb_text_lexer.proofs.CorrectFamilies.{Nowhere, first-correct, weaker-correct, deeper, deeper-correct, alike-correct, own-correct}
+use Rattle.pb_text_lexer.proofs.Correct.{st, Family, Stops, never, stops-never, GoesOn, goes-ended, reaches-read, readable-is, readable-one, some-token, Took, Answers, Answering, Correct, move, then-correct, HeadIs, take-correct, expect-correct, refused-here, unlike, Free, Readable, goes-free, free-to, free-then, free-one}
+use Rattle.pb_text_lexer.proofs.CorrectFamilies.{Nowhere, first-correct, deeper, deeper-correct, alike-correct, own-correct}
 use Rattle.pb_text_lexer.proofs.CorrectSeries.{going, Passes, head-at}
 use Rattle.pb_text_lexer.proofs.CorrectPlain.{Always, anywhere, then-plain, is-correct, nothing-correct}
 use Rattle.pb_text_lexer.proofs.CorrectLeft.{unless_next-answers, extended-correct}
@@ -25,7 +25,7 @@ use Rattle.pb_text_terms.specs.Grammar.{Name, Variables, Instance, IsTerm}
 use Rattle.pb_text_terms.specs.Reading.{name, variables, is_open, is_comma}
 use Rattle.pb_text_terms.specs.Reading as expressions
 use Rattle.pb_text.specs.Grammar.{IsFormula, SortParts, SignOf, Declared, IsEquation, Equations, IsInitial, IsSpec, IsText}
-use Rattle.pb_text.specs.Parsing.{BeginsText}
+use Rattle.pb_text.specs.Parsing.{BeginsText, StaysWithin}
 use Rattle.pb_text.specs.Reading.{level, sign_by, sign_of, declared, parameters, right_side, equation, begins_equation, equations, initial_instance, sort_parts, text, whole_text}
 use Rattle.pb_text_terms.proofs.CorrectVariable.{head-kind-is, name-correct, variables-correct}
 use Rattle.pb_text_terms.proofs.CorrectTerm.{instance-correct}
@@ -43,6 +43,7 @@ pub record IsFault (depth operators : ℕ) (tokens : List Tok) (bad : Refusal) :
   pub limited : bad.rule ≡ Limit → is_limited next.kind ≡ true
   pub none : (d n : ℕ) (tail : List Tok) (ranges : List RangeForm) (y : SpecForm) → Within bad.rule depth operators d n → IsText d n (front ++ next ∷ tail) ranges y → ⊥
   pub goes_on : BeginsText (suc depth) (suc operators) (front ++ going_on bad.rule next)
+  pub first : StaysWithin depth operators front
 
 -- the tokens are this text, within the limits, and no other, within any
 pub record IsRead (depth operators : ℕ) (tokens : List Tok) (ranges : List RangeForm) (x : SpecForm) : Type 0 where
@@ -73,7 +74,7 @@ at-sign depth kind = inr nothing-correct
 
 sign-correct : (depth : ℕ) → Correct Always sign_of (λ d. First SignOf) never depth
 unfolding sign_of
-sign-correct depth = first-correct (λ d. SignOf) never depth (λ d. sign-starts) sign_by (at-sign depth) k.Mu (mu-correct depth).some
+sign-correct depth = first-correct (λ d. SignOf) never depth (λ d. sign-starts) sign_by (at-sign depth) k.Mu (mu-correct depth).here (mu-correct depth).some
 
 -- ---- parameters
 
@@ -111,21 +112,18 @@ free-declared t is =
     free-then (deeper (λ d. Variables)) (λ found d. grammar.◌>>=◌ (One k.Close) (λ close_bracket. Is found)) 1 [] some-variables (λ found.
     free-then (λ d. One k.Close) (λ close_bracket d. Is found) 1 [] (readable-one k.Close 1) (λ close_bracket. readable-is found 1))))
 
-declared-correct : (depth : ℕ) → Correct (HeadIs k.Open) (declared depth) Declared never depth
-declared-correct zero = record {
-  answers = λ s end h.
-      refused-here Declared never 0 s Limit end (λ q. ap is_limited (head-kind-is k.Open s.tokens h)) (λ d n t tail y w head within r over. no-level d (st (t ∷ tail) n) y w within.0 r)
-      (λ t is. goes-free Declared 1 (suc s.operators) (t ∷ []) (free-declared t (is ∙ head-kind-is k.Open s.tokens h)));
-  some = readable-free Declared 1 (some-token k.Open ∷ []) (free-declared (some-token k.Open) refl);
-}
-declared-correct (suc depth) =
-    alike-correct (HeadIs k.Open) (declared (suc depth)) in_brackets Declared never (suc depth) to-declared from-declared
+declared-answers : (depth : ℕ) → Answering (HeadIs k.Open) (declared depth) Declared never depth
+declared-answers zero =
+    λ s end h. refused-here Declared never 0 s Limit end (λ q. ap is_limited (head-kind-is k.Open s.tokens h)) (λ d n t tail y w head within r over. no-level d (st (t ∷ tail) n) y w within.0 r)
+    (λ t is. goes-free Declared 1 (suc s.operators) (t ∷ []) (free-declared t (is ∙ head-kind-is k.Open s.tokens h)))
+declared-answers (suc depth) =
+    (alike-correct (HeadIs k.Open) (declared (suc depth)) in_brackets Declared never (suc depth) to-declared from-declared
     (then-plain (λ d. One k.Open) (λ open_bracket d. grammar.◌>>=◌ (deeper (λ d. Variables) d) (λ found. grammar.◌>>=◌ (One k.Close) (λ close_bracket. Is found))) never (suc depth)
     (HeadIs k.Open) take_token _ (take-correct k.Open (suc depth) refl) (λ open_bracket.
     then-correct (deeper (λ d. Variables)) (λ found d. grammar.◌>>=◌ (One k.Close) (λ close_bracket. Is found)) (going never is_comma) never (suc depth)
     (λ d x m y z r over. other-stops (going never is_comma) k.Close m.tokens r.1.tokens r.0 comma-closes r.2.0 r.2.1) Always variables _
     (deeper-correct Always variables (λ d. Variables) (going never is_comma) depth (variables-correct depth))
-    (λ found. anywhere (Stops (going never is_comma)) _ _ never (suc depth) (token-correct k.Close (suc depth) found refl))))
+    (λ found. anywhere (Stops (going never is_comma)) _ _ never (suc depth) (token-correct k.Close (suc depth) found refl))))).answers
 
 abbrev parameters_of : Family (List VariableForm)
 parameters_of d = Extended (Is []) (λ none. Declared d)
@@ -136,7 +134,7 @@ parameters-correct depth =
     extended-correct (λ d. Is []) (λ none d. Declared d) never is_open depth (λ kind h. refl) declared-starts Always (pure []) (is-correct [] depth)
     (λ none. unless_next is_open (declared depth))
     (λ none. unless_next-answers Declared never is_open depth (Passes is_open) (declared depth)
-    (weaker-correct (HeadIs k.Open) (Passes is_open) (declared depth) Declared never depth (head-of k.Open) (declared-correct depth)).answers)
+    (λ s end head. declared-answers depth s end (head-of k.Open s.tokens head)))
 
 -- ---- equations
 
@@ -292,15 +290,15 @@ whole-reads ranges depth s ended = at-text (text ranges depth s) ((text-correct 
           (move (IsSpec ranges d) s.tokens (a.front ++ t ∷ []) n n y (st (r.1 ∷ []) r.0) (a.tokens ∙ ap (λ v. a.front ++ v) is) refl r.2) (stops-never (r.1 ∷ []))).0;
     }
 
-    begins : (ts : List Tok) → GoesOn (IsSpec ranges) (suc depth) (suc s.operators) ts → BeginsText (suc depth) (suc s.operators) ts
-    begins ts a = record {
+    begins : (level n : ℕ) (ts : List Tok) → GoesOn (IsSpec ranges) level n ts → BeginsText level n ts
+    begins level n ts a = record {
       tail = a.tail ++ some-token k.End ∷ [];
       ranges = ranges;
       text = a.value;
       says = (
         a.left,
         some-token k.End,
-        move (IsSpec ranges (suc depth)) ((ts ++ a.tail) ++ some-token k.End ∷ []) (ts ++ (a.tail ++ some-token k.End ∷ [])) (suc s.operators) (suc s.operators) a.value (st (some-token k.End ∷ []) a.left)
+        move (IsSpec ranges level) ((ts ++ a.tail) ++ some-token k.End ∷ []) (ts ++ (a.tail ++ some-token k.End ∷ [])) n n a.value (st (some-token k.End ∷ []) a.left)
             (append_assoc ts a.tail (some-token k.End ∷ [])) refl (a.reads (some-token k.End ∷ [])),
         refl,
       );
@@ -317,7 +315,9 @@ whole-reads ranges depth s ended = at-text (text ranges depth s) ((text-correct 
       kind = refl;
       place = refl;
       limited = λ q. absurd (unlike q);
-      goes_on = begins (a.front ++ []) (goes-ended (IsSpec ranges) (suc depth) (suc s.operators) (suc z.operators) a.front x a.one_more);
+      goes_on = begins (suc depth) (suc s.operators) (a.front ++ []) (goes-ended (IsSpec ranges) (suc depth) (suc s.operators) (suc z.operators) a.front x a.one_more);
+      first = λ before behind u e lim.
+          begins depth s.operators (before ++ u ∷ []) (reaches-read (IsSpec ranges) depth s.operators z.operators a.front x a.reads before behind u e lim);
       none = λ d n tail us y within r.
           let same = other-ranges ranges us d _ y _ r.2 in
           is-end t r.1 tail [] (a.only d n (t ∷ tail) (record y { ranges = ranges }) (st (r.1 ∷ []) r.0) (stops-never (t ∷ tail)) same (stops-never (r.1 ∷ []))).1 r.3 other;
@@ -339,7 +339,8 @@ whole-reads ranges depth s ended = at-text (text ranges depth s) ((text-correct 
       kind = a.kind;
       place = a.place;
       limited = a.limited;
-      goes_on = begins (a.front ++ going_on bad.rule a.next) a.goes_on;
+      goes_on = begins (suc depth) (suc s.operators) (a.front ++ going_on bad.rule a.next) a.goes_on;
+      first = λ before behind u e lim. begins depth s.operators (before ++ u ∷ []) (a.first before behind u e lim);
       none = λ d n tail us y within r.
           let same = other-ranges ranges us d _ y _ r.2 in a.none d n tail (record y { ranges = ranges }) (st (r.1 ∷ []) r.0) within same (stops-never (r.1 ∷ []));
     }

@@ -95,6 +95,7 @@ stands-by bytes bad f =
       defect = subst (λ (v : Place). IsDefect bytes f.front v bad.kind) (sym f.place)
           (subst (λ (v : Kind). IsDefect bytes f.front f.next.place v) (sym f.kind) (s.defect (ap is_defect (sym f.kind) ∙ h)));
       goes_on = before bad.rule f.front f.next f.limited (ap is_defect (sym f.kind) ∙ h) f.goes_on;
+      first = f.first;
     })
     (λ h. record {
       front = f.front;
@@ -104,6 +105,7 @@ stands-by bytes bad f =
       limited = f.limited;
       goes_on = f.goes_on;
       none = f.none;
+      first = f.first;
     })
 
 -- ---- what reading the tokens of a text answers

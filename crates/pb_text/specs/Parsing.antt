@@ -54,10 +54,16 @@ pub record BeginsText (depth operators : ℕ) (tokens : List Tok) : Type 0 where
 abbrev pub BeginsNextText : List Tok → Type 0
 BeginsNextText tokens = BeginsText (suc depth_limit) (suc operator_limit) tokens
 
+-- Up to each of these tokens at which a limit can be exceeded, some text begins so, within so many levels and operators: none of them is
+-- past a limit.
+abbrev pub StaysWithin : ℕ → ℕ → List Tok → Type 0
+StaysWithin depth operators tokens =
+    (before behind : List Tok) (t : Tok) → tokens ≡ before ++ t ∷ behind → is_limited t.kind ≡ true → BeginsText depth operators (before ++ t ∷ [])
+
 -- The bytes begin with tokens, the last of which stands at this place. No text begins so, within the limits that the rule speaks of;
--- some text begins with the tokens before that one, so it is the first with which none goes on. Where the rule is a limit, it is a token
--- at which a limit can be exceeded, and with one level and one operator more some text begins with it too: so the tokens before it
--- bring the levels or the operators to their limit.
+-- some text begins with the tokens before that one, so it is the first with which none goes on. None of those is past a limit: a fault
+-- behind a token past a limit isn't named. Where the rule is a limit, it is a token at which a limit can be exceeded, so the first that
+-- is past one; and with one level and one operator more some text begins with it too, so no other fault stands before it.
 pub record IsRefusal (bytes : List ℕ) (broken : token_rule.ReadingRule) (place : Place) : Type 0 where
   pub front : List Tok
   pub next : Tok
@@ -66,12 +72,15 @@ pub record IsRefusal (bytes : List ℕ) (broken : token_rule.ReadingRule) (place
   pub limited : broken ≡ refused.Limit → is_limited next.kind ≡ true
   pub none : (d n : ℕ) (tail : List Tok) (ranges : List RangeForm) (x : SpecForm) → Within broken depth_limit operator_limit d n → IsText d n (front ++ next ∷ tail) ranges x → ⊥
   pub goes_on : BeginsNextText (front ++ going_on broken next)
+  pub first : StaysWithin depth_limit operator_limit front
 
--- The bytes are cut into tokens up to this place, where no token stands, nor the end. Some text begins with those tokens.
+-- The bytes are cut into tokens up to this place, where no token stands, nor the end. Some text begins with those tokens, none of which is
+-- past a limit.
 pub record IsBroken (bytes : List ℕ) (kind : Kind) (place : Place) : Type 0 where
   pub front : List Tok
   pub defect : IsDefect bytes front place kind
   pub goes_on : BeginsNextText front
+  pub first : StaysWithin depth_limit operator_limit front
 
 -- what a refusal says of the bytes
 abbrev pub IsFirstFaultBy : TextRule → List ℕ → Place → Type 0

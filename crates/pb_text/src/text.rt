@@ -31,9 +31,9 @@ pub fn parse(alloc: Global, bytes: &[u8]) -> Result<Spec, TextError>
     // Only where they say nothing within the limits, or memory runs out, is there no text.
     ensures refused { IfErr result (λ e. NoReading bytes.now e) }
     // The fault stands at its place, and nothing that is no token stands before it. Some text
-    // begins with the tokens before it, so P02 stands at the first with which none goes on. At P04
-    // none begins with that token within the limits, and with one level and one operator more some
-    // does.
+    // begins with the tokens before it, so P02 stands at the first with which none goes on; and no
+    // token before it is past a limit. At P04 no text within the limits begins with that token too,
+    // so it is the first past a limit; with one level and one operator more some text does.
     ensures stands { IfErr result (λ e. IsFirstFault bytes.now e) }
 {
     let mut input = Input::new(bytes, OPERATOR_LIMIT);

@@ -54,6 +54,11 @@ pub record Free {X : Type 0} (fam : Family X) (level : ℕ) (ts : List Tok) : Ty
 abbrev pub Readable : {X : Type 0} → Family X → ℕ → Type 0
 Readable fam level = Free fam level []
 
+-- Up to each of these tokens at which a limit can be exceeded, what begins so is read so, if it goes on rightly.
+abbrev pub Reaches : {X : Type 0} → Family X → ℕ → ℕ → List Tok → Type 0
+Reaches fam level operators ts = (before behind : List Tok) (t : Tok) → ts ≡ before ++ t ∷ behind → is_limited t.kind ≡ true
+    → GoesOn fam level operators (before ++ t ∷ [])
+
 pub record Took {X : Type 0} (fam : Family X) (g : Kind → Bool) (depth : ℕ) (s : State) (x : X) (z : State) : Type 0 where
   pub front : List Tok
   pub used : ℕ
@@ -77,6 +82,7 @@ pub record Refused {X : Type 0} (fam : Family X) (g : Kind → Bool) (depth : �
   pub none : (d n : ℕ) (tail : List Tok) (y : X) (w : State) → Within bad.rule depth s.operators d n
       → fam d (st (front ++ next ∷ tail) n) y w → Stops g w.tokens → ⊥
   pub goes_on : GoesOn fam (suc depth) (suc s.operators) (front ++ going_on bad.rule next)
+  pub first : Reaches fam depth s.operators front
 
 abbrev pub Answers : {X : Type 0} → Family X → (Kind → Bool) → ℕ → State → Outcome X → Type 0
 Answers fam g depth s (Ok r) = Took fam g depth s r.0 r.1
@@ -86,9 +92,10 @@ Answers fam g depth s (Err bad) = Refused fam g depth s bad
 abbrev pub Answering : {X : Type 0} → (List Tok → Type 0) → Step X → Family X → (Kind → Bool) → ℕ → Type 0
 Answering P p fam g depth = (s : State) → ends s.tokens ≡ true → P s.tokens → Answers fam g depth s (p s)
 
--- so it answers, and there is something to be read, with one level more
+-- so it answers, and there is something to be read, also with one level more
 pub record Correct {X : Type 0} (P : List Tok → Type 0) (p : Step X) (fam : Family X) (g : Kind → Bool) (depth : ℕ) : Type 0 where
   pub answers : Answering P p fam g depth
+  pub here : Readable fam depth
   pub some : Readable fam (suc depth)
 
 -- ---- one thing and then another
@@ -144,6 +151,62 @@ goes-ended fam level n m ts x reads = record {
   reads = λ after. move (fam level) (ts ++ after) (((ts ++ []) ++ []) ++ after) n n x (st after m) (ap (λ v. v ++ after) (sym (append-nil (ts ++ []) ∙ append-nil ts))) refl (reads after);
 }
 
+-- ---- up to each token at which a limit can be exceeded
+
+pub reaches-none : {X : Type 0} (fam : Family X) (level n : ℕ) → Reaches fam level n []
+reaches-none fam level n [] behind t e lim = cc
+reaches-none fam level n (b ∷ before) behind t e lim = cc
+
+pub reaches-to : {X Y : Type 0} (fam : Family X) (fam' : Family Y) (f : X → Y) (level level' n : ℕ) → ((s : State) (x : X) (z : State) → fam level s x z → fam' level' s (f x) z)
+    → (ts : List Tok) → Reaches fam level n ts → Reaches fam' level' n ts
+reaches-to fam fam' f level level' n to ts a before behind t e lim = goes-to fam fam' f level level' n to (before ++ t ∷ []) (a before behind t e lim)
+
+-- what is read as it stands
+pub reaches-read : {X : Type 0} (fam : Family X) (level n m : ℕ) (ts : List Tok) (x : X) → ((after : List Tok) → fam level (st (ts ++ after) n) x (st after m)) → Reaches fam level n ts
+reaches-read fam level n m ts x reads before behind t e lim = record {
+  tail = behind;
+  value = x;
+  left = m;
+  reads = λ after. move (fam level) (ts ++ after) (((before ++ t ∷ []) ++ behind) ++ after) n n x (st after m) (ap (λ v. v ++ after) (e ∙ sym (append_assoc before (t ∷ []) behind))) refl (reads after);
+}
+
+-- a token of two lists is one of the first or one of the second
+pub parted : (ts us before behind : List Tok) (t : Tok) → ts ++ us ≡ before ++ t ∷ behind
+    → ((rest : List Tok) × (ts ≡ before ++ t ∷ rest)) ⊎ ((start : List Tok) × (before ≡ ts ++ start) × (us ≡ start ++ t ∷ behind))
+parted [] us before behind t e = inr (before, refl, e)
+parted (x ∷ ts) us [] behind t e = inl (ts, cc)
+parted (x ∷ ts) us (b ∷ before) behind t e = let p : x ≡ b = cc in let q : ts ++ us ≡ before ++ t ∷ behind = cc in by p (parted ts us before behind t q)
+  where
+    by : x ≡ b → ((rest : List Tok) × (ts ≡ before ++ t ∷ rest)) ⊎ ((start : List Tok) × (before ≡ ts ++ start) × (us ≡ start ++ t ∷ behind))
+        → ((rest : List Tok) × (x ∷ ts ≡ b ∷ before ++ t ∷ rest)) ⊎ ((start : List Tok) × (b ∷ before ≡ (x ∷ ts) ++ start) × (us ≡ start ++ t ∷ behind))
+    by p (inl f) = let q = f.1 in inl (f.0, cc)
+    by p (inr f) = let q = f.1 in inr (f.0, cc, f.2)
+
+-- a list, and then another behind it
+pub reaches-append : {X : Type 0} (fam : Family X) (level n : ℕ) (ts us : List Tok) → Reaches fam level n ts
+    → ((before behind : List Tok) (t : Tok) → us ≡ before ++ t ∷ behind → is_limited t.kind ≡ true → GoesOn fam level n ((ts ++ before) ++ t ∷ []))
+    → Reaches fam level n (ts ++ us)
+reaches-append fam level n ts us early late before behind t e lim = by (parted ts us before behind t e)
+  where
+    by : ((rest : List Tok) × (ts ≡ before ++ t ∷ rest)) ⊎ ((start : List Tok) × (before ≡ ts ++ start) × (us ≡ start ++ t ∷ behind)) → GoesOn fam level n (before ++ t ∷ [])
+    by (inl f) = early before f.0 t f.1 lim
+    by (inr f) = subst (λ (v : List Tok). GoesOn fam level n (v ++ t ∷ [])) (sym f.1) (late f.0 behind t f.2 lim)
+
+-- at none of these tokens a limit can be exceeded
+abbrev pub Unlimited : List Tok → Type 0
+Unlimited ts = (before behind : List Tok) (t : Tok) → ts ≡ before ++ t ∷ behind → is_limited t.kind ≡ true → ⊥
+
+pub reaches-unlimited : {X : Type 0} (fam : Family X) (level n : ℕ) (ts : List Tok) → Unlimited ts → Reaches fam level n ts
+reaches-unlimited fam level n ts none before behind t e lim = absurd (none before behind t e lim)
+
+pub unlimited-none : Unlimited []
+unlimited-none [] behind t e lim = cc
+unlimited-none (b ∷ before) behind t e lim = cc
+
+pub unlimited-one : (t : Tok) → is_limited t.kind ≡ false → Unlimited (t ∷ [])
+unlimited-one t off [] behind u e lim = let p : t ≡ u = cc in let q : is_limited t.kind ≡ true = subst (λ (v : Tok). is_limited v.kind ≡ true) (sym p) lim in cc
+unlimited-one t off (b ∷ before) behind u e lim = let q : [] ≡ before ++ u ∷ behind = cc in unlimited-none before behind u q lim
+
 module _ {X Y : Type 0} (famR : Family X) (famS : X → Family Y) (level : ℕ) where
   abbrev both-of : Family Y
   both-of d = grammar.◌>>=◌ (famR d) (λ x. famS x d)
@@ -181,6 +244,14 @@ module _ {X Y : Type 0} (famR : Family X) (famS : X → Family Y) (level : ℕ) 
         (x, st (((us ++ vs) ++ b.tail) ++ after) m, first (((us ++ vs) ++ b.tail) ++ after), b.reads after);
   }
 
+  pub reaches-first : (ts : List Tok) (n : ℕ) → Reaches famR level n ts → ((x : X) → Readable (famS x) level) → Reaches both-of level n ts
+  reaches-first ts n a rest before behind t e lim = goes-first (before ++ t ∷ []) n (a before behind t e lim) rest
+
+  pub reaches-then : (ts us : List Tok) (n m : ℕ) (x : X) → ((after : List Tok) → famR level (st (ts ++ after) n) x (st after m)) → Reaches both-of level n ts → Reaches (famS x) level m us
+      → Reaches both-of level n (ts ++ us)
+  reaches-then ts us n m x reads early late =
+      reaches-append both-of level n ts us early (λ before behind t e lim. goes-then ts before (t ∷ []) n m x reads (late before behind t e lim))
+
 module _ {X Y : Type 0} (famR : Family X) (famS : X → Family Y) (g h : Kind → Bool) (depth : ℕ)
     (follow : (d : ℕ) (x : X) (m : State) (y : Y) (z : State) → famS x d m y z → Stops h z.tokens → Stops g m.tokens) where
   abbrev pub both : Family Y
@@ -216,18 +287,12 @@ module _ {X Y : Type 0} (famR : Family X) (famS : X → Family Y) (g h : Kind �
           let found = a.only d n (b.front ++ after) r.0 r.1 here r.2 (follow d r.0 r.1 v w r.3 over) in
           last d n after v w r.1 r.0 stop over found.0 found.1 found.2 r.3
 
-  unfoldable pub then-refused : (s m : State) (x : X) (bad : Refusal) → Took famR g depth s x m → Refused (famS x) h depth m bad → Refused both h depth s bad
-  then-refused s m x bad a b = record {
-    front = a.front ++ b.front;
-    next = b.next;
-    more = b.more;
-    tokens = a.tokens ∙ ap (λ v. a.front ++ v) b.tokens ∙ sym (append_assoc a.front b.front (b.next ∷ b.more));
-    kind = b.kind;
-    place = b.place;
-    limited = b.limited;
-    none = λ d n tail v w within r over. none d n tail v w within (move (both d) _ _ _ _ v w (append_assoc a.front b.front (b.next ∷ tail)) refl r) over;
-    goes_on = goes-then famR famS (suc depth) a.front b.front (going_on bad.rule b.next) (suc s.operators) (suc m.operators) x a.one_more b.goes_on;
-  }
+  pub then-tokens : (s m : State) (x : X) (bad : Refusal) (a : Took famR g depth s x m) (b : Refused (famS x) h depth m bad) → s.tokens ≡ (a.front ++ b.front) ++ b.next ∷ b.more
+  then-tokens s m x bad a b = a.tokens ∙ ap (λ v. a.front ++ v) b.tokens ∙ sym (append_assoc a.front b.front (b.next ∷ b.more))
+
+  pub then-none : (s m : State) (x : X) (bad : Refusal) (a : Took famR g depth s x m) (b : Refused (famS x) h depth m bad) (d n : ℕ) (tail : List Tok) (v : Y) (w : State)
+      → Within bad.rule depth s.operators d n → both d (st ((a.front ++ b.front) ++ b.next ∷ tail) n) v w → Stops h w.tokens → ⊥
+  then-none s m x bad a b d n tail v w within r over = none d n tail v w within (move (both d) _ _ _ _ v w (append_assoc a.front b.front (b.next ∷ tail)) refl r) over
     where
       last : (d n : ℕ) (tail : List Tok) (v : Y) (w m' : State) (x' : X) → Within bad.rule depth s.operators d n → Stops h w.tokens
           → (x' ≡ x) → (m'.tokens ≡ b.front ++ b.next ∷ tail) → (n ≡ a.used + m'.operators) → famS x' d m' v w → ⊥
@@ -241,8 +306,23 @@ module _ {X Y : Type 0} (famR : Family X) (famS : X → Family Y) (g h : Kind �
           let found = a.only d n (b.front ++ b.next ∷ tail) r.0 r.1 (same-head g b.front b.next b.more tail m.tokens b.tokens a.stops) r.2 (follow d r.0 r.1 v w r.3 over) in
           last d n tail v w r.1 r.0 within over found.0 found.1 found.2 r.3
 
-  pub first-refused : (s : State) (bad : Refusal) → ((x : X) → Readable (famS x) (suc depth)) → Refused famR g depth s bad → Refused both h depth s bad
-  first-refused s bad rest a = record {
+  -- what follows is refused, where both go on up to each token of the first at which a limit can be exceeded
+  pub then-refused : (s m : State) (x : X) (bad : Refusal) (a : Took famR g depth s x m) → Reaches both depth s.operators a.front → Refused (famS x) h depth m bad → Refused both h depth s bad
+  then-refused s m x bad a early b = record {
+    front = a.front ++ b.front;
+    next = b.next;
+    more = b.more;
+    tokens = then-tokens s m x bad a b;
+    kind = b.kind;
+    place = b.place;
+    limited = b.limited;
+    none = then-none s m x bad a b;
+    goes_on = goes-then famR famS (suc depth) a.front b.front (going_on bad.rule b.next) (suc s.operators) (suc m.operators) x a.one_more b.goes_on;
+    first = reaches-then famR famS depth a.front b.front s.operators m.operators x a.reads early b.first;
+  }
+
+  pub first-refused : (s : State) (bad : Refusal) → ((x : X) → Readable (famS x) depth) → ((x : X) → Readable (famS x) (suc depth)) → Refused famR g depth s bad → Refused both h depth s bad
+  first-refused s bad here rest a = record {
     front = a.front;
     next = a.next;
     more = a.more;
@@ -252,6 +332,7 @@ module _ {X Y : Type 0} (famR : Family X) (famS : X → Family Y) (g h : Kind �
     limited = a.limited;
     none = λ d n tail v w within r over. a.none d n tail r.0 r.1 within r.2 (follow d r.0 r.1 v w r.3 over);
     goes_on = goes-first famR famS (suc depth) (a.front ++ going_on bad.rule a.next) (suc s.operators) a.goes_on rest;
+    first = reaches-first famR famS depth a.front s.operators a.first here;
   }
 
   pub then-answers : (P : List Tok → Type 0) (p : Step X) (q : X → Step Y) → Answering P p famR g depth
@@ -260,20 +341,25 @@ module _ {X Y : Type 0} (famR : Family X) (famS : X → Family Y) (g h : Kind �
     where
       second : (m : State) (x : X) → Took famR g depth s x m → (o : Outcome Y) → Answers (famS x) h depth m o → Answers both h depth s o
       second m x t (Ok r) u = then-took s m x r.0 r.1 t u
-      second m x t (Err bad) u = then-refused s m x bad t u
+      second m x t (Err bad) u =
+          then-refused s m x bad t (reaches-first famR famS depth t.front s.operators (reaches-read famR depth s.operators m.operators t.front x t.reads) (λ y. (b y).here)) u
 
       step : (o : Outcome X) → Answers famR g depth s o → Answers both h depth s (and_then o q)
       step (Ok r) t = second r.1 r.0 t (q r.0 r.1) ((b r.0).answers r.1 t.ended t.stops)
-      step (Err bad) t = first-refused s bad (λ x. (b x).some) t
+      step (Err bad) t = first-refused s bad (λ x. (b x).here) (λ x. (b x).some) t
 
   pub then-correct : (P : List Tok → Type 0) (p : Step X) (q : X → Step Y) → Correct P p famR g depth
       → ((x : X) → Correct (Stops g) (q x) (famS x) h depth) → Correct P (step.◌>>=◌ p q) both h depth
-  then-correct P p q a b = record { answers = then-answers P p q a.answers b; some = free-then famR famS (suc depth) [] a.some (λ x. (b x).some) }
+  then-correct P p q a b = record {
+    answers = then-answers P p q a.answers b;
+    here = free-then famR famS depth [] a.here (λ x. (b x).here);
+    some = free-then famR famS (suc depth) [] a.some (λ x. (b x).some);
+  }
 
 -- ---- a value at no token; a token; a refusal; by the first token
 
 pub pure-correct : {X : Type 0} (x : X) (g : Kind → Bool) (depth : ℕ) → Correct (Stops g) (pure x) (λ d. Is x) g depth
-pure-correct {X} x g depth = record { answers = λ s end stop. took s end stop; some = readable-is x (suc depth) }
+pure-correct {X} x g depth = record { answers = λ s end stop. took s end stop; here = readable-is x depth; some = readable-is x (suc depth) }
   where
     took : (s : State) → ends s.tokens ≡ true → Stops g s.tokens → Took (λ d. Is x) g depth s x s
     took s end stop = record {
@@ -331,6 +417,7 @@ refused-here {X} fam g depth s rule end limited none goes = go s.tokens end limi
       limited = lim;
       none = λ d n tail y w within r over. f d n t tail y w refl within r over;
       goes_on = goes t refl;
+      first = reaches-none fam depth s.operators;
     }
 
 one-parts : (k : Kind) (t : Tok) (n : ℕ) (after : List Tok) (y : Tok) (w : State) → One k (st (t ∷ after) n) y w → (y ≡ t) × (w.tokens ≡ after) × (n ≡ 0 + w.operators)
@@ -344,7 +431,7 @@ HeadIs k (t ∷ ts) = t.kind ≡ k
 
 pub take-correct : (k : Kind) (depth : ℕ) → is_last k ≡ false → Correct (HeadIs k) take_token (λ d. One k) never depth
 unfolding take_token
-take-correct k depth ne = record { answers = λ s end head. go s.tokens s.operators end head; some = readable-one k (suc depth) }
+take-correct k depth ne = record { answers = λ s end head. go s.tokens s.operators end head; here = readable-one k depth; some = readable-one k (suc depth) }
   where
     go : (ts : List Tok) (n : ℕ) → ends ts ≡ true → HeadIs k ts → Answers (λ d. One k) never depth (st ts n) (take_from ts n)
     go [] n e head = absurd head
@@ -354,7 +441,7 @@ take-correct k depth ne = record { answers = λ s end head. go s.tokens s.operat
 
 pub expect-correct : (k : Kind) (depth : ℕ) → is_last k ≡ false → Correct (λ ts. Unit {0}) (expect k) (λ d. One k) never depth
 unfolding expect
-expect-correct k depth ne = record { answers = λ s end u. go s.tokens s.operators end; some = readable-one k (suc depth) }
+expect-correct k depth ne = record { answers = λ s end u. go s.tokens s.operators end; here = readable-one k depth; some = readable-one k (suc depth) }
   where
     decided : (ts : List Tok) (n : ℕ) (b : Bool) → ends ts ≡ true → same_kind (head_kind ts) k ≡ b
         → Answers (λ d. One k) never depth (st ts n) (cond b (take_token (st ts n)) (refuse Unexpected (st ts n)))

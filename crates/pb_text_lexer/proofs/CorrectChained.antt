@@ -12,7 +12,7 @@ use Rattle.pb_text_lexer.specs.OpenGrammar.{Chained, last, more}
 use Rattle.pb_text_lexer.specs.Steps.{ends, head_kind, Step, Outcome, and_then, pure, take_operator, series, chain, kind}
 use Rattle.pb_text_lexer.specs.Steps as step
 use Rattle.pb_text_lexer.proofs.TokenLemmas.{kind-same, same-kind}
-use Rattle.pb_text_lexer.proofs.Correct.{st, Family, Stops, never, stops-never, Readable, GoesOn, free-to, goes-to, Took, Refused, Answers, HeadIs, move, within-less, operator-answers}
+use Rattle.pb_text_lexer.proofs.Correct.{st, Family, Stops, never, stops-never, Readable, GoesOn, free-to, goes-to, Reaches, reaches-to, reaches-read, reaches-append, parted, Took, Refused, Answers, HeadIs, move, within-less, operator-answers}
 use Rattle.pb_text_lexer.proofs.CorrectSeries.{shorter, no-longer, going, Passes, stops-less, stops-at, goes-at, passes-at, passes-move, passes-is}
 
 abbrev pub is_symbol : Kind → Kind → Bool
@@ -65,6 +65,7 @@ pub record RefusedOpen {X : Type 0} (famO famC : Family X) (g conn : Kind → Bo
   pub none_open : None famO (Stops conn) bad.rule depth s.operators front next
   pub none_closed : None famC (Stops g) bad.rule depth s.operators front next
   pub goes_on : GoesOn famO (suc depth) (suc s.operators) (front ++ going_on bad.rule next)
+  pub first : Reaches famO depth s.operators front
 
 abbrev pub AnswersOpen : {X : Type 0} → Family X → Family X → (Kind → Bool) → (Kind → Bool) → ℕ → State → Outcome X → Type 0
 AnswersOpen famO famC g conn depth s (Ok r) = Opened famO famC g conn depth s r.0 r.1
@@ -72,6 +73,7 @@ AnswersOpen famO famC g conn depth s (Err bad) = RefusedOpen famO famC g conn de
 
 pub record CorrectOpen {X : Type 0} (p : Step X) (famO famC : Family X) (g conn : Kind → Bool) (depth : ℕ) : Type 0 where
   pub answers : (s : State) → ends s.tokens ≡ true → AnswersOpen famO famC g conn depth s (p s)
+  pub here : Readable famO depth
   pub some : Readable famO (suc depth)
 
 -- ---- a chain, by the family L of its last operand and what W says may follow it
@@ -223,19 +225,19 @@ module _ {X : Type 0} (c : Kind) (join : X → Tok → X → X) (famC famO : Fam
   last-open : (d : ℕ) (s : State) (x : X) (z : State) → famO d s x z → opens d s x z
   last-open d s x z r = last r
 
-  -- a closed operand and the connective, as they are read with one level and one operator more
-  abbrev Operand : List Tok → State → X → State → Type 0
-  Operand ts s x s1 = (after : List Tok) → famC (suc depth) (st (ts ++ after) (suc s.operators)) x (st after (suc s1.operators))
+  -- a closed operand, as it is read where so many levels and operators are allowed, which leaves so many operators
+  abbrev Operand : ℕ → List Tok → ℕ → X → ℕ → Type 0
+  Operand level ts n x m = (after : List Tok) → famC level (st (ts ++ after) n) x (st after m)
 
   -- what goes on behind the connective, with which a chain goes on
-  goes-more : (s s1 s2 : State) (ts us vs ws : List Tok) (x : X) (t : Tok) → Operand ts s x s1
-      → ((after : List Tok) → Operator c (st (us ++ after) (suc s1.operators)) t (st after (suc s2.operators)))
-      → GoesOn opens (suc depth) (suc s2.operators) (vs ++ ws) → GoesOn opens (suc depth) (suc s.operators) ((ts ++ (us ++ vs)) ++ ws)
-  goes-more s s1 s2 ts us vs ws x t a b r = record {
+  goes-more : (level n m k : ℕ) (ts us vs ws : List Tok) (x : X) (t : Tok) → Operand level ts n x m
+      → ((after : List Tok) → Operator c (st (us ++ after) m) t (st after k))
+      → GoesOn opens level k (vs ++ ws) → GoesOn opens level n ((ts ++ (us ++ vs)) ++ ws)
+  goes-more level n m k ts us vs ws x t a b r = record {
     tail = r.tail;
     value = join x t r.value;
     left = r.left;
-    reads = λ after. move (opens (suc depth)) (ts ++ (us ++ (((vs ++ ws) ++ r.tail) ++ after))) _ _ _ (join x t r.value) (st after r.left) (regroup after) refl
+    reads = λ after. move (opens level) (ts ++ (us ++ (((vs ++ ws) ++ r.tail) ++ after))) _ _ _ (join x t r.value) (st after r.left) (regroup after) refl
         (more (a (us ++ (((vs ++ ws) ++ r.tail) ++ after))) (b (((vs ++ ws) ++ r.tail) ++ after)) (r.reads after));
   }
     where
@@ -246,13 +248,13 @@ module _ {X : Type 0} (c : Kind) (join : X → Tok → X → X) (famC famO : Fam
           ∙ ap (λ u. u ++ after) (sym (append_assoc ts ((us ++ vs) ++ ws) r.tail) ∙ ap (λ u. u ++ r.tail) (sym (append_assoc ts (us ++ vs) ws)))
 
   -- a connective with which it goes on, and then an operand
-  goes-connective : (s s1 : State) (ts us vs : List Tok) (x : X) → Operand ts s x s1 → GoesOn (λ d. Operator c) (suc depth) (suc s1.operators) (us ++ vs) → Readable famO (suc depth)
-      → GoesOn opens (suc depth) (suc s.operators) ((ts ++ us) ++ vs)
-  goes-connective s s1 ts us vs x a b o = record {
+  goes-connective : (level n m : ℕ) (ts us vs : List Tok) (x : X) → Operand level ts n x m → GoesOn (λ d. Operator c) level m (us ++ vs) → Readable famO level
+      → GoesOn opens level n ((ts ++ us) ++ vs)
+  goes-connective level n m ts us vs x a b o = record {
     tail = b.tail ++ o.tail;
     value = join x b.value o.value;
     left = b.left;
-    reads = λ after. move (opens (suc depth)) (ts ++ (((us ++ vs) ++ b.tail) ++ (o.tail ++ after))) _ _ _ (join x b.value o.value) (st after b.left) (regroup after) refl
+    reads = λ after. move (opens level) (ts ++ (((us ++ vs) ++ b.tail) ++ (o.tail ++ after))) _ _ _ (join x b.value o.value) (st after b.left) (regroup after) refl
         (more (a (((us ++ vs) ++ b.tail) ++ (o.tail ++ after))) (b.reads (o.tail ++ after)) (last (o.reads b.left after)));
   }
     where
@@ -314,11 +316,12 @@ module _ {X : Type 0} (c : Kind) (join : X → Tok → X → X) (famC famO : Fam
     none_open = operand-none c join famC famO g (Stops conn) (Stops conn) depth apart itself conn-on bad.rule s.operators a.front a.next a.none_open a.none_closed;
     none_closed = operand-none c join famC famC g (Stops g) (Stops gg) depth apart less on-closed bad.rule s.operators a.front a.next a.none_closed a.none_closed;
     goes_on = goes-to famO opens (λ v. v) (suc depth) (suc depth) (suc s.operators) (last-open (suc depth)) (a.front ++ going_on bad.rule a.next) a.goes_on;
+    first = reaches-to famO opens (λ v. v) depth depth s.operators (last-open depth) a.front a.first;
   }
 
-  operator-refused : (s s1 : State) (x : X) (bad : Refusal) → Readable famO (suc depth) → Opened famO famC g conn depth s x s1 → Passes (is_symbol c) s1.tokens
+  operator-refused : (s s1 : State) (x : X) (bad : Refusal) → Readable famO depth → Readable famO (suc depth) → Opened famO famC g conn depth s x s1 → Passes (is_symbol c) s1.tokens
       → Refused (λ d. Operator c) never depth s1 bad → RefusedOpen opens closeds gg conn depth s bad
-  operator-refused s s1 x bad some a head b = record {
+  operator-refused s s1 x bad here some a head b = record {
     front = a.front ++ b.front;
     next = b.next;
     more_tokens = b.more;
@@ -328,12 +331,14 @@ module _ {X : Type 0} (c : Kind) (join : X → Tok → X → X) (famC famO : Fam
     limited = b.limited;
     none_open = operator-none c join famC famO g (Stops conn) (Stops conn) depth apart itself conn-on (Like g conn s1.tokens) s s1 x bad a.front a.used a.operators (like-on s1.tokens head) head a.only_open a.only_closed b;
     none_closed = operator-none c join famC famC g (Stops g) (Stops gg) depth apart less on-closed (Like g conn s1.tokens) s s1 x bad a.front a.used a.operators (like-on s1.tokens head) head a.only_closed a.only_closed b;
-    goes_on = goes-connective s s1 a.front b.front (going_on bad.rule b.next) x (a.one_more_closed (passes-conn s1.tokens head)) b.goes_on some;
+    goes_on = goes-connective (suc depth) (suc s.operators) (suc s1.operators) a.front b.front (going_on bad.rule b.next) x (a.one_more_closed (passes-conn s1.tokens head)) b.goes_on some;
+    first = reaches-append opens depth s.operators a.front b.front (reaches-read opens depth s.operators s1.operators a.front x (λ after. last (a.reads after)))
+        (λ before behind u e lim. goes-connective depth s.operators s1.operators a.front before (u ∷ []) x (a.closes (passes-conn s1.tokens head)) (b.first before behind u e lim) here);
   }
 
-  rest-refused : (s s1 s2 : State) (x : X) (t : Tok) (bad : Refusal) → Opened famO famC g conn depth s x s1 → Passes (is_symbol c) s1.tokens
+  rest-refused : (s s1 s2 : State) (x : X) (t : Tok) (bad : Refusal) → Readable famO depth → Opened famO famC g conn depth s x s1 → Passes (is_symbol c) s1.tokens
       → Took (λ d. Operator c) never depth s1 t s2 → RefusedOpen opens closeds gg conn depth s2 bad → RefusedOpen opens closeds gg conn depth s bad
-  rest-refused s s1 s2 x t bad a head b r = record {
+  rest-refused s s1 s2 x t bad here a head b r = record {
     front = a.front ++ (b.front ++ r.front);
     next = r.next;
     more_tokens = r.more_tokens;
@@ -343,8 +348,24 @@ module _ {X : Type 0} (c : Kind) (join : X → Tok → X → X) (famC famO : Fam
     limited = r.limited;
     none_open = rest-none c join famC famO g (Stops conn) (Stops conn) depth apart itself conn-on (Like g conn s1.tokens) s s1 s2 x t bad.rule a.front r.front a.used r.next a.operators (like-on s1.tokens head) a.only_open a.only_closed b r.none_open;
     none_closed = rest-none c join famC famC g (Stops g) (Stops gg) depth apart less on-closed (Like g conn s1.tokens) s s1 s2 x t bad.rule a.front r.front a.used r.next a.operators (like-on s1.tokens head) a.only_closed a.only_closed b r.none_closed;
-    goes_on = goes-more s s1 s2 a.front b.front r.front (going_on bad.rule r.next) x t (a.one_more_closed (passes-conn s1.tokens head)) b.one_more r.goes_on;
+    goes_on = goes-more (suc depth) (suc s.operators) (suc s1.operators) (suc s2.operators) a.front b.front r.front (going_on bad.rule r.next) x t (a.one_more_closed (passes-conn s1.tokens head)) b.one_more r.goes_on;
+    first = reaches-append opens depth s.operators a.front (b.front ++ r.front) (reaches-read opens depth s.operators s1.operators a.front x (λ after. last (a.reads after)))
+        (λ before behind u e lim. at before behind u lim (parted b.front r.front before behind u e));
   }
+    where
+      closed : Operand depth a.front s.operators x s1.operators
+      closed = a.closes (passes-conn s1.tokens head)
+
+      -- the connective, or what follows it
+      at : (before behind : List Tok) (u : Tok) → is_limited u.kind ≡ true
+          → ((rest : List Tok) × (b.front ≡ before ++ u ∷ rest)) ⊎ ((start : List Tok) × (before ≡ b.front ++ start) × (r.front ≡ start ++ u ∷ behind))
+          → GoesOn opens depth s.operators ((a.front ++ before) ++ u ∷ [])
+      at before behind u lim (inl f) =
+          goes-connective depth s.operators s1.operators a.front before (u ∷ []) x closed
+          (reaches-read (λ d. Operator c) depth s1.operators s2.operators b.front t b.reads before f.0 u f.1 lim) here
+      at before behind u lim (inr f) =
+          subst (λ (v : List Tok). GoesOn opens depth s.operators ((a.front ++ v) ++ u ∷ [])) (sym f.1)
+          (goes-more depth s.operators s1.operators s2.operators a.front b.front f.0 (u ∷ []) x t closed b.reads (r.first f.0 behind u f.2 lim))
 
   fewer-left : (s s1 s2 : State) (x : X) (t : Tok) → Opened famO famC g conn depth s x s1 → Took (λ d. Operator c) never depth s1 t s2 → length s2.tokens < length s.tokens
   fewer-left s s1 s2 x t a b =
@@ -363,7 +384,7 @@ module _ {X : Type 0} (c : Kind) (join : X → Tok → X → X) (famC famO : Fam
         ends-with : (s1 : State) (x : X) (t : Tok) (s2 : State) → Opened famO famC g conn depth s x s1 → Passes (is_symbol c) s1.tokens → Took (λ d. Operator c) never depth s1 t s2
             → (o : Outcome X) → AnswersOpen opens closeds gg conn depth s2 o → AnswersOpen opens closeds gg conn depth s (and_then o (λ y. pure (join x t y)))
         ends-with s1 x t s2 a head b (Ok r) rest = more-opened s s1 s2 r.1 x r.0 t a head b rest
-        ends-with s1 x t s2 a head b (Err bad) rest = rest-refused s s1 s2 x t bad a head b rest
+        ends-with s1 x t s2 a head b (Err bad) rest = rest-refused s s1 s2 x t bad right-op.here a head b rest
 
         fewer : (i : ℕ) → length s.tokens ≤ suc n → i < length s.tokens → i ≤ n
         fewer i a b = omega arith
@@ -374,7 +395,7 @@ module _ {X : Type 0} (c : Kind) (join : X → Tok → X → X) (famC famO : Fam
             → AnswersOpen opens closeds gg conn depth s (and_then o (λ t. step.◌>>=◌ (chain c join op n) (λ y. pure (join x t y))))
         at-operator s1 x a head again (Ok r) b =
             ends-with s1 x r.0 r.1 a head b (chain c join op n r.1) (again r.1 (fewer (length r.1.tokens) le (fewer-left s s1 r.1 x r.0 a b)) b.ended)
-        at-operator s1 x a head again (Err bad) b = operator-refused s s1 x bad right-op.some a head b
+        at-operator s1 x a head again (Err bad) b = operator-refused s s1 x bad right-op.here right-op.some a head b
 
         head-of : (ts : List Tok) → ends ts ≡ true → is_symbol c (head_kind ts) ≡ true → Passes (is_symbol c) ts
         head-of [] e same = cc
@@ -403,5 +424,6 @@ module _ {X : Type 0} (c : Kind) (join : X → Tok → X → X) (famC famO : Fam
     pub open-chains-correct : CorrectOpen (λ s. chain c join op (suc (length s.tokens)) s) opens closeds gg conn depth
     open-chains-correct = record {
       answers = λ s ended. open-chain-correct (suc (length s.tokens)) s (omega arith) ended;
+      here = free-to famO opens (λ v. v) depth depth (last-open depth) [] right-op.here;
       some = free-to famO opens (λ v. v) (suc depth) (suc depth) (last-open (suc depth)) [] right-op.some;
     }

@@ -10,7 +10,7 @@ use Rattle.pb_text_lexer.specs.Tokens.{Tok}
 use Rattle.pb_text_lexer.specs.Grammar.{State, Within, going_on}
 use Rattle.pb_text_lexer.specs.OpenGrammar.{Either, Conjunction, Disjunction, Implication, Connected}
 use Rattle.pb_text_lexer.specs.Steps.{ends, head_kind, Step, Outcome, kind, either, conjunction, disjunction, connected}
-use Rattle.pb_text_lexer.proofs.Correct.{st, Family, Stops, free-to, goes-to, Took, Refused, Answers, Answering, Correct}
+use Rattle.pb_text_lexer.proofs.Correct.{st, Family, Stops, free-to, goes-to, reaches-to, Took, Refused, Answers, Answering, Correct}
 use Rattle.pb_text_lexer.proofs.CorrectSeries.{going, Passes, passes-is}
 use Rattle.pb_text_lexer.proofs.CorrectChained.{is_symbol, Like, Opened, RefusedOpen, AnswersOpen, CorrectOpen, open-chains-correct}
 
@@ -103,6 +103,7 @@ module _ {X : Type 0} (node quant : Family X) (g conn is_quant : Kind → Bool) 
     none_open = λ d n tail y w inside r over. at d n tail y w inside r over;
     none_closed = λ d n tail y w inside r over. both-ways is_quant _ (begins tail) (node-starts d _ y w r);
     goes_on = goes-to quant both (λ v. v) (suc depth) (suc depth) (suc s.operators) (right (suc depth)) (a.front ++ going_on bad.rule a.next) a.goes_on;
+    first = reaches-to quant both (λ v. v) depth depth s.operators (right depth) a.front a.first;
   }
     where
       begins : (tail : List Tok) → Passes is_quant (a.front ++ a.next ∷ tail)
@@ -124,6 +125,7 @@ module _ {X : Type 0} (node quant : Family X) (g conn is_quant : Kind → Bool) 
     none_open = λ d n tail y w inside r over. at d n tail y w inside r (stops-too w.tokens over);
     none_closed = λ d n tail y w inside r over. a.none d n tail y w inside r over;
     goes_on = goes-to node both (λ v. v) (suc depth) (suc depth) (suc s.operators) (left (suc depth)) (a.front ++ going_on bad.rule a.next) a.goes_on;
+    first = reaches-to node both (λ v. v) depth depth s.operators (left depth) a.front a.first;
   }
     where
       begins : (tail : List Tok) → Passes (Not is_quant) (a.front ++ a.next ∷ tail)
@@ -135,7 +137,11 @@ module _ {X : Type 0} (node quant : Family X) (g conn is_quant : Kind → Bool) 
 
   pub either-correct : (n q : Step X) → Correct (λ ts. Unit {0}) n node g depth → Answering (Passes is_quant) q quant conn depth
       → CorrectOpen (either is_quant n q) both node g conn depth
-  either-correct n q right-n right-q = record { answers = λ s ended. at s ended (is_quant (kind s)) refl; some = free-to node both (λ v. v) (suc depth) (suc depth) (left (suc depth)) [] right-n.some }
+  either-correct n q right-n right-q = record {
+    answers = λ s ended. at s ended (is_quant (kind s)) refl;
+    here = free-to node both (λ v. v) depth depth (left depth) [] right-n.here;
+    some = free-to node both (λ v. v) (suc depth) (suc depth) (left (suc depth)) [] right-n.some;
+  }
     where
       as-node : (s : State) (o : Outcome X) → Passes (Not is_quant) s.tokens → Answers node g depth s o → AnswersOpen both node g conn depth s o
       as-node s (Ok r) h a = node-opened s r.0 r.1 a
@@ -176,6 +182,7 @@ top-correct famO famC g depth s (Err bad) a = record {
   limited = a.limited;
   none = a.none_open;
   goes_on = a.goes_on;
+  first = a.first;
 }
 
 -- ---- the three levels
@@ -220,6 +227,7 @@ module _ {X : Type 0} (join : Kind → X → Tok → X → X) (node quant : Fami
   connected-correct n q right-n right-q = record {
     answers = λ s ended u.
         top-correct (λ d. Connected join (node d) (quant d)) (λ d. Implication join (node d) (node d)) (connects g) depth s (connected join is_quant n q s) (implications.answers s ended);
+    here = implications.here;
     some = implications.some;
   }
     where

@@ -9,7 +9,7 @@ use Rattle.pb_text_lexer.specs.Tokens.{Tok}
 use Rattle.pb_text_lexer.specs.Grammar.{State, Within, going_on, Reads, Nothing, First}
 use Rattle.pb_text_lexer.specs.Steps.{ends, head_kind, Step, Outcome, and_then, pure, peek, take_token, take_from, take_operator, expect, refuse, refusal, kind}
 use Rattle.pb_text_lexer.specs.Steps as step
-use Rattle.pb_text_lexer.proofs.Correct.{st, Family, Stops, Readable, Took, Refused, Answers, Answering, Correct, free-to, goes-to, goes-free, unlike, refused-here, HeadIs}
+use Rattle.pb_text_lexer.proofs.Correct.{st, Family, Stops, Readable, Took, Refused, Answers, Answering, Correct, free-to, goes-to, goes-free, reaches-to, unlike, refused-here, HeadIs}
 
 -- nothing begins here
 pub record Nowhere {X : Type 0} (p : Step X) (fam : Family X) : Type 0 where
@@ -68,9 +68,10 @@ module _ {X : Type 0} (fam : ℕ → Kind → Reads X) (g : Kind → Bool) (dept
     none = λ d n tail y w within r over.
         a.none d n tail y w within (from-first (fam d) k _ n y w (head-is k a.front a.next a.more tail s.tokens a.tokens h) r) over;
     goes_on = goes-to (λ d. fam d k) firsts (λ x. x) (suc depth) (suc depth) (suc s.operators) (to-firsts k (suc depth)) (a.front ++ going_on bad.rule a.next) a.goes_on;
+    first = reaches-to (λ d. fam d k) firsts (λ x. x) depth depth s.operators (to-firsts k depth) a.front a.first;
   }
 
-  first-answers : (f : Kind → Step X) → ((k : Kind) → Answering (HeadIs k) (f k) (λ d. fam d k) g depth ⊎ Nowhere (f k) (λ d. fam d k)) → Readable firsts (suc depth)
+  pub first-answers : (f : Kind → Step X) → ((k : Kind) → Answering (HeadIs k) (f k) (λ d. fam d k) g depth ⊎ Nowhere (f k) (λ d. fam d k)) → Readable firsts (suc depth)
       → (s : State) → ends s.tokens ≡ true → Answers firsts g depth s (step.◌>>=◌ peek f s)
   first-answers f each some s end = go (kind s) refl (begins s.tokens end)
     where
@@ -95,9 +96,13 @@ module _ {X : Type 0} (fam : ℕ → Kind → Reads X) (g : Kind → Bool) (dept
       go k is h = by k is h (each k)
 
   -- there is something to be read that begins with a token of the kind c
-  pub first-correct : (f : Kind → Step X) → ((k : Kind) → Answering (HeadIs k) (f k) (λ d. fam d k) g depth ⊎ Nowhere (f k) (λ d. fam d k)) → (c : Kind) → Readable (λ d. fam d c) (suc depth)
-      → Correct (λ ts. Unit {0}) (step.◌>>=◌ peek f) firsts g depth
-  first-correct f each c some = record { answers = λ s end u. first-answers f each (readable-first c (suc depth) some) s end; some = readable-first c (suc depth) some }
+  pub first-correct : (f : Kind → Step X) → ((k : Kind) → Answering (HeadIs k) (f k) (λ d. fam d k) g depth ⊎ Nowhere (f k) (λ d. fam d k))
+      → (c : Kind) → Readable (λ d. fam d c) depth → Readable (λ d. fam d c) (suc depth) → Correct (λ ts. Unit {0}) (step.◌>>=◌ peek f) firsts g depth
+  first-correct f each c here some = record {
+    answers = λ s end u. first-answers f each (readable-first c (suc depth) some) s end;
+    here = readable-first c depth here;
+    some = readable-first c (suc depth) some;
+  }
 
 -- one level less
 abbrev pub deeper : {X : Type 0} → Family X → Family X
@@ -139,18 +144,27 @@ deeper-answers {X} P p fam g depth a s end pre = go (p s) (a s end pre)
       limited = t.limited;
       none = none bad.rule t.front t.next t.none;
       goes_on = let c = t.goes_on in record { tail = c.tail; value = c.value; left = c.left; reads = c.reads };
+      first = λ before behind u e lim. let c = t.first before behind u e lim in record { tail = c.tail; value = c.value; left = c.left; reads = c.reads };
     }
 
 pub deeper-correct : {X : Type 0} (P : List Tok → Type 0) (p : Step X) (fam : Family X) (g : Kind → Bool) (depth : ℕ)
     → Correct P p fam g depth → Correct P p (deeper fam) g (suc depth)
-deeper-correct {X} P p fam g depth a = record { answers = λ s end pre. deeper-answers P p fam g depth a.answers s end pre; some = readable-deeper fam (suc depth) a.some }
+deeper-correct {X} P p fam g depth a = record {
+  answers = λ s end pre. deeper-answers P p fam g depth a.answers s end pre;
+  here = readable-deeper fam depth a.here;
+  some = readable-deeper fam (suc depth) a.some;
+}
 
 -- two families that relate the same
 pub alike-correct : {X : Type 0} (P : List Tok → Type 0) (p : Step X) (fam fam' : Family X) (g : Kind → Bool) (depth : ℕ)
     → ((d : ℕ) (s : State) (y : X) (z : State) → fam d s y z → fam' d s y z)
     → ((d : ℕ) (s : State) (y : X) (z : State) → fam' d s y z → fam d s y z)
     → Correct P p fam g depth → Correct P p fam' g depth
-alike-correct {X} P p fam fam' g depth to from a = record { answers = λ s end pre. go s (p s) (a.answers s end pre); some = free-to fam fam' (λ x. x) (suc depth) (suc depth) (to (suc depth)) [] a.some }
+alike-correct {X} P p fam fam' g depth to from a = record {
+  answers = λ s end pre. go s (p s) (a.answers s end pre);
+  here = free-to fam fam' (λ x. x) depth depth (to depth) [] a.here;
+  some = free-to fam fam' (λ x. x) (suc depth) (suc depth) (to (suc depth)) [] a.some;
+}
   where
     go : (s : State) (o : Outcome X) → Answers fam g depth s o → Answers fam' g depth s o
     go s (Ok r) t = record {
@@ -174,11 +188,12 @@ alike-correct {X} P p fam fam' g depth to from a = record { answers = λ s end p
       limited = t.limited;
       none = λ d n tail y w within q over. t.none d n tail y w within (from d _ y w q) over;
       goes_on = goes-to fam fam' (λ x. x) (suc depth) (suc depth) (suc s.operators) (to (suc depth)) (t.front ++ going_on bad.rule t.next) t.goes_on;
+      first = reaches-to fam fam' (λ x. x) depth depth s.operators (to depth) t.front t.first;
     }
 
 pub weaker-correct : {X : Type 0} (P Q : List Tok → Type 0) (p : Step X) (fam : Family X) (g : Kind → Bool) (depth : ℕ)
     → ((ts : List Tok) → Q ts → P ts) → Correct P p fam g depth → Correct Q p fam g depth
-weaker-correct P Q p fam g depth h a = record { answers = λ s end pre. a.answers s end (h s.tokens pre); some = a.some }
+weaker-correct P Q p fam g depth h a = record { answers = λ s end pre. a.answers s end (h s.tokens pre); here = a.here; some = a.some }
 
 -- what is read inside with all the operators that are allowed, and takes none of them from what follows
 abbrev pub own : {X : Type 0} → Family X → Family X
@@ -188,6 +203,7 @@ pub own-correct : {X : Type 0} (P : List Tok → Type 0) (p : Step X) (fam : Fam
     → Correct P p fam g depth → Correct P (step.alone p) (own fam) g depth
 own-correct {X} P p fam g depth a = record {
   answers = λ s end pre. go s (p s) (a.answers s end pre);
+  here = let c = a.here in record { tail = c.tail; value = c.value; reads = λ n after. (n, c.reads n after, refl) };
   some = let c = a.some in record { tail = c.tail; value = c.value; reads = λ n after. (n, c.reads n after, refl) };
 }
   where
@@ -213,4 +229,6 @@ own-correct {X} P p fam g depth a = record {
       limited = t.limited;
       none = λ d n tail y w within q over. t.none d n tail y (st w.tokens q.0) within q.1 over;
       goes_on = let c = t.goes_on in record { tail = c.tail; value = c.value; left = suc s.operators; reads = λ after. (c.left, c.reads after, refl) };
+      first = λ before behind u e lim.
+          let c = t.first before behind u e lim in record { tail = c.tail; value = c.value; left = s.operators; reads = λ after. (c.left, c.reads after, refl) };
     }

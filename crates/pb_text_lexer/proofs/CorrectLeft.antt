@@ -15,9 +15,9 @@ use Rattle.pb_text_lexer.specs.LeftGrammar.{OperatorOf, Extended, Link, Links, L
 use Rattle.pb_text_lexer.specs.Steps.{ends, head_kind, Step, Outcome, and_then, pure, peek, refuse, refusal, kind, take_from, take_token, take_operator, operator_of, extended, unless_next, nothing_between, link, links, linked, left_chain, unmixed_chain, comparison}
 use Rattle.pb_text_lexer.specs.Steps as step
 use Rattle.pb_text_lexer.proofs.TokenLemmas.{ends-behind}
-use Rattle.pb_text_lexer.proofs.Correct.{st, Family, Stops, never, GoesOn, free-to, goes-to, goes-ended, some-token, Took, Refused, Answers, Answering, Correct, move, one-took, refused-here, unlike, then-took, then-refused, then-answers, then-correct, pure-correct}
+use Rattle.pb_text_lexer.proofs.Correct.{st, Family, Stops, never, GoesOn, free-to, goes-to, goes-then, goes-ended, reaches-to, reaches-read, reaches-append, some-token, Took, Refused, Answers, Answering, Correct, move, one-took, refused-here, unlike, then-took, then-tokens, then-none, then-answers, then-correct, pure-correct}
 use Rattle.pb_text_lexer.proofs.CorrectSeries.{going, Passes, stops-less, stops-at, goes-at, passes-at, passes-move, passes-is, shorter, no-longer, series-correct}
-use Rattle.pb_text_lexer.proofs.CorrectPlain.{Always, anywhere, then-plain-answers, is-correct}
+use Rattle.pb_text_lexer.proofs.CorrectPlain.{Always, anywhere, then-plain-answers, is-correct, unlimited-nothing}
 
 -- ---- tests of the next token
 
@@ -122,6 +122,7 @@ module _ {X : Type 0} (fam : Family X) (g test : Kind → Bool) (depth : ℕ) wh
         let found = a.only d i (t ∷ tail) y w a.stops r (stops-less g test w.tokens over) in
         goes-at g test w.tokens (passes-move test w.tokens (t ∷ tail) found.1 head) over;
     goes_on = goes-ended fam (suc depth) (suc s.operators) (suc n) a.front x a.one_more;
+    first = reaches-read fam depth s.operators n a.front x a.reads;
   }
 
   refused-more : (s : State) (bad : Refusal) → Refused fam g depth s bad → Refused fam (going g test) depth s bad
@@ -135,6 +136,7 @@ module _ {X : Type 0} (fam : Family X) (g test : Kind → Bool) (depth : ℕ) wh
     limited = a.limited;
     none = λ d n tail y w within r over. a.none d n tail y w within r (stops-less g test w.tokens over);
     goes_on = a.goes_on;
+    first = a.first;
   }
 
   pub unless_next-answers : (P : List Tok → Type 0) (p : Step X) → Answering P p fam g depth → Answering P (unless_next test p) fam (going g test) depth
@@ -149,7 +151,7 @@ module _ {X : Type 0} (fam : Family X) (g test : Kind → Bool) (depth : ℕ) wh
       went s (Err bad) a = refused-more s bad a
 
   pub unless_next-correct : (P : List Tok → Type 0) (p : Step X) → Correct P p fam g depth → Correct P (unless_next test p) fam (going g test) depth
-  unless_next-correct P p right = record { answers = λ s end pre. unless_next-answers P p right.answers s end pre; some = right.some }
+  unless_next-correct P p right = record { answers = λ s end pre. unless_next-answers P p right.answers s end pre; here = right.here; some = right.some }
 
 -- ---- a thing, and more where the test holds of the next token
 
@@ -205,22 +207,26 @@ module _ {X : Type 0} (item : Family X) (beyond : X → Family X) (g test : Kind
 
   more-refused : (s s1 : State) (x : X) (bad : Refusal) → Took item g depth s x s1 → Passes test s1.tokens
       → Refused (beyond x) (going g test) depth s1 bad → Refused many (going g test) depth s bad
-  unfolding then-refused
   more-refused s s1 x bad a head b = record {
     front = a.front ++ b.front;
     next = b.next;
     more = b.more;
-    tokens = (then-refused item beyond g (going g test) depth follow s s1 x bad a b).tokens;
+    tokens = then-tokens item beyond g (going g test) depth follow s s1 x bad a b;
     kind = b.kind;
     place = b.place;
     limited = b.limited;
     none = λ d n tail v w within r over. none d n tail v w within r over;
-    goes_on = goes-to longer many (λ v. v) (suc depth) (suc depth) (suc s.operators) (with-more (suc depth)) ((a.front ++ b.front) ++ going_on bad.rule b.next) (then-refused item beyond g (going g test) depth follow s s1 x bad a b).goes_on;
+    goes_on = goes-to longer many (λ v. v) (suc depth) (suc depth) (suc s.operators) (with-more (suc depth)) ((a.front ++ b.front) ++ going_on bad.rule b.next)
+        (goes-then item beyond (suc depth) a.front b.front (going_on bad.rule b.next) (suc s.operators) (suc s1.operators) x a.one_more b.goes_on);
+    first = reaches-append many depth s.operators a.front b.front (reaches-read many depth s.operators s1.operators a.front x (λ after. inl (a.reads after)))
+        (λ before behind t e lim.
+        goes-to longer many (λ v. v) depth depth s.operators (with-more depth) ((a.front ++ before) ++ t ∷ [])
+        (goes-then item beyond depth a.front before (t ∷ []) s.operators s1.operators x a.reads (b.first before behind t e lim)));
   }
     where
       none : (d n : ℕ) (tail : List Tok) (v : X) (w : State) → Within bad.rule depth s.operators d n
           → many d (st ((a.front ++ b.front) ++ b.next ∷ tail) n) v w → Stops (going g test) w.tokens → ⊥
-      none d n tail v w within (inr r) over = (then-refused item beyond g (going g test) depth follow s s1 x bad a b).none d n tail v w within r over
+      none d n tail v w within (inr r) over = then-none item beyond g (going g test) depth follow s s1 x bad a b d n tail v w within r over
       none d n tail v w within (inl r) over = not-alone s s1 x a d n (b.front ++ b.next ∷ tail) v w
           (passes-is test b.front b.next b.more tail s1.tokens b.tokens head)
           (move (item d) _ _ n n v w (append_assoc a.front b.front (b.next ∷ tail)) refl r) over
@@ -236,6 +242,7 @@ module _ {X : Type 0} (item : Family X) (beyond : X → Family X) (g test : Kind
     limited = a.limited;
     none = λ d n tail v w within r over. none d n tail v w within r over;
     goes_on = goes-to item many (λ v. v) (suc depth) (suc depth) (suc s.operators) (alone (suc depth)) (a.front ++ going_on bad.rule a.next) a.goes_on;
+    first = reaches-to item many (λ v. v) depth depth s.operators (alone depth) a.front a.first;
   }
     where
       none : (d n : ℕ) (tail : List Tok) (v : X) (w : State) → Within bad.rule depth s.operators d n
@@ -267,7 +274,11 @@ module _ {X : Type 0} (item : Family X) (beyond : X → Family X) (g test : Kind
   pub extended-correct : (P : List Tok → Type 0) (p : Step X) → Correct P p item g depth
       → (q : X → Step X) → ((x : X) → Answering (Passes test) (q x) (beyond x) (going g test) depth)
       → Correct P (extended test p q) many (going g test) depth
-  extended-correct P p right-p q right-q = record { answers = λ s end pre. went s (p s) (right-p.answers s end pre); some = free-to item many (λ v. v) (suc depth) (suc depth) (alone (suc depth)) [] right-p.some }
+  extended-correct P p right-p q right-q = record {
+    answers = λ s end pre. went s (p s) (right-p.answers s end pre);
+    here = free-to item many (λ v. v) depth depth (alone depth) [] right-p.here;
+    some = free-to item many (λ v. v) (suc depth) (suc depth) (alone (suc depth)) [] right-p.some;
+  }
     where
       followed : (s s1 : State) (x : X) → Took item g depth s x s1 → Passes test s1.tokens → (o : Outcome X) → Answers (beyond x) (going g test) depth s1 o → Answers many (going g test) depth s o
       followed s s1 x a head (Ok r) b = more-took s s1 x r.0 r.1 a b
@@ -347,6 +358,7 @@ module _ {X : Type 0} (fam other : Family X) (test test' g : Kind → Bool) (dep
     limited = a.limited;
     none = λ d n tail y w within r over. none d n tail y w within r over;
     goes_on = goes-to fam one-of (λ v. v) (suc depth) (suc depth) (suc s.operators) (left (suc depth)) (a.front ++ going_on bad.rule a.next) a.goes_on;
+    first = reaches-to fam one-of (λ v. v) depth depth s.operators (left depth) a.front a.first;
   }
     where
       none : (d n : ℕ) (tail : List Tok) (y : X) (w : State) → Within bad.rule depth s.operators d n → one-of d (st (a.front ++ a.next ∷ tail) n) y w → Stops g w.tokens → ⊥
@@ -364,6 +376,7 @@ module _ {X : Type 0} (fam other : Family X) (test test' g : Kind → Bool) (dep
     limited = a.limited;
     none = λ d n tail y w within r over. none d n tail y w within r over;
     goes_on = goes-to other one-of (λ v. v) (suc depth) (suc depth) (suc s.operators) (right (suc depth)) (a.front ++ going_on bad.rule a.next) a.goes_on;
+    first = reaches-to other one-of (λ v. v) depth depth s.operators (right depth) a.front a.first;
   }
     where
       none : (d n : ℕ) (tail : List Tok) (y : X) (w : State) → Within bad.rule depth s.operators d n → one-of d (st (a.front ++ a.next ∷ tail) n) y w → Stops g w.tokens → ⊥
@@ -421,6 +434,7 @@ module _ {X : Type 0} (item : Family X) (g test : Kind → Bool) (join : X → T
       (λ d m t o y z b r. subst (λ (v : State). Passes test v.tokens) b.1 (links-start d o y z r))
       (link test p) link-answers nothing_between (anywhere (Passes test) nothing_between (λ d. Is {X = Unit {0}} tt) never depth (is-correct tt depth)).answers
       (λ m bad is. absurd (unlike-error is))
+      (λ m t z a. unlimited-nothing depth m t z a)
       (λ s0 s1 s2 x t a b. less s0.tokens s1.tokens s2.tokens a.front b.front (a.reads []).0 (a.reads []).1.tokens a.tokens b.tokens (a.reads []).2.0)
       (suc (length s.tokens)) s (omega arith) end
     where
@@ -501,6 +515,7 @@ going-alike-answers {X} P p fam g h depth same a s end pre = went s (p s) (a s e
       limited = t.limited;
       none = λ d n tail y w within q over. t.none d n tail y w within q (stops-same g h same w.tokens over);
       goes_on = t.goes_on;
+      first = t.first;
     }
 
 right-alike : (a b c : Bool) → ((a || c) || b) ≡ (a || (b || c))

@@ -1,14 +1,15 @@
 -- Steps behind which anything may stand, and steps that are right wherever they begin.
-use Rattle.std.proofs.Common.{◌≡◌, ℕ, Bool, false, List, refl}
+use Rattle.std.proofs.Common.{◌≡◌, ℕ, Bool, true, false, List, [], ◌∷◌, refl, sym, ◌∙◌, ap, subst, Ok, Err}
+use Rattle.std.proofs.lemmas.List.{append-nil}
 use Rattle.pb_text_lexer.specs.declared.fault.ReadingRule.TheVariants.{Unexpected}
 use Rattle.pb_text_lexer.specs.declared.kind.Kind.{Kind}
-use Rattle.pb_text_lexer.specs.Kinds.{is_last}
+use Rattle.pb_text_lexer.specs.Kinds.{is_last, is_limited}
 use Rattle.pb_text_lexer.specs.Tokens.{Tok}
 use Rattle.pb_text_lexer.specs.Grammar.{State, Reads, Is, Nothing, One}
 use Rattle.pb_text_lexer.specs.Grammar as grammar
-use Rattle.pb_text_lexer.specs.Steps.{head_kind, Step, pure, take_token, refuse}
+use Rattle.pb_text_lexer.specs.Steps.{ends, head_kind, Step, Outcome, and_then, pure, take_token, take_from, refuse}
 use Rattle.pb_text_lexer.specs.Steps as step
-use Rattle.pb_text_lexer.proofs.Correct.{Family, Stops, never, stops-never, Answering, Correct, then-answers, then-correct, pure-correct, HeadIs, take-correct}
+use Rattle.pb_text_lexer.proofs.Correct.{st, Family, Stops, never, stops-never, Took, Answers, Answering, Correct, Unlimited, unlimited-none, unlimited-one, reaches-unlimited, then-took, then-refused, then-answers, then-correct, pure-correct, HeadIs, take-correct}
 use Rattle.pb_text_lexer.proofs.CorrectFamilies.{Nowhere, weaker-correct}
 
 abbrev pub Always : List Tok → Type 0
@@ -45,3 +46,37 @@ pub then-plain-answers : {X Y : Type 0} (famR : Family X) (famS : X → Family Y
 then-plain-answers famR famS g depth P p q a b =
     then-answers famR famS never g depth (λ d x m y z r over. stops-never m.tokens) P p q a
     (λ x. anywhere (Stops never) (q x) (famS x) g depth (b x))
+
+-- ---- tokens at which no limit can be exceeded
+
+unlimited-alike : (ts us : List Tok) → ts ≡ us → Unlimited us → Unlimited ts
+unlimited-alike ts us e h = subst (λ (v : List Tok). Unlimited v) (sym e) h
+
+pub unlimited-token : (k : Kind) (depth : ℕ) → is_limited k ≡ false → (s : State) (t : Tok) (z : State) (a : Took (λ d. One k) never depth s t z) → Unlimited a.front
+unlimited-token k depth off s t z a =
+    let r = a.reads [] in
+    unlimited-alike a.front (t ∷ []) (sym (append-nil a.front) ∙ r.0) (unlimited-one t (ap is_limited r.1 ∙ off))
+
+pub unlimited-nothing : (depth : ℕ) (s : State) (t : Unit {0}) (z : State) (a : Took (λ d. Is {X = Unit {0}} tt) never depth s t z) → Unlimited a.front
+unlimited-nothing depth s t z a =
+    let r = a.reads [] in
+    unlimited-alike a.front [] (sym (append-nil a.front) ∙ sym (ap (λ v. v.tokens) r.1)) unlimited-none
+
+-- such a token, and then what need not be there where no level may open
+pub then-behind : {Y : Type 0} (k : Kind) (famS : Tok → Family Y) (g : Kind → Bool) (depth : ℕ) (q : Tok → Step Y) → is_last k ≡ false → is_limited k ≡ false
+    → ((t : Tok) → Answering Always (q t) (famS t) g depth) → Answering (HeadIs k) (step.◌>>=◌ take_token q) (λ d. grammar.◌>>=◌ (One k) (λ t. famS t d)) g depth
+unfolding take_token
+then-behind {Y} k famS g depth q ne off right-q s end head = go s.tokens s.operators end head
+  where
+    follow : (d : ℕ) (t : Tok) (m : State) (y : Y) (z : State) → famS t d m y z → Stops g z.tokens → Stops never m.tokens
+    follow d t m y z r over = stops-never m.tokens
+
+    second : (s m : State) (t : Tok) → Took (λ d. One k) never depth s t m → (o : Outcome Y) → Answers (famS t) g depth m o → Answers (λ d. grammar.◌>>=◌ (One k) (λ t. famS t d)) g depth s o
+    second s m t a (Ok r) b = then-took (λ d. One k) famS never g depth follow s m t r.0 r.1 a b
+    second s m t a (Err bad) b =
+        then-refused (λ d. One k) famS never g depth follow s m t bad a
+        (reaches-unlimited (λ d. grammar.◌>>=◌ (One k) (λ t. famS t d)) depth s.operators a.front (unlimited-token k depth off s t m a)) b
+
+    go : (ts : List Tok) (n : ℕ) → ends ts ≡ true → HeadIs k ts → Answers (λ d. grammar.◌>>=◌ (One k) (λ t. famS t d)) g depth (st ts n) (and_then (take_from ts n) q)
+    go [] n e h = absurd h
+    go (t ∷ ts) n e h = let a = (take-correct k depth ne).answers (st (t ∷ ts) n) e h in second (st (t ∷ ts) n) (st ts n) t a (q t (st ts n)) (right-q t (st ts n) a.ended tt)

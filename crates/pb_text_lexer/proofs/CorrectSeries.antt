@@ -9,7 +9,7 @@ use Rattle.pb_text_lexer.specs.Grammar.{State, Within, going_on, Is, Series, las
 use Rattle.pb_text_lexer.specs.Grammar as grammar
 use Rattle.pb_text_lexer.specs.Steps.{ends, head_kind, Step, Outcome, and_then, pure, kind, series}
 use Rattle.pb_text_lexer.specs.Steps as step
-use Rattle.pb_text_lexer.proofs.Correct.{st, Family, Stops, never, stops-never, Readable, free-to, readable-is, free-then, goes-to, Took, Refused, Answers, Answering, move, then-took, then-refused, first-refused, pure-correct, HeadIs}
+use Rattle.pb_text_lexer.proofs.Correct.{st, Family, Stops, never, stops-never, Readable, free-to, readable-is, free-then, goes-to, goes-then, Unlimited, reaches-to, reaches-read, reaches-append, reaches-unlimited, Took, Refused, Answers, Answering, move, then-took, then-tokens, then-none, then-refused, first-refused, pure-correct, HeadIs}
 
 -- what goes on with a series: what goes on with an item, and what passes the test
 abbrev pub going : (Kind → Bool) → (Kind → Bool) → Kind → Bool
@@ -131,22 +131,26 @@ module _ {X T Y : Type 0} (item : Family X) (between : Family T) (end : X → Y)
 
   more-refused : (s s1 : State) (x : X) (bad : Refusal) → Took item g depth s x s1 → Passes test s1.tokens
       → Refused (behind x) (going g test) depth s1 bad → Refused many (going g test) depth s bad
-  unfolding then-refused
   more-refused s s1 x bad a head b = record {
     front = a.front ++ b.front;
     next = b.next;
     more = b.more;
-    tokens = (then-refused item behind g (going g test) depth follow s s1 x bad a b).tokens;
+    tokens = then-tokens item behind g (going g test) depth follow s s1 x bad a b;
     kind = b.kind;
     place = b.place;
     limited = b.limited;
     none = λ d n tail v w within r over. none d n tail v w within (split d _ v w r) over;
-    goes_on = goes-to longer many (λ v. v) (suc depth) (suc depth) (suc s.operators) (join-longer (suc depth)) ((a.front ++ b.front) ++ going_on bad.rule b.next) (then-refused item behind g (going g test) depth follow s s1 x bad a b).goes_on;
+    goes_on = goes-to longer many (λ v. v) (suc depth) (suc depth) (suc s.operators) (join-longer (suc depth)) ((a.front ++ b.front) ++ going_on bad.rule b.next)
+        (goes-then item behind (suc depth) a.front b.front (going_on bad.rule b.next) (suc s.operators) (suc s1.operators) x a.one_more b.goes_on);
+    first = reaches-append many depth s.operators a.front b.front (reaches-read many depth s.operators s1.operators a.front (end x) (λ after. last (a.reads after)))
+        (λ before behind-it t e lim.
+        goes-to longer many (λ v. v) depth depth s.operators (join-longer depth) ((a.front ++ before) ++ t ∷ [])
+        (goes-then item behind depth a.front before (t ∷ []) s.operators s1.operators x a.reads (b.first before behind-it t e lim)));
   }
     where
       none : (d n : ℕ) (tail : List Tok) (v : Y) (w : State) → Within bad.rule depth s.operators d n
           → single d (st ((a.front ++ b.front) ++ b.next ∷ tail) n) v w ⊎ longer d (st ((a.front ++ b.front) ++ b.next ∷ tail) n) v w → Stops (going g test) w.tokens → ⊥
-      none d n tail v w within (inr r) over = (then-refused item behind g (going g test) depth follow s s1 x bad a b).none d n tail v w within r over
+      none d n tail v w within (inr r) over = then-none item behind g (going g test) depth follow s s1 x bad a b d n tail v w within r over
       none d n tail v w within (inl r) over = not-alone s s1 x a d n (b.front ++ b.next ∷ tail) v w
           (passes-is test b.front b.next b.more tail s1.tokens b.tokens head)
           (move (single d) _ _ n n v w (append_assoc a.front b.front (b.next ∷ tail)) refl r) over
@@ -162,6 +166,7 @@ module _ {X T Y : Type 0} (item : Family X) (between : Family T) (end : X → Y)
     limited = a.limited;
     none = λ d n tail v w within r over. none d n tail v w within (split d _ v w r) over;
     goes_on = goes-to item many end (suc depth) (suc depth) (suc s.operators) (λ s x z r. last r) (a.front ++ going_on bad.rule a.next) a.goes_on;
+    first = reaches-to item many end depth depth s.operators (λ s x z r. last r) a.front a.first;
   }
     where
       none : (d n : ℕ) (tail : List Tok) (v : Y) (w : State) → Within bad.rule depth s.operators d n
@@ -192,9 +197,10 @@ module _ {X T Y : Type 0} (item : Family X) (between : Family T) (end : X → Y)
           let found = a.only d n after r.0 r.1 (stops-less g test after stop) r.2 (follow d r.0 r.1 v w r.3 over) in
           absurd (goes-at g test after (passes-move test after r.1.tokens (sym found.1) (behind-starts d r.0 r.1 v w r.3)) stop)
 
-  -- where what stands between is refused there is something to be read
+  -- Where what stands between is refused there is something to be read. At no token of it a limit can be exceeded.
   module _ (p : Step X) (right-p : Answering (λ ts. Unit {0}) p item g depth) (q : Step T) (right-q : Answering (Passes test) q between never depth)
-      (some : (s : State) (bad : Refusal) → q s ≡ Err bad → Readable item (suc depth))
+      (some : (s : State) (bad : Refusal) → q s ≡ Err bad → Readable item depth × Readable item (suc depth))
+      (unlimited : (s : State) (t : T) (z : State) (a : Took between never depth s t z) → Unlimited a.front)
       (consumes : (s s1 s2 : State) (x : X) (t : T) → Took item g depth s x s1 → Took between never depth s1 t s2 → length s2.tokens < length s.tokens) where
     pub series-correct : (n : ℕ) (s : State) → length s.tokens ≤ n → ends s.tokens ≡ true → Answers many (going g test) depth s (series p test q end join n s)
     unfolding series
@@ -205,8 +211,8 @@ module _ {X T Y : Type 0} (item : Family X) (between : Family T) (end : X → Y)
         empty (t ∷ ts) le e = omega arith
     series-correct (suc n) s le ended = at-item (series-correct n) (p s) (right-p s ended tt)
       where
-        some-right : (x : X) (t : T) → Readable item (suc depth) → Readable (right x t) (suc depth)
-        some-right x t a = free-then many (closing x t) (suc depth) [] (readable-series item between end join (suc depth) a) (λ y. readable-is (join x t y) (suc depth))
+        some-right : (x : X) (t : T) (level : ℕ) → Readable item level → Readable (right x t) level
+        some-right x t level a = free-then many (closing x t) level [] (readable-series item between end join level a) (λ y. readable-is (join x t y) level)
 
         no-more : (x : X) (t : T) (d : ℕ) (u : Y) (m : State) (y : Y) (z : State) → closing x t u d m y z → Stops (going g test) z.tokens → Stops (going g test) m.tokens
         no-more x t d u m y z h over = subst (λ (v : State). Stops (going g test) v.tokens) h.1 over
@@ -221,7 +227,8 @@ module _ {X T Y : Type 0} (item : Family X) (between : Family T) (end : X → Y)
         ends-with s1 x t s2 a head b (Err bad) rest =
             more-refused s s1 x bad a head
             (then-refused between (right x) never (going g test) depth (λ d u m y z h over. stops-never m.tokens) s1 s2 t bad b
-            (first-refused many (closing x t) (going g test) (going g test) depth (no-more x t) s2 bad (λ y. readable-is (join x t y) (suc depth)) rest))
+            (reaches-unlimited (behind x) depth s1.operators b.front (unlimited s1 t s2 b))
+            (first-refused many (closing x t) (going g test) (going g test) depth (no-more x t) s2 bad (λ y. readable-is (join x t y) depth) (λ y. readable-is (join x t y) (suc depth)) rest))
 
         fewer : (i j : ℕ) → length s.tokens ≤ suc n → i < length s.tokens → i ≤ n
         fewer i j a b = omega arith
@@ -233,7 +240,9 @@ module _ {X T Y : Type 0} (item : Family X) (between : Family T) (end : X → Y)
         at-between s1 x a head again (Ok r) is b =
             ends-with s1 x r.0 r.1 a head b (series p test q end join n r.1) (again r.1 (fewer (length r.1.tokens) 0 le (consumes s s1 r.1 x r.0 a b)) b.ended)
         at-between s1 x a head again (Err bad) is b =
-            more-refused s s1 x bad a head (first-refused between (right x) never (going g test) depth (λ d u m y z h over. stops-never m.tokens) s1 bad (λ t. some-right x t (some s1 bad is)) b)
+            let found = some s1 bad is in
+            more-refused s s1 x bad a head
+            (first-refused between (right x) never (going g test) depth (λ d u m y z h over. stops-never m.tokens) s1 bad (λ t. some-right x t depth found.0) (λ t. some-right x t (suc depth) found.1) b)
 
         head-of : (ts : List Tok) → ends ts ≡ true → test (head_kind ts) ≡ true → Passes test ts
         head-of [] e same = cc

@@ -11,7 +11,7 @@ use Rattle.pb_text_lexer.specs.LeftGrammar.{Listed}
 use Rattle.pb_text_lexer.specs.Steps.{head_place, Step, Outcome, and_then, pure, take_token, expect, refuse, unless_next, place}
 use Rattle.pb_text_lexer.specs.Steps as step
 use Rattle.pb_text_lexer.specs.Tokens.{Tok}
-use Rattle.pb_text_lexer.proofs.Correct.{st, Family, Stops, never, readable-is, readable-one, Took, Answers, Answering, Correct, then-correct, HeadIs, take-correct, expect-correct, refused-here, Free, Readable, goes-free, free-then, free-one}
+use Rattle.pb_text_lexer.proofs.Correct.{st, Family, Stops, never, readable-is, readable-one, Took, Answers, Answering, Correct, then-correct, HeadIs, take-correct, expect-correct, refused-here, Free, Readable, GoesOn, goes-free, free-then, free-one}
 use Rattle.pb_text_lexer.proofs.CorrectFamilies.{readable-deeper, deeper, deeper-correct, weaker-correct}
 use Rattle.pb_text_lexer.proofs.CorrectSeries.{Passes, readable-series}
 use Rattle.pb_text_lexer.proofs.CorrectPlain.{Always, anywhere, then-plain, is-correct}
@@ -37,10 +37,20 @@ readable-placed fam level some a = record {
   reads = λ n after. (a.reads n after, head-of a.tail [] after (some level _ a.value _ (a.reads n [])));
 }
 
+goes-placed : {X : Type 0} (fam : Family X) (level n : ℕ) → ((d : ℕ) (s : State) (y : X) (z : State) → fam d s y z → Passes (λ kind. true) s.tokens)
+    → (ts : List Tok) → GoesOn fam level n ts → GoesOn (λ d. Placed (fam d)) level n ts
+goes-placed fam level n some ts c = record {
+  tail = c.tail;
+  value = (head_place ((ts ++ c.tail) ++ []), c.value);
+  left = c.left;
+  reads = λ after. (c.reads after, head-of (ts ++ c.tail) [] after (some level _ c.value _ (c.reads [])));
+}
+
 pub placed-correct : {X : Type 0} (fam : Family X) (g : Kind → Bool) (depth : ℕ) → ((d : ℕ) (s : State) (y : X) (z : State) → fam d s y z → Passes (λ kind. true) s.tokens)
     → (p : Step X) → Correct Always p fam g depth → Correct Always (placed p) (λ d. Placed (fam d)) g depth
 placed-correct {X} fam g depth some p right = record {
   answers = λ s end u. went s (p s) (right.answers s end u);
+  here = readable-placed fam depth some right.here;
   some = readable-placed fam (suc depth) some right.some;
 }
   where
@@ -77,12 +87,8 @@ placed-correct {X} fam g depth some p right = record {
       place = a.place;
       limited = a.limited;
       none = λ d n tail y w within r over. a.none d n tail y.1 w within r.0 over;
-      goes_on = let c = a.goes_on in record {
-        tail = c.tail;
-        value = (head_place (((a.front ++ going_on bad.rule a.next) ++ c.tail) ++ []), c.value);
-        left = c.left;
-        reads = λ after. (c.reads after, head-of ((a.front ++ going_on bad.rule a.next) ++ c.tail) [] after (some (suc depth) _ c.value _ (c.reads [])));
-      };
+      goes_on = goes-placed fam (suc depth) (suc s.operators) some (a.front ++ going_on bad.rule a.next) a.goes_on;
+      first = λ before behind t e lim. goes-placed fam depth s.operators some (before ++ t ∷ []) (a.first before behind t e lim);
     }
 
 -- ---- names with arguments

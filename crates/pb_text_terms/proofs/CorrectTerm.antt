@@ -83,7 +83,7 @@ at-last kind = inr nothing-correct
 unary-last : Correct Always (unary 0) IsUnary unary_goes 0
 unary-last =
     alike-correct Always (unary 0) (λ d. First (kinds d)) IsUnary unary_goes 0 to-unary from-unary
-    (first-correct kinds unary_goes 0 (λ d kind. starts (deeper IsUnary d) (deeper IsTerm d) kind) (begun (refuse Limit) (refuse Limit) (refuse Limit)) at-last k.True (readable-true 1))
+    (first-correct kinds unary_goes 0 (λ d kind. starts (deeper IsUnary d) (deeper IsTerm d) kind) (begun (refuse Limit) (refuse Limit) (refuse Limit)) at-last k.True (readable-true 0) (readable-true 1))
 
 module _ (depth : ℕ) (right-unary : Correct Always (unary depth) IsUnary unary_goes depth) (right-term : Correct Always (term depth) IsTerm term_goes depth) where
   inner-unary : Correct Always (unary depth) (deeper IsUnary) unary_goes (suc depth)
@@ -120,7 +120,8 @@ module _ (depth : ℕ) (right-unary : Correct Always (unary depth) IsUnary unary
   unary-over : Correct Always (unary (suc depth)) IsUnary unary_goes (suc depth)
   unary-over =
       alike-correct Always (unary (suc depth)) (λ d. First (kinds d)) IsUnary unary_goes (suc depth) to-unary from-unary
-      (first-correct kinds unary_goes (suc depth) (λ d kind. starts (deeper IsUnary d) (deeper IsTerm d) kind) (begun take_token (unary depth) (term depth)) at-each k.True (readable-true (suc (suc depth))))
+      (first-correct kinds unary_goes (suc depth) (λ d kind. starts (deeper IsUnary d) (deeper IsTerm d) kind) (begun take_token (unary depth) (term depth)) at-each k.True
+      (readable-true (suc depth)) (readable-true (suc (suc depth))))
 
 -- ---- connectives and quantifiers
 
@@ -133,7 +134,7 @@ connections-correct depth n q right-n right-q =
 term-last : Correct Always (term 0) IsTerm term_goes 0
 term-last =
     connections-correct 0 (equated (unary 0)) (quantified TermForm.quantified (refuse Limit) (refuse Limit)) (equateds (unary 0) IsUnary 0 unary-last)
-    (quantified-last TermForm.quantified IsTerm term_goes (readable-term 0) (refuse Limit)).answers
+    (quantified-last TermForm.quantified IsTerm term_goes (readable-term 0) (refuse Limit))
 
 term-over : (depth : ℕ) → Correct Always (unary (suc depth)) IsUnary unary_goes (suc depth) → Correct Always (term depth) IsTerm term_goes depth
     → Correct Always (term (suc depth)) IsTerm term_goes (suc depth)

@@ -17,9 +17,9 @@ use Rattle.pb_text_lexer.specs.Steps as step
 use Rattle.pb_text_lexer.specs.Tokens.{Tok}
 use Rattle.pb_text_lexer.proofs.TokenLemmas.{kind-same}
 use Rattle.pb_text_lexer.proofs.Correct.{st, Family, Stops, never, readable-is, readable-one, Answers, Answering, Correct, then-correct, pure-correct, HeadIs, take-correct, expect-correct, refused-here, Free, Readable, goes-free, readable-free, free-then, free-one, some-token}
-use Rattle.pb_text_lexer.proofs.CorrectFamilies.{readable-deeper, Nowhere, first-correct, deeper, deeper-correct, weaker-correct}
+use Rattle.pb_text_lexer.proofs.CorrectFamilies.{readable-first, readable-deeper, Nowhere, first-answers, first-correct, deeper, deeper-correct, weaker-correct}
 use Rattle.pb_text_lexer.proofs.CorrectSeries.{going, Passes, head-at, passes-at, shorter, no-longer, readable-series, series-correct}
-use Rattle.pb_text_lexer.proofs.CorrectPlain.{Always, anywhere, then-plain, is-correct, nothing-correct}
+use Rattle.pb_text_lexer.proofs.CorrectPlain.{Always, anywhere, then-plain, is-correct, nothing-correct, unlimited-token}
 use Rattle.pb_text_lexer.proofs.CorrectChained.{is-symbol-at, head-of-passes}
 use Rattle.pb_text_terms.specs.Operators.{is_quantifier}
 use Rattle.pb_text_terms.specs.Grammar.{Name, Group, Variables, Binding, QuantifiedBy, Quantified}
@@ -44,7 +44,8 @@ listed-answers item g depth apart p right-p s end =
     (λ kind h. ap g (kind-same kind k.Comma h) ∙ apart)
     (λ d m t o y z r rest. passes-at is_comma m.tokens o.tokens t r.0 (is-symbol-at k.Comma t.kind r.1))
     p right-p.answers take_token (weaker-correct (HeadIs k.Comma) (Passes is_comma) take_token (λ d. One k.Comma) never depth (head-of-passes k.Comma) (take-correct k.Comma depth refl)).answers
-    (λ m bad is. right-p.some)
+    (λ m bad is. (right-p.here, right-p.some))
+    (λ m t z a. unlimited-token k.Comma depth refl m t z a)
     (λ s0 s1 s2 x t a b. less s0.tokens s1.tokens s2.tokens a.front b.front t a.tokens b.tokens (b.reads []).0)
     (suc (length s.tokens)) s (omega arith) end
   where
@@ -57,6 +58,7 @@ pub listed-correct : {X : Type 0} (item : Family X) (g : Kind → Bool) (depth :
     → Correct Always (λ s. listed p is_comma take_token (suc (length s.tokens)) s) (λ d. Listed (item d) (One k.Comma)) (going g is_comma) depth
 listed-correct item g depth apart p right-p = record {
   answers = λ s end u. listed-answers item g depth apart p right-p s end;
+  here = readable-series item (λ d. One k.Comma) (λ x. x ∷ []) (λ x t xs. x ∷ xs) depth right-p.here;
   some = readable-series item (λ d. One k.Comma) (λ x. x ∷ []) (λ x t xs. x ∷ xs) (suc depth) right-p.some;
 }
 
@@ -146,7 +148,8 @@ module _ {X : Type 0} (made : Quantifier → Place → List VariableForm → X �
   pub quantified-correct : (depth : ℕ) (p : Step X) → Correct Always p fam g depth → Correct (Passes is_quantifier) (quantified made take_token p) (λ d. Quantified made (deeper fam d)) g (suc depth)
   quantified-correct depth p right =
       anywhere (Passes is_quantifier) (quantified made take_token p) (λ d. Quantified made (deeper fam d)) g (suc depth)
-      (first-correct kinds g (suc depth) starts (λ kind. quantified_by made take_token p (quantifier_of kind)) (at-each depth p right) k.Forall (forall-correct depth p right).some)
+      (first-correct kinds g (suc depth) starts (λ kind. quantified_by made take_token p (quantifier_of kind)) (at-each depth p right) k.Forall
+      (forall-correct depth p right).here (forall-correct depth p right).some)
 
   -- where no level may open
   no-level : (kind : Kind) → is_quantifier kind ≡ true → (d : ℕ) (s : State) (y : X) (w : State) → d ≤ 0 → kinds d kind s y w → ⊥
@@ -184,7 +187,7 @@ module _ {X : Type 0} (made : Quantifier → Place → List VariableForm → X �
       (λ t is. goes-free (λ d. kinds d k.Exists) 1 (suc s.operators) (t ∷ []) (free-exists 0 some t (is ∙ head-kind-is k.Exists s.tokens h))))
   at-last some p kind = inr nothing-correct
 
-  pub quantified-last : Readable fam 0 → (p : Step X) → Correct (Passes is_quantifier) (quantified made (refuse Limit) p) (λ d. Quantified made (deeper fam d)) g 0
-  quantified-last some p =
-      anywhere (Passes is_quantifier) (quantified made (refuse Limit) p) (λ d. Quantified made (deeper fam d)) g 0
-      (first-correct kinds g 0 starts (λ kind. quantified_by made (refuse Limit) p (quantifier_of kind)) (at-last some p) k.Forall (readable-forall 0 some))
+  pub quantified-last : Readable fam 0 → (p : Step X) → Answering (Passes is_quantifier) (quantified made (refuse Limit) p) (λ d. Quantified made (deeper fam d)) g 0
+  quantified-last some p s end head =
+      first-answers kinds g 0 starts (λ kind. quantified_by made (refuse Limit) p (quantifier_of kind)) (at-last some p)
+      (readable-first kinds g 0 starts k.Forall 1 (readable-forall 0 some)) s end

@@ -9,8 +9,10 @@ use Rattle.pb_sorts.specs.declared.carrier.Carrier.{Carrier}
 use Rattle.pb_bytecode_program.specs.declared.instruction.Op.{Op}
 use Rattle.pb_bytecode_program.specs.declared.instruction.Op.TheVariants as op
 use Rattle.pb_verifier_states.specs.Edges.{edges_of}
-use Rattle.pb_verifier_states.specs.Flows.{GoesOn, Fails, FlowsTo}
-use Rattle.pb_verifier_states.specs.Refusals.{OnRefused}
+use Rattle.pb_verifier_states.specs.Flows.{GoesOn, Fails, FlowsTo, IsNamed}
+use Rattle.pb_verifier_states.specs.NamedRule.{named_rule}
+use Rattle.pb_verifier_states.specs.Refusals.{OnRefused, IfRefused}
+use Rattle.pb_verifier_states.specs.declared.rule.AcceptanceRule.{AcceptanceRule}
 use Rattle.pb_verifier_states.specs.declared.edges.Edges.{Edges}
 use Rattle.pb_verifier_states.specs.declared.flow_error.FlowError.{FlowError}
 use Rattle.pb_verifier_states.specs.declared.flow_error.FlowError.TheVariants.{Refused, Memory}
@@ -61,3 +63,17 @@ module _ (ss : List ℕ) (cs : List (List Carrier)) (k : AbstractState) where
   enum_fails s x n (Ok m) e l h = tt
   enum_fails s x n (Err (Refused y)) e l h = enum_pushed s x n (λ q. None) e l h
   enum_fails s x n (Err Memory) e l h = tt
+
+  -- the rule that is named
+  pub named : {A : Type 0} → (i j : Op) (r : Result A FlowError) → j ≡ i → IfRefused r (IsNamed i k) → IfRefused r (λ x. x ≡ named_rule ss cs j k)
+  named i j (Ok m) e h = tt
+  named i j (Err (Refused x)) e h = rw e (h ss cs)
+  named i j (Err Memory) e h = tt
+
+  pub named_enum : {A : Type 0} → (s x : ℕ) (j : Op) (r : Result A FlowError) → j ≡ op.PushEnum s x → IfRefused r (λ y. (callees : List (List Carrier)) → y ≡ named_rule ss callees (op.PushEnum s x) k) → IfRefused r (λ y. y ≡ named_rule ss cs j k)
+  named_enum s x j (Ok m) e h = tt
+  named_enum s x j (Err (Refused y)) e h = rw e (h cs)
+  named_enum s x j (Err Memory) e h = tt
+
+  pub named_on : (i j : Op) (x : AcceptanceRule) → j ≡ i → IsNamed i k x → x ≡ named_rule ss cs j k
+  named_on i j x e h = rw e (h ss cs)

@@ -6,3 +6,4 @@ pub mod Pushes
 pub mod Arguments
 pub mod Ranges
 pub mod Dispatch
+pub mod Missing

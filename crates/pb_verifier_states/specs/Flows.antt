@@ -1,8 +1,11 @@
 -- What control does at an instruction, wherever it stands.
-use Rattle.std.specs.Prelude.{◌≡◌, ℕ, Option, Some, None}
+use Rattle.std.specs.Prelude.{◌≡◌, ℕ, List, Option, Some, None}
+use Rattle.pb_sorts.specs.declared.carrier.Carrier.{Carrier}
 use Rattle.pb_bytecode_program.specs.Machine.{Program}
 use Rattle.pb_bytecode_program.specs.Transfer.{AbstractState, transfer, to_next_place}
 use Rattle.pb_verifier_states.specs.Edges.{edges_of}
+use Rattle.pb_verifier_states.specs.NamedRule.{named_rule}
+use Rattle.pb_verifier_states.specs.declared.rule.AcceptanceRule.{AcceptanceRule}
 use Rattle.pb_bytecode_program.specs.declared.instruction.Op.{Op}
 use Rattle.pb_bytecode_program.specs.declared.instruction.Op.TheVariants as op
 
@@ -13,6 +16,10 @@ GoesOn i k next = (p : Program) (home : Option AbstractState) (q : ℕ) → tran
 -- the instruction's rule fails
 abbrev pub Fails : Op → AbstractState → Type 0
 Fails i k = (p : Program) (home : Option AbstractState) (q : ℕ) → transfer p home q i k ≡ None
+
+-- the rule is the one that is named where the instruction is refused
+abbrev pub IsNamed : Op → AbstractState → AcceptanceRule → Type 0
+IsNamed i k rule = (sorts : List ℕ) (callees : List (List Carrier)) → rule ≡ named_rule sorts callees i k
 
 -- control flows to the next place and to the target, or to one of them, with these states
 abbrev pub FlowsTo : Op → AbstractState → Option AbstractState → Option (ℕ × AbstractState) → Type 0

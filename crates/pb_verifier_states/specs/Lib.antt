@@ -4,3 +4,5 @@ pub mod Refusals
 pub mod Inhabited
 pub mod Flows
 pub mod RuleNumber
+pub mod Kinds
+pub mod NamedRule

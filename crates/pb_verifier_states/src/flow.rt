@@ -3,8 +3,9 @@
 ghost use Rattle.std.specs.Prelude.{◌≡◌, IfOk, None, Option, Some, map, vec_items, ℕ};
 ghost use Rattle.pb_verifier_states.specs.Edges.{edges_of};
 ghost use Rattle.pb_verifier_states.specs.Flows.{GoesOnAlone};
+ghost use Rattle.pb_verifier_states.specs.NamedRule.{named_rule};
 ghost use Rattle.pb_bytecode_program.specs.Monotone.{HasOrderedRange};
-ghost use Rattle.pb_verifier_states.specs.Refusals.{OnRefused};
+ghost use Rattle.pb_verifier_states.specs.Refusals.{IfRefused, OnRefused};
 ghost use Rattle.pb_bytecode_program.specs.Counts.{Straight, loop_effect};
 ghost use Rattle.pb_bytecode_program.specs.Machine.{Program};
 ghost use Rattle.pb_bytecode_program.specs.Transfer.{AbstractState as Known, to_next_place};
@@ -23,6 +24,12 @@ use std::alloc::Global;
 
 /// What flows from an instruction other than the start and the end of a loop. `sorts` has the
 /// counts of enumerators, `callees` the carriers of each equation's parameters.
+///
+/// # Errors
+/// `Refused` exactly where the instruction breaks a rule, memory aside. It names the first that the
+/// instruction breaks as a whole: a missing operand before a wrong kind, kinds before the divisor,
+/// the divisor before the result, the kinds of all arguments before their intervals, and these
+/// before the root.
 pub fn flow(
     state: AbstractState,
     alloc: Global,
@@ -38,6 +45,8 @@ pub fn flow(
     ensures refused { OnRefused result ((p : Program) (home : Option Known) (q : ℕ)
         → p.sorts ≡ sorts.now → p.callees ≡ map vec_items callees.now
         → transfer p home q op state ≡ None) }
+    ensures rule { IfRefused result (λ rule. rule
+        ≡ named_rule sorts.now (map vec_items callees.now) op state) }
 {
     match op {
         Op::End => match state.end() {
@@ -74,6 +83,8 @@ fn next_state(
     ensures refused { OnRefused result ((p : Program) (home : Option Known) (q : ℕ)
         → p.sorts ≡ sorts.now → p.callees ≡ map vec_items callees.now
         → transfer p home q op state ≡ None) }
+    ensures rule { IfRefused result (λ rule. rule
+        ≡ named_rule sorts.now (map vec_items callees.now) op state) }
 {
     match op {
         Op::PushInt(z) => control::push(state, AbstractValue::Int { low: z, high: z }),

@@ -2,4 +2,3 @@ pub mod Structure
 pub mod Views
 pub mod Nesting
 pub mod Refusals
-pub mod FaultText

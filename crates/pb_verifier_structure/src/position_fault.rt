@@ -4,10 +4,8 @@ ghost use Rattle.std.specs.Prelude.{◌≡◌};
 
 use pb_verifier_states::AcceptanceRule;
 use std::alloc::{AllocError, AllocFailed};
-use std::fmt;
 
-/// A rule by position that is broken, and the place of the instruction that breaks it. It shows as
-/// `V05 at place 3`.
+/// A rule by position that is broken, and the place of the instruction that breaks it.
 #[derive(Clone, Copy, Debug, PartialEq, Eq)]
 pub struct PositionFault {
     pub rule: AcceptanceRule,
@@ -21,17 +19,6 @@ pub enum StructureError {
     Refused(PositionFault),
     /// Out of memory.
     Memory,
-}
-
-impl fmt::Display for PositionFault {
-    ghost use Rattle.std.specs.Prelude.{Some};
-    ghost use Rattle.pb_verifier_structure.specs.FaultText.{fault_text};
-
-    ghost output = { λ fault. Some (fault_text fault) };
-
-    fn fmt<W: fmt::Write>(&self, f: &mut fmt::Formatter<W>) -> fmt::Result {
-        write!(f, "{} at place {}", self.rule, self.place)
-    }
 }
 
 impl From<PositionFault> for StructureError {

@@ -2,7 +2,6 @@
 use Rattle.std.proofs.Common.{◌≡◌, ◌∙◌, ℕ, Bool, List, Option, ap}
 use Rattle.std.specs.Prelude.{Result, Ok, Err, OnOk}
 use Rattle.pb_sorts.specs.Sink.{AppendsPrefix}
-use Rattle.pb_text_meaning.specs.Erase.{erase}
 use Rattle.pb_bytecode.specs.Contents.{Contents}
 use Rattle.pb_report_texts.specs.declared.buffer.WriteError.{WriteError}
 use Rattle.pb_report_texts.specs.declared.buffer.WriteError.TheVariants.{Memory, Failed}
@@ -14,29 +13,28 @@ use Rattle.pbsolve.specs.declared.solve_error.SolveError.TheVariants as solve_er
 use Rattle.pbsolve.specs.Answers.{IsModuleOfText}
 use Rattle.pbsolve.specs.Errors.{write_failure}
 use Rattle.pbsolve.specs.Outputs.{Outputs}
-use Rattle.pbsolve.proofs.Texts.{HasTrees, CompilesToTheSame}
+use Rattle.pbsolve.proofs.Texts.{HasTrees}
 
 -- evidence of a text's module is evidence of the text
-pub text_evidence : (bytes : List ℕ) (m : Contents) → HasTrees m → IsModuleOfText bytes m → CompilesToTheSame
-    → (P : List ℕ → Type 0) → ForEvidenceText m P → Outputs command.Explain bytes P
-text_evidence bytes m some of_text law P found = (
+pub text_evidence : (bytes : List ℕ) (m : Contents) → HasTrees m → IsModuleOfText bytes m → (P : List ℕ → Type 0) → ForEvidenceText m P → Outputs command.Explain bytes P
+text_evidence bytes m some of_text P found = (
   m,
   found.0,
   record {
     text = of_text.text;
     read = of_text.read;
     typed = of_text.typed;
-    solved = (found.1 some.0 some.1).truth ∙ (law (erase of_text.text) of_text.typed m of_text.compiled some.0 some.1).answer;
+    solved = (found.1 some.0 some.1).truth ∙ (of_text.says some.0 some.1).answer;
     of_text = of_text;
     shown = found.1;
   },
   found.2,
 )
 
-pub texts_evidence : {T : Type 0} (bytes : List ℕ) (m : Contents) → HasTrees m → IsModuleOfText bytes m → CompilesToTheSame
+pub texts_evidence : {T : Type 0} (bytes : List ℕ) (m : Contents) → HasTrees m → IsModuleOfText bytes m
     → (P : List ℕ → Type 0) (r : Result T SolveError) → OnOk r (ForEvidenceText m P) → OnOk r (Outputs command.Explain bytes P)
-texts_evidence bytes m some of_text law P (Ok x) found = text_evidence bytes m some of_text law P found
-texts_evidence bytes m some of_text law P (Err e) found = tt
+texts_evidence bytes m some of_text P (Ok x) found = text_evidence bytes m some of_text P found
+texts_evidence bytes m some of_text P (Err e) found = tt
 
 -- writing failed, with this error, after a part
 pub begun : {T U : Type 0} (m : Contents) (r : Result T WriteError) (x : WriteError) (y : SolveError) (s : Result U SolveError) (old new : Option (List ℕ)) (fb fa : Bool)

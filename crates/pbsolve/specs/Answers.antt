@@ -1,13 +1,17 @@
 -- What the answer to a text is, and what its module is.
-use Rattle.std.specs.Prelude.{◌≡◌, ℕ, List}
+use Rattle.std.specs.Prelude.{◌≡◌, ℕ, true, List}
+use Rattle.pb_trees.specs.Tree.{Tree}
 use Rattle.pb_text_tree.specs.Form.{SpecForm}
 use Rattle.pb_text.specs.Parsing.{IsReading, IsReadingWithin}
 use Rattle.pb_typing_rules.specs.WellTyped.{IsWellTyped}
 use Rattle.pb_text_meaning.specs.Erase.{erase}
 use Rattle.pb_text_meaning.specs.Meaning.{answer}
 use Rattle.pb_bytecode.specs.Contents.{Contents}
+use Rattle.pb_bytecode.specs.Limits.{fits}
+use Rattle.pb_bytecode.specs.Meaning.{AreTrees}
 use Rattle.pb_bytecode.specs.Spelling.{spelling}
 use Rattle.pb_verifier.specs.Acceptance.{IsAccepted}
+use Rattle.pb_assembler_modules.specs.Answers.{SaysTheSame}
 use Rattle.pb_assembler_modules.specs.Module.{IsCompiledModule, KeepsAllLimits}
 use Rattle.pb_report_texts.specs.declared.answer.Answer.{Answer}
 use Rattle.pb_evidence.specs.declared.Evidence.{Evidence}
@@ -20,17 +24,24 @@ pub record IsTheReading (bytes : List ℕ) (x : SpecForm) : Type 0 where
   pub only : (depth operators : ℕ) (y : SpecForm) → IsReadingWithin depth operators bytes y → y ≡ x
 
 -- The module of a text: what the text says is well typed, and the module is what the compile scheme makes of it, with code
--- that keeps the machine's limits.
+-- that keeps the machine's limits. Whichever trees the runs of its instances end with, these have the text's answer, each of
+-- its instances has the truth that it has in the text's solution, and each tree is true where the text's right side is.
 pub record IsModuleOfText (bytes : List ℕ) (m : Contents) : Type 0 where
   pub text : SpecForm
   pub read : IsTheReading bytes text
   pub typed : IsWellTyped (erase text)
   pub compiled : IsCompiledModule (erase text) m
   pub kept : KeepsAllLimits (erase text) m
+  pub says : (trees : ℕ → Tree) → AreTrees m trees → SaysTheSame (erase text) m trees
+
+-- the bytes spell this module, which keeps the limits of the format, and so no other
+pub record Spell (bytes : List ℕ) (m : Contents) : Type 0 where
+  pub within_limits : fits m ≡ true
+  pub spelled : bytes ≡ spelling m
 
 -- the module that bytes spell, with code that is accepted
 pub record IsModuleOfCode (bytes : List ℕ) (m : Contents) : Type 0 where
-  pub spelled : bytes ≡ spelling m
+  pub spell : Spell bytes m
   pub accepted : IsAccepted m
 
 -- The answer to a text: what it says is well typed, and its initial instance has this truth in the solution. The counts are

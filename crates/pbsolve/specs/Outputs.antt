@@ -1,5 +1,5 @@
 -- What each command writes for its input. A text is spoken of by what holds of it: that it was appended, or a part of it.
-use Rattle.std.specs.Prelude.{◌≡◌, ℕ, List, codes}
+use Rattle.std.specs.Prelude.{ℕ, List, codes}
 use Rattle.pb_bytecode.specs.Contents.{Contents}
 use Rattle.pb_bytecode.specs.Spelling.{spelling}
 use Rattle.pb_bytecode.specs.Listing.{listing}
@@ -12,8 +12,8 @@ use Rattle.pb_solution.specs.Texts.{ForGameText, ForSolutionText}
 use Rattle.pb_command_line.specs.declared.command.Command.{Command}
 use Rattle.pb_command_line.specs.declared.command.Command.TheVariants as command
 use Rattle.pbsolve.specs.declared.solve_error.SolveError.{SolveError}
-use Rattle.pbsolve.specs.Answers.{IsAnswer, IsAnswerOfCode, IsEvidence, IsModuleOfText, IsModuleOfCode}
-use Rattle.pbsolve.specs.Refusals.{IsRefused, IsRefusedBytes}
+use Rattle.pbsolve.specs.Answers.{IsAnswer, IsAnswerOfCode, IsEvidence, IsModuleOfText, IsModuleOfCode, Spell}
+use Rattle.pbsolve.specs.Refusals.{IsUncompiled, IsRefused, IsUnlisted, IsUnverified, IsRefusedBytes}
 
 -- the report of a module's answer
 abbrev pub ForReport : Contents → (List ℕ → Type 0) → Type 0
@@ -34,7 +34,7 @@ Outputs command.Solution bytes P = ForModuleOfText bytes (λ m. ForSolutionText 
 Outputs command.Explain bytes P = (m : Contents) × (e : Evidence) × IsEvidence bytes m e × P (module_evidence_text m e)
 Outputs command.Compile bytes P = ForModuleOfText bytes (λ m. P (spelling m))
 Outputs command.Verify bytes P = ForModuleOfCode bytes (λ m. P (codes "accepted\n"))
-Outputs command.List bytes P = (m : Contents) × (bytes ≡ spelling m) × P (listing m)
+Outputs command.List bytes P = (m : Contents) × Spell bytes m × P (listing m)
 Outputs command.SolveCode bytes P = (a : Answer) × IsAnswerOfCode bytes a × P (report_text a)
 
 -- what an error says of the bytes for which the command was to write
@@ -43,7 +43,7 @@ IsRefusedFor command.Solve = IsRefused
 IsRefusedFor command.Game = IsRefused
 IsRefusedFor command.Solution = IsRefused
 IsRefusedFor command.Explain = IsRefused
-IsRefusedFor command.Compile = IsRefused
-IsRefusedFor command.Verify = IsRefusedBytes
-IsRefusedFor command.List = IsRefusedBytes
+IsRefusedFor command.Compile = IsUncompiled
+IsRefusedFor command.Verify = IsUnverified
+IsRefusedFor command.List = IsUnlisted
 IsRefusedFor command.SolveCode = IsRefusedBytes

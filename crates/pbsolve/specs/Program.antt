@@ -6,8 +6,8 @@ use Rattle.pb_sorts.specs.Source.{IsWhole, IsLongerThan}
 use Rattle.pb_report.specs.Lines as lines
 use Rattle.pb_report.specs.declared.fault.ProgramFault as fault
 use Rattle.pb_report.specs.declared.fault.ProgramFault.TheVariants.{U01, U02, E01, E02, M01}
-use Rattle.pb_command_line.specs.declared.command.Command.{Command}
-use Rattle.pb_command_line.specs.Words.{Asks}
+use Rattle.pb_command_line.specs.declared.request.Request.{Request}
+use Rattle.pb_command_line.specs.Words.{AskFor, AskForSomething}
 use Rattle.pbsolve.specs.declared.input.TheConstants.{INPUT_LIMIT}
 use Rattle.pbsolve.specs.declared.solve_error.SolveError.{SolveError}
 use Rattle.pbsolve.specs.declared.solve_error.SolveError.TheVariants as solve_error
@@ -54,7 +54,8 @@ ForInput known P = (bytes : List ℕ) × (length bytes ≤ INPUT_LIMIT) × IsWho
 
 -- P holds of what the command for which the words ask writes for the input
 abbrev pub Answers : List (List ℕ) → Option (List ℕ) → (List ℕ → Type 0) → Type 0
-Answers words known P = (command : Command) × Asks words command × ForInput known (λ bytes. Outputs command bytes P)
+Answers words known P =
+    (request : Request) × AskFor words request × ForInput known (λ bytes. Outputs request.command bytes P)
 
 -- the input is not what the command takes, which is neither want of memory nor a failed write
 abbrev pub IsRefusal : SolveError → Type 0
@@ -70,21 +71,22 @@ IsRefusal (solve_error.Write error) = ⊥
 -- the command for which the words ask refuses the input by this error
 abbrev pub RefusesBy : List (List ℕ) → Option (List ℕ) → SolveError → Type 0
 RefusesBy words known error =
-    IsRefusal error × ((command : Command) × Asks words command × ForInput known (λ bytes. IsRefusedFor command bytes error))
+    IsRefusal error ×
+    ((request : Request) × AskFor words request × ForInput known (λ bytes. IsRefusedFor request.command bytes error))
 
 -- what an error of a run says of the words and the input
 abbrev pub IsRefusedBy : List (List ℕ) → Option (List ℕ) → RunError → Type 0
-IsRefusedBy words known (run_error.ProgramFault U02) = IsLongerThan INPUT_LIMIT known
+IsRefusedBy words known (run_error.ProgramFault U02) = AskForSomething words × IsLongerThan INPUT_LIMIT known
 IsRefusedBy words known (run_error.ProgramFault U01) = Unit {0}
 IsRefusedBy words known (run_error.ProgramFault E01) = Unit {0}
 IsRefusedBy words known (run_error.ProgramFault E02) = Unit {0}
 IsRefusedBy words known (run_error.ProgramFault M01) = Unit {0}
 IsRefusedBy words known (run_error.Refused error) = RefusesBy words known error
 
--- the input is refused, and this is the line that says so: it is too long, or the command refuses it
+-- the input is refused, and this is the line that says so: it is too long, whatever is asked, or the command refuses it
 abbrev pub IsRefusalLine : List (List ℕ) → Option (List ℕ) → List ℕ → Type 0
 IsRefusalLine words known line =
-    (IsLongerThan INPUT_LIMIT known × (line ≡ lines.line_of U02))
+    (AskForSomething words × IsLongerThan INPUT_LIMIT known × (line ≡ lines.line_of U02))
     ⊎ ((error : SolveError) × RefusesBy words known error × (line ≡ solve_line error))
 
 -- the line of a refused input went out

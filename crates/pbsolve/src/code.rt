@@ -6,7 +6,7 @@ ghost use Rattle.pb_command_line.specs.declared.command.Command.TheVariants.{Ver
 ghost use Rattle.pb_command_line.specs.declared.command.Command.TheVariants.{SolveCode};
 ghost use Rattle.pb_report_texts.specs.Report.{report_text};
 ghost use Rattle.pbsolve.specs.Answers.{IsAnswerOfCode, IsModuleOfCode};
-ghost use Rattle.pbsolve.specs.Refusals.{IsRefusedBytes};
+ghost use Rattle.pbsolve.specs.Refusals.{IsRefusedBytes, IsUnlisted, IsUnverified};
 ghost use Rattle.pbsolve.specs.Outputs.{Outputs};
 
 use crate::module::write_report;
@@ -24,7 +24,7 @@ use std::thread::Threads;
 // The module that bytes spell, verified.
 fn verified_code(alloc: Global, bytes: &[u8]) -> Result<Verified, SolveError>
     ensures module { IfOk result (IsModuleOfCode bytes.now) }
-    ensures refused { IfErr result (IsRefusedBytes bytes.now) }
+    ensures refused { IfErr result (IsUnverified bytes.now) }
     ensures unwritten { IfErr result (λ e. e ≢ SolveError.Write (record {})) }
 {
     let module = decode(alloc, bytes)?;
@@ -76,7 +76,7 @@ pub fn verify_code<S: Sink>(alloc: Global, bytes: &[u8], writer: &mut S) -> Resu
     ensures accepted { OnOk result
         (Outputs Verify bytes.now (Appends (S.taken writer.old) (S.taken writer.new))) }
     ensures kept { OnOk result (S.has_failed writer.new ≡ S.has_failed writer.old) }
-    ensures refused { IfErr result (IsRefusedBytes bytes.now) }
+    ensures refused { IfErr result (IsUnverified bytes.now) }
     ensures silent { IfErr result (λ e. e ≢ SolveError.Write (record {}) →
         writer.new ≡ writer.old) }
     ensures write { result ≡ Err (SolveError.Write (record {})) →
@@ -97,7 +97,7 @@ pub fn list_code<S: Sink>(alloc: Global, bytes: &[u8], writer: &mut S) -> Result
     ensures listed { OnOk result
         (Outputs List bytes.now (Appends (S.taken writer.old) (S.taken writer.new))) }
     ensures kept { OnOk result (S.has_failed writer.new ≡ S.has_failed writer.old) }
-    ensures refused { IfErr result (IsRefusedBytes bytes.now) }
+    ensures refused { IfErr result (IsUnlisted bytes.now) }
     ensures silent { IfErr result (λ e. e ≢ SolveError.Write (record {}) →
         writer.new ≡ writer.old) }
     ensures write { result ≡ Err (SolveError.Write (record {})) →

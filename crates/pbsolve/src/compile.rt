@@ -9,11 +9,12 @@ ghost use Rattle.pb_bytecode.specs.Decoded.{module_contents};
 ghost use Rattle.pb_command_line.specs.declared.command.Command.TheVariants.{Compile};
 ghost use Rattle.pbsolve.specs.Answers.{IsTheReading, IsModuleOfText};
 ghost use Rattle.pbsolve.specs.Outputs.{Outputs};
-ghost use Rattle.pbsolve.specs.Refusals.{IsRefused};
+ghost use Rattle.pbsolve.specs.Refusals.{IsRefused, IsUncompiled};
 
 use crate::input::INPUT_LIMIT;
 use crate::solve_error::SolveError;
 use pb_assembler::{CompileError, compile};
+use pb_assembler_modules::laws::compiled_modules_have_the_answer;
 use pb_assembler_modules::verify_compiled;
 use pb_bytecode::Module;
 use pb_bytecode::encode::encode;
@@ -29,7 +30,7 @@ fn typed(alloc: Global, bytes: &[u8]) -> Result<Typed, SolveError>
     requires { length bytes.now ≤ INPUT_LIMIT }
     ensures read { IfOk result (λ typed. IsTheReading bytes.now (spec_form typed.spec)
         × IsWellTyped (erase (spec_form typed.spec))) }
-    ensures refused { IfErr result (IsRefused bytes.now) }
+    ensures refused { IfErr result (IsUncompiled bytes.now) }
     ensures unwritten { IfErr result (λ e. e ≢ SolveError.Write (record {})) }
 {
     let spec = pb_text::parse(alloc, bytes)?;
@@ -43,12 +44,13 @@ fn typed(alloc: Global, bytes: &[u8]) -> Result<Typed, SolveError>
 fn compiled(alloc: Global, bytes: &[u8]) -> Result<Module, SolveError>
     requires { length bytes.now ≤ INPUT_LIMIT }
     ensures module { IfOk result (λ m. IsModuleOfText bytes.now (module_contents m)) }
-    ensures refused { IfErr result (IsRefused bytes.now) }
+    ensures refused { IfErr result (IsUncompiled bytes.now) }
     ensures unwritten { IfErr result (λ e. e ≢ SolveError.Write (record {})) }
 {
     let typed = typed(alloc, bytes)?;
     let normal = normalise(alloc, &typed)?;
     names_of_texts_are_names_of_modules();
+    compiled_modules_have_the_answer();
     match compile(alloc, &normal) {
         Ok(module) => Ok(module),
         Err(CompileError::Limit { limit, equation }) => Err(SolveError::Limit { limit, equation }),
@@ -65,8 +67,10 @@ pub(crate) fn verified_text(alloc: Global, bytes: &[u8]) -> Result<Verified, Sol
     ensures unwritten { IfErr result (λ e. e ≢ SolveError.Write (record {})) }
 {
     let module = compiled(alloc, bytes)?;
-    let verified = verify_compiled(alloc, module)?;
-    Ok(verified)
+    match verify_compiled(alloc, module) {
+        Ok(verified) => Ok(verified),
+        Err((_module, refused)) => Err(SolveError::Memory(refused)),
+    }
 }
 
 /// Compiles a text, and writes the bytes of its module.
@@ -80,7 +84,7 @@ pub fn compile_text<S: Sink>(alloc: Global, bytes: &[u8], writer: &mut S) -> Res
     ensures module { OnOk result
         (Outputs Compile bytes.now (Appends (S.taken writer.old) (S.taken writer.new))) }
     ensures kept { OnOk result (S.has_failed writer.new ≡ S.has_failed writer.old) }
-    ensures refused { IfErr result (IsRefused bytes.now) }
+    ensures refused { IfErr result (IsUncompiled bytes.now) }
     ensures silent { IfErr result (λ e. e ≢ SolveError.Write (record {}) →
         writer.new ≡ writer.old) }
     ensures write { result ≡ Err (SolveError.Write (record {})) →

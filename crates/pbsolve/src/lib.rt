@@ -4,6 +4,7 @@
 mod code;
 mod compile;
 mod input;
+mod laws;
 mod module;
 mod program;
 mod run_error;
@@ -15,6 +16,7 @@ mod streams;
 pub use code::{list_code, solve_code, verify_code};
 pub use compile::compile_text;
 pub use input::INPUT_LIMIT;
+pub use laws::bytes_spell_one_module;
 pub use pb_solution::SolveOptions;
 pub use program::{run, tell_fault};
 pub use solve::{explain_text, game_of, solution_of, solve_text};

@@ -12,7 +12,7 @@ ghost use Rattle.pbsolve.specs.Outputs.{ForReport};
 use crate::solve_error::SolveError;
 use pb_exploration::Gate;
 use pb_report_texts::{Answer, report};
-use pb_solution::{SolveOptions, answer_module, solve_module};
+use pb_solution::{SolveOptions, answer_module, build_module, solve_module};
 use pb_solver_names::Solver;
 use pb_sorts::Sink;
 use pb_verifier::Verified;
@@ -45,7 +45,7 @@ pub(crate) fn write_report<R: Threads + Sync, G: Gate + Sync, S: Sink>(
     Ok(answer)
 }
 
-// Writes the game of a module.
+// Writes the game of a module, which nobody solves.
 pub(crate) fn write_game<R: Threads + Sync, G: Gate + Sync, S: Sink>(
     rt: &R,
     alloc: Global,
@@ -66,10 +66,8 @@ pub(crate) fn write_game<R: Threads + Sync, G: Gate + Sync, S: Sink>(
     ensures write_failed { result ≡ Err (SolveError.Write (record {})) →
         S.has_failed writer.new ≡ true }
 {
-    let solver = Solver::Zielonka;
-    let options = SolveOptions { workers, solver };
-    let solved = solve_module(rt, alloc, verified, options, gate)?;
-    solved.write_game(alloc, verified, writer)?;
+    let built = build_module(rt, alloc, verified, workers, gate)?;
+    built.write_game(alloc, verified, writer)?;
     Ok(())
 }
 

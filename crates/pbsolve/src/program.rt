@@ -4,7 +4,7 @@ ghost use Rattle.std.specs.Io.KnownBytes.{Appends};
 ghost use Rattle.pb_sorts.specs.Sink.{AppendsPrefix};
 ghost use Rattle.pb_report.specs.declared.fault.ProgramFault.TheVariants as fault;
 ghost use Rattle.pb_report.specs.Lines.{line_of};
-ghost use Rattle.pb_command_line.specs.Words.{AskNothing, AskPlainly};
+ghost use Rattle.pb_command_line.specs.Words.{AskForSomething, HaveFault, AskNothing, AskPlainly};
 ghost use Rattle.pbsolve.specs.Outputs.{Outputs, IsRefusedFor};
 ghost use Rattle.pbsolve.specs.Program.{fault_status, status_of, error_line_of, Answers};
 ghost use Rattle.pbsolve.specs.Program.{IsRefusedBy, IsToldAs, Tells, ReadsAtMost, Refuses};
@@ -87,8 +87,15 @@ fn attempt<T: Threads + Sync, S: AsStr, R: Source, G: Gate + Sync, O: Sink>(
     ensures unasked { AskNothing (map S.text words.now) →
         (result ≡ Err (RunError.ProgramFault fault.U01))
         ⊎ (result ≡ Err (RunError.ProgramFault fault.M01)) }
+    ensures faulty { HaveFault (map S.text words.now) →
+        ((result ≡ Err (RunError.ProgramFault fault.U01))
+        ⊎ (result ≡ Err (RunError.ProgramFault fault.M01))) × (reader.new ≡ reader.old) }
+    ensures understood { result ≡ Err (RunError.ProgramFault fault.U01) →
+        HaveFault (map S.text words.now) }
     ensures usage { result ≡ Err (RunError.ProgramFault fault.U01) → reader.new ≡ reader.old }
     ensures refused { IfErr result (λ e. IsRefusedBy (map S.text words.now) (R.left reader.old) e) }
+    ensures read_asked { result ≡ Err (RunError.ProgramFault fault.E01) →
+        AskForSomething (map S.text words.now) }
     ensures read_failed { result ≡ Err (RunError.ProgramFault fault.E01) →
         R.has_failed reader.new ≡ true }
     ensures read_within { result ≡ Err (RunError.ProgramFault fault.E01) →
@@ -179,7 +186,11 @@ pub fn run<T: Threads + Sync, S: AsStr, G: Gate + Sync, R: Source, O: Sink, E: S
 ) -> u8
     ensures statuses { result ≤ 4 }
 
-    // Each command is understood, and where none stands the words ask for nothing.
+    // The words have a fault exactly where they ask for nothing, which is seen before any byte is
+    // read; memory may be refused first. The word of each command asks for it.
+    ensures faulty { HaveFault (map S.text words.now) → ((result ≡ 2) ⊎ (result ≡ 3))
+        × (streams.new.input ≡ streams.old.input) }
+    ensures understood { result ≡ 2 → HaveFault (map S.text words.now) }
     ensures asked { AskPlainly (map S.text words.now) → result ≢ 2 }
     ensures unasked { AskNothing (map S.text words.now) → (result ≡ 2) ⊎ (result ≡ 3) }
 
@@ -209,7 +220,8 @@ pub fn run<T: Threads + Sync, S: AsStr, G: Gate + Sync, R: Source, O: Sink, E: S
 
     // Reading failed before the limit was passed, with nothing written, or writing failed.
     ensures failed { result ≡ 4 →
-        ((R.has_failed streams.new.input ≡ true) × (streams.new.output ≡ streams.old.output)
+        (AskForSomething (map S.text words.now)
+        × (R.has_failed streams.new.input ≡ true) × (streams.new.output ≡ streams.old.output)
         × ReadsAtMost INPUT_LIMIT (R.left streams.old.input) (R.left streams.new.input)
         × Tells (E.taken streams.old.error) (E.taken streams.new.error)
         (E.has_failed streams.new.error) (codes "E01\n"))

@@ -13,7 +13,6 @@ use crate::compile::verified_text;
 use crate::input::INPUT_LIMIT;
 use crate::module::{write_evidence, write_game, write_report, write_solution};
 use crate::solve_error::SolveError;
-use pb_assembler_modules::laws::compiled_modules_have_the_answer;
 use pb_exploration::Gate;
 use pb_machine::instances_have_trees;
 use pb_report_texts::Answer;
@@ -65,7 +64,6 @@ pub fn solve_text<R: Threads + Sync, G: Gate + Sync, S: Sink>(
 {
     let verified = verified_text(alloc, bytes)?;
     instances_have_trees(&verified);
-    compiled_modules_have_the_answer();
     write_report(rt, alloc, &verified, options, gate, writer)
 }
 
@@ -99,7 +97,8 @@ pub fn game_of<R: Threads + Sync, G: Gate + Sync, S: Sink>(
 }
 
 /// Writes the truth of each reached instance of a text in its solution: a line for each, by rising
-/// number.
+/// number. What the module's instances are is the text's: `IsModuleOfText` says so of its solution,
+/// and of its right sides.
 ///
 /// # Errors
 /// As with `solve_text`.
@@ -160,6 +159,5 @@ pub fn explain_text<R: Threads + Sync, G: Gate + Sync, S: Sink>(
 {
     let verified = verified_text(alloc, bytes)?;
     instances_have_trees(&verified);
-    compiled_modules_have_the_answer();
     write_evidence(rt, alloc, &verified, workers, gate, writer)
 }

@@ -153,3 +153,17 @@ fn brackets(rt: HostRuntime) -> Result<(), Fail> {
     assert_evidence(&rt, evidence, true, &[7, 8], &[&[7, 8], &[7]]);
     Ok(())
 }
+
+/// `nu X0 = X1 || X2; nu X1 = X1; nu X2 = X2`: all are true, and X0 rests on one of the two.
+#[test]
+fn one_of_two(rt: HostRuntime) -> Result<(), Fail> {
+    let mut builder = Builder::new(rt.alloc())?;
+    builder.push(Some(0), 0, 0, &[3, 4])?;
+    builder.push(Some(1), 0, 0, &[3])?;
+    builder.push(Some(2), 0, 0, &[4])?;
+    let evidence = builder.explain(&rt, rt.alloc(), 2)?.ok_or("no evidence")?;
+    assert!(rt; evidence.truth);
+    assert_eq!(rt; evidence.instances.len(), 2);
+    assert_eq!(rt; evidence.dependencies(0).len(), 1);
+    Ok(())
+}

@@ -6,14 +6,15 @@ use pb_bytecode::decode::decode;
 use pb_exploration::{Explored, NoGate, explore};
 use pb_game_answer::{Solved, build};
 use pb_game_of_trees::BuildError;
+use pb_game_solver::solve;
 use pb_machine::instances_have_trees;
 use pb_report_texts::game_text::game_text;
 use pb_report_texts::solution_text::solution_text;
 use pb_report_texts::{Answer, WriteError, report};
 use pb_rows::IndexedRows;
+use pb_solver_names::Solver;
 use pb_sorts::Sink;
 use pb_verifier::{Verified, VerifyError, verify};
-use pb_zielonka::solve;
 use std::alloc::{AllocError, Global};
 use std::test::Fail;
 use std::thread::Threads;
@@ -50,8 +51,8 @@ fn solved_game<R: Threads + Sync>(
     ensures { IfOk result (λ s. IsModuleGame verified.now rows.now s.built) }
 {
     let built = build(alloc, verified, rows)?;
-    let solution = solve(rt, alloc, &built.game)?;
-    Ok(Solved::new(built, solution))
+    let certified = solve(rt, alloc, &built.game, Solver::Zielonka, 1, &NoGate)?;
+    Ok(Solved::new(built, certified))
 }
 
 /// Prints the report of the module of these bytes, and answers how the writing went.

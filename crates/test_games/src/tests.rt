@@ -299,6 +299,33 @@ fn many_components(rt: HostRuntime) -> Result<(), Fail> {
     Ok(())
 }
 
+/// 600 vertices of player 0, each with 2,000 successors that player 1 wins; every third has a way out
+/// behind them. One round decides them all.
+#[test]
+fn wide_opponents(rt: HostRuntime) -> Result<(), Fail> {
+    let alloc = rt.alloc();
+    let mut builder = Builder::new(alloc)?;
+    let mut winners = Vec::new(alloc);
+    let mut closed = Vec::new(alloc);
+    let mut open = Vec::new(alloc);
+    for v in 0..2_000u32 {
+        builder.push(0, 1, &[v])?;
+        winners.push(1)?;
+        closed.push(v)?;
+        open.push(v)?;
+    }
+    builder.push(0, 0, &[2_000])?;
+    winners.push(0)?;
+    open.push(2_000)?;
+    for decider in 0..600u32 {
+        let wins = decider % 3 == 0;
+        builder.push(0, 0, if wins { &open } else { &closed })?;
+        winners.push(if wins { 0 } else { 1 })?;
+    }
+    let game = builder.game(alloc)?;
+    assert_winners(&rt, alloc, &game, &winners)
+}
+
 /// The next number of a linear congruential generator, below the bound.
 fn draw(state: &mut u64, bound: u32) -> u32 {
     *state = state

@@ -60,6 +60,18 @@ fn assert_two_equations<G: Gate + Sync, R: Abort + Threads + Sync>(
     Ok(())
 }
 
+// before any lift
+#[test]
+fn opening_words(rt: HostRuntime) -> Result<(), Fail> {
+    let alloc = rt.alloc();
+    let game = two_equations(alloc)?;
+    for player in 0..2u8 {
+        let words = words_after(&rt, alloc, &game, player, 0)?;
+        assert_eq!(rt; words.as_slice(), [0u64, 0, 0, 0].as_slice());
+    }
+    Ok(())
+}
+
 #[test]
 fn final_words(rt: HostRuntime) -> Result<(), Fail> {
     let alloc = rt.alloc();
@@ -99,6 +111,15 @@ fn empty_game(rt: HostRuntime) -> Result<(), Fail> {
     Ok(())
 }
 
+#[test]
+fn numbers_of_errors(rt: HostRuntime) -> Result<(), Fail> {
+    let alloc = rt.alloc();
+    for (error, number) in [(LiftError::TooManyRanks, "K06"), (LiftError::Memory, "M01")] {
+        assert_eq!(rt; format!(in alloc; "{error}")?.as_str(), number);
+    }
+    Ok(())
+}
+
 // the greatest priority of the one cycle is odd
 #[test]
 fn too_many_ranks(rt: HostRuntime) -> Result<(), Fail> {
@@ -106,9 +127,10 @@ fn too_many_ranks(rt: HostRuntime) -> Result<(), Fail> {
     let game = long_cycle(alloc)?;
     let refused = lift(&rt, alloc, &game, 2, &NoGate);
     assert!(rt; matches!(refused, Err(LiftError::TooManyRanks)));
-    let solution = solve(&rt, alloc, &game, Solver::Lift, 2, &NoGate)?;
-    assert_eq!(rt; solution.winner.len(), 128);
-    assert!(rt; solution.winner.iter().all(|&winner| winner == 1));
+    let certified = solve(&rt, alloc, &game, Solver::Lift, 2, &NoGate)?;
+    let winners = &certified.solution().winner;
+    assert_eq!(rt; winners.len(), 128);
+    assert!(rt; winners.iter().all(|&winner| winner == 1));
     Ok(())
 }
 
@@ -124,7 +146,7 @@ fn winners_of_generated_games(rt: HostRuntime) -> Result<(), Fail> {
         assert!(rt; check(&game, &lifted).is_ok(), "seed {seed}");
         assert_eq!(rt;
             lifted.winner.as_slice(),
-            zielonka.winner.as_slice(),
+            zielonka.solution().winner.as_slice(),
             "seed {seed}"
         );
     }

@@ -283,16 +283,3 @@ fn bodies_count_as_often_as_they_run(rt: HostRuntime) -> Result<(), Fail> {
     assert_eq!(rt; found(alloc, &nested), Ok(counts));
     Ok(())
 }
-
-#[test]
-fn a_fault_is_printed_with_its_place(rt: HostRuntime) -> Result<(), Fail> {
-    let fault = PositionFault {
-        rule: AcceptanceRule::TargetOutside,
-        place: 3,
-    };
-    assert_eq!(rt;
-        format!(in rt.alloc(); "{fault}")?.as_str(),
-        "V05 at place 3"
-    );
-    Ok(())
-}

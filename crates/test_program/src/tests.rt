@@ -10,6 +10,7 @@ mod plain;
 mod proof_graphs;
 mod rows;
 mod solvers;
+mod workers;
 
 use pb_exploration::NoGate;
 use pb_sorts::{In, Source};

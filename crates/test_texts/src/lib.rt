@@ -11,6 +11,8 @@ mod answer;
 #[cfg(test)]
 mod depth;
 #[cfg(test)]
+mod first_faults;
+#[cfg(test)]
 mod generated;
 #[cfg(test)]
 mod printed;

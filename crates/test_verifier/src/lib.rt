@@ -7,6 +7,8 @@ mod modules;
 #[cfg(test)]
 mod ops;
 #[cfg(test)]
+mod order;
+#[cfg(test)]
 mod rows;
 #[cfg(test)]
 mod rules;

@@ -18,6 +18,8 @@ pub enum Slots {
     Parameter,
     /// Both: parameter 0 of Range 0 3, and loop slot 1 of Bool.
     Both,
+    /// Parameters 0 and 1 of Range 0 3, which are 0 at the initial instance.
+    TwoParameters,
 }
 
 /// The steps and tokens that a test's equation states.
@@ -59,14 +61,22 @@ pub fn module_of(
             bytes.extend_from_slice(&RANGE)?;
             bytes.extend_from_slice(&[1, 0])?;
         }
+        Slots::TwoParameters => {
+            bytes.extend_from_slice(&[2])?;
+            bytes.extend_from_slice(&RANGE)?;
+            bytes.extend_from_slice(&RANGE)?;
+            bytes.extend_from_slice(&[0])?;
+        }
     }
     bytes.extend_from_slice(&stated.steps.to_le_bytes())?;
     bytes.extend_from_slice(&stated.tokens.to_le_bytes())?;
     bytes.extend_from_slice(&instructions.to_le_bytes())?;
     bytes.extend_from_slice(code)?;
     bytes.extend_from_slice(&[0])?;
-    if matches!(slots, Slots::Parameter | Slots::Both) {
-        bytes.extend_from_slice(&[0; 8])?;
+    match slots {
+        Slots::None | Slots::Loop => {}
+        Slots::Parameter | Slots::Both => bytes.extend_from_slice(&[0; 8])?,
+        Slots::TwoParameters => bytes.extend_from_slice(&[0; 16])?,
     }
     Ok(bytes)
 }

@@ -26,6 +26,8 @@ pub const MOD: u8 = 0x0b;
 
 pub const MIN: u8 = 0x0c;
 
+pub const MAX: u8 = 0x0d;
+
 pub const ABS: u8 = 0x0e;
 
 pub const LT: u8 = 0x0f;
@@ -35,6 +37,8 @@ pub const EQ: u8 = 0x13;
 pub const NOT: u8 = 0x15;
 
 pub const BAND: u8 = 0x16;
+
+pub const BOR: u8 = 0x17;
 
 pub const JMP: u8 = 0x18;
 

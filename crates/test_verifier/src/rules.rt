@@ -1,6 +1,6 @@
 //! For each rule, codes that break it, one for each reason.
 
-use crate::modules::{Case, MOST, Slots, Stated, assert_cases, at, module_of, refusal};
+use crate::modules::{Case, Slots, Stated, assert_cases, at, module_of, refusal};
 use crate::ops::*;
 use pb_verifier::VerifyError;
 use pb_verifier_states::AcceptanceRule;
@@ -296,31 +296,6 @@ fn stated_counts(rt: HostRuntime) -> Result<(), Fail> {
     assert_eq!(rt; refusal(alloc, &many_steps)?, low);
     let many_tokens = module_of(alloc, 1, Slots::Loop, stated(9, 100_001), 6, &code)?;
     assert_eq!(rt; refusal(alloc, &many_tokens)?, low);
-    Ok(())
-}
-
-#[test]
-fn the_order_of_the_rules(rt: HostRuntime) -> Result<(), Fail> {
-    let alloc = rt.alloc();
-    let no_steps = Stated {
-        steps: 0,
-        tokens: 0,
-    };
-    let counts_first = module_of(alloc, 1, Slots::None, no_steps, 2, &[POP, END])?;
-    assert_eq!(rt;
-        refusal(alloc, &counts_first)?,
-        at(AcceptanceRule::StatedCounts, 0)
-    );
-    let names_first = module_of(alloc, 1, Slots::None, no_steps, 2, &[GET, 0, END])?;
-    assert_eq!(rt;
-        refusal(alloc, &names_first)?,
-        at(AcceptanceRule::UnknownName, 0)
-    );
-    let loops_first = module_of(alloc, 1, Slots::None, MOST, 3, &[GET, 0, NEXT, END])?;
-    assert_eq!(rt;
-        refusal(alloc, &loops_first)?,
-        at(AcceptanceRule::LoopStructure, 1)
-    );
     Ok(())
 }
 

@@ -1,9 +1,11 @@
 //! What flows from pushes and jumps.
 
-ghost use Rattle.std.specs.Prelude.{◌≡◌, ◌≤ℤ◌, IfOk, OnErr, None, Option, Some, slice_get, ℕ};
-ghost use Rattle.pb_verifier_states.specs.Flows.{Fails, FlowsTo, GoesOn};
+ghost use Rattle.std.specs.Prelude.{◌≡◌, ◌≤ℤ◌, IfOk, OnErr, List, None, Option, Some, slice_get, ℕ};
+ghost use Rattle.pb_verifier_states.specs.Flows.{Fails, FlowsTo, GoesOn, IsNamed};
 ghost use Rattle.pb_verifier_states.specs.Inhabited.{HasOrderedEnds};
-ghost use Rattle.pb_verifier_states.specs.Refusals.{OnRefused};
+ghost use Rattle.pb_verifier_states.specs.NamedRule.{named_rule};
+ghost use Rattle.pb_sorts.specs.declared.carrier.Carrier.{Carrier as carrier_type};
+ghost use Rattle.pb_verifier_states.specs.Refusals.{IfRefused, OnRefused};
 ghost use Rattle.pb_bytecode_program.specs.Machine.{Program};
 ghost use Rattle.pb_bytecode_program.specs.Transfer.{AbstractState as Known, abstract_push};
 ghost use Rattle.pb_bytecode_program.specs.Transfer.{abstract_slot, to_next_place, transfer};
@@ -25,6 +27,7 @@ pub fn push(mut state: AbstractState, value: AbstractValue) -> Result<AbstractSt
         → abstract_push q state state.operands value ≡ to_next_place q k) }
     ensures refused { OnRefused result ((q : ℕ)
         → abstract_push q state state.operands value ≡ None) }
+    ensures rule { IfRefused result (λ rule. rule ≡ AcceptanceRule.TooManyOperands) }
 {
     state.push(value)?;
     Ok(state)
@@ -42,6 +45,8 @@ pub fn push_enum(
         ≡ to_next_place q k) }
     ensures refused { OnRefused result ((p : Program) (home : Option Known) (q : ℕ)
         → p.sorts ≡ sorts.now → transfer p home q (op.PushEnum sort index) state ≡ None) }
+    ensures rule { IfRefused result (λ rule. (callees : List (List carrier_type))
+        → rule ≡ named_rule sorts.now callees (op.PushEnum sort index) state) }
 {
     let Some(count) = enumerators(sorts, sort) else {
         return Err(FlowError::Refused(AcceptanceRule::UnknownName));
@@ -63,6 +68,7 @@ fn enumerators(sorts: &[u8], sort: u8) -> Option<u8>
 pub fn get(state: AbstractState, slot: u8) -> Result<AbstractState, FlowError>
     ensures flows { IfOk result (GoesOn (op.Get slot) state) }
     ensures refused { OnRefused result (Fails (op.Get slot) state) }
+    ensures rule { IfRefused result (IsNamed (op.Get slot) state) }
 {
     let Some(value) = state.slot(slot) else {
         return Err(FlowError::Refused(AcceptanceRule::UnknownName));
@@ -79,6 +85,7 @@ pub fn jump_if(
 ) -> Result<Edges, FlowError>
     ensures flows { IfOk result (λ e. FlowsTo (op.JumpIf condition target) state e.next e.jump) }
     ensures refused { OnRefused result (Fails (op.JumpIf condition target) state) }
+    ensures rule { IfRefused result (IsNamed (op.JumpIf condition target) state) }
 {
     state.pop_bool()?;
     let jump = state.copy(alloc)?;
@@ -100,6 +107,7 @@ pub fn in_range(
     requires { low ≤ℤ high }
     ensures flows { IfOk result (λ e. FlowsTo (op.InRange low high target) state e.next e.jump) }
     ensures refused { OnRefused result (Fails (op.InRange low high target) state) }
+    ensures rule { IfRefused result (IsNamed (op.InRange low high target) state) }
 {
     let interval = state.top_int()?;
     let range = range_between(low, high);
@@ -132,6 +140,7 @@ pub fn slot_in_range(
     ensures flows { IfOk result (λ e. FlowsTo
         (op.SlotInRange slot low high target) state e.next e.jump) }
     ensures refused { OnRefused result (Fails (op.SlotInRange slot low high target) state) }
+    ensures rule { IfRefused result (IsNamed (op.SlotInRange slot low high target) state) }
 {
     match state.slot_int(slot) {
         Ok(interval) => split_slot(
@@ -171,6 +180,8 @@ fn split_slot(
         (op.SlotInRange slot range.low range.high target) state e.next e.jump) }
     ensures refused { OnRefused result
         (Fails (op.SlotInRange slot range.low range.high target) state) }
+    ensures rule { IfRefused result
+        (IsNamed (op.SlotInRange slot range.low range.high target) state) }
 {
     let Some(inside) = interval.cut(range) else {
         return Ok(Edges::jump(target, state));

@@ -1,8 +1,8 @@
 //! What flows from the instructions on operands.
 
-ghost use Rattle.std.specs.Prelude.{◌≡◌, ◌&&◌, IfOk, OnErr, int_lt, pos};
-ghost use Rattle.pb_verifier_states.specs.Flows.{Fails, GoesOn};
-ghost use Rattle.pb_verifier_states.specs.Refusals.{OnRefused};
+ghost use Rattle.std.specs.Prelude.{◌≡◌, ◌&&◌, IfErr, IfOk, OnErr, int_lt, pos};
+ghost use Rattle.pb_verifier_states.specs.Flows.{Fails, GoesOn, IsNamed};
+ghost use Rattle.pb_verifier_states.specs.Refusals.{IfRefused, OnRefused};
 ghost use Rattle.pb_bytecode_program.specs.Values.{divides};
 ghost use Rattle.pb_bytecode_program.specs.declared.instruction.Op.TheVariants as op;
 
@@ -18,6 +18,7 @@ use pb_intervals::Interval;
 pub fn pop(mut state: AbstractState) -> Result<AbstractState, AcceptanceRule>
     ensures flows { IfOk result (GoesOn op.Pop state) }
     ensures err { OnErr result (Fails op.Pop state) }
+    ensures rule { IfErr result (IsNamed op.Pop state) }
 {
     state.pop()?;
     Ok(state)
@@ -30,7 +31,9 @@ pub fn arithmetic(
 ) -> Result<AbstractState, FlowError>
     ensures flows { IfOk result (GoesOn (op.Arithmetic operator) state) }
     ensures refused { OnRefused result (Fails (op.Arithmetic operator) state) }
+    ensures rule { IfRefused result (IsNamed (op.Arithmetic operator) state) }
 {
+    state.test_operands(2)?;
     let b = state.pop_int()?;
     let a = state.pop_int()?;
     if may_be_no_divisor(operator, b) {
@@ -54,6 +57,7 @@ fn may_be_no_divisor(operator: Arithmetic, b: Interval) -> bool
 pub fn negate(mut state: AbstractState) -> Result<AbstractState, FlowError>
     ensures flows { IfOk result (GoesOn op.Negate state) }
     ensures refused { OnRefused result (Fails op.Negate state) }
+    ensures rule { IfRefused result (IsNamed op.Negate state) }
 {
     let a = state.pop_int()?;
     let Some(interval) = negatives(a) else {
@@ -67,6 +71,7 @@ pub fn negate(mut state: AbstractState) -> Result<AbstractState, FlowError>
 pub fn absolute(mut state: AbstractState) -> Result<AbstractState, FlowError>
     ensures flows { IfOk result (GoesOn op.Absolute state) }
     ensures refused { OnRefused result (Fails op.Absolute state) }
+    ensures rule { IfRefused result (IsNamed op.Absolute state) }
 {
     let a = state.pop_int()?;
     let Some(interval) = absolute_values(a) else {
@@ -80,7 +85,9 @@ pub fn absolute(mut state: AbstractState) -> Result<AbstractState, FlowError>
 pub fn compare(mut state: AbstractState, order: Comparison) -> Result<AbstractState, FlowError>
     ensures flows { IfOk result (GoesOn (op.Compare order) state) }
     ensures refused { OnRefused result (Fails (op.Compare order) state) }
+    ensures rule { IfRefused result (IsNamed (op.Compare order) state) }
 {
+    state.test_operands(2)?;
     state.pop_int()?;
     state.pop_int()?;
     state.push(AbstractValue::Bool)?;
@@ -91,6 +98,7 @@ pub fn compare(mut state: AbstractState, order: Comparison) -> Result<AbstractSt
 pub fn equality(mut state: AbstractState, wanted: Equality) -> Result<AbstractState, FlowError>
     ensures flows { IfOk result (GoesOn (op.Equality wanted) state) }
     ensures refused { OnRefused result (Fails (op.Equality wanted) state) }
+    ensures rule { IfRefused result (IsNamed (op.Equality wanted) state) }
 {
     let b = state.pop()?;
     let a = state.pop()?;
@@ -105,6 +113,7 @@ pub fn equality(mut state: AbstractState, wanted: Equality) -> Result<AbstractSt
 pub fn negation(mut state: AbstractState) -> Result<AbstractState, FlowError>
     ensures flows { IfOk result (GoesOn op.Not state) }
     ensures refused { OnRefused result (Fails op.Not state) }
+    ensures rule { IfRefused result (IsNamed op.Not state) }
 {
     state.pop_bool()?;
     state.push(AbstractValue::Bool)?;
@@ -115,7 +124,9 @@ pub fn negation(mut state: AbstractState) -> Result<AbstractState, FlowError>
 pub fn logic(mut state: AbstractState, connective: Connective) -> Result<AbstractState, FlowError>
     ensures flows { IfOk result (GoesOn (op.Logic connective) state) }
     ensures refused { OnRefused result (Fails (op.Logic connective) state) }
+    ensures rule { IfRefused result (IsNamed (op.Logic connective) state) }
 {
+    state.test_operands(2)?;
     state.pop_bool()?;
     state.pop_bool()?;
     state.push(AbstractValue::Bool)?;

@@ -1,7 +1,8 @@
 //! What flows from the instructions that write the tree.
 
-ghost use Rattle.std.specs.Prelude.{◌≡◌, IfOk, None, OnErr, Some, map, slice_get, vec_items, ℕ};
-ghost use Rattle.pb_verifier_states.specs.Flows.{Fails, GoesOn};
+ghost use Rattle.std.specs.Prelude.{◌≡◌, IfErr, IfOk, None, OnErr, Some, map, slice_get, vec_items, ℕ};
+ghost use Rattle.pb_verifier_states.specs.Flows.{Fails, GoesOn, IsNamed};
+ghost use Rattle.pb_verifier_states.specs.NamedRule.{named_at_call};
 ghost use Rattle.pb_bytecode_program.specs.Transfer.{abstract_call, to_next_place};
 ghost use Rattle.pb_bytecode_program.specs.declared.instruction.Op.TheVariants as op;
 
@@ -17,6 +18,7 @@ pub fn open(
 ) -> Result<AbstractState, AcceptanceRule>
     ensures flows { IfOk result (GoesOn (op.Open connective) state) }
     ensures err { OnErr result (Fails (op.Open connective) state) }
+    ensures rule { IfErr result (IsNamed (op.Open connective) state) }
 {
     state.test_brackets()?;
     state.add_root()?;
@@ -28,6 +30,7 @@ pub fn open(
 pub fn close(mut state: AbstractState) -> Result<AbstractState, AcceptanceRule>
     ensures flows { IfOk result (GoesOn op.Close state) }
     ensures err { OnErr result (Fails op.Close state) }
+    ensures rule { IfErr result (IsNamed op.Close state) }
 {
     state.close_bracket()?;
     Ok(state)
@@ -37,6 +40,7 @@ pub fn close(mut state: AbstractState) -> Result<AbstractState, AcceptanceRule>
 pub fn emit(mut state: AbstractState, leaf: Leaf) -> Result<AbstractState, AcceptanceRule>
     ensures flows { IfOk result (GoesOn (op.Emit leaf) state) }
     ensures err { OnErr result (Fails (op.Emit leaf) state) }
+    ensures rule { IfErr result (IsNamed (op.Emit leaf) state) }
 {
     state.add_root()?;
     Ok(state)
@@ -53,6 +57,8 @@ pub fn call(
         ≡ to_next_place q k) }
     ensures err { OnErr result ((q : ℕ)
         → abstract_call q state (slice_get (map vec_items callees.now) equation) ≡ None) }
+    ensures rule { IfErr result (λ rule. rule
+        ≡ named_at_call state.operands (slice_get (map vec_items callees.now) equation)) }
 {
     let place = usize::from(equation);
     if place >= callees.len() {
@@ -66,7 +72,9 @@ fn call_with(mut state: AbstractState, callee: &[Carrier]) -> Result<AbstractSta
     ensures flows { IfOk result (λ k. (q : ℕ)
         → abstract_call q state (Some callee.now) ≡ to_next_place q k) }
     ensures err { OnErr result ((q : ℕ) → abstract_call q state (Some callee.now) ≡ None) }
+    ensures rule { IfErr result (λ rule. rule ≡ named_at_call state.operands (Some callee.now)) }
 {
+    state.test_arguments(callee)?;
     state.pop_arguments(callee)?;
     state.add_root()?;
     Ok(state)

@@ -1,9 +1,11 @@
 //! Brackets and roots of abstract states.
 
-ghost use Rattle.std.specs.Prelude.{◌≡◌, ◌+◌, None, Some, [], OnErr, OnOk, ℕ, nat_lt, true, false};
+ghost use Rattle.std.specs.Prelude.{◌≡◌, ◌+◌, None, Some, [], IfErr, OnErr, OnOk, ℕ, nat_lt, true, false};
 ghost use Rattle.std.specs.Prelude.{if◌then◌else◌};
 ghost use Rattle.pb_bytecode_program.specs.Transfer.{Flow, abstract_close, abstract_end};
 ghost use Rattle.pb_bytecode_program.specs.Transfer.{abstract_root};
+ghost use Rattle.pb_bytecode_program.specs.declared.instruction.Op.TheVariants as op;
+ghost use Rattle.pb_verifier_states.specs.Flows.{IsNamed};
 
 use crate::rule::AcceptanceRule;
 use crate::state::AbstractState;
@@ -16,6 +18,7 @@ impl AbstractState {
             → abstract_root self.old.brackets self.old.roots go ≡ go self.new.roots) }
         ensures err { OnErr result ((go : ℕ → Flow)
             → abstract_root self.old.brackets self.old.roots go ≡ None) }
+        ensures rule { IfErr result (λ rule. rule ≡ AcceptanceRule.Roots) }
         ensures same { self.new ≡ record self.old { roots = self.new.roots } }
     {
         if self.brackets == 0 {
@@ -31,6 +34,7 @@ impl AbstractState {
     pub fn test_brackets(&self) -> Result<(), AcceptanceRule>
         ensures ok { OnOk result (nat_lt self.now.brackets MAX_BRACKETS ≡ true) }
         ensures err { OnErr result (nat_lt self.now.brackets MAX_BRACKETS ≡ false) }
+        ensures rule { IfErr result (λ rule. rule ≡ AcceptanceRule.Brackets) }
     {
         if self.brackets >= MAX_BRACKETS {
             return Err(AcceptanceRule::Brackets);
@@ -52,6 +56,7 @@ impl AbstractState {
             → abstract_close self.old.brackets_below self.old.brackets go ≡ go self.new.brackets) }
         ensures err { OnErr result ((go : ℕ → Flow)
             → abstract_close self.old.brackets_below self.old.brackets go ≡ None) }
+        ensures rule { IfErr result (λ rule. rule ≡ AcceptanceRule.Brackets) }
         ensures same { self.new ≡ record self.old { brackets = self.new.brackets } }
     {
         if self.brackets == 0 || self.brackets <= self.brackets_below {
@@ -67,6 +72,7 @@ impl AbstractState {
             ≡ Some []) }
         ensures err { OnErr result (abstract_end self.now.loops self.now.brackets self.now.roots
             ≡ None) }
+        ensures rule { IfErr result (IsNamed op.End self.now) }
     {
         if !self.loops.is_empty() {
             return Err(AcceptanceRule::LoopStructure);

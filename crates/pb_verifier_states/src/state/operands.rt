@@ -1,9 +1,11 @@
 //! Operands of abstract states.
 
-ghost use Rattle.std.specs.Prelude.{◌≡◌, ◌+◌, ◌≤ℤ◌, [], ◌∷◌, List, None, ℤ, IfOk, OnErr, OnOk};
-ghost use Rattle.std.specs.Prelude.{length, nat_lt, true, false, reverse, drop, ◌<◌};
+ghost use Rattle.std.specs.Prelude.{◌≡◌, ◌+◌, ◌≤ℤ◌, [], ◌∷◌, List, None, ℤ, IfErr, IfOk, OnErr, OnOk};
+ghost use Rattle.std.specs.Prelude.{length, true, false, reverse, drop, ◌<◌, ◌≤◌};
 ghost use Rattle.pb_verifier_states.specs.Inhabited.{HasOrderedEnds};
-ghost use Rattle.pb_verifier_states.specs.Refusals.{OnRefused};
+ghost use Rattle.pb_verifier_states.specs.Kinds as kinds;
+ghost use Rattle.pb_verifier_states.specs.NamedRule.{named_at_call, named_at_top};
+ghost use Rattle.pb_verifier_states.specs.Refusals.{IfRefused, OnRefused};
 ghost use Rattle.pb_bytecode_program.specs.Transfer.{Flow, abstract_pop_args, abstract_pop_bool};
 ghost use Rattle.pb_bytecode_program.specs.Transfer.{abstract_pop_int};
 ghost use Rattle.pb_bytecode_program.specs.declared.abstract_value.AbstractValue.{AbstractValue as value_type};
@@ -24,11 +26,9 @@ impl AbstractState {
         requires { HasOrderedEnds value }
         ensures pushed { OnOk result (self.new
             ≡ record self.old { operands = value ∷ self.old.operands }) }
-        ensures room { OnOk result (nat_lt (length self.old.operands
-            + self.old.operands_below) MAX_OPERANDS
-            ≡ true) }
-        ensures full { OnRefused result
-            (nat_lt (length self.old.operands + self.old.operands_below) MAX_OPERANDS ≡ false) }
+        ensures room { OnOk result (kinds.has_room self.old ≡ true) }
+        ensures full { OnRefused result (kinds.has_room self.old ≡ false) }
+        ensures rule { IfRefused result (λ rule. rule ≡ AcceptanceRule.TooManyOperands) }
     {
         if self.operands.len() + usize::from(self.operands_below) >= MAX_OPERANDS {
             return Err(FlowError::Refused(AcceptanceRule::TooManyOperands));
@@ -37,12 +37,26 @@ impl AbstractState {
         Ok(())
     }
 
+    /// Whether so many operands stand above the floor.
+    pub fn test_operands(&self, count: usize) -> Result<(), AcceptanceRule>
+        ensures ok { OnOk result (count ≤ length self.now.operands) }
+        ensures err { OnErr result (length self.now.operands < count) }
+        ensures rule { IfErr result (λ rule. rule ≡ AcceptanceRule.MissingOperand) }
+    {
+        if self.operands.len() < count {
+            return Err(AcceptanceRule::MissingOperand);
+        }
+        Ok(())
+    }
+
     /// Pops the topmost operand above the floor.
     pub fn pop(&mut self) -> Result<AbstractValue, AcceptanceRule>
         ensures ok { IfOk result (λ v. self.old
             ≡ record self.new { operands = v ∷ self.new.operands }) }
         ensures ordered { IfOk result HasOrderedEnds }
+        ensures room { OnOk result (kinds.has_room self.new ≡ true) }
         ensures err { OnErr result (self.old.operands ≡ []) }
+        ensures rule { IfErr result (λ rule. rule ≡ AcceptanceRule.MissingOperand) }
         ensures err_same { OnErr result (self.new ≡ self.old) }
     {
         if self.operands.is_empty() {
@@ -57,6 +71,8 @@ impl AbstractState {
             ≡ record self.new { operands = abstract.Int i.low i.high ∷ self.new.operands }) }
         ensures err { OnErr result ((go : ℤ → ℤ → List value_type → Flow)
             → abstract_pop_int self.old.operands go ≡ None) }
+        ensures room { OnOk result (kinds.has_room self.new ≡ true) }
+        ensures rule { IfErr result (λ rule. rule ≡ named_at_top self.old.operands) }
     {
         match self.pop()? {
             AbstractValue::Int { low, high } => Ok(Interval::new(low, high)),
@@ -70,6 +86,8 @@ impl AbstractState {
             (self.old ≡ record self.new { operands = abstract.Bool ∷ self.new.operands }) }
         ensures err { OnErr result ((go : List value_type → Flow)
             → abstract_pop_bool self.old.operands go ≡ None) }
+        ensures room { OnOk result (kinds.has_room self.new ≡ true) }
+        ensures rule { IfErr result (λ rule. rule ≡ named_at_top self.old.operands) }
     {
         match self.pop()? {
             AbstractValue::Bool => Ok(()),
@@ -84,6 +102,7 @@ impl AbstractState {
         ensures ordered { IfOk result (λ i. i.low ≤ℤ i.high) }
         ensures err { OnErr result ((go : ℤ → ℤ → List value_type → Flow)
             → abstract_pop_int self.now.operands go ≡ None) }
+        ensures rule { IfErr result (λ rule. rule ≡ named_at_top self.now.operands) }
     {
         match self.operands.first() {
             Some(AbstractValue::Int { low, high }) => Ok(Interval::new(*low, *high)),
@@ -103,13 +122,33 @@ impl AbstractState {
         self.operands[0] = numbers(interval);
     }
 
+    /// Whether a call finds its arguments, each of its carrier's kind.
+    #[tactic(auto, using(crate::proofs::Missing::no_arguments, crate::proofs::Missing::wrong_kinds))]
+    pub fn test_arguments(&self, carriers: &[Carrier]) -> Result<(), AcceptanceRule>
+        ensures there { OnOk result (length carriers.now ≤ length self.now.operands) }
+        ensures kinds { OnOk result (kinds.are_of_kinds (reverse carriers.now) self.now.operands
+            ≡ true) }
+        ensures err { OnErr result ((go : List value_type → Flow)
+            → abstract_pop_args (reverse carriers.now) self.now.operands go ≡ None) }
+        ensures rule { IfErr result (λ rule. rule
+            ≡ named_at_call self.now.operands (Some carriers.now)) }
+    {
+        self.test_operands(carriers.len())?;
+        if !are_of_kinds(&self.operands, carriers) {
+            return Err(AcceptanceRule::WrongKind);
+        }
+        Ok(())
+    }
+
     /// Pops the arguments of a call, the last one first: each is one of its carrier.
     pub fn pop_arguments(&mut self, carriers: &[Carrier]) -> Result<(), AcceptanceRule>
+        requires { length carriers.now ≤ length self.old.operands }
         ensures ok { OnOk result ((go : List value_type → Flow)
             → abstract_pop_args (reverse carriers.now) self.old.operands go
             ≡ go self.new.operands) }
         ensures err { OnErr result ((go : List value_type → Flow)
             → abstract_pop_args (reverse carriers.now) self.old.operands go ≡ None) }
+        ensures rule { IfErr result (λ rule. rule ≡ AcceptanceRule.ArgumentOutside) }
         ensures same { self.new ≡ record self.old { operands = self.new.operands } }
     {
         let mut left = carriers.len();
@@ -125,20 +164,35 @@ impl AbstractState {
 
     // Pops an argument, which is one of the carrier.
     fn pop_argument(&mut self, carrier: Carrier) -> Result<(), AcceptanceRule>
+        requires { 0 < length self.old.operands }
+        ensures one { OnOk result (length self.old.operands ≡ length self.new.operands + 1) }
         ensures ok { OnOk result ((cs : List carrier_type) (go : List value_type → Flow)
             → abstract_pop_args (carrier ∷ cs) self.old.operands go
             ≡ abstract_pop_args cs self.new.operands go) }
         ensures err { OnErr result ((cs : List carrier_type) (go : List value_type → Flow)
             → abstract_pop_args (carrier ∷ cs) self.old.operands go ≡ None) }
+        ensures rule { IfErr result (λ rule. rule ≡ AcceptanceRule.ArgumentOutside) }
         ensures same { self.new ≡ record self.old { operands = self.new.operands } }
     {
         let value = self.pop()?;
         if is_accepted(value, carrier) {
             Ok(())
-        } else if is_of_kind(value, carrier) {
-            Err(AcceptanceRule::ArgumentOutside)
         } else {
-            Err(AcceptanceRule::WrongKind)
+            Err(AcceptanceRule::ArgumentOutside)
         }
     }
+}
+
+// Whether the operands on top are of the carriers' kinds, the topmost of the last one's.
+fn are_of_kinds(operands: &[AbstractValue], carriers: &[Carrier]) -> bool
+    requires { length carriers.now ≤ length operands.now }
+    ensures { result ≡ kinds.are_of_kinds (reverse carriers.now) operands.now }
+{
+    let count = carriers.len();
+    for depth in 0..count {
+        if !is_of_kind(operands[depth], carriers[count - 1 - depth]) {
+            return false;
+        }
+    }
+    true
 }

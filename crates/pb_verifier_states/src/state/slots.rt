@@ -1,7 +1,8 @@
 //! Slots of abstract states: of the loops around, else parameters.
 
-ghost use Rattle.std.specs.Prelude.{◌≡◌, IfSome, Some, None, ℤ, ◌≤ℤ◌, IfOk, OnErr, slice_get};
+ghost use Rattle.std.specs.Prelude.{◌≡◌, IfSome, Some, None, ℤ, ◌≤ℤ◌, IfErr, IfOk, OnErr, slice_get};
 ghost use Rattle.pb_verifier_states.specs.Inhabited.{HasOrderedEnds};
+ghost use Rattle.pb_verifier_states.specs.NamedRule.{named_at_slot};
 ghost use Rattle.pb_bytecode_program.specs.Transfer.{Flow, abstract_slot, among, set_loop};
 ghost use Rattle.pb_bytecode_program.specs.Transfer.{set_param, set_slot, with_abstract_slot};
 ghost use Rattle.pb_bytecode_program.specs.Transfer.{with_interval};
@@ -30,6 +31,7 @@ impl AbstractState {
         ensures err { OnErr result ((go : ℤ → ℤ → Flow)
             → with_abstract_slot (abstract_slot self.now.loops self.now.parameters slot)
             (λ s. with_interval s go) ≡ None) }
+        ensures rule { IfErr result (λ rule. rule ≡ named_at_slot self.now slot) }
     {
         match self.slot(slot) {
             Some(AbstractValue::Int { low, high }) => Ok(Interval::new(low, high)),

@@ -31,7 +31,7 @@ fn writer(alloc: Global, budget: usize, is_slow: bool) -> Budget {
     }
 }
 
-const WRONG_WORDS: [&[&str]; 33] = [
+const WRONG_WORDS: [&[&str]; 35] = [
     &[],
     &["pbsolve"],
     &["pbsolve", "frobnicate"],
@@ -47,6 +47,8 @@ const WRONG_WORDS: [&[&str]; 33] = [
     &["pbsolve", "solve", "--workers", "0"],
     &["pbsolve", "solve", "--workers", "17"],
     &["pbsolve", "solve", "--workers", "-1"],
+    &["pbsolve", "solve", "--workers=-1"],
+    &["pbsolve", "solve", "--workers=+17"],
     &["pbsolve", "solve", "--workers", "1.0"],
     &["pbsolve", "solve", "--workers", "two"],
     &["pbsolve", "solve", "--workers", "99999999999999999999"],

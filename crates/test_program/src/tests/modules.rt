@@ -84,6 +84,18 @@ fn refuses_code(rt: HostRuntime) -> Result<(), Fail> {
     Ok(())
 }
 
+// A module is listed whether its code is accepted or not.
+#[test]
+fn lists_code_that_is_refused(rt: HostRuntime) -> Result<(), Fail> {
+    let bytes = bytes_of(rt.alloc(), POPS)?;
+    let listing = b"equation 0 mu X\nsteps 2\ntokens 0\n0 POP\n1 END\ninit 0\n";
+    let outcome = asked(&rt, rt.alloc(), "list", bytes.as_slice());
+    assert_eq!(rt; outcome.status, 0);
+    assert_eq!(rt; outcome.out.bytes(), listing.as_slice());
+    assert_eq!(rt; outcome.err.bytes(), b"".as_slice());
+    Ok(())
+}
+
 #[test]
 fn refuses_prefixes_and_more(rt: HostRuntime) -> Result<(), Fail> {
     let mut bytes = bytes_of(rt.alloc(), MODULE)?;

@@ -1,5 +1,4 @@
-use Rattle.std.proofs.Common.{◌≡◌, List, subst, IfOk}
-use Rattle.pb_bytecode_program.specs.declared.instruction.Op.{Op}
+use Rattle.std.proofs.Common.{◌∙◌}
 use Rattle.pb_sorts.specs.Layout.{lists_of}
 use Rattle.pb_normal.specs.View.{formula_view, is_and}
 use Rattle.pb_assembler_scheme.specs.Scheme.{equation_piece}
@@ -24,10 +23,10 @@ finish-requires-clause-few c =
     (equation_emitted cs f (is_and c.outermost-kind.result) c.connective_of.result c.in_ok-builder.builder c.emit_plain.new.builder c.emit_formula.new.builder (c.emit_plain-2).new.builder (c.emit_plain-3).new.builder
     c.outermost-kind.ensures c.connective_of.ensures c.in_ok-builder.ensures c.in_ok-emit_plain.ensures c.in_ok-emit_formula.ensures (c.in_ok-emit_plain-2).ensures (c.in_ok-emit_plain-3).ensures)
 
-pub returns : goal.returns
-returns c =
+pub returns-in-Ok : goal.returns-in-Ok
+returns-in-Ok c =
     let cs = lists_of c.args.callees.now in
     let f = formula_view c.args.right.now in
     let emitted = equation_emitted cs f (is_and c.outermost-kind.result) c.connective_of.result c.in_ok-builder.builder c.emit_plain.new.builder c.emit_formula.new.builder (c.emit_plain-2).new.builder (c.emit_plain-3).new.builder
     c.outermost-kind.ensures c.connective_of.ensures c.in_ok-builder.ensures c.in_ok-emit_plain.ensures c.in_ok-emit_formula.ensures (c.in_ok-emit_plain-2).ensures (c.in_ok-emit_plain-3).ensures in
-    subst (λ (is : List Op). IfOk c.finish.result (λ ops. ops.items ≡ is)) (finished (equation_piece cs f) nowhere (c.emit_plain-3).new.builder emitted) c.finish.ensures
+    c.in-Ok.ensures.finished ∙ finished (equation_piece cs f) nowhere (c.emit_plain-3).new.builder emitted

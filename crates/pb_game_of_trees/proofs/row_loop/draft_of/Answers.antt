@@ -20,6 +20,7 @@ loop-k-init c =
     let next = c.args.size.vertices in
     record {
       within = omega arith;
+      level = omega arith;
       place = λ plain hold.
           let same : vertex_behind r.0 2 ≡ vertex_behind plain 2 = one_size rows r.0 plain r.1 hold in
           r.2 ∙ (same ∙ ap (λ (xs : List Row). vertex_behind xs 2) (sym (take_all c.len-k.result plain (omega (arith, many, ap length hold, length-map plain held)))));
@@ -64,6 +65,7 @@ loop-k-preserved c =
     let new = c.put_tree.new.self in
     record {
       within = omega (arith, l.invariant.within);
+      level = c.priority_at-priority.ensures.place;
       place = λ plain hold.
           let n = next_row rows plain (l.k - 1) hold (omega (arith, l.invariant.within)) in
           let h = c.in_ok-put_tree.ensures n.next.tree (row_vertices at p (drop l.k plain) l.builder.next) l.builder.next
@@ -73,9 +75,9 @@ loop-k-preserved c =
           let n = next_row rows plain (l.k - 1) hold (omega (arith, l.invariant.within)) in
           let h = c.in_ok-put_tree.ensures n.next.tree (row_vertices at p (drop l.k plain) l.builder.next) l.builder.next
           (c.tokens.ensures ∙ tokens_of plain (l.k - 1) row n) (c.in_ok-make_room.ensures at [] _ l.builder.next (l.invariant.behind plain hold)) in
-          let priority : c.priority_at.result ≡ p n.next.number = c.priority_at.ensures ∙ ap (λ (x : ℕ). p x) (c.number.ensures ∙ sym (ap number n.is)) in
+          let priority : c.priority_at-priority.result ≡ p n.next.number = c.priority_at-priority.ensures.priority ∙ ap (λ (x : ℕ). p x) (c.number.ensures ∙ sym (ap number n.is)) in
           let limit : l.builder.next ≡ suc (new.next + inner n.next.tree) = omega (arith, h.reaches) in
-          let vertices : tree_vertices at c.priority_at.result n.next.tree new.next ++ row_vertices at p (drop l.k plain) l.builder.next
+          let vertices : tree_vertices at c.priority_at-priority.result n.next.tree new.next ++ row_vertices at p (drop l.k plain) l.builder.next
           ≡ row_vertices at p (drop (l.k - 1) plain) new.next =
           ap (λ (q : ℕ). tree_vertices at q n.next.tree new.next ++ row_vertices at p (drop l.k plain) l.builder.next) priority
           ∙ (ap (λ (m : ℕ). tree_vertices at (p n.next.number) n.next.tree new.next ++ row_vertices at p (drop l.k plain) m) limit

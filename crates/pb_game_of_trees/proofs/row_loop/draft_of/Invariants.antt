@@ -13,6 +13,7 @@ decreases-loop-k l = l.k
 abbrev pub invariant-loop-k : goal.invariant-loop-k
 invariant-loop-k l = record {
   within : l.k ≤ length l.rows;
+  level : l.level ≤ length l.levels;
   place : (plain : List Row) → Hold l.rows plain → l.builder.next ≡ vertex_behind (take l.k plain) 2;
   behind : (plain : List Row) → Hold l.rows plain →
       IsAt (slice_index l.vertices) l.builder [] (row_vertices (slice_index l.vertices) (priority_in l.levels) (drop l.k plain) l.builder.next) l.builder.next;

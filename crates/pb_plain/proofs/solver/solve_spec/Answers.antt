@@ -1,4 +1,4 @@
-use Rattle.std.proofs.Common.{◌≡◌, [], sym, subst}
+use Rattle.std.proofs.Common.{◌≡◌, List, [], sym, subst, arith}
 use Rattle.std.specs.Prelude.{IfOk}
 use Rattle.pb_text_tree.specs.Form.{SpecForm, spec_form}
 use Rattle.pb_sorts.specs.Layout.{carriers_of}
@@ -6,6 +6,10 @@ use Rattle.pb_text_meaning.specs.Fits.{AllFit}
 use Rattle.pb_text_meaning.specs.Erase.{erase}
 use Rattle.pb_text_meaning.specs.Meaning.{answer}
 use Rattle.pb_evaluation.specs.Environment.{all_carriers}
+use Rattle.pb_typing_declarations.specs.declared.fault.TypingFault.{TypingFault}
+use Rattle.pb_typing_declarations.specs.declared.fault.TypeError.{TypeError}
+use Rattle.pb_typing_declarations.specs.declared.fault.TypeError.TheVariants.{At}
+use Rattle.pb_typing_declarations.specs.Faults.{IsAmong}
 use Rattle.pb_typing_rules.proofs.Fitting.{spec_fits}
 use Rattle.pb_plain.specs.Step.{IsSolvable}
 use Rattle.pb_plain.proofs.Ready.{solvable}
@@ -23,3 +27,10 @@ solve_system-requires-clause-initial c =
 
 pub returns-in-Ok : goal.returns-in-Ok
 returns-in-Ok c = subst (λ (text : SpecForm). IfOk c.solve_system.result (λ truth. truth ≡ answer (erase text))) c.in-Ok.ensures.text c.solve_system.ensures
+
+-- no fault is among none
+pub unreachable-requires : goal.unreachable-requires
+unreachable-requires c =
+    let among : IsAmong [] (At c.in-Err-At.field-0-0) =
+    subst (λ (e : TypeError). IsAmong [] e) c.in-Err-At.field-0-is (subst (λ (faults : List TypingFault). IsAmong faults c.in-Err-At.field-0) c.requires.faultless c.in-Err-At.ensures.checked) in
+    absurd (omega (arith, among.1))

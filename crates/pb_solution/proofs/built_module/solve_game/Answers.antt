@@ -6,6 +6,6 @@ use Rattle.pb_solution.proofs.built_module.solve_game.Goals as goal
 
 pub returns-clause-lifted : goal.returns-clause-lifted
 returns-clause-lifted g c asked =
-    let found = c.in_ok-solution.ensures.lifted asked in
-    let kept = subst (λ (s : Solution). IsLiftedOrNone c.args.built.game s) (sym c.new.ensures.solution) found in
-    subst (λ (b : TreeGame). IsLiftedOrNone b.game c.new.result.solution) (sym c.new.ensures.built) kept
+    let found = c.in_ok-certified.ensures.lifted asked in
+    let kept = subst (λ (s : Solution). IsLiftedOrNone c.args.built.game s) (sym c.new.ensures.certified) found in
+    subst (λ (b : TreeGame). IsLiftedOrNone b.game c.new.result.certified) (sym c.new.ensures.built) kept

@@ -1,11 +1,20 @@
--- The names of a text that was read are names of modules.
-use Rattle.std.proofs.Common.{◌≡◌, ◌∙◌, true, false, sym, subst, ap}
+-- The names of a text that was read are names of modules, and its module says what the text says.
+use Rattle.std.proofs.Common.{◌≡◌, ◌∙◌, ℕ, List, true, false, sym, subst, ap}
+use Rattle.pb_trees.specs.Tree.{Tree}
 use Rattle.pb_text_tree.specs.Form.{spec_form}
 use Rattle.pb_text_meaning.specs.Erase.{erase}
+use Rattle.pb_text_meaning.specs.Syntax.{Spec}
+use Rattle.pb_typing_rules.specs.WellTyped.{IsWellTyped}
 use Rattle.pb_typing.specs.declared.typed.Typed.{Typed}
+use Rattle.pb_bytecode.specs.Contents.{Contents}
+use Rattle.pb_bytecode.specs.Decoded.{module_contents}
+use Rattle.pb_bytecode.specs.Meaning.{AreTrees}
+use Rattle.pb_assembler_modules.specs.Answers.{SaysTheSame}
+use Rattle.pb_assembler_modules.specs.Module.{IsCompiledModule, KeepsAllLimits}
 use Rattle.pb_text_names.specs.ModuleNames.{has_names}
 use Rattle.pb_assembler.specs.Refusal.{IsRefusal}
 use Rattle.pb_assembler.specs.Excess.{IsFirstExcess}
+use Rattle.pbsolve.specs.Answers.{IsTheReading, IsModuleOfText}
 use Rattle.pbsolve.proofs.compile.compiled.Goals as goal
 
 pub unreachable-requires : goal.unreachable-requires
@@ -18,3 +27,27 @@ unreachable-requires c =
     let unnamed : has_names spec ≡ false = subst (IsRefusal spec (IsFirstExcess spec)) c.in-Err-Name.field-0-is c.in-Err-Name.ensures.refused in
     let same = ap (λ (t : Typed). has_names (erase (spec_form t.spec))) c.in_ok-normal.ensures.text in
     cc (sym named ∙ (sym same ∙ unnamed))
+
+-- compiled modules say what the text says
+abbrev CompilesToTheSame : Type 0
+CompilesToTheSame = (spec : Spec) → IsWellTyped spec → (m : Contents) → IsCompiledModule spec m → (trees : ℕ → Tree) → AreTrees m trees → SaysTheSame spec m trees
+
+module_of_text : (bytes : List ℕ) (typed normal : Typed) (m : Contents) → IsTheReading bytes (spec_form typed.spec) → IsWellTyped (erase (spec_form typed.spec))
+    → normal ≡ typed → IsCompiledModule (erase (spec_form normal.spec)) m → KeepsAllLimits (erase (spec_form normal.spec)) m → CompilesToTheSame
+    → IsModuleOfText bytes m
+module_of_text bytes typed normal m read well_typed same compiled kept law =
+    let of_text = subst (λ (t : Typed). IsCompiledModule (erase (spec_form t.spec)) m) same compiled in
+    record {
+      text = spec_form typed.spec;
+      read = read;
+      typed = well_typed;
+      compiled = of_text;
+      kept = subst (λ (t : Typed). KeepsAllLimits (erase (spec_form t.spec)) m) same kept;
+      says = law (erase (spec_form typed.spec)) well_typed m of_text;
+    }
+
+pub returns-in-Ok-clause-module : goal.returns-in-Ok-clause-module
+returns-in-Ok-clause-module c =
+    module_of_text c.args.bytes.now c.in_ok-typed.typed c.in_ok-normal.normal.typed.now (module_contents c.in-Ok.module)
+    c.in_ok-typed.ensures.read.0 c.in_ok-typed.ensures.read.1 c.in_ok-normal.ensures.text c.in-Ok.ensures.«module» c.in-Ok.ensures.kept
+    c.compiled_modules_have_the_answer.ensures.well_typed

@@ -1,5 +1,5 @@
 -- What was checked is what the text says.
-use Rattle.std.proofs.Common.{ℕ, List, sym, subst}
+use Rattle.std.proofs.Common.{◌≢◌, ℕ, List, sym, subst}
 use Rattle.pb_text_tree.specs.declared.spec.Spec.{Spec}
 use Rattle.pb_text_tree.specs.Form.{SpecForm, spec_form}
 use Rattle.pb_text_meaning.specs.Erase.{erase}
@@ -9,14 +9,15 @@ use Rattle.pb_typing_declarations.specs.declared.fault.TypeError.TheVariants.{Me
 use Rattle.pb_typing_declarations.specs.Faults.{IsAmong}
 use Rattle.pb_typing_rules.specs.Faults.{faults}
 use Rattle.pbsolve.specs.Answers.{IsTheReading}
-use Rattle.pbsolve.specs.Refusals.{IsRefused}
+use Rattle.pbsolve.specs.Refusals.{IsUncompiled}
 use Rattle.pbsolve.specs.Errors.{type_refusal}
 use Rattle.pbsolve.proofs.compile.typed.Goals as goal
 
 -- a fault of the text that was read is what the refusal says
-type_refused : (bytes : List ℕ) (x : SpecForm) (e : TypeError) → IsTheReading bytes x → IsAmong (faults x) e → IsRefused bytes (type_refusal e)
-type_refused bytes x Memory reading h = tt
-type_refused bytes x (At fault) reading h = (x, reading, h)
+type_refused : (bytes : List ℕ) (x : SpecForm) (e : TypeError) → IsTheReading bytes x → IsAmong (faults x) e
+    → (e ≢ Memory → ¬ IsWellTyped (erase x)) → IsUncompiled bytes (type_refusal e)
+type_refused bytes x Memory reading h ill_typed = tt
+type_refused bytes x (At fault) reading h ill_typed = (x, reading, ill_typed (λ same. absurd (cc same)), h)
 
 pub returns-in-Ok-clause-read : goal.returns-in-Ok-clause-read
 returns-in-Ok-clause-read c =
@@ -29,4 +30,5 @@ pub returns-in-Err-clause-refused : goal.returns-in-Err-clause-refused
 returns-in-Err-clause-refused c =
     let bytes = c.args.bytes.now in
     let reading : IsTheReading bytes (spec_form c.in_ok-spec.spec) = record { reading = c.in_ok-spec.ensures.reading; only = c.in_ok-spec.ensures.only } in
-    subst (IsRefused bytes) (sym c.from.ensures) (type_refused bytes (spec_form c.in_ok-spec.spec) c.in-Err.error reading c.in-Err.ensures.fails)
+    subst (IsUncompiled bytes) (sym c.from.ensures)
+    (type_refused bytes (spec_form c.in_ok-spec.spec) c.in-Err.error reading c.in-Err.ensures.fails c.in-Err.ensures.ill_typed)

@@ -1,11 +1,24 @@
--- Of the faults of the input only a failed read is told as one.
-use Rattle.std.proofs.Common.{◌≡◌, refl, ap, sym, Err}
+-- Of the faults of the words and of the input each is told as itself.
+use Rattle.std.proofs.Common.{◌≡◌, ◌≤◌, ℕ, List, Option, length, map, refl, ap, sym, subst, Result, Ok, Err, IfErr, IsErrAnd, arith}
+use Rattle.std.specs.Io.KnownBytes.{Appends}
+use Rattle.pb_sorts.specs.Sink.{AppendsPrefix}
 use Rattle.std.proofs.lemmas.Result.{err_from_is_err_and}
 use Rattle.pb_report.specs.declared.fault.ProgramFault.TheVariants as fault
+use Rattle.pb_sorts.specs.Source.{IsLongerThan}
+use Rattle.pb_command_line.specs.declared.request.Request.{Request}
+use Rattle.pb_command_line.specs.Words.{AskFor, AskForSomething}
 use Rattle.pbsolve.specs.declared.input.InputError.{InputError}
+use Rattle.pbsolve.specs.declared.input.TheConstants.{INPUT_LIMIT}
+use Rattle.pbsolve.specs.declared.run_error.RunError.{RunError}
+use Rattle.pbsolve.specs.declared.solve_error.SolveError.{SolveError}
+use Rattle.pbsolve.specs.declared.solve_error.SolveError.TheVariants as solve_error
+use Rattle.pbsolve.specs.Outputs.{Outputs, IsRefusedFor}
+use Rattle.pbsolve.specs.Program.{ForInput, IsRefusedBy}
 use Rattle.pbsolve.specs.declared.input.InputError.TheVariants.{Failed, TooLong, Memory}
 use Rattle.pbsolve.specs.declared.run_error.RunError.TheVariants.{ProgramFault}
-use Rattle.pbsolve.specs.Errors.{input_fault}
+use Rattle.pb_command_line.specs.declared.words.WordsError.{WordsError}
+use Rattle.pb_command_line.specs.declared.words.WordsError.TheVariants as words_error
+use Rattle.pbsolve.specs.Errors.{input_fault, solve_fault, words_fault}
 use Rattle.pbsolve.proofs.program.attempt.Goals as goal
 
 -- what holds of a failed read holds where the fault is told as one
@@ -19,3 +32,126 @@ returns-in_err-input-clause-read_within g c is =
     let made = err_from_is_err_and c.from_residual-in_err-input.result c.from_residual-in_err-input.ensures.1 in
     let told : input_fault c.in_err-input.field-0.0 ≡ ProgramFault fault.E01 = cc (sym made.1, sym made.2, is) in
     by_fault _ c.in_err-input.field-0.0 (λ same. c.in_err-input.ensures.failed_within (ap Err same)) told
+
+-- and what holds of words that ask for nothing where that is told
+by_usage : (P : Type 0) (e : WordsError) → (e ≡ words_error.Usage → P) → words_fault e ≡ ProgramFault fault.U01 → P
+by_usage P words_error.Usage f h = f refl
+by_usage P words_error.Memory f h = absurd (cc h)
+
+pub returns-in_err-request-clause-understood : goal.returns-in_err-request-clause-understood
+returns-in_err-request-clause-understood g c is =
+    let made = err_from_is_err_and c.from_residual.result c.from_residual.ensures.1 in
+    let told : words_fault c.in_err-request.field-0.0 ≡ ProgramFault fault.U01 = cc (sym made.1, sym made.2, is) in
+    by_usage _ c.in_err-request.field-0.0 (λ same. c.in_err-request.ensures.faulty (ap Err same)) told
+
+pub returns-in_err-input-clause-read_asked : goal.returns-in_err-input-clause-read_asked
+returns-in_err-input-clause-read_asked g c is = (c.in_ok-request.request, c.in_ok-request.ensures.asked)
+
+pub returns-in_err-input-clause-faulty : goal.returns-in_err-input-clause-faulty
+returns-in_err-input-clause-faulty g c fault = absurd (fault (c.in_ok-request.request, c.in_ok-request.ensures.asked))
+
+pub returns-in_err-answer-clause-faulty : goal.returns-in_err-answer-clause-faulty
+returns-in_err-answer-clause-faulty g c fault = absurd (fault (c.in_ok-request.request, c.in_ok-request.ensures.asked))
+
+pub returns-clause-faulty : goal.returns-clause-faulty
+returns-clause-faulty g c fault = absurd (fault (c.in_ok-request.request, c.in_ok-request.ensures.asked))
+
+-- too long an input is refused whatever is asked
+input_refused : (words : List (List ℕ)) (known : Option (List ℕ)) (e : InputError) → AskForSomething words → (e ≡ TooLong → IsLongerThan INPUT_LIMIT known)
+    → IsRefusedBy words known (input_fault e)
+input_refused words known Failed asked long = tt
+input_refused words known TooLong asked long = (asked, long refl)
+input_refused words known Memory asked long = tt
+
+refused_up : {T : Type 0} (words : List (List ℕ)) (known : Option (List ℕ)) (r : Result T RunError) (x : RunError) → IsErrAnd r (λ e. e ≡ x)
+    → IsRefusedBy words known x → IfErr r (IsRefusedBy words known)
+refused_up words known (Ok y) x made refused = tt
+refused_up words known (Err e) x made refused = subst (IsRefusedBy words known) (sym made) refused
+
+pub returns-in_err-input-clause-refused : goal.returns-in_err-input-clause-refused
+returns-in_err-input-clause-refused g c =
+    let words = map g.S.AsStr.text c.args.words.now in
+    let known = g.R.Source.left c.args.reader.now in
+    let asked : AskForSomething words = (c.in_ok-request.request, c.in_ok-request.ensures.asked) in
+    refused_up words known c.from_residual-in_err-input.result (input_fault c.in_err-input.field-0.0) c.from_residual-in_err-input.ensures.1
+    (input_refused words known c.in_err-input.field-0.0 asked (λ same. c.in_err-input.ensures.too_long (ap Err same)))
+
+-- what a command's error says of its input, the run's says of the words and the input
+answer_refused : (words : List (List ℕ)) (known : Option (List ℕ)) (e : SolveError)
+    → (request : Request) × AskFor words request × ForInput known (λ bytes. IsRefusedFor request.command bytes e)
+    → IsRefusedBy words known (solve_fault e)
+answer_refused words known (solve_error.Memory error) h = tt
+answer_refused words known (solve_error.Write error) h = tt
+answer_refused words known (solve_error.Text error) h = (tt, h)
+answer_refused words known (solve_error.Typing error) h = (tt, h)
+answer_refused words known (solve_error.Limit limit equation) h = (tt, h)
+answer_refused words known (solve_error.Module error) h = (tt, h)
+answer_refused words known (solve_error.Acceptance error) h = (tt, h)
+answer_refused words known solve_error.TooManyVertices h = (tt, h)
+
+pub returns-in_err-answer-clause-refused : goal.returns-in_err-answer-clause-refused
+returns-in_err-answer-clause-refused g c =
+    let words = map g.S.AsStr.text c.args.words.now in
+    let known = g.R.Source.left c.args.reader.now in
+    let request = c.in_ok-request.request in
+    let input = c.in_ok-input.input in
+    let error = c.in_err-answer.field-0.0 in
+    let short : length input.items ≤ INPUT_LIMIT = omega (arith, input.ok.0, c.in_ok-input.ensures.short) in
+    refused_up words known c.from_residual-in_err-answer.result (solve_fault error) c.from_residual-in_err-answer.ensures.1
+    (answer_refused words known error (
+      request,
+      c.in_ok-request.ensures.asked,
+      (
+        input.items,
+        short,
+        c.in_ok-input.ensures.whole,
+        subst (λ bytes. IsRefusedFor request.command bytes error) c.as_slice.ensures.value c.in_err-answer.ensures.refused,
+      ),
+    ))
+
+-- and what holds of a failed write where that is told
+by_write : (P : Type 0) (e : SolveError) → (e ≡ solve_error.Write (record {}) → P) → solve_fault e ≡ ProgramFault fault.E02 → P
+by_write P (solve_error.Write error) f h = f refl
+by_write P (solve_error.Memory error) f h = absurd (cc h)
+by_write P (solve_error.Text error) f h = absurd (cc h)
+by_write P (solve_error.Typing error) f h = absurd (cc h)
+by_write P (solve_error.Limit limit equation) f h = absurd (cc h)
+by_write P (solve_error.Module error) f h = absurd (cc h)
+by_write P (solve_error.Acceptance error) f h = absurd (cc h)
+by_write P solve_error.TooManyVertices f h = absurd (cc h)
+
+pub returns-in_err-answer-clause-write : goal.returns-in_err-answer-clause-write
+returns-in_err-answer-clause-write g c is =
+    let request = c.in_ok-request.request in
+    let input = c.in_ok-input.input in
+    let error = c.in_err-answer.field-0.0 in
+    let short : length input.items ≤ INPUT_LIMIT = omega (arith, input.ok.0, c.in_ok-input.ensures.short) in
+    let made = err_from_is_err_and c.from_residual-in_err-answer.result c.from_residual-in_err-answer.ensures.1 in
+    let told : solve_fault error ≡ ProgramFault fault.E02 = cc (sym made.1, sym made.2, is) in
+    let prefix = AppendsPrefix (g.O.Sink.taken c.args.out.now) (g.O.Sink.taken c.answer.new.out) in
+    by_write _ error (λ same. (
+      request,
+      c.in_ok-request.ensures.asked,
+      (
+        input.items,
+        short,
+        c.in_ok-input.ensures.whole,
+        subst (λ bytes. Outputs request.command bytes prefix) c.as_slice.ensures.value (c.in_err-answer.ensures.write (ap Err same)),
+      ),
+    )) told
+
+pub returns-clause-answered : goal.returns-clause-answered
+returns-clause-answered g c =
+    let request = c.in_ok-request.request in
+    let input = c.in_ok-input.input in
+    let short : length input.items ≤ INPUT_LIMIT = omega (arith, input.ok.0, c.in_ok-input.ensures.short) in
+    let whole = Appends (g.O.Sink.taken c.args.out.now) (g.O.Sink.taken c.answer.new.out) in (
+      request,
+      c.in_ok-request.ensures.asked,
+      (
+        input.items,
+        short,
+        c.in_ok-input.ensures.whole,
+        subst (λ bytes. Outputs request.command bytes whole) c.as_slice.ensures.value c.in_ok-answer.ensures.answered,
+      ),
+    )

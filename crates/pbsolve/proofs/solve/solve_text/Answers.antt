@@ -4,13 +4,13 @@ use Rattle.pbsolve.proofs.solve.solve_text.Goals as goal
 pub returns-clause-answer : goal.returns-clause-answer
 returns-clause-answer g c =
     text_answers c.args.bytes.now c.in_ok-verified.verified c.instances_have_trees.ensures c.in_ok-verified.ensures.«module»
-    c.compiled_modules_have_the_answer.ensures.well_typed c.write_report.result c.write_report.ensures.answer
+    c.write_report.result c.write_report.ensures.answer
 
 pub returns-clause-write : goal.returns-clause-write
 returns-clause-write g c failed =
     let written = c.write_report.ensures.write failed in (
       written.0,
       text_answer c.args.bytes.now c.in_ok-verified.verified c.instances_have_trees.ensures c.in_ok-verified.ensures.«module»
-          c.compiled_modules_have_the_answer.ensures.well_typed written.0 written.1,
+          written.0 written.1,
       written.2,
     )

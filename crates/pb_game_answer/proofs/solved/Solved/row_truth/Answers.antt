@@ -27,4 +27,4 @@ returns c = λ signatures trees reached initial row is e.
     let vertex = row_vertex c.games_of_rows_are_total.ensures.rows signatures trees reached initial built is c.args.k row e l in
     let count = count_rows c.games_of_rows_are_total.ensures.rows signatures trees reached initial built is in
     let read = get_or_read built.vertices.items c.args.k c.index.result.now (omega (arith, count, l)) c.index.ensures 0 in
-    c.truth_at.ensures signatures trees reached is.game row (contained reached c.args.k row e) (sym (read ∙ vertex))
+    c.truth_at.ensures.meaning signatures trees reached is.game row (contained reached c.args.k row e) (sym (read ∙ vertex))

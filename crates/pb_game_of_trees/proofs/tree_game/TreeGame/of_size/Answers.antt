@@ -3,8 +3,10 @@ use Rattle.std.proofs.lemmas.List.{get_or_read, length-map}
 use Rattle.pb_trees.specs.Game.{game_vertices}
 use Rattle.pb_rows.specs.Reached.{rows_of}
 use Rattle.pb_game_of_trees.specs.Draft.{IsDraft}
+use Rattle.pb_game_of_trees.specs.Levels.{AreOrdered}
 use Rattle.pb_game_of_trees.specs.Places.{numbers}
 use Rattle.pb_game_of_trees.specs.Equations.{equations_of, plain}
+use Rattle.pb_game_of_trees.proofs.EquationLevels.{levels_ordered}
 use Rattle.pb_game_of_trees.proofs.Reached.{found_row, reached_of}
 use Rattle.pb_game_of_trees.proofs.Vertices.{IsTable, table_at, vertices_are, fewer_rows, length-vertices_from}
 use Rattle.pb_game_of_trees.proofs.Built.{count_vertices, number_below, reached_below, call_below, built, makes_game}
@@ -51,6 +53,10 @@ draft_of-requires-clause-rows c =
       call_below sigs trees rows reached are (length c.deref-3.result.now)
           (ap length c.deref-3.ensures.value ∙ (table.0 ∙ c.count_instances-numbers.ensures)),
     )
+
+pub draft_of-requires-clause-levels : goal.draft_of-requires-clause-levels
+draft_of-requires-clause-levels c =
+    subst AreOrdered (sym (c.deref-2.ensures.value ∙ c.in_ok-levels.ensures)) (levels_ordered 0 (equations_of c.args.signatures.now))
 
 pub into_parts-requires : goal.into_parts-requires
 into_parts-requires c =

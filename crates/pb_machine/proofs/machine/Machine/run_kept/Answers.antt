@@ -8,6 +8,7 @@ use Rattle.pb_bytecode.specs.Meaning.{program_of}
 use Rattle.pb_bytecode.specs.Views.{equation_contents}
 use Rattle.pb_machine.proofs.ModuleInstances.{equation_there, declared_at, values_within, can_run_at, output_at, meant}
 use Rattle.pb_machine.specs.Output.{IsOutput}
+use Rattle.pb_machine.proofs.Runs.{few_written}
 use Rattle.pb_machine.proofs.machine.Machine.run_kept.Goals as goal
 
 pub index-equation-requires : goal.index-equation-requires
@@ -41,5 +42,6 @@ returns c =
     let output = output_at (program_of m (equation_contents held)) c.deref-3.result.now i.values tokens c.deref-3.ensures (subst (IsOutput (program_of m (equation_contents held)) c.deref-3.result.now) (sym c.deref-4.ensures.value) (c.in_ok-run_code.ensures (program_of m (equation_contents held)) can)) in
     record {
       output = record { instance = i; numbered = at; equation = equation_contents held; declared = declared; output = output };
+      few = (let short = few_written (program_of m (equation_contents held)) i.values tokens can.runnable output in let stated = (c.runs_safely.ensures.safe i.equation (equation_contents held) declared).few_tokens in omega arith);
       meaning = λ trees all. meant m c.args.number i (equation_contents held) tokens trees at declared (values_within m c.args.number i (equation_contents held) at declared) output all;
     }

@@ -12,4 +12,5 @@ invariant-loop-left l = record {
   popped : (go : List AbstractValue → Flow) → abstract_pop_args (reverse l.carriers) l.initial.self.operands go ≡ abstract_pop_args (reverse (take l.left l.carriers)) l.self.operands go;
   same : l.self ≡ record l.initial.self { operands = l.self.operands };
   within : l.left ≤ length l.carriers;
+  there : l.left ≤ length l.self.operands;
 }

@@ -1,0 +1,53 @@
+//! Solutions that have been through the checker: whoever holds one knows that it ran, and needs no
+//! second run.
+
+ghost use Rattle.std.specs.Prelude.{◌≡◌, ◌↔◌, IsOk, IfErr, IfOk};
+ghost use Rattle.pb_game_certificate.specs.Certificates.{IsCertificate};
+ghost use Rattle.pb_game_certificate.specs.Flaws.{IsFirstFlaw};
+
+use crate::check;
+use pb_game::Game;
+use pb_game_certificate::{Flaw, Solution};
+use std::marker::Model;
+
+/// A solution that the checker has certified for a game. Only [`certify`] makes one. Contracts see
+/// the solution.
+#[derive(Drop)]
+pub struct Certified {
+    solution: Solution,
+}
+
+impl Model for Certified {
+    ghost use Rattle.pb_game_certificate.specs.declared.Solution.{Solution};
+
+    ghost Value = { Solution };
+
+    ghost view = { λ certified. certified.solution };
+}
+
+impl Certified {
+    /// The solution.
+    pub fn solution(&self) -> &Solution
+        ensures { result.now ≡ self.now }
+    {
+        &self.solution
+    }
+}
+
+/// Runs the checker on a solution, and keeps it where it is a certificate of the game.
+///
+/// # Errors
+///
+/// The solution with its first flaw, where it is no certificate.
+pub fn certify(game: &Game, solution: Solution) -> Result<Certified, (Solution, Flaw)>
+    ensures certificate { IsOk result ↔ IsCertificate game.now solution }
+    ensures kept { IfOk result (λ certified. certified ≡ solution) }
+    ensures handed_back { IfErr result (λ refused. refused.0 ≡ solution) }
+    ensures flaw { IfErr result
+        (λ refused. IsFirstFlaw game.now solution refused.1.vertex refused.1.rule) }
+{
+    match check(game, &solution) {
+        Ok(_) => Ok(Certified { solution }),
+        Err(flaw) => Err((solution, flaw)),
+    }
+}
