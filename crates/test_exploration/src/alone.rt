@@ -6,7 +6,7 @@ ghost use Rattle.pb_instances.specs.Explored.{IsEnd};
 ghost use Rattle.pb_instances.specs.Seats.{words_of};
 
 use crate::steps::close;
-use pb_exploration::{Hints, Limit, NoGate, Site, work};
+use pb_exploration::{Crew, Hints, Limit, NoGate, Site, work};
 use pb_instances::{Statuses, Table};
 use pb_rows::Rows;
 use pb_verifier::Verified;
@@ -32,6 +32,7 @@ fn work_branded<B: Limit>(
     let site = Site {
         verified,
         table: &table,
+        crew: &Crew::of(1),
     };
     let rows = work(alloc, &site, &mut seat, &mut own, 0, &NoGate);
     Ok((rows, close(alloc, verified, table)))

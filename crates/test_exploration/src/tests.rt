@@ -46,6 +46,7 @@ fn reference_steps(rt: HostRuntime) -> Result<(), Fail> {
     let alloc = rt.alloc();
     let module = all_others(alloc)?;
     let mut core = Core::start(alloc, &module, 2)?;
+    assert_eq!(rt; core.status(module.initial()), Status::Pending);
     let refused = Err(StepError::NotAllowed);
     assert_eq!(rt; core.apply(event(0, Step::Take(0))), Ok(()));
     assert_eq!(rt; core.apply(event(1, Step::Take(0))), refused);
@@ -126,7 +127,7 @@ fn second_is_given_back(
     }
     assert_eq!(rt; status(module, table, a, 1), Some(Status::Taken));
     assert_eq!(rt; mark(table, b, 1, tree, 1), Some(Marked::Known));
-    give_back(table, b, 1, tree);
+    give_back(table, b, 1);
 }
 
 /// The first seat takes instance 1 in its turn, and finishes it.
