@@ -1,5 +1,5 @@
--- What a model's syntax tree says, without boxes and vectors. A chain of operators is folded to nested binary nodes,
--- and each variable stands with its sort.
+-- What a model's syntax tree says, without boxes and vectors. A chain of operators is folded to nested
+-- binary nodes, and each variable stands with its sort.
 use Rattle.std.specs.Prelude.{Bool, List, [], ◌∷◌, map}
 use Rattle.pb_fixpoint.specs.declared.Sign.{Sign}
 use Rattle.pb_text_tree.specs.declared.place.Place.{Place}
@@ -70,22 +70,29 @@ abbrev mutual
   pub step_set_form : StepSet → StepSetForm
   step_set_form (step_set.All place) = StepSetForm.all place
   step_set_form (step_set.Step n) = StepSetForm.step (named n)
-  step_set_form (step_set.Complement' place p operand) = StepSetForm.complement place (step_set_form operand)
-  step_set_form (step_set.Union' p first shape row) = chained StepSetForm.union (step_set_form first) (step_set_links_in row)
+  step_set_form (step_set.Complement' place p operand) =
+      StepSetForm.complement place (step_set_form operand)
+  step_set_form (step_set.Union' p first shape row) =
+      chained StepSetForm.union (step_set_form first) (step_set_links_in row)
 
   pub step_set_links_in : {m : _} → Row_of-StepSetLink m → List (Place × StepSetForm)
   step_set_links_in end_of-StepSetLink = []
-  step_set_links_in (more_of-StepSetLink place operand row) = (place, step_set_form operand) ∷ step_set_links_in row
+  step_set_links_in (more_of-StepSetLink place operand row) =
+      (place, step_set_form operand) ∷ step_set_links_in row
 
 abbrev mutual
   pub formula_form : Formula → FormulaForm
   formula_form (formula.Constant place value) = FormulaForm.constant place value
   formula_form (formula.Data place x) = FormulaForm.«data» place (term_form x)
   formula_form (formula.Variable n) = FormulaForm.variable (named n)
-  formula_form (formula.Negation' place p operand) = FormulaForm.negation place (formula_form operand)
-  formula_form (formula.Chain' connective p first shape row) = chained (FormulaForm.connected connective) (formula_form first) (links_in row)
-  formula_form (formula.Modal' place modality steps p operand) = FormulaForm.modal modality place (step_set_form steps) (formula_form operand)
-  formula_form (formula.Fixpoint' place sign x p body) = FormulaForm.fixpoint sign place (named x) (formula_form body)
+  formula_form (formula.Negation' place p operand) =
+      FormulaForm.negation place (formula_form operand)
+  formula_form (formula.Chain' connective p first shape row) =
+      chained (FormulaForm.connected connective) (formula_form first) (links_in row)
+  formula_form (formula.Modal' place modality steps p operand) =
+      FormulaForm.modal modality place (step_set_form steps) (formula_form operand)
+  formula_form (formula.Fixpoint' place sign x p body) =
+      FormulaForm.fixpoint sign place (named x) (formula_form body)
 
   pub links_in : {m : _} → Row_of-Link m → List (Place × FormulaForm)
   links_in end_of-Link = []
@@ -108,7 +115,12 @@ abbrev pub assignment_form : declared_assignment.Assignment → AssignmentForm
 assignment_form a = record { variable = named a.variable; value = term_form a.value }
 
 abbrev pub step_form : declared_step.Step → StepForm
-step_form s = record { name = named s.name; variables = variable_forms s.variables.items; guard = term_form s.guard; assignments = map assignment_form s.assignments.items }
+step_form s = record {
+  name = named s.name;
+  variables = variable_forms s.variables.items;
+  guard = term_form s.guard;
+  assignments = map assignment_form s.assignments.items;
+}
 
 abbrev pub initial_form : declared_initial.InitialState → InitialForm
 initial_form i = record { place = i.place; values = argument_forms i.values.items }
