@@ -14,7 +14,7 @@ use Rattle.pb_model_meaning.specs.Steps.{State, state_carriers, is_state, state_
 use Rattle.pb_model_meaning.specs.Satisfaction.{States, Valuation, with_set, satisfying}
 use Rattle.pb_model_meaning.specs.Positive.{IsPositive}
 use Rattle.pb_model_meaning.specs.Laws.{Within, IsExtremeFixpoint, FixpointsAreExtreme}
-use Rattle.pb_model_meaning.proofs.Same.{Agree, with_set-same, satisfying-same}
+use Rattle.pb_model_meaning.proofs.Same.{Agree, chosen, with_set-same, satisfying-same}
 use Rattle.pb_model_meaning.proofs.Monotone.{inner, set-related, satisfying-within}
 
 module _ (m : Model) (ρ : Valuation) (sign : Sign) (X : Name) (f : Formula) (p : IsPositive (Formula.Fixpoint sign X f)) where
@@ -48,10 +48,6 @@ module _ (m : Model) (ρ : Valuation) (sign : Sign) (X : Name) (f : Formula) (p 
   solved : fixpoint.IsSolved equation [] empty
   solved = value_of-solved equation [] monotone tt empty (tuples (state_carriers m)) instances
 
-  assigned : (b x y : Bool) → b ≡ true → (if b then x else y) ≡ x
-  assigned true x y e = refl
-  assigned false x y e = absurd (true≢false (sym e))
-
   here : (b x y : Bool) → b ≡ true → x ≡ y → (b && x) ≡ y
   here true x y e h = h
   here false x y e h = absurd (true≢false (sym e))
@@ -61,7 +57,7 @@ module _ (m : Model) (ρ : Valuation) (sign : Sign) (X : Name) (f : Formula) (p 
   operator-same S U SU s e =
       here (is_state m s) (g (assign empty equation S) s) (g U s) e
       (satisfying-same m f (with_set ρ X (assign empty equation S)) (with_set ρ X U)
-      (with_set-same m ρ ρ (λ Y i k. refl) X (assign empty equation S) U (λ i k. assigned (is_state m i) (S i) false k ∙ SU i k)) s e)
+      (with_set-same m ρ ρ (λ Y i k. refl) X (assign empty equation S) U (λ i k. chosen (is_state m i) (S i) false k ∙ SU i k)) s e)
 
   iterate-same : (n : ℕ) → Agree m (iterate n (operator equation [] empty) (start sign)) (iterate n g (start sign))
   iterate-same zero s e = refl

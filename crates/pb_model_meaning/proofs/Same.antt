@@ -1,5 +1,5 @@
 -- Which states satisfy a formula depends on the sets of its variables at the states of the model alone.
-use Rattle.std.proofs.Common.{◌≡◌, ℕ, zero, suc, Bool, true, false, not, ◌&&◌, ◌||◌, if◌then◌else◌, List, [], ◌∷◌, refl, ap, ◌∙◌}
+use Rattle.std.proofs.Common.{◌≡◌, ℕ, zero, suc, Bool, true, false, true≢false, not, ◌&&◌, ◌||◌, if◌then◌else◌, List, [], ◌∷◌, refl, sym, ap, ◌∙◌}
 use Rattle.std.specs.List.{list_any, list_all}
 use Rattle.pb_fixpoint.specs.Solution.{iterate, start}
 use Rattle.pb_fixpoint.proofs.Solved.{cond_same}
@@ -11,6 +11,10 @@ use Rattle.pb_model_meaning.specs.Satisfaction.{States, Valuation, with_set, is_
 -- S and T have the same states of the model
 abbrev pub Agree : Model → States → States → Type 0
 Agree m S T = (s : State) → is_state m s ≡ true → S s ≡ T s
+
+pub chosen : (b x y : Bool) → b ≡ true → (if b then x else y) ≡ x
+chosen true x y e = refl
+chosen false x y e = absurd (true≢false (sym e))
 
 module _ (m : Model) where
   pub holds_at-same : (f : Formula) (S T : States) → Agree m S T → (s : State) → holds_at m f S s ≡ holds_at m f T s

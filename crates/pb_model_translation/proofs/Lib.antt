@@ -1,0 +1,5 @@
+pub mod Lists
+pub mod Data
+pub mod RightSides
+pub mod Nested
+pub mod Answer
