@@ -14,9 +14,11 @@ use Rattle.pb_text_meaning.specs.Meaning.{equations_of, answer}
 use Rattle.pb_model_meaning.specs.Syntax.{Formula, Model}
 use Rattle.pb_model_meaning.specs.Steps.{State, data_of, is_state, initial_state}
 use Rattle.pb_model_meaning.specs.Satisfaction.{no_sets, satisfying, satisfies}
-use Rattle.pb_model_translation.specs.Translation.{has_equation, next_if, equation_count, Scope, text_of, right_side, equation, with_equation, equations, translation}
-use Rattle.pb_model_translation.specs.Laws.{HasNamesApart, AreNamesApart, instance_of, AreOverStates, NestedEquationsSolveNestedFixpoints, TranslationsHaveTheAnswer}
+use Rattle.pb_model_translation.specs.Translation.{has_equation, next_if, equation_count, Scope, text_of, right_side, equation, with_equation, equations, total_count, translation_by}
+use Rattle.pb_model_translation.specs.Names.{names_of}
+use Rattle.pb_model_translation.specs.Laws.{HasNamesApart, AreNamesApart, instance_of, AreOverStates, NestedEquationsSolveNestedFixpoints, TranslationsHaveTheAnswer, AnyNamesHaveTheAnswer}
 use Rattle.pb_model_translation.proofs.Data.{carriers-same, values-same}
+use Rattle.pb_model_translation.proofs.Names.{names_of-apart}
 use Rattle.pb_model_translation.proofs.Nested.{leave, solves, operand-solved, fixpoints_are_solved, right_sides_are_solved}
 
 pub nested_equations_solve_nested_fixpoints : NestedEquationsSolveNestedFixpoints
@@ -124,7 +126,7 @@ module _ (m : Model) (names : ℕ → Name) where
 
   module _ (apart : HasNamesApart m) where
     fixpoint-answer : (sign : Sign) (X : Name) (f : Formula) → AreNamesApart names (suc (equation_count f)) →
-        answer (translation m names (Formula.Fixpoint sign X f)) ≡ satisfies m (Formula.Fixpoint sign X f)
+        answer (translation_by m names (Formula.Fixpoint sign X f)) ≡ satisfies m (Formula.Fixpoint sign X f)
     fixpoint-answer sign X f names_apart =
         let N = suc (equation_count f) in
         let g = Formula.Fixpoint sign X f in
@@ -146,7 +148,7 @@ module _ (m : Model) (names : ℕ → Name) where
         (leave m names E (names 0) m.initial N known apart names_apart f [] Nu 1 [] (omega arith) (λ t k less z. refl)) s e
         (λ u. solves m names E (names 0) m.initial N known apart names_apart f [] Nu 1 [] u tt (omega arith) (λ t k less z. refl) s e))
 
-    answer-of : (f : Formula) → AreNamesApart names (suc (equation_count f)) → answer (translation m names f) ≡ satisfies m f
+    answer-of : (f : Formula) → AreNamesApart names (total_count f) → answer (translation_by m names f) ≡ satisfies m f
     answer-of (Formula.Truth b) h = own-answer (Formula.Truth b) h
     answer-of (Formula.Data x) h = own-answer (Formula.Data x) h
     answer-of (Formula.Named X) h = own-answer (Formula.Named X) h
@@ -156,7 +158,10 @@ module _ (m : Model) (names : ℕ → Name) where
     answer-of (Formula.Implies f g) h = own-answer (Formula.Implies f g) h
     answer-of (Formula.Box A f) h = own-answer (Formula.Box A f) h
     answer-of (Formula.Diamond A f) h = own-answer (Formula.Diamond A f) h
-    answer-of (Formula.Fixpoint sign X f) h = fixpoint-answer sign X f (λ i j li lj e. h i j (omega arith) (omega arith) e)
+    answer-of (Formula.Fixpoint sign X f) h = fixpoint-answer sign X f h
+
+pub any_names_have_the_answer : AnyNamesHaveTheAnswer
+any_names_have_the_answer m names f apart names_apart = answer-of m names apart f names_apart
 
 pub translations_have_the_answer : TranslationsHaveTheAnswer
-translations_have_the_answer m names f apart names_apart = answer-of m names apart f names_apart
+translations_have_the_answer m f apart = any_names_have_the_answer m (names_of f) f apart (names_of-apart f)

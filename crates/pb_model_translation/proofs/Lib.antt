@@ -2,4 +2,5 @@ pub mod Lists
 pub mod Data
 pub mod RightSides
 pub mod Nested
+pub mod Names
 pub mod Answer

@@ -1,5 +1,5 @@
 -- What is promised of the translation.
-use Rattle.std.specs.Prelude.{◌≡◌, ℕ, suc, ◌+◌, ◌<◌, ◌≤◌, Bool, true, false, ◌&&◌, ⊤, List, [], ◌∷◌, map}
+use Rattle.std.specs.Prelude.{◌≡◌, ℕ, ◌+◌, ◌<◌, ◌≤◌, Bool, true, false, ◌&&◌, ⊤, List, [], ◌∷◌, map}
 use Rattle.pb_fixpoint.specs.declared.Sign.{Sign}
 use Rattle.pb_fixpoint.specs.Solution.{Environment, solution}
 use Rattle.pb_text_meaning.specs.Syntax.{Name, same_name, Variable, Terms, Equation, Spec}
@@ -8,7 +8,8 @@ use Rattle.pb_text_meaning.specs.Meaning.{assigned, equation_of, answer}
 use Rattle.pb_model_meaning.specs.Syntax.{Step, Formula, Model}
 use Rattle.pb_model_meaning.specs.Steps.{State, is_state}
 use Rattle.pb_model_meaning.specs.Satisfaction.{Valuation, satisfying, satisfies}
-use Rattle.pb_model_translation.specs.Translation.{equation_count, Callee, Constant, Numbered, Scope, callee_of, text_of, right_side, equations, translation}
+use Rattle.pb_model_translation.specs.Translation.{equation_count, total_count, Callee, Constant, Numbered, Scope, callee_of, text_of, right_side, equations, translation_by}
+use Rattle.pb_model_translation.specs.Names.{translation}
 
 -- ---- names
 
@@ -108,5 +109,10 @@ NestedEquationsSolveNestedFixpoints =
 -- the answer of the translation is true exactly where the model satisfies the formula
 abbrev pub TranslationsHaveTheAnswer : Type 0
 TranslationsHaveTheAnswer =
-    (m : Model) (names : ℕ → Name) (f : Formula) → HasNamesApart m →
-    AreNamesApart names (suc (equation_count f)) → answer (translation m names f) ≡ satisfies m f
+    (m : Model) (f : Formula) → HasNamesApart m → answer (translation m f) ≡ satisfies m f
+
+-- whatever names the equations have
+abbrev pub AnyNamesHaveTheAnswer : Type 0
+AnyNamesHaveTheAnswer =
+    (m : Model) (names : ℕ → Name) (f : Formula) → HasNamesApart m → AreNamesApart names (total_count f) →
+    answer (translation_by m names f) ≡ satisfies m f

@@ -3,7 +3,7 @@
 --
 -- Each fixpoint has an equation, the outermost first, and so has each operand of a modality that is none of `true`,
 -- `false`, a variable and a fixpoint. The state is the parameters of each.
-use Rattle.std.specs.Prelude.{ℕ, suc, ◌+◌, Bool, true, false, if◌then◌else◌, List, [], ◌∷◌, map, Option, Some, None}
+use Rattle.std.specs.Prelude.{ℕ, suc, ◌+◌, Bool, true, false, not, if◌then◌else◌, List, [], ◌∷◌, map, Option, Some, None}
 use Rattle.pb_fixpoint.specs.declared.Sign.{Sign}
 use Rattle.pb_fixpoint.specs.declared.Sign.TheVariants.{Nu}
 use Rattle.pb_text_tree.specs.declared.operator.Quantifier.{Quantifier}
@@ -42,6 +42,10 @@ equation_count (Formula.Implies f g) = equation_count f + equation_count g
 equation_count (Formula.Box A f) = next_if (has_equation f) (equation_count f)
 equation_count (Formula.Diamond A f) = next_if (has_equation f) (equation_count f)
 equation_count (Formula.Fixpoint sign X f) = suc (equation_count f)
+
+-- and with one for the whole, where that is no fixpoint
+abbrev pub total_count : Formula → ℕ
+total_count f = next_if (not (is_fixpoint f)) (equation_count f)
 
 -- ---- calls
 
@@ -171,5 +175,5 @@ module _ (m : Model) (names : ℕ → Name) where
       (equation Nu 0 (right_side [] 1 f) ∷ equations [] Nu 1 f [])
 
   -- the text of a formula: is its first equation true at the model's initial state?
-  abbrev pub translation : Formula → Spec
-  translation f = text_of m (all_equations f) (names 0) m.initial
+  abbrev pub translation_by : Formula → Spec
+  translation_by f = text_of m (all_equations f) (names 0) m.initial
