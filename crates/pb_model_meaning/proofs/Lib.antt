@@ -1,0 +1,3 @@
+pub mod Same
+mod Monotone
+pub mod Fixpoints

@@ -1,0 +1,6 @@
+pub mod Lists
+pub mod Data
+pub mod RightSides
+pub mod Nested
+pub mod Names
+pub mod Answer

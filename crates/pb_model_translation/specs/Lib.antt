@@ -1,0 +1,4 @@
+pub mod Translation
+pub mod Names
+pub mod Laws
+pub mod Examples

@@ -1,0 +1,44 @@
+//! From a model and a formula of the modal mu-calculus to the text of a Boolean equation system,
+//! and the theorem that its answer is the model's: definitions, in `specs/`, and laws.
+#![tactic(auto)]
+
+ghost use Rattle.std.specs.Prelude.{◌≡◌, ℕ, true, false, codes};
+ghost use Rattle.pb_text_meaning.specs.Meaning.{answer};
+ghost use Rattle.pb_model_meaning.specs.Examples as model_example;
+ghost use Rattle.pb_model_translation.specs.Names.{names_of, translation};
+ghost use Rattle.pb_model_translation.specs.Laws.{AnyNamesHaveTheAnswer, HasNamesApart};
+ghost use Rattle.pb_model_translation.specs.Laws.{NestedEquationsSolveNestedFixpoints};
+ghost use Rattle.pb_model_translation.specs.Laws.{TranslationsHaveTheAnswer};
+ghost use Rattle.pb_model_translation.specs.Examples as example;
+
+/// The equations of a formula, in front of any others, give the variable of each fixpoint the set
+/// of the fixpoint, and make the right side of each formula say which states satisfy it (Mader
+/// 1997; Groote and Willemse 2005). Formulas needn't be positive.
+pub fn nested_equations_solve_nested_fixpoints()
+    ensures { NestedEquationsSolveNestedFixpoints }
+{}
+
+/// The answer of the translation is true exactly where the model satisfies the formula; and so it
+/// is with any names for its equations that are apart.
+pub fn translations_have_the_answer()
+    ensures answer { TranslationsHaveTheAnswer }
+    ensures any_names { AnyNamesHaveTheAnswer }
+{}
+
+/// The text of a lock's mutual exclusion as it was written by hand, the answers of its properties
+/// as they are computed from their texts, and the names of equations.
+pub fn worked_examples()
+    ensures names_apart { HasNamesApart model_example.lock }
+    ensures text { translation model_example.lock model_example.mutual_exclusion
+        ≡ example.mutual_exclusion_text }
+    ensures mutual_exclusion { answer (translation model_example.lock
+        model_example.mutual_exclusion) ≡ true }
+    ensures no_deadlock { answer (translation model_example.lock model_example.no_deadlock)
+        ≡ true }
+    ensures can_always_enter { answer (translation model_example.lock
+        model_example.can_always_enter) ≡ true }
+    ensures always_enters { answer (translation model_example.lock model_example.always_enters)
+        ≡ false }
+    ensures operand_name { names_of example.one_name_twice 1 ≡ codes "X'" }
+    ensures second_name { names_of example.one_name_twice 2 ≡ codes "X''" }
+{}
