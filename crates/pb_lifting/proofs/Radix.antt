@@ -1,14 +1,12 @@
 -- Mixed radix: comparing ranks is comparing their counts, the highest priority first.
-use Rattle.std.proofs.Common.{◌≡◌, ◌≢◌, ◌⊎◌, ℕ, zero, suc, ◌+◌, ◌-◌, ◌*◌, ◌/◌, ◌%◌, ◌<◌, ◌≤◌, ◌==◌, if◌then◌else◌, [], ◌∷◌, length, length-append, sym, refl, ap, ◌∙◌, subst, inl, inr, ⊎_elim, div-add-mod', mul-pos, mul_assoc, mul_comm, add-mul, add_assoc, one-mul, arith}
+use Rattle.std.proofs.Common.{◌≡◌, ◌≢◌, ◌⊎◌, ℕ, zero, suc, ◌+◌, ◌-◌, ◌*◌, ◌/◌, ◌%◌, ◌<◌, ◌≤◌, ◌==◌, if◌then◌else◌, sym, refl, ap, ◌∙◌, subst, inl, inr, ⊎_elim, div-add-mod', mul-pos, mul_assoc, mul_comm, add-mul, add_assoc, one-mul, arith}
 use Rattle.std.proofs.lemmas.Nat.{mul-le, mul-add-lt, mod-mul-add, div-mul-add, div_below, le-div, mod_below}
 use Rattle.std.proofs.Math.Nat.{mul-add-div_right}
-use Rattle.std.specs.Prelude.{slice_index}
 use Rattle.std.proofs.lemmas.Bool.{cases_lt}
 use mathlib.Core.Logic.{dite}
 use native.Mathlib.Decide.{ℕ_discrete}
 use Rattle.pb_game_certificate.specs.Certificates.{Decreases, IsSame, IsProgress}
 use Rattle.pb_lifting.specs.Radix.{unit, count_in, step_up}
-use Rattle.pb_lifting.proofs.Lists.{push_front, push_here}
 
 -- the counts can't decrease both ways
 one_way : (f t : ℕ → ℕ) (w p limit : ℕ) → Decreases f t w p limit → Decreases t f w p limit → ⊥
