@@ -2,7 +2,6 @@
 
 ghost use Rattle.std.specs.Prelude.{◌≡◌, ◌<◌, ◌↔◌, IfOk, vec_len};
 ghost use Rattle.pb_lifting.specs.Measures.{SomeHasTooManyRanks, IsLeastMeasure};
-ghost use Rattle.pb_lifting.specs.Scales.{AreScalesOf};
 ghost use Rattle.pb_lifting.specs.Seats.{game_at, player_at, IsSeatOf, IsSameSeat, AreSeatsOf};
 ghost use Rattle.pb_lifting.specs.Errors.{IsTooMany};
 ghost use Rattle.pb_lifting.specs.Solutions.{AreMeasured, IsLiftedSolution};
@@ -44,27 +43,11 @@ pub fn lift<G: Gate + Sync, R: Threads + Sync>(
     let Some(scales) = Scales::of(game) else {
         return Err(LiftError::TooManyRanks);
     };
-    Ok(lift_both(rt, alloc, game, &scales, workers, gate)?)
-}
-
-/// The same with the scales of both players.
-fn lift_both<G: Gate + Sync, R: Threads + Sync>(
-    rt: &R,
-    alloc: Global,
-    game: &Game,
-    scales: &Scales,
-    workers: u32,
-    gate: &G,
-) -> Result<Solution, AllocError>
-    requires scales { AreScalesOf game.now scales.now }
-    requires workers { 0 < workers }
-    ensures { IfOk result (λ s. IsLiftedSolution game.now s) }
-{
     let (ranks, seats) = Ranks::lay(alloc, game, 0, &scales.zero, workers)?;
     let zero = lift_ranks(rt, alloc, game, ranks, seats, gate)?;
     let (ranks, seats) = Ranks::lay(alloc, game, 1, &scales.one, workers)?;
     let one = lift_ranks(rt, alloc, game, ranks, seats, gate)?;
-    solution_of(alloc, game, &zero, &one)
+    Ok(solution_of(alloc, game, &zero, &one)?)
 }
 
 /// The least measure of a table's player, lifted by a worker for each seat.

@@ -78,7 +78,7 @@ impl Scale {
         ensures { MatchOption result (HasTooManyRanks game.now player) (IsScaleOf game.now player) }
     {
         let mut places = [1u64; PRIORITIES + 1];
-        let mut top: u64 = 1; // of the priorities so far
+        let mut top: u64 = 1; // that of the priorities so far
         for priority in 0..width(game) {
             let base = base(player, priority as u32, counts.vertices[priority]);
             let Some(product) = top.checked_mul(base) else {
