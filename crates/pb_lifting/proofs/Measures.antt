@@ -1,5 +1,5 @@
 -- The least rank: it is monotone, at most every measure, and where no lift raises a word the words are a measure.
-use Rattle.std.proofs.Common.{◌≡◌, ◌⊎◌, ℕ, zero, suc, ◌+◌, ◌-◌, ◌*◌, ◌/◌, ◌%◌, ◌<◌, ◌≤◌, ◌==◌, if◌then◌else◌, Bool, true, false, min, List, length, replicate, set, length-set, refl, ap, ◌∙◌, inl, inr, ⊎_elim, eq-eqb, ne_eqb, div-mul-le_self, arith}
+use Rattle.std.proofs.Common.{◌≡◌, ℕ, zero, suc, ◌+◌, ◌-◌, ◌*◌, ◌/◌, ◌%◌, ◌<◌, ◌≤◌, ◌==◌, if◌then◌else◌, Bool, true, false, min, List, length, replicate, set, length-set, mul_comm, sym, refl, ap, ◌∙◌, inl, inr, ⊎_elim, eq-eqb, ne_eqb, div-mul-le_self, arith}
 use Rattle.std.specs.Prelude.{slice_index, Contains}
 use Rattle.std.proofs.lemmas.Nat.{le-div}
 use Rattle.std.proofs.lemmas.List.{get_or_past, get_or-replicate, get_or_default, get_or-set_same, get_or-set_other, length-replicate}
@@ -11,10 +11,10 @@ use Rattle.pb_game.specs.Games.{vertex_count, owner_of, priority_of, successors_
 use Rattle.pb_game.proofs.Laws.{is_game}
 use Rattle.pb_game_certificate.specs.Certificates.{IsProgress}
 use Rattle.pb_lifting.proofs.Lists.{element_in}
-use Rattle.pb_lifting.specs.Radix.{unit, units, step_up, better, best}
+use Rattle.pb_lifting.specs.Radix.{unit, step_up, better, best}
 use Rattle.pb_lifting.specs.Measures.{vertices_upto, base_of, top_of, counts_of, FallsTo, Falls, IsMeasure, more_of, asked, asked_by, least_rank, IsBelowAll, IsFixed, IsLeastMeasure}
 use Rattle.pb_lifting.specs.Sweep.{AreWords}
-use Rattle.pb_lifting.proofs.Radix.{unit_pos, units_at, multiple, mul_grows, step_grows, step_below, progress_is, is_progress}
+use Rattle.pb_lifting.proofs.Radix.{unit_pos, next_unit, multiple, mul_grows, step_grows, step_below, progress_is, is_progress}
 
 pub better_grows : (own : Bool) (a b c d : ℕ) → a ≤ c → b ≤ d → better own a b ≤ better own c d
 better_grows true a b c d h h' = omega arith
@@ -79,6 +79,16 @@ module _ (g : Game) (player : ℕ) where
   unfolding base_of
   base_one q e = ap (λ (b : Bool). if b then 1 else vertices_upto g q (vertex_count g) + 1) (eq-eqb (q % 2) player e)
 
+  -- what the base at a priority is, by how many vertices have it
+  base_is : (q count : ℕ) → count ≡ vertices_upto g q (vertex_count g) → (if q % 2 == player then 1 else count + 1) ≡ base_of g player q
+  unfolding base_of
+  base_is q count e = ap (λ x. if q % 2 == player then 1 else x + 1) e
+
+  -- the next place value is the product with the base
+  pub next_place : (k place base count : ℕ) → place ≡ unit (base_of g player) k → count ≡ vertices_upto g k (vertex_count g) → base ≡ (if k % 2 == player then 1 else count + 1)
+      → place * base ≡ unit (base_of g player) (k + 1)
+  next_place k place base count p c b = (λ i. p i * (b ∙ base_is k count c) i) ∙ (mul_comm (unit (base_of g player) k) (base_of g player k) ∙ sym (next_unit (base_of g player) k))
+
   pub place_positive : (p : ℕ) → 0 < unit (base_of g player) p
   place_positive p = unit_pos (base_of g player) player 0 base_positive base_one p
 
@@ -94,13 +104,6 @@ module _ (g : Game) (player : ℕ) where
   pub top_is : (p t : ℕ) → p ≡ priority_count g → t ≡ unit (base_of g player) p → t ≡ top_of g player
   unfolding top_of
   top_is p t e h = h ∙ ap (unit (base_of g player)) e
-
-  pub units_at_top : (xs : List ℕ) → xs ≡ units (base_of g player) (priority_count g) → slice_index xs (priority_count g) ≡ top_of g player
-  unfolding top_of
-  units_at_top xs e = ap (λ l. slice_index l (priority_count g)) e ∙ units_at (base_of g player) (priority_count g) (priority_count g) (omega arith)
-
-  pub units_at_place : (xs : List ℕ) (p : ℕ) → xs ≡ units (base_of g player) (priority_count g) → p ≤ priority_count g → slice_index xs p ≡ unit (base_of g player) p
-  units_at_place xs p e h = ap (λ l. slice_index l p) e ∙ units_at (base_of g player) (priority_count g) p h
 
   pub asked_is : (v rank place top more : ℕ) → place ≡ unit (base_of g player) (priority_of g v) → top ≡ top_of g player → more ≡ more_of player (priority_of g v) → step_up place top more rank ≡ asked g player v rank
   unfolding asked

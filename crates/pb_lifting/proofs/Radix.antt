@@ -1,14 +1,12 @@
 -- Mixed radix: comparing ranks is comparing their counts, the highest priority first.
-use Rattle.std.proofs.Common.{◌≡◌, ◌≢◌, ◌⊎◌, ℕ, zero, suc, ◌+◌, ◌-◌, ◌*◌, ◌/◌, ◌%◌, ◌<◌, ◌≤◌, ◌==◌, if◌then◌else◌, [], ◌∷◌, length, length-append, sym, refl, ap, ◌∙◌, subst, inl, inr, ⊎_elim, div-add-mod', mul-pos, mul_assoc, mul_comm, add-mul, add_assoc, one-mul, arith}
+use Rattle.std.proofs.Common.{◌≡◌, ◌≢◌, ◌⊎◌, ℕ, zero, suc, ◌+◌, ◌-◌, ◌*◌, ◌/◌, ◌%◌, ◌<◌, ◌≤◌, ◌==◌, if◌then◌else◌, sym, refl, ap, ◌∙◌, subst, inl, inr, ⊎_elim, div-add-mod', mul-pos, mul_assoc, mul_comm, add-mul, add_assoc, one-mul, arith}
 use Rattle.std.proofs.lemmas.Nat.{mul-le, mul-add-lt, mod-mul-add, div-mul-add, div_below, le-div, mod_below}
 use Rattle.std.proofs.Math.Nat.{mul-add-div_right}
-use Rattle.std.specs.Prelude.{slice_index}
 use Rattle.std.proofs.lemmas.Bool.{cases_lt}
 use mathlib.Core.Logic.{dite}
 use native.Mathlib.Decide.{ℕ_discrete}
 use Rattle.pb_game_certificate.specs.Certificates.{Decreases, IsSame, IsProgress}
-use Rattle.pb_lifting.specs.Radix.{unit, units, count_in, step_up}
-use Rattle.pb_lifting.proofs.Lists.{push_front, push_here}
+use Rattle.pb_lifting.specs.Radix.{unit, count_in, step_up}
 
 -- the counts can't decrease both ways
 one_way : (f t : ℕ → ℕ) (w p limit : ℕ) → Decreases f t w p limit → Decreases t f w p limit → ⊥
@@ -66,16 +64,6 @@ step_below place top more m = omega arith
 
 apart : (a b : ℕ) → a ≢ b → (a < b) ⊎ (b < a)
 apart a b ne = ⊎_elim (λ (l : b < a). inr l) (λ (l : a ≤ b). inl (omega arith)) (cases_lt b a)
-
-pub units_length : (base : ℕ → ℕ) (w : ℕ) → length (units base w) ≡ w + 1
-units_length base zero = refl
-units_length base (suc w) = let r = units_length base w in omega (arith, length-append (units base w) (unit base (suc w) ∷ []))
-
-pub units_at : (base : ℕ → ℕ) (w q : ℕ) → q ≤ w → slice_index (units base w) q ≡ unit base q
-units_at base zero q h = let e : q ≡ 0 = omega arith in ap (slice_index (1 ∷ [])) e ∙ sym (ap (unit base) e)
-units_at base (suc w) q h = let l = units_length base w in dite (ℕ_discrete q (suc w))
-    (λ e. push_here (units base w) (unit base (suc w)) q (omega arith) ∙ sym (ap (unit base) e))
-    (λ ne. push_front (units base w) (unit base (suc w)) q (omega arith) ∙ units_at base w q (omega arith))
 
 -- the bases are positive, and 1 where the priority has the player's parity
 module _ (base : ℕ → ℕ) (player width : ℕ) (positive : (q : ℕ) → 0 < base q) (one : (q : ℕ) → q % 2 ≡ player → base q ≡ 1) where

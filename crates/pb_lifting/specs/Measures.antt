@@ -29,10 +29,6 @@ HasTooManyRanks g player = 18446744073709551615 < top_of g player + 1
 abbrev pub SomeHasTooManyRanks : Game → Type 0
 SomeHasTooManyRanks g = HasTooManyRanks g 0 ⊎ HasTooManyRanks g 1
 
--- the top rank, where it is less than the greatest word
-abbrev pub IsTopOf : Game → ℕ → ℕ → Type 0
-IsTopOf g player top = (top ≡ top_of g player) × (top < 18446744073709551615)
-
 -- the counts of a rank
 abbrev pub counts_of : Game → ℕ → ℕ → ℕ → ℕ
 counts_of g player rank = count_in (base_of g player) rank

@@ -13,7 +13,7 @@ use Rattle.pb_lifting.specs.Measures.{top_of, counts_of, IsLeastMeasure}
 
 -- a word for each vertex, with the scale of the player's ranks
 pub record AreMeasured (g : Game) (player : ℕ) (m : Measured) : Type 0 where
-  pub units : IsScaleOf g player m.scale
+  pub scale : IsScaleOf g player m.scale
   pub sized : length m.words.items ≡ vertex_count g
   pub low : (v : ℕ) → v < vertex_count g → slice_index m.words.items v ≤ top_of g player
 

@@ -1,8 +1,8 @@
 //! Lifting by many workers.
 
 ghost use Rattle.std.specs.Prelude.{◌≡◌, ◌<◌, ◌↔◌, IfOk, vec_len};
-ghost use Rattle.pb_lifting.specs.Measures.{top_of, SomeHasTooManyRanks, IsLeastMeasure};
-ghost use Rattle.pb_lifting.specs.Seats.{game_at, IsSeatOf, IsSameSeat, AreSeatsOf};
+ghost use Rattle.pb_lifting.specs.Measures.{SomeHasTooManyRanks, IsLeastMeasure};
+ghost use Rattle.pb_lifting.specs.Seats.{game_at, player_at, IsSeatOf, IsSameSeat, AreSeatsOf};
 ghost use Rattle.pb_lifting.specs.Errors.{IsTooMany};
 ghost use Rattle.pb_lifting.specs.Solutions.{AreMeasured, IsLiftedSolution};
 ghost use Rattle.pb_lifting.specs.Jobs.{AreJobs};
@@ -10,7 +10,7 @@ ghost use Rattle.pb_lifting.specs.Jobs.{AreJobs};
 use crate::lift_error::LiftError;
 use crate::measured::Measured;
 use crate::ranks::{LiftSeat, Ranks};
-use crate::scale::{Scale, top_rank};
+use crate::scale::Scales;
 use crate::solution::solution_of;
 use crate::sweep::sweep;
 use crate::work::work;
@@ -40,49 +40,35 @@ pub fn lift<G: Gate + Sync, R: Threads + Sync>(
     ensures too_many { IsTooMany result ↔ SomeHasTooManyRanks game.now }
     ensures solution { IfOk result (λ s. IsLiftedSolution game.now s) }
 {
-    let Some(_top) = top_rank(game, 0) else {
+    let Some(scales) = Scales::of(game) else {
         return Err(LiftError::TooManyRanks);
     };
-    let Some(_top) = top_rank(game, 1) else {
-        return Err(LiftError::TooManyRanks);
-    };
-    Ok(lift_both(rt, alloc, game, workers, gate)?)
+    let (ranks, seats) = Ranks::lay(alloc, game, 0, &scales.zero, workers)?;
+    let zero = lift_ranks(rt, alloc, game, ranks, seats, gate)?;
+    let (ranks, seats) = Ranks::lay(alloc, game, 1, &scales.one, workers)?;
+    let one = lift_ranks(rt, alloc, game, ranks, seats, gate)?;
+    Ok(solution_of(alloc, game, &zero, &one)?)
 }
 
-/// The same where the ranks of both players fit a word.
-fn lift_both<G: Gate + Sync, R: Threads + Sync>(
+/// The least measure of a table's player, lifted by a worker for each seat.
+fn lift_ranks<G: Gate + Sync, R: Threads + Sync>(
     rt: &R,
     alloc: Global,
     game: &Game,
-    workers: u32,
-    gate: &G,
-) -> Result<Solution, AllocError>
-    requires fits_zero { top_of game.now 0 < 18446744073709551615 }
-    requires fits_one { top_of game.now 1 < 18446744073709551615 }
-    requires workers { 0 < workers }
-    ensures { IfOk result (λ s. IsLiftedSolution game.now s) }
-{
-    let zero = lift_player(rt, alloc, game, 0, workers, gate)?;
-    let one = lift_player(rt, alloc, game, 1, workers, gate)?;
-    solution_of(alloc, game, &zero, &one)
-}
-
-/// The least measure of a player whose ranks fit a word.
-fn lift_player<G: Gate + Sync, R: Threads + Sync>(
-    rt: &R,
-    alloc: Global,
-    game: &Game,
-    player: u8,
-    workers: u32,
+    ranks: Ranks,
+    seats: Vec<LiftSeat>,
     gate: &G,
 ) -> Result<Measured, AllocError>
-    requires fits { top_of game.now player < 18446744073709551615 }
-    requires workers { 0 < workers }
-    ensures measured { IfOk result (AreMeasured game.now player) }
-    ensures least { IfOk result (λ m. IsLeastMeasure game.now player m.words.items) }
+    requires same_game { game.now ≡ game_at ranks }
+    requires seats { AreSeatsOf ranks seats.items }
+    requires some { 0 < vec_len seats }
+    requires few { vec_len seats < 4294967296 }
+    ensures measured { IfOk result (AreMeasured game.now (player_at ranks)) }
+    ensures least { IfOk result
+        (λ m. IsLeastMeasure game.now (player_at ranks) m.words.items) }
 {
-    let scale = Scale::start(alloc, game, player)?;
-    let (ranks, seats) = Ranks::lay(alloc, game, player, workers)?;
+    let workers = seats.len() as u32;
+    let (player, scale) = (ranks.player, ranks.scale);
     let jobs = jobs_of(alloc, &ranks, seats)?;
     let done = run_jobs(rt, &ranks, game, workers, gate, jobs)?;
     let mut words = ranks.close(alloc, done)?;
@@ -103,7 +89,7 @@ fn jobs_of(alloc: Global, ranks: &Ranks, mut seats: Vec<LiftSeat>) -> Result<Vec
     requires few { vec_len seats < 4294967296 }
     ensures { IfOk result (λ v. AreJobs ranks.now v.items) }
 {
-    let mut jobs = Vec::new(alloc);
+    let mut jobs = Vec::with_capacity(alloc, seats.len())?;
     while let Some(seat) = seats.pop() {
         let worker = seats.len() as u32;
         jobs.push(Job { seat, worker })?;

@@ -9,7 +9,7 @@ ghost use Rattle.pb_lifting.specs.Solutions.{winner_by, count_by_rank, lesser_of
 ghost use Rattle.pb_lifting.specs.Solutions.{AddsMeasured, AddsWinner, IsSolutionOf, AreMeasured};
 
 use crate::measured::Measured;
-use crate::scale::Scale;
+use crate::scale::{Scale, width};
 use pb_game::Game;
 use pb_game_certificate::Solution;
 use std::alloc::{AllocError, Global};
@@ -25,10 +25,11 @@ pub(crate) fn solution_of(
     requires one { AreMeasured game.now 1 one.now }
     ensures { IfOk result (λ s. IsSolutionOf game.now zero.now.words.items one.now.words.items s) }
 {
+    let vertices = game.len() as usize;
     let mut solution = Solution {
-        winner: Vec::new(alloc),
-        choice: Vec::new(alloc),
-        counts: Vec::new(alloc),
+        winner: Vec::with_capacity(alloc, vertices)?,
+        choice: Vec::with_capacity(alloc, vertices)?,
+        counts: Vec::with_capacity(alloc, vertices * width(game))?,
     };
     for v in 0..game.len() {
         push_at(game, zero, one, v, &mut solution)?;
@@ -92,7 +93,7 @@ fn push_counts(
     rank: u64,
     counts: &mut Vec<u64>,
 ) -> Result<(), AllocError>
-    requires units { IsScaleOf game.now player scale.now }
+    requires scale { IsScaleOf game.now player scale.now }
     ensures { OnOk result (AddsRow game.now player rank counts.old.items counts.new.items) }
 {
     for priority in 0..=game.greatest_priority() {
@@ -103,7 +104,7 @@ fn push_counts(
 
 /// The count of a rank at a priority, and 0 where the rank is top.
 fn count_at(game: &Game, player: u8, scale: &Scale, rank: u64, priority: u32) -> u64
-    requires units { IsScaleOf game.now player scale.now }
+    requires scale { IsScaleOf game.now player scale.now }
     requires priority { priority < priority_count game.now }
     ensures { result ≡ count_by_rank game.now player rank priority }
 {

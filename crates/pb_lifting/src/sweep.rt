@@ -5,28 +5,28 @@ ghost use Rattle.pb_lifting.specs.Scales.{IsScaleOf};
 ghost use Rattle.pb_lifting.specs.Measures.{least_rank, IsFixed, IsLeastMeasure};
 ghost use Rattle.pb_lifting.specs.Sweep.{AreWords, IsSweptAt, IsSweptOnce};
 
-use crate::scale::{Scale, first, pick};
+use crate::scale::{Scale, better_rank, rank_before_successors};
 use pb_game::Game;
 
 /// The least rank of `v` over the words.
 fn least_of(game: &Game, player: u8, scale: &Scale, words: &[u64], v: u32) -> u64
-    requires units { IsScaleOf game.now player scale.now }
+    requires scale { IsScaleOf game.now player scale.now }
     requires words { length words.now ≡ vertex_count game.now }
     requires vertex { v < vertex_count game.now }
     ensures { result ≡ least_rank game.now player words.now v }
 {
     let own = game.owner(v) == player;
-    let mut rank = first(own, scale.top(game, player));
+    let mut rank = rank_before_successors(own, scale.top(game, player));
     for target in game.successors(v) {
         let reached = words[*target as usize];
-        rank = pick(own, rank, scale.asked(game, player, v, reached));
+        rank = better_rank(own, rank, scale.asked(game, player, v, reached));
     }
     rank
 }
 
 /// Lifts one word. True where it was raised.
 fn sweep_vertex(game: &Game, player: u8, scale: &Scale, words: &mut Vec<u64>, v: u32) -> bool
-    requires units { IsScaleOf game.now player scale.now }
+    requires scale { IsScaleOf game.now player scale.now }
     requires words { AreWords game.now player words.old.items }
     requires vertex { v < vertex_count game.now }
     ensures words { AreWords game.now player words.new.items }
@@ -43,7 +43,7 @@ fn sweep_vertex(game: &Game, player: u8, scale: &Scale, words: &mut Vec<u64>, v:
 
 /// Lifts each word once. True where one was raised.
 fn sweep_pass(game: &Game, player: u8, scale: &Scale, words: &mut Vec<u64>) -> bool
-    requires units { IsScaleOf game.now player scale.now }
+    requires scale { IsScaleOf game.now player scale.now }
     requires words { AreWords game.now player words.old.items }
     ensures words { AreWords game.now player words.new.items }
     ensures raised { IsSweptOnce game.now player result words.old.items words.new.items }
@@ -59,7 +59,7 @@ fn sweep_pass(game: &Game, player: u8, scale: &Scale, words: &mut Vec<u64>) -> b
 
 /// Lifts the words until no lift raises one: then they are the least measure.
 pub(crate) fn sweep(game: &Game, player: u8, scale: &Scale, words: &mut Vec<u64>)
-    requires units { IsScaleOf game.now player scale.now }
+    requires scale { IsScaleOf game.now player scale.now }
     requires words { AreWords game.now player words.old.items }
     ensures fixed { IsFixed game.now player words.new.items }
     ensures least { IsLeastMeasure game.now player words.new.items }
