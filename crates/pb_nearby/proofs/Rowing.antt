@@ -1,6 +1,7 @@
 -- The rows of the nearest instances and of the frontier are those of a module's equations, with trees that are assumed.
-use Rattle.std.proofs.Common.{◌≡◌, ◌≢◌, ℕ, suc, ◌<◌, ◌≤◌, ◌^◌, Bool, true, false, not, cond, List, [], ◌∷◌, All, length, map, get_or, inl, inr, refl, sym, ap, ◌∙◌, subst, arith}
+use Rattle.std.proofs.Common.{◌≡◌, ◌≢◌, ℕ, suc, ◌<◌, ◌≤◌, ◌^◌, Bool, true, false, nat_eq, not, cond, List, [], ◌∷◌, All, length, map, get_or, inl, inr, refl, sym, ap, ◌∙◌, subst, arith}
 use Rattle.std.specs.Prelude.{Contains, ◌==◌}
+use Rattle.std.specs.Cmp.{nat_eq_equiv}
 use Rattle.std.specs.List.{IsDistinct, AllByRecursion}
 use Rattle.std.specs.List.Sorted.{IsPermutation, IsNonDecreasing, IsStrictlyIncreasing}
 use Rattle.std.proofs.lemmas.Bool.{cases_eq, cases_Bool, ne_eqb, eq-eqb, cond-true, cond-false}
@@ -9,6 +10,7 @@ use Rattle.std.proofs.lemmas.List.Elements.{Contains-get_or}
 use Rattle.std.proofs.lemmas.List.Sorted.{Contains-permutation, IsPermutation-sym}
 use Rattle.std.proofs.lemmas.Map.Keys.{IsDistinct-IsPermutation, IsStrictlyIncreasing-from_distinct}
 use Rattle.pb_game.specs.Adjacency.{is_among}
+use Rattle.pb_game.proofs.Membership.{contains_at, contains_place}
 use Rattle.pb_trees.specs.declared.Token.{Token}
 use Rattle.pb_trees.specs.Tree.{Tree, TreeCalls}
 use Rattle.pb_trees.specs.Tokens.{tree_tokens}
@@ -33,7 +35,7 @@ use Rattle.pb_game_answer.specs.Explored.{AreModuleRows}
 use Rattle.pb_nearby.specs.declared.nearby.Nearby.{Nearby}
 use Rattle.pb_nearby.specs.Nearby.{found_in, rows_in, IsNearby}
 use Rattle.pb_nearby.specs.Around.{leaf_of, IsAround, AreAssumedRows}
-use Rattle.pb_nearby.proofs.Finding.{place_of, one_place}
+use Rattle.pb_nearby.proofs.Finding.{one_place}
 
 -- ---- distinct numbers, rising
 
@@ -49,16 +51,10 @@ distinct_of (x ∷ xs) h = (
   distinct_of xs (λ i j li lj e. let same : suc i ≡ suc j = h (suc i) (suc j) (omega arith) (omega arith) e in omega arith),
 )
 
-flips : (x y : ℕ) → (x == y) ≡ (y == x)
-flips x y = elim (cases_eq x y) [
-  | inl e ↦ eq-eqb x y e ∙ sym (eq-eqb y x (sym e))
-  | inr ne ↦ ne_eqb x y ne ∙ sym (ne_eqb y x (λ e. ne (sym e)))
-]
-
 pub rising_of : (xs ys : List ℕ) → ((i j : ℕ) → i < length xs → j < length xs → get_or xs i 0 ≡ get_or xs j 0 → i ≡ j)
     → IsPermutation xs ys → IsNonDecreasing ys → IsStrictlyIncreasing ys
 rising_of xs ys one perm rises =
-    IsStrictlyIncreasing-from_distinct ys rises (IsDistinct-IsPermutation (λ x y. x == y) flips xs ys perm (distinct_of xs one))
+    IsStrictlyIncreasing-from_distinct ys rises (IsDistinct-IsPermutation nat_eq nat_eq_equiv.symm xs ys perm (distinct_of xs one))
 
 -- ---- leaves
 
@@ -94,12 +90,12 @@ module _ (m : Contents) (x : Nearby) (is : IsNearby m x) where
 
     pub not_explored : length (rows_in x) ≤ k → Contains (numbers_of (rows_in x)) n → ⊥
     not_explored past c =
-        let p = place_of (numbers_of (rows_in x)) n c in
-        let low : p.place < length (rows_in x) = let l = p.within in omega (arith, l, count) in
-        let of_found : get_or (found_in x) p.place 0 ≡ n =
-        sym (get_or-take (length (rows_in x)) (found_in x) p.place 0 low) ∙ (ap (λ (ns : List ℕ). get_or ns p.place 0) (sym is.first) ∙ p.there) in
+        let p = contains_place (numbers_of (rows_in x)) n c in
+        let low : p.0 < length (rows_in x) = let l = p.1.within in omega (arith, l, count) in
+        let of_found : get_or (found_in x) p.0 0 ≡ n =
+        sym (get_or-take (length (rows_in x)) (found_in x) p.0 0 low) ∙ (ap (λ (ns : List ℕ). get_or ns p.0 0) (sym is.first) ∙ p.1.there) in
         let few = is.few in
-        let same : p.place ≡ k = one p.place k (omega (arith, low, few)) below (of_found ∙ sym there) in
+        let same : p.0 ≡ k = one p.0 k (omega (arith, low, few)) below (of_found ∙ sym there) in
         omega (arith, same, low, past)
 
     pub explored_is : (b : Bool) → k < length (rows_in x) → (tokens : List Token) → tokens ≡ (get_or (rows_in x) k nothing).tree → IsAround x b (row_of_tokens n tokens)
@@ -216,8 +212,8 @@ module _ (m : Contents) (x : Nearby) (is : IsNearby m x) where
     are_whole all trees are =
         assumed_rows trees are trees (λ n c. refl)
         (λ n c not_there. absurd (not_there
-        (let at = place_of (found_in x) n (numbered_back n c) in
-        let l : at.place < length (rows_in x) = let w = at.within in omega (arith, w, all) in
-        let here : get_or (numbers_of (rows_in x)) at.place 0 ≡ n =
-        ap (λ (ns : List ℕ). get_or ns at.place 0) is.first ∙ (get_or-take (length (rows_in x)) (found_in x) at.place 0 l ∙ at.there) in
-        subst (λ (j : ℕ). Contains (numbers_of (rows_in x)) j) here (Contains-get_or (numbers_of (rows_in x)) at.place 0 (omega (arith, l, count))))))
+        (let at = contains_place (found_in x) n (numbered_back n c) in
+        let l : at.0 < length (rows_in x) = let w = at.1.within in omega (arith, w, all) in
+        let here : get_or (numbers_of (rows_in x)) at.0 0 ≡ n =
+        ap (λ (ns : List ℕ). get_or ns at.0 0) is.first ∙ (get_or-take (length (rows_in x)) (found_in x) at.0 0 l ∙ at.1.there) in
+        contains_at (numbers_of (rows_in x)) n at.0 (record { within = omega (arith, l, count); there = here }))))

@@ -36,5 +36,5 @@ returns g c =
       | else-truth-via-else-truth w ↦
           shown_by_part m c.args.part.now.rows some c.args.part.now.truth c.requires.assumed c.in_ok-solved.solved.built game
           c.assumed_is_shown.ensures c.in_ok-evidence_of_rows.field-0 c.in_ok-evidence_of_rows.ensures
-          c.truth.result c.truth.ensures (same_of c.truth.result c.args.part.now.truth w.if-truth.false)
+          c.truth.result c.truth.ensures.meaning (same_of c.truth.result c.args.part.now.truth w.if-truth.false)
     ]
