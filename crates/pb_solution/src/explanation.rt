@@ -30,15 +30,15 @@ use pb_verifier::Verified;
 use std::alloc::{AllocError, Global};
 use std::thread::Threads;
 
-/// About so many instances are found in all when a round ends. Each round is 16 or 4 times as large
-/// as the one before, so that what all of them cost is little more than what the last one does; and
-/// this one is small enough to cost a tenth of a run over a million instances, which one thread
-/// begins while the workers of the whole wait.
-const ROUNDS: [usize; 3] = [1024, 16384, LAST_ROUND];
+/// A round ends when about so many instances are found in all. What the rounds cost is lost where
+/// none of them is enough: one thread explores 2^16 instances, and solves games of twice 2^10,
+/// twice 2^14 and once 2^16. That is less than a run over 2^17 takes, and a tenth of one over a
+/// million. Rounds up to 2^18 would show deeper faults, and cost those runs a third.
+const ROUNDS: [usize; 3] = [1 << 10, 1 << 14, LAST_ROUND];
 
-/// In the last round a single game is tried, of the value that a part of the instances more often
-/// shows (`shows_truth`). Where there is nothing to be found, the second one would cost as much.
-const LAST_ROUND: usize = 65536;
+/// In the last round one game is tried, of the value that a part of the instances more often shows
+/// (`shows_truth`), since a second one would cost as much as all before.
+const LAST_ROUND: usize = 1 << 16;
 
 /// Rows of a part of the instances, from whose game a truth value may be shown.
 #[derive(Drop)]
@@ -63,8 +63,8 @@ fn part_of(alloc: Global, nearby: &Nearby, truth: bool) -> Result<Part, AllocErr
     })
 }
 
-/// Evidence from a part of the instances, where the initial one has the part's truth value whichever
-/// trees the others have, or where there are no others.
+/// Evidence from a part of the instances, where the initial one has the part's truth value
+/// whichever trees the others have, or where there are no others.
 fn shown_by<R: Threads + Sync, G: Gate + Sync>(
     rt: &R,
     alloc: Global,
@@ -91,8 +91,8 @@ fn shown_by<R: Threads + Sync, G: Gate + Sync>(
 }
 
 /// Whether a part of the instances more often shows that the initial one is true. A least fixpoint
-/// is true by one run to what is sought, and false by all runs; a greatest one is false by one run to
-/// what fails, and true by all.
+/// is true by one run to what is sought, and false by all runs; a greatest one is false by one run
+/// to what fails, and true by all.
 fn shows_truth(verified: &Verified) -> bool {
     let layout = verified.layout();
     let instance = layout.instance(verified.initial());
@@ -100,8 +100,8 @@ fn shows_truth(verified: &Verified) -> bool {
     equation.sign == Sign::Mu
 }
 
-/// Evidence from the instances that are nearest to the initial one, where they are enough. These are
-/// explored breadth first on the calling thread, so that what is found is the same whatever the
+/// Evidence from the instances that are nearest to the initial one, where they are enough. These
+/// are explored breadth first on the calling thread, so that what is found is the same whatever the
 /// workers do. A round whose last instance calls too many is left out.
 fn explain_early<R: Threads + Sync, G: Gate + Sync>(
     rt: &R,
@@ -160,8 +160,8 @@ fn explain_whole<R: Threads + Sync, G: Gate + Sync>(
 /// nearest to it are enough, no others are explored; else it is solved as by `solve_module`.
 ///
 /// # Errors
-/// `TooManyVertices` where the game would have more than 2^24 vertices, and the instances nearby are
-/// not enough; else `Memory`.
+/// `TooManyVertices` where the game would have more than 2^24 vertices, and the instances nearby
+/// are not enough; else `Memory`.
 pub fn explain_module<R: Threads + Sync, G: Gate + Sync>(
     rt: &R,
     alloc: Global,
@@ -182,8 +182,8 @@ pub fn explain_module<R: Threads + Sync, G: Gate + Sync>(
 /// instance of a proof graph, the initial one first and the nearest before others.
 ///
 /// # Errors
-/// `Memory` before the first byte. After `Failed` a part that begins the text, and not the whole of
-/// it, went out.
+/// `Memory` before the first byte. After `Failed` a part that begins the text, and not the whole
+/// of it, went out.
 pub fn write_explanation<S: Sink>(
     alloc: Global,
     verified: &Verified,

@@ -3,14 +3,10 @@ use super::generated::{Equation, System};
 use super::plain::plain_line;
 use super::proof_graphs::Graph;
 use super::{Outcome, run_on};
-use crossbeam_utils::atomic::AtomicCell;
-use pb_exploration::Gate;
 use pb_sorts::In;
-use pbsolve::Streams;
 use std::alloc::{AllocError, Global};
 use std::test::Fail;
 use std::thread::Threads;
-use test_streams::budget::Budget;
 
 /// More than the program writes of these systems.
 const ROOM: usize = 10_000;
@@ -183,97 +179,6 @@ fn generated_systems_have_evidence(rt: HostRuntime) -> Result<(), Fail> {
             assert!(rt; graph.proves(rt.alloc(), &system)?, "{text}{evidence}");
             assert!(rt; graph.is_nearest_first(rt.alloc())?, "{text}{evidence}");
         }
-    }
-    Ok(())
-}
-
-/// Two clocks of 2,048 ticks, 4,194,304 instances, and a fault three ticks from the beginning.
-const FAULT: &str =
-    "%range Int 0 2047\npbes nu X(m, n: Int) = val(m != 2 || n != 1) && X((m + 1) mod 2048, n) && X(m, (n + 1) mod 2048); init X(0, 0);";
-
-/// A place that they may come to.
-const GOAL: &str =
-    "%range Int 0 2047\npbes mu X(m, n: Int) = val(m == 2 && n == 1) || X((m + 1) mod 2048, n) || X(m, (n + 1) mod 2048); init X(0, 0);";
-
-/// The same fault, where the game of all instances would have more than 2^24 vertices.
-const TOO_LARGE: &str =
-    "%range Int 0 2047\npbes nu X(m, n: Int) = val(m != 2 || n != 1) && X((m + 1) mod 2048, n) && X(m, (n + 1) mod 2048) && (X(m, n) || X(n, m)) && (X(m, n) || X(n, n)) && (X(m, n) || X(m, m)); init X(0, 0);";
-
-/// A fault among 3,003 instances, which the nearest 1,024 don't come to.
-const BEHIND: &str =
-    "%range Int 0 1500\npbes nu X = forall n: Int . Y(n); nu Y(n: Int) = Z(n); nu Z(n: Int) = val(n != 1500); init X;";
-
-/// Among 100,001 instances, which the nearest 65,536 don't come to.
-const FAR_BEHIND: &str =
-    "%range Int 0 49999\npbes nu X = forall n: Int . Y(n); nu Y(n: Int) = Z(n); nu Z(n: Int) = val(n != 7); init X;";
-
-/// A goal among as many.
-const FAR_GOAL: &str =
-    "%range Int 0 49999\npbes nu X = exists n: Int . Y(n); nu Y(n: Int) = Z(n); nu Z(n: Int) = val(n == 7); init X;";
-
-/// Whether workers tried to take an instance.
-#[derive(Drop)]
-struct Attempts {
-    made: AtomicCell<bool>,
-}
-
-impl Gate for Attempts {
-    fn enter(&self, _worker: u32, _number: u32) {
-        self.made.store(true);
-    }
-
-    fn answered(&self, _worker: u32, _number: u32, _got: bool) {}
-}
-
-/// Workers explore all instances only where no part of them is enough; and what isn't explored
-/// decides nothing.
-#[test]
-fn a_part_may_be_enough(rt: HostRuntime) -> Result<(), Fail> {
-    for (text, evidence, all) in [
-        (
-            FAULT,
-            "answer false\nX(0,0) false: X(1,0)\nX(1,0) false: X(2,0)\nX(2,0) false: X(2,1)\nX(2,1) false:\n",
-            false,
-        ),
-        (
-            GOAL,
-            "answer true\nX(0,0) true: X(1,0)\nX(1,0) true: X(2,0)\nX(2,0) true: X(2,1)\nX(2,1) true:\n",
-            false,
-        ),
-        (
-            TOO_LARGE,
-            "answer false\nX(0,0) false: X(1,0)\nX(1,0) false: X(2,0)\nX(2,0) false: X(2,1)\nX(2,1) false:\n",
-            false,
-        ),
-        (
-            BEHIND,
-            "answer false\nX false: Y(1500)\nY(1500) false: Z(1500)\nZ(1500) false:\n",
-            false,
-        ),
-        (
-            FAR_BEHIND,
-            "answer false\nX false: Y(7)\nY(7) false: Z(7)\nZ(7) false:\n",
-            true,
-        ),
-        (
-            FAR_GOAL,
-            "answer true\nX true: Y(7)\nY(7) true: Z(7)\nZ(7) true:\n",
-            true,
-        ),
-    ] {
-        let attempts = Attempts {
-            made: AtomicCell::new(false),
-        };
-        let mut streams = Streams {
-            input: In::new(text.as_bytes()),
-            output: Budget::new(rt.alloc(), ROOM),
-            error: Budget::new(rt.alloc(), ROOM),
-        };
-        let words = ["pbsolve", "explain"];
-        let status = pbsolve::run(&rt, rt.alloc(), &words, &attempts, &mut streams);
-        assert_eq!(rt; status, 0, "{text}");
-        assert_eq!(rt; streams.output.bytes(), evidence.as_bytes(), "{text}");
-        assert_eq!(rt; attempts.made.load(), all, "{text}");
     }
     Ok(())
 }

@@ -1,4 +1,3 @@
-use Rattle.std.proofs.Common.{sym, ◌∙◌, rules}
 use Rattle.pb_solution.proofs.explanation.part_of.Goals as goal
 
 pub returns : goal.returns
