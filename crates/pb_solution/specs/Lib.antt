@@ -1,2 +1,3 @@
 pub mod Answers
 pub mod Texts
+pub mod Parts

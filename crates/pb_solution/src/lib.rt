@@ -5,10 +5,12 @@
 
 mod answer;
 pub mod built_module;
+pub mod explanation;
 pub mod options;
 pub mod solved_module;
 
 pub use answer::answer_module;
 pub use built_module::{BuiltModule, build_module};
+pub use explanation::{explain_module, write_explanation};
 pub use options::SolveOptions;
 pub use solved_module::{SolvedModule, solve_module};

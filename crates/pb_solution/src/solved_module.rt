@@ -5,13 +5,10 @@ ghost use Rattle.pb_game_solver.specs.Lifting.{IsLiftedOrNone};
 ghost use Rattle.pb_report_texts.specs.Sending.{IsOutOfMemory};
 ghost use Rattle.pb_solver_names.specs.declared.solver.Solver.TheVariants.{Lift};
 ghost use Rattle.pb_solution.specs.Answers.{IsSolutionOf, IsTooLarge};
-ghost use Rattle.pb_evidence_texts.specs.ModuleEvidence.{ForEvidenceText};
 ghost use Rattle.pb_solution.specs.Texts.{ForSolutionText, Sends};
 
 use crate::built_module::{BuiltModule, build_module, solve_game};
 use crate::options::SolveOptions;
-use pb_evidence_texts::evidence_of;
-use pb_evidence_texts::evidence_text::evidence_text;
 use pb_exploration::{Explored, Gate};
 use pb_game_answer::Solved;
 use pb_game_of_trees::BuildError;
@@ -75,27 +72,5 @@ impl SolvedModule {
     {
         instances_have_trees(verified);
         solution_text(alloc, verified, &self.solved, self.explored.rows(), sink)
-    }
-
-    /// Appends why the initial instance has its truth value: the answer, and then a line for each
-    /// instance of a proof graph (Cranen, Luttik and Willemse 2013), the initial one first and the
-    /// nearest before others.
-    ///
-    /// # Errors
-    /// As with `BuiltModule::write_game`.
-    pub fn write_evidence<S: Sink>(
-        &self,
-        alloc: Global,
-        verified: &Verified,
-        sink: &mut S,
-    ) -> Result<(), WriteError>
-        requires { IsSolutionOf verified.now self.now }
-        ensures text { Sends (ForEvidenceText verified.now) result (S.taken sink.old)
-            (S.taken sink.new) (S.has_failed sink.old) (S.has_failed sink.new) }
-        ensures silent { IfErr result (λ e. IsOutOfMemory e → sink.new ≡ sink.old) }
-    {
-        instances_have_trees(verified);
-        let evidence = evidence_of(alloc, &self.solved, self.explored.rows())?;
-        evidence_text(alloc, verified, &evidence, sink)
     }
 }

@@ -12,7 +12,8 @@ ghost use Rattle.pbsolve.specs.Outputs.{ForReport};
 use crate::solve_error::SolveError;
 use pb_exploration::Gate;
 use pb_report_texts::{Answer, report};
-use pb_solution::{SolveOptions, answer_module, build_module, solve_module};
+use pb_solution::{SolveOptions, answer_module, build_module, explain_module, solve_module};
+use pb_solution::write_explanation;
 use pb_solver_names::Solver;
 use pb_sorts::Sink;
 use pb_verifier::Verified;
@@ -119,7 +120,7 @@ pub(crate) fn write_evidence<R: Threads + Sync, G: Gate + Sync, S: Sink>(
 {
     let solver = Solver::Zielonka;
     let options = SolveOptions { workers, solver };
-    let solved = solve_module(rt, alloc, verified, options, gate)?;
-    solved.write_evidence(alloc, verified, writer)?;
+    let evidence = explain_module(rt, alloc, verified, options, gate)?;
+    write_explanation(alloc, verified, &evidence, writer)?;
     Ok(())
 }

@@ -6,6 +6,7 @@ mod evidence;
 mod faults;
 mod generated;
 mod modules;
+mod parts;
 mod plain;
 mod proof_graphs;
 mod rows;

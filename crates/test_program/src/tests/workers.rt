@@ -45,24 +45,28 @@ impl Gate for Workers {
     fn answered(&self, _worker: u32, _number: u32, _got: bool) {}
 }
 
-const WORDS: [(&[&str], u32); 5] = [
-    (&["pbsolve", "solve"], 1),
-    (&["pbsolve", "solve", "--workers", "1"], 1),
-    (&["pbsolve", "solve", "--workers", "2"], 2),
-    (&["pbsolve", "game", "--workers=+2"], 2),
-    (&["pbsolve", "explain", "--workers", "002"], 2),
+// The same, with a fault among so many others that no part of them explains it.
+const FAR: &str =
+    "%range Int 0 49999\npbes nu X = Y && Z && (forall n: Int . V(n)); nu Y = X && Z; nu Z = X && Y; nu V(n: Int) = W(n); nu W(n: Int) = val(n != 7); init X;";
+
+const WORDS: [(&[&str], &str, u32); 5] = [
+    (&["pbsolve", "solve"], TEXT, 1),
+    (&["pbsolve", "solve", "--workers", "1"], TEXT, 1),
+    (&["pbsolve", "solve", "--workers", "2"], TEXT, 2),
+    (&["pbsolve", "game", "--workers=+2"], TEXT, 2),
+    (&["pbsolve", "explain", "--workers", "002"], FAR, 2),
 ];
 
 #[test]
 fn so_many_workers_explore(rt: HostRuntime) -> Result<(), Fail> {
-    for (words, wanted) in WORDS {
+    for (words, text, wanted) in WORDS {
         let gate = Workers {
             wanted,
             second: AtomicCell::new(false),
             third: AtomicCell::new(false),
         };
         let mut streams = Streams {
-            input: In::new(TEXT.as_bytes()),
+            input: In::new(text.as_bytes()),
             output: Budget::new(rt.alloc(), ROOM),
             error: Budget::new(rt.alloc(), ROOM),
         };

@@ -1,0 +1,4 @@
+mod Finding
+mod Growing
+mod Rowing
+mod Ordering
