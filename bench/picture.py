@@ -11,8 +11,8 @@ import sys
 
 from check_certificate import GAME, components
 
-HEAD = """digraph {
-  bgcolor=transparent; rankdir=LR; nodesep=0.2; ranksep=0.3;
+HEAD = """digraph picture {
+  rankdir=LR; nodesep=0.2; ranksep=0.3;
   node [shape=box, style="rounded,filled", fillcolor=white, fontname=Helvetica, fontsize=11, height=0.3];
   edge [arrowsize=0.6];"""
 
