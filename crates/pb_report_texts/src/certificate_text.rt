@@ -1,5 +1,5 @@
-//! The text of a certificate, in the form that PGSolver and other tools of parity games exchange, so
-//! that the winners can be checked without this program.
+//! The text of a certificate, in the form that PGSolver and other tools of parity games read and
+//! write, so that the winners can be checked without this program.
 ghost use Rattle.std.specs.Prelude.{◌≡◌, ◌<◌, IfErr, Some};
 ghost use Rattle.pb_game.specs.Games.{vertex_count};
 ghost use Rattle.pb_game_certificate.specs.Solutions.{HasLengths};

@@ -1,4 +1,4 @@
--- The texts of a module's game, of its solution and of a certificate, and how a text goes to a sink.
+-- The texts of a module's game, its solution and a certificate, and how a text goes to a sink.
 use Rattle.std.specs.Prelude.{◌≡◌, ℕ, Bool, true, List, Option, Result, Ok, Err}
 use Rattle.std.specs.Io.KnownBytes.{Appends}
 use Rattle.pb_sorts.specs.Sink.{AppendsPrefix}

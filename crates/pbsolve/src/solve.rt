@@ -129,9 +129,9 @@ pub fn solution_of<R: Threads + Sync, G: Gate + Sync, S: Sink>(
 /// Writes a certificate of the game that `game_of` writes: for each vertex its winner, and the
 /// winner's choice where the winner moves, in the form that PGSolver writes.
 ///
-/// Whoever holds both texts can check the winners without this program: no edge that is kept leaves
-/// its winner's region, and around each cycle of kept edges the greatest priority is of the winner's
-/// parity. Kept are the choices of a winner who moves, and all edges where the loser moves.
+/// Whoever holds both texts can check the winners without this program. An edge is kept where the
+/// loser moves, or the winner chose it. No kept edge leaves its winner's region, and around each
+/// cycle of kept edges the greatest priority is of the winner's parity.
 ///
 /// # Errors
 /// As with `solve_text`.

@@ -20,10 +20,7 @@ const OUTPUTS: [(&str, &[u8]); 3] = [
         "game",
         b"parity 3;\n0 1 0 0 \"false\";\n1 0 0 1 \"true\";\n2 1 0 3 \"X\";\n3 0 0 2 \"Y\";\n",
     ),
-    (
-        "certificate",
-        b"paritysol 3;\n0 1;\n1 0 1;\n2 1;\n3 1;\n",
-    ),
+    ("certificate", b"paritysol 3;\n0 1;\n1 0 1;\n2 1;\n3 1;\n"),
 ];
 
 // A writer that fails once after so many bytes.
