@@ -14,7 +14,6 @@ use Rattle.pb_evidence.specs.declared.Evidence.{Evidence}
 use Rattle.pb_evidence_texts.specs.ModuleEvidence.{IsModuleEvidence, module_evidence_text, ForEvidenceText}
 use Rattle.pb_report_texts.specs.Sending.{Writes}
 use Rattle.pb_report_texts.specs.CertificateText.{certificate_text}
-use Rattle.pb_report_texts.specs.ModuleTexts.{HasCertificateText}
 use Rattle.pb_game_certificate.specs.Certificates.{IsCertificate}
 use Rattle.pb_game_certificate.specs.declared.Solution.{Solution}
 use Rattle.pb_game_answer.specs.Explored.{HaveTrees, IsModuleGame}

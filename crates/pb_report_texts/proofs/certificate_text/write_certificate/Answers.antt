@@ -1,4 +1,4 @@
-use Rattle.std.proofs.Common.{◌≡◌, ℕ, ◌-◌, ◌++◌, ap, ◌∙◌}
+use Rattle.std.proofs.Common.{ℕ, ◌-◌, ◌++◌, ap, ◌∙◌}
 use Rattle.pb_game.specs.Games.{vertex_count}
 use Rattle.pb_report_texts.specs.CertificateText.{certificate_head, winner_lines}
 use Rattle.pb_report_texts.proofs.Sending.{sends_then, sends_err, sends_as}
