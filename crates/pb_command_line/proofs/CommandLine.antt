@@ -1,5 +1,5 @@
 -- What clap makes of words: the request that it reads, or the fault that it finds.
-use Rattle.std.proofs.Common.{◌≡◌, ◌∙◌, ◌<◌, ◌≤◌, ℕ, true, List, [], ◌∷◌, Option, Some, None, option_map, refl, sym, ap, ap₂, subst, inl, inr, codes, arith}
+use Rattle.std.proofs.Common.{◌≡◌, ◌∙◌, ℕ, true, List, [], ◌∷◌, Option, Some, None, option_map, refl, sym, ap, ap₂, subst, inl, inr, arith}
 use Rattle.std.specs.Prelude.{Result, Ok, Err, IfErr}
 use Rattle.std.specs.Result.{IsErrAnd}
 use Rattle.std.specs.Global.{Box}
@@ -17,7 +17,7 @@ use Rattle.clap.specs.declared.parser.matches.ArgMatches.TheViews.{out-ArgMatche
 use Rattle.clap.proofs.OnLiterals.{clap_on_literals}
 use Rattle.pb_solver_names.specs.declared.solver.Solver.TheVariants.{Zielonka}
 use Rattle.pb_command_line.specs.declared.command.Command.{Command}
-use Rattle.pb_command_line.specs.declared.command.Command.TheVariants.{Solve, Game, Solution, Explain, Compile, Verify, List as ListModule, SolveCode}
+use Rattle.pb_command_line.specs.declared.command.Command.TheVariants.{Solve, Game, Solution, Certificate, Explain, Compile, Verify, List as ListModule, SolveCode}
 use Rattle.pb_command_line.specs.declared.request.Request.{Request}
 use Rattle.pb_command_line.specs.declared.words.WordsError.{WordsError}
 use Rattle.pb_command_line.specs.declared.words.WordsError.TheVariants.{Usage, Memory}
@@ -39,6 +39,7 @@ unfolding clap_on_literals
 no_fault name Solve = refl
 no_fault name Game = refl
 no_fault name Solution = refl
+no_fault name Certificate = refl
 no_fault name Explain = refl
 no_fault name Compile = refl
 no_fault name Verify = refl
@@ -51,6 +52,7 @@ unfolding clap_on_literals
 command_alone name Solve = refl
 command_alone name Game = refl
 command_alone name Solution = refl
+command_alone name Certificate = refl
 command_alone name Explain = refl
 command_alone name Compile = refl
 command_alone name Verify = refl

@@ -10,7 +10,7 @@ use Rattle.pb_solver_names.specs.declared.solver.Solver.{Solver}
 use Rattle.pb_solver_names.specs.declared.solver.Solver.TheVariants.{Zielonka}
 use Rattle.pb_solver_names.specs.Names.{solver_name}
 use Rattle.pb_command_line.specs.declared.command.Command.{Command}
-use Rattle.pb_command_line.specs.declared.command.Command.TheVariants.{Solve, Game, Solution, Explain, Compile, Verify, List as ListModule, SolveCode}
+use Rattle.pb_command_line.specs.declared.command.Command.TheVariants.{Solve, Game, Solution, Certificate, Explain, Compile, Verify, List as ListModule, SolveCode}
 use Rattle.pb_command_line.specs.declared.request.Request.{Request}
 use Rattle.pb_command_line.specs.declared.words.WordsError.{WordsError}
 use Rattle.pb_command_line.specs.declared.words.WordsError.TheVariants.{Usage, Memory}
@@ -25,6 +25,7 @@ abbrev pub command_name : Command → List ℕ
 command_name Solve = codes "solve"
 command_name Game = codes "game"
 command_name Solution = codes "solution"
+command_name Certificate = codes "certificate"
 command_name Explain = codes "explain"
 command_name Compile = codes "compile"
 command_name Verify = codes "verify"
@@ -54,7 +55,8 @@ text_line =
     let solve = with_subcommand bare (solving_shape (codes "solve")) in
     let game = with_subcommand solve (exploring_shape (codes "game")) in
     let solution = with_subcommand game (solving_shape (codes "solution")) in
-    let explain = with_subcommand solution (exploring_shape (codes "explain")) in
+    let certificate = with_subcommand solution (solving_shape (codes "certificate")) in
+    let explain = with_subcommand certificate (exploring_shape (codes "explain")) in
     with_subcommand explain (new_shape (codes "compile"))
 
 -- the command line, as clap reads it

@@ -11,6 +11,8 @@ pub enum Command {
     Game,
     /// The truth of each reached instance of a text.
     Solution,
+    /// The winners of a text's game, with a strategy for each.
+    Certificate,
     /// Why the answer to a text is right.
     Explain,
     /// The module of a text.
@@ -34,6 +36,7 @@ impl Command {
             Command::Solve => "solve",
             Command::Game => "game",
             Command::Solution => "solution",
+            Command::Certificate => "certificate",
             Command::Explain => "explain",
             Command::Compile => "compile",
             Command::Verify => "verify",
@@ -52,6 +55,7 @@ impl Command {
             "solve" => Some(Command::Solve),
             "game" => Some(Command::Game),
             "solution" => Some(Command::Solution),
+            "certificate" => Some(Command::Certificate),
             "explain" => Some(Command::Explain),
             "compile" => Some(Command::Compile),
             "verify" => Some(Command::Verify),

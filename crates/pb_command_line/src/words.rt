@@ -117,6 +117,7 @@ fn command_line<'a>(alloc: Global) -> Result<clap::Command<'a>, AllocError>
     let line = with_solving(alloc, line, "solve")?;
     let line = with_exploring(alloc, line, "game")?;
     let line = with_solving(alloc, line, "solution")?;
+    let line = with_solving(alloc, line, "certificate")?;
     let line = with_exploring(alloc, line, "explain")?;
     let line = with_plain(alloc, line, "compile")?;
     let line = with_plain(alloc, line, "verify")?;

@@ -5,4 +5,5 @@ pub mod InstanceName
 pub mod VertexNames
 pub mod Cuts
 pub mod SolutionText
+pub mod CertificateText
 pub mod ModuleTexts

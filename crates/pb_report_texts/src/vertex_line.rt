@@ -9,7 +9,12 @@ use crate::buffer::TextBuffer;
 use pb_game::Game;
 use pb_sorts::{E02, Sink};
 
-fn write_field<S: Sink>(buffer: &mut TextBuffer, number: u32, sink: &mut S) -> Result<(), E02>
+/// A number, and a space behind it.
+pub(crate) fn write_field<S: Sink>(
+    buffer: &mut TextBuffer,
+    number: u32,
+    sink: &mut S,
+) -> Result<(), E02>
     ensures { Sends result (S.taken sink.old) (S.taken sink.new) (S.has_failed sink.old)
         (S.has_failed sink.new) buffer.old.bytes.items buffer.new.bytes.items (field number) }
 {

@@ -1,18 +1,24 @@
 -- A text that was written for the rows in memory is that of the module's reached instances.
 use Rattle.std.proofs.Common.{◌≡◌, ℕ, Bool, List, Option, subst}
 use Rattle.std.specs.Prelude.{Result, Ok, Err}
+use Rattle.std.specs.Io.KnownBytes.{Appends}
+use Rattle.pb_sorts.specs.Sink.{AppendsPrefix}
 use Rattle.pb_trees.specs.Tree.{Tree}
 use Rattle.pb_rows.specs.Row.{Row}
 use Rattle.pb_bytecode.specs.Contents.{Contents}
 use Rattle.pb_bytecode.specs.Meaning.{AreTrees}
 use Rattle.pb_exploration.specs.Rows.{AreExplored}
-use Rattle.pb_game_answer.specs.Explored.{HaveTrees}
 use Rattle.pb_report_texts.specs.declared.buffer.WriteError.{WriteError}
 use Rattle.pb_report_texts.specs.declared.buffer.WriteError.TheVariants.{Memory, Failed}
 use Rattle.pb_evidence.specs.declared.Evidence.{Evidence}
 use Rattle.pb_evidence_texts.specs.ModuleEvidence.{IsModuleEvidence, module_evidence_text, ForEvidenceText}
 use Rattle.pb_report_texts.specs.Sending.{Writes}
-use Rattle.pb_solution.specs.Texts.{ForReached, Sends}
+use Rattle.pb_report_texts.specs.CertificateText.{certificate_text}
+use Rattle.pb_game_certificate.specs.Certificates.{IsCertificate}
+use Rattle.pb_game_certificate.specs.declared.Solution.{Solution}
+use Rattle.pb_game_answer.specs.Explored.{HaveTrees, IsModuleGame}
+use Rattle.pb_game_of_trees.specs.declared.tree_game.TreeGame.{TreeGame}
+use Rattle.pb_solution.specs.Texts.{ForReached, ForCertificateText, Sends}
 
 -- the text of the rows in memory went out so, whichever trees the instances have
 abbrev WritesAny : {T : Type 0} → Contents → ((ℕ → Tree) → List Row → List ℕ) → List Row → Result T WriteError → Option (List ℕ) → Option (List ℕ) → Bool → Bool → Type 0
@@ -40,3 +46,19 @@ pub sent_evidence : {T : Type 0} (m : Contents) (e : Evidence) → IsModuleEvide
 sent_evidence m e is (Ok x) old new fb fa w = ((e, is, w.0), w.1)
 sent_evidence m e is (Err (Memory x)) old new fb fa w = w
 sent_evidence m e is (Err (Failed x)) old new fb fa w = ((e, is, w.0), w.1)
+
+-- the text of a certificate of the module's game
+module _ (m : Contents) (rows : List Row) (explored : AreExplored m rows) (built : TreeGame) (game : IsModuleGame m rows built) (s : Solution)
+    (certificate : IsCertificate built.game s) where
+  found_certificate : (P : List ℕ → Type 0) → P (certificate_text built.game s) → ForCertificateText m P
+  found_certificate P holds trees have = (
+    rows,
+    explored trees have,
+    record { game = built.game; vertices = (game trees have).game.vertices; solution = s; certificate = certificate; text = holds },
+  )
+
+  pub sent_certificate : {T : Type 0} (r : Result T WriteError) (old new : Option (List ℕ)) (fb fa : Bool)
+      → Writes r old new fb fa (certificate_text built.game s) → Sends (ForCertificateText m) r old new fb fa
+  sent_certificate (Ok x) old new fb fa w = (found_certificate (Appends old new) w.0, w.1)
+  sent_certificate (Err (Memory e)) old new fb fa w = w
+  sent_certificate (Err (Failed e)) old new fb fa w = (found_certificate (AppendsPrefix old new) w.0, w.1)

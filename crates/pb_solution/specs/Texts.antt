@@ -1,4 +1,4 @@
--- The texts of a module's game and of its solution, and how a text goes to a sink.
+-- The texts of a module's game, its solution and a certificate, and how a text goes to a sink.
 use Rattle.std.specs.Prelude.{◌≡◌, ℕ, Bool, true, List, Option, Result, Ok, Err}
 use Rattle.std.specs.Io.KnownBytes.{Appends}
 use Rattle.pb_sorts.specs.Sink.{AppendsPrefix}
@@ -9,7 +9,7 @@ use Rattle.pb_bytecode.specs.Meaning.{AreTrees}
 use Rattle.pb_exploration.specs.Rows.{AreReached}
 use Rattle.pb_report_texts.specs.declared.buffer.WriteError.{WriteError}
 use Rattle.pb_report_texts.specs.declared.buffer.WriteError.TheVariants.{Memory, Failed}
-use Rattle.pb_report_texts.specs.ModuleTexts.{module_game_text, module_solution_text}
+use Rattle.pb_report_texts.specs.ModuleTexts.{module_game_text, module_solution_text, HasCertificateText}
 
 -- the reached instances of a module, with whichever trees its instances have, have a text of which P holds
 abbrev pub ForReached : Contents → ((ℕ → Tree) → List Row → List ℕ) → (List ℕ → Type 0) → Type 0
@@ -23,6 +23,12 @@ ForGameText m P = ForReached m (module_game_text m) P
 -- P holds of the text of their truth in the solution of the module's equations
 abbrev pub ForSolutionText : Contents → (List ℕ → Type 0) → Type 0
 ForSolutionText m P = ForReached m (module_solution_text m) P
+
+-- P holds of the text of some certificate of that game
+abbrev pub ForCertificateText : Contents → (List ℕ → Type 0) → Type 0
+ForCertificateText m P =
+    (trees : ℕ → Tree) → AreTrees m trees → (rows : List Row) × AreReached m trees rows
+    × HasCertificateText m trees rows P
 
 -- A text of which this is known was appended, or nothing where there was no memory, or a part that begins it where a write
 -- failed.

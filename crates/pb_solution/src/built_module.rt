@@ -2,6 +2,7 @@
 //! can be written of it before anybody solves it.
 ghost use Rattle.std.specs.Prelude.{◌≡◌, ◌<◌, ◌≤◌, IfOk, IfErr, Err};
 ghost use Rattle.pb_game_of_trees.specs.declared.tree_game.BuildError.TheVariants.{TooManyVertices};
+ghost use Rattle.pb_game_certificate.specs.Certificates.{IsCertificate};
 ghost use Rattle.pb_game_solver.specs.Lifting.{IsLiftedOrNone};
 ghost use Rattle.pb_report_texts.specs.Sending.{IsOutOfMemory};
 ghost use Rattle.pb_solver_names.specs.declared.solver.Solver.TheVariants.{Lift};
@@ -83,6 +84,7 @@ pub(crate) fn solve_game<R: Threads + Sync, G: Gate + Sync>(
     gate: &G,
 ) -> Result<Solved, AllocError>
     ensures built { IfOk result (λ s. s.built ≡ built) }
+    ensures certificate { IfOk result (λ s. IsCertificate s.built.game s.certified) }
     ensures lifted { options.solver ≡ Lift → IfOk result
         (λ s. IsLiftedOrNone s.built.game s.certified) }
 {

@@ -1,11 +1,12 @@
 //! Verified modules that are solved.
 ghost use Rattle.std.specs.Prelude.{◌≡◌, IfOk, IfErr, Err};
 ghost use Rattle.pb_game_of_trees.specs.declared.tree_game.BuildError.TheVariants.{TooManyVertices};
+ghost use Rattle.pb_game_certificate.specs.Certificates.{IsCertificate};
 ghost use Rattle.pb_game_solver.specs.Lifting.{IsLiftedOrNone};
 ghost use Rattle.pb_report_texts.specs.Sending.{IsOutOfMemory};
 ghost use Rattle.pb_solver_names.specs.declared.solver.Solver.TheVariants.{Lift};
 ghost use Rattle.pb_solution.specs.Answers.{IsSolutionOf, IsTooLarge};
-ghost use Rattle.pb_solution.specs.Texts.{ForSolutionText, Sends};
+ghost use Rattle.pb_solution.specs.Texts.{ForCertificateText, ForSolutionText, Sends};
 
 use crate::built_module::{BuiltModule, build_module, solve_game};
 use crate::options::SolveOptions;
@@ -14,6 +15,7 @@ use pb_game_answer::Solved;
 use pb_game_of_trees::BuildError;
 use pb_machine::instances_have_trees;
 use pb_report_texts::WriteError;
+use pb_report_texts::certificate_text::certificate_text;
 use pb_report_texts::solution_text::solution_text;
 use pb_sorts::Sink;
 use pb_verifier::Verified;
@@ -41,6 +43,8 @@ pub fn solve_module<R: Threads + Sync, G: Gate + Sync>(
     gate: &G,
 ) -> Result<SolvedModule, BuildError>
     ensures solved { IfOk result (IsSolutionOf verified.now) }
+    ensures certificate { IfOk result
+        (λ s. IsCertificate s.solved.built.game s.solved.certified) }
     ensures lifted { options.solver ≡ Lift → IfOk result
         (λ s. IsLiftedOrNone s.solved.built.game s.solved.certified) }
     ensures too_many { result ≡ Err TooManyVertices → IsTooLarge verified.now }
@@ -72,5 +76,27 @@ impl SolvedModule {
     {
         instances_have_trees(verified);
         solution_text(alloc, verified, &self.solved, self.explored.rows(), sink)
+    }
+
+    /// Appends a certificate of the game that `BuiltModule::write_game` writes: for each vertex its
+    /// winner, and the winner's choice where the winner moves, in the form that PGSolver writes.
+    ///
+    /// # Errors
+    /// As with `BuiltModule::write_game`.
+    pub fn write_certificate<S: Sink>(
+        &self,
+        alloc: Global,
+        verified: &Verified,
+        sink: &mut S,
+    ) -> Result<(), WriteError>
+        requires solved { IsSolutionOf verified.now self.now }
+        requires certificate { IsCertificate self.now.solved.built.game self.now.solved.certified }
+        ensures text { Sends (ForCertificateText verified.now) result (S.taken sink.old)
+            (S.taken sink.new) (S.has_failed sink.old) (S.has_failed sink.new) }
+        ensures silent { IfErr result (λ e. IsOutOfMemory e → sink.new ≡ sink.old) }
+    {
+        instances_have_trees(verified);
+        let certificate = self.solved.certified.solution();
+        certificate_text(alloc, &self.solved.built.game, certificate, sink)
     }
 }

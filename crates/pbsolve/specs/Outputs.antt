@@ -8,7 +8,7 @@ use Rattle.pb_report_texts.specs.Report.{report_text}
 use Rattle.pb_evidence.specs.declared.Evidence.{Evidence}
 use Rattle.pb_evidence_texts.specs.ModuleEvidence.{module_evidence_text}
 use Rattle.pb_solution.specs.Answers.{IsAnswerOf}
-use Rattle.pb_solution.specs.Texts.{ForGameText, ForSolutionText}
+use Rattle.pb_solution.specs.Texts.{ForCertificateText, ForGameText, ForSolutionText}
 use Rattle.pb_command_line.specs.declared.command.Command.{Command}
 use Rattle.pb_command_line.specs.declared.command.Command.TheVariants as command
 use Rattle.pbsolve.specs.declared.solve_error.SolveError.{SolveError}
@@ -31,6 +31,7 @@ abbrev pub Outputs : Command → List ℕ → (List ℕ → Type 0) → Type 0
 Outputs command.Solve bytes P = (a : Answer) × IsAnswer bytes a × P (report_text a)
 Outputs command.Game bytes P = ForModuleOfText bytes (λ m. ForGameText m P)
 Outputs command.Solution bytes P = ForModuleOfText bytes (λ m. ForSolutionText m P)
+Outputs command.Certificate bytes P = ForModuleOfText bytes (λ m. ForCertificateText m P)
 Outputs command.Explain bytes P = (m : Contents) × (e : Evidence) × IsEvidence bytes m e × P (module_evidence_text m e)
 Outputs command.Compile bytes P = ForModuleOfText bytes (λ m. P (spelling m))
 Outputs command.Verify bytes P = ForModuleOfCode bytes (λ m. P (codes "accepted\n"))
@@ -42,6 +43,7 @@ abbrev pub IsRefusedFor : Command → List ℕ → SolveError → Type 0
 IsRefusedFor command.Solve = IsRefused
 IsRefusedFor command.Game = IsRefused
 IsRefusedFor command.Solution = IsRefused
+IsRefusedFor command.Certificate = IsRefused
 IsRefusedFor command.Explain = IsRefused
 IsRefusedFor command.Compile = IsUncompiled
 IsRefusedFor command.Verify = IsUnverified

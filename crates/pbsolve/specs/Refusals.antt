@@ -75,7 +75,7 @@ IsUncompiled bytes solve_error.TooManyVertices = ⊥
 IsUncompiled bytes (solve_error.Module error) = ⊥
 IsUncompiled bytes (solve_error.Acceptance error) = ⊥
 
--- `solve`, `game`, `solution` and `explain`: the text isn't compiled, or its module has too large a game
+-- `solve`, `game`, `solution`, `certificate` and `explain`: the text isn't compiled, or its module has too large a game
 abbrev pub IsRefused : List ℕ → SolveError → Type 0
 IsRefused bytes solve_error.TooManyVertices = (m : Contents) × IsModuleOfText bytes m × IsTooLarge m
 IsRefused bytes error = IsUncompiled bytes error

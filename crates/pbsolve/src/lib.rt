@@ -19,7 +19,7 @@ pub use input::INPUT_LIMIT;
 pub use laws::bytes_spell_one_module;
 pub use pb_solution::SolveOptions;
 pub use program::{run, tell_fault};
-pub use solve::{explain_text, game_of, solution_of, solve_text};
+pub use solve::{certificate_of, explain_text, game_of, solution_of, solve_text};
 pub use solve_error::SolveError;
 pub use status::Status;
 pub use streams::Streams;

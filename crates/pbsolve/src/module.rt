@@ -1,11 +1,12 @@
-//! The texts of a verified module: its report, its game, its solution and its evidence.
+//! The texts of a verified module: its report, its game, its solution, a certificate and its
+//! evidence.
 ghost use Rattle.std.specs.Prelude.{◌≡◌, ◌≢◌, ◌≤◌, ◌<◌, true, IfOk, IfErr, OnOk, Err};
 ghost use Rattle.std.specs.Io.KnownBytes.{Appends};
 ghost use Rattle.pb_sorts.specs.Sink.{AppendsPrefix};
 ghost use Rattle.pb_report_texts.specs.Report.{report_text};
 ghost use Rattle.pb_evidence_texts.specs.ModuleEvidence.{ForEvidenceText};
 ghost use Rattle.pb_solution.specs.Answers.{IsAnswerOf, IsSolutionOf};
-ghost use Rattle.pb_solution.specs.Texts.{ForGameText, ForSolutionText};
+ghost use Rattle.pb_solution.specs.Texts.{ForCertificateText, ForGameText, ForSolutionText};
 ghost use Rattle.pbsolve.specs.Refusals.{IsRefusedModule};
 ghost use Rattle.pbsolve.specs.Outputs.{ForReport};
 
@@ -94,6 +95,31 @@ pub(crate) fn write_solution<R: Threads + Sync, G: Gate + Sync, S: Sink>(
 {
     let solved = solve_module(rt, alloc, verified, options, gate)?;
     solved.write_solution(alloc, verified, writer)?;
+    Ok(())
+}
+
+// Writes a certificate of the game of a module.
+pub(crate) fn write_certificate<R: Threads + Sync, G: Gate + Sync, S: Sink>(
+    rt: &R,
+    alloc: Global,
+    verified: &Verified,
+    options: SolveOptions,
+    gate: &G,
+    writer: &mut S,
+) -> Result<(), SolveError>
+    ensures certificate { OnOk result
+        (ForCertificateText verified.now (Appends (S.taken writer.old) (S.taken writer.new))) }
+    ensures kept { OnOk result (S.has_failed writer.new ≡ S.has_failed writer.old) }
+    ensures refused { IfErr result (IsRefusedModule verified.now) }
+    ensures silent { IfErr result (λ e. e ≢ SolveError.Write (record {}) →
+        writer.new ≡ writer.old) }
+    ensures write { result ≡ Err (SolveError.Write (record {})) →
+        ForCertificateText verified.now (AppendsPrefix (S.taken writer.old) (S.taken writer.new)) }
+    ensures write_failed { result ≡ Err (SolveError.Write (record {})) →
+        S.has_failed writer.new ≡ true }
+{
+    let solved = solve_module(rt, alloc, verified, options, gate)?;
+    solved.write_certificate(alloc, verified, writer)?;
     Ok(())
 }
 

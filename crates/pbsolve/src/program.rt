@@ -13,7 +13,7 @@ use crate::code::{list_code, solve_code, verify_code};
 use crate::compile::compile_text;
 use crate::input::{INPUT_LIMIT, read_input};
 use crate::run_error::RunError;
-use crate::solve::{explain_text, game_of, solution_of, solve_text};
+use crate::solve::{certificate_of, explain_text, game_of, solution_of, solve_text};
 use crate::solve_error::SolveError;
 use crate::status::Status;
 use crate::streams::Streams;
@@ -57,6 +57,7 @@ fn answer<R: Threads + Sync, G: Gate + Sync, O: Sink>(
         }
         Command::Game => game_of(rt, alloc, bytes, request.workers, gate, out),
         Command::Solution => solution_of(rt, alloc, bytes, options, gate, out),
+        Command::Certificate => certificate_of(rt, alloc, bytes, options, gate, out),
         Command::Explain => explain_text(rt, alloc, bytes, request.workers, gate, out),
         Command::Compile => compile_text(alloc, bytes, out),
         Command::Verify => verify_code(alloc, bytes, out),

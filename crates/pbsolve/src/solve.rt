@@ -3,7 +3,7 @@ ghost use Rattle.std.specs.Prelude.{◌≡◌, ◌≢◌, ◌≤◌, ◌<◌, tr
 ghost use Rattle.std.specs.Io.KnownBytes.{Appends};
 ghost use Rattle.pb_sorts.specs.Sink.{AppendsPrefix};
 ghost use Rattle.pb_command_line.specs.declared.command.Command.TheVariants.{Solve, Game, Solution};
-ghost use Rattle.pb_command_line.specs.declared.command.Command.TheVariants.{Explain};
+ghost use Rattle.pb_command_line.specs.declared.command.Command.TheVariants.{Certificate, Explain};
 ghost use Rattle.pb_report_texts.specs.Report.{report_text};
 ghost use Rattle.pbsolve.specs.Answers.{IsAnswer};
 ghost use Rattle.pbsolve.specs.Refusals.{IsRefused};
@@ -11,7 +11,7 @@ ghost use Rattle.pbsolve.specs.Outputs.{Outputs};
 
 use crate::compile::verified_text;
 use crate::input::INPUT_LIMIT;
-use crate::module::{write_evidence, write_game, write_report, write_solution};
+use crate::module::{write_certificate, write_evidence, write_game, write_report, write_solution};
 use crate::solve_error::SolveError;
 use pb_exploration::Gate;
 use pb_machine::instances_have_trees;
@@ -124,6 +124,39 @@ pub fn solution_of<R: Threads + Sync, G: Gate + Sync, S: Sink>(
 {
     let verified = verified_text(alloc, bytes)?;
     write_solution(rt, alloc, &verified, options, gate, writer)
+}
+
+/// Writes a certificate of the game that `game_of` writes: for each vertex its winner, and the
+/// winner's choice where the winner moves, in the form that PGSolver writes.
+///
+/// Whoever holds both texts can check the winners without this program. An edge is kept where the
+/// loser moves, or the winner chose it. No kept edge leaves its winner's region, and around each
+/// cycle of kept edges the greatest priority is of the winner's parity.
+///
+/// # Errors
+/// As with `solve_text`.
+pub fn certificate_of<R: Threads + Sync, G: Gate + Sync, S: Sink>(
+    rt: &R,
+    alloc: Global,
+    bytes: &[u8],
+    options: SolveOptions,
+    gate: &G,
+    writer: &mut S,
+) -> Result<(), SolveError>
+    requires input { length bytes.now ≤ INPUT_LIMIT }
+    ensures certificate { OnOk result
+        (Outputs Certificate bytes.now (Appends (S.taken writer.old) (S.taken writer.new))) }
+    ensures kept { OnOk result (S.has_failed writer.new ≡ S.has_failed writer.old) }
+    ensures refused { IfErr result (IsRefused bytes.now) }
+    ensures silent { IfErr result (λ e. e ≢ SolveError.Write (record {}) →
+        writer.new ≡ writer.old) }
+    ensures write { result ≡ Err (SolveError.Write (record {})) →
+        Outputs Certificate bytes.now (AppendsPrefix (S.taken writer.old) (S.taken writer.new)) }
+    ensures write_failed { result ≡ Err (SolveError.Write (record {})) →
+        S.has_failed writer.new ≡ true }
+{
+    let verified = verified_text(alloc, bytes)?;
+    write_certificate(rt, alloc, &verified, options, gate, writer)
 }
 
 /// Writes why a text's initial instance has its truth value: the answer, and then a line for each

@@ -1,6 +1,7 @@
 //! From the bytes of a module to what is printed about it.
 ghost use Rattle.std.specs.Prelude.{IfOk};
 ghost use Rattle.pb_game_answer.specs.Explored.{HaveTrees, AreModuleRows, IsModuleGame};
+ghost use Rattle.pb_game_certificate.specs.Solutions.{HasLengths};
 
 use pb_bytecode::decode::decode;
 use pb_exploration::{Explored, NoGate, explore};
@@ -8,6 +9,7 @@ use pb_game_answer::{Solved, build};
 use pb_game_of_trees::BuildError;
 use pb_game_solver::solve;
 use pb_machine::instances_have_trees;
+use pb_report_texts::certificate_text::certificate_text;
 use pb_report_texts::game_text::game_text;
 use pb_report_texts::solution_text::solution_text;
 use pb_report_texts::{Answer, WriteError, report};
@@ -39,7 +41,7 @@ fn explored<R: Threads + Sync>(
     Ok(explored)
 }
 
-/// The game of these rows, with its winners.
+/// The game of these rows, with its winners and their strategies.
 fn solved_game<R: Threads + Sync>(
     rt: &R,
     alloc: Global,
@@ -48,7 +50,8 @@ fn solved_game<R: Threads + Sync>(
 ) -> Result<Solved, BuildError>
     requires trees { HaveTrees verified.now }
     requires rows { AreModuleRows verified.now rows.now }
-    ensures { IfOk result (λ s. IsModuleGame verified.now rows.now s.built) }
+    ensures game { IfOk result (λ s. IsModuleGame verified.now rows.now s.built) }
+    ensures lengths { IfOk result (λ s. HasLengths s.built.game s.certified) }
 {
     let built = build(alloc, verified, rows)?;
     let certified = solve(rt, alloc, &built.game, Solver::Zielonka, 1, &NoGate)?;
@@ -99,4 +102,19 @@ pub fn print_solution<R: Threads + Sync, S: Sink>(
     let rows = explored.rows();
     let solved = solved_game(rt, alloc, &module, rows)?;
     Ok(solution_text(alloc, &module, &solved, rows, sink))
+}
+
+/// Prints a certificate of the game of the module of these bytes, and answers how the writing went.
+pub fn print_certificate<R: Threads + Sync, S: Sink>(
+    rt: &R,
+    alloc: Global,
+    bytes: &[u8],
+    sink: &mut S,
+) -> Result<Result<(), WriteError>, Fail> {
+    let module = verified(alloc, bytes)?;
+    instances_have_trees(&module);
+    let explored = explored(rt, alloc, &module)?;
+    let solved = solved_game(rt, alloc, &module, explored.rows())?;
+    let certificate = solved.certified.solution();
+    Ok(certificate_text(alloc, &solved.built.game, certificate, sink))
 }

@@ -1,5 +1,5 @@
 use crate::modules;
-use crate::printing::{print_game, print_report, print_solution};
+use crate::printing::{print_certificate, print_game, print_report, print_solution};
 use pb_report_texts::WriteError;
 use pb_sorts::{Out, Sink};
 use std::alloc::Global;
@@ -51,6 +51,21 @@ fn assert_solution<R: Abort + Threads + Sync>(
     let mut bytes = [0u8; ROOM];
     let mut sink = Out::new(Cursor::new(bytes.as_mut_slice()));
     print_solution(rt, alloc, module, &mut sink)??;
+    drop(sink);
+    assert_printed(rt, &bytes, text);
+    Ok(())
+}
+
+/// Asserts that the certificate of a module's game is the text.
+fn assert_certificate<R: Abort + Threads + Sync>(
+    rt: &R,
+    alloc: Global,
+    module: &[u8],
+    text: &str,
+) -> Result<(), Fail> {
+    let mut bytes = [0u8; ROOM];
+    let mut sink = Out::new(Cursor::new(bytes.as_mut_slice()));
+    print_certificate(rt, alloc, module, &mut sink)??;
     drop(sink);
     assert_printed(rt, &bytes, text);
     Ok(())
@@ -270,6 +285,53 @@ fn solutions(rt: HostRuntime) -> Result<(), Fail> {
         &modules::two_parameters(alloc)?,
         "X(-1,true) true\n",
     )
+}
+
+/// Certificates of games where each winner who moves has one choice that wins.
+#[test]
+fn certificates(rt: HostRuntime) -> Result<(), Fail> {
+    let alloc = rt.alloc();
+    assert_certificate(
+        &rt,
+        alloc,
+        &modules::two_states(alloc)?,
+        "paritysol 5;\n0 1;\n1 0 1;\n2 0 4;\n3 0 5;\n4 0 3;\n5 0 4;\n",
+    )?;
+    assert_certificate(
+        &rt,
+        alloc,
+        &modules::inner_vertex(alloc)?,
+        "paritysol 4;\n0 1;\n1 0 1;\n2 1;\n3 1 4;\n4 1;\n",
+    )?;
+    assert_certificate(
+        &rt,
+        alloc,
+        &modules::another_exists(alloc)?,
+        "paritysol 3;\n0 1;\n1 0 1;\n2 0;\n3 0 1;\n",
+    )?;
+    assert_certificate(
+        &rt,
+        alloc,
+        &modules::false_in_a_conjunction(alloc)?,
+        "paritysol 4;\n0 1;\n1 0 1;\n2 1 3;\n3 1;\n4 1;\n",
+    )
+}
+
+/// A sink that is full after a part of a certificate has exactly that part.
+#[test]
+fn full_sinks_have_a_prefix_of_a_certificate(rt: HostRuntime) -> Result<(), Fail> {
+    let alloc = rt.alloc();
+    let text: &[u8] = b"paritysol 4;\n0 1;\n1 0 1;\n2 1;\n3 1 4;\n4 1;\n";
+    let module = modules::inner_vertex(alloc)?;
+    for room in 0..text.len() {
+        let mut bytes = [0u8; ROOM];
+        let mut sink = Out::new(Cursor::new(&mut bytes[..room]));
+        let written = print_certificate(&rt, alloc, &module, &mut sink)?;
+        assert!(&rt; matches!(written, Err(WriteError::Failed(_))));
+        drop(sink);
+        assert_eq!(&rt; bytes.get(..room), text.get(..room));
+    }
+    Ok(())
 }
 
 /// A sink that is full after a part of the text has exactly that part.

@@ -14,12 +14,13 @@ const SOLVE: [&str; 2] = ["pbsolve", "solve"];
 const TEXT: &[u8] = b"pbes mu X = Y; nu Y = X; init X;";
 
 // What the commands write of the text.
-const OUTPUTS: [(&str, &[u8]); 2] = [
+const OUTPUTS: [(&str, &[u8]); 3] = [
     ("solve", b"answer false\ninstances 2\ncut 0\nvertices 4\n"),
     (
         "game",
         b"parity 3;\n0 1 0 0 \"false\";\n1 0 0 1 \"true\";\n2 1 0 3 \"X\";\n3 0 0 2 \"Y\";\n",
     ),
+    ("certificate", b"paritysol 3;\n0 1;\n1 0 1;\n2 1;\n3 1;\n"),
 ];
 
 // A writer that fails once after so many bytes.
@@ -31,7 +32,7 @@ fn writer(alloc: Global, budget: usize, is_slow: bool) -> Budget {
     }
 }
 
-const WRONG_WORDS: [&[&str]; 35] = [
+const WRONG_WORDS: [&[&str]; 36] = [
     &[],
     &["pbsolve"],
     &["pbsolve", "frobnicate"],
@@ -40,6 +41,7 @@ const WRONG_WORDS: [&[&str]; 35] = [
     &["pbsolve", "solve", "--help"],
     &["pbsolve", "solve", "more"],
     &["pbsolve", "solve", "solve"],
+    &["pbsolve", "certificate", "more"],
     &["pbsolve", "solve", "--frob"],
     &["pbsolve", "--workers", "2", "solve"],
     &["pbsolve", "solve", "--workers"],

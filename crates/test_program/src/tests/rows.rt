@@ -13,7 +13,7 @@ pub(super) struct Row {
     pub(super) wanted: &'static str,
 }
 
-pub(super) const ROWS: [Row; 24] = [
+pub(super) const ROWS: [Row; 26] = [
     Row {
         command: "solve",
         text: "pbes nu X = X; init X;",
@@ -38,6 +38,16 @@ pub(super) const ROWS: [Row; 24] = [
         command: "game",
         text: "pbes nu Y = X; mu X = Y; init X;",
         wanted: "parity 3;\n0 1 0 0 \"false\";\n1 0 0 1 \"true\";\n2 2 0 3 \"Y\";\n3 1 0 2 \"X\";\n",
+    },
+    Row {
+        command: "certificate",
+        text: "pbes nu Y = X; mu X = Y; init X;",
+        wanted: "paritysol 3;\n0 1;\n1 0 1;\n2 0 3;\n3 0 2;\n",
+    },
+    Row {
+        command: "certificate",
+        text: "pbes nu A = F && E; mu F = F; mu E = A || E; init E;",
+        wanted: "paritysol 4;\n0 1;\n1 0 1;\n2 1 3;\n3 1;\n4 1;\n",
     },
     Row {
         command: "solve",

@@ -16,7 +16,7 @@ const SOLVERS: [&str; 2] = ["zielonka", "lift"];
 const WORKERS: [&str; 3] = ["1", "2", "16"];
 
 // The rows of the smallest texts, which are the first ones.
-const SMALLEST: usize = 13;
+const SMALLEST: usize = 15;
 
 // A command on this input, by this solver and so many workers.
 fn by<T: Threads + Sync>(
