@@ -18,6 +18,7 @@ step_to guard e f =
 -- init X(idle, idle);
 abbrev pub mutual_exclusion_text : Spec
 mutual_exclusion_text =
+    let both_critical : Term = both (same p critical) (same q critical) in
     let steps : Formula =
     Formula.And (step_to (same p idle) trying q)
     (Formula.And (step_to (both (same p trying) (differs q critical)) critical q)
@@ -32,7 +33,7 @@ mutual_exclusion_text =
         sign = Nu;
         name = codes "X";
         parameters = lock.variables;
-        right = Formula.And (Formula.Not (Formula.Val (both (same p critical) (same q critical)))) steps;
+        right = Formula.And (Formula.Not (Formula.Val both_critical)) steps;
       } ∷ [];
       initial = codes "X";
       arguments = Terms.Then (Term.Named idle) (Terms.Then (Term.Named idle) Terms.NoTerms);
