@@ -100,7 +100,8 @@ module _ (m : Model) (names : ℕ → Name) (D : List Equation) (x0 : Name) (es 
   -- an assignment to equation n leaves those before alone
   assign-same : (sign : Sign) (n : ℕ) (right : text.Formula) (t F : Environment Instance) → n < N → Same n t (assign t (equation_of spec (equation m names sign n right)) F)
   assign-same sign n right t F lt k less s =
-      unassigned (same_name (names n) (names k)) (is_within (carriers_of spec m.variables) s) (F (at k s)) (t (at k s))
+      let within = is_within (carriers_of spec m.variables) s in
+      unassigned (same_name (names n) (names k)) within (F (at k s)) (t (at k s))
       (differ n k lt (omega arith) (λ e. absurd (omega arith)))
 
   -- and gives its instances what is assigned

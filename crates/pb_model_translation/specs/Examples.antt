@@ -13,8 +13,10 @@ step_to guard e f =
     (Formula.Call (codes "X") (Terms.Then (Term.Named e) (Terms.Then (Term.Named f) Terms.NoTerms)))
 
 -- nu X(p, q: Place) = !val(p == critical && q == critical)
---   && (val(p == idle) => X(trying, q)) && (val(p == trying && q != critical) => X(critical, q)) && (val(p == critical) => X(idle, q))
---   && (val(q == idle) => X(p, trying)) && (val(q == trying && p != critical) => X(p, critical)) && (val(q == critical) => X(p, idle));
+--   && (val(p == idle) => X(trying, q)) && (val(p == trying && q != critical) => X(critical, q))
+--   && (val(p == critical) => X(idle, q))
+--   && (val(q == idle) => X(p, trying)) && (val(q == trying && p != critical) => X(p, critical))
+--   && (val(q == critical) => X(p, idle));
 -- init X(idle, idle);
 abbrev pub mutual_exclusion_text : Spec
 mutual_exclusion_text =

@@ -1,4 +1,5 @@
--- Nested equations solve nested fixpoints: the theorem on the equations of a formula, in front of any others.
+-- Nested equations solve nested fixpoints: the theorem on the equations of a formula, in front of
+-- any others.
 use Rattle.std.specs.Prelude.{◌≡◌, ℕ, ◌+◌, ◌<◌, ◌≤◌, Bool, true, false, ◌&&◌, ⊤, List, [], ◌∷◌, map}
 use Rattle.pb_fixpoint.specs.declared.Sign.{Sign}
 use Rattle.pb_fixpoint.specs.Solution.{Environment, solution}
@@ -47,15 +48,16 @@ abbrev pub solved_before :
 solved_before m names spec scope sign n f E t =
     solution (map (equation_of spec) (equations m names scope sign n f E)) t
 
--- In front of any other equations, those of a fixpoint give its variable the set of the fixpoint, where the
--- environment gives the variables around it theirs.
+-- In front of any other equations, those of a fixpoint give its variable the set of the fixpoint,
+-- where the environment gives the variables around it theirs.
 abbrev pub FixpointsAreSolved : Model → (ℕ → Name) → Spec → ℕ → Type 0
 FixpointsAreSolved m names spec N =
     (scope : Scope) (around sign : Sign) (n : ℕ) (X : Name) (f : Formula) →
     ScopeIsBelow n scope → n + equation_count (Formula.Fixpoint sign X f) ≤ N →
     (E : List Equation) → AreOthers names (n + equation_count (Formula.Fixpoint sign X f)) E →
     (t : Environment Instance) (s : State) → is_state m s ≡ true →
-    solved_before m names spec scope around n (Formula.Fixpoint sign X f) E t (instance_of names n s)
+    solved_before m names spec scope around n (Formula.Fixpoint sign X f) E t
+    (instance_of names n s)
     ≡ satisfying m (sets_in m names scope t) (Formula.Fixpoint sign X f) s
 
 -- and the right side of any formula says which states satisfy it
@@ -74,4 +76,5 @@ abbrev pub NestedEquationsSolveNestedFixpoints : Type 0
 NestedEquationsSolveNestedFixpoints =
     (m : Model) (names : ℕ → Name) (D : List Equation) (x : Name) (es : Terms) (N : ℕ) →
     HasNamesApart m → AreNamesApart names N → AreOverStates m names N (text_of m D x es) →
-    FixpointsAreSolved m names (text_of m D x es) N × RightSidesAreSolved m names (text_of m D x es) N
+    FixpointsAreSolved m names (text_of m D x es) N ×
+    RightSidesAreSolved m names (text_of m D x es) N

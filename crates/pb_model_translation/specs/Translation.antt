@@ -1,8 +1,9 @@
--- From a model and a formula of the modal mu-calculus to a Boolean equation system that is true exactly where the model
--- satisfies the formula (Mader 1997; Groote and Willemse 2005; Groote and Mousavi 2014).
+-- From a model and a formula of the modal mu-calculus to a Boolean equation system that is true
+-- exactly where the model satisfies the formula (Mader 1997; Groote and Willemse 2005; Groote and
+-- Mousavi 2014).
 --
--- Each fixpoint has an equation, the outermost first, and so has each operand of a modality that is none of `true`,
--- `false`, a variable and a fixpoint. The state is the parameters of each.
+-- Each fixpoint has an equation, the outermost first, and so has each operand of a modality that is
+-- none of `true`, `false`, a variable and a fixpoint. The state is the parameters of each.
 use Rattle.std.specs.Prelude.{ℕ, suc, ◌+◌, Bool, true, false, not, if◌then◌else◌, List, [], ◌∷◌, map, Option, Some, None}
 use Rattle.pb_fixpoint.specs.declared.Sign.{Sign}
 use Rattle.pb_fixpoint.specs.declared.Sign.TheVariants.{Nu}
@@ -149,8 +150,8 @@ module _ (m : Model) (names : ℕ → Name) where
   abbrev pub with_equation : Bool → Equation → List Equation → List Equation
   with_equation b X E = if b then X ∷ E else E
 
-  -- the equations of a formula, from number n on, in front of others; a modality's operand has the sign of the fixpoint
-  -- around it
+  -- the equations of a formula, from number n on, in front of others; a modality's operand has the
+  -- sign of the fixpoint around it
   abbrev pub equations : Scope → Sign → ℕ → Formula → List Equation → List Equation
   equations scope sign n (Formula.Truth b) E = E
   equations scope sign n (Formula.Data x) E = E
