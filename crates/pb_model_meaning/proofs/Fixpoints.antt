@@ -1,5 +1,5 @@
 -- The sets of fixpoints are the least and the greatest ones, where formulas are positive.
-use Rattle.std.proofs.Common.{◌≡◌, ℕ, zero, suc, Bool, true, false, true≢false, ◌&&◌, if◌then◌else◌, [], refl, sym, ◌∙◌, inl}
+use Rattle.std.proofs.Common.{◌≡◌, ℕ, zero, suc, Bool, true, false, true≢false, ◌&&◌, [], refl, sym, ◌∙◌, inl}
 use Rattle.std.proofs.lemmas.Bool.{and_parts, and_from}
 use Rattle.pb_carriers.specs.Carrier.{tuples}
 use Rattle.pb_carriers.proofs.Tuples.{in_contains, in_tuples, length-tuples}

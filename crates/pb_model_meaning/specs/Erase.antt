@@ -5,7 +5,9 @@ use Rattle.pb_text_tree.specs.declared.operator.Connective.TheVariants as connec
 use Rattle.pb_text_meaning.specs.Erase.{erased_term, erased_arguments, erased_variables, erased_declaration, erased_range}
 use Rattle.pb_model_tree.specs.declared.formula.Modality.{Modality}
 use Rattle.pb_model_tree.specs.declared.formula.Modality.TheVariants as modality
-use Rattle.pb_model_tree.specs.Form.{StepSetForm, FormulaForm, AssignmentForm, StepForm, PropertyForm, ModelForm}
+use Rattle.pb_model_tree.specs.declared.model.Model as declared_model
+use Rattle.pb_model_tree.specs.Form.{StepSetForm, FormulaForm, AssignmentForm, StepForm}
+use Rattle.pb_model_tree.specs.Form.{PropertyForm, ModelForm, model_form}
 use Rattle.pb_model_meaning.specs.Syntax.{Assignment, Step, StepSet, Formula, Property, Model}
 
 abbrev pub erased_steps : StepSetForm → StepSet
@@ -56,3 +58,7 @@ erase text = record {
   initial = erased_arguments text.initial.values;
   properties = map erased_property text.properties;
 }
+
+-- and its tree
+abbrev pub model_of : declared_model.Model → Model
+model_of tree = erase (model_form tree)

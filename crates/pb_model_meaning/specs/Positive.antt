@@ -1,11 +1,11 @@
--- Formulas in which the body of each fixpoint is monotone: its variable stands there under an even number
--- of negations.
+-- Formulas in which the body of each fixpoint is monotone: its variable stands there under an even
+-- number of negations.
 use Rattle.std.specs.Prelude.{◌≡◌, Bool, true, false, not, ⊤}
 use Rattle.pb_text_meaning.specs.Syntax.{Name, same_name}
 use Rattle.pb_model_meaning.specs.Syntax.{Formula}
 
--- Wherever X stands free, it is under an even number of negations where `even`, and else under an odd
--- number. The left side of => counts as one.
+-- Wherever X stands free, it is under an even number of negations where `even`, and else under an
+-- odd number. The left side of => counts as one.
 abbrev pub IsPositiveIn : Name → Bool → Formula → Type 0
 IsPositiveIn X even (Formula.Truth b) = ⊤
 IsPositiveIn X even (Formula.Data x) = ⊤

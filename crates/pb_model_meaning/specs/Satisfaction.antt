@@ -1,5 +1,5 @@
--- Which states satisfy a formula of the modal mu-calculus (Bradfield and Stirling, Modal mu-calculi;
--- Groote and Mousavi 2014).
+-- Which states satisfy a formula of the modal mu-calculus (Bradfield and Stirling, Modal
+-- mu-calculi; Groote and Mousavi 2014).
 use Rattle.std.specs.Prelude.{Bool, false, not, ◌&&◌, ◌||◌, if◌then◌else◌, []}
 use Rattle.std.specs.List.{list_any, list_all}
 use Rattle.pb_fixpoint.specs.Solution.{iterate, start, empty}
@@ -35,8 +35,8 @@ is_truth f = false
 abbrev pub holds_at : Model → Formula → States → State → Bool
 holds_at m f S s = if is_state m s then S s else is_truth f
 
--- ⟦f⟧ρ, the set of states that satisfy f under ρ. The least and the greatest fixpoint of S ↦ ⟦f⟧ρ[X := S]
--- are what as many steps as there are states make of the empty and of the full set.
+-- ⟦f⟧ρ, the set of states that satisfy f under ρ. The least and the greatest fixpoint of
+-- S ↦ ⟦f⟧ρ[X := S] are what as many steps as there are states make of the empty and the full set.
 abbrev pub satisfying : Model → Valuation → Formula → States
 satisfying m ρ (Formula.Truth b) = λ s. b
 satisfying m ρ (Formula.Data x) = λ s. is_true (value (data_of m) (assigned m.variables s []) x)

@@ -16,7 +16,9 @@ use Rattle.pb_model_meaning.specs.Steps.{State, data_of, is_state, initial_state
 use Rattle.pb_model_meaning.specs.Satisfaction.{no_sets, satisfying, satisfies}
 use Rattle.pb_model_translation.specs.Translation.{has_equation, next_if, equation_count, Scope, text_of, right_side, equation, with_equation, equations, total_count, translation_by}
 use Rattle.pb_model_translation.specs.Names.{names_of}
-use Rattle.pb_model_translation.specs.Laws.{HasNamesApart, AreNamesApart, instance_of, AreOverStates, NestedEquationsSolveNestedFixpoints, TranslationsHaveTheAnswer, AnyNamesHaveTheAnswer}
+use Rattle.pb_model_translation.specs.Apart.{AreNamesApart, HasNamesApart}
+use Rattle.pb_model_translation.specs.Nested.{AreOverStates, NestedEquationsSolveNestedFixpoints, instance_of}
+use Rattle.pb_model_translation.specs.Laws.{AnyNamesHaveTheAnswer, TranslationsHaveTheAnswer}
 use Rattle.pb_model_translation.proofs.Data.{carriers-same, values-same}
 use Rattle.pb_model_translation.proofs.Names.{names_of-apart}
 use Rattle.pb_model_translation.proofs.Nested.{leave, solves, operand-solved, fixpoints_are_solved, right_sides_are_solved}
@@ -133,7 +135,7 @@ module _ (m : Model) (names : ℕ → Name) where
         let E = equations m names [] Nu 0 g [] in
         let known = over_states E N (λ k less. declared g [] Nu 0 [] k (inl (omega arith, omega arith))) in
         answer_from g E N (omega arith) known
-        (λ s e. fixpoints_are_solved m names E (names 0) m.initial N known apart names_apart [] Nu sign 0 X f [] empty tt (omega arith) tt s e)
+        (λ s e. fixpoints_are_solved m names E (names 0) m.initial N known apart names_apart [] Nu sign 0 X f tt (omega arith) [] tt empty s e)
 
     own-answer : (f : Formula) → AreNamesApart names (suc (equation_count f)) →
         answer (text_of m (equation m names Nu 0 (right_side m names [] 1 f) ∷ equations m names [] Nu 1 f []) (names 0) m.initial) ≡ satisfies m f

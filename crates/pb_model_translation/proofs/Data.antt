@@ -14,7 +14,7 @@ use Rattle.pb_text_meaning.specs.Meaning.{assigned}
 use Rattle.pb_model_meaning.specs.Syntax as model
 use Rattle.pb_model_meaning.specs.Steps.{State, assigned_term, value_after, state_after}
 use Rattle.pb_model_translation.specs.Translation.{term_or_name, next_terms}
-use Rattle.pb_model_translation.specs.Laws.{IsNew, AreApart, AreNew}
+use Rattle.pb_model_translation.specs.Apart.{AreApart, AreNew, IsNew}
 
 module _ (D : Spec) (E : List Equation) (x0 : Name) (es : Terms) where
   -- the sorts and ranges of D, with other equations

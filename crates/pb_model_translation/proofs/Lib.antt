@@ -4,3 +4,4 @@ pub mod RightSides
 pub mod Nested
 pub mod Names
 pub mod Answer
+pub mod Positive

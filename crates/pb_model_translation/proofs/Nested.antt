@@ -18,7 +18,8 @@ use Rattle.pb_model_meaning.specs.Steps.{State, data_of, state_carriers, is_stat
 use Rattle.pb_model_meaning.specs.Satisfaction.{States, Valuation, with_set, is_truth, holds_at, satisfying}
 use Rattle.pb_model_meaning.proofs.Same.{Agree, chosen, all-same, any-same, satisfying-same}
 use Rattle.pb_model_translation.specs.Translation.{has_equation, next_if, equation_count, Constant, Numbered, Callee, Scope, callee_of, operand_callee, right_side, text_of, equation, with_equation, equations}
-use Rattle.pb_model_translation.specs.Laws.{HasNamesApart, AreNamesApart, instance_of, callee_truth, sets_in, ScopeIsBelow, AreOverStates, AreOthers, FixpointsAreSolved, RightSidesAreSolved}
+use Rattle.pb_model_translation.specs.Apart.{AreNamesApart, HasNamesApart}
+use Rattle.pb_model_translation.specs.Nested.{AreOthers, AreOverStates, FixpointsAreSolved, RightSidesAreSolved, ScopeIsBelow, callee_truth, instance_of, sets_in}
 use Rattle.pb_model_translation.proofs.Data.{other, carriers-same}
 use Rattle.pb_model_translation.proofs.RightSides.{CalleeIsBelow, callee-below, truth_by, right-truth}
 
@@ -99,7 +100,8 @@ module _ (m : Model) (names : ℕ → Name) (D : List Equation) (x0 : Name) (es 
   -- an assignment to equation n leaves those before alone
   assign-same : (sign : Sign) (n : ℕ) (right : text.Formula) (t F : Environment Instance) → n < N → Same n t (assign t (equation_of spec (equation m names sign n right)) F)
   assign-same sign n right t F lt k less s =
-      unassigned (same_name (names n) (names k)) (is_within (carriers_of spec m.variables) s) (F (at k s)) (t (at k s))
+      let within = is_within (carriers_of spec m.variables) s in
+      unassigned (same_name (names n) (names k)) within (F (at k s)) (t (at k s))
       (differ n k lt (omega arith) (λ e. absurd (omega arith)))
 
   -- and gives its instances what is assigned
@@ -403,11 +405,11 @@ module _ (m : Model) (names : ℕ → Name) (D : List Equation) (x0 : Name) (es 
       unassigned (same_name X.name (names k)) (is_within (carriers_of spec X.parameters) s) (V (at k s)) (t (at k s)) (h.0 k less)
 
   pub fixpoints_are_solved : FixpointsAreSolved m names spec N
-  fixpoints_are_solved scope sign inner n X f E t below le others s e =
+  fixpoints_are_solved scope around inner n X f below le E others t s e =
       fixpoint-solved f (solves f) X scope inner n E t below (omega arith)
       (λ u k less z. others-leave (n + equation_count (Formula.Fixpoint inner X f)) E others u k (omega arith) z) s e
 
   pub right_sides_are_solved : RightSidesAreSolved m names spec N
-  right_sides_are_solved scope sign n f E t below le others s e =
+  right_sides_are_solved scope sign n f below le E others t s e =
       right-truth m names D x0 es N known apart f scope (weakened n N (omega arith) scope below) n le (solved (equations m names scope sign n f E) t) s e ∙
       solves f scope sign n E t below le (others-leave (n + equation_count f) E others) s e

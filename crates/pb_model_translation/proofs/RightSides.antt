@@ -16,7 +16,8 @@ use Rattle.pb_text_meaning.specs.Meaning.{assigned}
 use Rattle.pb_model_meaning.specs.Syntax.{Assignment, Step, StepSet, Formula, Model}
 use Rattle.pb_model_meaning.specs.Steps.{State, data_of, is_state, in_scope, is_enabled, state_after, next_state, successors_by, has_step, steps_in, successors}
 use Rattle.pb_model_translation.specs.Translation.{has_equation, next_if, equation_count, Callee, Constant, Numbered, Scope, callee_of, operand_callee, next_terms, conjunction, disjunction, over, text_of, call, after_each, after_some, right_side}
-use Rattle.pb_model_translation.specs.Laws.{AreNew, StepsAreNew, HasNamesApart, instance_of, callee_truth, ScopeIsBelow, AreOverStates}
+use Rattle.pb_model_translation.specs.Apart.{AreNew, HasNamesApart, StepsAreNew}
+use Rattle.pb_model_translation.specs.Nested.{AreOverStates, ScopeIsBelow, callee_truth, instance_of}
 use Rattle.pb_model_translation.proofs.Lists.{of_list, both, guarded, of_list-cons, of_list-one, of_list-flat_map, of_list-map, of_list-filter, of_list-same, quantified-tuples}
 use Rattle.pb_model_translation.proofs.Data.{other, value-same, quantified-same, Assigns, assigned-assigns, assigns-under, next_terms-values, state_after-none}
 

@@ -13,11 +13,14 @@ step_to guard e f =
     (Formula.Call (codes "X") (Terms.Then (Term.Named e) (Terms.Then (Term.Named f) Terms.NoTerms)))
 
 -- nu X(p, q: Place) = !val(p == critical && q == critical)
---   && (val(p == idle) => X(trying, q)) && (val(p == trying && q != critical) => X(critical, q)) && (val(p == critical) => X(idle, q))
---   && (val(q == idle) => X(p, trying)) && (val(q == trying && p != critical) => X(p, critical)) && (val(q == critical) => X(p, idle));
+--   && (val(p == idle) => X(trying, q)) && (val(p == trying && q != critical) => X(critical, q))
+--   && (val(p == critical) => X(idle, q))
+--   && (val(q == idle) => X(p, trying)) && (val(q == trying && p != critical) => X(p, critical))
+--   && (val(q == critical) => X(p, idle));
 -- init X(idle, idle);
 abbrev pub mutual_exclusion_text : Spec
 mutual_exclusion_text =
+    let both_critical : Term = both (same p critical) (same q critical) in
     let steps : Formula =
     Formula.And (step_to (same p idle) trying q)
     (Formula.And (step_to (both (same p trying) (differs q critical)) critical q)
@@ -32,7 +35,7 @@ mutual_exclusion_text =
         sign = Nu;
         name = codes "X";
         parameters = lock.variables;
-        right = Formula.And (Formula.Not (Formula.Val (both (same p critical) (same q critical)))) steps;
+        right = Formula.And (Formula.Not (Formula.Val both_critical)) steps;
       } ∷ [];
       initial = codes "X";
       arguments = Terms.Then (Term.Named idle) (Terms.Then (Term.Named idle) Terms.NoTerms);

@@ -1,8 +1,9 @@
--- From a model and a formula of the modal mu-calculus to a Boolean equation system that is true exactly where the model
--- satisfies the formula (Mader 1997; Groote and Willemse 2005; Groote and Mousavi 2014).
+-- From a model and a formula of the modal mu-calculus to a Boolean equation system that is true
+-- exactly where the model satisfies the formula (Mader 1997; Groote and Willemse 2005; Groote and
+-- Mousavi 2014).
 --
--- Each fixpoint has an equation, the outermost first, and so has each operand of a modality that is none of `true`,
--- `false`, a variable and a fixpoint. The state is the parameters of each.
+-- Each fixpoint has an equation, the outermost first, and so has each operand of a modality that is
+-- none of `true`, `false`, a variable and a fixpoint. The state is the parameters of each.
 use Rattle.std.specs.Prelude.{ℕ, suc, ◌+◌, Bool, true, false, not, if◌then◌else◌, List, [], ◌∷◌, map, Option, Some, None}
 use Rattle.pb_fixpoint.specs.declared.Sign.{Sign}
 use Rattle.pb_fixpoint.specs.declared.Sign.TheVariants.{Nu}
@@ -76,7 +77,8 @@ term_or_name None y = Term.Named y
 abbrev pub next_terms : List Assignment → List Variable → Terms
 next_terms assignments [] = Terms.NoTerms
 next_terms assignments (x ∷ variables) =
-    Terms.Then (term_or_name (assigned_term assignments x.name) x.name) (next_terms assignments variables)
+    Terms.Then (term_or_name (assigned_term assignments x.name) x.name)
+    (next_terms assignments variables)
 
 -- ---- right sides
 
@@ -114,11 +116,13 @@ module _ (m : Model) (names : ℕ → Name) where
   -- after each step for which the guard is true, and after some
   abbrev pub after_each : Callee → Step → text.Formula
   after_each c a =
-      over Forall a.variables (text.Formula.Implies (text.Formula.Val a.guard) (call c a.assignments))
+      over Forall a.variables
+      (text.Formula.Implies (text.Formula.Val a.guard) (call c a.assignments))
 
   abbrev pub after_some : Callee → Step → text.Formula
   after_some c a =
-      over Exists a.variables (text.Formula.And (text.Formula.Val a.guard) (call c a.assignments))
+      over Exists a.variables
+      (text.Formula.And (text.Formula.Val a.guard) (call c a.assignments))
 
   -- what a formula whose equations begin at n says of the state
   abbrev pub right_side : Scope → ℕ → Formula → text.Formula
@@ -146,8 +150,8 @@ module _ (m : Model) (names : ℕ → Name) where
   abbrev pub with_equation : Bool → Equation → List Equation → List Equation
   with_equation b X E = if b then X ∷ E else E
 
-  -- the equations of a formula, from number n on, in front of others; a modality's operand has the sign of the fixpoint
-  -- around it
+  -- the equations of a formula, from number n on, in front of others; a modality's operand has the
+  -- sign of the fixpoint around it
   abbrev pub equations : Scope → Sign → ℕ → Formula → List Equation → List Equation
   equations scope sign n (Formula.Truth b) E = E
   equations scope sign n (Formula.Data x) E = E
@@ -161,12 +165,15 @@ module _ (m : Model) (names : ℕ → Name) where
       equations scope sign n f (equations scope sign (n + equation_count f) g E)
   equations scope sign n (Formula.Box A f) E =
       let k = next_if (has_equation f) n in
-      with_equation (has_equation f) (equation sign n (right_side scope k f)) (equations scope sign k f E)
+      with_equation (has_equation f) (equation sign n (right_side scope k f))
+      (equations scope sign k f E)
   equations scope sign n (Formula.Diamond A f) E =
       let k = next_if (has_equation f) n in
-      with_equation (has_equation f) (equation sign n (right_side scope k f)) (equations scope sign k f E)
+      with_equation (has_equation f) (equation sign n (right_side scope k f))
+      (equations scope sign k f E)
   equations scope sign n (Formula.Fixpoint inner X f) E =
-      equation inner n (right_side ((X, n) ∷ scope) (suc n) f) ∷ equations ((X, n) ∷ scope) inner (suc n) f E
+      equation inner n (right_side ((X, n) ∷ scope) (suc n) f) ∷
+      equations ((X, n) ∷ scope) inner (suc n) f E
 
   -- the equations of a whole formula: one that is no fixpoint has an equation of its own
   abbrev pub all_equations : Formula → List Equation

@@ -6,9 +6,11 @@ ghost use Rattle.std.specs.Prelude.{◌≡◌, ℕ, true, false, codes};
 ghost use Rattle.pb_text_meaning.specs.Meaning.{answer};
 ghost use Rattle.pb_model_meaning.specs.Examples as model_example;
 ghost use Rattle.pb_model_translation.specs.Names.{names_of, translation};
-ghost use Rattle.pb_model_translation.specs.Laws.{AnyNamesHaveTheAnswer, HasNamesApart};
-ghost use Rattle.pb_model_translation.specs.Laws.{NestedEquationsSolveNestedFixpoints};
-ghost use Rattle.pb_model_translation.specs.Laws.{TranslationsHaveTheAnswer};
+ghost use Rattle.pb_model_translation.specs.Apart.{HasNamesApart};
+ghost use Rattle.pb_model_translation.specs.Nested.{NestedEquationsSolveNestedFixpoints};
+ghost use Rattle.pb_model_translation.specs.Laws.{AnyNamesHaveTheAnswer, TranslationsHaveTheAnswer};
+ghost use Rattle.pb_model_translation.specs.Positive.{PositiveCallsSuffice};
+ghost use Rattle.pb_model_translation.specs.Positive.{TranslationsArePositive};
 ghost use Rattle.pb_model_translation.specs.Examples as example;
 
 /// The equations of a formula, in front of any others, give the variable of each fixpoint the set
@@ -23,6 +25,13 @@ pub fn nested_equations_solve_nested_fixpoints()
 pub fn translations_have_the_answer()
     ensures answer { TranslationsHaveTheAnswer }
     ensures any_names { AnyNamesHaveTheAnswer }
+{}
+
+/// Where what a right side calls stands under an even number of negations, the translation is
+/// positive, as a text has to be, and so is the formula.
+pub fn translations_are_positive()
+    ensures translation { TranslationsArePositive }
+    ensures formula { PositiveCallsSuffice }
 {}
 
 /// The text of a lock's mutual exclusion as it was written by hand, the answers of its properties

@@ -1,5 +1,5 @@
--- What a model's syntax tree says, without boxes and vectors. A chain of operators is folded to nested
--- binary nodes, and each variable stands with its sort.
+-- What a model's syntax tree says, without boxes and vectors. A chain of operators is folded to
+-- nested binary nodes, and each variable stands with its sort.
 use Rattle.std.specs.Prelude.{Bool, List, [], ◌∷◌, map}
 use Rattle.pb_fixpoint.specs.declared.Sign.{Sign}
 use Rattle.pb_text_tree.specs.declared.place.Place.{Place}
@@ -7,11 +7,9 @@ use Rattle.pb_text_tree.specs.declared.operator.Connective.{Connective}
 use Rattle.pb_text_tree.specs.Form.{Named, VariableForm, TermForm, ArgumentForms, SortDeclarationForm, RangeForm, chained, named, term_form, variable_forms, argument_forms, sort_declaration_form, range_form}
 use Rattle.pb_model_tree.specs.declared.step_set.StepSet as step_set
 use Rattle.pb_model_tree.specs.declared.step_set.StepSet.{StepSet, Row_of-StepSetLink, end_of-StepSetLink, more_of-StepSetLink}
-use Rattle.pb_model_tree.specs.declared.step_set.StepSetLink.{StepSetLink}
 use Rattle.pb_model_tree.specs.declared.formula.Modality.{Modality}
 use Rattle.pb_model_tree.specs.declared.formula.Formula as formula
 use Rattle.pb_model_tree.specs.declared.formula.Formula.{Formula, Row_of-Link, end_of-Link, more_of-Link}
-use Rattle.pb_model_tree.specs.declared.formula.Link.{Link}
 use Rattle.pb_model_tree.specs.declared.step.Assignment as declared_assignment
 use Rattle.pb_model_tree.specs.declared.step.Step as declared_step
 use Rattle.pb_model_tree.specs.declared.model.InitialState as declared_initial
@@ -97,19 +95,6 @@ abbrev mutual
   pub links_in : {m : _} → Row_of-Link m → List (Place × FormulaForm)
   links_in end_of-Link = []
   links_in (more_of-Link place operand row) = (place, formula_form operand) ∷ links_in row
-
--- the links of a chain, as lists
-abbrev pub step_set_link_form : StepSetLink → Place × StepSetForm
-step_set_link_form link = (link.place, step_set_form link.operand)
-
-abbrev pub step_set_link_forms : List StepSetLink → List (Place × StepSetForm)
-step_set_link_forms = map step_set_link_form
-
-abbrev pub link_form : Link → Place × FormulaForm
-link_form link = (link.place, formula_form link.operand)
-
-abbrev pub link_forms : List Link → List (Place × FormulaForm)
-link_forms = map link_form
 
 abbrev pub assignment_form : declared_assignment.Assignment → AssignmentForm
 assignment_form a = record { variable = named a.variable; value = term_form a.value }
