@@ -14,20 +14,20 @@ const ROOM: usize = 1000;
 const CASES: [(&str, &str, bool); 6] = [
     // two clocks of 2,048 ticks, and a fault three ticks from the beginning
     (
-        "%range Int 0 2047\npbes nu X(m, n: Int) = val(m != 2 || n != 1) && X((m + 1) mod 2048, n) && X(m, (n + 1) mod 2048); init X(0, 0);",
-        "answer false\nX(0,0) false: X(1,0)\nX(1,0) false: X(2,0)\nX(2,0) false: X(2,1)\nX(2,1) false:\n",
+        "%range Int 0 2047\npbes nu X(m, n: Int) = val(m != 3) && X((m + 1) mod 2048, n) && X(m, (n + 1) mod 2048); init X(0, 0);",
+        "answer false\nX(0,0) false: X(1,0)\nX(1,0) false: X(2,0)\nX(2,0) false: X(3,0)\nX(3,0) false:\n",
         false,
     ),
     // a place that they may come to
     (
-        "%range Int 0 2047\npbes mu X(m, n: Int) = val(m == 2 && n == 1) || X((m + 1) mod 2048, n) || X(m, (n + 1) mod 2048); init X(0, 0);",
-        "answer true\nX(0,0) true: X(1,0)\nX(1,0) true: X(2,0)\nX(2,0) true: X(2,1)\nX(2,1) true:\n",
+        "%range Int 0 2047\npbes mu X(m, n: Int) = val(m == 3) || X((m + 1) mod 2048, n) || X(m, (n + 1) mod 2048); init X(0, 0);",
+        "answer true\nX(0,0) true: X(1,0)\nX(1,0) true: X(2,0)\nX(2,0) true: X(3,0)\nX(3,0) true:\n",
         false,
     ),
     // the fault, where the game of all instances would have more than 2^24 vertices
     (
-        "%range Int 0 2047\npbes nu X(m, n: Int) = val(m != 2 || n != 1) && X((m + 1) mod 2048, n) && X(m, (n + 1) mod 2048) && (X(m, n) || X(n, m)) && (X(m, n) || X(n, n)) && (X(m, n) || X(m, m)); init X(0, 0);",
-        "answer false\nX(0,0) false: X(1,0)\nX(1,0) false: X(2,0)\nX(2,0) false: X(2,1)\nX(2,1) false:\n",
+        "%range Int 0 2047\npbes nu X(m, n: Int) = val(m != 3) && X((m + 1) mod 2048, n) && X(m, (n + 1) mod 2048) && (X(m, n) || X(n, m)) && (X(m, n) || X(n, n)) && (X(m, n) || X(m, m)); init X(0, 0);",
+        "answer false\nX(0,0) false: X(1,0)\nX(1,0) false: X(2,0)\nX(2,0) false: X(3,0)\nX(3,0) false:\n",
         false,
     ),
     // a fault among 3,003 instances, to which the nearest 1,024 don't come
