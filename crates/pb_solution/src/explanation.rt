@@ -146,11 +146,7 @@ fn explain_whole<R: Threads + Sync, G: Gate + Sync>(
 {
     instances_have_trees(verified);
     match solve_module(rt, alloc, verified, options, gate) {
-        Ok(module) => Ok(evidence_of(
-            alloc,
-            &module.solved,
-            module.explored.rows(),
-        )?),
+        Ok(module) => Ok(evidence_of(alloc, &module.solved, module.explored.rows())?),
         Err(error) => Err(error),
     }
 }

@@ -12,8 +12,9 @@ ghost use Rattle.pbsolve.specs.Outputs.{ForReport};
 use crate::solve_error::SolveError;
 use pb_exploration::Gate;
 use pb_report_texts::{Answer, report};
-use pb_solution::{SolveOptions, answer_module, build_module, explain_module, solve_module};
-use pb_solution::write_explanation;
+use pb_solution::{
+    SolveOptions, answer_module, build_module, explain_module, solve_module, write_explanation,
+};
 use pb_solver_names::Solver;
 use pb_sorts::Sink;
 use pb_verifier::Verified;
