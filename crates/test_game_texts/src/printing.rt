@@ -114,7 +114,8 @@ pub fn print_certificate<R: Threads + Sync, S: Sink>(
     let module = verified(alloc, bytes)?;
     instances_have_trees(&module);
     let explored = explored(rt, alloc, &module)?;
-    let solved = solved_game(rt, alloc, &module, explored.rows())?;
+    let rows = explored.rows();
+    let solved = solved_game(rt, alloc, &module, rows)?;
     let certificate = solved.certified.solution();
     Ok(certificate_text(alloc, &solved.built.game, certificate, sink))
 }

@@ -7,7 +7,7 @@ of_solved-answer-requires g c = (
   c.in_ok-module.module,
   c.instances_have_trees.ensures,
   subst (AreModuleRows c.in_ok-module.module) (sym c.rows-rows.ensures) c.in_ok-explored.ensures,
-  c.in_ok-solved.ensures,
+  c.in_ok-solved.ensures.game,
 )
 
 pub solved_game-requires-clause-rows : goal.solved_game-requires-clause-rows
