@@ -2,19 +2,18 @@
 
 ghost use Rattle.std.specs.Prelude.{◌≡◌, ◌<◌, ℕ, IfErr, length, slice_index};
 ghost use Rattle.pb_sorts.specs.Layout.{count_of};
-ghost use Rattle.pb_bytecode.specs.Meaning.{parameters};
-ghost use Rattle.pb_proof_graph.specs.ProofGraphs.{Graph};
-ghost use Rattle.pb_evidence.specs.Evidence.{graph_of};
+ghost use Rattle.pb_trees.specs.Tree.{Tree};
+ghost use Rattle.pb_bytecode.specs.Meaning.{AreTrees, parameters};
 ghost use Rattle.pb_game_answer.specs.Explored.{HaveTrees};
 ghost use Rattle.pb_report_texts.specs.Report.{truth_line};
 ghost use Rattle.pb_report_texts.specs.InstanceName.{instance_name};
 ghost use Rattle.pb_report_texts.specs.Sending.{Sends, Writes, IsOutOfMemory};
-ghost use Rattle.pb_evidence_texts.specs.EvidenceText.{truth_mark, dependency_text};
-ghost use Rattle.pb_evidence_texts.specs.EvidenceText.{dependencies_text, line_end, evidence_line};
-ghost use Rattle.pb_evidence_texts.specs.EvidenceText.{evidence_lines};
-ghost use Rattle.pb_evidence_texts.specs.ModuleEvidence.{IsModuleEvidence, module_evidence_text};
+ghost use Rattle.pb_evidence_texts.specs.EvidenceText.{truth_mark, dependency_text, cut_mark};
+ghost use Rattle.pb_evidence_texts.specs.EvidenceText.{dependencies_text, line_end};
+ghost use Rattle.pb_evidence_texts.specs.ModuleLines.{line_at, lines_of};
+ghost use Rattle.pb_evidence_texts.specs.ModuleEvidence.{IsExplanation, module_evidence_text};
 
-use pb_evidence::Evidence;
+use crate::module_evidence::Explanation;
 use pb_report_texts::instance_name::write_instance_name;
 use pb_report_texts::{TextBuffer, WriteError};
 use pb_sorts::{E02, Sink};
@@ -40,6 +39,18 @@ fn write_truth<S: Sink>(buffer: &mut TextBuffer, truth: bool, sink: &mut S) -> R
         buffer.write(b" true:", sink)
     } else {
         buffer.write(b" false:", sink)
+    }
+}
+
+/// The word for a cut call, where there is one.
+fn write_cut<S: Sink>(buffer: &mut TextBuffer, cut: bool, sink: &mut S) -> Result<(), E02>
+    ensures { Sends result (S.taken sink.old) (S.taken sink.new) (S.has_failed sink.old)
+        (S.has_failed sink.new) buffer.old.bytes.items buffer.new.bytes.items (cut_mark cut) }
+{
+    if cut {
+        buffer.write(b" cut", sink)
+    } else {
+        Ok(())
     }
 }
 
@@ -84,16 +95,18 @@ fn write_line_end<S: Sink>(
     verified: &Verified,
     truth: bool,
     dependencies: &[u32],
+    cut: bool,
     sink: &mut S,
 ) -> Result<(), E02>
     requires { (k : ℕ) → k < length dependencies.now
         → slice_index dependencies.now k < count_of (parameters verified.now) }
     ensures { Sends result (S.taken sink.old) (S.taken sink.new) (S.has_failed sink.old)
         (S.has_failed sink.new) buffer.old.bytes.items buffer.new.bytes.items
-        (line_end (instance_name verified.now) truth dependencies.now) }
+        (line_end (instance_name verified.now) truth dependencies.now cut) }
 {
     write_truth(buffer, truth, sink)?;
     write_dependencies(buffer, verified, dependencies, sink)?;
+    write_cut(buffer, cut, sink)?;
     buffer.write(b"\n", sink)
 }
 
@@ -101,25 +114,26 @@ fn write_line_end<S: Sink>(
 fn write_line<S: Sink>(
     buffer: &mut TextBuffer,
     verified: &Verified,
-    evidence: &Evidence,
+    explanation: &Explanation,
     place: usize,
     sink: &mut S,
 ) -> Result<(), E02>
-    requires place { place < length evidence.now.instances.items }
+    requires place { place < length explanation.now.evidence.instances.items }
     requires trees { HaveTrees verified.now }
-    requires evidence { IsModuleEvidence verified.now evidence.now }
-    ensures { Sends result (S.taken sink.old) (S.taken sink.new) (S.has_failed sink.old)
+    requires explanation { IsExplanation verified.now explanation.now }
+    ensures { (trees : ℕ → Tree) → AreTrees verified.now trees
+        → Sends result (S.taken sink.old) (S.taken sink.new) (S.has_failed sink.old)
         (S.has_failed sink.new) buffer.old.bytes.items buffer.new.bytes.items
-        (evidence_line (instance_name verified.now) evidence.now.truth
-        (slice_index evidence.now.instances.items place)
-        ((graph_of evidence.now).dependencies (slice_index evidence.now.instances.items place))) }
+        (line_at verified.now trees explanation.now.evidence place) }
 {
+    let evidence = &explanation.evidence;
     write_instance_name(buffer, verified, evidence.instances[place], sink)?;
     write_line_end(
         buffer,
         verified,
         evidence.truth,
         evidence.dependencies(place),
+        explanation.cuts[place],
         sink,
     )
 }
@@ -128,18 +142,19 @@ fn write_line<S: Sink>(
 fn write_lines<S: Sink>(
     buffer: &mut TextBuffer,
     verified: &Verified,
-    evidence: &Evidence,
+    explanation: &Explanation,
     sink: &mut S,
 ) -> Result<(), E02>
     requires trees { HaveTrees verified.now }
-    requires evidence { IsModuleEvidence verified.now evidence.now }
-    ensures { Sends result (S.taken sink.old) (S.taken sink.new) (S.has_failed sink.old)
+    requires explanation { IsExplanation verified.now explanation.now }
+    ensures { (trees : ℕ → Tree) → AreTrees verified.now trees
+        → Sends result (S.taken sink.old) (S.taken sink.new) (S.has_failed sink.old)
         (S.has_failed sink.new) buffer.old.bytes.items buffer.new.bytes.items
-        (evidence_lines (instance_name verified.now) evidence.now.truth
-        (graph_of evidence.now).dependencies evidence.now.instances.items) }
+        (lines_of verified.now trees explanation.now.evidence
+        explanation.now.evidence.instances.items) }
 {
-    for place in 0..evidence.instances.len() {
-        write_line(buffer, verified, evidence, place, sink)?;
+    for place in 0..explanation.evidence.instances.len() {
+        write_line(buffer, verified, explanation, place, sink)?;
     }
     Ok(())
 }
@@ -147,22 +162,23 @@ fn write_lines<S: Sink>(
 fn write_evidence<S: Sink>(
     buffer: &mut TextBuffer,
     verified: &Verified,
-    evidence: &Evidence,
+    explanation: &Explanation,
     sink: &mut S,
 ) -> Result<(), E02>
     requires trees { HaveTrees verified.now }
-    requires evidence { IsModuleEvidence verified.now evidence.now }
-    ensures { Sends result (S.taken sink.old) (S.taken sink.new) (S.has_failed sink.old)
+    requires explanation { IsExplanation verified.now explanation.now }
+    ensures { (trees : ℕ → Tree) → AreTrees verified.now trees
+        → Sends result (S.taken sink.old) (S.taken sink.new) (S.has_failed sink.old)
         (S.has_failed sink.new) buffer.old.bytes.items buffer.new.bytes.items
-        (module_evidence_text verified.now evidence.now) }
+        (module_evidence_text verified.now trees explanation.now.evidence) }
 {
-    write_answer(buffer, evidence.truth, sink)?;
-    write_lines(buffer, verified, evidence, sink)
+    write_answer(buffer, explanation.evidence.truth, sink)?;
+    write_lines(buffer, verified, explanation, sink)
 }
 
 /// Appends evidence for the truth of a module's initial instance: the answer, and then a line for
 /// each instance with the instances that it rests on, the initial one first and the nearest before
-/// others.
+/// others. The word `cut` stands last in a line whose instance rests on a cut call too.
 ///
 /// # Errors
 /// `Memory` before the first byte. After `Failed` a part that begins the text, and not the whole of
@@ -170,17 +186,19 @@ fn write_evidence<S: Sink>(
 pub fn evidence_text<S: Sink>(
     alloc: Global,
     verified: &Verified,
-    evidence: &Evidence,
+    explanation: &Explanation,
     sink: &mut S,
 ) -> Result<(), WriteError>
     requires trees { HaveTrees verified.now }
-    requires evidence { IsModuleEvidence verified.now evidence.now }
-    ensures text { Writes result (S.taken sink.old) (S.taken sink.new) (S.has_failed sink.old)
-        (S.has_failed sink.new) (module_evidence_text verified.now evidence.now) }
+    requires explanation { IsExplanation verified.now explanation.now }
+    ensures text { (trees : ℕ → Tree) → AreTrees verified.now trees
+        → Writes result (S.taken sink.old) (S.taken sink.new) (S.has_failed sink.old)
+        (S.has_failed sink.new) (module_evidence_text verified.now trees
+        explanation.now.evidence) }
     ensures silent { IfErr result (λ e. IsOutOfMemory e → sink.new ≡ sink.old) }
 {
     let mut buffer = TextBuffer::new(alloc)?;
-    write_evidence(&mut buffer, verified, evidence, sink)?;
+    write_evidence(&mut buffer, verified, explanation, sink)?;
     buffer.finish(sink)?;
     Ok(())
 }

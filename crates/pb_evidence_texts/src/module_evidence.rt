@@ -7,9 +7,9 @@ ghost use Rattle.pb_rows.specs.Reached.{rows_of};
 ghost use Rattle.pb_bytecode.specs.Contents.{Contents};
 ghost use Rattle.pb_game_of_trees.specs.TreeGame.{AreRowsFrom, IsTreeGame};
 ghost use Rattle.pb_game_answer.specs.Explored.{HaveTrees, AreModuleRows, IsModuleGame};
-ghost use Rattle.pb_evidence.specs.Evidence.{Shows};
-ghost use Rattle.pb_evidence_texts.specs.ModuleEvidence.{IsModuleEvidence};
+ghost use Rattle.pb_evidence_texts.specs.ModuleEvidence.{Explains, IsExplanation};
 
+use crate::cuts::cuts_of;
 use crate::instance_marks::InstanceMarks;
 use pb_evidence::{Evidence, explain};
 use pb_game_answer::Solved;
@@ -17,23 +17,32 @@ use pb_rows::IndexedRows;
 use pb_strategy::Checked;
 use std::alloc::{AllocError, Global};
 
+/// Evidence for the truth value of an instance, and of each of its instances in turn whether its
+/// value rests on a cut call, a call with an argument outside the carrier of its parameter.
+#[derive(Drop)]
+pub struct Explanation {
+    pub evidence: Evidence,
+    pub cuts: Vec<bool>,
+}
+
 /// Why the initial instance of a system has its truth value, as a proof graph (Cranen, Luttik and
 /// Willemse 2013), from the solved game of rows of the system, with whichever trees the rows have.
 ///
 /// The work is linear in the number of the game's vertices, and of the edges from those that the
-/// winner's plays come to.
+/// winner's plays come to; where the value is false also in the tokens of the trees shown, each call
+/// being looked up among those that its instance rests on.
 pub fn evidence_of_rows(
     alloc: Global,
     solved: &Solved,
     rows: &IndexedRows,
-) -> Result<Evidence, AllocError>
+) -> Result<Explanation, AllocError>
     requires { (signatures : List Signature) × (trees : ℕ → Tree) × (initial : ℕ)
         × AreRowsFrom signatures trees rows.now initial
         × IsTreeGame signatures trees (rows_of trees rows.now) initial solved.now.built }
-    ensures { IfOk result (λ e. (signatures : List Signature) (trees : ℕ → Tree) (initial : ℕ)
+    ensures { IfOk result (λ x. (signatures : List Signature) (trees : ℕ → Tree) (initial : ℕ)
         → AreRowsFrom signatures trees rows.now initial
         → IsTreeGame signatures trees (rows_of trees rows.now) initial solved.now.built
-        → Shows signatures trees initial e) }
+        → Explains signatures trees initial x) }
 {
     pb_trees::games_of_rows_are_total();
     let built = &solved.built;
@@ -47,7 +56,9 @@ pub fn evidence_of_rows(
         game: &built.game,
         solution: solved.certified.solution(),
     };
-    explain(alloc, &checked, &marks, &numbers, built.start)
+    let evidence = explain(alloc, &checked, &marks, &numbers, built.start)?;
+    let cuts = cuts_of(alloc, &evidence, rows)?;
+    Ok(Explanation { evidence, cuts })
 }
 
 /// The same of a module's initial instance, from the solved game of its reached instances.
@@ -55,11 +66,11 @@ pub fn evidence_of(
     alloc: Global,
     solved: &Solved,
     rows: &IndexedRows,
-) -> Result<Evidence, AllocError>
+) -> Result<Explanation, AllocError>
     requires { (m : Contents) × HaveTrees m × AreModuleRows m rows.now
         × IsModuleGame m rows.now solved.now.built }
-    ensures { IfOk result (λ e. (m : Contents) → AreModuleRows m rows.now
-        → IsModuleGame m rows.now solved.now.built → IsModuleEvidence m e) }
+    ensures { IfOk result (λ x. (m : Contents) → AreModuleRows m rows.now
+        → IsModuleGame m rows.now solved.now.built → IsExplanation m x) }
 {
     evidence_of_rows(alloc, solved, rows)
 }

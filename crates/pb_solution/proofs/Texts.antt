@@ -10,8 +10,8 @@ use Rattle.pb_bytecode.specs.Meaning.{AreTrees}
 use Rattle.pb_exploration.specs.Rows.{AreExplored}
 use Rattle.pb_report_texts.specs.declared.buffer.WriteError.{WriteError}
 use Rattle.pb_report_texts.specs.declared.buffer.WriteError.TheVariants.{Memory, Failed}
-use Rattle.pb_evidence.specs.declared.Evidence.{Evidence}
-use Rattle.pb_evidence_texts.specs.ModuleEvidence.{IsModuleEvidence, module_evidence_text, ForEvidenceText}
+use Rattle.pb_evidence_texts.specs.declared.module_evidence.Explanation.{Explanation}
+use Rattle.pb_evidence_texts.specs.ModuleEvidence.{IsExplanation, module_evidence_text, ForEvidenceText}
 use Rattle.pb_report_texts.specs.Sending.{Writes}
 use Rattle.pb_report_texts.specs.CertificateText.{certificate_text}
 use Rattle.pb_game_certificate.specs.Certificates.{IsCertificate}
@@ -40,12 +40,16 @@ sent m found rows same explored some text r old new fb fa w =
     sent_found m found explored some text r old new fb fa (subst (λ (x : List Row). WritesAny m text x r old new fb fa) same w)
 
 -- the text of evidence went out, so that of some evidence did
-pub sent_evidence : {T : Type 0} (m : Contents) (e : Evidence) → IsModuleEvidence m e → (r : Result T WriteError)
-    → (old new : Option (List ℕ)) (fb fa : Bool) → Writes r old new fb fa (module_evidence_text m e)
-    → Sends (ForEvidenceText m) r old new fb fa
-sent_evidence m e is (Ok x) old new fb fa w = ((e, is, w.0), w.1)
-sent_evidence m e is (Err (Memory x)) old new fb fa w = w
-sent_evidence m e is (Err (Failed x)) old new fb fa w = ((e, is, w.0), w.1)
+module _ (m : Contents) (x : Explanation) (is : IsExplanation m x) (have : HaveTrees m) where
+  found_evidence : (P : List ℕ → Type 0) → ((trees : ℕ → Tree) → AreTrees m trees → P (module_evidence_text m trees x.evidence)) → ForEvidenceText m P
+  found_evidence P holds = (x.evidence, λ trees are. (is trees are).shown, holds)
+
+  pub sent_evidence : {T : Type 0} (r : Result T WriteError) (old new : Option (List ℕ)) (fb fa : Bool)
+      → ((trees : ℕ → Tree) → AreTrees m trees → Writes r old new fb fa (module_evidence_text m trees x.evidence))
+      → Sends (ForEvidenceText m) r old new fb fa
+  sent_evidence (Ok v) old new fb fa w = (found_evidence (Appends old new) (λ trees are. (w trees are).0), (w have.0 have.1).1)
+  sent_evidence (Err (Memory v)) old new fb fa w = w have.0 have.1
+  sent_evidence (Err (Failed v)) old new fb fa w = (found_evidence (AppendsPrefix old new) (λ trees are. (w trees are).0), (w have.0 have.1).1)
 
 -- the text of a certificate of the module's game
 module _ (m : Contents) (rows : List Row) (explored : AreExplored m rows) (built : TreeGame) (game : IsModuleGame m rows built) (s : Solution)

@@ -4,7 +4,7 @@
 ghost use Rattle.std.specs.Prelude.{◌≡◌, IfOk, IfErr, IfSome, Err};
 ghost use Rattle.pb_bytecode.specs.Contents.{Contents};
 ghost use Rattle.pb_game_of_trees.specs.declared.tree_game.BuildError.TheVariants.{TooManyVertices};
-ghost use Rattle.pb_evidence_texts.specs.ModuleEvidence.{ForEvidenceText, IsModuleEvidence};
+ghost use Rattle.pb_evidence_texts.specs.ModuleEvidence.{ForEvidenceText, IsExplanation};
 ghost use Rattle.pb_report_texts.specs.Sending.{IsOutOfMemory};
 ghost use Rattle.pb_nearby.specs.Nearby.{IsNearby};
 ghost use Rattle.pb_solution.specs.Answers.{IsTooLarge};
@@ -14,9 +14,8 @@ ghost use Rattle.pb_solution.specs.Texts.{Sends};
 use crate::built_module::solve_game;
 use crate::options::SolveOptions;
 use crate::solved_module::solve_module;
-use pb_evidence::Evidence;
 use pb_evidence_texts::evidence_text::evidence_text;
-use pb_evidence_texts::{evidence_of, evidence_of_rows};
+use pb_evidence_texts::{Explanation, evidence_of, evidence_of_rows};
 use pb_exploration::Gate;
 use pb_fixpoint::Sign;
 use pb_game_answer::build_rows;
@@ -72,9 +71,9 @@ fn shown_by<R: Threads + Sync, G: Gate + Sync>(
     options: SolveOptions,
     gate: &G,
     part: &Part,
-) -> Result<Option<Evidence>, AllocError>
+) -> Result<Option<Explanation>, AllocError>
     requires { IsPart verified.now part.now }
-    ensures { IfOk result (λ found. IfSome found (IsModuleEvidence verified.now)) }
+    ensures { IfOk result (λ found. IfSome found (IsExplanation verified.now)) }
 {
     instances_have_trees(verified);
     pb_evidence::assumed_is_shown();
@@ -109,8 +108,8 @@ fn explain_early<R: Threads + Sync, G: Gate + Sync>(
     verified: &Verified,
     options: SolveOptions,
     gate: &G,
-) -> Result<Option<Evidence>, AllocError>
-    ensures { IfOk result (λ found. IfSome found (IsModuleEvidence verified.now)) }
+) -> Result<Option<Explanation>, AllocError>
+    ensures { IfOk result (λ found. IfSome found (IsExplanation verified.now)) }
 {
     let shows_truth = shows_truth(verified);
     let mut nearby = Nearby::new(alloc, verified)?;
@@ -140,8 +139,8 @@ fn explain_whole<R: Threads + Sync, G: Gate + Sync>(
     verified: &Verified,
     options: SolveOptions,
     gate: &G,
-) -> Result<Evidence, BuildError>
-    ensures evidence { IfOk result (IsModuleEvidence verified.now) }
+) -> Result<Explanation, BuildError>
+    ensures evidence { IfOk result (IsExplanation verified.now) }
     ensures too_many { result ≡ Err TooManyVertices → IsTooLarge verified.now }
 {
     instances_have_trees(verified);
@@ -164,18 +163,19 @@ pub fn explain_module<R: Threads + Sync, G: Gate + Sync>(
     verified: &Verified,
     options: SolveOptions,
     gate: &G,
-) -> Result<Evidence, BuildError>
-    ensures evidence { IfOk result (IsModuleEvidence verified.now) }
+) -> Result<Explanation, BuildError>
+    ensures evidence { IfOk result (IsExplanation verified.now) }
     ensures too_many { result ≡ Err TooManyVertices → IsTooLarge verified.now }
 {
-    if let Some(evidence) = explain_early(rt, alloc, verified, options, gate)? {
-        return Ok(evidence);
+    if let Some(explanation) = explain_early(rt, alloc, verified, options, gate)? {
+        return Ok(explanation);
     }
     explain_whole(rt, alloc, verified, options, gate)
 }
 
 /// Appends why the initial instance has its truth value: the answer, and then a line for each
-/// instance of a proof graph, the initial one first and the nearest before others.
+/// instance of a proof graph, the initial one first and the nearest before others. The word `cut`
+/// stands last in the line of an instance that rests on a cut call too.
 ///
 /// # Errors
 /// `Memory` before the first byte. After `Failed` a part that begins the text, and not the whole
@@ -183,14 +183,14 @@ pub fn explain_module<R: Threads + Sync, G: Gate + Sync>(
 pub fn write_explanation<S: Sink>(
     alloc: Global,
     verified: &Verified,
-    evidence: &Evidence,
+    explanation: &Explanation,
     sink: &mut S,
 ) -> Result<(), WriteError>
-    requires { IsModuleEvidence verified.now evidence.now }
+    requires { IsExplanation verified.now explanation.now }
     ensures text { Sends (ForEvidenceText verified.now) result (S.taken sink.old)
         (S.taken sink.new) (S.has_failed sink.old) (S.has_failed sink.new) }
     ensures silent { IfErr result (λ e. IsOutOfMemory e → sink.new ≡ sink.old) }
 {
     instances_have_trees(verified);
-    evidence_text(alloc, verified, evidence, sink)
+    evidence_text(alloc, verified, explanation, sink)
 }

@@ -1,6 +1,8 @@
 -- What each command writes for its input. A text is spoken of by what holds of it: that it was appended, or a part of it.
 use Rattle.std.specs.Prelude.{ℕ, List, codes}
+use Rattle.pb_trees.specs.Tree.{Tree}
 use Rattle.pb_bytecode.specs.Contents.{Contents}
+use Rattle.pb_bytecode.specs.Meaning.{AreTrees}
 use Rattle.pb_bytecode.specs.Spelling.{spelling}
 use Rattle.pb_bytecode.specs.Listing.{listing}
 use Rattle.pb_report_texts.specs.declared.answer.Answer.{Answer}
@@ -26,13 +28,18 @@ ForModuleOfText bytes Q = (m : Contents) × IsModuleOfText bytes m × Q m
 abbrev pub ForModuleOfCode : List ℕ → (Contents → Type 0) → Type 0
 ForModuleOfCode bytes Q = (m : Contents) × IsModuleOfCode bytes m × Q m
 
--- P holds of the text that the command writes for these bytes
+-- and for evidence of the answer to a text
+abbrev pub ForEvidence : List ℕ → (Contents → Evidence → Type 0) → Type 0
+ForEvidence bytes Q = (m : Contents) × (e : Evidence) × IsEvidence bytes m e × Q m e
+
+-- P holds of the text that the command writes for these bytes; which lines of evidence name a cut call, the trees of the
+-- module's instances say
 abbrev pub Outputs : Command → List ℕ → (List ℕ → Type 0) → Type 0
 Outputs command.Solve bytes P = (a : Answer) × IsAnswer bytes a × P (report_text a)
 Outputs command.Game bytes P = ForModuleOfText bytes (λ m. ForGameText m P)
 Outputs command.Solution bytes P = ForModuleOfText bytes (λ m. ForSolutionText m P)
 Outputs command.Certificate bytes P = ForModuleOfText bytes (λ m. ForCertificateText m P)
-Outputs command.Explain bytes P = (m : Contents) × (e : Evidence) × IsEvidence bytes m e × P (module_evidence_text m e)
+Outputs command.Explain bytes P = ForEvidence bytes (λ m e. (trees : ℕ → Tree) → AreTrees m trees → P (module_evidence_text m trees e))
 Outputs command.Compile bytes P = ForModuleOfText bytes (λ m. P (spelling m))
 Outputs command.Verify bytes P = ForModuleOfCode bytes (λ m. P (codes "accepted\n"))
 Outputs command.List bytes P = (m : Contents) × Spell bytes m × P (listing m)

@@ -147,7 +147,7 @@ pub(crate) fn write_evidence<R: Threads + Sync, G: Gate + Sync, S: Sink>(
 {
     let solver = Solver::Zielonka;
     let options = SolveOptions { workers, solver };
-    let evidence = explain_module(rt, alloc, verified, options, gate)?;
-    write_explanation(alloc, verified, &evidence, writer)?;
+    let explanation = explain_module(rt, alloc, verified, options, gate)?;
+    write_explanation(alloc, verified, &explanation, writer)?;
     Ok(())
 }

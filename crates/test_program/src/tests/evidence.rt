@@ -33,7 +33,12 @@ fn explains(rt: HostRuntime) -> Result<(), Fail> {
         ("pbes nu X = X; init X;", "answer true\nX true: X\n"),
         (
             "%range Int 0 3\npbes nu X(n: Int) = X(n + 1); init X(0);",
-            "answer false\nX(0) false: X(1)\nX(1) false: X(2)\nX(2) false: X(3)\nX(3) false:\n",
+            "answer false\nX(0) false: X(1)\nX(1) false: X(2)\nX(2) false: X(3)\nX(3) false: cut\n",
+        ),
+        // a test fails beside the cut call
+        (
+            "%range Int 0 3\npbes nu X(n: Int) = val(n < 3) && X(n + 1); init X(2);",
+            "answer false\nX(2) false: X(3)\nX(3) false:\n",
         ),
         (
             "sort S = struct s0 | s1; pbes nu X(s: S) = Y(s); mu Y(s: S) = (val(s == s0) && X(s1)) || (val(s == s1) && Y(s0)); init X(s0);",

@@ -34,9 +34,12 @@ fn answer_of(line: &str) -> Option<bool> {
     }
 }
 
-/// An instance of which the line says that it has the truth value, and the names behind the colon.
+/// An instance of which the line says that it has the truth value, and the names behind the colon,
+/// without the word `cut` that may stand last: a cut call has the value false, as the plain solver
+/// has it, so what the instance rests on suffices without it.
 fn parts_of(line: &str, truth: bool) -> Option<(&str, &str)> {
-    line.split_once(if truth { " true:" } else { " false:" })
+    let (name, listed) = line.split_once(if truth { " true:" } else { " false:" })?;
+    Some((name, listed.strip_suffix(" cut").unwrap_or(listed)))
 }
 
 /// The places of the names, each of which has a space before it; none where one of them stands

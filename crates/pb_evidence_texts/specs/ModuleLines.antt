@@ -1,0 +1,22 @@
+-- The lines of a module's evidence, by their places.
+use Rattle.std.specs.Prelude.{ℕ, List, slice_index}
+use Rattle.pb_trees.specs.Tree.{Tree}
+use Rattle.pb_bytecode.specs.Contents.{Contents}
+use Rattle.pb_evidence.specs.declared.Evidence.{Evidence}
+use Rattle.pb_evidence.specs.Evidence.{graph_of}
+use Rattle.pb_report_texts.specs.InstanceName.{instance_name}
+use Rattle.pb_evidence_texts.specs.Cuts.{is_cut}
+use Rattle.pb_evidence_texts.specs.EvidenceText.{evidence_line, evidence_lines}
+
+-- those of these instances
+abbrev pub lines_of : Contents → (ℕ → Tree) → Evidence → List ℕ → List ℕ
+lines_of m trees e instances =
+    evidence_lines (instance_name m) e.truth (graph_of e).dependencies (is_cut trees e) instances
+
+abbrev pub line_of : Contents → (ℕ → Tree) → Evidence → ℕ → List ℕ
+line_of m trees e n =
+    evidence_line (instance_name m) e.truth n ((graph_of e).dependencies n) (is_cut trees e n)
+
+-- that of the instance at a place
+abbrev pub line_at : Contents → (ℕ → Tree) → Evidence → ℕ → List ℕ
+line_at m trees e place = line_of m trees e (slice_index e.instances.items place)
