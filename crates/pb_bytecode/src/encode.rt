@@ -312,7 +312,7 @@ fn put_version(out: &mut Vec<u8>, version: Version) -> Result<(), AllocError>
 /// # Errors
 /// Where memory ran out.
 pub fn encode(alloc: Global, module: &Module) -> Result<Vec<u8>, AllocError>
-    ensures { IfOk result (λ bytes. bytes.items ≡ spelling (module_contents module.now)) }
+    ensures { IfOk result (λ bytes. bytes.items ≡ spelling (module_contents «module».now)) }
 {
     let mut out = Vec::from_slice(alloc, &MARK)?;
     put_version(&mut out, module.version)?;

@@ -264,7 +264,7 @@ fn list_initial(text: &mut String, initial: &Initial) -> Result<(), AllocError>
 /// # Errors
 /// Where memory ran out.
 pub fn list(alloc: Global, module: &Module) -> Result<Vec<u8>, AllocError>
-    ensures { IfOk result (λ bytes. bytes.items ≡ listing (module_contents module.now)) }
+    ensures { IfOk result (λ bytes. bytes.items ≡ listing (module_contents «module».now)) }
 {
     let mut text = String::new(alloc);
     list_sorts(&mut text, &module.sorts)?;

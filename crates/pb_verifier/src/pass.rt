@@ -31,7 +31,7 @@ use std::alloc::{AllocError, Global};
 #[derive(Drop)]
 struct PassState {
     table: Vec<Option<AbstractState>>,
-    open: OpenLoops,
+    open_loops: OpenLoops,
 }
 
 // A table that knows nothing of any place.
@@ -78,13 +78,13 @@ impl PassState {
         requires { 0 < vec_len equation.now.code }
         ensures table { IfOk result (λ pass. (sorts : List ℕ) (callees : List (List carrier_type))
             → pass.table.items ≡ opening (program_in sorts callees equation.now)) }
-        ensures open { IfOk result (λ pass. pass.open ≡ []) }
+        ensures open_loops { IfOk result (λ pass. pass.open_loops ≡ []) }
     {
         let mut table = empty_table(alloc, equation.code.len())?;
         table[0] = Some(AbstractState::entry(alloc, &equation.parameters)?);
         Ok(PassState {
             table,
-            open: OpenLoops::new(alloc),
+            open_loops: OpenLoops::new(alloc),
         })
     }
 
@@ -100,14 +100,14 @@ impl PassState {
         requires bounds { HasOrderedRange instruction }
         requires small { place ≤ MAX_INSTRUCTIONS }
         ensures flows { OnOk result (visited (program_with names.now equation.now) place instruction
-            (state_at self.old.table.items place) self.old.open
+            (state_at self.old.table.items place) self.old.open_loops
             (slice_set self.old.table.items place None) ≡ Some self.new.table.items) }
-        ensures open { OnOk result (self.new.open
+        ensures open_loops { OnOk result (self.new.open_loops
             ≡ homes_after (loop_effect instruction)
-            (state_at self.old.table.items place) self.old.open) }
+            (state_at self.old.table.items place) self.old.open_loops) }
         ensures refused { OnRefused result
             (visited (program_with names.now equation.now) place instruction
-            (state_at self.old.table.items place) self.old.open
+            (state_at self.old.table.items place) self.old.open_loops
             (slice_set self.old.table.items place None) ≡ None) }
     {
         let known = take_state(&mut self.table, place);
@@ -133,21 +133,22 @@ impl PassState {
         requires { place ≤ MAX_INSTRUCTIONS }
         ensures flows { OnOk result ((sorts : List ℕ) (callees : List (List carrier_type))
             → visited (program_in sorts callees equation.now) place
-            (op.Loop slot) known self.old.open self.old.table.items ≡ Some self.new.table.items) }
-        ensures open { OnOk result (self.new.open ≡ known ∷ self.old.open) }
+            (op.Loop slot) known self.old.open_loops self.old.table.items
+            ≡ Some self.new.table.items) }
+        ensures open_loops { OnOk result (self.new.open_loops ≡ known ∷ self.old.open_loops) }
         ensures refused { OnRefused result ((sorts : List ℕ) (callees : List (List carrier_type))
             → visited (program_in sorts callees equation.now) place
-            (op.Loop slot) known self.old.open self.old.table.items ≡ None) }
+            (op.Loop slot) known self.old.open_loops self.old.table.items ≡ None) }
     {
         match known {
             Some(state) => {
                 let carrier = loop_carrier(equation, slot);
                 visit_loop(&state, alloc, slot, carrier, place, &mut self.table)?;
-                self.open.enter(Some(state))?;
+                self.open_loops.enter(Some(state))?;
                 Ok(())
             }
             None => {
-                self.open.enter(None)?;
+                self.open_loops.enter(None)?;
                 Ok(())
             }
         }
@@ -157,13 +158,14 @@ impl PassState {
     fn end_loop(&mut self, place: usize, known: Option<AbstractState>) -> Result<(), AcceptanceRule>
         requires { place ≤ MAX_INSTRUCTIONS }
         ensures flows { OnOk result ((p : Program)
-            → visited p place op.Next known self.old.open self.old.table.items
+            → visited p place op.Next known self.old.open_loops self.old.table.items
             ≡ Some self.new.table.items) }
-        ensures open { OnOk result (self.new.open ≡ homes_after Leaves known self.old.open) }
+        ensures open_loops { OnOk result (self.new.open_loops
+            ≡ homes_after Leaves known self.old.open_loops) }
         ensures err { OnErr result ((p : Program)
-            → visited p place op.Next known self.old.open self.old.table.items ≡ None) }
+            → visited p place op.Next known self.old.open_loops self.old.table.items ≡ None) }
     {
-        let start = self.open.leave();
+        let start = self.open_loops.leave();
         match known {
             Some(state) => visit_next(&state, start, place, &mut self.table),
             None => Ok(()),

@@ -37,13 +37,13 @@ impl Verified {
     ghost use Rattle.pb_verifier.specs.Acceptance.{IsAccepted, IsInitial, IsVerified, RunsSafely};
 
     /// A module whose code was found to be accepted.
-    pub(crate) fn new(module: Module, layout: Layout, initial: u32) -> Verified
-        requires accepted { IsVerified (module_contents «module») layout }
-        requires initial { IsInitial (module_contents «module») initial }
-        ensures { result ≡ module_contents «module» }
+    pub(crate) fn new(accepted: Module, layout: Layout, initial: u32) -> Verified
+        requires accepted { IsVerified (module_contents accepted) layout }
+        requires initial { IsInitial (module_contents accepted) initial }
+        ensures { result ≡ module_contents accepted }
     {
         Verified {
-            module,
+            module: accepted,
             layout,
             initial,
         }

@@ -85,47 +85,47 @@ fn events_are_shown(rt: HostRuntime) -> Result<(), Fail> {
 /// second.
 fn first_is_finished(
     rt: &impl Abort,
-    module: &Verified,
+    verified: &Verified,
     table: &Table,
     a: &mut Seat,
     b: &mut Seat,
     tree: &[Token],
 )
-    requires contents { module_of table.now ≡ module.now }
+    requires contents { module_of table.now ≡ verified.now }
     requires seats { IsSeatOf table.now a.old × IsSeatOf table.now b.old }
     requires tree { IsTreeAt (module_of table.now) 0 tree.now }
     ensures { IsSeatOf table.now a.new × IsSeatOf table.now b.new }
 {
-    if !take(module, table, a, 0) {
+    if !take(verified, table, a, 0) {
         panic!(rt; "the first instance is not pending");
     }
-    assert!(rt; !take(module, table, b, 0));
+    assert!(rt; !take(verified, table, b, 0));
     assert_eq!(rt; mark(table, a, 0, tree, 1), Some(Marked::New));
     assert_eq!(rt; mark(table, a, 0, tree, 1), Some(Marked::Known));
     assert_eq!(rt; mark(table, a, 0, tree, 2), Some(Marked::New));
-    assert_eq!(rt; status(module, table, b, 1), Some(Status::Pending));
+    assert_eq!(rt; status(verified, table, b, 1), Some(Status::Pending));
     finish(table, a, 0, tree);
 }
 
 /// The second seat takes instance 1, marks a call that is known, and gives the instance back.
 fn second_is_given_back(
     rt: &impl Abort,
-    module: &Verified,
+    verified: &Verified,
     table: &Table,
     a: &mut Seat,
     b: &mut Seat,
     tree: &[Token],
 )
-    requires contents { module_of table.now ≡ module.now }
+    requires contents { module_of table.now ≡ verified.now }
     requires seats { IsSeatOf table.now a.old × IsSeatOf table.now b.old }
     requires tree { IsTreeAt (module_of table.now) 1 tree.now }
     ensures { IsSeatOf table.now a.new × IsSeatOf table.now b.new }
 {
-    assert_eq!(rt; status(module, table, b, 0), Some(Status::Done));
-    if !take(module, table, b, 1) {
+    assert_eq!(rt; status(verified, table, b, 0), Some(Status::Done));
+    if !take(verified, table, b, 1) {
         panic!(rt; "the second instance is not pending");
     }
-    assert_eq!(rt; status(module, table, a, 1), Some(Status::Taken));
+    assert_eq!(rt; status(verified, table, a, 1), Some(Status::Taken));
     assert_eq!(rt; mark(table, b, 1, tree, 1), Some(Marked::Known));
     give_back(table, b, 1);
 }
@@ -133,16 +133,16 @@ fn second_is_given_back(
 /// The first seat takes instance 1 in its turn, and finishes it.
 fn second_is_finished(
     rt: &impl Abort,
-    module: &Verified,
+    verified: &Verified,
     table: &Table,
     seat: &mut Seat,
     tree: &[Token],
 )
-    requires seat { IsSeatOf table.now seat.old × (module_of table.now ≡ module.now) }
+    requires seat { IsSeatOf table.now seat.old × (module_of table.now ≡ verified.now) }
     requires tree { IsTreeAt (module_of table.now) 1 tree.now }
     ensures { IsSeatOf table.now seat.new }
 {
-    if !take(module, table, seat, 1) {
+    if !take(verified, table, seat, 1) {
         panic!(rt; "the second instance is not pending again");
     }
     assert_eq!(rt; mark(table, seat, 1, tree, 1), Some(Marked::Known));

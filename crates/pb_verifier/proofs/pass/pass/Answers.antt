@@ -7,7 +7,7 @@ use Rattle.pb_verifier.proofs.pass.pass.Goals as goal
 
 pub loop-place-init : goal.loop-place-init
 loop-place-init c =
-    passes_begin (program_in c.args.sorts.now (map vec_items c.args.callees.now) c.args.equation.now) c.in_ok-pass.pass.open c.in_ok-pass.pass.table.items c.in_ok-pass.ensures.open
+    passes_begin (program_in c.args.sorts.now (map vec_items c.args.callees.now) c.args.equation.now) c.in_ok-pass.pass.open_loops c.in_ok-pass.pass.table.items c.in_ok-pass.ensures.open_loops
     (c.in_ok-pass.ensures.table c.args.sorts.now (map vec_items c.args.callees.now))
 
 pub step-requires-clause-bounds : goal.step-requires-clause-bounds
@@ -17,17 +17,17 @@ step-requires-clause-bounds c =
 
 pub loop-place-preserved : goal.loop-place-preserved
 loop-place-preserved c =
-    passes_next (program_in c.args.sorts.now (map vec_items c.args.callees.now) c.args.equation.now) c.args.equation.now.code.items c.loop-place.place _ c.loop-place.pass.open c.step.new.self.open c.loop-place.pass.table.items c.step.new.self.table.items _
+    passes_next (program_in c.args.sorts.now (map vec_items c.args.callees.now) c.args.equation.now) c.args.equation.now.code.items c.loop-place.place _ c.loop-place.pass.open_loops c.step.new.self.open_loops c.loop-place.pass.table.items c.step.new.self.table.items _
     (op_here c.deref-instruction-items.result.now c.args.equation.now.code.items c.loop-place.place op.End c.deref-instruction-items.ensures.value c.loop-place-test.true)
-    c.in-Ok.ensures.flows c.in-Ok.ensures.open c.loop-place.invariant
+    c.in-Ok.ensures.flows c.in-Ok.ensures.open_loops c.loop-place.invariant
 
 pub returns-in-Err-Refused-clause-refused : goal.returns-in-Err-Refused-clause-refused
 returns-in-Err-Refused-clause-refused c =
-    passes_not (program_in c.args.sorts.now (map vec_items c.args.callees.now) c.args.equation.now) c.args.equation.now.code.items c.loop-place.place _ c.loop-place.pass.open c.loop-place.pass.table.items _
+    passes_not (program_in c.args.sorts.now (map vec_items c.args.callees.now) c.args.equation.now) c.args.equation.now.code.items c.loop-place.place _ c.loop-place.pass.open_loops c.loop-place.pass.table.items _
     (op_here c.deref-instruction-items.result.now c.args.equation.now.code.items c.loop-place.place op.End c.deref-instruction-items.ensures.value c.loop-place-test.true)
     (rw c.in-Err-Refused.field-0-is at c.in-Err-Refused.ensures.refused) c.loop-place.invariant
 
 pub returns-clause-passes : goal.returns-clause-passes
 returns-clause-passes c =
     let past : length c.args.equation.now.code.items ≤ c.loop-place.place = omega (arith, c.loop-place-test.false, ap length c.deref-instruction-items.ensures.value) in
-    passes_end (program_in c.args.sorts.now (map vec_items c.args.callees.now) c.args.equation.now) c.args.equation.now.code.items c.loop-place.place c.loop-place.pass.open c.loop-place.pass.table.items _ past c.loop-place.invariant
+    passes_end (program_in c.args.sorts.now (map vec_items c.args.callees.now) c.args.equation.now) c.args.equation.now.code.items c.loop-place.place c.loop-place.pass.open_loops c.loop-place.pass.table.items _ past c.loop-place.invariant

@@ -8,4 +8,4 @@ use Rattle.pb_verifier.proofs.pass.pass.Given as goal
 abbrev pub invariant-loop-place : goal.invariant-loop-place
 invariant-loop-place l =
     let p = program_in l.sorts (map vec_items l.callees) l.equation in
-    passes p l.place (drop l.place l.equation.code.items) l.pass.open l.pass.table.items ≡ code_passes p
+    passes p l.place (drop l.place l.equation.code.items) l.pass.open_loops l.pass.table.items ≡ code_passes p
