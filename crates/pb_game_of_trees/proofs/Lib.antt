@@ -11,3 +11,4 @@ pub mod Sums
 pub mod PartsOf
 pub mod Vertices
 pub mod Built
+pub mod Searched

@@ -5,5 +5,6 @@ pub mod Equations
 pub mod Levels
 pub mod Held
 pub mod Places
+pub mod Numbering
 pub mod TreeGame
 pub mod ErrorNumber

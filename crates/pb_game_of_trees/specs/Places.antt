@@ -1,6 +1,7 @@
 -- Where the vertices of rows stand.
 use Rattle.std.specs.Prelude.{◌≡◌, ℕ, suc, ◌+◌, ◌<◌, Bool, true, false, List, [], ◌∷◌, map}
-use Rattle.std.specs.Prelude.{Contains}
+use Rattle.std.specs.Prelude.{Contains, slice_index, ◌==◌}
+use Rattle.std.specs.List.{position_or_len}
 use Rattle.pb_trees.specs.declared.Token.{Token}
 use Rattle.pb_trees.specs.declared.Token.TheVariants.{Close}
 use Rattle.pb_trees.specs.Tree.{TreeCalls}
@@ -33,3 +34,7 @@ CallBelow count rows = (row : Row) → Contains rows row → TreeCalls (λ n. n 
 -- a game of these rows has so many vertices
 abbrev pub IsSizeOf : List in_memory.Row → ℕ → Type 0
 IsSizeOf rows size = (plain : List Row) → Hold rows plain → size ≡ vertex_behind plain 2
+
+-- the vertex that stands where a number stands among these, and 0 where it stands nowhere
+abbrev pub vertex_in : List ℕ → List ℕ → ℕ → ℕ
+vertex_in numbers vertices n = slice_index vertices (position_or_len (λ k. k == n) numbers)

@@ -8,11 +8,13 @@ ghost use Rattle.pb_trees.specs.Tree.{Tree, TreeCalls};
 ghost use Rattle.pb_trees.specs.Tokens.{tree_tokens};
 ghost use Rattle.pb_trees.specs.Game.{Vertex, rising_or, owner_of, sink_of, target, inner};
 ghost use Rattle.pb_game_of_trees.specs.Draft.{IsDraft};
+ghost use Rattle.pb_game_of_trees.specs.Numbering.{table_of};
 ghost use Rattle.pb_game_of_trees.specs.Builder.{CallsBelow, IsAt, IsBefore, IsBeforeFirst};
 ghost use Rattle.pb_game_of_trees.specs.Builder.{HasFrame, HasFinished, HasTree, connective};
 
 use crate::bracket::{Bracket, owner, sink};
 use crate::draft::Draft;
+use crate::numbering::Numbering;
 use pb_rows::IndexedRows;
 use pb_trees::Token;
 use std::alloc::AllocError;
@@ -162,14 +164,14 @@ impl Builder {
     }
 
     /// Reads a token behind the first one of a tree.
-    fn read(&mut self, vertices: &[u32], token: Token) -> Result<(), AllocError>
+    fn read(&mut self, vertices: &Numbering<'_>, token: Token) -> Result<(), AllocError>
         requires some { 0 < self.old.next }
-        requires call { CallsBelow (length vertices.now) token }
+        requires call { CallsBelow (length (table_of vertices.now)) token }
         requires before { (fs : List Operands) × (behind : List Vertex) × (limit : ℕ)
-            × IsBefore (slice_index vertices.now) self.old fs token behind limit }
+            × IsBefore (slice_index (table_of vertices.now)) self.old fs token behind limit }
         ensures { OnOk result ((fs : List Operands) (behind : List Vertex) (limit : ℕ)
-            → IsBefore (slice_index vertices.now) self.old fs token behind limit
-            → IsAt (slice_index vertices.now) self.new fs behind limit) }
+            → IsBefore (slice_index (table_of vertices.now)) self.old fs token behind limit
+            → IsAt (slice_index (table_of vertices.now)) self.new fs behind limit) }
     {
         match token {
             Token::And => self.open(Bracket::And),
@@ -178,24 +180,24 @@ impl Builder {
             Token::Yes => self.leaf(1),
             Token::No => self.leaf(0),
             Token::Cut => self.leaf(0),
-            Token::Call(number) => self.leaf(vertices[number as usize]),
+            Token::Call(number) => self.leaf(vertices.vertex(number)),
         }
     }
 
     /// Reads the first token of a tree.
     fn read_first(
         &mut self,
-        vertices: &[u32],
+        vertices: &Numbering<'_>,
         token: Token,
         priority: u32,
     ) -> Result<(), AllocError>
         requires some { 0 < self.old.next }
-        requires call { CallsBelow (length vertices.now) token }
+        requires call { CallsBelow (length (table_of vertices.now)) token }
         requires before { (tree : Tree) × (behind : List Vertex) × (limit : ℕ)
-            × IsBeforeFirst (slice_index vertices.now) self.old tree token behind limit }
+            × IsBeforeFirst (slice_index (table_of vertices.now)) self.old tree token behind limit }
         ensures { OnOk result ((tree : Tree) (behind : List Vertex) (limit : ℕ)
-            → IsBeforeFirst (slice_index vertices.now) self.old tree token behind limit
-            → HasTree (slice_index vertices.now) self.new priority tree behind limit) }
+            → IsBeforeFirst (slice_index (table_of vertices.now)) self.old tree token behind limit
+            → HasTree (slice_index (table_of vertices.now)) self.new priority tree behind limit) }
     {
         match token {
             Token::And => self.open_root(Bracket::And, priority),
@@ -204,7 +206,7 @@ impl Builder {
             Token::Yes => self.single(1, priority),
             Token::No => self.single(0, priority),
             Token::Cut => self.single(0, priority),
-            Token::Call(number) => self.single(vertices[number as usize], priority),
+            Token::Call(number) => self.single(vertices.vertex(number), priority),
         }
     }
 
@@ -212,18 +214,18 @@ impl Builder {
     /// all instances.
     pub fn put_tree(
         &mut self,
-        vertices: &[u32],
+        vertices: &Numbering<'_>,
         tokens: &[Token],
         priority: u32,
     ) -> Result<(), AllocError>
         requires spelled { (tree : Tree) × (tokens.now ≡ tree_tokens tree)
-            × (inner tree < self.old.next) × TreeCalls (λ n. n < length vertices.now) tree }
+            × (inner tree < self.old.next) × TreeCalls (λ n. n < length (table_of vertices.now)) tree }
         requires before { (behind : List Vertex) × (limit : ℕ)
-            × IsAt (slice_index vertices.now) self.old [] behind limit }
+            × IsAt (slice_index (table_of vertices.now)) self.old [] behind limit }
         ensures { OnOk result ((tree : Tree) (behind : List Vertex) (limit : ℕ)
             → tokens.now ≡ tree_tokens tree → IsAt
-            (slice_index vertices.now) self.old [] behind limit
-            → HasTree (slice_index vertices.now) self.new priority tree behind limit) }
+            (slice_index (table_of vertices.now)) self.old [] behind limit
+            → HasTree (slice_index (table_of vertices.now)) self.new priority tree behind limit) }
     {
         let mut k = tokens.len();
         while k > 1 {

@@ -1,13 +1,40 @@
-//! The vertices of instances.
+//! The vertices of instances by their numbers.
 ghost use Rattle.std.specs.Prelude.{◌≡◌, ◌≤◌, ◌<◌, ℕ, IfOk, List, length, slice_index};
 ghost use Rattle.std.specs.List.Sorted.{IsStrictlyIncreasing};
 ghost use Rattle.pb_trees.specs.Rows.{Row as plain_row};
 ghost use Rattle.pb_game_of_trees.specs.Held.{Hold};
+ghost use Rattle.pb_game_of_trees.specs.Numbering.{table_of};
 ghost use Rattle.pb_game_of_trees.specs.Places.{vertex_behind, vertices_from, numbers};
 
 use crate::size::inner_brackets;
+use crate::sorted_vertices::{SortedVertices, numbers_of_rows};
 use pb_rows::IndexedRows;
 use std::alloc::{AllocError, Global};
+
+/// A table of all numbers is made where at least one of so many has a row. It takes a word for each
+/// number, of which a part of the instances has few.
+const SPARSE: usize = 16;
+
+/// The vertices of instances by their numbers: in a table of all numbers, or among those of the
+/// rows.
+#[derive(Drop)]
+pub(crate) enum Numbering<'a> {
+    Table(Vec<u32>),
+    Sorted(SortedVertices<'a>),
+}
+
+impl Numbering<'_> {
+    /// The vertex of a number.
+    pub(crate) fn vertex(&self, number: u32) -> u32
+        requires { number < length (table_of self.now) }
+        ensures { result ≡ slice_index (table_of self.now) number }
+    {
+        match self {
+            Numbering::Table(table) => table[number as usize],
+            Numbering::Sorted(sorted) => sorted.vertex(number),
+        }
+    }
+}
 
 /// The vertex of each row.
 pub(crate) fn vertices_of_rows(alloc: Global, rows: &IndexedRows) -> Result<Vec<u32>, AllocError>
@@ -25,7 +52,7 @@ pub(crate) fn vertices_of_rows(alloc: Global, rows: &IndexedRows) -> Result<Vec<
 }
 
 /// The vertex of each number of a row; of the other numbers below `count` 0.
-pub(crate) fn vertices_by_number(
+fn vertices_by_number(
     alloc: Global,
     rows: &IndexedRows,
     vertices: &[u32],
@@ -44,4 +71,32 @@ pub(crate) fn vertices_by_number(
         table[rows.number(k) as usize] = vertices[k];
     }
     Ok(table)
+}
+
+/// The vertex of each number of a row, and 0 of the other numbers below `count`.
+pub(crate) fn number_vertices<'a>(
+    alloc: Global,
+    rows: &IndexedRows,
+    vertices: &'a [u32],
+    count: usize,
+) -> Result<Numbering<'a>, AllocError>
+    requires lengths { length vertices.now ≡ length rows.now }
+    requires within { (plain : List plain_row) × Hold rows.now plain
+        × IsStrictlyIncreasing (numbers plain)
+        × ((k : ℕ) → k < length plain → slice_index (numbers plain) k < count) }
+    ensures { IfOk result (λ numbering. (plain : List plain_row) → Hold rows.now plain
+        → (length (table_of numbering) ≡ count) × ((k : ℕ) → k < length plain
+        → slice_index (table_of numbering) (slice_index (numbers plain) k)
+        ≡ slice_index vertices.now k)) }
+{
+    if rows.len() < count / SPARSE {
+        let numbers = numbers_of_rows(alloc, rows)?;
+        Ok(Numbering::Sorted(SortedVertices {
+            numbers,
+            vertices,
+            count,
+        }))
+    } else {
+        Ok(Numbering::Table(vertices_by_number(alloc, rows, vertices, count)?))
+    }
 }

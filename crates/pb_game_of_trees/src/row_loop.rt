@@ -5,11 +5,13 @@ ghost use Rattle.pb_trees.specs.Game.{row_vertices, false_sink, true_sink};
 ghost use Rattle.pb_game_of_trees.specs.Held.{Hold};
 ghost use Rattle.pb_game_of_trees.specs.Draft.{IsDraft};
 ghost use Rattle.pb_game_of_trees.specs.Levels.{priority_in, AreOrdered};
+ghost use Rattle.pb_game_of_trees.specs.Numbering.{table_of};
 ghost use Rattle.pb_game_of_trees.specs.Places.{vertex_behind, CallBelow};
 
 use crate::builder::Builder;
 use crate::draft::Draft;
 use crate::levels::{Level, priority_at};
+use crate::numbering::Numbering;
 use crate::size::Size;
 use pb_rows::IndexedRows;
 use std::alloc::{AllocError, Global};
@@ -19,15 +21,15 @@ pub(crate) fn draft_of(
     alloc: Global,
     levels: &[Level],
     rows: &IndexedRows,
-    vertices: &[u32],
+    vertices: &Numbering<'_>,
     size: Size,
 ) -> Result<Draft, AllocError>
     requires levels { AreOrdered levels.now }
     requires small { size.vertices ≤ 16777216 }
     requires rows { (plain : List plain_row) × Hold rows.now plain
-        × (size.vertices ≡ vertex_behind plain 2) × CallBelow (length vertices.now) plain }
+        × (size.vertices ≡ vertex_behind plain 2) × CallBelow (length (table_of vertices.now)) plain }
     ensures { IfOk result (λ draft. (plain : List plain_row) → Hold rows.now plain
-        → IsDraft draft (false_sink ∷ (true_sink ∷ row_vertices (slice_index vertices.now)
+        → IsDraft draft (false_sink ∷ (true_sink ∷ row_vertices (slice_index (table_of vertices.now))
         (priority_in levels.now) plain 2))) }
 {
     let mut builder = Builder {

@@ -4,7 +4,7 @@ ghost use Rattle.pb_game_of_trees.specs.declared.tree_game.BuildError.TheVariant
 
 use crate::finished::game_of;
 use crate::levels::{count_instances, levels};
-use crate::numbering::{vertices_by_number, vertices_of_rows};
+use crate::numbering::{number_vertices, vertices_of_rows};
 use crate::row_loop::draft_of;
 use crate::signature::Signature;
 use crate::size::{Size, size_of};
@@ -105,11 +105,11 @@ impl TreeGame {
     {
         let vertices = vertices_of_rows(alloc, rows)?;
         let numbers = count_instances(signatures) as usize;
-        let by_number = vertices_by_number(alloc, rows, &vertices, numbers)?;
+        let numbering = number_vertices(alloc, rows, &vertices, numbers)?;
         let levels = levels(alloc, signatures)?;
-        let draft = draft_of(alloc, &levels, rows, &by_number, size)?;
-        let start = by_number[initial as usize];
-        drop(by_number);
+        let draft = draft_of(alloc, &levels, rows, &numbering, size)?;
+        let start = numbering.vertex(initial);
+        drop(numbering);
         pb_trees::games_of_rows_are_total();
         let game = game_of(alloc, draft.into_parts())?;
         Ok(TreeGame {

@@ -8,13 +8,14 @@ use Rattle.pb_game_of_trees.specs.Draft.{IsDraft}
 use Rattle.pb_game_of_trees.specs.Levels.{priority_in}
 use Rattle.pb_game_of_trees.specs.Places.{vertex_behind}
 use Rattle.pb_game_of_trees.proofs.Rows.{number, one_size, next_row, tokens_of, contained, drop_before, place_before}
+use Rattle.pb_game_of_trees.specs.Numbering.{table_of}
 use Rattle.pb_game_of_trees.proofs.row_loop.draft_of.Goals as goal
 
 pub loop-k-init : goal.loop-k-init
 loop-k-init c =
     let rows = c.args.rows.now in
     let many : c.len-k.result ≡ length rows = c.len-k.ensures in
-    let at = slice_index c.args.vertices.now in
+    let at = slice_index (table_of c.args.vertices.now) in
     let p = priority_in c.args.levels.now in
     let r = c.requires.rows in
     let next = c.args.size.vertices in
@@ -39,7 +40,7 @@ put_tree-requires-clause-spelled c =
     let l = c.loop-k in
     let r = c.requires.rows in
     let row = get_or c.args.rows.now (l.k - 1) nothing in
-    let at = slice_index c.args.vertices.now in
+    let at = slice_index (table_of c.args.vertices.now) in
     let n = next_row c.args.rows.now r.0 (l.k - 1) r.1 (omega (arith, l.invariant.within)) in (
       n.next.tree,
       c.tokens.ensures ∙ tokens_of r.0 (l.k - 1) row n,
@@ -51,7 +52,7 @@ pub put_tree-requires-clause-before : goal.put_tree-requires-clause-before
 put_tree-requires-clause-before c =
     let l = c.loop-k in
     let r = c.requires.rows in
-    let at = slice_index c.args.vertices.now in
+    let at = slice_index (table_of c.args.vertices.now) in
     let behind = row_vertices at (priority_in c.args.levels.now) (drop l.k r.0) l.builder.next in
     (behind, l.builder.next, c.in_ok-make_room.ensures at [] behind l.builder.next (l.invariant.behind r.0 r.1))
 
@@ -59,7 +60,7 @@ pub loop-k-preserved : goal.loop-k-preserved
 loop-k-preserved c =
     let l = c.loop-k in
     let rows = c.args.rows.now in
-    let at = slice_index c.args.vertices.now in
+    let at = slice_index (table_of c.args.vertices.now) in
     let p = priority_in c.args.levels.now in
     let row = get_or c.args.rows.now (l.k - 1) nothing in
     let new = c.put_tree.new.self in
@@ -93,7 +94,7 @@ loop-k-preserved c =
 pub returns : goal.returns
 returns c = λ plain hold.
     let l = c.loop-k in
-    let at = slice_index c.args.vertices.now in
+    let at = slice_index (table_of c.args.vertices.now) in
     let p = priority_in c.args.levels.now in
     let none : l.k ≡ 0 = omega arith in
     let first : l.builder.next ≡ 2 = l.invariant.place plain hold ∙ ap (λ (k : ℕ). vertex_behind (take k plain) 2) none in

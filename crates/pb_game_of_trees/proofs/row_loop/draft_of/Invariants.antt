@@ -5,6 +5,7 @@ use Rattle.pb_game_of_trees.specs.Held.{Hold}
 use Rattle.pb_game_of_trees.specs.Builder.{IsAt}
 use Rattle.pb_game_of_trees.specs.Levels.{priority_in}
 use Rattle.pb_game_of_trees.specs.Places.{vertex_behind}
+use Rattle.pb_game_of_trees.specs.Numbering.{table_of}
 use Rattle.pb_game_of_trees.proofs.row_loop.draft_of.Given as goal
 
 abbrev pub decreases-loop-k : goal.decreases-loop-k
@@ -16,5 +17,5 @@ invariant-loop-k l = record {
   level : l.level ≤ length l.levels;
   place : (plain : List Row) → Hold l.rows plain → l.builder.next ≡ vertex_behind (take l.k plain) 2;
   behind : (plain : List Row) → Hold l.rows plain →
-      IsAt (slice_index l.vertices) l.builder [] (row_vertices (slice_index l.vertices) (priority_in l.levels) (drop l.k plain) l.builder.next) l.builder.next;
+      IsAt (slice_index (table_of l.vertices)) l.builder [] (row_vertices (slice_index (table_of l.vertices)) (priority_in l.levels) (drop l.k plain) l.builder.next) l.builder.next;
 }

@@ -1,10 +1,10 @@
 use Rattle.std.proofs.Common.{ℕ, List, length, slice_index, ◌≡◌, sym, ap, ◌∙◌, subst, arith}
-use Rattle.std.proofs.lemmas.List.{get_or_read, length-map}
+use Rattle.std.proofs.lemmas.List.{length-map}
 use Rattle.pb_trees.specs.Game.{game_vertices}
 use Rattle.pb_rows.specs.Reached.{rows_of}
 use Rattle.pb_game_of_trees.specs.Draft.{IsDraft}
 use Rattle.pb_game_of_trees.specs.Levels.{AreOrdered}
-use Rattle.pb_game_of_trees.specs.Places.{numbers}
+use Rattle.pb_game_of_trees.specs.Numbering.{table_of}
 use Rattle.pb_game_of_trees.specs.Equations.{equations_of, plain}
 use Rattle.pb_game_of_trees.proofs.EquationLevels.{levels_ordered}
 use Rattle.pb_game_of_trees.proofs.Reached.{found_row, reached_of}
@@ -21,8 +21,8 @@ vertices_of_rows-requires c =
     let are = reached_of trees sigs rows c.requires.reached.1.are in
     (reached, are.held, omega (arith, c.requires.small, c.requires.size reached are.held))
 
-pub vertices_by_number-requires-clause-lengths : goal.vertices_by_number-requires-clause-lengths
-vertices_by_number-requires-clause-lengths c =
+pub number_vertices-requires-clause-lengths : goal.number_vertices-requires-clause-lengths
+number_vertices-requires-clause-lengths c =
     let sigs = equations_of c.args.signatures.now in
     let rows = c.args.rows.now in
     let trees = c.requires.reached.0 in
@@ -30,8 +30,8 @@ vertices_by_number-requires-clause-lengths c =
     let are = reached_of trees sigs rows c.requires.reached.1.are in
     count_vertices sigs trees rows reached are c.deref.result.now (c.deref.ensures.value ∙ c.in_ok-vertices.ensures reached are.held)
 
-pub vertices_by_number-requires-clause-within : goal.vertices_by_number-requires-clause-within
-vertices_by_number-requires-clause-within c =
+pub number_vertices-requires-clause-within : goal.number_vertices-requires-clause-within
+number_vertices-requires-clause-within c =
     let sigs = equations_of c.args.signatures.now in
     let rows = c.args.rows.now in
     let trees = c.requires.reached.0 in
@@ -46,12 +46,12 @@ draft_of-requires-clause-rows c =
     let trees = c.requires.reached.0 in
     let reached = rows_of trees rows in
     let are = reached_of trees sigs rows c.requires.reached.1.are in
-    let table = c.in_ok-by_number.ensures reached are.held in (
+    let table = c.in_ok-numbering.ensures reached are.held in (
       reached,
       are.held,
       c.requires.size reached are.held,
-      call_below sigs trees rows reached are (length c.deref-3.result.now)
-          (ap length c.deref-3.ensures.value ∙ (table.0 ∙ c.count_instances-numbers.ensures)),
+      call_below sigs trees rows reached are (length (table_of c.in_ok-numbering.numbering))
+          (table.0 ∙ c.count_instances-numbers.ensures),
     )
 
 pub draft_of-requires-clause-levels : goal.draft_of-requires-clause-levels
@@ -65,14 +65,13 @@ into_parts-requires c =
     let trees = c.requires.reached.0 in
     let reached = rows_of trees rows in
     let are = reached_of trees sigs rows c.requires.reached.1.are in
-    let table = c.in_ok-by_number.ensures reached are.held in
-    let is_table : IsTable c.deref-3.result.now reached = record {
-      at = λ k l. ap (λ (ts : List ℕ). slice_index ts (slice_index (numbers reached) k)) c.deref-3.ensures.value
-          ∙ (table.1 k l ∙ ap (λ (ts : List ℕ). slice_index ts k) (c.deref.ensures.value ∙ c.in_ok-vertices.ensures reached are.held));
+    let table = c.in_ok-numbering.ensures reached are.held in
+    let is_table : IsTable (table_of c.in_ok-numbering.numbering) reached = record {
+      at = λ k l. table.1 k l ∙ ap (λ (ts : List ℕ). slice_index ts k) (c.deref.ensures.value ∙ c.in_ok-vertices.ensures reached are.held);
     } in
     let vertices = game_vertices sigs reached in
     let draft : IsDraft c.in_ok-draft.draft vertices = subst (IsDraft c.in_ok-draft.draft)
-    (built sigs trees rows reached are c.deref-3.result.now c.deref-2.result.now is_table (c.deref-2.ensures.value ∙ c.in_ok-levels.ensures))
+    (built sigs trees rows reached are (table_of c.in_ok-numbering.numbering) c.deref-2.result.now is_table (c.deref-2.ensures.value ∙ c.in_ok-levels.ensures))
     (c.in_ok-draft.ensures reached are.held) in
     (vertices, draft)
 
@@ -83,14 +82,13 @@ game_of-requires c =
     let trees = c.requires.reached.0 in
     let reached = rows_of trees rows in
     let are = reached_of trees sigs rows c.requires.reached.1.are in
-    let table = c.in_ok-by_number.ensures reached are.held in
-    let is_table : IsTable c.deref-3.result.now reached = record {
-      at = λ k l. ap (λ (ts : List ℕ). slice_index ts (slice_index (numbers reached) k)) c.deref-3.ensures.value
-          ∙ (table.1 k l ∙ ap (λ (ts : List ℕ). slice_index ts k) (c.deref.ensures.value ∙ c.in_ok-vertices.ensures reached are.held));
+    let table = c.in_ok-numbering.ensures reached are.held in
+    let is_table : IsTable (table_of c.in_ok-numbering.numbering) reached = record {
+      at = λ k l. table.1 k l ∙ ap (λ (ts : List ℕ). slice_index ts k) (c.deref.ensures.value ∙ c.in_ok-vertices.ensures reached are.held);
     } in
     let vertices = game_vertices sigs reached in
     let draft : IsDraft c.in_ok-draft.draft vertices = subst (IsDraft c.in_ok-draft.draft)
-    (built sigs trees rows reached are c.deref-3.result.now c.deref-2.result.now is_table (c.deref-2.ensures.value ∙ c.in_ok-levels.ensures))
+    (built sigs trees rows reached are (table_of c.in_ok-numbering.numbering) c.deref-2.result.now is_table (c.deref-2.ensures.value ∙ c.in_ok-levels.ensures))
     (c.in_ok-draft.ensures reached are.held) in
     let parts = c.into_parts.ensures vertices draft in
     let fits = c.requires.small in
@@ -100,15 +98,15 @@ game_of-requires c =
       makes_game sigs trees rows reached are c.games_of_rows_are_total.ensures.total (omega (arith, length-map c.args.signatures.now plain, c.requires.few)) (omega arith),
     )
 
-pub index-start-requires : goal.index-start-requires
-index-start-requires c =
+pub vertex-start-requires : goal.vertex-start-requires
+vertex-start-requires c =
     let sigs = equations_of c.args.signatures.now in
     let rows = c.args.rows.now in
     let trees = c.requires.reached.0 in
     let reached = rows_of trees rows in
     let are = reached_of trees sigs rows c.requires.reached.1.are in
-    let table = c.in_ok-by_number.ensures reached are.held in
-    omega (arith, reached_below sigs trees rows reached are c.args.initial (found_row trees rows c.args.initial c.requires.reached.1.found), table.0, c.count_instances-numbers.ensures, c.in_ok-by_number.by_number.ok.0)
+    let table = c.in_ok-numbering.ensures reached are.held in
+    omega (arith, reached_below sigs trees rows reached are c.args.initial (found_row trees rows c.args.initial c.requires.reached.1.found), table.0, c.count_instances-numbers.ensures)
 
 pub invariant_of-result : goal.invariant_of-result
 invariant_of-result c =
@@ -127,22 +125,17 @@ returns c = λ trees from.
     let reached = rows_of trees rows in
     let are = reached_of trees sigs rows from.are in
     let is = found_row trees rows c.args.initial from.found in
-    let table = c.in_ok-by_number.ensures reached are.held in
-    let is_table : IsTable c.deref-3.result.now reached = record {
-      at = λ k l. ap (λ (ts : List ℕ). slice_index ts (slice_index (numbers reached) k)) c.deref-3.ensures.value
-          ∙ (table.1 k l ∙ ap (λ (ts : List ℕ). slice_index ts k) (c.deref.ensures.value ∙ c.in_ok-vertices.ensures reached are.held));
+    let table = c.in_ok-numbering.ensures reached are.held in
+    let is_table : IsTable (table_of c.in_ok-numbering.numbering) reached = record {
+      at = λ k l. table.1 k l ∙ ap (λ (ts : List ℕ). slice_index ts k) (c.deref.ensures.value ∙ c.in_ok-vertices.ensures reached are.held);
     } in
     let vertices = game_vertices sigs reached in
     let draft : IsDraft c.in_ok-draft.draft vertices = subst (IsDraft c.in_ok-draft.draft)
-    (built sigs trees rows reached are c.deref-3.result.now c.deref-2.result.now is_table (c.deref-2.ensures.value ∙ c.in_ok-levels.ensures))
+    (built sigs trees rows reached are (table_of c.in_ok-numbering.numbering) c.deref-2.result.now is_table (c.deref-2.ensures.value ∙ c.in_ok-levels.ensures))
     (c.in_ok-draft.ensures reached are.held) in
     let parts = c.into_parts.ensures vertices draft in
     record {
       game = record { reached = are.are; vertices = c.in_ok-game.ensures vertices parts };
       vertices = c.in_ok-vertices.ensures reached are.held ∙ vertices_are reached are.rising;
-      start =
-          let within = reached_below sigs trees rows reached are c.args.initial is in
-          get_or_read c.in_ok-by_number.by_number.items c.args.initial c.index-start.result.now (omega (arith, within, table.0, c.count_instances-numbers.ensures)) c.index-start.ensures 0
-          ∙ (ap (λ (ts : List ℕ). slice_index ts c.args.initial) (sym c.deref-3.ensures.value)
-          ∙ table_at c.deref-3.result.now reached is_table are.rising c.args.initial is);
+      start = c.vertex-start.ensures ∙ table_at (table_of c.in_ok-numbering.numbering) reached is_table are.rising c.args.initial is;
     }

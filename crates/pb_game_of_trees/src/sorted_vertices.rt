@@ -1,0 +1,42 @@
+//! The vertices of few instances, which are searched for by their numbers.
+ghost use Rattle.std.specs.Prelude.{◌≡◌, IfOk, length};
+ghost use Rattle.std.specs.List.Sorted.{IsStrictlyIncreasing};
+ghost use Rattle.pb_rows.specs.Reached.{numbers_of};
+ghost use Rattle.pb_game_of_trees.specs.Places.{vertex_in};
+
+use pb_rows::IndexedRows;
+use std::alloc::{AllocError, Global};
+
+/// The numbers of rows, which rise, with the rows' vertices. The other numbers below `count` have
+/// the vertex 0.
+#[derive(Drop)]
+pub(crate) struct SortedVertices<'a> {
+    pub numbers: Vec<u32>,
+    pub vertices: &'a [u32],
+    pub count: usize,
+    pub ghost rising: { IsStrictlyIncreasing numbers.items },
+    pub ghost sized: { length vertices.now ≡ length numbers.items },
+}
+
+impl SortedVertices<'_> {
+    /// The vertex of a number.
+    pub(crate) fn vertex(&self, number: u32) -> u32
+        ensures { result ≡ vertex_in self.now.numbers.items self.now.vertices.now number }
+    {
+        match self.numbers.binary_search(&number) {
+            Ok(place) => self.vertices[place],
+            Err(_) => 0,
+        }
+    }
+}
+
+/// The number of each row.
+pub(crate) fn numbers_of_rows(alloc: Global, rows: &IndexedRows) -> Result<Vec<u32>, AllocError>
+    ensures { IfOk result (λ list. list.items ≡ numbers_of rows.now) }
+{
+    let mut list = Vec::with_capacity(alloc, rows.len())?;
+    for k in 0..rows.len() {
+        list.push(rows.number(k))?;
+    }
+    Ok(list)
+}
