@@ -1,20 +1,15 @@
 -- The vertex of a number that is searched for among those of the rows.
-use Rattle.std.proofs.Common.{◌≡◌, ℕ, ◌<◌, List, length, get_or, false, Result, Ok, Err, ap, ◌∙◌, subst, inl, inr, arith}
+use Rattle.std.proofs.Common.{◌≡◌, ℕ, ◌<◌, List, length, get_or, Result, Ok, Err, ap, ◌∙◌, subst, inl, inr, arith}
 use Rattle.std.specs.Prelude.{◌==◌, ◌≢◌, MatchResult}
 use Rattle.std.specs.List.Sorted.{IsStrictlyIncreasing, IsBinarySearchResult}
 use Rattle.std.specs.Ordering.{nat_cmp}
-use Rattle.std.proofs.lemmas.Bool.{cases_Bool, cases_lt, eqb-true, eq-eqb}
+use Rattle.std.proofs.lemmas.Bool.{cases_lt, eq-eqb}
 use Rattle.std.proofs.lemmas.List.{get_or_past}
 use Rattle.std.proofs.lemmas.List.Sums.{position_or_len_is}
 use Rattle.std.proofs.lemmas.List.Sorted.{searched}
+use Rattle.pb_game.proofs.Counting.{differs}
 use Rattle.pb_game.proofs.Rising.{rising_le, rising_lt}
 use Rattle.pb_game_of_trees.specs.Places.{vertex_in}
-
-differs : (a n : ℕ) → a ≢ n → (a == n) ≡ false
-differs a n ne = elim (cases_Bool (a == n)) [
-  | inl e ↦ absurd (ne (eqb-true a n e))
-  | inr e ↦ e
-]
 
 -- where the number stands, its vertex stands
 pub stands : (numbers vertices : List ℕ) → IsStrictlyIncreasing numbers → (n i : ℕ) → i < length numbers → get_or numbers i 0 ≡ n →
