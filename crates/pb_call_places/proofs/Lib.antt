@@ -6,3 +6,4 @@ pub mod NothingHolds
 pub mod Callers
 pub mod FitsFacts
 pub mod FirstCall
+pub mod NoCall

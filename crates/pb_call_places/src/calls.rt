@@ -1,8 +1,9 @@
 //! The calls of a formula, as they are written.
 
 ghost use Rattle.std.specs.Prelude.{◌≡◌, ◌++◌, IfOk, OnOk};
+ghost use Rattle.std.specs.List.{list_any};
 ghost use Rattle.pb_text_tree.specs.Form.{formula_form};
-ghost use Rattle.pb_call_places.specs.Calls.{calls_in, is_test};
+ghost use Rattle.pb_call_places.specs.Calls.{calls_in, is_test, same_place};
 
 use pb_text_tree::{Formula, Place};
 use std::alloc::{AllocError, Global};
@@ -59,5 +60,35 @@ pub(crate) fn is_test(formula: &Formula) -> bool
             true
         }
         Formula::Quantified { body, .. } => is_test(body),
+    }
+}
+
+/// Whether two places are the same.
+pub(crate) fn same_place(left: Place, right: Place) -> bool
+    ensures { result ≡ same_place left right }
+{
+    left.line == right.line && left.column == right.column
+}
+
+/// Whether a formula has a call at a place.
+pub(crate) fn has_call_at(formula: &Formula, place: Place) -> bool
+    ensures { result ≡ list_any (λ p. same_place p place) (calls_in (formula_form formula.now)) }
+{
+    match formula {
+        Formula::Constant { .. } | Formula::Value { .. } => false,
+        Formula::Instance(call) => same_place(call.name.place, place),
+        Formula::Negation { operand, .. } => has_call_at(operand, place),
+        Formula::Chain { first, links, .. } => {
+            if has_call_at(first, place) {
+                return true;
+            }
+            for link in links.iter() {
+                if has_call_at(&link.operand, place) {
+                    return true;
+                }
+            }
+            false
+        }
+        Formula::Quantified { body, .. } => has_call_at(body, place),
     }
 }

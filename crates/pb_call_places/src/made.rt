@@ -11,7 +11,7 @@ ghost use Rattle.pb_evaluation.specs.Scope.{assignment_of};
 ghost use Rattle.pb_call_places.specs.Calls.{decides, is_deciding_test};
 ghost use Rattle.pb_call_places.specs.Made.{CanMake, is_made, spec_at};
 
-use crate::calls::is_test;
+use crate::calls::{has_call_at, is_test};
 use crate::named::is_sought;
 use crate::sought::Sought;
 use crate::variables::values_of_sort;
@@ -91,7 +91,12 @@ pub(crate) fn makes_call<'a>(
             variables,
             body,
             ..
-        } => makes_call_for(variables, body, scope, sought),
+        } => {
+            if !has_call_at(body, sought.place) {
+                return Ok(false);
+            }
+            makes_call_for(variables, body, scope, sought)
+        }
     }
 }
 
@@ -127,11 +132,12 @@ fn makes_call_for_group<'a>(
     scope: &'a Scope<'a>,
     sought: &Sought<'_, '_>,
 ) -> Result<bool, AllocError>
-    requires { FitsFor (spec_at sought.now)
-        (variables_of names.now (string_bytes sort.now.text) ++ erased_variables (variable_forms rest.now))
+    requires { FitsFor (spec_at sought.now) (variables_of names.now (string_bytes sort.now.text)
+        ++ erased_variables (variable_forms rest.now))
         (λ a. CanMake sought.now a (formula_form body.now)) (assignment_of scope.now) }
     ensures { IfOk result (λ made. made ≡ quantified (spec_at sought.now) Exists
-        (variables_of names.now (string_bytes sort.now.text) ++ erased_variables (variable_forms rest.now))
+        (variables_of names.now (string_bytes sort.now.text)
+        ++ erased_variables (variable_forms rest.now))
         (λ a. is_made sought.now a (formula_form body.now)) (assignment_of scope.now)) }
 {
     let Some((name, names)) = names.split_first() else {

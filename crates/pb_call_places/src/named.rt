@@ -9,6 +9,7 @@ ghost use Rattle.pb_text_meaning.specs.Value as meaning;
 ghost use Rattle.pb_evaluation.specs.Scope.{assignment_of};
 ghost use Rattle.pb_call_places.specs.Made.{is_made, spec_at};
 
+use crate::calls::same_place;
 use crate::sought::Sought;
 use pb_evaluation::{Scope, value};
 use pb_sorts::Tuple;
@@ -30,9 +31,7 @@ pub(crate) fn is_sought<'a>(
     ensures { IfOk result (λ made. made ≡ is_made sought.now (assignment_of scope.now)
         (FormulaForm.instance (instance_form call.now))) }
 {
-    let place = call.name.place;
-    let here = place.line == sought.place.line && place.column == sought.place.column;
-    if !here || call.name.text.as_str() != sought.name {
+    if !same_place(call.name.place, sought.place) || call.name.text.as_str() != sought.name {
         return Ok(false);
     }
     let values = values_of(&call.arguments, scope, sought.environment.declarations)?;

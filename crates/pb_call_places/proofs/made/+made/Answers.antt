@@ -1,4 +1,4 @@
-use Rattle.std.proofs.Common.{◌≡◌, ◌∙◌, ◌++◌, ◌∷◌, ◌&&◌, ◌||◌, ◌+◌, IfOk, Bool, not, List, ℕ, ℤ, length, drop, sym, ap, refl, subst, arith, string_bytes, SFits, w64, to_z, of_z, to_z-of_z}
+use Rattle.std.proofs.Common.{rules, false, ◌≡◌, ◌∙◌, ◌++◌, ◌∷◌, ◌&&◌, ◌||◌, ◌+◌, IfOk, Bool, not, List, ℕ, ℤ, length, drop, sym, ap, refl, subst, arith, string_bytes, SFits, w64, to_z, of_z, to_z-of_z}
 use Rattle.pb_text_tree.specs.declared.name.Name.{Name}
 use Rattle.pb_text_tree.specs.declared.formula.Formula.{Formula}
 use Rattle.pb_text_tree.specs.declared.formula.Link.{Link}
@@ -18,8 +18,10 @@ use Rattle.pb_evaluation.proofs.FormulaWeight.{weight, weight-chain, links_weigh
 use Rattle.pb_evaluation.proofs.FormulaLinks.{LinksFit, fits-chained, link_fits}
 use Rattle.pb_evaluation.proofs.Numbers.{number_contained}
 use Rattle.pb_evaluation.proofs.Quantified.{first_group, over, over_end}
-use Rattle.pb_call_places.specs.Made.{CanMake, is_made, spec_at}
+use Rattle.pb_call_places.specs.Calls.{calls_in}
+use Rattle.pb_call_places.specs.Made.{CanMake, instance_sought, is_made, spec_at}
 use Rattle.pb_call_places.proofs.ChainMade.{behind, goes_on, is_deciding, links_make, links_make-at, made-chain, makes, none_left, nothing_made}
+use Rattle.pb_call_places.proofs.NoCall.{any_at, no_call_made}
 use Rattle.pb_call_places.proofs.Values.{at_place, from_first}
 use Rattle.pb_call_places.proofs.made.+made.Goals as goal
 
@@ -152,6 +154,16 @@ makes_call-returns-after-loop-link t c =
     none_left s a o links k c.loop-link.decided all (omega arith) c.loop-link.invariant
 
 -- ---- quantifiers
+
+pub makes_call-returns-then-not-has_call_at : goal.makes_call-returns-then-not-has_call_at
+makes_call-returns-then-not-has_call_at t c =
+    let s = c.args.sought.now in
+    let a = assignment_of c.args.scope.now in
+    let f = c.args.formula.now in
+    let is_false : c.has_call_at.result ≡ false = search rules in
+    let no_call = ap (λ (g : Formula). any_at s.place (calls_in (formula_form g))) c.in-Quantified.is
+    ∙ (ap (λ (g : Formula). any_at s.place (calls_in (formula_form g))) (sym c.deref-in-Quantified.ensures) ∙ (sym c.has_call_at.ensures ∙ is_false)) in
+    sym (no_call_made (spec_at s) (instance_sought s) s.place (formula_form f) no_call a)
 
 pub makes_call_for-makes_call_for_group-requires : goal.makes_call_for-makes_call_for_group-requires
 makes_call_for-makes_call_for_group-requires t c =
