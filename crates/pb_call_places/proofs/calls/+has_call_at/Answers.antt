@@ -1,4 +1,4 @@
-use Rattle.std.proofs.Common.{◌≡◌, ◌∙◌, ◌+◌, ◌||◌, Bool, true, false, List, drop, sym, ap, rules}
+use Rattle.std.proofs.Common.{◌∙◌, ◌+◌, ◌||◌, Bool, List, drop, sym, ap}
 use Rattle.pb_text_tree.specs.declared.formula.Formula.{Formula}
 use Rattle.pb_text_tree.specs.declared.formula.Link.{Link}
 use Rattle.pb_text_tree.specs.Form.{formula_form}
