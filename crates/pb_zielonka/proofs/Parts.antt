@@ -121,15 +121,16 @@ lists_cut left rest list first a l c w = record {
   once = distinct_front list first l.once;
 }
 
--- marks that are set again at the whole region
-pub marked_again : (region old new : List Bool) (list : List ℕ) → length old ≡ length region → length new ≡ length old → ListsRegion region list →
-    ((v : ℕ) → IsIn old v → IsIn region v) → ((v : ℕ) → Contains list v → get_or new v false ≡ true) →
+-- marks of a part that are set again at the whole region
+pub marked_again : (region rest old new : List Bool) (list : List ℕ) → old ≡ rest → length rest ≡ length region → length new ≡ length old → ListsRegion region list →
+    ((v : ℕ) → IsIn rest v → IsIn region v) → ((v : ℕ) → Contains list v → get_or new v false ≡ true) →
     ((v : ℕ) → (Contains list v → ⊥) → get_or new v false ≡ get_or old v false) → new ≡ region
-marked_again region old new list e e' l within listed others = ext_get_or false new region (e' ∙ e) (λ v h. elim (in_or_out region v) [
+marked_again region rest old new list now e e' l within listed others = ext_get_or false new region (e' ∙ (ap length now ∙ e)) (λ v h. elim (in_or_out region v) [
   | inl inside ↦ listed v (l.all v inside) ∙ sym inside
   | inr out ↦
       let away : get_or region v false ≡ false = false_from_ne_true (get_or region v false) out in
-      let before : get_or old v false ≡ false = false_from_ne_true (get_or old v false) (λ i. out (within v i)) in
+      let away' : get_or rest v false ≡ false = false_from_ne_true (get_or rest v false) (λ i. out (within v i)) in
+      let before : get_or old v false ≡ false = subst (λ (xs : List Bool). get_or xs v false ≡ false) (sym now) away' in
       others v (λ c. out (l.inside v c)) ∙ before ∙ sym away
 ])
 
