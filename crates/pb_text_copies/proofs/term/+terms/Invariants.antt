@@ -1,7 +1,7 @@
 use Rattle.std.proofs.Common.{◌≡◌, ◌++◌, drop, map}
 use Rattle.pb_text_tree.specs.Form.{term_links, arithmetic_links}
-use Rattle.pb_text_printer.specs.Copied.{placed_argument}
-use Rattle.pb_text_printer.proofs.term_copy.+terms.Given as goal
+use Rattle.pb_text_copies.proofs.CopyLemmas.{placed_argument}
+use Rattle.pb_text_copies.proofs.term.+terms.Given as goal
 
 abbrev pub invariant-copy_links-loop-link : goal.invariant-copy_links-loop-link
 invariant-copy_links-loop-link l = term_links l.copies.items ++ term_links (drop l.link-index l.links) ≡ term_links l.links

@@ -1,7 +1,7 @@
 use Rattle.std.proofs.Common.{◌≡◌, ◌∙◌, map, ap}
 use Rattle.pb_text_tree.specs.Form.{named}
-use Rattle.pb_text_printer.proofs.CopyLemmas.{group-copied}
-use Rattle.pb_text_printer.proofs.term_copy.copy_group.Goals as goal
+use Rattle.pb_text_copies.proofs.CopyLemmas.{group-copied}
+use Rattle.pb_text_copies.proofs.variable.copy_group.Goals as goal
 
 pub returns : goal.returns
 returns c =

@@ -1,50 +1,11 @@
 //! Copies data terms, places included.
 
-ghost use Rattle.std.specs.Prelude.{◌≡◌, map, IfOk};
-ghost use Rattle.pb_text_tree.specs.Form.{named, variables_form, term_form, term_links};
-ghost use Rattle.pb_text_tree.specs.Form.{arithmetic_links};
-ghost use Rattle.pb_text_printer.specs.Copied.{placed_argument};
+ghost use Rattle.std.specs.Prelude.{◌≡◌, IfOk};
+ghost use Rattle.pb_text_tree.specs.Form.{argument_forms, arithmetic_links, term_form, term_links};
 
-use pb_text_tree::{Argument, ArithmeticLink, Name, Term, TermLink, Variables};
+use crate::variable::{copy_name, copy_variables};
+use pb_text_tree::{Argument, ArithmeticLink, Term, TermLink};
 use std::alloc::{AllocError, Global};
-
-fn copy_name(alloc: Global, name: &Name) -> Result<Name, AllocError>
-    ensures { IfOk result (λ n. named n ≡ named name.now) }
-{
-    let text = name.text.as_str().to_owned(alloc)?;
-    Ok(Name {
-        place: name.place,
-        text,
-    })
-}
-
-fn copy_names(alloc: Global, names: &[Name]) -> Result<Vec<Name>, AllocError>
-    ensures { IfOk result (λ v. map named v.items ≡ map named names.now) }
-{
-    let mut copies = Vec::new(alloc);
-    for name in names {
-        copies.push(copy_name(alloc, name)?)?;
-    }
-    Ok(copies)
-}
-
-fn copy_group(alloc: Global, group: &Variables) -> Result<Variables, AllocError>
-    ensures { IfOk result (λ g. variables_form g ≡ variables_form group.now) }
-{
-    let names = copy_names(alloc, &group.names)?;
-    let sort = copy_name(alloc, &group.sort)?;
-    Ok(Variables { names, sort })
-}
-
-fn copy_variables(alloc: Global, groups: &[Variables]) -> Result<Vec<Variables>, AllocError>
-    ensures { IfOk result (λ v. map variables_form v.items ≡ map variables_form groups.now) }
-{
-    let mut copies = Vec::new(alloc);
-    for group in groups {
-        copies.push(copy_group(alloc, group)?)?;
-    }
-    Ok(copies)
-}
 
 #[cycle(terms)]
 fn copy_links(alloc: Global, links: &[TermLink]) -> Result<Vec<TermLink>, AllocError>
@@ -52,7 +13,7 @@ fn copy_links(alloc: Global, links: &[TermLink]) -> Result<Vec<TermLink>, AllocE
 {
     let mut copies = Vec::new(alloc);
     for link in links {
-        let operand = copy(alloc, &link.operand)?;
+        let operand = copy_term(alloc, &link.operand)?;
         copies.push(TermLink {
             place: link.place,
             operand,
@@ -70,7 +31,7 @@ fn copy_operations(
 {
     let mut copies = Vec::new(alloc);
     for link in links {
-        let operand = copy(alloc, &link.operand)?;
+        let operand = copy_term(alloc, &link.operand)?;
         copies.push(ArithmeticLink {
             place: link.place,
             operator: link.operator,
@@ -80,13 +41,17 @@ fn copy_operations(
     Ok(copies)
 }
 
+/// Arguments that are equal, in order, places included.
+///
+/// # Errors
+/// Memory was refused.
 #[cycle(terms)]
-fn copy_arguments(alloc: Global, arguments: &[Argument]) -> Result<Vec<Argument>, AllocError>
-    ensures { IfOk result (λ v. map placed_argument v.items ≡ map placed_argument arguments.now) }
+pub fn copy_arguments(alloc: Global, arguments: &[Argument]) -> Result<Vec<Argument>, AllocError>
+    ensures { IfOk result (λ v. argument_forms v.items ≡ argument_forms arguments.now) }
 {
     let mut copies = Vec::new(alloc);
     for argument in arguments {
-        let term = copy(alloc, &argument.term)?;
+        let term = copy_term(alloc, &argument.term)?;
         copies.push(Argument {
             place: argument.place,
             term,
@@ -96,8 +61,11 @@ fn copy_arguments(alloc: Global, arguments: &[Argument]) -> Result<Vec<Argument>
 }
 
 /// A term that is equal, places included.
+///
+/// # Errors
+/// Memory was refused.
 #[cycle(terms)]
-pub fn copy(alloc: Global, term: &Term) -> Result<Term, AllocError>
+pub fn copy_term(alloc: Global, term: &Term) -> Result<Term, AllocError>
     ensures { IfOk result (λ t. term_form t ≡ term_form term.now) }
 {
     match term {
@@ -111,13 +79,13 @@ pub fn copy(alloc: Global, term: &Term) -> Result<Term, AllocError>
         }),
         Term::Name(name) => Ok(Term::Name(copy_name(alloc, name)?)),
         Term::Not { place, operand } => {
-            let operand = copy(alloc, operand)?;
+            let operand = copy_term(alloc, operand)?;
             let operand = Box::new(alloc, operand)?;
             let place = *place;
             Ok(Term::Not { place, operand })
         }
         Term::Negative { place, operand } => {
-            let operand = copy(alloc, operand)?;
+            let operand = copy_term(alloc, operand)?;
             let operand = Box::new(alloc, operand)?;
             let place = *place;
             Ok(Term::Negative { place, operand })
@@ -127,7 +95,7 @@ pub fn copy(alloc: Global, term: &Term) -> Result<Term, AllocError>
             first,
             links,
         } => {
-            let first = copy(alloc, first)?;
+            let first = copy_term(alloc, first)?;
             let first = Box::new(alloc, first)?;
             let links = copy_links(alloc, links)?;
             let connective = *connective;
@@ -143,9 +111,9 @@ pub fn copy(alloc: Global, term: &Term) -> Result<Term, AllocError>
             left,
             right,
         } => {
-            let left = copy(alloc, left)?;
+            let left = copy_term(alloc, left)?;
             let left = Box::new(alloc, left)?;
-            let right = copy(alloc, right)?;
+            let right = copy_term(alloc, right)?;
             let right = Box::new(alloc, right)?;
             Ok(Term::Comparison {
                 place: *place,
@@ -155,7 +123,7 @@ pub fn copy(alloc: Global, term: &Term) -> Result<Term, AllocError>
             })
         }
         Term::Arithmetic { first, links } => {
-            let first = copy(alloc, first)?;
+            let first = copy_term(alloc, first)?;
             let first = Box::new(alloc, first)?;
             let links = copy_operations(alloc, links)?;
             Ok(Term::Arithmetic { first, links })
@@ -178,7 +146,7 @@ pub fn copy(alloc: Global, term: &Term) -> Result<Term, AllocError>
             body,
         } => {
             let variables = copy_variables(alloc, variables)?;
-            let body = copy(alloc, body)?;
+            let body = copy_term(alloc, body)?;
             let body = Box::new(alloc, body)?;
             Ok(Term::Quantified {
                 place: *place,
