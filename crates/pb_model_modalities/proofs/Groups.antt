@@ -1,5 +1,5 @@
 -- A group with a name declares a variable.
-use Rattle.std.proofs.Common.{◌≡◌, ℕ, List, [], ◌∷◌, ◌++◌, length, refl, false, ap}
+use Rattle.std.proofs.Common.{◌≡◌, List, [], ◌∷◌, length, refl, false, ap}
 use Rattle.pb_text_tree.specs.declared.variable.Variables.{Variables}
 use Rattle.pb_text_tree.specs.declared.name.Name as declared_name
 use Rattle.pb_model_modalities.specs.View.{variables_in}

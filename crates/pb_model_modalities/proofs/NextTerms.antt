@@ -4,8 +4,8 @@ use Rattle.std.proofs.lemmas.List.{map-append}
 use Rattle.pb_text_tree.specs.declared.name.Name as declared_name
 use Rattle.pb_text_tree.specs.declared.variable.Variables.{Variables}
 use Rattle.pb_text_tree.specs.declared.term.Argument.{Argument}
-use Rattle.pb_text_tree.specs.Form.{Named, VariableForm, named, variables_form, variable_forms, argument_forms}
-use Rattle.pb_text_meaning.specs.Syntax.{Name, Variable, Term, Terms}
+use Rattle.pb_text_tree.specs.Form.{Named, named, variables_form, variable_forms, argument_forms}
+use Rattle.pb_text_meaning.specs.Syntax.{Variable, Term, Terms}
 use Rattle.pb_text_meaning.specs.Erase.{erased_arguments, erased_variable, erased_variables}
 use Rattle.pb_model_meaning.specs.Syntax.{Assignment}
 use Rattle.pb_model_translation.specs.Translation.{next_terms}

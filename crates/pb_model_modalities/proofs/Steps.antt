@@ -1,5 +1,5 @@
 -- The steps of a set, one after another.
-use Rattle.std.proofs.Common.{◌≡◌, ℕ, List, [], ◌∷◌, map, ap, ◌∙◌}
+use Rattle.std.proofs.Common.{◌≡◌, ℕ, List, map, ap, ◌∙◌}
 use Rattle.std.specs.Prelude.{filter}
 use Rattle.pb_model_tree.specs.declared.step.Step as declared_step
 use Rattle.pb_model_tree.specs.Form.{step_form}

@@ -1,6 +1,5 @@
 -- What the parts of trees say, without places: of a model's, and of a text's.
-use Rattle.std.specs.Prelude.{ℕ, List, map, string_bytes, String}
-use Rattle.std.specs.declared.alloc.Global.{Global}
+use Rattle.std.specs.Prelude.{ℕ, List, map, string_bytes}
 use Rattle.pb_text_tree.specs.declared.name.Name as declared_name
 use Rattle.pb_text_tree.specs.declared.variable.Variables.{Variables}
 use Rattle.pb_text_tree.specs.declared.term.Term as declared_term

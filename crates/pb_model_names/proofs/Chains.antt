@@ -1,6 +1,6 @@
 -- A chain says its first operand and the operands of its links, joined to the right; and what that
 -- is for the definitions of the translation.
-use Rattle.std.proofs.Common.{◌≡◌, ℕ, ◌+◌, suc, Bool, true, false, List, [], ◌∷◌, ◌++◌, map, flat_map, refl, sym, ap, ◌∙◌, Vec, Global, Box, append_assoc}
+use Rattle.std.proofs.Common.{◌≡◌, true, false, List, [], ◌∷◌, ◌++◌, map, flat_map, refl, sym, ap, ◌∙◌, Vec, Global, Box}
 use Rattle.std.specs.Prelude.{box_value, Some, None}
 use Rattle.std.specs.List.{slice_get}
 use Rattle.std.proofs.lemmas.List.{append-nil}
@@ -16,7 +16,7 @@ use Rattle.pb_model_tree.specs.Form.{FormulaForm, formula_form, links_in}
 use Rattle.pb_model_meaning.specs.Syntax as model
 use Rattle.pb_model_meaning.specs.Erase.{joined, erased_formula}
 use Rattle.pb_model_translation.specs.Translation.{has_equation, is_fixpoint}
-use Rattle.pb_model_translation.specs.Names.{Wanted, wanted_names, variables_of}
+use Rattle.pb_model_translation.specs.Names.{wanted_names, variables_of}
 use Rattle.pb_model_names.specs.View.{formula_of, operand_of, operands_of}
 use Rattle.pb_model_names.specs.Given.{wanted_by}
 use mathlib.Core.Former.{Count}

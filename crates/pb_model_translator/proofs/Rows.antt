@@ -5,13 +5,11 @@ use Rattle.std.specs.Prelude.{box_value, Some}
 use Rattle.std.specs.List.{slice_get}
 use Rattle.std.proofs.lemmas.List.{append-nil}
 use Rattle.pb_fixpoint.specs.declared.Sign.{Sign}
-use Rattle.pb_fixpoint.specs.declared.Sign.TheVariants.{Nu}
 use Rattle.pb_text_tree.specs.declared.operator.Connective.{Connective}
 use Rattle.pb_text_tree.specs.declared.operator.Connective.TheVariants as connective
 use Rattle.pb_text_tree.specs.declared.formula.Formula as text_tree
 use Rattle.pb_text_tree.specs.declared.formula.Link as text_link
 use Rattle.pb_text_meaning.specs.Syntax.{Name, Equation}
-use Rattle.pb_text_meaning.specs.Syntax as text
 use Rattle.pb_text_meaning.specs.Erase as text_erase
 use Rattle.pb_model_tree.specs.declared.formula.Modality.{Modality}
 use Rattle.pb_model_tree.specs.declared.formula.Modality.TheVariants.{Box, Diamond}
@@ -19,7 +17,7 @@ use Rattle.pb_model_tree.specs.declared.formula.Formula as tree
 use Rattle.pb_model_tree.specs.declared.formula.Link as tree_link
 use Rattle.pb_model_meaning.specs.Syntax.{StepSet, Formula, Model}
 use Rattle.pb_model_meaning.specs.Erase.{joined, modal}
-use Rattle.pb_model_translation.specs.Translation.{Callee, Scope, has_equation, is_fixpoint, next_if, equation_count, operand_callee, right_side, equation, with_equation, equations, all_equations}
+use Rattle.pb_model_translation.specs.Translation.{Callee, Scope, has_equation, next_if, equation_count, operand_callee, right_side, equation, with_equation, equations}
 use Rattle.pb_model_names.proofs.Chains.{all_joined, at-chain}
 use Rattle.pb_model_names.specs.View.{formula_of, operand_of, operands_of}
 use Rattle.pb_model_modalities.specs.View as modalities

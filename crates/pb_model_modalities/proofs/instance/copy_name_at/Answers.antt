@@ -1,4 +1,4 @@
-use Rattle.std.proofs.Common.{◌≡◌, ◌∙◌, sym, ap}
+use Rattle.std.proofs.Common.{◌∙◌}
 use Rattle.pb_model_modalities.proofs.Named.{name-there, name-past}
 use Rattle.pb_model_modalities.proofs.instance.copy_name_at.Goals as goal
 

@@ -1,5 +1,4 @@
 use Rattle.std.proofs.Common.{ℕ, true, true≢false, ◌==◌, vec_len, length, arith, sym, ◌≡◌, ◌∙◌, ap}
-use Rattle.pb_text_tree.specs.declared.formula.Link.{Link}
 use Rattle.pb_model_modalities.proofs.TextChains.{joined-links, first-left}
 use Rattle.pb_model_modalities.proofs.join.join.Goals as goal
 

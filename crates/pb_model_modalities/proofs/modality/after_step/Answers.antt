@@ -1,12 +1,11 @@
-use Rattle.std.proofs.Common.{◌≡◌, ◌∙◌, ap, sym, subst, List, map, IfOk}
+use Rattle.std.proofs.Common.{◌≡◌, ◌∙◌, ap, sym, List}
 use Rattle.std.proofs.lemmas.Result.{IfOk-weaker}
 use Rattle.pb_text_tree.specs.declared.operator.Quantifier.TheVariants.{Forall, Exists}
 use Rattle.pb_text_tree.specs.declared.variable.Variables.{Variables}
 use Rattle.pb_text_tree.specs.Form.{TermForm}
-use Rattle.pb_text_meaning.specs.Syntax.{Formula, Variable}
+use Rattle.pb_text_meaning.specs.Syntax.{Formula}
 use Rattle.pb_text_meaning.specs.Erase.{erased_term}
 use Rattle.pb_model_tree.specs.declared.formula.Modality.{Modality}
-use Rattle.pb_model_tree.specs.declared.formula.Modality.TheVariants.{Box, Diamond}
 use Rattle.pb_model_tree.specs.declared.step.Assignment as declared_assignment
 use Rattle.pb_model_translation.specs.Translation.{call, over}
 use Rattle.pb_model_modalities.specs.View.{assignments_in, callee_of, formula_of, model_in, names_by, step_of, variables_in}

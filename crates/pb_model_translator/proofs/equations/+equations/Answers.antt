@@ -1,4 +1,4 @@
-use Rattle.std.proofs.Common.{arith, ◌≡◌, ◌+◌, ◌∙◌, ℕ, List, ap, sym, refl, subst, OnOk, vec_len}
+use Rattle.std.proofs.Common.{arith, ◌≡◌, ◌+◌, ℕ, List, refl, subst, OnOk, vec_len}
 use Rattle.pb_text_meaning.specs.Syntax.{Equation}
 use Rattle.pb_model_names.specs.View.{formula_of, operands_of}
 use Rattle.pb_model_modalities.specs.View.{model_in, names_by}

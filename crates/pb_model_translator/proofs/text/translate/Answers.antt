@@ -2,7 +2,6 @@ use Rattle.std.proofs.Common.{◌≡◌, ◌∙◌, ap}
 use Rattle.std.specs.Prelude.{Some}
 use Rattle.std.specs.List.{slice_get}
 use Rattle.std.proofs.lemmas.Result.{IfOk-weaker}
-use Rattle.pb_text_tree.specs.declared.spec.Spec as declared_spec
 use Rattle.pb_text_tree.specs.Form.{spec_form}
 use Rattle.pb_text_meaning.specs.Erase.{erase}
 use Rattle.pb_model_meaning.specs.Syntax.{Property, Formula}
