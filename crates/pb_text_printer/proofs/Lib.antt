@@ -1,4 +1,3 @@
-pub mod CopyLemmas
 mod PageLemmas
 mod VariableParts
 mod LinkParts

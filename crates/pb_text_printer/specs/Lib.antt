@@ -1,5 +1,4 @@
 pub mod Unplaced
-pub mod Copied
 pub mod Printing
 pub mod Words
 pub mod Page

@@ -1,4 +1,4 @@
-//! Prints texts, and copies data terms.
+//! Prints texts.
 //!
 //! A text is printed with brackets only where the grammar needs them to be read as the same tree:
 //! `specs/Words.antt` says what is written. What is printed of a text that was read is read back as
@@ -10,11 +10,10 @@ mod laws;
 mod level;
 mod printing;
 mod term;
-mod term_copy;
 mod text;
 mod variables;
 mod writer;
 
 pub use laws::{printed_text_is_read_back, printed_words_are_read_back};
+pub use pb_text_copies::copy_term as copy;
 pub use printing::print;
-pub use term_copy::copy;
