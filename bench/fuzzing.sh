@@ -1,10 +1,13 @@
 #!/bin/sh
-# bench/fuzzing.sh [FIRST [COUNT]]: COUNT generated and changed modules and as many texts, of the seeds from FIRST on, and each
-# byte of the known modules set to each value, with all instances of each accepted module run. Prints what became of them.
-# The program must have been built, by `(cd crates/bench_fuzzing && rt run)`.
+# bench/fuzzing.sh [FIRST [COUNT]]: the tests `fuzzing` of crates/test_program with COUNT generated and changed modules and as many texts in place of the gate's 4,000, of the
+# seeds from FIRST on, and with all instances of each accepted module run in place of the first 256. Works on a copy, whose constants it sets: proves and builds
+# that crate, over what earlier checks in this or another copy kept, and prints what became of the modules and texts, or the seed that was not as wanted.
 set -e
 cd "$(dirname "$0")/.."
-first=${1:-0}
-count=${2:-100000}
-printf 'bytes 0 1 8388608 counts\nmodules %s %s 8388608 counts\ntexts %s %s 1 counts\n' "$first" "$count" "$first" "$count" |
-    crates/bench_fuzzing/out/bench_fuzzing
+room=$(mktemp -d)
+trap 'rm -rf "$room"' EXIT
+tar c --exclude='crates/*/out' HANDLES crates.txt crates | tar x -C "$room"
+cd "$room" && git init -q && cd crates/test_program
+sed -i -e "s/^const FIRST: u64 = .*;/const FIRST: u64 = ${1:-0};/" -e "s/^const COUNT: u64 = .*;/const COUNT: u64 = ${2:-100000};/" \
+    -e "s/^const MOST: u32 = .*;/const MOST: u32 = 8388608;/" src/fuzzing/tests.rt
+RT_SECONDS=86400 rt test -- fuzzing

@@ -4,8 +4,8 @@
     pbsolve explain < FILE | python3 bench/picture.py | dot -Tsvg > FILE.svg
 
 Of evidence: a node for each instance, with edges to those that it rests on; the initial one has a double border, and what lies on
-cycles is red (of a lasso: the run that goes round). Of a game, which is to be small: a diamond where player 0 moves, a box where
-player 1 does, each with its name, if it has one, and its priority."""
+cycles is red (of a lasso: the run that goes round). With `--places` each edge has the place of its call. Of a game, which is to be
+small: a diamond where player 0 moves, a box where player 1 does, each with its name, if it has one, and its priority."""
 import re
 import sys
 
@@ -22,11 +22,11 @@ def quoted(text):
 
 
 def evidence(text):
-    """The lines of a graph for a proof graph: `X(0) false: Y(1) Y(2)` for each instance, the initial one first."""
+    """The lines of a graph for a proof graph: `X(0) false: Y(1) Y(2)@3:8` for each instance, the initial one first."""
     rests = {}
     for line in text.splitlines()[1:]:
         name, _, *others = line.split(" ")
-        rests[name] = others
+        rests[name] = dict(other.partition("@")[::2] for other in others)
     around = {}
     for component in components(rests, lambda name: [other for other in rests[name] if other in rests]):
         if len(component) > 1 or component[0] in rests[component[0]]:
@@ -34,9 +34,10 @@ def evidence(text):
     for place, name in enumerate(rests):
         marks = ["peripheries=2"] * (place == 0) + ["color=red"] * (name in around)
         yield f"{quoted(name)} [{', '.join(marks)}]"
-        for other in rests[name]:
+        for other, call in rests[name].items():
             goes_round = name in around and around[name] == around.get(other)
-            yield f"{quoted(name)} -> {quoted(other)}" + " [color=red]" * goes_round
+            marks = ["color=red"] * goes_round + [f"label={quoted(call)}"] * bool(call)
+            yield f"{quoted(name)} -> {quoted(other)}" + f" [{', '.join(marks)}]" * bool(marks)
 
 
 def game(text):

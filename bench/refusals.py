@@ -1,7 +1,12 @@
 #!/usr/bin/env python3
-"""bench/refusals.py PROGRAM: refuses each request for memory of PROGRAM in turn, and each start of a thread, and prints a
-table of what came of it. PROGRAM is crates/pbsolve_main/out/pbsolve_main, as LLVM builds it. `refuse.c` beside this file
-is compiled and loaded into it; it counts the calls of malloc, realloc and calloc, and those of pthread_create.
+"""Refuses each request for memory of the program in turn, and each start of a thread, and prints a table of what came of it.
+
+    bench/refusals.py PROGRAM          PROGRAM is crates/pbsolve_main/out/pbsolve_main, as LLVM builds it
+    bench/refusals.py PROGRAM TESTS    the gate's part: with two workers one request in seven and one calm run alone; and the test of one
+                                       worker without memory in TESTS, the built tests of pb_exploration, is refused each of its requests too
+
+`refuse.c` beside this file is compiled, by the toolchain's own clang, and loaded into the program; it counts the calls of malloc, realloc
+and calloc, and those of pthread_create.
 
 For each case requests are counted up until a run meets no refusal (with two workers, whose requests vary with
 their interleaving, until twenty runs in a row meet none). A run that met one must end with status 3, the line `M01` and
@@ -45,6 +50,9 @@ CASES = [
     ("solve-code", "counts down", COUNTS_DOWN, b"answer true\ninstances 10\ncut 0\nvertices 12\n"),
 ]
 NO_MEMORY = (3, b"", b"M01\n")
+WORKER_ALONE = "worker_without_memory"
+TEST_ERROR = 101
+STEP = 7
 
 
 class Refusals:
@@ -53,23 +61,27 @@ class Refusals:
     def __init__(self, program, folder):
         self.program, self.report = program, os.path.join(folder, "report")
         self.library = os.path.join(folder, "refuse.so")
+        kit = os.path.dirname(subprocess.run(["rt", "doc"], capture_output=True, text=True, check=True).stdout.strip())
+        self.tools = os.path.join(kit, "toolchain", "bin")
         source = os.path.join(os.path.dirname(os.path.abspath(__file__)), "refuse.c")
-        subprocess.run(["cc", "-O2", "-shared", "-fPIC", "-o", self.library, source, "-ldl"], check=True)
+        words = ["-O2", "-shared", "-fPIC", "-nostdlib", "-nostdinc", f"--ld-path={self.tools}/ld.lld", "-o", self.library, source]
+        subprocess.run([f"{self.tools}/clang", *words], check=True)
         self.names = self.symbols()
 
     def symbols(self):
         """The program's functions by their addresses, where it tells them."""
-        lines = subprocess.run(["nm", "-n", self.program], capture_output=True, text=True).stdout.splitlines()
+        clang = f"{self.tools}/clang"
+        lines = subprocess.run(["llvm-nm", "-n", self.program], executable=clang, capture_output=True, text=True).stdout.splitlines()
         words = [line.split() for line in lines]
         return [(int(word[0], 16), word[2]) for word in words if len(word) == 3]
 
-    def run(self, command, text, workers, **refused):
+    def run(self, words, text, **refused):
         """How the run ended, and what was refused: `program`, `library`, `thread` or `nothing`, with the callers."""
         if os.path.exists(self.report):
             os.remove(self.report)
         settings = {f"REFUSE_{kind.upper()}": str(number) for kind, number in refused.items()}
         done = subprocess.run(
-            [self.program, command, "--workers", str(workers)], input=text, capture_output=True, timeout=60,
+            [self.program, *words], input=text, capture_output=True, timeout=60,
             env={"LD_PRELOAD": self.library, "REFUSE_REPORT": self.report, **settings},
         )
         _, _, what, *places = open(self.report).read().split()
@@ -80,13 +92,12 @@ class Refusals:
         return [max((it for it in self.names if it[0] <= place), default=(0, hex(place)))[1] for place in places]
 
 
-def sweep(refusals, case, workers, kind, wrong):
+def sweep(refusals, case, workers, kind, is_part, wrong):
     """Refuses each request or thread in turn: how many were refused, and how many of these runs answered all the same."""
     command, name, text, output = case
-    whole, number, refused, answered, calm = (0, output, b""), 0, 0, 0, 0
-    while calm < (20 if workers > 1 else 1):
-        number += 1
-        ended, what, places = refusals.run(command, text, workers, **{kind: number})
+    whole, number, refused, answered, calm = (0, output, b""), 1, 0, 0, 0
+    while calm < (20 if workers > 1 and not is_part else 1):
+        ended, what, places = refusals.run([command, "--workers", str(workers)], text, **{kind: number})
         if what == "nothing":
             calm += 1
             is_wanted = ended == whole
@@ -97,21 +108,40 @@ def sweep(refusals, case, workers, kind, wrong):
             is_wanted = ended == NO_MEMORY or may_answer and ended == whole
         if not is_wanted:
             wrong.append((command, name, workers, kind, number, what, ended, refusals.callers(places)))
+        number += STEP if workers > 1 and is_part else 1
     return refused, answered
 
 
+def sweep_worker(tests, wrong):
+    """Refuses each request of the test of one worker alone, which looks at what the worker left: how many were refused."""
+    listed = subprocess.run([tests.program, "--list"], capture_output=True, text=True, check=True).stdout
+    (name,) = [line.partition(": ")[0] for line in listed.splitlines() if line.endswith(f"{WORKER_ALONE}: test")]
+    number, what = 0, ""
+    while what != "nothing":
+        number += 1
+        ended, what, _ = tests.run([name], b"", request=number)
+        # Before the worker begins, a refusal is the test's own error; an assertion that fails aborts.
+        if ended[0] != 0 and (what == "nothing" or ended[0] != TEST_ERROR or not ended[2].startswith(b"error: ")):
+            wrong.append((name, number, what, ended))
+    return number - 1
+
+
 def main():
-    wrong, total = [], 0
+    wrong, total, tests = [], 0, sys.argv[2:]
     with tempfile.TemporaryDirectory() as folder:
         refusals = Refusals(os.path.abspath(sys.argv[1]), folder)
         print("| Command | Input | Workers | Requests refused | answered all the same | Threads refused | answered all the same |")
         print("|---|---|---|---|---|---|---|")
         for case in CASES:
             for workers in (1, 2):
-                requests = sweep(refusals, case, workers, "request", wrong)
-                threads = sweep(refusals, case, workers, "thread", wrong)
+                requests = sweep(refusals, case, workers, "request", bool(tests), wrong)
+                threads = sweep(refusals, case, workers, "thread", bool(tests), wrong)
                 total += requests[0] + threads[0]
                 print(f"| `{case[0]}` | {case[1]} | {workers} | {requests[0]} | {requests[1]} | {threads[0]} | {threads[1]} |", flush=True)
+        for path in tests:
+            alone = sweep_worker(Refusals(os.path.abspath(path), folder), wrong)
+            print(f"{alone} requests of one worker alone")
+            total += alone
     print(f"{total} refusals, {len(wrong)} not as wanted")
     for it in wrong:
         print(it)

@@ -6,24 +6,36 @@
  * line at the end: how many requests there were, how many threads, whether something was refused, and from where: `program`
  * where the program itself asked, `library` where the C library did, `thread` where a thread was refused. Where the program
  * asked, the return addresses follow, relative to the program's start. */
-#define _GNU_SOURCE
-#include <dlfcn.h>
-#include <errno.h>
-#include <execinfo.h>
-#include <fcntl.h>
-#include <pthread.h>
-#include <stdatomic.h>
-#include <stdio.h>
-#include <stdlib.h>
-#include <string.h>
-#include <sys/syscall.h>
-#include <unistd.h>
+/* It names what it takes of the C library itself, so that the clang of the toolchain can compile it where no header is. */
+typedef unsigned long size_t;
+typedef unsigned long pthread_t;
+typedef struct pthread_attributes pthread_attr_t;
 
 extern void *__libc_malloc(size_t);
 extern void *__libc_calloc(size_t, size_t);
 extern void *__libc_realloc(void *, size_t);
+extern char *getenv(const char *);
+extern long atol(const char *);
+extern unsigned long strtoul(const char *, char **, int);
+extern char *strchr(const char *, int);
+extern char *strstr(const char *, const char *);
+extern int snprintf(char *, size_t, const char *, ...);
+extern int open(const char *, int, ...);
+extern long read(int, void *, size_t);
+extern long write(int, const void *, size_t);
+extern int close(int);
+extern long readlink(const char *, char *, size_t);
+extern long syscall(long, ...);
+extern void abort(void);
+extern void *dlsym(void *, const char *);
+extern int backtrace(void **, int);
+extern int *__errno_location(void);
 
-static atomic_long requests, threads;
+/* Of the system's headers, for Linux on x86-64. */
+enum { O_RDONLY = 0, O_WRONLY = 1, O_CREAT = 0100, O_TRUNC = 01000, EAGAIN = 11, ENOMEM = 12, SYS_exit_group = 231 };
+#define RTLD_NEXT ((void *)-1L)
+
+static long requests, threads;
 static long refused_request = -1, refused_thread = -1;
 static const char *refused = "nothing";
 static void *trace[32];
@@ -38,11 +50,11 @@ static long number(const char *name) {
 /* Where the program's own code lies, by /proc/self/maps, read without memory. */
 static void find_program(void) {
     static char maps[1 << 16], path[4096];
-    ssize_t length = readlink("/proc/self/exe", path, sizeof path - 1);
+    long length = readlink("/proc/self/exe", path, sizeof path - 1);
     if (length < 0) return;
     path[length] = 0;
     int file = open("/proc/self/maps", O_RDONLY);
-    ssize_t all = 0, got;
+    long all = 0, got;
     while ((got = read(file, maps + all, sizeof maps - 1 - all)) > 0) all += got;
     close(file);
     maps[all] = 0;
@@ -64,7 +76,7 @@ __attribute__((constructor)) static void begin(void) {
     void *first[1];
     backtrace(first, 1); /* takes its memory before anything is counted */
     find_program();
-    atomic_store(&requests, 0);
+    __atomic_store_n(&requests, 0, __ATOMIC_SEQ_CST);
     refused_request = number("REFUSE_REQUEST");
     refused_thread = number("REFUSE_THREAD");
 }
@@ -73,7 +85,7 @@ static void tell(void) {
     const char *name = getenv("REFUSE_REPORT");
     if (!name) return;
     static char line[4096];
-    int length = snprintf(line, sizeof line, "%ld %ld %s", (long)requests, (long)threads, refused);
+    int length = snprintf(line, sizeof line, "%ld %ld %s", requests, threads, refused);
     for (int i = 0; i < trace_length && length < 4000; i++) {
         char *place = trace[i];
         if (place >= program_start && place < program_end)
@@ -96,11 +108,11 @@ void _exit(int status) {
 
 static int is_refused(void *caller) {
     if (refused_request < 0) return 0;
-    long own = atomic_fetch_add(&requests, 1) + 1;
+    long own = __atomic_add_fetch(&requests, 1, __ATOMIC_SEQ_CST);
     if (own != refused_request) return 0;
     refused = (char *)caller >= program_start && (char *)caller < program_end ? "program" : "library";
     trace_length = backtrace(trace, 32);
-    errno = ENOMEM;
+    *__errno_location() = ENOMEM;
     return 1;
 }
 
@@ -119,7 +131,7 @@ void *realloc(void *old, size_t size) {
 int pthread_create(pthread_t *thread, const pthread_attr_t *attributes, void *(*start)(void *), void *argument) {
     static int (*real)(pthread_t *, const pthread_attr_t *, void *(*)(void *), void *);
     if (!real) real = dlsym(RTLD_NEXT, "pthread_create");
-    if (atomic_fetch_add(&threads, 1) + 1 == refused_thread) {
+    if (__atomic_add_fetch(&threads, 1, __ATOMIC_SEQ_CST) == refused_thread) {
         refused = "thread";
         return EAGAIN;
     }

@@ -3,9 +3,9 @@ use Rattle.std.proofs.Common.{◌≡◌, ℕ, zero, suc, ◌+◌, ◌<◌, List,
 use Rattle.std.specs.Prelude.{box_value}
 use mathlib.Core.Former.{Count}
 use Rattle.pb_text_tree.specs.declared.operator.Connective.{Connective}
-use Rattle.pb_normal.specs.declared.term.Term as term
-use Rattle.pb_normal.specs.declared.term.Term.{Term, Row_of-Term, end_of-Term, more_of-Term, items-the_row-Term, items_hidden-the_row-Term-0, Row_of-Link, end_of-Link, more_of-Link, items-the_row-Link, items_hidden-the_row-Link-1}
-use Rattle.pb_normal.specs.declared.term.Link.{Link}
+use Rattle.pb_typed_tree.specs.declared.term.Term as term
+use Rattle.pb_typed_tree.specs.declared.term.Term.{Term, Row_of-Term, end_of-Term, more_of-Term, items-the_row-Term, items_hidden-the_row-Term-0, Row_of-Link, end_of-Link, more_of-Link, items-the_row-Link, items_hidden-the_row-Link-1}
+use Rattle.pb_typed_tree.specs.declared.term.Link.{Link}
 
 abbrev mutual
   pub weight : Term → ℕ

@@ -3,9 +3,10 @@
 ghost use Rattle.std.specs.Prelude.{◌≡◌, not, true, length, map, option_map, Option, None, IfSome};
 ghost use Rattle.std.specs.Prelude.{OnOk};
 ghost use Rattle.pb_sorts.specs.Layout.{lists_of};
+ghost use Rattle.pb_typed_tree.specs.View.{chained, term_view};
 ghost use Rattle.pb_normal.specs.Normal.{Join};
-ghost use Rattle.pb_normal.specs.View.{chained, formula_view, formula_views, is_and, is_forall};
-ghost use Rattle.pb_normal.specs.View.{nested, term_view};
+ghost use Rattle.pb_normal.specs.View.{formula_view, formula_views, is_and, is_forall};
+ghost use Rattle.pb_normal.specs.View.{nested};
 ghost use Rattle.pb_assembler_scheme.specs.Scheme.{connective_of, deciding, formula_piece, test_of};
 ghost use Rattle.pb_assembler_scheme.specs.Scheme.{test_piece};
 ghost use Rattle.pb_assembler.specs.Emitted.{Emits, nowhere};

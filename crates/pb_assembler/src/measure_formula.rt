@@ -2,8 +2,9 @@
 
 ghost use Rattle.std.specs.Prelude.{◌≡◌, ◌<◌, ◌||◌, ℕ, Bool, None, drop, length, map};
 ghost use Rattle.std.specs.List.{slice_get};
+ghost use Rattle.pb_typed_tree.specs.View.{chained};
 ghost use Rattle.pb_normal.specs.Normal.{Call, Join};
-ghost use Rattle.pb_normal.specs.View.{argument_view, chained, formula_view, formula_views, is_and};
+ghost use Rattle.pb_normal.specs.View.{argument_view, formula_view, formula_views, is_and};
 ghost use Rattle.pb_normal.specs.View.{is_forall, nested};
 ghost use Rattle.pb_assembler_scheme.specs.Scheme.{any_tested, parameters, test_of};
 ghost use Rattle.pb_typing.specs.View.{shape_view};

@@ -2,8 +2,8 @@
 
 ghost use Rattle.std.specs.Prelude.{◌≡◌};
 ghost use Rattle.pb_text_meaning.specs.Erase.{of_comparison, of_connective};
-ghost use Rattle.pb_normal.specs.Normal.{Binary};
-ghost use Rattle.pb_normal.specs.View.{calculated, chained, link_views, term_view, term_views};
+ghost use Rattle.pb_typed_tree.specs.Tree.{Binary};
+ghost use Rattle.pb_typed_tree.specs.View.{calculated, chained, link_views, term_view, term_views};
 ghost use Rattle.pb_assembler.specs.MeasureTerms.{both, capped_load, chosen, connected, followed};
 ghost use Rattle.pb_assembler.specs.MeasureTerms.{single, term_load};
 

@@ -1,6 +1,6 @@
 -- Well-typed terms of a text are well typed over slots, with the intervals that typing gives them.
 use Rattle.std.proofs.Common.{◌≡◌, ℕ, ◌<◌, ◌≤◌, max, Bool, true, false, cond, not, ◌&&◌, ◌||◌, List, [], ◌∷◌, length, Option, Some, None, refl, sym, ap, ◌∙◌, subst, arith, true≢false}
-use Rattle.std.specs.Prelude.{ℤ, pos, int_lt, int_le, slice_get, codes}
+use Rattle.std.specs.Prelude.{ℤ, pos, int_lt, int_le, slice_get}
 use Rattle.std.specs.Option.{option_map}
 use Rattle.std.proofs.lemmas.Bool.{and_from, and_parts, eqb-true, eq-eqb}
 use Rattle.std.proofs.lemmas.Int.{ints, clamps}
@@ -8,15 +8,19 @@ use Rattle.pb_bytecode_program.proofs.Ints.{from_le, le_true, from_below}
 use Rattle.pb_intervals.specs.Interval.{IntegerInterval, is_within, within, literals, words, singleton}
 use Rattle.pb_intervals.specs.Operation.{UnaryOperation, BinaryOperation, unary_interval, binary_interval}
 use Rattle.pb_text_meaning.specs.Syntax as syntax
-use Rattle.pb_text_meaning.specs.Syntax.{Name, same_name, Operator, Terms, Spec}
+use Rattle.pb_text_meaning.specs.Syntax.{Name, Operator, Terms, Spec}
+use Rattle.pb_text_meaning.specs.declared.function.NamedFunction.{NamedFunction}
+use Rattle.pb_text_meaning.specs.declared.function.NamedFunction.TheVariants.{If, Succ, Pred, Abs, Max, Min, Pos2Nat, Pos2Int, Nat2Int}
+use Rattle.pb_text_meaning.specs.Functions.{named_function}
 use Rattle.pb_typing_declarations.specs.Shapes.{Shape, Unknown, Truths, Places, Wholes}
-use Rattle.pb_typing_declarations.specs.Enumerators.{Position, position_shape, enumerator_of, recogniser_of}
+use Rattle.pb_typing_declarations.specs.Enumerators.{Position, position_shape, enumerator_of, recogniser_of, recogniser_shape}
 use Rattle.pb_typing_rules.specs.Shapes.{may_be_truth, may_be_whole, may_be_alike, of_interval, interval, unary_shape, unary_is_limited, may_divide, binary_shape, binary_is_limited, hull, kind_of, outcome}
-use Rattle.pb_typing_rules.specs.Functions.{Function, function_named, OfOne, OfTwo, Conversion, Recogniser, recogniser, kept}
+use Rattle.pb_typing_rules.specs.Functions.{Function, known_function, function_named, OfOne, OfTwo, Conversion, Recogniser, recogniser, kept}
 use Rattle.pb_typing_rules.specs.Functions as functions
 use Rattle.pb_typing_rules.specs.Scope.{Scope, or_else, named_shape}
 use Rattle.pb_typing_rules.specs.Term.{shape, shapes, shape_or_unknown, applied_shape, IsNamed, IsApplied, IsOperation, passes, IsTyped, AreTyped}
 use Rattle.pb_typing_rules.proofs.Operations.{not_or}
+use Rattle.pb_typing_rules.proofs.Functions.{may_follow}
 use Rattle.pb_bytecode_program.specs.Values.{divides, fits64, operation_of}
 use Rattle.pb_bytecode_program.specs.Abstract.{same_kind, Covers}
 use Rattle.pb_bytecode_program.specs.declared.abstract_value.AbstractValue.{AbstractValue}
@@ -27,7 +31,7 @@ use Rattle.pb_bytecode_program.specs.declared.instruction.Arithmetic.{Arithmetic
 use Rattle.pb_bytecode_program.specs.declared.instruction.Arithmetic.TheVariants as arithmetic
 use Rattle.pb_normal.specs.Normal.{Term, Number, Slot, Negative, Absolute, Successor, Predecessor, Binary, Maximum, Minimum, Choice, Recognised}
 use Rattle.pb_normal.specs.Normalisation as made
-use Rattle.pb_normal.specs.Normalisation.{Slotting, slotted, slotted_all, applied}
+use Rattle.pb_normal.specs.Normalisation.{Slotting, slotted, slotted_all, applied_to_one, applied_to_two, applied_to_three, applied}
 use Rattle.pb_assembler_accepted.specs.Made.{struct_counts}
 use Rattle.pb_assembler_accepted.proofs.Typing.{Typed, Computes, Compares, Connects, Makes, instruction_of, IsEnumerator, solid}
 use Rattle.pb_assembler_accepted.proofs.Formulas.{known_of}
@@ -268,70 +272,56 @@ module _ (counts : List ℕ) (ls : List (ℕ × AbstractValue)) (ps : List Abstr
   AllFit [] (s ∷ ss) = ⊥
   AllFit (t ∷ ts) [] = ⊥
 
-  -- the functions, by the tests of the name, and the recogniser of this name
-  abbrev chosen : (b_if b_succ b_pred b_abs b_conversion b_max b_min : Bool) → Option Position → Option Function
-  chosen b_if b_succ b_pred b_abs b_conversion b_max b_min o =
-      cond b_if (Some functions.Choice)
-      (cond b_succ (Some (OfOne UnaryOperation.Successor))
-      (cond b_pred (Some (OfOne UnaryOperation.Predecessor))
-      (cond b_abs (Some (OfOne UnaryOperation.AbsoluteValue))
-      (cond b_conversion (Some Conversion)
-      (cond b_max (Some (OfTwo BinaryOperation.Maximum))
-      (cond b_min (Some (OfTwo BinaryOperation.Minimum)) (recogniser (option_map position_shape o))))))))
-
-  abbrev one_chosen : (b_succ b_pred b_abs b_conversion : Bool) → Option Position → Term → Term
-  one_chosen b_succ b_pred b_abs b_conversion o x = cond b_succ (Successor x) (cond b_pred (Predecessor x) (cond b_abs (Absolute x) (cond b_conversion x (made.recognised o x))))
-
   abbrev Positioned : Option Position → Type 0
   Positioned o = (p : Position) → o ≡ Some p → IsPosition 0 counts p
 
-  one_applied : (b_if b_succ b_pred b_abs b_conversion b_max b_min : Bool) (o : Option Position) (x : Term) (s : Shape) → Positioned o → Fits x s → IsApplied (chosen b_if b_succ b_pred b_abs b_conversion b_max b_min o) (s ∷ [])
-      → Fits (one_chosen b_succ b_pred b_abs b_conversion o x) (applied_shape (chosen b_if b_succ b_pred b_abs b_conversion b_max b_min o) (s ∷ []))
-  one_applied true b_succ b_pred b_abs b_conversion b_max b_min o x s known f h = absurd (omega (arith, h.0))
-  one_applied false true b_pred b_abs b_conversion b_max b_min o x s known f h = successor x s f h.1 h.2
-  one_applied false false true b_abs b_conversion b_max b_min o x s known f h = predecessor x s f h.1 h.2
-  one_applied false false false true b_conversion b_max b_min o x s known f h = absolute x s f h.1 h.2
-  one_applied false false false false true b_max b_min o x s known f h = conversion x s f h.1
-  one_applied false false false false false true b_min o x s known f h = absurd (omega (arith, h.0))
-  one_applied false false false false false false true o x s known f h = absurd (omega (arith, h.0))
-  one_applied false false false false false false false (Some p) x s known f h = recognised p (known p refl) x s f h.1
-  one_applied false false false false false false false None x s known f h = absurd h
+  abbrev shape_there : Option Position → Option Shape
+  shape_there o = option_map position_shape o
 
-  two_applied : (b_if b_succ b_pred b_abs b_conversion b_max b_min : Bool) (o : Option Position) (x y : Term) (s t : Shape) → Fits x s → Fits y t → IsApplied (chosen b_if b_succ b_pred b_abs b_conversion b_max b_min o) (s ∷ t ∷ [])
-      → Fits (cond b_max (Maximum x y) (cond b_min (Minimum x y) (Number 0))) (applied_shape (chosen b_if b_succ b_pred b_abs b_conversion b_max b_min o) (s ∷ t ∷ []))
-  two_applied true b_succ b_pred b_abs b_conversion b_max b_min o x y s t f g h = absurd (omega (arith, h.0))
-  two_applied false true b_pred b_abs b_conversion b_max b_min o x y s t f g h = absurd (omega (arith, h.0))
-  two_applied false false true b_abs b_conversion b_max b_min o x y s t f g h = absurd (omega (arith, h.0))
-  two_applied false false false true b_conversion b_max b_min o x y s t f g h = absurd (omega (arith, h.0))
-  two_applied false false false false true b_max b_min o x y s t f g h = absurd (omega (arith, h.0))
-  two_applied false false false false false true b_min o x y s t f g h = extreme arithmetic.Max (Maximum x y) x y s t (λ v m. m) f g h.1 (divides_any s t) h.2
-    where
-      divides_any : (s t : Shape) → may_divide BinaryOperation.Maximum t ≡ true
-      divides_any s Unknown = refl
-      divides_any s Truths = refl
-      divides_any s (Places a b) = refl
-      divides_any s (Wholes a b) = refl
-  two_applied false false false false false false true o x y s t f g h = extreme arithmetic.Min (Minimum x y) x y s t (λ v m. m) f g h.1 (divides_any s t) h.2
-    where
-      divides_any : (s t : Shape) → may_divide BinaryOperation.Minimum t ≡ true
-      divides_any s Unknown = refl
-      divides_any s Truths = refl
-      divides_any s (Places a b) = refl
-      divides_any s (Wholes a b) = refl
-  two_applied false false false false false false false (Some p) x y s t f g h = absurd (omega (arith, h.0))
-  two_applied false false false false false false false None x y s t f g h = absurd h
+  recognised_applied : (o : Option Position) (x : Term) (s : Shape) → Positioned o → Fits x s → IsApplied (recogniser (shape_there o)) (s ∷ []) → Fits (made.recognised o x) (applied_shape (recogniser (shape_there o)) (s ∷ []))
+  recognised_applied None x s known f h = absurd h
+  recognised_applied (Some p) x s known f h = recognised p (known p refl) x s f h.1
 
-  three_applied : (b_if b_succ b_pred b_abs b_conversion b_max b_min : Bool) (o : Option Position) (x y z : Term) (r s t : Shape) → Fits x r → Fits y s → Fits z t → IsApplied (chosen b_if b_succ b_pred b_abs b_conversion b_max b_min o) (r ∷ s ∷ t ∷ [])
-      → Fits (cond b_if (Choice x y z) (Number 0)) (applied_shape (chosen b_if b_succ b_pred b_abs b_conversion b_max b_min o) (r ∷ s ∷ t ∷ []))
-  three_applied true b_succ b_pred b_abs b_conversion b_max b_min o x y z r s t f g k h = let two = and_parts (may_be_truth r) (may_be_alike s t) h.1 in choice x y z r s t f g k two.0 two.1
-  three_applied false true b_pred b_abs b_conversion b_max b_min o x y z r s t f g k h = absurd (omega (arith, h.0))
-  three_applied false false true b_abs b_conversion b_max b_min o x y z r s t f g k h = absurd (omega (arith, h.0))
-  three_applied false false false true b_conversion b_max b_min o x y z r s t f g k h = absurd (omega (arith, h.0))
-  three_applied false false false false true b_max b_min o x y z r s t f g k h = absurd (omega (arith, h.0))
-  three_applied false false false false false true b_min o x y z r s t f g k h = absurd (omega (arith, h.0))
-  three_applied false false false false false false true o x y z r s t f g k h = absurd (omega (arith, h.0))
-  three_applied false false false false false false false (Some p) x y z r s t f g k h = absurd (omega (arith, h.0))
-  three_applied false false false false false false false None x y z r s t f g k h = absurd h
+  one_applied : (spec : Spec) (name : Name) (g : Option NamedFunction) (x : Term) (s : Shape) → Positioned (recogniser_of spec name) → Fits x s → IsApplied (known_function g (recogniser_shape spec name)) (s ∷ [])
+      → Fits (applied_to_one spec name g x) (applied_shape (known_function g (recogniser_shape spec name)) (s ∷ []))
+  one_applied spec name (Some If) x s known f h = absurd (omega (arith, h.0))
+  one_applied spec name (Some Succ) x s known f h = successor x s f h.1 h.2
+  one_applied spec name (Some Pred) x s known f h = predecessor x s f h.1 h.2
+  one_applied spec name (Some Abs) x s known f h = absolute x s f h.1 h.2
+  one_applied spec name (Some Max) x s known f h = absurd (omega (arith, h.0))
+  one_applied spec name (Some Min) x s known f h = absurd (omega (arith, h.0))
+  one_applied spec name (Some Pos2Nat) x s known f h = conversion x s f h.1
+  one_applied spec name (Some Pos2Int) x s known f h = conversion x s f h.1
+  one_applied spec name (Some Nat2Int) x s known f h = conversion x s f h.1
+  one_applied spec name None x s known f h = recognised_applied (recogniser_of spec name) x s known f h
+
+  two_applied : (g : Option NamedFunction) (r : Option Shape) (x y : Term) (s t : Shape) → Fits x s → Fits y t → IsApplied (known_function g r) (s ∷ t ∷ [])
+      → Fits (applied_to_two g x y) (applied_shape (known_function g r) (s ∷ t ∷ []))
+  two_applied (Some If) r x y s t f g h = absurd (omega (arith, h.0))
+  two_applied (Some Succ) r x y s t f g h = absurd (omega (arith, h.0))
+  two_applied (Some Pred) r x y s t f g h = absurd (omega (arith, h.0))
+  two_applied (Some Abs) r x y s t f g h = absurd (omega (arith, h.0))
+  two_applied (Some Max) r x y s t f g h = extreme arithmetic.Max (Maximum x y) x y s t (λ v m. m) f g h.1 (may_follow BinaryOperation.Maximum t refl) h.2
+  two_applied (Some Min) r x y s t f g h = extreme arithmetic.Min (Minimum x y) x y s t (λ v m. m) f g h.1 (may_follow BinaryOperation.Minimum t refl) h.2
+  two_applied (Some Pos2Nat) r x y s t f g h = absurd (omega (arith, h.0))
+  two_applied (Some Pos2Int) r x y s t f g h = absurd (omega (arith, h.0))
+  two_applied (Some Nat2Int) r x y s t f g h = absurd (omega (arith, h.0))
+  two_applied None None x y s t f g h = absurd h
+  two_applied None (Some r) x y s t f g h = absurd (omega (arith, h.0))
+
+  three_applied : (g : Option NamedFunction) (u : Option Shape) (x y z : Term) (r s t : Shape) → Fits x r → Fits y s → Fits z t → IsApplied (known_function g u) (r ∷ s ∷ t ∷ [])
+      → Fits (applied_to_three g x y z) (applied_shape (known_function g u) (r ∷ s ∷ t ∷ []))
+  three_applied (Some If) u x y z r s t f g k h = let two = and_parts (may_be_truth r) (may_be_alike s t) h.1 in choice x y z r s t f g k two.0 two.1
+  three_applied (Some Succ) u x y z r s t f g k h = absurd (omega (arith, h.0))
+  three_applied (Some Pred) u x y z r s t f g k h = absurd (omega (arith, h.0))
+  three_applied (Some Abs) u x y z r s t f g k h = absurd (omega (arith, h.0))
+  three_applied (Some Max) u x y z r s t f g k h = absurd (omega (arith, h.0))
+  three_applied (Some Min) u x y z r s t f g k h = absurd (omega (arith, h.0))
+  three_applied (Some Pos2Nat) u x y z r s t f g k h = absurd (omega (arith, h.0))
+  three_applied (Some Pos2Int) u x y z r s t f g k h = absurd (omega (arith, h.0))
+  three_applied (Some Nat2Int) u x y z r s t f g k h = absurd (omega (arith, h.0))
+  three_applied None None x y z r s t f g k h = absurd h
+  three_applied None (Some u) x y z r s t f g k h = absurd (omega (arith, h.0))
 
   -- no function takes none, or more than three
   takes_some : (o : Option Function) (ss : List Shape) → IsApplied o ss → (1 ≤ length ss) × (length ss ≤ 3)
@@ -345,17 +335,10 @@ module _ (counts : List ℕ) (ls : List (ℕ × AbstractValue)) (ps : List Abstr
   applied_fits : (spec : Spec) → counts ≡ struct_counts spec.sorts → (f : Name) (ts : List Term) (ss : List Shape) → AllFit ts ss → IsApplied (function_named spec f) ss → Fits (applied spec f ts) (applied_shape (function_named spec f) ss)
   applied_fits spec same f [] [] fit h = absurd (omega (arith, (takes_some (function_named spec f) [] h).0))
   applied_fits spec same f (x ∷ []) (s ∷ []) fit h =
-      one_applied (same_name f (codes "if")) (same_name f (codes "succ")) (same_name f (codes "pred")) (same_name f (codes "abs"))
-      (same_name f (codes "Pos2Nat") || same_name f (codes "Pos2Int") || same_name f (codes "Nat2Int")) (same_name f (codes "max")) (same_name f (codes "min"))
-      (recogniser_of spec f) x s (λ p e. subst (λ (c : List ℕ). IsPosition 0 c p) (sym same) (recogniser_known spec f p e)) fit.0 h
-  applied_fits spec same f (x ∷ y ∷ []) (s ∷ t ∷ []) fit h =
-      two_applied (same_name f (codes "if")) (same_name f (codes "succ")) (same_name f (codes "pred")) (same_name f (codes "abs"))
-      (same_name f (codes "Pos2Nat") || same_name f (codes "Pos2Int") || same_name f (codes "Nat2Int")) (same_name f (codes "max")) (same_name f (codes "min"))
-      (recogniser_of spec f) x y s t fit.0 fit.1.0 h
+      one_applied spec f (named_function f) x s (λ p e. subst (λ (c : List ℕ). IsPosition 0 c p) (sym same) (recogniser_known spec f p e)) fit.0 h
+  applied_fits spec same f (x ∷ y ∷ []) (s ∷ t ∷ []) fit h = two_applied (named_function f) (recogniser_shape spec f) x y s t fit.0 fit.1.0 h
   applied_fits spec same f (x ∷ y ∷ z ∷ []) (r ∷ s ∷ t ∷ []) fit h =
-      three_applied (same_name f (codes "if")) (same_name f (codes "succ")) (same_name f (codes "pred")) (same_name f (codes "abs"))
-      (same_name f (codes "Pos2Nat") || same_name f (codes "Pos2Int") || same_name f (codes "Nat2Int")) (same_name f (codes "max")) (same_name f (codes "min"))
-      (recogniser_of spec f) x y z r s t fit.0 fit.1.0 fit.1.1.0 h
+      three_applied (named_function f) (recogniser_shape spec f) x y z r s t fit.0 fit.1.0 fit.1.1.0 h
   applied_fits spec same f (x ∷ y ∷ z ∷ w ∷ ts) (r ∷ s ∷ t ∷ u ∷ ss) fit h = absurd (omega (arith, (takes_some (function_named spec f) (r ∷ s ∷ t ∷ u ∷ ss) h).1))
   applied_fits spec same f [] (s ∷ ss) fit h = absurd fit
   applied_fits spec same f (x ∷ ts) [] fit h = absurd fit

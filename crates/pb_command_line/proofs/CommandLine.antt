@@ -1,6 +1,6 @@
 -- What clap makes of words: the request that it reads, or the fault that it finds.
-use Rattle.std.proofs.Common.{◌≡◌, ◌∙◌, ℕ, true, List, [], ◌∷◌, Option, Some, None, option_map, refl, sym, ap, ap₂, subst, inl, inr, arith}
-use Rattle.std.specs.Prelude.{Result, Ok, Err, IfErr}
+use Rattle.std.proofs.Common.{◌≡◌, ◌∙◌, ℕ, true, false, List, [], ◌∷◌, Option, Some, None, option_map, codes, refl, sym, ap, ap₂, subst, inl, inr, arith}
+use Rattle.std.specs.Prelude.{Result, Ok, Err, IfOk, IfErr, string_bytes}
 use Rattle.std.specs.Result.{IsErrAnd}
 use Rattle.std.specs.Global.{Box}
 use Rattle.std.specs.Box.{box_value}
@@ -10,6 +10,8 @@ use Rattle.clap.specs.Simple.{App, HasMatchesOf, is_simple, subcommand_of, subco
 use Rattle.clap.specs.Matches.{found_of, subcommand_name_of}
 use Rattle.clap.specs.Walk.{Row, rows_of}
 use Rattle.clap.specs.Words.{kind_of}
+use Rattle.clap.specs.declared.builder.value_parser.Reading.TheVariants.{AsWritten}
+use Rattle.clap.specs.declared.parser.matches.ValueSource.TheVariants.{DefaultValue}
 use Rattle.clap.specs.declared.error.Error.{Error}
 use Rattle.clap.specs.declared.parser.matches.SubCommand.{SubCommand}
 use Rattle.clap.specs.declared.parser.matches.ArgMatches.{ArgMatches}
@@ -17,11 +19,11 @@ use Rattle.clap.specs.declared.parser.matches.ArgMatches.TheViews.{out-ArgMatche
 use Rattle.clap.proofs.OnLiterals.{clap_on_literals}
 use Rattle.pb_solver_names.specs.declared.solver.Solver.TheVariants.{Zielonka}
 use Rattle.pb_command_line.specs.declared.command.Command.{Command}
-use Rattle.pb_command_line.specs.declared.command.Command.TheVariants.{Solve, Game, Solution, Certificate, Explain, Compile, Verify, List as ListModule, SolveCode}
+use Rattle.pb_command_line.specs.declared.command.Command.TheVariants.{Solve, Game, Solution, Certificate, Explain, Compile, Verify, List as ListModule, SolveCode, Translate, Check}
 use Rattle.pb_command_line.specs.declared.request.Request.{Request}
 use Rattle.pb_command_line.specs.declared.words.WordsError.{WordsError}
 use Rattle.pb_command_line.specs.declared.words.WordsError.TheVariants.{Usage, Memory}
-use Rattle.pb_command_line.specs.Words.{command_line, command_name, words_error_of, AskFor, AskForSomething, AskPlainly, HaveFault, IsRequestOf}
+use Rattle.pb_command_line.specs.Words.{command_line, command_name, words_error_of, ArePlacesToldBy, AskFor, AskForSomething, AskPlainly, HaveFault, IsRequestOf, option_word}
 
 line_is_simple : is_simple command_line ≡ true
 unfolding clap_on_literals
@@ -45,10 +47,17 @@ no_fault name Compile = refl
 no_fault name Verify = refl
 no_fault name ListModule = refl
 no_fault name SolveCode = refl
+no_fault name Translate = refl
+no_fault name Check = refl
+
+-- what it reads of a command's options where none stands: that of `--places` it takes for `false`
+no_option : Command → List Row
+no_option Explain = record { id = codes "places"; values = codes "false" ∷ []; count = None; source = Some DefaultValue; reading = AsWritten } ∷ []
+no_option _ = []
 
 -- and reads that command in it, with no option
-command_alone : (name : List ℕ) (command : Command) → subcommand_of command_line (name ∷ command_name command ∷ []) ≡ Some (command_name command, [])
-unfolding clap_on_literals
+command_alone : (name : List ℕ) (command : Command) → subcommand_of command_line (name ∷ command_name command ∷ []) ≡ Some (command_name command, no_option command)
+unfolding clap_on_literals no_option
 command_alone name Solve = refl
 command_alone name Game = refl
 command_alone name Solution = refl
@@ -58,20 +67,67 @@ command_alone name Compile = refl
 command_alone name Verify = refl
 command_alone name ListModule = refl
 command_alone name SolveCode = refl
+command_alone name Translate = refl
+command_alone name Check = refl
 
 plain_request : Command → Request
-plain_request command = record { command = command; workers = 1; solver = Zielonka; some = omega arith; few = omega arith }
+plain_request command = record { command = command; workers = 1; solver = Zielonka; places = false; property = None; some = omega arith; few = omega arith }
+
+no_places : (word : Option (List ℕ)) → (word ≡ Some (codes "true") → ⊥) → ArePlacesToldBy word false
+no_places word untold = (λ told. absurd (cc told), λ told. absurd (untold told))
+
+plain_read : (command : Command) → IsRequestOf (Some (command_name command, no_option command)) (plain_request command)
+unfolding plain_request no_option
+plain_read Solve = record { command = refl; workers = refl; solver = refl; places = no_places None (λ told. cc told); property = refl }
+plain_read Game = record { command = refl; workers = refl; solver = refl; places = no_places None (λ told. cc told); property = refl }
+plain_read Solution = record { command = refl; workers = refl; solver = refl; places = no_places None (λ told. cc told); property = refl }
+plain_read Certificate = record { command = refl; workers = refl; solver = refl; places = no_places None (λ told. cc told); property = refl }
+plain_read Explain = record { command = refl; workers = refl; solver = refl; places = no_places (Some (codes "false")) (λ told. cc told); property = refl }
+plain_read Compile = record { command = refl; workers = refl; solver = refl; places = no_places None (λ told. cc told); property = refl }
+plain_read Verify = record { command = refl; workers = refl; solver = refl; places = no_places None (λ told. cc told); property = refl }
+plain_read ListModule = record { command = refl; workers = refl; solver = refl; places = no_places None (λ told. cc told); property = refl }
+plain_read SolveCode = record { command = refl; workers = refl; solver = refl; places = no_places None (λ told. cc told); property = refl }
+plain_read Translate = record { command = refl; workers = refl; solver = refl; places = no_places None (λ told. cc told); property = refl }
+plain_read Check = record { command = refl; workers = refl; solver = refl; places = no_places None (λ told. cc told); property = refl }
 
 -- so it asks for that command by one worker
 pub plain_words_ask : (words : List (List ℕ)) → AskPlainly words → AskForSomething words
-unfolding plain_request
 plain_words_ask words plain =
-    let read : IsRequestOf (Some (command_name plain.1, [])) (plain_request plain.1) = record { command = refl; workers = refl; solver = refl } in
     let asked : AskFor (plain.0 ∷ command_name plain.1 ∷ []) (plain_request plain.1) = record {
       faultless = no_fault plain.0 plain.1;
-      read = subst (λ found. IsRequestOf found (plain_request plain.1)) (sym (command_alone plain.0 plain.1)) read;
+      read = subst (λ found. IsRequestOf found (plain_request plain.1)) (sym (command_alone plain.0 plain.1)) (plain_read plain.1);
     } in
     (plain_request plain.1, subst (λ ws. AskFor ws (plain_request plain.1)) (sym plain.2) asked)
+
+-- the word of a command alone names no property
+no_property_word : (command : Command) → option_word (codes "property") (Some (command_name command, no_option command)) ≡ None
+unfolding no_option
+no_property_word Solve = refl
+no_property_word Game = refl
+no_property_word Solution = refl
+no_property_word Certificate = refl
+no_property_word Explain = refl
+no_property_word Compile = refl
+no_property_word Verify = refl
+no_property_word ListModule = refl
+no_property_word SolveCode = refl
+no_property_word Translate = refl
+no_property_word Check = refl
+
+mapped_none : {A B : Type 0} (f : A → B) (x : Option A) → option_map f x ≡ None → x ≡ None
+mapped_none f None e = refl
+mapped_none f (Some x) e = absurd (cc e)
+
+plain_names_none : (words : List (List ℕ)) → AskPlainly words → (request : Request) → AskFor words request → request.property ≡ None
+plain_names_none words plain request asked =
+    let read = subst (λ (ws : List (List ℕ)). IsRequestOf (subcommand_of command_line ws) request) plain.2 asked.read in
+    let alone = subst (λ (found : Option (List ℕ × List Row)). IsRequestOf found request) (command_alone plain.0 plain.1) read in
+    mapped_none string_bytes request.property (sym alone.property ∙ no_property_word plain.1)
+
+pub plain_results_name_none : {E : Type 0} (words : List (List ℕ)) → AskPlainly words → (r : Result Request E) → IfOk r (AskFor words)
+    → IfOk r (λ request. request.property ≡ None)
+plain_results_name_none words plain (Ok request) asked = plain_names_none words plain request asked
+plain_results_name_none words plain (Err e) asked = tt
 
 -- words that ask for something are refused for want of memory alone
 pub memory_alone : {T : Type 0} (words : List (List ℕ)) (r : Result T WordsError) → (r ≡ Err Usage → HaveFault words)

@@ -1,6 +1,7 @@
 -- What the words of the command line ask.
-use Rattle.std.specs.Prelude.{◌≡◌, ◌≢◌, ⊤, ℕ, true, List, [], ◌∷◌, Option, Some, None, option_map, option_and_then, ◌<◌, ◌≤◌, codes}
+use Rattle.std.specs.Prelude.{◌≡◌, ◌≢◌, ◌↔◌, ⊤, ℕ, Bool, IsTrue, true, List, [], ◌∷◌, Option, Some, None, option_map, option_and_then, ◌<◌, ◌≤◌, codes, string_bytes}
 use Rattle.std.specs.Str.Parse.{IsNumeral, digits_value, without_leading_plus}
+use Rattle.clap.specs.declared.builder.action.ArgAction.TheVariants.{SetTrue}
 use Rattle.clap.specs.declared.error.kind.ErrorKind.{ErrorKind}
 use Rattle.clap.specs.declared.error.kind.ErrorKind.TheVariants.{OutOfMemory}
 use Rattle.clap.specs.Faults.{fault_of}
@@ -10,7 +11,7 @@ use Rattle.pb_solver_names.specs.declared.solver.Solver.{Solver}
 use Rattle.pb_solver_names.specs.declared.solver.Solver.TheVariants.{Zielonka}
 use Rattle.pb_solver_names.specs.Names.{solver_name}
 use Rattle.pb_command_line.specs.declared.command.Command.{Command}
-use Rattle.pb_command_line.specs.declared.command.Command.TheVariants.{Solve, Game, Solution, Certificate, Explain, Compile, Verify, List as ListModule, SolveCode}
+use Rattle.pb_command_line.specs.declared.command.Command.TheVariants.{Solve, Game, Solution, Certificate, Explain, Compile, Verify, List as ListModule, SolveCode, Translate, Check}
 use Rattle.pb_command_line.specs.declared.request.Request.{Request}
 use Rattle.pb_command_line.specs.declared.words.WordsError.{WordsError}
 use Rattle.pb_command_line.specs.declared.words.WordsError.TheVariants.{Usage, Memory}
@@ -31,6 +32,8 @@ command_name Compile = codes "compile"
 command_name Verify = codes "verify"
 command_name ListModule = codes "list"
 command_name SolveCode = codes "solve-code"
+command_name Translate = codes "translate"
+command_name Check = codes "check"
 
 -- `--workers` with any word
 abbrev pub workers_rule : Rule
@@ -40,13 +43,30 @@ workers_rule = record (new_rule (codes "workers")) { long = Some (codes "workers
 abbrev pub solver_rule : Rule
 solver_rule = record (new_rule (codes "solver")) { long = Some (codes "solver") }
 
+-- `--places`, with no word behind it: clap reads `true` where it stands, and else `false`
+abbrev pub places_rule : Rule
+places_rule =
+    record (new_rule (codes "places")) { long = Some (codes "places"); action = Some SetTrue }
+
+-- `--property` with any word
+abbrev pub property_rule : Rule
+property_rule = record (new_rule (codes "property")) { long = Some (codes "property") }
+
 -- a command that takes the number of workers
 abbrev pub exploring_shape : List ℕ → Shape
 exploring_shape name = record (new_shape name) { rules = workers_rule ∷ [] }
 
--- a command that takes the solver too
+-- a command that can be told to name places too
+abbrev pub explaining_shape : List ℕ → Shape
+explaining_shape name = record (new_shape name) { rules = workers_rule ∷ places_rule ∷ [] }
+
+-- a command that takes the number of workers and the solver
 abbrev pub solving_shape : List ℕ → Shape
 solving_shape name = record (new_shape name) { rules = workers_rule ∷ solver_rule ∷ [] }
+
+-- a command that takes the name of a property
+abbrev pub translating_shape : List ℕ → Shape
+translating_shape name = record (new_shape name) { rules = property_rule ∷ [] }
 
 -- the program, which needs a command, and the commands of texts
 abbrev pub text_line : App
@@ -56,7 +76,7 @@ text_line =
     let game = with_subcommand solve (exploring_shape (codes "game")) in
     let solution = with_subcommand game (solving_shape (codes "solution")) in
     let certificate = with_subcommand solution (solving_shape (codes "certificate")) in
-    let explain = with_subcommand certificate (exploring_shape (codes "explain")) in
+    let explain = with_subcommand certificate (explaining_shape (codes "explain")) in
     with_subcommand explain (new_shape (codes "compile"))
 
 -- the command line, as clap reads it
@@ -64,7 +84,9 @@ abbrev pub command_line : App
 command_line =
     let verify = with_subcommand text_line (new_shape (codes "verify")) in
     let listing = with_subcommand verify (new_shape (codes "list")) in
-    with_subcommand listing (solving_shape (codes "solve-code"))
+    let solve_code = with_subcommand listing (solving_shape (codes "solve-code")) in
+    let translate = with_subcommand solve_code (translating_shape (codes "translate")) in
+    with_subcommand translate (solving_shape (codes "check"))
 
 -- the word that stands behind this option of a command, where clap read one
 abbrev pub option_word : List ℕ → Option (List ℕ × List Row) → Option (List ℕ)
@@ -82,11 +104,17 @@ abbrev pub IsChosenBy : Option (List ℕ) → Solver → Type 0
 IsChosenBy None solver = solver ≡ Zielonka
 IsChosenBy (Some word) solver = word ≡ solver_name solver
 
+-- places are told where clap reads `true`
+abbrev pub ArePlacesToldBy : Option (List ℕ) → Bool → Type 0
+ArePlacesToldBy word places = IsTrue places ↔ (word ≡ Some (codes "true"))
+
 -- a command and its options, as clap read them, make this request
 pub record IsRequestOf (read : Option (List ℕ × List Row)) (request : Request) : Type 0 where
   pub command : option_map (λ p. p.0) read ≡ Some (command_name request.command)
   pub workers : IsWorkersOf (option_word (codes "workers") read) request.workers
   pub solver : IsChosenBy (option_word (codes "solver") read) request.solver
+  pub places : ArePlacesToldBy (option_word (codes "places") read) request.places
+  pub property : option_word (codes "property") read ≡ option_map string_bytes request.property
 
 -- the words, the first of which is the program's name, ask for this: clap finds no fault in them, and what it reads is the request
 pub record AskFor (words : List (List ℕ)) (request : Request) : Type 0 where

@@ -23,6 +23,10 @@ pub enum Command {
     List,
     /// The report of a module.
     SolveCode,
+    /// The text of a model's property.
+    Translate,
+    /// Which properties of a model hold.
+    Check,
 }
 
 impl Command {
@@ -42,6 +46,8 @@ impl Command {
             Command::Verify => "verify",
             Command::List => "list",
             Command::SolveCode => "solve-code",
+            Command::Translate => "translate",
+            Command::Check => "check",
         }
     }
 
@@ -61,6 +67,8 @@ impl Command {
             "verify" => Some(Command::Verify),
             "list" => Some(Command::List),
             "solve-code" => Some(Command::SolveCode),
+            "translate" => Some(Command::Translate),
+            "check" => Some(Command::Check),
             _ => None,
         }
     }

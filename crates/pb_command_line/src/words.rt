@@ -1,20 +1,21 @@
 //! The words of the command line.
-ghost use Rattle.std.specs.Prelude.{◌≡◌, ◌<◌, ◌≤◌, ℕ, false, map, codes, Some, Err, IfOk, IfErr};
-ghost use Rattle.std.specs.Prelude.{IfSome, IfNone};
+ghost use Rattle.std.specs.Prelude.{◌≡◌, ◌<◌, ◌≤◌, ℕ, false, map, codes, None, Some, Err, IfOk, IfErr};
+ghost use Rattle.std.specs.Prelude.{IfSome, IfNone, option_map, string_bytes};
 ghost use Rattle.clap.specs.Simple.{app_of, new_shape, with_subcommand};
 ghost use Rattle.clap.specs.Matches.{found_of, first_value};
 ghost use Rattle.clap.specs.Walk.{rule_of, rows_of};
 ghost use Rattle.pb_command_line.specs.declared.request.Request.{Request};
 ghost use Rattle.pb_solver_names.specs.declared.solver.Solver.{Solver};
-ghost use Rattle.pb_command_line.specs.Words.{command_line, exploring_shape, solving_shape};
-ghost use Rattle.pb_command_line.specs.Words.{workers_rule, solver_rule};
-ghost use Rattle.pb_command_line.specs.Words.{IsChosenBy, IsWorkersOf, IsRequestOf};
+ghost use Rattle.pb_command_line.specs.Words.{command_line, exploring_shape, explaining_shape};
+ghost use Rattle.pb_command_line.specs.Words.{solving_shape, translating_shape, workers_rule};
+ghost use Rattle.pb_command_line.specs.Words.{places_rule, property_rule, solver_rule};
+ghost use Rattle.pb_command_line.specs.Words.{ArePlacesToldBy, IsChosenBy, IsWorkersOf, IsRequestOf};
 ghost use Rattle.pb_command_line.specs.Words.{AskFor, HaveFault, AskNothing, AskPlainly};
 
 use crate::command::Command;
 use crate::request::Request;
 use clap::error::ErrorKind;
-use clap::{Arg, ArgMatches, Error};
+use clap::{Arg, ArgAction, ArgMatches, Error};
 use pb_solver_names::Solver;
 use std::alloc::{AllocError, Global};
 use std::convert::AsStr;
@@ -69,6 +70,24 @@ fn solver_option<'a>(alloc: Global) -> Arg<'a>
     Arg::new(alloc, "solver").long("solver")
 }
 
+// The option `--places`, with no word behind it.
+fn places_option<'a>(alloc: Global) -> Arg<'a>
+    ensures rule { rule_of result ≡ places_rule }
+    ensures local { result.global ≡ false }
+{
+    Arg::new(alloc, "places")
+        .long("places")
+        .action(ArgAction::SetTrue)
+}
+
+// The option `--property`, with any word.
+fn property_option<'a>(alloc: Global) -> Arg<'a>
+    ensures rule { rule_of result ≡ property_rule }
+    ensures local { result.global ≡ false }
+{
+    Arg::new(alloc, "property").long("property")
+}
+
 // A command line with one more command, which has no words of its own.
 fn with_plain<'a>(
     alloc: Global,
@@ -94,6 +113,21 @@ fn with_exploring<'a>(
     line.subcommand(command)
 }
 
+// A command line with one more command, which takes the number of workers, and tells places.
+fn with_explaining<'a>(
+    alloc: Global,
+    line: clap::Command<'a>,
+    name: &'a str,
+) -> Result<clap::Command<'a>, AllocError>
+    ensures { IfOk result (λ c. app_of c ≡ with_subcommand (app_of line.entry)
+        (explaining_shape name.now)) }
+{
+    let command = clap::Command::new(alloc, name)
+        .arg(workers_option(alloc))?
+        .arg(places_option(alloc))?;
+    line.subcommand(command)
+}
+
 // A command line with one more command, which takes the number of workers and the solver.
 fn with_solving<'a>(
     alloc: Global,
@@ -109,6 +143,19 @@ fn with_solving<'a>(
     line.subcommand(command)
 }
 
+// A command line with one more command, which takes the name of a property.
+fn with_translating<'a>(
+    alloc: Global,
+    line: clap::Command<'a>,
+    name: &'a str,
+) -> Result<clap::Command<'a>, AllocError>
+    ensures { IfOk result (λ c. app_of c ≡ with_subcommand (app_of line.entry)
+        (translating_shape name.now)) }
+{
+    let command = clap::Command::new(alloc, name).arg(property_option(alloc))?;
+    line.subcommand(command)
+}
+
 // The command line as clap reads it.
 fn command_line<'a>(alloc: Global) -> Result<clap::Command<'a>, AllocError>
     ensures { IfOk result (λ c. app_of c ≡ command_line) }
@@ -118,11 +165,13 @@ fn command_line<'a>(alloc: Global) -> Result<clap::Command<'a>, AllocError>
     let line = with_exploring(alloc, line, "game")?;
     let line = with_solving(alloc, line, "solution")?;
     let line = with_solving(alloc, line, "certificate")?;
-    let line = with_exploring(alloc, line, "explain")?;
+    let line = with_explaining(alloc, line, "explain")?;
     let line = with_plain(alloc, line, "compile")?;
     let line = with_plain(alloc, line, "verify")?;
     let line = with_plain(alloc, line, "list")?;
     let line = with_solving(alloc, line, "solve-code")?;
+    let line = with_translating(alloc, line, "translate")?;
+    let line = with_solving(alloc, line, "check")?;
     Ok(line)
 }
 
@@ -159,8 +208,28 @@ fn solver_of(options: &ArgMatches) -> Option<Solver>
     }
 }
 
-// What a command asks with its options.
-fn request_with(name: &str, options: &ArgMatches) -> Option<Request>
+// Whether a command is told to name places.
+fn places_of(options: &ArgMatches) -> bool
+    ensures { ArePlacesToldBy (first_value (found_of options.now) (codes "places")) result }
+{
+    options.get_str("places") == Some("true")
+}
+
+// The property that a command is told of.
+fn property_of(alloc: Global, options: &ArgMatches) -> Result<Option<String>, AllocError>
+    ensures { IfOk result (λ property. option_map string_bytes property
+        ≡ first_value (found_of options.now) (codes "property")) }
+{
+    match options.get_str("property") {
+        None => Ok(None),
+        Some(word) => Ok(Some(String::from_str(alloc, word)?)),
+    }
+}
+
+// What a command asks with its options, the property that it is told of being given.
+fn request_with(name: &str, options: &ArgMatches, property: Option<String>) -> Option<Request>
+    requires { option_map string_bytes property
+        ≡ first_value (found_of options.now) (codes "property") }
     ensures read { IfSome result
         (IsRequestOf (Some (name.now, rows_of (found_of options.now)))) }
     ensures none { IfNone result ((request : Request)
@@ -173,6 +242,8 @@ fn request_with(name: &str, options: &ArgMatches) -> Option<Request>
         command,
         workers,
         solver,
+        places: places_of(options),
+        property,
     })
 }
 
@@ -185,14 +256,15 @@ fn request_in<S: AsStr>(alloc: Global, words: &[S]) -> Result<Request, WordsErro
     let Some((name, options)) = matches.subcommand() else {
         return Err(WordsError::Usage);
     };
-    match request_with(name, options) {
+    let property = property_of(alloc, options)?;
+    match request_with(name, options, property) {
         Some(request) => Ok(request),
         None => Err(WordsError::Usage),
     }
 }
 
-/// What the words ask, the first of them being the program's name: a command, and the number of
-/// workers and the solver that its options name.
+/// What the words ask, the first of them being the program's name: a command, the number of workers,
+/// the solver and the property that its options name, and whether places are asked for.
 ///
 /// # Errors
 /// `Usage` exactly where the words have a fault, unless memory is refused first: where `clap`
@@ -204,6 +276,8 @@ pub fn request_of<S: AsStr>(alloc: Global, words: &[S]) -> Result<Request, Words
     // The word of each command asks for that alone; no word, or one that is none's, has a fault.
     ensures understood { AskPlainly (map S.text words.now)
         → IfErr result (λ e. e ≡ WordsError.Memory) }
+    ensures nameless { AskPlainly (map S.text words.now)
+        → IfOk result (λ request. request.property ≡ None) }
     ensures refused { AskNothing (map S.text words.now) → IfOk result (λ request. ⊥) }
 {
     request_in(alloc, words)

@@ -5,8 +5,7 @@ use Rattle.pb_fixpoint.specs.Solution.{Environment}
 use Rattle.pb_trees.specs.Tree.{Tree, tree_truth}
 use Rattle.pb_trees.specs.Equations.{Signature}
 use Rattle.pb_proof_graph.specs.Assumed.{leaf_tree, IsAssumed, AreAssumed}
-use Rattle.pb_evidence.specs.declared.Evidence.{Evidence}
-use Rattle.pb_evidence.specs.Evidence.{graph_of, Shows}
+use Rattle.pb_evidence.specs.Evidence.{graph_of}
 use Rattle.pb_evidence.specs.Assumed.{AssumedIsShown}
 use Rattle.pb_evidence.proofs.Finding.{contains_at}
 use Rattle.pb_evidence_texts.specs.declared.module_evidence.Explanation.{Explanation}

@@ -1,5 +1,6 @@
 -- Evidence for the truth of a module's initial instance, and its text.
-use Rattle.std.specs.Prelude.{◌≡◌, ℕ, List, map}
+use Rattle.std.specs.Prelude.{◌≡◌, ℕ, List, Option, map}
+use Rattle.pb_text_tree.specs.declared.place.Place.{Place}
 use Rattle.pb_trees.specs.Tree.{Tree}
 use Rattle.pb_trees.specs.Equations.{Signature}
 use Rattle.pb_bytecode.specs.Contents.{Contents}
@@ -29,13 +30,14 @@ IsModuleEvidence m e =
     (trees : ℕ → Tree) → AreTrees m trees
     → Shows (map signature_of m.equations) trees (initial_of m) e
 
--- evidence as a text, the instances by their names
-abbrev pub module_evidence_text : Contents → (ℕ → Tree) → Evidence → List ℕ
-module_evidence_text m trees e =
-    evidence_text (instance_name m) e.truth (is_cut trees e) (graph_of e)
+-- evidence as a text, the instances by their names, with the places that are told of who calls whom
+abbrev pub module_evidence_text :
+    Contents → (ℕ → Tree) → (ℕ → ℕ → Option Place) → Evidence → List ℕ
+module_evidence_text m trees place e =
+    evidence_text (instance_name m) place e.truth (is_cut trees e) (graph_of e)
 
 -- there is evidence for the truth of the module's initial instance, of whose text P holds
-abbrev pub ForEvidenceText : Contents → (List ℕ → Type 0) → Type 0
-ForEvidenceText m P =
+abbrev pub ForEvidenceText : Contents → (ℕ → ℕ → Option Place) → (List ℕ → Type 0) → Type 0
+ForEvidenceText m place P =
     (e : Evidence) × IsModuleEvidence m e
-    × ((trees : ℕ → Tree) → AreTrees m trees → P (module_evidence_text m trees e))
+    × ((trees : ℕ → Tree) → AreTrees m trees → P (module_evidence_text m trees place e))

@@ -1,5 +1,6 @@
 -- The lines of a module's evidence, by their places.
-use Rattle.std.specs.Prelude.{ℕ, List, slice_index}
+use Rattle.std.specs.Prelude.{ℕ, List, Option, slice_index}
+use Rattle.pb_text_tree.specs.declared.place.Place.{Place}
 use Rattle.pb_trees.specs.Tree.{Tree}
 use Rattle.pb_bytecode.specs.Contents.{Contents}
 use Rattle.pb_evidence.specs.declared.Evidence.{Evidence}
@@ -9,14 +10,17 @@ use Rattle.pb_evidence_texts.specs.Cuts.{is_cut}
 use Rattle.pb_evidence_texts.specs.EvidenceText.{evidence_line, evidence_lines}
 
 -- those of these instances
-abbrev pub lines_of : Contents → (ℕ → Tree) → Evidence → List ℕ → List ℕ
-lines_of m trees e instances =
-    evidence_lines (instance_name m) e.truth (graph_of e).dependencies (is_cut trees e) instances
+abbrev pub lines_of :
+    Contents → (ℕ → Tree) → (ℕ → ℕ → Option Place) → Evidence → List ℕ → List ℕ
+lines_of m trees place e instances =
+    evidence_lines (instance_name m) place e.truth (graph_of e).dependencies (is_cut trees e)
+    instances
 
-abbrev pub line_of : Contents → (ℕ → Tree) → Evidence → ℕ → List ℕ
-line_of m trees e n =
-    evidence_line (instance_name m) e.truth n ((graph_of e).dependencies n) (is_cut trees e n)
+abbrev pub line_of : Contents → (ℕ → Tree) → (ℕ → ℕ → Option Place) → Evidence → ℕ → List ℕ
+line_of m trees place e n =
+    evidence_line (instance_name m) (place n) e.truth n ((graph_of e).dependencies n)
+    (is_cut trees e n)
 
 -- that of the instance at a place
-abbrev pub line_at : Contents → (ℕ → Tree) → Evidence → ℕ → List ℕ
-line_at m trees e place = line_of m trees e (slice_index e.instances.items place)
+abbrev pub line_at : Contents → (ℕ → Tree) → (ℕ → ℕ → Option Place) → Evidence → ℕ → List ℕ
+line_at m trees place e k = line_of m trees place e (slice_index e.instances.items k)

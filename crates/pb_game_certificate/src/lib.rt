@@ -2,8 +2,9 @@
 //!
 //! A [`Solution`] names for each vertex the player who wins from there, that player's choice where
 //! it moves, and one count for each priority: a progress measure (Jurdzinski 2000). It is a
-//! certificate of its game where the five rules of [`CertificateRule`] hold, and then its winners
-//! are the winners of the game.
+//! certificate of its game where the five rules of [`CertificateRule`] hold. All certificates of a
+//! game name the same winners (`winners_agree` of pb_lifting), and in the game of a system's trees
+//! these are the truths of its instances (pb_game_meaning).
 #![tactic(auto)]
 
 ghost use Rattle.std.specs.Prelude.{◌≡◌, ◌+◌, ◌*◌, ◌^◌, ◌<◌, length};

@@ -1,9 +1,9 @@
 //! Lifting by one thread, until no lift raises a word.
-ghost use Rattle.std.specs.Prelude.{◌≡◌, ◌<◌, length};
+ghost use Rattle.std.specs.Prelude.{◌≡◌, ◌<◌, ◌≤◌, length};
 ghost use Rattle.pb_game.specs.Games.{vertex_count};
 ghost use Rattle.pb_lifting.specs.Scales.{IsScaleOf};
-ghost use Rattle.pb_lifting.specs.Measures.{least_rank, IsFixed, IsLeastMeasure};
-ghost use Rattle.pb_lifting.specs.Sweep.{AreWords, IsSweptAt, IsSweptOnce};
+ghost use Rattle.pb_lifting.specs.Measures.{least_rank, top_of, IsFixed, IsLeastMeasure};
+ghost use Rattle.pb_lifting.specs.Sweep.{AreWords, IsSweptAt, IsSweptOnce, slack};
 
 use crate::scale::{Scale, better_rank, rank_before_successors};
 use pb_game::Game;
@@ -57,6 +57,22 @@ fn sweep_pass(game: &Game, player: u8, scale: &Scale, words: &mut Vec<u64>) -> b
     raised
 }
 
+/// Lifts each word once, the last of them first, so that ranks go quickly along chains of vertices
+/// whose numbers rise.
+fn sweep_down(game: &Game, player: u8, scale: &Scale, words: &mut Vec<u64>)
+    requires scale { IsScaleOf game.now player scale.now }
+    requires words { AreWords game.now player words.old.items }
+    ensures words { AreWords game.now player words.new.items }
+    ensures kept { slack (top_of game.now player) words.new.items
+        ≤ slack (top_of game.now player) words.old.items }
+{
+    let mut v = game.len();
+    while v > 0 {
+        v -= 1;
+        sweep_vertex(game, player, scale, words, v);
+    }
+}
+
 /// Lifts the words until no lift raises one: then they are the least measure.
 pub(crate) fn sweep(game: &Game, player: u8, scale: &Scale, words: &mut Vec<u64>)
     requires scale { IsScaleOf game.now player scale.now }
@@ -68,5 +84,6 @@ pub(crate) fn sweep(game: &Game, player: u8, scale: &Scale, words: &mut Vec<u64>
         if !sweep_pass(game, player, scale, words) {
             return;
         }
+        sweep_down(game, player, scale, words);
     }
 }

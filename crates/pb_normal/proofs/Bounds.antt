@@ -1,5 +1,5 @@
 -- In a well-typed specification the numbers, slots, callees and enumerators of each normal form are bounded.
-use Rattle.std.proofs.Common.{◌≡◌, ℕ, zero, suc, ◌+◌, ◌<◌, ◌≤◌, ◌^◌, Bool, true, false, not, ◌&&◌, ◌||◌, if◌then◌else◌, List, [], ◌∷◌, length, Option, Some, None, pos, int_le, refl, arith, codes}
+use Rattle.std.proofs.Common.{◌≡◌, ℕ, zero, suc, ◌+◌, ◌<◌, ◌≤◌, ◌^◌, Bool, true, false, not, ◌&&◌, ◌||◌, if◌then◌else◌, List, [], ◌∷◌, length, Option, Some, None, pos, int_le, refl, arith}
 use Rattle.std.specs.Prelude.{nat_lt, nat_le}
 use Rattle.std.specs.List.{All}
 use Rattle.std.proofs.lemmas.Int.{ints}
@@ -8,6 +8,9 @@ use Rattle.pb_intervals.specs.Interval.{is_within, singleton, literals}
 use Rattle.pb_intervals.proofs.Ends.{le_true}
 use Rattle.pb_text_meaning.specs.Syntax as syntax
 use Rattle.pb_text_meaning.specs.Syntax.{Name, same_name, Variable, Operator, Terms, Equation, Spec}
+use Rattle.pb_text_meaning.specs.declared.function.NamedFunction.{NamedFunction}
+use Rattle.pb_text_meaning.specs.declared.function.NamedFunction.TheVariants.{If, Succ, Pred, Abs, Max, Min, Pos2Nat, Pos2Int, Nat2Int}
+use Rattle.pb_text_meaning.specs.Functions.{named_function}
 use Rattle.pb_text_meaning.specs.Formula.{equation_named}
 use Rattle.pb_typing_declarations.specs.Enumerators.{Position, enumerator_of, recogniser_of}
 use Rattle.pb_typing_rules.specs.Shapes.{kind_of}
@@ -25,9 +28,9 @@ use Rattle.pb_normal.specs.Plain.{AreFree}
 use Rattle.pb_normal.specs.Structs.{has_enumerator, struct_counts}
 use Rattle.pb_normal.specs.Bounds.{Bounds, is_bounded, are_bounded, is_bounded_formula, bounds_with, HasBounds}
 use Rattle.pb_normal.proofs.LoopSlots.{length-loops}
-use Rattle.pb_normal.proofs.Parameters.{free-parameters}
+use Rattle.pb_typed_tree.proofs.Parameters.{free-parameters}
 use Rattle.pb_normal.proofs.Structs.{enumerator_known, recogniser_known, position-there}
-use Rattle.pb_normal.proofs.Truth.{more-free, free-with}
+use Rattle.pb_typed_tree.proofs.Truth.{more-free, free-with}
 
 -- a literal is at most 2^62
 literal-bounded : (n : ℕ) → is_within (singleton (pos n)) literals ≡ true → nat_le n (2 ^ 62) ≡ true
@@ -59,10 +62,6 @@ module _ (spec : Spec) (slots : ℕ) where
   zero-fits : Fits (Term.Number 0)
   zero-fits = le-leb 0 (2 ^ 62) (omega arith)
 
-  choose-fits : (b : Bool) (x y : Term) → Fits x → Fits y → Fits (if b then x else y)
-  choose-fits true x y h k = h
-  choose-fits false x y h k = k
-
   enumerator-fits : (x : Name) (o : Option Position) → enumerator_of spec x ≡ o → Fits (made.enumerator o)
   enumerator-fits x None e = zero-fits
   enumerator-fits x (Some p) e = position-there (struct_counts spec.sorts) p (enumerator_known spec x p e)
@@ -76,23 +75,41 @@ module _ (spec : Spec) (slots : ℕ) where
   recognised-fits f (Some p) x e h =
       and_from (has_enumerator (struct_counts spec.sorts) p.sort p.place) (is_bounded bounds x) (position-there (struct_counts spec.sorts) p (recogniser_known spec f p e)) h
 
-  one-fits : (f : Name) (x : Term) → Fits x → Fits (applied_to_one spec f x)
-  one-fits f x h =
-      choose-fits (same_name f (codes "succ")) _ _ h
-      (choose-fits (same_name f (codes "pred")) _ _ h
-      (choose-fits (same_name f (codes "abs")) _ _ h
-      (choose-fits (same_name f (codes "Pos2Nat") || same_name f (codes "Pos2Int") || same_name f (codes "Nat2Int")) _ _ h
-      (recognised-fits f (recogniser_of spec f) x refl h))))
+  one-fits : (f : Name) (g : Option NamedFunction) (x : Term) → Fits x → Fits (applied_to_one spec f g x)
+  one-fits f (Some If) x h = zero-fits
+  one-fits f (Some Succ) x h = h
+  one-fits f (Some Pred) x h = h
+  one-fits f (Some Abs) x h = h
+  one-fits f (Some Max) x h = zero-fits
+  one-fits f (Some Min) x h = zero-fits
+  one-fits f (Some Pos2Nat) x h = h
+  one-fits f (Some Pos2Int) x h = h
+  one-fits f (Some Nat2Int) x h = h
+  one-fits f None x h = recognised-fits f (recogniser_of spec f) x refl h
 
-  two-fits : (f : Name) (x y : Term) → Fits x → Fits y → Fits (applied_to_two f x y)
-  two-fits f x y h k =
-      let xy = and_from (is_bounded bounds x) (is_bounded bounds y) h k in
-      choose-fits (same_name f (codes "max")) _ _ xy (choose-fits (same_name f (codes "min")) _ _ xy zero-fits)
+  two-fits : (g : Option NamedFunction) (x y : Term) → Fits x → Fits y → Fits (applied_to_two g x y)
+  two-fits (Some If) x y h k = zero-fits
+  two-fits (Some Succ) x y h k = zero-fits
+  two-fits (Some Pred) x y h k = zero-fits
+  two-fits (Some Abs) x y h k = zero-fits
+  two-fits (Some Max) x y h k = and_from (is_bounded bounds x) (is_bounded bounds y) h k
+  two-fits (Some Min) x y h k = and_from (is_bounded bounds x) (is_bounded bounds y) h k
+  two-fits (Some Pos2Nat) x y h k = zero-fits
+  two-fits (Some Pos2Int) x y h k = zero-fits
+  two-fits (Some Nat2Int) x y h k = zero-fits
+  two-fits None x y h k = zero-fits
 
-  three-fits : (f : Name) (x y z : Term) → Fits x → Fits y → Fits z → Fits (applied_to_three f x y z)
-  three-fits f x y z h k l =
-      choose-fits (same_name f (codes "if")) _ _
-      (and_from (is_bounded bounds x) (is_bounded bounds y && is_bounded bounds z) h (and_from (is_bounded bounds y) (is_bounded bounds z) k l)) zero-fits
+  three-fits : (g : Option NamedFunction) (x y z : Term) → Fits x → Fits y → Fits z → Fits (applied_to_three g x y z)
+  three-fits (Some If) x y z h k l = and_from (is_bounded bounds x) (is_bounded bounds y && is_bounded bounds z) h (and_from (is_bounded bounds y) (is_bounded bounds z) k l)
+  three-fits (Some Succ) x y z h k l = zero-fits
+  three-fits (Some Pred) x y z h k l = zero-fits
+  three-fits (Some Abs) x y z h k l = zero-fits
+  three-fits (Some Max) x y z h k l = zero-fits
+  three-fits (Some Min) x y z h k l = zero-fits
+  three-fits (Some Pos2Nat) x y z h k l = zero-fits
+  three-fits (Some Pos2Int) x y z h k l = zero-fits
+  three-fits (Some Nat2Int) x y z h k l = zero-fits
+  three-fits None x y z h k l = zero-fits
 
   abbrev AllFit : List Term → Type 0
   AllFit [] = Unit {0}
@@ -100,9 +117,9 @@ module _ (spec : Spec) (slots : ℕ) where
 
   applied-fits : (f : Name) (xs : List Term) → AllFit xs → Fits (applied spec f xs)
   applied-fits f [] h = zero-fits
-  applied-fits f (x ∷ []) h = one-fits f x h.0
-  applied-fits f (x ∷ y ∷ []) h = two-fits f x y h.0 h.1.0
-  applied-fits f (x ∷ y ∷ z ∷ []) h = three-fits f x y z h.0 h.1.0 h.1.1.0
+  applied-fits f (x ∷ []) h = one-fits f (named_function f) x h.0
+  applied-fits f (x ∷ y ∷ []) h = two-fits (named_function f) x y h.0 h.1.0
+  applied-fits f (x ∷ y ∷ z ∷ []) h = three-fits (named_function f) x y z h.0 h.1.0 h.1.1.0
   applied-fits f (x ∷ y ∷ z ∷ w ∷ ws) h = zero-fits
 
   -- the slots of the variables in scope are among all

@@ -11,11 +11,11 @@ use Rattle.pb_typing_rules.proofs.Fitting.{spec_positive}
 use Rattle.pb_normal.specs.Expansion.{expanded}
 use Rattle.pb_normal.specs.Normalisation.{unslotted, with_slots}
 use Rattle.pb_normal.specs.Equations.{KeepsTruth}
-use Rattle.pb_normal.proofs.Expanded.{expanded-truth}
+use Rattle.pb_typed_tree.proofs.Expanded.{expanded-truth}
 use Rattle.pb_normal.proofs.Truth.{normal-truth}
 use Rattle.pb_normal.proofs.Positive.{expanded-positive}
-use Rattle.pb_normal.proofs.Plain.{expanded-plain}
-use Rattle.pb_normal.proofs.Parameters.{agree-parameters, free-parameters}
+use Rattle.pb_typed_tree.proofs.Plain.{expanded-plain}
+use Rattle.pb_typed_tree.proofs.Parameters.{agree-parameters, free-parameters}
 
 keeps-truth : (spec : Spec) (X : Equation) → IsProper spec true (parameters_of spec X) X.right → IsPositive true X.right → KeepsTruth spec X
 keeps-truth spec X proper positive t slots i count hold =

@@ -24,10 +24,10 @@ use Rattle.pb_normal.specs.Normal.{Term, Argument, Formula, Slots, set, value}
 use Rattle.pb_normal.specs.Normalisation.{Slotting, unslotted, with_slot, with_slots, slotted, width, signed_test, is_universal, each, arguments, place_of, call, normal}
 use Rattle.pb_normal.specs.Plain.{AreFree, Agree}
 use Rattle.pb_normal.specs.Kept.{ArgumentsFit, KeepsShapes}
-use Rattle.pb_normal.proofs.Slotted.{slotted-value}
-use Rattle.pb_normal.proofs.Truth.{more-free, free-with, agree-with}
-use Rattle.pb_normal.proofs.Plain.{typed-plain}
-use Rattle.pb_normal.proofs.Parameters.{agree-parameters, free-parameters}
+use Rattle.pb_typed_tree.proofs.Slotted.{slotted-value}
+use Rattle.pb_typed_tree.proofs.Truth.{more-free, free-with, agree-with}
+use Rattle.pb_typed_tree.proofs.Plain.{typed-plain}
+use Rattle.pb_typed_tree.proofs.Parameters.{agree-parameters, free-parameters}
 use Rattle.pb_normal.proofs.Answer.{within-count}
 
 -- ---- quantifiers

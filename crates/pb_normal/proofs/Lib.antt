@@ -1,5 +1,4 @@
-mod Expanded
-mod Slotted
+mod SignedForms
 mod Truth
 pub mod Views
 mod Quantifiers
@@ -13,8 +12,6 @@ mod FormulaSteps
 pub mod Shaped
 pub mod Accepted
 mod Positive
-mod Plain
-mod Parameters
 pub mod Equations
 pub mod Sequences
 pub mod Answer

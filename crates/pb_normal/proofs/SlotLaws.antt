@@ -1,10 +1,13 @@
 -- Quantifiers in normal form take the slots behind the parameters in order, and each slot that is read has a value.
-use Rattle.std.proofs.Common.{◌≡◌, ℕ, zero, suc, ◌+◌, ◌≤◌, ◌==◌, Bool, true, false, not, ◌&&◌, ◌||◌, if◌then◌else◌, List, [], ◌∷◌, ◌++◌, length, Option, Some, None, refl, sym, ◌∙◌, ap, subst, arith, tests, codes}
+use Rattle.std.proofs.Common.{◌≡◌, ℕ, zero, suc, ◌+◌, ◌≤◌, ◌==◌, Bool, true, false, not, ◌&&◌, ◌||◌, if◌then◌else◌, List, [], ◌∷◌, ◌++◌, length, Option, Some, None, refl, sym, ◌∙◌, ap, subst, arith, tests}
 use Rattle.std.specs.List.{All, range_with_len}
 use Rattle.std.specs.Prelude.{nat_lt, unwrap_or}
 use Rattle.std.proofs.lemmas.Bool.{or_from, and_from, lt-ltb, eq-eqb, le-ltb}
 use Rattle.pb_text_meaning.specs.Syntax as syntax
 use Rattle.pb_text_meaning.specs.Syntax.{Name, same_name, Variable, Terms, Equation, Spec}
+use Rattle.pb_text_meaning.specs.declared.function.NamedFunction.{NamedFunction}
+use Rattle.pb_text_meaning.specs.declared.function.NamedFunction.TheVariants.{If, Succ, Pred, Abs, Max, Min, Pos2Nat, Pos2Int, Nat2Int}
+use Rattle.pb_text_meaning.specs.Functions.{named_function}
 use Rattle.pb_typing_declarations.specs.Enumerators.{Position, enumerator_of, recogniser_of}
 use Rattle.pb_typing_rules.specs.Scope.{Scope, bound}
 use Rattle.pb_typing_rules.specs.WellTyped.{parameters_of}
@@ -14,7 +17,7 @@ use Rattle.pb_normal.specs.Normalisation as made
 use Rattle.pb_normal.specs.Normalisation.{Slotting, unslotted, with_slot, with_slots, applied_to_one, applied_to_two, applied_to_three, applied, slotted, slotted_all, width, signed_test, is_universal, each, arguments, place_of, call, normal}
 use Rattle.pb_normal.specs.Equations.{normal_equation}
 use Rattle.pb_normal.specs.SlotOrder.{quantified_slots, reads_only, IsClosed}
-use Rattle.pb_normal.proofs.Parameters.{free-parameters}
+use Rattle.pb_typed_tree.proofs.Parameters.{free-parameters}
 
 -- ---- the slots of quantifiers
 
@@ -79,10 +82,6 @@ either-right : (b c : Bool) → c ≡ true → b || c ≡ true
 either-right true c h = refl
 either-right false c h = h
 
-choose-reads : (known : ℕ → Bool) (b : Bool) (x y : Term) → reads_only known x ≡ true → reads_only known y ≡ true → reads_only known (if b then x else y) ≡ true
-choose-reads known true x y h k = h
-choose-reads known false x y h k = k
-
 enumerator-reads : (known : ℕ → Bool) (o : Option Position) → reads_only known (made.enumerator o) ≡ true
 enumerator-reads known None = refl
 enumerator-reads known (Some p) = refl
@@ -95,23 +94,41 @@ recognised-reads : (known : ℕ → Bool) (o : Option Position) (x : Term) → r
 recognised-reads known None x h = refl
 recognised-reads known (Some p) x h = h
 
-one-reads : (spec : Spec) (known : ℕ → Bool) (f : Name) (x : Term) → reads_only known x ≡ true → reads_only known (applied_to_one spec f x) ≡ true
-one-reads spec known f x h =
-    choose-reads known (same_name f (codes "succ")) _ _ h
-    (choose-reads known (same_name f (codes "pred")) _ _ h
-    (choose-reads known (same_name f (codes "abs")) _ _ h
-    (choose-reads known (same_name f (codes "Pos2Nat") || same_name f (codes "Pos2Int") || same_name f (codes "Nat2Int")) _ _ h
-    (recognised-reads known (recogniser_of spec f) x h))))
+one-reads : (spec : Spec) (known : ℕ → Bool) (f : Name) (g : Option NamedFunction) (x : Term) → reads_only known x ≡ true → reads_only known (applied_to_one spec f g x) ≡ true
+one-reads spec known f (Some If) x h = refl
+one-reads spec known f (Some Succ) x h = h
+one-reads spec known f (Some Pred) x h = h
+one-reads spec known f (Some Abs) x h = h
+one-reads spec known f (Some Max) x h = refl
+one-reads spec known f (Some Min) x h = refl
+one-reads spec known f (Some Pos2Nat) x h = h
+one-reads spec known f (Some Pos2Int) x h = h
+one-reads spec known f (Some Nat2Int) x h = h
+one-reads spec known f None x h = recognised-reads known (recogniser_of spec f) x h
 
-two-reads : (known : ℕ → Bool) (f : Name) (x y : Term) → reads_only known x ≡ true → reads_only known y ≡ true → reads_only known (applied_to_two f x y) ≡ true
-two-reads known f x y h k =
-    let xy = and_from (reads_only known x) (reads_only known y) h k in
-    choose-reads known (same_name f (codes "max")) _ _ xy (choose-reads known (same_name f (codes "min")) _ _ xy refl)
+two-reads : (known : ℕ → Bool) (g : Option NamedFunction) (x y : Term) → reads_only known x ≡ true → reads_only known y ≡ true → reads_only known (applied_to_two g x y) ≡ true
+two-reads known (Some If) x y h k = refl
+two-reads known (Some Succ) x y h k = refl
+two-reads known (Some Pred) x y h k = refl
+two-reads known (Some Abs) x y h k = refl
+two-reads known (Some Max) x y h k = and_from (reads_only known x) (reads_only known y) h k
+two-reads known (Some Min) x y h k = and_from (reads_only known x) (reads_only known y) h k
+two-reads known (Some Pos2Nat) x y h k = refl
+two-reads known (Some Pos2Int) x y h k = refl
+two-reads known (Some Nat2Int) x y h k = refl
+two-reads known None x y h k = refl
 
-three-reads : (known : ℕ → Bool) (f : Name) (x y z : Term) → reads_only known x ≡ true → reads_only known y ≡ true → reads_only known z ≡ true → reads_only known (applied_to_three f x y z) ≡ true
-three-reads known f x y z h k l =
-    choose-reads known (same_name f (codes "if")) _ _
-    (and_from (reads_only known x && reads_only known y) (reads_only known z) (and_from (reads_only known x) (reads_only known y) h k) l) refl
+three-reads : (known : ℕ → Bool) (g : Option NamedFunction) (x y z : Term) → reads_only known x ≡ true → reads_only known y ≡ true → reads_only known z ≡ true → reads_only known (applied_to_three g x y z) ≡ true
+three-reads known (Some If) x y z h k l = and_from (reads_only known x && reads_only known y) (reads_only known z) (and_from (reads_only known x) (reads_only known y) h k) l
+three-reads known (Some Succ) x y z h k l = refl
+three-reads known (Some Pred) x y z h k l = refl
+three-reads known (Some Abs) x y z h k l = refl
+three-reads known (Some Max) x y z h k l = refl
+three-reads known (Some Min) x y z h k l = refl
+three-reads known (Some Pos2Nat) x y z h k l = refl
+three-reads known (Some Pos2Int) x y z h k l = refl
+three-reads known (Some Nat2Int) x y z h k l = refl
+three-reads known None x y z h k l = refl
 
 abbrev AllRead : (ℕ → Bool) → List Term → Type 0
 AllRead known [] = Unit {0}
@@ -119,9 +136,9 @@ AllRead known (x ∷ xs) = (reads_only known x ≡ true) × AllRead known xs
 
 applied-reads : (spec : Spec) (known : ℕ → Bool) (f : Name) (xs : List Term) → AllRead known xs → reads_only known (applied spec f xs) ≡ true
 applied-reads spec known f [] h = refl
-applied-reads spec known f (x ∷ []) h = one-reads spec known f x h.0
-applied-reads spec known f (x ∷ y ∷ []) h = two-reads known f x y h.0 h.1.0
-applied-reads spec known f (x ∷ y ∷ z ∷ []) h = three-reads known f x y z h.0 h.1.0 h.1.1.0
+applied-reads spec known f (x ∷ []) h = one-reads spec known f (named_function f) x h.0
+applied-reads spec known f (x ∷ y ∷ []) h = two-reads known (named_function f) x y h.0 h.1.0
+applied-reads spec known f (x ∷ y ∷ z ∷ []) h = three-reads known (named_function f) x y z h.0 h.1.0 h.1.1.0
 applied-reads spec known f (x ∷ y ∷ z ∷ w ∷ ws) h = refl
 
 mutual

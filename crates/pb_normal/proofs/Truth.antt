@@ -1,31 +1,32 @@
 -- A formula in normal form has the truth of the formula that it comes from.
-use Rattle.std.proofs.Common.{◌≡◌, ℕ, suc, ◌+◌, ◌<◌, ◌≤◌, Bool, true, false, not, ◌||◌, ◌&&◌, if◌then◌else◌, List, [], ◌∷◌, map, Option, Some, None, refl, sym, ◌∙◌, ap, arith}
-use Rattle.std.specs.List.{slice_get}
-use Rattle.std.specs.Option.{option_map}
-use Rattle.std.specs.Prelude.{unwrap_or}
-use Rattle.std.specs.Cmp.Lexicographic.{same_text}
-use Rattle.std.proofs.lemmas.Bool.{ne_eqb, eq-eqb}
+use Rattle.std.proofs.Common.{◌≡◌, ℕ, suc, ◌+◌, Bool, true, false, not, ◌||◌, ◌&&◌, List, [], ◌∷◌, Option, Some, None, refl, sym, ◌∙◌, ap}
 use Rattle.pb_fixpoint.specs.Solution.{Environment}
+use Rattle.pb_text_tree.specs.declared.operator.Connective.TheVariants as connective
 use Rattle.pb_text_tree.specs.declared.operator.Quantifier.{Quantifier}
 use Rattle.pb_text_tree.specs.declared.operator.Quantifier.TheVariants.{Forall, Exists}
 use Rattle.pb_carriers.specs.Carrier.{Value, Carrier}
 use Rattle.pb_text_meaning.specs.Syntax as syntax
-use Rattle.pb_text_meaning.specs.Syntax.{Name, same_name, Variable, Terms, Equation, Spec}
+use Rattle.pb_text_meaning.specs.Syntax.{Name, Variable, Spec}
 use Rattle.pb_text_meaning.specs.Sorts.{carrier_of}
-use Rattle.pb_text_meaning.specs.Value.{Assignment, looked_up, of_values, quantified, is_true, values}
+use Rattle.pb_text_meaning.specs.Value.{Assignment, of_values, is_true}
 use Rattle.pb_text_meaning.specs.Formula as meaning
-use Rattle.pb_text_meaning.specs.Formula.{Instance, equation_named, fits, call_truth}
+use Rattle.pb_text_meaning.specs.Formula.{Instance}
 use Rattle.pb_text_meaning.specs.Positive.{IsPositive}
 use Rattle.pb_text_meaning.proofs.Truths.{is_true-of_bool}
 use Rattle.pb_typing_declarations.specs.Shapes.{shape_carrier, sort_shape}
+use Rattle.pb_typing_rules.specs.Faults.{left_parity}
 use Rattle.pb_typing_rules.specs.Scope.{Scope, bound}
-use Rattle.pb_normal.specs.Normal.{Term, Argument, Formula, Slots, set, joined, quantifier, name_of, truth, value}
-use Rattle.pb_normal.specs.Normalisation as made
-use Rattle.pb_normal.specs.Normalisation.{Slotting, with_slot, slotted, width, signed_test, is_universal, each, arguments, place_of}
-use Rattle.pb_normal.specs.Expansion.{have_quantifier}
+use Rattle.pb_typed_tree.specs.Tree as typed
+use Rattle.pb_typed_tree.specs.Meaning as tree
+use Rattle.pb_typed_tree.specs.Elaboration as made
+use Rattle.pb_typed_tree.proofs.Expanded.{same-of-values}
+use Rattle.pb_typed_tree.proofs.Truth.{elaborated-truth}
+use Rattle.pb_normal.specs.Normal.{Term, Argument, Slots, set, joined, quantifier, truth, value}
+use Rattle.pb_normal.specs.Normalisation as normalisation
+use Rattle.pb_normal.specs.Normalisation.{Slotting, with_slot, width, signed_test, is_universal, arguments, place_of}
+use Rattle.pb_normal.specs.SignedForm.{signed_form}
 use Rattle.pb_normal.specs.Plain.{IsPlain, AreFree, Agree, signed}
-use Rattle.pb_normal.proofs.Expanded.{same-of-values}
-use Rattle.pb_normal.proofs.Slotted.{slotted-value, slotted-values}
+use Rattle.pb_normal.proofs.SignedForms.{normal-signed}
 
 -- ---- signs
 
@@ -61,118 +62,64 @@ signed-test : (spec : Spec) (a : Slots) (t : Environment Instance) (even : Bool)
 signed-test spec a t true x = refl
 signed-test spec a t false x = is_true-of_bool _
 
--- ---- slots
+-- ---- calls of typed trees
 
-kept : (a : Slots) (s i : ℕ) (v : Value) → i < s → set a s v i ≡ a i
-kept a s i v lt = ap (λ b. if b then v else a i) (ne_eqb i s (λ e. omega (arith, e, lt)))
+-- a call stands under an even number of negations alone
+abbrev IsPositiveTree : Bool → typed.Formula → Type 0
+IsPositiveTree even (typed.Test x) = Unit {0}
+IsPositiveTree even (typed.Negation f) = IsPositiveTree (not even) f
+IsPositiveTree even (typed.Connected c f g) = IsPositiveTree (left_parity c even) f × IsPositiveTree even g
+IsPositiveTree even (typed.Quantified q s shape f) = IsPositiveTree even f
+IsPositiveTree even (typed.Call X es) = even ≡ true
 
-written : (a : Slots) (s : ℕ) (v : Value) → set a s v s ≡ v
-written a s v = ap (λ b. if b then v else a s) (eq-eqb s s refl)
+each-positive : (spec : Spec) (even : Bool) (q : Quantifier) (xs : List Variable) (body : Slotting → ℕ → typed.Formula) → ((c : Slotting) (n : ℕ) → IsPositiveTree even (body c n)) → (c : Slotting) (n : ℕ) → IsPositiveTree even (made.each spec q xs c n body)
+each-positive spec even q [] body h c n = h c n
+each-positive spec even q (x ∷ xs) body h c n = each-positive spec even q xs body h (with_slot x.name n c) (suc n)
 
-pub more-free : (c : Slotting) (n m : ℕ) → n ≤ m → AreFree c n → AreFree c m
-more-free c n m le free x s e = let lt = free x s e in omega (arith, lt, le)
+call-positive : (even : Bool) (o : Option ℕ) (es : List Argument) → even ≡ true → IsPositiveTree even (made.call o es)
+call-positive even None es h = tt
+call-positive even (Some X) es h = h
 
-pub free-with : (c : Slotting) (n : ℕ) (y : Name) → AreFree c n → AreFree (with_slot y n c) (suc n)
-free-with c n y free x s e = by-name (same_name y x) e
-  where
-    by-name : (same : Bool) → (if same then Some n else c x) ≡ Some s → s < suc n
-    by-name true e = let f : n ≡ s = ap (λ o. unwrap_or o 0) e in omega (arith, f)
-    by-name false e = let lt = free x s e in omega (arith, lt)
+tree-positive : (spec : Spec) (f : syntax.Formula) (even : Bool) (scope : Scope) (c : Slotting) (n : ℕ) → IsPositive even f → IsPositiveTree even (made.elaborated spec c scope n f)
+tree-positive spec (syntax.Formula.Truth b) even scope c n h = tt
+tree-positive spec (syntax.Formula.Val x) even scope c n h = tt
+tree-positive spec (syntax.Formula.Not f) even scope c n h = tree-positive spec f (not even) scope c n h
+tree-positive spec (syntax.Formula.And f g) even scope c n h = (tree-positive spec f even scope c n h.0, tree-positive spec g even scope c (n + width f) h.1)
+tree-positive spec (syntax.Formula.Or f g) even scope c n h = (tree-positive spec f even scope c n h.0, tree-positive spec g even scope c (n + width f) h.1)
+tree-positive spec (syntax.Formula.Implies f g) even scope c n h = (tree-positive spec f (not even) scope c n h.0, tree-positive spec g even scope c (n + width f) h.1)
+tree-positive spec (syntax.Formula.Quantified q xs f) even scope c n h =
+    each-positive spec even q xs (λ d m. made.elaborated spec d (bound spec xs scope) m f) (λ d m. tree-positive spec f even (bound spec xs scope) d m h) c n
+tree-positive spec (syntax.Formula.Call X es) even scope c n h = call-positive even (place_of 0 spec.equations X) (arguments spec c scope es) h
 
--- a slot that no variable in scope has changes nothing
-kept-slot : (c : Slotting) (n : ℕ) (a : Slots) (v : Value) (x : Name) (o : Option ℕ) → c x ≡ o → AreFree c n → option_map (set a n v) (c x) ≡ option_map a (c x)
-kept-slot c n a v x None e free = ap (option_map (set a n v)) e ∙ sym (ap (option_map a) e)
-kept-slot c n a v x (Some s) e free = ap (option_map (set a n v)) e ∙ ap Some (kept a n s v (free x s e)) ∙ sym (ap (option_map a) e)
+-- ---- formulas
 
-pub agree-with : (c : Slotting) (n : ℕ) (a : Slots) (g : Assignment) (y : Name) (v : Value) → AreFree c n → Agree c a g → Agree (with_slot y n c) (set a n v) ((y, v) ∷ g)
-agree-with c n a g y v free agree x = by-name (same_name y x)
-  where
-    by-name : (same : Bool) → (if same then Some v else looked_up g x) ≡ option_map (set a n v) (if same then Some n else c x)
-    by-name true = ap Some (sym (written a n v))
-    by-name false = agree x ∙ sym (kept-slot c n a v x (c x) refl free)
-
--- ---- quantifiers
-
--- what a body has to say under each assignment, in a scope and with free slots
-abbrev HasTruth : Spec → Environment Instance → Bool → (Assignment → Bool) → (Slotting → ℕ → Formula) → Type 0
-HasTruth spec t even p body = (c : Slotting) (n : ℕ) (a : Slots) (g : Assignment) → AreFree c n → Agree c a g → truth spec a t (body c n) ≡ signed even (p g)
+-- the normal form of a typed tree has the tree's truth, and under an odd number of negations the opposite one
+signed-truth : (spec : Spec) (t : Environment Instance) (f : typed.Formula) (even : Bool) (a : Slots) → IsPositiveTree even f → truth spec a t (signed_form even f) ≡ signed even (tree.truth spec a t f)
+signed-truth spec t (typed.Test x) even a h = signed-test spec a t even x
+signed-truth spec t (typed.Negation f) even a h = signed-truth spec t f (not even) a h ∙ signed-not even (tree.truth spec a t f)
+signed-truth spec t (typed.Connected connective.And f g) even a h =
+    ap (λ b. joined even b (truth spec a t (signed_form even g))) (signed-truth spec t f even a h.0)
+    ∙ ap (joined even (signed even (tree.truth spec a t f))) (signed-truth spec t g even a h.1)
+    ∙ joined-and even (tree.truth spec a t f) (tree.truth spec a t g)
+signed-truth spec t (typed.Connected connective.Or f g) even a h =
+    ap (λ b. joined (not even) b (truth spec a t (signed_form even g))) (signed-truth spec t f even a h.0)
+    ∙ ap (joined (not even) (signed even (tree.truth spec a t f))) (signed-truth spec t g even a h.1)
+    ∙ joined-or even (tree.truth spec a t f) (tree.truth spec a t g)
+signed-truth spec t (typed.Connected connective.Implies f g) even a h =
+    ap (λ b. joined (not even) b (truth spec a t (signed_form even g))) (signed-truth spec t f (not even) a h.0)
+    ∙ ap (joined (not even) (signed (not even) (tree.truth spec a t f))) (signed-truth spec t g even a h.1)
+    ∙ joined-implies even (tree.truth spec a t f) (tree.truth spec a t g)
+signed-truth spec t (typed.Quantified q s shape f) even a h =
+    same-of-values (quantifier (is_universal q even)) (λ v. truth spec (set a s v) t (signed_form even f)) (λ v. signed even (tree.truth spec (set a s v) t f)) (λ v. signed-truth spec t f even (set a s v) h) (shape_carrier shape)
+    ∙ signed-values q even (λ v. tree.truth spec (set a s v) t f) (shape_carrier shape)
+signed-truth spec t (typed.Call X es) even a h = ap (λ b. signed b (tree.truth spec a t (typed.Call X es))) (sym h)
 
 abbrev HasCarriers : Spec → Type 0
 HasCarriers spec = (s : Name) → carrier_of spec s ≡ shape_carrier (sort_shape spec s)
 
-each-truth : (spec : Spec) (t : Environment Instance) (q : Quantifier) (even : Bool) (xs : List Variable) (p : Assignment → Bool) (body : Slotting → ℕ → Formula) → HasCarriers spec → HasTruth spec t even p body
-    → HasTruth spec t even (quantified spec q xs p) (λ c n. each spec (is_universal q even) xs c n body)
-each-truth spec t q even [] p body carriers says c n a g free agree = says c n a g free agree
-each-truth spec t q even (x ∷ xs) p body carriers says c n a g free agree =
-    let inner = with_slot x.name n c in
-    let rest : Value → Bool = λ v. quantified spec q xs p ((x.name, v) ∷ g) in
-    let step : (v : Value) → truth spec (set a n v) t (each spec (is_universal q even) xs inner (suc n) body) ≡ signed even (rest v) =
-    λ v. each-truth spec t q even xs p body carriers says inner (suc n) (set a n v) ((x.name, v) ∷ g) (free-with c n x.name free) (agree-with c n a g x.name v free agree) in
-    same-of-values (quantifier (is_universal q even)) _ _ step (shape_carrier (sort_shape spec x.sort))
-    ∙ signed-values q even rest (shape_carrier (sort_shape spec x.sort))
-    ∙ ap (λ vs. signed even (of_values q rest vs)) (sym (carriers x.sort))
-
--- ---- calls
-
-argument-values : (spec : Spec) (c : Slotting) (scope : Scope) (a : Slots) (es : Terms) → map (λ (e : Argument). value a e.term) (arguments spec c scope es) ≡ map (value a) (made.slotted_all spec c es)
-argument-values spec c scope a Terms.NoTerms = refl
-argument-values spec c scope a (Terms.Then x xs) = ap (λ vs. value a (slotted spec c x) ∷ vs) (argument-values spec c scope a xs)
-
--- an equation that is found has the name, and no other stands before it
-pub record IsFound (E : List Equation) (x : Name) (n k : ℕ) : Type 0 where
-  pub behind : ℕ
-  pub place : k ≡ n + behind
-  pub named : name_of (slice_get E behind) ≡ x
-
-abbrev Finds : List Equation → Name → ℕ → Option ℕ → Type 0
-Finds E x n None = equation_named E x ≡ None
-Finds E x n (Some k) = IsFound E x n k
-
-finds-next : (n : ℕ) (X : Equation) (E : List Equation) (x : Name) (same : Bool) → same_name X.name x ≡ same → (o : Option ℕ) → Finds E x (suc n) o → Finds (X ∷ E) x n (if same then Some n else o)
-finds-next n X E x true e o h = record { behind = 0; place = omega arith; named = same_text X.name x (sym e) }
-finds-next n X E x false e None h = ap (λ (b : Bool). if b then Some X else equation_named E x) e ∙ h
-finds-next n X E x false e (Some k) h = let p = h.place in record { behind = suc h.behind; place = omega (arith, p); named = h.named }
-
-place-found : (n : ℕ) (E : List Equation) (x : Name) → Finds E x n (place_of n E x)
-place-found n [] x = refl
-place-found n (X ∷ E) x = finds-next n X E x (same_name X.name x) refl (place_of (suc n) E x) (place-found (suc n) E x)
-
-call-values : (spec : Spec) (c : Slotting) (scope : Scope) (a : Slots) (g : Assignment) → Agree c a g → (es : Terms) → have_quantifier es ≡ false → map (λ (e : Argument). value a e.term) (arguments spec c scope es) ≡ values spec g es
-call-values spec c scope a g agree es plain = argument-values spec c scope a es ∙ slotted-values spec c a g agree es plain
-
-call-kept : (spec : Spec) (t : Environment Instance) (c : Slotting) (scope : Scope) (a : Slots) (g : Assignment) → Agree c a g → (X : Name) (es : Terms) (o : Option ℕ) → Finds spec.equations X 0 o → have_quantifier es ≡ false
-    → truth spec a t (made.call o (arguments spec c scope es)) ≡ call_truth spec t (record { name = X; values = values spec g es })
-call-kept spec t c scope a g agree X es None h plain =
-    sym (ap (λ (f : Option Equation). fits spec f (values spec g es) && t (record { name = X; values = values spec g es })) h)
-call-kept spec t c scope a g agree X es (Some k) h plain =
-    let at : k ≡ h.behind = let p = h.place in omega (arith, p) in
-    let name : name_of (slice_get spec.equations k) ≡ X = ap (λ j. name_of (slice_get spec.equations j)) at ∙ h.named in
-    ap (λ x. call_truth spec t (record { name = x; values = map (λ (e : Argument). value a e.term) (arguments spec c scope es) })) name
-    ∙ ap (λ vs. call_truth spec t (record { name = X; values = vs })) (call-values spec c scope a g agree es plain)
-
--- ---- formulas
-
 pub normal-truth : (spec : Spec) (t : Environment Instance) (f : syntax.Formula) (even : Bool) (scope : Scope) → HasCarriers spec → IsPositive even f → IsPlain f
-    → HasTruth spec t even (λ g. meaning.truth spec g t f) (λ c n. made.normal spec even c scope n f)
-normal-truth spec t (syntax.Formula.Truth b) even scope carriers positive plain c n a g free agree = signed-test spec a t even (Term.Truth b) ∙ ap (signed even) (is_true-of_bool b)
-normal-truth spec t (syntax.Formula.Val x) even scope carriers positive plain c n a g free agree =
-    signed-test spec a t even (slotted spec c x) ∙ ap (λ v. signed even (is_true v)) (slotted-value spec c a g agree x plain)
-normal-truth spec t (syntax.Formula.Not f) even scope carriers positive plain c n a g free agree =
-    normal-truth spec t f (not even) scope carriers positive plain c n a g free agree ∙ signed-not even _
-normal-truth spec t (syntax.Formula.And f h) even scope carriers positive plain c n a g free agree =
-    ap (λ b. joined even b (truth spec a t (made.normal spec even c scope (n + width f) h))) (normal-truth spec t f even scope carriers positive.0 plain.0 c n a g free agree)
-    ∙ ap (joined even (signed even (meaning.truth spec g t f))) (normal-truth spec t h even scope carriers positive.1 plain.1 c (n + width f) a g (more-free c n (n + width f) (omega arith) free) agree)
-    ∙ joined-and even _ _
-normal-truth spec t (syntax.Formula.Or f h) even scope carriers positive plain c n a g free agree =
-    ap (λ b. joined (not even) b (truth spec a t (made.normal spec even c scope (n + width f) h))) (normal-truth spec t f even scope carriers positive.0 plain.0 c n a g free agree)
-    ∙ ap (joined (not even) (signed even (meaning.truth spec g t f))) (normal-truth spec t h even scope carriers positive.1 plain.1 c (n + width f) a g (more-free c n (n + width f) (omega arith) free) agree)
-    ∙ joined-or even _ _
-normal-truth spec t (syntax.Formula.Implies f h) even scope carriers positive plain c n a g free agree =
-    ap (λ b. joined (not even) b (truth spec a t (made.normal spec even c scope (n + width f) h))) (normal-truth spec t f (not even) scope carriers positive.0 plain.0 c n a g free agree)
-    ∙ ap (joined (not even) (signed (not even) (meaning.truth spec g t f))) (normal-truth spec t h even scope carriers positive.1 plain.1 c (n + width f) a g (more-free c n (n + width f) (omega arith) free) agree)
-    ∙ joined-implies even _ _
-normal-truth spec t (syntax.Formula.Quantified q xs f) even scope carriers positive plain c n a g free agree =
-    each-truth spec t q even xs (λ k. meaning.truth spec k t f) (λ d m. made.normal spec even d (bound spec xs scope) m f) carriers (normal-truth spec t f even (bound spec xs scope) carriers positive plain) c n a g free agree
-normal-truth spec t (syntax.Formula.Call X es) even scope carriers positive plain c n a g free agree =
-    call-kept spec t c scope a g agree X es (place_of 0 spec.equations X) (place-found 0 spec.equations X) plain
-    ∙ ap (λ b. signed b (call_truth spec t (record { name = X; values = values spec g es }))) (sym positive)
+    → (c : Slotting) (n : ℕ) (a : Slots) (g : Assignment) → AreFree c n → Agree c a g → truth spec a t (normalisation.normal spec even c scope n f) ≡ signed even (meaning.truth spec g t f)
+normal-truth spec t f even scope carriers positive plain c n a g free agree =
+    ap (truth spec a t) (normal-signed spec f even scope c n positive)
+    ∙ signed-truth spec t (made.elaborated spec c scope n f) even a (tree-positive spec f even scope c n positive)
+    ∙ ap (signed even) (elaborated-truth spec t f scope carriers plain c n a g free agree)

@@ -7,6 +7,7 @@ pub mod Contexts
 pub mod Slots
 pub mod Links
 pub mod Chains
+pub mod SignedForm
 pub mod Loops
 pub mod Equations
 pub mod Tail

@@ -1,13 +1,10 @@
 -- The slots that the quantifiers of a formula take.
 use Rattle.std.specs.Prelude.{◌≡◌, true, ⊤, List, [], ◌∷◌, ◌++◌, map}
 use Rattle.pb_text_meaning.specs.Syntax.{Variable, Formula, Equation, Spec}
-use Rattle.pb_typing_declarations.specs.Shapes.{Shape, end_of, sort_shape}
+use Rattle.pb_typing_declarations.specs.Shapes.{Shape, end_of}
 use Rattle.pb_typing_declarations.specs.WellDeclared.{has_shape}
+pub use Rattle.pb_typing_declarations.specs.Shapes.{variable_shapes}
 use Rattle.pb_normal.specs.Expansion.{expanded}
-
--- the shapes of variables, in order
-abbrev pub variable_shapes : Spec → List Variable → List Shape
-variable_shapes spec xs = map (λ (x : Variable). sort_shape spec x.sort) xs
 
 -- the shapes of the slots that a formula's quantifiers take, in order
 abbrev pub loops : Spec → Formula → List Shape

@@ -1,33 +1,15 @@
--- Formulas in positive normal form, whose variables are slots: negation stands on data alone. What they mean.
-use Rattle.std.specs.Prelude.{ℕ, ◌==◌, pos, ◌+ℤ◌, ◌-ℤ◌, neg_ℤ, unsigned_abs, Bool, true, false, not, ◌&&◌, ◌||◌, if◌then◌else◌, List, [], map, Option, Some, None}
-use Rattle.std.specs.Ordering.{int_eq}
-use Rattle.std.specs.Int.{int_max, int_min}
-use Rattle.std.specs.List.{slice_get}
+-- Formulas in positive normal form, whose variables are slots: negation stands on data alone. What they mean. Data
+-- terms and arguments are those of typed trees.
+use Rattle.std.specs.Prelude.{ℕ, Bool, true, false, ◌&&◌, ◌||◌, List}
 use Rattle.pb_fixpoint.specs.Solution.{Environment}
 use Rattle.pb_text_tree.specs.declared.operator.Quantifier.{Quantifier}
 use Rattle.pb_text_tree.specs.declared.operator.Quantifier.TheVariants.{Forall, Exists}
-use Rattle.pb_carriers.specs.Carrier.{Value, of_bool}
-use Rattle.pb_text_meaning.specs.Syntax.{Name, Operator, Equation, Spec}
-use Rattle.pb_text_meaning.specs.Value.{is_true, binary, of_values}
+use Rattle.pb_text_meaning.specs.Syntax.{Spec}
+use Rattle.pb_text_meaning.specs.Value.{is_true, of_values}
 use Rattle.pb_text_meaning.specs.Formula.{Instance, call_truth}
 use Rattle.pb_typing_declarations.specs.Shapes.{Shape, shape_carrier}
-
--- a data term; an enumerator is given by its sort and its place there
-pub data Term : Type 0 where
-  Truth : Bool → Term
-  Number : ℕ → Term
-  Enumerator : (sort place : ℕ) → Term
-  Slot : ℕ → Term
-  Not Negative Absolute Successor Predecessor : Term → Term
-  Binary : Operator → Term → Term → Term
-  Maximum Minimum : Term → Term → Term
-  Choice : Term → Term → Term → Term
-  Recognised : (sort place : ℕ) → Term → Term
-
--- an argument with what is known of its values
-pub record Argument : Type 0 where
-  pub term : Term
-  pub shape : Shape
+pub use Rattle.pb_typed_tree.specs.Tree.{Term, Number, Slot, Negative, Absolute, Successor, Predecessor, Binary, Maximum, Minimum, Choice, Recognised, Argument}
+pub use Rattle.pb_typed_tree.specs.Meaning.{Slots, set, value, name_of, called}
 
 -- Join true is a conjunction and Join false a disjunction; Each true is for all values of a slot and Each false for some.
 -- Call names an equation by its place.
@@ -39,29 +21,6 @@ pub data Formula : Type 0 where
 
 -- ---- meaning
 
--- the values of all slots
-abbrev pub Slots : Type 0
-Slots = ℕ → Value
-
-abbrev pub set : Slots → ℕ → Value → Slots
-set a s v = λ i. if i == s then v else a i
-
-abbrev pub value : Slots → Term → Value
-value a (Term.Truth b) = of_bool b
-value a (Number n) = pos n
-value a (Enumerator s i) = pos i
-value a (Slot s) = a s
-value a (Not x) = of_bool (not (is_true (value a x)))
-value a (Negative x) = neg_ℤ (value a x)
-value a (Absolute x) = pos (unsigned_abs (value a x))
-value a (Successor x) = value a x +ℤ pos 1
-value a (Predecessor x) = value a x -ℤ pos 1
-value a (Binary o x y) = binary o (value a x) (value a y)
-value a (Maximum x y) = int_max (value a x) (value a y)
-value a (Minimum x y) = int_min (value a x) (value a y)
-value a (Choice c x y) = if is_true (value a c) then value a x else value a y
-value a (Recognised s i x) = of_bool (int_eq (value a x) (pos i))
-
 abbrev pub joined : Bool → Bool → Bool → Bool
 joined true x y = x && y
 joined false x y = x || y
@@ -69,14 +28,6 @@ joined false x y = x || y
 abbrev pub quantifier : Bool → Quantifier
 quantifier true = Forall
 quantifier false = Exists
-
-abbrev pub name_of : Option Equation → Name
-name_of None = []
-name_of (Some X) = X.name
-
--- the instance that a call names
-abbrev pub called : Spec → Slots → ℕ → List Argument → Instance
-called spec a X es = record { name = name_of (slice_get spec.equations X); values = map (λ e. value a e.term) es }
 
 abbrev pub truth : Spec → Slots → Environment Instance → Formula → Bool
 truth spec a t (Test x) = is_true (value a x)

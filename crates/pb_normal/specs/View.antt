@@ -1,19 +1,16 @@
 -- What a normal form of the code says, without boxes and vectors: a chain is folded to nested binary nodes, and a
 -- quantifier stands for one variable.
-use Rattle.std.specs.Prelude.{ℕ, suc, Bool, true, false, List, [], ◌∷◌, map, Some}
+use Rattle.std.specs.Prelude.{ℕ, suc, Bool, true, false, List, [], ◌∷◌, map}
 use Rattle.pb_sorts.specs.declared.carrier.Carrier.{Carrier}
-use Rattle.pb_text_tree.specs.declared.operator.Arithmetic.{Arithmetic}
 use Rattle.pb_text_tree.specs.declared.operator.Quantifier.{Quantifier}
 use Rattle.pb_text_tree.specs.declared.operator.Quantifier.TheVariants.{Forall, Exists}
-use Rattle.pb_text_meaning.specs.Erase.{of_connective, of_comparison, of_arithmetic}
 use Rattle.pb_typing_declarations.specs.Shapes.{Shape}
-use Rattle.pb_typing_declarations.specs.Entries.{carrier_shape}
+use Rattle.pb_typing_declarations.specs.Entries.{shape_of}
 use Rattle.pb_typing.specs.View.{shape_view}
+pub use Rattle.pb_typing_declarations.specs.Entries.{shapes_of}
+pub use Rattle.pb_typed_tree.specs.View.{chained, calculated, term_view, terms_in, links_in, term_views, link_view, link_views}
 use Rattle.pb_normal.specs.Normal as normal
-use Rattle.pb_normal.specs.Normal.{Binary, Each, Join, Call, Test}
-use Rattle.pb_normal.specs.declared.term.Term as term
-use Rattle.pb_normal.specs.declared.term.Term.{Term, Row_of-Term, end_of-Term, more_of-Term, Row_of-Link, end_of-Link, more_of-Link}
-use Rattle.pb_normal.specs.declared.term.Link.{Link}
+use Rattle.pb_normal.specs.Normal.{Each, Join, Call, Test}
 use Rattle.pb_normal.specs.declared.formula.Argument as declared_argument
 use Rattle.pb_normal.specs.declared.normal.Equation as declared_equation
 use Rattle.pb_normal.specs.declared.formula.Junction.{Junction}
@@ -21,60 +18,10 @@ use Rattle.pb_normal.specs.declared.formula.Junction.TheVariants.{And, Or}
 use Rattle.pb_normal.specs.declared.formula.Formula as formula
 use Rattle.pb_normal.specs.declared.formula.Formula.{Formula, Row_of-Formula, end_of-Formula, more_of-Formula}
 
--- operands read to the right: first o (operand o (operand ..))
-abbrev pub chained : {F : Type 0} → (F → F → F) → F → List F → F
-chained join first [] = first
-chained join first (x ∷ xs) = join first (chained join x xs)
-
--- operands of arithmetic, read to the left
-abbrev pub calculated : normal.Term → List (Arithmetic × normal.Term) → normal.Term
-calculated first [] = first
-calculated first ((o, x) ∷ links) = calculated (Binary (of_arithmetic o) first x) links
-
-abbrev mutual
-  pub term_view : Term → normal.Term
-  term_view (term.Constant b) = normal.Term.Truth b
-  term_view (term.Number n) = normal.Number n
-  term_view (term.Enumerator e) = normal.Enumerator e.sort e.place
-  term_view (term.Slot s) = normal.Slot s
-  term_view (term.Not' p x) = normal.Not (term_view x)
-  term_view (term.Negative' p x) = normal.Negative (term_view x)
-  term_view (term.Absolute' p x) = normal.Absolute (term_view x)
-  term_view (term.Successor' p x) = normal.Successor (term_view x)
-  term_view (term.Predecessor' p x) = normal.Predecessor (term_view x)
-  term_view (term.Chain' connective p first shape row) = chained (Binary (of_connective connective)) (term_view first) (terms_in row)
-  term_view (term.Comparison' comparison p left q right) = Binary (of_comparison comparison) (term_view left) (term_view right)
-  term_view (term.Arithmetic' p first shape row) = calculated (term_view first) (links_in row)
-  term_view (term.Maximum' p x q y) = normal.Maximum (term_view x) (term_view y)
-  term_view (term.Minimum' p x q y) = normal.Minimum (term_view x) (term_view y)
-  term_view (term.Choice' p c q x r y) = normal.Choice (term_view c) (term_view x) (term_view y)
-  term_view (term.Recognised' e p x) = normal.Recognised e.sort e.place (term_view x)
-
-  pub terms_in : {m : _} → Row_of-Term m → List normal.Term
-  terms_in end_of-Term = []
-  terms_in (more_of-Term x row) = term_view x ∷ terms_in row
-
-  pub links_in : {m : _} → Row_of-Link m → List (Arithmetic × normal.Term)
-  links_in end_of-Link = []
-  links_in (more_of-Link operator operand row) = (operator, term_view operand) ∷ links_in row
-
-abbrev pub term_views : List Term → List normal.Term
-term_views = map term_view
-
-abbrev pub link_view : Link → Arithmetic × normal.Term
-link_view link = (link.operator, term_view link.operand)
-
-abbrev pub link_views : List Link → List (Arithmetic × normal.Term)
-link_views = map link_view
-
--- the shapes of carriers
-abbrev pub shapes_of : List Carrier → List Shape
-shapes_of = map (λ (c : Carrier). carrier_shape (Some c))
-
 -- one quantifier for each carrier, the next slots being theirs
 abbrev pub nested : Bool → ℕ → List Carrier → normal.Formula → normal.Formula
 nested universal slot [] f = f
-nested universal slot (c ∷ cs) f = Each universal slot (carrier_shape (Some c)) (nested universal (suc slot) cs f)
+nested universal slot (c ∷ cs) f = Each universal slot (shape_of c) (nested universal (suc slot) cs f)
 
 -- ---- formulas
 

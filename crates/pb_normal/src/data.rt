@@ -5,14 +5,14 @@ ghost use Rattle.pb_text_tree.specs.Form.{TermForm, argument_forms, arithmetic_l
 ghost use Rattle.pb_text_tree.specs.Form.{chained, named, term_form, term_links};
 ghost use Rattle.pb_text_meaning.specs.Erase.{erased_arguments, erased_term};
 ghost use Rattle.pb_typing_declarations.specs.View.{spec_of};
-ghost use Rattle.pb_normal.specs.Normalisation.{applied, slotted, slotted_all};
+ghost use Rattle.pb_typed_tree.specs.Elaboration.{applied, slotted, slotted_all};
+ghost use Rattle.pb_typed_tree.specs.View.{term_view};
 ghost use Rattle.pb_normal.specs.Slots.{slotting};
-ghost use Rattle.pb_normal.specs.View.{term_view};
 
 use crate::function::{apply_one, apply_three, apply_two, name_term};
 use crate::slots::Slots;
-use crate::term::{Link, Term};
 use pb_text_tree::{Argument, ArithmeticLink, Connective, Name, TermLink};
+use pb_typed_tree::{Link, Term};
 use pb_typing_declarations::Declarations;
 use std::alloc::{AllocError, Global};
 

@@ -3,9 +3,9 @@
 ghost use Rattle.std.specs.Prelude.{◌≡◌, not};
 ghost use Rattle.pb_normal.specs.View.{is_and};
 
-use crate::term::Term;
 use pb_sorts::Carrier;
 use pb_text_tree::Quantifier;
+use pb_typed_tree::Term;
 use pb_typing::Shape;
 
 /// What joins operands: a conjunction, or a disjunction.

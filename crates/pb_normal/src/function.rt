@@ -1,15 +1,16 @@
 //! Names in data: variables, enumerators and functions, over slots.
 
-ghost use Rattle.std.specs.Prelude.{◌≡◌, ◌||◌, IfOk, codes};
-ghost use Rattle.pb_text_meaning.specs.Syntax.{same_name};
+ghost use Rattle.std.specs.Prelude.{◌≡◌, IfOk};
+ghost use Rattle.pb_text_meaning.specs.Functions.{named_function};
 ghost use Rattle.pb_typing_declarations.specs.Enumerators.{enumerator_of, recogniser_of};
 ghost use Rattle.pb_typing_declarations.specs.View.{spec_of};
+ghost use Rattle.pb_typed_tree.specs.View.{term_view};
 ghost use Rattle.pb_normal.specs.Normalisation as normalisation;
 ghost use Rattle.pb_normal.specs.Slots.{slotting};
-ghost use Rattle.pb_normal.specs.View.{term_view};
 
 use crate::slots::{Slots, variable_slot};
-use crate::term::{Enumerator, Term};
+use pb_text_meaning::NamedFunction;
+use pb_typed_tree::{Enumerator, Term};
 use pb_typing_declarations::Declarations;
 use std::alloc::{AllocError, Global};
 
@@ -49,27 +50,24 @@ pub(crate) fn apply_one(
     x: Term,
 ) -> Result<Term, AllocError>
     ensures { IfOk result (λ y. term_view y ≡ normalisation.applied_to_one
-        (spec_of declarations.now) name.now (term_view x)) }
+        (spec_of declarations.now) name.now (named_function name.now) (term_view x)) }
 {
-    if name == "succ" {
-        Ok(Term::Successor(Box::new(alloc, x)?))
-    } else if name == "pred" {
-        Ok(Term::Predecessor(Box::new(alloc, x)?))
-    } else if name == "abs" {
-        Ok(Term::Absolute(Box::new(alloc, x)?))
-    } else if is_conversion(name) {
-        Ok(x)
-    } else {
-        recognise(alloc, declarations, name, x)
+    match NamedFunction::named(name) {
+        Some(function) => named_to_one(alloc, function, x),
+        None => recognise(alloc, declarations, name, x),
     }
 }
 
-/// Whether the name is that of a conversion between integer sorts.
-fn is_conversion(name: &str) -> bool
-    ensures { result ≡ (same_name name.now (codes "Pos2Nat") || same_name name.now
-        (codes "Pos2Int") || same_name name.now (codes "Nat2Int")) }
+fn named_to_one(alloc: Global, function: NamedFunction, x: Term) -> Result<Term, AllocError>
+    ensures { IfOk result (λ y. term_view y ≡ normalisation.named_to_one function (term_view x)) }
 {
-    name == "Pos2Nat" || name == "Pos2Int" || name == "Nat2Int"
+    match function {
+        NamedFunction::Succ => Ok(Term::Successor(Box::new(alloc, x)?)),
+        NamedFunction::Pred => Ok(Term::Predecessor(Box::new(alloc, x)?)),
+        NamedFunction::Abs => Ok(Term::Absolute(Box::new(alloc, x)?)),
+        NamedFunction::Pos2Nat | NamedFunction::Pos2Int | NamedFunction::Nat2Int => Ok(x),
+        NamedFunction::If | NamedFunction::Max | NamedFunction::Min => Ok(Term::Number(0)),
+    }
 }
 
 /// A recogniser of an argument; a name that is no recogniser's recognises nothing.
@@ -99,15 +97,13 @@ fn recognise(
 /// # Errors
 /// Memory was refused.
 pub(crate) fn apply_two(alloc: Global, name: &str, x: Term, y: Term) -> Result<Term, AllocError>
-    ensures { IfOk result (λ z. term_view z ≡ normalisation.applied_to_two name.now (term_view x)
-        (term_view y)) }
+    ensures { IfOk result (λ z. term_view z ≡ normalisation.applied_to_two
+        (named_function name.now) (term_view x) (term_view y)) }
 {
-    if name == "max" {
-        Ok(Term::Maximum(Box::new(alloc, x)?, Box::new(alloc, y)?))
-    } else if name == "min" {
-        Ok(Term::Minimum(Box::new(alloc, x)?, Box::new(alloc, y)?))
-    } else {
-        Ok(Term::Number(0))
+    match NamedFunction::named(name) {
+        Some(NamedFunction::Max) => Ok(Term::Maximum(Box::new(alloc, x)?, Box::new(alloc, y)?)),
+        Some(NamedFunction::Min) => Ok(Term::Minimum(Box::new(alloc, x)?, Box::new(alloc, y)?)),
+        _ => Ok(Term::Number(0)),
     }
 }
 
@@ -122,16 +118,15 @@ pub(crate) fn apply_three(
     y: Term,
     z: Term,
 ) -> Result<Term, AllocError>
-    ensures { IfOk result (λ r. term_view r ≡ normalisation.applied_to_three name.now (term_view x)
-        (term_view y) (term_view z)) }
+    ensures { IfOk result (λ r. term_view r ≡ normalisation.applied_to_three
+        (named_function name.now) (term_view x) (term_view y) (term_view z)) }
 {
-    if name == "if" {
-        Ok(Term::Choice {
+    match NamedFunction::named(name) {
+        Some(NamedFunction::If) => Ok(Term::Choice {
             condition: Box::new(alloc, x)?,
             positive: Box::new(alloc, y)?,
             negative: Box::new(alloc, z)?,
-        })
-    } else {
-        Ok(Term::Number(0))
+        }),
+        _ => Ok(Term::Number(0)),
     }
 }

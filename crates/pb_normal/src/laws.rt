@@ -14,19 +14,24 @@ ghost use Rattle.pb_text_meaning.specs.Positive.{IsPositive};
 ghost use Rattle.pb_typing_rules.specs.Scope.{Scope};
 ghost use Rattle.pb_typing_rules.specs.WellTyped.{IsWellTyped};
 ghost use Rattle.pb_typing.specs.Typed.{is_faultless};
+ghost use Rattle.pb_typed_tree.specs.Elaboration.{elaborated};
+ghost use Rattle.pb_typed_tree.specs.Expansion.{expanded};
+ghost use Rattle.pb_typed_tree.specs.Plain.{Agree, AreFree, IsPlain};
 ghost use Rattle.pb_normal.specs.Answer.{answer_by, equations_by, normal_equations};
 ghost use Rattle.pb_normal.specs.Equations.{normal_equation, KeepsTruth};
-ghost use Rattle.pb_normal.specs.Expansion.{expanded};
 ghost use Rattle.pb_normal.specs.Kept.{KeepsShapes};
 ghost use Rattle.pb_normal.specs.Normal as normal;
 ghost use Rattle.pb_normal.specs.Normalisation as normalisation;
+ghost use Rattle.pb_normal.specs.SignedForm.{signed_form};
 ghost use Rattle.pb_normal.specs.SlotOrder.{quantified_slots, IsClosed};
-ghost use Rattle.pb_normal.specs.Plain.{Agree, AreFree, IsPlain, signed};
+ghost use Rattle.pb_normal.specs.Plain.{signed};
 
-/// Reading data terms with quantifiers as formulas keeps the truth of a formula.
-pub fn expansion_keeps_truth()
-    ensures { (spec : Spec) (t : Environment Instance) (f : Original) (a : Assignment)
-        → truth spec a t (expanded f) ≡ truth spec a t f }
+/// The normal form of a positive formula is that of its typed tree.
+pub fn normal_forms_are_of_typed_trees()
+    ensures { (spec : Spec) (f : Original) (even : Bool) (scope : Scope)
+        (c : normalisation.Slotting) (n : ℕ) → IsPositive even f
+        → normalisation.normal spec even c scope n f
+        ≡ signed_form even (elaborated spec c scope n f) }
 {}
 
 /// The normal form of a positive formula without quantifiers in data has the formula's truth, where

@@ -15,11 +15,10 @@ mod operand;
 mod quantifier;
 mod sign;
 mod slots;
-pub mod term;
 mod value;
 mod variables;
 
 pub use formula::{Argument, Formula, Junction};
 pub use initial::{Initial, initial_instance};
 pub use normal::{Equation, Normal, normalise};
-pub use term::{Enumerator, Link, Term};
+pub use pb_typed_tree::{Enumerator, Link, Term};

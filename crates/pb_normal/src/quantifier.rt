@@ -4,7 +4,7 @@ ghost use Rattle.std.specs.Prelude.{◌≡◌};
 ghost use Rattle.pb_text_tree.specs.Form.{TermForm, argument_forms, arithmetic_links, calculated};
 ghost use Rattle.pb_text_tree.specs.Form.{chained, term_form, term_links};
 ghost use Rattle.pb_text_meaning.specs.Erase.{erased_arguments, erased_term};
-ghost use Rattle.pb_normal.specs.Expansion.{has_quantifier, have_quantifier};
+ghost use Rattle.pb_typed_tree.specs.Expansion.{has_quantifier, have_quantifier};
 ghost use Rattle.pb_normal.specs.Links.{arithmetic_have_quantifier, links_have_quantifier};
 
 use pb_text_tree::{Argument, ArithmeticLink, Term, TermLink};

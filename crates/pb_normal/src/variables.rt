@@ -6,8 +6,8 @@ ghost use Rattle.pb_text_meaning.specs.Syntax as syntax;
 ghost use Rattle.pb_text_meaning.specs.Erase.{erased_variables};
 ghost use Rattle.pb_typing_declarations.specs.Tables.{looked_up};
 ghost use Rattle.pb_typing_declarations.specs.View.{spec_of};
+ghost use Rattle.pb_typed_tree.specs.Elaboration.{unslotted, with_slots};
 ghost use Rattle.pb_normal.specs.Loops.{AreShaped, variable_shapes};
-ghost use Rattle.pb_normal.specs.Normalisation.{unslotted, with_slots};
 ghost use Rattle.pb_normal.specs.Slots.{named_slots};
 ghost use Rattle.pb_normal.specs.View.{shapes_of};
 

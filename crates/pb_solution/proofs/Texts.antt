@@ -3,6 +3,7 @@ use Rattle.std.proofs.Common.{◌≡◌, ℕ, Bool, List, Option, subst}
 use Rattle.std.specs.Prelude.{Result, Ok, Err}
 use Rattle.std.specs.Io.KnownBytes.{Appends}
 use Rattle.pb_sorts.specs.Sink.{AppendsPrefix}
+use Rattle.pb_text_tree.specs.declared.place.Place.{Place}
 use Rattle.pb_trees.specs.Tree.{Tree}
 use Rattle.pb_rows.specs.Row.{Row}
 use Rattle.pb_bytecode.specs.Contents.{Contents}
@@ -40,13 +41,13 @@ sent m found rows same explored some text r old new fb fa w =
     sent_found m found explored some text r old new fb fa (subst (λ (x : List Row). WritesAny m text x r old new fb fa) same w)
 
 -- the text of evidence went out, so that of some evidence did
-module _ (m : Contents) (x : Explanation) (is : IsExplanation m x) (have : HaveTrees m) where
-  found_evidence : (P : List ℕ → Type 0) → ((trees : ℕ → Tree) → AreTrees m trees → P (module_evidence_text m trees x.evidence)) → ForEvidenceText m P
+module _ (m : Contents) (x : Explanation) (place : ℕ → ℕ → Option Place) (is : IsExplanation m x) (have : HaveTrees m) where
+  found_evidence : (P : List ℕ → Type 0) → ((trees : ℕ → Tree) → AreTrees m trees → P (module_evidence_text m trees place x.evidence)) → ForEvidenceText m place P
   found_evidence P holds = (x.evidence, λ trees are. (is trees are).shown, holds)
 
   pub sent_evidence : {T : Type 0} (r : Result T WriteError) (old new : Option (List ℕ)) (fb fa : Bool)
-      → ((trees : ℕ → Tree) → AreTrees m trees → Writes r old new fb fa (module_evidence_text m trees x.evidence))
-      → Sends (ForEvidenceText m) r old new fb fa
+      → ((trees : ℕ → Tree) → AreTrees m trees → Writes r old new fb fa (module_evidence_text m trees place x.evidence))
+      → Sends (ForEvidenceText m place) r old new fb fa
   sent_evidence (Ok v) old new fb fa w = (found_evidence (Appends old new) (λ trees are. (w trees are).0), (w have.0 have.1).1)
   sent_evidence (Err (Memory v)) old new fb fa w = w have.0 have.1
   sent_evidence (Err (Failed v)) old new fb fa w = (found_evidence (AppendsPrefix old new) (λ trees are. (w trees are).0), (w have.0 have.1).1)

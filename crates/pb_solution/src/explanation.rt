@@ -1,9 +1,11 @@
 //! Why a module's initial instance is true or false. Evidence names few instances, and holds
 //! whatever trees the others have; so parts of the instances are tried first, each larger than the
 //! one before, and everything is explored only where none of them is enough.
-ghost use Rattle.std.specs.Prelude.{◌≡◌, IfOk, IfErr, IfSome, Err};
+ghost use Rattle.std.specs.Prelude.{◌≡◌, ℕ, Option, IfOk, IfErr, IfSome, Err};
+ghost use Rattle.pb_text_tree.specs.declared.place.Place.{Place};
 ghost use Rattle.pb_bytecode.specs.Contents.{Contents};
 ghost use Rattle.pb_game_of_trees.specs.declared.tree_game.BuildError.TheVariants.{TooManyVertices};
+ghost use Rattle.pb_evidence_texts.specs.CallPlaces.{AreCallPlaces};
 ghost use Rattle.pb_evidence_texts.specs.ModuleEvidence.{ForEvidenceText, IsExplanation};
 ghost use Rattle.pb_report_texts.specs.Sending.{IsOutOfMemory};
 ghost use Rattle.pb_nearby.specs.Nearby.{IsNearby};
@@ -15,7 +17,7 @@ use crate::built_module::solve_game;
 use crate::options::SolveOptions;
 use crate::solved_module::solve_module;
 use pb_evidence_texts::evidence_text::evidence_text;
-use pb_evidence_texts::{Explanation, evidence_of, evidence_of_rows};
+use pb_evidence_texts::{Explanation, PlacedExplanation, evidence_of, evidence_of_rows};
 use pb_exploration::Gate;
 use pb_fixpoint::Sign;
 use pb_game_answer::build_rows;
@@ -31,9 +33,9 @@ use std::thread::Threads;
 
 /// A round ends when about so many instances are found in all. What the rounds cost is lost where
 /// none of them is enough: one thread explores 2^16 instances, and solves games of twice 2^10,
-/// twice 2^14 and once 2^16. That is less than a run over 2^17 takes, and a tenth of one over a
-/// million. Rounds up to 2^18 would show deeper faults, and cost those runs a third.
-const ROUNDS: [usize; 3] = [1 << 10, 1 << 14, LAST_ROUND];
+/// twice 2^12, twice 2^14 and once 2^16. That is less than a run over 2^17 takes, and a tenth of
+/// one over a million. Rounds up to 2^18 would show deeper faults, and cost those runs a third.
+const ROUNDS: [usize; 4] = [1 << 10, 1 << 12, 1 << 14, LAST_ROUND];
 
 /// In the last round one game is tried, of the value that a part of the instances more often shows
 /// (`shows_truth`), since a second one would cost as much as all before.
@@ -174,8 +176,9 @@ pub fn explain_module<R: Threads + Sync, G: Gate + Sync>(
 }
 
 /// Appends why the initial instance has its truth value: the answer, and then a line for each
-/// instance of a proof graph, the initial one first and the nearest before others. The word `cut`
-/// stands last in the line of an instance that rests on a cut call too.
+/// instance of a proof graph, the initial one first and the nearest before others, with the places
+/// that are given of its calls. The word `cut` stands last in the line of an instance that rests on
+/// a cut call too.
 ///
 /// # Errors
 /// `Memory` before the first byte. After `Failed` a part that begins the text, and not the whole
@@ -183,14 +186,18 @@ pub fn explain_module<R: Threads + Sync, G: Gate + Sync>(
 pub fn write_explanation<S: Sink>(
     alloc: Global,
     verified: &Verified,
-    explanation: &Explanation,
+    placed: &PlacedExplanation<'_>,
     sink: &mut S,
 ) -> Result<(), WriteError>
-    requires { IsExplanation verified.now explanation.now }
-    ensures text { Sends (ForEvidenceText verified.now) result (S.taken sink.old)
-        (S.taken sink.new) (S.has_failed sink.old) (S.has_failed sink.new) }
+    requires explanation { IsExplanation verified.now placed.now.explanation.now }
+    requires places { (place : ℕ → ℕ → Option Place)
+        × AreCallPlaces place placed.now.explanation.now.evidence placed.now.call_places.now }
+    ensures text { (place : ℕ → ℕ → Option Place)
+        → AreCallPlaces place placed.now.explanation.now.evidence placed.now.call_places.now
+        → Sends (ForEvidenceText verified.now place) result (S.taken sink.old) (S.taken sink.new)
+        (S.has_failed sink.old) (S.has_failed sink.new) }
     ensures silent { IfErr result (λ e. IsOutOfMemory e → sink.new ≡ sink.old) }
 {
     instances_have_trees(verified);
-    evidence_text(alloc, verified, explanation, sink)
+    evidence_text(alloc, verified, placed, sink)
 }

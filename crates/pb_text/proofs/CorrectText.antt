@@ -125,10 +125,10 @@ declared-answers (suc depth) =
     (deeper-correct Always variables (λ d. Variables) (going never is_comma) depth (variables-correct depth))
     (λ found. anywhere (Stops (going never is_comma)) _ _ never (suc depth) (token-correct k.Close (suc depth) found refl))))).answers
 
-abbrev parameters_of : Family (List VariableForm)
+abbrev pub parameters_of : Family (List VariableForm)
 parameters_of d = Extended (Is []) (λ none. Declared d)
 
-parameters-correct : (depth : ℕ) → Correct Always (parameters depth) parameters_of (going never is_open) depth
+pub parameters-correct : (depth : ℕ) → Correct Always (parameters depth) parameters_of (going never is_open) depth
 unfolding parameters
 parameters-correct depth =
     extended-correct (λ d. Is []) (λ none d. Declared d) never is_open depth (λ kind h. refl) declared-starts Always (pure []) (is-correct [] depth)

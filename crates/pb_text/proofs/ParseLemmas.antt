@@ -11,6 +11,7 @@ use Rattle.pb_text_lexer.specs.declared.fault.ReadingFault.{ReadingFault}
 use Rattle.pb_text_lexer.specs.declared.fault.ReadingFault.TheVariants.{Memory, At}
 use Rattle.pb_text_lexer.specs.declared.kind.Kind.{Kind}
 use Rattle.pb_text_lexer.specs.declared.kind.Kind.TheVariants.{Unknown, LargeNumber, RangeLine}
+use Rattle.pb_text_lexer.specs.declared.language.Language.TheVariants.{Text}
 use Rattle.pb_text_lexer.specs.Kinds.{is_defect, is_limited}
 use Rattle.pb_text_lexer.specs.Lexing.{start, IsDefect}
 use Rattle.pb_text_lexer.specs.Remaining.{tokens_from, ranges_from}
@@ -26,18 +27,18 @@ use Rattle.pb_text.specs.Reading.{whole_text}
 use Rattle.pb_text.proofs.CorrectText.{IsFault, IsRead, Reading, whole-reads, with-ranges}
 
 abbrev pub all_tokens : List ℕ → List Tok
-all_tokens bytes = tokens_from bytes 0 start
+all_tokens bytes = tokens_from Text bytes 0 start
 
 abbrev pub all_ranges : List ℕ → List RangeForm
-all_ranges bytes = ranges_from bytes 0 start
+all_ranges bytes = ranges_from Text bytes 0 start
 
 pub is-reading : (bytes : List ℕ) (x : SpecForm) → IsRead depth_limit operator_limit (all_tokens bytes) (all_ranges bytes) x → IsReading bytes x
-is-reading bytes x r = record { tokens = all_tokens bytes; ranges = all_ranges bytes; cut = whole-cut bytes r.front r.end r.cut r.end_is; says = r.reads }
+is-reading bytes x r = record { tokens = all_tokens bytes; ranges = all_ranges bytes; cut = whole-cut Text bytes r.front r.end r.cut r.end_is; says = r.reads }
 
 -- what the tokens and range lines of a cut say, those that the lexer gives say
 of-cut : (bytes : List ℕ) (d n : ℕ) (y : SpecForm) → IsReadingWithin d n bytes y → IsText d n (all_tokens bytes) (all_ranges bytes) y
 of-cut bytes d n y h =
-    let same = same-cut bytes h.tokens h.ranges h.cut in
+    let same = same-cut Text bytes h.tokens h.ranges h.cut in
     subst (λ (v : List Tok). IsText d n v (all_ranges bytes) y) same.tokens (subst (λ (v : List RangeForm). IsText d n h.tokens v y) same.ranges_too h.says)
 
 pub only-reading : (bytes : List ℕ) (x : SpecForm) → IsRead depth_limit operator_limit (all_tokens bytes) (all_ranges bytes) x → (d n : ℕ) (y : SpecForm) → IsReadingWithin d n bytes y → y ≡ x
@@ -49,7 +50,7 @@ within-these Limit d n = (omega arith, omega arith)
 
 -- where some reading is within the limits, reading the tokens gives it, and there is no other
 pub at_most_one : AtMostOneReading
-at_most_one bytes d n e m x y hx hy = by (whole_text (all_ranges bytes) d (st (all_tokens bytes) n)) (whole-reads (all_ranges bytes) d (st (all_tokens bytes) n) (tokens-end start bytes))
+at_most_one bytes d n e m x y hx hy = by (whole_text (all_ranges bytes) d (st (all_tokens bytes) n)) (whole-reads (all_ranges bytes) d (st (all_tokens bytes) n) (tokens-end Text start bytes))
   where
     by : (o : Outcome SpecForm) → Reading (all_ranges bytes) d (st (all_tokens bytes) n) o → x ≡ y
     by (Ok r) a = a.only d n x (of-cut bytes d n x hx) ∙ sym (a.only e m y (of-cut bytes e m y hy))
@@ -88,7 +89,7 @@ before Limit front next limited broken goes = absurd (no-limit next.kind (limite
 
 pub stands-by : (bytes : List ℕ) (bad : Refusal) → IsFault depth_limit operator_limit (all_tokens bytes) bad → IsFirstFaultBy (rule_of bad.rule bad.kind) bytes bad.place
 stands-by bytes bad f =
-    let s = stands bytes f.front f.more f.next f.cut in
+    let s = stands Text bytes f.front f.more f.next f.cut in
     by-kind bytes bad.rule bad.kind bad.place
     (λ h. record {
       front = f.front;
@@ -124,7 +125,7 @@ pub answered : (bytes : List ℕ) (s : State) (result : Result Spec ReadingFault
 answered bytes s result z is h =
     answered-by bytes (whole_text [] depth_limit (st (all_tokens bytes) operator_limit)) result z
     (subst (λ (v : State). Gives spec_form (whole_text [] depth_limit v) result z) is h)
-    (whole-reads [] depth_limit (st (all_tokens bytes) operator_limit) (tokens-end start bytes))
+    (whole-reads [] depth_limit (st (all_tokens bytes) operator_limit) (tokens-end Text start bytes))
 
 -- what a tree says whose ranges are put in is what the bytes say
 pub ranged : (bytes : List ℕ) (s t : Spec) → Answered bytes (Ok s) → spec_form t ≡ record (spec_form s) { ranges = map range_form t.ranges.items }

@@ -9,9 +9,9 @@ pub mod error;
 mod formula;
 pub mod laws;
 pub mod limits;
-mod next;
-mod sort;
-mod system;
+pub mod next;
+pub mod sort;
+pub mod system;
 pub mod text;
 
 pub use error::{TextError, TextRule};

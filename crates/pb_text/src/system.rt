@@ -29,7 +29,7 @@ fn begins_equation(kind: Kind) -> bool
 
 /// `mu` or `nu`. Another token is refused as `ReadingRule::Unexpected`, which is the one error.
 #[tactic(auto, unfolding(crate::specs::Reading::sign_of))]
-fn sign(input: &mut Input<'_>) -> Result<Sign, Refusal>
+pub fn sign(input: &mut Input<'_>) -> Result<Sign, Refusal>
     ensures reads { GivesExactly (λ x. x) (reading.sign_of input.old) result input.new }
     ensures fewer { OnOk result (length input.new.tokens < length input.old.tokens) }
 {
@@ -48,7 +48,7 @@ fn sign(input: &mut Input<'_>) -> Result<Sign, Refusal>
 
 /// The parameters of an equation, in brackets, if it has any.
 #[tactic(auto, unfolding(crate::specs::Reading::parameters))]
-fn parameters(input: &mut Input<'_>, alloc: Global) -> Result<Vec<Variables>, ReadingFault>
+pub fn parameters(input: &mut Input<'_>, alloc: Global) -> Result<Vec<Variables>, ReadingFault>
     ensures reads { Gives (λ v. variable_forms v.items)
         (reading.parameters depth_limit input.old) result input.new }
     ensures fewer { OnOk result (length input.new.tokens ≤ length input.old.tokens) }

@@ -8,6 +8,7 @@ use crate::error::TextError;
 use crate::limits::OPERATOR_LIMIT;
 use crate::system::whole;
 use pb_text_lexer::input::Input;
+use pb_text_lexer::language::Language;
 use pb_text_lexer::ranges::ranges;
 use pb_text_tree::Spec;
 use std::alloc::Global;
@@ -36,8 +37,8 @@ pub fn parse(alloc: Global, bytes: &[u8]) -> Result<Spec, TextError>
     // so it is the first past a limit; with one level and one operator more some text does.
     ensures stands { IfErr result (λ e. IsFirstFault bytes.now e) }
 {
-    let mut input = Input::new(bytes, OPERATOR_LIMIT);
+    let mut input = Input::new(Language::Text, bytes, OPERATOR_LIMIT);
     let mut text = whole(&mut input, alloc)?;
-    text.ranges = ranges(alloc, bytes)?;
+    text.ranges = ranges(alloc, Language::Text, bytes)?;
     Ok(text)
 }

@@ -5,87 +5,87 @@ use Rattle.pb_text_tree.specs.declared.place.Place.{Place}
 use Rattle.pb_text_tree.specs.Form.{RangeForm}
 use Rattle.pb_text_lexer.specs.declared.kind.Kind.{Kind}
 use Rattle.pb_text_lexer.specs.declared.kind.Kind.TheVariants.{End, Unknown, LargeNumber, RangeLine}
+use Rattle.pb_text_lexer.specs.declared.language.Language.{Language}
 use Rattle.pb_text_lexer.specs.declared.piece.Piece.TheVariants.{Stop}
 use Rattle.pb_text_lexer.specs.Kinds.{is_last, is_defect}
-use Rattle.pb_text_lexer.specs.Lexing.{Cuts, none, blank, token, piece, past, start, IsCut, IsDefect, Begins}
+use Rattle.pb_text_lexer.specs.Lexing.{CutsIn, none, blank, token, piece_in, past, start, IsCutIn, IsDefectIn, BeginsIn}
 use Rattle.pb_text_lexer.specs.RangeLines.{ranges_at}
 use Rattle.pb_text_lexer.specs.Remaining.{tokens_from, ranges_from}
 use Rattle.pb_text_lexer.specs.Steps.{ends}
 use Rattle.pb_text_lexer.specs.Tokens.{Tok, token_at}
-use Rattle.pb_text_lexer.proofs.PieceLemmas.{stop-takes}
+use Rattle.pb_text_lexer.proofs.LanguagePieceLemmas.{nothing-stops, stop-takes}
 use Rattle.pb_text_lexer.proofs.RemainingLemmas.{IsLexed, lexed, tokens-end}
 
 -- ---- two cuts that both end are one
 
-abbrev Ends : Place → List ℕ → Type 0
-Ends q rest = (kind : Kind) × (piece q rest ≡ Stop kind)
+abbrev Ends : Language → Place → List ℕ → Type 0
+Ends l q rest = (kind : Kind) × (piece_in l q rest ≡ Stop kind)
 
-nothing-ends : (q : Place) → Ends q []
-unfolding piece
-nothing-ends q = (End, refl)
+nothing-ends : (l : Language) (q : Place) → Ends l q []
+nothing-ends l q = (End, nothing-stops l q)
 
-one-cut : (p q r : Place) (bs us vs : List ℕ) (ts ws : List Tok) (rs ss : List RangeForm) → Cuts p bs ts rs q us → Cuts p bs ws ss r vs → Ends q us → Ends r vs
+one-cut : (l : Language) (p q r : Place) (bs us vs : List ℕ) (ts ws : List Tok) (rs ss : List RangeForm) → CutsIn l p bs ts rs q us → CutsIn l p bs ws ss r vs → Ends l q us → Ends l r vs
     → (ts ≡ ws) × (q ≡ r) × (us ≡ vs) × (rs ≡ ss)
-one-cut p q r bs us vs ts ws rs ss none none e f = (refl, refl, refl, refl)
-one-cut p q r bs us vs ts ws rs ss none (blank g c) e f = let h = e.1 in cc
-one-cut p q r bs us vs ts ws rs ss none (token g c) e f = let h = e.1 in cc
-one-cut p q r bs us vs ts ws rs ss (blank g c) none e f = let h = f.1 in cc
-one-cut p q r bs us vs ts ws rs ss (token g c) none e f = let h = f.1 in cc
-one-cut p q r bs us vs ts ws rs ss (blank {rs = rs'} {n = n} g c) (blank {rs = ss'} {n = m} h d) e f =
+one-cut l p q r bs us vs ts ws rs ss none none e f = (refl, refl, refl, refl)
+one-cut l p q r bs us vs ts ws rs ss none (blank g c) e f = let h = e.1 in cc
+one-cut l p q r bs us vs ts ws rs ss none (token g c) e f = let h = e.1 in cc
+one-cut l p q r bs us vs ts ws rs ss (blank g c) none e f = let h = f.1 in cc
+one-cut l p q r bs us vs ts ws rs ss (token g c) none e f = let h = f.1 in cc
+one-cut l p q r bs us vs ts ws rs ss (blank {rs = rs'} {n = n} g c) (blank {rs = ss'} {n = m} h d) e f =
     let same : m ≡ n = cc in
-    let found = one-cut _ q r _ us vs ts ws rs' ss' c (subst (λ (k : ℕ). Cuts (past p (take k bs)) (drop k bs) ws ss' r vs) same d) e f in
+    let found = one-cut l _ q r _ us vs ts ws rs' ss' c (subst (λ (k : ℕ). CutsIn l (past p (take k bs)) (drop k bs) ws ss' r vs) same d) e f in
     (found.0, found.1, found.2, ap (λ v. ranges_at p bs ++ v) found.3)
-one-cut p q r bs us vs ts ws rs ss (blank g c) (token h d) e f = cc
-one-cut p q r bs us vs ts ws rs ss (token g c) (blank h d) e f = cc
-one-cut p q r bs us vs ts ws rs ss (token {ts = ts'} {kind = kind} {n = n} g c) (token {ts = ws'} {kind = other} {n = m} h d) e f =
+one-cut l p q r bs us vs ts ws rs ss (blank g c) (token h d) e f = cc
+one-cut l p q r bs us vs ts ws rs ss (token g c) (blank h d) e f = cc
+one-cut l p q r bs us vs ts ws rs ss (token {ts = ts'} {kind = kind} {n = n} g c) (token {ts = ws'} {kind = other} {n = m} h d) e f =
     let same : m ≡ n = cc in let alike : kind ≡ other = cc in
-    let found = one-cut _ q r _ us vs ts' ws' rs ss c (subst (λ (k : ℕ). Cuts (past p (take k bs)) (drop k bs) ws' ss r vs) same d) e f in
+    let found = one-cut l _ q r _ us vs ts' ws' rs ss c (subst (λ (k : ℕ). CutsIn l (past p (take k bs)) (drop k bs) ws' ss r vs) same d) e f in
     let first : token_at p kind (take n bs) ≡ token_at p other (take m bs) = cc in
     let rest = found.0 in
     (cc, found.1, found.2, found.3)
 
 -- a text that is cut wholly has these tokens and range lines, and ends where they do
-pub record IsSame (bytes : List ℕ) (us : List Tok) (ranges : List RangeForm) : Type 0 where
-  pub tokens : us ≡ tokens_from bytes 0 start
-  pub ranges_too : ranges ≡ ranges_from bytes 0 start
+pub record IsSame (l : Language) (bytes : List ℕ) (us : List Tok) (ranges : List RangeForm) : Type 0 where
+  pub tokens : us ≡ tokens_from l bytes 0 start
+  pub ranges_too : ranges ≡ ranges_from l bytes 0 start
 
-pub same-cut : (bytes : List ℕ) (us : List Tok) (ranges : List RangeForm) → IsCut bytes us ranges → IsSame bytes us ranges
-unfolding piece
-same-cut bytes us ranges b =
-    let l = lexed start bytes in
-    let found = one-cut start l.place b.1 bytes l.rest [] l.front b.0 l.ranges ranges l.cut b.2 (l.kind, l.stops) (nothing-ends b.1) in
-    let at : piece l.place [] ≡ Stop l.kind = subst (λ (v : List ℕ). piece l.place v ≡ Stop l.kind) found.2 l.stops in
-    let kind : l.kind ≡ End = cc in
+pub same-cut : (l : Language) (bytes : List ℕ) (us : List Tok) (ranges : List RangeForm) → IsCutIn l bytes us ranges → IsSame l bytes us ranges
+same-cut l bytes us ranges b =
+    let whole = lexed l start bytes in
+    let found = one-cut l start whole.place b.1 bytes whole.rest [] whole.front b.0 whole.ranges ranges whole.cut b.2 (whole.kind, whole.stops) (nothing-ends l b.1) in
+    let at : piece_in l whole.place [] ≡ Stop whole.kind = subst (λ (v : List ℕ). piece_in l whole.place v ≡ Stop whole.kind) found.2 whole.stops in
+    let stop : Stop End ≡ Stop whole.kind = sym (nothing-stops l whole.place) ∙ at in
+    let kind : whole.kind ≡ End = cc in
     record {
-      tokens = b.3 ∙ ap (λ v. v ++ token_at b.1 End [] ∷ []) (sym found.0) ∙ ap (λ v. l.front ++ token_at v End [] ∷ []) (sym found.1)
-          ∙ ap (λ v. l.front ++ token_at l.place v [] ∷ []) (sym kind) ∙ sym l.is;
-      ranges_too = sym (l.same ∙ found.3);
+      tokens = b.3 ∙ ap (λ v. v ++ token_at b.1 End [] ∷ []) (sym found.0) ∙ ap (λ v. whole.front ++ token_at v End [] ∷ []) (sym found.1)
+          ∙ ap (λ v. whole.front ++ token_at whole.place v [] ∷ []) (sym kind) ∙ sym whole.is;
+      ranges_too = sym (whole.same ∙ found.3);
     }
 
 -- ---- what stands before a token
 
 -- the tokens up to one of them, and it, are cut
-pub record CutUpTo (p : Place) (bs : List ℕ) (us : List Tok) : Type 0 where
+pub record CutUpTo (l : Language) (p : Place) (bs : List ℕ) (us : List Tok) : Type 0 where
   pub place : Place
   pub rest : List ℕ
   pub ranges : List RangeForm
-  pub cut : Cuts p bs us ranges place rest
+  pub cut : CutsIn l p bs us ranges place rest
 
-cut-front : (p q : Place) (bs rest : List ℕ) (us vs ts : List Tok) (rs : List RangeForm) → Cuts p bs ts rs q rest → ts ≡ us ++ vs → CutUpTo p bs us
-cut-front p q bs rest [] vs ts rs c e = record { place = p; rest = bs; ranges = []; cut = none }
-cut-front p q bs rest (u ∷ us) vs ts rs none e = cc
-cut-front p q bs rest (u ∷ us) vs ts rs (blank {rs = rs'} {n = n} f c) e =
-    let found = cut-front (past p (take n bs)) q (drop n bs) rest (u ∷ us) vs ts rs' c e in
+cut-front : (l : Language) (p q : Place) (bs rest : List ℕ) (us vs ts : List Tok) (rs : List RangeForm) → CutsIn l p bs ts rs q rest → ts ≡ us ++ vs → CutUpTo l p bs us
+cut-front l p q bs rest [] vs ts rs c e = record { place = p; rest = bs; ranges = []; cut = none }
+cut-front l p q bs rest (u ∷ us) vs ts rs none e = cc
+cut-front l p q bs rest (u ∷ us) vs ts rs (blank {rs = rs'} {n = n} f c) e =
+    let found = cut-front l (past p (take n bs)) q (drop n bs) rest (u ∷ us) vs ts rs' c e in
     record { place = found.place; rest = found.rest; ranges = ranges_at p bs ++ found.ranges; cut = blank f found.cut }
-cut-front p q bs rest (u ∷ us) vs ts rs (token {ts = ts'} {kind = kind} {n = n} f c) e =
+cut-front l p q bs rest (u ∷ us) vs ts rs (token {ts = ts'} {kind = kind} {n = n} f c) e =
     let tail : ts' ≡ us ++ vs = cc in
     let head : token_at p kind (take n bs) ≡ u = cc in
-    let found = cut-front (past p (take n bs)) q (drop n bs) rest us vs ts' rs c tail in
+    let found = cut-front l (past p (take n bs)) q (drop n bs) rest us vs ts' rs c tail in
     record {
       place = found.place;
       rest = found.rest;
       ranges = found.ranges;
-      cut = subst (λ (v : Tok). Cuts p bs (v ∷ us) found.ranges found.place found.rest) head (token f found.cut);
+      cut = subst (λ (v : Tok). CutsIn l p bs (v ∷ us) found.ranges found.place found.rest) head (token f found.cut);
     }
 
 -- a list with one more at its end, cut in two elsewhere
@@ -126,64 +126,63 @@ last-end LargeNumber h d = cc
 last-end RangeLine h d = cc
 last-end _ h d = cc
 
-rest-some : (p : Place) (bs : List ℕ) (kind : Kind) → piece p bs ≡ Stop kind → is_defect kind ≡ true → 0 < length bs
-unfolding piece
-rest-some p [] kind e h = let same : kind ≡ End = cc in let d : is_defect End ≡ true = subst (λ (v : Kind). is_defect v ≡ true) same h in cc
-rest-some p (b ∷ bs) kind e h = omega arith
+rest-some : (l : Language) (p : Place) (bs : List ℕ) (kind : Kind) → piece_in l p bs ≡ Stop kind → is_defect kind ≡ true → 0 < length bs
+rest-some l p [] kind e h = let stop : Stop End ≡ Stop kind = sym (nothing-stops l p) ∙ e in let same : kind ≡ End = cc in let d : is_defect End ≡ true = subst (λ (v : Kind). is_defect v ≡ true) same h in cc
+rest-some l p (b ∷ bs) kind e h = omega arith
 
 -- How a token stands in a text: one that is no token stands where one should, and any other begins no later than the first of those.
-pub record Standing (bytes : List ℕ) (front : List Tok) (next : Tok) : Type 0 where
-  pub defect : is_defect next.kind ≡ true → IsDefect bytes front next.place next.kind
-  pub sound : is_defect next.kind ≡ false → Begins bytes (front ++ next ∷ [])
+pub record Standing (l : Language) (bytes : List ℕ) (front : List Tok) (next : Tok) : Type 0 where
+  pub defect : is_defect next.kind ≡ true → IsDefectIn l bytes front next.place next.kind
+  pub sound : is_defect next.kind ≡ false → BeginsIn l bytes (front ++ next ∷ [])
 
-last-stands : (bytes : List ℕ) (front : List Tok) (next : Tok) → tokens_from bytes 0 start ≡ front ++ next ∷ [] → IsLexed start bytes (tokens_from bytes 0 start) (ranges_from bytes 0 start)
-    → Standing bytes front next
-last-stands bytes front next e l =
-    let found = same_from_push l.front front (token_at l.place l.kind []) next (sym l.is ∙ e) in
-    let kind : l.kind ≡ next.kind = ap (λ v. v.kind) found.1 in
-    let place : l.place ≡ next.place = ap (λ v. v.place) found.1 in
+last-stands : (l : Language) (bytes : List ℕ) (front : List Tok) (next : Tok) → tokens_from l bytes 0 start ≡ front ++ next ∷ [] → IsLexed l start bytes (tokens_from l bytes 0 start) (ranges_from l bytes 0 start)
+    → Standing l bytes front next
+last-stands l bytes front next e whole =
+    let found = same_from_push whole.front front (token_at whole.place whole.kind []) next (sym whole.is ∙ e) in
+    let kind : whole.kind ≡ next.kind = ap (λ v. v.kind) found.1 in
+    let place : whole.place ≡ next.place = ap (λ v. v.place) found.1 in
     record {
       defect = λ h. record {
-        rest = l.rest;
-        ranges = l.ranges;
-        cut = subst (λ (v : Place). Cuts start bytes front l.ranges v l.rest) place (subst (λ (v : List Tok). Cuts start bytes v l.ranges l.place l.rest) found.0 l.cut);
-        some = rest-some l.place l.rest l.kind l.stops (ap is_defect kind ∙ h);
-        stops = subst (λ (v : Place). piece v l.rest ≡ Stop next.kind) place (l.stops ∙ ap (λ v. Stop v) kind);
+        rest = whole.rest;
+        ranges = whole.ranges;
+        cut = subst (λ (v : Place). CutsIn l start bytes front whole.ranges v whole.rest) place (subst (λ (v : List Tok). CutsIn l start bytes v whole.ranges whole.place whole.rest) found.0 whole.cut);
+        some = rest-some l whole.place whole.rest whole.kind whole.stops (ap is_defect kind ∙ h);
+        stops = subst (λ (v : Place). piece_in l v whole.rest ≡ Stop next.kind) place (whole.stops ∙ ap (λ v. Stop v) kind);
       };
       sound = λ h.
-          let takes = stop-takes l.place l.rest l.kind (sym l.stops) in
-          let at_end : l.kind ≡ End = last-end l.kind takes.0 (ap is_defect kind ∙ h) in
+          let takes = stop-takes l whole.place whole.rest whole.kind (sym whole.stops) in
+          let at_end : whole.kind ≡ End = last-end whole.kind takes.0 (ap is_defect kind ∙ h) in
           inr (
-            l.ranges,
+            whole.ranges,
             (
-              l.front,
-              l.place,
-              subst (λ (v : List ℕ). Cuts start bytes l.front l.ranges l.place v) (takes.1 at_end) l.cut,
-              sym e ∙ l.is ∙ ap (λ v. l.front ++ token_at l.place v [] ∷ []) at_end,
+              whole.front,
+              whole.place,
+              subst (λ (v : List ℕ). CutsIn l start bytes whole.front whole.ranges whole.place v) (takes.1 at_end) whole.cut,
+              sym e ∙ whole.is ∙ ap (λ v. whole.front ++ token_at whole.place v [] ∷ []) at_end,
             ),
           );
     }
 
-pub stands : (bytes : List ℕ) (front more : List Tok) (next : Tok) → tokens_from bytes 0 start ≡ front ++ next ∷ more → Standing bytes front next
-stands bytes front [] next e = last-stands bytes front next e (lexed start bytes)
-stands bytes front (m ∷ more) next e = record {
-  defect = λ h. absurd (none-behind front next m more (defect-last next.kind h) (subst (λ (v : List Tok). ends v ≡ true) e (tokens-end start bytes)));
+pub stands : (l : Language) (bytes : List ℕ) (front more : List Tok) (next : Tok) → tokens_from l bytes 0 start ≡ front ++ next ∷ more → Standing l bytes front next
+stands l bytes front [] next e = last-stands l bytes front next e (lexed l start bytes)
+stands l bytes front (m ∷ more) next e = record {
+  defect = λ h. absurd (none-behind front next m more (defect-last next.kind h) (subst (λ (v : List Tok). ends v ≡ true) e (tokens-end l start bytes)));
   sound = λ h.
-      let l = lexed start bytes in
-      let found = before-end l.front front more (token_at l.place l.kind []) next m (sym l.is ∙ e) in
-      let upto = cut-front start l.place bytes l.rest (front ++ next ∷ []) found.0 l.front l.ranges l.cut found.1 in
+      let whole = lexed l start bytes in
+      let found = before-end whole.front front more (token_at whole.place whole.kind []) next m (sym whole.is ∙ e) in
+      let upto = cut-front l start whole.place bytes whole.rest (front ++ next ∷ []) found.0 whole.front whole.ranges whole.cut found.1 in
       inl (upto.place, upto.rest, upto.ranges, upto.cut);
 }
 
 -- tokens that end in the end of the text are a cut of the whole
-pub whole-cut : (bytes : List ℕ) (front : List Tok) (end : Tok) → tokens_from bytes 0 start ≡ front ++ end ∷ [] → end.kind ≡ End → IsCut bytes (tokens_from bytes 0 start) (ranges_from bytes 0 start)
-whole-cut bytes front end e is =
-    let l = lexed start bytes in
-    let found = same_from_push l.front front (token_at l.place l.kind []) end (sym l.is ∙ e) in
-    let at_end : l.kind ≡ End = ap (λ v. v.kind) found.1 ∙ is in
-    let takes = stop-takes l.place l.rest l.kind (sym l.stops) in (
-      l.front,
-      l.place,
-      subst (λ (v : List RangeForm). Cuts start bytes l.front v l.place []) (sym l.same) (subst (λ (v : List ℕ). Cuts start bytes l.front l.ranges l.place v) (takes.1 at_end) l.cut),
-      l.is ∙ ap (λ v. l.front ++ token_at l.place v [] ∷ []) at_end,
+pub whole-cut : (l : Language) (bytes : List ℕ) (front : List Tok) (end : Tok) → tokens_from l bytes 0 start ≡ front ++ end ∷ [] → end.kind ≡ End → IsCutIn l bytes (tokens_from l bytes 0 start) (ranges_from l bytes 0 start)
+whole-cut l bytes front end e is =
+    let whole = lexed l start bytes in
+    let found = same_from_push whole.front front (token_at whole.place whole.kind []) end (sym whole.is ∙ e) in
+    let at_end : whole.kind ≡ End = ap (λ v. v.kind) found.1 ∙ is in
+    let takes = stop-takes l whole.place whole.rest whole.kind (sym whole.stops) in (
+      whole.front,
+      whole.place,
+      subst (λ (v : List RangeForm). CutsIn l start bytes whole.front v whole.place []) (sym whole.same) (subst (λ (v : List ℕ). CutsIn l start bytes whole.front whole.ranges whole.place v) (takes.1 at_end) whole.cut),
+      whole.is ∙ ap (λ v. whole.front ++ token_at whole.place v [] ∷ []) at_end,
     )

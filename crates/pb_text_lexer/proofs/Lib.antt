@@ -1,5 +1,6 @@
 pub mod DigitLemmas
 pub mod PieceLemmas
+pub mod LanguagePieceLemmas
 pub mod RemainingLemmas
 pub mod TokenLemmas
 pub mod CutLemmas

@@ -29,12 +29,12 @@ abbrev pub IsPlain : List ℕ → Type 0
 IsPlain [] = Unit {0}
 IsPlain (b ∷ bs) = IsPlainByte b × IsPlain bs
 
-plain-ascii : (bs : List ℕ) → IsPlain bs → IsAscii bs
+pub plain-ascii : (bs : List ℕ) → IsPlain bs → IsAscii bs
 plain-ascii [] plain = IsAscii-nil
 plain-ascii (b ∷ bs) plain = IsAscii-cons b bs plain.0.1 (plain-ascii bs plain.1)
 
 -- the place behind bytes that stand on one line
-plain-past : (p : Place) (bs : List ℕ) → IsPlain bs → past p bs ≡ record { line = p.line; column = p.column + length bs }
+pub plain-past : (p : Place) (bs : List ℕ) → IsPlain bs → past p bs ≡ record { line = p.line; column = p.column + length bs }
 plain-past p [] plain = let same : p.column ≡ p.column + 0 = omega arith in ap (λ (n : ℕ). record { line = p.line; column = n }) same
 plain-past p (b ∷ bs) plain =
     let on : (b == 10) ≡ false = grind (arith, nat_tests, plain.0.0) in
@@ -57,10 +57,10 @@ pick P false x y p q = q refl
 
 -- ---- names and digits stand on one line
 
-letter-plain : (b : ℕ) → is_letter b ≡ true → IsPlainByte b
+pub letter-plain : (b : ℕ) → is_letter b ≡ true → IsPlainByte b
 letter-plain b h = (grind (arith, nat_tests), grind (arith, nat_tests))
 
-name-plain : (b : ℕ) → is_name_byte b ≡ true → IsPlainByte b
+pub name-plain : (b : ℕ) → is_name_byte b ≡ true → IsPlainByte b
 name-plain b h = (grind (arith, nat_tests), grind (arith, nat_tests))
 
 digit-plain : (b : ℕ) → is_ascii_digit b ≡ true → IsPlainByte b
@@ -78,13 +78,13 @@ while-plain p plain [] = tt
 while-plain p plain (b ∷ bs) = while-more p b bs (plain b) (while-plain p plain bs) (p b) refl
 
 -- a byte and those behind it that pass a test
-front-plain : (p : ℕ → Bool) (b : ℕ) (bs : List ℕ) → ((b : ℕ) → p b ≡ true → IsPlainByte b) → IsPlainByte b → IsPlain (take (1 + length (take_while p bs)) (b ∷ bs))
+pub front-plain : (p : ℕ → Bool) (b : ℕ) (bs : List ℕ) → ((b : ℕ) → p b ≡ true → IsPlainByte b) → IsPlainByte b → IsPlain (take (1 + length (take_while p bs)) (b ∷ bs))
 front-plain p b bs plain here =
     let same = length-prefix_len p bs in
     let more : suc (prefix_len p bs) ≡ 1 + length (take_while p bs) = omega arith in
     subst (λ (n : ℕ). IsPlain (take n (b ∷ bs))) more (here, while-plain p plain bs)
 
-front-fits : (p : ℕ → Bool) (b : ℕ) (bs : List ℕ) → 1 + length (take_while p bs) ≤ length (b ∷ bs)
+pub front-fits : (p : ℕ → Bool) (b : ℕ) (bs : List ℕ) → 1 + length (take_while p bs) ≤ length (b ∷ bs)
 front-fits p b bs = let same = length-prefix_len p bs in let le = prefix_len-le-length p bs in omega arith
 
 and-first-of : (a b c : Bool) → ((a && b) && c) ≡ true → a ≡ true
@@ -103,7 +103,7 @@ name-is-ascii (b ∷ bs) h =
 -- ---- words
 
 -- kinds that no word and no symbol has
-abbrev is_special : Kind → Bool
+abbrev pub is_special : Kind → Bool
 is_special k.Number = true
 is_special k.End = true
 is_special k.Unknown = true
@@ -111,20 +111,20 @@ is_special k.LargeNumber = true
 is_special k.RangeLine = true
 is_special _ = false
 
-special-last : (kind : Kind) → is_special kind ≡ false → is_last kind ≡ false
+pub special-last : (kind : Kind) → is_special kind ≡ false → is_last kind ≡ false
 special-last k.End h = cc
 special-last k.Unknown h = cc
 special-last k.LargeNumber h = cc
 special-last k.RangeLine h = cc
 special-last _ h = refl
 
-special-number : (kind : Kind) → is_special kind ≡ false → kind ≡ k.Number → ⊥
+pub special-number : (kind : Kind) → is_special kind ≡ false → kind ≡ k.Number → ⊥
 special-number kind h e = let p : is_special kind ≡ true = ap is_special e in cc
 
-record NotLast (kind : Kind) : Type 0 where
-  is : is_special kind ≡ false
+pub record NotLast (kind : Kind) : Type 0 where
+  pub is : is_special kind ≡ false
 
-abbrev none_last : List (List ℕ × Kind) → Bool
+abbrev pub none_last : List (List ℕ × Kind) → Bool
 none_last [] = true
 none_last (entry ∷ entries) = cond (is_special entry.1) false (none_last entries)
 
@@ -137,7 +137,7 @@ pub none-rest : (b c : Bool) → cond b false c ≡ true → c ≡ true
 none-rest true c h = cc
 none-rest false c h = h
 
-among-not-last : (table : List (List ℕ × Kind)) (word : List ℕ) → none_last table ≡ true → NotLast (kind_among table word)
+pub among-not-last : (table : List (List ℕ × Kind)) (word : List ℕ) → none_last table ≡ true → NotLast (kind_among table word)
 among-not-last [] word h = record { is = refl }
 among-not-last (entry ∷ entries) word h =
     pick NotLast (bytes_eq entry.0 word) entry.1 (kind_among entries word) (λ e. record { is = none-first (is_special entry.1) (none_last entries) h })
@@ -149,7 +149,7 @@ word-not-last word = (among-not-last reserved word refl).is
 
 -- ---- symbols
 
-abbrev is_plain : ℕ → Bool
+abbrev pub is_plain : ℕ → Bool
 is_plain b = nat_lt 10 b && nat_lt b 128
 
 abbrev good_bytes : List (ℕ × Kind) → Bool
@@ -168,7 +168,7 @@ and-rest : (b c : Bool) → cond b c false ≡ true → c ≡ true
 and-rest true c h = h
 and-rest false c h = cc
 
-plain-is : (a b : ℕ) → (a == b) ≡ true → is_plain b ≡ true → IsPlainByte a
+pub plain-is : (a b : ℕ) → (a == b) ≡ true → is_plain b ≡ true → IsPlainByte a
 plain-is a b e h = (grind (arith, nat_tests), grind (arith, nat_tests))
 
 one-takes : (table : List (ℕ × Kind)) (a : ℕ) (bs : List ℕ) → good_bytes table ≡ true → Takes (one_byte_among table a) (a ∷ bs)
@@ -231,7 +231,7 @@ zero-number b bs e =
 
 -- ---- all pieces
 
-choose : (bs : List ℕ) (b : Bool) (x y : Piece) → (b ≡ true → Takes x bs) → (b ≡ false → Takes y bs) → Takes (cond b x y) bs
+pub choose : (bs : List ℕ) (b : Bool) (x y : Piece) → (b ≡ true → Takes x bs) → (b ≡ false → Takes y bs) → Takes (cond b x y) bs
 choose bs true x y p q = p refl
 choose bs false x y p q = q refl
 
@@ -257,21 +257,5 @@ piece-takes p (b ∷ bs) =
     (front-plain is_ascii_digit b bs digit-plain (digit-plain b e)))
     (λ e. symbol-takes b bs)))))
 
-pub blank-takes : (p : Place) (bs : List ℕ) (n : ℕ) → Blank n ≡ piece p bs → TakesOf (Blank n) bs
-blank-takes p bs n e = (subst (λ (v : Piece). Takes v bs) (sym e) (piece-takes p bs)).is
-
 pub token-takes : (p : Place) (bs : List ℕ) (kind : Kind) (n : ℕ) → Token kind n ≡ piece p bs → TakesOf (Token kind n) bs
 token-takes p bs kind n e = (subst (λ (v : Piece). Takes v bs) (sym e) (piece-takes p bs)).is
-
-pub stop-takes : (p : Place) (bs : List ℕ) (kind : Kind) → Stop kind ≡ piece p bs → TakesOf (Stop kind) bs
-stop-takes p bs kind e = (subst (λ (v : Piece). Takes v bs) (sym e) (piece-takes p bs)).is
-
--- the bytes of a token as text, and the place behind them
-pub token-ascii : (p : Place) (bs : List ℕ) (kind : Kind) (n : ℕ) → Token kind n ≡ piece p bs → IsAscii (take n bs)
-token-ascii p bs kind n e = plain-ascii (take n bs) (token-takes p bs kind n e).3
-
-pub token-past : (p : Place) (bs : List ℕ) (kind : Kind) (n : ℕ) → Token kind n ≡ piece p bs → past p (take n bs) ≡ record { line = p.line; column = p.column + n }
-token-past p bs kind n e =
-    let takes = token-takes p bs kind n e in
-    let count = length-take-le n bs takes.1 in
-    plain-past p (take n bs) takes.3 ∙ ap (λ (m : ℕ). record { line = p.line; column = p.column + m }) count

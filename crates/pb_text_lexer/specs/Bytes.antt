@@ -11,6 +11,10 @@ use Rattle.pb_text_lexer.specs.Kinds.{same_kind}
 
 -- ---- bytes
 
+abbrev pub first_byte : List ℕ → Option ℕ
+first_byte [] = None
+first_byte (b ∷ bs) = Some b
+
 -- a space, a tab, a line feed, a carriage return
 abbrev pub is_blank : ℕ → Bool
 is_blank b = b == 32 || b == 9 || b == 10 || b == 13

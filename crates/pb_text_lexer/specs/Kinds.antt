@@ -20,9 +20,12 @@ is_defect _ = false
 abbrev pub is_limited : Kind → Bool
 is_limited k.Not = true
 is_limited k.Open = true
+is_limited k.OpenSquare = true
 is_limited k.Minus = true
 is_limited k.Forall = true
 is_limited k.Exists = true
+is_limited k.Mu = true
+is_limited k.Nu = true
 is_limited k.And = true
 is_limited k.Or = true
 is_limited k.Implies = true

@@ -5,11 +5,14 @@ use Rattle.pb_text_tree.specs.declared.place.Place.{Place}
 use Rattle.pb_text_tree.specs.Form.{RangeForm}
 use Rattle.pb_text_lexer.specs.declared.kind.Kind.{Kind}
 use Rattle.pb_text_lexer.specs.declared.kind.Kind.TheVariants as k
+use Rattle.pb_text_lexer.specs.declared.language.Language.{Language}
+use Rattle.pb_text_lexer.specs.declared.language.Language.TheVariants as language
 use Rattle.pb_text_lexer.specs.declared.piece.Piece.{Piece}
 use Rattle.pb_text_lexer.specs.declared.piece.Piece.TheVariants.{Blank, Token, Stop}
 use Rattle.pb_text_lexer.specs.Bytes.{is_blank, is_letter, name_bytes, digits, line, word_kind, value_within}
-pub use Rattle.pb_text_lexer.specs.Bytes.{largest_number}
+pub use Rattle.pb_text_lexer.specs.Bytes.{largest_number, first_byte}
 use Rattle.pb_text_lexer.specs.RangeLines.{behind_range, is_wrong, ranges_at}
+use Rattle.pb_text_lexer.specs.ModelPieces.{model_piece}
 use Rattle.pb_text_lexer.specs.Tokens.{Tok, token_at}
 
 -- ---- symbols
@@ -52,11 +55,7 @@ number ds = number_of (length ds) (value_within largest_number ds)
 
 -- ---- what stands at the front
 
-abbrev pub first_byte : List ℕ → Option ℕ
-first_byte [] = None
-first_byte (b ∷ bs) = Some b
-
--- what stands at a place, at the front of the bytes from there on
+-- what stands at a place of a text, at the front of the bytes from there on
 unfoldable pub piece : Place → List ℕ → Piece
 piece p [] = Stop k.End
 piece p (b ∷ bs) =
@@ -65,6 +64,16 @@ piece p (b ∷ bs) =
     (if is_letter b then Token (word_kind (take (1 + length (name_bytes bs)) (b ∷ bs))) (1 + length (name_bytes bs)) else
     (if b == 48 then Token k.Number 1 else
     (if is_ascii_digit b then number (take (1 + length (digits bs)) (b ∷ bs)) else symbol b (first_byte bs)))))
+
+-- what a model has there that texts don't have, or else what a text has
+abbrev pub or_piece : Option Piece → Piece → Piece
+or_piece (Some own) other = own
+or_piece None other = other
+
+-- what stands at a place in each of the languages
+abbrev pub piece_in : Language → Place → List ℕ → Piece
+piece_in language.Text p bs = piece p bs
+piece_in language.Model p bs = or_piece (model_piece bs) (piece p bs)
 
 -- ---- places
 
@@ -82,25 +91,39 @@ start = record { line = 1; column = 1 }
 -- ---- the whole text
 
 -- From a place on, the bytes are cut into these tokens and range lines, up to a place and the bytes from there on.
-pub data Cuts : Place → List ℕ → List Tok → List RangeForm → Place → List ℕ → Type 0 where
-  none : {p : Place} {bs : List ℕ} → Cuts p bs [] [] p bs
-  blank : {p q : Place} {bs rest : List ℕ} {ts : List Tok} {rs : List RangeForm} {n : ℕ} → piece p bs ≡ Blank n
-      → Cuts (past p (take n bs)) (drop n bs) ts rs q rest → Cuts p bs ts (ranges_at p bs ++ rs) q rest
-  token : {p q : Place} {bs rest : List ℕ} {ts : List Tok} {rs : List RangeForm} {kind : Kind} {n : ℕ} → piece p bs ≡ Token kind n
-      → Cuts (past p (take n bs)) (drop n bs) ts rs q rest → Cuts p bs (token_at p kind (take n bs) ∷ ts) rs q rest
+pub data CutsIn (l : Language) : Place → List ℕ → List Tok → List RangeForm → Place → List ℕ → Type 0 where
+  none : {p : Place} {bs : List ℕ} → CutsIn l p bs [] [] p bs
+  blank : {p q : Place} {bs rest : List ℕ} {ts : List Tok} {rs : List RangeForm} {n : ℕ} → piece_in l p bs ≡ Blank n
+      → CutsIn l (past p (take n bs)) (drop n bs) ts rs q rest → CutsIn l p bs ts (ranges_at p bs ++ rs) q rest
+  token : {p q : Place} {bs rest : List ℕ} {ts : List Tok} {rs : List RangeForm} {kind : Kind} {n : ℕ} → piece_in l p bs ≡ Token kind n
+      → CutsIn l (past p (take n bs)) (drop n bs) ts rs q rest → CutsIn l p bs (token_at p kind (take n bs) ∷ ts) rs q rest
 
--- The text is these tokens, the last of which is its end, and these range lines.
-abbrev pub IsCut : List ℕ → List Tok → List RangeForm → Type 0
-IsCut bytes tokens ranges = (ts : List Tok) × (q : Place) × Cuts start bytes ts ranges q [] × (tokens ≡ ts ++ token_at q k.End [] ∷ [])
+-- The bytes are these tokens, the last of which is their end, and these range lines.
+abbrev pub IsCutIn : Language → List ℕ → List Tok → List RangeForm → Type 0
+IsCutIn l bytes tokens ranges = (ts : List Tok) × (q : Place) × CutsIn l start bytes ts ranges q [] × (tokens ≡ ts ++ token_at q k.End [] ∷ [])
 
--- The text is cut into these tokens up to a place, and what stands there is no token, nor the end.
-pub record IsDefect (bytes : List ℕ) (ts : List Tok) (place : Place) (kind : Kind) : Type 0 where
+-- The bytes are cut into these tokens up to a place, and what stands there is no token, nor the end.
+pub record IsDefectIn (l : Language) (bytes : List ℕ) (ts : List Tok) (place : Place) (kind : Kind) : Type 0 where
   pub rest : List ℕ
   pub ranges : List RangeForm
-  pub cut : Cuts start bytes ts ranges place rest
+  pub cut : CutsIn l start bytes ts ranges place rest
   pub some : 0 < length rest
-  pub stops : piece place rest ≡ Stop kind
+  pub stops : piece_in l place rest ≡ Stop kind
 
--- The text begins with these tokens: it is cut into them and what follows, or into them alone.
+-- The bytes begin with these tokens: they are cut into them and what follows, or into them alone.
+abbrev pub BeginsIn : Language → List ℕ → List Tok → Type 0
+BeginsIn l bytes ts = ((q : Place) × (rest : List ℕ) × (ranges : List RangeForm) × CutsIn l start bytes ts ranges q rest) ⊎ ((ranges : List RangeForm) × IsCutIn l bytes ts ranges)
+
+-- ---- the same of a text
+
+abbrev pub Cuts : Place → List ℕ → List Tok → List RangeForm → Place → List ℕ → Type 0
+Cuts = CutsIn language.Text
+
+abbrev pub IsCut : List ℕ → List Tok → List RangeForm → Type 0
+IsCut = IsCutIn language.Text
+
+abbrev pub IsDefect : List ℕ → List Tok → Place → Kind → Type 0
+IsDefect = IsDefectIn language.Text
+
 abbrev pub Begins : List ℕ → List Tok → Type 0
-Begins bytes ts = ((q : Place) × (rest : List ℕ) × (ranges : List RangeForm) × Cuts start bytes ts ranges q rest) ⊎ ((ranges : List RangeForm) × IsCut bytes ts ranges)
+Begins = BeginsIn language.Text

@@ -2,6 +2,7 @@ pub mod Kinds
 pub mod Tokens
 pub mod Bytes
 pub mod RangeLines
+pub mod ModelPieces
 pub mod Lexing
 pub mod Grammar
 pub mod OpenGrammar

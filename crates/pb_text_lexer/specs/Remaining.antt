@@ -6,7 +6,8 @@ use Rattle.pb_text_lexer.specs.declared.kind.Kind.TheVariants.{End, Number}
 use Rattle.pb_text_lexer.specs.declared.piece.Piece.{Piece}
 use Rattle.pb_text_lexer.specs.declared.piece.Piece.TheVariants as piece_is
 use Rattle.pb_text_lexer.specs.Kinds.{is_last}
-use Rattle.pb_text_lexer.specs.Lexing.{piece, next_place}
+use Rattle.pb_text_lexer.specs.declared.language.Language.{Language}
+use Rattle.pb_text_lexer.specs.Lexing.{piece_in, next_place}
 use Rattle.pb_text_lexer.specs.RangeLines.{ranges_at}
 use Rattle.pb_text_lexer.specs.declared.token.Token.{Token}
 use Rattle.pb_text_lexer.specs.Bytes.{WritesNumber}
@@ -20,10 +21,10 @@ tokens_of (piece_is.Token kind n) p bytes following = token_at p kind (take n by
 tokens_of (piece_is.Stop kind) p bytes following = token_at p kind [] ∷ []
 
 -- the tokens from a place on, the first bytes being passed over
-unfoldable pub tokens_from : List ℕ → ℕ → Place → List Tok
-tokens_from [] n p = token_at p End [] ∷ []
-tokens_from (b ∷ bs) zero p = tokens_of (piece p (b ∷ bs)) p (b ∷ bs) (λ n. tokens_from bs n (next_place p b))
-tokens_from (b ∷ bs) (suc n) p = tokens_from bs n (next_place p b)
+unfoldable pub tokens_from : Language → List ℕ → ℕ → Place → List Tok
+tokens_from l [] n p = token_at p End [] ∷ []
+tokens_from l (b ∷ bs) zero p = tokens_of (piece_in l p (b ∷ bs)) p (b ∷ bs) (λ n. tokens_from l bs n (next_place p b))
+tokens_from l (b ∷ bs) (suc n) p = tokens_from l bs n (next_place p b)
 
 -- the range lines at the front of the bytes and those that follow
 abbrev pub ranges_of : Piece → List RangeForm → (ℕ → List RangeForm) → List RangeForm
@@ -32,10 +33,10 @@ ranges_of (piece_is.Token kind n) found following = following (n - 1)
 ranges_of (piece_is.Stop kind) found following = []
 
 -- the range lines from a place on, the first bytes being passed over
-unfoldable pub ranges_from : List ℕ → ℕ → Place → List RangeForm
-ranges_from [] n p = []
-ranges_from (b ∷ bs) zero p = ranges_of (piece p (b ∷ bs)) (ranges_at p (b ∷ bs)) (λ n. ranges_from bs n (next_place p b))
-ranges_from (b ∷ bs) (suc n) p = ranges_from bs n (next_place p b)
+unfoldable pub ranges_from : Language → List ℕ → ℕ → Place → List RangeForm
+ranges_from l [] n p = []
+ranges_from l (b ∷ bs) zero p = ranges_of (piece_in l p (b ∷ bs)) (ranges_at p (b ∷ bs)) (λ n. ranges_from l bs n (next_place p b))
+ranges_from l (b ∷ bs) (suc n) p = ranges_from l bs n (next_place p b)
 
 -- a line and a column within 32 bits, also behind the bytes
 pub record IsWithin (p : Place) (bytes : List ℕ) : Type 0 where
@@ -46,5 +47,5 @@ pub record IsWithin (p : Place) (bytes : List ℕ) : Type 0 where
 abbrev pub HasDigits : Token → Type 0
 HasDigits t = t.kind ≡ Number → WritesNumber t.text.now
 
-abbrev pub remaining : Lexer → List Tok
-remaining l = tok l.token ∷ (if is_last l.token.kind then [] else tokens_from l.rest.now 0 l.place)
+abbrev pub remaining : Language → Lexer → List Tok
+remaining l lexer = tok lexer.token ∷ (if is_last lexer.token.kind then [] else tokens_from l lexer.rest.now 0 lexer.place)

@@ -5,7 +5,7 @@ use Rattle.pb_text_lexer.specs.Grammar.{State}
 use Rattle.pb_text_lexer.specs.Remaining.{remaining, IsWithin, HasDigits}
 
 abbrev pub state_of : Inside → State
-state_of i = record { tokens = remaining i.lexer; operators = i.operators }
+state_of i = record { tokens = remaining i.language i.lexer; operators = i.operators }
 
 abbrev pub IsReady : Inside → Type 0
 IsReady i = IsWithin i.lexer.place i.lexer.rest.now × HasDigits i.lexer.token × IsAscii i.lexer.token.text.now

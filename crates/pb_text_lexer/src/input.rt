@@ -13,6 +13,7 @@ ghost use Rattle.pb_text_lexer.specs.Tokens.{tok, token_at};
 use crate::digits::value_within;
 use crate::fault::{ReadingRule, Refusal};
 use crate::kind::{Kind, same_kind};
+use crate::language::Language;
 use crate::lexer::{Lexer, first_token, text_of};
 use crate::piece::LARGEST_NUMBER;
 use crate::token::Token;
@@ -23,6 +24,7 @@ use std::marker::Model;
 /// operators.
 #[derive(Drop)]
 pub struct Input<'a> {
+    language: Language,
     lexer: Lexer<'a>,
     operators: u32,
 }
@@ -40,17 +42,18 @@ impl<'a> Model for Input<'a> {
 }
 
 impl<'a> Input<'a> {
-    /// All tokens of a text, with an allowance of operators with two operands.
-    pub fn new(bytes: &'a [u8], operators: u32) -> Input<'a>
+    /// All tokens of a text of the language, with an allowance of operators with two operands.
+    pub fn new(language: Language, bytes: &'a [u8], operators: u32) -> Input<'a>
         requires { length bytes.now < 2 ^ 32 - 1 }
         ensures { result ≡ record {
-          tokens = tokens_from bytes.now 0 start;
+          tokens = tokens_from language bytes.now 0 start;
           operators = operators;
         } }
     {
         let place = Place { line: 1, column: 1 };
         Input {
-            lexer: first_token(bytes, place),
+            language,
+            lexer: first_token(language, bytes, place),
             operators,
         }
     }
@@ -110,7 +113,7 @@ impl<'a> Input<'a> {
         ensures fewer { length self.new.tokens < length self.old.tokens }
     {
         let Lexer { token, rest, place } = self.lexer;
-        self.lexer = first_token(rest, place);
+        self.lexer = first_token(self.language, rest, place);
         token
     }
 

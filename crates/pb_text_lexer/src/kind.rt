@@ -1,5 +1,4 @@
-//! Which tokens there are. All tokens of the whole language are cut, whichever of them a grammar
-//! uses.
+//! Which tokens there are. All tokens of a whole language are cut, whichever of them a grammar uses.
 
 ghost use Rattle.std.specs.Prelude.{◌≡◌, ◌≢◌, true, false};
 ghost use Rattle.pb_text_lexer.specs.Kinds as spec;
@@ -37,6 +36,14 @@ pub enum Kind {
     Div,
     /// `mod`
     Mod,
+    /// `model`
+    Model,
+    /// `state`
+    State,
+    /// `step`
+    Step,
+    /// `property`
+    Property,
     /// A word that is reserved and used nowhere.
     Reserved,
     /// `==`
@@ -53,10 +60,18 @@ pub enum Kind {
     And,
     /// `||`
     Or,
+    /// `->`
+    Arrow,
+    /// `:=`
+    Assign,
     /// `(`
     Open,
     /// `)`
     Close,
+    /// `[`
+    OpenSquare,
+    /// `]`
+    CloseSquare,
     /// `,`
     Comma,
     /// `;`

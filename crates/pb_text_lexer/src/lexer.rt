@@ -5,7 +5,9 @@ ghost use Rattle.std.specs.Str.{IsAscii};
 ghost use Rattle.pb_text_lexer.specs.Lexing as spec;
 ghost use Rattle.pb_text_lexer.specs.Remaining.{HasDigits, IsWithin, remaining, tokens_from};
 
-use crate::piece::{Piece, front_piece};
+use crate::language::Language;
+use crate::model_piece::piece_in;
+use crate::piece::Piece;
 use crate::token::Token;
 use pb_text_tree::Place;
 
@@ -50,10 +52,11 @@ pub fn text_of(bytes: &[u8]) -> &str
     }
 }
 
-/// The first token of the bytes, which stand at a place, and what follows it.
-pub fn first_token<'a>(bytes: &'a [u8], place: Place) -> Lexer<'a>
+/// The first token of the bytes, which stand at a place of a text of the language, and what follows
+/// it.
+pub fn first_token<'a>(language: Language, bytes: &'a [u8], place: Place) -> Lexer<'a>
     requires { IsWithin place bytes.now }
-    ensures gives { remaining result ≡ tokens_from bytes.now 0 place }
+    ensures gives { remaining language result ≡ tokens_from language bytes.now 0 place }
     ensures within { IsWithin result.place result.rest.now }
     ensures number { HasDigits result.token }
     ensures ascii { IsAscii result.token.text.now }
@@ -61,7 +64,7 @@ pub fn first_token<'a>(bytes: &'a [u8], place: Place) -> Lexer<'a>
     let mut rest = bytes;
     let mut place = place;
     'pieces: loop {
-        match front_piece(place, rest) {
+        match piece_in(language, place, rest) {
             Piece::Blank(len) => {
                 let (text, after) = rest.split_at(len);
                 place = past(place, text);

@@ -3,14 +3,17 @@
 ghost use Rattle.std.specs.Prelude.{◌≡◌, ◌-◌, ◌<◌, ◌^◌, ◌++◌, ℕ, false, [], length, map, IfOk};
 ghost use Rattle.std.specs.Prelude.{OnOk};
 ghost use Rattle.pb_text_tree.specs.declared.place.Place.{Place};
+ghost use Rattle.pb_text_lexer.specs.declared.language.Language.{Language};
 ghost use Rattle.pb_text_tree.specs.Form.{range_form};
 ghost use Rattle.pb_text_lexer.specs.Lexing.{start};
 ghost use Rattle.pb_text_lexer.specs.RangeLines as spec;
 ghost use Rattle.pb_text_lexer.specs.RangeLines.{bounded_by};
 ghost use Rattle.pb_text_lexer.specs.Remaining.{ranges_from};
 
+use crate::language::Language;
 use crate::lexer::past;
-use crate::piece::{Piece, front_piece};
+use crate::model_piece::piece_in;
+use crate::piece::Piece;
 use crate::range_line::{RangeLine, said};
 use pb_text_tree::{Place, Range};
 use std::alloc::{AllocError, Global};
@@ -80,7 +83,8 @@ fn is_mark(bytes: &[u8]) -> bool
 /// Whether a range line may stand anywhere in the bytes: a quick test, so that most of a text isn't
 /// cut twice.
 fn may_follow(bytes: &[u8]) -> bool
-    ensures { result ≡ false → (n : ℕ) (p : Place) → ranges_from bytes.now n p ≡ [] }
+    ensures { result ≡ false → (l : Language) (n : ℕ) (p : Place)
+        → ranges_from l bytes.now n p ≡ [] }
 {
     let mut rest = bytes;
     'bytes: while !rest.is_empty() {
@@ -93,10 +97,10 @@ fn may_follow(bytes: &[u8]) -> bool
     false
 }
 
-/// The range lines of a text, in order, up to where no token stands or to the end.
-pub fn ranges(alloc: Global, bytes: &[u8]) -> Result<Vec<Range>, AllocError>
+/// The range lines of a text of the language, in order, up to where no token stands or to the end.
+pub fn ranges(alloc: Global, language: Language, bytes: &[u8]) -> Result<Vec<Range>, AllocError>
     requires { length bytes.now < 2 ^ 32 - 1 }
-    ensures { IfOk result (λ v. map range_form v.items ≡ ranges_from bytes.now 0 start) }
+    ensures { IfOk result (λ v. map range_form v.items ≡ ranges_from language bytes.now 0 start) }
 {
     let mut ranges = Vec::new(alloc);
     if !may_follow(bytes) {
@@ -105,7 +109,7 @@ pub fn ranges(alloc: Global, bytes: &[u8]) -> Result<Vec<Range>, AllocError>
     let mut rest = bytes;
     let mut place = Place { line: 1, column: 1 };
     'pieces: loop {
-        match front_piece(place, rest) {
+        match piece_in(language, place, rest) {
             Piece::Blank(len) => {
                 let found = add_range(alloc, &mut ranges, place, rest)?;
                 let (text, after) = rest.split_at(len);

@@ -41,7 +41,7 @@ const SHORTEST: usize = 2;
 const LONGEST: usize = 6;
 
 /// The kind that a table gives a word, or that of a name.
-fn kind_among(table: &[(&str, Kind)], word: &[u8]) -> Kind
+pub(crate) fn kind_among(table: &[(&str, Kind)], word: &[u8]) -> Kind
     ensures { result ≡ spec.kind_among (spec.entries table.now) word.now }
 {
     for (text, kind) in table {

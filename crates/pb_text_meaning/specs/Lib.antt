@@ -1,5 +1,6 @@
 pub mod Syntax
 pub mod Sorts
+pub mod Functions
 pub mod Value
 pub mod Formula
 pub mod Meaning

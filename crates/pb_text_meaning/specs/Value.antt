@@ -1,11 +1,14 @@
 -- The value of a data term under an assignment.
-use Rattle.std.specs.Prelude.{ℕ, pos, ◌+ℤ◌, ◌-ℤ◌, ◌*ℤ◌, neg_ℤ, unsigned_abs, int_lt, int_le, Bool, false, not, ◌&&◌, ◌||◌, if◌then◌else◌, List, [], ◌∷◌, Option, Some, None, unwrap_or, codes}
+use Rattle.std.specs.Prelude.{ℕ, pos, ◌+ℤ◌, ◌-ℤ◌, ◌*ℤ◌, neg_ℤ, unsigned_abs, int_lt, int_le, Bool, false, not, ◌&&◌, ◌||◌, if◌then◌else◌, List, [], ◌∷◌, Option, Some, None, unwrap_or}
 use Rattle.std.specs.Ordering.{int_eq}
 use Rattle.std.specs.Int.{int_max, int_min}
 use Rattle.std.specs.List.{list_any, list_all}
 use Rattle.pb_text_tree.specs.declared.operator.Quantifier.{Quantifier}
 use Rattle.pb_text_tree.specs.declared.operator.Quantifier.TheVariants.{Forall, Exists}
 use Rattle.pb_text_meaning.specs.Syntax.{Name, same_name, Variable, Operator, Term, Terms, Spec}
+use Rattle.pb_text_meaning.specs.declared.function.NamedFunction.{NamedFunction}
+use Rattle.pb_text_meaning.specs.declared.function.NamedFunction.TheVariants.{If, Succ, Pred, Abs, Max, Min, Pos2Nat, Pos2Int, Nat2Int}
+use Rattle.pb_text_meaning.specs.Functions.{named_function}
 use Rattle.pb_carriers.specs.Carrier.{Value, Tuple, Carrier, of_bool}
 use Rattle.pb_carriers.specs.Division.{quotient, remainder}
 use Rattle.pb_text_meaning.specs.Sorts.{carrier_of, is_recogniser, place_in}
@@ -61,26 +64,42 @@ abbrev pub recognised : Spec → Name → Value → Value
 recognised spec f v =
     of_bool (is_place (place_in (λ e. is_recogniser f e.recogniser) spec.sorts) v)
 
-abbrev pub function_of_one : Spec → Name → Value → Value
-function_of_one spec f x =
-    if same_name f (codes "succ") then x +ℤ pos 1 else
-    if same_name f (codes "pred") then x -ℤ pos 1 else
-    if same_name f (codes "abs") then pos (unsigned_abs x) else
-    if same_name f (codes "Pos2Nat") || same_name f (codes "Pos2Int") || same_name f (codes "Nat2Int") then x else
-    recognised spec f x
+-- a named function of one argument, of two and of three; of any other number it gives 0
+abbrev pub named_of_one : NamedFunction → Value → Value
+named_of_one Succ x = x +ℤ pos 1
+named_of_one Pred x = x -ℤ pos 1
+named_of_one Abs x = pos (unsigned_abs x)
+named_of_one Pos2Nat x = x
+named_of_one Pos2Int x = x
+named_of_one Nat2Int x = x
+named_of_one _ x = pos 0
 
-abbrev pub function_of_two : Name → Value → Value → Value
-function_of_two f x y =
-    if same_name f (codes "max") then int_max x y else
-    if same_name f (codes "min") then int_min x y else pos 0
+abbrev pub named_of_two : NamedFunction → Value → Value → Value
+named_of_two Max x y = int_max x y
+named_of_two Min x y = int_min x y
+named_of_two _ x y = pos 0
 
-abbrev pub function_of_three : Name → Value → Value → Value → Value
-function_of_three f x y z = if same_name f (codes "if") then (if is_true x then y else z) else pos 0
+abbrev pub named_of_three : NamedFunction → Value → Value → Value → Value
+named_of_three If x y z = if is_true x then y else z
+named_of_three _ x y z = pos 0
+
+-- what a name gives of its arguments: a named function, else a recogniser
+abbrev pub function_of_one : Spec → Name → Option NamedFunction → Value → Value
+function_of_one spec f (Some g) x = named_of_one g x
+function_of_one spec f None x = recognised spec f x
+
+abbrev pub function_of_two : Option NamedFunction → Value → Value → Value
+function_of_two (Some g) x y = named_of_two g x y
+function_of_two None x y = pos 0
+
+abbrev pub function_of_three : Option NamedFunction → Value → Value → Value → Value
+function_of_three (Some g) x y z = named_of_three g x y z
+function_of_three None x y z = pos 0
 
 abbrev pub function_value : Spec → Name → List Value → Value
-function_value spec f (x ∷ []) = function_of_one spec f x
-function_value spec f (x ∷ y ∷ []) = function_of_two f x y
-function_value spec f (x ∷ y ∷ z ∷ []) = function_of_three f x y z
+function_value spec f (x ∷ []) = function_of_one spec f (named_function f) x
+function_value spec f (x ∷ y ∷ []) = function_of_two (named_function f) x y
+function_value spec f (x ∷ y ∷ z ∷ []) = function_of_three (named_function f) x y z
 function_value spec f vs = pos 0
 
 -- ---- terms

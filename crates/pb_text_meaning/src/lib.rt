@@ -1,7 +1,9 @@
 //! What a specification means: the abstract syntax of the whole language, the carriers of its
 //! sorts, the value of a term, the truth of a formula and the answer, all in `specs/`, with laws
-//! about them.
+//! about them. In code there are the named functions alone.
 #![tactic(auto)]
+
+mod function;
 
 ghost use Rattle.std.specs.Prelude.{◌≡◌, true, false, List, [], ◌∷◌, map, pos, negsuc, codes};
 ghost use Rattle.pb_fixpoint.specs.Solution.{Environment};
@@ -14,6 +16,8 @@ ghost use Rattle.pb_text_meaning.specs.Formula.{Instance};
 ghost use Rattle.pb_text_meaning.specs.Meaning.{answer, equation_of};
 ghost use Rattle.pb_text_meaning.specs.Positive.{ArePositive};
 ghost use Rattle.pb_text_meaning.specs.Examples as example;
+
+pub use function::NamedFunction;
 
 /// In a text whose right sides are positive, the set that an equation gets is a fixpoint of its
 /// operator, the least for `mu` and the greatest for `nu` (Groote and Willemse 2005).

@@ -64,7 +64,7 @@ keeps_quantified quantified Body body = meets_first Any (QuantifiedBy quantified
 
 -- ---- names with arguments
 
-keeps_placed : {X : Type 0} (R : Reads X) → Keeps R → Keeps (Placed R)
+pub keeps_placed : {X : Type 0} (R : Reads X) → Keeps R → Keeps (Placed R)
 keeps_placed R keeps s y z r h = keeps s y.1 z r.0 h
 
 keeps_arguments : (Term : Reads TermForm) → Keeps Term → Keeps (Arguments Term)
@@ -85,14 +85,14 @@ keeps_links test Item item =
 keeps_linked : {X : Type 0} (test : Kind → Bool) (join : X → Tok → X → X) (Item : Reads X) → Keeps Item → (x : X) → Keeps (Linked test join Item x)
 keeps_linked test join Item item x = keeps_then _ _ (keeps_links test Item item) (λ links. keeps_is _)
 
-keeps_left : {X : Type 0} (test : Kind → Bool) (join : X → Tok → X → X) (Item : Reads X) → Keeps Item → Keeps (LeftChain test join Item)
+pub keeps_left : {X : Type 0} (test : Kind → Bool) (join : X → Tok → X → X) (Item : Reads X) → Keeps Item → Keeps (LeftChain test join Item)
 keeps_left test join Item item = meets_extended Any Item _ item (λ x u. keeps_linked test join Item item x)
 
-keeps_unmixed : {X : Type 0} (test other : Kind → Bool) (join : X → Tok → X → X) (Item : Reads X) → Keeps Item → Keeps (UnmixedChain test other join Item)
+pub keeps_unmixed : {X : Type 0} (test other : Kind → Bool) (join : X → Tok → X → X) (Item : Reads X) → Keeps Item → Keeps (UnmixedChain test other join Item)
 keeps_unmixed test other join Item item =
     meets_extended Any Item _ item (λ x u. meets_either Any _ _ (keeps_linked test join Item item x) (keeps_linked other join Item item x))
 
-keeps_comparison : {X : Type 0} (test : Kind → Bool) (join : X → Tok → X → X) (Item : Reads X) → Keeps Item → Keeps (Comparison test join Item)
+pub keeps_comparison : {X : Type 0} (test : Kind → Bool) (join : X → Tok → X → X) (Item : Reads X) → Keeps Item → Keeps (Comparison test join Item)
 keeps_comparison test join Item item =
     meets_extended Any Item _ item (λ x u. keeps_then _ _ (keeps_operator_of test) (λ o. keeps_then _ _ item (λ y. keeps_is _)))
 

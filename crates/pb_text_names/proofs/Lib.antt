@@ -1,5 +1,5 @@
-mod Tokens
-mod Meets
-mod Keeps
-mod Texts
-mod Modules
+pub mod Tokens
+pub mod Meets
+pub mod Keeps
+pub mod Texts
+pub mod Modules

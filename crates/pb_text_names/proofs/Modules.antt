@@ -17,7 +17,7 @@ use Rattle.pb_text_names.specs.ModuleNames.{has_enumerator_names, has_names}
 use Rattle.pb_text_names.proofs.Texts.{reading_spelled}
 
 -- what is spelled as a name, and short, is a module's name
-module_name : (bs : List ℕ) → is_spelled bs ≡ true → length bs ≤ MAX_NAME_BYTES → is_name bs ≡ true
+pub module_name : (bs : List ℕ) → is_spelled bs ≡ true → length bs ≤ MAX_NAME_BYTES → is_name bs ≡ true
 module_name [] h short = cc
 module_name (b ∷ bs) h short =
     let first = (and_parts (is_letter b) _ h).0 in
@@ -33,7 +33,7 @@ parts P (x ∷ xs) ys h =
 abbrev HasName : EnumeratorForm → Type 0
 HasName e = is_spelled e.name.text ≡ true
 
-abbrev SortHasNames : SortDeclarationForm → Type 0
+abbrev pub SortHasNames : SortDeclarationForm → Type 0
 SortHasNames d = AreEnumeratorsSpelled d.sort
 
 abbrev EquationHasName : EquationForm → Type 0
@@ -42,7 +42,7 @@ EquationHasName X = is_spelled X.name.text ≡ true
 abbrev IsShortEquation : Equation → Type 0
 IsShortEquation X = length X.name ≤ MAX_NAME_BYTES
 
-abbrev IsShort : Enumerator → Type 0
+abbrev pub IsShort : Enumerator → Type 0
 IsShort e = length e.name ≤ MAX_NAME_BYTES
 
 abbrev named : Enumerator → Bool
@@ -59,7 +59,7 @@ sort_named : (s : SortForm) (d : SortDeclaration) → AreEnumeratorsSpelled s �
 sort_named (struct es) d h e short = subst (λ s. list_all named (enumerators s) ≡ true) (sym e) (enumerators_named es h (subst (λ s. All IsShort (enumerators s)) e short))
 sort_named (alias x) d h e short = subst (λ s. list_all named (enumerators s) ≡ true) (sym e) refl
 
-sorts_named : (ds : List SortDeclarationForm) → All SortHasNames ds → All IsShort (every_enumerator (map erased_declaration ds)) → list_all has_enumerator_names (map erased_declaration ds) ≡ true
+pub sorts_named : (ds : List SortDeclarationForm) → All SortHasNames ds → All IsShort (every_enumerator (map erased_declaration ds)) → list_all has_enumerator_names (map erased_declaration ds) ≡ true
 sorts_named [] h short = refl
 sorts_named (d ∷ ds) h short =
     let own = enumerators (erased_declaration d).sort in

@@ -37,7 +37,7 @@ sort_spelled k.Struct =
 sort_spelled k.Name = meets_then Any _ _ _ keeps_name (λ n u. meets_then Any _ _ _ (keeps_one k.Semicolon) (λ s v. meets_is _ _ tt))
 sort_spelled _ = meets_nothing _
 
-abbrev SortHasNames : SortDeclarationForm → Type 0
+abbrev pub SortHasNames : SortDeclarationForm → Type 0
 SortHasNames d = AreEnumeratorsSpelled d.sort
 
 declaration_spelled : Meets SortHasNames SortDecl
@@ -52,7 +52,7 @@ part_spelled =
     (λ d h. All-cons SortHasNames d [] h (All-nil SortHasNames)) (λ d t ds h hs. All-cons SortHasNames d ds h hs))
     (λ ds h. meets_is _ _ h))
 
-sorts_spelled : Meets (All SortHasNames) SortParts
+pub sorts_spelled : Meets (All SortHasNames) SortParts
 sorts_spelled =
     meets_extended (All SortHasNames) (Is []) _ (meets_is _ _ (All-nil SortHasNames)) (λ ds u.
     meets_series (All SortHasNames) (All SortHasNames) SortPart (Is {X = Unit {0}} tt) _ _ part_spelled (keeps_is tt)
@@ -65,7 +65,7 @@ keeps_sign k.Mu = keeps_then _ _ (keeps_one k.Mu) (λ w. keeps_is _)
 keeps_sign k.Nu = keeps_then _ _ (keeps_one k.Nu) (λ w. keeps_is _)
 keeps_sign _ = keeps_nothing
 
-keeps_declared : (depth : ℕ) → Keeps (Declared depth)
+pub keeps_declared : (depth : ℕ) → Keeps (Declared depth)
 keeps_declared zero = keeps_nothing
 keeps_declared (suc depth) =
     keeps_then _ _ (keeps_one k.Open) (λ o. keeps_then _ _ keeps_variables (λ xs. keeps_then _ _ (keeps_one k.Close) (λ c. keeps_is _)))

@@ -112,7 +112,7 @@ piece_spells p (b ∷ bs) =
 
 -- ---- whole texts
 
-token_spelled : (p : Place) (bs : List ℕ) (kind : Kind) (n : ℕ) → piece p bs ≡ Token kind n → Spelled (token_at p kind (take n bs))
+pub token_spelled : (p : Place) (bs : List ℕ) (kind : Kind) (n : ℕ) → piece p bs ≡ Token kind n → Spelled (token_at p kind (take n bs))
 token_spelled p bs kind n e = (subst (λ (v : Piece). Spells v bs) e (piece_spells p bs)).is
 
 cut_spelled : {p q : Place} {bs rest : List ℕ} {ts : List Tok} {rs : List RangeForm} → Cuts p bs ts rs q rest → AreSpelled ts
@@ -120,7 +120,7 @@ cut_spelled none = tt
 cut_spelled (blank e c) = cut_spelled c
 cut_spelled {p} {q} {bs} (token {kind = kind} {n = n} e c) = (token_spelled p bs kind n e, cut_spelled c)
 
-with_end : (ts : List Tok) (t : Tok) → AreSpelled ts → Spelled t → AreSpelled (ts ++ t ∷ [])
+pub with_end : (ts : List Tok) (t : Tok) → AreSpelled ts → Spelled t → AreSpelled (ts ++ t ∷ [])
 with_end [] t h i = (i, tt)
 with_end (x ∷ xs) t h i = (h.0, with_end xs t h.1 i)
 

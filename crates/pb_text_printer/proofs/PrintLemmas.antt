@@ -7,7 +7,7 @@ use Rattle.pb_text_lexer.specs.Tokens.{token_at}
 use Rattle.pb_text.specs.Parsing.{IsReading, depth_limit, operator_limit}
 use Rattle.pb_text_printer.specs.Words.{written, text_words, text_bytes}
 use Rattle.pb_text_printer.specs.Sayable.{Each, RangeSayable, TextSayable}
-use Rattle.pb_text_printer.specs.Printing.{ReadsAs, IsPrinted}
+use Rattle.pb_text_printer.specs.Printing.{ReadsAs, ReadsWithin, IsPrinted, IsSayable}
 use Rattle.pb_text_printer.proofs.LexicalLemmas.{cut-lexical}
 use Rattle.pb_text_printer.proofs.SaidText.{text-said, text-ranges}
 use Rattle.pb_text_printer.proofs.BackText.{text-back}
@@ -19,20 +19,18 @@ use Rattle.pb_text_printer.proofs.RangeCut.{ranges-cut}
 sayable : (bytes : List ℕ) (x : SpecForm) → IsReading bytes x → TextSayable depth_limit operator_limit x
 sayable bytes x r = text-said depth_limit operator_limit r.tokens r.ranges x (cut-lexical bytes r.tokens r.ranges r.cut) r.says
 
--- whatever is cut into the words
-pub printed-reads : (bytes printed : List ℕ) (x : SpecForm) → IsReading bytes x → IsPrinted printed x → ReadsAs printed x
-printed-reads bytes printed x r p =
-    let back = text-back depth_limit operator_limit x p.ranges (sayable bytes x r) p.lines p.tokens p.end p.ends p.words in
+-- whatever is cut into the words of a text that can be said
+said-reads : (depth limit : ℕ) (printed : List ℕ) (x : SpecForm) → TextSayable depth limit x → IsPrinted printed x → ReadsWithin depth limit printed x
+said-reads depth limit printed x h p =
+    let back = text-back depth limit x p.ranges h p.lines p.tokens p.end p.ends p.words in
     record { says = back.says; reading = record { tokens = p.tokens; ranges = p.ranges; cut = p.cut; says = back.reads }; same = sym back.same }
 
--- the bytes of a text
-pub written-reads : (bytes : List ℕ) (x : SpecForm) → IsReading bytes x → ReadsAs (text_bytes x) x
-written-reads bytes x r =
-    let lines : Each RangeSayable x.ranges =
-    subst (λ (v : List RangeForm). Each RangeSayable v) (sym (text-ranges depth_limit operator_limit r.tokens r.ranges x r.says)) (ranges-said bytes r.tokens r.ranges r.cut) in
-    let well = text-well depth_limit operator_limit x (sayable bytes x r) in
-    let c = ranges-cut x.ranges (written false (text_words x)) (text_words x) lines (λ q. written-cut false (text_words x) q well) start refl in
-    printed-reads bytes (text_bytes x) x r (record {
+-- the bytes of a text that can be said
+pub sayable-reads : (depth limit : ℕ) (x : SpecForm) → IsSayable depth limit x → ReadsWithin depth limit (text_bytes x) x
+sayable-reads depth limit x h =
+    let well = text-well depth limit x h.text in
+    let c = ranges-cut x.ranges (written false (text_words x)) (text_words x) h.ranges (λ q. written-cut false (text_words x) q well) start refl in
+    said-reads depth limit (text_bytes x) x h.text (record {
       tokens = c.tokens ++ token_at c.place End [] ∷ [];
       ranges = c.ranges;
       end = token_at c.place End [];
@@ -41,3 +39,14 @@ written-reads bytes x r =
       ends = refl;
       lines = c.same;
     })
+
+-- ---- the same of a text that was read
+
+pub printed-reads : (bytes printed : List ℕ) (x : SpecForm) → IsReading bytes x → IsPrinted printed x → ReadsAs printed x
+printed-reads bytes printed x r p = said-reads depth_limit operator_limit printed x (sayable bytes x r) p
+
+pub written-reads : (bytes : List ℕ) (x : SpecForm) → IsReading bytes x → ReadsAs (text_bytes x) x
+written-reads bytes x r = sayable-reads depth_limit operator_limit x (record {
+  text = sayable bytes x r;
+  ranges = subst (λ (v : List RangeForm). Each RangeSayable v) (sym (text-ranges depth_limit operator_limit r.tokens r.ranges x r.says)) (ranges-said bytes r.tokens r.ranges r.cut);
+})

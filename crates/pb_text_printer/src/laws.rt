@@ -3,7 +3,7 @@
 ghost use Rattle.std.specs.Prelude.{ℕ, List};
 ghost use Rattle.pb_text_tree.specs.Form.{SpecForm};
 ghost use Rattle.pb_text.specs.Parsing.{IsReading};
-ghost use Rattle.pb_text_printer.specs.Printing.{IsPrinted, ReadsAs};
+ghost use Rattle.pb_text_printer.specs.Printing.{IsPrinted, IsSayable, ReadsAs, ReadsWithin};
 ghost use Rattle.pb_text_printer.specs.Words.{text_bytes};
 
 /// The words of a text that was read are read back as that text but for places, within the same
@@ -18,4 +18,11 @@ pub fn printed_words_are_read_back()
 /// where the grammar needs them, say that text but for places, within the same limits.
 pub fn printed_text_is_read_back()
     ensures { (bytes : List ℕ) (x : SpecForm) → IsReading bytes x → ReadsAs (text_bytes x) x }
+{}
+
+/// A text that can be said within so many levels and operators is read back from what is printed of
+/// it within as many, whether it was read or made.
+pub fn sayable_text_is_read_back()
+    ensures { (depth operators : ℕ) (x : SpecForm) → IsSayable depth operators x
+        → ReadsWithin depth operators (text_bytes x) x }
 {}

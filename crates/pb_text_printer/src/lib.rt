@@ -14,6 +14,6 @@ mod text;
 mod variables;
 mod writer;
 
-pub use laws::{printed_text_is_read_back, printed_words_are_read_back};
+pub use laws::{printed_text_is_read_back, printed_words_are_read_back, sayable_text_is_read_back};
 pub use pb_text_copies::copy_term as copy;
 pub use printing::print;

@@ -155,6 +155,9 @@ both-correct (suc depth) =
 
 -- ---- the theorems
 
+pub unary-correct : (depth : ℕ) → Correct Always (unary depth) IsUnary unary_goes depth
+unary-correct depth = (both-correct depth).units
+
 pub term-correct : (depth : ℕ) → Correct Always (term depth) IsTerm term_goes depth
 term-correct depth = (both-correct depth).terms
 

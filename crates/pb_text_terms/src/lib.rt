@@ -6,7 +6,7 @@
 //! texts cites them. `proofs/` shows that the functions meet the relations.
 #![tactic(auto)]
 
-mod node;
+pub mod node;
 pub mod operator;
 pub mod term;
 pub mod variable;

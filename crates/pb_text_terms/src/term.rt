@@ -66,7 +66,7 @@ fn bracketed(input: &mut Input<'_>, alloc: Global, depth: u32) -> Result<Term, R
 
 /// A sign, a bracket, a number, a constant or a name, in which so many levels may open.
 #[cycle(terms)]
-fn unary(input: &mut Input<'_>, alloc: Global, depth: u32) -> Result<Term, ReadingFault>
+pub fn unary(input: &mut Input<'_>, alloc: Global, depth: u32) -> Result<Term, ReadingFault>
     ensures reads { Gives term_form (reading.unary depth input.old) result input.new }
     ensures fewer { OnOk result (length input.new.tokens < length input.old.tokens) }
 {
@@ -88,7 +88,7 @@ fn unary(input: &mut Input<'_>, alloc: Global, depth: u32) -> Result<Term, Readi
 /// Terms with commas between them, each with the place of its first token.
 #[cycle(terms)]
 #[inline(never)]
-fn argument_list(
+pub fn argument_list(
     input: &mut Input<'_>,
     alloc: Global,
     depth: u32,
@@ -375,7 +375,7 @@ fn equated_behind(
 /// it.
 #[cycle(terms)]
 #[inline(never)]
-fn operators_behind(
+pub fn operators_behind(
     input: &mut Input<'_>,
     alloc: Global,
     depth: u32,
@@ -395,7 +395,7 @@ fn operators_behind(
 /// One term without connectives, or two that are compared for equality. Most often no operator
 /// follows at all.
 #[cycle(terms)]
-fn equated(input: &mut Input<'_>, alloc: Global, depth: u32) -> Result<Term, ReadingFault>
+pub fn equated(input: &mut Input<'_>, alloc: Global, depth: u32) -> Result<Term, ReadingFault>
     ensures reads { Gives term_form (reading.equated
         (reading.unary depth) input.old) result input.new }
     ensures fewer { OnOk result (length input.new.tokens < length input.old.tokens) }

@@ -11,6 +11,7 @@ ghost use Rattle.pb_typing.specs.View.{binary_operation, function_view, shape_vi
 
 use crate::operation::{BinaryOperation, UnaryOperation, fault};
 use crate::shape::Shape;
+use pb_text_meaning::NamedFunction;
 use pb_text_tree::Place;
 use pb_typing_declarations::{TypingFault, TypingRule, require};
 
@@ -30,6 +31,23 @@ pub(crate) enum Function {
 }
 
 impl Function {
+    /// What a named function is at the kinds of its arguments.
+    pub(crate) fn of(function: NamedFunction) -> Function
+        ensures { function_view result ≡ functions.function_of function }
+    {
+        match function {
+            NamedFunction::If => Function::Choice,
+            NamedFunction::Succ => Function::OfOne(UnaryOperation::Successor),
+            NamedFunction::Pred => Function::OfOne(UnaryOperation::Predecessor),
+            NamedFunction::Abs => Function::OfOne(UnaryOperation::AbsoluteValue),
+            NamedFunction::Max => Function::Maximum,
+            NamedFunction::Min => Function::Minimum,
+            NamedFunction::Pos2Nat | NamedFunction::Pos2Int | NamedFunction::Nat2Int => {
+                Function::Conversion
+            }
+        }
+    }
+
     /// A function of one argument, at its shape. A function of more gives what is unknown.
     pub(crate) fn apply_one(self, shape: Shape, place: Place) -> Result<Shape, TypingFault>
         ensures { Finds (kind_faults (function_view self) (shape_view shape ∷ []) place)

@@ -1,9 +1,8 @@
 //! Names in data: variables, enumerators and functions.
 
-ghost use Rattle.std.specs.Prelude.{◌≡◌, ◌||◌, List, Some, length, Contains, MatchResult, codes};
+ghost use Rattle.std.specs.Prelude.{◌≡◌, List, Some, length, Contains, MatchResult};
 ghost use Rattle.std.specs.Option.{option_map};
 ghost use Rattle.pb_text_tree.specs.Form.{named};
-ghost use Rattle.pb_text_meaning.specs.Syntax.{same_name};
 ghost use Rattle.pb_typing_rules.specs.Faults.{function_faults, name_faults, unknown_faults};
 ghost use Rattle.pb_typing_rules.specs.Functions.{arity, function_named};
 ghost use Rattle.pb_typing_rules.specs.Scope.{named_shape};
@@ -18,9 +17,10 @@ ghost use Rattle.pb_typing.specs.Found.{Finds};
 ghost use Rattle.pb_typing.specs.View.{function_view, shape_view};
 
 use crate::function::Function;
-use crate::operation::{UnaryOperation, fault};
+use crate::operation::fault;
 use crate::scope::{Scope, variable_shape};
 use crate::shape::Shape;
+use pb_text_meaning::NamedFunction;
 use pb_text_tree::{Name, Place};
 use pb_typing_declarations::{Declarations, Enumerator, TypingFault, TypingRule, require};
 
@@ -120,37 +120,11 @@ pub(crate) fn find_function(
 pub(crate) fn function_named(declarations: &Declarations<'_>, name: &str) -> Option<Function>
     ensures { option_map function_view result ≡ function_named (spec_of declarations.now) name.now }
 {
-    if name == "if" {
-        return Some(Function::Choice);
+    match NamedFunction::named(name) {
+        Some(function) => Some(Function::of(function)),
+        None => match struct_shape(declarations.recogniser(name)) {
+            Some(shape) => Some(Function::Recogniser(shape)),
+            None => None,
+        },
     }
-    if name == "succ" {
-        return Some(Function::OfOne(UnaryOperation::Successor));
-    }
-    if name == "pred" {
-        return Some(Function::OfOne(UnaryOperation::Predecessor));
-    }
-    if name == "abs" {
-        return Some(Function::OfOne(UnaryOperation::AbsoluteValue));
-    }
-    if is_conversion(name) {
-        return Some(Function::Conversion);
-    }
-    if name == "max" {
-        return Some(Function::Maximum);
-    }
-    if name == "min" {
-        return Some(Function::Minimum);
-    }
-    match struct_shape(declarations.recogniser(name)) {
-        Some(shape) => Some(Function::Recogniser(shape)),
-        None => None,
-    }
-}
-
-/// Whether the name is that of a conversion between integer sorts.
-fn is_conversion(name: &str) -> bool
-    ensures { result ≡ (same_name name.now (codes "Pos2Nat") || same_name name.now
-        (codes "Pos2Int") || same_name name.now (codes "Nat2Int")) }
-{
-    name == "Pos2Nat" || name == "Pos2Int" || name == "Nat2Int"
 }

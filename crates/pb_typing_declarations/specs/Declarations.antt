@@ -2,19 +2,20 @@
 -- predicate variables and their parameters.
 use Rattle.std.specs.Prelude.{ℕ, suc, ◌+◌, nat_le, nat_lt, Bool, true, false, not, ◌||◌, List, []}
 use Rattle.std.specs.Prelude.{◌∷◌, ◌++◌, map, flat_map, length, ℤ, pos, int_le, Option, Some, None}
-use Rattle.std.specs.Prelude.{codes}
+use Rattle.std.specs.Prelude.{is_some}
 use Rattle.std.specs.List.{slice_get}
 use Rattle.pb_text_tree.specs.declared.place.Place.{Place}
 use Rattle.pb_text_tree.specs.Form.{Named, VariableForm, EnumeratorForm, SortForm, struct, alias}
 use Rattle.pb_text_tree.specs.Form.{SortDeclarationForm, RangeForm, EquationForm, SpecForm}
-use Rattle.pb_text_meaning.specs.Syntax.{Name, same_name, Spec}
+use Rattle.pb_text_meaning.specs.Syntax.{Name, Spec}
+use Rattle.pb_text_meaning.specs.Functions.{named_function}
 use Rattle.pb_text_meaning.specs.Erase.{erase, erased_sort, erased_equation}
 use Rattle.pb_typing_declarations.specs.declared.sorts.Integers.TheVariants as integers
 use Rattle.pb_typing_declarations.specs.declared.fault.TypingRule.TheVariants.{NameTwice}
 use Rattle.pb_typing_declarations.specs.declared.fault.TypingRule.TheVariants.{UnknownSort}
 use Rattle.pb_typing_declarations.specs.declared.fault.TypingRule.TheVariants.{MissingRange, Limit}
 use Rattle.pb_typing_declarations.specs.declared.fault.TypingFault.{TypingFault}
-use Rattle.pb_typing_declarations.specs.Faults.{unless, is_among, repeated, length_faults}
+use Rattle.pb_typing_declarations.specs.Faults.{unless, repeated, length_faults}
 use Rattle.pb_typing_declarations.specs.Shapes.{End, Shaped, Unranged, Undeclared, Endless, end_of}
 use Rattle.pb_typing_declarations.specs.Shapes.{base_of, is_sort, is_built_in, number_behind}
 use Rattle.pb_typing_declarations.specs.Instances.{instance_count}
@@ -52,16 +53,9 @@ enumerators_of_sort (alias target) = []
 abbrev pub all_enumerator_forms : List SortDeclarationForm → List EnumeratorForm
 all_enumerator_forms ds = flat_map (λ (d : SortDeclarationForm). enumerators_of_sort d.sort) ds
 
--- the functions that are there
-abbrev pub is_numeric_function : Name → Bool
-is_numeric_function f =
-    is_among (codes "succ" ∷ codes "pred" ∷ codes "max" ∷ codes "min" ∷ codes "abs" ∷ []) f
-
-abbrev pub is_conversion : Name → Bool
-is_conversion f = is_among (codes "Pos2Nat" ∷ codes "Pos2Int" ∷ codes "Nat2Int" ∷ []) f
-
+-- a function that is there in each text
 abbrev pub is_named_function : Name → Bool
-is_named_function f = same_name (codes "if") f || (is_numeric_function f || is_conversion f)
+is_named_function f = is_some (named_function f)
 
 abbrev pub recogniser_faults : Option Named → List TypingFault
 recogniser_faults None = []

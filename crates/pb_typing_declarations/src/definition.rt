@@ -8,7 +8,6 @@ ghost use Rattle.pb_typing_declarations.specs.Faults.{IsAmong};
 ghost use Rattle.pb_typing_declarations.specs.Declarations.{limit_faults, own_names, struct_faults};
 ghost use Rattle.pb_typing_declarations.specs.Declarations.{structs_faults, recogniser_faults};
 ghost use Rattle.pb_typing_declarations.specs.Declarations.{enumerator_faults, is_named_function};
-ghost use Rattle.pb_typing_declarations.specs.Declarations.{is_numeric_function, is_conversion};
 ghost use Rattle.pb_typing_declarations.specs.Entries.{as_enumerator, as_recogniser};
 ghost use Rattle.pb_typing_declarations.specs.Reading.{AreDefinitions, IsDefinition};
 ghost use Rattle.pb_typing_declarations.specs.Reading.{HasEnumerators, HasRecogniser};
@@ -17,6 +16,7 @@ use crate::entry::Entry;
 use crate::fault::{TypeError, TypingFault, TypingRule, require};
 use crate::sorts::Enumerator;
 use pb_sorts::{Enumeration, MAX_ENUMERATORS, MAX_NAME_BYTES, MAX_STRUCTS};
+use pb_text_meaning::NamedFunction;
 use pb_text_tree::{Name, Sort, SortDeclaration};
 use std::alloc::Global;
 
@@ -220,20 +220,8 @@ pub(crate) fn is_short(name: &Name) -> bool
 }
 
 /// Whether a function that is there in each text has this name.
-pub fn is_named_function(name: &str) -> bool
+fn is_named_function(name: &str) -> bool
     ensures { result ≡ is_named_function name.now }
 {
-    name == "if" || is_numeric_function(name) || is_conversion(name)
-}
-
-fn is_numeric_function(name: &str) -> bool
-    ensures { result ≡ is_numeric_function name.now }
-{
-    matches!(name, "succ" | "pred" | "max" | "min" | "abs")
-}
-
-fn is_conversion(name: &str) -> bool
-    ensures { result ≡ is_conversion name.now }
-{
-    matches!(name, "Pos2Nat" | "Pos2Int" | "Nat2Int")
+    NamedFunction::named(name).is_some()
 }

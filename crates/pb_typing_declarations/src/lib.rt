@@ -17,7 +17,6 @@ mod tables;
 mod variables;
 
 pub use declarations::Declarations;
-pub use definition::is_named_function;
 pub use fault::{TypeError, TypingFault, TypingRule, require};
 pub use laws::{
     declared_sorts_have_ends, no_faults_where_declared, no_faults_where_variables,

@@ -1,6 +1,11 @@
 -- The named functions of data: how many arguments of which kinds each takes, and the shape of what it gives.
-use Rattle.std.specs.Prelude.{ℕ, Bool, true, ◌&&◌, ◌||◌, if◌then◌else◌, List, [], ◌∷◌, Option, Some, None, codes}
-use Rattle.pb_text_meaning.specs.Syntax.{Name, same_name, Spec}
+use Rattle.std.specs.Prelude.{ℕ, Bool, true, ◌&&◌, List, [], ◌∷◌, Option, Some, None}
+use Rattle.pb_text_meaning.specs.Syntax.{Name, Spec}
+use Rattle.pb_text_meaning.specs.declared.function.NamedFunction.{NamedFunction}
+use Rattle.pb_text_meaning.specs.declared.function.NamedFunction.TheVariants.{If, Succ, Pred, Abs}
+use Rattle.pb_text_meaning.specs.declared.function.NamedFunction.TheVariants.{Max, Min, Pos2Nat}
+use Rattle.pb_text_meaning.specs.declared.function.NamedFunction.TheVariants.{Pos2Int, Nat2Int}
+use Rattle.pb_text_meaning.specs.Functions.{named_function}
 use Rattle.pb_intervals.specs.Operation.{UnaryOperation, Successor, Predecessor, AbsoluteValue, BinaryOperation, Maximum, Minimum}
 use Rattle.pb_typing_declarations.specs.Shapes.{Shape, Unknown, Truths, Wholes}
 use Rattle.pb_typing_declarations.specs.Enumerators.{recogniser_shape}
@@ -18,16 +23,24 @@ abbrev pub recogniser : Option Shape → Option Function
 recogniser None = None
 recogniser (Some s) = Some (Recogniser s)
 
+abbrev pub function_of : NamedFunction → Function
+function_of If = Choice
+function_of Succ = OfOne Successor
+function_of Pred = OfOne Predecessor
+function_of Abs = OfOne AbsoluteValue
+function_of Max = OfTwo Maximum
+function_of Min = OfTwo Minimum
+function_of Pos2Nat = Conversion
+function_of Pos2Int = Conversion
+function_of Nat2Int = Conversion
+
+-- a function that is there in each text, else a recogniser
+abbrev pub known_function : Option NamedFunction → Option Shape → Option Function
+known_function (Some f) r = Some (function_of f)
+known_function None r = recogniser r
+
 abbrev pub function_named : Spec → Name → Option Function
-function_named spec f =
-    if same_name f (codes "if") then Some Choice else
-    if same_name f (codes "succ") then Some (OfOne Successor) else
-    if same_name f (codes "pred") then Some (OfOne Predecessor) else
-    if same_name f (codes "abs") then Some (OfOne AbsoluteValue) else
-    if same_name f (codes "Pos2Nat") || same_name f (codes "Pos2Int") || same_name f (codes "Nat2Int") then Some Conversion else
-    if same_name f (codes "max") then Some (OfTwo Maximum) else
-    if same_name f (codes "min") then Some (OfTwo Minimum) else
-    recogniser (recogniser_shape spec f)
+function_named spec f = known_function (named_function f) (recogniser_shape spec f)
 
 abbrev pub arity : Function → ℕ
 arity Choice = 3

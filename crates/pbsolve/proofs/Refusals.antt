@@ -2,6 +2,9 @@
 use Rattle.std.proofs.Common.{◌≡◌, ◌⊎◌, ℕ, List, Option, refl, sym, subst, inl, inr}
 use Rattle.std.specs.Prelude.{Result, Ok, Err, IfErr}
 use Rattle.std.specs.Result.{IsErrAnd}
+use Rattle.pb_text_tree.specs.Form.{SpecForm}
+use Rattle.pb_text_meaning.specs.Erase.{erase}
+use Rattle.pb_typing_rules.specs.WellTyped.{IsWellTyped}
 use Rattle.pb_report.specs.declared.fault.ProgramFault as fault
 use Rattle.pb_report.specs.declared.fault.ProgramFault.TheVariants.{U01, U02, E01, E02, M01}
 use Rattle.pbsolve.specs.declared.run_error.RunError.{RunError}
@@ -11,7 +14,8 @@ use Rattle.pbsolve.specs.declared.status.Status.TheVariants.{Answered, Refused, 
 use Rattle.pbsolve.specs.Status.{code_of}
 use Rattle.pbsolve.specs.declared.solve_error.SolveError.{SolveError}
 use Rattle.pbsolve.specs.declared.solve_error.SolveError.TheVariants as solve_error
-use Rattle.pbsolve.specs.Refusals.{IsUncompiled, IsRefused, IsUnlisted, IsUnverified, IsRefusedBytes}
+use Rattle.pbsolve.specs.Answers.{IsTheReading}
+use Rattle.pbsolve.specs.Refusals.{IsUncompiled, IsUncompiledForm, IsRefused, IsUnlisted, IsUnverified, IsRefusedBytes}
 use Rattle.pbsolve.specs.Program.{status_of, error_line_of, IsRefusedBy, IsRefusalLine, IsToldAs}
 
 pub refused_code : (s : Status) → code_of s ≡ 1 → s ≡ Refused
@@ -89,6 +93,7 @@ told_itself (run_error.Refused error) told t refused memory = elim t [
 
 pub uncompiled : (bytes : List ℕ) (e : SolveError) → IsUncompiled bytes e → IsRefused bytes e
 uncompiled bytes solve_error.TooManyVertices h = absurd h
+uncompiled bytes solve_error.NoProperty h = absurd h
 uncompiled bytes (solve_error.Text error) h = h
 uncompiled bytes (solve_error.Typing error) h = h
 uncompiled bytes (solve_error.Limit limit equation) h = h
@@ -100,6 +105,7 @@ uncompiled bytes (solve_error.Write error) h = h
 pub unlisted : (bytes : List ℕ) (e : SolveError) → IsUnlisted bytes e → IsUnverified bytes e
 unlisted bytes (solve_error.Acceptance error) h = absurd h
 unlisted bytes solve_error.TooManyVertices h = h
+unlisted bytes solve_error.NoProperty h = h
 unlisted bytes (solve_error.Text error) h = h
 unlisted bytes (solve_error.Typing error) h = h
 unlisted bytes (solve_error.Limit limit equation) h = h
@@ -109,6 +115,7 @@ unlisted bytes (solve_error.Write error) h = h
 
 pub unverified : (bytes : List ℕ) (e : SolveError) → IsUnverified bytes e → IsRefusedBytes bytes e
 unverified bytes solve_error.TooManyVertices h = absurd h
+unverified bytes solve_error.NoProperty h = absurd h
 unverified bytes (solve_error.Text error) h = h
 unverified bytes (solve_error.Typing error) h = h
 unverified bytes (solve_error.Limit limit equation) h = h
@@ -127,3 +134,27 @@ pub refused_code_of : {T : Type 0} (bytes : List ℕ) (r : Result T SolveError) 
     → IfErr r (IsRefusedBytes bytes)
 refused_code_of bytes (Ok x) e made h = tt
 refused_code_of bytes (Err x) e made h = subst (IsRefusedBytes bytes) (sym made) (unverified bytes e h)
+
+-- what is not compiled, given by its form, is not by its bytes
+pub form_uncompiled : (bytes : List ℕ) (text : SpecForm) (e : SolveError) → IsTheReading bytes text → IsWellTyped (erase text)
+    → IsUncompiledForm text e → IsUncompiled bytes e
+form_uncompiled bytes text (solve_error.Limit limit equation) read typed h = record { text = text; read = read; typed = typed; exceeds = h }
+form_uncompiled bytes text (solve_error.Memory error) read typed h = tt
+form_uncompiled bytes text (solve_error.Write error) read typed h = tt
+form_uncompiled bytes text solve_error.TooManyVertices read typed h = absurd h
+form_uncompiled bytes text solve_error.NoProperty read typed h = absurd h
+form_uncompiled bytes text (solve_error.Text error) read typed h = absurd h
+form_uncompiled bytes text (solve_error.Typing error) read typed h = absurd h
+form_uncompiled bytes text (solve_error.Module error) read typed h = absurd h
+form_uncompiled bytes text (solve_error.Acceptance error) read typed h = absurd h
+
+pub refused_texts : {T : Type 0} (bytes : List ℕ) (text : SpecForm) (r : Result T SolveError) → IsTheReading bytes text → IsWellTyped (erase text)
+    → IfErr r (IsUncompiledForm text) → IfErr r (IsRefused bytes)
+refused_texts bytes text (Ok x) read typed h = tt
+refused_texts bytes text (Err e) read typed h = uncompiled bytes e (form_uncompiled bytes text e read typed h)
+
+-- and it isn't compiled, where `?` hands its error up as it is
+pub uncompiled_texts : {T : Type 0} (bytes : List ℕ) (r : Result T SolveError) (e : SolveError) → IsErrAnd r (λ x. x ≡ e) → IsUncompiled bytes e
+    → IfErr r (IsUncompiled bytes)
+uncompiled_texts bytes (Ok x) e made h = tt
+uncompiled_texts bytes (Err x) e made h = subst (IsUncompiled bytes) (sym made) h

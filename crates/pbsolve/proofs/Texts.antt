@@ -16,8 +16,8 @@ pub text_answer : (bytes : List ℕ) (m : Contents) → HasTrees m → IsModuleO
 text_answer bytes m some of_text a answered = record {
   text = of_text.text;
   read = of_text.read;
-  typed = of_text.typed;
-  solved = ap (λ (x : Answer). x.truth) (answered some.0 some.1).exact ∙ (of_text.says some.0 some.1).answer;
+  typed = of_text.of_text.typed;
+  solved = ap (λ (x : Answer). x.truth) (answered some.0 some.1).exact ∙ (of_text.of_text.says some.0 some.1).answer;
   contents = m;
   of_text = of_text;
   counted = answered;

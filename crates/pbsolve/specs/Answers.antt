@@ -23,16 +23,20 @@ pub record IsTheReading (bytes : List ℕ) (x : SpecForm) : Type 0 where
   pub reading : IsReading bytes x
   pub only : (depth operators : ℕ) (y : SpecForm) → IsReadingWithin depth operators bytes y → y ≡ x
 
--- The module of a text: what the text says is well typed, and the module is what the compile scheme makes of it, with code
--- that keeps the machine's limits. Whichever trees the runs of its instances end with, these have the text's answer, each of
--- its instances has the truth that it has in the text's solution, and each tree is true where the text's right side is.
-pub record IsModuleOfText (bytes : List ℕ) (m : Contents) : Type 0 where
-  pub text : SpecForm
-  pub read : IsTheReading bytes text
+-- The module of what a text says: that is well typed, and the module is what the compile scheme makes of it, with code that
+-- keeps the machine's limits. Whichever trees the runs of its instances end with, these have the text's answer, each of its
+-- instances has the truth that it has in the text's solution, and each tree is true where the text's right side is.
+pub record IsModuleOfForm (text : SpecForm) (m : Contents) : Type 0 where
   pub typed : IsWellTyped (erase text)
   pub compiled : IsCompiledModule (erase text) m
   pub kept : KeepsAllLimits (erase text) m
   pub says : (trees : ℕ → Tree) → AreTrees m trees → SaysTheSame (erase text) m trees
+
+-- the module of a text, given by its bytes
+pub record IsModuleOfText (bytes : List ℕ) (m : Contents) : Type 0 where
+  pub text : SpecForm
+  pub read : IsTheReading bytes text
+  pub of_text : IsModuleOfForm text m
 
 -- the bytes spell this module, which keeps the limits of the format, and so no other
 pub record Spell (bytes : List ℕ) (m : Contents) : Type 0 where
@@ -62,11 +66,11 @@ pub record IsAnswerOfCode (bytes : List ℕ) (a : Answer) : Type 0 where
   pub answered : IsAnswerOf contents a
 
 -- Evidence for the answer to a text: what it says is well typed, its initial instance has this truth in the solution, and of
--- the text's module it shows that.
+-- the module of what it says it shows that.
 pub record IsEvidence (bytes : List ℕ) (m : Contents) (e : Evidence) : Type 0 where
   pub text : SpecForm
   pub read : IsTheReading bytes text
   pub typed : IsWellTyped (erase text)
   pub solved : e.truth ≡ answer (erase text)
-  pub of_text : IsModuleOfText bytes m
+  pub of_text : IsModuleOfForm text m
   pub shown : IsModuleEvidence m e

@@ -4,6 +4,8 @@ use Rattle.pb_text.specs.declared.error.TextError.{TextError}
 use Rattle.pb_text.specs.declared.error.TextError.TheVariants as text_error
 use Rattle.pb_typing_declarations.specs.declared.fault.TypeError.{TypeError}
 use Rattle.pb_typing_declarations.specs.declared.fault.TypeError.TheVariants as type_error
+use Rattle.pb_model_properties.specs.declared.error.ModelError.{ModelError}
+use Rattle.pb_model_properties.specs.declared.error.ModelError.TheVariants as model_error
 use Rattle.pb_bytecode.specs.declared.fault.ModuleError.{ModuleError}
 use Rattle.pb_bytecode.specs.declared.fault.ModuleError.TheVariants as module_error
 use Rattle.pb_verifier.specs.declared.verify_error.VerifyError.{VerifyError}
@@ -31,6 +33,12 @@ text_refusal (text_error.Refused rule place) = solve_error.Text (text_error.Refu
 abbrev pub type_refusal : TypeError → SolveError
 type_refusal type_error.Memory = solve_error.Memory (record {})
 type_refusal (type_error.At fault) = solve_error.Typing (type_error.At fault)
+
+abbrev pub model_refusal : ModelError → SolveError
+model_refusal (model_error.Text error) = solve_error.Text error
+model_refusal (model_error.Typing error) = solve_error.Typing error
+model_refusal model_error.NoProperty = solve_error.NoProperty
+model_refusal (model_error.Memory error) = solve_error.Memory error
 
 abbrev pub module_refusal : ModuleError → SolveError
 module_refusal module_error.Memory = solve_error.Memory (record {})
@@ -60,6 +68,7 @@ input_fault input_error.Memory = ProgramFault M01
 abbrev pub solve_fault : SolveError → RunError
 solve_fault (solve_error.Memory error) = ProgramFault M01
 solve_fault (solve_error.Write error) = ProgramFault E02
+solve_fault solve_error.NoProperty = ProgramFault U01
 solve_fault (solve_error.Text error) = Refused (solve_error.Text error)
 solve_fault (solve_error.Typing error) = Refused (solve_error.Typing error)
 solve_fault (solve_error.Limit limit equation) = Refused (solve_error.Limit limit equation)
@@ -75,5 +84,6 @@ solve_line (solve_error.Limit limit equation) = lines.limit_line limit equation
 solve_line (solve_error.Module error) = lines.module_line error
 solve_line (solve_error.Acceptance error) = lines.verify_line error
 solve_line solve_error.TooManyVertices = codes "G01\n"
+solve_line solve_error.NoProperty = lines.line_of U01
 solve_line (solve_error.Memory error) = lines.line_of M01
 solve_line (solve_error.Write error) = lines.line_of E02

@@ -1,6 +1,8 @@
 pub mod Errors
 pub mod Answers
+pub mod CallPlaces
 pub mod Refusals
+pub mod Models
 pub mod Outputs
 pub mod Program
 pub mod Status

@@ -7,7 +7,9 @@ use Rattle.pb_report.specs.Lines as lines
 use Rattle.pb_report.specs.declared.fault.ProgramFault as fault
 use Rattle.pb_report.specs.declared.fault.ProgramFault.TheVariants.{U01, U02, E01, E02, M01}
 use Rattle.pb_command_line.specs.declared.request.Request.{Request}
-use Rattle.pb_command_line.specs.Words.{AskFor, AskForSomething}
+use Rattle.pb_command_line.specs.Words.{AskFor, AskForSomething, HaveFault}
+use Rattle.pb_command_line.specs.declared.command.Command.TheVariants.{Translate}
+use Rattle.pb_model_properties.specs.Refusals.{LacksProperty}
 use Rattle.pbsolve.specs.declared.input.TheConstants.{INPUT_LIMIT}
 use Rattle.pbsolve.specs.declared.solve_error.SolveError.{SolveError}
 use Rattle.pbsolve.specs.declared.solve_error.SolveError.TheVariants as solve_error
@@ -16,7 +18,7 @@ use Rattle.pbsolve.specs.declared.run_error.RunError.TheVariants as run_error
 use Rattle.pbsolve.specs.declared.status.Status.{Status}
 use Rattle.pbsolve.specs.declared.status.Status.TheVariants.{Refused, Usage, OutOfMemory, Failed}
 use Rattle.pbsolve.specs.Errors.{solve_line}
-use Rattle.pbsolve.specs.Outputs.{Outputs, IsRefusedFor}
+use Rattle.pbsolve.specs.Outputs.{OutputsFor, IsRefusedFor, property_name}
 
 -- how a run ends that has a fault, or an error
 abbrev pub fault_status : fault.ProgramFault → Status
@@ -55,9 +57,10 @@ ForInput known P = (bytes : List ℕ) × (length bytes ≤ INPUT_LIMIT) × IsWho
 -- P holds of what the command for which the words ask writes for the input
 abbrev pub Answers : List (List ℕ) → Option (List ℕ) → (List ℕ → Type 0) → Type 0
 Answers words known P =
-    (request : Request) × AskFor words request × ForInput known (λ bytes. Outputs request.command bytes P)
+    (request : Request) × AskFor words request
+    × ForInput known (λ bytes. OutputsFor request bytes P)
 
--- the input is not what the command takes, which is neither want of memory nor a failed write
+-- the input is not what the command takes, which is neither want of memory nor a failed write, nor a property that isn't there
 abbrev pub IsRefusal : SolveError → Type 0
 IsRefusal (solve_error.Text error) = Unit {0}
 IsRefusal (solve_error.Typing error) = Unit {0}
@@ -65,6 +68,7 @@ IsRefusal (solve_error.Limit limit equation) = Unit {0}
 IsRefusal (solve_error.Module error) = Unit {0}
 IsRefusal (solve_error.Acceptance error) = Unit {0}
 IsRefusal solve_error.TooManyVertices = Unit {0}
+IsRefusal solve_error.NoProperty = ⊥
 IsRefusal (solve_error.Memory error) = ⊥
 IsRefusal (solve_error.Write error) = ⊥
 
@@ -72,12 +76,18 @@ IsRefusal (solve_error.Write error) = ⊥
 abbrev pub RefusesBy : List (List ℕ) → Option (List ℕ) → SolveError → Type 0
 RefusesBy words known error =
     IsRefusal error ×
-    ((request : Request) × AskFor words request × ForInput known (λ bytes. IsRefusedFor request.command bytes error))
+    ((request : Request) × AskFor words request × ForInput known (λ bytes. IsRefusedFor request bytes error))
+
+-- the words ask for a property, and the input is a model that has none of the name
+abbrev pub LackProperty : List (List ℕ) → Option (List ℕ) → Type 0
+LackProperty words known =
+    (request : Request) × AskFor words request × (request.command ≡ Translate)
+    × ForInput known (LacksProperty (property_name request))
 
 -- what an error of a run says of the words and the input
 abbrev pub IsRefusedBy : List (List ℕ) → Option (List ℕ) → RunError → Type 0
 IsRefusedBy words known (run_error.ProgramFault U02) = AskForSomething words × IsLongerThan INPUT_LIMIT known
-IsRefusedBy words known (run_error.ProgramFault U01) = Unit {0}
+IsRefusedBy words known (run_error.ProgramFault U01) = HaveFault words ⊎ LackProperty words known
 IsRefusedBy words known (run_error.ProgramFault E01) = Unit {0}
 IsRefusedBy words known (run_error.ProgramFault E02) = Unit {0}
 IsRefusedBy words known (run_error.ProgramFault M01) = Unit {0}

@@ -40,6 +40,19 @@ pub record IsOverLimit (bytes : List ℕ) (limit : Limit) (equation : ℕ) : Typ
   pub typed : IsWellTyped (erase text)
   pub exceeds : IsFirstExcess (erase text) limit equation
 
+-- What an error says of a text that is well typed, given by its form, where it says of code what `compile` says: its first
+-- equation whose code exceeds a limit is this one, with this as its first.
+abbrev pub IsUncompiledForm : SpecForm → SolveError → Type 0
+IsUncompiledForm text (solve_error.Limit limit equation) = IsFirstExcess (erase text) limit equation
+IsUncompiledForm text (solve_error.Memory error) = Unit {0}
+IsUncompiledForm text (solve_error.Write error) = Unit {0}
+IsUncompiledForm text solve_error.TooManyVertices = ⊥
+IsUncompiledForm text solve_error.NoProperty = ⊥
+IsUncompiledForm text (solve_error.Text error) = ⊥
+IsUncompiledForm text (solve_error.Typing error) = ⊥
+IsUncompiledForm text (solve_error.Module error) = ⊥
+IsUncompiledForm text (solve_error.Acceptance error) = ⊥
+
 -- reading the bytes as a module meets this fault first
 abbrev pub IsRefusedCode : List ℕ → ModuleError → Type 0
 IsRefusedCode bytes module_error.Memory = ⊥
@@ -56,6 +69,7 @@ abbrev pub IsRefusedModule : Contents → SolveError → Type 0
 IsRefusedModule m solve_error.TooManyVertices = IsTooLarge m
 IsRefusedModule m (solve_error.Memory error) = Unit {0}
 IsRefusedModule m (solve_error.Write error) = Unit {0}
+IsRefusedModule m solve_error.NoProperty = ⊥
 IsRefusedModule m (solve_error.Text error) = ⊥
 IsRefusedModule m (solve_error.Typing error) = ⊥
 IsRefusedModule m (solve_error.Limit limit equation) = ⊥
@@ -72,6 +86,7 @@ IsUncompiled bytes (solve_error.Limit limit equation) = IsOverLimit bytes limit 
 IsUncompiled bytes (solve_error.Memory error) = Unit {0}
 IsUncompiled bytes (solve_error.Write error) = Unit {0}
 IsUncompiled bytes solve_error.TooManyVertices = ⊥
+IsUncompiled bytes solve_error.NoProperty = ⊥
 IsUncompiled bytes (solve_error.Module error) = ⊥
 IsUncompiled bytes (solve_error.Acceptance error) = ⊥
 
@@ -87,6 +102,7 @@ IsUnlisted bytes (solve_error.Memory error) = Unit {0}
 IsUnlisted bytes (solve_error.Write error) = Unit {0}
 IsUnlisted bytes (solve_error.Acceptance error) = ⊥
 IsUnlisted bytes solve_error.TooManyVertices = ⊥
+IsUnlisted bytes solve_error.NoProperty = ⊥
 IsUnlisted bytes (solve_error.Text error) = ⊥
 IsUnlisted bytes (solve_error.Typing error) = ⊥
 IsUnlisted bytes (solve_error.Limit limit equation) = ⊥

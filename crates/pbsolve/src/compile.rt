@@ -5,11 +5,12 @@ ghost use Rattle.pb_sorts.specs.Sink.{AppendsPrefix};
 ghost use Rattle.pb_text_tree.specs.Form.{spec_form};
 ghost use Rattle.pb_text_meaning.specs.Erase.{erase};
 ghost use Rattle.pb_typing_rules.specs.WellTyped.{IsWellTyped};
+ghost use Rattle.pb_text_names.specs.ModuleNames.{has_names};
 ghost use Rattle.pb_bytecode.specs.Decoded.{module_contents};
 ghost use Rattle.pb_command_line.specs.declared.command.Command.TheVariants.{Compile};
-ghost use Rattle.pbsolve.specs.Answers.{IsTheReading, IsModuleOfText};
+ghost use Rattle.pbsolve.specs.Answers.{IsTheReading, IsModuleOfForm, IsModuleOfText};
 ghost use Rattle.pbsolve.specs.Outputs.{Outputs};
-ghost use Rattle.pbsolve.specs.Refusals.{IsRefused, IsUncompiled};
+ghost use Rattle.pbsolve.specs.Refusals.{IsRefused, IsUncompiled, IsUncompiledForm};
 
 use crate::input::INPUT_LIMIT;
 use crate::solve_error::SolveError;
@@ -26,13 +27,15 @@ use pb_verifier::Verified;
 use std::alloc::Global;
 
 // What a text says, which is well typed.
-fn typed(alloc: Global, bytes: &[u8]) -> Result<Typed, SolveError>
+pub(crate) fn typed(alloc: Global, bytes: &[u8]) -> Result<Typed, SolveError>
     requires { length bytes.now ≤ INPUT_LIMIT }
     ensures read { IfOk result (λ typed. IsTheReading bytes.now (spec_form typed.spec)
-        × IsWellTyped (erase (spec_form typed.spec))) }
+        × IsWellTyped (erase (spec_form typed.spec))
+        × (has_names (erase (spec_form typed.spec)) ≡ true)) }
     ensures refused { IfErr result (IsUncompiled bytes.now) }
     ensures unwritten { IfErr result (λ e. e ≢ SolveError.Write (record {})) }
 {
+    names_of_texts_are_names_of_modules();
     let spec = pb_text::parse(alloc, bytes)?;
     match pb_typing::check(alloc, spec) {
         Ok(typed) => Ok(typed),
@@ -40,16 +43,15 @@ fn typed(alloc: Global, bytes: &[u8]) -> Result<Typed, SolveError>
     }
 }
 
-// The module of a text.
-fn compiled(alloc: Global, bytes: &[u8]) -> Result<Module, SolveError>
-    requires { length bytes.now ≤ INPUT_LIMIT }
-    ensures module { IfOk result (λ m. IsModuleOfText bytes.now (module_contents m)) }
-    ensures refused { IfErr result (IsUncompiled bytes.now) }
+// The module of a text, whose names a module can take over.
+fn compiled(alloc: Global, typed: &Typed) -> Result<Module, SolveError>
+    requires named { has_names (erase (spec_form typed.now.spec)) ≡ true }
+    requires well_typed { IsWellTyped (erase (spec_form typed.now.spec)) }
+    ensures module { IfOk result (λ m. IsModuleOfForm (spec_form typed.now.spec) (module_contents m)) }
+    ensures refused { IfErr result (IsUncompiledForm (spec_form typed.now.spec)) }
     ensures unwritten { IfErr result (λ e. e ≢ SolveError.Write (record {})) }
 {
-    let typed = typed(alloc, bytes)?;
-    let normal = normalise(alloc, &typed)?;
-    names_of_texts_are_names_of_modules();
+    let normal = normalise(alloc, typed)?;
     compiled_modules_have_the_answer();
     match compile(alloc, &normal) {
         Ok(module) => Ok(module),
@@ -60,17 +62,29 @@ fn compiled(alloc: Global, bytes: &[u8]) -> Result<Module, SolveError>
 }
 
 // The module of a text, verified: a compiled module is always accepted.
+pub(crate) fn verified(alloc: Global, typed: &Typed) -> Result<Verified, SolveError>
+    requires named { has_names (erase (spec_form typed.now.spec)) ≡ true }
+    requires well_typed { IsWellTyped (erase (spec_form typed.now.spec)) }
+    ensures module { IfOk result (λ v. IsModuleOfForm (spec_form typed.now.spec) v) }
+    ensures refused { IfErr result (IsUncompiledForm (spec_form typed.now.spec)) }
+    ensures unwritten { IfErr result (λ e. e ≢ SolveError.Write (record {})) }
+{
+    let module = compiled(alloc, typed)?;
+    match verify_compiled(alloc, module) {
+        Ok(verified) => Ok(verified),
+        Err((_module, refused)) => Err(SolveError::Memory(refused)),
+    }
+}
+
+// The module of a text, verified.
 pub(crate) fn verified_text(alloc: Global, bytes: &[u8]) -> Result<Verified, SolveError>
     requires { length bytes.now ≤ INPUT_LIMIT }
     ensures module { IfOk result (IsModuleOfText bytes.now) }
     ensures refused { IfErr result (IsRefused bytes.now) }
     ensures unwritten { IfErr result (λ e. e ≢ SolveError.Write (record {})) }
 {
-    let module = compiled(alloc, bytes)?;
-    match verify_compiled(alloc, module) {
-        Ok(verified) => Ok(verified),
-        Err((_module, refused)) => Err(SolveError::Memory(refused)),
-    }
+    let typed = typed(alloc, bytes)?;
+    verified(alloc, &typed)
 }
 
 /// Compiles a text, and writes the bytes of its module.
@@ -92,7 +106,11 @@ pub fn compile_text<S: Sink>(alloc: Global, bytes: &[u8], writer: &mut S) -> Res
     ensures write_failed { result ≡ Err (SolveError.Write (record {})) →
         S.has_failed writer.new ≡ true }
 {
-    let module = compiled(alloc, bytes)?;
+    let typed = typed(alloc, bytes)?;
+    let module = compiled(alloc, &typed)?;
     let spelled = encode(alloc, &module)?;
-    put(spelled.as_slice(), writer).map_err(SolveError::Write)
+    match put(spelled.as_slice(), writer) {
+        Ok(()) => Ok(()),
+        Err(failed) => Err(SolveError::Write(failed)),
+    }
 }

@@ -1,11 +1,14 @@
 //! The solver's calls, and the whole program over readers and writers.
 #![tactic(auto)]
 
+mod call_places;
 mod code;
 mod compile;
 mod input;
 mod laws;
+mod models;
 mod module;
+mod options;
 mod program;
 mod run_error;
 mod solve;
@@ -17,6 +20,8 @@ pub use code::{list_code, solve_code, verify_code};
 pub use compile::compile_text;
 pub use input::INPUT_LIMIT;
 pub use laws::bytes_spell_one_module;
+pub use models::{check_text, translate_text};
+pub use options::ExplainOptions;
 pub use pb_solution::SolveOptions;
 pub use program::{run, tell_fault};
 pub use solve::{certificate_of, explain_text, game_of, solution_of, solve_text};

@@ -1,16 +1,19 @@
 //! The texts of a verified module: its report, its game, its solution, a certificate and its
 //! evidence.
-ghost use Rattle.std.specs.Prelude.{◌≡◌, ◌≢◌, ◌≤◌, ◌<◌, true, IfOk, IfErr, OnOk, Err};
+ghost use Rattle.std.specs.Prelude.{◌≡◌, ◌≢◌, ◌≤◌, ◌<◌, ℕ, Option, true, IfOk, IfErr, OnOk, Err};
 ghost use Rattle.std.specs.Io.KnownBytes.{Appends};
 ghost use Rattle.pb_sorts.specs.Sink.{AppendsPrefix};
+ghost use Rattle.pb_text_tree.specs.declared.place.Place.{Place};
 ghost use Rattle.pb_report_texts.specs.Report.{report_text};
-ghost use Rattle.pb_evidence_texts.specs.ModuleEvidence.{ForEvidenceText};
+ghost use Rattle.pb_evidence_texts.specs.CallPlaces.{AreCallPlaces};
+ghost use Rattle.pb_evidence_texts.specs.ModuleEvidence.{ForEvidenceText, IsExplanation};
 ghost use Rattle.pb_solution.specs.Answers.{IsAnswerOf, IsSolutionOf};
 ghost use Rattle.pb_solution.specs.Texts.{ForCertificateText, ForGameText, ForSolutionText};
 ghost use Rattle.pbsolve.specs.Refusals.{IsRefusedModule};
 ghost use Rattle.pbsolve.specs.Outputs.{ForReport};
 
 use crate::solve_error::SolveError;
+use pb_evidence_texts::{Explanation, PlacedExplanation};
 use pb_exploration::Gate;
 use pb_report_texts::{Answer, report};
 use pb_solution::{
@@ -124,30 +127,49 @@ pub(crate) fn write_certificate<R: Threads + Sync, G: Gate + Sync, S: Sink>(
     Ok(())
 }
 
-// Writes the evidence of a module.
-pub(crate) fn write_evidence<R: Threads + Sync, G: Gate + Sync, S: Sink>(
+// Why the initial instance of a module has its truth value.
+pub(crate) fn explained<R: Threads + Sync, G: Gate + Sync>(
     rt: &R,
     alloc: Global,
     verified: &Verified,
     workers: u32,
     gate: &G,
+) -> Result<Explanation, SolveError>
+    requires { (0 < workers) × (workers ≤ 16) }
+    ensures explanation { IfOk result (IsExplanation verified.now) }
+    ensures refused { IfErr result (IsRefusedModule verified.now) }
+    ensures unwritten { IfErr result (λ e. e ≢ SolveError.Write (record {})) }
+{
+    let solver = Solver::Zielonka;
+    let options = SolveOptions { workers, solver };
+    Ok(explain_module(rt, alloc, verified, options, gate)?)
+}
+
+// Writes the evidence of a module, with the places that are given of its calls.
+pub(crate) fn write_evidence<S: Sink>(
+    alloc: Global,
+    verified: &Verified,
+    placed: &PlacedExplanation<'_>,
     writer: &mut S,
 ) -> Result<(), SolveError>
-    requires { (0 < workers) × (workers ≤ 16) }
-    ensures evidence { OnOk result
-        (ForEvidenceText verified.now (Appends (S.taken writer.old) (S.taken writer.new))) }
+    requires explanation { IsExplanation verified.now placed.now.explanation.now }
+    requires places { (place : ℕ → ℕ → Option Place)
+        × AreCallPlaces place placed.now.explanation.now.evidence placed.now.call_places.now }
+    ensures evidence { (place : ℕ → ℕ → Option Place)
+        → AreCallPlaces place placed.now.explanation.now.evidence placed.now.call_places.now
+        → OnOk result (ForEvidenceText verified.now place
+        (Appends (S.taken writer.old) (S.taken writer.new))) }
     ensures kept { OnOk result (S.has_failed writer.new ≡ S.has_failed writer.old) }
     ensures refused { IfErr result (IsRefusedModule verified.now) }
     ensures silent { IfErr result (λ e. e ≢ SolveError.Write (record {}) →
         writer.new ≡ writer.old) }
-    ensures write { result ≡ Err (SolveError.Write (record {})) →
-        ForEvidenceText verified.now (AppendsPrefix (S.taken writer.old) (S.taken writer.new)) }
+    ensures write { result ≡ Err (SolveError.Write (record {})) → (place : ℕ → ℕ → Option Place)
+        → AreCallPlaces place placed.now.explanation.now.evidence placed.now.call_places.now
+        → ForEvidenceText verified.now place
+        (AppendsPrefix (S.taken writer.old) (S.taken writer.new)) }
     ensures write_failed { result ≡ Err (SolveError.Write (record {})) →
         S.has_failed writer.new ≡ true }
 {
-    let solver = Solver::Zielonka;
-    let options = SolveOptions { workers, solver };
-    let explanation = explain_module(rt, alloc, verified, options, gate)?;
-    write_explanation(alloc, verified, &explanation, writer)?;
+    write_explanation(alloc, verified, placed, writer)?;
     Ok(())
 }

@@ -1,17 +1,20 @@
 //! The whole program: words, input, answer, exit status.
-ghost use Rattle.std.specs.Prelude.{◌≡◌, ◌≢◌, ◌≤◌, ◌⊎◌, true, codes, length, map, OnOk, IfErr, Err};
+ghost use Rattle.std.specs.Prelude.{◌≡◌, ◌≢◌, ◌≤◌, ◌⊎◌, true, codes, length, map, OnOk, IfErr, Err, IsSome};
 ghost use Rattle.std.specs.Io.KnownBytes.{Appends};
 ghost use Rattle.pb_sorts.specs.Sink.{AppendsPrefix};
 ghost use Rattle.pb_report.specs.declared.fault.ProgramFault.TheVariants as fault;
 ghost use Rattle.pb_report.specs.Lines.{line_of};
+ghost use Rattle.pb_command_line.specs.declared.command.Command.TheVariants.{Translate};
 ghost use Rattle.pb_command_line.specs.Words.{AskForSomething, HaveFault, AskNothing, AskPlainly};
-ghost use Rattle.pbsolve.specs.Outputs.{Outputs, IsRefusedFor};
+ghost use Rattle.pbsolve.specs.Outputs.{OutputsFor, IsRefusedFor};
 ghost use Rattle.pbsolve.specs.Program.{fault_status, status_of, error_line_of, Answers};
-ghost use Rattle.pbsolve.specs.Program.{IsRefusedBy, IsToldAs, Tells, ReadsAtMost, Refuses};
+ghost use Rattle.pbsolve.specs.Program.{IsRefusedBy, IsToldAs, LackProperty, Tells, ReadsAtMost, Refuses};
 
 use crate::code::{list_code, solve_code, verify_code};
 use crate::compile::compile_text;
 use crate::input::{INPUT_LIMIT, read_input};
+use crate::models::{check_text, translate_text};
+use crate::options::ExplainOptions;
 use crate::run_error::RunError;
 use crate::solve::{certificate_of, explain_text, game_of, solution_of, solve_text};
 use crate::solve_error::SolveError;
@@ -37,12 +40,15 @@ fn answer<R: Threads + Sync, G: Gate + Sync, O: Sink>(
 ) -> Result<(), SolveError>
     requires { length bytes.now ≤ INPUT_LIMIT }
     ensures answered { OnOk result
-        (Outputs request.command bytes.now (Appends (O.taken out.old) (O.taken out.new))) }
+        (OutputsFor request bytes.now (Appends (O.taken out.old) (O.taken out.new))) }
     ensures kept { OnOk result (O.has_failed out.new ≡ O.has_failed out.old) }
-    ensures refused { IfErr result (IsRefusedFor request.command bytes.now) }
+    ensures refused { IfErr result (IsRefusedFor request bytes.now) }
+    ensures named { result ≡ Err SolveError.NoProperty → IsSome request.property }
+    ensures asked { result ≡ Err SolveError.NoProperty → request.command ≡ Translate }
     ensures silent { IfErr result (λ e. e ≢ SolveError.Write (record {}) → out.new ≡ out.old) }
     ensures write { result ≡ Err (SolveError.Write (record {})) →
-        Outputs request.command bytes.now (AppendsPrefix (O.taken out.old) (O.taken out.new)) }
+        OutputsFor request bytes.now
+        (AppendsPrefix (O.taken out.old) (O.taken out.new)) }
     ensures write_failed { result ≡ Err (SolveError.Write (record {})) →
         O.has_failed out.new ≡ true }
 {
@@ -58,7 +64,13 @@ fn answer<R: Threads + Sync, G: Gate + Sync, O: Sink>(
         Command::Game => game_of(rt, alloc, bytes, request.workers, gate, out),
         Command::Solution => solution_of(rt, alloc, bytes, options, gate, out),
         Command::Certificate => certificate_of(rt, alloc, bytes, options, gate, out),
-        Command::Explain => explain_text(rt, alloc, bytes, request.workers, gate, out),
+        Command::Explain => {
+            let options = ExplainOptions {
+                workers: request.workers,
+                places: request.places,
+            };
+            explain_text(rt, alloc, bytes, options, gate, out)
+        }
         Command::Compile => compile_text(alloc, bytes, out),
         Command::Verify => verify_code(alloc, bytes, out),
         Command::List => list_code(alloc, bytes, out),
@@ -66,6 +78,8 @@ fn answer<R: Threads + Sync, G: Gate + Sync, O: Sink>(
             solve_code(rt, alloc, bytes, options, gate, out)?;
             Ok(())
         }
+        Command::Translate => translate_text(alloc, bytes, request.property_name(), out),
+        Command::Check => check_text(rt, alloc, bytes, options, gate, out),
     }
 }
 
@@ -92,8 +106,8 @@ fn attempt<T: Threads + Sync, S: AsStr, R: Source, G: Gate + Sync, O: Sink>(
         ((result ≡ Err (RunError.ProgramFault fault.U01))
         ⊎ (result ≡ Err (RunError.ProgramFault fault.M01))) × (reader.new ≡ reader.old) }
     ensures understood { result ≡ Err (RunError.ProgramFault fault.U01) →
-        HaveFault (map S.text words.now) }
-    ensures usage { result ≡ Err (RunError.ProgramFault fault.U01) → reader.new ≡ reader.old }
+        HaveFault (map S.text words.now)
+        ⊎ LackProperty (map S.text words.now) (R.left reader.old) }
     ensures refused { IfErr result (λ e. IsRefusedBy (map S.text words.now) (R.left reader.old) e) }
     ensures read_asked { result ≡ Err (RunError.ProgramFault fault.E01) →
         AskForSomething (map S.text words.now) }
@@ -174,10 +188,10 @@ fn tell<E: Sink>(alloc: Global, error: &RunError, err: &mut E) -> Status
 ///
 /// `words` are those of the command line, the program's name first; `gate` sees each attempt of a
 /// worker to take an instance, and to lift a vertex; `streams` are what it reads and writes.
-/// Statuses: 0 answered; 1 the input is refused; 2 the words ask for nothing that the program does;
-/// 3 a request for memory was refused; 4 reading or writing failed. With a status that isn't 0 one
-/// line on the error stream says why, by the number of the fault or the rule and, where there is
-/// one, the place.
+/// Statuses: 0 answered; 1 the input is refused; 2 the words ask for nothing that the program does,
+/// or for a property that the model doesn't have; 3 a request for memory was refused; 4 reading or
+/// writing failed. With a status that isn't 0 one line on the error stream says why, by the number
+/// of the fault or the rule and, where there is one, the place.
 pub fn run<T: Threads + Sync, S: AsStr, G: Gate + Sync, R: Source, O: Sink, E: Sink>(
     rt: &T,
     alloc: Global,
@@ -188,10 +202,12 @@ pub fn run<T: Threads + Sync, S: AsStr, G: Gate + Sync, R: Source, O: Sink, E: S
     ensures statuses { result ≤ 4 }
 
     // The words have a fault exactly where they ask for nothing, which is seen before any byte is
-    // read; memory may be refused first. The word of each command asks for it.
+    // read; memory may be refused first. The word of each command asks for it. Without a fault there
+    // is status 2 only where they name a property that the model which the input is doesn't have.
     ensures faulty { HaveFault (map S.text words.now) → ((result ≡ 2) ⊎ (result ≡ 3))
         × (streams.new.input ≡ streams.old.input) }
-    ensures understood { result ≡ 2 → HaveFault (map S.text words.now) }
+    ensures understood { result ≡ 2 → HaveFault (map S.text words.now)
+        ⊎ LackProperty (map S.text words.now) (R.left streams.old.input) }
     ensures asked { AskPlainly (map S.text words.now) → result ≢ 2 }
     ensures unasked { AskNothing (map S.text words.now) → (result ≡ 2) ⊎ (result ≡ 3) }
 
@@ -211,7 +227,6 @@ pub fn run<T: Threads + Sync, S: AsStr, G: Gate + Sync, R: Source, O: Sink, E: S
     ensures refused { result ≡ 1 →
         Refuses (map S.text words.now) (R.left streams.old.input)
         (E.taken streams.old.error) (E.taken streams.new.error) (E.has_failed streams.new.error) }
-    ensures unread { result ≡ 2 → streams.new.input ≡ streams.old.input }
     ensures usage { result ≡ 2 →
         Tells (E.taken streams.old.error) (E.taken streams.new.error)
         (E.has_failed streams.new.error) (codes "U01\n") }

@@ -11,7 +11,8 @@ use pb_report::ProgramFault;
 pub(crate) enum RunError {
     /// A fault of the whole run.
     ProgramFault(ProgramFault),
-    /// The input is refused. It never holds want of memory, nor a write that failed.
+    /// The input is refused. It never holds want of memory, nor a write that failed, nor a property
+    /// that isn't there.
     Refused(SolveError),
 }
 
@@ -51,6 +52,7 @@ impl From<SolveError> for RunError {
         match error {
             SolveError::Memory(_) => RunError::ProgramFault(ProgramFault::M01),
             SolveError::Write(_) => RunError::ProgramFault(ProgramFault::E02),
+            SolveError::NoProperty => RunError::ProgramFault(ProgramFault::U01),
             refused => RunError::Refused(refused),
         }
     }

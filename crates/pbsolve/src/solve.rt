@@ -3,16 +3,21 @@ ghost use Rattle.std.specs.Prelude.{◌≡◌, ◌≢◌, ◌≤◌, ◌<◌, tr
 ghost use Rattle.std.specs.Io.KnownBytes.{Appends};
 ghost use Rattle.pb_sorts.specs.Sink.{AppendsPrefix};
 ghost use Rattle.pb_command_line.specs.declared.command.Command.TheVariants.{Solve, Game, Solution};
-ghost use Rattle.pb_command_line.specs.declared.command.Command.TheVariants.{Certificate, Explain};
+ghost use Rattle.pb_command_line.specs.declared.command.Command.TheVariants.{Certificate};
 ghost use Rattle.pb_report_texts.specs.Report.{report_text};
 ghost use Rattle.pbsolve.specs.Answers.{IsAnswer};
 ghost use Rattle.pbsolve.specs.Refusals.{IsRefused};
-ghost use Rattle.pbsolve.specs.Outputs.{Outputs};
+ghost use Rattle.pbsolve.specs.Outputs.{Outputs, OutputsEvidence};
 
-use crate::compile::verified_text;
+use crate::call_places::call_places_of;
+use crate::compile::{typed, verified, verified_text};
 use crate::input::INPUT_LIMIT;
-use crate::module::{write_certificate, write_evidence, write_game, write_report, write_solution};
+use crate::module::{
+    explained, write_certificate, write_evidence, write_game, write_report, write_solution,
+};
+use crate::options::ExplainOptions;
 use crate::solve_error::SolveError;
+use pb_evidence_texts::PlacedExplanation;
 use pb_exploration::Gate;
 use pb_machine::instances_have_trees;
 use pb_report_texts::Answer;
@@ -165,7 +170,8 @@ pub fn certificate_of<R: Threads + Sync, G: Gate + Sync, S: Sink>(
 ///
 /// By itself a proof graph shows the answer. The initial instance stands first in it, each instance
 /// once, and the nearest before others, so that a violated safety property shows its shortest way
-/// under the winner's strategy, line by line.
+/// under the winner's strategy, line by line. Where places are told, behind each instance that
+/// another one names stand the line and the column of the call: of the first one that names it.
 ///
 /// # Errors
 /// As with `solve_text`.
@@ -173,24 +179,31 @@ pub fn explain_text<R: Threads + Sync, G: Gate + Sync, S: Sink>(
     rt: &R,
     alloc: Global,
     bytes: &[u8],
-    workers: u32,
+    options: ExplainOptions,
     gate: &G,
     writer: &mut S,
 ) -> Result<(), SolveError>
     requires input { length bytes.now ≤ INPUT_LIMIT }
-    requires workers { (0 < workers) × (workers ≤ 16) }
-    ensures evidence { OnOk result
-        (Outputs Explain bytes.now (Appends (S.taken writer.old) (S.taken writer.new))) }
+    ensures evidence { OnOk result (OutputsEvidence options.places bytes.now
+        (Appends (S.taken writer.old) (S.taken writer.new))) }
     ensures kept { OnOk result (S.has_failed writer.new ≡ S.has_failed writer.old) }
     ensures refused { IfErr result (IsRefused bytes.now) }
     ensures silent { IfErr result (λ e. e ≢ SolveError.Write (record {}) →
         writer.new ≡ writer.old) }
     ensures write { result ≡ Err (SolveError.Write (record {})) →
-        Outputs Explain bytes.now (AppendsPrefix (S.taken writer.old) (S.taken writer.new)) }
+        OutputsEvidence options.places bytes.now
+        (AppendsPrefix (S.taken writer.old) (S.taken writer.new)) }
     ensures write_failed { result ≡ Err (SolveError.Write (record {})) →
         S.has_failed writer.new ≡ true }
 {
-    let verified = verified_text(alloc, bytes)?;
+    let typed = typed(alloc, bytes)?;
+    let verified = verified(alloc, &typed)?;
     instances_have_trees(&verified);
-    write_evidence(rt, alloc, &verified, workers, gate, writer)
+    let explanation = explained(rt, alloc, &verified, options.workers, gate)?;
+    let call_places = call_places_of(alloc, &typed, &verified, &explanation, options.places)?;
+    let placed = PlacedExplanation {
+        explanation: &explanation,
+        call_places: &call_places,
+    };
+    write_evidence(alloc, &verified, &placed, writer)
 }

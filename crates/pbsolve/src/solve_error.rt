@@ -4,6 +4,7 @@ ghost use Rattle.std.specs.Prelude.{◌≡◌};
 use pb_assembler::Limit;
 use pb_bytecode::ModuleError;
 use pb_game_of_trees::BuildError;
+use pb_model_properties::ModelError;
 use pb_report::{ErrorLine, ProgramFault, limit_line};
 use pb_report_texts::WriteError;
 use pb_sorts::E02;
@@ -36,6 +37,9 @@ pub enum SolveError {
     /// `G01`: the game has more than 2^24 vertices.
     #[error("too many vertices")]
     TooManyVertices,
+    /// `U01`: the model has no property of the name.
+    #[error("no such property")]
+    NoProperty,
     /// A request for memory was refused.
     #[error("no memory")]
     Memory(AllocError),
@@ -76,6 +80,21 @@ impl From<TypeError> for SolveError {
         match error {
             TypeError::Memory => SolveError::Memory(AllocError),
             refused => SolveError::Typing(refused),
+        }
+    }
+}
+
+impl From<ModelError> for SolveError {
+    ghost use Rattle.pbsolve.specs.Errors.{model_refusal};
+
+    ghost from_gives = { λ error e. e ≡ model_refusal error };
+
+    fn from(error: ModelError) -> SolveError {
+        match error {
+            ModelError::Text(refused) => SolveError::Text(refused),
+            ModelError::Typing(refused) => SolveError::Typing(refused),
+            ModelError::NoProperty => SolveError::NoProperty,
+            ModelError::Memory(refused) => SolveError::Memory(refused),
         }
     }
 }
@@ -145,6 +164,7 @@ impl ErrorLine for SolveError {
             SolveError::Module(error) => error.error_line(alloc),
             SolveError::Acceptance(error) => error.error_line(alloc),
             SolveError::TooManyVertices => String::from_str(alloc, "G01\n"),
+            SolveError::NoProperty => String::from_str(alloc, ProgramFault::U01.line()),
             SolveError::Memory(_) => String::from_str(alloc, ProgramFault::M01.line()),
             SolveError::Write(_) => String::from_str(alloc, ProgramFault::E02.line()),
         }

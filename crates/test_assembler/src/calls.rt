@@ -135,7 +135,7 @@ fn calls(rt: HostRuntime) -> Result<(), Fail> {
             "equation 0 nu X\nparam 0 Range 0 9\nparam 1 Range 0 9\nparam 2 Bool\nsteps {steps}\ntokens {tokens}\n{code}equation 1 mu Y\nparam 0 Range 1 4\nsteps 4\ntokens 3\n0 OR\n1 CALL 2\n2 CLOSE\n3 END\nequation 2 nu Z\nsteps 4\ntokens 3\n0 OR\n1 CALL 2\n2 CLOSE\n3 END\ninit 0 1 2 1\n"
         )?;
         let found = listed(alloc, text.as_str())?;
-        assert_eq!(rt; found.as_str(), expected.as_str(), "{right}");
+        assert!(rt; found.as_str() == expected.as_str(), "{right}");
     }
     Ok(())
 }
@@ -157,7 +157,7 @@ fn other_calls(rt: HostRuntime) -> Result<(), Fail> {
     let alloc = rt.alloc();
     for (text, expected) in OTHERS {
         let found = listed(alloc, text)?;
-        assert_eq!(rt; found.as_str(), expected);
+        assert!(rt; found.as_str() == expected);
     }
     Ok(())
 }

@@ -130,7 +130,7 @@ fn long_and_deep_right_sides(rt: HostRuntime) -> Result<(), Fail> {
             .stack_size(STACK)
             .spawn(&rt, move || answer(alloc, right))?;
         let found = thread.join(&rt)?;
-        assert_eq!(rt; found.as_str(), expected);
+        assert!(rt; found.as_str() == expected);
     }
     Ok(())
 }

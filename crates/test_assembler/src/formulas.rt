@@ -328,7 +328,7 @@ fn formulas(rt: HostRuntime) -> Result<(), Fail> {
             "equation 0 nu X\nparam 0 Bool\nparam 1 Bool\n{loops}steps {steps}\ntokens {tokens}\n{code}equation 1 mu Y\nsteps 4\ntokens 3\n0 OR\n1 CALL 1\n2 CLOSE\n3 END\ninit 0 1 0\n"
         )?;
         let found = listed(alloc, text.as_str())?;
-        assert_eq!(rt; found.as_str(), expected.as_str(), "{right}");
+        assert!(rt; found.as_str() == expected.as_str(), "{right}");
     }
     Ok(())
 }

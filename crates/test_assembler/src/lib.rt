@@ -1,4 +1,4 @@
-//! Tests of the compiler on texts: the modules of small texts, in bytes and as they are listed, and
+//! Tests of normal forms and of the compiler on texts: the modules of small texts, in bytes and as they are listed, and
 //! texts at the limits of the machine and of what is read. What is expected was written by hand
 //! from the compile scheme.
 #![tactic(auto)]
@@ -15,6 +15,8 @@ mod formulas;
 mod limits;
 #[cfg(test)]
 mod modules;
+#[cfg(test)]
+mod normal;
 #[cfg(test)]
 mod several_limits;
 #[cfg(test)]

@@ -56,7 +56,7 @@ fn least_limit_of_an_equation(rt: HostRuntime) -> Result<(), Fail> {
             let found = counted(alloc, text.as_str())?;
             let least = limit.min(other_limit);
             let expected = format!(in alloc; "C0{least} equation 1")?;
-            assert_eq!(rt; found.as_str(), expected.as_str());
+            assert!(rt; found.as_str() == expected.as_str());
         }
     }
     Ok(())
@@ -70,7 +70,7 @@ fn first_equation_above_a_limit(rt: HostRuntime) -> Result<(), Fail> {
             let text = text_of(alloc, conjunct, "; nu W(n: Nat) = Y && ", other)?;
             let found = counted(alloc, text.as_str())?;
             let expected = format!(in alloc; "C0{limit} equation 1")?;
-            assert_eq!(rt; found.as_str(), expected.as_str());
+            assert!(rt; found.as_str() == expected.as_str());
         }
     }
     Ok(())

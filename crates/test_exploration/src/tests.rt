@@ -46,27 +46,27 @@ fn reference_steps(rt: HostRuntime) -> Result<(), Fail> {
     let alloc = rt.alloc();
     let module = all_others(alloc)?;
     let mut core = Core::start(alloc, &module, 2)?;
-    assert_eq!(rt; core.status(module.initial()), Status::Pending);
+    assert!(rt; core.status(module.initial()) == Status::Pending);
     let refused = Err(StepError::NotAllowed);
-    assert_eq!(rt; core.apply(event(0, Step::Take(0))), Ok(()));
-    assert_eq!(rt; core.apply(event(1, Step::Take(0))), refused);
-    assert_eq!(rt; core.apply(event(1, Step::Mark(1))), refused);
-    assert_eq!(rt; core.apply(event(0, Step::Mark(1))), Ok(()));
-    assert_eq!(rt; core.apply(event(0, Step::Mark(1))), refused);
-    assert_eq!(rt; core.apply(event(0, Step::Finish(0))), refused);
-    assert_eq!(rt; core.apply(event(0, Step::Mark(2))), Ok(()));
-    assert_eq!(rt; core.apply(event(0, Step::Finish(0))), Ok(()));
-    assert_eq!(rt; core.apply(event(1, Step::Take(1))), Ok(()));
-    assert_eq!(rt; core.apply(event(0, Step::GiveBack(1))), refused);
-    assert_eq!(rt; core.apply(event(1, Step::GiveBack(1))), Ok(()));
-    assert_eq!(rt; core.apply(event(0, Step::Take(1))), Ok(()));
-    assert_eq!(rt; core.apply(event(0, Step::Finish(1))), Ok(()));
-    assert_eq!(rt; core.apply(event(0, Step::Take(2))), Ok(()));
-    assert_eq!(rt; core.settled(), false);
-    assert_eq!(rt; core.apply(event(0, Step::Finish(2))), Ok(()));
-    assert_eq!(rt; core.settled(), true);
-    assert_eq!(rt; core.apply(event(0, Step::Take(3))), refused);
-    assert_eq!(rt; core.apply(event(2, Step::Take(0))), refused);
+    assert!(rt; core.apply(event(0, Step::Take(0))) == Ok(()));
+    assert!(rt; core.apply(event(1, Step::Take(0))) == refused);
+    assert!(rt; core.apply(event(1, Step::Mark(1))) == refused);
+    assert!(rt; core.apply(event(0, Step::Mark(1))) == Ok(()));
+    assert!(rt; core.apply(event(0, Step::Mark(1))) == refused);
+    assert!(rt; core.apply(event(0, Step::Finish(0))) == refused);
+    assert!(rt; core.apply(event(0, Step::Mark(2))) == Ok(()));
+    assert!(rt; core.apply(event(0, Step::Finish(0))) == Ok(()));
+    assert!(rt; core.apply(event(1, Step::Take(1))) == Ok(()));
+    assert!(rt; core.apply(event(0, Step::GiveBack(1))) == refused);
+    assert!(rt; core.apply(event(1, Step::GiveBack(1))) == Ok(()));
+    assert!(rt; core.apply(event(0, Step::Take(1))) == Ok(()));
+    assert!(rt; core.apply(event(0, Step::Finish(1))) == Ok(()));
+    assert!(rt; core.apply(event(0, Step::Take(2))) == Ok(()));
+    assert!(rt; !core.settled());
+    assert!(rt; core.apply(event(0, Step::Finish(2))) == Ok(()));
+    assert!(rt; core.settled());
+    assert!(rt; core.apply(event(0, Step::Take(3))) == refused);
+    assert!(rt; core.apply(event(2, Step::Take(0))) == refused);
     Ok(())
 }
 
@@ -75,9 +75,9 @@ fn reference_steps(rt: HostRuntime) -> Result<(), Fail> {
 fn events_are_shown(rt: HostRuntime) -> Result<(), Fail> {
     let alloc = rt.alloc();
     let shown = format!(in alloc; "{}", event(1, Step::GiveBack(2)))?;
-    assert_eq!(rt; shown.as_str(), "worker 1: give back 2");
+    assert!(rt; shown.as_str() == "worker 1: give back 2");
     let refused = format!(in alloc; "{} {}", StepError::NotAllowed, StepError::OutOfMemory)?;
-    assert_eq!(rt; refused.as_str(), "I01 M01");
+    assert!(rt; refused.as_str() == "I01 M01");
     Ok(())
 }
 
@@ -100,10 +100,10 @@ fn first_is_finished(
         panic!(rt; "the first instance is not pending");
     }
     assert!(rt; !take(verified, table, b, 0));
-    assert_eq!(rt; mark(table, a, 0, tree, 1), Some(Marked::New));
-    assert_eq!(rt; mark(table, a, 0, tree, 1), Some(Marked::Known));
-    assert_eq!(rt; mark(table, a, 0, tree, 2), Some(Marked::New));
-    assert_eq!(rt; status(verified, table, b, 1), Some(Status::Pending));
+    assert!(rt; mark(table, a, 0, tree, 1) == Some(Marked::New));
+    assert!(rt; mark(table, a, 0, tree, 1) == Some(Marked::Known));
+    assert!(rt; mark(table, a, 0, tree, 2) == Some(Marked::New));
+    assert!(rt; status(verified, table, b, 1) == Some(Status::Pending));
     finish(table, a, 0, tree);
 }
 
@@ -121,12 +121,12 @@ fn second_is_given_back(
     requires tree { IsTreeAt (module_of table.now) 1 tree.now }
     ensures { IsSeatOf table.now a.new × IsSeatOf table.now b.new }
 {
-    assert_eq!(rt; status(verified, table, b, 0), Some(Status::Done));
+    assert!(rt; status(verified, table, b, 0) == Some(Status::Done));
     if !take(verified, table, b, 1) {
         panic!(rt; "the second instance is not pending");
     }
-    assert_eq!(rt; status(verified, table, a, 1), Some(Status::Taken));
-    assert_eq!(rt; mark(table, b, 1, tree, 1), Some(Marked::Known));
+    assert!(rt; status(verified, table, a, 1) == Some(Status::Taken));
+    assert!(rt; mark(table, b, 1, tree, 1) == Some(Marked::Known));
     give_back(table, b, 1);
 }
 
@@ -145,8 +145,8 @@ fn second_is_finished(
     if !take(verified, table, seat, 1) {
         panic!(rt; "the second instance is not pending again");
     }
-    assert_eq!(rt; mark(table, seat, 1, tree, 1), Some(Marked::Known));
-    assert_eq!(rt; mark(table, seat, 1, tree, 2), Some(Marked::Known));
+    assert!(rt; mark(table, seat, 1, tree, 1) == Some(Marked::Known));
+    assert!(rt; mark(table, seat, 1, tree, 2) == Some(Marked::Known));
     finish(table, seat, 1, tree);
 }
 
@@ -166,15 +166,15 @@ fn two_seats(rt: HostRuntime) -> Result<(), Fail> {
         panic!(rt; "no two seats");
     };
     let tree = [Token::And, Token::Call(1), Token::Call(2), Token::Close];
-    assert_eq!(rt; first.tokens(), tree.as_slice());
+    assert!(rt; first.tokens() == tree.as_slice());
     first_is_finished(&rt, &module, &table, &mut a, &mut b, first.tokens());
     let tree = [Token::And, Token::Call(0), Token::Call(2), Token::Close];
-    assert_eq!(rt; second.tokens(), tree.as_slice());
+    assert!(rt; second.tokens() == tree.as_slice());
     second_is_given_back(&rt, &module, &table, &mut a, &mut b, second.tokens());
     second_is_finished(&rt, &module, &table, &mut a, second.tokens());
     let statuses = close(alloc, &module, table);
     let wanted = [Status::Done, Status::Done, Status::Pending];
-    assert_eq!(rt; three_statuses(&module, &statuses), Some(wanted));
+    assert!(rt; three_statuses(&module, &statuses) == Some(wanted));
     assert!(rt; !statuses.settled());
     Ok(())
 }
@@ -187,15 +187,15 @@ fn one_worker(rt: HostRuntime) -> Result<(), Fail> {
     let module = all_others(alloc)?;
     let (worked, statuses) = work_alone(alloc, &module)?;
     let rows = worked?;
-    assert_eq!(rt; rows.len(), 3);
+    assert!(rt; rows.len() == 3);
     let mut seen = [false; 3];
     for place in 0..rows.len() {
         if let Some(flag) = seen.get_mut(rows.number(place) as usize) {
             *flag = true;
         }
     }
-    assert_eq!(rt; seen, [true; 3]);
-    assert_eq!(rt; three_statuses(&module, &statuses), Some([Status::Done; 3]));
+    assert!(rt; seen == [true; 3]);
+    assert!(rt; three_statuses(&module, &statuses) == Some([Status::Done; 3]));
     if !statuses.settled() {
         panic!(rt; "something is open");
     }
@@ -205,7 +205,7 @@ fn one_worker(rt: HostRuntime) -> Result<(), Fail> {
 }
 
 // After refused memory nothing is taken: the seat gave back what it held and kept what it marked,
-// be it at its first, its second or its third instance. `--fail-alloc` makes the requests fail in
+// be it at its first, its second or its third instance. `bench/refusals.py` refuses the requests in
 // turn.
 #[test]
 fn worker_without_memory(rt: HostRuntime) -> Result<(), Fail> {
@@ -214,7 +214,7 @@ fn worker_without_memory(rt: HostRuntime) -> Result<(), Fail> {
     let (worked, statuses) = work_alone(alloc, &module)?;
     let found = three_statuses(&module, &statuses);
     if worked.is_ok() {
-        assert_eq!(rt; found, Some([Status::Done; 3]));
+        assert!(rt; found == Some([Status::Done; 3]));
         return Ok(());
     }
     let allowed = [
@@ -249,7 +249,7 @@ fn workers_overlap(rt: HostRuntime) -> Result<(), Fail> {
     let explored = explore(&rt, alloc, &module, 2, &gate)?;
     assert!(rt; are_all_others(explored.rows()));
     assert!(rt; !gate.has_expired());
-    assert_eq!(rt; [gate.taken(0), gate.taken(1), gate.taken(2)], [1u32, 1, 1]);
+    assert!(rt; [gate.taken(0), gate.taken(1), gate.taken(2)] == [1u32, 1, 1]);
     assert!(rt; gate.both_took());
     Ok(())
 }

@@ -1,9 +1,14 @@
 //! Tests of the game crates together: worked games, generated games against a solver of the tests'
-//! own, and games of a size or a shape that a recursion or a round could be slow on.
+//! own, games of a size or a shape that a recursion or a round could be slow on; lifting, alone and
+//! by workers that overlap; evidence.
 #![tactic(auto)]
 
 #[cfg(test)]
 mod deep_recursion;
+#[cfg(test)]
+mod evidence;
+#[cfg(test)]
+mod lifting;
 #[cfg(test)]
 mod measures;
 #[cfg(test)]

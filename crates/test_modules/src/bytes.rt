@@ -44,19 +44,19 @@ const DIVIDES: [u8; 55] = [
 fn assert_fault(rt: &impl Abort, alloc: Global, bytes: &[u8], rule: ModuleRule, byte: usize) {
     match decode(alloc, bytes) {
         Ok(_) => assert!(rt; false, "read"),
-        Err(error) => assert_eq!(rt; error, ModuleError::ModuleFault { rule, byte }),
+        Err(error) => assert!(rt; error == ModuleError::ModuleFault { rule, byte }),
     }
 }
 
 #[test]
 fn reads_and_writes_the_same_bytes(rt: HostRuntime) -> Result<(), Fail> {
     let module = decode(rt.alloc(), &OTHERS)?;
-    assert_eq!(rt; module.version, Version::One);
-    assert_eq!(rt; module.sorts.len(), 1);
-    assert_eq!(rt; module.equations.len(), 1);
-    assert_eq!(rt; module.initial.values.as_slice(), [0].as_slice());
+    assert!(rt; module.version == Version::One);
+    assert!(rt; module.sorts.len() == 1);
+    assert!(rt; module.equations.len() == 1);
+    assert!(rt; module.initial.values.as_slice() == [0].as_slice());
     let bytes = encode(rt.alloc(), &module)?;
-    assert_eq!(rt; bytes.as_slice(), OTHERS.as_slice());
+    assert!(rt; bytes.as_slice() == OTHERS.as_slice());
     Ok(())
 }
 
@@ -66,7 +66,7 @@ fn lists_a_module(rt: HostRuntime) -> Result<(), Fail> {
     let text = list(rt.alloc(), &module)?;
     let wanted =
         b"sort 0 a b c\nequation 0 nu X\nparam 0 Enum 0\nloop 1 Enum 0\nsteps 28\ntokens 5\n0 AND\n1 LOOP 1\n2 GET 1\n3 GET 0\n4 NE\n5 NOT\n6 JT 9\n7 GET 1\n8 CALL 0\n9 NEXT\n10 CLOSE\n11 END\ninit 0 0\n";
-    assert_eq!(rt; text.as_slice(), wanted.as_slice());
+    assert!(rt; text.as_slice() == wanted.as_slice());
     Ok(())
 }
 
@@ -76,28 +76,28 @@ fn lists_a_slot_test(rt: HostRuntime) -> Result<(), Fail> {
     let text = list(rt.alloc(), &module)?;
     let wanted =
         b"equation 0 mu X\nparam 0 Range 0 9\nsteps 10\ntokens 4\n0 OR\n1 INL 0 1 9 7\n2 GET 0\n3 INT 1\n4 SUB\n5 CALL 0\n6 JMP 8\n7 YES\n8 CLOSE\n9 END\ninit 0 9\n";
-    assert_eq!(rt; text.as_slice(), wanted.as_slice());
+    assert!(rt; text.as_slice() == wanted.as_slice());
     Ok(())
 }
 
 #[test]
 fn reads_what_only_a_verifier_refuses(rt: HostRuntime) -> Result<(), Fail> {
     let module = decode(rt.alloc(), &DIVIDES)?;
-    assert_eq!(rt; module.equations.len(), 1);
-    assert_eq!(rt;
-        module.equations[0].code.as_slice(),
-        [
-            Op::PushInt(4),
-            Op::Get { slot: 0 },
-            Op::Arithmetic(Arithmetic::Div),
-            Op::Pop,
-            Op::Emit(Leaf::Yes),
-            Op::End
-        ]
-        .as_slice()
+    assert!(rt; module.equations.len() == 1);
+    assert!(rt;
+        module.equations[0].code.as_slice()
+            == [
+                Op::PushInt(4),
+                Op::Get { slot: 0 },
+                Op::Arithmetic(Arithmetic::Div),
+                Op::Pop,
+                Op::Emit(Leaf::Yes),
+                Op::End
+            ]
+            .as_slice()
     );
     let written = encode(rt.alloc(), &module)?;
-    assert_eq!(rt; written.as_slice(), DIVIDES.as_slice());
+    assert!(rt; written.as_slice() == DIVIDES.as_slice());
     Ok(())
 }
 
@@ -156,20 +156,20 @@ fn fields_out_of_their_limits_are_refused(rt: HostRuntime) {
 #[test]
 fn only_version_2_tests_slots(rt: HostRuntime) -> Result<(), Fail> {
     let module = decode(rt.alloc(), &TESTED)?;
-    assert_eq!(rt; module.version, Version::Two);
-    assert_eq!(rt; module.equations.len(), 1);
-    assert_eq!(rt; module.equations[0].code.len(), 10);
-    assert_eq!(rt;
-        module.equations[0].code[1],
-        Op::SlotInRange {
-            slot: 0,
-            low: 1,
-            high: 9,
-            target: 7
-        }
+    assert!(rt; module.version == Version::Two);
+    assert!(rt; module.equations.len() == 1);
+    assert!(rt; module.equations[0].code.len() == 10);
+    assert!(rt;
+        module.equations[0].code[1]
+            == Op::SlotInRange {
+                slot: 0,
+                low: 1,
+                high: 9,
+                target: 7
+            }
     );
     let written = encode(rt.alloc(), &module)?;
-    assert_eq!(rt; written.as_slice(), TESTED.as_slice());
+    assert!(rt; written.as_slice() == TESTED.as_slice());
     let mut bytes = TESTED;
     bytes[4] = 1;
     assert_fault(&rt, rt.alloc(), &bytes, ModuleRule::UnknownOp, 32);
@@ -185,7 +185,7 @@ fn every_changed_byte_is_read_exactly_or_refused(rt: HostRuntime) -> Result<(), 
             match decode(rt.alloc(), &bytes) {
                 Ok(module) => {
                     let written = encode(rt.alloc(), &module)?;
-                    assert_eq!(rt; written.as_slice(), bytes.as_slice());
+                    assert!(rt; written.as_slice() == bytes.as_slice());
                 }
                 Err(ModuleError::Memory) => assert!(rt; false, "memory"),
                 Err(ModuleError::ModuleFault { rule: _, byte }) => assert!(rt; byte <= bytes.len()),
@@ -202,7 +202,7 @@ fn faults_are_printed_with_their_byte(rt: HostRuntime) -> Result<(), Fail> {
         Ok(_) => assert!(rt; false, "read"),
         Err(error) => {
             let line = format!(in alloc; "{error}")?;
-            assert_eq!(rt; line.as_str(), "B03 byte 30");
+            assert!(rt; line.as_str() == "B03 byte 30");
         }
     }
     Ok(())

@@ -18,9 +18,9 @@ fn the_first_of_two_pushes_lies_below(rt: HostRuntime) -> Result<(), Fail> {
     let mut state = start(alloc)?;
     assert!(rt; state.push(AbstractValue::Bool).is_ok());
     assert!(rt; state.push(AbstractValue::Int { low: 1, high: 2 }).is_ok());
-    assert_eq!(rt; state.pop(), Ok(AbstractValue::Int { low: 1, high: 2 }));
-    assert_eq!(rt; state.pop_bool(), Ok(()));
-    assert_eq!(rt; state.pop(), Err(AcceptanceRule::MissingOperand));
+    assert!(rt; state.pop() == Ok(AbstractValue::Int { low: 1, high: 2 }));
+    assert!(rt; state.pop_bool() == Ok(()));
+    assert!(rt; state.pop() == Err(AcceptanceRule::MissingOperand));
     Ok(())
 }
 
@@ -33,7 +33,7 @@ fn numbers_on_two_ways_have_their_hull(rt: HostRuntime) -> Result<(), Fail> {
     assert!(rt; right.push(AbstractValue::Int { low: 5, high: 7 }).is_ok());
     match left.join(&right) {
         Some(mut joined) => {
-            assert_eq!(rt; joined.pop(), Ok(AbstractValue::Int { low: 1, high: 7 }));
+            assert!(rt; joined.pop() == Ok(AbstractValue::Int { low: 1, high: 7 }));
         }
         None => assert!(rt; false),
     }
@@ -59,25 +59,13 @@ fn flows_name_the_rule_that_fails(rt: HostRuntime) -> Result<(), Fail> {
         Err(FlowError::Refused(rule)) => rule.number(),
         _ => "",
     };
-    assert_eq!(rt;
-        refused(flow(start(alloc)?, alloc, &[], &[], Op::Pop)),
-        "V01"
-    );
-    assert_eq!(rt;
-        refused(flow(start(alloc)?, alloc, &[], &[], Op::Close)),
-        "V13"
-    );
-    assert_eq!(rt;
-        refused(flow(start(alloc)?, alloc, &[], &[], Op::End)),
-        "V14"
-    );
-    assert_eq!(rt;
-        refused(flow(start(alloc)?, alloc, &[], &[], Op::Get { slot: 1 })),
-        "V09"
-    );
+    assert!(rt; refused(flow(start(alloc)?, alloc, &[], &[], Op::Pop)) == "V01");
+    assert!(rt; refused(flow(start(alloc)?, alloc, &[], &[], Op::Close)) == "V13");
+    assert!(rt; refused(flow(start(alloc)?, alloc, &[], &[], Op::End)) == "V14");
+    assert!(rt; refused(flow(start(alloc)?, alloc, &[], &[], Op::Get { slot: 1 })) == "V09");
     let mut kinds = start(alloc)?;
     assert!(rt; kinds.push(AbstractValue::Bool).is_ok());
-    assert_eq!(rt; refused(flow(kinds, alloc, &[], &[], Op::Negate)), "V02");
+    assert!(rt; refused(flow(kinds, alloc, &[], &[], Op::Negate)) == "V02");
     Ok(())
 }
 
@@ -110,7 +98,7 @@ fn a_leaf_is_the_one_root(rt: HostRuntime) -> Result<(), Fail> {
     if let Ok(Edges { next, .. }) = flow(start(alloc)?, alloc, &[], &[], Op::Emit(Leaf::Yes))
         && let Some(state) = next
     {
-        assert_eq!(rt; state.end(), Ok(()));
+        assert!(rt; state.end() == Ok(()));
         let second = flow(state, alloc, &[], &[], Op::Emit(Leaf::No));
         assert!(rt; matches!(&second, Err(FlowError::Refused(AcceptanceRule::Roots))));
         return Ok(());

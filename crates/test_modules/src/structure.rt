@@ -52,25 +52,16 @@ fn loops_pair_like_brackets(rt: HostRuntime) -> Result<(), Fail> {
     let alloc = rt.alloc();
     let nesting = |place| refusal(AcceptanceRule::LoopStructure, place);
     // NEXT without a LOOP
-    assert_eq!(rt; found(alloc, &[YES, Op::Next, Op::End]), nesting(1));
-    assert_eq!(rt;
-        found(alloc, &[start(1), Op::Next, Op::Next, Op::End]),
-        nesting(2)
-    );
+    assert!(rt; found(alloc, &[YES, Op::Next, Op::End]) == nesting(1));
+    assert!(rt; found(alloc, &[start(1), Op::Next, Op::Next, Op::End]) == nesting(2));
     // END in a body, also in one that is never closed
-    assert_eq!(rt;
-        found(alloc, &[YES, start(1), Op::End, Op::Next]),
-        nesting(2)
-    );
-    assert_eq!(rt; found(alloc, &[start(1), Op::End]), nesting(1));
+    assert!(rt; found(alloc, &[YES, start(1), Op::End, Op::Next]) == nesting(2));
+    assert!(rt; found(alloc, &[start(1), Op::End]) == nesting(1));
     // a LOOP left unpaired, of which the first is named
-    assert_eq!(rt;
-        found(alloc, &[YES, start(1), start(2), Op::Next]),
-        nesting(1)
-    );
-    assert_eq!(rt; found(alloc, &[start(1), Op::Next, start(2)]), nesting(2));
+    assert!(rt; found(alloc, &[YES, start(1), start(2), Op::Next]) == nesting(1));
+    assert!(rt; found(alloc, &[start(1), Op::Next, start(2)]) == nesting(2));
     // it comes before all else
-    assert_eq!(rt; found(alloc, &[get(77), jump(0), Op::Next]), nesting(2));
+    assert!(rt; found(alloc, &[get(77), jump(0), Op::Next]) == nesting(2));
     Ok(())
 }
 
@@ -100,7 +91,7 @@ fn eight_loops_may_be_nested(rt: HostRuntime) -> Result<(), Fail> {
         steps: SATURATED,
         tokens: 0,
     };
-    assert_eq!(rt; found(alloc, &code), Ok(most));
+    assert!(rt; found(alloc, &code) == Ok(most));
     let deeper = [
         start(1),
         start(2),
@@ -121,10 +112,7 @@ fn eight_loops_may_be_nested(rt: HostRuntime) -> Result<(), Fail> {
         Op::Next,
         Op::Next,
     ];
-    assert_eq!(rt;
-        found(alloc, &deeper),
-        refusal(AcceptanceRule::LoopStructure, 8)
-    );
+    assert!(rt; found(alloc, &deeper) == refusal(AcceptanceRule::LoopStructure, 8));
     Ok(())
 }
 
@@ -140,34 +128,29 @@ fn names_are_there(rt: HostRuntime) -> Result<(), Fail> {
         target,
     };
     // a slot that is none, or a loop's that isn't around
-    assert_eq!(rt; found(alloc, &[get(10), Op::End]), unknown(0));
-    assert_eq!(rt; found(alloc, &[get(1), Op::End]), unknown(0));
-    assert_eq!(rt;
-        found(alloc, &[start(1), Op::Next, get(1), Op::End]),
-        unknown(2)
-    );
-    assert_eq!(rt;
+    assert!(rt; found(alloc, &[get(10), Op::End]) == unknown(0));
+    assert!(rt; found(alloc, &[get(1), Op::End]) == unknown(0));
+    assert!(rt; found(alloc, &[start(1), Op::Next, get(1), Op::End]) == unknown(2));
+    assert!(rt;
         found(
             alloc,
             &[start(1), start(2), Op::Next, get(2), Op::Next, Op::End]
-        ),
-        unknown(3)
+        ) == unknown(3)
     );
-    assert_eq!(rt; found(alloc, &[test(3, 1), Op::End]), unknown(0));
+    assert!(rt; found(alloc, &[test(3, 1), Op::End]) == unknown(0));
     // its name comes before its target
-    assert_eq!(rt; found(alloc, &[test(3, 9), Op::End]), unknown(0));
+    assert!(rt; found(alloc, &[test(3, 9), Op::End]) == unknown(0));
     // a LOOP of a parameter, of no slot, or of a slot that runs around it
-    assert_eq!(rt; found(alloc, &[start(0), Op::Next, Op::End]), unknown(0));
-    assert_eq!(rt; found(alloc, &[start(10), Op::Next, Op::End]), unknown(0));
-    assert_eq!(rt;
+    assert!(rt; found(alloc, &[start(0), Op::Next, Op::End]) == unknown(0));
+    assert!(rt; found(alloc, &[start(10), Op::Next, Op::End]) == unknown(0));
+    assert!(rt;
         found(
             alloc,
             &[start(1), start(2), start(1), Op::Next, Op::Next, Op::Next]
-        ),
-        unknown(2)
+        ) == unknown(2)
     );
     // no such equation
-    assert_eq!(rt; found(alloc, &[call(2), Op::End]), unknown(0));
+    assert!(rt; found(alloc, &[call(2), Op::End]) == unknown(0));
     // what may be named
     let fine = [
         get(0),
@@ -211,45 +194,23 @@ fn targets_are_later_places_of_the_body(rt: HostRuntime) -> Result<(), Fail> {
         target,
     };
     // past the last place
-    assert_eq!(rt;
-        found(alloc, &[jump(2), Op::End]),
-        refusal(AcceptanceRule::TargetOutside, 0)
-    );
-    assert_eq!(rt;
-        found(alloc, &[YES, test(2)]),
-        refusal(AcceptanceRule::TargetOutside, 1)
-    );
+    assert!(rt; found(alloc, &[jump(2), Op::End]) == refusal(AcceptanceRule::TargetOutside, 0));
+    assert!(rt; found(alloc, &[YES, test(2)]) == refusal(AcceptanceRule::TargetOutside, 1));
     // not after the jump
-    assert_eq!(rt;
-        found(alloc, &[YES, jump_if(0)]),
-        refusal(AcceptanceRule::TargetNotLater, 1)
-    );
-    assert_eq!(rt;
-        found(alloc, &[YES, in_range(1)]),
-        refusal(AcceptanceRule::TargetNotLater, 1)
-    );
+    assert!(rt; found(alloc, &[YES, jump_if(0)]) == refusal(AcceptanceRule::TargetNotLater, 1));
+    assert!(rt; found(alloc, &[YES, in_range(1)]) == refusal(AcceptanceRule::TargetNotLater, 1));
     // into a body, out of one, and into the next one of the same slot
     let elsewhere = |place| refusal(AcceptanceRule::TargetInOtherBody, place);
-    assert_eq!(rt;
-        found(alloc, &[jump(2), start(1), Op::Next, Op::End]),
-        elsewhere(0)
-    );
-    assert_eq!(rt;
-        found(alloc, &[start(1), jump(3), Op::Next, Op::End]),
-        elsewhere(1)
-    );
-    assert_eq!(rt;
+    assert!(rt; found(alloc, &[jump(2), start(1), Op::Next, Op::End]) == elsewhere(0));
+    assert!(rt; found(alloc, &[start(1), jump(3), Op::Next, Op::End]) == elsewhere(1));
+    assert!(rt;
         found(
             alloc,
             &[start(1), jump(4), Op::Next, start(1), Op::Next, Op::End]
-        ),
-        elsewhere(1)
+        ) == elsewhere(1)
     );
     // the first place that breaks a rule is named
-    assert_eq!(rt;
-        found(alloc, &[jump(2), get(7), YES]),
-        refusal(AcceptanceRule::UnknownName, 1)
-    );
+    assert!(rt; found(alloc, &[jump(2), get(7), YES]) == refusal(AcceptanceRule::UnknownName, 1));
     // to a LOOP, to its NEXT from inside, and behind an inner loop
     assert!(rt; found(alloc, &[jump(1), start(1), jump(3), Op::Next, Op::End]).is_ok());
     assert!(rt; found(alloc, &[start(1), jump(4), start(2), Op::Next, Op::Next]).is_ok());
@@ -273,13 +234,13 @@ fn bodies_count_as_often_as_they_run(rt: HostRuntime) -> Result<(), Fail> {
         steps: 34,
         tokens: 12,
     };
-    assert_eq!(rt; found(alloc, &code), Ok(counts));
+    assert!(rt; found(alloc, &code) == Ok(counts));
     // nested loops multiply
     let nested = [start(1), start(2), YES, Op::Next, Op::Next, Op::End];
     let counts = StaticCounts {
         steps: 1 + 10 + 100 + 100 + 10 + 1,
         tokens: 100,
     };
-    assert_eq!(rt; found(alloc, &nested), Ok(counts));
+    assert!(rt; found(alloc, &nested) == Ok(counts));
     Ok(())
 }

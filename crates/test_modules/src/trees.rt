@@ -151,22 +151,10 @@ fn tree_at(
 fn each_instance_has_its_tree(rt: HostRuntime) -> Result<(), Fail> {
     let alloc = rt.alloc();
     let module = verified(alloc, &SMALLER_THAN_ONE)?;
-    assert_eq!(rt;
-        tree_at(&rt, alloc, &module, 0)?.tokens(),
-        [Token::Yes].as_slice()
-    );
-    assert_eq!(rt;
-        tree_at(&rt, alloc, &module, 1)?.tokens(),
-        [Token::No].as_slice()
-    );
-    assert_eq!(rt;
-        tree_at(&rt, alloc, &module, 2)?.tokens(),
-        [Token::No].as_slice()
-    );
-    assert_eq!(rt;
-        tree_at(&rt, alloc, &module, 3)?.tokens(),
-        [Token::No].as_slice()
-    );
+    assert!(rt; tree_at(&rt, alloc, &module, 0)?.tokens() == [Token::Yes].as_slice());
+    assert!(rt; tree_at(&rt, alloc, &module, 1)?.tokens() == [Token::No].as_slice());
+    assert!(rt; tree_at(&rt, alloc, &module, 2)?.tokens() == [Token::No].as_slice());
+    assert!(rt; tree_at(&rt, alloc, &module, 3)?.tokens() == [Token::No].as_slice());
     Ok(())
 }
 
@@ -174,10 +162,7 @@ fn each_instance_has_its_tree(rt: HostRuntime) -> Result<(), Fail> {
 fn a_place_that_is_jumped_over_is_not_run(rt: HostRuntime) -> Result<(), Fail> {
     let alloc = rt.alloc();
     let module = verified(alloc, &JUMPED_OVER)?;
-    assert_eq!(rt;
-        tree_at(&rt, alloc, &module, 0)?.tokens(),
-        [Token::Yes].as_slice()
-    );
+    assert!(rt; tree_at(&rt, alloc, &module, 0)?.tokens() == [Token::Yes].as_slice());
     Ok(())
 }
 
@@ -185,10 +170,7 @@ fn a_place_that_is_jumped_over_is_not_run(rt: HostRuntime) -> Result<(), Fail> {
 fn a_bracket_may_be_empty(rt: HostRuntime) -> Result<(), Fail> {
     let alloc = rt.alloc();
     let module = verified(alloc, &EMPTY_BRACKET)?;
-    assert_eq!(rt;
-        tree_at(&rt, alloc, &module, 0)?.tokens(),
-        [Token::Or, Token::Close].as_slice()
-    );
+    assert!(rt; tree_at(&rt, alloc, &module, 0)?.tokens() == [Token::Or, Token::Close].as_slice());
     Ok(())
 }
 
@@ -197,9 +179,9 @@ fn calls_name_instances(rt: HostRuntime) -> Result<(), Fail> {
     let alloc = rt.alloc();
     let module = verified(alloc, &COUNTS_DOWN)?;
     let first = [Token::Or, Token::Yes, Token::Close];
-    assert_eq!(rt; tree_at(&rt, alloc, &module, 0)?.tokens(), first.as_slice());
+    assert!(rt; tree_at(&rt, alloc, &module, 0)?.tokens() == first.as_slice());
     let last = [Token::Or, Token::Call(8), Token::Close];
-    assert_eq!(rt; tree_at(&rt, alloc, &module, 9)?.tokens(), last.as_slice());
+    assert!(rt; tree_at(&rt, alloc, &module, 9)?.tokens() == last.as_slice());
     Ok(())
 }
 
@@ -209,10 +191,7 @@ fn a_loop_runs_once_for_each_value(rt: HostRuntime) -> Result<(), Fail> {
     let module = verified(alloc, &ALL_OTHERS)?;
     instances_have_trees(&module);
     let tokens = [Token::And, Token::Call(0), Token::Call(2), Token::Close];
-    assert_eq!(rt;
-        tree_at(&rt, alloc, &module, 1)?.tokens(),
-        tokens.as_slice()
-    );
+    assert!(rt; tree_at(&rt, alloc, &module, 1)?.tokens() == tokens.as_slice());
     Ok(())
 }
 
@@ -228,7 +207,7 @@ fn a_machine_is_used_again(rt: HostRuntime) -> Result<(), Fail> {
         } else {
             Token::Call(number - 1)
         };
-        assert_eq!(rt; tree.tokens(), [Token::Or, inside, Token::Close].as_slice());
+        assert!(rt; tree.tokens() == [Token::Or, inside, Token::Close].as_slice());
     }
     Ok(())
 }

@@ -1,5 +1,8 @@
-//! Tests of the whole program, with readers and writers that fail, and on a small stack.
+//! Tests of the whole program, with readers and writers that fail, on a small stack, and on inputs
+//! that are generated and mutated.
 #![tactic(auto)]
 
+#[cfg(test)]
+mod fuzzing;
 #[cfg(test)]
 mod tests;

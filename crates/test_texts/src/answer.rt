@@ -4,7 +4,7 @@ use pb_text::{TextError, TextRule};
 use std::alloc::Global;
 
 /// A tree, or the rule that is broken and the column.
-#[derive(Clone, Copy, Debug, PartialEq, Eq)]
+#[derive(Clone, Copy, PartialEq, Eq)]
 pub enum Answer {
     Read,
     Refused(TextRule, u32),

@@ -181,11 +181,11 @@ fn check_limit<R: Abort + Threads>(
     (read, _): (Vec<u8>, usize),
     (refused, column): (Vec<u8>, usize),
 ) -> Result<(), Fail> {
-    assert_eq!(rt; answered_on_small_stack(rt, alloc, read)?, Answer::Read);
+    assert!(rt; answered_on_small_stack(rt, alloc, read)? == Answer::Read);
     match answered_on_small_stack(rt, alloc, refused)? {
         Answer::Refused(rule, found) => {
-            assert_eq!(rt; rule, TextRule::LimitExceeded);
-            assert_eq!(rt; found as usize, column);
+            assert!(rt; rule == TextRule::LimitExceeded);
+            assert!(rt; found as usize == column);
         }
         _ => assert!(rt; false),
     }

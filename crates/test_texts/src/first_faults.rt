@@ -40,7 +40,7 @@ fn bracket_past_the_limit_comes_first(rt: HostRuntime) -> Result<(), Fail> {
         &[(b"(", 65), (b"#", 1)],
     ];
     for pieces in right_sides {
-        assert_eq!(rt; answered(a, &equation(a, pieces)?), sixty_fifth);
+        assert!(rt; answered(a, &equation(a, pieces)?) == sixty_fifth);
     }
     Ok(())
 }
@@ -49,7 +49,7 @@ fn bracket_past_the_limit_comes_first(rt: HostRuntime) -> Result<(), Fail> {
 fn val_at_the_last_level_is_refused_at_its_bracket(rt: HostRuntime) -> Result<(), Fail> {
     let a = rt.alloc();
     let text = equation(a, &[(b"(", 64), (b"val(true)", 1), (b")", 64)])?;
-    assert_eq!(rt; answered(a, &text), past_limit(FIRST + 64 + 3));
+    assert!(rt; answered(a, &text) == past_limit(FIRST + 64 + 3));
     Ok(())
 }
 
@@ -63,7 +63,7 @@ fn operator_past_the_limit_comes_first(rt: HostRuntime) -> Result<(), Fail> {
         &[(b"X", 1), (b" && X", 8193), (b"; mu Y = (X && X)", 1)],
     ];
     for pieces in right_sides {
-        assert_eq!(rt; answered(a, &equation(a, pieces)?), last);
+        assert!(rt; answered(a, &equation(a, pieces)?) == last);
     }
     Ok(())
 }
@@ -73,13 +73,7 @@ fn fault_before_the_limit_comes_first(rt: HostRuntime) -> Result<(), Fail> {
     let a = rt.alloc();
     let unknown = equation(a, &[(b"#", 1), (b"(", 65), (b"X", 1), (b")", 65)])?;
     let unexpected = equation(a, &[(b"&& ", 1), (b"(", 65), (b"X", 1), (b")", 65)])?;
-    assert_eq!(rt;
-        answered(a, &unknown),
-        Answer::Refused(TextRule::UnknownByte, FIRST)
-    );
-    assert_eq!(rt;
-        answered(a, &unexpected),
-        Answer::Refused(TextRule::UnexpectedToken, FIRST)
-    );
+    assert!(rt; answered(a, &unknown) == Answer::Refused(TextRule::UnknownByte, FIRST));
+    assert!(rt; answered(a, &unexpected) == Answer::Refused(TextRule::UnexpectedToken, FIRST));
     Ok(())
 }

@@ -19,7 +19,7 @@ const TOKENS: [&str; 40] = [
 const LONGEST: usize = 20;
 
 /// Numbers that look random: a linear congruential generator.
-#[derive(Clone, Copy, Debug)]
+#[derive(Clone, Copy)]
 struct Random {
     state: u64,
 }
@@ -43,7 +43,7 @@ impl Random {
 }
 
 /// What is done to one token of a sequence.
-#[derive(Clone, Copy, Debug)]
+#[derive(Clone, Copy)]
 enum Change {
     None,
     Drop,
@@ -53,7 +53,7 @@ enum Change {
 }
 
 /// What stands where no token does, and the rule that it breaks.
-#[derive(Clone, Copy, Debug)]
+#[derive(Clone, Copy)]
 enum Defect {
     Byte,
     Number,
@@ -61,7 +61,7 @@ enum Defect {
 }
 
 /// What reading a text gives.
-#[derive(Clone, Copy, Debug, PartialEq, Eq)]
+#[derive(Clone, Copy, PartialEq, Eq)]
 enum Answer {
     Read,
     Refused {
@@ -271,7 +271,7 @@ fn compare(
     let unexpected = first_unexpected(alloc, forms, tokens)?;
     let answer = answered(alloc, &text.bytes);
     let shown = str::from_utf8(&text.bytes).unwrap_or("no text");
-    assert_eq!(rt; answer, expected(&text, unexpected, defect), "{}", shown);
+    assert!(rt; answer == expected(&text, unexpected, defect), "{}", shown);
     Ok(answer == Answer::Read)
 }
 

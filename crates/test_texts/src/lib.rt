@@ -1,4 +1,4 @@
-//! Tests of the crates that read and print texts, of what no contract says. Before a token with
+//! Tests of the crates that read, check and print texts, of what no contract says. Before a token with
 //! which no text goes on stands the beginning of a text, so that no other fault is reported too
 //! early: all sequences of three tokens are tried, and sentences of the grammar's table that are
 //! made at random, most of them with a change, are compared with a recogniser. Texts at the limits
@@ -26,5 +26,7 @@ mod sequences;
 mod terms;
 #[cfg(test)]
 mod tokens;
+#[cfg(test)]
+mod typing;
 #[cfg(test)]
 mod whole_texts;

@@ -208,7 +208,7 @@ pub fn grammar(alloc: Global) -> Result<Vec<Form>, AllocError> {
 }
 
 /// A state: a form of which some words were read, the first of them at a place.
-#[derive(Clone, Copy, Debug, PartialEq, Eq)]
+#[derive(Clone, Copy, PartialEq, Eq)]
 struct State {
     form: usize,
     read: usize,

@@ -5,6 +5,7 @@ ghost use Rattle.std.specs.Prelude.{◌<◌, length};
 use pb_text_lexer::fault::{ReadingRule, Refusal};
 use pb_text_lexer::input::Input;
 use pb_text_lexer::kind::{Kind, is_last, same_kind};
+use pb_text_lexer::language::Language;
 use pb_text_lexer::lexer::first_token;
 use pb_text_lexer::piece::{Piece, front_piece};
 use pb_text_lexer::ranges::ranges;
@@ -16,7 +17,7 @@ use std::test::Fail;
 /// The kinds of a text's tokens, the last one too.
 fn kinds(rt: &impl Abort, alloc: Global, text: &[u8]) -> Result<Vec<Kind>, Fail> {
     assert!(rt; text.len() < 1000);
-    let mut input = Input::new(text, 0);
+    let mut input = Input::new(Language::Text, text, 0);
     let mut kinds = Vec::new(alloc);
     for _ in 0..1000 {
         let kind = input.kind();
@@ -53,7 +54,7 @@ fn cuts_words(rt: HostRuntime) -> Result<(), Fail> {
         Kind::Name,
         Kind::End,
     ];
-    assert_eq!(rt; found.as_slice(), wanted.as_slice());
+    assert!(rt; found.as_slice() == wanted.as_slice());
     Ok(())
 }
 
@@ -64,9 +65,9 @@ fn cuts_unused_words(rt: HostRuntime) -> Result<(), Fail> {
         rt.alloc(),
         b"cons map var eqn glob lambda whr end in act proc",
     )?;
-    assert_eq!(rt; found.len(), 12);
+    assert!(rt; found.len() == 12);
     for kind in &found[..11] {
-        assert_eq!(rt; *kind, Kind::Reserved);
+        assert!(rt; *kind == Kind::Reserved);
     }
     Ok(())
 }
@@ -104,7 +105,7 @@ fn cuts_the_longest_symbols(rt: HostRuntime) -> Result<(), Fail> {
         Kind::Bar,
         Kind::End,
     ];
-    assert_eq!(rt; found.as_slice(), wanted.as_slice());
+    assert!(rt; found.as_slice() == wanted.as_slice());
     Ok(())
 }
 
@@ -122,9 +123,9 @@ fn cuts_numbers(rt: HostRuntime) -> Result<(), Fail> {
         Kind::Number,
         Kind::LargeNumber,
     ];
-    assert_eq!(rt; found.as_slice(), wanted.as_slice());
+    assert!(rt; found.as_slice() == wanted.as_slice());
     let found = kinds(&rt, rt.alloc(), b"99999999999999999999999999")?;
-    assert_eq!(rt; found.as_slice(), [Kind::LargeNumber].as_slice());
+    assert!(rt; found.as_slice() == [Kind::LargeNumber].as_slice());
     Ok(())
 }
 
@@ -132,24 +133,28 @@ fn cuts_numbers(rt: HostRuntime) -> Result<(), Fail> {
 fn stops_where_no_token_stands(rt: HostRuntime) -> Result<(), Fail> {
     let a = rt.alloc();
     let found = kinds(&rt, a, b"X & X")?;
-    assert_eq!(rt; found.as_slice(), [Kind::Name, Kind::Unknown].as_slice());
+    assert!(rt; found.as_slice() == [Kind::Name, Kind::Unknown].as_slice());
     let found = kinds(&rt, a, b"X\n%range\tInt 0")?;
-    assert_eq!(rt; found.as_slice(), [Kind::Name, Kind::RangeLine].as_slice());
+    assert!(rt; found.as_slice() == [Kind::Name, Kind::RangeLine].as_slice());
     let found = kinds(&rt, a, b"X\n%range\tInt 0 9")?;
-    assert_eq!(rt; found.as_slice(), [Kind::Name, Kind::End].as_slice());
+    assert!(rt; found.as_slice() == [Kind::Name, Kind::End].as_slice());
     let found = kinds(&rt, a, b"X %range Int 0 9\n%range\r\n%rang\xc3\xa9")?;
-    assert_eq!(rt; found.as_slice(), [Kind::Name, Kind::End].as_slice());
+    assert!(rt; found.as_slice() == [Kind::Name, Kind::End].as_slice());
     let found = kinds(&rt, a, b"X\xc3\xa9")?;
-    assert_eq!(rt; found.as_slice(), [Kind::Name, Kind::Unknown].as_slice());
+    assert!(rt; found.as_slice() == [Kind::Name, Kind::Unknown].as_slice());
     Ok(())
 }
 
 #[test]
 fn places_tokens(rt: HostRuntime) -> Result<(), Fail> {
-    let first = first_token(b"% c\n\t Xy z", Place { line: 1, column: 1 });
-    assert_eq!(rt; first.token.text, b"Xy".as_slice());
-    assert_eq!(rt; first.token.place, Place { line: 2, column: 3 });
-    assert_eq!(rt; first.place, Place { line: 2, column: 5 });
+    let first = first_token(
+        Language::Text,
+        b"% c\n\t Xy z",
+        Place { line: 1, column: 1 },
+    );
+    assert!(rt; first.token.text == b"Xy".as_slice());
+    assert!(rt; first.token.place == Place { line: 2, column: 3 });
+    assert!(rt; first.place == Place { line: 2, column: 5 });
     assert!(rt; matches!(front_piece(first.place, first.rest), Piece::Blank(1)));
     assert!(rt; same_kind(first.token.kind, Kind::Name));
     Ok(())
@@ -166,27 +171,21 @@ fn column(refusal: Refusal, rule: ReadingRule) -> u32 {
 
 #[test]
 fn takes_tokens(rt: HostRuntime) -> Result<(), Fail> {
-    let mut input = Input::new(b"X && && (", 1);
+    let mut input = Input::new(Language::Text, b"X && && (", 1);
     let name = input.expect(Kind::Name);
     assert!(rt; name.is_ok());
     let wrong = input.expect(Kind::Or);
-    assert_eq!(rt;
-        wrong.map_or_else(|refusal| column(refusal, ReadingRule::Unexpected), |_| 0),
-        3
-    );
+    assert!(rt; wrong.map_or_else(|refusal| column(refusal, ReadingRule::Unexpected), |_| 0) == 3);
     if is_last(input.kind()) {
         return Err(Fail::from("no operator"));
     }
     assert!(rt; input.take_operator().is_ok());
-    assert_eq!(rt; input.operators(), 0);
+    assert!(rt; input.operators() == 0);
     if is_last(input.kind()) {
         return Err(Fail::from("no operator"));
     }
     let more = input.take_operator();
-    assert_eq!(rt;
-        more.map_or_else(|refusal| column(refusal, ReadingRule::Limit), |_| 0),
-        6
-    );
+    assert!(rt; more.map_or_else(|refusal| column(refusal, ReadingRule::Limit), |_| 0) == 6);
     input.allow(1);
     if is_last(input.kind()) {
         return Err(Fail::from("no operator"));
@@ -196,20 +195,16 @@ fn takes_tokens(rt: HostRuntime) -> Result<(), Fail> {
         return Err(Fail::from("no bracket"));
     }
     let deep = input.enter(0);
-    assert_eq!(rt;
-        deep.map_or_else(|refusal| column(refusal, ReadingRule::Limit), |_| 0),
-        9
-    );
+    assert!(rt; deep.map_or_else(|refusal| column(refusal, ReadingRule::Limit), |_| 0) == 9);
     if is_last(input.kind()) {
         return Err(Fail::from("no bracket"));
     }
     assert!(rt; input.enter(1).is_ok());
-    assert_eq!(rt;
+    assert!(rt;
         column(
             input.refuse(ReadingRule::Unexpected),
             ReadingRule::Unexpected
-        ),
-        10
+        ) == 10
     );
     Ok(())
 }
@@ -218,7 +213,7 @@ fn takes_tokens(rt: HostRuntime) -> Result<(), Fail> {
 fn is_refused(text: &[u8]) -> bool
     requires { length text.now < 1000 }
 {
-    let token = Input::new(text, 0);
+    let token = Input::new(Language::Text, text, 0);
     same_kind(token.kind(), Kind::RangeLine)
 }
 
@@ -261,32 +256,32 @@ const RANGES: &str = "%range Nat 0 3\r\n\
 fn finds_ranges(rt: HostRuntime) -> Result<(), Fail> {
     let text = RANGES.as_bytes();
     assert!(rt; text.len() < 1000);
-    let found = ranges(rt.alloc(), text)?;
-    assert_eq!(rt; found.len(), 3);
+    let found = ranges(rt.alloc(), Language::Text, text)?;
+    assert!(rt; found.len() == 3);
     let wanted = [
         (1, "Nat", 0, 3),
         (3, "m'", i32::MIN, i32::MAX),
         (5, "Int", -7, 0),
     ];
     for (range, (line, name, low, high)) in found.iter().zip(wanted) {
-        assert_eq!(rt; range.place, Place { line, column: 1 });
-        assert_eq!(rt; range.name.as_str(), name);
-        assert_eq!(rt; range.low, low);
-        assert_eq!(rt; range.high, high);
+        assert!(rt; range.place == Place { line, column: 1 });
+        assert!(rt; range.name.as_str() == name);
+        assert!(rt; range.low == low);
+        assert!(rt; range.high == high);
     }
     Ok(())
 }
 
 #[test]
 fn gives_numbers_and_places(rt: HostRuntime) {
-    let mut input = Input::new(b"X 4611686018427387904 0", 0);
-    assert_eq!(rt; input.place(), Place { line: 1, column: 1 });
-    assert_eq!(rt; input.kind(), Kind::Name);
+    let mut input = Input::new(Language::Text, b"X 4611686018427387904 0", 0);
+    assert!(rt; input.place() == Place { line: 1, column: 1 });
+    assert!(rt; input.kind() == Kind::Name);
     input.take();
-    assert_eq!(rt; input.place(), Place { line: 1, column: 3 });
-    assert_eq!(rt; input.kind(), Kind::Number);
-    assert_eq!(rt; input.number(), 1 << 62);
+    assert!(rt; input.place() == Place { line: 1, column: 3 });
+    assert!(rt; input.kind() == Kind::Number);
+    assert!(rt; input.number() == (1 << 62));
     input.take();
-    assert_eq!(rt; input.kind(), Kind::Number);
-    assert_eq!(rt; input.number(), 0);
+    assert!(rt; input.kind() == Kind::Number);
+    assert!(rt; input.number() == 0);
 }

@@ -57,6 +57,38 @@ fn explains(rt: HostRuntime) -> Result<(), Fail> {
     Ok(())
 }
 
+/// With places each named instance has that of its call: of the one that names it where there are
+/// several, not of one behind a test that decides; a cut call has none.
+#[test]
+fn tells_places(rt: HostRuntime) -> Result<(), Fail> {
+    for (text, evidence) in [
+        (
+            "%range Int 0 3\npbes\nnu X(n: Int) =\n  val(n != 3) && (X(n + 1) || Y(n));\nmu Y(n: Int) = Y(n);\ninit X(2);",
+            "answer false\nX(2) false: X(3)@4:19 Y(2)@4:31\nX(3) false:\nY(2) false: Y(2)@5:16\n",
+        ),
+        (
+            "%range Int 0 3\npbes nu X(n: Int) = (val(n == 3) && Y(0)) || Y(n); mu Y(n: Int) = Y(n); init X(0);",
+            "answer false\nX(0) false: Y(0)@2:46\nY(0) false: Y(0)@2:67\n",
+        ),
+        (
+            "%range Int 0 3\npbes nu X(n: Int) = forall m: Int . val(m > n) => X(m);\ninit X(2);",
+            "answer true\nX(2) true: X(3)@2:51\nX(3) true:\n",
+        ),
+        (
+            "%range Int 0 3\npbes nu X(n: Int) = X(n + 1); init X(3);",
+            "answer false\nX(3) false: cut\n",
+        ),
+    ] {
+        let words = ["pbsolve", "explain", "--workers", "2", "--places"];
+        let input = In::new(text.as_bytes());
+        let outcome = run_on(&rt, rt.alloc(), &words, input, ROOM);
+        assert_eq!(rt; outcome.status, 0, "{text}");
+        assert_eq!(rt; outcome.out.bytes(), evidence.as_bytes(), "{text}");
+        assert_eq!(rt; outcome.err.bytes(), b"".as_slice(), "{text}");
+    }
+    Ok(())
+}
+
 // An equation, whose right side is copied.
 fn equation(
     alloc: Global,

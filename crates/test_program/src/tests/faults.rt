@@ -32,7 +32,7 @@ fn writer(alloc: Global, budget: usize, is_slow: bool) -> Budget {
     }
 }
 
-const WRONG_WORDS: [&[&str]; 36] = [
+const WRONG_WORDS: [&[&str]; 42] = [
     &[],
     &["pbsolve"],
     &["pbsolve", "frobnicate"],
@@ -69,6 +69,12 @@ const WRONG_WORDS: [&[&str]; 36] = [
     &["pbsolve", "compile", "--solver", "lift"],
     &["pbsolve", "verify", "--solver", "zielonka"],
     &["pbsolve", "list", "--solver", "zielonka"],
+    &["pbsolve", "--places", "explain"],
+    &["pbsolve", "explain", "--places=12"],
+    &["pbsolve", "explain", "--places", "--places"],
+    &["pbsolve", "solve", "--places"],
+    &["pbsolve", "game", "--places"],
+    &["pbsolve", "certificate", "--places"],
 ];
 
 #[test]

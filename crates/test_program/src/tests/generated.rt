@@ -141,7 +141,7 @@ fn generated_systems_have_the_plain_answer(rt: HostRuntime) -> Result<(), Fail> 
     for seed in 0..SYSTEMS {
         let text = System::generated(rt.alloc(), seed)?.text(rt.alloc())?;
         let outcome = asked(&rt, rt.alloc(), "solve", text.as_bytes());
-        assert_eq!(rt; outcome.status, 0, "{text}");
+        assert!(rt; outcome.status == 0, "{text}");
         let line = plain_line(rt.alloc(), text.as_str());
         assert!(rt;
             line.is_some_and(|line| outcome.out.bytes().starts_with(line)),

@@ -59,9 +59,9 @@ fn compiles_verifies_lists_and_solves(rt: HostRuntime) -> Result<(), Fail> {
         ("solve-code", module.as_slice(), wanted.as_str().as_bytes()),
     ] {
         let outcome = asked(&rt, rt.alloc(), command, input);
-        assert_eq!(rt; outcome.status, 0, "{command}");
-        assert_eq!(rt; outcome.out.bytes(), output, "{command}");
-        assert_eq!(rt; outcome.err.bytes(), b"".as_slice(), "{command}");
+        assert!(rt; outcome.status == 0, "{command}");
+        assert!(rt; outcome.out.bytes() == output, "{command}");
+        assert!(rt; outcome.err.bytes() == b"".as_slice(), "{command}");
     }
     Ok(())
 }
@@ -76,9 +76,9 @@ fn refuses_code(rt: HostRuntime) -> Result<(), Fail> {
         let bytes = bytes_of(rt.alloc(), text)?;
         for command in ["verify", "solve-code"] {
             let outcome = asked(&rt, rt.alloc(), command, bytes.as_slice());
-            assert_eq!(rt; outcome.status, 1, "{command}");
-            assert_eq!(rt; outcome.out.bytes(), b"".as_slice(), "{command}");
-            assert_eq!(rt; outcome.err.bytes(), line.as_bytes(), "{command}");
+            assert!(rt; outcome.status == 1, "{command}");
+            assert!(rt; outcome.out.bytes() == b"".as_slice(), "{command}");
+            assert!(rt; outcome.err.bytes() == line.as_bytes(), "{command}");
         }
     }
     Ok(())
@@ -90,26 +90,26 @@ fn lists_code_that_is_refused(rt: HostRuntime) -> Result<(), Fail> {
     let bytes = bytes_of(rt.alloc(), POPS)?;
     let listing = b"equation 0 mu X\nsteps 2\ntokens 0\n0 POP\n1 END\ninit 0\n";
     let outcome = asked(&rt, rt.alloc(), "list", bytes.as_slice());
-    assert_eq!(rt; outcome.status, 0);
-    assert_eq!(rt; outcome.out.bytes(), listing.as_slice());
-    assert_eq!(rt; outcome.err.bytes(), b"".as_slice());
+    assert!(rt; outcome.status == 0);
+    assert!(rt; outcome.out.bytes() == listing.as_slice());
+    assert!(rt; outcome.err.bytes() == b"".as_slice());
     Ok(())
 }
 
 #[test]
 fn refuses_prefixes_and_more(rt: HostRuntime) -> Result<(), Fail> {
     let mut bytes = bytes_of(rt.alloc(), MODULE)?;
-    assert_eq!(rt; bytes.len(), 61);
+    assert!(rt; bytes.len() == 61);
     for length in 0..bytes.len() {
         let outcome = asked(&rt, rt.alloc(), "verify", &bytes[..length]);
         let line = format!(in rt.alloc(); "B03 byte {length}\n")?;
-        assert_eq!(rt; outcome.status, 1);
-        assert_eq!(rt; outcome.err.bytes(), line.as_str().as_bytes());
+        assert!(rt; outcome.status == 1);
+        assert!(rt; outcome.err.bytes() == line.as_str().as_bytes());
     }
     bytes.push(0)?;
     let outcome = asked(&rt, rt.alloc(), "list", bytes.as_slice());
-    assert_eq!(rt; outcome.status, 1);
-    assert_eq!(rt; outcome.err.bytes(), b"B06 byte 61\n".as_slice());
+    assert!(rt; outcome.status == 1);
+    assert!(rt; outcome.err.bytes() == b"B06 byte 61\n".as_slice());
     Ok(())
 }
 
@@ -118,11 +118,10 @@ fn refuses_code_above_a_limit(rt: HostRuntime) -> Result<(), Fail> {
     let text = "%range Int 1 99999\npbes nu X = forall n: Int . val(n > 0); init X;";
     for command in ["solve", "game", "solution", "compile"] {
         let outcome = asked(&rt, rt.alloc(), command, text.as_bytes());
-        assert_eq!(rt; outcome.status, 1, "{command}");
-        assert_eq!(rt; outcome.out.bytes(), b"".as_slice(), "{command}");
-        assert_eq!(rt;
-            outcome.err.bytes(),
-            b"C06 equation 0\n".as_slice(),
+        assert!(rt; outcome.status == 1, "{command}");
+        assert!(rt; outcome.out.bytes() == b"".as_slice(), "{command}");
+        assert!(rt;
+            outcome.err.bytes() == b"C06 equation 0\n".as_slice(),
             "{command}"
         );
     }

@@ -63,9 +63,9 @@ fn a_part_may_be_enough(rt: HostRuntime) -> Result<(), Fail> {
         };
         let words = ["pbsolve", "explain"];
         let status = pbsolve::run(&rt, rt.alloc(), &words, &attempts, &mut streams);
-        assert_eq!(rt; status, 0, "{text}");
-        assert_eq!(rt; streams.output.bytes(), evidence.as_bytes(), "{text}");
-        assert_eq!(rt; attempts.made.load(), all, "{text}");
+        assert!(rt; status == 0, "{text}");
+        assert!(rt; streams.output.bytes() == evidence.as_bytes(), "{text}");
+        assert!(rt; attempts.made.load() == all, "{text}");
     }
     Ok(())
 }

@@ -45,7 +45,7 @@ pub(super) fn plain_line(alloc: Global, text: &str) -> Option<&'static [u8]> {
 fn chain_and_plain_solver_agree(rt: HostRuntime) -> Result<(), Fail> {
     for text in TEXTS {
         let outcome = asked(&rt, rt.alloc(), "solve", text.as_bytes());
-        assert_eq!(rt; outcome.status, 0, "{text}");
+        assert!(rt; outcome.status == 0, "{text}");
         let line = plain_line(rt.alloc(), text);
         assert!(rt;
             line.is_some_and(|line| outcome.out.bytes().starts_with(line)),

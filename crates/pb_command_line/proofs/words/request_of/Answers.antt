@@ -1,6 +1,6 @@
 -- The word of a command alone asks for that, and words that name none ask for nothing.
 use Rattle.std.proofs.Common.{map}
-use Rattle.pb_command_line.proofs.CommandLine.{memory_alone, plain_words_ask}
+use Rattle.pb_command_line.proofs.CommandLine.{memory_alone, plain_results_name_none, plain_words_ask}
 use Rattle.pb_command_line.proofs.OneWord.{no_request}
 use Rattle.pb_command_line.proofs.words.request_of.Goals as goal
 
@@ -11,3 +11,6 @@ returns-clause-understood g c plain =
 
 pub returns-clause-refused : goal.returns-clause-refused
 returns-clause-refused g c nothing = no_request (map g.S.AsStr.text c.args.words.now) nothing c.request_in.result c.request_in.ensures.asked
+
+pub returns-clause-nameless : goal.returns-clause-nameless
+returns-clause-nameless g c plain = plain_results_name_none (map g.S.AsStr.text c.args.words.now) plain c.request_in.result c.request_in.ensures.asked

@@ -1,15 +1,17 @@
-use Rattle.std.proofs.Common.{◌≡◌, ℕ, drop}
+use Rattle.std.proofs.Common.{◌≡◌, ℕ, Option, drop}
+use Rattle.pb_text_tree.specs.declared.place.Place.{Place}
 use Rattle.pb_trees.specs.Tree.{Tree}
 use Rattle.pb_bytecode.specs.Meaning.{AreTrees}
 use Rattle.pb_report_texts.proofs.Underway.{IsUnderway}
+use Rattle.pb_evidence_texts.specs.CallPlaces.{AreCallPlaces}
 use Rattle.pb_evidence_texts.specs.ModuleLines.{lines_of}
 use Rattle.pb_evidence_texts.proofs.evidence_text.write_lines.Given as goal
 
-abbrev pub invariant-loop-place : goal.invariant-loop-place
-invariant-loop-place g l = record {
-  sent : (trees : ℕ → Tree) → AreTrees l.verified trees →
+abbrev pub invariant-loop-k : goal.invariant-loop-k
+invariant-loop-k g l = record {
+  sent : (trees : ℕ → Tree) → AreTrees l.verified trees → (place : ℕ → ℕ → Option Place) → AreCallPlaces place l.placed.explanation.now.evidence l.placed.call_places.now →
       IsUnderway (g.S.Sink.taken l.fn.sink) (g.S.Sink.taken l.sink) l.fn.buffer.bytes.items l.buffer.bytes.items
-      (lines_of l.verified trees l.explanation.evidence l.explanation.evidence.instances.items)
-      (lines_of l.verified trees l.explanation.evidence (drop l.place l.explanation.evidence.instances.items));
+      (lines_of l.verified trees place l.placed.explanation.now.evidence l.placed.explanation.now.evidence.instances.items)
+      (lines_of l.verified trees place l.placed.explanation.now.evidence (drop l.k l.placed.explanation.now.evidence.instances.items));
   same_failed : g.S.Sink.has_failed l.sink ≡ g.S.Sink.has_failed l.fn.sink;
 }

@@ -4,10 +4,10 @@ use Rattle.pb_text_meaning.specs.Erase.{of_connective}
 use Rattle.pb_typing_declarations.specs.View.{spec_of}
 use Rattle.pb_normal.specs.Normal as normal
 use Rattle.pb_normal.specs.Normal.{Binary}
-use Rattle.pb_normal.specs.declared.term.Term.{Term}
+use Rattle.pb_typed_tree.specs.declared.term.Term.{Term}
 use Rattle.pb_normal.specs.Slots.{slotting}
 use Rattle.pb_normal.specs.View.{chained, calculated, term_view, term_views, link_views}
-use Rattle.pb_normal.proofs.Views.{term-chain, term-arithmetic}
+use Rattle.pb_typed_tree.proofs.Views.{term-chain, term-arithmetic}
 use Rattle.pb_normal.proofs.DataLemmas.{chain, arithmetic, application, over_slots, other-count, chained-slotted, calculated-slotted, links_done, arithmetic_done}
 use Rattle.pb_evaluation.proofs.Weight.{weight, weight-chain, weight-arithmetic, weight-application, links_weight, arithmetic_weight, arguments_weight, link_lighter, operand_lighter}
 use Rattle.pb_normal.proofs.data.+data.Goals as goal

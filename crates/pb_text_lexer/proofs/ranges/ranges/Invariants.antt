@@ -6,7 +6,7 @@ use Rattle.pb_text_lexer.proofs.ranges.ranges.Given as goal
 
 abbrev pub invariant-pieces : goal.invariant-pieces
 invariant-pieces l = record {
-  ranges : ranges_from l.bytes 0 start ≡ map range_form l.ranges.items ++ ranges_from l.rest 0 l.place;
+  ranges : ranges_from l.language l.bytes 0 start ≡ map range_form l.ranges.items ++ ranges_from l.language l.rest 0 l.place;
   within : IsWithin l.place l.rest;
 }
 

@@ -1,4 +1,4 @@
--- The names of a text that was read are names of modules, and its module says what the text says.
+-- The names of the text are names of modules, and its module says what the text says.
 use Rattle.std.proofs.Common.{◌≡◌, ◌∙◌, ℕ, List, true, false, sym, subst, ap}
 use Rattle.pb_trees.specs.Tree.{Tree}
 use Rattle.pb_text_tree.specs.Form.{spec_form}
@@ -14,15 +14,14 @@ use Rattle.pb_assembler_modules.specs.Module.{IsCompiledModule, KeepsAllLimits}
 use Rattle.pb_text_names.specs.ModuleNames.{has_names}
 use Rattle.pb_assembler.specs.Refusal.{IsRefusal}
 use Rattle.pb_assembler.specs.Excess.{IsFirstExcess}
-use Rattle.pbsolve.specs.Answers.{IsTheReading, IsModuleOfText}
+use Rattle.pbsolve.specs.Answers.{IsModuleOfForm}
 use Rattle.pbsolve.proofs.compile.compiled.Goals as goal
 
 pub unreachable-requires : goal.unreachable-requires
 unreachable-requires c =
-    let typed = c.in_ok-typed.typed in
+    let typed = c.args.typed.now in
     let said = erase (spec_form typed.spec) in
-    let read = c.in_ok-typed.ensures.read in
-    let named : has_names said ≡ true = c.names_of_texts_are_names_of_modules.ensures c.args.bytes.now (spec_form typed.spec) read.0.reading read.1.declarations in
+    let named : has_names said ≡ true = c.requires.named in
     let spec = erase (spec_form c.in_ok-normal.normal.typed.now.spec) in
     let unnamed : has_names spec ≡ false = subst (IsRefusal spec (IsFirstExcess spec)) c.in-Err-Name.field-0-is c.in-Err-Name.ensures.refused in
     let same = ap (λ (t : Typed). has_names (erase (spec_form t.spec))) c.in_ok-normal.ensures.text in
@@ -32,14 +31,12 @@ unreachable-requires c =
 abbrev CompilesToTheSame : Type 0
 CompilesToTheSame = (spec : Spec) → IsWellTyped spec → (m : Contents) → IsCompiledModule spec m → (trees : ℕ → Tree) → AreTrees m trees → SaysTheSame spec m trees
 
-module_of_text : (bytes : List ℕ) (typed normal : Typed) (m : Contents) → IsTheReading bytes (spec_form typed.spec) → IsWellTyped (erase (spec_form typed.spec))
+module_of : (typed normal : Typed) (m : Contents) → IsWellTyped (erase (spec_form typed.spec))
     → normal ≡ typed → IsCompiledModule (erase (spec_form normal.spec)) m → KeepsAllLimits (erase (spec_form normal.spec)) m → CompilesToTheSame
-    → IsModuleOfText bytes m
-module_of_text bytes typed normal m read well_typed same compiled kept law =
+    → IsModuleOfForm (spec_form typed.spec) m
+module_of typed normal m well_typed same compiled kept law =
     let of_text = subst (λ (t : Typed). IsCompiledModule (erase (spec_form t.spec)) m) same compiled in
     record {
-      text = spec_form typed.spec;
-      read = read;
       typed = well_typed;
       compiled = of_text;
       kept = subst (λ (t : Typed). KeepsAllLimits (erase (spec_form t.spec)) m) same kept;
@@ -48,6 +45,6 @@ module_of_text bytes typed normal m read well_typed same compiled kept law =
 
 pub returns-in-Ok-clause-module : goal.returns-in-Ok-clause-module
 returns-in-Ok-clause-module c =
-    module_of_text c.args.bytes.now c.in_ok-typed.typed c.in_ok-normal.normal.typed.now (module_contents c.in-Ok.module)
-    c.in_ok-typed.ensures.read.0 c.in_ok-typed.ensures.read.1 c.in_ok-normal.ensures.text c.in-Ok.ensures.«module» c.in-Ok.ensures.kept
+    module_of c.args.typed.now c.in_ok-normal.normal.typed.now (module_contents c.in-Ok.module)
+    c.requires.well_typed c.in_ok-normal.ensures.text c.in-Ok.ensures.«module» c.in-Ok.ensures.kept
     c.compiled_modules_have_the_answer.ensures.well_typed

@@ -1,6 +1,7 @@
-use Rattle.pbsolve.proofs.Refusals.{refused_text}
+use Rattle.pb_text_tree.specs.Form.{spec_form}
+use Rattle.pbsolve.proofs.Refusals.{refused_texts}
 use Rattle.pbsolve.proofs.compile.verified_text.Goals as goal
 
-pub returns-in_err-module-clause-refused : goal.returns-in_err-module-clause-refused
-returns-in_err-module-clause-refused c =
-    refused_text c.args.bytes.now c.from_residual.result c.in_err-module.field-0.0 c.from_residual.ensures.1 c.in_err-module.ensures.refused
+pub returns-clause-refused : goal.returns-clause-refused
+returns-clause-refused c =
+    refused_texts c.args.bytes.now (spec_form c.in_ok-typed.typed.spec) c.verified.result c.in_ok-typed.ensures.read.0 c.in_ok-typed.ensures.read.1 c.verified.ensures.refused

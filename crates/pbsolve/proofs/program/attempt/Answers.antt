@@ -1,5 +1,6 @@
 -- Of the faults of the words and of the input each is told as itself.
-use Rattle.std.proofs.Common.{◌≡◌, ◌≤◌, ℕ, List, Option, length, map, refl, ap, sym, subst, Result, Ok, Err, IfErr, IsErrAnd, arith}
+use Rattle.std.proofs.Common.{◌≡◌, ◌≢◌, ◌≤◌, ℕ, List, Option, None, inl, inr, length, map, refl, ap, sym, subst, Result, Ok, Err, IfErr, IsErrAnd, arith}
+use Rattle.std.specs.Prelude.{IsSome}
 use Rattle.std.specs.Io.KnownBytes.{Appends}
 use Rattle.pb_sorts.specs.Sink.{AppendsPrefix}
 use Rattle.std.proofs.lemmas.Result.{err_from_is_err_and}
@@ -12,7 +13,10 @@ use Rattle.pbsolve.specs.declared.input.TheConstants.{INPUT_LIMIT}
 use Rattle.pbsolve.specs.declared.run_error.RunError.{RunError}
 use Rattle.pbsolve.specs.declared.solve_error.SolveError.{SolveError}
 use Rattle.pbsolve.specs.declared.solve_error.SolveError.TheVariants as solve_error
-use Rattle.pbsolve.specs.Outputs.{Outputs, IsRefusedFor}
+use Rattle.pb_command_line.specs.declared.command.Command.{Command}
+use Rattle.pb_command_line.specs.declared.command.Command.TheVariants.{Translate}
+use Rattle.pb_model_properties.specs.Refusals.{LacksProperty}
+use Rattle.pbsolve.specs.Outputs.{OutputsFor, IsRefusedFor, IsRefusedWith, property_name}
 use Rattle.pbsolve.specs.Program.{ForInput, IsRefusedBy}
 use Rattle.pbsolve.specs.declared.input.InputError.TheVariants.{Failed, TooLong, Memory}
 use Rattle.pbsolve.specs.declared.run_error.RunError.TheVariants.{ProgramFault}
@@ -20,6 +24,10 @@ use Rattle.pb_command_line.specs.declared.words.WordsError.{WordsError}
 use Rattle.pb_command_line.specs.declared.words.WordsError.TheVariants as words_error
 use Rattle.pbsolve.specs.Errors.{input_fault, solve_fault, words_fault}
 use Rattle.pbsolve.proofs.program.attempt.Goals as goal
+
+-- a request that names no property has none
+nameless : (request : Request) → request.property ≡ None → IsSome request.property → ⊥
+nameless request none some = let other = subst IsSome none some in absurd (cc other)
 
 -- what holds of a failed read holds where the fault is told as one
 by_fault : (P : Type 0) (e : InputError) → (e ≡ Failed → P) → input_fault e ≡ ProgramFault fault.E01 → P
@@ -42,7 +50,26 @@ pub returns-in_err-request-clause-understood : goal.returns-in_err-request-claus
 returns-in_err-request-clause-understood g c is =
     let made = err_from_is_err_and c.from_residual.result c.from_residual.ensures.1 in
     let told : words_fault c.in_err-request.field-0.0 ≡ ProgramFault fault.U01 = cc (sym made.1, sym made.2, is) in
-    by_usage _ c.in_err-request.field-0.0 (λ same. c.in_err-request.ensures.faulty (ap Err same)) told
+    inl (by_usage _ c.in_err-request.field-0.0 (λ same. c.in_err-request.ensures.faulty (ap Err same)) told)
+
+-- and what holds of a model without the property
+by_property : (P : Type 0) (e : SolveError) → (e ≡ solve_error.NoProperty → P) → solve_fault e ≡ ProgramFault fault.U01 → P
+by_property P solve_error.NoProperty f h = f refl
+by_property P (solve_error.Write error) f h = absurd (cc h)
+by_property P (solve_error.Memory error) f h = absurd (cc h)
+by_property P (solve_error.Text error) f h = absurd (cc h)
+by_property P (solve_error.Typing error) f h = absurd (cc h)
+by_property P (solve_error.Limit limit equation) f h = absurd (cc h)
+by_property P (solve_error.Module error) f h = absurd (cc h)
+by_property P (solve_error.Acceptance error) f h = absurd (cc h)
+by_property P solve_error.TooManyVertices f h = absurd (cc h)
+
+pub returns-in_err-answer-clause-asked : goal.returns-in_err-answer-clause-asked
+returns-in_err-answer-clause-asked g c plain is =
+    let made = err_from_is_err_and c.from_residual-in_err-answer.result c.from_residual-in_err-answer.ensures.1 in
+    let told : solve_fault c.in_err-answer.field-0.0 ≡ ProgramFault fault.U01 = cc (sym made.1, sym made.2, is) in
+    by_property _ c.in_err-answer.field-0.0
+    (λ same. nameless c.in_ok-request.request (c.in_ok-request.ensures.nameless plain) (c.in_err-answer.ensures.named (ap Err same))) told
 
 pub returns-in_err-input-clause-read_asked : goal.returns-in_err-input-clause-read_asked
 returns-in_err-input-clause-read_asked g c is = (c.in_ok-request.request, c.in_ok-request.ensures.asked)
@@ -76,18 +103,48 @@ returns-in_err-input-clause-refused g c =
     refused_up words known c.from_residual-in_err-input.result (input_fault c.in_err-input.field-0.0) c.from_residual-in_err-input.ensures.1
     (input_refused words known c.in_err-input.field-0.0 asked (λ same. c.in_err-input.ensures.too_long (ap Err same)))
 
+-- what is asked, of the input whole
+abbrev Asked : List (List ℕ) → Option (List ℕ) → (Request → List ℕ → Type 0) → Type 0
+Asked words known P = (request : Request) × AskFor words request × ForInput known (P request)
+
 -- what a command's error says of its input, the run's says of the words and the input
-answer_refused : (words : List (List ℕ)) (known : Option (List ℕ)) (e : SolveError)
-    → (request : Request) × AskFor words request × ForInput known (λ bytes. IsRefusedFor request.command bytes e)
-    → IsRefusedBy words known (solve_fault e)
-answer_refused words known (solve_error.Memory error) h = tt
-answer_refused words known (solve_error.Write error) h = tt
-answer_refused words known (solve_error.Text error) h = (tt, h)
-answer_refused words known (solve_error.Typing error) h = (tt, h)
-answer_refused words known (solve_error.Limit limit equation) h = (tt, h)
-answer_refused words known (solve_error.Module error) h = (tt, h)
-answer_refused words known (solve_error.Acceptance error) h = (tt, h)
-answer_refused words known solve_error.TooManyVertices h = (tt, h)
+lacks : (request : Request) (bytes : List ℕ) → request.command ≡ Translate → IsRefusedFor request bytes solve_error.NoProperty
+    → LacksProperty (property_name request) bytes
+lacks request bytes is h = subst (λ (c : Command). IsRefusedWith c (property_name request) bytes solve_error.NoProperty) is h
+
+answer_refused : (words : List (List ℕ)) (known : Option (List ℕ)) (e : SolveError) (asked : Asked words known (λ request bytes. IsRefusedFor request bytes e))
+    → (e ≡ solve_error.NoProperty → asked.0.command ≡ Translate) → IsRefusedBy words known (solve_fault e)
+answer_refused words known (solve_error.Memory error) h named = tt
+answer_refused words known (solve_error.Write error) h named = tt
+answer_refused words known (solve_error.Text error) h named = (tt, h)
+answer_refused words known (solve_error.Typing error) h named = (tt, h)
+answer_refused words known (solve_error.Limit limit equation) h named = (tt, h)
+answer_refused words known (solve_error.Module error) h named = (tt, h)
+answer_refused words known (solve_error.Acceptance error) h named = (tt, h)
+answer_refused words known solve_error.TooManyVertices h named = (tt, h)
+answer_refused words known solve_error.NoProperty h named =
+    inr (h.0, h.1, named refl, (h.2.0, h.2.1, h.2.2, lacks h.0 h.2.0 (named refl) h.2.3))
+
+pub returns-in_err-answer-clause-understood : goal.returns-in_err-answer-clause-understood
+returns-in_err-answer-clause-understood g c is =
+    let made = err_from_is_err_and c.from_residual-in_err-answer.result c.from_residual-in_err-answer.ensures.1 in
+    let told : solve_fault c.in_err-answer.field-0.0 ≡ ProgramFault fault.U01 = cc (sym made.1, sym made.2, is) in
+    let request = c.in_ok-request.request in
+    let input = c.in_ok-input.input in
+    let short : length input.items ≤ INPUT_LIMIT = omega (arith, input.ok.0, c.in_ok-input.ensures.short) in
+    inr (by_property _ c.in_err-answer.field-0.0 (λ same.
+    let named = c.in_err-answer.ensures.asked (ap Err same) in
+    let refused = subst (λ (e : SolveError). IsRefusedFor request c.as_slice.result.now e) same c.in_err-answer.ensures.refused in (
+      request,
+      c.in_ok-request.ensures.asked,
+      named,
+      (
+        input.items,
+        short,
+        c.in_ok-input.ensures.whole,
+        lacks request input.items named (subst (λ (bytes : List ℕ). IsRefusedFor request bytes solve_error.NoProperty) c.as_slice.ensures.value refused),
+      ),
+    )) told)
 
 pub returns-in_err-answer-clause-refused : goal.returns-in_err-answer-clause-refused
 returns-in_err-answer-clause-refused g c =
@@ -105,9 +162,9 @@ returns-in_err-answer-clause-refused g c =
         input.items,
         short,
         c.in_ok-input.ensures.whole,
-        subst (λ bytes. IsRefusedFor request.command bytes error) c.as_slice.ensures.value c.in_err-answer.ensures.refused,
+        subst (λ bytes. IsRefusedFor request bytes error) c.as_slice.ensures.value c.in_err-answer.ensures.refused,
       ),
-    ))
+    ) (λ same. c.in_err-answer.ensures.asked (ap Err same)))
 
 -- and what holds of a failed write where that is told
 by_write : (P : Type 0) (e : SolveError) → (e ≡ solve_error.Write (record {}) → P) → solve_fault e ≡ ProgramFault fault.E02 → P
@@ -119,6 +176,7 @@ by_write P (solve_error.Limit limit equation) f h = absurd (cc h)
 by_write P (solve_error.Module error) f h = absurd (cc h)
 by_write P (solve_error.Acceptance error) f h = absurd (cc h)
 by_write P solve_error.TooManyVertices f h = absurd (cc h)
+by_write P solve_error.NoProperty f h = absurd (cc h)
 
 pub returns-in_err-answer-clause-write : goal.returns-in_err-answer-clause-write
 returns-in_err-answer-clause-write g c is =
@@ -136,7 +194,7 @@ returns-in_err-answer-clause-write g c is =
         input.items,
         short,
         c.in_ok-input.ensures.whole,
-        subst (λ bytes. Outputs request.command bytes prefix) c.as_slice.ensures.value (c.in_err-answer.ensures.write (ap Err same)),
+        subst (λ bytes. OutputsFor request bytes prefix) c.as_slice.ensures.value (c.in_err-answer.ensures.write (ap Err same)),
       ),
     )) told
 
@@ -152,6 +210,22 @@ returns-clause-answered g c =
         input.items,
         short,
         c.in_ok-input.ensures.whole,
-        subst (λ bytes. Outputs request.command bytes whole) c.as_slice.ensures.value c.in_ok-answer.ensures.answered,
+        subst (λ bytes. OutputsFor request bytes whole) c.as_slice.ensures.value c.in_ok-answer.ensures.answered,
       ),
     )
+
+-- what holds where no read failed holds where the fault isn't told as one
+unfailed : (P : Type 0) (e : InputError) → (e ≢ Failed → P) → input_fault e ≢ ProgramFault fault.E01 → P
+unfailed P Failed f h = absurd (h refl)
+unfailed P TooLong f h = f (λ is. absurd (cc is))
+unfailed P Memory f h = f (λ is. absurd (cc is))
+
+unfailed_up : {T : Type 0} (P : Type 0) (r : Result T RunError) (x : RunError) → IsErrAnd r (λ e. e ≡ x) → (x ≢ ProgramFault fault.E01 → P)
+    → IfErr r (λ e. e ≢ ProgramFault fault.E01 → P)
+unfailed_up P (Ok y) x made f = tt
+unfailed_up P (Err e) x made f = λ other. f (subst (λ (y : RunError). y ≢ ProgramFault fault.E01) made other)
+
+pub returns-in_err-input-clause-read_refused : goal.returns-in_err-input-clause-read_refused
+returns-in_err-input-clause-read_refused g c =
+    unfailed_up _ c.from_residual-in_err-input.result (input_fault c.in_err-input.field-0.0) c.from_residual-in_err-input.ensures.1
+    (unfailed _ c.in_err-input.field-0.0 c.in_err-input.ensures.err_failed)

@@ -3,7 +3,7 @@ use Rattle.std.proofs.Common.{◌≡◌, sym, ◌∙◌, ap, subst, map, inl, in
 use Rattle.pb_report.specs.declared.fault.ProgramFault.TheVariants.{E01, E02}
 use Rattle.pbsolve.specs.declared.run_error.RunError.{RunError}
 use Rattle.pbsolve.specs.declared.run_error.RunError.TheVariants.{ProgramFault}
-use Rattle.pbsolve.specs.declared.status.Status.TheVariants.{Refused, Usage, OutOfMemory, Failed}
+use Rattle.pbsolve.specs.declared.status.Status.TheVariants.{Usage, Failed}
 use Rattle.pbsolve.specs.Status.{code_of}
 use Rattle.pbsolve.specs.Program.{error_line_of, status_of, IsToldAs, Tells}
 use Rattle.pbsolve.proofs.Refusals.{refusal_line, refused_code, usage_code, failed_code, told_usage, told_failed, told_itself}
@@ -15,11 +15,11 @@ returns-in-Err-clause-refused g c s =
     (error_line_of told.0, refusal_line (map g.S.AsStr.text c.args.words.now) (g.R.Source.left c.args.streams.now.input) c.in-Err.error told.0 c.in-Err.ensures.refused told.1 (sym told.2 ∙ refused_code c.tell.result (sym c.from-in-Err.ensures ∙ s)), told.3)
 
 pub returns-in-Err-clause-understood : goal.returns-in-Err-clause-understood
-returns-in-Err-clause-understood g c s asked =
+returns-in-Err-clause-understood g c s =
     let told = c.tell.ensures in
     let status : status_of told.0 ≡ Usage = sym told.2 ∙ usage_code c.tell.result (sym c.from-in-Err.ensures ∙ s) in
     let itself = told_itself c.in-Err.error told.0 told.1 (λ r. cc (status, r)) (λ r. cc (status, r)) in
-    c.in-Err.ensures.understood (ap Err (itself ∙ told_usage told.0 status)) asked
+    c.in-Err.ensures.understood (ap Err (itself ∙ told_usage told.0 status))
 
 pub returns-in-Err-clause-read : goal.returns-in-Err-clause-read
 returns-in-Err-clause-read g c small = c.in-Err.ensures.read_refused (λ (is : c.in-Err.error ≡ ProgramFault E01).

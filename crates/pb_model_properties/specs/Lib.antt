@@ -1,0 +1,6 @@
+pub mod Errors
+pub mod Said
+pub mod Asked
+pub mod Printed
+pub mod Refusals
+pub mod Verdicts

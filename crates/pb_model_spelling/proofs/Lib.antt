@@ -1,0 +1,3 @@
+mod Tokens
+mod Walk
+mod Names

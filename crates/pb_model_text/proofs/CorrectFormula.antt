@@ -1,0 +1,400 @@
+-- Formulas are read rightly.
+use Rattle.std.proofs.Common.{◌≡◌, ℕ, zero, suc, ◌≤◌, Bool, true, false, ◌||◌, List, [], ◌∷◌, ◌++◌, refl, sym, ◌∙◌, subst, arith, ◌⊎◌, inl, inr}
+use Rattle.std.specs.Str.Parse.{digits_value}
+use Rattle.pb_text_tree.specs.declared.place.Place.{Place}
+use Rattle.pb_text_tree.specs.Form.{TermForm, no_arguments}
+use Rattle.pb_model_tree.specs.declared.formula.Modality.{Modality}
+use Rattle.pb_model_tree.specs.declared.formula.Modality.TheVariants as modality
+use Rattle.pb_model_tree.specs.Form.{StepSetForm, FormulaForm}
+use Rattle.pb_text_lexer.specs.declared.fault.ReadingRule.TheVariants.{Limit}
+use Rattle.pb_text_lexer.specs.declared.kind.Kind.{Kind}
+use Rattle.pb_text_lexer.specs.declared.kind.Kind.TheVariants as k
+use Rattle.pb_text_lexer.specs.Kinds.{same_kind, is_last}
+use Rattle.pb_text_lexer.specs.Grammar.{State, Reads, Is, One, First}
+use Rattle.pb_text_lexer.specs.Grammar as grammar
+use Rattle.pb_text_lexer.specs.OpenGrammar.{last, Connected}
+use Rattle.pb_text_lexer.specs.Steps.{Step, pure, take_token, expect, refuse, unless_next, connected, head_kind}
+use Rattle.pb_text_lexer.specs.Steps as step
+use Rattle.pb_text_lexer.specs.Tokens.{Tok}
+use Rattle.pb_text_lexer.proofs.Correct.{st, Family, Stops, never, readable-is, readable-one, some-token, Answering, Correct, then-correct, HeadIs, take-correct, expect-correct, refused-here, Free, Readable, goes-free, free-to, free-then, free-one}
+use Rattle.pb_text_lexer.proofs.CorrectFamilies.{readable-first, readable-deeper, Nowhere, first-correct, deeper, deeper-correct, alike-correct, to-first}
+use Rattle.pb_text_lexer.proofs.CorrectSeries.{going, Passes, head-at}
+use Rattle.pb_text_lexer.proofs.CorrectPlain.{Always, anywhere, then-plain, leaf-correct, is-correct, nothing-correct}
+use Rattle.pb_text_lexer.proofs.CorrectLeft.{unless_next-answers, unless_next-correct, going-alike-answers}
+use Rattle.pb_text_lexer.proofs.CorrectEither.{Not, connects, connected-correct}
+use Rattle.pb_text_terms.specs.Grammar.{Name, Instance, applied, Placed, Equated, IsUnary, IsTerm}
+use Rattle.pb_text_terms.specs.Operators.{connected_by, is_quantifier, is_equality, is_order, is_additive, is_times, is_division}
+use Rattle.pb_text_terms.specs.Reading.{is_open, placed, equated, unary}
+use Rattle.pb_text_terms.proofs.CorrectVariable.{head-kind-is, head-limited, said-correct, stops-at-kind}
+use Rattle.pb_text_terms.proofs.CorrectOperators.{below-connectives, equated_goes, equateds, unary_goes}
+use Rattle.pb_text_terms.proofs.CorrectInstance.{placed-correct}
+use Rattle.pb_text_terms.proofs.CorrectTerm.{unary-correct}
+use Rattle.pb_text_terms.proofs.TermStarts as terms
+use Rattle.pb_model_text.specs.Grammar.{Scope, atom_of, Beginning, Atom, Modal, Begun, FixpointBy, Fixpoint, within, IsStepSet, IsNode, IsFormula}
+use Rattle.pb_model_text.specs.Reading.{is_fixpoint, goes_on, atom, modal, begun, data_operand, step_set, fixpoint_over, node, formula}
+use Rattle.pb_model_text.proofs.CorrectStepSets.{sets_go, readable-sets, step_set-correct}
+use Rattle.pb_model_text.proofs.CorrectBeginning.{beginning-answers}
+use Rattle.pb_model_text.proofs.CorrectFixpoint.{fixpoint-correct, fixpoint-last}
+
+-- what goes on with a node: what goes on with data
+abbrev pub node_goes : Kind → Bool
+node_goes = equated_goes
+
+abbrev pub formula_goes : Kind → Bool
+formula_goes = connects node_goes
+
+-- ---- data
+
+equated-some : (d : ℕ) (s : State) (y : TermForm) (z : State) → Equated (IsUnary d) s y z → Passes (λ kind. true) s.tokens
+equated-some d s y z r = some-token-of s.tokens (terms.node-starts d s y z r)
+  where
+    some-token-of : (ts : List Tok) → Passes (Not is_quantifier) ts → Passes (λ kind. true) ts
+    some-token-of [] h = h
+    some-token-of (t ∷ ts) h = refl
+
+-- what begins with one token, and is an operand of data
+unary-with : (kind : Kind) (level : ℕ) (t : Tok) → Free (λ d. terms.kinds d kind) level (t ∷ []) → Free IsUnary level (t ∷ [])
+unary-with kind level t a =
+    free-to (λ d. terms.kinds d kind) IsUnary (λ x. x) level level
+    (λ s x z r. terms.to-unary level s x z (to-first (terms.kinds level) kind s.tokens s.operators x z (terms.starts (deeper IsUnary level) (deeper IsTerm level) kind s x z r) r)) (t ∷ []) a
+
+free-name : (level : ℕ) (t : Tok) → t.kind ≡ k.Name → Free IsUnary level (t ∷ [])
+free-name level t is =
+    unary-with k.Name level t (
+    free-then (λ d. Instance (deeper IsTerm d)) (λ found d. Is (applied found.name found.arguments)) level (t ∷ [])
+    (free-to (λ d. grammar.◌>>=◌ Name (λ name. Is (record { name = name; arguments = no_arguments }))) (λ d. Instance (deeper IsTerm d)) (λ x. x) level level (λ s x z r. inl r) (t ∷ [])
+    (free-then (λ d. Name) (λ name d. Is (record { name = name; arguments = no_arguments })) level (t ∷ [])
+    (free-then (λ d. One k.Name) (λ token d. Is (record { place = token.place; text = token.text })) level (t ∷ []) (free-one k.Name level t is) (λ token. readable-is (record { place = token.place; text = token.text }) level))
+    (λ name. readable-is (record { name = name; arguments = no_arguments }) level)))
+    (λ found. readable-is (applied found.name found.arguments) level))
+
+free-number : (level : ℕ) (t : Tok) → t.kind ≡ k.Number → Free IsUnary level (t ∷ [])
+free-number level t is =
+    unary-with k.Number level t (
+    free-then (λ d. One k.Number) (λ token d. Is (TermForm.number token.place (digits_value 10 token.text))) level (t ∷ []) (free-one k.Number level t is)
+    (λ token. readable-is (TermForm.number token.place (digits_value 10 token.text)) level))
+
+free-minus : (level : ℕ) (t : Tok) → t.kind ≡ k.Minus → Free IsUnary (suc level) (t ∷ [])
+free-minus level t is =
+    unary-with k.Minus (suc level) t (
+    free-then (λ d. One k.Minus) (λ sign d. grammar.◌>>=◌ (deeper IsUnary d) (λ operand. Is (TermForm.negative sign.place operand))) (suc level) (t ∷ []) (free-one k.Minus (suc level) t is)
+    (λ sign. free-then (deeper IsUnary) (λ operand d. Is (TermForm.negative sign.place operand)) (suc level) [] (readable-deeper IsUnary level (terms.readable-unary level))
+    (λ operand. readable-is (TermForm.negative sign.place operand) (suc level))))
+
+module _ (made : Place → TermForm → FormulaForm) where
+  abbrev atoms : Family FormulaForm
+  atoms d = Atom made (IsUnary d)
+
+  readable-atom : (kind : Kind) (level : ℕ) (t : Tok) → t.kind ≡ kind → Free IsUnary level (t ∷ []) → Readable (λ d. Beginning kind (atoms d)) level
+  readable-atom kind level t is a = record {
+    tail = t ∷ a.tail;
+    value = made t.place a.value;
+    reads = λ n after. (is, ((t.place, a.value), st after n, (inl (inl (inl (inl (a.reads n after)))), refl), (refl, refl)));
+  }
+
+  atoms-some : (d : ℕ) (s : State) (y : FormulaForm) (z : State) → atoms d s y z → Passes (λ kind. true) s.tokens
+  atoms-some d s y z r = equated-some d s r.0.1 r.1 r.2.0
+
+  atom-correct : (depth : ℕ) → Correct Always (atom made (data_operand depth)) atoms node_goes depth
+  unfolding data_operand
+  atom-correct depth =
+      said-correct (λ d. Placed (Equated (IsUnary d))) (λ found. made found.0 found.1) node_goes depth Always (placed (equated (unary depth)))
+      (placed-correct (λ d. Equated (IsUnary d)) node_goes depth equated-some (equated (unary depth)) (equateds (unary depth) IsUnary depth (unary-correct depth)))
+
+  atom-answers : (kind : Kind) (depth : ℕ) → Free IsUnary (suc depth) (some-token kind ∷ []) → Answering (HeadIs kind) (atom made (data_operand depth)) (λ d. Beginning kind (atoms d)) node_goes depth
+  atom-answers kind depth a =
+      beginning-answers atoms node_goes depth kind atoms-some (readable-atom kind (suc depth) (some-token kind) refl a) (atom made (data_operand depth)) (atom-correct depth).answers
+
+-- ---- no data goes on behind what is closed
+
+closed-correct : (P : List Tok → Type 0) (p : Step FormulaForm) (fam : Family FormulaForm) (depth : ℕ) → Correct P p fam never depth → Correct P (unless_next goes_on p) fam node_goes depth
+closed-correct P p fam depth a = unless_next-correct fam never goes_on depth P p a
+
+leaf : (kind : Kind) (f : Tok → FormulaForm) (depth : ℕ) → is_last kind ≡ false
+    → Correct (HeadIs kind) (unless_next goes_on (step.◌>>=◌ take_token (λ t. pure (f t)))) (λ d. grammar.◌>>=◌ (One kind) (λ t. Is (f t))) node_goes depth
+leaf kind f depth ne = closed-correct (HeadIs kind) (step.◌>>=◌ take_token (λ t. pure (f t))) (λ d. grammar.◌>>=◌ (One kind) (λ t. Is (f t))) depth (leaf-correct kind f depth ne)
+
+once-more : (o t a r e : Bool) → (o || ((((o || t) || a) || r) || e)) ≡ ((((o || t) || a) || r) || e)
+once-more true t a r e = refl
+once-more false t a r e = refl
+
+abbrev values : Family FormulaForm
+values d = grammar.◌>>=◌ (One k.Val) (λ word. grammar.◌>>=◌ (IsUnary d) (λ x. Is (FormulaForm.«data» word.place x)))
+
+value-answers : (depth : ℕ)
+    → Answering (HeadIs k.Val) (unless_next goes_on (step.◌>>=◌ take_token (λ word. step.◌>>=◌ (data_operand depth) (λ x. pure (FormulaForm.«data» word.place x))))) values node_goes depth
+unfolding data_operand
+value-answers depth =
+    going-alike-answers (HeadIs k.Val) _ values (going unary_goes goes_on) node_goes depth (λ kind. once-more (is_open kind) (is_times kind || is_division kind) (is_additive kind) (is_order kind) (is_equality kind))
+    (unless_next-answers values unary_goes goes_on depth (HeadIs k.Val) _
+    (then-plain (λ d. One k.Val) (λ word d. grammar.◌>>=◌ (IsUnary d) (λ x. Is (FormulaForm.«data» word.place x))) unary_goes depth (HeadIs k.Val) take_token
+    (λ word. step.◌>>=◌ (unary depth) (λ x. pure (FormulaForm.«data» word.place x))) (take-correct k.Val depth refl)
+    (λ word. said-correct IsUnary (λ x. FormulaForm.«data» word.place x) unary_goes depth Always (unary depth) (unary-correct depth))).answers)
+
+square-closes : sets_go k.CloseSquare ≡ false
+unfolding same_kind
+square-closes = refl
+
+angle-closes : sets_go k.Greater ≡ false
+unfolding same_kind
+angle-closes = refl
+
+formula-closes : formula_goes k.Close ≡ false
+unfolding same_kind
+formula-closes = refl
+
+-- ---- tokens that begin a node
+
+module _ (scope : Scope) where
+  abbrev kinds : ℕ → Kind → Reads FormulaForm
+  kinds d = Begun scope (deeper (IsNode scope) d) (deeper (IsFormula scope) d) (IsUnary d) (deeper IsStepSet d)
+
+  to-node : (d : ℕ) (s : State) (y : FormulaForm) (z : State) → First (kinds d) s y z → IsNode scope d s y z
+  to-node zero s y z r = r
+  to-node (suc d) s y z r = r
+
+  from-node : (d : ℕ) (s : State) (y : FormulaForm) (z : State) → IsNode scope d s y z → First (kinds d) s y z
+  from-node zero s y z r = r
+  from-node (suc d) s y z r = r
+
+  abbrev fixpoints : Family FormulaForm
+  fixpoints d = Fixpoint (λ name. deeper (IsFormula (within scope name)) d)
+
+  abbrev connecteds : Family FormulaForm
+  connecteds d = Connected (connected_by FormulaForm.connected) (IsNode scope d) (fixpoints d)
+
+  to-formula : (d : ℕ) (s : State) (y : FormulaForm) (z : State) → connecteds d s y z → IsFormula scope d s y z
+  to-formula zero s y z r = r
+  to-formula (suc d) s y z r = r
+
+  from-formula : (d : ℕ) (s : State) (y : FormulaForm) (z : State) → IsFormula scope d s y z → connecteds d s y z
+  from-formula zero s y z r = r
+  from-formula (suc d) s y z r = r
+
+  begins : (kind : Kind) (ts : List Tok) → is_last kind ≡ false → head_kind ts ≡ kind → HeadIs kind ts
+  begins kind [] other e = let no : is_last k.End ≡ false = subst (λ (v : Kind). is_last v ≡ false) (sym e) other in cc
+  begins kind (t ∷ ts) other e = e
+
+  starts : (d : ℕ) (kind : Kind) (s : State) (y : FormulaForm) (z : State) → kinds d kind s y z → HeadIs kind s.tokens
+  starts d k.Not s y z r = head-at k.Not s.tokens r.1.tokens r.0 r.2.0 r.2.1
+  starts d k.Open s y z r = head-at k.Open s.tokens r.1.tokens r.0 r.2.0 r.2.1
+  starts d k.OpenSquare s y z r = head-at k.OpenSquare s.tokens r.1.tokens r.0 r.2.0 r.2.1
+  starts d k.Less s y z r = head-at k.Less s.tokens r.1.tokens r.0 r.2.0 r.2.1
+  starts d k.True s y z r = head-at k.True s.tokens r.1.tokens r.0 r.2.0 r.2.1
+  starts d k.False s y z r = head-at k.False s.tokens r.1.tokens r.0 r.2.0 r.2.1
+  starts d k.Val s y z r = head-at k.Val s.tokens r.1.tokens r.0 r.2.0 r.2.1
+  starts d k.Name s y z r = begins k.Name s.tokens refl r.0
+  starts d k.Number s y z r = begins k.Number s.tokens refl r.0
+  starts d k.Minus s y z r = begins k.Minus s.tokens refl r.0
+  starts d _ s y z r = absurd r
+
+  -- ---- formulas that are always there
+
+  readable-true : (level : ℕ) → Readable (λ d. kinds d k.True) level
+  readable-true level =
+      free-then (λ d. One k.True) (λ word d. Is (FormulaForm.constant word.place true)) level [] (readable-one k.True level) (λ word. readable-is (FormulaForm.constant word.place true) level)
+
+  readable-node : (level : ℕ) → Readable (IsNode scope) level
+  readable-node level =
+      free-to (λ d. First (kinds d)) (IsNode scope) (λ x. x) level level (to-node level) []
+      (readable-first kinds never 0 starts k.True level (readable-true level))
+
+  pub readable-formula : (level : ℕ) → Readable (IsFormula scope) level
+  readable-formula level = free-to (IsNode scope) (IsFormula scope) (λ x. x) level level single [] (readable-node level)
+    where
+      single : (s : State) (y : FormulaForm) (z : State) → IsNode scope level s y z → IsFormula scope level s y z
+      single s y z r = to-formula level s y z (last (last (last (inl r))))
+
+  -- ---- where no level may open
+
+  no-level-not : (d : ℕ) (s : State) (y : FormulaForm) (w : State) → d ≤ 0 → kinds d k.Not s y w → ⊥
+  no-level-not zero s y w le r = r.3.2
+  no-level-not (suc d) s y w le r = omega arith
+
+  no-level-open : (d : ℕ) (s : State) (y : FormulaForm) (w : State) → d ≤ 0 → kinds d k.Open s y w → ⊥
+  no-level-open zero s y w le r = r.3.2
+  no-level-open (suc d) s y w le r = omega arith
+
+  no-level-square : (d : ℕ) (s : State) (y : FormulaForm) (w : State) → d ≤ 0 → kinds d k.OpenSquare s y w → ⊥
+  no-level-square zero s y w le r = r.3.2
+  no-level-square (suc d) s y w le r = omega arith
+
+  no-level-angle : (d : ℕ) (s : State) (y : FormulaForm) (w : State) → d ≤ 0 → kinds d k.Less s y w → ⊥
+  no-level-angle zero s y w le r = r.3.2
+  no-level-angle (suc d) s y w le r = omega arith
+
+  free-not : (t : Tok) → t.kind ≡ k.Not → Free (λ d. kinds d k.Not) 1 (t ∷ [])
+  free-not t is =
+      free-then (λ d. One k.Not) (λ sign d. grammar.◌>>=◌ (deeper (IsNode scope) d) (λ operand. Is (FormulaForm.negation sign.place operand))) 1 (t ∷ []) (free-one k.Not 1 t is) (λ sign.
+      free-then (deeper (IsNode scope)) (λ operand d. Is (FormulaForm.negation sign.place operand)) 1 [] (readable-deeper (IsNode scope) 0 (readable-node 0))
+      (λ operand. readable-is (FormulaForm.negation sign.place operand) 1))
+
+  free-bracket : (t : Tok) → t.kind ≡ k.Open → Free (λ d. kinds d k.Open) 1 (t ∷ [])
+  free-bracket t is =
+      free-then (λ d. One k.Open) (λ open_bracket d. grammar.◌>>=◌ (deeper (IsFormula scope) d) (λ inner. grammar.◌>>=◌ (One k.Close) (λ close_bracket. Is inner))) 1 (t ∷ []) (free-one k.Open 1 t is) (λ open_bracket.
+      free-then (deeper (IsFormula scope)) (λ inner d. grammar.◌>>=◌ (One k.Close) (λ close_bracket. Is inner)) 1 [] (readable-deeper (IsFormula scope) 0 (readable-formula 0)) (λ inner.
+      free-then (λ d. One k.Close) (λ close_bracket d. Is inner) 1 [] (readable-one k.Close 1) (λ close_bracket. readable-is inner 1)))
+
+  abbrev modals : Modality → Kind → Tok → Family FormulaForm
+  modals modality close open_bracket d = Modal modality close (deeper (IsNode scope) d) (deeper IsStepSet d) open_bracket
+
+  free-modal : (opening closing : Kind) (modality : Modality) (t : Tok) → t.kind ≡ opening → Free (λ d. grammar.◌>>=◌ (One opening) (λ open_bracket. modals modality closing open_bracket d)) 1 (t ∷ [])
+  free-modal opening closing modality t is =
+      free-then (λ d. One opening) (λ open_bracket d. modals modality closing open_bracket d) 1 (t ∷ []) (free-one opening 1 t is) (λ open_bracket.
+      free-then (deeper IsStepSet) (λ steps d. grammar.◌>>=◌ (One closing) (λ close_bracket. grammar.◌>>=◌ (deeper (IsNode scope) d) (λ operand. Is (FormulaForm.modal modality open_bracket.place steps operand)))) 1 []
+      (readable-deeper IsStepSet 0 (readable-sets 0)) (λ steps.
+      free-then (λ d. One closing) (λ close_bracket d. grammar.◌>>=◌ (deeper (IsNode scope) d) (λ operand. Is (FormulaForm.modal modality open_bracket.place steps operand))) 1 [] (readable-one closing 1) (λ close_bracket.
+      free-then (deeper (IsNode scope)) (λ operand d. Is (FormulaForm.modal modality open_bracket.place steps operand)) 1 [] (readable-deeper (IsNode scope) 0 (readable-node 0))
+      (λ operand. readable-is (FormulaForm.modal modality open_bracket.place steps operand) 1))))
+
+  abbrev begun-last : Kind → Step FormulaForm
+  begun-last = begun scope (refuse Limit) (refuse Limit) (refuse Limit) (data_operand 0) (refuse Limit)
+
+  at-last : (kind : Kind) → Answering (HeadIs kind) (begun-last kind) (λ d. kinds d kind) node_goes 0 ⊎ Nowhere (begun-last kind) (λ d. kinds d kind)
+  at-last k.Not = inl (λ s end h. refused-here (λ d. kinds d k.Not) node_goes 0 s Limit end (λ q. head-limited k.Not s.tokens h refl) (λ d n t tail y w head within r over. no-level-not d (st (t ∷ tail) n) y w within.0 r)
+      (λ t is. goes-free (λ d. kinds d k.Not) 1 (suc s.operators) (t ∷ []) (free-not t (is ∙ head-kind-is k.Not s.tokens h))))
+  at-last k.Open = inl (λ s end h. refused-here (λ d. kinds d k.Open) node_goes 0 s Limit end (λ q. head-limited k.Open s.tokens h refl) (λ d n t tail y w head within r over. no-level-open d (st (t ∷ tail) n) y w within.0 r)
+      (λ t is. goes-free (λ d. kinds d k.Open) 1 (suc s.operators) (t ∷ []) (free-bracket t (is ∙ head-kind-is k.Open s.tokens h))))
+  at-last k.OpenSquare = inl (λ s end h. refused-here (λ d. kinds d k.OpenSquare) node_goes 0 s Limit end (λ q. head-limited k.OpenSquare s.tokens h refl) (λ d n t tail y w head within r over. no-level-square d (st (t ∷ tail) n) y w within.0 r)
+      (λ t is. goes-free (λ d. kinds d k.OpenSquare) 1 (suc s.operators) (t ∷ []) (free-modal k.OpenSquare k.CloseSquare modality.Box t (is ∙ head-kind-is k.OpenSquare s.tokens h))))
+  at-last k.Less = inl (λ s end h. refused-here (λ d. kinds d k.Less) node_goes 0 s Limit end (λ q. head-limited k.Less s.tokens h refl) (λ d n t tail y w head within r over. no-level-angle d (st (t ∷ tail) n) y w within.0 r)
+      (λ t is. goes-free (λ d. kinds d k.Less) 1 (suc s.operators) (t ∷ []) (free-modal k.Less k.Greater modality.Diamond t (is ∙ head-kind-is k.Less s.tokens h))))
+  at-last k.True = inl (leaf k.True (λ t. FormulaForm.constant t.place true) 0 refl).answers
+  at-last k.False = inl (leaf k.False (λ t. FormulaForm.constant t.place false) 0 refl).answers
+  at-last k.Val = inl (value-answers 0)
+  at-last k.Name = inl (atom-answers (atom_of scope) k.Name 0 (free-name 1 (some-token k.Name) refl))
+  at-last k.Number = inl (atom-answers FormulaForm.«data» k.Number 0 (free-number 1 (some-token k.Number) refl))
+  at-last k.Minus = inl (atom-answers FormulaForm.«data» k.Minus 0 (free-minus 0 (some-token k.Minus) refl))
+  at-last kind = inr nothing-correct
+
+  -- ---- where a level may open
+
+  module _ (depth : ℕ) (right-node : Correct Always (node scope depth) (IsNode scope) node_goes depth) (right-formula : Correct Always (formula scope depth) (IsFormula scope) formula_goes depth) where
+    inner-node : Correct Always (node scope depth) (deeper (IsNode scope)) node_goes (suc depth)
+    inner-node = deeper-correct Always (node scope depth) (IsNode scope) node_goes depth right-node
+
+    abbrev begun-over : Kind → Step FormulaForm
+    begun-over = begun scope take_token (node scope depth) (formula scope depth) (data_operand (suc depth)) (step_set depth)
+
+    negated : Correct (HeadIs k.Not) (begun-over k.Not) (λ d. kinds d k.Not) node_goes (suc depth)
+    negated =
+        then-plain (λ d. One k.Not) (λ sign d. grammar.◌>>=◌ (deeper (IsNode scope) d) (λ operand. Is (FormulaForm.negation sign.place operand))) node_goes (suc depth)
+        (HeadIs k.Not) take_token (λ sign. step.◌>>=◌ (node scope depth) (λ operand. pure (FormulaForm.negation sign.place operand))) (take-correct k.Not (suc depth) refl)
+        (λ sign. said-correct (deeper (IsNode scope)) (λ operand. FormulaForm.negation sign.place operand) node_goes (suc depth) Always (node scope depth) inner-node)
+
+    bracketed : Correct (HeadIs k.Open) (begun-over k.Open) (λ d. kinds d k.Open) node_goes (suc depth)
+    bracketed =
+        closed-correct (HeadIs k.Open) _ (λ d. kinds d k.Open) (suc depth)
+        (then-plain (λ d. One k.Open) (λ open_bracket d. grammar.◌>>=◌ (deeper (IsFormula scope) d) (λ inner. grammar.◌>>=◌ (One k.Close) (λ close_bracket. Is inner))) never (suc depth)
+        (HeadIs k.Open) take_token (λ open_bracket. step.◌>>=◌ (formula scope depth) (λ inner. step.◌>>=◌ (expect k.Close) (λ close_bracket. pure inner))) (take-correct k.Open (suc depth) refl)
+        (λ open_bracket. then-correct (deeper (IsFormula scope)) (λ inner d. grammar.◌>>=◌ (One k.Close) (λ close_bracket. Is inner)) formula_goes never (suc depth)
+        (λ d x m y z r over. stops-at-kind formula_goes k.Close formula-closes m.tokens r.1.tokens r.0 r.2.0 r.2.1) Always (formula scope depth) _
+        (deeper-correct Always (formula scope depth) (IsFormula scope) formula_goes depth right-formula) (λ inner.
+        anywhere (Stops formula_goes) _ (λ d. grammar.◌>>=◌ (One k.Close) (λ close_bracket. Is inner)) never (suc depth)
+        (then-plain (λ d. One k.Close) (λ close_bracket d. Is inner) never (suc depth) Always (expect k.Close) (λ close_bracket. pure inner) (expect-correct k.Close (suc depth) refl)
+        (λ close_bracket. is-correct inner (suc depth))))))
+
+    modal-correct : (opening closing : Kind) (modality : Modality) → is_last opening ≡ false → is_last closing ≡ false → sets_go closing ≡ false
+        → Correct (HeadIs opening) (modal modality closing take_token (node scope depth) (step_set depth)) (λ d. grammar.◌>>=◌ (One opening) (λ open_bracket. modals modality closing open_bracket d)) node_goes (suc depth)
+    modal-correct opening closing modality ne ce closes =
+        then-plain (λ d. One opening) (λ open_bracket d. modals modality closing open_bracket d) node_goes (suc depth) (HeadIs opening) take_token _ (take-correct opening (suc depth) ne) (λ open_bracket.
+        then-correct (deeper IsStepSet) (λ steps d. grammar.◌>>=◌ (One closing) (λ close_bracket. grammar.◌>>=◌ (deeper (IsNode scope) d) (λ operand. Is (FormulaForm.modal modality open_bracket.place steps operand))))
+        sets_go node_goes (suc depth) (λ d x m y z r over. stops-at-kind sets_go closing closes m.tokens r.1.tokens r.0 r.2.0 r.2.1) Always (step_set depth) _
+        (deeper-correct Always (step_set depth) IsStepSet sets_go depth (step_set-correct depth)) (λ steps.
+        anywhere (Stops sets_go) _ _ node_goes (suc depth)
+        (then-plain (λ d. One closing) (λ close_bracket d. grammar.◌>>=◌ (deeper (IsNode scope) d) (λ operand. Is (FormulaForm.modal modality open_bracket.place steps operand))) node_goes (suc depth)
+        Always (expect closing) (λ close_bracket. step.◌>>=◌ (node scope depth) (λ operand. pure (FormulaForm.modal modality open_bracket.place steps operand))) (expect-correct closing (suc depth) ce) (λ close_bracket.
+        said-correct (deeper (IsNode scope)) (λ operand. FormulaForm.modal modality open_bracket.place steps operand) node_goes (suc depth) Always (node scope depth) inner-node))))
+
+    at-each : (kind : Kind) → Answering (HeadIs kind) (begun-over kind) (λ d. kinds d kind) node_goes (suc depth) ⊎ Nowhere (begun-over kind) (λ d. kinds d kind)
+    at-each k.Not = inl negated.answers
+    at-each k.Open = inl bracketed.answers
+    at-each k.OpenSquare = inl (modal-correct k.OpenSquare k.CloseSquare modality.Box refl refl square-closes).answers
+    at-each k.Less = inl (modal-correct k.Less k.Greater modality.Diamond refl refl angle-closes).answers
+    at-each k.True = inl (leaf k.True (λ t. FormulaForm.constant t.place true) (suc depth) refl).answers
+    at-each k.False = inl (leaf k.False (λ t. FormulaForm.constant t.place false) (suc depth) refl).answers
+    at-each k.Val = inl (value-answers (suc depth))
+    at-each k.Name = inl (atom-answers (atom_of scope) k.Name (suc depth) (free-name (suc (suc depth)) (some-token k.Name) refl))
+    at-each k.Number = inl (atom-answers FormulaForm.«data» k.Number (suc depth) (free-number (suc (suc depth)) (some-token k.Number) refl))
+    at-each k.Minus = inl (atom-answers FormulaForm.«data» k.Minus (suc depth) (free-minus (suc depth) (some-token k.Minus) refl))
+    at-each kind = inr nothing-correct
+
+    node-over : Correct Always (node scope (suc depth)) (IsNode scope) node_goes (suc depth)
+    unfolding node
+    node-over =
+        alike-correct Always (node scope (suc depth)) (λ d. First (kinds d)) (IsNode scope) node_goes (suc depth) to-node from-node
+        (first-correct kinds node_goes (suc depth) starts begun-over at-each k.True (readable-true (suc depth)) (readable-true (suc (suc depth))))
+
+  node-last : Correct Always (node scope 0) (IsNode scope) node_goes 0
+  unfolding node
+  node-last =
+      alike-correct Always (node scope 0) (λ d. First (kinds d)) (IsNode scope) node_goes 0 to-node from-node
+      (first-correct kinds node_goes 0 starts begun-last at-last k.True (readable-true 0) (readable-true 1))
+
+  -- ---- the connectives
+
+  -- a node begins with no fixpoint's word, and a fixpoint with one
+  node-starts : (d : ℕ) (s : State) (y : FormulaForm) (z : State) → IsNode scope d s y z → Passes (Not is_fixpoint) s.tokens
+  node-starts d s y z r = at s.tokens s.operators (from-node d s y z r)
+    where
+      plain : (kind : Kind) (s : State) → kinds d kind s y z → Not is_fixpoint kind ≡ true
+      plain k.Not s r = refl
+      plain k.Open s r = refl
+      plain k.OpenSquare s r = refl
+      plain k.Less s r = refl
+      plain k.True s r = refl
+      plain k.False s r = refl
+      plain k.Val s r = refl
+      plain k.Name s r = refl
+      plain k.Number s r = refl
+      plain k.Minus s r = refl
+      plain _ s r = absurd r
+
+      at : (ts : List Tok) (n : ℕ) → First (kinds d) (st ts n) y z → Passes (Not is_fixpoint) ts
+      at [] n r = r
+      at (t ∷ ts) n r = plain t.kind (st (t ∷ ts) n) r
+
+  fixpoint-starts : (d : ℕ) (s : State) (y : FormulaForm) (z : State) → fixpoints d s y z → Passes is_fixpoint s.tokens
+  fixpoint-starts d s y z r = at s.tokens s.operators r
+    where
+      plain : (kind : Kind) (s : State) → FixpointBy (λ name. deeper (IsFormula (within scope name)) d) kind s y z → is_fixpoint kind ≡ true
+      plain k.Mu s r = refl
+      plain k.Nu s r = refl
+      plain _ s r = absurd r
+
+      at : (ts : List Tok) (n : ℕ) → fixpoints d (st ts n) y z → Passes is_fixpoint ts
+      at [] n r = r
+      at (t ∷ ts) n r = plain t.kind (st (t ∷ ts) n) r
+
+  connections-correct : (depth : ℕ) (n q : Step FormulaForm) → Correct Always n (IsNode scope) node_goes depth → Answering (Passes is_fixpoint) q fixpoints formula_goes depth
+      → Correct Always (connected (connected_by FormulaForm.connected) is_fixpoint n q) (IsFormula scope) formula_goes depth
+  connections-correct depth n q right-n right-q =
+      alike-correct Always (connected (connected_by FormulaForm.connected) is_fixpoint n q) connecteds (IsFormula scope) formula_goes depth to-formula from-formula
+      (connected-correct (connected_by FormulaForm.connected) (IsNode scope) fixpoints node_goes is_fixpoint depth below-connectives node-starts fixpoint-starts n q right-n right-q)
+
+formulas-last : (scope : Scope) → Correct Always (formula scope 0) (IsFormula scope) formula_goes 0
+unfolding node formula
+formulas-last scope =
+    connections-correct scope 0 (node scope 0) (fixpoint_over (refuse Limit) (λ name. refuse Limit)) (node-last scope)
+    (fixpoint-last (λ name. IsFormula (within scope name)) formula_goes (λ name. readable-formula (within scope name) 0) (λ name. refuse Limit))
+
+formulas-over : (scope : Scope) (depth : ℕ) → Correct Always (node scope (suc depth)) (IsNode scope) node_goes (suc depth)
+    → ((name : List ℕ) → Correct Always (formula (within scope name) depth) (IsFormula (within scope name)) formula_goes depth)
+    → Correct Always (formula scope (suc depth)) (IsFormula scope) formula_goes (suc depth)
+unfolding node formula
+formulas-over scope depth n f =
+    connections-correct scope (suc depth) (node scope (suc depth)) (fixpoint_over take_token (λ name. formula (within scope name) depth)) n
+    (fixpoint-correct (λ name. IsFormula (within scope name)) formula_goes depth (λ name. formula (within scope name) depth) f).answers
+
+-- both, so many levels being open to them, in any scope
+pub record AreCorrect (depth : ℕ) : Type 0 where
+  pub nodes : (scope : Scope) → Correct Always (node scope depth) (IsNode scope) node_goes depth
+  pub formulas : (scope : Scope) → Correct Always (formula scope depth) (IsFormula scope) formula_goes depth
+
+pub formulas-correct : (depth : ℕ) → AreCorrect depth
+formulas-correct zero = record { nodes = node-last; formulas = formulas-last }
+formulas-correct (suc depth) =
+    let less = formulas-correct depth in record {
+      nodes = λ scope. node-over scope depth (less.nodes scope) (less.formulas scope);
+      formulas = λ scope. formulas-over scope depth (node-over scope depth (less.nodes scope) (less.formulas scope)) (λ name. less.formulas (within scope name));
+    }

@@ -1,0 +1,330 @@
+-- Steps, properties and whole models are read rightly.
+use Rattle.std.proofs.Common.{◌≡◌, ℕ, zero, suc, ◌≤◌, Bool, true, false, cond, List, [], ◌∷◌, ◌++◌, refl, sym, ◌∙◌, ap, subst, append_assoc, arith, Ok, Err}
+use Rattle.pb_text_tree.specs.declared.place.Place.{Place}
+use Rattle.pb_text_tree.specs.Form.{TermForm, RangeForm}
+use Rattle.pb_model_tree.specs.Form.{AssignmentForm, StepForm, InitialForm, PropertyForm, ModelForm}
+use Rattle.pb_text_lexer.specs.declared.fault.ReadingRule.TheVariants.{Unexpected, Limit}
+use Rattle.pb_text_lexer.specs.declared.fault.Refusal.{Refusal}
+use Rattle.pb_text_lexer.specs.declared.kind.Kind.{Kind}
+use Rattle.pb_text_lexer.specs.declared.kind.Kind.TheVariants as k
+use Rattle.pb_text_lexer.specs.Kinds.{same_kind, is_last, is_limited}
+use Rattle.pb_text_lexer.specs.Grammar.{State, Within, going_on, Reads, Is, One, CountedApart}
+use Rattle.pb_text_lexer.specs.Grammar as grammar
+use Rattle.pb_text_lexer.specs.LeftGrammar.{Listed}
+use Rattle.pb_text_lexer.specs.Steps.{ends, Step, Outcome, and_then, pure, expect, refuse, refusal, kind, head_kind, nothing_between}
+use Rattle.pb_text_lexer.specs.Steps as step
+use Rattle.pb_text_lexer.specs.Tokens.{Tok}
+use Rattle.pb_text_lexer.proofs.TokenLemmas.{kind-same, same-kind}
+use Rattle.pb_text_lexer.proofs.Correct.{st, Family, Stops, never, GoesOn, goes-ended, reaches-read, some-token, Took, Answers, Correct, move, then-correct, expect-correct, unlike, pure-correct}
+use Rattle.pb_text_lexer.proofs.CorrectFamilies.{own-correct}
+use Rattle.pb_text_lexer.proofs.CorrectSeries.{going, Passes}
+use Rattle.pb_text_lexer.proofs.CorrectPlain.{Always, anywhere, then-plain, is-correct}
+use Rattle.pb_text_terms.specs.Grammar.{Name, Variables, Placed, arguments_of, IsTerm}
+use Rattle.pb_text_terms.specs.Reading.{name, variables, is_open, is_comma, placed, argument_list, term}
+use Rattle.pb_text_terms.proofs.CorrectVariable.{name-correct, variables-correct, commas, listed-correct, stops-at-kind, said-correct}
+use Rattle.pb_text_terms.proofs.CorrectOperators.{term_goes, comma-apart, list_goes}
+use Rattle.pb_text_terms.proofs.CorrectInstance.{placed-correct}
+use Rattle.pb_text_terms.proofs.CorrectTerm.{term-correct}
+use Rattle.pb_text_terms.proofs.TermStarts.{deeper-some}
+use Rattle.pb_text.specs.Grammar.{SortParts}
+use Rattle.pb_text.specs.Reading.{is_name, sort_parts, parameters}
+use Rattle.pb_text.proofs.CorrectSorts.{passes-kind, token-correct, many-correct, parts_go, sort_parts-correct}
+use Rattle.pb_text.proofs.CorrectText.{parameters_of, parameters-correct}
+use Rattle.pb_model_text.specs.Grammar.{IsFormula, IsAssignment, IsStep, Steps, IsInitial, IsProperty, Properties, IsModel, IsModelText}
+use Rattle.pb_model_text.specs.Parsing.{BeginsModel, StaysWithin}
+use Rattle.pb_model_text.specs.Reading.{is_property, formula, assignment, assignments, step_parts, steps, initial_parts, initial, property_parts, property, properties, model, whole_model}
+use Rattle.pb_model_text.specs.Reading as reading
+use Rattle.pb_model_text.proofs.CorrectFormula.{formula_goes, formulas-correct}
+
+-- Before one of the tokens a fault stands: no list that begins with those up to it, and it, is a model within the limits.
+pub record IsFault (depth operators : ℕ) (tokens : List Tok) (bad : Refusal) : Type 0 where
+  pub front : List Tok
+  pub next : Tok
+  pub more : List Tok
+  pub cut : tokens ≡ front ++ next ∷ more
+  pub kind : bad.kind ≡ next.kind
+  pub place : bad.place ≡ next.place
+  pub limited : bad.rule ≡ Limit → is_limited next.kind ≡ true
+  pub none : (d n : ℕ) (tail : List Tok) (ranges : List RangeForm) (y : ModelForm) → Within bad.rule depth operators d n → IsModelText d n (front ++ next ∷ tail) ranges y → ⊥
+  pub goes_on : BeginsModel (suc depth) (suc operators) (front ++ going_on bad.rule next)
+  pub first : StaysWithin depth operators front
+
+-- the tokens are this model, within the limits, and no other, within any
+pub record IsRead (depth operators : ℕ) (tokens : List Tok) (ranges : List RangeForm) (x : ModelForm) : Type 0 where
+  pub front : List Tok
+  pub end : Tok
+  pub cut : tokens ≡ front ++ end ∷ []
+  pub end_is : end.kind ≡ k.End
+  pub reads : IsModelText depth operators tokens ranges x
+  pub only : (d n : ℕ) (y : ModelForm) → IsModelText d n tokens ranges y → y ≡ x
+
+-- ---- steps
+
+assignment-correct : (depth : ℕ) → Correct Always (assignment depth) IsAssignment term_goes depth
+unfolding assignment
+assignment-correct depth =
+    then-plain (λ d. Name) (λ variable d. grammar.◌>>=◌ (One k.Assign) (λ assign. grammar.◌>>=◌ (IsTerm d) (λ value. Is (record { variable = variable; value = value })))) term_goes depth
+    Always name _ (name-correct depth) (λ variable.
+    then-plain (λ d. One k.Assign) (λ assign d. grammar.◌>>=◌ (IsTerm d) (λ value. Is (record { variable = variable; value = value }))) term_goes depth
+    Always (expect k.Assign) _ (expect-correct k.Assign depth refl) (λ assign.
+    said-correct IsTerm (λ value. record { variable = variable; value = value }) term_goes depth Always (term depth) (term-correct depth)))
+
+assignments-correct : (depth : ℕ) → Correct Always (assignments depth) (λ d. Listed (IsAssignment d) (One k.Comma)) list_goes depth
+assignments-correct depth = listed-correct IsAssignment term_goes depth comma-apart (assignment depth) (assignment-correct depth)
+
+colon-stops : going never is_open k.Colon ≡ false
+unfolding same_kind
+colon-stops = refl
+
+arrow-stops : term_goes k.Arrow ≡ false
+unfolding same_kind
+arrow-stops = refl
+
+semicolon-stops : list_goes k.Semicolon ≡ false
+unfolding same_kind
+semicolon-stops = refl
+
+step_parts-correct : (depth : ℕ) → Correct Always (step_parts depth) IsStep never depth
+unfolding step_parts
+step_parts-correct depth =
+    then-plain (λ d. Name) (λ found d. grammar.◌>>=◌ (parameters_of d) (λ own. grammar.◌>>=◌ (One k.Colon) (λ colon. grammar.◌>>=◌ (IsTerm d) (λ guard. grammar.◌>>=◌ (One k.Arrow) (λ arrow. grammar.◌>>=◌ (Listed (IsAssignment d) (One k.Comma)) (λ assigned. grammar.◌>>=◌ (One k.Semicolon) (λ semicolon. Is (record { name = found; variables = own; guard = guard; assignments = assigned })))))))) never depth
+    Always name _ (name-correct depth) (λ found.
+    then-correct parameters_of (λ own d. grammar.◌>>=◌ (One k.Colon) (λ colon. grammar.◌>>=◌ (IsTerm d) (λ guard. grammar.◌>>=◌ (One k.Arrow) (λ arrow. grammar.◌>>=◌ (Listed (IsAssignment d) (One k.Comma)) (λ assigned. grammar.◌>>=◌ (One k.Semicolon) (λ semicolon. Is (record { name = found; variables = own; guard = guard; assignments = assigned }))))))) (going never is_open) never depth
+    (λ d x m y z r over. stops-at-kind (going never is_open) k.Colon colon-stops m.tokens r.1.tokens r.0 r.2.0 r.2.1) Always (parameters depth) _ (parameters-correct depth) (λ own. anywhere (Stops (going never is_open)) _ _ never depth (
+    then-plain (λ d. One k.Colon) (λ colon d. grammar.◌>>=◌ (IsTerm d) (λ guard. grammar.◌>>=◌ (One k.Arrow) (λ arrow. grammar.◌>>=◌ (Listed (IsAssignment d) (One k.Comma)) (λ assigned. grammar.◌>>=◌ (One k.Semicolon) (λ semicolon. Is (record { name = found; variables = own; guard = guard; assignments = assigned })))))) never depth
+    Always (expect k.Colon) _ (expect-correct k.Colon depth refl) (λ colon.
+    then-correct IsTerm (λ guard d. grammar.◌>>=◌ (One k.Arrow) (λ arrow. grammar.◌>>=◌ (Listed (IsAssignment d) (One k.Comma)) (λ assigned. grammar.◌>>=◌ (One k.Semicolon) (λ semicolon. Is (record { name = found; variables = own; guard = guard; assignments = assigned }))))) term_goes never depth
+    (λ d x m y z r over. stops-at-kind term_goes k.Arrow arrow-stops m.tokens r.1.tokens r.0 r.2.0 r.2.1) Always (term depth) _ (term-correct depth) (λ guard. anywhere (Stops term_goes) _ _ never depth (
+    then-plain (λ d. One k.Arrow) (λ arrow d. grammar.◌>>=◌ (Listed (IsAssignment d) (One k.Comma)) (λ assigned. grammar.◌>>=◌ (One k.Semicolon) (λ semicolon. Is (record { name = found; variables = own; guard = guard; assignments = assigned })))) never depth
+    Always (expect k.Arrow) _ (expect-correct k.Arrow depth refl) (λ arrow.
+    then-correct (λ d. Listed (IsAssignment d) (One k.Comma)) (λ assigned d. grammar.◌>>=◌ (One k.Semicolon) (λ semicolon. Is (record { name = found; variables = own; guard = guard; assignments = assigned }))) list_goes never depth
+    (λ d x m y z r over. stops-at-kind list_goes k.Semicolon semicolon-stops m.tokens r.1.tokens r.0 r.2.0 r.2.1) Always (assignments depth) _ (assignments-correct depth)
+    (λ assigned. anywhere (Stops list_goes) _ _ never depth (token-correct k.Semicolon depth (record { name = found; variables = own; guard = guard; assignments = assigned }) refl)))))))))
+
+step-correct : (depth : ℕ) → Correct Always (reading.step depth) (λ d. CountedApart (IsStep d)) never depth
+unfolding reading.step
+step-correct depth = own-correct Always (step_parts depth) IsStep never depth (step_parts-correct depth)
+
+step-starts : (d : ℕ) (s : State) (x : StepForm) (z : State) → CountedApart (IsStep d) s x z → Passes is_name s.tokens
+step-starts d s x z r = let q = r.1 in passes-kind k.Name s.tokens q.2.1.tokens q.2.0 q.2.2.0 q.2.2.1
+
+abbrev steps_go : Kind → Bool
+steps_go = going never is_name
+
+steps-correct : (depth : ℕ) → Correct Always (steps depth) Steps steps_go depth
+steps-correct depth =
+    many-correct (λ d. CountedApart (IsStep d)) never is_name depth (λ kind h. refl) step-starts (λ x. x ∷ []) (λ x u xs. x ∷ xs) (reading.step depth) (step-correct depth)
+
+-- ---- the initial state
+
+values-correct : (depth : ℕ) → Correct Always (argument_list (term depth)) (λ d. Listed (Placed (IsTerm d)) (One k.Comma)) list_goes depth
+values-correct depth =
+    listed-correct (λ d. Placed (IsTerm d)) term_goes depth comma-apart (placed (term depth)) (placed-correct IsTerm term_goes depth (λ d s y z r. deeper-some (suc d) s y z r) (term depth) (term-correct depth))
+
+initial_parts-correct : (depth : ℕ) → Correct Always (initial_parts depth) IsInitial never depth
+unfolding initial_parts
+initial_parts-correct depth =
+    then-plain (λ d. One k.Init) (λ word d. grammar.◌>>=◌ (Listed (Placed (IsTerm d)) (One k.Comma)) (λ values. grammar.◌>>=◌ (One k.Semicolon) (λ semicolon. Is (record { place = word.place; values = arguments_of values })))) never depth
+    Always (expect k.Init) _ (expect-correct k.Init depth refl) (λ word.
+    then-correct (λ d. Listed (Placed (IsTerm d)) (One k.Comma)) (λ values d. grammar.◌>>=◌ (One k.Semicolon) (λ semicolon. Is (record { place = word.place; values = arguments_of values }))) list_goes never depth
+    (λ d x m y z r over. stops-at-kind list_goes k.Semicolon semicolon-stops m.tokens r.1.tokens r.0 r.2.0 r.2.1) Always (argument_list (term depth)) _ (values-correct depth)
+    (λ values. anywhere (Stops list_goes) _ _ never depth (token-correct k.Semicolon depth (record { place = word.place; values = arguments_of values }) refl)))
+
+initial-correct : (depth : ℕ) → Correct Always (initial depth) (λ d. CountedApart (IsInitial d)) never depth
+unfolding initial
+initial-correct depth = own-correct Always (initial_parts depth) IsInitial never depth (initial_parts-correct depth)
+
+-- ---- properties
+
+formula-stops : formula_goes k.Semicolon ≡ false
+unfolding same_kind
+formula-stops = refl
+
+property_parts-correct : (depth : ℕ) → Correct Always (property_parts depth) IsProperty never depth
+unfolding property_parts
+property_parts-correct depth =
+    then-plain (λ d. One k.Property) (λ word d. grammar.◌>>=◌ Name (λ found. grammar.◌>>=◌ (One k.Is) (λ is. grammar.◌>>=◌ (IsFormula [] d) (λ x. grammar.◌>>=◌ (One k.Semicolon) (λ semicolon. Is (record { name = found; formula = x })))))) never depth
+    Always (expect k.Property) _ (expect-correct k.Property depth refl) (λ word.
+    then-plain (λ d. Name) (λ found d. grammar.◌>>=◌ (One k.Is) (λ is. grammar.◌>>=◌ (IsFormula [] d) (λ x. grammar.◌>>=◌ (One k.Semicolon) (λ semicolon. Is (record { name = found; formula = x }))))) never depth
+    Always name _ (name-correct depth) (λ found.
+    then-plain (λ d. One k.Is) (λ is d. grammar.◌>>=◌ (IsFormula [] d) (λ x. grammar.◌>>=◌ (One k.Semicolon) (λ semicolon. Is (record { name = found; formula = x })))) never depth
+    Always (expect k.Is) _ (expect-correct k.Is depth refl) (λ is.
+    then-correct (IsFormula []) (λ x d. grammar.◌>>=◌ (One k.Semicolon) (λ semicolon. Is (record { name = found; formula = x }))) formula_goes never depth
+    (λ d x m y z r over. stops-at-kind formula_goes k.Semicolon formula-stops m.tokens r.1.tokens r.0 r.2.0 r.2.1) Always (formula [] depth) _ ((formulas-correct depth).formulas [])
+    (λ x. anywhere (Stops formula_goes) _ _ never depth (token-correct k.Semicolon depth (record { name = found; formula = x }) refl)))))
+
+property-correct : (depth : ℕ) → Correct Always (property depth) (λ d. CountedApart (IsProperty d)) never depth
+unfolding property
+property-correct depth = own-correct Always (property_parts depth) IsProperty never depth (property_parts-correct depth)
+
+property-starts : (d : ℕ) (s : State) (x : PropertyForm) (z : State) → CountedApart (IsProperty d) s x z → Passes is_property s.tokens
+property-starts d s x z r = let q = r.1 in passes-kind k.Property s.tokens q.1.tokens q.0 q.2.0 q.2.1
+
+-- what goes on with properties
+abbrev pub properties_go : Kind → Bool
+properties_go = going never is_property
+
+properties-correct : (depth : ℕ) → Correct Always (properties depth) Properties properties_go depth
+properties-correct depth =
+    many-correct (λ d. CountedApart (IsProperty d)) never is_property depth (λ kind h. refl) property-starts (λ x. x ∷ []) (λ x u xs. x ∷ xs) (property depth) (property-correct depth)
+
+-- ---- the whole model
+
+model-stops : parts_go k.Model ≡ false
+unfolding same_kind
+model-stops = refl
+
+state-stops : commas k.Semicolon ≡ false
+unfolding same_kind
+state-stops = refl
+
+init-stops : steps_go k.Init ≡ false
+unfolding same_kind
+init-stops = refl
+
+end-stops : (t : Tok) → t.kind ≡ k.End → Stops properties_go (t ∷ [])
+unfolding same_kind
+end-stops t is = subst (λ (v : Kind). properties_go v ≡ false) (sym is) refl
+
+module _ (ranges : List RangeForm) (depth : ℕ) where
+  model-correct : Correct Always (model ranges depth) (IsModel ranges) properties_go depth
+  unfolding model
+  model-correct =
+      then-correct (λ d. SortParts) (λ sorts d. grammar.◌>>=◌ (One k.Model) (λ word. grammar.◌>>=◌ (One k.State) (λ state. grammar.◌>>=◌ Variables (λ own. grammar.◌>>=◌ (One k.Semicolon) (λ semicolon. grammar.◌>>=◌ (One k.Step) (λ step. grammar.◌>>=◌ (Steps d) (λ found. grammar.◌>>=◌ (CountedApart (IsInitial d)) (λ start. grammar.◌>>=◌ (Properties d) (λ asked. Is (record { sorts = sorts; ranges = ranges; variables = own; steps = found; initial = start; properties = asked })))))))))) parts_go properties_go depth
+      (λ d x m y z r over. stops-at-kind parts_go k.Model model-stops m.tokens r.1.tokens r.0 r.2.0 r.2.1) Always sort_parts _ (sort_parts-correct depth) (λ sorts. anywhere (Stops parts_go) _ _ properties_go depth (
+      then-plain (λ d. One k.Model) (λ word d. grammar.◌>>=◌ (One k.State) (λ state. grammar.◌>>=◌ Variables (λ own. grammar.◌>>=◌ (One k.Semicolon) (λ semicolon. grammar.◌>>=◌ (One k.Step) (λ step. grammar.◌>>=◌ (Steps d) (λ found. grammar.◌>>=◌ (CountedApart (IsInitial d)) (λ start. grammar.◌>>=◌ (Properties d) (λ asked. Is (record { sorts = sorts; ranges = ranges; variables = own; steps = found; initial = start; properties = asked }))))))))) properties_go depth
+      Always (expect k.Model) _ (expect-correct k.Model depth refl) (λ word.
+      then-plain (λ d. One k.State) (λ state d. grammar.◌>>=◌ Variables (λ own. grammar.◌>>=◌ (One k.Semicolon) (λ semicolon. grammar.◌>>=◌ (One k.Step) (λ step. grammar.◌>>=◌ (Steps d) (λ found. grammar.◌>>=◌ (CountedApart (IsInitial d)) (λ start. grammar.◌>>=◌ (Properties d) (λ asked. Is (record { sorts = sorts; ranges = ranges; variables = own; steps = found; initial = start; properties = asked })))))))) properties_go depth
+      Always (expect k.State) _ (expect-correct k.State depth refl) (λ state.
+      then-correct (λ d. Variables) (λ own d. grammar.◌>>=◌ (One k.Semicolon) (λ semicolon. grammar.◌>>=◌ (One k.Step) (λ step. grammar.◌>>=◌ (Steps d) (λ found. grammar.◌>>=◌ (CountedApart (IsInitial d)) (λ start. grammar.◌>>=◌ (Properties d) (λ asked. Is (record { sorts = sorts; ranges = ranges; variables = own; steps = found; initial = start; properties = asked }))))))) commas properties_go depth
+      (λ d x m y z r over. stops-at-kind commas k.Semicolon state-stops m.tokens r.1.tokens r.0 r.2.0 r.2.1) Always variables _ (variables-correct depth) (λ own. anywhere (Stops commas) _ _ properties_go depth (
+      then-plain (λ d. One k.Semicolon) (λ semicolon d. grammar.◌>>=◌ (One k.Step) (λ step. grammar.◌>>=◌ (Steps d) (λ found. grammar.◌>>=◌ (CountedApart (IsInitial d)) (λ start. grammar.◌>>=◌ (Properties d) (λ asked. Is (record { sorts = sorts; ranges = ranges; variables = own; steps = found; initial = start; properties = asked })))))) properties_go depth
+      Always (expect k.Semicolon) _ (expect-correct k.Semicolon depth refl) (λ semicolon.
+      then-plain (λ d. One k.Step) (λ step d. grammar.◌>>=◌ (Steps d) (λ found. grammar.◌>>=◌ (CountedApart (IsInitial d)) (λ start. grammar.◌>>=◌ (Properties d) (λ asked. Is (record { sorts = sorts; ranges = ranges; variables = own; steps = found; initial = start; properties = asked }))))) properties_go depth
+      Always (expect k.Step) _ (expect-correct k.Step depth refl) (λ step.
+      then-correct Steps (λ found d. grammar.◌>>=◌ (CountedApart (IsInitial d)) (λ start. grammar.◌>>=◌ (Properties d) (λ asked. Is (record { sorts = sorts; ranges = ranges; variables = own; steps = found; initial = start; properties = asked })))) steps_go properties_go depth
+      (λ d x m y z r over. let q = r.2.1 in stops-at-kind steps_go k.Init init-stops m.tokens q.1.tokens q.0 q.2.0 q.2.1) Always (steps depth) _ (steps-correct depth) (λ found. anywhere (Stops steps_go) _ _ properties_go depth (
+      then-plain (λ d. CountedApart (IsInitial d)) (λ start d. grammar.◌>>=◌ (Properties d) (λ asked. Is (record { sorts = sorts; ranges = ranges; variables = own; steps = found; initial = start; properties = asked }))) properties_go depth
+      Always (initial depth) _ (initial-correct depth) (λ start.
+      said-correct Properties (λ asked. record { sorts = sorts; ranges = ranges; variables = own; steps = found; initial = start; properties = asked }) properties_go depth Always (properties depth) (properties-correct depth))))))))))))
+
+-- A refusal is the same whatever the range lines are.
+abbrev pub Reading : List RangeForm → ℕ → State → Outcome ModelForm → Type 0
+Reading ranges depth s (Ok r) = IsRead depth s.operators s.tokens ranges r.0
+Reading ranges depth s (Err bad) = IsFault depth s.operators s.tokens bad
+
+-- the same with other range lines
+other-ranges : (rs us : List RangeForm) (d : ℕ) (s : State) (y : ModelForm) (z : State) → IsModel us d s y z → IsModel rs d s (record y { ranges = rs }) z
+other-ranges rs us d s y z r =
+    let p = r.3 in
+    let e = p.3 in
+    let i = e.3 in
+    let n = i.3 in
+    let c = n.3 in
+    let b = c.3 in
+    let a = b.3 in
+    let v = a.3 in
+    (r.0, r.1, r.2, (p.0, p.1, p.2, (e.0, e.1, e.2, (i.0, i.1, i.2, (n.0, n.1, n.2, (c.0, c.1, c.2, (b.0, b.1, b.2, (a.0, a.1, a.2, (v.0, v.1, v.2, (ap (λ (w : ModelForm). record w { ranges = rs }) v.3.0, v.3.1))))))))))
+
+-- its ranges are those
+ranges-are : (rs : List RangeForm) (d : ℕ) (s : State) (y : ModelForm) (z : State) → IsModel rs d s y z → y ≡ record y { ranges = rs }
+ranges-are rs d s y z r =
+    let e : y.ranges ≡ rs = ap (λ (v : ModelForm). v.ranges) r.3.3.3.3.3.3.3.3.3.0 in
+    ap (λ (v : List RangeForm). record y { ranges = v }) e
+
+pub with-ranges : (rs : List RangeForm) (depth operators : ℕ) (tokens : List Tok) (x : ModelForm) → IsRead depth operators tokens [] x → IsRead depth operators tokens rs (record x { ranges = rs })
+with-ranges rs depth operators tokens x a = record {
+  front = a.front;
+  end = a.end;
+  cut = a.cut;
+  end_is = a.end_is;
+  reads = (a.reads.0, a.reads.1, other-ranges rs [] depth _ x _ a.reads.2, a.reads.3);
+  only = λ d n y r.
+      ranges-are rs d _ y _ r.2 ∙ ap (λ (v : ModelForm). record v { ranges = rs }) (a.only d n (record y { ranges = [] }) (r.0, r.1, other-ranges [] rs d _ y _ r.2, r.3));
+}
+
+pub whole-reads : (ranges : List RangeForm) (depth : ℕ) (s : State) → ends s.tokens ≡ true → Reading ranges depth s (whole_model ranges depth s)
+unfolding whole_model
+whole-reads ranges depth s ended = at-model (model ranges depth s) ((model-correct ranges depth).answers s ended tt)
+  where
+    end-only : (ts : List Tok) → ends ts ≡ true → same_kind (step.head_kind ts) k.End ≡ true → (t : Tok) × (ts ≡ t ∷ []) × (t.kind ≡ k.End)
+    end-only [] e same = cc
+    end-only (t ∷ []) e same = (t, refl, kind-same t.kind k.End same)
+    end-only (t ∷ u ∷ ts) e same =
+        let last : is_last t.kind ≡ true = ap is_last (kind-same t.kind k.End same) in
+        let none : ends (t ∷ u ∷ ts) ≡ false = ap (λ v. cond v false (ends (u ∷ ts))) last in
+        let apart : false ≡ true = sym none ∙ e in
+        absurd (let never : ⊥ = cc in never)
+
+    is-end : (t u : Tok) (ts us : List Tok) → u ∷ us ≡ t ∷ ts → u.kind ≡ k.End → same_kind t.kind k.End ≡ false → ⊥
+    is-end t u ts us e end other =
+        let p : u ≡ t = cc in let q : t.kind ≡ k.End = sym (ap (λ v. v.kind) p) ∙ end in
+        let r : same_kind t.kind k.End ≡ true = subst (λ (v : Kind). same_kind t.kind v ≡ true) q (same-kind t.kind) in cc
+
+    found : (x : ModelForm) (z : State) → Took (IsModel ranges) properties_go depth s x z → (t : Tok) → z.tokens ≡ t ∷ [] → t.kind ≡ k.End → IsRead depth s.operators s.tokens ranges x
+    found x z a t is end = record {
+      front = a.front;
+      end = t;
+      cut = a.tokens ∙ ap (λ v. a.front ++ v) is;
+      end_is = end;
+      reads = (z.operators, t, move (IsModel ranges depth) (a.front ++ t ∷ []) s.tokens s.operators s.operators x (st (t ∷ []) z.operators) (sym (a.tokens ∙ ap (λ v. a.front ++ v) is)) refl (a.reads (t ∷ [])), end);
+      only = λ d n y r.
+          (a.only d n (t ∷ []) y (st (r.1 ∷ []) r.0) (end-stops t end)
+          (move (IsModel ranges d) s.tokens (a.front ++ t ∷ []) n n y (st (r.1 ∷ []) r.0) (a.tokens ∙ ap (λ v. a.front ++ v) is) refl r.2) (end-stops r.1 r.3)).0;
+    }
+
+    begins : (level n : ℕ) (ts : List Tok) → GoesOn (IsModel ranges) level n ts → BeginsModel level n ts
+    begins level n ts a = record {
+      tail = a.tail ++ some-token k.End ∷ [];
+      ranges = ranges;
+      model = a.value;
+      says = (
+        a.left,
+        some-token k.End,
+        move (IsModel ranges level) ((ts ++ a.tail) ++ some-token k.End ∷ []) (ts ++ (a.tail ++ some-token k.End ∷ [])) n n a.value (st (some-token k.End ∷ []) a.left)
+            (append_assoc ts a.tail (some-token k.End ∷ [])) refl (a.reads (some-token k.End ∷ [])),
+        refl,
+      );
+    }
+
+    not-end : (x : ModelForm) (z : State) → Took (IsModel ranges) properties_go depth s x z → (ts : List Tok) → z.tokens ≡ ts → ends ts ≡ true → same_kind (step.head_kind ts) k.End ≡ false
+        → IsFault depth s.operators s.tokens (refusal Unexpected ts)
+    not-end x z a [] is e other = cc
+    not-end x z a (t ∷ ts) is e other = record {
+      front = a.front;
+      next = t;
+      more = ts;
+      cut = a.tokens ∙ ap (λ v. a.front ++ v) is;
+      kind = refl;
+      place = refl;
+      limited = λ q. absurd (unlike q);
+      goes_on = begins (suc depth) (suc s.operators) (a.front ++ []) (goes-ended (IsModel ranges) (suc depth) (suc s.operators) (suc z.operators) a.front x a.one_more);
+      first = λ before behind u e lim.
+          begins depth s.operators (before ++ u ∷ []) (reaches-read (IsModel ranges) depth s.operators z.operators a.front x a.reads before behind u e lim);
+      none = λ d n tail us y within r.
+          let same = other-ranges ranges us d _ y _ r.2 in
+          let stops : Stops properties_go (t ∷ tail) = subst (λ (v : List Tok). Stops properties_go v) is a.stops in
+          is-end t r.1 tail [] (a.only d n (t ∷ tail) (record y { ranges = ranges }) (st (r.1 ∷ []) r.0) stops same (end-stops r.1 r.3)).1 r.3 other;
+    }
+
+    at-kind : (x : ModelForm) (z : State) → Took (IsModel ranges) properties_go depth s x z → (b : Bool) → same_kind (kind z) k.End ≡ b
+        → Reading ranges depth s (cond b (pure x) (refuse Unexpected) z)
+    at-kind x z a true same = let e = end-only z.tokens a.ended same in found x z a e.0 e.1 e.2
+    at-kind x z a false other = not-end x z a z.tokens refl a.ended other
+
+    at-model : (o : Outcome ModelForm) → Answers (IsModel ranges) properties_go depth s o
+        → Reading ranges depth s (and_then o (λ x. step.◌>>=◌ step.peek (λ last. cond (same_kind last k.End) (pure x) (refuse Unexpected))))
+    at-model (Ok r) a = at-kind r.0 r.1 a (same_kind (kind r.1) k.End) refl
+    at-model (Err bad) a = record {
+      front = a.front;
+      next = a.next;
+      more = a.more;
+      cut = a.tokens;
+      kind = a.kind;
+      place = a.place;
+      limited = a.limited;
+      goes_on = begins (suc depth) (suc s.operators) (a.front ++ going_on bad.rule a.next) a.goes_on;
+      first = λ before behind u e lim. begins depth s.operators (before ++ u ∷ []) (a.first before behind u e lim);
+      none = λ d n tail us y within r.
+          let same = other-ranges ranges us d _ y _ r.2 in a.none d n tail (record y { ranges = ranges }) (st (r.1 ∷ []) r.0) within same (end-stops r.1 r.3);
+    }

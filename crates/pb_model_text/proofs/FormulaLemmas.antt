@@ -1,0 +1,151 @@
+-- A level of formulas is a chain, and what begins no formula.
+use Rattle.std.proofs.Common.{Some, None, Ok, true, ◌<◌, ◌-◌, ◌≡◌, ◌≢◌, ℕ, zero, suc, length, List, [], ◌∷◌, ◌++◌, refl, sym, subst, ap, ◌∙◌, false, Result, Err}
+use Rattle.std.proofs.lemmas.List.{map-append}
+use Rattle.pb_fixpoint.specs.declared.Sign.{Sign}
+use Rattle.pb_text_tree.specs.declared.operator.Connective.{Connective}
+use Rattle.pb_text_tree.specs.declared.operator.Connective.TheVariants.{And, Or, Implies}
+use Rattle.pb_model_tree.specs.declared.formula.Link.{Link}
+use Rattle.pb_model_tree.specs.declared.formula.Formula.{Formula}
+use Rattle.pb_text_tree.specs.declared.place.Place.{Place}
+use Rattle.pb_text_tree.specs.Form.{TermForm}
+use Rattle.pb_model_tree.specs.Form.{StepSetForm, FormulaForm, formula_form}
+use Rattle.pb_text_lexer.specs.declared.fault.Refusal.{Refusal}
+use Rattle.pb_text_lexer.specs.declared.fault.ReadingFault.{ReadingFault}
+use Rattle.pb_text_lexer.specs.declared.fault.ReadingRule.TheVariants.{Unexpected, Limit}
+use Rattle.pb_text_lexer.specs.declared.kind.Kind.{Kind}
+use Rattle.pb_text_lexer.specs.declared.kind.Kind.TheVariants as k
+use Rattle.pb_text_lexer.specs.Grammar.{State}
+use Rattle.pb_text_lexer.specs.Kinds.{same_kind}
+use Rattle.pb_text_lexer.specs.Steps.{Step, Outcome, Gives, ◌>>=◌, refuse, refusal, kind, take_token, expect, enter, chain}
+use Rattle.pb_text_lexer.specs.Tokens.{Tok, token_at}
+use Rattle.pb_text_lexer.proofs.LoopLemmas.{placed, resumed-first-fails}
+use Rattle.pb_text_terms.specs.Operators.{symbol, is_connective}
+use Rattle.pb_text_terms.specs.Reading.{name, below}
+use Rattle.pb_text_terms.proofs.ReadLemmas.{below-is, resumed-alone-or-fails, no-connective}
+use Rattle.pb_model_text.specs.Grammar.{Scope, within}
+use Rattle.pb_model_text.specs.Links.{link_form, link_forms}
+use Rattle.pb_model_text.specs.Reading.{begun, data_operand, goes_on, binding, step_set, sign_of, is_fixpoint, node, formula, fixpoint, primary, operand, level}
+
+-- a level is a chain of its operands
+pub level-chain : (c : Connective) (scope : Scope) (depth : ℕ) (s : State)
+    → level c scope depth s ≡ chain (symbol c) (placed (symbol c) (FormulaForm.connected c) (operand c scope depth)) (operand c scope depth) (suc (length s.tokens)) s
+unfolding node formula fixpoint
+level-chain And scope depth s = refl
+level-chain Or scope depth s = refl
+level-chain Implies scope zero s = refl
+level-chain Implies scope (suc depth) s = refl
+
+pub links-last : (links : List Link) (link : Link) → link_forms (links ++ link ∷ []) ≡ link_forms links ++ link_form link ∷ []
+links-last links link = map-append _ links (link ∷ [])
+
+begun-other : (scope : Scope) (enter : Step Tok) (below inner : Step FormulaForm) (term : Step TermForm) (sets : Step StepSetForm) (kind : Kind)
+    → kind ≢ k.Not → kind ≢ k.Open → kind ≢ k.OpenSquare → kind ≢ k.Less → kind ≢ k.True → kind ≢ k.False → kind ≢ k.Val → kind ≢ k.Name → kind ≢ k.Number → kind ≢ k.Minus
+    → begun scope enter below inner term sets kind ≡ refuse Unexpected
+begun-other scope enter below inner term sets k.Not a b c d e f g h i j = absurd (a refl)
+begun-other scope enter below inner term sets k.Open a b c d e f g h i j = absurd (b refl)
+begun-other scope enter below inner term sets k.OpenSquare a b c d e f g h i j = absurd (c refl)
+begun-other scope enter below inner term sets k.Less a b c d e f g h i j = absurd (d refl)
+begun-other scope enter below inner term sets k.True a b c d e f g h i j = absurd (e refl)
+begun-other scope enter below inner term sets k.False a b c d e f g h i j = absurd (f refl)
+begun-other scope enter below inner term sets k.Val a b c d e f g h i j = absurd (g refl)
+begun-other scope enter below inner term sets k.Name a b c d e f g h i j = absurd (h refl)
+begun-other scope enter below inner term sets k.Number a b c d e f g h i j = absurd (i refl)
+begun-other scope enter below inner term sets k.Minus a b c d e f g h i j = absurd (j refl)
+begun-other scope enter below inner term sets _ a b c d e f g h i j = refl
+
+pub node-other : (scope : Scope) (depth : ℕ) (s : State) → kind s ≢ k.Not → kind s ≢ k.Open → kind s ≢ k.OpenSquare → kind s ≢ k.Less → kind s ≢ k.True → kind s ≢ k.False → kind s ≢ k.Val → kind s ≢ k.Name
+    → kind s ≢ k.Number → kind s ≢ k.Minus → node scope depth s ≡ Err (refusal Unexpected s.tokens)
+unfolding node
+node-other scope zero s a b c d e f g h i j =
+    ap (λ p. p s) (begun-other scope (refuse Limit) (refuse Limit) (refuse Limit) (data_operand 0) (refuse Limit) (kind s) a b c d e f g h i j)
+node-other scope (suc depth) s a b c d e f g h i j =
+    ap (λ p. p s) (begun-other scope take_token (node scope depth) (formula scope depth) (data_operand (suc depth)) (step_set depth) (kind s) a b c d e f g h i j)
+
+-- without a sign, no fixpoint
+no-sign : (kind : Kind) → sign_of kind ≡ None → is_fixpoint kind ≡ false
+no-sign k.Mu e = cc
+no-sign k.Nu e = cc
+no-sign _ e = refl
+
+pub primary-node : (scope : Scope) (depth : ℕ) (s : State) → sign_of (kind s) ≡ None → primary scope depth s ≡ node scope depth s
+primary-node scope depth s other = rw (no-sign (kind s) other) refl
+
+some-sign : (kind : Kind) (sign : Sign) → sign_of kind ≡ Some sign → is_fixpoint kind ≡ true
+some-sign k.Mu sign e = refl
+some-sign k.Nu sign e = refl
+some-sign _ sign e = cc
+
+pub primary-fixpoint : (scope : Scope) (depth : ℕ) (s : State) (sign : Sign) → sign_of (kind s) ≡ Some sign → primary scope depth s ≡ fixpoint scope depth s
+primary-fixpoint scope depth s sign is = rw (some-sign (kind s) sign is) refl
+
+-- ---- what a token begins, where a level may open and where none may
+
+pub node-at : (scope : Scope) (depth : ℕ) (s : State) (k' : Kind) → kind s ≡ k'
+    → node scope depth s ≡ begun scope (enter depth) (below (node scope) depth) (below (formula scope) depth) (data_operand depth) (below step_set depth) k' s
+unfolding node
+node-at scope zero s k' is = ap (λ v. begun scope (refuse Limit) (refuse Limit) (refuse Limit) (data_operand 0) (refuse Limit) v s) is
+node-at scope (suc depth) s k' is = ap (λ v. begun scope take_token (node scope depth) (formula scope depth) (data_operand (suc depth)) (step_set depth) v s) is
+
+-- data behind `val` with which more would go on
+pub value-again : (scope : Scope) (depth : ℕ) (s s1 s2 : State) (t : Tok) (x : TermForm) → kind s ≡ k.Val → take_token s ≡ Ok (t, s1) → data_operand depth s1 ≡ Ok (x, s2) → goes_on (kind s2) ≡ true
+    → node scope depth s ≡ Err (refusal Unexpected s2.tokens)
+value-again scope depth s s1 s2 t x is taken reads again = node-at scope depth s k.Val is ∙ rw taken (rw reads (rw again refl))
+
+fixpoint-is : (scope : Scope) (depth : ℕ) (s : State) (sign : Sign) → sign_of (kind s) ≡ Some sign
+    → fixpoint scope depth s ≡ (enter depth >>= (λ word. binding sign word.place (λ name. below (formula (within scope name)) depth))) s
+unfolding fixpoint
+fixpoint-is scope zero s sign is = rw is refl
+fixpoint-is scope (suc depth) s sign is = rw is refl
+
+module _ (scope : Scope) (depth : ℕ) (s s1 : State) (sign : Sign) (word : Tok) (is : sign_of (kind s) ≡ Some sign) (entered : enter depth s ≡ Ok (word, s1)) where
+  pub fixpoint-name-fails : (bad : Refusal) → expect k.Name s1 ≡ Err bad → fixpoint scope depth s ≡ Err bad
+  unfolding name
+  fixpoint-name-fails bad fails = fixpoint-is scope depth s sign is ∙ rw entered (rw fails refl)
+
+  module _ (s2 : State) (place : Place) (text : List ℕ) (named : expect k.Name s1 ≡ Ok (token_at place k.Name text, s2)) where
+    pub fixpoint-period-fails : (bad : Refusal) → expect k.Period s2 ≡ Err bad → fixpoint scope depth s ≡ Err bad
+    unfolding name
+    fixpoint-period-fails bad fails = fixpoint-is scope depth s sign is ∙ rw entered (rw named (rw fails refl))
+
+    module _ (s3 : State) (period : Tok) (stands : expect k.Period s2 ≡ Ok (period, s3)) (some : 0 < depth) (names : Scope) (inside : names ≡ within scope text) where
+      body-is : below (formula (within scope text)) depth s3 ≡ formula names (depth - 1) s3
+      body-is = ap (λ p. p s3) (below-is (formula (within scope text)) depth some) ∙ ap (λ v. formula v (depth - 1) s3) (sym inside)
+
+      pub fixpoint-body-fails : (bad : Refusal) → formula names (depth - 1) s3 ≡ Err bad → fixpoint scope depth s ≡ Err bad
+      unfolding name
+      fixpoint-body-fails bad fails = fixpoint-is scope depth s sign is ∙ rw entered (rw named (rw stands (rw (body-is, fails) refl)))
+
+      pub fixpoint-read : (x : FormulaForm) (z : State) → formula names (depth - 1) s3 ≡ Ok (x, z)
+          → fixpoint scope depth s ≡ Ok (FormulaForm.fixpoint sign word.place (record { place = place; text = text }) x, z)
+      unfolding name
+      fixpoint-read x z reads = fixpoint-is scope depth s sign is ∙ rw entered (rw named (rw stands (rw (body-is, reads) refl)))
+
+-- ---- chains over chains
+
+-- where an operand fails, its chain does
+level-fails : (c : Connective) (scope : Scope) (depth : ℕ) (s : State) (bad : Refusal) → operand c scope depth s ≡ Err bad → level c scope depth s ≡ Err bad
+level-fails c scope depth s bad fails = level-chain c scope depth s ∙ resumed-first-fails (symbol c) (FormulaForm.connected c) (operand c scope depth) (length s.tokens) s bad fails
+
+pub conjunction-fails : (scope : Scope) (depth : ℕ) (s : State) (bad : Refusal) → level And scope depth s ≡ Err bad → formula scope depth s ≡ Err bad
+conjunction-fails scope depth s bad fails = level-fails Implies scope depth s bad (level-fails Or scope depth s bad fails)
+
+pub disjunction-fails : (scope : Scope) (depth : ℕ) (s : State) (bad : Refusal) → level Or scope depth s ≡ Err bad → formula scope depth s ≡ Err bad
+disjunction-fails scope depth s bad fails = level-fails Implies scope depth s bad fails
+
+pub primary-fails : (scope : Scope) (depth : ℕ) (s : State) (bad : Refusal) → primary scope depth s ≡ Err bad → formula scope depth s ≡ Err bad
+primary-fails scope depth s bad fails = conjunction-fails scope depth s bad (level-fails And scope depth s bad fails)
+
+-- an operand behind which the connective doesn't stand
+pub level-alone-or-fails : (c : Connective) (scope : Scope) (depth : ℕ) (s z : State) (r : Result Formula ReadingFault) → Gives formula_form (operand c scope depth s) r z → same_kind (kind z) (symbol c) ≡ false
+    → Gives formula_form (level c scope depth s) r z
+level-alone-or-fails c scope depth s z r reads other =
+    subst (λ (o : Outcome FormulaForm). Gives formula_form o r z) (sym (level-chain c scope depth s))
+    (resumed-alone-or-fails (symbol c) (FormulaForm.connected c) (operand c scope depth) formula_form (length s.tokens) s z r reads other)
+
+-- a first part behind which no connective stands
+pub primary-alone-or-fails : (scope : Scope) (depth : ℕ) (s z : State) (r : Result Formula ReadingFault) → Gives formula_form (primary scope depth s) r z → is_connective (kind z) ≡ false
+    → Gives formula_form (formula scope depth s) r z
+primary-alone-or-fails scope depth s z r reads other =
+    level-alone-or-fails Implies scope depth s z r
+    (level-alone-or-fails Or scope depth s z r (level-alone-or-fails And scope depth s z r reads (no-connective k.And (kind z) refl other)) (no-connective k.Or (kind z) refl other))
+    (no-connective k.Implies (kind z) refl other)

@@ -1,0 +1,12 @@
+pub mod FormLemmas
+pub mod CorrectStepSets
+pub mod CorrectBeginning
+pub mod PlainLemmas
+pub mod AtomLemmas
+pub mod CorrectFixpoint
+pub mod CorrectFormula
+pub mod CorrectModel
+pub mod StepSetLemmas
+pub mod FormulaLemmas
+pub mod ModelLemmas
+pub mod ParseLemmas

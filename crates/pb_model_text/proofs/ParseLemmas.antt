@@ -1,0 +1,145 @@
+-- From tokens to bytes.
+use Rattle.std.proofs.Common.{◌≡◌, ℕ, true, false, List, [], ◌++◌, map, refl, sym, ◌∙◌, ap, subst, arith, Result, Ok, Err}
+use Rattle.std.proofs.lemmas.List.{append-nil}
+use Rattle.pb_text_tree.specs.declared.place.Place.{Place}
+use Rattle.pb_model_tree.specs.declared.model.Model.{Model}
+use Rattle.pb_text_tree.specs.Form.{RangeForm, range_form}
+use Rattle.pb_model_tree.specs.Form.{ModelForm, model_form}
+use Rattle.pb_text_lexer.specs.declared.fault.ReadingRule.{ReadingRule}
+use Rattle.pb_text_lexer.specs.declared.fault.ReadingRule.TheVariants.{Unexpected, Limit}
+use Rattle.pb_text_lexer.specs.declared.fault.Refusal.{Refusal}
+use Rattle.pb_text_lexer.specs.declared.fault.ReadingFault.{ReadingFault}
+use Rattle.pb_text_lexer.specs.declared.fault.ReadingFault.TheVariants.{Memory, At}
+use Rattle.pb_text_lexer.specs.declared.kind.Kind.{Kind}
+use Rattle.pb_text_lexer.specs.declared.kind.Kind.TheVariants.{Unknown, LargeNumber, RangeLine}
+use Rattle.pb_text_lexer.specs.declared.language.Language.TheVariants as language
+use Rattle.pb_text_lexer.specs.Kinds.{is_defect, is_limited}
+use Rattle.pb_text_lexer.specs.Lexing.{start, IsDefectIn}
+use Rattle.pb_text_lexer.specs.Remaining.{tokens_from, ranges_from}
+use Rattle.pb_text_lexer.specs.Grammar.{State, Within, going_on}
+use Rattle.pb_text_lexer.specs.Steps.{Outcome, Gives}
+use Rattle.pb_text_lexer.specs.Tokens.{Tok}
+use Rattle.pb_text_lexer.proofs.Correct.{st}
+use Rattle.pb_text_lexer.proofs.CutLemmas.{same-cut, stands, whole-cut}
+use Rattle.pb_text_lexer.proofs.RemainingLemmas.{tokens-end}
+use Rattle.pb_model_text.specs.Grammar.{IsModelText}
+use Rattle.pb_text.specs.Parsing.{depth_limit, operator_limit, rule_of, error_of}
+use Rattle.pb_model_text.specs.Parsing.{IsReading, IsReadingWithin, AtMostOneReading, BeginsNextModel, IsRefusal, IsBroken, IsFirstFaultBy, NoReading, IsFirstFault}
+use Rattle.pb_model_text.specs.Reading.{whole_model}
+use Rattle.pb_model_text.proofs.CorrectModel.{IsFault, IsRead, Reading, whole-reads, with-ranges}
+
+abbrev pub all_tokens : List ℕ → List Tok
+all_tokens bytes = tokens_from language.Model bytes 0 start
+
+abbrev pub all_ranges : List ℕ → List RangeForm
+all_ranges bytes = ranges_from language.Model bytes 0 start
+
+pub is-reading : (bytes : List ℕ) (x : ModelForm) → IsRead depth_limit operator_limit (all_tokens bytes) (all_ranges bytes) x → IsReading bytes x
+is-reading bytes x r = record { tokens = all_tokens bytes; ranges = all_ranges bytes; cut = whole-cut language.Model bytes r.front r.end r.cut r.end_is; says = r.reads }
+
+-- what the tokens and range lines of a cut say, those that the lexer gives say
+of-cut : (bytes : List ℕ) (d n : ℕ) (y : ModelForm) → IsReadingWithin d n bytes y → IsModelText d n (all_tokens bytes) (all_ranges bytes) y
+of-cut bytes d n y h =
+    let same = same-cut language.Model bytes h.tokens h.ranges h.cut in
+    subst (λ (v : List Tok). IsModelText d n v (all_ranges bytes) y) same.tokens (subst (λ (v : List RangeForm). IsModelText d n h.tokens v y) same.ranges_too h.says)
+
+pub only-reading : (bytes : List ℕ) (x : ModelForm) → IsRead depth_limit operator_limit (all_tokens bytes) (all_ranges bytes) x → (d n : ℕ) (y : ModelForm) → IsReadingWithin d n bytes y → y ≡ x
+only-reading bytes x r d n y h = r.only d n y (of-cut bytes d n y h)
+
+-- where some reading is within the limits, reading the tokens gives it, and there is no other
+pub at_most_one : AtMostOneReading
+at_most_one bytes d n e m x y hx hy = by (whole_model (all_ranges bytes) d (st (all_tokens bytes) n)) (whole-reads (all_ranges bytes) d (st (all_tokens bytes) n) (tokens-end language.Model start bytes))
+  where
+    within-these : (rule : ReadingRule) (d n : ℕ) → Within rule d n d n
+    within-these Unexpected d n = tt
+    within-these Limit d n = (omega arith, omega arith)
+
+    by : (o : Outcome ModelForm) → Reading (all_ranges bytes) d (st (all_tokens bytes) n) o → x ≡ y
+    by (Ok r) a = a.only d n x (of-cut bytes d n x hx) ∙ sym (a.only e m y (of-cut bytes e m y hy))
+    by (Err bad) f =
+        absurd (f.none d n f.more (all_ranges bytes) x (within-these bad.rule d n)
+        (subst (λ (v : List Tok). IsModelText d n v (all_ranges bytes) x) f.cut (of-cut bytes d n x hx)))
+
+pub no-reading : (bytes : List ℕ) (bad : Refusal) → IsFault depth_limit operator_limit (all_tokens bytes) bad → (y : ModelForm) → IsReading bytes y → ⊥
+no-reading bytes bad f y h =
+    f.none depth_limit operator_limit f.more (all_ranges bytes) y (within-self bad.rule) (subst (λ (v : List Tok). IsModelText depth_limit operator_limit v (all_ranges bytes) y) f.cut (of-cut bytes depth_limit operator_limit y h))
+  where
+    within-self : (rule : ReadingRule) → Within rule depth_limit operator_limit depth_limit operator_limit
+    within-self Unexpected = tt
+    within-self Limit = (omega arith, omega arith)
+
+-- a refused token is no token, or it is refused by the grammar
+by-kind : (bytes : List ℕ) (rule : ReadingRule) (kind : Kind) (place : Place) → (is_defect kind ≡ true → IsBroken bytes kind place) → (is_defect kind ≡ false → IsRefusal bytes rule place)
+    → IsFirstFaultBy (rule_of rule kind) bytes place
+by-kind bytes rule Unknown place broken refused = broken refl
+by-kind bytes rule LargeNumber place broken refused = broken refl
+by-kind bytes rule RangeLine place broken refused = broken refl
+by-kind bytes Unexpected _ place broken refused = refused refl
+by-kind bytes Limit _ place broken refused = refused refl
+
+before : (rule : ReadingRule) (front : List Tok) (next : Tok) → (rule ≡ Limit → is_limited next.kind ≡ true) → is_defect next.kind ≡ true
+    → BeginsNextModel (front ++ going_on rule next) → BeginsNextModel front
+before Unexpected front next limited broken goes = subst (λ (v : List Tok). BeginsNextModel v) (append-nil front) goes
+before Limit front next limited broken goes = absurd (no-limit next.kind (limited refl) broken)
+  where
+    -- what is no token exceeds no limit
+    no-limit : (kind : Kind) → is_limited kind ≡ true → is_defect kind ≡ true → ⊥
+    no-limit Unknown h e = cc
+    no-limit LargeNumber h e = cc
+    no-limit RangeLine h e = cc
+    no-limit _ h e = cc
+
+pub stands-by : (bytes : List ℕ) (bad : Refusal) → IsFault depth_limit operator_limit (all_tokens bytes) bad → IsFirstFaultBy (rule_of bad.rule bad.kind) bytes bad.place
+stands-by bytes bad f =
+    let s = stands language.Model bytes f.front f.more f.next f.cut in
+    by-kind bytes bad.rule bad.kind bad.place
+    (λ h. record {
+      front = f.front;
+      defect = subst (λ (v : Place). IsDefectIn language.Model bytes f.front v bad.kind) (sym f.place)
+          (subst (λ (v : Kind). IsDefectIn language.Model bytes f.front f.next.place v) (sym f.kind) (s.defect (ap is_defect (sym f.kind) ∙ h)));
+      goes_on = before bad.rule f.front f.next f.limited (ap is_defect (sym f.kind) ∙ h) f.goes_on;
+      first = f.first;
+    })
+    (λ h. record {
+      front = f.front;
+      next = f.next;
+      begins = s.sound (ap is_defect (sym f.kind) ∙ h);
+      stands = sym f.place;
+      limited = f.limited;
+      goes_on = f.goes_on;
+      none = f.none;
+      first = f.first;
+    })
+
+-- ---- what reading the tokens of a text answers
+
+abbrev pub Answered : List ℕ → Result Model ReadingFault → Type 0
+Answered bytes (Ok s) = IsRead depth_limit operator_limit (all_tokens bytes) [] (model_form s)
+Answered bytes (Err Memory) = Unit {0}
+Answered bytes (Err (At bad)) = IsFault depth_limit operator_limit (all_tokens bytes) bad
+
+answered-by : (bytes : List ℕ) (o : Outcome ModelForm) (result : Result Model ReadingFault) (z : State) → Gives model_form o result z → Reading [] depth_limit (st (all_tokens bytes) operator_limit) o → Answered bytes result
+answered-by bytes o (Ok s) z is h = subst (λ (v : Outcome ModelForm). Reading [] depth_limit (st (all_tokens bytes) operator_limit) v) is h
+answered-by bytes o (Err Memory) z is h = tt
+answered-by bytes o (Err (At bad)) z is h = subst (λ (v : Outcome ModelForm). Reading [] depth_limit (st (all_tokens bytes) operator_limit) v) is h
+
+pub answered : (bytes : List ℕ) (s : State) (result : Result Model ReadingFault) (z : State) → s ≡ st (all_tokens bytes) operator_limit → Gives model_form (whole_model [] depth_limit s) result z → Answered bytes result
+answered bytes s result z is h =
+    answered-by bytes (whole_model [] depth_limit (st (all_tokens bytes) operator_limit)) result z
+    (subst (λ (v : State). Gives model_form (whole_model [] depth_limit v) result z) is h)
+    (whole-reads [] depth_limit (st (all_tokens bytes) operator_limit) (tokens-end language.Model start bytes))
+
+-- what a tree says whose ranges are put in is what the bytes say
+pub ranged : (bytes : List ℕ) (s t : Model) → Answered bytes (Ok s) → model_form t ≡ record (model_form s) { ranges = map range_form t.ranges.items }
+    → map range_form t.ranges.items ≡ all_ranges bytes → IsRead depth_limit operator_limit (all_tokens bytes) (all_ranges bytes) (model_form t)
+ranged bytes s t a is same =
+    let e : record (model_form s) { ranges = all_ranges bytes } ≡ model_form t = ap (λ (v : List RangeForm). record (model_form s) { ranges = v }) (sym same) ∙ sym is in
+    subst (λ (v : ModelForm). IsRead depth_limit operator_limit (all_tokens bytes) (all_ranges bytes) v) e (with-ranges (all_ranges bytes) depth_limit operator_limit (all_tokens bytes) (model_form s) a)
+
+pub refused-is : (bytes : List ℕ) (fault : ReadingFault) → Answered bytes (Err fault) → NoReading bytes (error_of fault)
+refused-is bytes Memory h = tt
+refused-is bytes (At bad) h = no-reading bytes bad h
+
+pub stands-is : (bytes : List ℕ) (fault : ReadingFault) → Answered bytes (Err fault) → IsFirstFault bytes (error_of fault)
+stands-is bytes Memory h = tt
+stands-is bytes (At bad) h = stands-by bytes bad h

@@ -1,0 +1,238 @@
+-- The grammar of models, one production for each row (this project's own; the modal mu-calculus with
+-- data as in Groote and Mousavi 2014). Sorts, variables and data terms are those of texts.
+use Rattle.std.specs.Prelude.{◌≡◌, ℕ, zero, suc, Bool, true, false, if◌then◌else◌, List, [], ◌∷◌, ◌++◌}
+use Rattle.std.specs.Str.{bytes_eq}
+use Rattle.pb_fixpoint.specs.declared.Sign.{Sign}
+use Rattle.pb_fixpoint.specs.declared.Sign.TheVariants as sign
+use Rattle.pb_text_tree.specs.declared.place.Place.{Place}
+use Rattle.pb_text_tree.specs.Form.{Named, TermForm, RangeForm}
+use Rattle.pb_text_lexer.specs.declared.kind.Kind.{Kind}
+use Rattle.pb_text_lexer.specs.declared.kind.Kind.TheVariants as k
+use Rattle.pb_text_lexer.specs.Grammar.{Reads, ◌>>=◌, Is, Nothing, One, First, CountedApart}
+use Rattle.pb_text_lexer.specs.OpenGrammar.{Chained, Connected}
+use Rattle.pb_text_lexer.specs.LeftGrammar.{Extended, Listed}
+use Rattle.pb_text_lexer.specs.Steps.{head_kind}
+use Rattle.pb_text_lexer.specs.Tokens.{Tok}
+use Rattle.pb_text_terms.specs.Operators.{connected_by}
+use Rattle.pb_text_terms.specs.Grammar.{Name, Variables, Placed, arguments_of, Equated, IsUnary, IsTerm}
+use Rattle.pb_text.specs.Grammar.{SortParts, Declared}
+use Rattle.pb_model_tree.specs.declared.formula.Modality.{Modality}
+use Rattle.pb_model_tree.specs.declared.formula.Modality.TheVariants as modality
+use Rattle.pb_model_tree.specs.Form.{StepSetForm, FormulaForm, AssignmentForm, StepForm, InitialForm, PropertyForm, ModelForm}
+
+-- ---- sets of steps
+
+-- What a token of a kind begins: behind `!` Set may stand, and in brackets Sets.
+abbrev pub SetBegun : Reads StepSetForm → Reads StepSetForm → Kind → Reads StepSetForm
+SetBegun Set Sets k.True = do
+  word ← One k.True
+  Is (StepSetForm.all word.place)
+SetBegun Set Sets k.Name = do
+  name ← Name
+  Is (StepSetForm.step name)
+SetBegun Set Sets k.Not = do
+  sign ← One k.Not
+  operand ← Set
+  Is (StepSetForm.complement sign.place operand)
+SetBegun Set Sets k.Open = do
+  open_bracket ← One k.Open
+  inner ← Sets
+  close_bracket ← One k.Close
+  Is inner
+SetBegun Set Sets _ = Nothing
+
+abbrev pub united_by : StepSetForm → Tok → StepSetForm → StepSetForm
+united_by x t y = StepSetForm.union t.place x y
+
+-- sets with `||` between them, read to the right
+abbrev pub Union : Reads StepSetForm → Reads StepSetForm
+Union Set = Chained k.Or united_by Set Set
+
+-- So many levels may open: each `!` and each bracket opens one.
+abbrev mutual
+  pub IsSet : ℕ → Reads StepSetForm
+  IsSet zero = First (SetBegun Nothing Nothing)
+  IsSet (suc depth) = First (SetBegun (IsSet depth) (IsStepSet depth))
+
+  pub IsStepSet : ℕ → Reads StepSetForm
+  IsStepSet zero = Union (First (SetBegun Nothing Nothing))
+  IsStepSet (suc depth) = Union (First (SetBegun (IsSet depth) (IsStepSet depth)))
+
+-- ---- formulas
+
+-- the names of the fixpoints around a formula
+abbrev pub Scope : Type 0
+Scope = List (List ℕ)
+
+abbrev pub is_bound : Scope → List ℕ → Bool
+is_bound [] text = false
+is_bound (name ∷ names) text = if bytes_eq name text then true else is_bound names text
+
+-- A name alone that is a fixpoint's around it is its variable; any other term is data.
+abbrev pub atom_of : Scope → Place → TermForm → FormulaForm
+atom_of scope place (TermForm.name name) =
+    if is_bound scope name.text then FormulaForm.variable name
+    else FormulaForm.«data» place (TermForm.name name)
+atom_of scope place term = FormulaForm.«data» place term
+
+-- what begins with a token of this kind
+abbrev pub Beginning : {X : Type 0} → Kind → Reads X → Reads X
+Beginning kind R s y z = (head_kind s.tokens ≡ kind) × R s y z
+
+-- what a term without connectives makes, with the place of its first token
+abbrev pub Atom : (Place → TermForm → FormulaForm) → Reads TermForm → Reads FormulaForm
+Atom made Unary = do
+  found ← Placed (Equated Unary)
+  Is (made found.0 found.1)
+
+-- a set of steps in brackets, of which the first is read, and the formula that it is over
+abbrev pub Modal : Modality → Kind → Reads FormulaForm → Reads StepSetForm → Tok → Reads FormulaForm
+Modal modality close Node Sets open_bracket = do
+  steps ← Sets
+  close_bracket ← One close
+  operand ← Node
+  Is (FormulaForm.modal modality open_bracket.place steps operand)
+
+-- What a token of a kind begins that is no fixpoint: below `!` and modalities Node may stand, in
+-- brackets Formula, in data without connectives Unary, and between the brackets of modalities Sets.
+-- Data that begins otherwise, or has a connective or a quantifier, stands behind `val`.
+abbrev pub Begun : Scope → Reads FormulaForm → Reads FormulaForm → Reads TermForm → Reads StepSetForm → Kind → Reads FormulaForm
+Begun scope Node Formula Unary Sets k.Not = do
+  sign ← One k.Not
+  operand ← Node
+  Is (FormulaForm.negation sign.place operand)
+Begun scope Node Formula Unary Sets k.Open = do
+  open_bracket ← One k.Open
+  inner ← Formula
+  close_bracket ← One k.Close
+  Is inner
+Begun scope Node Formula Unary Sets k.OpenSquare = do
+  open_bracket ← One k.OpenSquare
+  Modal modality.Box k.CloseSquare Node Sets open_bracket
+Begun scope Node Formula Unary Sets k.Less = do
+  open_bracket ← One k.Less
+  Modal modality.Diamond k.Greater Node Sets open_bracket
+Begun scope Node Formula Unary Sets k.True = do
+  word ← One k.True
+  Is (FormulaForm.constant word.place true)
+Begun scope Node Formula Unary Sets k.False = do
+  word ← One k.False
+  Is (FormulaForm.constant word.place false)
+Begun scope Node Formula Unary Sets k.Val = do
+  word ← One k.Val
+  term ← Unary
+  Is (FormulaForm.«data» word.place term)
+Begun scope Node Formula Unary Sets k.Name = Beginning k.Name (Atom (atom_of scope) Unary)
+Begun scope Node Formula Unary Sets k.Number = Beginning k.Number (Atom FormulaForm.«data» Unary)
+Begun scope Node Formula Unary Sets k.Minus = Beginning k.Minus (Atom FormulaForm.«data» Unary)
+Begun scope Node Formula Unary Sets _ = Nothing
+
+-- a name, a period and a body, in which the name is bound
+abbrev pub Binding : Sign → Place → (List ℕ → Reads FormulaForm) → Reads FormulaForm
+Binding sign place Body = do
+  name ← Name
+  period ← One k.Period
+  body ← Body name.text
+  Is (FormulaForm.fixpoint sign place name body)
+
+abbrev pub FixpointBy : (List ℕ → Reads FormulaForm) → Kind → Reads FormulaForm
+FixpointBy Body k.Mu = do
+  word ← One k.Mu
+  Binding sign.Mu word.place Body
+FixpointBy Body k.Nu = do
+  word ← One k.Nu
+  Binding sign.Nu word.place Body
+FixpointBy Body _ = Nothing
+
+-- a fixpoint, over its body
+abbrev pub Fixpoint : (List ℕ → Reads FormulaForm) → Reads FormulaForm
+Fixpoint Body = First (FixpointBy Body)
+
+-- `&&` binds tightest, then `||`, then `=>`; at their right end a fixpoint over Body may stand.
+abbrev pub Connections : Reads FormulaForm → (List ℕ → Reads FormulaForm) → Reads FormulaForm
+Connections Node Body = Connected (connected_by FormulaForm.connected) Node (Fixpoint Body)
+
+-- the scope inside a fixpoint
+abbrev pub within : Scope → List ℕ → Scope
+within scope name = scope ++ name ∷ []
+
+-- So many levels may open: each `!`, each bracket but that which closes, and each fixpoint opens one.
+abbrev mutual
+  pub IsNode : Scope → ℕ → Reads FormulaForm
+  IsNode scope zero = First (Begun scope Nothing Nothing (IsUnary zero) Nothing)
+  IsNode scope (suc depth) = First (Begun scope (IsNode scope depth) (IsFormula scope depth) (IsUnary (suc depth)) (IsStepSet depth))
+
+  pub IsFormula : Scope → ℕ → Reads FormulaForm
+  IsFormula scope zero = Connections (First (Begun scope Nothing Nothing (IsUnary zero) Nothing)) (λ name. Nothing)
+  IsFormula scope (suc depth) =
+      Connections (First (Begun scope (IsNode scope depth) (IsFormula scope depth) (IsUnary (suc depth)) (IsStepSet depth)))
+      (λ name. IsFormula (within scope name) depth)
+
+-- ---- steps, the initial state, properties
+
+-- a state variable and the term whose value it gets
+abbrev pub IsAssignment : ℕ → Reads AssignmentForm
+IsAssignment depth = do
+  variable ← Name
+  assign ← One k.Assign
+  value ← IsTerm depth
+  Is (record { variable = variable; value = value })
+
+-- a name with variables of its own, a guard and assignments
+abbrev pub IsStep : ℕ → Reads StepForm
+IsStep depth = do
+  name ← Name
+  variables ← Extended (Is []) (λ none. Declared depth)
+  colon ← One k.Colon
+  guard ← IsTerm depth
+  arrow ← One k.Arrow
+  assignments ← Listed (IsAssignment depth) (One k.Comma)
+  semicolon ← One k.Semicolon
+  Is (record { name = name; variables = variables; guard = guard; assignments = assignments })
+
+-- one step or more, each with all the operators that are allowed
+abbrev pub Steps : ℕ → Reads (List StepForm)
+Steps depth = Listed (CountedApart (IsStep depth)) (Is {X = Unit {0}} tt)
+
+-- the values of the state variables, in order
+abbrev pub IsInitial : ℕ → Reads InitialForm
+IsInitial depth = do
+  word ← One k.Init
+  values ← Listed (Placed (IsTerm depth)) (One k.Comma)
+  semicolon ← One k.Semicolon
+  Is (record { place = word.place; values = arguments_of values })
+
+abbrev pub IsProperty : ℕ → Reads PropertyForm
+IsProperty depth = do
+  word ← One k.Property
+  name ← Name
+  is ← One k.Is
+  formula ← IsFormula [] depth
+  semicolon ← One k.Semicolon
+  Is (record { name = name; formula = formula })
+
+-- one property or more, each with all the operators that are allowed
+abbrev pub Properties : ℕ → Reads (List PropertyForm)
+Properties depth = Listed (CountedApart (IsProperty depth)) (Is {X = Unit {0}} tt)
+
+-- ---- models
+
+-- The ranges are those of the range lines, which stand among the tokens as white space.
+abbrev pub IsModel : List RangeForm → ℕ → Reads ModelForm
+IsModel ranges depth = do
+  sorts ← SortParts
+  model ← One k.Model
+  state ← One k.State
+  variables ← Variables
+  semicolon ← One k.Semicolon
+  step ← One k.Step
+  steps ← Steps depth
+  initial ← CountedApart (IsInitial depth)
+  properties ← Properties depth
+  Is (record { sorts = sorts; ranges = ranges; variables = variables; steps = steps; initial = initial; properties = properties })
+
+-- The tokens are this model, and then the end. So many levels may open; each step, the initial state
+-- and each property may have so many operators.
+abbrev pub IsModelText : ℕ → ℕ → List Tok → List RangeForm → ModelForm → Type 0
+IsModelText depth operators tokens ranges model =
+    (m : ℕ) × (end : Tok) × IsModel ranges depth (record { tokens = tokens; operators = operators }) model (record { tokens = end ∷ []; operators = m }) × (end.kind ≡ k.End)

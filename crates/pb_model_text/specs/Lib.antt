@@ -1,0 +1,4 @@
+pub mod Links
+pub mod Grammar
+pub mod Reading
+pub mod Parsing

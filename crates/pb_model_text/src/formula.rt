@@ -1,0 +1,415 @@
+//! Reads formulas, by recursive descent. A chain of one connective is read by a loop, so that the
+//! recursion is as deep as brackets, negations, modalities and fixpoints nest.
+
+ghost use Rattle.std.specs.Prelude.{◌≡◌, ◌<◌, ◌≤◌, true, false, length, Some, Ok, OnOk, IfOk};
+ghost use Rattle.std.specs.Prelude.{MatchResult};
+ghost use Rattle.pb_text_lexer.specs.Kinds.{is_last};
+ghost use Rattle.pb_text_tree.specs.Form.{chained};
+ghost use Rattle.pb_text_lexer.specs.Grammar.{State};
+ghost use Rattle.pb_text_lexer.specs.Steps as spec;
+ghost use Rattle.pb_text_lexer.specs.Steps.{Gives};
+ghost use Rattle.pb_model_tree.specs.Form.{FormulaForm, formula_form};
+ghost use Rattle.pb_model_text.specs.Links.{link_forms};
+ghost use Rattle.pb_model_text.specs.Grammar as grammar;
+ghost use Rattle.pb_model_text.specs.Reading as reading;
+ghost use Rattle.pb_model_text.specs.Reading.{names_of};
+
+use crate::atom::{data_atom, data_operand, goes_on, name_atom};
+use crate::scope::Scope;
+use crate::step_set::step_set;
+use pb_fixpoint::Sign;
+use pb_model_tree::{Formula, Link, Modality};
+use pb_text_lexer::fault::{ReadingFault, ReadingRule, Refusal};
+use pb_text_lexer::input::Input;
+use pb_text_lexer::kind::{Kind, same_kind};
+use pb_text_terms::operator::{is_connective, symbol};
+use pb_text_tree::{Connective, Name};
+use std::alloc::{AllocError, Global};
+
+/// The node of a chain, or its first operand where there is no other.
+fn joined(
+    alloc: Global,
+    connective: Connective,
+    first: Formula,
+    links: Vec<Link>,
+) -> Result<Formula, AllocError>
+    ensures { IfOk result (λ f. formula_form f
+        ≡ chained (FormulaForm.connected connective) (formula_form first)
+        (link_forms links.items)) }
+{
+    if links.is_empty() {
+        return Ok(first);
+    }
+    let first = Box::new(alloc, first)?;
+    Ok(Formula::Chain {
+        connective,
+        first,
+        links,
+    })
+}
+
+/// Refuses the next token as `ReadingRule::Unexpected` if it would go on with data.
+fn unless_going_on(input: &Input<'_>) -> Result<(), Refusal>
+    ensures { MatchResult result (λ u. reading.goes_on (spec.kind input.now) ≡ false)
+        (λ e. (reading.goes_on (spec.kind input.now) ≡ true)
+        × (e ≡ spec.refusal ReadingRule.Unexpected input.now.tokens)) }
+{
+    if goes_on(input.kind()) {
+        Err(input.refuse(ReadingRule::Unexpected))
+    } else {
+        Ok(())
+    }
+}
+
+/// `!` and its operand.
+#[cycle(formulas)]
+#[inline(never)]
+#[tactic(auto, unfolding(crate::specs::Reading::node))]
+fn negation<'a>(
+    input: &mut Input<'a>,
+    alloc: Global,
+    scope: Scope<'_, 'a>,
+) -> Result<Formula, ReadingFault>
+    requires { spec.kind input.old ≡ Kind.Not }
+    ensures reads { Gives formula_form (reading.node (names_of scope.entry.names.now)
+        scope.entry.depth input.old) result input.new }
+    ensures fewer { OnOk result (length input.new.tokens < length input.old.tokens) }
+{
+    let Scope { names, depth } = scope;
+    let place = input.enter(depth)?.place;
+    let depth = depth - 1;
+    let operand = node(input, alloc, Scope { names, depth })?;
+    let operand = Box::new(alloc, operand)?;
+    Ok(Formula::Negation { place, operand })
+}
+
+/// A formula in brackets.
+#[cycle(formulas)]
+#[inline(never)]
+#[tactic(auto, unfolding(crate::specs::Reading::node))]
+fn bracketed<'a>(
+    input: &mut Input<'a>,
+    alloc: Global,
+    scope: Scope<'_, 'a>,
+) -> Result<Formula, ReadingFault>
+    requires { spec.kind input.old ≡ Kind.Open }
+    ensures reads { Gives formula_form (reading.node (names_of scope.entry.names.now)
+        scope.entry.depth input.old) result input.new }
+    ensures fewer { OnOk result (length input.new.tokens < length input.old.tokens) }
+{
+    let Scope { names, depth } = scope;
+    input.enter(depth)?;
+    let depth = depth - 1;
+    let inner = formula(input, alloc, Scope { names, depth })?;
+    input.expect(Kind::Close)?;
+    unless_going_on(input)?;
+    Ok(inner)
+}
+
+/// `[A]` and its operand.
+#[cycle(formulas)]
+#[inline(never)]
+#[tactic(auto, unfolding(crate::specs::Reading::node))]
+fn necessity<'a>(
+    input: &mut Input<'a>,
+    alloc: Global,
+    scope: Scope<'_, 'a>,
+) -> Result<Formula, ReadingFault>
+    requires { spec.kind input.old ≡ Kind.OpenSquare }
+    ensures reads { Gives formula_form (reading.node (names_of scope.entry.names.now)
+        scope.entry.depth input.old) result input.new }
+    ensures fewer { OnOk result (length input.new.tokens < length input.old.tokens) }
+{
+    let Scope { names, depth } = scope;
+    let place = input.enter(depth)?.place;
+    let depth = depth - 1;
+    let steps = step_set(input, alloc, depth)?;
+    input.expect(Kind::CloseSquare)?;
+    let operand = node(input, alloc, Scope { names, depth })?;
+    let operand = Box::new(alloc, operand)?;
+    Ok(Formula::Modal {
+        place,
+        modality: Modality::Box,
+        steps,
+        operand,
+    })
+}
+
+/// `<A>` and its operand.
+#[cycle(formulas)]
+#[inline(never)]
+#[tactic(auto, unfolding(crate::specs::Reading::node))]
+fn possibility<'a>(
+    input: &mut Input<'a>,
+    alloc: Global,
+    scope: Scope<'_, 'a>,
+) -> Result<Formula, ReadingFault>
+    requires { spec.kind input.old ≡ Kind.Less }
+    ensures reads { Gives formula_form (reading.node (names_of scope.entry.names.now)
+        scope.entry.depth input.old) result input.new }
+    ensures fewer { OnOk result (length input.new.tokens < length input.old.tokens) }
+{
+    let Scope { names, depth } = scope;
+    let place = input.enter(depth)?.place;
+    let depth = depth - 1;
+    let steps = step_set(input, alloc, depth)?;
+    input.expect(Kind::Greater)?;
+    let operand = node(input, alloc, Scope { names, depth })?;
+    let operand = Box::new(alloc, operand)?;
+    Ok(Formula::Modal {
+        place,
+        modality: Modality::Diamond,
+        steps,
+        operand,
+    })
+}
+
+/// `val` and its operand.
+#[inline(never)]
+#[tactic(auto, unfolding(crate::specs::Reading::node))]
+fn value<'a>(
+    input: &mut Input<'a>,
+    alloc: Global,
+    scope: Scope<'_, 'a>,
+) -> Result<Formula, ReadingFault>
+    requires { spec.kind input.old ≡ Kind.Val }
+    ensures reads { Gives formula_form (reading.node (names_of scope.entry.names.now)
+        scope.entry.depth input.old) result input.new }
+    ensures fewer { OnOk result (length input.new.tokens < length input.old.tokens) }
+{
+    let place = input.take().place;
+    let term = data_operand(input, alloc, scope.depth)?;
+    unless_going_on(input)?;
+    Ok(Formula::Data { place, term })
+}
+
+/// `true` or `false`.
+#[inline(never)]
+fn constant(input: &mut Input<'_>, value: bool) -> Result<Formula, ReadingFault>
+    requires { is_last (spec.kind input.old) ≡ false }
+    ensures reads { Gives formula_form (reading.truth value input.old) result input.new }
+    ensures fewer { OnOk result (length input.new.tokens < length input.old.tokens) }
+{
+    let place = input.take().place;
+    unless_going_on(input)?;
+    Ok(Formula::Constant { place, value })
+}
+
+/// A negation, a formula in brackets, a modality, a constant, data or a fixpoint's variable.
+#[cycle(formulas)]
+#[tactic(auto, unfolding(crate::specs::Reading::node))]
+fn node<'a>(
+    input: &mut Input<'a>,
+    alloc: Global,
+    scope: Scope<'_, 'a>,
+) -> Result<Formula, ReadingFault>
+    ensures reads { Gives formula_form (reading.node (names_of scope.entry.names.now)
+        scope.entry.depth input.old) result input.new }
+    ensures fewer { OnOk result (length input.new.tokens < length input.old.tokens) }
+{
+    match input.kind() {
+        Kind::Not => negation(input, alloc, scope),
+        Kind::Open => bracketed(input, alloc, scope),
+        Kind::OpenSquare => necessity(input, alloc, scope),
+        Kind::Less => possibility(input, alloc, scope),
+        Kind::True => constant(input, true),
+        Kind::False => constant(input, false),
+        Kind::Val => value(input, alloc, scope),
+        Kind::Name => name_atom(input, alloc, scope),
+        Kind::Number => data_atom(input, alloc, scope.depth),
+        Kind::Minus => data_atom(input, alloc, scope.depth),
+        _ => Err(ReadingFault::At(input.refuse(ReadingRule::Unexpected))),
+    }
+}
+
+/// The sign of a token, if it begins a fixpoint.
+fn sign(kind: Kind) -> Option<Sign>
+    ensures { result ≡ reading.sign_of kind }
+{
+    match kind {
+        Kind::Mu => Some(Sign::Mu),
+        Kind::Nu => Some(Sign::Nu),
+        _ => None,
+    }
+}
+
+/// The names of a scope, and one more.
+fn extended<'a>(alloc: Global, names: &[&'a str], name: &'a str) -> Result<Vec<&'a str>, AllocError>
+    ensures { IfOk result (λ v. names_of v.items ≡ grammar.within (names_of names.now) name.now) }
+{
+    let mut extended = Vec::with_capacity(alloc, names.len() + 1)?;
+    extended.extend_from_slice(names)?;
+    extended.push(name)?;
+    Ok(extended)
+}
+
+/// `mu` or `nu`, a name, a period and a body, in which the name is bound.
+#[cycle(formulas)]
+#[inline(never)]
+#[tactic(auto, unfolding(crate::specs::Reading::fixpoint))]
+fn fixpoint<'a>(
+    input: &mut Input<'a>,
+    alloc: Global,
+    scope: Scope<'_, 'a>,
+    sign: Sign,
+) -> Result<Formula, ReadingFault>
+    requires { reading.sign_of (spec.kind input.old) ≡ Some sign }
+    ensures reads { Gives formula_form (reading.fixpoint (names_of scope.entry.names.now)
+        scope.entry.depth input.old) result input.new }
+    ensures fewer { OnOk result (length input.new.tokens < length input.old.tokens) }
+{
+    let Scope { names, depth } = scope;
+    let place = input.enter(depth)?.place;
+    let (name_place, text) = input.expect_name()?;
+    input.expect(Kind::Period)?;
+    let names = extended(alloc, names, text)?;
+    let depth = depth - 1;
+    let body = formula(
+        input,
+        alloc,
+        Scope {
+            names: &names,
+            depth,
+        },
+    )?;
+    let body = Box::new(alloc, body)?;
+    let variable = Name {
+        place: name_place,
+        text: text.to_owned(alloc)?,
+    };
+    Ok(Formula::Fixpoint {
+        place,
+        sign,
+        variable,
+        body,
+    })
+}
+
+/// An operand of a chain of the connective.
+#[cycle(formulas)]
+fn operand<'a>(
+    input: &mut Input<'a>,
+    alloc: Global,
+    connective: Connective,
+    scope: Scope<'_, 'a>,
+) -> Result<Formula, ReadingFault>
+    ensures reads { Gives formula_form (reading.operand connective (names_of scope.entry.names.now)
+        scope.entry.depth input.old) result input.new }
+    ensures fewer { OnOk result (length input.new.tokens < length input.old.tokens) }
+{
+    match connective {
+        Connective::And => match sign(input.kind()) {
+            Some(sign) => fixpoint(input, alloc, scope, sign),
+            None => node(input, alloc, scope),
+        },
+        Connective::Or => level(input, alloc, Connective::And, scope),
+        Connective::Implies => level(input, alloc, Connective::Or, scope),
+    }
+}
+
+/// The chain of the connective that a first operand begins.
+#[cycle(formulas)]
+#[inline(never)]
+fn chain<'a>(
+    input: &mut Input<'a>,
+    alloc: Global,
+    connective: Connective,
+    scope: Scope<'_, 'a>,
+    first: Formula,
+) -> Result<Formula, ReadingFault>
+    ensures reads { (s : State) → reading.operand connective (names_of scope.entry.names.now)
+        scope.entry.depth s ≡ Ok (formula_form first, input.old)
+        → length input.old.tokens < length s.tokens
+        → Gives formula_form (reading.level connective (names_of scope.entry.names.now)
+        scope.entry.depth s) result input.new }
+    ensures fewer { OnOk result (length input.new.tokens ≤ length input.old.tokens) }
+{
+    let mut links = Vec::with_capacity(alloc, 1)?;
+    'links: while same_kind(input.kind(), symbol(connective)) {
+        let place = input.take_operator()?.place;
+        let operand = operand(input, alloc, connective, scope)?;
+        links.push(Link { place, operand })?;
+    }
+    Ok(joined(alloc, connective, first, links)?)
+}
+
+/// The chain of the connective that a first operand begins, or that operand alone.
+#[cycle(formulas)]
+#[inline(always)]
+fn chain_behind<'a>(
+    input: &mut Input<'a>,
+    alloc: Global,
+    connective: Connective,
+    scope: Scope<'_, 'a>,
+    first: Formula,
+) -> Result<Formula, ReadingFault>
+    ensures reads { (s : State) → reading.operand connective (names_of scope.entry.names.now)
+        scope.entry.depth s ≡ Ok (formula_form first, input.old)
+        → length input.old.tokens < length s.tokens
+        → Gives formula_form (reading.level connective (names_of scope.entry.names.now)
+        scope.entry.depth s) result input.new }
+    ensures fewer { OnOk result (length input.new.tokens ≤ length input.old.tokens) }
+{
+    if !same_kind(input.kind(), symbol(connective)) {
+        return Ok(first);
+    }
+    chain(input, alloc, connective, scope, first)
+}
+
+/// A chain of the connective.
+#[cycle(formulas)]
+fn level<'a>(
+    input: &mut Input<'a>,
+    alloc: Global,
+    connective: Connective,
+    scope: Scope<'_, 'a>,
+) -> Result<Formula, ReadingFault>
+    ensures reads { Gives formula_form (reading.level connective (names_of scope.entry.names.now)
+        scope.entry.depth input.old) result input.new }
+    ensures fewer { OnOk result (length input.new.tokens < length input.old.tokens) }
+{
+    let first = operand(input, alloc, connective, scope);
+    if !same_kind(input.kind(), symbol(connective)) {
+        return first;
+    }
+    chain(input, alloc, connective, scope, first?)
+}
+
+/// A formula, whose first part without connectives is read.
+#[cycle(formulas)]
+#[inline(never)]
+fn connectives_behind<'a>(
+    input: &mut Input<'a>,
+    alloc: Global,
+    scope: Scope<'_, 'a>,
+    first: Formula,
+) -> Result<Formula, ReadingFault>
+    ensures reads { (s : State) → reading.primary (names_of scope.entry.names.now)
+        scope.entry.depth s ≡ Ok (formula_form first, input.old)
+        → length input.old.tokens < length s.tokens
+        → Gives formula_form (reading.formula (names_of scope.entry.names.now)
+        scope.entry.depth s) result input.new }
+    ensures fewer { OnOk result (length input.new.tokens ≤ length input.old.tokens) }
+{
+    let conjunction = chain_behind(input, alloc, Connective::And, scope, first)?;
+    let disjunction = chain_behind(input, alloc, Connective::Or, scope, conjunction)?;
+    chain_behind(input, alloc, Connective::Implies, scope, disjunction)
+}
+
+/// A formula. Most often no connective follows its first part at all.
+#[cycle(formulas)]
+pub fn formula<'a>(
+    input: &mut Input<'a>,
+    alloc: Global,
+    scope: Scope<'_, 'a>,
+) -> Result<Formula, ReadingFault>
+    ensures reads { Gives formula_form (reading.formula (names_of scope.entry.names.now)
+        scope.entry.depth input.old) result input.new }
+    ensures fewer { OnOk result (length input.new.tokens < length input.old.tokens) }
+{
+    let first = operand(input, alloc, Connective::And, scope);
+    if !is_connective(input.kind()) {
+        return first;
+    }
+    connectives_behind(input, alloc, scope, first?)
+}

@@ -1,0 +1,18 @@
+//! Reads the text of a model and its properties into its syntax tree.
+//!
+//! `specs/Grammar.antt` is the grammar, a relation between tokens and what they say.
+//! `specs/Reading.antt` is the same as a function, which the code computes; no public clause cites
+//! it. `specs/Parsing.antt` has what `parse_model` ensures. Sorts, variables and data terms are read
+//! as in texts, by the same functions, and errors have the numbers of texts.
+#![tactic(auto)]
+
+mod atom;
+mod formula;
+pub mod laws;
+mod model;
+mod scope;
+mod step;
+mod step_set;
+pub mod text;
+
+pub use text::parse_model;

@@ -1,0 +1,95 @@
+//! Reads steps: their names, variables, guards and assignments.
+
+ghost use Rattle.std.specs.Prelude.{◌≡◌, ◌<◌, length, OnOk, map};
+ghost use Rattle.pb_text_lexer.specs.Steps.{Gives};
+ghost use Rattle.pb_text.specs.Parsing.{depth_limit};
+ghost use Rattle.pb_model_tree.specs.Form.{assignment_form, step_form};
+ghost use Rattle.pb_model_text.specs.Reading as reading;
+
+use pb_model_tree::{Assignment, Step};
+use pb_text::limits::DEPTH_LIMIT;
+use pb_text::system::parameters;
+use pb_text_lexer::fault::ReadingFault;
+use pb_text_lexer::input::Input;
+use pb_text_lexer::kind::{Kind, same_kind};
+use pb_text_terms::term::term;
+use pb_text_terms::variable::name;
+use std::alloc::Global;
+
+/// A state variable, `:=` and the term whose value it gets.
+#[tactic(auto, unfolding(crate::specs::Reading::assignment))]
+fn assignment(input: &mut Input<'_>, alloc: Global) -> Result<Assignment, ReadingFault>
+    ensures reads { Gives assignment_form
+        (reading.assignment depth_limit input.old) result input.new }
+    ensures fewer { OnOk result (length input.new.tokens < length input.old.tokens) }
+{
+    let variable = name(input, alloc)?;
+    input.expect(Kind::Assign)?;
+    let value = term(input, alloc, DEPTH_LIMIT)?;
+    Ok(Assignment { variable, value })
+}
+
+/// Assignments with commas between them.
+fn assignments(input: &mut Input<'_>, alloc: Global) -> Result<Vec<Assignment>, ReadingFault>
+    ensures reads { Gives (λ v. map assignment_form v.items)
+        (reading.assignments depth_limit input.old) result input.new }
+    ensures fewer { OnOk result (length input.new.tokens < length input.old.tokens) }
+{
+    let mut assignments = Vec::with_capacity(alloc, 1)?;
+    'assignments: loop {
+        let assignment = assignment(input, alloc)?;
+        assignments.push(assignment)?;
+        if !same_kind(input.kind(), Kind::Comma) {
+            return Ok(assignments);
+        }
+        input.take();
+    }
+}
+
+/// A name with its variables, `:`, a guard, `->`, assignments and `;`.
+#[tactic(auto, unfolding(crate::specs::Reading::step_parts))]
+fn step_parts(input: &mut Input<'_>, alloc: Global) -> Result<Step, ReadingFault>
+    ensures reads { Gives step_form (reading.step_parts depth_limit input.old) result input.new }
+    ensures fewer { OnOk result (length input.new.tokens < length input.old.tokens) }
+{
+    let name = name(input, alloc)?;
+    let variables = parameters(input, alloc)?;
+    input.expect(Kind::Colon)?;
+    let guard = term(input, alloc, DEPTH_LIMIT)?;
+    input.expect(Kind::Arrow)?;
+    let assignments = assignments(input, alloc)?;
+    input.expect(Kind::Semicolon)?;
+    Ok(Step {
+        name,
+        variables,
+        guard,
+        assignments,
+    })
+}
+
+/// A step, with all the operators that one may have.
+#[tactic(auto, unfolding(crate::specs::Reading::step))]
+fn step(input: &mut Input<'_>, alloc: Global) -> Result<Step, ReadingFault>
+    ensures reads { Gives step_form (reading.step depth_limit input.old) result input.new }
+    ensures fewer { OnOk result (length input.new.tokens < length input.old.tokens) }
+{
+    let allowed = input.operators();
+    let step = step_parts(input, alloc)?;
+    input.allow(allowed);
+    Ok(step)
+}
+
+/// One step or more.
+pub fn steps(input: &mut Input<'_>, alloc: Global) -> Result<Vec<Step>, ReadingFault>
+    ensures { Gives (λ v. map step_form v.items)
+        (reading.steps depth_limit input.old) result input.new }
+{
+    let mut steps = Vec::new(alloc);
+    'steps: loop {
+        let step = step(input, alloc)?;
+        steps.push(step)?;
+        if !same_kind(input.kind(), Kind::Name) {
+            return Ok(steps);
+        }
+    }
+}

@@ -1,0 +1,95 @@
+//! Reads sets of steps, by recursive descent. Sets with `||` between them are read by a loop, so that
+//! the recursion is as deep as brackets and `!` nest.
+
+ghost use Rattle.std.specs.Prelude.{◌≡◌, ◌<◌, length, OnOk, IfOk};
+ghost use Rattle.pb_text_tree.specs.Form.{chained};
+ghost use Rattle.pb_model_tree.specs.Form.{StepSetForm, step_set_form};
+ghost use Rattle.pb_text_lexer.specs.Steps as spec;
+ghost use Rattle.pb_text_lexer.specs.Steps.{Gives};
+ghost use Rattle.pb_model_text.specs.Links.{step_set_links};
+ghost use Rattle.pb_model_text.specs.Reading as reading;
+
+use pb_model_tree::{StepSet, StepSetLink};
+use pb_text_lexer::fault::{ReadingFault, ReadingRule};
+use pb_text_lexer::input::Input;
+use pb_text_lexer::kind::{Kind, same_kind};
+use pb_text_terms::variable::name;
+use std::alloc::{AllocError, Global};
+
+/// The node of sets with `||` between them, or the first where there is no other.
+fn joined(alloc: Global, first: StepSet, links: Vec<StepSetLink>) -> Result<StepSet, AllocError>
+    ensures { IfOk result (λ a. step_set_form a ≡ chained StepSetForm.union (step_set_form first)
+        (step_set_links links.items)) }
+{
+    if links.is_empty() {
+        return Ok(first);
+    }
+    let first = Box::new(alloc, first)?;
+    Ok(StepSet::Union { first, links })
+}
+
+/// `!` and its operand.
+#[cycle(step_sets)]
+#[inline(never)]
+#[tactic(auto, unfolding(crate::specs::Reading::set))]
+fn complement(input: &mut Input<'_>, alloc: Global, depth: u32) -> Result<StepSet, ReadingFault>
+    requires { spec.kind input.old ≡ Kind.Not }
+    ensures reads { Gives step_set_form (reading.set depth input.old) result input.new }
+    ensures fewer { OnOk result (length input.new.tokens < length input.old.tokens) }
+{
+    let place = input.enter(depth)?.place;
+    let operand = set(input, alloc, depth - 1)?;
+    let operand = Box::new(alloc, operand)?;
+    Ok(StepSet::Complement { place, operand })
+}
+
+/// Sets in brackets.
+#[cycle(step_sets)]
+#[inline(never)]
+#[tactic(auto, unfolding(crate::specs::Reading::set))]
+fn bracketed(input: &mut Input<'_>, alloc: Global, depth: u32) -> Result<StepSet, ReadingFault>
+    requires { spec.kind input.old ≡ Kind.Open }
+    ensures reads { Gives step_set_form (reading.set depth input.old) result input.new }
+    ensures fewer { OnOk result (length input.new.tokens < length input.old.tokens) }
+{
+    input.enter(depth)?;
+    let inner = step_set(input, alloc, depth - 1)?;
+    input.expect(Kind::Close)?;
+    Ok(inner)
+}
+
+/// All steps, the step of a name, a complement, or sets in brackets, in which so many levels may
+/// open.
+#[cycle(step_sets)]
+#[tactic(auto, unfolding(crate::specs::Reading::set))]
+fn set(input: &mut Input<'_>, alloc: Global, depth: u32) -> Result<StepSet, ReadingFault>
+    ensures reads { Gives step_set_form (reading.set depth input.old) result input.new }
+    ensures fewer { OnOk result (length input.new.tokens < length input.old.tokens) }
+{
+    match input.kind() {
+        Kind::True => {
+            let place = input.take().place;
+            Ok(StepSet::All { place })
+        }
+        Kind::Name => Ok(StepSet::Step(name(input, alloc)?)),
+        Kind::Not => complement(input, alloc, depth),
+        Kind::Open => bracketed(input, alloc, depth),
+        _ => Err(ReadingFault::At(input.refuse(ReadingRule::Unexpected))),
+    }
+}
+
+/// Sets of steps with `||` between them, in which so many levels may open.
+#[cycle(step_sets)]
+pub fn step_set(input: &mut Input<'_>, alloc: Global, depth: u32) -> Result<StepSet, ReadingFault>
+    ensures reads { Gives step_set_form (reading.step_set depth input.old) result input.new }
+    ensures fewer { OnOk result (length input.new.tokens < length input.old.tokens) }
+{
+    let first = set(input, alloc, depth)?;
+    let mut links = Vec::new(alloc);
+    'links: while same_kind(input.kind(), Kind::Or) {
+        let place = input.take_operator()?.place;
+        let operand = set(input, alloc, depth)?;
+        links.push(StepSetLink { place, operand })?;
+    }
+    Ok(joined(alloc, first, links)?)
+}

@@ -1,0 +1,44 @@
+//! From bytes to a syntax tree.
+
+ghost use Rattle.std.specs.Prelude.{◌≡◌, ◌≤◌, ℕ, length, IfOk, IfErr};
+ghost use Rattle.pb_model_tree.specs.Form.{ModelForm, model_form};
+ghost use Rattle.pb_model_text.specs.Parsing.{IsReading, IsReadingWithin, NoReading, IsFirstFault};
+
+use crate::model::whole;
+use pb_model_tree::Model;
+use pb_text::error::TextError;
+use pb_text::limits::OPERATOR_LIMIT;
+use pb_text_lexer::input::Input;
+use pb_text_lexer::language::Language;
+use pb_text_lexer::ranges::ranges;
+use std::alloc::Global;
+
+/// Reads the text of a model, of at most 67,108,864 bytes.
+///
+/// Range lines may stand anywhere in it; the tree has them in order.
+///
+/// A text that says nothing is refused at its least fault, by the rules of texts:
+/// `TextRule::UnknownByte` (P01), `TextRule::LargeNumber` (P03) or `TextRule::RangeLine` (P05) where a
+/// token should stand and none does, `TextRule::UnexpectedToken` (P02) at the first token with which
+/// no model goes on, `TextRule::LimitExceeded` (P04) at a token that goes past a limit. Lines and
+/// columns count from 1, columns in bytes; the end of the text stands where its next byte would.
+pub fn parse_model(alloc: Global, bytes: &[u8]) -> Result<Model, TextError>
+    requires { length bytes.now ≤ 67108864 }
+    // It is what the bytes say, within the limits, places included.
+    ensures reading { IfOk result (λ m. IsReading bytes.now (model_form m)) }
+    // They say nothing else, within any limits.
+    ensures only { IfOk result (λ m. (d n : ℕ) (x : ModelForm) → IsReadingWithin d n bytes.now x
+        → x ≡ model_form m) }
+    // Only where they say nothing within the limits, or memory runs out, is there no model.
+    ensures refused { IfErr result (λ e. NoReading bytes.now e) }
+    // The fault stands at its place, and nothing that is no token stands before it. Some model
+    // begins with the tokens before it, so P02 stands at the first with which none goes on; and no
+    // token before it is past a limit. At P04 no model within the limits begins with that token too,
+    // so it is the first past a limit; with one level and one operator more some model does.
+    ensures stands { IfErr result (λ e. IsFirstFault bytes.now e) }
+{
+    let mut input = Input::new(Language::Model, bytes, OPERATOR_LIMIT);
+    let mut model = whole(&mut input, alloc)?;
+    model.ranges = ranges(alloc, Language::Model, bytes)?;
+    Ok(model)
+}

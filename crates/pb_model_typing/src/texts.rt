@@ -1,0 +1,70 @@
+//! The rules of the texts to which properties are translated.
+
+ghost use Rattle.std.specs.Prelude.{◌≡◌, ◌≢◌, All, IfOk, IfErr, OnOk};
+ghost use Rattle.pb_model_meaning.specs.Erase.{model_of};
+ghost use Rattle.pb_model_names.specs.View.{formula_of};
+ghost use Rattle.pb_model_typing.specs.Texts as typed;
+ghost use Rattle.pb_model_typing.specs.Texts.{HasTypedText, IsErrorOfTexts, IsTextError};
+ghost use Rattle.pb_model_typing.specs.Texts.{checked_formulas};
+
+use pb_fixpoint::Sign;
+use pb_model_translator::translate_formula;
+use pb_model_tree::{Formula, Modality, Model, StepSet};
+use pb_text_tree::{Name, Place};
+use pb_typing::check;
+use pb_typing_declarations::TypeError;
+use std::alloc::{AllocError, Global};
+
+/// Checks the text of a formula.
+fn check_text(alloc: Global, model: &Model, formula: &Formula) -> Result<(), TypeError>
+    ensures accepted { OnOk result (HasTypedText (model_of model.now) (formula_of formula.now)) }
+    ensures fails { IfErr result
+        (IsTextError (model_of model.now) (formula_of formula.now)) }
+    ensures ill_typed { IfErr result (λ error. error ≢ TypeError.Memory
+        → ¬ HasTypedText (model_of model.now) (formula_of formula.now)) }
+{
+    let text = translate_formula(alloc, model, formula)?;
+    match check(alloc, text) {
+        Ok(_typed) => Ok(()),
+        Err((_text, error)) => Err(error),
+    }
+}
+
+/// `nu X . [true] X`, with the empty name for `X`.
+fn every_step(alloc: Global, place: Place) -> Result<Formula, AllocError>
+    ensures { IfOk result (λ f. formula_of f ≡ typed.every_step) }
+{
+    let text = String::new(alloc);
+    let operand = Box::new(alloc, Formula::Variable(Name { place, text }))?;
+    let body = Formula::Modal {
+        place,
+        modality: Modality::Box,
+        steps: StepSet::All { place },
+        operand,
+    };
+    let body = Box::new(alloc, body)?;
+    let text = String::new(alloc);
+    Ok(Formula::Fixpoint {
+        place,
+        sign: Sign::Nu,
+        variable: Name { place, text },
+        body,
+    })
+}
+
+/// Checks the text in which each step stands, and each property's.
+pub(crate) fn check_texts(alloc: Global, model: &Model) -> Result<(), TypeError>
+    ensures accepted { OnOk result
+        (All (HasTypedText (model_of model.now)) (checked_formulas (model_of model.now))) }
+    ensures fails { IfErr result
+        (IsErrorOfTexts (model_of model.now) (checked_formulas (model_of model.now))) }
+    ensures ill_typed { IfErr result (λ error. error ≢ TypeError.Memory
+        → ¬ All (HasTypedText (model_of model.now)) (checked_formulas (model_of model.now))) }
+{
+    let steps = every_step(alloc, model.initial.place)?;
+    check_text(alloc, model, &steps)?;
+    for property in &model.properties {
+        check_text(alloc, model, &property.formula)?;
+    }
+    Ok(())
+}

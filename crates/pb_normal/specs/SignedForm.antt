@@ -1,0 +1,17 @@
+-- The positive normal form of a typed formula: negations are driven down to data (De Morgan).
+use Rattle.std.specs.Prelude.{Bool, not}
+use Rattle.pb_typing_rules.specs.Faults.{left_parity}
+use Rattle.pb_typed_tree.specs.Tree as typed
+use Rattle.pb_normal.specs.Chains.{joins}
+use Rattle.pb_normal.specs.Normal.{Formula, Join, Each, Call}
+use Rattle.pb_normal.specs.Normalisation.{signed_test, is_universal}
+
+-- the normal form of a typed tree, where `even` says whether the negations around are even in number
+abbrev pub signed_form : Bool → typed.Formula → Formula
+signed_form even (typed.Test x) = signed_test even x
+signed_form even (typed.Negation f) = signed_form (not even) f
+signed_form even (typed.Connected c f g) =
+    Join (joins c even) (signed_form (left_parity c even) f) (signed_form even g)
+signed_form even (typed.Quantified q s shape f) =
+    Each (is_universal q even) s shape (signed_form even f)
+signed_form even (typed.Call X es) = Call X es

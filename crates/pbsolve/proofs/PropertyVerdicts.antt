@@ -1,0 +1,99 @@
+-- The verdict on a property of a model, and what is refused of the model by what is refused of the property's text.
+use Rattle.std.proofs.Common.{◌≡◌, ◌∙◌, ℕ, zero, suc, ◌<◌, List, [], ◌∷◌, Some, length, map, refl, sym, ap, subst, arith}
+use Rattle.std.specs.Prelude.{Contains, Result, Ok, Err, IfErr}
+use Rattle.std.specs.Result.{IsErrAnd}
+use Rattle.std.specs.List.{slice_get}
+use Rattle.std.proofs.lemmas.List.{length-map}
+use Rattle.std.proofs.lemmas.Option.{slice_get_within, get_or_from_slice_get}
+use Rattle.pb_text_tree.specs.Form.{SpecForm}
+use Rattle.pb_model_tree.specs.Form.{PropertyForm, ModelForm}
+use Rattle.pb_model_properties.specs.Said.{IsModelOf, IsTextOf}
+use Rattle.pb_bytecode.specs.Contents.{Contents}
+use Rattle.pb_game_of_trees.specs.declared.tree_game.BuildError.{BuildError}
+use Rattle.pb_game_of_trees.specs.declared.tree_game.BuildError.TheVariants as build_error
+use Rattle.pb_report_texts.specs.declared.answer.Answer.{Answer}
+use Rattle.pb_solution.specs.Answers.{IsAnswerOf, IsTooLarge}
+use Rattle.pbsolve.specs.declared.solve_error.SolveError.{SolveError}
+use Rattle.pbsolve.specs.declared.solve_error.SolveError.TheVariants as solve_error
+use Rattle.pbsolve.specs.Answers.{IsModuleOfForm}
+use Rattle.pbsolve.specs.Errors.{build_refusal}
+use Rattle.pbsolve.specs.Models.{IsUnchecked, IsVerdict}
+use Rattle.pbsolve.specs.Refusals.{IsUncompiledForm}
+use Rattle.pbsolve.proofs.Texts.{HasTrees}
+
+some_at : {X : Type 0} (xs : List X) (k : ℕ) → k < length xs → (x : X) × (slice_get xs k ≡ Some x)
+some_at [] k less = absurd (omega arith)
+some_at (x ∷ xs) zero less = (x, refl)
+some_at (x ∷ xs) (suc k) less = some_at xs k (omega arith)
+
+-- a property stands at each place within
+pub some_property : {A : Type 0} (form : A → PropertyForm) (items : List A) (k : ℕ) → k < length items → (p : PropertyForm) × (slice_get (map form items) k ≡ Some p)
+some_property form items k less = let long = length-map items form in some_at (map form items) k (omega (arith, less, long))
+
+contains_at : (ps : List PropertyForm) (k : ℕ) (p : PropertyForm) → slice_get ps k ≡ Some p → Contains ps p
+contains_at ps k p e = (k, slice_get_within ps k p e, get_or_from_slice_get ps k p p e)
+
+-- the text of the property at a place
+pub record IsTextAt (model : ModelForm) (k : ℕ) (x : SpecForm) : Type 0 where
+  pub property : PropertyForm
+  pub stands : slice_get model.properties k ≡ Some property
+  pub of_property : IsTextOf model property.formula x
+
+pub text_at_place : (model : ModelForm) (k : ℕ) (x : SpecForm) → (p : PropertyForm) × (slice_get model.properties k ≡ Some p)
+    → ((p : PropertyForm) → slice_get model.properties k ≡ Some p → IsTextOf model p.formula x) → IsTextAt model k x
+text_at_place model k x some text = record { property = some.0; stands = some.1; of_property = text some.0 some.1 }
+
+abbrev pub WhereUnchecked : ModelForm → SolveError → Type 0
+WhereUnchecked model e = (bytes : List ℕ) → IsModelOf bytes model → IsUnchecked bytes e
+
+pub uncompiled_property : (model : ModelForm) (k : ℕ) (x : SpecForm) → IsTextAt model k x → (e : SolveError) → IsUncompiledForm x e → WhereUnchecked model e
+uncompiled_property model k x at (solve_error.Limit limit equation) h = λ bytes said. record {
+  model = model;
+  said = said;
+  property = at.property;
+  asked = contains_at model.properties k at.property at.stands;
+  text = x;
+  of_property = at.of_property;
+  exceeds = h;
+}
+uncompiled_property model k x at (solve_error.Memory error) h = λ bytes said. tt
+uncompiled_property model k x at (solve_error.Write error) h = λ bytes said. tt
+uncompiled_property model k x at solve_error.TooManyVertices h = absurd h
+uncompiled_property model k x at solve_error.NoProperty h = absurd h
+uncompiled_property model k x at (solve_error.Text error) h = absurd h
+uncompiled_property model k x at (solve_error.Typing error) h = absurd h
+uncompiled_property model k x at (solve_error.Module error) h = absurd h
+uncompiled_property model k x at (solve_error.Acceptance error) h = absurd h
+
+pub unbuilt_property : (model : ModelForm) (k : ℕ) (x : SpecForm) → IsTextAt model k x → (m : Contents) → IsModuleOfForm x m
+    → (e : BuildError) → (e ≡ build_error.TooManyVertices → IsTooLarge m) → WhereUnchecked model (build_refusal e)
+unbuilt_property model k x at m of_text (build_error.Memory error) large = λ bytes said. tt
+unbuilt_property model k x at m of_text build_error.TooManyVertices large = λ bytes said. record {
+  model = model;
+  said = said;
+  property = at.property;
+  asked = contains_at model.properties k at.property at.stands;
+  text = x;
+  of_property = at.of_property;
+  contents = m;
+  of_text = of_text;
+  large = large refl;
+}
+
+-- `?` hands an error up as it is
+pub unchecked_up : {T : Type 0} (model : ModelForm) (r : Result T SolveError) (e : SolveError) → IsErrAnd r (λ x. x ≡ e) → WhereUnchecked model e
+    → IfErr r (WhereUnchecked model)
+unchecked_up model (Ok x) e made h = tt
+unchecked_up model (Err x) e made h = subst (WhereUnchecked model) (sym made) h
+
+-- the answer to the property's text is the verdict on the property
+pub property_verdict : (model : ModelForm) (p : PropertyForm) (x : SpecForm) → IsTextOf model p.formula x → (m : Contents) → HasTrees m → IsModuleOfForm x m
+    → (a : Answer) → IsAnswerOf m a → IsVerdict model p a
+property_verdict model p x text m some of_text a answered = record {
+  exact = ap (λ (b : Answer). b.truth) (answered some.0 some.1).exact ∙ ((of_text.says some.0 some.1).answer ∙ text.decides);
+  text = x;
+  of_property = text;
+  contents = m;
+  of_text = of_text;
+  counted = answered;
+}

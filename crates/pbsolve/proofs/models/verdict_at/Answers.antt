@@ -1,0 +1,39 @@
+-- The answer to the text of the property at the place is the verdict on it.
+use Rattle.std.proofs.Common.{ap}
+use Rattle.std.specs.Prelude.{Err}
+use Rattle.pb_text_tree.specs.Form.{spec_form}
+use Rattle.pb_model_tree.specs.Form.{model_form, property_form}
+use Rattle.pbsolve.specs.Errors.{build_refusal}
+use Rattle.pbsolve.proofs.PropertyVerdicts.{property_verdict, some_property, text_at_place, unbuilt_property, unchecked_up, uncompiled_property}
+use Rattle.pbsolve.proofs.models.verdict_at.Goals as goal
+
+pub verified-requires-clause-well_typed : goal.verified-requires-clause-well_typed
+verified-requires-clause-well_typed g c =
+    let some = some_property property_form c.args.model.now.model.properties.items c.args.place c.requires.within in
+    (c.in_ok-text.ensures.text some.0 some.1).typed
+
+pub returns-in_err-verified-clause-refused : goal.returns-in_err-verified-clause-refused
+returns-in_err-verified-clause-refused g c =
+    let model = model_form c.args.model.now.model in
+    let text = spec_form c.in_ok-text.text.spec in
+    let some = some_property property_form c.args.model.now.model.properties.items c.args.place c.requires.within in
+    let at = text_at_place model c.args.place text some c.in_ok-text.ensures.text in
+    unchecked_up model c.from_residual-in_err-verified.result c.in_err-verified.field-0.0 c.from_residual-in_err-verified.ensures.1
+    (uncompiled_property model c.args.place text at c.in_err-verified.field-0.0 c.in_err-verified.ensures.refused)
+
+pub returns-in_err-answer_module-clause-refused : goal.returns-in_err-answer_module-clause-refused
+returns-in_err-answer_module-clause-refused g c =
+    let model = model_form c.args.model.now.model in
+    let text = spec_form c.in_ok-text.text.spec in
+    let some = some_property property_form c.args.model.now.model.properties.items c.args.place c.requires.within in
+    let at = text_at_place model c.args.place text some c.in_ok-text.ensures.text in
+    let error = c.in_err-answer_module.field-0.0 in
+    unchecked_up model c.from_residual-in_err-answer_module.result (build_refusal error) c.from_residual-in_err-answer_module.ensures.1
+    (unbuilt_property model c.args.place text at c.in_ok-verified.verified c.in_ok-verified.ensures.«module» error
+    (λ same. c.in_err-answer_module.ensures.too_many (ap Err same)))
+
+pub returns-clause-verdict : goal.returns-clause-verdict
+returns-clause-verdict g c p stands =
+    property_verdict (model_form c.args.model.now.model) p (spec_form c.in_ok-text.text.spec) (c.in_ok-text.ensures.text p stands)
+    c.in_ok-verified.verified c.instances_have_trees.ensures c.in_ok-verified.ensures.«module»
+    c.in_ok-answer_module.field-0 c.in_ok-answer_module.ensures.answer

@@ -1,0 +1,145 @@
+//! From models to the texts of their properties, and to the verdicts on them.
+ghost use Rattle.std.specs.Prelude.{◌≡◌, ◌≢◌, ◌≤◌, ◌<◌, ℕ, List, Some, true, length, IfOk, OnOk, IfErr};
+ghost use Rattle.std.specs.Prelude.{Err, IsSome, option_copied, string_bytes};
+ghost use Rattle.std.specs.List.{slice_get};
+ghost use Rattle.std.specs.Io.KnownBytes.{Appends};
+ghost use Rattle.pb_sorts.specs.Sink.{AppendsPrefix};
+ghost use Rattle.pb_model_tree.specs.Form.{PropertyForm, model_form};
+ghost use Rattle.pb_model_properties.specs.Said.{IsModelOf};
+ghost use Rattle.pbsolve.specs.Models.{AreVerdicts, IsUnchecked, IsUntranslated, IsVerdict};
+ghost use Rattle.pbsolve.specs.Outputs.{OutputsTranslation, OutputsVerdicts};
+
+use crate::compile::verified;
+use crate::input::INPUT_LIMIT;
+use crate::solve_error::SolveError;
+use pb_exploration::Gate;
+use pb_machine::instances_have_trees;
+use pb_model_properties::{push_verdict, read_model, text_at, translation_of};
+use pb_model_typing::TypedModel;
+use pb_report_texts::Answer;
+use pb_solution::{SolveOptions, answer_module};
+use pb_sorts::{Sink, put};
+use std::alloc::Global;
+use std::thread::Threads;
+
+/// Translates a property of a model to a text of a Boolean equation system, and writes it: the
+/// property of the name, or the first where none is named.
+///
+/// The text's answer is true exactly where the model satisfies the property (Mader 1997; Groote and
+/// Willemse 2005), and what is written says that text.
+///
+/// # Errors
+/// `Text` and `Typing` say which rule the model breaks and where. `NoProperty` comes exactly where
+/// the model has no property of the name, `Memory` where a request for memory was refused, and
+/// `Write` where the text could not be written whole. No other error comes.
+pub fn translate_text<S: Sink>(
+    alloc: Global,
+    bytes: &[u8],
+    property: Option<&str>,
+    writer: &mut S,
+) -> Result<(), SolveError>
+    requires input { length bytes.now ≤ INPUT_LIMIT }
+    ensures text { OnOk result (OutputsTranslation (option_copied property.entry) bytes.now
+        (Appends (S.taken writer.old) (S.taken writer.new))) }
+    ensures kept { OnOk result (S.has_failed writer.new ≡ S.has_failed writer.old) }
+    ensures refused { IfErr result (IsUntranslated (option_copied property.entry) bytes.now) }
+    ensures named { result ≡ Err SolveError.NoProperty → IsSome property.entry }
+    ensures silent { IfErr result (λ e. e ≢ SolveError.Write (record {}) →
+        writer.new ≡ writer.old) }
+    ensures write { result ≡ Err (SolveError.Write (record {})) →
+        OutputsTranslation (option_copied property.entry) bytes.now
+        (AppendsPrefix (S.taken writer.old) (S.taken writer.new)) }
+    ensures write_failed { result ≡ Err (SolveError.Write (record {})) →
+        S.has_failed writer.new ≡ true }
+{
+    let text = translation_of(alloc, bytes, property)?;
+    match put(text.as_slice(), writer) {
+        Ok(()) => Ok(()),
+        Err(failed) => Err(SolveError::Write(failed)),
+    }
+}
+
+// The verdict on the property at a place of a model.
+fn verdict_at<R: Threads + Sync, G: Gate + Sync>(
+    rt: &R,
+    alloc: Global,
+    model: &TypedModel,
+    place: usize,
+    options: SolveOptions,
+    gate: &G,
+) -> Result<Answer, SolveError>
+    requires read { (bytes : List ℕ) × IsModelOf bytes (model_form model.now.model) }
+    requires within { place < length model.now.model.properties.items }
+    ensures verdict { IfOk result (λ answer. (p : PropertyForm)
+        → slice_get (model_form model.now.model).properties place ≡ Some p
+        → IsVerdict (model_form model.now.model) p answer) }
+    ensures refused { IfErr result (λ e. (bytes : List ℕ)
+        → IsModelOf bytes (model_form model.now.model) → IsUnchecked bytes e) }
+    ensures unwritten { IfErr result (λ e. e ≢ SolveError.Write (record {})) }
+{
+    let text = text_at(alloc, model, place)?;
+    let verified = verified(alloc, &text)?;
+    instances_have_trees(&verified);
+    Ok(answer_module(rt, alloc, &verified, options, gate)?)
+}
+
+// The lines of the verdicts on a model's properties.
+fn verdicts_on<R: Threads + Sync, G: Gate + Sync>(
+    rt: &R,
+    alloc: Global,
+    model: &TypedModel,
+    options: SolveOptions,
+    gate: &G,
+) -> Result<String, SolveError>
+    requires read { (bytes : List ℕ) × IsModelOf bytes (model_form model.now.model) }
+    ensures lines { IfOk result (λ lines. AreVerdicts (model_form model.now.model)
+        (model_form model.now.model).properties (string_bytes lines)) }
+    ensures refused { IfErr result (λ e. (bytes : List ℕ)
+        → IsModelOf bytes (model_form model.now.model) → IsUnchecked bytes e) }
+    ensures unwritten { IfErr result (λ e. e ≢ SolveError.Write (record {})) }
+{
+    let mut lines = String::new(alloc);
+    for place in 0..model.model.properties.len() {
+        let answer = verdict_at(rt, alloc, model, place, options, gate)?;
+        let name = &model.model.properties[place].name.text;
+        push_verdict(alloc, &mut lines, name, answer.truth, answer.cut)?;
+    }
+    Ok(lines)
+}
+
+/// Checks a model: writes for each property, in order, a line that says whether the model satisfies
+/// it, and behind it, where successors outside the ranges were met, a line with the number of
+/// instances that met one.
+///
+/// Each property's text is explored and solved once, as `solve_text` solves a text.
+///
+/// # Errors
+/// `Text` and `Typing` say which rule the model breaks and where, `Limit` which limit of the machine
+/// the code of which equation of a property's text exceeds. Others are as with `solve_text`.
+pub fn check_text<R: Threads + Sync, G: Gate + Sync, S: Sink>(
+    rt: &R,
+    alloc: Global,
+    bytes: &[u8],
+    options: SolveOptions,
+    gate: &G,
+    writer: &mut S,
+) -> Result<(), SolveError>
+    requires input { length bytes.now ≤ INPUT_LIMIT }
+    ensures verdicts { OnOk result
+        (OutputsVerdicts bytes.now (Appends (S.taken writer.old) (S.taken writer.new))) }
+    ensures kept { OnOk result (S.has_failed writer.new ≡ S.has_failed writer.old) }
+    ensures refused { IfErr result (IsUnchecked bytes.now) }
+    ensures silent { IfErr result (λ e. e ≢ SolveError.Write (record {}) →
+        writer.new ≡ writer.old) }
+    ensures write { result ≡ Err (SolveError.Write (record {})) →
+        OutputsVerdicts bytes.now (AppendsPrefix (S.taken writer.old) (S.taken writer.new)) }
+    ensures write_failed { result ≡ Err (SolveError.Write (record {})) →
+        S.has_failed writer.new ≡ true }
+{
+    let model = read_model(alloc, bytes)?;
+    let lines = verdicts_on(rt, alloc, &model, options, gate)?;
+    match put(lines.as_bytes(), writer) {
+        Ok(()) => Ok(()),
+        Err(failed) => Err(SolveError::Write(failed)),
+    }
+}

@@ -1,0 +1,162 @@
+//! What lifting gives, and that its winners are Zielonka's.
+ghost use Rattle.std.specs.Prelude.{◌<◌};
+
+use crate::lifting::games::{game_of, long_cycle, two_equations};
+use crate::lifting::generated::generated;
+use crate::lifting::overlap::Overlap;
+use pb_exploration::{Gate, NoGate};
+use pb_game::Game;
+use pb_game_solver::solve;
+use pb_lifting::{LiftError, Ranks, lift};
+use pb_solver_names::Solver;
+use pb_strategy::check;
+use std::alloc::Global;
+use std::process::Abort;
+use std::test::Fail;
+use std::thread::Threads;
+
+/// The words of a player once a seat has lifted each vertex so many times.
+fn words_after<R: Abort>(
+    rt: &R,
+    alloc: Global,
+    game: &Game,
+    player: u8,
+    passes: u32,
+) -> Result<Vec<u64>, Fail> {
+    let Ok((ranks, mut seats)) = Ranks::start(alloc, game, player, 1) else {
+        panic!(rt; "no table");
+    };
+    let Some(mut seat) = seats.pop() else {
+        panic!(rt; "no seat");
+    };
+    for _pass in 0..passes {
+        for v in 0..game.len() {
+            ranks.lift_vertex(game, &mut seat, v);
+        }
+    }
+    seats.push(seat)?;
+    Ok(ranks.close(alloc, seats)?)
+}
+
+/// Lifts the game of two equations and compares what is worked out for it.
+fn assert_two_equations<G: Gate + Sync, R: Abort + Threads + Sync>(
+    rt: &R,
+    alloc: Global,
+    workers: u32,
+    gate: &G,
+) -> Result<(), Fail>
+    requires { 0 < workers }
+{
+    let game = two_equations(alloc)?;
+    let Ok(solution) = lift(rt, alloc, &game, workers, gate) else {
+        panic!(rt; "no solution");
+    };
+    assert!(rt; solution.winner.as_slice() == [1u8, 0, 1, 1].as_slice());
+    assert!(rt; solution.choice.as_slice() == [0u32, 1, 3, 2].as_slice());
+    assert!(rt; solution.counts.as_slice() == [0u64, 0, 0, 0, 0, 0, 1, 0].as_slice());
+    Ok(())
+}
+
+// before any lift
+#[test]
+fn opening_words(rt: HostRuntime) -> Result<(), Fail> {
+    let alloc = rt.alloc();
+    let game = two_equations(alloc)?;
+    for player in 0..2u8 {
+        let words = words_after(&rt, alloc, &game, player, 0)?;
+        assert!(rt; words.as_slice() == [0u64, 0, 0, 0].as_slice());
+    }
+    Ok(())
+}
+
+#[test]
+fn final_words(rt: HostRuntime) -> Result<(), Fail> {
+    let alloc = rt.alloc();
+    let game = two_equations(alloc)?;
+    let zero = words_after(&rt, alloc, &game, 0, 12)?;
+    let one = words_after(&rt, alloc, &game, 1, 12)?;
+    assert!(rt; zero.as_slice() == [3u64, 0, 3, 3].as_slice());
+    assert!(rt; one.as_slice() == [0u64, 3, 0, 1].as_slice());
+    Ok(())
+}
+
+#[test]
+fn solution_of_two_equations(rt: HostRuntime) -> Result<(), Fail> {
+    for workers in 1..5u32 {
+        assert_two_equations(&rt, rt.alloc(), workers, &NoGate)?;
+    }
+    Ok(())
+}
+
+// the worker that comes first waits until the other has lifted a vertex
+#[test]
+fn workers_overlap(rt: HostRuntime) -> Result<(), Fail> {
+    let gate = Overlap::new();
+    assert_two_equations(&rt, rt.alloc(), 2, &gate)?;
+    assert!(rt; gate.was_ended());
+    Ok(())
+}
+
+#[test]
+fn empty_game(rt: HostRuntime) -> Result<(), Fail> {
+    let alloc = rt.alloc();
+    let game = game_of(alloc, [].as_slice(), [].as_slice(), [].as_slice())?;
+    let Ok(solution) = lift(&rt, alloc, &game, 2, &NoGate) else {
+        panic!(rt; "no solution");
+    };
+    assert!(rt; solution.winner.is_empty());
+    Ok(())
+}
+
+#[test]
+fn numbers_of_errors(rt: HostRuntime) -> Result<(), Fail> {
+    let alloc = rt.alloc();
+    for (error, number) in [(LiftError::TooManyRanks, "K06"), (LiftError::Memory, "M01")] {
+        assert!(rt; format!(in alloc; "{error}")?.as_str() == number);
+    }
+    Ok(())
+}
+
+// the greatest priority of the one cycle is odd
+#[test]
+fn too_many_ranks(rt: HostRuntime) -> Result<(), Fail> {
+    let alloc = rt.alloc();
+    let game = long_cycle(alloc)?;
+    let refused = lift(&rt, alloc, &game, 2, &NoGate);
+    assert!(rt; matches!(refused, Err(LiftError::TooManyRanks)));
+    let certified = solve(&rt, alloc, &game, Solver::Lift, 2, &NoGate)?;
+    let winners = &certified.solution().winner;
+    assert!(rt; winners.len() == 128);
+    assert!(rt; winners.iter().all(|&winner| winner == 1));
+    Ok(())
+}
+
+#[test]
+fn winners_of_generated_games(rt: HostRuntime) -> Result<(), Fail> {
+    let alloc = rt.alloc();
+    for seed in 0..1000u64 {
+        let game = generated(alloc, seed)?;
+        let zielonka = solve(&rt, alloc, &game, Solver::Zielonka, 1, &NoGate)?;
+        let Ok(lifted) = lift(&rt, alloc, &game, 2, &NoGate) else {
+            panic!(rt; "seed {seed}");
+        };
+        assert!(rt; check(&game, &lifted).is_ok(), "seed {seed}");
+        assert!(rt;
+            lifted.winner.as_slice() == zielonka.solution().winner.as_slice(),
+            "seed {seed}"
+        );
+    }
+    Ok(())
+}
+
+#[test]
+fn words_for_solvers(rt: HostRuntime) -> Result<(), Fail> {
+    let alloc = rt.alloc();
+    for (word, solver) in [("zielonka", Solver::Zielonka), ("lift", Solver::Lift)] {
+        assert!(rt; Solver::named(word) == Some(solver));
+        assert!(rt; format!(in alloc; "{solver}")?.as_str() == word);
+    }
+    assert!(rt; Solver::named("Lift") == None);
+    assert!(rt; Solver::default() == Solver::Zielonka);
+    Ok(())
+}

@@ -1,8 +1,0 @@
-use Rattle.pb_lifting.specs.Seats.{IsSeatOf}
-use Rattle.test_lifting.proofs.tests.words_after.Given as goal
-
-abbrev pub invariant-loop-v : goal.invariant-loop-v
-invariant-loop-v g l = IsSeatOf l.ranks l.seat
-
-abbrev pub invariant-loop-pass : goal.invariant-loop-pass
-invariant-loop-pass g l = IsSeatOf l.ranks l.seat

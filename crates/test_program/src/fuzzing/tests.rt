@@ -1,0 +1,83 @@
+//! Each byte of known modules set to each value, and generated and changed modules and texts.
+
+use crate::fuzzing::known::{COUNTS_DOWN, OTHERS};
+use crate::fuzzing::made_modules::module_of;
+use crate::fuzzing::modules::{Tally, check};
+use crate::fuzzing::random::Generator;
+use crate::fuzzing::texts::{self, Statuses, text_of};
+use std::test::Fail;
+
+// `bench/fuzzing.sh` sets these three.
+
+/// The first seed.
+const FIRST: u64 = 0;
+
+/// How many modules are made, and how many texts.
+const COUNT: u64 = 4_000;
+
+/// How many instances of an accepted module are run.
+const MOST: u32 = 256;
+
+#[test]
+fn each_byte_of_a_known_module(rt: HostRuntime) -> Result<(), Fail> {
+    let mut tally = Tally::new();
+    for known in [OTHERS.as_slice(), COUNTS_DOWN.as_slice()] {
+        for place in 0..known.len() {
+            for value in 0..=255u8 {
+                let mut bytes = known.to_vec(rt.alloc())?;
+                if let Some(byte) = bytes.get_mut(place) {
+                    *byte = value;
+                }
+                let checked = check(&rt, rt.alloc(), &bytes, MOST, &mut tally);
+                assert_eq!(rt; checked, Ok(()), "byte {place}, value {value}");
+            }
+        }
+    }
+    println!(rt; "{tally:?}")?;
+    // Each module is met unchanged once for each of its bytes.
+    assert!(rt; tally.solved >= 61 + 73);
+    Ok(())
+}
+
+#[test]
+fn generated_and_changed_modules(rt: HostRuntime) -> Result<(), Fail> {
+    let mut tally = Tally::new();
+    for turn in 0..COUNT {
+        let seed = FIRST.wrapping_add(turn);
+        let bytes = module_of(rt.alloc(), seed)?;
+        let checked = check(&rt, rt.alloc(), &bytes, MOST, &mut tally);
+        assert_eq!(rt; checked, Ok(()), "seed {seed}");
+    }
+    println!(rt; "{tally:?}")?;
+    // Some are of each kind.
+    assert!(rt; 0 < tally.truths && tally.truths < tally.solved);
+    assert!(rt; tally.solved <= tally.accepted && tally.accepted < tally.read);
+    assert!(rt; tally.read < tally.modules);
+    Ok(())
+}
+
+#[test]
+fn generated_and_changed_texts(rt: HostRuntime) -> Result<(), Fail> {
+    let mut statuses = Statuses::new();
+    for turn in 0..COUNT {
+        let seed = FIRST.wrapping_add(turn);
+        let text = text_of(rt.alloc(), seed)?;
+        let checked = texts::check(&rt, rt.alloc(), seed, &text, &mut statuses);
+        assert!(rt; checked.is_ok_and(|status| status <= 1), "seed {seed}");
+    }
+    println!(rt; "{statuses:?}")?;
+    assert!(rt; statuses.counts[0] > 0 && statuses.counts[1] > 0);
+    Ok(())
+}
+
+#[test]
+fn numbers_of_a_seed(rt: HostRuntime) -> Result<(), Fail> {
+    let mut generator = Generator::new(1);
+    let mut again = Generator::new(1);
+    for _ in 0..100 {
+        let number = generator.below(10);
+        assert!(rt; number < 10);
+        assert!(rt; number == again.below(10));
+    }
+    Ok(())
+}
