@@ -20,7 +20,7 @@ use Rattle.pb_assembler_scheme.specs.Scheme.{equation_code}
 use Rattle.pb_assembler.specs.Compiled.{bare_program, compiled_contents, all_compiled, has_fitting_carriers, IsReady, AreReady}
 use Rattle.pb_assembler.specs.Excess.{AreMeasures}
 use Rattle.pb_assembler.specs.MeasureEquations.{IsProgram}
-use Rattle.pb_assembler.specs.declared.limit.Measures.{Measures}
+use Rattle.pb_assembler.specs.declared.measures.Measures.{Measures}
 use Rattle.pb_assembler.proofs.Drafts.{append_one}
 use Rattle.pb_assembler.proofs.MeasureMade.{cost_same}
 

@@ -11,7 +11,7 @@ use Rattle.pb_assembler_scheme.specs.Correct.{IsCompiled}
 use Rattle.pb_assembler_scheme.proofs.Slots.{program-slots}
 use Rattle.pb_assembler_accepted.specs.Limits.{formula_operands, formula_brackets, formula_loops}
 use Rattle.pb_assembler_accepted.proofs.Weights.{code_long, steps_weighed, tokens_weighed}
-use Rattle.pb_assembler.specs.declared.limit.Measures.{Measures}
+use Rattle.pb_assembler.specs.declared.measures.Measures.{Measures}
 use Rattle.pb_assembler.specs.declared.measure_tally.Tally.{Tally}
 use Rattle.pb_assembler.specs.Excess.{AreMeasures}
 use Rattle.pb_assembler.specs.MeasureFormulas.{capped_tally, formula_tally}

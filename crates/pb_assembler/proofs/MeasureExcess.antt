@@ -18,8 +18,8 @@ use Rattle.pb_assembler_accepted.specs.Limits.{KeepsLimits}
 use Rattle.pb_assembler_accepted.specs.Made.{IsMadeOf}
 use Rattle.pb_assembler_modules.specs.Module.{AreEquationsOf, IsCompiledModule, KeepLimits, KeepsAllLimits}
 use Rattle.pb_assembler_modules.proofs.Modules.{made}
-use Rattle.pb_assembler.specs.declared.limit.Limit.{Limit}
-use Rattle.pb_assembler.specs.declared.limit.Measures.{Measures}
+use Rattle.pb_bytecode.specs.declared.limit.Limit.{Limit}
+use Rattle.pb_assembler.specs.declared.measures.Measures.{Measures}
 use Rattle.pb_assembler.specs.Excess.{AreMeasures, ExceedsFirst, IsFirstExcess, first_excess}
 use Rattle.pb_assembler.specs.MeasureFormulas.{callees_of}
 use Rattle.pb_assembler.specs.MeasureEquations.{AreMeasuresOf, AreNormalForms, EachKeepsLimits, IsProgram}

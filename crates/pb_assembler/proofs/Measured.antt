@@ -6,9 +6,9 @@ use Rattle.pb_sorts.specs.declared.limits.TheConstants.{MAX_LOOP_SLOTS, MAX_INST
 use Rattle.pb_bytecode_program.specs.Machine.{Program}
 use Rattle.pb_normal.specs.Normal.{Formula}
 use Rattle.pb_assembler_accepted.specs.Limits.{KeepsLimits}
-use Rattle.pb_assembler.specs.declared.limit.Limit.{Limit}
-use Rattle.pb_assembler.specs.declared.limit.Limit.TheVariants as limit
-use Rattle.pb_assembler.specs.declared.limit.Measures.{Measures}
+use Rattle.pb_bytecode.specs.declared.limit.Limit.{Limit}
+use Rattle.pb_bytecode.specs.declared.limit.Limit.TheVariants as limit
+use Rattle.pb_assembler.specs.declared.measures.Measures.{Measures}
 use Rattle.pb_assembler.specs.Excess.{AreMeasures, first_excess}
 
 step : (b : Bool) (l : Limit) (o : Option Limit) → cond b (Some l) o ≡ None → (b ≡ false) × (o ≡ None)

@@ -11,9 +11,9 @@ use Rattle.pb_normal.specs.Equations.{normal_equation}
 use Rattle.pb_assembler_scheme.specs.Scheme.{head}
 use Rattle.pb_assembler_accepted.specs.Limits.{formula_operands, formula_brackets, formula_loops, KeepsLimits}
 use Rattle.pb_assembler_accepted.specs.Made.{IsMadeOf}
-use Rattle.pb_assembler.specs.declared.limit.Limit.{Limit}
-use Rattle.pb_assembler.specs.declared.limit.Limit.TheVariants as limit
-use Rattle.pb_assembler.specs.declared.limit.Measures.{Measures}
+use Rattle.pb_bytecode.specs.declared.limit.Limit.{Limit}
+use Rattle.pb_bytecode.specs.declared.limit.Limit.TheVariants as limit
+use Rattle.pb_assembler.specs.declared.measures.Measures.{Measures}
 
 -- each number counted no further than just above its limit
 pub record AreMeasures (m : Measures) (p : Program) (f : Formula) : Type 0 where

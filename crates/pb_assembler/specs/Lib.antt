@@ -1,7 +1,6 @@
 pub mod Draft
 pub mod Emitted
 pub mod Excess
-pub mod LimitNumber
 pub mod MeasureTerms
 pub mod MeasureEquations
 pub mod MeasureFormulas

@@ -17,7 +17,7 @@ use Rattle.pb_assembler_scheme.specs.Correct.{IsCompiled}
 use Rattle.pb_assembler_accepted.specs.Limits.{KeepsLimits}
 use Rattle.pb_assembler_accepted.specs.Made.{IsMadeOf, parameter_shapes}
 use Rattle.pb_assembler.specs.declared.first_excess.Excess.{Excess}
-use Rattle.pb_assembler.specs.declared.limit.Measures.{Measures}
+use Rattle.pb_assembler.specs.declared.measures.Measures.{Measures}
 use Rattle.pb_assembler.specs.declared.measure_tally.Tally.{Tally}
 use Rattle.pb_assembler.specs.Excess.{AreMeasures, IsFirstExcess}
 use Rattle.pb_assembler.specs.MeasureFormulas.{callees_of}

@@ -2,7 +2,7 @@
 use Rattle.std.specs.Prelude.{◌≡◌, ℕ, false}
 use Rattle.pb_text_meaning.specs.Syntax.{Spec}
 use Rattle.pb_text_names.specs.ModuleNames.{has_names}
-use Rattle.pb_assembler.specs.declared.limit.Limit.{Limit}
+use Rattle.pb_bytecode.specs.declared.limit.Limit.{Limit}
 use Rattle.pb_assembler.specs.declared.compile_error.CompileError.{CompileError}
 use Rattle.pb_assembler.specs.declared.compile_error.CompileError.TheVariants as error
 

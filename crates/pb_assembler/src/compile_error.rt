@@ -2,7 +2,7 @@
 ghost use Rattle.std.specs.Prelude.{◌≡◌};
 ghost use Rattle.pb_assembler.specs.declared.compile_error.CompileError.TheVariants.{Memory};
 
-use crate::limit::Limit;
+use pb_bytecode::Limit;
 use std::alloc::AllocError;
 use thiserror::Error;
 

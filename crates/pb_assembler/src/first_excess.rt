@@ -3,8 +3,9 @@
 ghost use Rattle.std.specs.Prelude.{IfNone, IfSome};
 ghost use Rattle.pb_assembler.specs.MeasureEquations.{EachKeepsLimits, IsExcess, OfEachText};
 
-use crate::limit::{Limit, first_excess};
 use crate::measure_equation::measure;
+use crate::measures::first_excess;
+use pb_bytecode::Limit;
 use pb_normal::Equation;
 use pb_sorts::Carrier;
 

@@ -7,7 +7,7 @@ ghost use Rattle.pb_assembler.specs.MeasureFormulas.{callees_of};
 ghost use Rattle.pb_assembler.specs.MeasureEquations.{AreMeasuresOf, equation_measures};
 
 use crate::formula::junction_of;
-use crate::limit::Measures;
+use crate::measures::Measures;
 use crate::measure_formula::measure_formula;
 use crate::measure_load::add;
 use crate::measure_tally::Tally;

@@ -12,4 +12,5 @@ pub mod Meaning
 pub mod Solved
 pub mod Examples
 pub mod RuleNumber
+pub mod LimitNumber
 pub mod ErrorText

@@ -8,8 +8,8 @@ use Rattle.pb_text.specs.declared.error.TextError.TheVariants as text_error
 use Rattle.pb_typing_declarations.specs.TypingRule.{rule_number}
 use Rattle.pb_typing_declarations.specs.declared.fault.TypeError.{TypeError}
 use Rattle.pb_typing_declarations.specs.declared.fault.TypeError.TheVariants as type_error
-use Rattle.pb_assembler.specs.declared.limit.Limit.{Limit}
-use Rattle.pb_assembler.specs.LimitNumber.{limit_number}
+use Rattle.pb_bytecode.specs.declared.limit.Limit.{Limit}
+use Rattle.pb_bytecode.specs.LimitNumber.{limit_number}
 use Rattle.pb_bytecode.specs.RuleNumber as module_rule
 use Rattle.pb_bytecode.specs.declared.fault.ModuleError.{ModuleError}
 use Rattle.pb_bytecode.specs.declared.fault.ModuleError.TheVariants as module_error

@@ -2,7 +2,7 @@
 ghost use Rattle.std.specs.Prelude.{◌≡◌, IfOk, string_bytes};
 ghost use Rattle.pb_report.specs.Lines.{limit_line};
 
-use pb_assembler::Limit;
+use pb_bytecode::Limit;
 use std::alloc::{AllocError, Global};
 
 /// The line, with its line feed: the limit's number, and the place of the equation, counted from 0,

@@ -2,7 +2,7 @@
 use Rattle.std.specs.Prelude.{◌≡◌, ℕ, List, [], ◌∷◌, ◌++◌, Option, Contains}
 use Rattle.pb_text_tree.specs.Form.{SpecForm}
 use Rattle.pb_text_meaning.specs.Erase.{erase}
-use Rattle.pb_assembler.specs.declared.limit.Limit.{Limit}
+use Rattle.pb_bytecode.specs.declared.limit.Limit.{Limit}
 use Rattle.pb_assembler.specs.Excess.{IsFirstExcess}
 use Rattle.pb_bytecode.specs.Contents.{Contents}
 use Rattle.pb_model_tree.specs.Form.{ModelForm, PropertyForm}

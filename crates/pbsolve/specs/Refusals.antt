@@ -9,7 +9,7 @@ use Rattle.pb_typing_rules.specs.WellTyped.{IsWellTyped}
 use Rattle.pb_typing_declarations.specs.declared.fault.TypeError.{TypeError}
 use Rattle.pb_typing_declarations.specs.declared.fault.TypeError.TheVariants as type_error
 use Rattle.pb_text_meaning.specs.Erase.{erase}
-use Rattle.pb_assembler.specs.declared.limit.Limit.{Limit}
+use Rattle.pb_bytecode.specs.declared.limit.Limit.{Limit}
 use Rattle.pb_assembler.specs.Excess.{IsFirstExcess}
 use Rattle.pb_bytecode.specs.declared.fault.ModuleError.{ModuleError}
 use Rattle.pb_bytecode.specs.declared.fault.ModuleError.TheVariants as module_error

@@ -1,8 +1,7 @@
 //! The errors of the layers, joined: why there is no answer.
 ghost use Rattle.std.specs.Prelude.{◌≡◌};
 
-use pb_assembler::Limit;
-use pb_bytecode::ModuleError;
+use pb_bytecode::{Limit, ModuleError};
 use pb_game_of_trees::BuildError;
 use pb_model_properties::ModelError;
 use pb_report::{ErrorLine, ProgramFault, limit_line};

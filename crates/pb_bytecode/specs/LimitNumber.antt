@@ -1,7 +1,7 @@
 -- The numbers by which a user sees which limit of the machine an equation's code exceeds.
 use Rattle.std.specs.Prelude.{ℕ, List, codes}
-use Rattle.pb_assembler.specs.declared.limit.Limit.{Limit}
-use Rattle.pb_assembler.specs.declared.limit.Limit.TheVariants as limit
+use Rattle.pb_bytecode.specs.declared.limit.Limit.{Limit}
+use Rattle.pb_bytecode.specs.declared.limit.Limit.TheVariants as limit
 
 abbrev pub limit_number : Limit → List ℕ
 limit_number limit.Instructions = codes "C01"

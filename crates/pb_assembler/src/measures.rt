@@ -1,0 +1,46 @@
+//! How much an equation's code takes of the machine's limits, and the first that it exceeds.
+
+ghost use Rattle.std.specs.Prelude.{◌≡◌};
+ghost use Rattle.pb_assembler.specs.Excess.{first_excess};
+
+use pb_bytecode::Limit;
+use pb_bytecode_program::{MAX_BRACKETS, MAX_LOOPS, MAX_OPERANDS, MAX_STEPS, MAX_TOKENS};
+use pb_sorts::{MAX_INSTRUCTIONS, MAX_LOOP_SLOTS};
+
+/// How much an equation's code takes of each. What is above a limit is counted no further than just
+/// above it.
+#[derive(Clone, Copy, Debug, PartialEq, Eq)]
+pub struct Measures {
+    pub instructions: u32,
+    pub operands: u32,
+    pub brackets: u32,
+    pub nesting: u32,
+    pub slots: u32,
+    pub steps: u32,
+    pub tokens: u32,
+}
+
+/// The first limit that the code exceeds, if there is one.
+pub(crate) fn first_excess(measures: &Measures) -> Option<Limit>
+    ensures { result ≡ first_excess measures.now }
+{
+    if measures.instructions > MAX_INSTRUCTIONS {
+        return Some(Limit::Instructions);
+    }
+    if measures.operands > MAX_OPERANDS as u32 {
+        return Some(Limit::Operands);
+    }
+    if measures.brackets > u32::from(MAX_BRACKETS) {
+        return Some(Limit::Brackets);
+    }
+    if measures.nesting > MAX_LOOPS as u32 || measures.slots > MAX_LOOP_SLOTS as u32 {
+        return Some(Limit::Loops);
+    }
+    if measures.steps > MAX_STEPS {
+        return Some(Limit::Steps);
+    }
+    if measures.tokens > MAX_TOKENS {
+        return Some(Limit::Tokens);
+    }
+    None
+}
