@@ -5,6 +5,7 @@ mod depth;
 mod evidence;
 mod faults;
 mod generated;
+mod models;
 mod modules;
 mod parts;
 mod plain;
@@ -29,6 +30,13 @@ struct Outcome {
     status: u8,
     out: Budget,
     err: Budget,
+}
+
+impl Outcome {
+    // Whether the run ended with this status, having written exactly these bytes to either writer.
+    fn is(&self, status: u8, out: &[u8], err: &[u8]) -> bool {
+        self.status == status && self.out.bytes() == out && self.err.bytes() == err
+    }
 }
 
 // The program on these words and this input, its output cut after `budget` bytes.

@@ -29,7 +29,7 @@ fn each_byte_of_a_known_module(rt: HostRuntime) -> Result<(), Fail> {
                     *byte = value;
                 }
                 let checked = check(&rt, rt.alloc(), &bytes, MOST, &mut tally);
-                assert_eq!(rt; checked, Ok(()), "byte {place}, value {value}");
+                assert!(rt; checked == Ok(()), "byte {place}, value {value}");
             }
         }
     }
@@ -46,7 +46,7 @@ fn generated_and_changed_modules(rt: HostRuntime) -> Result<(), Fail> {
         let seed = FIRST.wrapping_add(turn);
         let bytes = module_of(rt.alloc(), seed)?;
         let checked = check(&rt, rt.alloc(), &bytes, MOST, &mut tally);
-        assert_eq!(rt; checked, Ok(()), "seed {seed}");
+        assert!(rt; checked == Ok(()), "seed {seed}");
     }
     println!(rt; "{tally:?}")?;
     // Some are of each kind.

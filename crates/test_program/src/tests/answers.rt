@@ -21,10 +21,8 @@ fn answers(rt: HostRuntime) -> Result<(), Fail> {
         ("pbes nu X = (X => false) => X; init X;", true, (1, 0, 3)),
     ] {
         let outcome = asked(&rt, rt.alloc(), "solve", text.as_bytes());
-        assert!(rt; outcome.status == 0, "{text}");
         let wanted = report(rt.alloc(), truth, counts)?;
-        assert!(rt; outcome.out.bytes() == wanted.as_str().as_bytes(), "{text}");
-        assert!(rt; outcome.err.bytes() == b"".as_slice(), "{text}");
+        assert!(rt; outcome.is(0, wanted.as_str().as_bytes(), b""), "{text}");
     }
     Ok(())
 }
@@ -45,9 +43,7 @@ fn refuses_texts(rt: HostRuntime) -> Result<(), Fail> {
         ("pbes nu X = Z; init X;", "T01 line 1 column 13\n"),
     ] {
         let outcome = asked(&rt, rt.alloc(), "solve", text.as_bytes());
-        assert!(rt; outcome.status == 1, "{text}");
-        assert!(rt; outcome.out.bytes() == b"".as_slice(), "{text}");
-        assert!(rt; outcome.err.bytes() == line.as_bytes(), "{text}");
+        assert!(rt; outcome.is(1, b"", line.as_bytes()), "{text}");
     }
     Ok(())
 }
@@ -75,9 +71,7 @@ fn nests_to_the_limit(rt: HostRuntime) -> Result<(), Fail> {
 
     let too_deep = bracketed(rt.alloc(), 65)?;
     let outcome = asked(&rt, rt.alloc(), "solve", too_deep.as_str().as_bytes());
-    assert!(rt; outcome.status == 1);
-    assert!(rt; outcome.out.bytes() == b"".as_slice());
-    assert!(rt; outcome.err.bytes() == b"P04 line 1 column 77\n".as_slice());
+    assert!(rt; outcome.is(1, b"", b"P04 line 1 column 77\n"));
     Ok(())
 }
 
@@ -103,9 +97,10 @@ fn declares_to_the_limit(rt: HostRuntime) -> Result<(), Fail> {
     ] {
         let text = many(rt.alloc(), first, equations)?;
         let outcome = asked(&rt, rt.alloc(), "solve", text.as_str().as_bytes());
-        assert!(rt; outcome.status == status, "{first}");
-        assert!(rt; outcome.out.bytes() == out.as_bytes(), "{first}");
-        assert!(rt; outcome.err.bytes() == err.as_bytes(), "{first}");
+        assert!(rt;
+            outcome.is(status, out.as_bytes(), err.as_bytes()),
+            "{first}"
+        );
     }
     Ok(())
 }

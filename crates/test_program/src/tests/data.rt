@@ -102,10 +102,8 @@ fn answers_over_data(rt: HostRuntime) -> Result<(), Fail> {
         ),
     ] {
         let outcome = asked(&rt, rt.alloc(), "solve", text.as_bytes());
-        assert!(rt; outcome.status == 0, "{text}");
         let wanted = report(rt.alloc(), truth, counts)?;
-        assert!(rt; outcome.out.bytes() == wanted.as_str().as_bytes(), "{text}");
-        assert!(rt; outcome.err.bytes() == b"".as_slice(), "{text}");
+        assert!(rt; outcome.is(0, wanted.as_str().as_bytes(), b""), "{text}");
     }
     Ok(())
 }
@@ -163,9 +161,7 @@ fn refuses_data(rt: HostRuntime) -> Result<(), Fail> {
         ),
     ] {
         let outcome = asked(&rt, rt.alloc(), "solve", text.as_bytes());
-        assert!(rt; outcome.status == 1, "{text}");
-        assert!(rt; outcome.out.bytes() == b"".as_slice(), "{text}");
-        assert!(rt; outcome.err.bytes() == line.as_bytes(), "{text}");
+        assert!(rt; outcome.is(1, b"", line.as_bytes()), "{text}");
     }
     Ok(())
 }

@@ -50,9 +50,7 @@ fn explains(rt: HostRuntime) -> Result<(), Fail> {
         ),
     ] {
         let outcome = explained(&rt, rt.alloc(), text);
-        assert_eq!(rt; outcome.status, 0, "{text}");
-        assert_eq!(rt; outcome.out.bytes(), evidence.as_bytes(), "{text}");
-        assert_eq!(rt; outcome.err.bytes(), b"".as_slice(), "{text}");
+        assert!(rt; outcome.is(0, evidence.as_bytes(), b""), "{text}");
     }
     Ok(())
 }
@@ -82,9 +80,7 @@ fn tells_places(rt: HostRuntime) -> Result<(), Fail> {
         let words = ["pbsolve", "explain", "--workers", "2", "--places"];
         let input = In::new(text.as_bytes());
         let outcome = run_on(&rt, rt.alloc(), &words, input, ROOM);
-        assert_eq!(rt; outcome.status, 0, "{text}");
-        assert_eq!(rt; outcome.out.bytes(), evidence.as_bytes(), "{text}");
-        assert_eq!(rt; outcome.err.bytes(), b"".as_slice(), "{text}");
+        assert!(rt; outcome.is(0, evidence.as_bytes(), b""), "{text}");
     }
     Ok(())
 }
@@ -165,9 +161,8 @@ fn checker_tells_proof_graphs(rt: HostRuntime) -> Result<(), Fail> {
             false,
         ),
     ] {
-        assert_eq!(rt;
-            is_accepted(rt.alloc(), &counting, text)?,
-            accepted,
+        assert!(rt;
+            is_accepted(rt.alloc(), &counting, text)? == accepted,
             "{text}"
         );
     }
@@ -192,7 +187,10 @@ fn checker_tells_cycles(rt: HostRuntime) -> Result<(), Fail> {
             false,
         ),
     ] {
-        assert_eq!(rt; is_accepted(rt.alloc(), &cyclic, text)?, accepted, "{text}");
+        assert!(rt;
+            is_accepted(rt.alloc(), &cyclic, text)? == accepted,
+            "{text}"
+        );
     }
     Ok(())
 }
@@ -203,7 +201,7 @@ fn generated_systems_have_evidence(rt: HostRuntime) -> Result<(), Fail> {
         let system = System::generated(rt.alloc(), seed)?;
         let text = system.text(rt.alloc())?;
         let outcome = explained(&rt, rt.alloc(), text.as_str());
-        assert_eq!(rt; outcome.status, 0, "{text}");
+        assert!(rt; outcome.status == 0, "{text}");
         let line = plain_line(rt.alloc(), text.as_str());
         assert!(rt;
             line.is_some_and(|line| outcome.out.bytes().starts_with(line)),

@@ -82,9 +82,7 @@ fn refuses_words(rt: HostRuntime) -> Result<(), Fail> {
     for words in WRONG_WORDS {
         // The words come first: this reader would fail.
         let outcome = run_on(&rt, rt.alloc(), words, In::new(Broken), ROOM);
-        assert_eq!(rt; outcome.status, 2);
-        assert_eq!(rt; outcome.out.bytes(), b"".as_slice());
-        assert_eq!(rt; outcome.err.bytes(), b"U01\n".as_slice());
+        assert!(rt; outcome.is(2, b"", b"U01\n"));
     }
     Ok(())
 }
@@ -104,9 +102,7 @@ fn fails_at_each_byte_written(rt: HostRuntime) -> Result<(), Fail> {
                     error: writer(rt.alloc(), ROOM, is_slow),
                 };
                 let outcome = run_over(&rt, rt.alloc(), &words, streams);
-                assert_eq!(rt; outcome.out.bytes(), &text[..budget], "{command}");
-                assert_eq!(rt; outcome.status, status, "{command}");
-                assert_eq!(rt; outcome.err.bytes(), line, "{command}");
+                assert!(rt; outcome.is(status, &text[..budget], line), "{command}");
             }
         }
     }
@@ -120,9 +116,7 @@ fn fails_at_each_byte_read(rt: HostRuntime) -> Result<(), Fail> {
         for left in 0..=TEXT.len() {
             let reader = In::new(Failing { bytes: TEXT, left });
             let outcome = run_on(&rt, rt.alloc(), &words, reader, ROOM);
-            assert_eq!(rt; outcome.status, 4, "{command}");
-            assert_eq!(rt; outcome.out.bytes(), b"".as_slice(), "{command}");
-            assert_eq!(rt; outcome.err.bytes(), b"E01\n".as_slice(), "{command}");
+            assert!(rt; outcome.is(4, b"", b"E01\n"), "{command}");
         }
     }
     Ok(())
@@ -139,9 +133,7 @@ fn reads_and_writes_single_bytes(rt: HostRuntime) -> Result<(), Fail> {
             error: Budget::slow(rt.alloc(), ROOM),
         };
         let outcome = run_over(&rt, rt.alloc(), &["pbsolve", command], streams);
-        assert_eq!(rt; outcome.status, 0, "{command}");
-        assert_eq!(rt; outcome.out.bytes(), text, "{command}");
-        assert_eq!(rt; outcome.err.bytes(), b"".as_slice(), "{command}");
+        assert!(rt; outcome.is(0, text, b""), "{command}");
     }
     Ok(())
 }
@@ -162,9 +154,7 @@ fn keeps_its_status_where_no_line_can_be_told(rt: HostRuntime) -> Result<(), Fai
                 error: Budget::new(rt.alloc(), budget),
             };
             let outcome = run_over(&rt, rt.alloc(), &SOLVE, streams);
-            assert_eq!(rt; outcome.status, 1);
-            assert_eq!(rt; outcome.out.bytes(), b"".as_slice());
-            assert_eq!(rt; outcome.err.bytes(), &line[..budget]);
+            assert!(rt; outcome.is(1, b"", &line[..budget]));
         }
     }
     Ok(())
@@ -181,9 +171,7 @@ fn takes_input_up_to_the_limit(rt: HostRuntime) -> Result<(), Fail> {
     ] {
         let reader = In::new(io::repeat(b'%').take(length));
         let outcome = run_on(&rt, rt.alloc(), &SOLVE, reader, ROOM);
-        assert_eq!(rt; outcome.status, 1);
-        assert_eq!(rt; outcome.out.bytes(), b"".as_slice());
-        assert_eq!(rt; outcome.err.bytes(), line);
+        assert!(rt; outcome.is(1, b"", line));
     }
     Ok(())
 }

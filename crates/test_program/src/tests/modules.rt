@@ -59,9 +59,7 @@ fn compiles_verifies_lists_and_solves(rt: HostRuntime) -> Result<(), Fail> {
         ("solve-code", module.as_slice(), wanted.as_str().as_bytes()),
     ] {
         let outcome = asked(&rt, rt.alloc(), command, input);
-        assert!(rt; outcome.status == 0, "{command}");
-        assert!(rt; outcome.out.bytes() == output, "{command}");
-        assert!(rt; outcome.err.bytes() == b"".as_slice(), "{command}");
+        assert!(rt; outcome.is(0, output, b""), "{command}");
     }
     Ok(())
 }
@@ -76,9 +74,7 @@ fn refuses_code(rt: HostRuntime) -> Result<(), Fail> {
         let bytes = bytes_of(rt.alloc(), text)?;
         for command in ["verify", "solve-code"] {
             let outcome = asked(&rt, rt.alloc(), command, bytes.as_slice());
-            assert!(rt; outcome.status == 1, "{command}");
-            assert!(rt; outcome.out.bytes() == b"".as_slice(), "{command}");
-            assert!(rt; outcome.err.bytes() == line.as_bytes(), "{command}");
+            assert!(rt; outcome.is(1, b"", line.as_bytes()), "{command}");
         }
     }
     Ok(())
@@ -90,9 +86,7 @@ fn lists_code_that_is_refused(rt: HostRuntime) -> Result<(), Fail> {
     let bytes = bytes_of(rt.alloc(), POPS)?;
     let listing = b"equation 0 mu X\nsteps 2\ntokens 0\n0 POP\n1 END\ninit 0\n";
     let outcome = asked(&rt, rt.alloc(), "list", bytes.as_slice());
-    assert!(rt; outcome.status == 0);
-    assert!(rt; outcome.out.bytes() == listing.as_slice());
-    assert!(rt; outcome.err.bytes() == b"".as_slice());
+    assert!(rt; outcome.is(0, listing.as_slice(), b""));
     Ok(())
 }
 
@@ -118,12 +112,7 @@ fn refuses_code_above_a_limit(rt: HostRuntime) -> Result<(), Fail> {
     let text = "%range Int 1 99999\npbes nu X = forall n: Int . val(n > 0); init X;";
     for command in ["solve", "game", "solution", "compile"] {
         let outcome = asked(&rt, rt.alloc(), command, text.as_bytes());
-        assert!(rt; outcome.status == 1, "{command}");
-        assert!(rt; outcome.out.bytes() == b"".as_slice(), "{command}");
-        assert!(rt;
-            outcome.err.bytes() == b"C06 equation 0\n".as_slice(),
-            "{command}"
-        );
+        assert!(rt; outcome.is(1, b"", b"C06 equation 0\n"), "{command}");
     }
     Ok(())
 }

@@ -163,13 +163,7 @@ fn rows_by_any_workers(rt: HostRuntime) -> Result<(), Fail> {
     for row in &ROWS {
         for workers in ["1", "2", "16"] {
             let outcome = by(&rt, rt.alloc(), row.command, row.text, workers);
-            assert!(rt; outcome.status == 0, "{}", row.text);
-            assert!(rt;
-                outcome.out.bytes() == row.wanted.as_bytes(),
-                "{}",
-                row.text
-            );
-            assert!(rt; outcome.err.bytes() == b"".as_slice(), "{}", row.text);
+            assert!(rt; outcome.is(0, row.wanted.as_bytes(), b""), "{}", row.text);
         }
     }
     Ok(())

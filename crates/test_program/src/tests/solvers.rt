@@ -41,13 +41,7 @@ fn rows_by_either_solver(rt: HostRuntime) -> Result<(), Fail> {
             for workers in WORKERS {
                 let input = row.text.as_bytes();
                 let outcome = by(&rt, rt.alloc(), row.command, input, solver, workers);
-                assert!(rt; outcome.status == 0, "{}", row.text);
-                assert!(rt;
-                    outcome.out.bytes() == row.wanted.as_bytes(),
-                    "{}",
-                    row.text
-                );
-                assert!(rt; outcome.err.bytes() == b"".as_slice(), "{}", row.text);
+                assert!(rt; outcome.is(0, row.wanted.as_bytes(), b""), "{}", row.text);
             }
         }
     }
@@ -62,11 +56,7 @@ fn module_by_either_solver(rt: HostRuntime) -> Result<(), Fail> {
         for workers in WORKERS {
             let input = module.as_slice();
             let outcome = by(&rt, rt.alloc(), "solve-code", input, solver, workers);
-            assert!(rt; outcome.status == 0, "{solver}");
-            assert!(rt;
-                outcome.out.bytes() == wanted.as_str().as_bytes(),
-                "{solver}"
-            );
+            assert!(rt; outcome.is(0, wanted.as_str().as_bytes(), b""), "{solver}");
         }
     }
     Ok(())
@@ -100,12 +90,7 @@ fn too_many_ranks_are_no_refusal(rt: HostRuntime) -> Result<(), Fail> {
             solver,
             "2",
         );
-        assert!(rt; outcome.status == 0, "{solver}");
-        assert!(rt;
-            outcome.out.bytes() == wanted.as_str().as_bytes(),
-            "{solver}"
-        );
-        assert!(rt; outcome.err.bytes() == b"".as_slice(), "{solver}");
+        assert!(rt; outcome.is(0, wanted.as_str().as_bytes(), b""), "{solver}");
     }
     Ok(())
 }
