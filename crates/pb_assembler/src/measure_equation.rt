@@ -7,10 +7,10 @@ ghost use Rattle.pb_assembler.specs.MeasureFormulas.{callees_of};
 ghost use Rattle.pb_assembler.specs.MeasureEquations.{AreMeasuresOf, equation_measures};
 
 use crate::formula::junction_of;
-use crate::measures::Measures;
 use crate::measure_formula::measure_formula;
 use crate::measure_load::add;
 use crate::measure_tally::Tally;
+use crate::measures::Measures;
 use pb_bytecode_program::{MAX_BRACKETS, MAX_LOOPS, MAX_OPERANDS, MAX_TOKENS};
 use pb_normal::{Equation, Formula, Junction};
 use pb_sorts::{Carrier, MAX_INSTRUCTIONS, MAX_LOOP_SLOTS};
