@@ -128,8 +128,8 @@ fn lifts_where_it_is_asked_to(rt: HostRuntime) -> Result<(), Fail> {
             error: Budget::new(rt.alloc(), ROOM),
         };
         let status = pbsolve::run(&rt, rt.alloc(), &words, &gate, &mut streams);
-        assert!(rt; status == 0, "{solver}");
-        assert!(rt; gate.seen.load() == (solver == "lift"), "{solver}");
+        assert!(rt; status == 0);
+        assert!(rt; gate.seen.load() == (solver == "lift"));
     }
     Ok(())
 }
