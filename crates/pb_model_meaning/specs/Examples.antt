@@ -166,3 +166,7 @@ leaving = record {
   initial = Terms.Then (Term.Number 0) Terms.NoTerms;
   properties = [];
 }
+
+-- nu X . <true> X: the model has a run without end
+abbrev pub runs_for_ever : Formula
+runs_for_ever = greatest (Formula.Diamond StepSet.All X)

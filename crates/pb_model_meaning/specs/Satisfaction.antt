@@ -7,7 +7,8 @@ use Rattle.pb_text_meaning.specs.Syntax.{Name, same_name}
 use Rattle.pb_text_meaning.specs.Value.{is_true, value}
 use Rattle.pb_text_meaning.specs.Meaning.{assigned}
 use Rattle.pb_model_meaning.specs.Syntax.{Formula, Model}
-use Rattle.pb_model_meaning.specs.Steps.{State, data_of, is_state, state_count, initial_state, successors}
+use Rattle.pb_model_meaning.specs.Steps.{State, data_of, is_state, state_count, initial_state}
+use Rattle.pb_model_meaning.specs.Steps.{successors}
 
 -- a set of states
 abbrev pub States : Type 0

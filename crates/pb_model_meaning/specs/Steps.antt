@@ -1,6 +1,7 @@
 -- The labelled transition system of a model: its states, and where its steps lead
 -- (Groote and Mousavi 2014).
-use Rattle.std.specs.Prelude.{ℕ, Bool, true, not, ◌||◌, if◌then◌else◌, List, [], ◌∷◌, map, filter, flat_map, Option, Some, None}
+use Rattle.std.specs.Prelude.{ℕ, Bool, true, not, ◌||◌, if◌then◌else◌, List, [], ◌∷◌, map, filter}
+use Rattle.std.specs.Prelude.{flat_map, Option, Some, None}
 use Rattle.pb_carriers.specs.Carrier.{Value, Carrier, Tuple, is_within, tuple_count, tuples}
 use Rattle.pb_text_meaning.specs.Syntax.{Name, same_name, Variable, Term, NoTerms, Spec}
 use Rattle.pb_text_meaning.specs.Value.{is_true, value, values}

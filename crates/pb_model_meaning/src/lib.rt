@@ -31,6 +31,12 @@ pub fn worked_examples_of_steps()
         (Formula.Diamond StepSet.All (Formula.Not (Formula.Truth false))) ≡ false }
 {}
 
+/// What a fixpoint ranges over: the states, each value in its variable's carrier. Over all tuples
+/// of numbers, a counter that leaves its range would have a run without end.
+pub fn worked_examples_of_fixpoints()
+    ensures carriers_alone { satisfies example.leaving example.runs_for_ever ≡ false }
+{}
+
 /// In a positive formula, `mu X . f` and `nu X . f` have the least and the greatest set of states
 /// that `f` gives back where it is the set of `X` (Knaster and Tarski).
 pub fn fixpoints_are_extreme()

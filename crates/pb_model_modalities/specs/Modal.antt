@@ -7,7 +7,8 @@ use Rattle.pb_model_tree.specs.declared.formula.Modality.{Modality}
 use Rattle.pb_model_tree.specs.declared.formula.Modality.TheVariants.{Box, Diamond}
 use Rattle.pb_model_meaning.specs.Syntax.{Assignment, Step, StepSet, Model}
 use Rattle.pb_model_meaning.specs.Steps.{has_step, assigned_term, steps_in}
-use Rattle.pb_model_translation.specs.Translation.{Callee, term_or_name, after_each, after_some, conjunction, disjunction}
+use Rattle.pb_model_translation.specs.Translation.{Callee, term_or_name, after_each, after_some}
+use Rattle.pb_model_translation.specs.Translation.{conjunction, disjunction}
 
 -- whether a set has the step of a name
 abbrev pub is_in : Name → StepSet → Bool

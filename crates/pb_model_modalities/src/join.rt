@@ -53,7 +53,8 @@ pub(crate) fn join(
     place: Place,
     mut links: Vec<Link>,
 ) -> Result<Formula, AllocError>
-    ensures { IfOk result (λ f. formula_of f ≡ modal.all_together modality (all_linked links.items)) }
+    ensures { IfOk result
+        (λ f. formula_of f ≡ modal.all_together modality (all_linked links.items)) }
 {
     if links.is_empty() {
         let value = modality == Modality::Box;

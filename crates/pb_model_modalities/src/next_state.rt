@@ -6,24 +6,32 @@ ghost use Rattle.pb_text_meaning.specs.Erase.{erased_arguments};
 ghost use Rattle.pb_model_translation.specs.Translation as translation;
 ghost use Rattle.pb_model_modalities.specs.Modal.{next_value};
 ghost use Rattle.pb_model_modalities.specs.View.{argument_of, assignments_in, name_of};
-ghost use Rattle.pb_model_modalities.specs.View.{term_of, variables_in};
+ghost use Rattle.pb_model_modalities.specs.View.{variables_in};
 
 use pb_model_tree::Assignment;
 use pb_text_copies::{copy_name, copy_term};
 use pb_text_tree::{Argument, Name, Term, Variables};
 use std::alloc::{AllocError, Global};
 
-/// The term that is assigned to a variable, and the variable itself where none is.
-fn next_term(alloc: Global, assignments: &[Assignment], name: &Name) -> Result<Term, AllocError>
-    ensures { IfOk result (λ t. term_of t
+/// The term that is assigned to a variable, at its place, and the variable itself where none is.
+fn next_argument(
+    alloc: Global,
+    assignments: &[Assignment],
+    name: &Name,
+) -> Result<Argument, AllocError>
+    ensures { IfOk result (λ a. argument_of a
         ≡ next_value (assignments_in assignments.now) (name_of name.now)) }
 {
     for assignment in assignments {
         if assignment.variable.text == name.text {
-            return copy_term(alloc, &assignment.value);
+            let term = copy_term(alloc, &assignment.value.term)?;
+            let place = assignment.value.place;
+            return Ok(Argument { place, term });
         }
     }
-    Ok(Term::Name(copy_name(alloc, name)?))
+    let place = name.place;
+    let term = Term::Name(copy_name(alloc, name)?);
+    Ok(Argument { place, term })
 }
 
 /// Adds these terms for the variables of one sort.
@@ -37,11 +45,7 @@ fn push_terms(
         ++ map (next_value (assignments_in assignments.now)) (map name_of names.now)) }
 {
     for name in names {
-        let term = next_term(alloc, assignments, name)?;
-        arguments.push(Argument {
-            place: name.place,
-            term,
-        })?;
+        arguments.push(next_argument(alloc, assignments, name)?)?;
     }
     Ok(())
 }

@@ -33,7 +33,8 @@ fn longest(names: &[String]) -> usize
 
 /// Whether a name is one of a variable, or is given already.
 fn is_taken(variables: &[String], given: &[String], name: &str) -> bool
-    ensures { result ≡ list_any (same_name name.now) (names_in variables.now ++ names_in given.now) }
+    ensures { result ≡ list_any (same_name name.now)
+        (names_in variables.now ++ names_in given.now) }
 {
     if is_among(variables, name) {
         return true;

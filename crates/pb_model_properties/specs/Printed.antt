@@ -10,7 +10,8 @@ use Rattle.pb_model_properties.specs.Said.{IsModelOf, IsTextOf}
 -- Within as many levels and operators as x needs, the bytes say it. The limits of texts are 64 and
 -- 8,192, so that a text that needs more is answered by `check`, and can't be read back.
 abbrev pub IsReadBack : List ℕ → SpecForm → Type 0
-IsReadBack bytes x = (depth operators : ℕ) → IsSayable depth operators x → ReadsWithin depth operators bytes x
+IsReadBack bytes x =
+    (depth operators : ℕ) → IsSayable depth operators x → ReadsWithin depth operators bytes x
 
 -- the text of the property that is asked for, of the model that the bytes say, is written so
 pub record IsTranslation (name : Option (List ℕ)) (bytes written : List ℕ) : Type 0 where

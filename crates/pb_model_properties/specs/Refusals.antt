@@ -16,7 +16,8 @@ use Rattle.pb_model_properties.specs.Said.{IsTheReading, IsModelOf}
 abbrev pub IsRefusedText : List ℕ → TextError → Type 0
 IsRefusedText bytes text_error.Memory = ⊥
 IsRefusedText bytes (text_error.Refused rule place) =
-    NoReading bytes (text_error.Refused rule place) × IsFirstFault bytes (text_error.Refused rule place)
+    NoReading bytes (text_error.Refused rule place)
+    × IsFirstFault bytes (text_error.Refused rule place)
 
 -- the model that the bytes say is not well typed, and breaks the rule at its place
 abbrev pub IsRefusedType : List ℕ → TypeError → Type 0
@@ -27,7 +28,8 @@ IsRefusedType bytes (type_error.At fault) =
 
 -- the model that the bytes say has no property of the name
 abbrev pub LacksProperty : Option (List ℕ) → List ℕ → Type 0
-LacksProperty name bytes = (model : ModelForm) × IsModelOf bytes model × NoneIsAskedFor name model.properties
+LacksProperty name bytes =
+    (model : ModelForm) × IsModelOf bytes model × NoneIsAskedFor name model.properties
 
 -- the bytes say no model that is well typed
 abbrev pub IsRefusedModel : List ℕ → ModelError → Type 0

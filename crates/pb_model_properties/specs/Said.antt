@@ -14,7 +14,8 @@ use Rattle.pb_model_typing.specs.Texts.{IsTypedModel}
 -- the bytes say this model within the limits, and they say nothing else, whatever the limits
 pub record IsTheReading (bytes : List ℕ) (model : ModelForm) : Type 0 where
   pub reading : IsReading bytes model
-  pub only : (depth operators : ℕ) (x : ModelForm) → IsReadingWithin depth operators bytes x → x ≡ model
+  pub only :
+      (depth operators : ℕ) (x : ModelForm) → IsReadingWithin depth operators bytes x → x ≡ model
 
 -- the bytes say this model, which is well typed
 pub record IsModelOf (bytes : List ℕ) (model : ModelForm) : Type 0 where
@@ -25,8 +26,8 @@ pub record IsModelOf (bytes : List ℕ) (model : ModelForm) : Type 0 where
 abbrev pub satisfies : ModelForm → FormulaForm → Bool
 satisfies model f = meaning.satisfies (erase model) (erased_formula f)
 
--- The text of a formula: the translation of the model and the formula, which is well typed, and whose
--- answer is true exactly where the model satisfies the formula.
+-- The text of a formula: the translation of the model and the formula, which is well typed, and
+-- whose answer is true exactly where the model satisfies the formula.
 pub record IsTextOf (model : ModelForm) (f : FormulaForm) (x : SpecForm) : Type 0 where
   pub translated : text.erase x ≡ translation.translation (erase model) (erased_formula f)
   pub typed : IsWellTyped (text.erase x)

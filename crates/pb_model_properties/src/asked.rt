@@ -23,7 +23,8 @@ pub(crate) fn place_of(properties: &[Property], name: Option<&str>) -> Option<us
 /// The place of the property of a name.
 fn place_named(properties: &[Property], name: &str) -> Option<usize>
     ensures found { IfSome result (IsAskedAt (Some name.now) (map property_form properties.now)) }
-    ensures none { IfNone result (NoneIsAskedFor (Some name.now) (map property_form properties.now)) }
+    ensures none { IfNone result
+        (NoneIsAskedFor (Some name.now) (map property_form properties.now)) }
 {
     for (place, property) in properties.iter().enumerate() {
         if property.name.text.as_str() == name {

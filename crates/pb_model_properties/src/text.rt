@@ -40,8 +40,8 @@ pub fn text_at(alloc: Global, model: &TypedModel, place: usize) -> Result<Typed,
     }
 }
 
-/// The text of a property of the model that bytes say, as it is printed: of the first property where
-/// none is named. Its answer is true exactly where the model satisfies the property.
+/// The text of a property of the model that bytes say, as it is printed: of the first property
+/// where none is named. Its answer is true exactly where the model satisfies the property.
 ///
 /// # Errors
 /// `Text` and `Typing` say which rule the model breaks and where. `NoProperty` comes exactly where

@@ -156,7 +156,7 @@ mutual
 -- ---- steps, the initial state, properties
 
 keeps_assignment : (depth : ℕ) → Keeps (IsAssignment depth)
-keeps_assignment depth = keeps_then _ _ keeps_name (λ n. keeps_then _ _ (keeps_one k.Assign) (λ a. keeps_then _ _ (keeps_term depth) (λ x. keeps_is _)))
+keeps_assignment depth = keeps_then _ _ keeps_name (λ n. keeps_then _ _ (keeps_one k.Assign) (λ a. keeps_then _ _ (keeps_placed (IsTerm depth) (keeps_term depth)) (λ x. keeps_is _)))
 
 keeps_step : (depth : ℕ) → Keeps (IsStep depth)
 keeps_step depth =

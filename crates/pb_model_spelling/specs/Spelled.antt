@@ -1,5 +1,5 @@
--- How the names of a model are spelled that a module may take over: enumerators, and the variables of
--- fixpoints, from which the equations of a property's text have their names.
+-- How the names of a model are spelled that a module may take over: enumerators, and the variables
+-- of fixpoints, from which the equations of a property's text have their names.
 use Rattle.std.specs.Prelude.{◌≡◌, ⊤, true, All}
 use Rattle.pb_text_tree.specs.Form.{SortDeclarationForm}
 use Rattle.pb_text_names.specs.Spelled.{is_spelled, AreEnumeratorsSpelled}
@@ -12,7 +12,8 @@ AreVariablesSpelled (FormulaForm.variable x) = ⊤
 AreVariablesSpelled (FormulaForm.negation p f) = AreVariablesSpelled f
 AreVariablesSpelled (FormulaForm.connected c p f g) = AreVariablesSpelled f × AreVariablesSpelled g
 AreVariablesSpelled (FormulaForm.modal k p A f) = AreVariablesSpelled f
-AreVariablesSpelled (FormulaForm.fixpoint sign p x f) = (is_spelled x.text ≡ true) × AreVariablesSpelled f
+AreVariablesSpelled (FormulaForm.fixpoint sign p x f) =
+    (is_spelled x.text ≡ true) × AreVariablesSpelled f
 
 pub record HasSpelledNames (model : ModelForm) : Type 0 where
   pub enumerators : All (λ (d : SortDeclarationForm). AreEnumeratorsSpelled d.sort) model.sorts

@@ -1,5 +1,5 @@
-//! The names of a model are spelled as names, and a module can take over those of the texts to which
-//! its properties are translated: laws about all readings. Definitions and laws alone.
+//! The names of a model are spelled as names, and a module can take over those of the texts to
+//! which its properties are translated: laws about all readings. Definitions and laws alone.
 #![tactic(auto)]
 
 ghost use Rattle.std.specs.Prelude.{◌≡◌, ℕ, List, Contains, Some, true};

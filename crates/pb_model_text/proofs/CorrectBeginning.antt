@@ -1,14 +1,13 @@
 -- What is read right is so where it is asked to begin with a token of a kind.
-use Rattle.std.proofs.Common.{◌≡◌, ℕ, suc, Bool, true, List, [], ◌∷◌, ◌++◌, refl, sym, ◌∙◌, ap, subst, append_assoc, Ok, Err}
+use Rattle.std.proofs.Common.{◌≡◌, ℕ, suc, Bool, true, List, [], ◌∷◌, ◌++◌, sym, ◌∙◌, ap, subst, append_assoc, Ok, Err}
 use Rattle.pb_text_lexer.specs.declared.fault.ReadingRule.{ReadingRule}
 use Rattle.pb_text_lexer.specs.declared.fault.ReadingRule.TheVariants.{Unexpected, Limit}
 use Rattle.pb_text_lexer.specs.declared.fault.Refusal.{Refusal}
 use Rattle.pb_text_lexer.specs.declared.kind.Kind.{Kind}
-use Rattle.pb_text_lexer.specs.Kinds.{is_limited}
 use Rattle.pb_text_lexer.specs.Grammar.{State, going_on}
-use Rattle.pb_text_lexer.specs.Steps.{ends, head_kind, Step, Outcome}
+use Rattle.pb_text_lexer.specs.Steps.{head_kind, Step, Outcome}
 use Rattle.pb_text_lexer.specs.Tokens.{Tok}
-use Rattle.pb_text_lexer.proofs.Correct.{st, Family, Readable, GoesOn, goes-free, Reaches, Took, Refused, Answers, Answering, HeadIs}
+use Rattle.pb_text_lexer.proofs.Correct.{Family, Readable, GoesOn, goes-free, Took, Refused, Answers, Answering, HeadIs}
 use Rattle.pb_text_lexer.proofs.CorrectSeries.{Passes}
 use Rattle.pb_text_lexer.proofs.CorrectPlain.{Always}
 use Rattle.pb_text_terms.proofs.CorrectVariable.{head-kind-is}

@@ -1,5 +1,5 @@
 -- Fixpoints are read rightly, where their bodies are.
-use Rattle.std.proofs.Common.{◌≡◌, ℕ, zero, suc, ◌≤◌, Bool, true, false, List, [], ◌∷◌, refl, ◌∙◌, subst, arith, ◌⊎◌, inl, inr}
+use Rattle.std.proofs.Common.{◌≡◌, ℕ, zero, suc, ◌≤◌, Bool, List, [], ◌∷◌, refl, ◌∙◌, arith, ◌⊎◌, inl, inr}
 use Rattle.pb_fixpoint.specs.declared.Sign.{Sign}
 use Rattle.pb_fixpoint.specs.declared.Sign.TheVariants as sign
 use Rattle.pb_text_tree.specs.declared.place.Place.{Place}
@@ -11,9 +11,8 @@ use Rattle.pb_text_lexer.specs.declared.kind.Kind.TheVariants as k
 use Rattle.pb_text_lexer.specs.Grammar.{State, Reads, Is, One}
 use Rattle.pb_text_lexer.specs.Grammar as grammar
 use Rattle.pb_text_lexer.specs.Steps.{Step, take_token, expect, refuse}
-use Rattle.pb_text_lexer.specs.Steps as step
 use Rattle.pb_text_lexer.specs.Tokens.{Tok}
-use Rattle.pb_text_lexer.proofs.Correct.{st, Family, never, readable-is, readable-one, Answering, Correct, HeadIs, take-correct, expect-correct, refused-here, Free, Readable, goes-free, readable-free, free-then, free-one, some-token}
+use Rattle.pb_text_lexer.proofs.Correct.{st, Family, readable-is, readable-one, Answering, Correct, HeadIs, take-correct, expect-correct, refused-here, Free, Readable, goes-free, readable-free, free-then, free-one, some-token}
 use Rattle.pb_text_lexer.proofs.CorrectFamilies.{readable-first, readable-deeper, Nowhere, first-answers, first-correct, deeper, deeper-correct}
 use Rattle.pb_text_lexer.proofs.CorrectSeries.{Passes, head-at}
 use Rattle.pb_text_lexer.proofs.CorrectPlain.{Always, anywhere, then-plain, nothing-correct}

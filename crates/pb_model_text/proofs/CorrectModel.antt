@@ -1,8 +1,7 @@
 -- Steps, properties and whole models are read rightly.
-use Rattle.std.proofs.Common.{◌≡◌, ℕ, zero, suc, ◌≤◌, Bool, true, false, cond, List, [], ◌∷◌, ◌++◌, refl, sym, ◌∙◌, ap, subst, append_assoc, arith, Ok, Err}
-use Rattle.pb_text_tree.specs.declared.place.Place.{Place}
-use Rattle.pb_text_tree.specs.Form.{TermForm, RangeForm}
-use Rattle.pb_model_tree.specs.Form.{AssignmentForm, StepForm, InitialForm, PropertyForm, ModelForm}
+use Rattle.std.proofs.Common.{◌≡◌, ℕ, suc, Bool, true, false, cond, List, [], ◌∷◌, ◌++◌, refl, sym, ◌∙◌, ap, subst, append_assoc, Ok, Err}
+use Rattle.pb_text_tree.specs.Form.{RangeForm}
+use Rattle.pb_model_tree.specs.Form.{StepForm, PropertyForm, ModelForm}
 use Rattle.pb_text_lexer.specs.declared.fault.ReadingRule.TheVariants.{Unexpected, Limit}
 use Rattle.pb_text_lexer.specs.declared.fault.Refusal.{Refusal}
 use Rattle.pb_text_lexer.specs.declared.kind.Kind.{Kind}
@@ -15,12 +14,12 @@ use Rattle.pb_text_lexer.specs.Steps.{ends, Step, Outcome, and_then, pure, expec
 use Rattle.pb_text_lexer.specs.Steps as step
 use Rattle.pb_text_lexer.specs.Tokens.{Tok}
 use Rattle.pb_text_lexer.proofs.TokenLemmas.{kind-same, same-kind}
-use Rattle.pb_text_lexer.proofs.Correct.{st, Family, Stops, never, GoesOn, goes-ended, reaches-read, some-token, Took, Answers, Correct, move, then-correct, expect-correct, unlike, pure-correct}
+use Rattle.pb_text_lexer.proofs.Correct.{st, Stops, never, GoesOn, goes-ended, reaches-read, some-token, Took, Answers, Correct, move, then-correct, expect-correct, unlike}
 use Rattle.pb_text_lexer.proofs.CorrectFamilies.{own-correct}
 use Rattle.pb_text_lexer.proofs.CorrectSeries.{going, Passes}
-use Rattle.pb_text_lexer.proofs.CorrectPlain.{Always, anywhere, then-plain, is-correct}
+use Rattle.pb_text_lexer.proofs.CorrectPlain.{Always, anywhere, then-plain}
 use Rattle.pb_text_terms.specs.Grammar.{Name, Variables, Placed, arguments_of, IsTerm}
-use Rattle.pb_text_terms.specs.Reading.{name, variables, is_open, is_comma, placed, argument_list, term}
+use Rattle.pb_text_terms.specs.Reading.{name, variables, is_open, placed, argument_list, term}
 use Rattle.pb_text_terms.proofs.CorrectVariable.{name-correct, variables-correct, commas, listed-correct, stops-at-kind, said-correct}
 use Rattle.pb_text_terms.proofs.CorrectOperators.{term_goes, comma-apart, list_goes}
 use Rattle.pb_text_terms.proofs.CorrectInstance.{placed-correct}
@@ -60,14 +59,17 @@ pub record IsRead (depth operators : ℕ) (tokens : List Tok) (ranges : List Ran
 
 -- ---- steps
 
+placed_term-correct : (depth : ℕ) → Correct Always (placed (term depth)) (λ d. Placed (IsTerm d)) term_goes depth
+placed_term-correct depth = placed-correct IsTerm term_goes depth (λ d s y z r. deeper-some (suc d) s y z r) (term depth) (term-correct depth)
+
 assignment-correct : (depth : ℕ) → Correct Always (assignment depth) IsAssignment term_goes depth
 unfolding assignment
 assignment-correct depth =
-    then-plain (λ d. Name) (λ variable d. grammar.◌>>=◌ (One k.Assign) (λ assign. grammar.◌>>=◌ (IsTerm d) (λ value. Is (record { variable = variable; value = value })))) term_goes depth
+    then-plain (λ d. Name) (λ variable d. grammar.◌>>=◌ (One k.Assign) (λ assign. grammar.◌>>=◌ (Placed (IsTerm d)) (λ value. Is (record { variable = variable; place = value.0; value = value.1 })))) term_goes depth
     Always name _ (name-correct depth) (λ variable.
-    then-plain (λ d. One k.Assign) (λ assign d. grammar.◌>>=◌ (IsTerm d) (λ value. Is (record { variable = variable; value = value }))) term_goes depth
+    then-plain (λ d. One k.Assign) (λ assign d. grammar.◌>>=◌ (Placed (IsTerm d)) (λ value. Is (record { variable = variable; place = value.0; value = value.1 }))) term_goes depth
     Always (expect k.Assign) _ (expect-correct k.Assign depth refl) (λ assign.
-    said-correct IsTerm (λ value. record { variable = variable; value = value }) term_goes depth Always (term depth) (term-correct depth)))
+    said-correct (λ d. Placed (IsTerm d)) (λ value. record { variable = variable; place = value.0; value = value.1 }) term_goes depth Always (placed (term depth)) (placed_term-correct depth)))
 
 assignments-correct : (depth : ℕ) → Correct Always (assignments depth) (λ d. Listed (IsAssignment d) (One k.Comma)) list_goes depth
 assignments-correct depth = listed-correct IsAssignment term_goes depth comma-apart (assignment depth) (assignment-correct depth)
@@ -119,7 +121,7 @@ steps-correct depth =
 
 values-correct : (depth : ℕ) → Correct Always (argument_list (term depth)) (λ d. Listed (Placed (IsTerm d)) (One k.Comma)) list_goes depth
 values-correct depth =
-    listed-correct (λ d. Placed (IsTerm d)) term_goes depth comma-apart (placed (term depth)) (placed-correct IsTerm term_goes depth (λ d s y z r. deeper-some (suc d) s y z r) (term depth) (term-correct depth))
+    listed-correct (λ d. Placed (IsTerm d)) term_goes depth comma-apart (placed (term depth)) (placed_term-correct depth)
 
 initial_parts-correct : (depth : ℕ) → Correct Always (initial_parts depth) IsInitial never depth
 unfolding initial_parts

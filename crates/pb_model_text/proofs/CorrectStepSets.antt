@@ -1,7 +1,6 @@
 -- Sets of steps are read rightly.
-use Rattle.std.proofs.Common.{◌≡◌, ℕ, zero, suc, ◌≤◌, Bool, true, false, List, [], ◌∷◌, refl, ◌∙◌, subst, sym, arith, ◌⊎◌, inl, inr, Ok, Err}
+use Rattle.std.proofs.Common.{◌≡◌, ℕ, zero, suc, ◌≤◌, Bool, false, [], ◌∷◌, refl, ◌∙◌, arith, ◌⊎◌, inl, inr, Ok, Err}
 use Rattle.pb_model_tree.specs.Form.{StepSetForm}
-use Rattle.pb_text_lexer.specs.declared.fault.Refusal.{Refusal}
 use Rattle.pb_text_lexer.specs.declared.fault.ReadingRule.TheVariants.{Limit}
 use Rattle.pb_text_lexer.specs.declared.kind.Kind.{Kind}
 use Rattle.pb_text_lexer.specs.declared.kind.Kind.TheVariants as k
@@ -12,10 +11,10 @@ use Rattle.pb_text_lexer.specs.OpenGrammar.{last}
 use Rattle.pb_text_lexer.specs.Steps.{ends, Step, Outcome, pure, take_token, expect, refuse}
 use Rattle.pb_text_lexer.specs.Steps as step
 use Rattle.pb_text_lexer.specs.Tokens.{Tok}
-use Rattle.pb_text_lexer.proofs.Correct.{st, Family, Stops, never, stops-never, readable-is, readable-one, Took, Refused, Answers, Answering, Correct, then-correct, HeadIs, take-correct, expect-correct, refused-here, Free, Readable, goes-free, free-to, free-then, free-one}
+use Rattle.pb_text_lexer.proofs.Correct.{st, Family, Stops, never, stops-never, readable-is, readable-one, Answers, Answering, Correct, then-correct, HeadIs, take-correct, expect-correct, refused-here, Free, Readable, goes-free, free-to, free-then, free-one}
 use Rattle.pb_text_lexer.proofs.CorrectFamilies.{readable-first, readable-deeper, Nowhere, first-correct, deeper, deeper-correct, alike-correct}
 use Rattle.pb_text_lexer.proofs.CorrectSeries.{going, head-at}
-use Rattle.pb_text_lexer.proofs.CorrectChained.{Opened, RefusedOpen, AnswersOpen, CorrectOpen, open-chains-correct}
+use Rattle.pb_text_lexer.proofs.CorrectChained.{AnswersOpen, CorrectOpen, open-chains-correct}
 use Rattle.pb_text_lexer.proofs.CorrectEither.{top-correct}
 use Rattle.pb_text_lexer.proofs.CorrectPlain.{Always, anywhere, then-plain, leaf-correct, is-correct, nothing-correct}
 use Rattle.pb_text_terms.specs.Grammar.{Name}

@@ -1,11 +1,12 @@
 -- A level of formulas is a chain, and what begins no formula.
-use Rattle.std.proofs.Common.{Some, None, Ok, true, ◌<◌, ◌-◌, ◌≡◌, ◌≢◌, ℕ, zero, suc, length, List, [], ◌∷◌, ◌++◌, refl, sym, subst, ap, ◌∙◌, false, Result, Err}
+use Rattle.std.proofs.Common.{Some, None, Ok, true, ◌<◌, ◌-◌, ◌≡◌, ◌≢◌, ℕ, zero, suc, length, List, [], ◌∷◌, ◌++◌, refl, sym, subst, ap, ◌∙◌, false, Result, Err, Bool, cond}
 use Rattle.std.proofs.lemmas.List.{map-append}
 use Rattle.pb_fixpoint.specs.declared.Sign.{Sign}
 use Rattle.pb_text_tree.specs.declared.operator.Connective.{Connective}
 use Rattle.pb_text_tree.specs.declared.operator.Connective.TheVariants.{And, Or, Implies}
 use Rattle.pb_model_tree.specs.declared.formula.Link.{Link}
 use Rattle.pb_model_tree.specs.declared.formula.Formula.{Formula}
+use Rattle.pb_model_tree.specs.declared.formula.Modality.{Modality}
 use Rattle.pb_text_tree.specs.declared.place.Place.{Place}
 use Rattle.pb_text_tree.specs.Form.{TermForm}
 use Rattle.pb_model_tree.specs.Form.{StepSetForm, FormulaForm, formula_form}
@@ -16,7 +17,7 @@ use Rattle.pb_text_lexer.specs.declared.kind.Kind.{Kind}
 use Rattle.pb_text_lexer.specs.declared.kind.Kind.TheVariants as k
 use Rattle.pb_text_lexer.specs.Grammar.{State}
 use Rattle.pb_text_lexer.specs.Kinds.{same_kind}
-use Rattle.pb_text_lexer.specs.Steps.{Step, Outcome, Gives, ◌>>=◌, refuse, refusal, kind, take_token, expect, enter, chain}
+use Rattle.pb_text_lexer.specs.Steps.{Step, Outcome, Gives, and_then, ◌>>=◌, pure, peek, refuse, refusal, kind, take_token, expect, unless_next, enter, chain}
 use Rattle.pb_text_lexer.specs.Tokens.{Tok, token_at}
 use Rattle.pb_text_lexer.proofs.LoopLemmas.{placed, resumed-first-fails}
 use Rattle.pb_text_terms.specs.Operators.{symbol, is_connective}
@@ -24,7 +25,7 @@ use Rattle.pb_text_terms.specs.Reading.{name, below}
 use Rattle.pb_text_terms.proofs.ReadLemmas.{below-is, resumed-alone-or-fails, no-connective}
 use Rattle.pb_model_text.specs.Grammar.{Scope, within}
 use Rattle.pb_model_text.specs.Links.{link_form, link_forms}
-use Rattle.pb_model_text.specs.Reading.{begun, data_operand, goes_on, binding, step_set, sign_of, is_fixpoint, node, formula, fixpoint, primary, operand, level}
+use Rattle.pb_model_text.specs.Reading.{begun, modal, data_operand, goes_on, binding, step_set, sign_of, is_fixpoint, node, formula, fixpoint, primary, operand, level}
 
 -- a level is a chain of its operands
 pub level-chain : (c : Connective) (scope : Scope) (depth : ℕ) (s : State)
@@ -80,11 +81,81 @@ primary-fixpoint scope depth s sign is = rw (some-sign (kind s) sign is) refl
 
 -- ---- what a token begins, where a level may open and where none may
 
+abbrev opens_level : Kind → Bool
+opens_level k.Not = true
+opens_level k.Open = true
+opens_level k.OpenSquare = true
+opens_level k.Less = true
+opens_level _ = false
+
 pub node-at : (scope : Scope) (depth : ℕ) (s : State) (k' : Kind) → kind s ≡ k'
     → node scope depth s ≡ begun scope (enter depth) (below (node scope) depth) (below (formula scope) depth) (data_operand depth) (below step_set depth) k' s
 unfolding node
 node-at scope zero s k' is = ap (λ v. begun scope (refuse Limit) (refuse Limit) (refuse Limit) (data_operand 0) (refuse Limit) v s) is
 node-at scope (suc depth) s k' is = ap (λ v. begun scope take_token (node scope depth) (formula scope depth) (data_operand (suc depth)) (step_set depth) v s) is
+
+-- where no level may open that a token would open
+pub node-enter-fails : (scope : Scope) (depth : ℕ) (s : State) (k' : Kind) → opens_level k' ≡ true → kind s ≡ k' → (bad : Refusal) → enter depth s ≡ Err bad → node scope depth s ≡ Err bad
+node-enter-fails scope depth s k.Not e is bad fails = node-at scope depth s k.Not is ∙ rw fails refl
+node-enter-fails scope depth s k.Open e is bad fails = node-at scope depth s k.Open is ∙ rw fails refl
+node-enter-fails scope depth s k.OpenSquare e is bad fails = node-at scope depth s k.OpenSquare is ∙ rw fails refl
+node-enter-fails scope depth s k.Less e is bad fails = node-at scope depth s k.Less is ∙ rw fails refl
+node-enter-fails scope depth s _ e is bad fails = cc
+
+-- what a token that opens a level begins
+module _ (scope : Scope) (depth : ℕ) (s s1 : State) (word : Tok) (entered : enter depth s ≡ Ok (word, s1)) (some : 0 < depth) where
+  node-below : (u : State) → below (node scope) depth u ≡ node scope (depth - 1) u
+  node-below u = ap (λ p. p u) (below-is (node scope) depth some)
+
+  formula-below : (u : State) → below (formula scope) depth u ≡ formula scope (depth - 1) u
+  formula-below u = ap (λ p. p u) (below-is (formula scope) depth some)
+
+  sets-below : (u : State) → below step_set depth u ≡ step_set (depth - 1) u
+  sets-below u = ap (λ p. p u) (below-is step_set depth some)
+
+  pub negation-fails : kind s ≡ k.Not → (bad : Refusal) → node scope (depth - 1) s1 ≡ Err bad → node scope depth s ≡ Err bad
+  negation-fails is bad fails = node-at scope depth s k.Not is ∙ rw entered (rw (node-below s1, fails) refl)
+
+  pub negation-read : kind s ≡ k.Not → (x : FormulaForm) (z : State) → node scope (depth - 1) s1 ≡ Ok (x, z) → node scope depth s ≡ Ok (FormulaForm.negation word.place x, z)
+  negation-read is x z reads = node-at scope depth s k.Not is ∙ rw entered (rw (node-below s1, reads) refl)
+
+  pub bracketed-fails : kind s ≡ k.Open → (bad : Refusal) → formula scope (depth - 1) s1 ≡ Err bad → node scope depth s ≡ Err bad
+  bracketed-fails is bad fails = node-at scope depth s k.Open is ∙ rw entered (rw (formula-below s1, fails) refl)
+
+  module _ (is : kind s ≡ k.Open) (x : FormulaForm) (s2 : State) (reads : formula scope (depth - 1) s1 ≡ Ok (x, s2)) where
+    bracketed-closed : node scope depth s ≡ and_then (unless_next goes_on (expect k.Close) s2) (λ t. pure x)
+    bracketed-closed = node-at scope depth s k.Open is ∙ rw entered (rw (formula-below s1, reads) (by (expect k.Close s2)))
+      where
+        by-kind : (b : Bool) (t : Tok) (z : State) → cond b (refuse Unexpected) (pure x) z ≡ and_then (cond b (refuse Unexpected) (pure t) z) (λ u. pure x)
+        by-kind true t z = refl
+        by-kind false t z = refl
+
+        by : (o : Outcome Tok) → and_then (and_then o (λ t. pure x)) (λ y. peek >>= (λ kind. cond (goes_on kind) (refuse Unexpected) (pure y)))
+            ≡ and_then (and_then o (λ t. peek >>= (λ kind. cond (goes_on kind) (refuse Unexpected) (pure t)))) (λ t. pure x)
+        by (Ok r) = by-kind (goes_on (kind r.1)) r.0 r.1
+        by (Err bad) = refl
+
+    pub bracketed-close-fails : (bad : Refusal) → unless_next goes_on (expect k.Close) s2 ≡ Err bad → node scope depth s ≡ Err bad
+    bracketed-close-fails bad fails = bracketed-closed ∙ rw fails refl
+
+    pub bracketed-read : (t : Tok) (z : State) → unless_next goes_on (expect k.Close) s2 ≡ Ok (t, z) → node scope depth s ≡ Ok (x, z)
+    bracketed-read t z closes = bracketed-closed ∙ rw closes refl
+
+  -- a modality, whose set of steps ends with this token
+  module _ (m : Modality) (close : Kind) (at : node scope depth s ≡ modal m close (enter depth) (below (node scope) depth) (below step_set depth) s) where
+    pub modal-set-fails : (bad : Refusal) → step_set (depth - 1) s1 ≡ Err bad → node scope depth s ≡ Err bad
+    modal-set-fails bad fails = at ∙ rw entered (rw (sets-below s1, fails) refl)
+
+    module _ (A : StepSetForm) (s2 : State) (sets : step_set (depth - 1) s1 ≡ Ok (A, s2)) where
+      pub modal-close-fails : (bad : Refusal) → expect close s2 ≡ Err bad → node scope depth s ≡ Err bad
+      modal-close-fails bad fails = at ∙ rw entered (rw (sets-below s1, sets) (rw fails refl))
+
+      module _ (t : Tok) (s3 : State) (closes : expect close s2 ≡ Ok (t, s3)) where
+        pub modal-operand-fails : (bad : Refusal) → node scope (depth - 1) s3 ≡ Err bad → node scope depth s ≡ Err bad
+        modal-operand-fails bad fails = at ∙ rw entered (rw (sets-below s1, sets) (rw closes (rw (node-below s3, fails) refl)))
+
+        pub modal-read : (x : FormulaForm) (z : State) → node scope (depth - 1) s3 ≡ Ok (x, z) → node scope depth s ≡ Ok (FormulaForm.modal m word.place A x, z)
+        modal-read x z reads = at ∙ rw entered (rw (sets-below s1, sets) (rw closes (rw (node-below s3, reads) refl)))
 
 -- data behind `val` with which more would go on
 pub value-again : (scope : Scope) (depth : ℕ) (s s1 s2 : State) (t : Tok) (x : TermForm) → kind s ≡ k.Val → take_token s ≡ Ok (t, s1) → data_operand depth s1 ≡ Ok (x, s2) → goes_on (kind s2) ≡ true

@@ -1,11 +1,10 @@
 -- The initial state, as it is read.
-use Rattle.std.proofs.Common.{◌≡◌, ℕ, List, ap, map, refl, Ok}
+use Rattle.std.proofs.Common.{◌≡◌, ℕ, List, ap, map, Ok}
 use Rattle.pb_text_tree.specs.declared.term.Argument.{Argument}
 use Rattle.pb_text_tree.specs.Form.{ArgumentForms, argument_forms}
-use Rattle.pb_model_tree.specs.Form.{InitialForm}
 use Rattle.pb_text_lexer.specs.declared.kind.Kind.TheVariants as k
 use Rattle.pb_text_lexer.specs.Grammar.{State}
-use Rattle.pb_text_lexer.specs.Steps.{Outcome, expect}
+use Rattle.pb_text_lexer.specs.Steps.{expect}
 use Rattle.pb_text_lexer.specs.Tokens.{Tok}
 use Rattle.pb_text_terms.specs.Reading.{argument_pair, argument_list, term}
 use Rattle.pb_text_terms.proofs.ReadLemmas.{arguments-is}

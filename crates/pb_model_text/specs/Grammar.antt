@@ -1,11 +1,12 @@
--- The grammar of models, one production for each row (this project's own; the modal mu-calculus with
--- data as in Groote and Mousavi 2014). Sorts, variables and data terms are those of texts.
-use Rattle.std.specs.Prelude.{◌≡◌, ℕ, zero, suc, Bool, true, false, if◌then◌else◌, List, [], ◌∷◌, ◌++◌}
+-- The grammar of models, one production for each row (this project's own; the modal mu-calculus
+-- with data as in Groote and Mousavi 2014). Sorts, variables and data terms are those of texts.
+use Rattle.std.specs.Prelude.{◌≡◌, ℕ, zero, suc, Bool, true, false, if◌then◌else◌, List, [], ◌∷◌}
+use Rattle.std.specs.Prelude.{◌++◌}
 use Rattle.std.specs.Str.{bytes_eq}
 use Rattle.pb_fixpoint.specs.declared.Sign.{Sign}
 use Rattle.pb_fixpoint.specs.declared.Sign.TheVariants as sign
 use Rattle.pb_text_tree.specs.declared.place.Place.{Place}
-use Rattle.pb_text_tree.specs.Form.{Named, TermForm, RangeForm}
+use Rattle.pb_text_tree.specs.Form.{TermForm, RangeForm}
 use Rattle.pb_text_lexer.specs.declared.kind.Kind.{Kind}
 use Rattle.pb_text_lexer.specs.declared.kind.Kind.TheVariants as k
 use Rattle.pb_text_lexer.specs.Grammar.{Reads, ◌>>=◌, Is, Nothing, One, First, CountedApart}
@@ -14,11 +15,13 @@ use Rattle.pb_text_lexer.specs.LeftGrammar.{Extended, Listed}
 use Rattle.pb_text_lexer.specs.Steps.{head_kind}
 use Rattle.pb_text_lexer.specs.Tokens.{Tok}
 use Rattle.pb_text_terms.specs.Operators.{connected_by}
-use Rattle.pb_text_terms.specs.Grammar.{Name, Variables, Placed, arguments_of, Equated, IsUnary, IsTerm}
+use Rattle.pb_text_terms.specs.Grammar.{Name, Variables, Placed, arguments_of, Equated, IsUnary}
+use Rattle.pb_text_terms.specs.Grammar.{IsTerm}
 use Rattle.pb_text.specs.Grammar.{SortParts, Declared}
 use Rattle.pb_model_tree.specs.declared.formula.Modality.{Modality}
 use Rattle.pb_model_tree.specs.declared.formula.Modality.TheVariants as modality
-use Rattle.pb_model_tree.specs.Form.{StepSetForm, FormulaForm, AssignmentForm, StepForm, InitialForm, PropertyForm, ModelForm}
+use Rattle.pb_model_tree.specs.Form.{StepSetForm, FormulaForm, AssignmentForm, StepForm}
+use Rattle.pb_model_tree.specs.Form.{InitialForm, PropertyForm, ModelForm}
 
 -- ---- sets of steps
 
@@ -96,7 +99,9 @@ Modal modality close Node Sets open_bracket = do
 -- What a token of a kind begins that is no fixpoint: below `!` and modalities Node may stand, in
 -- brackets Formula, in data without connectives Unary, and between the brackets of modalities Sets.
 -- Data that begins otherwise, or has a connective or a quantifier, stands behind `val`.
-abbrev pub Begun : Scope → Reads FormulaForm → Reads FormulaForm → Reads TermForm → Reads StepSetForm → Kind → Reads FormulaForm
+abbrev pub Begun :
+    Scope → Reads FormulaForm → Reads FormulaForm → Reads TermForm → Reads StepSetForm →
+    Kind → Reads FormulaForm
 Begun scope Node Formula Unary Sets k.Not = do
   sign ← One k.Not
   operand ← Node
@@ -156,27 +161,33 @@ Connections Node Body = Connected (connected_by FormulaForm.connected) Node (Fix
 abbrev pub within : Scope → List ℕ → Scope
 within scope name = scope ++ name ∷ []
 
--- So many levels may open: each `!`, each bracket but that which closes, and each fixpoint opens one.
+-- So many levels may open: each `!`, each bracket but that which closes, and each fixpoint opens
+-- one.
 abbrev mutual
   pub IsNode : Scope → ℕ → Reads FormulaForm
   IsNode scope zero = First (Begun scope Nothing Nothing (IsUnary zero) Nothing)
-  IsNode scope (suc depth) = First (Begun scope (IsNode scope depth) (IsFormula scope depth) (IsUnary (suc depth)) (IsStepSet depth))
+  IsNode scope (suc depth) =
+      First (Begun scope (IsNode scope depth) (IsFormula scope depth) (IsUnary (suc depth))
+      (IsStepSet depth))
 
   pub IsFormula : Scope → ℕ → Reads FormulaForm
-  IsFormula scope zero = Connections (First (Begun scope Nothing Nothing (IsUnary zero) Nothing)) (λ name. Nothing)
+  IsFormula scope zero =
+      Connections (First (Begun scope Nothing Nothing (IsUnary zero) Nothing)) (λ name. Nothing)
   IsFormula scope (suc depth) =
-      Connections (First (Begun scope (IsNode scope depth) (IsFormula scope depth) (IsUnary (suc depth)) (IsStepSet depth)))
+      Connections
+      (First (Begun scope (IsNode scope depth) (IsFormula scope depth) (IsUnary (suc depth))
+      (IsStepSet depth)))
       (λ name. IsFormula (within scope name) depth)
 
 -- ---- steps, the initial state, properties
 
--- a state variable and the term whose value it gets
+-- a state variable and the term whose value it gets, with the place of its first token
 abbrev pub IsAssignment : ℕ → Reads AssignmentForm
 IsAssignment depth = do
   variable ← Name
   assign ← One k.Assign
-  value ← IsTerm depth
-  Is (record { variable = variable; value = value })
+  value ← Placed (IsTerm depth)
+  Is (record { variable = variable; place = value.0; value = value.1 })
 
 -- a name with variables of its own, a guard and assignments
 abbrev pub IsStep : ℕ → Reads StepForm
@@ -229,10 +240,20 @@ IsModel ranges depth = do
   steps ← Steps depth
   initial ← CountedApart (IsInitial depth)
   properties ← Properties depth
-  Is (record { sorts = sorts; ranges = ranges; variables = variables; steps = steps; initial = initial; properties = properties })
+  Is (record {
+    sorts = sorts;
+    ranges = ranges;
+    variables = variables;
+    steps = steps;
+    initial = initial;
+    properties = properties;
+  })
 
--- The tokens are this model, and then the end. So many levels may open; each step, the initial state
--- and each property may have so many operators.
+-- The tokens are this model, and then the end. So many levels may open; each step, the initial
+-- state and each property may have so many operators.
 abbrev pub IsModelText : ℕ → ℕ → List Tok → List RangeForm → ModelForm → Type 0
 IsModelText depth operators tokens ranges model =
-    (m : ℕ) × (end : Tok) × IsModel ranges depth (record { tokens = tokens; operators = operators }) model (record { tokens = end ∷ []; operators = m }) × (end.kind ≡ k.End)
+    (m : ℕ) × (end : Tok)
+    × IsModel ranges depth (record { tokens = tokens; operators = operators }) model
+    (record { tokens = end ∷ []; operators = m })
+    × (end.kind ≡ k.End)

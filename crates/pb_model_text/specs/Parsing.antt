@@ -34,7 +34,8 @@ IsReading bytes x = IsReadingWithin depth_limit operator_limit bytes x
 -- bytes are at most one model, places included, whatever the limits
 abbrev pub AtMostOneReading : Type 0
 AtMostOneReading =
-    (bytes : List ℕ) (d n e m : ℕ) (x y : ModelForm) → IsReadingWithin d n bytes x → IsReadingWithin e m bytes y → x ≡ y
+    (bytes : List ℕ) (d n e m : ℕ) (x y : ModelForm) → IsReadingWithin d n bytes x →
+    IsReadingWithin e m bytes y → x ≡ y
 
 -- some model begins with these tokens, where so many levels may open, and so many operators come
 pub record BeginsModel (depth operators : ℕ) (tokens : List Tok) : Type 0 where
@@ -51,21 +52,26 @@ BeginsNextModel tokens = BeginsModel (suc depth_limit) (suc operator_limit) toke
 -- levels and operators: none of them is past a limit.
 abbrev pub StaysWithin : ℕ → ℕ → List Tok → Type 0
 StaysWithin depth operators tokens =
-    (before behind : List Tok) (t : Tok) → tokens ≡ before ++ t ∷ behind → is_limited t.kind ≡ true → BeginsModel depth operators (before ++ t ∷ [])
+    (before behind : List Tok) (t : Tok) → tokens ≡ before ++ t ∷ behind →
+    is_limited t.kind ≡ true → BeginsModel depth operators (before ++ t ∷ [])
 
--- The bytes begin with tokens, the last of which stands at this place. No model begins so, within the
--- limits that the rule speaks of; some model begins with the tokens before that one, so it is the
--- first with which none goes on. None of those is past a limit: a fault behind a token past a limit
--- isn't named. Where the rule is a limit, it is a token at which a limit can be exceeded, so the first
--- that is past one; and with one level and one operator more some model begins with it too, so no
--- other fault stands before it.
-pub record IsRefusal (bytes : List ℕ) (broken : token_rule.ReadingRule) (place : Place) : Type 0 where
+-- The bytes begin with tokens, the last of which stands at this place. No model begins so, within
+-- the limits that the rule speaks of; some model begins with the tokens before that one, so it is
+-- the first with which none goes on. None of those is past a limit: a fault behind a token past a
+-- limit isn't named. Where the rule is a limit, it is a token at which a limit can be exceeded, so
+-- the first that is past one; and with one level and one operator more some model begins with it
+-- too, so no other fault stands before it.
+pub record IsRefusal
+    (bytes : List ℕ) (broken : token_rule.ReadingRule) (place : Place) : Type 0 where
   pub front : List Tok
   pub next : Tok
   pub begins : BeginsIn Model bytes (front ++ next ∷ [])
   pub stands : next.place ≡ place
   pub limited : broken ≡ refused.Limit → is_limited next.kind ≡ true
-  pub none : (d n : ℕ) (tail : List Tok) (ranges : List RangeForm) (x : ModelForm) → Within broken depth_limit operator_limit d n → IsModelText d n (front ++ next ∷ tail) ranges x → ⊥
+  pub none :
+      (d n : ℕ) (tail : List Tok) (ranges : List RangeForm) (x : ModelForm) →
+      Within broken depth_limit operator_limit d n →
+      IsModelText d n (front ++ next ∷ tail) ranges x → ⊥
   pub goes_on : BeginsNextModel (front ++ going_on broken next)
   pub first : StaysWithin depth_limit operator_limit front
 

@@ -1,25 +1,31 @@
 -- Reading a model, as a function.
-use Rattle.std.specs.Prelude.{ℕ, zero, suc, Bool, true, false, if◌then◌else◌, ◌||◌, List, [], ◌∷◌, length, map, Option, Some, None}
+use Rattle.std.specs.Prelude.{ℕ, zero, suc, Bool, true, false, if◌then◌else◌, ◌||◌, List, []}
+use Rattle.std.specs.Prelude.{length, map, Option, Some, None}
 use Rattle.std.specs.Borrow.{Bor}
 use Rattle.pb_fixpoint.specs.declared.Sign.{Sign}
 use Rattle.pb_fixpoint.specs.declared.Sign.TheVariants as sign
 use Rattle.pb_text_tree.specs.declared.operator.Connective.{Connective}
 use Rattle.pb_text_tree.specs.declared.operator.Connective.TheVariants as connective
 use Rattle.pb_text_tree.specs.declared.place.Place.{Place}
-use Rattle.pb_text_tree.specs.Form.{Named, TermForm, RangeForm}
+use Rattle.pb_text_tree.specs.Form.{TermForm, RangeForm}
 use Rattle.pb_text_lexer.specs.declared.fault.ReadingRule.TheVariants.{Unexpected, Limit}
 use Rattle.pb_text_lexer.specs.declared.kind.Kind.{Kind}
 use Rattle.pb_text_lexer.specs.declared.kind.Kind.TheVariants as k
 use Rattle.pb_text_lexer.specs.Kinds.{same_kind}
-use Rattle.pb_text_lexer.specs.Steps.{Step, alone, ◌>>=◌, pure, peek, refuse, take_token, expect, connected, chain, conjunction, disjunction, either, unless_next, listed, nothing_between}
+use Rattle.pb_text_lexer.specs.Steps.{Step, alone, ◌>>=◌, pure, peek, refuse, take_token, expect}
+use Rattle.pb_text_lexer.specs.Steps.{connected, chain, conjunction, disjunction, either}
+use Rattle.pb_text_lexer.specs.Steps.{unless_next, listed, nothing_between}
 use Rattle.pb_text_lexer.specs.Tokens.{Tok}
-use Rattle.pb_text_terms.specs.Operators.{connected_by, is_equality, is_order, is_additive, is_times, is_division}
+use Rattle.pb_text_terms.specs.Operators.{connected_by, is_equality, is_order, is_additive}
+use Rattle.pb_text_terms.specs.Operators.{is_times, is_division}
 use Rattle.pb_text_terms.specs.Grammar.{arguments_of}
-use Rattle.pb_text_terms.specs.Reading.{name, is_comma, is_open, placed, argument_list, equated, unary, term, variables}
+use Rattle.pb_text_terms.specs.Reading.{name, is_comma, is_open, placed, argument_list, equated}
+use Rattle.pb_text_terms.specs.Reading.{unary, term, variables}
 use Rattle.pb_text.specs.Reading.{is_name, parameters, sort_parts}
 use Rattle.pb_model_tree.specs.declared.formula.Modality.{Modality}
 use Rattle.pb_model_tree.specs.declared.formula.Modality.TheVariants as modality
-use Rattle.pb_model_tree.specs.Form.{StepSetForm, FormulaForm, AssignmentForm, StepForm, InitialForm, PropertyForm, ModelForm}
+use Rattle.pb_model_tree.specs.Form.{StepSetForm, FormulaForm, AssignmentForm, StepForm}
+use Rattle.pb_model_tree.specs.Form.{InitialForm, PropertyForm, ModelForm}
 use Rattle.pb_model_text.specs.Grammar.{united_by, Scope, atom_of, within}
 
 abbrev pub is_or : Kind → Bool
@@ -35,7 +41,9 @@ is_fixpoint _ = false
 
 -- whether a token would go on with data: a bracket, or an operator of arithmetic or a comparison
 abbrev pub goes_on : Kind → Bool
-goes_on kind = (((is_open kind || (is_times kind || is_division kind)) || is_additive kind) || is_order kind) || is_equality kind
+goes_on kind =
+    (((is_open kind || (is_times kind || is_division kind)) || is_additive kind) || is_order kind)
+    || is_equality kind
 
 -- ---- sets of steps
 
@@ -86,7 +94,8 @@ atom made operand = do
   found ← placed (equated operand)
   pure (made found.0 found.1)
 
-abbrev pub modal : Modality → Kind → Step Tok → Step FormulaForm → Step StepSetForm → Step FormulaForm
+abbrev pub modal :
+    Modality → Kind → Step Tok → Step FormulaForm → Step StepSetForm → Step FormulaForm
 modal modality close enter below sets = do
   open_bracket ← enter
   steps ← sets
@@ -95,7 +104,9 @@ modal modality close enter below sets = do
   pure (FormulaForm.modal modality open_bracket.place steps operand)
 
 -- What a token begins that is no fixpoint. The first step takes a token that opens a level.
-abbrev pub begun : Scope → Step Tok → Step FormulaForm → Step FormulaForm → Step TermForm → Step StepSetForm → Kind → Step FormulaForm
+abbrev pub begun :
+    Scope → Step Tok → Step FormulaForm → Step FormulaForm → Step TermForm → Step StepSetForm →
+    Kind → Step FormulaForm
 begun scope enter below inner operand sets k.Not = do
   sign ← enter
   x ← below
@@ -105,8 +116,10 @@ begun scope enter below inner operand sets k.Open = unless_next goes_on (do
   x ← inner
   close_bracket ← expect k.Close
   pure x)
-begun scope enter below inner operand sets k.OpenSquare = modal modality.Box k.CloseSquare enter below sets
-begun scope enter below inner operand sets k.Less = modal modality.Diamond k.Greater enter below sets
+begun scope enter below inner operand sets k.OpenSquare =
+    modal modality.Box k.CloseSquare enter below sets
+begun scope enter below inner operand sets k.Less =
+    modal modality.Diamond k.Greater enter below sets
 begun scope enter below inner operand sets k.True = truth true
 begun scope enter below inner operand sets k.False = truth false
 begun scope enter below inner operand sets k.Val = unless_next goes_on (do
@@ -138,8 +151,10 @@ fixpoint_by enter body (Some sign) = enter >>= (λ word. binding sign word.place
 abbrev pub fixpoint_over : Step Tok → (List ℕ → Step FormulaForm) → Step FormulaForm
 fixpoint_over enter body = peek >>= (λ kind. fixpoint_by enter body (sign_of kind))
 
-abbrev pub connections : Step Tok → Step FormulaForm → (List ℕ → Step FormulaForm) → Step FormulaForm
-connections enter node body = connected (connected_by FormulaForm.connected) is_fixpoint node (fixpoint_over enter body)
+abbrev pub connections :
+    Step Tok → Step FormulaForm → (List ℕ → Step FormulaForm) → Step FormulaForm
+connections enter node body =
+    connected (connected_by FormulaForm.connected) is_fixpoint node (fixpoint_over enter body)
 
 -- data terms, and the operands that they are made of
 unfoldable pub data_operand : ℕ → Step TermForm
@@ -147,10 +162,13 @@ data_operand depth = unary depth
 
 -- where no level may open, and where one may
 abbrev pub last_node : Scope → Step FormulaForm
-last_node scope = peek >>= begun scope (refuse Limit) (refuse Limit) (refuse Limit) (data_operand 0) (refuse Limit)
+last_node scope =
+    peek
+    >>= begun scope (refuse Limit) (refuse Limit) (refuse Limit) (data_operand 0) (refuse Limit)
 
 abbrev pub node_over : Scope → Step FormulaForm → Step FormulaForm → ℕ → Step FormulaForm
-node_over scope below inner depth = peek >>= begun scope take_token below inner (data_operand (suc depth)) (step_set depth)
+node_over scope below inner depth =
+    peek >>= begun scope take_token below inner (data_operand (suc depth)) (step_set depth)
 
 -- The number is how many levels may still open.
 unfoldable mutual
@@ -161,7 +179,8 @@ unfoldable mutual
   pub formula : Scope → ℕ → Step FormulaForm
   formula scope zero = connections (refuse Limit) (last_node scope) (λ name. refuse Limit)
   formula scope (suc depth) =
-      connections take_token (node_over scope (node scope depth) (formula scope depth) depth) (λ name. formula (within scope name) depth)
+      connections take_token (node_over scope (node scope depth) (formula scope depth) depth)
+      (λ name. formula (within scope name) depth)
 
 -- a fixpoint with its body
 unfoldable pub fixpoint : Scope → ℕ → Step FormulaForm
@@ -174,8 +193,10 @@ primary scope depth = either is_fixpoint (node scope depth) (fixpoint scope dept
 
 -- a chain of the connective, and an operand of one
 abbrev pub level : Connective → Scope → ℕ → Step FormulaForm
-level connective.And scope depth = conjunction (connected_by FormulaForm.connected) (primary scope depth)
-level connective.Or scope depth = disjunction (connected_by FormulaForm.connected) (primary scope depth)
+level connective.And scope depth =
+    conjunction (connected_by FormulaForm.connected) (primary scope depth)
+level connective.Or scope depth =
+    disjunction (connected_by FormulaForm.connected) (primary scope depth)
 level connective.Implies scope depth = formula scope depth
 
 abbrev pub operand : Connective → Scope → ℕ → Step FormulaForm
@@ -193,8 +214,8 @@ unfoldable pub assignment : ℕ → Step AssignmentForm
 assignment depth = do
   variable ← name
   assign ← expect k.Assign
-  value ← term depth
-  pure (record { variable = variable; value = value })
+  value ← placed (term depth)
+  pure (record { variable = variable; place = value.0; value = value.1 })
 
 abbrev pub assignments : ℕ → Step (List AssignmentForm)
 assignments depth = λ s. listed (assignment depth) is_comma take_token (suc (length s.tokens)) s
@@ -240,7 +261,8 @@ unfoldable pub property : ℕ → Step PropertyForm
 property depth = alone (property_parts depth)
 
 abbrev pub properties : ℕ → Step (List PropertyForm)
-properties depth = λ s. listed (property depth) is_property nothing_between (suc (length s.tokens)) s
+properties depth =
+    λ s. listed (property depth) is_property nothing_between (suc (length s.tokens)) s
 
 -- ---- models
 
@@ -255,7 +277,14 @@ model ranges depth = do
   found ← steps depth
   start ← initial depth
   asked ← properties depth
-  pure (record { sorts = sorts; ranges = ranges; variables = state_variables; steps = found; initial = start; properties = asked })
+  pure (record {
+    sorts = sorts;
+    ranges = ranges;
+    variables = state_variables;
+    steps = found;
+    initial = start;
+    properties = asked;
+  })
 
 -- and nothing behind it
 unfoldable pub whole_model : List RangeForm → ℕ → Step ModelForm

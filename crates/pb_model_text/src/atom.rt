@@ -41,8 +41,8 @@ pub fn data_operand(input: &mut Input<'_>, alloc: Global, depth: u32) -> Result<
     unary(input, alloc, depth)
 }
 
-/// A name with its arguments, behind which no operator stands: the variable of a fixpoint around it,
-/// or data.
+/// A name with its arguments, behind which no operator stands: the variable of a fixpoint around
+/// it, or data.
 fn named_atom(names: &[&str], place: Place, instance: Instance) -> Formula
     ensures { formula_form result ≡ grammar.atom_of (names_of names.now) place
         (terms.applied (named instance.name) (argument_forms instance.arguments.items)) }
@@ -63,7 +63,8 @@ pub fn name_atom<'a>(
     scope: Scope<'_, 'a>,
 ) -> Result<Formula, ReadingFault>
     requires { spec.kind input.old ≡ Kind.Name }
-    ensures reads { Gives formula_form (reading.atom (grammar.atom_of (names_of scope.entry.names.now))
+    ensures reads { Gives formula_form (reading.atom
+        (grammar.atom_of (names_of scope.entry.names.now))
         (reading.data_operand scope.entry.depth) input.old) result input.new }
     ensures fewer { OnOk result (length input.new.tokens < length input.old.tokens) }
 {

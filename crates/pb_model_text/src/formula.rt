@@ -8,6 +8,7 @@ ghost use Rattle.pb_text_tree.specs.Form.{chained};
 ghost use Rattle.pb_text_lexer.specs.Grammar.{State};
 ghost use Rattle.pb_text_lexer.specs.Steps as spec;
 ghost use Rattle.pb_text_lexer.specs.Steps.{Gives};
+ghost use Rattle.pb_text_lexer.specs.Tokens.{tok};
 ghost use Rattle.pb_model_tree.specs.Form.{FormulaForm, formula_form};
 ghost use Rattle.pb_model_text.specs.Links.{link_forms};
 ghost use Rattle.pb_model_text.specs.Grammar as grammar;
@@ -22,6 +23,7 @@ use pb_model_tree::{Formula, Link, Modality};
 use pb_text_lexer::fault::{ReadingFault, ReadingRule, Refusal};
 use pb_text_lexer::input::Input;
 use pb_text_lexer::kind::{Kind, same_kind};
+use pb_text_lexer::token::Token;
 use pb_text_terms::operator::{is_connective, symbol};
 use pb_text_tree::{Connective, Name};
 use std::alloc::{AllocError, Global};
@@ -61,10 +63,21 @@ fn unless_going_on(input: &Input<'_>) -> Result<(), Refusal>
     }
 }
 
+/// `)`, behind which data doesn't go on.
+#[inline(never)]
+fn close<'a>(input: &mut Input<'a>) -> Result<Token<'a>, ReadingFault>
+    ensures reads { Gives tok (spec.unless_next reading.goes_on (spec.expect Kind.Close) input.old)
+        result input.new }
+    ensures fewer { OnOk result (length input.new.tokens < length input.old.tokens) }
+{
+    let bracket = input.expect(Kind::Close)?;
+    unless_going_on(input)?;
+    Ok(bracket)
+}
+
 /// `!` and its operand.
 #[cycle(formulas)]
 #[inline(never)]
-#[tactic(auto, unfolding(crate::specs::Reading::node))]
 fn negation<'a>(
     input: &mut Input<'a>,
     alloc: Global,
@@ -86,7 +99,6 @@ fn negation<'a>(
 /// A formula in brackets.
 #[cycle(formulas)]
 #[inline(never)]
-#[tactic(auto, unfolding(crate::specs::Reading::node))]
 fn bracketed<'a>(
     input: &mut Input<'a>,
     alloc: Global,
@@ -101,15 +113,13 @@ fn bracketed<'a>(
     input.enter(depth)?;
     let depth = depth - 1;
     let inner = formula(input, alloc, Scope { names, depth })?;
-    input.expect(Kind::Close)?;
-    unless_going_on(input)?;
+    close(input)?;
     Ok(inner)
 }
 
 /// `[A]` and its operand.
 #[cycle(formulas)]
 #[inline(never)]
-#[tactic(auto, unfolding(crate::specs::Reading::node))]
 fn necessity<'a>(
     input: &mut Input<'a>,
     alloc: Global,
@@ -138,7 +148,6 @@ fn necessity<'a>(
 /// `<A>` and its operand.
 #[cycle(formulas)]
 #[inline(never)]
-#[tactic(auto, unfolding(crate::specs::Reading::node))]
 fn possibility<'a>(
     input: &mut Input<'a>,
     alloc: Global,
@@ -307,6 +316,32 @@ fn operand<'a>(
     }
 }
 
+/// The links of the chain of the connective that a first operand begins.
+#[cycle(formulas)]
+#[inline(never)]
+fn links_behind<'a>(
+    input: &mut Input<'a>,
+    alloc: Global,
+    connective: Connective,
+    scope: Scope<'_, 'a>,
+) -> Result<Vec<Link>, ReadingFault>
+    ensures reads { (s : State) (x : FormulaForm) → reading.operand connective
+        (names_of scope.entry.names.now) scope.entry.depth s ≡ Ok (x, input.old)
+        → length input.old.tokens < length s.tokens
+        → Gives (λ v. chained (FormulaForm.connected connective) x (link_forms v.items))
+        (reading.level connective (names_of scope.entry.names.now) scope.entry.depth s)
+        result input.new }
+    ensures fewer { OnOk result (length input.new.tokens ≤ length input.old.tokens) }
+{
+    let mut links = Vec::with_capacity(alloc, 1)?;
+    'links: while same_kind(input.kind(), symbol(connective)) {
+        let place = input.take_operator()?.place;
+        let operand = operand(input, alloc, connective, scope)?;
+        links.push(Link { place, operand })?;
+    }
+    Ok(links)
+}
+
 /// The chain of the connective that a first operand begins.
 #[cycle(formulas)]
 #[inline(never)]
@@ -324,12 +359,7 @@ fn chain<'a>(
         scope.entry.depth s) result input.new }
     ensures fewer { OnOk result (length input.new.tokens ≤ length input.old.tokens) }
 {
-    let mut links = Vec::with_capacity(alloc, 1)?;
-    'links: while same_kind(input.kind(), symbol(connective)) {
-        let place = input.take_operator()?.place;
-        let operand = operand(input, alloc, connective, scope)?;
-        links.push(Link { place, operand })?;
-    }
+    let links = links_behind(input, alloc, connective, scope)?;
     Ok(joined(alloc, connective, first, links)?)
 }
 

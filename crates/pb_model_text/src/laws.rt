@@ -3,8 +3,8 @@
 
 ghost use Rattle.pb_model_text.specs.Parsing.{AtMostOneReading};
 
-/// The text of a model has at most one reading: two readings of the same bytes, each within limits of
-/// its own, are one tree with the same places. So the grammar is unambiguous.
+/// The text of a model has at most one reading: two readings of the same bytes, each within limits
+/// of its own, are one tree with the same places. So the grammar is unambiguous.
 pub fn readings_are_unique()
     ensures { AtMostOneReading }
 {}

@@ -2,8 +2,8 @@
 //!
 //! `specs/Grammar.antt` is the grammar, a relation between tokens and what they say.
 //! `specs/Reading.antt` is the same as a function, which the code computes; no public clause cites
-//! it. `specs/Parsing.antt` has what `parse_model` ensures. Sorts, variables and data terms are read
-//! as in texts, by the same functions, and errors have the numbers of texts.
+//! it. `specs/Parsing.antt` has what `parse_model` ensures. Sorts, variables and data terms are
+//! read as in texts, by the same functions, and errors have the numbers of texts.
 #![tactic(auto)]
 
 mod atom;

@@ -14,6 +14,7 @@ use pb_text_lexer::input::Input;
 use pb_text_lexer::kind::{Kind, same_kind};
 use pb_text_terms::term::term;
 use pb_text_terms::variable::name;
+use pb_text_tree::Argument;
 use std::alloc::Global;
 
 /// A state variable, `:=` and the term whose value it gets.
@@ -25,7 +26,9 @@ fn assignment(input: &mut Input<'_>, alloc: Global) -> Result<Assignment, Readin
 {
     let variable = name(input, alloc)?;
     input.expect(Kind::Assign)?;
-    let value = term(input, alloc, DEPTH_LIMIT)?;
+    let place = input.place();
+    let term = term(input, alloc, DEPTH_LIMIT)?;
+    let value = Argument { place, term };
     Ok(Assignment { variable, value })
 }
 

@@ -1,5 +1,5 @@
-//! Reads sets of steps, by recursive descent. Sets with `||` between them are read by a loop, so that
-//! the recursion is as deep as brackets and `!` nest.
+//! Reads sets of steps, by recursive descent. Sets with `||` between them are read by a loop, so
+//! that the recursion is as deep as brackets and `!` nest.
 
 ghost use Rattle.std.specs.Prelude.{◌≡◌, ◌<◌, length, OnOk, IfOk};
 ghost use Rattle.pb_text_tree.specs.Form.{chained};

@@ -18,10 +18,11 @@ use std::alloc::Global;
 /// Range lines may stand anywhere in it; the tree has them in order.
 ///
 /// A text that says nothing is refused at its least fault, by the rules of texts:
-/// `TextRule::UnknownByte` (P01), `TextRule::LargeNumber` (P03) or `TextRule::RangeLine` (P05) where a
-/// token should stand and none does, `TextRule::UnexpectedToken` (P02) at the first token with which
-/// no model goes on, `TextRule::LimitExceeded` (P04) at a token that goes past a limit. Lines and
-/// columns count from 1, columns in bytes; the end of the text stands where its next byte would.
+/// `TextRule::UnknownByte` (P01), `TextRule::LargeNumber` (P03) or `TextRule::RangeLine` (P05)
+/// where a token should stand and none does, `TextRule::UnexpectedToken` (P02) at the first token
+/// with which no model goes on, `TextRule::LimitExceeded` (P04) at a token that goes past a limit.
+/// Lines and columns count from 1, columns in bytes; the end of the text stands where its next byte
+/// would.
 pub fn parse_model(alloc: Global, bytes: &[u8]) -> Result<Model, TextError>
     requires { length bytes.now ≤ 67108864 }
     // It is what the bytes say, within the limits, places included.
@@ -33,8 +34,8 @@ pub fn parse_model(alloc: Global, bytes: &[u8]) -> Result<Model, TextError>
     ensures refused { IfErr result (λ e. NoReading bytes.now e) }
     // The fault stands at its place, and nothing that is no token stands before it. Some model
     // begins with the tokens before it, so P02 stands at the first with which none goes on; and no
-    // token before it is past a limit. At P04 no model within the limits begins with that token too,
-    // so it is the first past a limit; with one level and one operator more some model does.
+    // token before it is past a limit. At P04 no model within the limits begins with that token
+    // too, so it is the first past a limit; with one level and one operator more some model does.
     ensures stands { IfErr result (λ e. IsFirstFault bytes.now e) }
 {
     let mut input = Input::new(Language::Model, bytes, OPERATOR_LIMIT);

@@ -1,7 +1,8 @@
 -- The names of a translation's equations: that of a fixpoint has the name of its variable, that of
 -- an operand the name of the fixpoint around it, and X where there is none. Where a name is taken,
 -- primes stand behind it.
-use Rattle.std.specs.Prelude.{ℕ, zero, suc, ◌-◌, max, Bool, true, false, not, if◌then◌else◌, List, [], ◌∷◌, ◌++◌, length, codes}
+use Rattle.std.specs.Prelude.{ℕ, zero, suc, ◌-◌, max, Bool, true, false, not, if◌then◌else◌, List}
+use Rattle.std.specs.Prelude.{[], ◌∷◌, ◌++◌, length, codes}
 use Rattle.std.specs.List.{list_any}
 use Rattle.pb_text_meaning.specs.Syntax.{Name, same_name, Spec}
 use Rattle.pb_model_meaning.specs.Syntax.{Formula, Model}

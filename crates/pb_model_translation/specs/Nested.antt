@@ -9,7 +9,8 @@ use Rattle.pb_text_meaning.specs.Meaning.{assigned, equation_of}
 use Rattle.pb_model_meaning.specs.Syntax.{Formula, Model}
 use Rattle.pb_model_meaning.specs.Steps.{State, is_state}
 use Rattle.pb_model_meaning.specs.Satisfaction.{Valuation, satisfying}
-use Rattle.pb_model_translation.specs.Translation.{equation_count, Callee, Constant, Numbered, Scope, callee_of, text_of, right_side, equations}
+use Rattle.pb_model_translation.specs.Translation.{equation_count, Callee, Constant, Numbered}
+use Rattle.pb_model_translation.specs.Translation.{Scope, callee_of, text_of, right_side, equations}
 use Rattle.pb_model_translation.specs.Apart.{HasNamesApart, AreNamesApart}
 
 -- an equation at a state

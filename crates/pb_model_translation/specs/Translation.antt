@@ -4,7 +4,8 @@
 --
 -- Each fixpoint has an equation, the outermost first, and so has each operand of a modality that is
 -- none of `true`, `false`, a variable and a fixpoint. The state is the parameters of each.
-use Rattle.std.specs.Prelude.{ℕ, suc, ◌+◌, Bool, true, false, not, if◌then◌else◌, List, [], ◌∷◌, map, Option, Some, None}
+use Rattle.std.specs.Prelude.{ℕ, suc, ◌+◌, Bool, true, false, not, if◌then◌else◌, List, [], ◌∷◌}
+use Rattle.std.specs.Prelude.{map, Option, Some, None}
 use Rattle.pb_fixpoint.specs.declared.Sign.{Sign}
 use Rattle.pb_fixpoint.specs.declared.Sign.TheVariants.{Nu}
 use Rattle.pb_text_tree.specs.declared.operator.Quantifier.{Quantifier}

@@ -26,7 +26,8 @@ fn push_equation(
     sign: Sign,
     body: &Formula,
 ) -> Result<(), AllocError>
-    requires { suc (vec_len equations.old) + translation.equation_count (formula_of body.now) < 2 ^ 64 }
+    requires { suc (vec_len equations.old) + translation.equation_count (formula_of body.now)
+        < 2 ^ 64 }
     ensures added { OnOk result (equations_of equations.new.items ≡ equations_of equations.old.items
         ++ (translation.equation (model_in context.now) (names_by context.now) sign
         (vec_len equations.old) (translation.right_side (model_in context.now)
@@ -36,9 +37,9 @@ fn push_equation(
 {
     let number = equations.len();
     let place = context.model.initial.place;
-    let right = right_side(context, scope, number + 1, body)?;
     let name = copy_name_at(context.alloc, context.names, number, place)?;
     let parameters = copy_variables(context.alloc, &context.model.state)?;
+    let right = right_side(context, scope, number + 1, body)?;
     equations.push(Equation {
         sign,
         name,
@@ -57,7 +58,8 @@ fn push_equations<'a>(
     sign: Sign,
     formula: &'a Formula,
 ) -> Result<(), AllocError>
-    requires { vec_len equations.old + translation.equation_count (formula_of formula.now) < 2 ^ 64 }
+    requires { vec_len equations.old + translation.equation_count (formula_of formula.now)
+        < 2 ^ 64 }
     ensures added { OnOk result (equations_of equations.new.items ≡ equations_of equations.old.items
         ++ translation.equations (model_in context.now) (names_by context.now) (scope_of scope.now)
         sign (vec_len equations.old) (formula_of formula.now) []) }

@@ -4,12 +4,17 @@ use Rattle.std.specs.Prelude.{Bool, List, [], ◌∷◌, map}
 use Rattle.pb_fixpoint.specs.declared.Sign.{Sign}
 use Rattle.pb_text_tree.specs.declared.place.Place.{Place}
 use Rattle.pb_text_tree.specs.declared.operator.Connective.{Connective}
-use Rattle.pb_text_tree.specs.Form.{Named, VariableForm, TermForm, ArgumentForms, SortDeclarationForm, RangeForm, chained, named, term_form, variable_forms, argument_forms, sort_declaration_form, range_form}
+use Rattle.pb_text_tree.specs.Form.{Named, VariableForm, TermForm, ArgumentForms}
+use Rattle.pb_text_tree.specs.Form.{SortDeclarationForm, RangeForm, chained, named, term_form}
+use Rattle.pb_text_tree.specs.Form.{variable_forms, argument_forms, sort_declaration_form}
+use Rattle.pb_text_tree.specs.Form.{range_form}
 use Rattle.pb_model_tree.specs.declared.step_set.StepSet as step_set
-use Rattle.pb_model_tree.specs.declared.step_set.StepSet.{StepSet, Row_of-StepSetLink, end_of-StepSetLink, more_of-StepSetLink}
+use Rattle.pb_model_tree.specs.declared.step_set.StepSet.{StepSet, Row_of-StepSetLink}
+use Rattle.pb_model_tree.specs.declared.step_set.StepSet.{end_of-StepSetLink, more_of-StepSetLink}
 use Rattle.pb_model_tree.specs.declared.formula.Modality.{Modality}
 use Rattle.pb_model_tree.specs.declared.formula.Formula as formula
-use Rattle.pb_model_tree.specs.declared.formula.Formula.{Formula, Row_of-Link, end_of-Link, more_of-Link}
+use Rattle.pb_model_tree.specs.declared.formula.Formula.{Formula, Row_of-Link, end_of-Link}
+use Rattle.pb_model_tree.specs.declared.formula.Formula.{more_of-Link}
 use Rattle.pb_model_tree.specs.declared.step.Assignment as declared_assignment
 use Rattle.pb_model_tree.specs.declared.step.Step as declared_step
 use Rattle.pb_model_tree.specs.declared.model.InitialState as declared_initial
@@ -36,8 +41,10 @@ pub data FormulaForm : Type 0 where
 
 -- ---- models
 
+-- what is assigned, with the place of its first token
 pub record AssignmentForm : Type 0 where
   pub variable : Named
+  pub place : Place
   pub value : TermForm
 
 pub record StepForm : Type 0 where
@@ -97,7 +104,11 @@ abbrev mutual
   links_in (more_of-Link place operand row) = (place, formula_form operand) ∷ links_in row
 
 abbrev pub assignment_form : declared_assignment.Assignment → AssignmentForm
-assignment_form a = record { variable = named a.variable; value = term_form a.value }
+assignment_form a = record {
+  variable = named a.variable;
+  place = a.value.place;
+  value = term_form a.value.term;
+}
 
 abbrev pub step_form : declared_step.Step → StepForm
 step_form s = record {

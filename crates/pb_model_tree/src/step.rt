@@ -1,12 +1,12 @@
 //! Guarded steps: how a model goes from one state to the next.
 
-use pb_text_tree::{Name, Term, Variables};
+use pb_text_tree::{Argument, Name, Term, Variables};
 
-/// A state variable, and the term whose value in the old state it gets.
+/// A state variable, and the term whose value in the old state it gets, with its place.
 #[derive(Debug, Drop)]
 pub struct Assignment {
     pub variable: Name,
-    pub value: Term,
+    pub value: Argument,
 }
 
 /// A step: for values of its own variables at which the guard is true, all assignments at once. A

@@ -1,19 +1,20 @@
 use Rattle.std.specs.Prelude.{string_bytes}
-use Rattle.std.proofs.Common.{rules, arith, ℕ, List, sym, ap, subst, ◌≡◌, ◌<◌, ◌-◌, length, true, false, vec_len, ◌∙◌, Ok}
+use Rattle.std.proofs.Common.{rules, arith, ℕ, List, refl, sym, ap, subst, ◌≡◌, ◌<◌, ◌-◌, length, true, false, vec_len, ◌∙◌, Ok}
 use Rattle.std.proofs.lemmas.Result.{err_from_is_err_and}
 use Rattle.pb_text_tree.specs.declared.operator.Connective.TheVariants.{And, Or}
-use Rattle.pb_model_tree.specs.Form.{FormulaForm, formula_form}
+use Rattle.pb_model_tree.specs.declared.formula.Modality.TheVariants as modality
+use Rattle.pb_model_tree.specs.Form.{FormulaForm, formula_form, step_set_form}
 use Rattle.pb_model_text.specs.Links.{link_forms}
 use Rattle.pb_text_lexer.specs.Kinds.{same_kind}
 use Rattle.pb_text_lexer.specs.declared.kind.Kind.TheVariants as k
-use Rattle.pb_text_lexer.specs.Steps.{Outcome, Gives, kind}
+use Rattle.pb_text_lexer.specs.Steps.{Outcome, Gives, kind, expect, unless_next}
 use Rattle.pb_text_lexer.specs.Tokens.{tok}
 use Rattle.pb_text_lexer.proofs.LoopLemmas.{resumed-first, resumed-first-fails, resumed-end, resumed-more, resumed-operator-fails, resumed-operand-fails, fails-as}
 use Rattle.pb_text_terms.specs.Operators.{symbol, is_connective}
 use Rattle.pb_text_terms.proofs.ReadLemmas.{on-fewer}
 use Rattle.pb_model_text.specs.Grammar.{within}
-use Rattle.pb_model_text.specs.Reading.{fixpoint, node, names_of, primary, formula, operand, level}
-use Rattle.pb_model_text.proofs.FormulaLemmas.{node-at, fixpoint-name-fails, fixpoint-period-fails, fixpoint-body-fails, fixpoint-read, level-chain, links-last, node-other, level-alone-or-fails, conjunction-fails, disjunction-fails, primary-fails, primary-alone-or-fails}
+use Rattle.pb_model_text.specs.Reading.{fixpoint, node, names_of, primary, formula, operand, level, step_set, goes_on}
+use Rattle.pb_model_text.proofs.FormulaLemmas.{node-at, node-enter-fails, negation-fails, negation-read, bracketed-fails, bracketed-close-fails, bracketed-read, modal-set-fails, modal-close-fails, modal-operand-fails, modal-read, fixpoint-name-fails, fixpoint-period-fails, fixpoint-body-fails, fixpoint-read, level-chain, links-last, node-other, level-alone-or-fails, conjunction-fails, disjunction-fails, primary-fails, primary-alone-or-fails}
 use Rattle.pb_model_text.proofs.formula.+formulas.Goals as goal
 
 pub node-returns-in_default : goal.node-returns-in_default
@@ -32,51 +33,59 @@ level-returns-in_err-first-clause-reads t c =
     (λ bad e. level-chain c.args.connective (names_of c.args.scope.names.now) c.args.scope.depth c.args.input.now
     ∙ resumed-first-fails (symbol c.args.connective) (FormulaForm.connected c.args.connective) (operand c.args.connective (names_of c.args.scope.names.now) c.args.scope.depth) (length c.args.input.now.tokens) c.args.input.now bad e) c.in_err-first.ensures.reads)
 
-pub chain-links-init : goal.chain-links-init
-chain-links-init t c = record {
-  reads = λ s h fewer. rw (c.in_ok-links.ensures.items, c.in_ok-links.ensures.len) (level-chain c.args.connective (names_of c.args.scope.names.now) c.args.scope.depth s
-      ∙ resumed-first (symbol c.args.connective) (FormulaForm.connected c.args.connective) (operand c.args.connective (names_of c.args.scope.names.now) c.args.scope.depth) (length s.tokens) s c.args.input.now (formula_form c.args.first) h);
-  room = omega (arith, c.in_ok-links.ensures.len);
-}
-
 pub level-returns-then-not-same_kind-clause-reads : goal.level-returns-then-not-same_kind-clause-reads
 level-returns-then-not-same_kind-clause-reads t c =
     let other : same_kind (kind c.operand-first.new.input) (symbol c.args.connective) ≡ false = search rules in
     level-alone-or-fails c.args.connective (names_of c.args.scope.names.now) c.args.scope.depth c.args.input.now c.operand-first.new.input c.operand-first.result c.operand-first.ensures.reads other
 
-pub chain-returns-in_err-place-clause-reads : goal.chain-returns-in_err-place-clause-reads
-chain-returns-in_err-place-clause-reads t c s h fewer =
+pub links_behind-links-init : goal.links_behind-links-init
+links_behind-links-init t c = record {
+  reads = λ s x h fewer. rw (c.in_ok-links.ensures.items, c.in_ok-links.ensures.len) (level-chain c.args.connective (names_of c.args.scope.names.now) c.args.scope.depth s
+      ∙ resumed-first (symbol c.args.connective) (FormulaForm.connected c.args.connective) (operand c.args.connective (names_of c.args.scope.names.now) c.args.scope.depth) (length s.tokens) s c.args.input.now x h);
+  room = omega (arith, c.in_ok-links.ensures.len);
+}
+
+pub links_behind-returns-in_err-place-clause-reads : goal.links_behind-returns-in_err-place-clause-reads
+links_behind-returns-in_err-place-clause-reads t c s x h fewer =
     let p = err_from_is_err_and c.from_residual-in_err-place.result c.from_residual-in_err-place.ensures.1 in
     let same : same_kind (kind c.links.input) (symbol c.args.connective) ≡ true = search rules in
-    rw (p.1, p.2) (c.links.invariant.reads s h fewer ∙ resumed-operator-fails (symbol c.args.connective) (FormulaForm.connected c.args.connective) (operand c.args.connective (names_of c.args.scope.names.now) c.args.scope.depth)
+    rw (p.1, p.2) (c.links.invariant.reads s x h fewer ∙ resumed-operator-fails (symbol c.args.connective) (FormulaForm.connected c.args.connective) (operand c.args.connective (names_of c.args.scope.names.now) c.args.scope.depth)
     (length s.tokens - vec_len c.links.links) _ (link_forms c.links.links.items) c.links.input c.in_err-place.field-0.0 same c.in_err-place.ensures.reads)
 
-pub chain-returns-in_err-operand-clause-reads : goal.chain-returns-in_err-operand-clause-reads
-chain-returns-in_err-operand-clause-reads t c s h fewer =
+pub links_behind-returns-in_err-operand-clause-reads : goal.links_behind-returns-in_err-operand-clause-reads
+links_behind-returns-in_err-operand-clause-reads t c s x h fewer =
     let p = err_from_is_err_and c.from_residual-in_err-operand.result c.from_residual-in_err-operand.ensures.1 in
     let same : same_kind (kind c.links.input) (symbol c.args.connective) ≡ true = search rules in
     let some : 0 < length s.tokens - vec_len c.links.links = omega arith in
     rw (p.1, p.2) (fails-as (operand c.args.connective (names_of c.args.scope.names.now) c.args.scope.depth c.take_operator.new.self) (level c.args.connective (names_of c.args.scope.names.now) c.args.scope.depth s) c.in_err-operand.field-0.0
-    (λ bad e. c.links.invariant.reads s h fewer ∙ resumed-operand-fails (symbol c.args.connective) (FormulaForm.connected c.args.connective) (operand c.args.connective (names_of c.args.scope.names.now) c.args.scope.depth)
+    (λ bad e. c.links.invariant.reads s x h fewer ∙ resumed-operand-fails (symbol c.args.connective) (FormulaForm.connected c.args.connective) (operand c.args.connective (names_of c.args.scope.names.now) c.args.scope.depth)
     (length s.tokens - vec_len c.links.links) _ (link_forms c.links.links.items)
     c.links.input c.take_operator.new.self (tok c.in_ok-place.field-0) bad some same c.in_ok-place.ensures.reads e) c.in_err-operand.ensures.reads)
 
-pub chain-links-preserved : goal.chain-links-preserved
-chain-links-preserved t c =
+pub links_behind-links-preserved : goal.links_behind-links-preserved
+links_behind-links-preserved t c =
     let same : same_kind (kind c.links.input) (symbol c.args.connective) ≡ true = search rules in
     record {
-      reads = λ s h fewer. rw (c.in_ok-push.ensures.items, links-last) (c.links.invariant.reads s h fewer ∙ resumed-more (symbol c.args.connective) (FormulaForm.connected c.args.connective) (operand c.args.connective (names_of c.args.scope.names.now) c.args.scope.depth) (length s.tokens - vec_len c.links.links)
+      reads = λ s x h fewer. rw (c.in_ok-push.ensures.items, links-last) (c.links.invariant.reads s x h fewer ∙ resumed-more (symbol c.args.connective) (FormulaForm.connected c.args.connective) (operand c.args.connective (names_of c.args.scope.names.now) c.args.scope.depth) (length s.tokens - vec_len c.links.links)
           (length s.tokens - vec_len c.push.new.self) _ (link_forms c.links.links.items) c.links.input c.take_operator.new.self c.operand.new.input
           (tok c.in_ok-place.field-0) (formula_form c.in_ok-operand.operand) (omega (arith, c.in_ok-push.ensures.len, c.links.invariant.room)) same c.in_ok-place.ensures.reads c.in_ok-operand.ensures.reads);
       room = omega (arith, c.in_ok-place.ensures.fewer, c.in_ok-operand.ensures.fewer, c.in_ok-push.ensures.len);
     }
 
-pub chain-returns-clause-reads : goal.chain-returns-clause-reads
-chain-returns-clause-reads t c s h fewer =
+pub links_behind-returns-clause-reads : goal.links_behind-returns-clause-reads
+links_behind-returns-clause-reads t c s x h fewer =
     let other : same_kind (kind c.links.input) (symbol c.args.connective) ≡ false = search rules in
-    let end = resumed-end (symbol c.args.connective) (FormulaForm.connected c.args.connective) (operand c.args.connective (names_of c.args.scope.names.now) c.args.scope.depth)
-    (length s.tokens - vec_len c.links.links) _ (link_forms c.links.links.items) c.links.input other in
-    rw c.in_ok-joined.ensures (c.links.invariant.reads s h fewer ∙ end)
+    c.links.invariant.reads s x h fewer ∙ resumed-end (symbol c.args.connective) (FormulaForm.connected c.args.connective) (operand c.args.connective (names_of c.args.scope.names.now) c.args.scope.depth)
+    (length s.tokens - vec_len c.links.links) _ (link_forms c.links.links.items) c.links.input other
+
+pub chain-returns-in_err-links-clause-reads : goal.chain-returns-in_err-links-clause-reads
+chain-returns-in_err-links-clause-reads t c s h fewer =
+    let p = err_from_is_err_and c.from_residual.result c.from_residual.ensures.1 in
+    rw (p.1, p.2) (fails-as (level c.args.connective (names_of c.args.scope.names.now) c.args.scope.depth s) (level c.args.connective (names_of c.args.scope.names.now) c.args.scope.depth s) c.in_err-links.field-0.0
+    (λ bad e. e) (c.in_err-links.ensures.reads s (formula_form c.args.first) h fewer))
+
+pub chain-returns-clause-reads : goal.chain-returns-clause-reads
+chain-returns-clause-reads t c s h fewer = rw c.in_ok-joined.ensures (c.in_ok-links.ensures.reads s (formula_form c.args.first) h fewer)
 
 pub level-returns-clause-reads : goal.level-returns-clause-reads
 level-returns-clause-reads t c = c.chain.ensures.reads c.args.input.now c.in_ok-first.ensures.reads c.in_ok-first.ensures.fewer
@@ -127,6 +136,109 @@ formula-returns-clause-reads t c = c.connectives_behind.ensures.reads c.args.inp
 
 pub formula-returns-clause-fewer : goal.formula-returns-clause-fewer
 formula-returns-clause-fewer t c = on-fewer c.connectives_behind.result _ _ _ c.connectives_behind.ensures.fewer c.in_ok-first.ensures.fewer
+
+pub negation-returns-in_err-place-clause-reads : goal.negation-returns-in_err-place-clause-reads
+negation-returns-in_err-place-clause-reads t c =
+    let p = err_from_is_err_and c.from_residual.result c.from_residual.ensures.1 in
+    rw (p.1, p.2) (node-enter-fails (names_of c.args.scope.names.now) c.args.scope.depth c.args.input.now k.Not refl c.requires c.in_err-place.field-0.0 c.in_err-place.ensures.reads)
+
+pub negation-returns-in_err-operand-clause-reads : goal.negation-returns-in_err-operand-clause-reads
+negation-returns-in_err-operand-clause-reads t c =
+    let p = err_from_is_err_and c.from_residual-in_err-operand.result c.from_residual-in_err-operand.ensures.1 in
+    rw (p.1, p.2) (fails-as (node (names_of c.args.scope.names.now) (c.args.scope.depth - 1) c.enter.new.self) (node (names_of c.args.scope.names.now) c.args.scope.depth c.args.input.now) c.in_err-operand.field-0.0
+    (λ bad e. negation-fails (names_of c.args.scope.names.now) c.args.scope.depth c.args.input.now c.enter.new.self (tok c.in_ok-place.field-0) c.in_ok-place.ensures.reads c.in_ok-place.ensures.deeper c.requires bad e) c.in_err-operand.ensures.reads)
+
+pub negation-returns-clause-reads : goal.negation-returns-clause-reads
+negation-returns-clause-reads t c =
+    let operand : c.in_ok-operand-2.operand.value ≡ c.in_ok-operand.operand = search rules in
+    negation-read (names_of c.args.scope.names.now) c.args.scope.depth c.args.input.now c.enter.new.self (tok c.in_ok-place.field-0) c.in_ok-place.ensures.reads c.in_ok-place.ensures.deeper c.requires (formula_form c.in_ok-operand.operand) c.node.new.input c.in_ok-operand.ensures.reads
+    ∙ ap (λ v. Ok (FormulaForm.negation c.in_ok-place.field-0.place (formula_form v), c.node.new.input)) (sym operand)
+
+pub necessity-returns-in_err-place-clause-reads : goal.necessity-returns-in_err-place-clause-reads
+necessity-returns-in_err-place-clause-reads t c =
+    let p = err_from_is_err_and c.from_residual.result c.from_residual.ensures.1 in
+    rw (p.1, p.2) (node-enter-fails (names_of c.args.scope.names.now) c.args.scope.depth c.args.input.now k.OpenSquare refl c.requires c.in_err-place.field-0.0 c.in_err-place.ensures.reads)
+
+pub necessity-returns-in_err-steps-clause-reads : goal.necessity-returns-in_err-steps-clause-reads
+necessity-returns-in_err-steps-clause-reads t c =
+    let p = err_from_is_err_and c.from_residual-in_err-steps.result c.from_residual-in_err-steps.ensures.1 in
+    rw (p.1, p.2) (fails-as (step_set (c.args.scope.depth - 1) c.enter.new.self) (node (names_of c.args.scope.names.now) c.args.scope.depth c.args.input.now) c.in_err-steps.field-0.0
+    (λ bad e. modal-set-fails (names_of c.args.scope.names.now) c.args.scope.depth c.args.input.now c.enter.new.self (tok c.in_ok-place.field-0) c.in_ok-place.ensures.reads c.in_ok-place.ensures.deeper modality.Box k.CloseSquare (node-at (names_of c.args.scope.names.now) c.args.scope.depth c.args.input.now k.OpenSquare c.requires) bad e) c.in_err-steps.ensures.reads)
+
+pub necessity-returns-in_err-expect-clause-reads : goal.necessity-returns-in_err-expect-clause-reads
+necessity-returns-in_err-expect-clause-reads t c =
+    let p = err_from_is_err_and c.from_residual-in_err-expect.result c.from_residual-in_err-expect.ensures.1 in
+    rw (p.1, p.2) (modal-close-fails (names_of c.args.scope.names.now) c.args.scope.depth c.args.input.now c.enter.new.self (tok c.in_ok-place.field-0) c.in_ok-place.ensures.reads c.in_ok-place.ensures.deeper modality.Box k.CloseSquare (node-at (names_of c.args.scope.names.now) c.args.scope.depth c.args.input.now k.OpenSquare c.requires)
+    (step_set_form c.in_ok-steps.steps) c.step_set.new.input c.in_ok-steps.ensures.reads c.in_err-expect.field-0.0 c.in_err-expect.ensures.reads)
+
+pub necessity-returns-in_err-operand-clause-reads : goal.necessity-returns-in_err-operand-clause-reads
+necessity-returns-in_err-operand-clause-reads t c =
+    let p = err_from_is_err_and c.from_residual-in_err-operand.result c.from_residual-in_err-operand.ensures.1 in
+    rw (p.1, p.2) (fails-as (node (names_of c.args.scope.names.now) (c.args.scope.depth - 1) c.expect.new.self) (node (names_of c.args.scope.names.now) c.args.scope.depth c.args.input.now) c.in_err-operand.field-0.0
+    (λ bad e. modal-operand-fails (names_of c.args.scope.names.now) c.args.scope.depth c.args.input.now c.enter.new.self (tok c.in_ok-place.field-0) c.in_ok-place.ensures.reads c.in_ok-place.ensures.deeper modality.Box k.CloseSquare (node-at (names_of c.args.scope.names.now) c.args.scope.depth c.args.input.now k.OpenSquare c.requires)
+    (step_set_form c.in_ok-steps.steps) c.step_set.new.input c.in_ok-steps.ensures.reads (tok c.in_ok-expect.field-0) c.expect.new.self c.in_ok-expect.ensures.reads bad e) c.in_err-operand.ensures.reads)
+
+pub necessity-returns-clause-reads : goal.necessity-returns-clause-reads
+necessity-returns-clause-reads t c =
+    let operand : c.in_ok-operand-2.operand.value ≡ c.in_ok-operand.operand = search rules in
+    modal-read (names_of c.args.scope.names.now) c.args.scope.depth c.args.input.now c.enter.new.self (tok c.in_ok-place.field-0) c.in_ok-place.ensures.reads c.in_ok-place.ensures.deeper modality.Box k.CloseSquare (node-at (names_of c.args.scope.names.now) c.args.scope.depth c.args.input.now k.OpenSquare c.requires)
+    (step_set_form c.in_ok-steps.steps) c.step_set.new.input c.in_ok-steps.ensures.reads (tok c.in_ok-expect.field-0) c.expect.new.self c.in_ok-expect.ensures.reads
+    (formula_form c.in_ok-operand.operand) c.node.new.input c.in_ok-operand.ensures.reads
+    ∙ ap (λ v. Ok (FormulaForm.modal modality.Box c.in_ok-place.field-0.place (step_set_form c.in_ok-steps.steps) (formula_form v), c.node.new.input)) (sym operand)
+
+pub possibility-returns-in_err-place-clause-reads : goal.possibility-returns-in_err-place-clause-reads
+possibility-returns-in_err-place-clause-reads t c =
+    let p = err_from_is_err_and c.from_residual.result c.from_residual.ensures.1 in
+    rw (p.1, p.2) (node-enter-fails (names_of c.args.scope.names.now) c.args.scope.depth c.args.input.now k.Less refl c.requires c.in_err-place.field-0.0 c.in_err-place.ensures.reads)
+
+pub possibility-returns-in_err-steps-clause-reads : goal.possibility-returns-in_err-steps-clause-reads
+possibility-returns-in_err-steps-clause-reads t c =
+    let p = err_from_is_err_and c.from_residual-in_err-steps.result c.from_residual-in_err-steps.ensures.1 in
+    rw (p.1, p.2) (fails-as (step_set (c.args.scope.depth - 1) c.enter.new.self) (node (names_of c.args.scope.names.now) c.args.scope.depth c.args.input.now) c.in_err-steps.field-0.0
+    (λ bad e. modal-set-fails (names_of c.args.scope.names.now) c.args.scope.depth c.args.input.now c.enter.new.self (tok c.in_ok-place.field-0) c.in_ok-place.ensures.reads c.in_ok-place.ensures.deeper modality.Diamond k.Greater (node-at (names_of c.args.scope.names.now) c.args.scope.depth c.args.input.now k.Less c.requires) bad e) c.in_err-steps.ensures.reads)
+
+pub possibility-returns-in_err-expect-clause-reads : goal.possibility-returns-in_err-expect-clause-reads
+possibility-returns-in_err-expect-clause-reads t c =
+    let p = err_from_is_err_and c.from_residual-in_err-expect.result c.from_residual-in_err-expect.ensures.1 in
+    rw (p.1, p.2) (modal-close-fails (names_of c.args.scope.names.now) c.args.scope.depth c.args.input.now c.enter.new.self (tok c.in_ok-place.field-0) c.in_ok-place.ensures.reads c.in_ok-place.ensures.deeper modality.Diamond k.Greater (node-at (names_of c.args.scope.names.now) c.args.scope.depth c.args.input.now k.Less c.requires)
+    (step_set_form c.in_ok-steps.steps) c.step_set.new.input c.in_ok-steps.ensures.reads c.in_err-expect.field-0.0 c.in_err-expect.ensures.reads)
+
+pub possibility-returns-in_err-operand-clause-reads : goal.possibility-returns-in_err-operand-clause-reads
+possibility-returns-in_err-operand-clause-reads t c =
+    let p = err_from_is_err_and c.from_residual-in_err-operand.result c.from_residual-in_err-operand.ensures.1 in
+    rw (p.1, p.2) (fails-as (node (names_of c.args.scope.names.now) (c.args.scope.depth - 1) c.expect.new.self) (node (names_of c.args.scope.names.now) c.args.scope.depth c.args.input.now) c.in_err-operand.field-0.0
+    (λ bad e. modal-operand-fails (names_of c.args.scope.names.now) c.args.scope.depth c.args.input.now c.enter.new.self (tok c.in_ok-place.field-0) c.in_ok-place.ensures.reads c.in_ok-place.ensures.deeper modality.Diamond k.Greater (node-at (names_of c.args.scope.names.now) c.args.scope.depth c.args.input.now k.Less c.requires)
+    (step_set_form c.in_ok-steps.steps) c.step_set.new.input c.in_ok-steps.ensures.reads (tok c.in_ok-expect.field-0) c.expect.new.self c.in_ok-expect.ensures.reads bad e) c.in_err-operand.ensures.reads)
+
+pub possibility-returns-clause-reads : goal.possibility-returns-clause-reads
+possibility-returns-clause-reads t c =
+    let operand : c.in_ok-operand-2.operand.value ≡ c.in_ok-operand.operand = search rules in
+    modal-read (names_of c.args.scope.names.now) c.args.scope.depth c.args.input.now c.enter.new.self (tok c.in_ok-place.field-0) c.in_ok-place.ensures.reads c.in_ok-place.ensures.deeper modality.Diamond k.Greater (node-at (names_of c.args.scope.names.now) c.args.scope.depth c.args.input.now k.Less c.requires)
+    (step_set_form c.in_ok-steps.steps) c.step_set.new.input c.in_ok-steps.ensures.reads (tok c.in_ok-expect.field-0) c.expect.new.self c.in_ok-expect.ensures.reads
+    (formula_form c.in_ok-operand.operand) c.node.new.input c.in_ok-operand.ensures.reads
+    ∙ ap (λ v. Ok (FormulaForm.modal modality.Diamond c.in_ok-place.field-0.place (step_set_form c.in_ok-steps.steps) (formula_form v), c.node.new.input)) (sym operand)
+
+pub bracketed-returns-in_err-enter-clause-reads : goal.bracketed-returns-in_err-enter-clause-reads
+bracketed-returns-in_err-enter-clause-reads t c =
+    let p = err_from_is_err_and c.from_residual.result c.from_residual.ensures.1 in
+    rw (p.1, p.2) (node-enter-fails (names_of c.args.scope.names.now) c.args.scope.depth c.args.input.now k.Open refl c.requires c.in_err-enter.field-0.0 c.in_err-enter.ensures.reads)
+
+pub bracketed-returns-in_err-inner-clause-reads : goal.bracketed-returns-in_err-inner-clause-reads
+bracketed-returns-in_err-inner-clause-reads t c =
+    let p = err_from_is_err_and c.from_residual-in_err-inner.result c.from_residual-in_err-inner.ensures.1 in
+    rw (p.1, p.2) (fails-as (formula (names_of c.args.scope.names.now) (c.args.scope.depth - 1) c.enter.new.self) (node (names_of c.args.scope.names.now) c.args.scope.depth c.args.input.now) c.in_err-inner.field-0.0
+    (λ bad e. bracketed-fails (names_of c.args.scope.names.now) c.args.scope.depth c.args.input.now c.enter.new.self (tok c.in_ok-enter.field-0) c.in_ok-enter.ensures.reads c.in_ok-enter.ensures.deeper c.requires bad e) c.in_err-inner.ensures.reads)
+
+pub bracketed-returns-in_err-close-clause-reads : goal.bracketed-returns-in_err-close-clause-reads
+bracketed-returns-in_err-close-clause-reads t c =
+    let p = err_from_is_err_and c.from_residual-in_err-close.result c.from_residual-in_err-close.ensures.1 in
+    rw (p.1, p.2) (fails-as (unless_next goes_on (expect k.Close) c.formula.new.input) (node (names_of c.args.scope.names.now) c.args.scope.depth c.args.input.now) c.in_err-close.field-0.0
+    (λ bad e. bracketed-close-fails (names_of c.args.scope.names.now) c.args.scope.depth c.args.input.now c.enter.new.self (tok c.in_ok-enter.field-0) c.in_ok-enter.ensures.reads c.in_ok-enter.ensures.deeper c.requires (formula_form c.in_ok-inner.inner) c.formula.new.input c.in_ok-inner.ensures.reads bad e) c.in_err-close.ensures.reads)
+
+pub bracketed-returns-clause-reads : goal.bracketed-returns-clause-reads
+bracketed-returns-clause-reads t c =
+    bracketed-read (names_of c.args.scope.names.now) c.args.scope.depth c.args.input.now c.enter.new.self (tok c.in_ok-enter.field-0) c.in_ok-enter.ensures.reads c.in_ok-enter.ensures.deeper c.requires (formula_form c.in_ok-inner.inner) c.formula.new.input c.in_ok-inner.ensures.reads
+    (tok c.in_ok-close.field-0) c.close.new.input c.in_ok-close.ensures.reads
 
 pub fixpoint-returns-in_err-name_place-clause-reads : goal.fixpoint-returns-in_err-name_place-clause-reads
 fixpoint-returns-in_err-name_place-clause-reads t c =
