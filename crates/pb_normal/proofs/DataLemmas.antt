@@ -1,5 +1,5 @@
 -- Chains, arithmetic and arguments over slots, operand by operand.
-use Rattle.std.proofs.Common.{◌≡◌, ℕ, ◌≤◌, List, [], ◌∷◌, ◌++◌, map, length, drop, refl, sym, ◌∙◌, ap, Box, Vec, Global}
+use Rattle.std.proofs.Common.{◌≡◌, ℕ, ◌<◌, ◌≤◌, List, [], ◌∷◌, ◌++◌, map, length, get_or, drop, refl, sym, ◌∙◌, ap, arith, Box, Vec, Global}
 use Rattle.std.specs.Prelude.{box_value}
 use Rattle.std.proofs.lemmas.List.{append-nil, drop_all}
 use Rattle.pb_text_tree.specs.declared.operator.Arithmetic.{Arithmetic}
@@ -16,18 +16,10 @@ use Rattle.pb_text_meaning.specs.Syntax.{Spec}
 use Rattle.pb_text_meaning.specs.Erase.{erased_term, erased_arguments, of_connective}
 use Rattle.pb_normal.specs.Normal as normal
 use Rattle.pb_normal.specs.Normal.{Binary}
-use Rattle.pb_normal.specs.Normalisation.{Slotting, slotted, slotted_all, applied}
+use Rattle.pb_text_meaning.specs.Functions.{named_function}
+use Rattle.pb_normal.specs.Normalisation.{Slotting, slotted, slotted_all, applied, applied_to_one, applied_to_two, applied_to_three}
+use Rattle.pb_normal.specs.Slots.{over_slots, link_terms, arithmetic_terms}
 use Rattle.pb_normal.specs.View.{chained, calculated}
-
--- an operand of the tree, over slots
-abbrev pub over_slots : Spec → Slotting → ast.Term → normal.Term
-over_slots S c x = slotted S c (erased_term (term_form x))
-
-abbrev pub link_terms : Spec → Slotting → List TermLink → List normal.Term
-link_terms S c links = map (λ link. over_slots S c link.operand) links
-
-abbrev pub arithmetic_terms : Spec → Slotting → List ArithmeticLink → List (Arithmetic × normal.Term)
-arithmetic_terms S c links = map (λ link. (link.operator, over_slots S c link.operand)) links
 
 pub chained-slotted : (S : Spec) (c : Slotting) (o : Connective) (first : TermForm) (links : List TermLink)
     → slotted S c (erased_term (form.chained (TermForm.connected o) first (term_links links))) ≡ chained (Binary (of_connective o)) (slotted S c (erased_term first)) (link_terms S c links)
@@ -63,6 +55,35 @@ pub application : (S : Spec) (c : Slotting) (t : ast.Term) (f : Name) (v : Vec A
 application S c t f v xs is are =
     ap (λ (ys : List Argument). applied S (named f).text (arguments_over_slots S c ys)) are
     ∙ sym (ap (λ (g : TermForm). slotted S c (erased_term g)) (ap term_form is ∙ term-application f v))
+
+-- ---- what a function is of one argument, of two and of three
+
+module _ (S : Spec) (c : Slotting) (f : List ℕ) where
+  pub of_one : (xs : List Argument) (x : Argument) (p : normal.Term) → 1 ≤ length xs → length xs < 2 → x ≡ get_or xs 0 x → p ≡ over_slots S c x.term
+      → applied_to_one S f (named_function f) p ≡ applied S f (arguments_over_slots S c xs)
+  of_one [] x p low high is e = absurd (omega arith)
+  of_one (u ∷ []) x p low high is e = ap (applied_to_one S f (named_function f)) (e ∙ ap (λ (v : Argument). over_slots S c v.term) is)
+  of_one (u ∷ v ∷ us) x p low high is e = absurd (omega arith)
+
+  pub of_two : (xs : List Argument) (x y : Argument) (p q : normal.Term) → 2 ≤ length xs → length xs < 3 → x ≡ get_or xs 0 x → y ≡ get_or xs 1 y
+      → p ≡ over_slots S c x.term → q ≡ over_slots S c y.term → applied_to_two (named_function f) p q ≡ applied S f (arguments_over_slots S c xs)
+  of_two [] x y p q low high first second d e = absurd (omega arith)
+  of_two (u ∷ []) x y p q low high first second d e = absurd (omega arith)
+  of_two (u ∷ v ∷ []) x y p q low high first second d e =
+      ap (λ (r : normal.Term). applied_to_two (named_function f) r q) (d ∙ ap (λ (w : Argument). over_slots S c w.term) first)
+      ∙ ap (applied_to_two (named_function f) (over_slots S c u.term)) (e ∙ ap (λ (w : Argument). over_slots S c w.term) second)
+  of_two (u ∷ v ∷ w ∷ us) x y p q low high first second d e = absurd (omega arith)
+
+  pub of_three : (xs : List Argument) (x y z : Argument) (p q r : normal.Term) → 3 ≤ length xs → length xs < 4 → x ≡ get_or xs 0 x → y ≡ get_or xs 1 y → z ≡ get_or xs 2 z
+      → p ≡ over_slots S c x.term → q ≡ over_slots S c y.term → r ≡ over_slots S c z.term → applied_to_three (named_function f) p q r ≡ applied S f (arguments_over_slots S c xs)
+  of_three [] x y z p q r low high first second third k d e = absurd (omega arith)
+  of_three (u ∷ []) x y z p q r low high first second third k d e = absurd (omega arith)
+  of_three (u ∷ v ∷ []) x y z p q r low high first second third k d e = absurd (omega arith)
+  of_three (u ∷ v ∷ w ∷ []) x y z p q r low high first second third k d e =
+      ap (λ (s : normal.Term). applied_to_three (named_function f) s q r) (k ∙ ap (λ (o : Argument). over_slots S c o.term) first)
+      ∙ ap (λ (s : normal.Term). applied_to_three (named_function f) (over_slots S c u.term) s r) (d ∙ ap (λ (o : Argument). over_slots S c o.term) second)
+      ∙ ap (applied_to_three (named_function f) (over_slots S c u.term) (over_slots S c v.term)) (e ∙ ap (λ (o : Argument). over_slots S c o.term) third)
+  of_three (u ∷ v ∷ w ∷ t ∷ ts) x y z p q r low high first second third k d e = absurd (omega arith)
 
 -- no function takes another number of arguments
 pub other-count : (S : Spec) (c : Slotting) (f : List ℕ) (xs : List Argument) → (length xs ≡ 1 → ⊥) → (length xs ≡ 2 → ⊥) → (length xs ≡ 3 → ⊥) → applied S f (arguments_over_slots S c xs) ≡ normal.Number 0

@@ -1,6 +1,6 @@
 //! Names in data: variables, enumerators and functions, over slots.
 
-ghost use Rattle.std.specs.Prelude.{◌≡◌, IfOk};
+ghost use Rattle.std.specs.Prelude.{◌≡◌, IfOk, box_value};
 ghost use Rattle.pb_text_meaning.specs.Functions.{named_function};
 ghost use Rattle.pb_typing_declarations.specs.Enumerators.{enumerator_of, recogniser_of};
 ghost use Rattle.pb_typing_declarations.specs.View.{spec_of};
@@ -93,40 +93,28 @@ fn recognise(
 }
 
 /// A function of two arguments.
-///
-/// # Errors
-/// Memory was refused.
-pub(crate) fn apply_two(alloc: Global, name: &str, x: Term, y: Term) -> Result<Term, AllocError>
-    ensures { IfOk result (λ z. term_view z ≡ normalisation.applied_to_two
-        (named_function name.now) (term_view x) (term_view y)) }
+pub(crate) fn apply_two(name: &str, x: Box<Term>, y: Box<Term>) -> Term
+    ensures { term_view result ≡ normalisation.applied_to_two (named_function name.now)
+        (term_view (box_value x)) (term_view (box_value y)) }
 {
     match NamedFunction::named(name) {
-        Some(NamedFunction::Max) => Ok(Term::Maximum(Box::new(alloc, x)?, Box::new(alloc, y)?)),
-        Some(NamedFunction::Min) => Ok(Term::Minimum(Box::new(alloc, x)?, Box::new(alloc, y)?)),
-        _ => Ok(Term::Number(0)),
+        Some(NamedFunction::Max) => Term::Maximum(x, y),
+        Some(NamedFunction::Min) => Term::Minimum(x, y),
+        _ => Term::Number(0),
     }
 }
 
 /// A function of three arguments.
-///
-/// # Errors
-/// Memory was refused.
-pub(crate) fn apply_three(
-    alloc: Global,
-    name: &str,
-    x: Term,
-    y: Term,
-    z: Term,
-) -> Result<Term, AllocError>
-    ensures { IfOk result (λ r. term_view r ≡ normalisation.applied_to_three
-        (named_function name.now) (term_view x) (term_view y) (term_view z)) }
+pub(crate) fn apply_three(name: &str, x: Box<Term>, y: Box<Term>, z: Box<Term>) -> Term
+    ensures { term_view result ≡ normalisation.applied_to_three (named_function name.now)
+        (term_view (box_value x)) (term_view (box_value y)) (term_view (box_value z)) }
 {
     match NamedFunction::named(name) {
-        Some(NamedFunction::If) => Ok(Term::Choice {
-            condition: Box::new(alloc, x)?,
-            positive: Box::new(alloc, y)?,
-            negative: Box::new(alloc, z)?,
-        }),
-        _ => Ok(Term::Number(0)),
+        Some(NamedFunction::If) => Term::Choice {
+            condition: x,
+            positive: y,
+            negative: z,
+        },
+        _ => Term::Number(0),
     }
 }

@@ -1,15 +1,18 @@
 //! The normal form of a text.
 
-ghost use Rattle.std.specs.Prelude.{◌≡◌, IfOk};
+ghost use Rattle.std.specs.Prelude.{◌≡◌, true, IfOk};
 ghost use Rattle.pb_text_tree.specs.Form.{equation_form, spec_form};
 ghost use Rattle.pb_text_meaning.specs.Erase.{erased_equation};
 ghost use Rattle.pb_text_meaning.specs.Meaning.{answer};
 ghost use Rattle.pb_typing_declarations.specs.View.{spec_of, text_of};
 ghost use Rattle.pb_normal.specs.Answer.{answer_by, normal_equations};
+ghost use Rattle.pb_normal.specs.Contexts.{slots_in, scope_in, text_in};
+ghost use Rattle.pb_normal.specs.Contexts.{IsShapedIn, IsNormalFormula};
 ghost use Rattle.pb_normal.specs.Equations.{normal_equation};
 ghost use Rattle.pb_normal.specs.FormulaSet.{formulas-prop, shapes-prop};
-ghost use Rattle.pb_normal.specs.Loops.{all_loops, equation_loops, IsShapedEquation};
+ghost use Rattle.pb_normal.specs.Loops.{all_loops, equation_loops, loops, IsShapedEquation};
 ghost use Rattle.pb_normal.specs.Text.{said};
+ghost use Rattle.pb_normal.specs.Tree.{formula_of};
 ghost use Rattle.pb_normal.specs.View.{formula_view, loop_shapes, right_views, shapes_of};
 
 use crate::context::{Context, FormulaContext};
@@ -100,10 +103,9 @@ fn normal_equation(
         ≡ equation_loops (spec_of declarations.now)
         (erased_equation (equation_form equation.now))) }
 {
-    let mut carriers = Vec::new(alloc);
     let shapes = variable_shapes(alloc, declarations, &equation.parameters)?;
+    let mut carriers = Vec::new(alloc);
     let table = declare_variables(alloc, declarations, &equation.parameters, &mut carriers)?;
-    let parameters = carriers.len();
     let scope = Scope::Inner(&shapes, &Scope::Outermost);
     let slots = Slots::Inner(&table, &Slots::Outermost);
     let values = Context {
@@ -115,7 +117,24 @@ fn normal_equation(
         values,
         scope: &scope,
     };
-    let right = normal_formula(&context, Polarity::Positive, &mut carriers, &equation.right)?;
-    let loops = carriers_from(alloc, &carriers, parameters)?;
+    normal_right(&context, carriers, &equation.right)
+}
+
+/// The normal form of a right side, where the first slots have these carriers.
+fn normal_right<'t>(
+    context: &FormulaContext<'_, '_, 't>,
+    mut carriers: Vec<Carrier>,
+    formula: &'t pb_text_tree::Formula,
+) -> Result<Equation, AllocError>
+    requires { IsShapedIn context.now.values (formula_of formula.now) }
+    ensures right { IfOk result (λ X. IsNormalFormula context.now.values
+        (slots_in context.now.values) (scope_in context.now) true carriers.items
+        (formula_of formula.now) X.right) }
+    ensures loops { IfOk result (λ X. shapes_of X.loops.items
+        ≡ loops (text_in context.now.values) (formula_of formula.now)) }
+{
+    let parameters = carriers.len();
+    let right = normal_formula(context, Polarity::Positive, &mut carriers, formula)?;
+    let loops = carriers_from(context.values.alloc, &carriers, parameters)?;
     Ok(Equation { right, loops })
 }

@@ -1,11 +1,12 @@
 //! The check of a whole text.
 
-ghost use Rattle.std.specs.Prelude.{◌≡◌, ◌≢◌, [], true, MatchResult, OnOk, IfErr};
+ghost use Rattle.std.specs.Prelude.{◌≡◌, ◌≢◌, ◌++◌, [], true, MatchResult, OnOk, IfErr};
 ghost use Rattle.pb_text_tree.specs.Form.{equation_form, spec_form};
 ghost use Rattle.pb_text_meaning.specs.Erase.{erase, erased_variables};
 ghost use Rattle.pb_typing_declarations.specs.Faults.{IsAmong};
 ghost use Rattle.pb_typing_declarations.specs.View.{spec_of, text_of};
-ghost use Rattle.pb_typing_rules.specs.Faults.{faults, formula_faults, right_faults};
+ghost use Rattle.pb_typing_rules.specs.Faults.{faults, formula_faults, initial_faults};
+ghost use Rattle.pb_typing_rules.specs.Faults.{right_faults};
 ghost use Rattle.pb_typing_rules.specs.Scope.{bound, outermost};
 ghost use Rattle.pb_typing_rules.specs.WellTyped.{IsWellTyped};
 ghost use Rattle.pb_typing.specs.Typed.{IsLayout};
@@ -48,9 +49,26 @@ fn check_spec(alloc: Global, spec: &Spec) -> Result<Layout, TypeError>
         (IsAmong (faults (spec_form spec.now))) }
 {
     let declarations = Declarations::read(alloc, spec)?;
-    check_rights(alloc, &declarations, spec)?;
+    check_declared(alloc, &declarations, spec)
+}
+
+/// Checks each right side, then the initial instance, by what the text declares.
+fn check_declared(
+    alloc: Global,
+    declarations: &Declarations<'_>,
+    spec: &Spec,
+) -> Result<Layout, TypeError>
+    requires { text_of declarations.now ≡ spec_form spec.now }
+    ensures { MatchResult result
+        (λ layout. (right_faults (erase (spec_form spec.now)) (spec_form spec.now).equations
+        ++ initial_faults (erase (spec_form spec.now)) (spec_form spec.now).initial ≡ [])
+        × IsLayout (erase (spec_form spec.now)) layout)
+        (IsAmong (right_faults (erase (spec_form spec.now)) (spec_form spec.now).equations
+        ++ initial_faults (erase (spec_form spec.now)) (spec_form spec.now).initial)) }
+{
+    check_rights(alloc, declarations, spec)?;
     let layout = declarations.layout(alloc)?;
-    check_initial(alloc, &declarations, spec, &layout)?;
+    check_initial(alloc, declarations, spec, &layout)?;
     Ok(layout)
 }
 

@@ -16,5 +16,6 @@ pub mod ExactParts
 pub mod DeclaredLaw
 pub mod DataNames
 pub mod Lookups
+pub mod NamedTables
 pub mod ShapeLaws
 pub mod PlaceLaws

@@ -1,6 +1,8 @@
 -- Faults of parts and of the whole.
 use Rattle.std.proofs.Common.{◌≡◌, Bool, true, false, List, [], ◌∷◌, ◌++◌, refl, sym, ◌∙◌, ap, subst}
-use Rattle.std.proofs.lemmas.List.Elements.{Contains-append_left, Contains-append_right}
+use Rattle.std.proofs.Common.{inl, inr}
+use Rattle.std.specs.Prelude.{Contains, ◌⊎◌}
+use Rattle.std.proofs.lemmas.List.Elements.{Contains-append_left, Contains-append_right, Contains-append_cases}
 use Rattle.pb_text_tree.specs.declared.place.Place.{Place}
 use Rattle.pb_typing_declarations.specs.declared.fault.TypingRule.{TypingRule}
 use Rattle.pb_typing_declarations.specs.declared.fault.TypingFault.{TypingFault}
@@ -15,6 +17,16 @@ among_left xs ys (At fault) h = Contains-append_left xs ys fault h
 pub among_right : (xs ys : List TypingFault) (e : TypeError) → IsAmong ys e → IsAmong (xs ++ ys) e
 among_right xs ys Memory h = h
 among_right xs ys (At fault) h = Contains-append_right xs ys fault h
+
+-- what each part is among, the whole is among
+pub among_parts : (xs ys all : List TypingFault) → ((e : TypeError) → IsAmong xs e → IsAmong all e) → ((e : TypeError) → IsAmong ys e → IsAmong all e)
+    → (e : TypeError) → IsAmong (xs ++ ys) e → IsAmong all e
+among_parts xs ys all f g Memory h = h
+among_parts xs ys all f g (At fault) h = by_part (Contains-append_cases xs ys fault h)
+  where
+    by_part : Contains xs fault ⊎ Contains ys fault → Contains all fault
+    by_part (inl a) = f (At fault) a
+    by_part (inr b) = g (At fault) b
 
 -- where the whole has no fault, neither part has one
 pub no_parts : (xs ys : List TypingFault) → xs ++ ys ≡ [] → (xs ≡ []) × (ys ≡ [])

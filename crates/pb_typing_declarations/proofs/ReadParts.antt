@@ -1,5 +1,5 @@
 -- The faults that are found as names are gathered, and those that are found by the tables, part by part.
-use Rattle.std.proofs.Common.{◌≡◌, List, [], map, refl, subst, arith}
+use Rattle.std.proofs.Common.{◌≡◌, ◌++◌, List, [], map, refl, subst, arith}
 use Rattle.std.specs.Prelude.{flat_map, Contains}
 use Rattle.pb_sorts.specs.declared.limits.TheConstants.{MAX_EQUATIONS}
 use Rattle.pb_text_tree.specs.Form.{SpecForm}
@@ -9,7 +9,7 @@ use Rattle.pb_typing_declarations.specs.declared.fault.TypeError.{TypeError}
 use Rattle.pb_typing_declarations.specs.declared.fault.TypeError.TheVariants.{Memory, At}
 use Rattle.pb_typing_declarations.specs.Faults.{repeated, IsAmong}
 use Rattle.pb_typing_declarations.specs.Declarations.{structs_faults, empty_faults, names_of_enumerator, all_enumerator_forms, sort_names, range_name, equation_names, tables_faults, checks_faults, declaration_faults, sort_faults, range_faults, limit_faults, equations_faults_behind}
-use Rattle.pb_typing_declarations.proofs.Parts.{among_left, among_right, no_whole, no_parts}
+use Rattle.pb_typing_declarations.proofs.Parts.{among_left, among_right, among_parts, no_whole, no_parts}
 
 module _ (t : SpecForm) where
   abbrev pub structs : List TypingFault
@@ -30,20 +30,26 @@ module _ (t : SpecForm) where
   abbrev pub equations_twice : List TypingFault
   equations_twice = repeated (equation_names t.equations)
 
-  pub in_structs : (e : TypeError) → IsAmong structs e → IsAmong (tables_faults t) e
+  in_structs : (e : TypeError) → IsAmong structs e → IsAmong (tables_faults t) e
   in_structs e h = among_left structs _ e h
 
-  pub in_empty : (e : TypeError) → IsAmong empty e → IsAmong (tables_faults t) e
+  in_empty : (e : TypeError) → IsAmong empty e → IsAmong (tables_faults t) e
   in_empty e h = among_right structs _ e (among_left empty _ e h)
 
-  pub in_data_twice : (e : TypeError) → IsAmong data_twice e → IsAmong (tables_faults t) e
+  in_data_twice : (e : TypeError) → IsAmong data_twice e → IsAmong (tables_faults t) e
   in_data_twice e h = among_right structs _ e (among_right empty _ e (among_left data_twice _ e h))
 
-  pub in_sorts_twice : (e : TypeError) → IsAmong sorts_twice e → IsAmong (tables_faults t) e
+  in_sorts_twice : (e : TypeError) → IsAmong sorts_twice e → IsAmong (tables_faults t) e
   in_sorts_twice e h = among_right structs _ e (among_right empty _ e (among_right data_twice _ e (among_left sorts_twice _ e h)))
 
-  pub in_ranges_twice : (e : TypeError) → IsAmong ranges_twice e → IsAmong (tables_faults t) e
+  in_ranges_twice : (e : TypeError) → IsAmong ranges_twice e → IsAmong (tables_faults t) e
   in_ranges_twice e h = among_right structs _ e (among_right empty _ e (among_right data_twice _ e (among_right sorts_twice _ e (among_left ranges_twice _ e h))))
+
+  pub in_definitions : (e : TypeError) → IsAmong (structs ++ (data_twice ++ sorts_twice)) e → IsAmong (tables_faults t) e
+  in_definitions = among_parts structs _ _ in_structs (among_parts data_twice sorts_twice _ in_data_twice in_sorts_twice)
+
+  pub in_range_lines : (e : TypeError) → IsAmong (empty ++ ranges_twice) e → IsAmong (tables_faults t) e
+  in_range_lines = among_parts empty ranges_twice _ in_empty in_ranges_twice
 
   pub in_equations_twice : (e : TypeError) → IsAmong equations_twice e → IsAmong (tables_faults t) e
   in_equations_twice e h = among_right structs _ e (among_right empty _ e (among_right data_twice _ e (among_right sorts_twice _ e (among_right ranges_twice _ e h))))

@@ -1,6 +1,6 @@
 -- What is read of a text: entries of its names, in order, where it has no fault.
 use Rattle.std.specs.Prelude.{◌≡◌, ◌≤◌, ◌+◌, nat_le, suc, ℤ, length, All, ℕ, List, [], ◌∷◌, ◌++◌}
-use Rattle.std.specs.Prelude.{map, flat_map, Option}
+use Rattle.std.specs.Prelude.{map, flat_map, Option, position}
 use Rattle.pb_text_tree.specs.Form.{Named, EnumeratorForm, SortDeclarationForm, RangeForm}
 use Rattle.pb_text_tree.specs.Form.{EquationForm, VariableForm}
 use Rattle.pb_text_meaning.specs.Erase.{erased_enumerator, erased_declaration, erased_recogniser}
@@ -10,7 +10,9 @@ use Rattle.pb_typing_declarations.specs.declared.entry.Entry.{Entry}
 use Rattle.pb_typing_declarations.specs.declared.definition.Definition.{Definition}
 use Rattle.pb_typing_declarations.specs.declared.definition.DataName.{DataName}
 use Rattle.pb_typing_declarations.specs.declared.definition.Definitions.{Definitions}
-use Rattle.pb_typing_declarations.specs.Shapes.{definition_of, definitions_from, range_bounds}
+use Rattle.pb_typing_declarations.specs.declared.definition.DefinitionTables.{DefinitionTables}
+use Rattle.pb_typing_declarations.specs.Shapes.{first, definition_of, definitions_from}
+use Rattle.pb_typing_declarations.specs.Shapes.{range_bounds}
 use Rattle.pb_typing_declarations.specs.Shapes.{sort_shape, variable_shapes}
 use Rattle.pb_sorts.specs.declared.carrier.Range.{Range}
 use Rattle.pb_sorts.specs.declared.carrier.Carrier.{Carrier}
@@ -19,19 +21,22 @@ use Rattle.pb_sorts.specs.Carrier.{values_of}
 use Rattle.pb_sorts.specs.Layout as layouts
 use Rattle.pb_carriers.specs.Carrier.{tuple_count}
 use Rattle.pb_text_tree.specs.declared.place.Place.{Place}
-use Rattle.pb_text_meaning.specs.Syntax.{Equation, Spec}
+use Rattle.pb_text_meaning.specs.Syntax.{Name, same_name, Equation, Spec}
 use Rattle.pb_text_meaning.specs.Sorts.{carrier_of}
 use Rattle.pb_text_meaning.specs.Formula.{carriers_of}
 use Rattle.pb_typing_declarations.specs.declared.fault.TypingRule.TheVariants.{Limit}
-use Rattle.pb_typing_declarations.specs.Faults.{unless}
-use Rattle.pb_typing_declarations.specs.Enumerators.{Position}
-use Rattle.pb_typing_declarations.specs.Tables.{entry_names, entry_values}
+use Rattle.pb_typing_declarations.specs.Faults.{unless, repeated}
+use Rattle.pb_typing_declarations.specs.Enumerators.{Position, all_enumerators}
+use Rattle.pb_typing_declarations.specs.Enumerators.{all_recognisers}
+use Rattle.pb_typing_declarations.specs.Tables.{Table, entry_names, entry_values, looked_up}
 use Rattle.pb_typing_declarations.specs.Entries.{shape_of, shapes_of, shown, shown_entries}
 use Rattle.pb_typing_declarations.specs.Entries.{range_shown, data_of_recogniser, data_from}
-use Rattle.pb_typing_declarations.specs.Entries.{data_in, all_data}
+use Rattle.pb_typing_declarations.specs.Entries.{data_in, all_data, definition_in, range_in}
+use Rattle.pb_typing_declarations.specs.Entries.{as_enumerator, as_recogniser}
 use Rattle.pb_typing_declarations.specs.Declarations.{struct_faults, structs_faults}
 use Rattle.pb_typing_declarations.specs.Declarations.{recogniser_faults, recogniser_name}
 use Rattle.pb_typing_declarations.specs.Declarations.{enumerator_faults, names_of_enumerator}
+use Rattle.pb_typing_declarations.specs.Declarations.{sort_names}
 use Rattle.pb_typing_declarations.specs.Declarations.{enumerators_of_sort, all_enumerator_forms}
 use Rattle.pb_typing_declarations.specs.Declarations.{empty_faults, range_name, equation_names}
 use Rattle.pb_typing_declarations.specs.Declarations.{use_faults, variables_faults, equation_faults}
@@ -76,12 +81,29 @@ pub record AreDefinitions (ds : List SortDeclarationForm) (definitions : Definit
       ≡ flat_map names_of_enumerator (all_enumerator_forms ds)
   pub data_values : entry_values definitions.names.items ≡ all_data 0 (map erased_declaration ds)
 
+-- the same by name, where no name stands twice
+pub record AreDefined (ds : List SortDeclarationForm) (tables : DefinitionTables) : Type 0 where
+  pub clear : structs_faults 0 ds ≡ []
+  pub data_apart : repeated (flat_map names_of_enumerator (all_enumerator_forms ds)) ≡ []
+  pub sorts_apart : repeated (sort_names ds) ≡ []
+  pub definitions : (x : Name) → definition_in tables.sorts x
+      ≡ first (definitions_from 0 (map erased_declaration ds)) x
+  pub enumerators : (x : Name) → as_enumerator (looked_up tables.names x)
+      ≡ first (all_enumerators 0 (map erased_declaration ds)) x
+  pub recognisers : (x : Name) → as_recogniser (looked_up tables.names x)
+      ≡ first (all_recognisers 0 (map erased_declaration ds)) x
+
 -- the ranges
 pub record AreRanges (rs : List RangeForm) (entries : List (Entry Range)) : Type 0 where
   pub clear : flat_map empty_faults rs ≡ []
   pub names : entry_names entries ≡ map range_name rs
   pub values : map (λ e. (e.0, range_shown e.1)) (entry_values entries)
       ≡ range_bounds (map erased_range rs)
+
+pub record IsRangeTable (rs : List RangeForm) (table : Table Range) : Type 0 where
+  pub clear : flat_map empty_faults rs ≡ []
+  pub apart : repeated (map range_name rs) ≡ []
+  pub bounds : (x : Name) → range_in table x ≡ first (range_bounds (map erased_range rs)) x
 
 -- names with their places in a list that begins at n
 abbrev pub numbered_from : ℕ → List Named → List (List ℕ × ℕ)
@@ -91,6 +113,11 @@ numbered_from n (x ∷ xs) = (x.text, n) ∷ numbered_from (suc n) xs
 pub record AreEquations (E : List EquationForm) (entries : List (Entry ℕ)) : Type 0 where
   pub names : entry_names entries ≡ equation_names E
   pub values : entry_values entries ≡ numbered_from 0 (equation_names E)
+
+pub record IsEquationTable (E : List EquationForm) (table : Table ℕ) : Type 0 where
+  pub apart : repeated (equation_names E) ≡ []
+  pub places : (x : Name) → looked_up table x
+      ≡ position (λ (X : Equation). same_name X.name x) (map erased_equation E)
 
 -- ---- carriers
 

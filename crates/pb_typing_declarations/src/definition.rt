@@ -1,24 +1,28 @@
 //! What sorts and enumerators are declared to be, in the order of the text.
 
-ghost use Rattle.std.specs.Prelude.{◌≡◌, ◌≤◌, [], nat_le, map, flat_map, length, Contains};
+ghost use Rattle.std.specs.Prelude.{◌≡◌, ◌≤◌, ◌++◌, [], nat_le, map, flat_map, length, Contains};
 ghost use Rattle.std.specs.Prelude.{MatchResult};
 ghost use Rattle.pb_text_tree.specs.Form.{enumerator_form, sort_declaration_form, sort_form};
 ghost use Rattle.pb_text_tree.specs.Form.{recogniser_form, named};
-ghost use Rattle.pb_typing_declarations.specs.Faults.{IsAmong};
+ghost use Rattle.pb_typing_declarations.specs.Faults.{IsAmong, repeated};
 ghost use Rattle.pb_typing_declarations.specs.Declarations.{limit_faults, own_names, struct_faults};
 ghost use Rattle.pb_typing_declarations.specs.Declarations.{structs_faults, recogniser_faults};
 ghost use Rattle.pb_typing_declarations.specs.Declarations.{enumerator_faults, is_named_function};
 ghost use Rattle.pb_typing_declarations.specs.Entries.{as_enumerator, as_recogniser};
-ghost use Rattle.pb_typing_declarations.specs.Reading.{AreDefinitions, IsDefinition};
+ghost use Rattle.pb_typing_declarations.specs.Declarations.{all_enumerator_forms, sort_names};
+ghost use Rattle.pb_typing_declarations.specs.Declarations.{names_of_enumerator};
+ghost use Rattle.pb_typing_declarations.specs.Reading.{AreDefinitions, IsDefinition, AreDefined};
 ghost use Rattle.pb_typing_declarations.specs.Reading.{HasEnumerators, HasRecogniser};
 
 use crate::entry::Entry;
 use crate::fault::{TypeError, TypingFault, TypingRule, require};
 use crate::sorts::Enumerator;
+use crate::table::table;
 use pb_sorts::{Enumeration, MAX_ENUMERATORS, MAX_NAME_BYTES, MAX_STRUCTS};
 use pb_text_meaning::NamedFunction;
 use pb_text_tree::{Name, Sort, SortDeclaration};
 use std::alloc::Global;
+use std::collections::HashMap;
 
 /// What a sort is declared to be.
 #[derive(Clone, Copy)]
@@ -75,12 +79,34 @@ pub(crate) struct Definitions<'a> {
     pub names: Vec<Entry<'a, DataName>>,
 }
 
-/// All definitions, if the structs and their enumerators are within the limits and no recogniser
-/// has a function's name.
-pub(crate) fn read_definitions(
+/// The same by name.
+#[derive(Drop)]
+pub(crate) struct DefinitionTables<'a> {
+    pub sorts: HashMap<&'a str, Definition<'a>>,
+    pub names: HashMap<&'a str, DataName>,
+}
+
+/// All definitions by name, if they are as they must be and no name stands twice.
+pub(crate) fn definition_tables(
     alloc: Global,
     sorts: &[SortDeclaration],
-) -> Result<Definitions<'_>, TypeError>
+) -> Result<DefinitionTables<'_>, TypeError>
+    ensures { MatchResult result
+        (λ tables. AreDefined (map sort_declaration_form sorts.now) tables)
+        (IsAmong (structs_faults 0 (map sort_declaration_form sorts.now)
+        ++ (repeated (flat_map names_of_enumerator
+        (all_enumerator_forms (map sort_declaration_form sorts.now)))
+        ++ repeated (sort_names (map sort_declaration_form sorts.now))))) }
+{
+    let definitions = read_definitions(alloc, sorts)?;
+    let names = table(alloc, &definitions.names)?;
+    let sorts = table(alloc, &definitions.sorts)?;
+    Ok(DefinitionTables { sorts, names })
+}
+
+/// All definitions, if the structs and their enumerators are within the limits and no recogniser
+/// has a function's name.
+fn read_definitions(alloc: Global, sorts: &[SortDeclaration]) -> Result<Definitions<'_>, TypeError>
     ensures { MatchResult result
         (λ definitions. AreDefinitions (map sort_declaration_form sorts.now) definitions)
         (IsAmong (structs_faults 0 (map sort_declaration_form sorts.now))) }

@@ -22,8 +22,31 @@ pub(crate) struct Chain {
     pub aliases: usize,
 }
 
+/// The chains of the aliases among some sorts, and those without any ranges.
+#[derive(Drop)]
+pub(crate) struct Chains<'a> {
+    pub chains: HashMap<&'a str, Chain>,
+    pub bases: HashMap<&'a str, Chain>,
+}
+
+/// Both kinds of chains, each up to the first sort that has no end.
+pub(crate) fn all_chains<'a>(
+    alloc: Global,
+    definitions: &HashMap<&'a str, Definition<'a>>,
+    ranges: &HashMap<&'a str, Range>,
+    sorts: &'a [SortDeclaration],
+) -> Result<Chains<'a>, AllocError>
+    ensures { IfOk result (λ both. AreChains (range_in ranges.now)
+        (definition_in definitions.now) both.chains
+        × AreChains (λ s. None) (definition_in definitions.now) both.bases) }
+{
+    let chains = read_chains(alloc, definitions, ranges, sorts)?;
+    let bases = read_bases(alloc, definitions, sorts)?;
+    Ok(Chains { chains, bases })
+}
+
 /// The chains of the aliases among some sorts, up to the first that has no end.
-pub(crate) fn read_chains<'a>(
+fn read_chains<'a>(
     alloc: Global,
     definitions: &HashMap<&'a str, Definition<'a>>,
     ranges: &HashMap<&'a str, Range>,
@@ -44,7 +67,7 @@ pub(crate) fn read_chains<'a>(
 }
 
 /// The same without any ranges.
-pub(crate) fn read_bases<'a>(
+fn read_bases<'a>(
     alloc: Global,
     definitions: &HashMap<&'a str, Definition<'a>>,
     sorts: &'a [SortDeclaration],

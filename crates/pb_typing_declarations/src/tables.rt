@@ -8,7 +8,7 @@ ghost use Rattle.pb_sorts.specs.Layout.{lists_of};
 ghost use Rattle.pb_text_tree.specs.Form.{spec_form, sort_declaration_form, range_form};
 ghost use Rattle.pb_text_tree.specs.Form.{equation_form, named};
 ghost use Rattle.pb_text_meaning.specs.Erase.{erase};
-ghost use Rattle.pb_typing_declarations.specs.Faults.{unless, IsAmong};
+ghost use Rattle.pb_typing_declarations.specs.Faults.{unless, repeated, IsAmong};
 ghost use Rattle.pb_typing_declarations.specs.Shapes.{end_of, base_of, is_sort};
 ghost use Rattle.pb_typing_declarations.specs.Enumerators.{enumerator_of, recogniser_of};
 ghost use Rattle.pb_typing_declarations.specs.Tables.{entry_names};
@@ -19,19 +19,21 @@ ghost use Rattle.pb_typing_declarations.specs.Variables.{variables_of};
 ghost use Rattle.pb_typing_declarations.specs.Agreement.{Agree, equation_place};
 ghost use Rattle.pb_typing_declarations.specs.Reading.{AreEquations, IsCarrier, HasVariables};
 ghost use Rattle.pb_typing_declarations.specs.Reading.{HasParameters, AddsInstances, HasCarriers};
+ghost use Rattle.pb_typing_declarations.specs.Reading.{IsEquationTable};
 ghost use Rattle.pb_typing_declarations.specs.WellDeclared.{HaveEnds};
 ghost use Rattle.pb_typing_declarations.specs.Declarations.{tables_faults, checks_faults};
 ghost use Rattle.pb_typing_declarations.specs.Declarations.{sort_faults, range_faults};
 ghost use Rattle.pb_typing_declarations.specs.Declarations.{limit_faults, use_faults};
+ghost use Rattle.pb_typing_declarations.specs.Declarations.{equation_names};
 ghost use Rattle.pb_typing_declarations.specs.Declarations.{variables_faults, equation_faults};
 ghost use Rattle.pb_typing_declarations.specs.Declarations.{equations_faults_behind};
 
 use crate::chain::{End, is_built_in};
-use crate::definition::{DataName, Definition, is_short, read_definitions};
-use crate::ends::{Chain, chain_end, read_bases, read_chains};
+use crate::definition::{DataName, Definition, DefinitionTables, definition_tables, is_short};
+use crate::ends::{Chain, Chains, all_chains, chain_end};
 use crate::entry::Entry;
 use crate::fault::{TypeError, TypingFault, TypingRule, require};
-use crate::range::read_ranges;
+use crate::range::range_table;
 use crate::table::table;
 use crate::variables::variable_entries;
 use pb_sorts::{Carrier, MAX_EQUATIONS, MAX_INSTANCES, MAX_PARAMETERS, Range, count_tuples};
@@ -63,15 +65,13 @@ impl<'a> Tables<'a> {
             (λ tables. (tables.spec.now ≡ spec.now) × (tables_faults (spec_form spec.now) ≡ []))
             (IsAmong (tables_faults (spec_form spec.now))) }
     {
-        let definitions = read_definitions(alloc, &spec.sorts)?;
-        let ranges = read_ranges(alloc, &spec.ranges)?;
-        let equations = equation_entries(alloc, &spec.equations)?;
-        let names = table(alloc, &definitions.names)?;
-        let definitions = table(alloc, &definitions.sorts)?;
-        let ranges = table(alloc, &ranges)?;
-        let equations = table(alloc, &equations)?;
-        let chains = read_chains(alloc, &definitions, &ranges, &spec.sorts)?;
-        let bases = read_bases(alloc, &definitions, &spec.sorts)?;
+        let DefinitionTables {
+            sorts: definitions,
+            names,
+        } = definition_tables(alloc, &spec.sorts)?;
+        let ranges = range_table(alloc, &spec.ranges)?;
+        let equations = equation_table(alloc, &spec.equations)?;
+        let Chains { chains, bases } = all_chains(alloc, &definitions, &ranges, &spec.sorts)?;
         Ok(Tables {
             spec,
             definitions,
@@ -301,6 +301,19 @@ fn add_instances(count: u32, parameters: &[Carrier], place: Place) -> Result<u32
             place,
         }),
     }
+}
+
+/// The places of equations by their names, if no name stands twice.
+fn equation_table(
+    alloc: Global,
+    equations: &[Equation],
+) -> Result<HashMap<&'_ str, usize>, TypeError>
+    ensures { MatchResult result
+        (λ table. IsEquationTable (map equation_form equations.now) table)
+        (IsAmong (repeated (equation_names (map equation_form equations.now)))) }
+{
+    let entries = equation_entries(alloc, equations)?;
+    table(alloc, &entries)
 }
 
 /// The predicate variables, each with the place of its equation.

@@ -16,7 +16,7 @@ use Rattle.pb_evaluation.specs.declared.binding.Binding.{Binding}
 use Rattle.pb_evaluation.specs.Binding.{AreLast, AreNext, bound}
 use Rattle.pb_evaluation.specs.Scope.{assignment_of}
 use Rattle.pb_evaluation.proofs.Weight.{weight, weight-chain, weight-arithmetic, weight-application, links_weight, arithmetic_weight, arguments_weight, link_lighter, operand_lighter, argument_lighter}
-use Rattle.pb_evaluation.proofs.Arguments.{argument_fits, many}
+use Rattle.pb_evaluation.proofs.Arguments.{argument_fits, of_none, of_one, of_two, of_three, many}
 use Rattle.pb_evaluation.proofs.Links.{ArithmeticFits, chain_value, value-chained, fits-chained, link_fits, chain_decided, chain_next, value-calculated, fits-calculated, arithmetic_value, arithmetic_next, arithmetic_value-next}
 use Rattle.pb_evaluation.proofs.Quantified.{differs}
 use Rattle.pb_evaluation.proofs.Odometer.{IsUnderWay, fits_now, goes_on, is_ended, lacks_values, left_less, left_of, none_at_all, under_way, written}
@@ -85,6 +85,48 @@ application_value-value-requires-in-len3-3 t c =
       omega (arith, argument_lighter xs 2 x.result behind x.is),
       argument_fits (spec_of c.args.declarations.now) (assignment_of c.args.scope.now) xs 2 x.result c.requires.1.1 behind x.is,
     )
+
+pub application_value-returns-in_ok-argument-in-len1 : goal.application_value-returns-in_ok-argument-in-len1
+application_value-returns-in_ok-argument-in-len1 t c =
+    let x = c.in_ok-argument-in-len1 in
+    let fits_x : SFits w64 x.argument = record { sfits = omega arith } in
+    let fits : SFits w64 c.function_of_one.result = record { sfits = c.function_of_one.type_inv } in
+    to_z-of_z fits
+    ∙ (c.function_of_one.ensures
+    ∙ of_one (spec_of c.args.declarations.now) (assignment_of c.args.scope.now) c.args.function.now c.args.arguments.now c.x-item.result _
+    c.in-len1.len_at_least c.in-len1.len_below c.x-item.is (to_z-of_z fits_x ∙ x.ensures))
+
+pub application_value-returns-in_ok-right-in-len2 : goal.application_value-returns-in_ok-right-in-len2
+application_value-returns-in_ok-right-in-len2 t c =
+    let x = c.in_ok-left-in-len2 in
+    let y = c.in_ok-right-in-len2 in
+    let fits_x : SFits w64 x.left = record { sfits = omega arith } in
+    let fits_y : SFits w64 y.right = record { sfits = omega arith } in
+    let fits : SFits w64 c.function_of_two.result = record { sfits = c.function_of_two.type_inv } in
+    to_z-of_z fits
+    ∙ (c.function_of_two.ensures
+    ∙ of_two (spec_of c.args.declarations.now) (assignment_of c.args.scope.now) c.args.function.now c.args.arguments.now (c.x-item-then-arguments-lt3).result c.y-item.result _ _
+    c.in-len2.len_at_least c.in-len2.len_below (c.x-item-then-arguments-lt3).is c.y-item.is (to_z-of_z fits_x ∙ x.ensures) (to_z-of_z fits_y ∙ y.ensures))
+
+pub application_value-returns-in_ok-right-in-len3 : goal.application_value-returns-in_ok-right-in-len3
+application_value-returns-in_ok-right-in-len3 t c =
+    let q = c.in_ok-tested-in-len3 in
+    let x = c.in_ok-left-in-len3 in
+    let y = c.in_ok-right-in-len3 in
+    let fits_q : SFits w64 q.tested = record { sfits = omega arith } in
+    let fits_x : SFits w64 x.left = record { sfits = omega arith } in
+    let fits_y : SFits w64 y.right = record { sfits = omega arith } in
+    let fits : SFits w64 c.function_of_three.result = record { sfits = c.function_of_three.type_inv } in
+    to_z-of_z fits
+    ∙ (c.function_of_three.ensures
+    ∙ of_three (spec_of c.args.declarations.now) (assignment_of c.args.scope.now) c.args.function.now c.args.arguments.now
+    c.condition-item.result (c.x-item-then-arguments-lt4).result (c.y-item-then-arguments-lt4).result _ _ _
+    c.in-len3.len_at_least c.in-len3.len_below c.condition-item.is (c.x-item-then-arguments-lt4).is (c.y-item-then-arguments-lt4).is
+    (to_z-of_z fits_q ∙ q.ensures) (to_z-of_z fits_x ∙ x.ensures) (to_z-of_z fits_y ∙ y.ensures))
+
+pub application_value-returns-in_default : goal.application_value-returns-in_default
+application_value-returns-in_default t c =
+    of_none (spec_of c.args.declarations.now) (assignment_of c.args.scope.now) c.args.function.now c.args.arguments.now c.in_default.len_below
 
 pub application_value-returns-in_default-2 : goal.application_value-returns-in_default-2
 application_value-returns-in_default-2 t c =

@@ -1,5 +1,4 @@
-use Rattle.std.proofs.Common.{◌≡◌, ℕ, ◌++◌, List, length, drop, ◌∙◌, ap, arith, true}
-use Rattle.pb_sorts.specs.declared.carrier.Carrier.{Carrier}
+use Rattle.std.proofs.Common.{◌≡◌, ℕ, ◌++◌, List, length, ◌∙◌, ap, subst, arith, true, IfOk}
 use Rattle.pb_text_tree.specs.declared.variable.Variables.{Variables}
 use Rattle.pb_typing_declarations.specs.View.{spec_of}
 use Rattle.pb_typing_rules.specs.Scope.{Scope, bound, outermost}
@@ -8,8 +7,10 @@ use Rattle.pb_typing.proofs.Nodes.{inner_scope}
 use Rattle.pb_normal.specs.Loops.{variable_shapes}
 use Rattle.pb_normal.specs.Normalisation.{Slotting, normal, unslotted, with_slots}
 use Rattle.pb_normal.specs.Tree.{formula_of}
-use Rattle.pb_normal.specs.View.{shapes_of}
-use Rattle.pb_normal.proofs.SlotLemmas.{inner_slotting, length_behind, length-variables, shapes_behind, variables_of}
+use Rattle.pb_normal.specs.declared.normal.Equation.{Equation}
+use Rattle.pb_normal.specs.Normal as forms
+use Rattle.pb_normal.specs.View.{formula_view, shapes_of}
+use Rattle.pb_normal.proofs.SlotLemmas.{inner_slotting, length_behind, length-variables, variables_of}
 use Rattle.pb_normal.proofs.normal.normal_equation.Goals as goal
 
 pub returns-clause-right : goal.returns-clause-right
@@ -26,13 +27,8 @@ returns-clause-right c =
     let scope = inner_scope S xs (table_view c.in_ok-shapes.shapes) outermost (λ x. c.in_ok-shapes.ensures x ∙ ap (λ (gs : List Variables). bound S (variables_of gs) outermost x) c.deref.ensures.value) in
     let grown = c.in_ok-table.ensures.carriers ∙ ap (λ (gs : List Variables). shapes_of c.new-carriers.result.items ++ variable_shapes S (variables_of gs)) (c.deref-2).ensures.value in
     let count : length mid ≡ length xs = omega (arith, length_behind c.new-carriers.result.items mid (variable_shapes S xs) grown, length-variables S xs, begun) in
-    c.in_ok-right.ensures.form
-    ∙ (ap (λ (d : Slotting). normal S true d (inner_view c.in_ok-shapes.shapes outermost) (length mid) f) slots
+    let same =
+    ap (λ (d : Slotting). normal S true d (inner_view c.in_ok-shapes.shapes outermost) (length mid) f) slots
     ∙ (ap (λ (s : Scope). normal S true (with_slots xs 0 unslotted) s (length mid) f) scope
-    ∙ ap (λ (n : ℕ). normal S true (with_slots xs 0 unslotted) (bound S xs outermost) n f) count))
-
-pub returns-clause-loops : goal.returns-clause-loops
-returns-clause-loops c =
-    let own = c.in_ok-loops.ensures ∙ ap (λ (cs : List Carrier). drop c.len-parameters.result cs) (c.deref-3).ensures.value in
-    shapes_behind c.declare_variables.new.carriers.items c.normal_formula.new.carriers.items c.in_ok-loops.loops.items c.len-parameters.result _
-    c.in_ok-right.ensures.carriers (omega (arith, c.len-parameters.ensures, c.declare_variables.new.carriers.ok.0)) own
+    ∙ ap (λ (n : ℕ). normal S true (with_slots xs 0 unslotted) (bound S xs outermost) n f) count) in
+    subst (λ (g : forms.Formula). IfOk c.normal_right.result (λ (X : Equation). formula_view X.right ≡ g)) same c.normal_right.ensures.right

@@ -15,10 +15,63 @@ use Rattle.pb_typing_declarations.specs.View.{spec_of}
 use Rattle.pb_typing.specs.declared.function.Function as code
 use Rattle.pb_typing.specs.Scopes.{scope_view}
 use Rattle.pb_typing.specs.View.{shape_view, function_view}
-use Rattle.pb_evaluation.proofs.Weight.{weight, weight-arithmetic, weight-application, arithmetic_weight, arguments_weight, operand_lighter}
+use Rattle.pb_evaluation.proofs.Weight.{weight, weight-arithmetic, weight-application, arithmetic_weight, arguments_weight, operand_lighter, argument_lighter}
 use Rattle.pb_typing.proofs.Links.{calculated-shape, calculated_shape, chained-shape, some_link_shape, no_link_shape}
-use Rattle.pb_typing.proofs.Nodes.{three_behind, shape_of_call, no_result}
+use Rattle.pb_typing.proofs.Nodes.{one_argument, two_arguments, three_behind, shape_of_call, no_result}
 use Rattle.pb_typing.proofs.shape_of_term.+shapes.Goals as goal
+
+pub application_shape-term_shape-shape-requires : goal.application_shape-term_shape-shape-requires
+application_shape-term_shape-shape-requires t c =
+    let x = c.x-item in
+    omega (arith, argument_lighter c.args.arguments.now 0 x.result (omega (arith, c.in-len1.len_at_least)) x.is)
+
+pub application_shape-term_shape-left-requires : goal.application_shape-term_shape-left-requires
+application_shape-term_shape-left-requires t c =
+    let x = c.x-item-then-arguments-lt3 in
+    omega (arith, argument_lighter c.args.arguments.now 0 x.result (omega (arith, c.in-len2.len_at_least)) x.is)
+
+pub application_shape-term_shape-right-requires : goal.application_shape-term_shape-right-requires
+application_shape-term_shape-right-requires t c =
+    let x = c.y-item in
+    omega (arith, argument_lighter c.args.arguments.now 1 x.result (omega (arith, c.in-len2.len_at_least)) x.is)
+
+pub application_shape-term_shape-left-requires-in-len3 : goal.application_shape-term_shape-left-requires-in-len3
+application_shape-term_shape-left-requires-in-len3 t c =
+    let x = c.x-item-then-arguments-lt4 in
+    omega (arith, argument_lighter c.args.arguments.now 1 x.result (omega (arith, c.in-len3.len_at_least)) x.is)
+
+pub application_shape-term_shape-right-requires-in-len3 : goal.application_shape-term_shape-right-requires-in-len3
+application_shape-term_shape-right-requires-in-len3 t c =
+    let x = c.y-item-then-arguments-lt4 in
+    omega (arith, argument_lighter c.args.arguments.now 2 x.result (omega (arith, c.in-len3.len_at_least)) x.is)
+
+pub application_shape-returns-in-len1 : goal.application_shape-returns-in-len1
+application_shape-returns-in-len1 t c =
+    let S = spec_of c.args.declarations.now in
+    let a = scope_view c.args.scope.now in
+    let xs = c.args.arguments.now in
+    let g = function_view c.in-Some.function in
+    let text = (named c.args.name.now).text in
+    let found : function_named S text ≡ Some g =
+    ap (function_named S) (sym c.deref.ensures) ∙ (sym c.function_named.ensures ∙ ap (λ (o : Option code.Function). option_map function_view o) c.in-Some.is) in
+    shape_of_call S a text g xs (c.x-item.result ∷ []) (shape_view c.shape_of_one.result) found (one_argument xs c.x-item.result c.in-len1.len_at_least c.in-len1.len_below c.x-item.is)
+    (c.shape_of_one.ensures ∙ ap (functions.shape_of_one g) c.term_shape-shape.ensures)
+
+pub application_shape-returns-in-len2 : goal.application_shape-returns-in-len2
+application_shape-returns-in-len2 t c =
+    let S = spec_of c.args.declarations.now in
+    let a = scope_view c.args.scope.now in
+    let xs = c.args.arguments.now in
+    let x = c.x-item-then-arguments-lt3 in
+    let y = c.y-item in
+    let g = function_view c.in-Some.function in
+    let text = (named c.args.name.now).text in
+    let found : function_named S text ≡ Some g =
+    ap (function_named S) (sym c.deref.ensures) ∙ (sym c.function_named.ensures ∙ ap (λ (o : Option code.Function). option_map function_view o) c.in-Some.is) in
+    shape_of_call S a text g xs (x.result ∷ y.result ∷ []) (shape_view c.shape_of_two.result) found (two_arguments xs x.result y.result c.in-len2.len_at_least c.in-len2.len_below x.is y.is)
+    (c.shape_of_two.ensures
+    ∙ (ap (λ (s : model.Shape). functions.shape_of_two g s (shape_view c.term_shape-right.result)) c.term_shape-left.ensures
+    ∙ ap (functions.shape_of_two g (shape S a (erased_term (term_form x.result.term)))) c.term_shape-right.ensures))
 
 pub application_shape-returns-in-len3 : goal.application_shape-returns-in-len3
 application_shape-returns-in-len3 t c =

@@ -1,27 +1,21 @@
-use Rattle.std.proofs.Common.{◌≡◌, ◌∙◌, [], ap, sym, subst, rules}
-use Rattle.pb_text_tree.specs.Form.{SpecForm, spec_form}
+use Rattle.std.proofs.Common.{◌≡◌, ◌++◌, List, [], rules, Result, Ok, Err}
+use Rattle.std.specs.Prelude.{MatchResult}
+use Rattle.pb_text_tree.specs.Form.{spec_form}
 use Rattle.pb_text_meaning.specs.Erase.{erase}
 use Rattle.pb_typing_declarations.specs.declared.fault.TypeError.{TypeError}
+use Rattle.pb_typing_declarations.specs.declared.fault.TypingFault.{TypingFault}
 use Rattle.pb_typing_declarations.specs.Declarations.{declaration_faults}
 use Rattle.pb_typing_declarations.specs.Faults.{IsAmong}
-use Rattle.pb_typing_rules.specs.Faults.{faults, initial_faults, right_faults}
+use Rattle.pb_typing_rules.specs.Faults.{faults}
 use Rattle.pb_typing_declarations.proofs.Parts.{among_left, among_right, no_whole}
 use Rattle.pb_typing.specs.Typed.{IsLayout}
 use Rattle.pb_typing.proofs.spec.check_spec.Goals as goal
 
--- a text that another one equals has the same faults of right sides and of the initial instance
-rights_of : (u t : SpecForm) (e : TypeError) → u ≡ t → IsAmong (right_faults (erase u) t.equations) e → IsAmong (faults t) e
-rights_of u t e same h =
-    among_right (declaration_faults t) _ e (among_left _ (initial_faults (erase t) t.initial) e (subst (λ (v : SpecForm). IsAmong (right_faults (erase v) t.equations) e) same h))
-
-initial_of : (u t : SpecForm) (e : TypeError) → u ≡ t → IsAmong (initial_faults (erase u) t.initial) e → IsAmong (faults t) e
-initial_of u t e same h =
-    among_right (declaration_faults t) _ e (among_right (right_faults (erase t) t.equations) _ e (subst (λ (v : SpecForm). IsAmong (initial_faults (erase v) t.initial) e) same h))
-
-none_of : (u t : SpecForm) → u ≡ t → declaration_faults t ≡ [] → right_faults (erase u) t.equations ≡ [] → initial_faults (erase u) t.initial ≡ [] → faults t ≡ []
-none_of u t same d r i =
-    no_whole (declaration_faults t) _ d
-    (no_whole (right_faults (erase t) t.equations) _ (ap (λ (v : SpecForm). right_faults (erase v) t.equations) (sym same) ∙ r) (ap (λ (v : SpecForm). initial_faults (erase v) t.initial) (sym same) ∙ i))
+-- behind a first part without faults, what is found of the rest is found of the whole
+found_behind : {T : Type 0} (first rest : List TypingFault) (P : T → Type 0) (r : Result T TypeError) → first ≡ []
+    → MatchResult r (λ x. (rest ≡ []) × P x) (IsAmong rest) → MatchResult r (λ x. (first ++ rest ≡ []) × P x) (IsAmong (first ++ rest))
+found_behind first rest P (Ok x) none h = (no_whole first rest none h.0, h.1)
+found_behind first rest P (Err e) none h = among_right first rest e h
 
 pub returns-in_err-declarations : goal.returns-in_err-declarations
 returns-in_err-declarations c =
@@ -29,22 +23,7 @@ returns-in_err-declarations c =
     among_left (declaration_faults (spec_form c.args.spec.now)) _ c.in_err-declarations.field-0.0 c.in_err-declarations.ensures.checked in
     search rules
 
-pub returns-in_err-check_rights : goal.returns-in_err-check_rights
-returns-in_err-check_rights c =
-    let h : IsAmong (faults (spec_form c.args.spec.now)) c.in_err-check_rights.field-0.0 =
-    rights_of _ (spec_form c.args.spec.now) c.in_err-check_rights.field-0.0 c.in_ok-declarations.ensures.text c.in_err-check_rights.ensures in
-    search rules
-
-pub returns-in_err-check_initial : goal.returns-in_err-check_initial
-returns-in_err-check_initial c =
-    let h : IsAmong (faults (spec_form c.args.spec.now)) c.in_err-check_initial.field-0.0 =
-    initial_of _ (spec_form c.args.spec.now) c.in_err-check_initial.field-0.0 c.in_ok-declarations.ensures.text c.in_err-check_initial.ensures in
-    search rules
-
 pub returns : goal.returns
 returns c =
-    let t = spec_form c.args.spec.now in (
-      none_of _ t c.in_ok-declarations.ensures.text c.in_ok-declarations.ensures.checked c.in_ok-check_rights.ensures c.in_ok-check_initial.ensures,
-      subst (λ (v : SpecForm). IsLayout (erase v) c.in_ok-layout.layout) c.in_ok-declarations.ensures.text
-          (record { values = c.in_ok-layout.ensures.carriers; shapes = c.in_ok-layout.ensures.shapes }),
-    )
+    let t = spec_form c.args.spec.now in
+    found_behind (declaration_faults t) _ (λ layout. IsLayout (erase t) layout) c.check_declared.result c.in_ok-declarations.ensures.checked c.check_declared.ensures

@@ -1,4 +1,4 @@
-use Rattle.std.proofs.Common.{◌≡◌, ◌∙◌, ◌++◌, ◌&&◌, refl, sym, ap, subst, rules, arith, Bool, List, [], ◌∷◌}
+use Rattle.std.proofs.Common.{◌≡◌, ◌∙◌, ◌+◌, drop, ◌++◌, ◌&&◌, refl, sym, ap, subst, rules, arith, Bool, List, [], ◌∷◌}
 use Rattle.std.proofs.lemmas.List.{drop_all}
 use Rattle.pb_sorts.proofs.Places.{drop-at}
 use Rattle.pb_text_tree.specs.declared.variable.Variables.{Variables}
@@ -10,7 +10,7 @@ use Rattle.pb_text_tree.specs.Form.{TermForm, named, argument_forms, arithmetic_
 use Rattle.pb_text_tree.proofs.FormLemmas.{term-chain, term-arithmetic, term-application}
 use Rattle.pb_text_meaning.specs.Erase.{erased_term, erased_arguments, erased_variables}
 use Rattle.pb_typing_rules.specs.Faults.{term_faults, operator_faults}
-use Rattle.pb_typing_rules.specs.Shapes.{Computed, may_be_truth}
+use Rattle.pb_typing_rules.specs.Shapes.{Computed, binary_shape, may_be_truth}
 use Rattle.pb_typing_rules.specs.Scope.{bound, outermost}
 use Rattle.pb_typing_rules.specs.Term.{shape, shapes}
 use Rattle.pb_typing_declarations.specs.declared.fault.TypingRule.TheVariants as rule
@@ -23,8 +23,8 @@ use Rattle.pb_typing_declarations.proofs.Parts.{among_left, among_right, among_f
 use Rattle.pb_typing_declarations.specs.declared.fault.TypingFault.{TypingFault}
 use Rattle.pb_typing.specs.Scopes.{scope_view, table_view, inner_view}
 use Rattle.pb_typing.specs.View.{Judges, shape_view, function_view, operation_of, are_allowed, is_no_link}
-use Rattle.pb_evaluation.proofs.Weight.{weight, weight-chain, weight-arithmetic, weight-application, links_weight, arithmetic_weight, arguments_weight, link_lighter, operand_lighter}
-use Rattle.pb_typing.proofs.Links.{chained-faults, chained-shape, arithmetic_faults, calculated-faults, calculated-shape, calculated_shape, some_link_shape}
+use Rattle.pb_evaluation.proofs.Weight.{weight, weight-chain, weight-arithmetic, weight-application, links_weight, arithmetic_weight, arguments_weight, link_lighter, operand_lighter, argument_lighter}
+use Rattle.pb_typing.proofs.Links.{chained-faults, chained-shape, arithmetic_shape, arithmetic_faults, calculated-faults, calculated-shape, calculated_shape, some_link_shape}
 use Rattle.pb_typing.proofs.Nodes.{negative_operand, comparison_left, comparison_right, quantified_variables, quantified_body, inner_scope, length-shapes, one_argument, two_arguments, three_arguments, application_faults, first_fault, second_fault, third_fault}
 use Rattle.pb_typing.proofs.Applications.{one_applied, two_applied, three_applied}
 use Rattle.pb_typing.proofs.term.+terms.Goals as goal
@@ -276,6 +276,27 @@ check_arithmetic-returns-in_err-left-2 t c =
     let h : IsAmong whole (At (c.in_err-left-2).field-0.0) = among_first whole _ _ (At (c.in_err-left-2).field-0.0) rest here in
     search rules
 
+pub check_arithmetic-loop-link-preserved : goal.check_arithmetic-loop-link-preserved
+check_arithmetic-loop-link-preserved t c =
+    let S = spec_of c.args.declarations.now in
+    let a = scope_view c.args.scope.now in
+    let whole = term_faults S (are_allowed c.args.quantifiers) a (calculated (term_form c.args.first.now) (arithmetic_links c.args.links.now)) in
+    let link = c.link-item.result in
+    let o = operation_of link.operator in
+    let s = shape_view c.loop-link.left in
+    let behind = drop (c.loop-link.link-index + 1) c.args.links.now in
+    let at = drop-at c.args.links.now c.loop-link.link-index link c.loop-link-test.true c.link-item.is in
+    let checked = c.in_ok-right.ensures in
+    let rest = first_clear whole _ _ (c.loop-link.invariant.left ∙ ap (arithmetic_faults S a s) at) checked.0 in
+    let none : operator_faults (Computed o) s (arithmetic_shape S a link) link.place ≡ [] =
+    subst (λ (r : model.Shape). operator_faults (Computed o) s r link.place ≡ []) checked.1 (c.in_ok-left-2).ensures.0 in
+    let made : shape_view (c.in_ok-left-2).left ≡ binary_shape o s (arithmetic_shape S a link) =
+    (c.in_ok-left-2).ensures.1 ∙ ap (binary_shape o s) checked.1 in
+    record {
+      left = first_clear whole _ _ rest none ∙ ap (λ (r : model.Shape). arithmetic_faults S a r behind) (sym made);
+      whole = c.loop-link.invariant.whole ∙ ap (calculated_shape S a s) at ∙ ap (λ (r : model.Shape). calculated_shape S a r behind) (sym made);
+    }
+
 -- ---- nodes
 
 pub check_term-check_chain-requires : goal.check_term-check_chain-requires
@@ -391,3 +412,33 @@ check_chain-returns-else-is_empty t c =
       c.loop-index.invariant.left ∙ ap (link_faults S (are_allowed c.args.quantifiers) a (shape_view c.loop-index.left)) (drop_all c.loop-index.index links (omega (arith, c.loop-index-test.false))),
       some_link_shape (shape S a (erased_term (term_form c.args.first.now))) links (sym c.is_empty.ensures ∙ c.if-is_empty.false),
     )
+
+pub check_application-check_term-requires : goal.check_application-check_term-requires
+check_application-check_term-requires t c =
+    let x = c.x-item in
+    omega (arith, argument_lighter c.args.arguments.now 0 x.result (omega (arith, c.in-len1.len_at_least)) x.is)
+
+pub check_application-check_term-requires-in-len2 : goal.check_application-check_term-requires-in-len2
+check_application-check_term-requires-in-len2 t c =
+    let x = c.x-item-then-arguments-lt3 in
+    omega (arith, argument_lighter c.args.arguments.now 0 x.result (omega (arith, c.in-len2.len_at_least)) x.is)
+
+pub check_application-check_term-requires-in-len2-2 : goal.check_application-check_term-requires-in-len2-2
+check_application-check_term-requires-in-len2-2 t c =
+    let x = c.y-item in
+    omega (arith, argument_lighter c.args.arguments.now 1 x.result (omega (arith, c.in-len2.len_at_least)) x.is)
+
+pub check_application-check_term-requires-in-len3 : goal.check_application-check_term-requires-in-len3
+check_application-check_term-requires-in-len3 t c =
+    let x = c.condition-item in
+    omega (arith, argument_lighter c.args.arguments.now 0 x.result (omega (arith, c.in-len3.len_at_least)) x.is)
+
+pub check_application-check_term-requires-in-len3-2 : goal.check_application-check_term-requires-in-len3-2
+check_application-check_term-requires-in-len3-2 t c =
+    let x = c.x-item-then-arguments-lt4 in
+    omega (arith, argument_lighter c.args.arguments.now 1 x.result (omega (arith, c.in-len3.len_at_least)) x.is)
+
+pub check_application-check_term-requires-in-len3-3 : goal.check_application-check_term-requires-in-len3-3
+check_application-check_term-requires-in-len3-3 t c =
+    let x = c.y-item-then-arguments-lt4 in
+    omega (arith, argument_lighter c.args.arguments.now 2 x.result (omega (arith, c.in-len3.len_at_least)) x.is)

@@ -1,0 +1,43 @@
+use Rattle.std.proofs.Common.{◌≡◌, ◌∙◌, ◌++◌, [], ap, sym, subst, rules}
+use Rattle.pb_text_tree.specs.Form.{SpecForm, spec_form}
+use Rattle.pb_text_meaning.specs.Erase.{erase}
+use Rattle.pb_typing_declarations.specs.declared.fault.TypeError.{TypeError}
+use Rattle.pb_typing_declarations.specs.Faults.{IsAmong}
+use Rattle.pb_typing_rules.specs.Faults.{initial_faults, right_faults}
+use Rattle.pb_typing_declarations.proofs.Parts.{among_left, among_right, no_whole}
+use Rattle.pb_typing.specs.Typed.{IsLayout}
+use Rattle.pb_typing.proofs.spec.check_declared.Goals as goal
+
+-- a text that another one equals has the same faults of right sides and of the initial instance
+abbrev Told : SpecForm → TypeError → Type 0
+Told t = IsAmong (right_faults (erase t) t.equations ++ initial_faults (erase t) t.initial)
+
+rights_of : (u t : SpecForm) (e : TypeError) → u ≡ t → IsAmong (right_faults (erase u) t.equations) e → Told t e
+rights_of u t e same h =
+    among_left _ (initial_faults (erase t) t.initial) e (subst (λ (v : SpecForm). IsAmong (right_faults (erase v) t.equations) e) same h)
+
+initial_of : (u t : SpecForm) (e : TypeError) → u ≡ t → IsAmong (initial_faults (erase u) t.initial) e → Told t e
+initial_of u t e same h =
+    among_right (right_faults (erase t) t.equations) _ e (subst (λ (v : SpecForm). IsAmong (initial_faults (erase v) t.initial) e) same h)
+
+pub returns-in_err-check_rights : goal.returns-in_err-check_rights
+returns-in_err-check_rights c =
+    let h : Told (spec_form c.args.spec.now) c.in_err-check_rights.field-0.0 =
+    rights_of _ (spec_form c.args.spec.now) c.in_err-check_rights.field-0.0 c.requires c.in_err-check_rights.ensures in
+    search rules
+
+pub returns-in_err-check_initial : goal.returns-in_err-check_initial
+returns-in_err-check_initial c =
+    let h : Told (spec_form c.args.spec.now) c.in_err-check_initial.field-0.0 =
+    initial_of _ (spec_form c.args.spec.now) c.in_err-check_initial.field-0.0 c.requires c.in_err-check_initial.ensures in
+    search rules
+
+pub returns : goal.returns
+returns c =
+    let t = spec_form c.args.spec.now in (
+      no_whole (right_faults (erase t) t.equations) _
+          (ap (λ (v : SpecForm). right_faults (erase v) t.equations) (sym c.requires) ∙ c.in_ok-check_rights.ensures)
+          (ap (λ (v : SpecForm). initial_faults (erase v) t.initial) (sym c.requires) ∙ c.in_ok-check_initial.ensures),
+      subst (λ (v : SpecForm). IsLayout (erase v) c.in_ok-layout.layout) c.requires
+          (record { values = c.in_ok-layout.ensures.carriers; shapes = c.in_ok-layout.ensures.shapes }),
+    )
