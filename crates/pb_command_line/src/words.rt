@@ -1,7 +1,8 @@
 //! The words of the command line.
 ghost use Rattle.std.specs.Prelude.{◌≡◌, ◌<◌, ◌≤◌, ℕ, false, map, codes, None, Some, Err, IfOk, IfErr};
 ghost use Rattle.std.specs.Prelude.{IfSome, IfNone, option_map, string_bytes};
-ghost use Rattle.clap.specs.Simple.{app_of, new_shape, with_subcommand};
+ghost use Rattle.clap.specs.Simple.{App, Shape, app_of, shape_of, new_shape, with_subcommand};
+ghost use Rattle.clap.specs.declared.builder.command.Command.TheViews.{out-Command};
 ghost use Rattle.clap.specs.Matches.{found_of, first_value};
 ghost use Rattle.clap.specs.Walk.{rule_of, rows_of};
 ghost use Rattle.pb_command_line.specs.declared.request.Request.{Request};
@@ -88,91 +89,75 @@ fn property_option<'a>(alloc: Global) -> Arg<'a>
     Arg::new(alloc, "property").long("property")
 }
 
-// A command line with one more command, which has no words of its own.
-fn with_plain<'a>(
-    alloc: Global,
-    line: clap::Command<'a>,
-    name: &'a str,
-) -> Result<clap::Command<'a>, AllocError>
-    ensures { IfOk result (λ c. app_of c ≡ with_subcommand (app_of line.entry)
-        (new_shape name.now)) }
+// A command that has no words of its own.
+fn plain<'a>(alloc: Global, name: &'a str) -> clap::Command<'a>
+    ensures shape { shape_of result ≡ new_shape name.now }
+    ensures local { (out-Command result).has_globals ≡ false }
 {
-    line.subcommand(clap::Command::new(alloc, name))
+    clap::Command::new(alloc, name)
 }
 
-// A command line with one more command, which takes the number of workers.
-fn with_exploring<'a>(
-    alloc: Global,
-    line: clap::Command<'a>,
-    name: &'a str,
-) -> Result<clap::Command<'a>, AllocError>
-    ensures { IfOk result (λ c. app_of c ≡ with_subcommand (app_of line.entry)
-        (exploring_shape name.now)) }
+// A command that takes the number of workers.
+fn exploring<'a>(alloc: Global, name: &'a str) -> Result<clap::Command<'a>, AllocError>
+    ensures { IfOk result (λ c. (shape_of c ≡ exploring_shape name.now)
+        × ((out-Command c).has_globals ≡ false)) }
 {
-    let command = clap::Command::new(alloc, name).arg(workers_option(alloc))?;
-    line.subcommand(command)
+    plain(alloc, name).arg(workers_option(alloc))
 }
 
-// A command line with one more command, which takes the number of workers, and tells places.
-fn with_explaining<'a>(
-    alloc: Global,
-    line: clap::Command<'a>,
-    name: &'a str,
-) -> Result<clap::Command<'a>, AllocError>
-    ensures { IfOk result (λ c. app_of c ≡ with_subcommand (app_of line.entry)
-        (explaining_shape name.now)) }
+// A command that takes the number of workers, and tells places.
+fn explaining<'a>(alloc: Global, name: &'a str) -> Result<clap::Command<'a>, AllocError>
+    ensures { IfOk result (λ c. (shape_of c ≡ explaining_shape name.now)
+        × ((out-Command c).has_globals ≡ false)) }
 {
-    let command = clap::Command::new(alloc, name)
-        .arg(workers_option(alloc))?
-        .arg(places_option(alloc))?;
-    line.subcommand(command)
+    exploring(alloc, name)?.arg(places_option(alloc))
 }
 
-// A command line with one more command, which takes the number of workers and the solver.
-fn with_solving<'a>(
-    alloc: Global,
-    line: clap::Command<'a>,
-    name: &'a str,
-) -> Result<clap::Command<'a>, AllocError>
-    ensures { IfOk result (λ c. app_of c ≡ with_subcommand (app_of line.entry)
-        (solving_shape name.now)) }
+// A command that takes the number of workers and the solver.
+fn solving<'a>(alloc: Global, name: &'a str) -> Result<clap::Command<'a>, AllocError>
+    ensures { IfOk result (λ c. (shape_of c ≡ solving_shape name.now)
+        × ((out-Command c).has_globals ≡ false)) }
 {
-    let command = clap::Command::new(alloc, name)
-        .arg(workers_option(alloc))?
-        .arg(solver_option(alloc))?;
-    line.subcommand(command)
+    exploring(alloc, name)?.arg(solver_option(alloc))
 }
 
-// A command line with one more command, which takes the name of a property.
-fn with_translating<'a>(
-    alloc: Global,
-    line: clap::Command<'a>,
-    name: &'a str,
-) -> Result<clap::Command<'a>, AllocError>
-    ensures { IfOk result (λ c. app_of c ≡ with_subcommand (app_of line.entry)
-        (translating_shape name.now)) }
+// A command that takes the name of a property.
+fn translating<'a>(alloc: Global, name: &'a str) -> Result<clap::Command<'a>, AllocError>
+    ensures { IfOk result (λ c. (shape_of c ≡ translating_shape name.now)
+        × ((out-Command c).has_globals ≡ false)) }
 {
-    let command = clap::Command::new(alloc, name).arg(property_option(alloc))?;
-    line.subcommand(command)
+    plain(alloc, name).arg(property_option(alloc))
+}
+
+// A command line with one more command, where memory was refused for neither: so a line of many
+// commands has one way out, here.
+fn with<'a>(
+    line: Result<clap::Command<'a>, AllocError>,
+    command: Result<clap::Command<'a>, AllocError>,
+) -> Result<clap::Command<'a>, AllocError>
+    ensures { (app : App) (shape : Shape) → IfOk line.entry (λ c. app_of c ≡ app)
+        → IfOk command.entry (λ c. (shape_of c ≡ shape) × ((out-Command c).has_globals ≡ false))
+        → IfOk result (λ c. app_of c ≡ with_subcommand app shape) }
+{
+    line?.subcommand(command?)
 }
 
 // The command line as clap reads it.
 fn command_line<'a>(alloc: Global) -> Result<clap::Command<'a>, AllocError>
     ensures { IfOk result (λ c. app_of c ≡ command_line) }
 {
-    let line = clap::Command::new(alloc, "pbsolve").subcommand_required(true);
-    let line = with_solving(alloc, line, "solve")?;
-    let line = with_exploring(alloc, line, "game")?;
-    let line = with_solving(alloc, line, "solution")?;
-    let line = with_solving(alloc, line, "certificate")?;
-    let line = with_explaining(alloc, line, "explain")?;
-    let line = with_plain(alloc, line, "compile")?;
-    let line = with_plain(alloc, line, "verify")?;
-    let line = with_plain(alloc, line, "list")?;
-    let line = with_solving(alloc, line, "solve-code")?;
-    let line = with_translating(alloc, line, "translate")?;
-    let line = with_solving(alloc, line, "check")?;
-    Ok(line)
+    let line = Ok(clap::Command::new(alloc, "pbsolve").subcommand_required(true));
+    let line = with(line, solving(alloc, "solve"));
+    let line = with(line, exploring(alloc, "game"));
+    let line = with(line, solving(alloc, "solution"));
+    let line = with(line, solving(alloc, "certificate"));
+    let line = with(line, explaining(alloc, "explain"));
+    let line = with(line, Ok(plain(alloc, "compile")));
+    let line = with(line, Ok(plain(alloc, "verify")));
+    let line = with(line, Ok(plain(alloc, "list")));
+    let line = with(line, solving(alloc, "solve-code"));
+    let line = with(line, translating(alloc, "translate"));
+    with(line, solving(alloc, "check"))
 }
 
 // How many workers a command is given, 1 where the words don't say.

@@ -3,6 +3,7 @@ use Rattle.std.proofs.Common.{◌≡◌, List, [], ◌∷◌, ◌++◌, map, ref
 use Rattle.std.specs.Prelude.{box_value}
 use Rattle.pb_text_tree.specs.declared.place.Place.{Place}
 use Rattle.pb_text_tree.specs.declared.operator.Connective.{Connective}
+use Rattle.pb_text_tree.specs.declared.operator.Comparison.{Comparison}
 use Rattle.pb_text_tree.specs.declared.operator.Quantifier.{Quantifier}
 use Rattle.pb_text_tree.specs.declared.name.Name.{Name}
 use Rattle.pb_text_tree.specs.declared.variable.Variables.{Variables}
@@ -49,6 +50,20 @@ arguments-listed (x ∷ xs) = ap (argument x.place (term_form x.term)) (argument
 
 pub arguments-copied : (xs ys : List Argument) → map placed_argument xs ≡ map placed_argument ys → argument_forms xs ≡ argument_forms ys
 arguments-copied xs ys e = arguments-listed xs ∙ ap arguments_of e ∙ sym (arguments-listed ys)
+
+pub not-copied : (p : Place) (x y : Box Term Global) (b : Term) → b ≡ term.Not p y
+    → term_form (box_value x) ≡ term_form (box_value y) → term_form (term.Not p x) ≡ term_form b
+not-copied p x y b is operand = ap (TermForm.not p) operand ∙ ap term_form (sym is)
+
+pub negative-copied : (p : Place) (x y : Box Term Global) (b : Term) → b ≡ term.Negative p y
+    → term_form (box_value x) ≡ term_form (box_value y) → term_form (term.Negative p x) ≡ term_form b
+negative-copied p x y b is operand = ap (TermForm.negative p) operand ∙ ap term_form (sym is)
+
+pub comparison-copied : (p : Place) (o : Comparison) (x y u v : Box Term Global) (b : Term) → b ≡ term.Comparison p o y v
+    → term_form (box_value x) ≡ term_form (box_value y) → term_form (box_value u) ≡ term_form (box_value v) → term_form (term.Comparison p o x u) ≡ term_form b
+comparison-copied p o x y u v b is left right =
+    ap (λ l. TermForm.compared o p l (term_form (box_value u))) left
+    ∙ ap (TermForm.compared o p (term_form (box_value y))) right ∙ ap term_form (sym is)
 
 pub chain-copied : (c : Connective) (x y : Box Term Global) (xs ys : Vec TermLink Global) (b : Term) → b ≡ term.Chain c y ys
     → term_form (box_value x) ≡ term_form (box_value y) → term_links xs.items ≡ term_links ys.items → term_form (term.Chain c x xs) ≡ term_form b

@@ -1,6 +1,6 @@
 //! Copies data terms, places included.
 
-ghost use Rattle.std.specs.Prelude.{◌≡◌, IfOk};
+ghost use Rattle.std.specs.Prelude.{◌≡◌, IfOk, box_value};
 ghost use Rattle.pb_text_tree.specs.Form.{argument_forms, arithmetic_links, term_form, term_links};
 
 use crate::variable::{copy_name, copy_variables};
@@ -60,6 +60,15 @@ pub fn copy_arguments(alloc: Global, arguments: &[Argument]) -> Result<Vec<Argum
     Ok(copies)
 }
 
+/// A term that is equal, in a box of its own.
+#[cycle(terms)]
+fn copy_boxed(alloc: Global, term: &Box<Term>) -> Result<Box<Term>, AllocError>
+    ensures { IfOk result (λ copy. term_form (box_value copy) ≡ term_form (box_value term.now)) }
+{
+    let copy = copy_term(alloc, term)?;
+    Ok(Box::new(alloc, copy)?)
+}
+
 /// A term that is equal, places included.
 ///
 /// # Errors
@@ -78,82 +87,55 @@ pub fn copy_term(alloc: Global, term: &Term) -> Result<Term, AllocError>
             value: *value,
         }),
         Term::Name(name) => Ok(Term::Name(copy_name(alloc, name)?)),
-        Term::Not { place, operand } => {
-            let operand = copy_term(alloc, operand)?;
-            let operand = Box::new(alloc, operand)?;
-            let place = *place;
-            Ok(Term::Not { place, operand })
-        }
-        Term::Negative { place, operand } => {
-            let operand = copy_term(alloc, operand)?;
-            let operand = Box::new(alloc, operand)?;
-            let place = *place;
-            Ok(Term::Negative { place, operand })
-        }
+        Term::Not { place, operand } => Ok(Term::Not {
+            place: *place,
+            operand: copy_boxed(alloc, operand)?,
+        }),
+        Term::Negative { place, operand } => Ok(Term::Negative {
+            place: *place,
+            operand: copy_boxed(alloc, operand)?,
+        }),
         Term::Chain {
             connective,
             first,
             links,
-        } => {
-            let first = copy_term(alloc, first)?;
-            let first = Box::new(alloc, first)?;
-            let links = copy_links(alloc, links)?;
-            let connective = *connective;
-            Ok(Term::Chain {
-                connective,
-                first,
-                links,
-            })
-        }
+        } => Ok(Term::Chain {
+            connective: *connective,
+            first: copy_boxed(alloc, first)?,
+            links: copy_links(alloc, links)?,
+        }),
         Term::Comparison {
             place,
             comparison,
             left,
             right,
-        } => {
-            let left = copy_term(alloc, left)?;
-            let left = Box::new(alloc, left)?;
-            let right = copy_term(alloc, right)?;
-            let right = Box::new(alloc, right)?;
-            Ok(Term::Comparison {
-                place: *place,
-                comparison: *comparison,
-                left,
-                right,
-            })
-        }
-        Term::Arithmetic { first, links } => {
-            let first = copy_term(alloc, first)?;
-            let first = Box::new(alloc, first)?;
-            let links = copy_operations(alloc, links)?;
-            Ok(Term::Arithmetic { first, links })
-        }
+        } => Ok(Term::Comparison {
+            place: *place,
+            comparison: *comparison,
+            left: copy_boxed(alloc, left)?,
+            right: copy_boxed(alloc, right)?,
+        }),
+        Term::Arithmetic { first, links } => Ok(Term::Arithmetic {
+            first: copy_boxed(alloc, first)?,
+            links: copy_operations(alloc, links)?,
+        }),
         Term::Application {
             function,
             arguments,
-        } => {
-            let function = copy_name(alloc, function)?;
-            let arguments = copy_arguments(alloc, arguments)?;
-            Ok(Term::Application {
-                function,
-                arguments,
-            })
-        }
+        } => Ok(Term::Application {
+            function: copy_name(alloc, function)?,
+            arguments: copy_arguments(alloc, arguments)?,
+        }),
         Term::Quantified {
             place,
             quantifier,
             variables,
             body,
-        } => {
-            let variables = copy_variables(alloc, variables)?;
-            let body = copy_term(alloc, body)?;
-            let body = Box::new(alloc, body)?;
-            Ok(Term::Quantified {
-                place: *place,
-                quantifier: *quantifier,
-                variables,
-                body,
-            })
-        }
+        } => Ok(Term::Quantified {
+            place: *place,
+            quantifier: *quantifier,
+            variables: copy_variables(alloc, variables)?,
+            body: copy_boxed(alloc, body)?,
+        }),
     }
 }

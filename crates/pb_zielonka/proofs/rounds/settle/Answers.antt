@@ -1,0 +1,40 @@
+use Rattle.std.proofs.Common.{◌≡◌, ◌<◌, ◌≤◌, length, ap, refl, arith}
+use Rattle.pb_game.specs.Games.{successors_of}
+use Rattle.pb_zielonka.proofs.Forcing.{written}
+use Rattle.pb_zielonka.proofs.RoundLemmas.{on_ok3, passed_taken, search_passed, stops_outside}
+use Rattle.pb_zielonka.proofs.rounds.settle.Goals as goal
+
+pub take_in-requires-clause-search : goal.take_in-requires-clause-search
+take_in-requires-clause-search c =
+    let a = c.args.attractor.now in
+    let here : c.args.v < length a.passed.items = omega (arith, c.requires.search.known.size, c.requires.candidate.untaken.vertex) in
+    search_passed c.args.arena.now.game.now c.args.arena.now.region.now c.args.arena.now.player a _ c.args.next.now.items c.args.v c.args.place refl refl refl
+    c.requires.candidate.untaken.inside (written a.passed.items c.args.v c.args.place here) c.requires.stops c.requires.search
+
+pub take_in-requires-clause-taken : goal.take_in-requires-clause-taken
+take_in-requires-clause-taken c =
+    let g = c.args.arena.now.game.now in
+    let all : length (successors_of g c.args.v) ≤ c.args.place = omega (arith, ap length c.successors.ensures.list) in
+    passed_taken g c.args.arena.now.region.now c.args.arena.now.player c.args.attractor.now.rank.items c.args.attractor.now.rounds c.args.v c.args.place 0
+    c.requires.candidate.theirs c.requires.stops all
+
+pub take_in-requires-clause-untaken : goal.take_in-requires-clause-untaken
+take_in-requires-clause-untaken c = c.requires.candidate.untaken
+
+pub returns-then-place-successors-clause-search : goal.returns-then-place-successors-clause-search
+returns-then-place-successors-clause-search c =
+    let a = c.args.attractor.now in
+    let here : c.args.v < length a.passed.items = omega (arith, c.requires.search.known.size, c.requires.candidate.untaken.vertex) in
+    search_passed c.args.arena.now.game.now c.args.arena.now.region.now c.args.arena.now.player a _ c.args.next.now.items c.args.v c.args.place refl refl refl
+    c.requires.candidate.untaken.inside (written a.passed.items c.args.v c.args.place here) c.requires.stops c.requires.search
+
+pub returns-then-place-successors-clause-outside : goal.returns-then-place-successors-clause-outside
+returns-then-place-successors-clause-outside c = λ inside z.
+    let g = c.args.arena.now.game.now in
+    let some : c.args.place < length (successors_of g c.args.v) = omega (arith, ap length c.successors.ensures.list) in
+    stops_outside g c.args.arena.now.region.now c.args.arena.now.player c.args.attractor.now.rank.items c.args.attractor.now.rounds c.args.v c.args.place
+    c.requires.candidate.theirs c.requires.stops some
+
+pub returns-clause-outside : goal.returns-clause-outside
+returns-clause-outside c =
+    on_ok3 c.take_in.result (λ w x y inside z. absurd (omega (arith, w.there, z))) c.take_in.ensures.written c.take_in.ensures.written c.take_in.ensures.written
