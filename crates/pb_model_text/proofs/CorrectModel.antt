@@ -7,7 +7,7 @@ use Rattle.pb_text_lexer.specs.declared.fault.Refusal.{Refusal}
 use Rattle.pb_text_lexer.specs.declared.kind.Kind.{Kind}
 use Rattle.pb_text_lexer.specs.declared.kind.Kind.TheVariants as k
 use Rattle.pb_text_lexer.specs.Kinds.{same_kind, is_last, is_limited}
-use Rattle.pb_text_lexer.specs.Grammar.{State, Within, going_on, Reads, Is, One, CountedApart}
+use Rattle.pb_text_lexer.specs.Grammar.{State, Within, going_on, One, CountedApart}
 use Rattle.pb_text_lexer.specs.LeftGrammar.{Listed}
 use Rattle.pb_text_lexer.specs.Steps.{ends, Step, Outcome, and_then, pure, expect, refuse, refusal, kind, head_kind, nothing_between}
 use Rattle.pb_text_lexer.specs.Steps as step
