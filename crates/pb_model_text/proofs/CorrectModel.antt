@@ -7,8 +7,7 @@ use Rattle.pb_text_lexer.specs.declared.fault.Refusal.{Refusal}
 use Rattle.pb_text_lexer.specs.declared.kind.Kind.{Kind}
 use Rattle.pb_text_lexer.specs.declared.kind.Kind.TheVariants as k
 use Rattle.pb_text_lexer.specs.Kinds.{same_kind, is_last, is_limited}
-use Rattle.pb_text_lexer.specs.Grammar.{State, Within, going_on, Reads, Is, One, CountedApart}
-use Rattle.pb_text_lexer.specs.Grammar as grammar
+use Rattle.pb_text_lexer.specs.Grammar.{State, Within, going_on, One, CountedApart}
 use Rattle.pb_text_lexer.specs.LeftGrammar.{Listed}
 use Rattle.pb_text_lexer.specs.Steps.{ends, Step, Outcome, and_then, pure, expect, refuse, refusal, kind, head_kind, nothing_between}
 use Rattle.pb_text_lexer.specs.Steps as step
@@ -65,9 +64,9 @@ placed_term-correct depth = placed-correct IsTerm term_goes depth (λ d s y z r.
 assignment-correct : (depth : ℕ) → Correct Always (assignment depth) IsAssignment term_goes depth
 unfolding assignment
 assignment-correct depth =
-    then-plain (λ d. Name) (λ variable d. grammar.◌>>=◌ (One k.Assign) (λ assign. grammar.◌>>=◌ (Placed (IsTerm d)) (λ value. Is (record { variable = variable; place = value.0; value = value.1 })))) term_goes depth
+    then-plain (λ d. Name) _ term_goes depth
     Always name _ (name-correct depth) (λ variable.
-    then-plain (λ d. One k.Assign) (λ assign d. grammar.◌>>=◌ (Placed (IsTerm d)) (λ value. Is (record { variable = variable; place = value.0; value = value.1 }))) term_goes depth
+    then-plain (λ d. One k.Assign) _ term_goes depth
     Always (expect k.Assign) _ (expect-correct k.Assign depth refl) (λ assign.
     said-correct (λ d. Placed (IsTerm d)) (λ value. record { variable = variable; place = value.0; value = value.1 }) term_goes depth Always (placed (term depth)) (placed_term-correct depth)))
 
@@ -89,17 +88,17 @@ semicolon-stops = refl
 step_parts-correct : (depth : ℕ) → Correct Always (step_parts depth) IsStep never depth
 unfolding step_parts
 step_parts-correct depth =
-    then-plain (λ d. Name) (λ found d. grammar.◌>>=◌ (parameters_of d) (λ own. grammar.◌>>=◌ (One k.Colon) (λ colon. grammar.◌>>=◌ (IsTerm d) (λ guard. grammar.◌>>=◌ (One k.Arrow) (λ arrow. grammar.◌>>=◌ (Listed (IsAssignment d) (One k.Comma)) (λ assigned. grammar.◌>>=◌ (One k.Semicolon) (λ semicolon. Is (record { name = found; variables = own; guard = guard; assignments = assigned })))))))) never depth
+    then-plain (λ d. Name) _ never depth
     Always name _ (name-correct depth) (λ found.
-    then-correct parameters_of (λ own d. grammar.◌>>=◌ (One k.Colon) (λ colon. grammar.◌>>=◌ (IsTerm d) (λ guard. grammar.◌>>=◌ (One k.Arrow) (λ arrow. grammar.◌>>=◌ (Listed (IsAssignment d) (One k.Comma)) (λ assigned. grammar.◌>>=◌ (One k.Semicolon) (λ semicolon. Is (record { name = found; variables = own; guard = guard; assignments = assigned }))))))) (going never is_open) never depth
+    then-correct parameters_of _ (going never is_open) never depth
     (λ d x m y z r over. stops-at-kind (going never is_open) k.Colon colon-stops m.tokens r.1.tokens r.0 r.2.0 r.2.1) Always (parameters depth) _ (parameters-correct depth) (λ own. anywhere (Stops (going never is_open)) _ _ never depth (
-    then-plain (λ d. One k.Colon) (λ colon d. grammar.◌>>=◌ (IsTerm d) (λ guard. grammar.◌>>=◌ (One k.Arrow) (λ arrow. grammar.◌>>=◌ (Listed (IsAssignment d) (One k.Comma)) (λ assigned. grammar.◌>>=◌ (One k.Semicolon) (λ semicolon. Is (record { name = found; variables = own; guard = guard; assignments = assigned })))))) never depth
+    then-plain (λ d. One k.Colon) _ never depth
     Always (expect k.Colon) _ (expect-correct k.Colon depth refl) (λ colon.
-    then-correct IsTerm (λ guard d. grammar.◌>>=◌ (One k.Arrow) (λ arrow. grammar.◌>>=◌ (Listed (IsAssignment d) (One k.Comma)) (λ assigned. grammar.◌>>=◌ (One k.Semicolon) (λ semicolon. Is (record { name = found; variables = own; guard = guard; assignments = assigned }))))) term_goes never depth
+    then-correct IsTerm _ term_goes never depth
     (λ d x m y z r over. stops-at-kind term_goes k.Arrow arrow-stops m.tokens r.1.tokens r.0 r.2.0 r.2.1) Always (term depth) _ (term-correct depth) (λ guard. anywhere (Stops term_goes) _ _ never depth (
-    then-plain (λ d. One k.Arrow) (λ arrow d. grammar.◌>>=◌ (Listed (IsAssignment d) (One k.Comma)) (λ assigned. grammar.◌>>=◌ (One k.Semicolon) (λ semicolon. Is (record { name = found; variables = own; guard = guard; assignments = assigned })))) never depth
+    then-plain (λ d. One k.Arrow) _ never depth
     Always (expect k.Arrow) _ (expect-correct k.Arrow depth refl) (λ arrow.
-    then-correct (λ d. Listed (IsAssignment d) (One k.Comma)) (λ assigned d. grammar.◌>>=◌ (One k.Semicolon) (λ semicolon. Is (record { name = found; variables = own; guard = guard; assignments = assigned }))) list_goes never depth
+    then-correct (λ d. Listed (IsAssignment d) (One k.Comma)) _ list_goes never depth
     (λ d x m y z r over. stops-at-kind list_goes k.Semicolon semicolon-stops m.tokens r.1.tokens r.0 r.2.0 r.2.1) Always (assignments depth) _ (assignments-correct depth)
     (λ assigned. anywhere (Stops list_goes) _ _ never depth (token-correct k.Semicolon depth (record { name = found; variables = own; guard = guard; assignments = assigned }) refl)))))))))
 
@@ -126,9 +125,9 @@ values-correct depth =
 initial_parts-correct : (depth : ℕ) → Correct Always (initial_parts depth) IsInitial never depth
 unfolding initial_parts
 initial_parts-correct depth =
-    then-plain (λ d. One k.Init) (λ word d. grammar.◌>>=◌ (Listed (Placed (IsTerm d)) (One k.Comma)) (λ values. grammar.◌>>=◌ (One k.Semicolon) (λ semicolon. Is (record { place = word.place; values = arguments_of values })))) never depth
+    then-plain (λ d. One k.Init) _ never depth
     Always (expect k.Init) _ (expect-correct k.Init depth refl) (λ word.
-    then-correct (λ d. Listed (Placed (IsTerm d)) (One k.Comma)) (λ values d. grammar.◌>>=◌ (One k.Semicolon) (λ semicolon. Is (record { place = word.place; values = arguments_of values }))) list_goes never depth
+    then-correct (λ d. Listed (Placed (IsTerm d)) (One k.Comma)) _ list_goes never depth
     (λ d x m y z r over. stops-at-kind list_goes k.Semicolon semicolon-stops m.tokens r.1.tokens r.0 r.2.0 r.2.1) Always (argument_list (term depth)) _ (values-correct depth)
     (λ values. anywhere (Stops list_goes) _ _ never depth (token-correct k.Semicolon depth (record { place = word.place; values = arguments_of values }) refl)))
 
@@ -145,13 +144,13 @@ formula-stops = refl
 property_parts-correct : (depth : ℕ) → Correct Always (property_parts depth) IsProperty never depth
 unfolding property_parts
 property_parts-correct depth =
-    then-plain (λ d. One k.Property) (λ word d. grammar.◌>>=◌ Name (λ found. grammar.◌>>=◌ (One k.Is) (λ is. grammar.◌>>=◌ (IsFormula [] d) (λ x. grammar.◌>>=◌ (One k.Semicolon) (λ semicolon. Is (record { name = found; formula = x })))))) never depth
+    then-plain (λ d. One k.Property) _ never depth
     Always (expect k.Property) _ (expect-correct k.Property depth refl) (λ word.
-    then-plain (λ d. Name) (λ found d. grammar.◌>>=◌ (One k.Is) (λ is. grammar.◌>>=◌ (IsFormula [] d) (λ x. grammar.◌>>=◌ (One k.Semicolon) (λ semicolon. Is (record { name = found; formula = x }))))) never depth
+    then-plain (λ d. Name) _ never depth
     Always name _ (name-correct depth) (λ found.
-    then-plain (λ d. One k.Is) (λ is d. grammar.◌>>=◌ (IsFormula [] d) (λ x. grammar.◌>>=◌ (One k.Semicolon) (λ semicolon. Is (record { name = found; formula = x })))) never depth
+    then-plain (λ d. One k.Is) _ never depth
     Always (expect k.Is) _ (expect-correct k.Is depth refl) (λ is.
-    then-correct (IsFormula []) (λ x d. grammar.◌>>=◌ (One k.Semicolon) (λ semicolon. Is (record { name = found; formula = x }))) formula_goes never depth
+    then-correct (IsFormula []) _ formula_goes never depth
     (λ d x m y z r over. stops-at-kind formula_goes k.Semicolon formula-stops m.tokens r.1.tokens r.0 r.2.0 r.2.1) Always (formula [] depth) _ ((formulas-correct depth).formulas [])
     (λ x. anywhere (Stops formula_goes) _ _ never depth (token-correct k.Semicolon depth (record { name = found; formula = x }) refl)))))
 
@@ -192,21 +191,21 @@ module _ (ranges : List RangeForm) (depth : ℕ) where
   model-correct : Correct Always (model ranges depth) (IsModel ranges) properties_go depth
   unfolding model
   model-correct =
-      then-correct (λ d. SortParts) (λ sorts d. grammar.◌>>=◌ (One k.Model) (λ word. grammar.◌>>=◌ (One k.State) (λ state. grammar.◌>>=◌ Variables (λ own. grammar.◌>>=◌ (One k.Semicolon) (λ semicolon. grammar.◌>>=◌ (One k.Step) (λ step. grammar.◌>>=◌ (Steps d) (λ found. grammar.◌>>=◌ (CountedApart (IsInitial d)) (λ start. grammar.◌>>=◌ (Properties d) (λ asked. Is (record { sorts = sorts; ranges = ranges; variables = own; steps = found; initial = start; properties = asked })))))))))) parts_go properties_go depth
+      then-correct (λ d. SortParts) _ parts_go properties_go depth
       (λ d x m y z r over. stops-at-kind parts_go k.Model model-stops m.tokens r.1.tokens r.0 r.2.0 r.2.1) Always sort_parts _ (sort_parts-correct depth) (λ sorts. anywhere (Stops parts_go) _ _ properties_go depth (
-      then-plain (λ d. One k.Model) (λ word d. grammar.◌>>=◌ (One k.State) (λ state. grammar.◌>>=◌ Variables (λ own. grammar.◌>>=◌ (One k.Semicolon) (λ semicolon. grammar.◌>>=◌ (One k.Step) (λ step. grammar.◌>>=◌ (Steps d) (λ found. grammar.◌>>=◌ (CountedApart (IsInitial d)) (λ start. grammar.◌>>=◌ (Properties d) (λ asked. Is (record { sorts = sorts; ranges = ranges; variables = own; steps = found; initial = start; properties = asked }))))))))) properties_go depth
+      then-plain (λ d. One k.Model) _ properties_go depth
       Always (expect k.Model) _ (expect-correct k.Model depth refl) (λ word.
-      then-plain (λ d. One k.State) (λ state d. grammar.◌>>=◌ Variables (λ own. grammar.◌>>=◌ (One k.Semicolon) (λ semicolon. grammar.◌>>=◌ (One k.Step) (λ step. grammar.◌>>=◌ (Steps d) (λ found. grammar.◌>>=◌ (CountedApart (IsInitial d)) (λ start. grammar.◌>>=◌ (Properties d) (λ asked. Is (record { sorts = sorts; ranges = ranges; variables = own; steps = found; initial = start; properties = asked })))))))) properties_go depth
+      then-plain (λ d. One k.State) _ properties_go depth
       Always (expect k.State) _ (expect-correct k.State depth refl) (λ state.
-      then-correct (λ d. Variables) (λ own d. grammar.◌>>=◌ (One k.Semicolon) (λ semicolon. grammar.◌>>=◌ (One k.Step) (λ step. grammar.◌>>=◌ (Steps d) (λ found. grammar.◌>>=◌ (CountedApart (IsInitial d)) (λ start. grammar.◌>>=◌ (Properties d) (λ asked. Is (record { sorts = sorts; ranges = ranges; variables = own; steps = found; initial = start; properties = asked }))))))) commas properties_go depth
+      then-correct (λ d. Variables) _ commas properties_go depth
       (λ d x m y z r over. stops-at-kind commas k.Semicolon state-stops m.tokens r.1.tokens r.0 r.2.0 r.2.1) Always variables _ (variables-correct depth) (λ own. anywhere (Stops commas) _ _ properties_go depth (
-      then-plain (λ d. One k.Semicolon) (λ semicolon d. grammar.◌>>=◌ (One k.Step) (λ step. grammar.◌>>=◌ (Steps d) (λ found. grammar.◌>>=◌ (CountedApart (IsInitial d)) (λ start. grammar.◌>>=◌ (Properties d) (λ asked. Is (record { sorts = sorts; ranges = ranges; variables = own; steps = found; initial = start; properties = asked })))))) properties_go depth
+      then-plain (λ d. One k.Semicolon) _ properties_go depth
       Always (expect k.Semicolon) _ (expect-correct k.Semicolon depth refl) (λ semicolon.
-      then-plain (λ d. One k.Step) (λ step d. grammar.◌>>=◌ (Steps d) (λ found. grammar.◌>>=◌ (CountedApart (IsInitial d)) (λ start. grammar.◌>>=◌ (Properties d) (λ asked. Is (record { sorts = sorts; ranges = ranges; variables = own; steps = found; initial = start; properties = asked }))))) properties_go depth
+      then-plain (λ d. One k.Step) _ properties_go depth
       Always (expect k.Step) _ (expect-correct k.Step depth refl) (λ step.
-      then-correct Steps (λ found d. grammar.◌>>=◌ (CountedApart (IsInitial d)) (λ start. grammar.◌>>=◌ (Properties d) (λ asked. Is (record { sorts = sorts; ranges = ranges; variables = own; steps = found; initial = start; properties = asked })))) steps_go properties_go depth
+      then-correct Steps _ steps_go properties_go depth
       (λ d x m y z r over. let q = r.2.1 in stops-at-kind steps_go k.Init init-stops m.tokens q.1.tokens q.0 q.2.0 q.2.1) Always (steps depth) _ (steps-correct depth) (λ found. anywhere (Stops steps_go) _ _ properties_go depth (
-      then-plain (λ d. CountedApart (IsInitial d)) (λ start d. grammar.◌>>=◌ (Properties d) (λ asked. Is (record { sorts = sorts; ranges = ranges; variables = own; steps = found; initial = start; properties = asked }))) properties_go depth
+      then-plain (λ d. CountedApart (IsInitial d)) _ properties_go depth
       Always (initial depth) _ (initial-correct depth) (λ start.
       said-correct Properties (λ asked. record { sorts = sorts; ranges = ranges; variables = own; steps = found; initial = start; properties = asked }) properties_go depth Always (properties depth) (properties-correct depth))))))))))))
 
