@@ -34,7 +34,8 @@ use Rattle.pb_normal.specs.Normal.{Formula, Join}
 use Rattle.pb_normal.specs.Normalisation.{Slotting, arguments, normal, place_of, slotted, width}
 use Rattle.pb_normal.specs.Tree.{formula_chain_of, formula_of}
 use Rattle.pb_normal.specs.View.{argument_view, chained, shapes_of, term_view, formula_view, formula_views}
-use Rattle.pb_normal.proofs.NormalChains.{link_normals, link_width, chained-normal}
+use Rattle.pb_normal.specs.FormulaLinks.{AreShapedLinks, link_normals, link_width, links_loops}
+use Rattle.pb_normal.proofs.NormalChains.{chained-normal}
 use Rattle.pb_normal.proofs.ValueLemmas.{grown, joined-loops, joined_shaped}
 use Rattle.pb_normal.proofs.ValueSteps.{views-push}
 
@@ -44,14 +45,6 @@ expanded-joined : (o : Connective) (f g : syntax.Formula) → expanded (joined o
 expanded-joined And f g = refl
 expanded-joined Or f g = refl
 expanded-joined Implies f g = refl
-
-abbrev pub links_loops : Spec → List Link → List Shape
-links_loops S [] = []
-links_loops S (link ∷ links) = loops S (formula_of link.operand) ++ links_loops S links
-
-abbrev pub AreShapedLinks : Spec → List Link → Type 0
-AreShapedLinks S [] = Unit {0}
-AreShapedLinks S (link ∷ links) = IsShaped S (formula_of link.operand) × AreShapedLinks S links
 
 abbrev chain_form : Connective → FormulaForm → List Link → syntax.Formula
 chain_form o first links = expanded (erased_formula (form.chained (FormulaForm.connected o) first (link_forms links)))
@@ -84,35 +77,28 @@ next-normals S o even c scope n links k link below at =
     ap (link_normals S o even c scope n) (drop-at links k link below at)
     ∙ ap (λ (m : ℕ). normal S (operand_parity o even m) c scope n (formula_of link.operand) ∷ link_normals S o even c scope (n + link_width link) rest) count
 
--- the first operand and so many links are done: their normal forms, and the carriers of their quantifiers
-pub record AreDone (S : Spec) (o : Connective) (even : Bool) (c : Slotting) (scope : Scope) (first : ast.Formula) (links : List Link) (before : List Carrier) (k : ℕ) (begun : code.Formula) (done : List code.Formula) (now : List Carrier) : Type 0 where
-  pub head : formula_view begun ≡ normal S (operand_parity o even (length links)) c scope (length before) (formula_of first)
-  pub rest : link_normals S o even c scope (length before + width (formula_of first)) links ≡ formula_views done ++ link_normals S o even c scope (length now) (drop k links)
-  pub carriers : shapes_of now ++ links_loops S (drop k links) ≡ shapes_of before ++ loops S (formula_chain_of o first links)
+-- so many links are done: their normal forms, and the carriers of their quantifiers
+pub record AreDone (S : Spec) (o : Connective) (even : Bool) (c : Slotting) (scope : Scope) (links : List Link) (before : List Carrier) (k : ℕ) (done : List code.Formula) (now : List Carrier) : Type 0 where
+  pub rest : link_normals S o even c scope (length before) links ≡ formula_views done ++ link_normals S o even c scope (length now) (drop k links)
+  pub carriers : shapes_of now ++ links_loops S (drop k links) ≡ shapes_of before ++ links_loops S links
   pub shaped : AreShapedLinks S (drop k links)
 
-pub done_begun : (S : Spec) (o : Connective) (even : Bool) (c : Slotting) (scope : Scope) (first : ast.Formula) (links : List Link) (before now : List Carrier) (begun : code.Formula) (done : List code.Formula) (p : Bool) → p ≡ operand_parity o even (length links) → done ≡ []
-    → IsShaped S (formula_chain_of o first links) → formula_view begun ≡ normal S p c scope (length before) (formula_of first) → shapes_of now ≡ shapes_of before ++ loops S (formula_of first)
-    → AreDone S o even c scope first links before 0 begun done now
-done_begun S o even c scope first links before now begun done p parity none shaped form shapes = record {
-  head = form ∙ ap (λ (q : Bool). normal S q c scope (length before) (formula_of first)) parity;
-  rest = ap (λ (m : ℕ). link_normals S o even c scope m links) (sym (grown S (formula_of first) before now shapes)) ∙ ap (λ (fs : List code.Formula). formula_views fs ++ link_normals S o even c scope (length now) links) (sym none);
-  carriers =
-      ap (λ (ss : List Shape). ss ++ links_loops S links) shapes
-      ∙ (append_assoc (shapes_of before) (loops S (formula_of first)) (links_loops S links)
-      ∙ ap (λ (ss : List Shape). shapes_of before ++ ss) (sym (chain-loops S o first links)));
-  shaped = (chain_shaped S o first links shaped).1;
+pub done_begun : (S : Spec) (o : Connective) (even : Bool) (c : Slotting) (scope : Scope) (links : List Link) (before : List Carrier) (done : List code.Formula) → done ≡ [] → AreShapedLinks S links
+    → AreDone S o even c scope links before 0 done before
+done_begun S o even c scope links before done none shaped = record {
+  rest = ap (λ (fs : List code.Formula). formula_views fs ++ link_normals S o even c scope (length before) links) (sym none);
+  carriers = refl;
+  shaped = shaped;
 }
 
-pub done_next : (S : Spec) (o : Connective) (even : Bool) (c : Slotting) (scope : Scope) (first : ast.Formula) (links : List Link) (before old new : List Carrier) (k : ℕ) (link : Link) (begun f : code.Formula) (done more : List code.Formula) (p : Bool)
+pub done_next : (S : Spec) (o : Connective) (even : Bool) (c : Slotting) (scope : Scope) (links : List Link) (before old new : List Carrier) (k : ℕ) (link : Link) (f : code.Formula) (done more : List code.Formula) (p : Bool)
     → k < length links → link ≡ get_or links k link → p ≡ operand_parity o even (length links - k - 1) → more ≡ done ++ f ∷ []
     → formula_view f ≡ normal S p c scope (length old) (formula_of link.operand) → shapes_of new ≡ shapes_of old ++ loops S (formula_of link.operand)
-    → AreDone S o even c scope first links before k begun done old → AreDone S o even c scope first links before (k + 1) begun more new
-done_next S o even c scope first links before old new k link begun f done more p below at parity pushed form shapes h =
+    → AreDone S o even c scope links before k done old → AreDone S o even c scope links before (k + 1) more new
+done_next S o even c scope links before old new k link f done more p below at parity pushed form shapes h =
     let left = drop-at links k link below at in
     let others = link_normals S o even c scope (length new) (drop (k + 1) links) in
     record {
-      head = h.head;
       rest =
           h.rest
           ∙ (ap (λ (fs : List Formula). formula_views done ++ fs) (next-normals S o even c scope (length old) links k link below at)
@@ -132,21 +118,35 @@ pub shaped_at : (S : Spec) (links : List Link) (k : ℕ) (link : Link) → k < l
 shaped_at S links k link below at h = (subst (AreShapedLinks S) (drop-at links k link below at) h).0
 
 -- all links are done
-pub shapes_ended : (S : Spec) (o : Connective) (even : Bool) (c : Slotting) (scope : Scope) (first : ast.Formula) (links : List Link) (before now : List Carrier) (k : ℕ) (begun : code.Formula) (done : List code.Formula) → length links ≤ k
-    → AreDone S o even c scope first links before k begun done now → shapes_of now ≡ shapes_of before ++ loops S (formula_chain_of o first links)
-shapes_ended S o even c scope first links before now k begun done end h =
+pub shapes_ended : (S : Spec) (o : Connective) (even : Bool) (c : Slotting) (scope : Scope) (links : List Link) (before now : List Carrier) (k : ℕ) (done : List code.Formula) → length links ≤ k
+    → AreDone S o even c scope links before k done now → shapes_of now ≡ shapes_of before ++ links_loops S links
+shapes_ended S o even c scope links before now k done end h =
     sym (ap (λ (ls : List Link). shapes_of now ++ links_loops S ls) (drop_all k links end) ∙ append-nil (shapes_of now)) ∙ h.carriers
 
-pub chain-view : (S : Spec) (o : Connective) (even : Bool) (c : Slotting) (scope : Scope) (first : ast.Formula) (links : List Link) (before now : List Carrier) (k : ℕ) (begun : code.Formula) (done : List code.Formula) (m : Bool) (f : Formula)
-    → length links ≤ k → m ≡ joins o even → f ≡ formula_view begun → AreDone S o even c scope first links before k begun done now
-    → chained (Join m) f (formula_views done) ≡ normal S even c scope (length before) (formula_chain_of o first links)
-chain-view S o even c scope first links before now k begun done m f end joined same h =
-    let others : link_normals S o even c scope (length before + width (formula_of first)) links ≡ formula_views done =
-    h.rest ∙ (ap (λ (ls : List Link). formula_views done ++ link_normals S o even c scope (length now) ls) (drop_all k links end) ∙ append-nil (formula_views done)) in
-    ap (λ (b : Bool). chained (Join b) f (formula_views done)) joined
-    ∙ (ap (λ (g : Formula). chained (Join (joins o even)) g (formula_views done)) (same ∙ h.head)
-    ∙ (ap (chained (Join (joins o even)) (normal S (operand_parity o even (length links)) c scope (length before) (formula_of first))) (sym others)
-    ∙ sym (chained-normal S o even c scope (length before) (formula_form first) links)))
+pub views_ended : (S : Spec) (o : Connective) (even : Bool) (c : Slotting) (scope : Scope) (links : List Link) (before now : List Carrier) (k : ℕ) (done : List code.Formula) → length links ≤ k
+    → AreDone S o even c scope links before k done now → formula_views done ≡ link_normals S o even c scope (length before) links
+views_ended S o even c scope links before now k done end h =
+    sym (h.rest ∙ (ap (λ (ls : List Link). formula_views done ++ link_normals S o even c scope (length now) ls) (drop_all k links end) ∙ append-nil (formula_views done)))
+
+-- ---- the first operand, and those behind it
+
+module _ (S : Spec) (o : Connective) (first : ast.Formula) (links : List Link) (before mid : List Carrier) (shapes : shapes_of mid ≡ shapes_of before ++ loops S (formula_of first)) where
+  pub chain-shapes : (now : List Carrier) → shapes_of now ≡ shapes_of mid ++ links_loops S links → shapes_of now ≡ shapes_of before ++ loops S (formula_chain_of o first links)
+  chain-shapes now behind =
+      behind
+      ∙ (ap (λ (ss : List Shape). ss ++ links_loops S links) shapes
+      ∙ (append_assoc (shapes_of before) (loops S (formula_of first)) (links_loops S links)
+      ∙ ap (λ (ss : List Shape). shapes_of before ++ ss) (sym (chain-loops S o first links))))
+
+  pub chain-view : (even : Bool) (c : Slotting) (scope : Scope) (m : Bool) (f : Formula) (fs : List Formula) → m ≡ joins o even
+      → f ≡ normal S (operand_parity o even (length links)) c scope (length before) (formula_of first) → fs ≡ link_normals S o even c scope (length mid) links
+      → chained (Join m) f fs ≡ normal S even c scope (length before) (formula_chain_of o first links)
+  chain-view even c scope m f fs joined head behind =
+      let begun = normal S (operand_parity o even (length links)) c scope (length before) (formula_of first) in
+      ap (λ (b : Bool). chained (Join b) f fs) joined
+      ∙ (ap (λ (g : Formula). chained (Join (joins o even)) g fs) head
+      ∙ (ap (chained (Join (joins o even)) begun) (behind ∙ ap (λ (n : ℕ). link_normals S o even c scope n links) (grown S (formula_of first) before mid shapes))
+      ∙ sym (chained-normal S o even c scope (length before) (formula_form first) links)))
 
 -- ---- nodes
 

@@ -14,6 +14,7 @@ use Rattle.pb_typing_declarations.specs.Entries.{carrier_shape}
 use Rattle.pb_typing_rules.specs.Faults.{operand_parity}
 use Rattle.pb_typing_rules.specs.Scope.{Scope}
 use Rattle.pb_normal.specs.Chains.{joins}
+use Rattle.pb_normal.specs.FormulaLinks.{link_normals}
 use Rattle.pb_normal.specs.Expansion.{has_quantifier, expanded, expanded_term, connected}
 use Rattle.pb_normal.specs.Normal.{Formula, Join, Each}
 use Rattle.pb_normal.specs.Normalisation.{Slotting, with_slot, with_slots, each, normal, width}
@@ -21,16 +22,6 @@ use Rattle.pb_normal.specs.Loops.{variable_shapes}
 use Rattle.pb_normal.specs.View.{chained, nested, shapes_of}
 
 -- ---- formulas
-
-abbrev pub link_width : Link → ℕ
-link_width link = width (expanded (erased_formula (formula_form link.operand)))
-
--- the operands behind the first, the next slots being theirs
-abbrev pub link_normals : Spec → Connective → Bool → Slotting → Scope → ℕ → List Link → List Formula
-link_normals S o even c scope n [] = []
-link_normals S o even c scope n (link ∷ links) =
-    normal S (operand_parity o even (length links)) c scope n (expanded (erased_formula (formula_form link.operand)))
-    ∷ link_normals S o even c scope (n + link_width link) links
 
 pub chained-normal : (S : Spec) (o : Connective) (even : Bool) (c : Slotting) (scope : Scope) (n : ℕ) (first : FormulaForm) (links : List Link)
     → normal S even c scope n (expanded (erased_formula (form.chained (FormulaForm.connected o) first (link_forms links))))

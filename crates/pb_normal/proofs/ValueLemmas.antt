@@ -23,6 +23,7 @@ use Rattle.pb_normal.specs.Normal.{Formula, Join}
 use Rattle.pb_normal.specs.Normalisation.{Slotting, normal, width}
 use Rattle.pb_normal.specs.Tail.{tail_tests}
 use Rattle.pb_normal.specs.Tree.{chain_of, value_of}
+use Rattle.pb_normal.specs.ValueLinks.{AreShapedLinks, operand, value_loops, value_normals}
 use Rattle.pb_normal.specs.View.{chained, shapes_of}
 use Rattle.pb_normal.proofs.LoopSlots.{length-loops}
 use Rattle.pb_normal.proofs.NormalChains.{plain-expanded}
@@ -57,25 +58,6 @@ pub grown : (S : Spec) (f : syntax.Formula) (old new : List Carrier) → shapes_
 grown S f old new e = omega (arith, length_behind old new (loops S f) e, length-loops S f)
 
 -- ---- chains
-
-abbrev pub operand : TermLink → syntax.Formula
-operand link = value_of link.operand
-
--- the operands behind the first, the next slots being theirs: up to the last quantifier one by one, the others as one
-abbrev pub value_normals : Spec → Connective → Bool → Slotting → Scope → ℕ → List TermLink → List Formula
-value_normals S o even c scope n [] = []
-value_normals S o even c scope n (link ∷ links) =
-    cond (links_have_quantifier (link ∷ links))
-    (normal S (operand_parity o even (length links)) c scope n (operand link) ∷ value_normals S o even c scope (n + width (operand link)) links)
-    (tail_tests S even c o (link ∷ links))
-
-abbrev pub value_loops : Spec → List TermLink → List Shape
-value_loops S [] = []
-value_loops S (link ∷ links) = loops S (operand link) ++ value_loops S links
-
-abbrev pub AreShapedLinks : Spec → List TermLink → Type 0
-AreShapedLinks S [] = Unit {0}
-AreShapedLinks S (link ∷ links) = IsShaped S (operand link) × AreShapedLinks S links
 
 abbrev chain_form : Connective → TermForm → List TermLink → syntax.Term
 chain_form o first links = erased_term (form.chained (TermForm.connected o) first (term_links links))

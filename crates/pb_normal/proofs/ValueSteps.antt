@@ -34,7 +34,8 @@ use Rattle.pb_normal.specs.View.{chained, nested, shapes_of, formula_view, formu
 use Rattle.pb_normal.proofs.LinkCount.{counted, behind_count}
 use Rattle.pb_normal.proofs.NormalChains.{each-nested}
 use Rattle.pb_normal.proofs.SlotLemmas.{length_behind, length-variables}
-use Rattle.pb_normal.proofs.ValueLemmas.{operand, value_normals, value_loops, AreShapedLinks, chain-loops, chain-normal, chain_shaped, grown, plain-links}
+use Rattle.pb_normal.specs.ValueLinks.{AreShapedLinks, operand, value_loops, value_normals}
+use Rattle.pb_normal.proofs.ValueLemmas.{chain-loops, chain-normal, grown, plain-links}
 
 -- where the first operand and the operands behind it stand, their chain stands
 pub chain-view : (S : Spec) (o : Connective) (even : Bool) (c : Slotting) (scope : Scope) (n : ℕ) (first : ast.Term) (links : List TermLink) (m : Bool) (f : Formula) (rest : List Formula) → m ≡ joins o even
@@ -77,34 +78,26 @@ pub views-push : (fs : List code.Formula) (f : code.Formula) → formula_views (
 views-push [] f = refl
 views-push (g ∷ fs) f = ap (λ (vs : List Formula). formula_view g ∷ vs) (views-push fs f)
 
--- the first operand and so many links are done: their normal forms, and the carriers of their quantifiers
-pub record AreDone (S : Spec) (o : Connective) (even : Bool) (c : Slotting) (first : ast.Term) (links : List TermLink) (before : List Carrier) (k : ℕ) (begun : code.Formula) (done : List code.Formula) (now : List Carrier) : Type 0 where
-  pub head : (scope : Scope) → formula_view begun ≡ normal S (operand_parity o even (length links)) c scope (length before) (value_of first)
-  pub rest : (scope : Scope) → value_normals S o even c scope (length before + width (value_of first)) links ≡ formula_views done ++ value_normals S o even c scope (length now) (drop k links)
-  pub carriers : shapes_of now ++ value_loops S (drop k links) ≡ shapes_of before ++ loops S (expanded_term (chain_of o first links))
+-- so many links are done: their normal forms, and the carriers of their quantifiers
+pub record AreDone (S : Spec) (o : Connective) (even : Bool) (c : Slotting) (links : List TermLink) (before : List Carrier) (k : ℕ) (done : List code.Formula) (now : List Carrier) : Type 0 where
+  pub rest : (scope : Scope) → value_normals S o even c scope (length before) links ≡ formula_views done ++ value_normals S o even c scope (length now) (drop k links)
+  pub carriers : shapes_of now ++ value_loops S (drop k links) ≡ shapes_of before ++ value_loops S links
   pub shaped : AreShapedLinks S (drop k links)
 
-pub done_begun : (S : Spec) (o : Connective) (even : Bool) (c : Slotting) (first : ast.Term) (links : List TermLink) (before now : List Carrier) (begun : code.Formula) (done : List code.Formula) (p : Bool) → p ≡ operand_parity o even (length links) → done ≡ []
-    → IsShaped S (expanded_term (chain_of o first links)) → ((scope : Scope) → formula_view begun ≡ normal S p c scope (length before) (value_of first)) → shapes_of now ≡ shapes_of before ++ loops S (value_of first)
-    → AreDone S o even c first links before 0 begun done now
-done_begun S o even c first links before now begun done p parity none shaped form shapes = record {
-  head = λ scope. form scope ∙ ap (λ (q : Bool). normal S q c scope (length before) (value_of first)) parity;
-  rest = λ scope. ap (λ (m : ℕ). value_normals S o even c scope m links) (sym (grown S (value_of first) before now shapes)) ∙ ap (λ (fs : List code.Formula). formula_views fs ++ value_normals S o even c scope (length now) links) (sym none);
-  carriers =
-      ap (λ (ss : List Shape). ss ++ value_loops S links) shapes
-      ∙ (append_assoc (shapes_of before) (loops S (value_of first)) (value_loops S links)
-      ∙ ap (λ (ss : List Shape). shapes_of before ++ ss) (sym (chain-loops S o first links)));
-  shaped = (chain_shaped S o first links shaped).1;
+pub done_begun : (S : Spec) (o : Connective) (even : Bool) (c : Slotting) (links : List TermLink) (before : List Carrier) (done : List code.Formula) → done ≡ [] → AreShapedLinks S links → AreDone S o even c links before 0 done before
+done_begun S o even c links before done none shaped = record {
+  rest = λ scope. ap (λ (fs : List code.Formula). formula_views fs ++ value_normals S o even c scope (length before) links) (sym none);
+  carriers = refl;
+  shaped = shaped;
 }
 
-pub done_next : (S : Spec) (o : Connective) (even : Bool) (c : Slotting) (first : ast.Term) (links : List TermLink) (before old new : List Carrier) (k : ℕ) (link : TermLink) (begun f : code.Formula) (done more : List code.Formula) (p : Bool)
+pub done_next : (S : Spec) (o : Connective) (even : Bool) (c : Slotting) (links : List TermLink) (before old new : List Carrier) (k : ℕ) (link : TermLink) (f : code.Formula) (done more : List code.Formula) (p : Bool)
     → k < length links → link ≡ get_or links k link → k < quantified_count links → p ≡ operand_parity o even (length links - k - 1) → more ≡ done ++ f ∷ []
     → ((scope : Scope) → formula_view f ≡ normal S p c scope (length old) (operand link)) → shapes_of new ≡ shapes_of old ++ loops S (operand link)
-    → AreDone S o even c first links before k begun done old → AreDone S o even c first links before (k + 1) begun more new
-done_next S o even c first links before old new k link begun f done more p below at counts parity pushed form shapes h =
+    → AreDone S o even c links before k done old → AreDone S o even c links before (k + 1) more new
+done_next S o even c links before old new k link f done more p below at counts parity pushed form shapes h =
     let left = drop-at links k link below at in
     record {
-      head = h.head;
       rest = λ scope.
           let others = value_normals S o even c scope (length new) (drop (k + 1) links) in
           h.rest scope
@@ -125,15 +118,24 @@ pub none_behind : (links : List TermLink) (k : ℕ) → k ≡ quantified_count l
 none_behind links k e = ap (λ (m : ℕ). links_have_quantifier (drop m links)) e ∙ behind_count links
 
 -- all links up to the last that has a quantifier are done
-pub done_ended : (S : Spec) (o : Connective) (even : Bool) (c : Slotting) (first : ast.Term) (links : List TermLink) (before now : List Carrier) (k : ℕ) (begun : code.Formula) (done : List code.Formula) → k ≡ quantified_count links
-    → AreDone S o even c first links before k begun done now → (scope : Scope) → value_normals S o even c scope (length before + width (value_of first)) links ≡ formula_views done ++ tail_tests S even c o (drop k links)
-done_ended S o even c first links before now k begun done e h scope =
+pub done_ended : (S : Spec) (o : Connective) (even : Bool) (c : Slotting) (links : List TermLink) (before now : List Carrier) (k : ℕ) (done : List code.Formula) → k ≡ quantified_count links
+    → AreDone S o even c links before k done now → (scope : Scope) → value_normals S o even c scope (length before) links ≡ formula_views done ++ tail_tests S even c o (drop k links)
+done_ended S o even c links before now k done e h scope =
     h.rest scope ∙ ap (λ (fs : List Formula). formula_views done ++ fs) (plain-normals S o even c scope (length now) (drop k links) (none_behind links k e))
 
-pub shapes_ended : (S : Spec) (o : Connective) (even : Bool) (c : Slotting) (first : ast.Term) (links : List TermLink) (before now : List Carrier) (k : ℕ) (begun : code.Formula) (done : List code.Formula) → k ≡ quantified_count links
-    → AreDone S o even c first links before k begun done now → shapes_of now ≡ shapes_of before ++ loops S (expanded_term (chain_of o first links))
-shapes_ended S o even c first links before now k begun done e h =
+pub shapes_ended : (S : Spec) (o : Connective) (even : Bool) (c : Slotting) (links : List TermLink) (before now : List Carrier) (k : ℕ) (done : List code.Formula) → k ≡ quantified_count links
+    → AreDone S o even c links before k done now → shapes_of now ≡ shapes_of before ++ value_loops S links
+shapes_ended S o even c links before now k done e h =
     sym (ap (λ (ss : List Shape). shapes_of now ++ ss) (plain-links S (drop k links) (none_behind links k e)) ∙ append-nil (shapes_of now)) ∙ h.carriers
+
+-- the carriers of the first operand, and of those behind it
+pub chain-shapes : (S : Spec) (o : Connective) (first : ast.Term) (links : List TermLink) (before mid now : List Carrier) → shapes_of mid ≡ shapes_of before ++ loops S (value_of first) → shapes_of now ≡ shapes_of mid ++ value_loops S links
+    → shapes_of now ≡ shapes_of before ++ loops S (expanded_term (chain_of o first links))
+chain-shapes S o first links before mid now shapes behind =
+    behind
+    ∙ (ap (λ (ss : List Shape). ss ++ value_loops S links) shapes
+    ∙ (append_assoc (shapes_of before) (loops S (value_of first)) (value_loops S links)
+    ∙ ap (λ (ss : List Shape). shapes_of before ++ ss) (sym (chain-loops S o first links))))
 
 -- the link at a place of the links up to the last that has a quantifier, among all links
 pub link_at : (links here tail : List TermLink) (k : ℕ) (link : TermLink) → k < length here → links ≡ here ++ tail → link ≡ get_or here k link → link ≡ get_or links k link

@@ -12,6 +12,8 @@ pub mod Loops
 pub mod Equations
 pub mod Tail
 pub mod Tree
+pub mod FormulaLinks
+pub mod ValueLinks
 pub mod Answer
 pub mod Kept
 pub mod SlotOrder

@@ -1,12 +1,14 @@
 //! The normal form of formulas.
 
-ghost use Rattle.std.specs.Prelude.{IfOk, OnOk};
+ghost use Rattle.std.specs.Prelude.{◌≡◌, ◌++◌, length, IfOk, OnOk};
 ghost use Rattle.pb_typing.specs.Scopes.{inner_view};
 ghost use Rattle.pb_typing.specs.View.{is_positive};
 ghost use Rattle.pb_normal.specs.Contexts.{slots_in, scope_in, IsShapedIn, IsNormalFormula};
-ghost use Rattle.pb_normal.specs.Contexts.{AddsLoops};
+ghost use Rattle.pb_normal.specs.Contexts.{AddsLoops, text_in};
+ghost use Rattle.pb_normal.specs.FormulaLinks.{AreShapedLinks, link_normals, links_loops};
 ghost use Rattle.pb_normal.specs.Slots.{inner_slots};
 ghost use Rattle.pb_normal.specs.Tree.{formula_chain_of, formula_of, quantified_formula};
+ghost use Rattle.pb_normal.specs.View.{formula_views, shapes_of};
 
 use crate::call::normal_call;
 use crate::context::{Context, FormulaContext};
@@ -162,15 +164,37 @@ fn normal_chain<'t>(
     let alloc = context.values.alloc;
     let of_first = operand_polarity(connective, polarity, links.len());
     let head = normal_formula(context, of_first, carriers, first)?;
-    let mut rest = Vec::new(alloc);
+    let first = Box::new(alloc, head)?;
+    let rest = normal_links(context, polarity, carriers, connective, links)?;
+    Ok(Formula::Join {
+        junction: signed_junction(connective, polarity),
+        first,
+        rest,
+    })
+}
+
+/// The normal forms of the operands behind the first.
+#[cycle(formulas)]
+fn normal_links<'t>(
+    context: &FormulaContext<'_, '_, 't>,
+    polarity: Polarity,
+    carriers: &mut Vec<Carrier>,
+    connective: Connective,
+    links: &'t [Link],
+) -> Result<Vec<Formula>, AllocError>
+    requires { AreShapedLinks (text_in context.now.values) links.now }
+    ensures form { IfOk result (λ all. formula_views all.items
+        ≡ link_normals (text_in context.now.values) connective (is_positive polarity)
+        (slots_in context.now.values) (scope_in context.now) (length carriers.old.items)
+        links.now) }
+    ensures carriers { OnOk result (shapes_of carriers.new.items
+        ≡ shapes_of carriers.old.items ++ links_loops (text_in context.now.values) links.now) }
+{
+    let mut rest = Vec::new(context.values.alloc);
     for (index, link) in links.iter().enumerate() {
         let of_link = operand_polarity(connective, polarity, links.len() - index - 1);
         let operand = normal_formula(context, of_link, carriers, &link.operand)?;
         rest.push(operand)?;
     }
-    Ok(Formula::Join {
-        junction: signed_junction(connective, polarity),
-        first: Box::new(alloc, head)?,
-        rest,
-    })
+    Ok(rest)
 }

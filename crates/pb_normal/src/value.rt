@@ -1,10 +1,11 @@
 //! Data terms of kind Bool as formulas: the connectives and quantifiers above the last quantifier
 //! become those of the formula, and what has no quantifier is one test.
 
-ghost use Rattle.std.specs.Prelude.{◌≡◌, ◌++◌, true, IfOk, OnOk};
+ghost use Rattle.std.specs.Prelude.{◌≡◌, ◌++◌, length, true, IfOk, OnOk};
 ghost use Rattle.pb_text_tree.specs.Form.{term_form};
 ghost use Rattle.pb_text_meaning.specs.Erase.{erased_term};
 ghost use Rattle.pb_typing.specs.View.{is_positive};
+ghost use Rattle.pb_typing_rules.specs.Scope.{Scope};
 ghost use Rattle.pb_typed_tree.specs.Elaboration.{slotted};
 ghost use Rattle.pb_typed_tree.specs.Expansion.{expanded_term, has_quantifier};
 ghost use Rattle.pb_typed_tree.specs.View.{term_view};
@@ -14,7 +15,8 @@ ghost use Rattle.pb_normal.specs.Normalisation.{signed_test};
 ghost use Rattle.pb_normal.specs.Slots.{inner_slots};
 ghost use Rattle.pb_normal.specs.Tail.{tail_tests};
 ghost use Rattle.pb_normal.specs.Tree.{chain_of, quantified_value, value_of};
-ghost use Rattle.pb_normal.specs.View.{formula_view, formula_views};
+ghost use Rattle.pb_normal.specs.ValueLinks.{AreShapedLinks, value_loops, value_normals};
+ghost use Rattle.pb_normal.specs.View.{formula_view, formula_views, shapes_of};
 
 use crate::context::Context;
 use crate::data::{slot_chain, slot_term};
@@ -184,22 +186,42 @@ fn normal_operands<'t>(
     ensures carriers { OnOk result (AddsLoops context.now carriers.old.items carriers.new.items
         (expanded_term (chain_of connective first.now links.now))) }
 {
-    let alloc = context.alloc;
     let of_first = operand_polarity(connective, polarity, links.len());
     let head = normal_value(context, of_first, carriers, first)?;
+    let first = Box::new(context.alloc, head)?;
+    let rest = normal_links(context, polarity, carriers, connective, links)?;
+    Ok(Formula::Join {
+        junction: signed_junction(connective, polarity),
+        first,
+        rest,
+    })
+}
+
+/// The normal forms of the operands behind the first.
+#[cycle(values)]
+fn normal_links<'t>(
+    context: &Context<'_, '_, 't>,
+    polarity: Polarity,
+    carriers: &mut Vec<Carrier>,
+    connective: Connective,
+    links: &'t [TermLink],
+) -> Result<Vec<Formula>, AllocError>
+    requires { AreShapedLinks (text_in context.now) links.now }
+    ensures form { IfOk result (λ all. (scope : Scope) → formula_views all.items
+        ≡ value_normals (text_in context.now) connective (is_positive polarity)
+        (slots_in context.now) scope (length carriers.old.items) links.now) }
+    ensures carriers { OnOk result (shapes_of carriers.new.items
+        ≡ shapes_of carriers.old.items ++ value_loops (text_in context.now) links.now) }
+{
     let (operands, tail) = links.split_at(quantified_links(links));
-    let mut rest = Vec::new(alloc);
+    let mut rest = Vec::new(context.alloc);
     for (index, link) in operands.iter().enumerate() {
         let of_link = operand_polarity(connective, polarity, links.len() - index - 1);
         let operand = normal_value(context, of_link, carriers, &link.operand)?;
         rest.push(operand)?;
     }
-    let rest = with_tail(context, polarity, connective, rest, tail)?;
-    Ok(Formula::Join {
-        junction: signed_junction(connective, polarity),
-        first: Box::new(alloc, head)?,
-        rest,
-    })
+    let all = with_tail(context, polarity, connective, rest, tail)?;
+    Ok(all)
 }
 
 /// How many links stand up to the last that has a quantifier.

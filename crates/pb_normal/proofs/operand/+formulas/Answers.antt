@@ -1,4 +1,4 @@
-use Rattle.std.proofs.Common.{length, ◌∙◌, ap, subst, arith}
+use Rattle.std.proofs.Common.{Bool, length, ◌∙◌, ap, subst, arith}
 use Rattle.std.specs.Prelude.{box_value}
 use Rattle.pb_typing_declarations.specs.View.{spec_of}
 use Rattle.pb_typing_rules.specs.Scope.{Scope}
@@ -11,8 +11,8 @@ use Rattle.pb_normal.specs.Loops.{IsShaped}
 use Rattle.pb_normal.specs.Normalisation.{normal}
 use Rattle.pb_normal.specs.Slots.{inner_slots, slotting}
 use Rattle.pb_normal.specs.Tree.{formula_of}
-use Rattle.pb_normal.specs.View.{nested, is_and, is_forall, formula_view}
-use Rattle.pb_normal.proofs.FormulaSteps.{done_begun, done_next, shaped_at, shapes_ended, chain-view, chain-node, chain_shaped, says_same}
+use Rattle.pb_normal.specs.View.{nested, is_and, is_forall, formula_view, formula_views}
+use Rattle.pb_normal.proofs.FormulaSteps.{done_begun, done_next, shaped_at, shapes_ended, views_ended, chain-shapes, chain-view, chain-node, chain_shaped, says_same}
 use Rattle.pb_normal.proofs.SlotLemmas.{inner_slotting, variables_of}
 use Rattle.pb_normal.proofs.ValueSteps.{grows_same, quantified-view}
 use Rattle.pb_normal.proofs.Views.{formula-join}
@@ -24,35 +24,51 @@ pub normal_chain-normal_formula-requires : goal.normal_chain-normal_formula-requ
 normal_chain-normal_formula-requires t c =
     (omega (arith, c.decreases), (chain_shaped (spec_of c.args.context.now.values.declarations.now) c.args.connective c.args.first.now c.args.links.now c.requires).0)
 
-pub normal_chain-loop-index-init : goal.normal_chain-loop-index-init
-normal_chain-loop-index-init t c =
-    done_begun (spec_of c.args.context.now.values.declarations.now) c.args.connective (is_positive c.args.polarity) (slotting c.args.context.now.values.slots.now) (scope_view c.args.context.now.scope.now) c.args.first.now c.args.links.now c.args.carriers.now.items c.normal_formula.new.carriers.items
-    c.in_ok-head.head c.new-rest.result.items (is_positive c.operand_polarity-of_first.result) c.operand_polarity-of_first.ensures c.new-rest.ensures.items
-    c.requires c.in_ok-head.ensures.form c.in_ok-head.ensures.carriers
+pub normal_chain-normal_links-requires : goal.normal_chain-normal_links-requires
+normal_chain-normal_links-requires t c =
+    (omega (arith, c.decreases), (chain_shaped (spec_of c.args.context.now.values.declarations.now) c.args.connective c.args.first.now c.args.links.now c.requires).1)
 
-pub normal_chain-normal_formula-requires-in-loop-index : goal.normal_chain-normal_formula-requires-in-loop-index
-normal_chain-normal_formula-requires-in-loop-index t c =
+pub normal_chain-returns-clause-form : goal.normal_chain-returns-clause-form
+normal_chain-returns-clause-form t c =
+    let S = spec_of c.args.context.now.values.declarations.now in
+    let slots = slotting c.args.context.now.values.slots.now in
+    let scope = scope_view c.args.context.now.scope.now in
+    let before = c.args.carriers.now.items in
+    let head = ap formula_view c.in_ok-first.ensures.ok
+    ∙ (c.in_ok-head.ensures.form ∙ ap (λ (q : Bool). normal S q slots scope (length before) (formula_of c.args.first.now)) c.operand_polarity-of_first.ensures) in
+    formula-join c.signed_junction.result c.in_ok-first.first c.in_ok-rest.rest
+    ∙ chain-view S c.args.connective c.args.first.now c.args.links.now before c.normal_formula.new.carriers.items c.in_ok-head.ensures.carriers (is_positive c.args.polarity) slots scope
+    (is_and c.signed_junction.result) (formula_view (box_value c.in_ok-first.first)) (formula_views c.in_ok-rest.rest.items) c.signed_junction.ensures head c.in_ok-rest.ensures.form
+
+pub normal_chain-returns-clause-carriers : goal.normal_chain-returns-clause-carriers
+normal_chain-returns-clause-carriers t c =
+    chain-shapes (spec_of c.args.context.now.values.declarations.now) c.args.connective c.args.first.now c.args.links.now c.args.carriers.now.items c.normal_formula.new.carriers.items c.in_ok-head.ensures.carriers
+    c.normal_links.new.carriers.items c.in_ok-rest.ensures.carriers
+
+pub normal_links-loop-index-init : goal.normal_links-loop-index-init
+normal_links-loop-index-init t c =
+    done_begun (spec_of c.args.context.now.values.declarations.now) c.args.connective (is_positive c.args.polarity) (slotting c.args.context.now.values.slots.now) (scope_view c.args.context.now.scope.now) c.args.links.now c.args.carriers.now.items c.new-rest.result.items c.new-rest.ensures.items c.requires
+
+pub normal_links-normal_formula-requires : goal.normal_links-normal_formula-requires
+normal_links-normal_formula-requires t c =
     let links = c.args.links.now in
     let k = c.loop-index.index in
     let link = c.index-links-index.result in
     (omega (arith, c.decreases, link_lighter links k link c.loop-index-test.true c.index-links-index.is), shaped_at (spec_of c.args.context.now.values.declarations.now) links k link c.loop-index-test.true c.index-links-index.is c.loop-index.invariant.shaped)
 
-pub normal_chain-loop-index-preserved : goal.normal_chain-loop-index-preserved
-normal_chain-loop-index-preserved t c =
-    done_next (spec_of c.args.context.now.values.declarations.now) c.args.connective (is_positive c.args.polarity) (slotting c.args.context.now.values.slots.now) (scope_view c.args.context.now.scope.now) c.args.first.now c.args.links.now c.args.carriers.now.items c.loop-index.carriers.items c.normal_formula-in-loop-index.new.carriers.items
-    c.loop-index.index c.index-links-index.result _ c.in_ok-operand.operand c.loop-index.rest.items c.push.new.self.items (is_positive c.operand_polarity-of_link.result)
+pub normal_links-loop-index-preserved : goal.normal_links-loop-index-preserved
+normal_links-loop-index-preserved t c =
+    done_next (spec_of c.args.context.now.values.declarations.now) c.args.connective (is_positive c.args.polarity) (slotting c.args.context.now.values.slots.now) (scope_view c.args.context.now.scope.now) c.args.links.now c.args.carriers.now.items c.loop-index.carriers.items c.normal_formula.new.carriers.items
+    c.loop-index.index c.index-links-index.result c.in_ok-operand.operand c.loop-index.rest.items c.push.new.self.items (is_positive c.operand_polarity-of_link.result)
     c.loop-index-test.true c.index-links-index.is c.operand_polarity-of_link.ensures c.in_ok-push.ensures.items c.in_ok-operand.ensures.form c.in_ok-operand.ensures.carriers c.loop-index.invariant
 
-pub normal_chain-returns-clause-form : goal.normal_chain-returns-clause-form
-normal_chain-returns-clause-form t c =
-    formula-join c.signed_junction.result c.in_ok-new.field-0 c.loop-index.rest
-    ∙ chain-view (spec_of c.args.context.now.values.declarations.now) c.args.connective (is_positive c.args.polarity) (slotting c.args.context.now.values.slots.now) (scope_view c.args.context.now.scope.now) c.args.first.now c.args.links.now c.args.carriers.now.items c.loop-index.carriers.items
-    c.loop-index.index _ c.loop-index.rest.items (is_and c.signed_junction.result) (formula_view (box_value c.in_ok-new.field-0)) c.loop-index-test.false c.signed_junction.ensures (ap formula_view c.in_ok-new.ensures.ok) c.loop-index.invariant
+pub normal_links-returns-clause-form : goal.normal_links-returns-clause-form
+normal_links-returns-clause-form t c =
+    views_ended (spec_of c.args.context.now.values.declarations.now) c.args.connective (is_positive c.args.polarity) (slotting c.args.context.now.values.slots.now) (scope_view c.args.context.now.scope.now) c.args.links.now c.args.carriers.now.items c.loop-index.carriers.items c.loop-index.index c.loop-index.rest.items c.loop-index-test.false c.loop-index.invariant
 
-pub normal_chain-returns-clause-carriers : goal.normal_chain-returns-clause-carriers
-normal_chain-returns-clause-carriers t c =
-    shapes_ended (spec_of c.args.context.now.values.declarations.now) c.args.connective (is_positive c.args.polarity) (slotting c.args.context.now.values.slots.now) (scope_view c.args.context.now.scope.now) c.args.first.now c.args.links.now c.args.carriers.now.items c.loop-index.carriers.items c.loop-index.index _ c.loop-index.rest.items
-    c.loop-index-test.false c.loop-index.invariant
+pub normal_links-returns-clause-carriers : goal.normal_links-returns-clause-carriers
+normal_links-returns-clause-carriers t c =
+    shapes_ended (spec_of c.args.context.now.values.declarations.now) c.args.connective (is_positive c.args.polarity) (slotting c.args.context.now.values.slots.now) (scope_view c.args.context.now.scope.now) c.args.links.now c.args.carriers.now.items c.loop-index.carriers.items c.loop-index.index c.loop-index.rest.items c.loop-index-test.false c.loop-index.invariant
 
 -- ---- quantifiers
 

@@ -1,4 +1,4 @@
-use Rattle.std.proofs.Common.{◌≡◌, ℕ, ◌<◌, ◌++◌, List, length, drop, sym, ◌∙◌, ap, subst, arith, true≢false, vec_len}
+use Rattle.std.proofs.Common.{◌≡◌, ℕ, Bool, ◌<◌, ◌++◌, List, length, drop, sym, ◌∙◌, ap, subst, arith, true≢false, vec_len}
 use Rattle.std.specs.Prelude.{box_value, ◌==◌}
 use Rattle.std.proofs.lemmas.Bool.{eqb-true}
 use Rattle.pb_text_tree.specs.declared.term.TermLink.{TermLink}
@@ -13,15 +13,17 @@ use Rattle.pb_normal.specs.declared.formula.Formula.{Formula}
 use Rattle.pb_normal.specs.Expansion.{expanded_term, has_quantifier}
 use Rattle.pb_normal.specs.Loops.{IsShaped}
 use Rattle.pb_normal.specs.Links.{quantified_count}
+use Rattle.pb_normal.specs.Normalisation.{normal}
 use Rattle.pb_normal.specs.Slots.{slotting}
+use Rattle.pb_normal.specs.ValueLinks.{value_normals}
 use Rattle.pb_normal.specs.Tail.{tail_tests}
 use Rattle.pb_normal.specs.Tree.{value_of}
 use Rattle.pb_normal.specs.View.{nested, is_and, is_forall, formula_view, formula_views}
 use Rattle.pb_normal.proofs.LinkCount.{count_within}
 use Rattle.pb_normal.proofs.NormalChains.{plain-expanded}
 use Rattle.pb_normal.proofs.SlotLemmas.{inner_slotting, variables_of}
-use Rattle.pb_normal.proofs.ValueLemmas.{chain_shaped}
-use Rattle.pb_normal.proofs.ValueSteps.{empty-count, done_begun, done_next, done_ended, shapes_ended, link_at, shaped_at, chain-view, plain_says, plain_grows, says_same, grows_same, arithmetic-node, chain-node, operand-node, quantified-view}
+use Rattle.pb_normal.proofs.ValueLemmas.{chain_shaped, grown}
+use Rattle.pb_normal.proofs.ValueSteps.{empty-count, done_begun, done_next, done_ended, shapes_ended, chain-shapes, link_at, shaped_at, chain-view, plain_says, plain_grows, says_same, grows_same, arithmetic-node, chain-node, operand-node, quantified-view}
 use Rattle.pb_normal.proofs.Views.{formula-join}
 use Rattle.pb_normal.proofs.value.+values.Goals as goal
 
@@ -31,17 +33,39 @@ pub normal_operands-normal_value-requires : goal.normal_operands-normal_value-re
 normal_operands-normal_value-requires t c =
     (omega (arith, c.decreases), (chain_shaped (spec_of c.args.context.now.declarations.now) c.args.connective c.args.first.now c.args.links.now c.requires.shaped).0)
 
-pub normal_operands-split_at-requires : goal.normal_operands-split_at-requires
-normal_operands-split_at-requires t c = omega (arith, c.quantified_links.ensures, count_within c.args.links.now)
+pub normal_operands-normal_links-requires : goal.normal_operands-normal_links-requires
+normal_operands-normal_links-requires t c =
+    (omega (arith, c.decreases), (chain_shaped (spec_of c.args.context.now.declarations.now) c.args.connective c.args.first.now c.args.links.now c.requires.shaped).1)
 
-pub normal_operands-loop-index-init : goal.normal_operands-loop-index-init
-normal_operands-loop-index-init t c =
-    done_begun (spec_of c.args.context.now.declarations.now) c.args.connective (is_positive c.args.polarity) (slotting c.args.context.now.slots.now) c.args.first.now c.args.links.now c.args.carriers.now.items c.normal_value.new.carriers.items
-    c.in_ok-head.head c.new-rest.result.items (is_positive c.operand_polarity-of_first.result) c.operand_polarity-of_first.ensures c.new-rest.ensures.items
-    c.requires.shaped c.in_ok-head.ensures.form c.in_ok-head.ensures.carriers
+pub normal_operands-returns-clause-form : goal.normal_operands-returns-clause-form
+normal_operands-returns-clause-form t c = λ scope.
+    let S = spec_of c.args.context.now.declarations.now in
+    let slots = slotting c.args.context.now.slots.now in
+    let even = is_positive c.args.polarity in
+    let before = c.args.carriers.now.items in
+    let first = c.args.first.now in
+    let links = c.args.links.now in
+    let head = ap formula_view c.in_ok-first.ensures.ok
+    ∙ (c.in_ok-head.ensures.form scope ∙ ap (λ (q : Bool). normal S q slots scope (length before) (value_of first)) c.operand_polarity-of_first.ensures) in
+    let others = ap (λ (n : ℕ). value_normals S c.args.connective even slots scope n links) (sym (grown S (value_of first) before c.normal_value.new.carriers.items c.in_ok-head.ensures.carriers)) ∙ sym (c.in_ok-rest.ensures.form scope) in
+    formula-join c.signed_junction.result c.in_ok-first.first c.in_ok-rest.rest
+    ∙ chain-view S c.args.connective even slots scope (length before) first links (is_and c.signed_junction.result) (formula_view (box_value c.in_ok-first.first)) (formula_views c.in_ok-rest.rest.items)
+    c.signed_junction.ensures head others c.requires.quantified
 
-pub normal_operands-normal_value-requires-in-loop-index : goal.normal_operands-normal_value-requires-in-loop-index
-normal_operands-normal_value-requires-in-loop-index t c =
+pub normal_operands-returns-clause-carriers : goal.normal_operands-returns-clause-carriers
+normal_operands-returns-clause-carriers t c =
+    chain-shapes (spec_of c.args.context.now.declarations.now) c.args.connective c.args.first.now c.args.links.now c.args.carriers.now.items c.normal_value.new.carriers.items c.normal_links.new.carriers.items
+    c.in_ok-head.ensures.carriers c.in_ok-rest.ensures.carriers
+
+pub normal_links-split_at-requires : goal.normal_links-split_at-requires
+normal_links-split_at-requires t c = omega (arith, c.quantified_links.ensures, count_within c.args.links.now)
+
+pub normal_links-loop-index-init : goal.normal_links-loop-index-init
+normal_links-loop-index-init t c =
+    done_begun (spec_of c.args.context.now.declarations.now) c.args.connective (is_positive c.args.polarity) (slotting c.args.context.now.slots.now) c.args.links.now c.args.carriers.now.items c.new-rest.result.items c.new-rest.ensures.items c.requires
+
+pub normal_links-normal_value-requires : goal.normal_links-normal_value-requires
+normal_links-normal_value-requires t c =
     let links = c.args.links.now in
     let k = c.loop-index.index in
     let link = c.index-operands-index.result in
@@ -49,35 +73,32 @@ normal_operands-normal_value-requires-in-loop-index t c =
     let at = link_at links c.split_at.result.0.now c.split_at.result.1.now k link c.loop-index-test.true c.split_at.ensures.by_index.0 c.index-operands-index.is in
     (omega (arith, c.decreases, link_lighter links k link below at), shaped_at (spec_of c.args.context.now.declarations.now) links k link below at c.loop-index.invariant.shaped)
 
-pub normal_operands-loop-index-preserved : goal.normal_operands-loop-index-preserved
-normal_operands-loop-index-preserved t c =
+pub normal_links-loop-index-preserved : goal.normal_links-loop-index-preserved
+normal_links-loop-index-preserved t c =
     let links = c.args.links.now in
     let k = c.loop-index.index in
     let link = c.index-operands-index.result in
     let counts : k < quantified_count links = omega (arith, c.loop-index-test.true, c.split_at.ensures.front_len, c.quantified_links.ensures) in
     let below : k < length links = omega (arith, counts, count_within links) in
     let at = link_at links c.split_at.result.0.now c.split_at.result.1.now k link c.loop-index-test.true c.split_at.ensures.by_index.0 c.index-operands-index.is in
-    done_next (spec_of c.args.context.now.declarations.now) c.args.connective (is_positive c.args.polarity) (slotting c.args.context.now.slots.now) c.args.first.now links c.args.carriers.now.items c.loop-index.carriers.items c.normal_value-in-loop-index.new.carriers.items k link
-    _ c.in_ok-operand.operand c.loop-index.rest.items c.push.new.self.items (is_positive c.operand_polarity-of_link.result)
+    done_next (spec_of c.args.context.now.declarations.now) c.args.connective (is_positive c.args.polarity) (slotting c.args.context.now.slots.now) links c.args.carriers.now.items c.loop-index.carriers.items c.normal_value.new.carriers.items k link
+    c.in_ok-operand.operand c.loop-index.rest.items c.push.new.self.items (is_positive c.operand_polarity-of_link.result)
     below at counts c.operand_polarity-of_link.ensures c.in_ok-push.ensures.items c.in_ok-operand.ensures.form c.in_ok-operand.ensures.carriers c.loop-index.invariant
 
-pub normal_operands-returns-clause-form : goal.normal_operands-returns-clause-form
-normal_operands-returns-clause-form t c = λ scope.
+pub normal_links-returns-clause-form : goal.normal_links-returns-clause-form
+normal_links-returns-clause-form t c = λ scope.
     let S = spec_of c.args.context.now.declarations.now in
     let slots = slotting c.args.context.now.slots.now in
     let links = c.args.links.now in
     let k = c.loop-index.index in
     let all : k ≡ quantified_count links = omega (arith, c.loop-index-test.false, c.loop-index.auto.index-end, c.split_at.ensures.front_len, c.quantified_links.ensures) in
     let left : c.split_at.result.1.now ≡ drop k links = c.split_at.ensures.back ∙ ap (λ (n : ℕ). drop n links) (c.quantified_links.ensures ∙ sym all) in
-    let others = done_ended S c.args.connective (is_positive c.args.polarity) slots c.args.first.now links c.args.carriers.now.items c.loop-index.carriers.items k _ c.loop-index.rest.items all c.loop-index.invariant scope
-    ∙ (ap (λ (ls : List TermLink). formula_views c.loop-index.rest.items ++ tail_tests S (is_positive c.args.polarity) slots c.args.connective ls) (sym left) ∙ sym c.in_ok-rest.ensures) in
-    formula-join c.signed_junction.result c.in_ok-new.field-0 c.in_ok-rest.rest
-    ∙ chain-view S c.args.connective (is_positive c.args.polarity) slots scope (length c.args.carriers.now.items) c.args.first.now links (is_and c.signed_junction.result) (formula_view (box_value c.in_ok-new.field-0)) (formula_views c.in_ok-rest.rest.items)
-    c.signed_junction.ensures (ap formula_view c.in_ok-new.ensures.ok ∙ c.loop-index.invariant.head scope) others c.requires.quantified
+    sym (done_ended S c.args.connective (is_positive c.args.polarity) slots links c.args.carriers.now.items c.loop-index.carriers.items k c.loop-index.rest.items all c.loop-index.invariant scope
+    ∙ (ap (λ (ls : List TermLink). formula_views c.loop-index.rest.items ++ tail_tests S (is_positive c.args.polarity) slots c.args.connective ls) (sym left) ∙ sym c.in_ok-all.ensures))
 
-pub normal_operands-returns-clause-carriers : goal.normal_operands-returns-clause-carriers
-normal_operands-returns-clause-carriers t c =
-    shapes_ended (spec_of c.args.context.now.declarations.now) c.args.connective (is_positive c.args.polarity) (slotting c.args.context.now.slots.now) c.args.first.now c.args.links.now c.args.carriers.now.items c.loop-index.carriers.items c.loop-index.index _ c.loop-index.rest.items
+pub normal_links-returns-clause-carriers : goal.normal_links-returns-clause-carriers
+normal_links-returns-clause-carriers t c =
+    shapes_ended (spec_of c.args.context.now.declarations.now) c.args.connective (is_positive c.args.polarity) (slotting c.args.context.now.slots.now) c.args.links.now c.args.carriers.now.items c.loop-index.carriers.items c.loop-index.index c.loop-index.rest.items
     (omega (arith, c.loop-index-test.false, c.loop-index.auto.index-end, c.split_at.ensures.front_len, c.quantified_links.ensures)) c.loop-index.invariant
 
 -- ---- quantifiers

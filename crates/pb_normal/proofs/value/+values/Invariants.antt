@@ -16,8 +16,11 @@ abbrev pub decreases-normal_body : goal.decreases-normal_body
 decreases-normal_body l = 3 * weight l.body.now + 1
 
 abbrev pub decreases-normal_operands : goal.decreases-normal_operands
-decreases-normal_operands l = 3 * (weight l.first.now + links_weight l.links.now) + 1
+decreases-normal_operands l = 3 * (weight l.first.now + links_weight l.links.now) + 2
 
-abbrev pub invariant-normal_operands-loop-index : goal.invariant-normal_operands-loop-index
-invariant-normal_operands-loop-index l =
-    AreDone (spec_of l.context.declarations.now) l.connective (is_positive l.polarity) (slotting l.context.slots.now) l.first l.links l.fn.carriers.items l.index l.head l.rest.items l.carriers.items
+abbrev pub decreases-normal_links : goal.decreases-normal_links
+decreases-normal_links l = 3 * links_weight l.links.now + 1
+
+abbrev pub invariant-normal_links-loop-index : goal.invariant-normal_links-loop-index
+invariant-normal_links-loop-index l =
+    AreDone (spec_of l.context.declarations.now) l.connective (is_positive l.polarity) (slotting l.context.slots.now) l.links l.fn.carriers.items l.index l.rest.items l.carriers.items
