@@ -1,6 +1,6 @@
 //! The words of the command line.
-ghost use Rattle.std.specs.Prelude.{◌≡◌, ◌<◌, ◌≤◌, ℕ, false, map, codes, None, Some, Err, IfOk, IfErr};
-ghost use Rattle.std.specs.Prelude.{IfSome, IfNone, option_map, string_bytes};
+ghost use Rattle.std.specs.Prelude.{◌≡◌, ◌<◌, ◌≤◌, ℕ, false, map, codes, None, Some, Err, IfOk};
+ghost use Rattle.std.specs.Prelude.{IfErr, IfSome, IfNone, option_map, string_bytes};
 ghost use Rattle.clap.specs.Simple.{App, Shape, app_of, shape_of, new_shape, with_subcommand};
 ghost use Rattle.clap.specs.declared.builder.command.Command.TheViews.{out-Command};
 ghost use Rattle.clap.specs.Matches.{found_of, first_value};
@@ -10,8 +10,9 @@ ghost use Rattle.pb_solver_names.specs.declared.solver.Solver.{Solver};
 ghost use Rattle.pb_command_line.specs.Words.{command_line, exploring_shape, explaining_shape};
 ghost use Rattle.pb_command_line.specs.Words.{solving_shape, translating_shape, workers_rule};
 ghost use Rattle.pb_command_line.specs.Words.{places_rule, property_rule, solver_rule};
-ghost use Rattle.pb_command_line.specs.Words.{ArePlacesToldBy, IsChosenBy, IsWorkersOf, IsRequestOf};
-ghost use Rattle.pb_command_line.specs.Words.{AskFor, HaveFault, AskNothing, AskPlainly};
+ghost use Rattle.pb_command_line.specs.Words.{ArePlacesToldBy, IsChosenBy, IsWorkersOf};
+ghost use Rattle.pb_command_line.specs.Words.{IsRequestOf, AskFor, HaveFault, AskNothing};
+ghost use Rattle.pb_command_line.specs.Words.{AskPlainly};
 
 use crate::command::Command;
 use crate::request::Request;
@@ -248,8 +249,8 @@ fn request_in<S: AsStr>(alloc: Global, words: &[S]) -> Result<Request, WordsErro
     }
 }
 
-/// What the words ask, the first of them being the program's name: a command, the number of workers,
-/// the solver and the property that its options name, and whether places are asked for.
+/// What the words ask, the first of them being the program's name: a command, the number of
+/// workers, the solver and the property that its options name, and whether places are asked for.
 ///
 /// # Errors
 /// `Usage` exactly where the words have a fault, unless memory is refused first: where `clap`

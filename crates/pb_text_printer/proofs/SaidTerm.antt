@@ -1,5 +1,5 @@
 -- A data term that is read can be said within the same levels, and has the operators that were counted.
-use Rattle.std.proofs.Common.{◌≡◌, ℕ, zero, suc, ◌+◌, Bool, true, false, ◌||◌, List, [], ◌∷◌, refl, ap, subst, arith, inl, inr}
+use Rattle.std.proofs.Common.{◌≡◌, ℕ, zero, suc, ◌+◌, Bool, true, false, ◌||◌, List, [], ◌∷◌, refl, sym, ap, subst, arith, inl, inr, true≢false}
 use Rattle.std.specs.Str.Parse.{digits_value}
 use Rattle.std.proofs.lemmas.Bool.{or_right}
 use Rattle.pb_text_tree.specs.declared.place.Place.{Place}
@@ -173,7 +173,7 @@ additive-chain d = record { begins = begins; step = step }
     begins : (x : TermForm) → At d x level.Product false → Leads d is_additive x
     begins x h arithmetic.Plus e = leads-item d x arithmetic.Plus h
     begins x h arithmetic.Minus e = leads-item d x arithmetic.Minus h
-    begins x h _ e = cc
+    begins x h _ e = absurd (true≢false (sym e))
 
     step : (kind : Kind) (p : Place) (x y : TermForm) → is_additive kind ≡ true → Leads d is_additive x → At d y level.Product false
         → At d (TermForm.computed (arithmetic_of kind) p x y) level.Sum false × Leads d is_additive (TermForm.computed (arithmetic_of kind) p x y)
@@ -182,21 +182,21 @@ additive-chain d = record { begins = begins; step = step }
         leads : Leads d is_additive (TermForm.computed arithmetic.Plus p x y)
         leads arithmetic.Plus e = (h arithmetic.Plus refl, g)
         leads arithmetic.Minus e = (h arithmetic.Plus refl, g)
-        leads _ e = cc
+        leads _ e = absurd (true≢false (sym e))
     step k.Minus p x y e h g = ((h arithmetic.Minus refl, g), leads)
       where
         leads : Leads d is_additive (TermForm.computed arithmetic.Minus p x y)
         leads arithmetic.Plus e = (h arithmetic.Minus refl, g)
         leads arithmetic.Minus e = (h arithmetic.Minus refl, g)
-        leads _ e = cc
-    step _ p x y e h g = cc
+        leads _ e = absurd (true≢false (sym e))
+    step _ p x y e h g = absurd (true≢false (sym e))
 
 times-chain : (d : ℕ) → IsChain d is_times level.Product level.Unary
 times-chain d = record { begins = begins; step = step }
   where
     begins : (x : TermForm) → At d x level.Unary false → Leads d is_times x
     begins x h arithmetic.Times e = leads-item d x arithmetic.Times h
-    begins x h _ e = cc
+    begins x h _ e = absurd (true≢false (sym e))
 
     step : (kind : Kind) (p : Place) (x y : TermForm) → is_times kind ≡ true → Leads d is_times x → At d y level.Unary false
         → At d (TermForm.computed (arithmetic_of kind) p x y) level.Product false × Leads d is_times (TermForm.computed (arithmetic_of kind) p x y)
@@ -204,8 +204,8 @@ times-chain d = record { begins = begins; step = step }
       where
         leads : Leads d is_times (TermForm.computed arithmetic.Times p x y)
         leads arithmetic.Times e = (h arithmetic.Times refl, g)
-        leads _ e = cc
-    step _ p x y e h g = cc
+        leads _ e = absurd (true≢false (sym e))
+    step _ p x y e h g = absurd (true≢false (sym e))
 
 division-chain : (d : ℕ) → IsChain d is_division level.Product level.Unary
 division-chain d = record { begins = begins; step = step }
@@ -213,7 +213,7 @@ division-chain d = record { begins = begins; step = step }
     begins : (x : TermForm) → At d x level.Unary false → Leads d is_division x
     begins x h arithmetic.Div e = leads-item d x arithmetic.Div h
     begins x h arithmetic.Mod e = leads-item d x arithmetic.Mod h
-    begins x h _ e = cc
+    begins x h _ e = absurd (true≢false (sym e))
 
     step : (kind : Kind) (p : Place) (x y : TermForm) → is_division kind ≡ true → Leads d is_division x → At d y level.Unary false
         → At d (TermForm.computed (arithmetic_of kind) p x y) level.Product false × Leads d is_division (TermForm.computed (arithmetic_of kind) p x y)
@@ -222,14 +222,14 @@ division-chain d = record { begins = begins; step = step }
         leads : Leads d is_division (TermForm.computed arithmetic.Div p x y)
         leads arithmetic.Div e = (h arithmetic.Div refl, g)
         leads arithmetic.Mod e = (h arithmetic.Div refl, g)
-        leads _ e = cc
+        leads _ e = absurd (true≢false (sym e))
     step k.Mod p x y e h g = ((h arithmetic.Mod refl, g), leads)
       where
         leads : Leads d is_division (TermForm.computed arithmetic.Mod p x y)
         leads arithmetic.Div e = (h arithmetic.Mod refl, g)
         leads arithmetic.Mod e = (h arithmetic.Mod refl, g)
-        leads _ e = cc
-    step _ p x y e h g = cc
+        leads _ e = absurd (true≢false (sym e))
+    step _ p x y e h g = absurd (true≢false (sym e))
 
 abbrev link_operators : Tok × TermForm → ℕ
 link_operators link = suc (operators link.1)
@@ -301,13 +301,13 @@ orders d k.Less p x y e h g = (h, g)
 orders d k.LessOrEqual p x y e h g = (h, g)
 orders d k.Greater p x y e h g = (h, g)
 orders d k.GreaterOrEqual p x y e h g = (h, g)
-orders d _ p x y e h g = cc
+orders d _ p x y e h g = absurd (true≢false (sym e))
 
 equates : (d : ℕ) (kind : Kind) (p : Place) (x y : TermForm) → is_equality kind ≡ true → At d x level.Order false → At d y level.Order false
     → At d (TermForm.compared (comparison_of kind) p x y) level.Equality false
 equates d k.Equal p x y e h g = (h, g)
 equates d k.NotEqual p x y e h g = (h, g)
-equates d _ p x y e h g = cc
+equates d _ p x y e h g = absurd (true≢false (sym e))
 
 equated-said : (d : ℕ) (Unary : Reads TermForm) → EachReadingIs Unary (λ x. At d x level.Unary false) operators → EachReadingIs (Equated Unary) (λ x. At d x level.Equality false) operators
 equated-said d Unary unary =

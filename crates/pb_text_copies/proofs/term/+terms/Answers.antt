@@ -1,6 +1,6 @@
 use Rattle.std.proofs.Common.{arith, ◌≡◌, ◌∙◌, sym, map, ap}
 use Rattle.std.proofs.lemmas.Grind.{common_steps}
-use Rattle.pb_text_tree.specs.Form.{TermForm, term_form, term_links, arithmetic_links, argument_forms, variable_forms}
+use Rattle.pb_text_tree.specs.Form.{term_form, term_links, arithmetic_links, argument_forms, variable_forms}
 use Rattle.pb_text_copies.proofs.CopyLemmas.{placed_argument, arguments-copied, not-copied, negative-copied, comparison-copied, chain-copied, arithmetic-copied, application-copied, quantified-copied}
 use Rattle.pb_text_copies.proofs.term.+terms.Goals as goal
 

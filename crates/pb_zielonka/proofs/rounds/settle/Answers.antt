@@ -1,4 +1,4 @@
-use Rattle.std.proofs.Common.{◌≡◌, ◌<◌, ◌≤◌, length, ap, refl, arith}
+use Rattle.std.proofs.Common.{◌<◌, ◌≤◌, length, ap, refl, arith}
 use Rattle.pb_game.specs.Games.{successors_of}
 use Rattle.pb_zielonka.proofs.Forcing.{written}
 use Rattle.pb_zielonka.proofs.RoundLemmas.{on_ok3, passed_taken, search_passed, stops_outside}
