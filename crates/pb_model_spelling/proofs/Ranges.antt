@@ -70,22 +70,22 @@ line_said p bs = go (is_wrong (behind_range (line bs))) refl
 
 -- ---- whole models
 
-blank_said : (p : Place) (bs : List ℕ) → Each RangeSayable (ranges_at p bs)
-unfolding ranges_at
-blank_said p [] = tt
-blank_said p (b ∷ bs) = go (b == 37 && p.column == 1)
-  where
-    go : (v : Bool) → Each RangeSayable (cond v (placed p (said (behind_range (line bs)))) [])
-    go true = line_said p bs
-    go false = tt
+placed_said : (p : Place) (v : Option Bounded) (rs : List RangeForm) → Each RangeSayable (placed p v) → Each RangeSayable rs → Each RangeSayable (placed p v ++ rs)
+placed_said p None rs h g = g
+placed_said p (Some r) rs h g = (h.0, g)
 
-each_joined : {X : Type 0} (P : X → Type 0) (xs ys : List X) → Each P xs → Each P ys → Each P (xs ++ ys)
-each_joined P [] ys h g = g
-each_joined P (x ∷ xs) ys h g = (h.0, each_joined P xs ys h.1 g)
+blank_said : (p : Place) (bs : List ℕ) (rs : List RangeForm) → Each RangeSayable rs → Each RangeSayable (ranges_at p bs ++ rs)
+unfolding ranges_at
+blank_said p [] rs h = h
+blank_said p (b ∷ bs) rs h = go (b == 37 && p.column == 1)
+  where
+    go : (v : Bool) → Each RangeSayable (cond v (placed p (said (behind_range (line bs)))) [] ++ rs)
+    go true = placed_said p (said (behind_range (line bs))) rs (line_said p bs) h
+    go false = h
 
 cut_said : {p q : Place} {bs rest : List ℕ} {ts : List Tok} {rs : List RangeForm} → CutsIn Model p bs ts rs q rest → Each RangeSayable rs
 cut_said none = tt
-cut_said {p} {q} {bs} (blank {rs = ss} e c) = each_joined RangeSayable (ranges_at p bs) ss (blank_said p bs) (cut_said c)
+cut_said {p} {q} {bs} (blank {rs = ss} e c) = blank_said p bs ss (cut_said c)
 cut_said (token e c) = cut_said c
 
 pub ranges_of_models_are_said : (bytes : List ℕ) (tokens : List Tok) (ranges : List RangeForm) → IsCutIn Model bytes tokens ranges → Each RangeSayable ranges

@@ -8,7 +8,7 @@ use Rattle.pb_text_lexer.specs.declared.language.Language.TheVariants.{Model}
 use Rattle.pb_text_lexer.specs.declared.piece.Piece.{Piece}
 use Rattle.pb_text_lexer.specs.declared.piece.Piece.TheVariants.{Blank, Token, Stop}
 use Rattle.pb_text_lexer.specs.Bytes.{first_byte, is_letter, name_bytes, kind_among, is_name, word_kind}
-use Rattle.pb_text_lexer.specs.Lexing.{piece, or_piece, CutsIn, none, blank, token, IsCutIn}
+use Rattle.pb_text_lexer.specs.Lexing.{piece, or_piece, piece_in, CutsIn, none, blank, token, IsCutIn}
 use Rattle.pb_text_lexer.specs.ModelPieces.{model_words, model_piece, model_word, model_pair, reserved_word}
 use Rattle.pb_text_lexer.specs.Tokens.{Tok}
 use Rattle.pb_text_lexer.proofs.PieceLemmas.{pick}
@@ -76,17 +76,18 @@ kind_named p (b ∷ bs) kind (suc n) e is h =
     let counts : 1 + length (name_bytes bs) ≡ suc n = cc same in
     subst (λ (m : ℕ). word_kind (take m (b ∷ bs)) ≡ k.Name) counts (kinds ∙ is)
 
-token_named : (p : Place) (bs : List ℕ) (kind : Kind) (n : ℕ) → piece p bs ≡ Token kind n → kind ≡ k.Name → is_name (take n bs) ≡ true
+token_named : (p : Place) (bs : List ℕ) (kind : Kind) (n : ℕ) → piece_in Model p bs ≡ Token kind n → kind ≡ k.Name → is_name (take n bs) ≡ true
 token_named p bs kind n e is =
-    let spelled = token_spelled p bs kind n e is in
-    spelled_word (take n bs) spelled (kind_named p bs kind n e is spelled)
+    let own = name_of_texts (model_piece bs) (piece p bs) kind n (piece_no_name bs).is e is in
+    let spelled = token_spelled p bs kind n own is in
+    spelled_word (take n bs) spelled (kind_named p bs kind n own is spelled)
 
 cut_lexical : {p q : Place} {bs rest : List ℕ} {ts : List Tok} {rs : List RangeForm} → CutsIn Model p bs ts rs q rest → AreLexical ts
 cut_lexical none = tt
 cut_lexical (blank e c) = cut_lexical c
 cut_lexical {p} {q} {bs} (token {kind = kind} {n = n} e c) =
     let takes = token-takes Model p bs kind n (sym e) in
-    (record { name = λ is. token_named p bs kind n (name_of_texts (model_piece bs) (piece p bs) kind n (piece_no_name bs).is e is) is; number = takes.4 }, cut_lexical c)
+    (record { name = token_named p bs kind n e; number = takes.4 }, cut_lexical c)
 
 ended : (ts : List Tok) (t : Tok) → AreLexical ts → IsLexical t → AreLexical (ts ++ t ∷ [])
 ended [] t h is = (is, tt)

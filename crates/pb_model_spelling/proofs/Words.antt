@@ -1,5 +1,5 @@
 -- A name of the grammar is spelled as one, and stays one with primes behind it.
-use Rattle.std.proofs.Common.{◌≡◌, ◌∙◌, ℕ, zero, suc, ◌+◌, ◌==◌, ◌&&◌, Bool, true, false, not, cond, List, [], ◌∷◌, ◌++◌, length, refl, sym, ap, subst, arith, eq-eqb, append-nil}
+use Rattle.std.proofs.Common.{◌≡◌, ◌∙◌, ℕ, zero, suc, ◌+◌, ◌==◌, ◌&&◌, Bool, true, false, cond, List, [], ◌∷◌, ◌++◌, length, refl, sym, ap, subst, arith, eq-eqb, append-nil}
 use Rattle.std.specs.List.{list_all, list_any, prefix_len}
 use Rattle.std.specs.Str.{bytes_eq}
 use Rattle.std.proofs.lemmas.Bool.{and_from, and_parts, or_right}
@@ -10,6 +10,7 @@ use Rattle.pb_text_lexer.specs.declared.kind.Kind.{Kind}
 use Rattle.pb_text_lexer.specs.declared.kind.Kind.TheVariants as k
 use Rattle.pb_text_lexer.specs.Kinds.{same_kind}
 use Rattle.pb_text_lexer.specs.Bytes.{is_letter, is_name_byte, name_bytes, kind_among, reserved, word_kind}
+use Rattle.pb_text_lexer.proofs.PieceLemmas.{none-first, none-rest}
 use Rattle.pb_text_lexer.proofs.TokenLemmas.{same-kind}
 use Rattle.pb_text_meaning.specs.Syntax.{Name}
 use Rattle.pb_text_names.specs.Spelled.{is_spelled}
@@ -77,17 +78,14 @@ other_word a w none some = go (bytes_eq a w) refl
 
 abbrev none_primed : List (List ℕ × Kind) → Bool
 none_primed [] = true
-none_primed (entry ∷ entries) = not (has_prime entry.0) && none_primed entries
-
-unprimed : (b : Bool) → not b ≡ true → b ≡ false
-unprimed true h = cc
-unprimed false h = refl
+none_primed (entry ∷ entries) = cond (has_prime entry.0) false (none_primed entries)
 
 primed_among : (entries : List (List ℕ × Kind)) (w : List ℕ) → none_primed entries ≡ true → has_prime w ≡ true → kind_among entries w ≡ k.Name
 primed_among [] w none some = refl
 primed_among (entry ∷ entries) w none some =
-    let both = and_parts (not (has_prime entry.0)) (none_primed entries) none in
-    ap (λ v. cond v entry.1 (kind_among entries w)) (other_word entry.0 w (unprimed (has_prime entry.0) both.0) some) ∙ primed_among entries w both.1 some
+    let first = none-first (has_prime entry.0) (none_primed entries) none in
+    let rest = none-rest (has_prime entry.0) (none_primed entries) none in
+    ap (λ v. cond v entry.1 (kind_among entries w)) (other_word entry.0 w first some) ∙ primed_among entries w rest some
 
 with_prime : (x : Name) (n : ℕ) → has_prime (x ++ primes (suc n)) ≡ true
 with_prime [] n = refl

@@ -1,6 +1,6 @@
-//! The names of a model are spelled as names, a module can take over those of the texts to which its
-//! properties are translated, and such a text can be said: laws about all readings. Definitions and
-//! laws alone.
+//! The names of a model are spelled as names, a module can take over those of the texts to which
+//! its properties are translated, and such a text can be said: laws about all readings. Definitions
+//! and laws alone.
 #![tactic(auto)]
 
 ghost use Rattle.std.specs.Prelude.{◌≡◌, ℕ, List, Contains, Some, true};
