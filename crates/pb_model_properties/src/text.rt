@@ -15,7 +15,9 @@ ghost use Rattle.pb_model_properties.specs.Said.{IsModelOf, IsTextOf};
 use crate::asked::place_of;
 use crate::error::ModelError;
 use crate::read::read_model;
-use pb_model_spelling::{models_have_properties, names_of_translations_are_names_of_modules};
+use pb_model_spelling::{
+    models_have_properties, names_of_translations_are_names_of_modules, translations_can_be_said,
+};
 use pb_model_typing::{TypedModel, property_text};
 use pb_text_printer::{print, sayable_text_is_read_back};
 use pb_typing::Typed;
@@ -59,6 +61,7 @@ pub fn translation_of(
     ensures named { result ≡ Err ModelError.NoProperty → IsSome name.entry }
 {
     models_have_properties();
+    translations_can_be_said();
     sayable_text_is_read_back();
     let model = read_model(alloc, bytes)?;
     let Some(place) = place_of(&model.model.properties, name) else {

@@ -1,3 +1,11 @@
 mod Tokens
 mod Walk
 mod Names
+mod Depths
+mod Words
+mod OfSayable
+mod Gives
+mod SortWords
+mod Ranges
+mod Translated
+mod Texts

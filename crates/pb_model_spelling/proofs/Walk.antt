@@ -1,209 +1,268 @@
--- The names that a model declares are spelled as names.
-use Rattle.std.proofs.Common.{◌≡◌, ℕ, zero, suc, Bool, true, false, List, [], Some, refl, sym, subst}
-use Rattle.std.specs.Prelude.{All, if◌then◌else◌}
+-- A model that was read has words: what of it is written in the texts of its properties.
+use Rattle.std.proofs.Common.{◌≡◌, ℕ, zero, suc, Bool, true, false, List, [], ◌∷◌, Some, refl, sym, subst, inl}
+use Rattle.std.specs.Prelude.{if◌then◌else◌}
 use Rattle.std.specs.List.{slice_get}
-use Rattle.std.proofs.lemmas.List.Elements.{All-nil, All-cons}
 use Rattle.pb_text_tree.specs.declared.place.Place.{Place}
-use Rattle.pb_text_tree.specs.Form.{RangeForm, TermForm}
+use Rattle.pb_text_tree.specs.Form.{RangeForm, TermForm, VariableForm}
 use Rattle.pb_fixpoint.specs.declared.Sign.{Sign}
 use Rattle.pb_fixpoint.specs.declared.Sign.TheVariants as sign
 use Rattle.pb_text_lexer.specs.declared.kind.Kind.{Kind}
 use Rattle.pb_text_lexer.specs.declared.kind.Kind.TheVariants as k
-use Rattle.pb_text_lexer.specs.Grammar.{State, Reads, Is, Nothing, One, First, Series, last, more}
-use Rattle.pb_text_lexer.specs.LeftGrammar.{Listed}
-use Rattle.pb_text_lexer.specs.OpenGrammar.{Chained, last as last_operand, more as more_operands, Either, Conjunction, Disjunction}
+use Rattle.pb_text_lexer.specs.Grammar.{State, Reads, Is, Nothing, One, First, last, more}
+use Rattle.pb_text_lexer.specs.LeftGrammar.{Extended, Listed}
+use Rattle.pb_text_lexer.specs.OpenGrammar.{Chained, last as last_operand, Either, Conjunction, Disjunction}
 use Rattle.pb_text_lexer.specs.Tokens.{Tok}
-use Rattle.pb_text_terms.specs.Operators.{is_equality, is_order, compared_by, is_additive, is_times, is_division, computed_by, connected_by}
-use Rattle.pb_text_terms.specs.Grammar.{Name, Placed, IsUnary, IsTerm, Product, Sum, Ordered, Equated}
-use Rattle.pb_text.specs.Grammar.{SortParts}
+use Rattle.pb_text_terms.specs.Operators.{connected_by}
+use Rattle.pb_text_terms.specs.Grammar.{Placed, arguments_of, Variables, IsUnary, IsTerm, Equated}
+use Rattle.pb_text.specs.Grammar.{Declared}
 use Rattle.pb_text.specs.Parsing.{depth_limit}
-use Rattle.pb_text_names.specs.Spelled.{is_spelled}
-use Rattle.pb_text_names.proofs.Tokens.{AreSpelled}
-use Rattle.pb_text_names.proofs.Meets.{Meets, Keeps, meets_is, meets_nothing, meets_then, keeps_one, keeps_operator, meets_first, meets_series, meets_own, meets_either, meets_extended, keeps_chained}
-use Rattle.pb_text_names.proofs.Keeps.{Any, keeps_is, keeps_nothing, keeps_then, keeps_listed, name_spelled, keeps_name, keeps_variables, keeps_placed, keeps_left, keeps_unmixed, keeps_comparison, keeps_unary, keeps_term}
-use Rattle.pb_text_names.proofs.Texts.{SortHasNames, sorts_spelled, keeps_declared}
+use Rattle.pb_text_meaning.specs.Erase.{erased_term, erased_arguments, erased_variables}
+use Rattle.pb_text_printer.specs.Sayable.{Each, EachOf, operators, AreVariables, IsSayable, RangeSayable}
+use Rattle.pb_text_printer.proofs.SaidLemmas.{AreLexical, variables-said, each-of}
+use Rattle.pb_text_printer.proofs.SaidTerm.{term-said}
 use Rattle.pb_model_tree.specs.declared.formula.Modality.{Modality}
 use Rattle.pb_model_tree.specs.declared.formula.Modality.TheVariants as modality
-use Rattle.pb_model_tree.specs.Form.{StepSetForm, FormulaForm, PropertyForm, ModelForm}
+use Rattle.pb_model_tree.specs.Form.{StepSetForm, FormulaForm, AssignmentForm, StepForm, InitialForm, PropertyForm, ModelForm}
+use Rattle.pb_model_meaning.specs.Erase.{erased_formula, erased_assignment, erased_step, erase}
 use Rattle.pb_model_text.specs.Grammar.{SetBegun, united_by, IsSet, IsStepSet, atom_of, Scope, is_bound, Beginning, Atom, Modal, Begun, Binding, FixpointBy, Fixpoint, Connections, within, IsNode, IsFormula, IsAssignment, IsStep, Steps, IsInitial, IsProperty, Properties, IsModel}
 use Rattle.pb_model_text.specs.Parsing.{IsReading}
-use Rattle.pb_model_spelling.specs.Spelled.{AreVariablesSpelled, HasSpelledNames}
-use Rattle.pb_model_spelling.proofs.Tokens.{tokens_of_models_are_spelled}
+use Rattle.pb_model_spelling.specs.Writable.{VariableWritable, TermWritable, AllWritable, ModalWritable, AssignmentWritable, StepWritable, ModelWritable}
+use Rattle.pb_model_spelling.proofs.Gives.{Gives, Any, gives_said, gives_as, gives_is, gives_nothing, gives_then, gives_one, gives_behind, gives_name, gives_first, gives_listed, gives_own, gives_either, gives_extended, gives_placed, gives_chained}
+use Rattle.pb_model_spelling.proofs.OfSayable.{term_writable, variables_writable, ranges_writable}
+use Rattle.pb_model_spelling.proofs.Ranges.{ranges_of_models_are_said}
+use Rattle.pb_model_spelling.proofs.SortWords.{each_kept, sorts_given}
+use Rattle.pb_model_spelling.proofs.Tokens.{tokens_of_models_are_lexical}
 
-abbrev Spells : FormulaForm → Type 0
-Spells = AreVariablesSpelled
+abbrev HasData : TermForm → Type 0
+HasData x = TermWritable (erased_term x)
+
+abbrev HasWords : FormulaForm → Type 0
+HasWords f = ModalWritable (erased_formula f)
 
 -- ---- sets of steps
 
-keeps_set_begun : (Set Sets : Reads StepSetForm) → Keeps Set → Keeps Sets → (kind : Kind) → Keeps (SetBegun Set Sets kind)
-keeps_set_begun Set Sets set sets k.True = keeps_then _ _ (keeps_one k.True) (λ w. keeps_is _)
-keeps_set_begun Set Sets set sets k.Name = keeps_then _ _ keeps_name (λ n. keeps_is _)
-keeps_set_begun Set Sets set sets k.Not = keeps_then _ _ (keeps_one k.Not) (λ s. keeps_then _ _ set (λ x. keeps_is _))
-keeps_set_begun Set Sets set sets k.Open = keeps_then _ _ (keeps_one k.Open) (λ o. keeps_then _ _ sets (λ x. keeps_then _ _ (keeps_one k.Close) (λ c. keeps_is _)))
-keeps_set_begun Set Sets set sets _ = keeps_nothing
+set_begun : (Set Sets : Reads StepSetForm) → Gives Any Set → Gives Any Sets → (kind : Kind) → Gives Any (SetBegun Set Sets kind)
+set_begun Set Sets set sets k.True = gives_behind k.True Any _ (λ w. gives_is Any _ tt)
+set_begun Set Sets set sets k.Name = gives_then _ Any _ _ gives_name (λ n u. gives_is Any _ tt)
+set_begun Set Sets set sets k.Not = gives_behind k.Not Any _ (λ s. gives_then Any Any _ _ set (λ x u. gives_is Any _ tt))
+set_begun Set Sets set sets k.Open = gives_behind k.Open Any _ (λ o. gives_then Any Any _ _ sets (λ x u. gives_behind k.Close Any _ (λ c. gives_is Any _ tt)))
+set_begun Set Sets set sets _ = gives_nothing Any
 
-keeps_first_set : (Set Sets : Reads StepSetForm) → Keeps Set → Keeps Sets → Keeps (First (SetBegun Set Sets))
-keeps_first_set Set Sets set sets = meets_first Any (SetBegun Set Sets) (keeps_set_begun Set Sets set sets)
+first_set : (Set Sets : Reads StepSetForm) → Gives Any Set → Gives Any Sets → Gives Any (First (SetBegun Set Sets))
+first_set Set Sets set sets = gives_first Any (SetBegun Set Sets) (set_begun Set Sets set sets)
 
-keeps_union : (Set : Reads StepSetForm) → Keeps Set → Keeps (Chained k.Or united_by Set Set)
-keeps_union Set set = keeps_chained k.Or united_by Set Set set set
+union_given : (Set : Reads StepSetForm) → Gives Any Set → Gives Any (Chained k.Or united_by Set Set)
+union_given Set set = gives_chained Any k.Or united_by Set Set (λ x t y u v. tt) set set
 
 mutual
-  keeps_set : (depth : ℕ) → Keeps (IsSet depth)
-  keeps_set zero = keeps_first_set Nothing Nothing keeps_nothing keeps_nothing
-  keeps_set (suc depth) = keeps_first_set (IsSet depth) (IsStepSet depth) (keeps_set depth) (keeps_step_set depth)
+  set_given : (depth : ℕ) → Gives Any (IsSet depth)
+  set_given zero = first_set Nothing Nothing (gives_nothing Any) (gives_nothing Any)
+  set_given (suc depth) = first_set (IsSet depth) (IsStepSet depth) (set_given depth) (steps_given depth)
 
-  keeps_step_set : (depth : ℕ) → Keeps (IsStepSet depth)
-  keeps_step_set zero = keeps_union (First (SetBegun Nothing Nothing)) (keeps_first_set Nothing Nothing keeps_nothing keeps_nothing)
-  keeps_step_set (suc depth) =
-      keeps_union (First (SetBegun (IsSet depth) (IsStepSet depth))) (keeps_first_set (IsSet depth) (IsStepSet depth) (keeps_set depth) (keeps_step_set depth))
+  steps_given : (depth : ℕ) → Gives Any (IsStepSet depth)
+  steps_given zero = union_given (First (SetBegun Nothing Nothing)) (first_set Nothing Nothing (gives_nothing Any) (gives_nothing Any))
+  steps_given (suc depth) =
+      union_given (First (SetBegun (IsSet depth) (IsStepSet depth))) (first_set (IsSet depth) (IsStepSet depth) (set_given depth) (steps_given depth))
 
 -- ---- data
 
-keeps_equated : (Unary : Reads TermForm) → Keeps Unary → Keeps (Equated Unary)
-keeps_equated Unary unary =
-    let product = keeps_unmixed is_times is_division computed_by Unary unary in
-    let sum = keeps_left is_additive computed_by (Product Unary) product in
-    let ordered = keeps_comparison is_order compared_by (Sum Unary) sum in
-    keeps_comparison is_equality compared_by (Ordered Unary) ordered
+term_given : (depth : ℕ) → Gives HasData (IsTerm depth)
+term_given depth = gives_as (λ x. IsSayable x true depth) HasData (IsTerm depth) (λ x. term_writable x true depth) (gives_said _ operators (IsTerm depth) (term-said depth))
 
-meets_beginning : {X : Type 0} (P : X → Type 0) (kind : Kind) (R : Reads X) → Meets P R → Meets P (Beginning kind R)
-meets_beginning P kind R meets s x z r h = meets s x z r.1 h
+-- what has no connective is a term
+equated_is_term : (depth : ℕ) (s z : State) (x : TermForm) → Equated (IsUnary depth) s x z → IsTerm depth s x z
+equated_is_term zero s z x r = last_operand (last_operand (last_operand (inl r)))
+equated_is_term (suc depth) s z x r = last_operand (last_operand (last_operand (inl r)))
 
-meets_atom : (made : Place → TermForm → FormulaForm) (Unary : Reads TermForm) → ((p : Place) (x : TermForm) → Spells (made p x)) → Keeps Unary → Meets Spells (Atom made Unary)
-meets_atom made Unary spells unary =
-    meets_then Any Spells _ _ (keeps_placed (Equated Unary) (keeps_equated Unary unary)) (λ found u. meets_is Spells _ (spells found.0 found.1))
+equated_given : (depth : ℕ) → Gives HasData (Equated (IsUnary depth))
+equated_given depth s x z r h = term_given depth s x z (equated_is_term depth s z x r) h
 
-variable_or_data : (b : Bool) (f g : FormulaForm) → Spells f → Spells g → Spells (if b then f else g)
+unary_given : (depth : ℕ) → Gives HasData (IsUnary depth)
+unary_given depth s x z r h = equated_given depth s x z (inl (inl (inl (inl r)))) h
+
+variables_given : Gives (λ vs. EachOf VariableWritable (erased_variables vs)) Variables
+variables_given = gives_as AreVariables _ Variables variables_writable (gives_said AreVariables _ Variables variables-said)
+
+beginning_given : {X : Type 0} (P : X → Type 0) (kind : Kind) (R : Reads X) → Gives P R → Gives P (Beginning kind R)
+beginning_given P kind R gives s x z r h = gives s x z r.1 h
+
+atom_given : (made : Place → TermForm → FormulaForm) (Unary : Reads TermForm) → ((p : Place) (x : TermForm) → HasData x → HasWords (made p x)) → Gives HasData (Equated Unary) → Gives HasWords (Atom made Unary)
+atom_given made Unary words equated =
+    gives_then _ HasWords _ _ (gives_placed HasData (Equated Unary) equated) (λ found h. gives_is HasWords _ (words found.0 found.1 h))
+
+variable_or_data : (b : Bool) (f g : FormulaForm) → HasWords f → HasWords g → HasWords (if b then f else g)
 variable_or_data true f g h i = h
 variable_or_data false f g h i = i
 
-atom_spells : (scope : Scope) (p : Place) (x : TermForm) → Spells (atom_of scope p x)
-atom_spells scope p (TermForm.name n) = variable_or_data (is_bound scope n.text) (FormulaForm.variable n) (FormulaForm.«data» p (TermForm.name n)) tt tt
-atom_spells scope p _ = tt
+atom_words : (scope : Scope) (p : Place) (x : TermForm) → HasData x → HasWords (atom_of scope p x)
+atom_words scope p (TermForm.name n) h = variable_or_data (is_bound scope n.text) (FormulaForm.variable n) (FormulaForm.«data» p (TermForm.name n)) tt h
+atom_words scope p (TermForm.constant q b) h = h
+atom_words scope p (TermForm.number q n) h = h
+atom_words scope p (TermForm.not q x) h = h
+atom_words scope p (TermForm.negative q x) h = h
+atom_words scope p (TermForm.connected c q x y) h = h
+atom_words scope p (TermForm.compared c q x y) h = h
+atom_words scope p (TermForm.computed o q x y) h = h
+atom_words scope p (TermForm.application f xs) h = h
+atom_words scope p (TermForm.quantified q r vars x) h = h
 
 -- ---- formulas
 
-meets_chained : {X : Type 0} (P : X → Type 0) (kind : Kind) (join : X → Tok → X → X) (Closed Open : Reads X) → ((x : X) (t : Tok) (y : X) → P x → P y → P (join x t y))
-    → Meets P Closed → Meets P Open → Meets P (Chained kind join Closed Open)
-meets_chained P kind join Closed Open joins closed opened s x z (last_operand r) h = opened s _ z r h
-meets_chained P kind join Closed Open joins closed opened s x z (more_operands {m = m} {o = o} {x = a} {y = b} {t = t} r p rs) h =
-    let one = closed s a m r h in
-    let two = keeps_operator kind m t o p one.1 in
-    let three = meets_chained P kind join Closed Open joins closed opened o b z rs two.1 in
-    (joins a t b one.0 three.0, three.1)
+modal_words : (kind : Modality) (p : Place) (A : StepSetForm) (f : FormulaForm) → HasWords f → HasWords (FormulaForm.modal kind p A f)
+modal_words modality.Box p A f h = h
+modal_words modality.Diamond p A f h = h
 
-meets_modal : (kind : Modality) (close : Kind) (Node : Reads FormulaForm) (Sets : Reads StepSetForm) (t : Tok) → Meets Spells Node → Keeps Sets → Meets Spells (Modal kind close Node Sets t)
-meets_modal kind close Node Sets t node sets =
-    meets_then Any Spells _ _ sets (λ A u. meets_then Any Spells _ _ (keeps_one close) (λ c v. meets_then Spells Spells _ _ node (λ f h. meets_is Spells _ h)))
+modal_given : (kind : Modality) (close : Kind) (Node : Reads FormulaForm) (Sets : Reads StepSetForm) (t : Tok) → Gives HasWords Node → Gives Any Sets → Gives HasWords (Modal kind close Node Sets t)
+modal_given kind close Node Sets t node sets =
+    gives_then Any HasWords _ _ sets (λ A u. gives_behind close HasWords _ (λ c. gives_then HasWords HasWords _ _ node (λ f h. gives_is HasWords _ (modal_words kind t.place A f h))))
 
 module _ (scope : Scope) (Node Formula : Reads FormulaForm) (Unary : Reads TermForm) (Sets : Reads StepSetForm)
-    (node : Meets Spells Node) (formula : Meets Spells Formula) (unary : Keeps Unary) (sets : Keeps Sets) where
-  meets_begun : (kind : Kind) → Meets Spells (Begun scope Node Formula Unary Sets kind)
-  meets_begun k.Not = meets_then Any Spells _ _ (keeps_one k.Not) (λ s u. meets_then Spells Spells _ _ node (λ f h. meets_is Spells _ h))
-  meets_begun k.Open =
-      meets_then Any Spells _ _ (keeps_one k.Open) (λ o u. meets_then Spells Spells _ _ formula (λ f h. meets_then Any Spells _ _ (keeps_one k.Close) (λ c v. meets_is Spells _ h)))
-  meets_begun k.OpenSquare = meets_then Any Spells _ _ (keeps_one k.OpenSquare) (λ o u. meets_modal modality.Box k.CloseSquare Node Sets o node sets)
-  meets_begun k.Less = meets_then Any Spells _ _ (keeps_one k.Less) (λ o u. meets_modal modality.Diamond k.Greater Node Sets o node sets)
-  meets_begun k.True = meets_then Any Spells _ _ (keeps_one k.True) (λ w u. meets_is Spells _ tt)
-  meets_begun k.False = meets_then Any Spells _ _ (keeps_one k.False) (λ w u. meets_is Spells _ tt)
-  meets_begun k.Val = meets_then Any Spells _ _ (keeps_one k.Val) (λ w u. meets_then Any Spells _ _ unary (λ x v. meets_is Spells _ tt))
-  meets_begun k.Name = meets_beginning Spells k.Name _ (meets_atom (atom_of scope) Unary (atom_spells scope) unary)
-  meets_begun k.Number = meets_beginning Spells k.Number _ (meets_atom FormulaForm.«data» Unary (λ p x. tt) unary)
-  meets_begun k.Minus = meets_beginning Spells k.Minus _ (meets_atom FormulaForm.«data» Unary (λ p x. tt) unary)
-  meets_begun _ = meets_nothing Spells
+    (node : Gives HasWords Node) (formula : Gives HasWords Formula) (unary : Gives HasData Unary) (equated : Gives HasData (Equated Unary)) (sets : Gives Any Sets) where
+  begun_given : (kind : Kind) → Gives HasWords (Begun scope Node Formula Unary Sets kind)
+  begun_given k.Not = gives_behind k.Not HasWords _ (λ s. gives_then HasWords HasWords _ _ node (λ f h. gives_is HasWords _ h))
+  begun_given k.Open = gives_behind k.Open HasWords _ (λ o. gives_then HasWords HasWords _ _ formula (λ f h. gives_behind k.Close HasWords _ (λ c. gives_is HasWords _ h)))
+  begun_given k.OpenSquare = gives_behind k.OpenSquare HasWords _ (λ o. modal_given modality.Box k.CloseSquare Node Sets o node sets)
+  begun_given k.Less = gives_behind k.Less HasWords _ (λ o. modal_given modality.Diamond k.Greater Node Sets o node sets)
+  begun_given k.True = gives_behind k.True HasWords _ (λ w. gives_is HasWords _ tt)
+  begun_given k.False = gives_behind k.False HasWords _ (λ w. gives_is HasWords _ tt)
+  begun_given k.Val = gives_behind k.Val HasWords _ (λ w. gives_then HasData HasWords _ _ unary (λ x h. gives_is HasWords _ h))
+  begun_given k.Name = beginning_given HasWords k.Name _ (atom_given (atom_of scope) Unary (atom_words scope) equated)
+  begun_given k.Number = beginning_given HasWords k.Number _ (atom_given FormulaForm.«data» Unary (λ p x h. h) equated)
+  begun_given k.Minus = beginning_given HasWords k.Minus _ (atom_given FormulaForm.«data» Unary (λ p x h. h) equated)
+  begun_given _ = gives_nothing HasWords
 
-  meets_first_formula : Meets Spells (First (Begun scope Node Formula Unary Sets))
-  meets_first_formula = meets_first Spells (Begun scope Node Formula Unary Sets) meets_begun
+  first_formula : Gives HasWords (First (Begun scope Node Formula Unary Sets))
+  first_formula = gives_first HasWords (Begun scope Node Formula Unary Sets) begun_given
 
-meets_binding : (s : Sign) (p : Place) (Body : List ℕ → Reads FormulaForm) → ((name : List ℕ) → Meets Spells (Body name)) → Meets Spells (Binding s p Body)
-meets_binding s p Body body =
-    meets_then _ Spells Name _ name_spelled (λ n h. meets_then Any Spells _ _ (keeps_one k.Period) (λ d u. meets_then Spells Spells _ _ (body n.text) (λ f g. meets_is Spells _ (h, g))))
+binding_given : (s : Sign) (p : Place) (Body : List ℕ → Reads FormulaForm) → ((name : List ℕ) → Gives HasWords (Body name)) → Gives HasWords (Binding s p Body)
+binding_given s p Body body =
+    gives_then _ HasWords _ _ gives_name (λ n h. gives_behind k.Period HasWords _ (λ d. gives_then HasWords HasWords _ _ (body n.text) (λ f g. gives_is HasWords _ (h, g))))
 
-meets_fixpoint_by : (Body : List ℕ → Reads FormulaForm) → ((name : List ℕ) → Meets Spells (Body name)) → (kind : Kind) → Meets Spells (FixpointBy Body kind)
-meets_fixpoint_by Body body k.Mu = meets_then Any Spells _ _ (keeps_one k.Mu) (λ w u. meets_binding sign.Mu w.place Body body)
-meets_fixpoint_by Body body k.Nu = meets_then Any Spells _ _ (keeps_one k.Nu) (λ w u. meets_binding sign.Nu w.place Body body)
-meets_fixpoint_by Body body _ = meets_nothing Spells
+fixpoint_by : (Body : List ℕ → Reads FormulaForm) → ((name : List ℕ) → Gives HasWords (Body name)) → (kind : Kind) → Gives HasWords (FixpointBy Body kind)
+fixpoint_by Body body k.Mu = gives_behind k.Mu HasWords _ (λ w. binding_given sign.Mu w.place Body body)
+fixpoint_by Body body k.Nu = gives_behind k.Nu HasWords _ (λ w. binding_given sign.Nu w.place Body body)
+fixpoint_by Body body _ = gives_nothing HasWords
 
-meets_connections : (Node : Reads FormulaForm) (Body : List ℕ → Reads FormulaForm) → Meets Spells Node → ((name : List ℕ) → Meets Spells (Body name)) → Meets Spells (Connections Node Body)
-meets_connections Node Body node body =
+connections_given : (Node : Reads FormulaForm) (Body : List ℕ → Reads FormulaForm) → Gives HasWords Node → ((name : List ℕ) → Gives HasWords (Body name)) → Gives HasWords (Connections Node Body)
+connections_given Node Body node body =
     let join = connected_by FormulaForm.connected in
     let Open = Either Node (Fixpoint Body) in
-    let open_end = meets_either Spells Node (Fixpoint Body) node (meets_first Spells (FixpointBy Body) (meets_fixpoint_by Body body)) in
-    let conjunction = meets_chained Spells k.And (join k.And) Node Node (λ x t y h i. (h, i)) node node in
-    let conjunction_end = meets_chained Spells k.And (join k.And) Node Open (λ x t y h i. (h, i)) node open_end in
-    let disjunction = meets_chained Spells k.Or (join k.Or) (Conjunction join Node Node) (Conjunction join Node Node) (λ x t y h i. (h, i)) conjunction conjunction in
-    let disjunction_end = meets_chained Spells k.Or (join k.Or) (Conjunction join Node Node) (Conjunction join Node Open) (λ x t y h i. (h, i)) conjunction conjunction_end in
-    meets_chained Spells k.Implies (join k.Implies) (Disjunction join Node Node) (Disjunction join Node Open) (λ x t y h i. (h, i)) disjunction disjunction_end
+    let open_end = gives_either HasWords Node (Fixpoint Body) node (gives_first HasWords (FixpointBy Body) (fixpoint_by Body body)) in
+    let conjunction = gives_chained HasWords k.And (join k.And) Node Node (λ x t y h i. (h, i)) node node in
+    let conjunction_end = gives_chained HasWords k.And (join k.And) Node Open (λ x t y h i. (h, i)) node open_end in
+    let disjunction = gives_chained HasWords k.Or (join k.Or) (Conjunction join Node Node) (Conjunction join Node Node) (λ x t y h i. (h, i)) conjunction conjunction in
+    let disjunction_end = gives_chained HasWords k.Or (join k.Or) (Conjunction join Node Node) (Conjunction join Node Open) (λ x t y h i. (h, i)) conjunction conjunction_end in
+    gives_chained HasWords k.Implies (join k.Implies) (Disjunction join Node Node) (Disjunction join Node Open) (λ x t y h i. (h, i)) disjunction disjunction_end
 
 mutual
-  meets_node : (scope : Scope) (depth : ℕ) → Meets Spells (IsNode scope depth)
-  meets_node scope zero = meets_first_formula scope Nothing Nothing (IsUnary zero) Nothing (meets_nothing Spells) (meets_nothing Spells) (keeps_unary zero) keeps_nothing
-  meets_node scope (suc depth) =
-      meets_first_formula scope (IsNode scope depth) (IsFormula scope depth) (IsUnary (suc depth)) (IsStepSet depth)
-      (meets_node scope depth) (meets_formula scope depth) (keeps_unary (suc depth)) (keeps_step_set depth)
+  node_given : (scope : Scope) (depth : ℕ) → Gives HasWords (IsNode scope depth)
+  node_given scope zero = first_formula scope Nothing Nothing (IsUnary zero) Nothing (gives_nothing HasWords) (gives_nothing HasWords) (unary_given zero) (equated_given zero) (gives_nothing Any)
+  node_given scope (suc depth) =
+      first_formula scope (IsNode scope depth) (IsFormula scope depth) (IsUnary (suc depth)) (IsStepSet depth)
+      (node_given scope depth) (formula_given scope depth) (unary_given (suc depth)) (equated_given (suc depth)) (steps_given depth)
 
-  meets_formula : (scope : Scope) (depth : ℕ) → Meets Spells (IsFormula scope depth)
-  meets_formula scope zero =
-      meets_connections (First (Begun scope Nothing Nothing (IsUnary zero) Nothing)) (λ name. Nothing)
-      (meets_first_formula scope Nothing Nothing (IsUnary zero) Nothing (meets_nothing Spells) (meets_nothing Spells) (keeps_unary zero) keeps_nothing) (λ name. meets_nothing Spells)
-  meets_formula scope (suc depth) =
-      meets_connections (First (Begun scope (IsNode scope depth) (IsFormula scope depth) (IsUnary (suc depth)) (IsStepSet depth))) (λ name. IsFormula (within scope name) depth)
-      (meets_first_formula scope (IsNode scope depth) (IsFormula scope depth) (IsUnary (suc depth)) (IsStepSet depth)
-      (meets_node scope depth) (meets_formula scope depth) (keeps_unary (suc depth)) (keeps_step_set depth))
-      (λ name. meets_formula (within scope name) depth)
+  formula_given : (scope : Scope) (depth : ℕ) → Gives HasWords (IsFormula scope depth)
+  formula_given scope zero =
+      connections_given (First (Begun scope Nothing Nothing (IsUnary zero) Nothing)) (λ name. Nothing)
+      (first_formula scope Nothing Nothing (IsUnary zero) Nothing (gives_nothing HasWords) (gives_nothing HasWords) (unary_given zero) (equated_given zero) (gives_nothing Any)) (λ name. gives_nothing HasWords)
+  formula_given scope (suc depth) =
+      connections_given (First (Begun scope (IsNode scope depth) (IsFormula scope depth) (IsUnary (suc depth)) (IsStepSet depth))) (λ name. IsFormula (within scope name) depth)
+      (first_formula scope (IsNode scope depth) (IsFormula scope depth) (IsUnary (suc depth)) (IsStepSet depth)
+      (node_given scope depth) (formula_given scope depth) (unary_given (suc depth)) (equated_given (suc depth)) (steps_given depth))
+      (λ name. formula_given (within scope name) depth)
 
 -- ---- steps, the initial state, properties
 
-keeps_assignment : (depth : ℕ) → Keeps (IsAssignment depth)
-keeps_assignment depth = keeps_then _ _ keeps_name (λ n. keeps_then _ _ (keeps_one k.Assign) (λ a. keeps_then _ _ (keeps_placed (IsTerm depth) (keeps_term depth)) (λ x. keeps_is _)))
+declared_given : (depth : ℕ) → Gives (λ vs. EachOf VariableWritable (erased_variables vs)) (Declared depth)
+declared_given zero = gives_nothing _
+declared_given (suc depth) = gives_behind k.Open _ _ (λ o. gives_then _ _ _ _ variables_given (λ vs h. gives_behind k.Close _ _ (λ c. gives_is _ vs h)))
 
-keeps_step : (depth : ℕ) → Keeps (IsStep depth)
-keeps_step depth =
-    keeps_then _ _ keeps_name (λ n. keeps_then _ _ (meets_extended Any (Is []) _ (keeps_is []) (λ xs u. keeps_declared depth)) (λ vs.
-    keeps_then _ _ (keeps_one k.Colon) (λ c. keeps_then _ _ (keeps_term depth) (λ guard. keeps_then _ _ (keeps_one k.Arrow) (λ a.
-    keeps_then _ _ (keeps_listed (IsAssignment depth) (One k.Comma) (keeps_assignment depth) (keeps_one k.Comma)) (λ bs.
-    keeps_then _ _ (keeps_one k.Semicolon) (λ s. keeps_is _)))))))
+abbrev OwnVariables : List VariableForm → Type 0
+OwnVariables vs = Each VariableWritable (erased_variables vs)
 
-keeps_steps : (depth : ℕ) → Keeps (Steps depth)
-keeps_steps depth = keeps_listed _ (Is {X = Unit {0}} tt) (meets_own Any (IsStep depth) (keeps_step depth)) (keeps_is tt)
+own_given : (depth : ℕ) → Gives OwnVariables (Extended (Is []) (λ none. Declared depth))
+own_given depth =
+    gives_extended OwnVariables (Is []) (λ none. Declared depth) (gives_is OwnVariables [] tt)
+    (λ none u. gives_as _ OwnVariables (Declared depth) (λ vs. each-of VariableWritable (erased_variables vs)) (declared_given depth))
 
-keeps_initial : (depth : ℕ) → Keeps (IsInitial depth)
-keeps_initial depth =
-    keeps_then _ _ (keeps_one k.Init) (λ w. keeps_then _ _ (keeps_listed (Placed (IsTerm depth)) (One k.Comma) (keeps_placed (IsTerm depth) (keeps_term depth)) (keeps_one k.Comma)) (λ vs.
-    keeps_then _ _ (keeps_one k.Semicolon) (λ s. keeps_is _)))
+abbrev AssignmentHasWords : AssignmentForm → Type 0
+AssignmentHasWords a = HasData a.value
 
-abbrev PropertySpells : PropertyForm → Type 0
-PropertySpells p = Spells p.formula
+assignment_given : (depth : ℕ) → Gives AssignmentHasWords (IsAssignment depth)
+assignment_given depth =
+    gives_then _ AssignmentHasWords _ _ gives_name (λ n u. gives_behind k.Assign AssignmentHasWords _ (λ t.
+    gives_then _ AssignmentHasWords _ _ (gives_placed HasData (IsTerm depth) (term_given depth)) (λ x h. gives_is AssignmentHasWords _ h)))
 
-meets_property : (depth : ℕ) → Meets PropertySpells (IsProperty depth)
-meets_property depth =
-    meets_then Any PropertySpells _ _ (keeps_one k.Property) (λ w u. meets_then Any PropertySpells _ _ keeps_name (λ n v. meets_then Any PropertySpells _ _ (keeps_one k.Is) (λ i a.
-    meets_then Spells PropertySpells _ _ (meets_formula [] depth) (λ f h. meets_then Any PropertySpells _ _ (keeps_one k.Semicolon) (λ s b. meets_is PropertySpells _ h)))))
+abbrev StepHasWords : StepForm → Type 0
+StepHasWords a = StepWritable (erased_step a)
 
-meets_properties : (depth : ℕ) → Meets (All PropertySpells) (Properties depth)
-meets_properties depth =
-    meets_series PropertySpells (All PropertySpells) _ (Is {X = Unit {0}} tt) _ _ (meets_own PropertySpells (IsProperty depth) (meets_property depth)) (keeps_is tt)
-    (λ p h. All-cons PropertySpells p [] h (All-nil PropertySpells)) (λ p t ps h hs. All-cons PropertySpells p ps h hs)
+step_given : (depth : ℕ) → Gives StepHasWords (IsStep depth)
+step_given depth =
+    gives_then _ StepHasWords _ _ gives_name (λ n u. gives_then OwnVariables StepHasWords _ _ (own_given depth) (λ vs own.
+    gives_behind k.Colon StepHasWords _ (λ c. gives_then HasData StepHasWords _ _ (term_given depth) (λ guard g. gives_behind k.Arrow StepHasWords _ (λ t.
+    gives_then _ StepHasWords _ _ (gives_listed AssignmentHasWords (IsAssignment depth) (One k.Comma) (assignment_given depth) (gives_one k.Comma)) (λ bs h.
+    gives_behind k.Semicolon StepHasWords _ (λ s.
+    gives_is StepHasWords _ (own, g, each_kept erased_assignment AssignmentWritable bs (each-of AssignmentHasWords bs h)))))))))
+
+steps_of_model : (depth : ℕ) → Gives (EachOf StepHasWords) (Steps depth)
+steps_of_model depth = gives_listed StepHasWords _ (Is {X = Unit {0}} tt) (gives_own StepHasWords (IsStep depth) (step_given depth)) (gives_is Any tt tt)
+
+arguments_writable : (values : List (Place × TermForm)) → Each (λ (a : Place × TermForm). HasData a.1) values → AllWritable (erased_arguments (arguments_of values))
+arguments_writable [] h = tt
+arguments_writable (a ∷ values) h = (h.0, arguments_writable values h.1)
+
+abbrev InitialHasWords : InitialForm → Type 0
+InitialHasWords i = AllWritable (erased_arguments i.values)
+
+initial_given : (depth : ℕ) → Gives InitialHasWords (IsInitial depth)
+initial_given depth =
+    gives_behind k.Init InitialHasWords _ (λ w.
+    gives_then _ InitialHasWords _ _ (gives_listed (λ (a : Place × TermForm). HasData a.1) (Placed (IsTerm depth)) (One k.Comma) (gives_placed HasData (IsTerm depth) (term_given depth)) (gives_one k.Comma)) (λ vs h.
+    gives_behind k.Semicolon InitialHasWords _ (λ s. gives_is InitialHasWords _ (arguments_writable vs (each-of (λ (a : Place × TermForm). HasData a.1) vs h)))))
+
+abbrev PropertyHasWords : PropertyForm → Type 0
+PropertyHasWords p = HasWords p.formula
+
+property_given : (depth : ℕ) → Gives PropertyHasWords (IsProperty depth)
+property_given depth =
+    gives_behind k.Property PropertyHasWords _ (λ w. gives_then _ PropertyHasWords _ _ gives_name (λ n v. gives_behind k.Is PropertyHasWords _ (λ i.
+    gives_then HasWords PropertyHasWords _ _ (formula_given [] depth) (λ f h. gives_behind k.Semicolon PropertyHasWords _ (λ s. gives_is PropertyHasWords _ h)))))
+
+properties_given : (depth : ℕ) → Gives (EachOf PropertyHasWords) (Properties depth)
+properties_given depth = gives_listed PropertyHasWords _ (Is {X = Unit {0}} tt) (gives_own PropertyHasWords (IsProperty depth) (property_given depth)) (gives_is Any tt tt)
 
 -- ---- whole models
 
-model_spelled : (ranges : List RangeForm) (depth : ℕ) (s z : State) (model : ModelForm) → IsModel ranges depth s model z → AreSpelled s.tokens → HasSpelledNames model
-model_spelled ranges depth s z model (sorts, a, r, (w, b, q, (state, c, t, (vs, d, v, (semicolon, e, p, (step, f, o, (steps, g, n, (initial, i, m, (properties, j, l, is))))))))) h =
-    let one = sorts_spelled s sorts a r h in
-    let two = keeps_one k.Model a w b q one.1 in
-    let three = keeps_one k.State b state c t two.1 in
-    let four = keeps_variables c vs d v three.1 in
-    let five = keeps_one k.Semicolon d semicolon e p four.1 in
-    let six = keeps_one k.Step e step f o five.1 in
-    let seven = keeps_steps depth f steps g n six.1 in
-    let eight = meets_own Any (IsInitial depth) (keeps_initial depth) g initial i m seven.1 in
-    let nine = meets_properties depth i properties j l eight.1 in
-    subst HasSpelledNames (sym is.0) (record { enumerators = one.0; variables = nine.0 })
+-- a model that was read has words, and so has each of its formulas
+pub record HasAllWords (model : ModelForm) : Type 0 where
+  pub writable : ModelWritable (erase model)
+  pub formulas : Each PropertyHasWords model.properties
 
-pub reading_spelled : (bytes : List ℕ) (model : ModelForm) → IsReading bytes model → HasSpelledNames model
-reading_spelled bytes model is =
-    model_spelled is.ranges depth_limit _ _ model is.says.2 (tokens_of_models_are_spelled bytes is.tokens is.ranges is.cut)
+model_words : (ranges : List RangeForm) (depth : ℕ) (s z : State) (model : ModelForm) → Each RangeSayable ranges → IsModel ranges depth s model z → AreLexical s.tokens → HasAllWords model
+model_words ranges depth s z model bounds (sorts, a, r, (w, b, q, (state, c, t, (vs, d, v, (semicolon, e, p, (step, f, o, (steps, g, n, (initial, i, m, (properties, j, l, is))))))))) h =
+    let one = sorts_given s sorts a r h in
+    let two = gives_one k.Model a w b q one.1 in
+    let three = gives_one k.State b state c t two.1 in
+    let four = variables_given c vs d v three.1 in
+    let five = gives_one k.Semicolon d semicolon e p four.1 in
+    let six = gives_one k.Step e step f o five.1 in
+    let seven = steps_of_model depth f steps g n six.1 in
+    let eight = gives_own InitialHasWords (IsInitial depth) (initial_given depth) g initial i m seven.1 in
+    let nine = properties_given depth i properties j l eight.1 in
+    subst HasAllWords (sym is.0) (record {
+      writable = record {
+        sorts = one.0;
+        ranges = ranges_writable ranges bounds;
+        variables = each-of VariableWritable (erased_variables vs) four.0;
+        steps = each_kept erased_step StepWritable steps (each-of StepHasWords steps seven.0);
+        initial = eight.0;
+      };
+      formulas = each-of PropertyHasWords properties nine.0;
+    })
+
+pub reading_words : (bytes : List ℕ) (model : ModelForm) → IsReading bytes model → HasAllWords model
+reading_words bytes model is =
+    model_words is.ranges depth_limit _ _ model (ranges_of_models_are_said bytes is.tokens is.ranges is.cut) is.says.2 (tokens_of_models_are_lexical bytes is.tokens is.ranges is.cut)
 
 -- ---- there is a property
 

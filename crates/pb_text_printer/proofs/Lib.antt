@@ -6,9 +6,9 @@ mod ListParts
 mod TermParts
 mod TextParts
 mod SayableLemmas
-mod SaidLemmas
+pub mod SaidLemmas
 mod SaidConnected
-mod SaidTerm
+pub mod SaidTerm
 mod SaidFormula
 mod BackLemmas
 mod BackConnected
@@ -19,11 +19,11 @@ mod SaidText
 mod BackText
 mod LexicalLemmas
 mod PrintLemmas
-mod CutLemmas
+pub mod CutLemmas
 mod CutWords
 mod WrittenLemmas
 mod WellTerm
 mod WellText
 mod RangeWords
 mod RangeCut
-mod SaidRanges
+pub mod SaidRanges
