@@ -1,9 +1,9 @@
 /* What an interpreter's loop over the machine's instructions takes when nothing is proved of it: the measure for crates/pb_machine.
 
-       cc -O2 -o /tmp/loop bench/loop.c && pbsolve compile < MODEL > /tmp/module && /tmp/loop /tmp/module [TURNS]
+       cc -O2 -o /tmp/loop bench/loop.c && pbsolve compile < MODEL > /tmp/module && /tmp/loop /tmp/module [TURNS [NUMBERS]]
 
-   It reads a module of one equation whose parameters are ranges, runs the code of each of its instances from the first to the last, TURNS times, and
-   prints how many there are, the instructions and the tokens of a turn, and nanoseconds for one instruction. It tests nothing, knows no loops, and
+   It reads a module of one equation whose parameters are ranges, runs the code of each of its instances from the first to the last, or of those whose numbers stand in
+   the file NUMBERS, one on a line, TURNS times, and prints how many there are, the instructions and the tokens of a turn, and nanoseconds for one instruction. It tests nothing, knows no loops, and
    has one opcode for each operator, where the machine's instruction names a group and then an operator of it. */
 #include <stdint.h>
 #include <stdio.h>
@@ -115,11 +115,19 @@ int main(int words, char **word) {
     for (int i = 0; i < length; i++) code[i] = decoded();
     int turns = words > 2 ? atoi(word[2]) : 1;
     uint64_t count = 0, tokens = 0;
+    long *chosen = NULL;
+    FILE *numbers = words > 3 ? fopen(word[3], "r") : NULL;
+    if (numbers) {
+        chosen = calloc(instances, sizeof *chosen);
+        int64_t read = 0;
+        while (read < instances && fscanf(numbers, "%ld", &chosen[read]) == 1) read++;
+        instances = read;
+    }
     struct timespec begin, end;
     clock_gettime(CLOCK_MONOTONIC, &begin);
     for (int turn = 0; turn < turns; turn++)
         for (int64_t k = 0; k < instances; k++) {
-            int64_t rest = k;
+            int64_t rest = chosen ? chosen[k] : k;
             for (int i = parameters; i-- > 0; rest /= size[i]) slots[i] = low[i] + rest % size[i];
             tokens += run(&count) - output;
         }
