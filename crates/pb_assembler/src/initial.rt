@@ -2,7 +2,7 @@
 
 ghost use Rattle.std.specs.Prelude.{◌≡◌, ◌++◌, ◌∷◌, [], true, IfOk, OnOk};
 ghost use Rattle.std.specs.List.{list_all};
-ghost use Rattle.pb_normal.specs.InitialPlace.{initial_place, initial_values};
+ghost use Rattle.pb_typed_tree.specs.InitialPlace.{initial_place, initial_values};
 ghost use Rattle.pb_normal.specs.Text.{said};
 ghost use Rattle.pb_bytecode.specs.Limits.{is_byte, is_i64};
 
@@ -30,7 +30,7 @@ pub(crate) fn initial(alloc: Global, normal: &Normal<'_>) -> Result<Initial, All
     ensures byte { IfOk result (λ i. is_byte i.equation ≡ true) }
     ensures words { IfOk result (λ i. list_all is_i64 i.values.items ≡ true) }
 {
-    let instance = pb_normal::initial_instance(alloc, normal)?;
+    let instance = &normal.typed.initial;
     let mut values = Vec::with_capacity(alloc, instance.values.len())?;
     for value in &instance.values {
         push_value(&mut values, *value)?;

@@ -21,30 +21,3 @@ by_equation spec (Some X) e h = record { equation = X; there = e; within = h }
 pub initial-there : (spec : Spec) → IsWellTyped spec → HasInitial spec
 initial-there spec h =
     by_equation spec (equation_named spec.equations spec.initial) (sym (find_at (λ (X : Equation). same_name X.name spec.initial) spec.equations)) h.values
-
--- its equation is found at its place
-pub initial-found : (spec : Spec) → IsWellTyped spec → equation_place spec spec.initial ≡ Some (initial_place spec)
-initial-found spec h =
-    let p = initial-there spec h in
-    let below = slice_get_within spec.equations (initial_place spec) p.equation p.there in
-    ap (λ (b : Bool). cond b (Some (initial_place spec)) None) (lt-ltb (initial_place spec) (length spec.equations) below)
-
--- and so at any place that is found
-pub initial-at : (spec : Spec) (k : ℕ) → IsWellTyped spec → equation_place spec spec.initial ≡ Some k → k ≡ initial_place spec
-initial-at spec k h e = ap (λ (o : Option ℕ). unwrap_or o 0) (sym e ∙ initial-found spec h)
-
--- which a byte holds
-pub initial-small : (spec : Spec) (k : ℕ) → IsWellTyped spec → equation_place spec spec.initial ≡ Some k → k < MAX_EQUATIONS
-initial-small spec k h e =
-    let p = initial-there spec h in
-    let below = slice_get_within spec.equations (initial_place spec) p.equation p.there in
-    let few = h.declarations.few_equations in
-    let at = initial-at spec k h e in
-    omega (arith, below, few, at)
-
-pub not-found : (spec : Spec) → IsWellTyped spec → equation_place spec spec.initial ≡ None → ⊥
-not-found spec h e = let none : Some (initial_place spec) ≡ None = sym (initial-found spec h) ∙ e in cc
-
--- its arguments fit
-pub initial-fits : (spec : Spec) → IsWellTyped spec → AllFit spec [] spec.arguments
-initial-fits spec h = (spec_fits spec h).initial

@@ -7,7 +7,6 @@ mod context;
 mod data;
 pub mod formula;
 mod function;
-mod initial;
 pub mod laws;
 pub mod limits;
 pub mod normal;
@@ -19,6 +18,5 @@ mod value;
 mod variables;
 
 pub use formula::{Argument, Formula, Junction};
-pub use initial::{Initial, initial_instance};
 pub use normal::{Equation, Normal, normalise};
 pub use pb_typed_tree::{Enumerator, Link, Term};

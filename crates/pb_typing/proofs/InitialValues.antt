@@ -1,10 +1,10 @@
 -- The values of the initial instance's arguments, against the carriers of its equation's parameters.
-use Rattle.std.proofs.Common.{◌≡◌, ℕ, zero, suc, Bool, true, false, List, [], ◌∷◌, map, length, Option, Some, None, cond, refl, sym, ◌∙◌, ap, subst, arith, find, true≢false}
+use Rattle.std.proofs.Common.{◌≡◌, ℕ, zero, suc, Bool, true, false, List, [], ◌∷◌, ◌++◌, map, length, Option, Some, None, cond, refl, sym, ◌∙◌, ap, subst, arith, find, true≢false, ◌<◌}
 use Rattle.std.specs.Prelude.{Result, Ok, Err, MatchResult, nat_lt, position}
 use Rattle.std.specs.List.{slice_get, position_or_len}
 use Rattle.std.proofs.lemmas.List.Folds.{find_at}
 use Rattle.std.proofs.lemmas.Option.{cond_some, slice_get_past}
-use Rattle.std.proofs.lemmas.Bool.{ltb-false}
+use Rattle.std.proofs.lemmas.Bool.{ltb-false, ltb-true}
 use Rattle.pb_carriers.specs.Carrier as carriers
 use Rattle.pb_carriers.specs.Carrier.{Value, contains}
 use Rattle.pb_sorts.specs.declared.carrier.Carrier.{Carrier}
@@ -17,6 +17,14 @@ use Rattle.pb_text_meaning.specs.Syntax.{Name, same_name, Variable, Equation, Sp
 use Rattle.pb_text_meaning.specs.Sorts.{carrier_of}
 use Rattle.pb_text_meaning.specs.Value.{value}
 use Rattle.pb_text_meaning.specs.Formula.{carriers_of, equation_named}
+use Rattle.pb_text_tree.specs.Form.{SpecForm}
+use Rattle.pb_text_meaning.specs.Erase.{erase}
+use Rattle.pb_sorts.specs.declared.limits.TheConstants.{MAX_EQUATIONS}
+use Rattle.pb_typing_declarations.specs.Declarations.{declaration_faults}
+use Rattle.pb_typing_declarations.proofs.DeclaredLaw.{declared}
+use Rattle.pb_typing_rules.specs.Formula.{count, IsCalled}
+use Rattle.pb_typed_tree.specs.InitialPlace.{initial_place}
+use Rattle.std.proofs.lemmas.List.{length-map}
 use Rattle.pb_text_meaning.specs.Erase.{erased_arguments, erased_term}
 use Rattle.pb_text_meaning.specs.Fits.{AllFit}
 use Rattle.pb_typing_declarations.specs.declared.fault.TypingFault.{TypingFault}
@@ -150,3 +158,39 @@ pub arguments_fit : (S : Spec) (i : InstanceForm) → HaveEnds S → instance_fa
 arguments_fit S i ends e =
     let proper = instance_proper S ends true outermost i e in
     all_fit S outermost [] (erased_arguments i.arguments) (λ x. tt) (called_typed S outermost (erased_arguments i.arguments) (equation_named S.equations i.name.text) proper.1)
+
+-- where it has none, an equation has its name
+pub some_equation : (S : Spec) (i : InstanceForm) → HaveEnds S → instance_faults S true outermost i ≡ [] → equation_place S i.name.text ≡ None → ⊥
+some_equation S i ends e none =
+    let proper = instance_proper S ends true outermost i e in
+    not_called (equation_named S.equations i.name.text) (not_found (λ X. same_name X.name i.name.text) S.equations none) proper.1
+  where
+    not_called : (o : Option Equation) → o ≡ None → IsCalled S outermost (erased_arguments i.arguments) o → ⊥
+    not_called None n h = h
+    not_called (Some X) n h = cc
+
+-- and it has an argument for each of that equation's parameters
+pub counted : (S : Spec) (i : InstanceForm) → HaveEnds S → instance_faults S true outermost i ≡ [] → count (erased_arguments i.arguments) ≡ length (parameters_named (equation_named S.equations i.name.text))
+counted S i ends e =
+    let proper = instance_proper S ends true outermost i e in
+    each_counted (equation_named S.equations i.name.text) proper.1
+  where
+    each_counted : (o : Option Equation) → IsCalled S outermost (erased_arguments i.arguments) o → count (erased_arguments i.arguments) ≡ length (parameters_named o)
+    each_counted None h = absurd h
+    each_counted (Some X) h = h.0
+
+-- as many carriers as parameters
+pub carriers_counted : (S : Spec) (cs : List Carrier) (xs : List Variable) → map values_of cs ≡ carriers_of S xs → length cs ≡ length xs
+carriers_counted S cs xs e =
+    sym (length-map cs values_of) ∙ (ap (λ (ds : List carriers.Carrier). length ds) e ∙ length-map xs (λ (x : Variable). carrier_of S x.sort))
+
+-- ---- its place
+
+-- the place at which its equation is found is the first, and a byte holds it
+pub initial_found : (t : SpecForm) (k : ℕ) → declaration_faults t ≡ [] → equation_place (erase t) (erase t).initial ≡ Some k → (k ≡ initial_place (erase t)) × (k < MAX_EQUATIONS)
+initial_found t k e at =
+    let S = erase t in
+    let found = cond_some (nat_lt (initial_place S) (length S.equations)) (initial_place S) k at in
+    let below : initial_place S < length S.equations = ltb-true _ _ found.0 in
+    let few = (declared t e).few_equations in
+    (sym found.1, omega (arith, below, few, found.1))

@@ -9,6 +9,7 @@ ghost use Rattle.pb_typing_rules.specs.Faults.{faults, formula_faults, initial_f
 ghost use Rattle.pb_typing_rules.specs.Faults.{right_faults};
 ghost use Rattle.pb_typing_rules.specs.Scope.{bound, outermost};
 ghost use Rattle.pb_typing_rules.specs.WellTyped.{IsWellTyped};
+ghost use Rattle.pb_typed_tree.specs.InitialPlace.{IsInitial};
 ghost use Rattle.pb_typing.specs.Typed.{IsLayout};
 
 use crate::formula::check_formula;
@@ -18,6 +19,7 @@ use crate::scope::{Scope, variable_shapes};
 use crate::typed::Typed;
 use pb_sorts::Layout;
 use pb_text_tree::{Equation, Spec};
+use pb_typed_tree::Initial;
 use pb_typing_declarations::{Declarations, TypeError};
 use std::alloc::Global;
 
@@ -36,16 +38,29 @@ pub fn check(alloc: Global, spec: Spec) -> Result<Typed, (Spec, TypeError)>
         → ¬ IsWellTyped (erase (spec_form spec))) }
 {
     match check_spec(alloc, &spec) {
-        Ok(layout) => Ok(Typed { spec, layout }),
+        Ok(checked) => Ok(Typed {
+            spec,
+            layout: checked.layout,
+            initial: checked.initial,
+        }),
         Err(error) => Err((spec, error)),
     }
 }
 
+/// What the check of a text finds.
+#[derive(Drop)]
+struct Checked {
+    layout: Layout,
+    initial: Initial,
+}
+
 /// Checks the declarations, then each right side, then the initial instance.
-fn check_spec(alloc: Global, spec: &Spec) -> Result<Layout, TypeError>
+fn check_spec(alloc: Global, spec: &Spec) -> Result<Checked, TypeError>
     ensures { MatchResult result
-        (λ layout. (faults (spec_form spec.now) ≡ [])
-        × IsLayout (erase (spec_form spec.now)) layout)
+        (λ checked. (faults (spec_form spec.now) ≡ [])
+        × IsLayout (erase (spec_form spec.now)) checked.layout
+        × IsInitial (erase (spec_form spec.now)) checked.initial.equation
+        checked.initial.values.items)
         (IsAmong (faults (spec_form spec.now))) }
 {
     let declarations = Declarations::read(alloc, spec)?;
@@ -57,19 +72,21 @@ fn check_declared(
     alloc: Global,
     declarations: &Declarations<'_>,
     spec: &Spec,
-) -> Result<Layout, TypeError>
+) -> Result<Checked, TypeError>
     requires { text_of declarations.now ≡ spec_form spec.now }
     ensures { MatchResult result
-        (λ layout. (right_faults (erase (spec_form spec.now)) (spec_form spec.now).equations
+        (λ checked. (right_faults (erase (spec_form spec.now)) (spec_form spec.now).equations
         ++ initial_faults (erase (spec_form spec.now)) (spec_form spec.now).initial ≡ [])
-        × IsLayout (erase (spec_form spec.now)) layout)
+        × IsLayout (erase (spec_form spec.now)) checked.layout
+        × IsInitial (erase (spec_form spec.now)) checked.initial.equation
+        checked.initial.values.items)
         (IsAmong (right_faults (erase (spec_form spec.now)) (spec_form spec.now).equations
         ++ initial_faults (erase (spec_form spec.now)) (spec_form spec.now).initial)) }
 {
     check_rights(alloc, declarations, spec)?;
     let layout = declarations.layout(alloc)?;
-    check_initial(alloc, declarations, spec, &layout)?;
-    Ok(layout)
+    let initial = check_initial(alloc, declarations, spec, &layout)?;
+    Ok(Checked { layout, initial })
 }
 
 /// Checks the right side of each equation.

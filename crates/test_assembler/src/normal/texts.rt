@@ -1,6 +1,6 @@
 //! The normal form of a text, for the tests beside this one.
 
-use pb_normal::{initial_instance, normalise};
+use pb_normal::normalise;
 use std::alloc::Global;
 use std::test::Fail;
 
@@ -32,9 +32,7 @@ pub fn initial_shown(alloc: Global, text: &[u8]) -> Result<String, Fail> {
     }
     let spec = pb_text::parse(alloc, text)?;
     if let Ok(typed) = pb_typing::check(alloc, spec) {
-        let normal = normalise(alloc, &typed)?;
-        let initial = initial_instance(alloc, &normal)?;
-        shown = format!(in alloc; "{:?}", initial)?;
+        shown = format!(in alloc; "{:?}", typed.initial)?;
     }
     Ok(shown)
 }

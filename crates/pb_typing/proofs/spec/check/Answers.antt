@@ -5,7 +5,7 @@ use Rattle.pb_typing.specs.Typed.{is_none}
 use Rattle.pb_typing.proofs.spec.check.Goals as goal
 
 pub invariant_of-result : goal.invariant_of-result
-invariant_of-result c = record { faultless = ap is_none c.in-Ok.ensures.0; laid_out = c.in-Ok.ensures.1 }
+invariant_of-result c = record { faultless = ap is_none c.in-Ok.ensures.0; laid_out = c.in-Ok.ensures.1; asked = c.in-Ok.ensures.2 }
 
 pub returns-in-Ok-clause-accepted : goal.returns-in-Ok-clause-accepted
 returns-in-Ok-clause-accepted c = well_typed (spec_form c.args.spec) c.in-Ok.ensures.0

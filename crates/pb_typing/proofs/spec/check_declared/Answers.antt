@@ -5,6 +5,7 @@ use Rattle.pb_typing_declarations.specs.declared.fault.TypeError.{TypeError}
 use Rattle.pb_typing_declarations.specs.Faults.{IsAmong}
 use Rattle.pb_typing_rules.specs.Faults.{initial_faults, right_faults}
 use Rattle.pb_typing_declarations.proofs.Parts.{among_left, among_right, no_whole}
+use Rattle.pb_typed_tree.specs.InitialPlace.{IsInitial}
 use Rattle.pb_typing.specs.Typed.{IsLayout}
 use Rattle.pb_typing.proofs.spec.check_declared.Goals as goal
 
@@ -26,10 +27,10 @@ returns-in_err-check_rights c =
     rights_of _ (spec_form c.args.spec.now) c.in_err-check_rights.field-0.0 c.requires c.in_err-check_rights.ensures in
     search rules
 
-pub returns-in_err-check_initial : goal.returns-in_err-check_initial
-returns-in_err-check_initial c =
-    let h : Told (spec_form c.args.spec.now) c.in_err-check_initial.field-0.0 =
-    initial_of _ (spec_form c.args.spec.now) c.in_err-check_initial.field-0.0 c.requires c.in_err-check_initial.ensures in
+pub returns-in_err-initial : goal.returns-in_err-initial
+returns-in_err-initial c =
+    let h : Told (spec_form c.args.spec.now) c.in_err-initial.field-0.0 =
+    initial_of _ (spec_form c.args.spec.now) c.in_err-initial.field-0.0 c.requires c.in_err-initial.ensures in
     search rules
 
 pub returns : goal.returns
@@ -37,7 +38,8 @@ returns c =
     let t = spec_form c.args.spec.now in (
       no_whole (right_faults (erase t) t.equations) _
           (ap (λ (v : SpecForm). right_faults (erase v) t.equations) (sym c.requires) ∙ c.in_ok-check_rights.ensures)
-          (ap (λ (v : SpecForm). initial_faults (erase v) t.initial) (sym c.requires) ∙ c.in_ok-check_initial.ensures),
+          (ap (λ (v : SpecForm). initial_faults (erase v) t.initial) (sym c.requires) ∙ c.in_ok-initial.ensures.0),
       subst (λ (v : SpecForm). IsLayout (erase v) c.in_ok-layout.layout) c.requires
           (record { values = c.in_ok-layout.ensures.carriers; shapes = c.in_ok-layout.ensures.shapes }),
+      subst (λ (v : SpecForm). IsInitial (erase v) c.in_ok-initial.initial.equation c.in_ok-initial.initial.values.items) c.requires c.in_ok-initial.ensures.1,
     )
