@@ -10,3 +10,14 @@ pub mod InitialValues
 pub mod Rights
 pub mod Applications
 pub mod Accepted
+pub mod Quantifiers
+pub mod LinkCount
+pub mod DataLemmas
+pub mod SlotLemmas
+pub mod LoopCount
+pub mod ElaboratedChains
+pub mod ValueLemmas
+pub mod ValueSteps
+pub mod FormulaSteps
+pub mod Known
+pub mod Equations

@@ -4,3 +4,12 @@ pub mod Scopes
 pub mod Arguments
 pub mod Typed
 pub mod Chains
+pub mod Slots
+pub mod Links
+pub mod Tail
+pub mod Tree
+pub mod Known
+pub mod ValueLinks
+pub mod FormulaLinks
+pub mod Contexts
+pub mod Checked

@@ -9,9 +9,9 @@ ghost use Rattle.pb_typing_rules.specs.Faults.{faults, formula_faults, initial_f
 ghost use Rattle.pb_typing_rules.specs.Faults.{right_faults};
 ghost use Rattle.pb_typing_rules.specs.Scope.{bound, outermost};
 ghost use Rattle.pb_typing_rules.specs.WellTyped.{IsWellTyped};
-ghost use Rattle.pb_typed_tree.specs.InitialPlace.{IsInitial};
-ghost use Rattle.pb_typing.specs.Typed.{IsLayout};
+ghost use Rattle.pb_typing.specs.Checked.{IsChecked};
 
+use crate::equation::elaborate_equations;
 use crate::formula::check_formula;
 use crate::initial::check_initial;
 use crate::polarity::Polarity;
@@ -41,6 +41,7 @@ pub fn check(alloc: Global, spec: Spec) -> Result<Typed, (Spec, TypeError)>
         Ok(checked) => Ok(Typed {
             spec,
             layout: checked.layout,
+            equations: checked.equations,
             initial: checked.initial,
         }),
         Err(error) => Err((spec, error)),
@@ -51,6 +52,7 @@ pub fn check(alloc: Global, spec: Spec) -> Result<Typed, (Spec, TypeError)>
 #[derive(Drop)]
 struct Checked {
     layout: Layout,
+    equations: Vec<pb_typed_tree::Equation>,
     initial: Initial,
 }
 
@@ -58,16 +60,15 @@ struct Checked {
 fn check_spec(alloc: Global, spec: &Spec) -> Result<Checked, TypeError>
     ensures { MatchResult result
         (λ checked. (faults (spec_form spec.now) ≡ [])
-        × IsLayout (erase (spec_form spec.now)) checked.layout
-        × IsInitial (erase (spec_form spec.now)) checked.initial.equation
-        checked.initial.values.items)
+        × IsChecked (erase (spec_form spec.now)) checked)
         (IsAmong (faults (spec_form spec.now))) }
 {
     let declarations = Declarations::read(alloc, spec)?;
     check_declared(alloc, &declarations, spec)
 }
 
-/// Checks each right side, then the initial instance, by what the text declares.
+/// Checks each right side, then the initial instance, by what the text declares. The typed trees of
+/// right sides are made once all are checked.
 fn check_declared(
     alloc: Global,
     declarations: &Declarations<'_>,
@@ -77,16 +78,19 @@ fn check_declared(
     ensures { MatchResult result
         (λ checked. (right_faults (erase (spec_form spec.now)) (spec_form spec.now).equations
         ++ initial_faults (erase (spec_form spec.now)) (spec_form spec.now).initial ≡ [])
-        × IsLayout (erase (spec_form spec.now)) checked.layout
-        × IsInitial (erase (spec_form spec.now)) checked.initial.equation
-        checked.initial.values.items)
+        × IsChecked (erase (spec_form spec.now)) checked)
         (IsAmong (right_faults (erase (spec_form spec.now)) (spec_form spec.now).equations
         ++ initial_faults (erase (spec_form spec.now)) (spec_form spec.now).initial)) }
 {
     check_rights(alloc, declarations, spec)?;
     let layout = declarations.layout(alloc)?;
     let initial = check_initial(alloc, declarations, spec, &layout)?;
-    Ok(Checked { layout, initial })
+    let equations = elaborate_equations(alloc, declarations, spec)?;
+    Ok(Checked {
+        layout,
+        equations,
+        initial,
+    })
 }
 
 /// Checks the right side of each equation.

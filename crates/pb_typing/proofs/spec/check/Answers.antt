@@ -5,7 +5,8 @@ use Rattle.pb_typing.specs.Typed.{is_none}
 use Rattle.pb_typing.proofs.spec.check.Goals as goal
 
 pub invariant_of-result : goal.invariant_of-result
-invariant_of-result c = record { faultless = ap is_none c.in-Ok.ensures.0; laid_out = c.in-Ok.ensures.1; asked = c.in-Ok.ensures.2 }
+invariant_of-result c =
+    let checked = c.in-Ok.ensures.1 in record { faultless = ap is_none c.in-Ok.ensures.0; laid_out = checked.laid_out; rights = checked.rights; loops = checked.loops; asked = checked.asked }
 
 pub returns-in-Ok-clause-accepted : goal.returns-in-Ok-clause-accepted
 returns-in-Ok-clause-accepted c = well_typed (spec_form c.args.spec) c.in-Ok.ensures.0

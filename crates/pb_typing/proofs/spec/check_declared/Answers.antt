@@ -33,13 +33,21 @@ returns-in_err-initial c =
     initial_of _ (spec_form c.args.spec.now) c.in_err-initial.field-0.0 c.requires c.in_err-initial.ensures in
     search rules
 
+pub elaborate_equations-requires : goal.elaborate_equations-requires
+elaborate_equations-requires c =
+    (c.requires, c.in_ok-check_rights.ensures)
+
 pub returns : goal.returns
 returns c =
     let t = spec_form c.args.spec.now in (
       no_whole (right_faults (erase t) t.equations) _
           (ap (λ (v : SpecForm). right_faults (erase v) t.equations) (sym c.requires) ∙ c.in_ok-check_rights.ensures)
           (ap (λ (v : SpecForm). initial_faults (erase v) t.initial) (sym c.requires) ∙ c.in_ok-initial.ensures.0),
-      subst (λ (v : SpecForm). IsLayout (erase v) c.in_ok-layout.layout) c.requires
-          (record { values = c.in_ok-layout.ensures.carriers; shapes = c.in_ok-layout.ensures.shapes }),
-      subst (λ (v : SpecForm). IsInitial (erase v) c.in_ok-initial.initial.equation c.in_ok-initial.initial.values.items) c.requires c.in_ok-initial.ensures.1,
+      record {
+        laid_out = subst (λ (v : SpecForm). IsLayout (erase v) c.in_ok-layout.layout) c.requires
+            (record { values = c.in_ok-layout.ensures.carriers; shapes = c.in_ok-layout.ensures.shapes });
+        rights = c.in_ok-equations.ensures.rights;
+        loops = c.in_ok-equations.ensures.loops;
+        asked = subst (λ (v : SpecForm). IsInitial (erase v) c.in_ok-initial.initial.equation c.in_ok-initial.initial.values.items) c.requires c.in_ok-initial.ensures.1;
+      },
     )

@@ -1,6 +1,6 @@
 use Rattle.std.proofs.Common.{◌≡◌, ◌++◌, List, [], rules, Result, Ok, Err}
 use Rattle.std.specs.Prelude.{MatchResult}
-use Rattle.pb_text_tree.specs.Form.{SpecForm, spec_form}
+use Rattle.pb_text_tree.specs.Form.{spec_form}
 use Rattle.pb_text_meaning.specs.Erase.{erase}
 use Rattle.pb_typing_declarations.specs.declared.fault.TypeError.{TypeError}
 use Rattle.pb_typing_declarations.specs.declared.fault.TypingFault.{TypingFault}
@@ -8,9 +8,7 @@ use Rattle.pb_typing_declarations.specs.Declarations.{declaration_faults}
 use Rattle.pb_typing_declarations.specs.Faults.{IsAmong}
 use Rattle.pb_typing_rules.specs.Faults.{faults}
 use Rattle.pb_typing_declarations.proofs.Parts.{among_left, among_right, no_whole}
-use Rattle.pb_typed_tree.specs.InitialPlace.{IsInitial}
-use Rattle.pb_typing.specs.declared.spec.Checked.{Checked}
-use Rattle.pb_typing.specs.Typed.{IsLayout}
+use Rattle.pb_typing.specs.Checked.{IsChecked}
 use Rattle.pb_typing.proofs.spec.check_spec.Goals as goal
 
 -- behind a first part without faults, what is found of the rest is found of the whole
@@ -18,10 +16,6 @@ found_behind : {T : Type 0} (first rest : List TypingFault) (P : T → Type 0) (
     → MatchResult r (λ x. (rest ≡ []) × P x) (IsAmong rest) → MatchResult r (λ x. (first ++ rest ≡ []) × P x) (IsAmong (first ++ rest))
 found_behind first rest P (Ok x) none h = (no_whole first rest none h.0, h.1)
 found_behind first rest P (Err e) none h = among_right first rest e h
-
--- what is said of what the check of a text finds
-abbrev IsChecked : SpecForm → Checked → Type 0
-IsChecked t checked = IsLayout (erase t) checked.layout × IsInitial (erase t) checked.initial.equation checked.initial.values.items
 
 pub returns-in_err-declarations : goal.returns-in_err-declarations
 returns-in_err-declarations c =
@@ -32,4 +26,4 @@ returns-in_err-declarations c =
 pub returns : goal.returns
 returns c =
     let t = spec_form c.args.spec.now in
-    found_behind (declaration_faults t) _ (IsChecked t) c.check_declared.result c.in_ok-declarations.ensures.checked c.check_declared.ensures
+    found_behind (declaration_faults t) _ (IsChecked (erase t)) c.check_declared.result c.in_ok-declarations.ensures.checked c.check_declared.ensures

@@ -1,0 +1,16 @@
+-- What the check of a text finds besides faults.
+use Rattle.std.specs.Prelude.{◌≡◌}
+use Rattle.pb_text_meaning.specs.Syntax.{Spec}
+use Rattle.pb_typed_tree.specs.Elaboration.{elaborated_equations}
+use Rattle.pb_typed_tree.specs.InitialPlace.{IsInitial}
+use Rattle.pb_typed_tree.specs.Loops.{all_loops}
+use Rattle.pb_typed_tree.specs.View.{loop_shapes, right_views}
+use Rattle.pb_typing.specs.declared.spec.Checked.{Checked}
+use Rattle.pb_typing.specs.Typed.{IsLayout}
+
+-- the layout, the typed trees and the initial instance are the text's
+pub record IsChecked (spec : Spec) (checked : Checked) : Type 0 where
+  pub laid_out : IsLayout spec checked.layout
+  pub rights : right_views checked.equations.items ≡ elaborated_equations spec spec.equations
+  pub loops : loop_shapes checked.equations.items ≡ all_loops spec
+  pub asked : IsInitial spec checked.initial.equation checked.initial.values.items
