@@ -15,7 +15,7 @@ use Rattle.pb_typing_declarations.specs.WellDeclared.{AreVariables, HaveEnds, Is
 use Rattle.pb_typing_declarations.proofs.DeclaredEnds.{faultless_ends}
 use Rattle.pb_typing_declarations.proofs.DeclaredLaw as declaration
 use Rattle.pb_typing_declarations.proofs.Parts.{no_parts}
-use Rattle.pb_typing_rules.specs.Faults.{right_faults}
+use Rattle.pb_typing_rules.specs.Faults.{formula_faults, right_faults}
 use Rattle.pb_typing_rules.specs.WellTyped.{parameters_of}
 use Rattle.pb_typing_rules.proofs.Exact.{proper}
 use Rattle.pb_typed_tree.specs.declared.formula.Equation as declared
@@ -41,7 +41,7 @@ AreKnownEquations S (X ∷ xs) = IsKnownEquation S (erased X) × AreKnownEquatio
 known_equations : (S : Spec) → IsDeclared S → HaveEnds S → (xs : List Equation) → All (λ (X : syntax.Equation). AreVariables S X.parameters) (all_erased xs) → right_faults S (map equation_form xs) ≡ [] → AreKnownEquations S xs
 known_equations S d ends [] all clear = tt
 known_equations S d ends (X ∷ xs) all clear =
-    let q = no_parts _ _ clear in
+    let q = no_parts (formula_faults S true (parameters_of S (erased X)) (equation_form X).right) (right_faults S (map equation_form xs)) clear in
     let here = all zero (erased X) (omega arith) in
     let shaped = variables-shaped S (erased X).parameters here.shaped in (
       (shaped, right_known S d (erased X).parameters (erased X).right shaped (proper S ends true (parameters_of S (erased X)) (equation_form X).right q.0)),

@@ -10,7 +10,7 @@ pub mod InitialValues
 pub mod Rights
 pub mod Applications
 pub mod Accepted
-pub mod Quantifiers
+pub mod QuantifiedTerms
 pub mod LinkCount
 pub mod DataLemmas
 pub mod SlotLemmas

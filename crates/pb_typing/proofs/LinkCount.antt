@@ -3,7 +3,7 @@ use Rattle.std.proofs.Common.{◌≡◌, ℕ, zero, suc, ◌<◌, ◌≤◌, Boo
 use Rattle.std.proofs.lemmas.Bool.{or_right}
 use Rattle.pb_text_tree.specs.declared.term.TermLink.{TermLink}
 use Rattle.pb_typing.specs.Links.{links_have_quantifier, quantified_count}
-use Rattle.pb_typing.proofs.Quantifiers.{quantified}
+use Rattle.pb_typing.proofs.QuantifiedTerms.{quantified}
 
 abbrev has : List TermLink → Bool
 has = links_have_quantifier

@@ -26,7 +26,7 @@ use Rattle.pb_typed_tree.specs.View.{chained}
 use Rattle.pb_typing_declarations.specs.Entries.{shapes_of}
 use Rattle.pb_typing.proofs.LoopCount.{length-loops}
 use Rattle.pb_typing.proofs.ElaboratedChains.{plain-expanded}
-use Rattle.pb_typing.proofs.Quantifiers.{quantified, chained-quantifier}
+use Rattle.pb_typing.proofs.QuantifiedTerms.{quantified, chained-quantifier}
 use Rattle.pb_typing.proofs.SlotLemmas.{length_behind}
 
 -- ---- two operands

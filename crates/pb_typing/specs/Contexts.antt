@@ -35,7 +35,8 @@ IsElaboratedValue context slots carriers f result =
     → formula_view result ≡ elaborated (text_in context) slots scope (length carriers) f
 
 -- the same of a formula, in a scope
-abbrev pub IsElaborated : Context → Slotting → Scope → List Carrier → syntax.Formula → Formula → Type 0
+abbrev pub IsElaborated : Context → Slotting → Scope → List Carrier → syntax.Formula → Formula
+    → Type 0
 IsElaborated context slots scope carriers f result =
     formula_view result ≡ elaborated (text_in context) slots scope (length carriers) f
 

@@ -1,5 +1,5 @@
--- Operands of a connective in data behind the first, one by one: their typed trees, and the shapes of
--- their quantifiers' variables.
+-- Operands of a connective in data behind the first, one by one: their typed trees, and the shapes
+-- of their quantifiers' variables.
 use Rattle.std.specs.Prelude.{ℕ, ◌+◌, if◌then◌else◌, List, [], ◌∷◌, ◌++◌, ⊤}
 use Rattle.pb_text_tree.specs.declared.operator.Connective.{Connective}
 use Rattle.pb_text_tree.specs.declared.term.TermLink.{TermLink}
@@ -19,7 +19,8 @@ operand link = value_of link.operand
 
 -- the operands behind the first, the next slots being theirs: up to the last quantifier one by one,
 -- the others as one
-abbrev pub elaborated_values : Spec → Connective → Slotting → Scope → ℕ → List TermLink → List Formula
+abbrev pub elaborated_values : Spec → Connective → Slotting → Scope → ℕ → List TermLink
+    → List Formula
 elaborated_values S o c scope n [] = []
 elaborated_values S o c scope n (link ∷ links) =
     if links_have_quantifier (link ∷ links)

@@ -25,7 +25,10 @@ pub struct Typed {
     pub initial: Initial,
     pub ghost faultless: { is_faultless (spec_form spec) ≡ true },
     pub ghost laid_out: { IsLayout (erase (spec_form spec)) layout },
-    pub ghost rights: { right_views equations.items ≡ elaborated_equations (erase (spec_form spec)) (erase (spec_form spec)).equations } by { formulas-prop _ _ },
-    pub ghost loops: { loop_shapes equations.items ≡ all_loops (erase (spec_form spec)) } by { shapes-prop _ _ },
+    pub ghost rights: { right_views equations.items
+        ≡ elaborated_equations (erase (spec_form spec))
+        (erase (spec_form spec)).equations } by { formulas-prop _ _ },
+    pub ghost loops: { loop_shapes equations.items
+        ≡ all_loops (erase (spec_form spec)) } by { shapes-prop _ _ },
     pub ghost asked: { IsInitial (erase (spec_form spec)) initial.equation initial.values.items },
 }

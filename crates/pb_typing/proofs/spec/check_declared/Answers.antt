@@ -34,8 +34,7 @@ returns-in_err-initial c =
     search rules
 
 pub elaborate_equations-requires : goal.elaborate_equations-requires
-elaborate_equations-requires c =
-    (c.requires, c.in_ok-check_rights.ensures)
+elaborate_equations-requires c = record { text = c.requires; faultless = c.in_ok-check_rights.ensures }
 
 pub returns : goal.returns
 returns c =

@@ -146,8 +146,8 @@ elaborate_value-returns-in-Chain-clause-carriers t c =
     grows_same (spec_of c.args.context.now.declarations.now) c.args.carriers.now.items c.elaborate_operands.new.carriers.items c.elaborate_operands.result _ _ (ap expanded_term node) c.elaborate_operands.ensures.carriers
 
 -- arithmetic without an operator is its operand
-pub elaborate_value-elaborate_value-requires-then-is_empty : goal.elaborate_value-elaborate_value-requires-then-is_empty
-elaborate_value-elaborate_value-requires-then-is_empty t c =
+pub elaborate_value-elaborate_value-requires : goal.elaborate_value-elaborate_value-requires
+elaborate_value-elaborate_value-requires t c =
     let links = c.in-Arithmetic.links in
     let none : length links.items ≡ 0 = omega (arith, eqb-true (vec_len links) 0 (sym c.is_empty.ensures ∙ c.if-is_empty.true), links.ok.0) in
     let node = operand-node c.args.term.now c.deref-then-is_empty.result.now c.in-Arithmetic.first links c.in-Arithmetic.is c.deref-then-is_empty.ensures none in (
@@ -160,14 +160,14 @@ elaborate_value-returns-then-is_empty-clause-form t c =
     let links = c.in-Arithmetic.links in
     let none : length links.items ≡ 0 = omega (arith, eqb-true (vec_len links) 0 (sym c.is_empty.ensures ∙ c.if-is_empty.true), links.ok.0) in
     let node = operand-node c.args.term.now c.deref-then-is_empty.result.now c.in-Arithmetic.first links c.in-Arithmetic.is c.deref-then-is_empty.ensures none in
-    says_same (spec_of c.args.context.now.declarations.now) (slotting c.args.context.now.slots.now) (length c.args.carriers.now.items) c.elaborate_value-then-is_empty.result _ _ (ap expanded_term node) c.elaborate_value-then-is_empty.ensures.form
+    says_same (spec_of c.args.context.now.declarations.now) (slotting c.args.context.now.slots.now) (length c.args.carriers.now.items) c.elaborate_value.result _ _ (ap expanded_term node) c.elaborate_value.ensures.form
 
 pub elaborate_value-returns-then-is_empty-clause-carriers : goal.elaborate_value-returns-then-is_empty-clause-carriers
 elaborate_value-returns-then-is_empty-clause-carriers t c =
     let links = c.in-Arithmetic.links in
     let none : length links.items ≡ 0 = omega (arith, eqb-true (vec_len links) 0 (sym c.is_empty.ensures ∙ c.if-is_empty.true), links.ok.0) in
     let node = operand-node c.args.term.now c.deref-then-is_empty.result.now c.in-Arithmetic.first links c.in-Arithmetic.is c.deref-then-is_empty.ensures none in
-    grows_same (spec_of c.args.context.now.declarations.now) c.args.carriers.now.items c.elaborate_value-then-is_empty.new.carriers.items c.elaborate_value-then-is_empty.result _ _ (ap expanded_term node) c.elaborate_value-then-is_empty.ensures.carriers
+    grows_same (spec_of c.args.context.now.declarations.now) c.args.carriers.now.items c.elaborate_value.new.carriers.items c.elaborate_value.result _ _ (ap expanded_term node) c.elaborate_value.ensures.carriers
 
 pub elaborate_value-returns-else-is_empty-clause-form : goal.elaborate_value-returns-else-is_empty-clause-form
 elaborate_value-returns-else-is_empty-clause-form t c =

@@ -1,6 +1,6 @@
 use Rattle.std.proofs.Common.{◌≡◌, ◌-◌, suc, ◌∙◌, sym, ap, subst, arith, ℕ, drop, true, false}
 use Rattle.pb_text_tree.specs.declared.term.TermLink.{TermLink}
-use Rattle.pb_typing.proofs.Quantifiers.{quantified}
+use Rattle.pb_typing.proofs.QuantifiedTerms.{quantified}
 use Rattle.pb_typing.specs.Links.{links_have_quantifier}
 use Rattle.pb_typing.proofs.LinkCount.{count_is, none_counted}
 use Rattle.pb_typing.proofs.value.quantified_links.Goals as goal
