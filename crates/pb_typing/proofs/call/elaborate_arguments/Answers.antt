@@ -10,8 +10,8 @@ pub loop-argument-init : goal.loop-argument-init
 loop-argument-init c =
     arguments_begun (spec_of c.args.context.now.values.declarations.now) (slotting c.args.context.now.values.slots.now) (scope_view c.args.context.now.scope.now) c.args.arguments.now c.new-elaborated.result.items c.new-elaborated.ensures.items c.requires
 
-pub known-requires : goal.known-requires
-known-requires c =
+pub known-shape-requires : goal.known-shape-requires
+known-shape-requires c =
     subst IsKnown (sym c.term_shape.ensures)
     (argument_known (spec_of c.args.context.now.values.declarations.now) (slotting c.args.context.now.values.slots.now) (scope_view c.args.context.now.scope.now) c.args.arguments.now c.loop-argument.argument-index c.argument-item.result c.loop-argument.elaborated.items
     c.loop-argument-test.true c.argument-item.is c.loop-argument.invariant)
