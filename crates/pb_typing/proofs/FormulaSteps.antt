@@ -1,10 +1,10 @@
 -- Typed formulas, operand by operand and node by node; calls, argument by argument.
-use Rattle.std.proofs.Common.{◌≡◌, ℕ, suc, ◌+◌, ◌-◌, ◌<◌, ◌≤◌, Bool, cond, List, [], ◌∷◌, ◌++◌, map, length, get_or, drop, refl, sym, ◌∙◌, ap, subst, arith, Box, Vec, Global, Result, IfOk, Option, Some, add-one}
+use Rattle.std.proofs.Common.{◌≡◌, ℕ, suc, ◌+◌, ◌<◌, ◌≤◌, cond, List, [], ◌∷◌, ◌++◌, map, length, get_or, drop, refl, sym, ◌∙◌, ap, subst, Box, Vec, Global, Result, IfOk, Option, Some, add-one}
 use Rattle.std.specs.Prelude.{box_value}
 use Rattle.std.specs.List.{position_from}
 use Rattle.std.specs.declared.alloc.AllocError.{AllocError}
 use Rattle.std.proofs.lemmas.Iterator.Adapters.{position_from-zero}
-use Rattle.std.proofs.lemmas.List.{append-nil, append_assoc, length-drop, drop_all}
+use Rattle.std.proofs.lemmas.List.{append-nil, append_assoc, drop_all}
 use Rattle.pb_sorts.specs.declared.carrier.Carrier.{Carrier}
 use Rattle.pb_sorts.proofs.Places.{drop-at}
 use Rattle.pb_text_tree.specs.declared.operator.Connective.{Connective}
@@ -28,7 +28,7 @@ use Rattle.pb_typed_tree.specs.Expansion.{expanded}
 use Rattle.pb_typed_tree.specs.Loops.{loops}
 use Rattle.pb_typed_tree.specs.Tree as model
 use Rattle.pb_typed_tree.specs.Tree.{Formula, Connected}
-use Rattle.pb_typed_tree.specs.Elaboration.{Slotting, arguments, elaborated, place_of, slotted, width}
+use Rattle.pb_typed_tree.specs.Elaboration.{Slotting, arguments, elaborated, place_of, slotted}
 use Rattle.pb_typing.specs.Tree.{formula_chain_of, formula_of}
 use Rattle.pb_typed_tree.specs.View.{argument_view, chained, shape_view, term_view, formula_view, formula_views}
 use Rattle.pb_typing_declarations.specs.Entries.{shapes_of}

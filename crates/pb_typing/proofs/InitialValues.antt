@@ -1,5 +1,5 @@
 -- The values of the initial instance's arguments, against the carriers of its equation's parameters.
-use Rattle.std.proofs.Common.{◌≡◌, ℕ, zero, suc, Bool, true, false, List, [], ◌∷◌, ◌++◌, map, length, Option, Some, None, cond, refl, sym, ◌∙◌, ap, subst, arith, find, true≢false, ◌<◌}
+use Rattle.std.proofs.Common.{◌≡◌, ℕ, zero, suc, Bool, true, false, List, [], ◌∷◌, map, length, Option, Some, None, cond, refl, sym, ◌∙◌, ap, subst, arith, find, true≢false, ◌<◌}
 use Rattle.std.specs.Prelude.{Result, Ok, Err, MatchResult, nat_lt, position}
 use Rattle.std.specs.List.{slice_get, position_or_len}
 use Rattle.std.proofs.lemmas.List.Folds.{find_at}

@@ -4,7 +4,7 @@ use Rattle.std.proofs.Common.{◌≡◌, ◌≤◌, zero, suc, Bool, true, false
 use Rattle.std.specs.List.{All, list_any}
 use Rattle.std.specs.Cmp.{signed_Decides}
 use Rattle.pb_carriers.specs.Carrier.{Carrier, Value, contains}
-use Rattle.pb_text_meaning.specs.Syntax.{Variable, Operator, Term, Terms, Formula, Equation, Spec}
+use Rattle.pb_text_meaning.specs.Syntax.{Variable, Operator, Term, Terms, Formula, Spec}
 use Rattle.pb_text_meaning.specs.Sorts.{carrier_of}
 use Rattle.pb_text_meaning.specs.Value.{Assignment, value}
 use Rattle.pb_text_meaning.specs.Formula.{equation_named}

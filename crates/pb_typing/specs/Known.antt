@@ -1,5 +1,5 @@
 -- What typing knows of a formula's names and arguments: the shapes of the values that they have.
-use Rattle.std.specs.Prelude.{◌≡◌, ⊤, true, List, [], ◌∷◌}
+use Rattle.std.specs.Prelude.{⊤}
 use Rattle.pb_text_meaning.specs.Syntax.{Terms, Formula, Equation, Spec}
 use Rattle.pb_typing_declarations.specs.Shapes.{Shape, Unknown, Truths, Places, Wholes}
 use Rattle.pb_typing_rules.specs.Scope.{Scope, bound}

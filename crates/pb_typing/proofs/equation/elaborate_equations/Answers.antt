@@ -1,4 +1,4 @@
-use Rattle.std.proofs.Common.{◌≡◌, List, map, sym, ◌∙◌, ap, arith}
+use Rattle.std.proofs.Common.{List, map, sym, ◌∙◌, ap, arith}
 use Rattle.pb_text_tree.specs.declared.spec.Equation.{Equation}
 use Rattle.pb_text_tree.specs.Form.{SpecForm, equation_form}
 use Rattle.pb_text_meaning.specs.Syntax.{Spec}

@@ -2,7 +2,7 @@ use Rattle.std.proofs.Common.{◌≡◌, ◌∙◌, ◌++◌, ℤ, List, [], ap,
 use Rattle.pb_text_tree.specs.declared.term.Argument.{Argument}
 use Rattle.pb_text_tree.specs.Form.{SpecForm, ArgumentForms, InstanceForm, argument_forms, instance_form}
 use Rattle.pb_text_meaning.specs.Syntax.{Variable, Spec}
-use Rattle.pb_text_meaning.specs.Erase.{erase, erased_arguments}
+use Rattle.pb_text_meaning.specs.Erase.{erased_arguments}
 use Rattle.pb_text_meaning.specs.Formula.{equation_named}
 use Rattle.pb_text_meaning.specs.Fits.{AllFit}
 use Rattle.pb_text_meaning.specs.Value.{values}

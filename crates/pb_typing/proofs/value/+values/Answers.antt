@@ -1,4 +1,4 @@
-use Rattle.std.proofs.Common.{◌≡◌, ℕ, Bool, ◌<◌, ◌++◌, List, length, drop, sym, ◌∙◌, ap, subst, arith, true≢false, vec_len}
+use Rattle.std.proofs.Common.{◌≡◌, ℕ, ◌<◌, ◌++◌, List, length, drop, sym, ◌∙◌, ap, subst, arith, true≢false, vec_len}
 use Rattle.std.specs.Prelude.{box_value, ◌==◌}
 use Rattle.std.proofs.lemmas.Bool.{eqb-true}
 use Rattle.pb_text_tree.specs.declared.term.TermLink.{TermLink}
@@ -12,7 +12,6 @@ use Rattle.pb_typed_tree.specs.declared.formula.Formula.{Formula}
 use Rattle.pb_typed_tree.specs.Expansion.{expanded_term, has_quantifier}
 use Rattle.pb_typed_tree.specs.Loops.{IsShaped}
 use Rattle.pb_typing.specs.Links.{quantified_count}
-use Rattle.pb_typed_tree.specs.Elaboration.{elaborated}
 use Rattle.pb_typing.specs.Slots.{slotting}
 use Rattle.pb_typing.specs.ValueLinks.{elaborated_values}
 use Rattle.pb_typing.specs.Tail.{tail_tests}
