@@ -12,7 +12,10 @@ use Rattle.pb_normal.specs.Loops.{loops, equation_loops, variable_shapes}
 use Rattle.pb_normal.specs.Normal.{Term, Argument, Formula}
 use Rattle.pb_normal.specs.Normalisation.{Slotting, unslotted, with_slot, with_slots, slotted, width, signed_test, is_universal, each, arguments, place_of, call, normal}
 use Rattle.pb_normal.specs.SlotOrder.{quantifiers, numbered}
-use Rattle.pb_normal.proofs.SlotLemmas.{length-variables}
+
+length-variables : (spec : Spec) (xs : List Variable) → length (variable_shapes spec xs) ≡ length xs
+length-variables spec [] = refl
+length-variables spec (x ∷ xs) = ap suc (length-variables spec xs)
 
 join-length : (ss ts : List Shape) (v w : ℕ) → length ss ≡ v → length ts ≡ w → length (ss ++ ts) ≡ v + w
 join-length ss ts v w h k = length-append ss ts ∙ (ap (λ (a : ℕ). a + length ts) h ∙ ap (λ (a : ℕ). v + a) k)

@@ -3,17 +3,10 @@ pub mod Normal
 pub mod Normalisation
 pub mod Plain
 pub mod View
-pub mod Contexts
-pub mod Slots
-pub mod Links
 pub mod Chains
 pub mod SignedForm
 pub mod Loops
 pub mod Equations
-pub mod Tail
-pub mod Tree
-pub mod FormulaLinks
-pub mod ValueLinks
 pub mod Answer
 pub mod Kept
 pub mod SlotOrder

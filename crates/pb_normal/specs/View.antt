@@ -6,12 +6,12 @@ use Rattle.pb_text_tree.specs.declared.operator.Quantifier.{Quantifier}
 use Rattle.pb_text_tree.specs.declared.operator.Quantifier.TheVariants.{Forall, Exists}
 use Rattle.pb_typing_declarations.specs.Shapes.{Shape}
 use Rattle.pb_typing_declarations.specs.Entries.{shape_of}
-use Rattle.pb_typing.specs.View.{shape_view}
+use Rattle.pb_typing.specs.View.{is_positive}
 pub use Rattle.pb_typing_declarations.specs.Entries.{shapes_of}
-pub use Rattle.pb_typed_tree.specs.View.{chained, calculated, term_view, terms_in, links_in, term_views, link_view, link_views}
+pub use Rattle.pb_typed_tree.specs.View.{chained, calculated, term_view, terms_in, links_in, term_views, link_view, link_views, argument_view}
 use Rattle.pb_normal.specs.Normal as normal
-use Rattle.pb_normal.specs.Normal.{Each, Join, Call, Test}
-use Rattle.pb_normal.specs.declared.formula.Argument as declared_argument
+use Rattle.pb_normal.specs.Normal.{Each, Join, Call}
+use Rattle.pb_normal.specs.Normalisation.{signed_test}
 use Rattle.pb_normal.specs.declared.normal.Equation as declared_equation
 use Rattle.pb_normal.specs.declared.formula.Junction.{Junction}
 use Rattle.pb_normal.specs.declared.formula.Junction.TheVariants.{And, Or}
@@ -35,15 +35,12 @@ abbrev pub is_forall : Quantifier → Bool
 is_forall Forall = true
 is_forall Exists = false
 
-abbrev pub argument_view : declared_argument.Argument → normal.Argument
-argument_view e = record { term = term_view e.term; shape = shape_view e.shape }
-
 abbrev mutual
   pub formula_view : Formula → normal.Formula
-  formula_view (formula.Test x) = Test (term_view x)
+  formula_view (formula.Test polarity x) = signed_test (is_positive polarity) (term_view x.now)
   formula_view (formula.Join' junction p first shape row) = chained (Join (is_and junction)) (formula_view first) (formulas_in row)
-  formula_view (formula.Each' quantifier slot carriers p body) = nested (is_forall quantifier) slot carriers.items (formula_view body)
-  formula_view (formula.Call equation arguments) = Call equation (map argument_view arguments.items)
+  formula_view (formula.Each' quantifier slot carriers p body) = nested (is_forall quantifier) slot carriers.now (formula_view body)
+  formula_view (formula.Call equation arguments) = Call equation (map argument_view arguments.now)
 
   pub formulas_in : {m : _} → Row_of-Formula m → List normal.Formula
   formulas_in end_of-Formula = []
@@ -58,4 +55,4 @@ right_views = map (λ (X : declared_equation.Equation). formula_view X.right)
 
 -- the shapes of the slots behind the parameters, equation by equation
 abbrev pub loop_shapes : List declared_equation.Equation → List (List Shape)
-loop_shapes = map (λ (X : declared_equation.Equation). shapes_of X.loops.items)
+loop_shapes = map (λ (X : declared_equation.Equation). shapes_of X.loops.now)

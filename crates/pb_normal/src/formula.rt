@@ -5,8 +5,8 @@ ghost use Rattle.pb_normal.specs.View.{is_and};
 
 use pb_sorts::Carrier;
 use pb_text_tree::Quantifier;
-use pb_typed_tree::Term;
-use pb_typing::Shape;
+use pb_typed_tree::{Argument, Term};
+use pb_typing::Polarity;
 
 /// What joins operands: a conjunction, or a disjunction.
 #[derive(Clone, Copy, Debug, PartialEq, Eq)]
@@ -27,37 +27,33 @@ impl Junction {
     }
 }
 
-/// An argument, with what is known of its values: its kind, and the interval of a whole number.
-#[derive(Debug, Drop)]
-pub struct Argument {
-    pub term: Term,
-    pub shape: Shape,
-}
-
-/// A formula in which negation stands on data alone.
+/// A formula in which negation stands on data alone. What it borrows is the typed tree's.
 #[derive(Debug, Drop)]
 #[cycle(formulas)]
-pub enum Formula {
-    /// A data term of kind Bool.
-    Test(Term),
+pub enum Formula<'t> {
+    /// A data term of kind Bool, negated where the polarity is negative.
+    Test {
+        polarity: Polarity,
+        term: &'t Term,
+    },
     /// A conjunction, or a disjunction, of operands in order: a chain of one connective is one
     /// node.
     Join {
         junction: Junction,
-        first: Box<Formula>,
-        rest: Vec<Formula>,
+        first: Box<Formula<'t>>,
+        rest: Vec<Formula<'t>>,
     },
     /// For all values, or for some value, of each of the slots from `slot` on, which have these
     /// carriers.
     Each {
         quantifier: Quantifier,
         slot: usize,
-        carriers: Vec<Carrier>,
-        body: Box<Formula>,
+        carriers: &'t [Carrier],
+        body: Box<Formula<'t>>,
     },
     /// The instance of an equation, by its place, with these arguments.
     Call {
         equation: usize,
-        arguments: Vec<Argument>,
+        arguments: &'t [Argument],
     },
 }

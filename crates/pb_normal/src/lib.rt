@@ -1,22 +1,12 @@
-//! Positive normal form: negations are driven down to data terms, a data term with quantifiers
-//! becomes a formula, and variables become slots.
+//! Positive normal form: negations of typed formulas are driven down to data terms. A normal form
+//! borrows its data, the carriers of its quantifiers and the arguments of its calls.
 #![tactic(auto)]
 
-mod call;
-mod context;
-mod data;
 pub mod formula;
-mod function;
 pub mod laws;
 pub mod limits;
 pub mod normal;
-mod operand;
-mod quantifier;
-mod sign;
-mod slots;
-mod value;
-mod variables;
 
-pub use formula::{Argument, Formula, Junction};
+pub use formula::{Formula, Junction};
 pub use normal::{Equation, Normal, normalise};
-pub use pb_typed_tree::{Enumerator, Link, Term};
+pub use pb_typed_tree::{Argument, Enumerator, Link, Term};
