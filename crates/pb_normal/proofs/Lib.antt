@@ -1,8 +1,11 @@
 mod SignedForms
 mod Truth
 pub mod Views
+mod Weight
+mod Operands
 pub mod Shaped
 mod Positive
+mod Rights
 pub mod Equations
 pub mod Sequences
 pub mod Answer

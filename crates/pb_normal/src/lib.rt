@@ -6,6 +6,8 @@ pub mod formula;
 pub mod laws;
 pub mod limits;
 pub mod normal;
+mod sign;
+mod signed;
 
 pub use formula::{Formula, Junction};
 pub use normal::{Equation, Normal, normalise};

@@ -1,16 +1,19 @@
 //! The normal form of a text.
 
-ghost use Rattle.std.specs.Prelude.{◌≡◌, IfOk};
+ghost use Rattle.std.specs.Prelude.{◌≡◌, true, IfOk};
 ghost use Rattle.pb_text_meaning.specs.Meaning.{answer};
+ghost use Rattle.pb_typed_tree.specs.View as tree;
 ghost use Rattle.pb_normal.specs.Answer.{answer_by, normal_equations};
 ghost use Rattle.pb_normal.specs.FormulaSet.{formulas-prop, shapes-prop};
 ghost use Rattle.pb_normal.specs.Loops.{all_loops};
+ghost use Rattle.pb_normal.specs.SignedForm.{signed_form};
 ghost use Rattle.pb_normal.specs.Text.{said};
-ghost use Rattle.pb_normal.specs.View.{loop_shapes, right_views};
+ghost use Rattle.pb_normal.specs.View.{formula_view, loop_shapes, right_views};
 
 use crate::formula::Formula;
+use crate::signed::signed_form;
 use pb_sorts::Carrier;
-use pb_typing::Typed;
+use pb_typing::{Polarity, Typed};
 use std::alloc::{AllocError, Global};
 
 /// An accepted text with the right sides of its equations in positive normal form. Signs, names,
@@ -40,7 +43,7 @@ pub struct Equation<'t> {
 ///
 /// # Errors
 /// Memory was refused.
-pub fn normalise(_alloc: Global, typed: &Typed) -> Result<Normal<'_>, AllocError>
+pub fn normalise(alloc: Global, typed: &Typed) -> Result<Normal<'_>, AllocError>
     // It borrows the text.
     ensures text { IfOk result (λ normal. normal.typed.now ≡ typed.now) }
     // Each right side is the positive normal form of the text's.
@@ -53,5 +56,26 @@ pub fn normalise(_alloc: Global, typed: &Typed) -> Result<Normal<'_>, AllocError
     ensures loops { IfOk result (λ normal. loop_shapes normal.equations.items
         ≡ all_loops (said typed.now)) }
 {
-    Err(AllocError)
+    let mut equations = Vec::new(alloc);
+    for equation in &typed.equations {
+        let normal = normal_equation(alloc, equation)?;
+        equations.push(normal)?;
+    }
+    Ok(Normal { typed, equations })
+}
+
+/// The normal form of an equation's right side.
+fn normal_equation(
+    alloc: Global,
+    equation: &pb_typed_tree::Equation,
+) -> Result<Equation<'_>, AllocError>
+    ensures right { IfOk result (λ X. formula_view X.right
+        ≡ signed_form true (tree.formula_view equation.now.right)) }
+    ensures loops { IfOk result (λ X. X.loops.now ≡ equation.now.loops.items) }
+{
+    let right = signed_form(alloc, Polarity::Positive, &equation.right)?;
+    Ok(Equation {
+        right,
+        loops: &equation.loops,
+    })
 }
