@@ -1,10 +1,10 @@
 -- The equations of a module, one by one.
-use Rattle.std.proofs.Common.{◌≡◌, ℕ, zero, suc, ◌+◌, ◌<◌, ◌≤◌, List, [], ◌∷◌, ◌++◌, map, length, get_or, drop, refl, sym, ap, ◌∙◌, subst, arith, Vec, Global, true}
-use Rattle.std.specs.List.{list_all}
+use Rattle.std.proofs.Common.{◌≡◌, ℕ, zero, suc, ◌+◌, ◌<◌, ◌≤◌, List, [], ◌∷◌, ◌++◌, map, length, get_or, drop, Some, refl, sym, ap, ◌∙◌, subst, arith, true}
+use Rattle.std.specs.List.{list_all, slice_get}
 use Rattle.std.proofs.lemmas.List.{append_assoc, append-nil, map_push, drop_all}
+use Rattle.std.proofs.lemmas.Option.{get_or_from_slice_get}
 use Rattle.pb_fixpoint.specs.declared.Sign.{Sign}
 use Rattle.pb_sorts.specs.declared.carrier.Carrier.{Carrier}
-use Rattle.pb_sorts.specs.Layout.{lists_of}
 use Rattle.pb_sorts.proofs.Places.{drop-at}
 use Rattle.pb_text_tree.specs.declared.spec.Equation as tree
 use Rattle.pb_text_tree.specs.Form.{EquationForm, equation_form}
@@ -59,15 +59,15 @@ same_contents s n n' ps ps' ls ls' st st' to to' co co' a b c d e f =
 
 -- ---- equation by equation
 
-pub record AreMade (callees : List (Vec Carrier Global)) (texts : List tree.Equation) (normals : List Equation) (k : ℕ) (done : List bytecode.Equation) : Type 0 where
-  pub ready : AreReady (lists_of callees) (lists_of (drop k callees)) (map equation_form (drop k texts)) (drop k normals)
+pub record AreMade (callees : List (List Carrier)) (texts : List tree.Equation) (normals : List Equation) (k : ℕ) (done : List bytecode.Equation) : Type 0 where
+  pub ready : AreReady callees (drop k callees) (map equation_form (drop k texts)) (drop k normals)
   pub fields : list_all has_fitting_carriers (map equation_contents done) ≡ true
   pub made :
-      map equation_contents done ++ all_compiled (lists_of callees) (lists_of (drop k callees)) (map equation_form (drop k texts)) (drop k normals)
-      ≡ all_compiled (lists_of callees) (lists_of callees) (map equation_form texts) normals
+      map equation_contents done ++ all_compiled callees (drop k callees) (map equation_form (drop k texts)) (drop k normals)
+      ≡ all_compiled callees callees (map equation_form texts) normals
 
 -- where equations are left, there are parameters and a text for the next
-parameters_left : (all : List (List Carrier)) (cs : List (Vec Carrier Global)) (ts : List tree.Equation) (X : Equation) (E : List Equation) → AreReady all (lists_of cs) (map equation_form ts) (X ∷ E) → (0 < length cs) × (0 < length ts)
+parameters_left : (all : List (List Carrier)) (cs : List (List Carrier)) (ts : List tree.Equation) (X : Equation) (E : List Equation) → AreReady all cs (map equation_form ts) (X ∷ E) → (0 < length cs) × (0 < length ts)
 parameters_left all [] [] X E r = absurd r
 parameters_left all [] (t ∷ ts) X E r = absurd r
 parameters_left all (c ∷ cs) [] X E r = absurd r
@@ -79,31 +79,33 @@ dropped [] (suc k) l = absurd (omega arith)
 dropped (x ∷ xs) zero l = omega arith
 dropped (x ∷ xs) (suc k) l = let h = dropped xs k l in omega arith
 
-module _ (callees : List (Vec Carrier Global)) (texts : List tree.Equation) (normals : List Equation) (k : ℕ) (X : Equation) (below : k < length normals) (at : X ≡ get_or normals k X) (done : List bytecode.Equation)
+module _ (callees : List (List Carrier)) (texts : List tree.Equation) (normals : List Equation) (k : ℕ) (X : Equation) (below : k < length normals) (at : X ≡ get_or normals k X) (done : List bytecode.Equation)
     (h : AreMade callees texts normals k done) where
-  here : AreReady (lists_of callees) (lists_of (drop k callees)) (map equation_form (drop k texts)) (X ∷ drop (k + 1) normals)
-  here = subst (λ (E : List Equation). AreReady (lists_of callees) (lists_of (drop k callees)) (map equation_form (drop k texts)) E) (drop-at normals k X below at) h.ready
+  here : AreReady callees (drop k callees) (map equation_form (drop k texts)) (X ∷ drop (k + 1) normals)
+  here = subst (λ (E : List Equation). AreReady callees (drop k callees) (map equation_form (drop k texts)) E) (drop-at normals k X below at) h.ready
 
   pub parameters_there : k < length callees
-  parameters_there = dropped callees k (parameters_left (lists_of callees) (drop k callees) (drop k texts) X (drop (k + 1) normals) here).0
+  parameters_there = dropped callees k (parameters_left callees (drop k callees) (drop k texts) X (drop (k + 1) normals) here).0
 
   pub text_there : k < length texts
-  text_there = dropped texts k (parameters_left (lists_of callees) (drop k callees) (drop k texts) X (drop (k + 1) normals) here).1
+  text_there = dropped texts k (parameters_left callees (drop k callees) (drop k texts) X (drop (k + 1) normals) here).1
 
-  module _ (v : Vec Carrier Global) (t : tree.Equation) (v_at : v ≡ get_or callees k v) (t_at : t ≡ get_or texts k t) where
-    whole : AreReady (lists_of callees) (v.items ∷ lists_of (drop (k + 1) callees)) (equation_form t ∷ map equation_form (drop (k + 1) texts)) (X ∷ drop (k + 1) normals)
+  module _ (v : List Carrier) (t : tree.Equation) (v_at : slice_get callees k ≡ Some v) (t_at : t ≡ get_or texts k t) where
+    split : drop k callees ≡ v ∷ drop (k + 1) callees
+    split = drop-at callees k v parameters_there (sym (get_or_from_slice_get callees k v v v_at))
+
+    whole : AreReady callees (v ∷ drop (k + 1) callees) (equation_form t ∷ map equation_form (drop (k + 1) texts)) (X ∷ drop (k + 1) normals)
     whole =
-        subst (λ (vs : List (Vec Carrier Global)). AreReady (lists_of callees) (lists_of vs) (equation_form t ∷ map equation_form (drop (k + 1) texts)) (X ∷ drop (k + 1) normals)) (drop-at callees k v parameters_there v_at)
-        (subst (λ (ts : List tree.Equation). AreReady (lists_of callees) (lists_of (drop k callees)) (map equation_form ts) (X ∷ drop (k + 1) normals)) (drop-at texts k t text_there t_at) here)
+        subst (λ (vs : List (List Carrier)). AreReady callees vs (equation_form t ∷ map equation_form (drop (k + 1) texts)) (X ∷ drop (k + 1) normals)) split
+        (subst (λ (ts : List tree.Equation). AreReady callees (drop k callees) (map equation_form ts) (X ∷ drop (k + 1) normals)) (drop-at texts k t text_there t_at) here)
 
-    pub ready_next : IsReady (lists_of callees) v.items (equation_form t) X
+    pub ready_next : IsReady callees v (equation_form t) X
     ready_next = whole.0
 
-    pub made_more : (e : bytecode.Equation) (more : List bytecode.Equation) → more ≡ done ++ e ∷ [] → equation_contents e ≡ compiled_contents (lists_of callees) v.items (equation_form t) X
+    pub made_more : (e : bytecode.Equation) (more : List bytecode.Equation) → more ≡ done ++ e ∷ [] → equation_contents e ≡ compiled_contents callees v (equation_form t) X
         → has_fitting_carriers (equation_contents e) ≡ true → AreMade callees texts normals (k + 1) more
     made_more e more pushed is fields =
-        let all = lists_of callees in
-        let rest = all_compiled all (lists_of (drop (k + 1) callees)) (map equation_form (drop (k + 1) texts)) (drop (k + 1) normals) in record {
+        let rest = all_compiled callees (drop (k + 1) callees) (map equation_form (drop (k + 1) texts)) (drop (k + 1) normals) in record {
           ready = whole.1;
           fields =
               ap (λ (es : List bytecode.Equation). list_all has_fitting_carriers (map equation_contents es)) pushed
@@ -114,21 +116,21 @@ module _ (callees : List (Vec Carrier Global)) (texts : List tree.Equation) (nor
               ∙ ap (λ (es : List EquationContents). es ++ rest) (map_push equation_contents done e)
               ∙ append_assoc (map equation_contents done) (equation_contents e ∷ []) rest
               ∙ ap (λ (c : EquationContents). map equation_contents done ++ c ∷ rest) is
-              ∙ ap (λ (vs : List (Vec Carrier Global)). map equation_contents done ++ all_compiled all (lists_of vs) (equation_form t ∷ map equation_form (drop (k + 1) texts)) (X ∷ drop (k + 1) normals)) (sym (drop-at callees k v parameters_there v_at))
-              ∙ ap (λ (ts : List tree.Equation). map equation_contents done ++ all_compiled all (lists_of (drop k callees)) (map equation_form ts) (X ∷ drop (k + 1) normals)) (sym (drop-at texts k t text_there t_at))
-              ∙ ap (λ (E : List Equation). map equation_contents done ++ all_compiled all (lists_of (drop k callees)) (map equation_form (drop k texts)) E) (sym (drop-at normals k X below at))
+              ∙ ap (λ (vs : List (List Carrier)). map equation_contents done ++ all_compiled callees vs (equation_form t ∷ map equation_form (drop (k + 1) texts)) (X ∷ drop (k + 1) normals)) (sym split)
+              ∙ ap (λ (ts : List tree.Equation). map equation_contents done ++ all_compiled callees (drop k callees) (map equation_form ts) (X ∷ drop (k + 1) normals)) (sym (drop-at texts k t text_there t_at))
+              ∙ ap (λ (E : List Equation). map equation_contents done ++ all_compiled callees (drop k callees) (map equation_form (drop k texts)) E) (sym (drop-at normals k X below at))
               ∙ h.made;
         }
 
-pub made_equations : (callees : List (Vec Carrier Global)) (texts : List tree.Equation) (normals : List Equation) (k : ℕ) (done : List bytecode.Equation) → length normals ≤ k → AreMade callees texts normals k done
-    → map equation_contents done ≡ all_compiled (lists_of callees) (lists_of callees) (map equation_form texts) normals
+pub made_equations : (callees : List (List Carrier)) (texts : List tree.Equation) (normals : List Equation) (k : ℕ) (done : List bytecode.Equation) → length normals ≤ k → AreMade callees texts normals k done
+    → map equation_contents done ≡ all_compiled callees callees (map equation_form texts) normals
 made_equations callees texts normals k done end h =
     sym (append-nil (map equation_contents done))
-    ∙ ap (λ (es : List EquationContents). map equation_contents done ++ es) (sym (none (lists_of (drop k callees)) (map equation_form (drop k texts))))
-    ∙ ap (λ (E : List Equation). map equation_contents done ++ all_compiled (lists_of callees) (lists_of (drop k callees)) (map equation_form (drop k texts)) E) (sym (drop_all k normals end))
+    ∙ ap (λ (es : List EquationContents). map equation_contents done ++ es) (sym (none (drop k callees) (map equation_form (drop k texts))))
+    ∙ ap (λ (E : List Equation). map equation_contents done ++ all_compiled callees (drop k callees) (map equation_form (drop k texts)) E) (sym (drop_all k normals end))
     ∙ h.made
   where
-    none : (css : List (List Carrier)) (E : List EquationForm) → all_compiled (lists_of callees) css E [] ≡ []
+    none : (css : List (List Carrier)) (E : List EquationForm) → all_compiled callees css E [] ≡ []
     none [] E = refl
     none (cs ∷ css) [] = refl
     none (cs ∷ css) (t ∷ E) = refl

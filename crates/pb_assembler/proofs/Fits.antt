@@ -106,7 +106,7 @@ module _ (spec : Spec) (sizes : List ℕ) (same : struct_counts spec.sorts ≡ s
       let d = f.parameters in
       let parameters : shapes_of cs ≡ variable_shapes spec (erased_equation t).parameters = cc in
       let two = and_parts (has_fitting_carriers (compiled_contents callees cs t e)) (list_all has_fitting_carriers (all_compiled callees css E es)) fields in
-      let both = and_parts (list_all has_fitting_fields cs) (list_all has_fitting_fields e.loops.items) two.0 in
+      let both = and_parts (list_all has_fitting_fields cs) (list_all has_fitting_fields e.loops.now) two.0 in
       let is : cs ≡ ds = cc in
       subst (λ (xs : List Carrier). list_all (fits_carrier sizes) xs ≡ true) is (parameters_fit (erased_equation t) cs (known.shapes 0 (erased_equation t) (omega arith)) parameters both.0)
   callees_fit (t ∷ E) (cs ∷ css) (e ∷ es) f r known fields (suc k) ds at =
@@ -117,12 +117,12 @@ module _ (spec : Spec) (sizes : List ℕ) (same : struct_counts spec.sorts ≡ s
       callees_fit E css es (record { rights = cc; loops = cc; parameters = cc }) r.1 (later spec (erased_equation t) (map erased_equation E) known) two.1 k ds at
 
   module _ (callees_are : (k : ℕ) (ds : List Carrier) → slice_get callees k ≡ Some ds → list_all (fits_carrier sizes) ds ≡ true) where
-    equation_fits : (t : EquationForm) (cs : List Carrier) (e : Equation) → formula_view e.right ≡ normal_equation spec (erased_equation t) → shapes_of e.loops.items ≡ equation_loops spec (erased_equation t)
+    equation_fits : (t : EquationForm) (cs : List Carrier) (e : Equation) → formula_view e.right ≡ normal_equation spec (erased_equation t) → shapes_of e.loops.now ≡ equation_loops spec (erased_equation t)
         → shapes_of cs ≡ variable_shapes spec (erased_equation t).parameters → IsReady callees cs t e → HasDeclaredShapes spec (erased_equation t) → HasBounds spec (erased_equation t) → length (erased_equation t).parameters ≤ 8
         → has_fitting_carriers (compiled_contents callees cs t e) ≡ true → fits_equation version.One sizes (compiled_contents callees cs t e) ≡ true
     equation_fits t cs e right loops parameters r shapes bounds eight fields =
         let X = erased_equation t in
-        let both = and_parts (list_all has_fitting_fields cs) (list_all has_fitting_fields e.loops.items) fields in
+        let both = and_parts (list_all has_fitting_fields cs) (list_all has_fitting_fields e.loops.now) fields in
         let count = ap length parameters in
         let long = length-map cs (λ (c : Carrier). carrier_shape (Some c)) in
         let wide = length-map X.parameters (λ (x : Variable). sort_shape spec x.sort) in
@@ -134,7 +134,7 @@ module _ (spec : Spec) (sizes : List ℕ) (same : struct_counts spec.sorts ≡ s
         let bounded = subst (λ (g : Formula). is_bounded_formula (bounds_of spec X) g ≡ true) (sym right) bounds in
         and_from _ _ r.named
         (and_from _ _ (and_from _ _ (between 0 (MAX_PARAMETERS + 1) (length cs) (omega arith) (omega arith)) (parameters_fit X cs shapes parameters both.0))
-        (and_from _ _ (and_from _ _ (between 0 (MAX_LOOP_SLOTS + 1) (length e.loops.items) (omega arith) (omega arith)) (carriers_fit sizes e.loops.items (equation_loops spec X) loops (subst (λ (ns : List ℕ). All (IsDeclaredShape ns) (equation_loops spec X)) same shapes.loops) both.1))
+        (and_from _ _ (and_from _ _ (between 0 (MAX_LOOP_SLOTS + 1) (length e.loops.now) (omega arith) (omega arith)) (carriers_fit sizes e.loops.now (equation_loops spec X) loops (subst (λ (ns : List ℕ). All (IsDeclaredShape ns) (equation_loops spec X)) same shapes.loops) both.1))
         (and_from _ _ (lt-ltb (static_steps (bare_program callees cs e)) (2 ^ 32) (omega (arith, steps)))
         (and_from _ _ (lt-ltb (static_tokens (bare_program callees cs e)) (2 ^ 32) (omega (arith, tokens)))
         (and_from _ _ (between 1 (MAX_INSTRUCTIONS + 1) (length (equation_code callees f)) (code_some sizes few (bounds_of spec X) same callees callees_are f) (omega (arith, code))) (code_fits sizes few (bounds_of spec X) same callees callees_are f r.small bounded code))))))
@@ -151,7 +151,7 @@ module _ (spec : Spec) (sizes : List ℕ) (same : struct_counts spec.sorts ≡ s
         let b = f.loops in
         let d = f.parameters in
         let right : formula_view e.right ≡ normal_equation spec X = cc in
-        let loops : shapes_of e.loops.items ≡ equation_loops spec X = cc in
+        let loops : shapes_of e.loops.now ≡ equation_loops spec X = cc in
         let parameters : shapes_of cs ≡ variable_shapes spec X.parameters = cc in
         let two = and_parts (has_fitting_carriers (compiled_contents callees cs t e)) (list_all has_fitting_carriers (all_compiled callees css E es)) fields in
         and_from _ _

@@ -2,11 +2,9 @@
 use Rattle.std.proofs.Common.{◌≡◌, ℕ, zero, suc, ◌+◌, ◌<◌, Bool, true, false, not, List, [], ◌∷◌, ◌++◌, length, get_or, ◌≤◌, Option, Some, None, IfSome, refl, sym, ap, ◌∙◌, subst, arith, true≢false, Vec, Global, Box, inl, inr}
 use Rattle.std.proofs.lemmas.Bool.{and_parts, ltb-true}
 use Rattle.std.specs.Prelude.{nat_lt, box_value}
-use Rattle.std.specs.List.{slice_get}
 use Rattle.std.proofs.lemmas.List.{nil_from_length}
 use denote.Enum.Bare.{sameb}
 use Rattle.pb_sorts.specs.declared.carrier.Carrier.{Carrier}
-use Rattle.pb_sorts.specs.Layout.{lists_of}
 use Rattle.pb_normal.specs.Normal as normal
 use Rattle.pb_normal.specs.Normal.{Term, Test, Join, Each, Call}
 use Rattle.pb_normal.specs.contracts.formula.Junction.{the_type}
@@ -17,7 +15,7 @@ use Rattle.pb_normal.specs.declared.formula.Formula.{Formula}
 use Rattle.pb_normal.specs.View.{chained, nested, formula_view, formula_views, is_and}
 use Rattle.pb_bytecode_program.specs.declared.instruction.Op.TheVariants as op
 use Rattle.pb_assembler_scheme.specs.Pieces.{Piece, Plain, Then, Unless, Choose, Repeat}
-use Rattle.pb_assembler_scheme.specs.Scheme.{data_piece, test_of, tested_piece, join_piece, under, bracketed, deciding, connective_of, formula_piece, parameters}
+use Rattle.pb_assembler_scheme.specs.Scheme.{data_piece, test_of, tested_piece, join_piece, under, bracketed, deciding, connective_of, formula_piece}
 use Rattle.pb_assembler.specs.Draft.{Draft, Labelled}
 use Rattle.pb_assembler.specs.Emitted.{Emits, nowhere}
 use Rattle.pb_assembler.specs.Operands.{Guarded, early_test, guarded_by, IsLeft}
@@ -229,17 +227,6 @@ pub untested : (callees : List (List Carrier)) (a : Bool) (f : normal.Formula) (
     → formula_piece callees a (chained (Join (not a)) f (formula_views gs)) ≡ bracketed (not a) (formula_piece callees (not a) (chained (Join (not a)) f (formula_views gs)))
 untested callees a f [] l n = absurd (omega arith)
 untested callees a f (g ∷ gs) l n = all_other callees a f (formula_view g ∷ formula_views gs) (omega arith) n
-
--- a call's parameters
-pub there : (cs : List (Vec Carrier Global)) (i : ℕ) (x : Vec Carrier Global) → i < length cs → x ≡ get_or cs i x → parameters (slice_get (lists_of cs) i) ≡ x.items
-there [] i x l e = absurd (omega arith)
-there (c ∷ cs) zero x l e = ap (λ (v : Vec Carrier Global). v.items) (sym e)
-there (c ∷ cs) (suc i) x l e = there cs i x (omega arith) e
-
-pub not_there : (cs : List (Vec Carrier Global)) (i : ℕ) → length cs ≤ i → parameters (slice_get (lists_of cs) i) ≡ []
-not_there [] i l = refl
-not_there (c ∷ cs) zero l = absurd (omega arith)
-not_there (c ∷ cs) (suc i) l = not_there cs i (omega arith)
 
 pub same_kind : (m a : Junction) (b : Bool) → b ≡ sameb the_type m a → b ≡ true → is_and m ≡ is_and a
 same_kind And And b e is = refl

@@ -6,7 +6,7 @@ pub mod Views
 pub mod Measured
 pub mod MeasureLoads
 pub mod MeasureTallies
-pub mod MeasureFormulaLemmas
+pub mod MeasureArguments
 pub mod Calls
 pub mod FormulaWeight
 pub mod Awaited
@@ -23,7 +23,7 @@ pub mod MeasureExcess
 pub mod Reached
 pub mod ReachedBounds
 pub mod ReachedTexts
-pub mod Parameters
+pub mod Tests
 pub mod Codes
 pub mod Names
 pub mod Sorts

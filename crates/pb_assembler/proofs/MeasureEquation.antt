@@ -54,7 +54,7 @@ module _ (callees : List (List Carrier)) (f : Formula) (p : Program) (compiled :
   }
 
 pub equation_measured : (callees : List (List Carrier)) (X : Equation) (t : Tally) (m : Measures) → t ≡ capped_tally (formula_tally callees (head (formula_view X.right)) (formula_view X.right))
-    → m ≡ equation_measures t (length X.loops.items) → (p : Program) → IsProgram callees X p → AreMeasures m p (formula_view X.right)
+    → m ≡ equation_measures t (length X.loops.now) → (p : Program) → IsProgram callees X p → AreMeasures m p (formula_view X.right)
 equation_measured callees X t m e g p h =
-    subst (λ (n : Measures). AreMeasures n p (formula_view X.right)) (sym (g ∙ ap (λ (u : Tally). equation_measures u (length X.loops.items)) e))
-    (whole_measured callees (formula_view X.right) p h.compiled h.callees (length X.loops.items) h.loops)
+    subst (λ (n : Measures). AreMeasures n p (formula_view X.right)) (sym (g ∙ ap (λ (u : Tally). equation_measures u (length X.loops.now)) e))
+    (whole_measured callees (formula_view X.right) p h.compiled h.callees (length X.loops.now) h.loops)

@@ -1,5 +1,5 @@
 -- The first equation whose code exceeds a limit.
-use Rattle.std.proofs.Common.{◌≡◌, ℕ, suc, ◌+◌, ◌<◌, ◌≤◌, List, [], ◌∷◌, length, Option, Some, None, refl, sym, ap, ◌∙◌, subst, arith, ⊎_elim, Vec, Global}
+use Rattle.std.proofs.Common.{◌≡◌, ℕ, suc, ◌+◌, ◌<◌, ◌≤◌, List, [], ◌∷◌, length, Option, Some, None, refl, sym, ap, ◌∙◌, subst, arith, ⊎_elim}
 use Rattle.std.specs.List.{slice_get}
 use Rattle.std.proofs.lemmas.Bool.{cases_lt}
 use Rattle.std.proofs.lemmas.Option.{slice_get_within}
@@ -21,10 +21,10 @@ use Rattle.pb_assembler_modules.proofs.Modules.{made}
 use Rattle.pb_bytecode.specs.declared.limit.Limit.{Limit}
 use Rattle.pb_assembler.specs.declared.measures.Measures.{Measures}
 use Rattle.pb_assembler.specs.Excess.{AreMeasures, ExceedsFirst, IsFirstExcess, first_excess}
-use Rattle.pb_assembler.specs.MeasureFormulas.{callees_of}
-use Rattle.pb_assembler.specs.MeasureEquations.{AreMeasuresOf, AreNormalForms, EachKeepsLimits, IsProgram}
+use Rattle.pb_assembler.specs.MeasureEquations.{AreMeasuresOf, EachKeepsLimits, IsProgram}
 use Rattle.pb_assembler.proofs.Measured.{kept}
 use Rattle.pb_assembler.proofs.MeasureMade.{form_at, text_at, parameters_at, program, program_made, made_is_program}
+use Rattle.pb_assembler.proofs.Ready.{AreFormsOf}
 
 -- ---- one equation
 
@@ -72,26 +72,25 @@ keep_more callees es n m d f here h k j e l at =
 
 -- ---- texts
 
-module _ (spec : Spec) (cs : List (Vec Carrier Global)) (es : List Equation) (forms : AreNormalForms spec cs es) where
-  keep_text : (n : ℕ) → KeepTo (callees_of cs) es n → (j : ℕ) (X : syntax.Equation) → j < n → slice_get spec.equations j ≡ Some X → (p : Program) → IsMadeOf spec X p → KeepsLimits p (normal_equation spec X)
+module _ (spec : Spec) (cs : List (List Carrier)) (es : List Equation) (forms : AreFormsOf spec spec.equations cs es) where
+  keep_text : (n : ℕ) → KeepTo cs es n → (j : ℕ) (X : syntax.Equation) → j < n → slice_get spec.equations j ≡ Some X → (p : Program) → IsMadeOf spec X p → KeepsLimits p (normal_equation spec X)
   keep_text n h j X l at p made =
       let form = form_at spec spec.equations es forms.rights forms.loops j X at in
       subst (λ (f : Formula). KeepsLimits p f) form.2.right (h j form.0 l form.1 p (made_is_program spec cs X form.0 p forms.parameters form.2 made))
 
-  pub all_keep : (n : ℕ) → length es ≤ n → KeepTo (callees_of cs) es n → EachKeepsLimits spec
+  pub all_keep : (n : ℕ) → length es ≤ n → KeepTo cs es n → EachKeepsLimits spec
   all_keep n long h k X at =
       let form = form_at spec spec.equations es forms.rights forms.loops k X at in
       let below : k < length es = slice_get_within es k form.0 form.1 in
       keep_text n h k X (omega arith) at
 
-  pub first_found : (k : ℕ) (e : Equation) (l : Limit) → slice_get es k ≡ Some e → Exceeds (callees_of cs) e l → KeepTo (callees_of cs) es k → IsFirstExcess spec l k
+  pub first_found : (k : ℕ) (e : Equation) (l : Limit) → slice_get es k ≡ Some e → Exceeds cs e l → KeepTo cs es k → IsFirstExcess spec l k
   first_found k e l at over h =
       let text = text_at spec spec.equations es forms.rights forms.loops k e at in
       let X = text.0 in
-      let callees = callees_of cs in
-      let carriers = parameters (slice_get callees k) in
-      let p = program spec callees carriers e.loops.items X in
-      let made : IsMadeOf spec X p = program_made spec callees carriers e.loops.items X forms.parameters (parameters_at spec callees spec.equations forms.parameters k X text.1) text.2.loops in
+      let carriers = parameters (slice_get cs k) in
+      let p = program spec cs carriers e.loops.now X in
+      let made : IsMadeOf spec X p = program_made spec cs carriers e.loops.now X forms.parameters (parameters_at spec cs spec.equations forms.parameters k X text.1) text.2.loops in
       record {
         equation = X;
         there = text.1;

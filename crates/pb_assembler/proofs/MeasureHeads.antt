@@ -2,13 +2,12 @@
 use Rattle.std.proofs.Common.{◌≡◌, ℕ, ◌<◌, Bool, List, [], ◌∷◌, length, refl, sym, ap, ◌∙◌, arith, Vec, Global, Box}
 use Rattle.std.specs.Prelude.{box_value}
 use Rattle.pb_sorts.specs.declared.carrier.Carrier.{Carrier}
-use Rattle.pb_text_tree.specs.declared.operator.Quantifier.{Quantifier}
 use Rattle.pb_normal.specs.Normal as normal
 use Rattle.pb_normal.specs.Normal.{Join}
 use Rattle.pb_normal.specs.declared.formula.Junction.{Junction}
 use Rattle.pb_normal.specs.declared.formula.Formula as formula
 use Rattle.pb_normal.specs.declared.formula.Formula.{Formula}
-use Rattle.pb_normal.specs.View.{chained, formula_view, formula_views, is_and, is_forall, nested}
+use Rattle.pb_normal.specs.View.{chained, formula_view, formula_views, is_and, nested}
 use Rattle.pb_normal.proofs.Views.{formula-join}
 use Rattle.pb_assembler_scheme.specs.Scheme.{head}
 
@@ -19,9 +18,6 @@ chain_head m f (g ∷ gs) l = refl
 pub join_head : (x : Formula) (m : Junction) (first : Box Formula Global) (v : Vec Formula Global) → x ≡ formula.Join m first v → 0 < length v.items → is_and m ≡ head (formula_view x)
 join_head x m first v is some = sym (ap (λ (y : Formula). head (formula_view y)) is ∙ ap head (formula-join m first v) ∙ chain_head (is_and m) (formula_view (box_value first)) v.items some)
 
-nested_head : (u : Bool) (s : ℕ) (cs : List Carrier) (f : normal.Formula) → 0 < length cs → head (nested u s cs f) ≡ u
+pub nested_head : (u : Bool) (s : ℕ) (cs : List Carrier) (f : normal.Formula) → 0 < length cs → head (nested u s cs f) ≡ u
 nested_head u s [] f l = absurd (omega arith)
 nested_head u s (c ∷ cs) f l = refl
-
-pub each_head : (x : Formula) (q : Quantifier) (s : ℕ) (cs : Vec Carrier Global) (body : Box Formula Global) → x ≡ formula.Each q s cs body → 0 < length cs.items → is_forall q ≡ head (formula_view x)
-each_head x q s cs body is some = sym (ap (λ (y : Formula). head (formula_view y)) is ∙ nested_head (is_forall q) s cs.items (formula_view (box_value body)) some)

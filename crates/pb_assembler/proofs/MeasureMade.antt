@@ -1,5 +1,5 @@
 -- A program of each of a text's equations, and what is known of all of them.
-use Rattle.std.proofs.Common.{◌≡◌, ℕ, zero, suc, ◌+◌, ◌*◌, List, [], ◌∷◌, map, length, Option, Some, None, refl, sym, ap, ◌∙◌, subst, Vec, Global}
+use Rattle.std.proofs.Common.{◌≡◌, ℕ, zero, suc, ◌+◌, ◌*◌, List, [], ◌∷◌, map, length, Option, Some, None, refl, sym, ap, ◌∙◌, subst}
 use Rattle.std.specs.List.{slice_get}
 use Rattle.std.specs.Prelude.{nat_lt, cond, ◌-◌}
 use Rattle.std.proofs.lemmas.List.{length-map}
@@ -19,7 +19,6 @@ use Rattle.pb_normal.specs.declared.normal.Equation.{Equation}
 use Rattle.pb_assembler_scheme.specs.Scheme.{equation_code, parameters}
 use Rattle.pb_assembler_scheme.specs.Correct.{IsCompiled, quantifiers, slots_from}
 use Rattle.pb_assembler_accepted.specs.Made.{struct_counts, parameter_shapes, IsMadeOf}
-use Rattle.pb_assembler.specs.MeasureFormulas.{callees_of}
 use Rattle.pb_assembler.specs.MeasureEquations.{IsProgram}
 use Rattle.pb_assembler.proofs.MeasureSlots.{equation_quantifiers, slots_long}
 
@@ -63,14 +62,14 @@ stated_compiled p f code slots = record { code = code; slots = slots; steps = sy
 -- the normal form of an equation
 pub record IsNormalForm (spec : Spec) (X : syntax.Equation) (e : Equation) : Type 0 where
   pub right : formula_view e.right ≡ normal_equation spec X
-  pub loops : shapes_of e.loops.items ≡ equation_loops spec X
+  pub loops : shapes_of e.loops.now ≡ equation_loops spec X
 
 module _ (spec : Spec) where
   abbrev AreRights : List syntax.Equation → List Equation → Type 0
   AreRights E es = right_views es ≡ map (normal_equation spec) E
 
   abbrev HaveLoops : List syntax.Equation → List Equation → Type 0
-  HaveLoops E es = map (λ (e : Equation). shapes_of e.loops.items) es ≡ map (equation_loops spec) E
+  HaveLoops E es = map (λ (e : Equation). shapes_of e.loops.now) es ≡ map (equation_loops spec) E
 
   pub form_at : (E : List syntax.Equation) (es : List Equation) → AreRights E es → HaveLoops E es → (k : ℕ) (X : syntax.Equation) → slice_get E k ≡ Some X
       → (e : Equation) × (slice_get es k ≡ Some e) × IsNormalForm spec X e
@@ -129,12 +128,12 @@ module _ (spec : Spec) where
 
   -- ---- all programs that are made of an equation
 
-  pub made_is_program : (cs : List (Vec Carrier Global)) (X : syntax.Equation) (e : Equation) (p : Program) → map shapes_of (callees_of cs) ≡ parameter_shapes spec spec.equations → IsNormalForm spec X e → IsMadeOf spec X p → IsProgram (callees_of cs) e p
+  pub made_is_program : (cs : List (List Carrier)) (X : syntax.Equation) (e : Equation) (p : Program) → map shapes_of cs ≡ parameter_shapes spec spec.equations → IsNormalForm spec X e → IsMadeOf spec X p → IsProgram cs e p
   made_is_program cs X e p calls form made = record {
     compiled = subst (λ (f : Formula). IsCompiled p f) (sym form.right) made.compiled;
     loops =
         sym (slots_long (length p.parameters) p.loops)
-        ∙ ap (λ (qs : List (ℕ × Shape)). length qs) (sym made.compiled.slots ∙ equation_quantifiers spec X e.loops.items form.loops)
-        ∙ slots_long (length X.parameters) e.loops.items;
+        ∙ ap (λ (qs : List (ℕ × Shape)). length qs) (sym made.compiled.slots ∙ equation_quantifiers spec X e.loops.now form.loops)
+        ∙ slots_long (length X.parameters) e.loops.now;
     callees = made.callees ∙ sym calls;
   }

@@ -6,15 +6,15 @@ use Rattle.pb_intervals.specs.Interval.{IntegerInterval}
 use Rattle.pb_sorts.specs.declared.carrier.Carrier.{Carrier}
 use Rattle.pb_sorts.specs.declared.carrier.Carrier.TheVariants as carrier
 use Rattle.pb_sorts.specs.declared.carrier.Range.{Range}
-use Rattle.pb_typing.specs.declared.shape.Shape.{Shape}
-use Rattle.pb_typing.specs.declared.shape.Shape.TheVariants as code
-use Rattle.pb_typing.specs.View.{shape_view}
+use Rattle.pb_typed_tree.specs.declared.shape.Shape.{Shape}
+use Rattle.pb_typed_tree.specs.declared.shape.Shape.TheVariants as code
+use Rattle.pb_typed_tree.specs.View.{shape_view}
 use Rattle.pb_assembler_scheme.specs.Scheme.{tested_range}
 use Rattle.pb_assembler.specs.declared.measure_load.Load.{Load}
 use Rattle.pb_assembler.specs.declared.measure_tally.Tally.{Tally}
 use Rattle.pb_assembler.specs.MeasureTerms.{capped, capped_load}
 use Rattle.pb_assembler.proofs.MeasureLoads.{load_of}
-use Rattle.pb_assembler.specs.MeasureFormulas.{capped_tally, passing, deciding, tested_tally, bracketed_tally, under_tally, after, looped, argument_load}
+use Rattle.pb_assembler.specs.MeasureFormulas.{capped_tally, test_tally, passing, deciding, tested_tally, bracketed_tally, under_tally, after, looped, argument_load}
 
 -- ---- products
 
@@ -93,7 +93,13 @@ loop_steps n s =
 looped_capped : (n : ℕ) (x : Tally) → capped_tally (looped n (capped_tally x)) ≡ capped_tally (looped n x)
 looped_capped n x = tally_of _ _ _ _ _ _ _ _ _ _ _ _ (omega arith) (omega arith) (omega arith) (omega arith) (loop_steps n x.steps) (times_capped n x.tokens)
 
+test_capped : (l : Load) → capped_tally (test_tally (capped_load l)) ≡ capped_tally (test_tally l)
+test_capped l = tally_of _ _ _ _ _ _ _ _ _ _ _ _ (omega arith) (omega arith) (omega arith) (omega arith) (omega arith) (omega arith)
+
 -- ---- with equations for the parts
+
+pub test_by : (r l : Load) → r ≡ capped_load l → capped_tally (test_tally r) ≡ capped_tally (test_tally l)
+test_by r l e = ap (λ (k : Load). capped_tally (test_tally k)) e ∙ test_capped l
 
 pub tested_by : (m around : Bool) (r l : Load) (y x : Tally) → r ≡ capped_load l → y ≡ capped_tally x → capped_tally (tested_tally m around r y) ≡ capped_tally (tested_tally m around l x)
 tested_by m around r l y x e f = ap (λ (k : Load). capped_tally (tested_tally m around k y)) e ∙ ap (λ (k : Tally). capped_tally (tested_tally m around (capped_load l) k)) f ∙ tested_capped m around l x

@@ -45,17 +45,17 @@ later spec X E h = record {
 -- the equations of a normal form, and the carriers of their parameters
 pub record AreFormsOf (spec : Spec) (E : List syntax.Equation) (css : List (List Carrier)) (es : List Equation) : Type 0 where
   pub rights : right_views es ≡ map (normal_equation spec) E
-  pub loops : map (λ (e : Equation). shapes_of e.loops.items) es ≡ map (equation_loops spec) E
+  pub loops : map (λ (e : Equation). shapes_of e.loops.now) es ≡ map (equation_loops spec) E
   pub parameters : map shapes_of css ≡ parameter_shapes spec E
 
 module _ (spec : Spec) (callees : List (List Carrier)) (calls : map shapes_of callees ≡ parameter_shapes spec spec.equations) where
-  module _ (X : syntax.Equation) (cs : List Carrier) (e : Equation) (right : formula_view e.right ≡ normal_equation spec X) (loops : shapes_of e.loops.items ≡ equation_loops spec X) where
+  module _ (X : syntax.Equation) (cs : List Carrier) (e : Equation) (right : formula_view e.right ≡ normal_equation spec X) (loops : shapes_of e.loops.now ≡ equation_loops spec X) where
     abbrev coded : Formula → Program
     coded f = record (bare_program callees cs e) { code = equation_code callees f }
 
-    kept_bare : KeepsLimits (program spec callees cs e.loops.items X) (normal_equation spec X) → KeepsLimits (bare_program callees cs e) (formula_view e.right)
+    kept_bare : KeepsLimits (program spec callees cs e.loops.now X) (normal_equation spec X) → KeepsLimits (bare_program callees cs e) (formula_view e.right)
     kept_bare k =
-        let P = program spec callees cs e.loops.items X in
+        let P = program spec callees cs e.loops.now X in
         let N = normal_equation spec X in
         let steps = cost_same (coded N) P refl refl one_step (equation_code callees N) [] in
         let tokens = cost_same (coded N) P refl refl tokens_of (equation_code callees N) [] in
@@ -84,16 +84,16 @@ module _ (spec : Spec) (callees : List (List Carrier)) (calls : map shapes_of ca
       let b = f.loops in
       let d = f.parameters in
       let right : formula_view e.right ≡ normal_equation spec X = cc in
-      let loops : shapes_of e.loops.items ≡ equation_loops spec X = cc in
+      let loops : shapes_of e.loops.now ≡ equation_loops spec X = cc in
       let parameters : shapes_of cs ≡ variable_shapes spec X.parameters = cc in
-      let made = program_made spec callees cs e.loops.items X calls parameters loops in
-      let kept = s.kept 0 X refl (program spec callees cs e.loops.items X) made in
+      let made = program_made spec callees cs e.loops.now X calls parameters loops in
+      let kept = s.kept 0 X refl (program spec callees cs e.loops.now X) made in
       let few = kept.slots in
       let count = ap length loops in
       let rest : AreFormsOf spec (map erased_equation E) css es = record { rights = cc; loops = cc; parameters = cc } in (
         record {
           named = (and_parts (is_name X.name) (list_all (λ (Y : syntax.Equation). is_name Y.name) (map erased_equation E)) s.named).0;
-          small = subst (λ (g : Formula). is_small_formula g ≡ true) (sym right) (s.small 0 X refl (omega (arith, few, count, length-map e.loops.items (λ (c : Carrier). carrier_shape (Some c)))));
+          small = subst (λ (g : Formula). is_small_formula g ≡ true) (sym right) (s.small 0 X refl (omega (arith, few, count, length-map e.loops.now (λ (c : Carrier). carrier_shape (Some c)))));
           slots = ap quantifiers right ∙ made.compiled.slots;
           kept = kept_bare X cs e right loops kept;
         },

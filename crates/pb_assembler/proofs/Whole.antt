@@ -1,5 +1,5 @@
 -- The module that is compiled, as a whole.
-use Rattle.std.proofs.Common.{◌≡◌, ℕ, ◌+◌, true, List, map, length, Option, Some, refl, sym, ap, ◌∙◌, subst, arith, Vec, Global}
+use Rattle.std.proofs.Common.{◌≡◌, ℕ, ◌+◌, true, List, map, length, Option, Some, refl, sym, ap, ◌∙◌, subst, arith}
 use Rattle.std.specs.Prelude.{nat_le}
 use Rattle.std.specs.List.{list_all, slice_get, All}
 use Rattle.std.proofs.lemmas.List.{length-map}
@@ -10,9 +10,7 @@ use Rattle.pb_carriers.specs.Carrier.{is_within}
 use Rattle.pb_sorts.specs.declared.limits.TheConstants.{MAX_STRUCTS, MAX_EQUATIONS, MAX_INSTANCES}
 use Rattle.pb_sorts.specs.Carrier.{values_of}
 use Rattle.pb_sorts.specs.declared.carrier.Carrier.{Carrier}
-use Rattle.pb_sorts.specs.Layout.{lists_of}
-use Rattle.pb_text_tree.specs.declared.spec.Equation as tree
-use Rattle.pb_text_tree.specs.Form.{EquationForm, SpecForm, equation_form}
+use Rattle.pb_text_tree.specs.Form.{SpecForm}
 use Rattle.pb_text_meaning.specs.Erase.{erase, erased_equation}
 use Rattle.pb_text_meaning.specs.Formula.{carriers_of}
 use Rattle.pb_text_meaning.specs.Syntax as syntax
@@ -34,7 +32,7 @@ use Rattle.pb_assembler_accepted.specs.Made.{parameter_shapes}
 use Rattle.pb_assembler_modules.specs.Module.{struct_names, AreEquationsOf, IsCompiledModule, KeepsAllLimits}
 use Rattle.pb_assembler_modules.proofs.Modules.{counted as counted_structs}
 use Rattle.pb_assembler.specs.Compiled.{all_compiled, has_fitting_carriers, AreReady}
-use Rattle.pb_assembler.specs.MeasureEquations.{AreNormalForms, EachKeepsLimits}
+use Rattle.pb_assembler.specs.MeasureEquations.{EachKeepsLimits}
 use Rattle.pb_text_names.specs.ModuleNames.{has_enumerator_names, has_names}
 use Rattle.pb_assembler.proofs.Fits.{AreKnown, sorts_fit, between, callees_fit, equations_fit, compiled_long, instances_same, compiled_at}
 use Rattle.pb_assembler.proofs.MeasureExcess.{module_keeps}
@@ -45,7 +43,7 @@ of_each P xs all k x at = subst P (get_or_from_slice_get xs k x x at) (all k x (
 
 module _ (text : SpecForm) (faultless : is_faultless text ≡ true) (callees : List (List Carrier)) (es : List Equation)
     (rights : right_views es ≡ normal_equations (erase text))
-    (loops : map (λ (e : Equation). shapes_of e.loops.items) es ≡ map (equation_loops (erase text)) (erase text).equations)
+    (loops : map (λ (e : Equation). shapes_of e.loops.now) es ≡ map (equation_loops (erase text)) (erase text).equations)
     (declared : map shapes_of callees ≡ parameter_shapes (erase text) (erase text).equations)
     (kept : EachKeepsLimits (erase text)) (named : has_names (erase text) ≡ true)
     (small : All (IsSmallWhereLoopsAreFew (erase text)) (erase text).equations) where
@@ -131,19 +129,3 @@ module _ (text : SpecForm) (faultless : is_faultless text ≡ true) (callees : L
           and_from _ _ (and_from _ _ (between 0 (MAX_STRUCTS + 1) (length S) (omega arith) (omega (arith, sort_count, sorts_few))) sorts_within)
           (and_from _ _ (and_from _ _ (between 1 (MAX_EQUATIONS + 1) (length Q) (omega (arith, long, some)) (omega (arith, long, few_equations))) equations_within)
           (and_from _ _ instances_within initial_within))
-
--- ---- what measuring asks for, of the program's lists
-
-pub forms_of : (text t : SpecForm) (xs ys : List tree.Equation) (vs ws : List (Vec Carrier Global)) (es fs : List Equation) → t ≡ text → text.equations ≡ map equation_form ys → xs ≡ ys → ws ≡ vs → fs ≡ es
-    → right_views es ≡ normal_equations (erase text) → map (λ (e : Equation). shapes_of e.loops.items) es ≡ map (equation_loops (erase text)) (erase text).equations
-    → map shapes_of (lists_of vs) ≡ parameter_shapes (erase t) (map erased_equation (map equation_form xs)) → AreNormalForms (erase text) ws fs
-forms_of text t xs ys vs ws es fs said are same others all rights loops parameters = record {
-  rights = ap right_views all ∙ rights;
-  loops = ap (λ (ds : List Equation). map (λ (e : Equation). shapes_of e.loops.items) ds) all ∙ loops;
-  parameters =
-      ap (λ (us : List (Vec Carrier Global)). map shapes_of (lists_of us)) others
-      ∙ parameters
-      ∙ ap (λ (zs : List tree.Equation). parameter_shapes (erase t) (map erased_equation (map equation_form zs))) same
-      ∙ ap (λ (E : List EquationForm). parameter_shapes (erase t) (map erased_equation E)) (sym are)
-      ∙ ap (λ (u : SpecForm). parameter_shapes (erase u) (map erased_equation text.equations)) said;
-}

@@ -5,14 +5,12 @@ use Rattle.pb_sorts.specs.declared.limits.TheConstants.{MAX_ENUMERATORS}
 use Rattle.pb_sorts.specs.declared.carrier.Carrier.{Carrier}
 use Rattle.pb_sorts.specs.declared.carrier.Carrier.TheVariants as carrier
 use Rattle.pb_text_tree.specs.Form.{EquationForm}
-use Rattle.pb_text_meaning.specs.Erase.{erased_variables}
-use Rattle.pb_text_meaning.specs.Syntax.{Enumerator, Sort, Struct, Alias, SortDeclaration, Spec}
+use Rattle.pb_text_meaning.specs.Syntax.{Enumerator, Sort, Struct, Alias, SortDeclaration}
 use Rattle.pb_bytecode.specs.Contents.{EquationContents}
 use Rattle.pb_bytecode.specs.Limits.{is_byte, is_i32}
 use Rattle.pb_bytecode.specs.Names.{is_name}
 use Rattle.pb_bytecode_program.specs.Counts.{static_steps, static_tokens}
 use Rattle.pb_bytecode_program.specs.Machine.{Program}
-use Rattle.pb_normal.specs.Loops.{AreShaped}
 use Rattle.pb_normal.specs.View.{formula_view}
 use Rattle.pb_normal.specs.declared.normal.Equation.{Equation}
 use Rattle.pb_assembler_scheme.specs.Correct.{quantifiers, slots_from}
@@ -20,18 +18,13 @@ use Rattle.pb_assembler_scheme.specs.Scheme.{equation_code}
 use Rattle.pb_assembler_accepted.specs.Limits.{KeepsLimits}
 use Rattle.pb_normal.specs.Small.{is_small_formula}
 
--- each parameter of each equation is of a sort that has values
-abbrev pub AreShapedParameters : Spec → List EquationForm → Type 0
-AreShapedParameters spec [] = ⊤
-AreShapedParameters spec (X ∷ E) = AreShaped spec (erased_variables X.parameters) × AreShapedParameters spec E
-
 -- the scheme's program of an equation whose parameters have these carriers, without sorts and stated counts
 abbrev pub bare_program : List (List Carrier) → List Carrier → Equation → Program
 bare_program callees parameters X = record {
   sorts = [];
   callees = callees;
   parameters = parameters;
-  loops = X.loops.items;
+  loops = X.loops.now;
   stated_steps = 0;
   stated_tokens = 0;
   code = equation_code callees (formula_view X.right);
@@ -43,7 +36,7 @@ compiled_contents callees parameters text X = record {
   sign = text.sign;
   name = text.name.text;
   parameters = parameters;
-  loops = X.loops.items;
+  loops = X.loops.now;
   steps = static_steps (bare_program callees parameters X);
   tokens = static_tokens (bare_program callees parameters X);
   code = equation_code callees (formula_view X.right);
@@ -69,7 +62,7 @@ AreSorts (d ∷ ds) = IsSort d.sort × AreSorts ds
 pub record IsReady (callees : List (List Carrier)) (parameters : List Carrier) (text : EquationForm) (X : Equation) : Type 0 where
   pub named : is_name text.name.text ≡ true
   pub small : is_small_formula (formula_view X.right) ≡ true
-  pub slots : quantifiers (formula_view X.right) ≡ slots_from (length parameters) X.loops.items
+  pub slots : quantifiers (formula_view X.right) ≡ slots_from (length parameters) X.loops.now
   pub kept : KeepsLimits (bare_program callees parameters X) (formula_view X.right)
 
 -- each of them, in order

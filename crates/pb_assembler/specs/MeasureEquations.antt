@@ -1,6 +1,5 @@
--- How much the code of whole equations takes, and that equations are the normal forms of a text's.
-use Rattle.std.specs.Prelude.{◌≡◌, ℕ, suc, ◌+◌, min, List, map, length, Some, Vec}
-use Rattle.std.specs.Global.{Global}
+-- How much the code of whole equations takes.
+use Rattle.std.specs.Prelude.{◌≡◌, ℕ, suc, ◌+◌, min, List, map, length, Some}
 use Rattle.std.specs.List.{slice_get}
 use Rattle.pb_sorts.specs.declared.carrier.Carrier.{Carrier}
 use Rattle.pb_sorts.specs.declared.limits.TheConstants.{MAX_LOOP_SLOTS, MAX_INSTRUCTIONS}
@@ -8,19 +7,16 @@ use Rattle.pb_text_meaning.specs.Syntax as syntax
 use Rattle.pb_text_meaning.specs.Syntax.{Spec}
 use Rattle.pb_bytecode_program.specs.declared.limits.TheConstants.{MAX_OPERANDS, MAX_BRACKETS, MAX_LOOPS, MAX_STEPS, MAX_TOKENS}
 use Rattle.pb_bytecode_program.specs.Machine.{Program}
-use Rattle.pb_normal.specs.Answer.{normal_equations}
 use Rattle.pb_normal.specs.Equations.{normal_equation}
-use Rattle.pb_normal.specs.Loops.{equation_loops}
-use Rattle.pb_normal.specs.View.{formula_view, right_views, shapes_of}
+use Rattle.pb_normal.specs.View.{formula_view, shapes_of}
 use Rattle.pb_normal.specs.declared.normal.Equation.{Equation}
 use Rattle.pb_assembler_scheme.specs.Correct.{IsCompiled}
 use Rattle.pb_assembler_accepted.specs.Limits.{KeepsLimits}
-use Rattle.pb_assembler_accepted.specs.Made.{IsMadeOf, parameter_shapes}
+use Rattle.pb_assembler_accepted.specs.Made.{IsMadeOf}
 use Rattle.pb_assembler.specs.declared.first_excess.Excess.{Excess}
 use Rattle.pb_assembler.specs.declared.measures.Measures.{Measures}
 use Rattle.pb_assembler.specs.declared.measure_tally.Tally.{Tally}
 use Rattle.pb_assembler.specs.Excess.{AreMeasures, IsFirstExcess}
-use Rattle.pb_assembler.specs.MeasureFormulas.{callees_of}
 
 -- a right side's, in its outermost bracket and with END behind it
 abbrev pub equation_measures : Tally → (slots : ℕ) → Measures
@@ -37,29 +33,18 @@ equation_measures t slots = record {
 -- the scheme's program of an equation: it has the equation's loops, and what it calls has parameters of these shapes
 pub record IsProgram (parameters : List (List Carrier)) (X : Equation) (p : Program) : Type 0 where
   pub compiled : IsCompiled p (formula_view X.right)
-  pub loops : length p.loops ≡ length X.loops.items
+  pub loops : length p.loops ≡ length X.loops.now
   pub callees : map shapes_of p.callees ≡ map shapes_of parameters
 
 -- these are the measures of each program of the equation
 abbrev pub AreMeasuresOf : Measures → List (List Carrier) → Equation → Type 0
 AreMeasuresOf m parameters X = (p : Program) → IsProgram parameters X p → AreMeasures m p (formula_view X.right)
 
--- the equations are a text's in positive normal form, and these are the carriers of their parameters
-pub record AreNormalForms (spec : Spec) (carriers : List (Vec Carrier Global)) (equations : List Equation) : Type 0 where
-  pub rights : right_views equations ≡ normal_equations spec
-  pub loops :
-      map (λ (X : Equation). shapes_of X.loops.items) equations ≡ map (equation_loops spec) spec.equations
-  pub parameters : map shapes_of (callees_of carriers) ≡ parameter_shapes spec spec.equations
-
 -- the code of each of a text's equations keeps the machine's limits
 abbrev pub EachKeepsLimits : Spec → Type 0
 EachKeepsLimits spec =
     (k : ℕ) (X : syntax.Equation) → slice_get spec.equations k ≡ Some X → (p : Program) → IsMadeOf spec X p
     → KeepsLimits p (normal_equation spec X)
-
--- of each text whose normal forms these are
-abbrev pub OfEachText : List (Vec Carrier Global) → List Equation → (Spec → Type 0) → Type 0
-OfEachText carriers equations P = (spec : Spec) → AreNormalForms spec carriers equations → P spec
 
 abbrev pub IsExcess : Spec → Excess → Type 0
 IsExcess spec excess = IsFirstExcess spec excess.limit excess.equation

@@ -1,6 +1,5 @@
 -- How much the code of a formula takes.
-use Rattle.std.specs.Prelude.{ℕ, suc, ◌+◌, ◌*◌, max, Bool, true, false, List, [], ◌∷◌, length, map, Option, Some, None, is_some, nat_le, if◌then◌else◌, Vec}
-use Rattle.std.specs.Global.{Global}
+use Rattle.std.specs.Prelude.{ℕ, suc, ◌+◌, ◌*◌, max, Bool, true, false, List, [], ◌∷◌, length, Option, Some, None, is_some, nat_le, if◌then◌else◌}
 use Rattle.std.specs.List.{slice_get}
 use Rattle.std.specs.Option.{option_map}
 use Rattle.pb_sorts.specs.Carrier.{values_of}
@@ -117,10 +116,6 @@ formula_tally callees around (Join m f g) =
     (formula_tally callees around f) (formula_tally callees around g) (formula_tally callees m f) (formula_tally callees m g)
 formula_tally callees around (Each m s shape f) = under_tally m around (looped (shape_size shape) (formula_tally callees m f))
 formula_tally callees around (Call equation xs) = call_tally (parameters (slice_get callees equation)) xs
-
--- the carriers of each equation's parameters, as the code has them
-abbrev pub callees_of : List (Vec Carrier Global) → List (List Carrier)
-callees_of = map (λ (v : Vec Carrier Global). v.items)
 
 -- ---- chains of one connective
 

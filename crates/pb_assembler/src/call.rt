@@ -2,8 +2,7 @@
 
 ghost use Rattle.std.specs.Prelude.{◌≡◌, ◌<◌, ◌&&◌, true, false, length, map, option_map, Option};
 ghost use Rattle.std.specs.Prelude.{Some, None, OnOk};
-ghost use Rattle.pb_normal.specs.View.{argument_view};
-ghost use Rattle.pb_typing.specs.View.{shape_view};
+ghost use Rattle.pb_typed_tree.specs.View.{argument_view, shape_view};
 ghost use Rattle.pb_assembler_scheme.specs.Pieces.{Guard};
 ghost use Rattle.pb_assembler_scheme.specs.Scheme.{any_tested, arguments_piece, call_piece};
 ghost use Rattle.pb_assembler_scheme.specs.Scheme.{tested_range};
@@ -15,9 +14,8 @@ use crate::builder::{Builder, Label};
 use crate::emission::emit_plain;
 use crate::term::emit_term;
 use pb_bytecode_program::{Leaf, Op};
-use pb_normal::Argument;
 use pb_sorts::{Carrier, Range};
-use pb_typing::Shape;
+use pb_typed_tree::{Argument, Shape};
 use std::alloc::AllocError;
 
 /// The range that an argument is tested for: its parameter's, unless all that is known of the

@@ -1,7 +1,6 @@
 //! Code of whole equations.
 
 ghost use Rattle.std.specs.Prelude.{◌≡◌, ◌≤◌, true, length, IfOk};
-ghost use Rattle.pb_sorts.specs.Layout.{lists_of};
 ghost use Rattle.pb_sorts.specs.declared.limits.TheConstants.{MAX_INSTRUCTIONS};
 ghost use Rattle.pb_normal.specs.View.{formula_view};
 ghost use Rattle.pb_assembler_scheme.specs.Scheme.{equation_code};
@@ -13,7 +12,7 @@ use crate::formula::{connective_of, emit_formula};
 use crate::measure_equation::outermost;
 use pb_bytecode_program::Op;
 use pb_normal::Formula;
-use pb_sorts::Carrier;
+use pb_sorts::Layout;
 use std::alloc::{AllocError, Global};
 
 /// The code of an equation with this right side, where the equations have these parameters: its
@@ -23,20 +22,20 @@ use std::alloc::{AllocError, Global};
 /// Memory was refused.
 pub(crate) fn equation_code(
     alloc: Global,
-    callees: &[Vec<Carrier>],
-    right: &Formula,
+    layout: &Layout,
+    right: &Formula<'_>,
     instructions: usize,
 ) -> Result<Vec<Op>, AllocError>
     requires small { is_small_formula (formula_view right.now) ≡ true }
-    requires few { length (equation_code (lists_of callees.now) (formula_view right.now))
+    requires few { length (equation_code layout.now (formula_view right.now))
         ≤ MAX_INSTRUCTIONS }
     ensures { IfOk result (λ code. code.items
-        ≡ equation_code (lists_of callees.now) (formula_view right.now)) }
+        ≡ equation_code layout.now (formula_view right.now)) }
 {
     let kind = outermost(right);
     let mut builder = Builder::with_capacity(alloc, instructions)?;
     emit_plain(&mut builder, Op::Open(connective_of(kind)))?;
-    emit_formula(&mut builder, callees, kind, right)?;
+    emit_formula(&mut builder, layout, kind, right)?;
     emit_plain(&mut builder, Op::Close)?;
     emit_plain(&mut builder, Op::End)?;
     match builder.finish() {

@@ -1,13 +1,10 @@
 //! From normal forms to modules.
 
-ghost use Rattle.std.specs.Prelude.{◌≡◌, true, map, IfOk, IfErr};
-ghost use Rattle.pb_sorts.specs.Layout.{lists_of};
+ghost use Rattle.std.specs.Prelude.{◌≡◌, true, IfOk, IfErr};
 ghost use Rattle.pb_text_tree.specs.Form.{spec_form};
 ghost use Rattle.pb_text_meaning.specs.Erase.{erase};
 ghost use Rattle.pb_bytecode.specs.Decoded.{module_contents};
 ghost use Rattle.pb_normal.specs.Text.{said};
-ghost use Rattle.pb_normal.specs.View.{shapes_of};
-ghost use Rattle.pb_assembler_accepted.specs.Made.{parameter_shapes};
 ghost use Rattle.pb_assembler_modules.specs.Module.{IsCompiledModule, KeepsAllLimits};
 ghost use Rattle.pb_assembler.specs.Excess.{IsFirstExcess};
 ghost use Rattle.pb_assembler.specs.MeasureEquations.{EachKeepsLimits};
@@ -15,26 +12,17 @@ ghost use Rattle.pb_text_names.specs.ModuleNames.{has_names};
 ghost use Rattle.pb_assembler.specs.Refusal.{IsRefusal};
 
 use crate::compile_error::CompileError;
-use crate::declared::read_declarations;
 use crate::equation::compile_equations;
 use crate::first_excess::first_excess_of;
 use crate::initial::initial;
 use crate::name::has_names;
-use crate::parameter::all_parameter_carriers;
 use crate::sort::sorts;
 use pb_bytecode::{Module, Version};
 use pb_normal::Normal;
-use pb_sorts::Carrier;
 use std::alloc::{AllocError, Global};
 
-/// The module of a text's normal form, whose equations have these parameters.
-fn module_of(
-    alloc: Global,
-    normal: &Normal<'_>,
-    callees: &[Vec<Carrier>],
-) -> Result<Module, AllocError>
-    requires parameters { map shapes_of (lists_of callees.now)
-        ≡ parameter_shapes (said normal.now.typed.now) (said normal.now.typed.now).equations }
+/// The module of a text's normal form.
+fn module_of(alloc: Global, normal: &Normal<'_>) -> Result<Module, AllocError>
     requires named { has_names (said normal.now.typed.now) ≡ true }
     requires kept { EachKeepsLimits (said normal.now.typed.now) }
     ensures module { IfOk result (λ m. IsCompiledModule (said normal.now.typed.now)
@@ -48,8 +36,9 @@ fn module_of(
     pb_normal::limits::shapes_are_declared();
     pb_normal::limits::initial_instances_are_there();
     let spec = &normal.typed.spec;
+    let layout = &normal.typed.layout;
     let sorts = sorts(alloc, &spec.sorts)?;
-    let equations = compile_equations(alloc, callees, &spec.equations, &normal.equations)?;
+    let equations = compile_equations(alloc, layout, &spec.equations, &normal.equations)?;
     let initial = initial(alloc, normal)?;
     Ok(Module {
         version: Version::One,
@@ -79,19 +68,16 @@ pub fn compile(alloc: Global, normal: &Normal<'_>) -> Result<Module, CompileErro
     ensures refused { IfErr result (λ e. let spec = erase
         (spec_form normal.now.typed.now.spec) in IsRefusal spec (IsFirstExcess spec) e) }
 {
-    let spec = &normal.typed.spec;
-    let declarations = read_declarations(alloc, normal.typed)?;
-    let callees = all_parameter_carriers(alloc, &declarations, &spec.equations)?;
-    if let Some(excess) = first_excess_of(&callees, &normal.equations) {
+    if let Some(excess) = first_excess_of(normal) {
         return Err(CompileError::Limit {
             limit: excess.limit,
             equation: excess.equation,
         });
     }
-    if !has_names(spec) {
+    if !has_names(&normal.typed.spec) {
         return Err(CompileError::Name);
     }
-    match module_of(alloc, normal, &callees) {
+    match module_of(alloc, normal) {
         Ok(module) => Ok(module),
         Err(error) => Err(CompileError::Memory(error)),
     }

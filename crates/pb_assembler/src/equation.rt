@@ -2,7 +2,6 @@
 
 ghost use Rattle.std.specs.Prelude.{◌≡◌, ◌++◌, ◌∷◌, [], true, map, IfOk, OnOk};
 ghost use Rattle.std.specs.List.{list_all};
-ghost use Rattle.pb_sorts.specs.Layout.{lists_of};
 ghost use Rattle.pb_text_tree.specs.Form.{equation_form};
 ghost use Rattle.pb_bytecode.specs.Views.{equation_contents};
 ghost use Rattle.pb_assembler.specs.Compiled.{all_compiled, compiled_contents};
@@ -13,7 +12,7 @@ use crate::code::equation_code;
 use crate::measure_equation::measure;
 use crate::name::copy_name;
 use pb_bytecode::Equation;
-use pb_sorts::Carrier;
+use pb_sorts::{Carrier, Layout};
 use std::alloc::{AllocError, Global};
 
 /// Adds a carrier.
@@ -41,23 +40,23 @@ fn copy_carriers(alloc: Global, carriers: &[Carrier]) -> Result<Vec<Carrier>, Al
 /// exactly its static counts.
 fn compile_equation(
     alloc: Global,
-    callees: &[Vec<Carrier>],
+    layout: &Layout,
     parameters: &[Carrier],
     text: &pb_text_tree::Equation,
-    normal: &pb_normal::Equation,
+    normal: &pb_normal::Equation<'_>,
 ) -> Result<Equation, AllocError>
-    requires { IsReady (lists_of callees.now) parameters.now (equation_form text.now) normal.now }
+    requires { IsReady layout.now parameters.now (equation_form text.now) normal.now }
     ensures contents { IfOk result (λ X. equation_contents X
-        ≡ compiled_contents (lists_of callees.now) parameters.now
+        ≡ compiled_contents layout.now parameters.now
         (equation_form text.now) normal.now) }
     ensures fields { IfOk result (λ X. has_fitting_carriers (equation_contents X) ≡ true) }
 {
-    let measures = measure(callees, normal);
+    let measures = measure(layout, normal);
     let name = copy_name(alloc, &text.name.text)?;
     let parameters = copy_carriers(alloc, parameters)?;
-    let loops = copy_carriers(alloc, &normal.loops)?;
+    let loops = copy_carriers(alloc, normal.loops)?;
     let instructions = measures.instructions as usize;
-    let code = equation_code(alloc, callees, &normal.right, instructions)?;
+    let code = equation_code(alloc, layout, &normal.right, instructions)?;
     Ok(Equation {
         sign: text.sign,
         name,
@@ -75,21 +74,22 @@ fn compile_equation(
 /// Memory was refused.
 pub(crate) fn compile_equations(
     alloc: Global,
-    callees: &[Vec<Carrier>],
+    layout: &Layout,
     texts: &[pb_text_tree::Equation],
-    normals: &[pb_normal::Equation],
+    normals: &[pb_normal::Equation<'_>],
 ) -> Result<Vec<Equation>, AllocError>
-    requires { AreReady (lists_of callees.now) (lists_of callees.now)
+    requires { AreReady layout.now layout.now
         (map equation_form texts.now) normals.now }
     ensures contents { IfOk result (λ equations. map equation_contents equations.items
-        ≡ all_compiled (lists_of callees.now) (lists_of callees.now)
+        ≡ all_compiled layout.now layout.now
         (map equation_form texts.now) normals.now) }
     ensures fields { IfOk result (λ equations. list_all has_fitting_carriers
         (map equation_contents equations.items) ≡ true) }
 {
     let mut equations = Vec::with_capacity(alloc, normals.len())?;
     for (place, normal) in normals.iter().enumerate() {
-        let equation = compile_equation(alloc, callees, &callees[place], &texts[place], normal)?;
+        let parameters = layout.carriers(place);
+        let equation = compile_equation(alloc, layout, parameters, &texts[place], normal)?;
         equations.push(equation)?;
     }
     Ok(equations)

@@ -1,13 +1,13 @@
 //! The first equation of a text whose code exceeds a limit of the machine.
 
 ghost use Rattle.std.specs.Prelude.{IfNone, IfSome};
-ghost use Rattle.pb_assembler.specs.MeasureEquations.{EachKeepsLimits, IsExcess, OfEachText};
+ghost use Rattle.pb_normal.specs.Text.{said};
+ghost use Rattle.pb_assembler.specs.MeasureEquations.{EachKeepsLimits, IsExcess};
 
 use crate::measure_equation::measure;
 use crate::measures::first_excess;
 use pb_bytecode::Limit;
-use pb_normal::Equation;
-use pb_sorts::Carrier;
+use pb_normal::Normal;
 
 /// A limit that the code of an equation exceeds. The equation is given by its place.
 #[derive(Clone, Copy, Debug, PartialEq, Eq)]
@@ -16,17 +16,15 @@ pub(crate) struct Excess {
     pub equation: usize,
 }
 
-/// The first equation whose code exceeds a limit, with the least of its limits, where the
-/// equations' parameters have these carriers.
-pub(crate) fn first_excess_of(callees: &[Vec<Carrier>], equations: &[Equation]) -> Option<Excess>
-    ensures kept { OfEachText callees.now equations.now
-        (λ spec. IfNone result (EachKeepsLimits spec)) }
-    ensures exceeded { OfEachText callees.now equations.now
-        (λ spec. IfSome result (IsExcess spec)) }
+/// The first equation of a text whose code exceeds a limit, with the least of its limits.
+pub(crate) fn first_excess_of(normal: &Normal<'_>) -> Option<Excess>
+    ensures kept { IfNone result (EachKeepsLimits (said normal.now.typed.now)) }
+    ensures exceeded { IfSome result (IsExcess (said normal.now.typed.now)) }
 {
+    let layout = &normal.typed.layout;
     let mut place = 0;
-    while place < equations.len() {
-        match first_excess(&measure(callees, &equations[place])) {
+    while place < normal.equations.len() {
+        match first_excess(&measure(layout, &normal.equations[place])) {
             Some(limit) => {
                 return Some(Excess {
                     limit,

@@ -2,24 +2,25 @@
 
 ghost use Rattle.std.specs.Prelude.{◌≡◌, not, true, length, map, option_map, Option, None, IfSome};
 ghost use Rattle.std.specs.Prelude.{OnOk};
-ghost use Rattle.pb_sorts.specs.Layout.{lists_of};
-ghost use Rattle.pb_typed_tree.specs.View.{chained, term_view};
+ghost use Rattle.pb_typed_tree.specs.View.{chained};
 ghost use Rattle.pb_normal.specs.Normal.{Join};
 ghost use Rattle.pb_normal.specs.View.{formula_view, formula_views, is_and, is_forall};
 ghost use Rattle.pb_normal.specs.View.{nested};
-ghost use Rattle.pb_assembler_scheme.specs.Scheme.{connective_of, deciding, formula_piece, test_of};
+ghost use Rattle.pb_assembler_scheme.specs.Scheme.{connective_of, deciding, formula_piece};
 ghost use Rattle.pb_assembler_scheme.specs.Scheme.{test_piece};
 ghost use Rattle.pb_assembler.specs.Emitted.{Emits, nowhere};
 ghost use Rattle.pb_assembler.specs.Operands.{early_test, IsLeft};
+ghost use Rattle.pb_assembler.specs.Tests.{tested_term};
 ghost use Rattle.pb_normal.specs.Small.{is_small, is_small_formula};
 
 use crate::builder::Builder;
 use crate::call::emit_call;
+use crate::callee::parameters_of;
 use crate::emission::emit_plain;
-use crate::term::emit_term;
+use crate::test::{Test, as_test, emit_tested};
 use pb_bytecode_program::{Connective, Leaf, Op};
-use pb_normal::{Formula, Junction, Term};
-use pb_sorts::Carrier;
+use pb_normal::{Formula, Junction};
+use pb_sorts::{Carrier, Layout};
 use pb_text_tree::Quantifier;
 use std::alloc::AllocError;
 
@@ -63,38 +64,14 @@ pub(crate) fn junction_of(quantifier: Quantifier) -> Junction
     }
 }
 
-/// The test that a formula is, if it is one.
-fn as_test(formula: &Formula) -> Option<&Term>
-    ensures { option_map (λ t. term_view t.now) result ≡ test_of (formula_view formula.now) }
-{
-    match formula {
-        Formula::Test(term) => Some(term),
-        Formula::Join { first, rest, .. } => {
-            if rest.is_empty() {
-                as_test(first)
-            } else {
-                None
-            }
-        }
-        Formula::Each { carriers, body, .. } => {
-            if carriers.is_empty() {
-                as_test(body)
-            } else {
-                None
-            }
-        }
-        Formula::Call { .. } => None,
-    }
-}
-
 /// The test that decides first whether the other operands run, and those operands, where an operand
 /// of the first pair is a test.
-fn early_test<'a>(
-    first: &'a Formula,
-    rest: &'a [Formula],
-) -> Option<(&'a Term, &'a Formula, &'a [Formula])>
+fn early_test<'a, 't>(
+    first: &'a Formula<'t>,
+    rest: &'a [Formula<'t>],
+) -> Option<(Test<'t>, &'a Formula<'t>, &'a [Formula<'t>])>
     ensures views { option_map (λ r. (
-      term_view r.0.now,
+      tested_term r.0,
       (formula_view r.1.now, formula_views r.2.now),
     )) result
         ≡ early_test (formula_view first.now) (formula_views rest.now) }
@@ -123,25 +100,28 @@ fn early_test<'a>(
 #[cycle(formulas)]
 pub(crate) fn emit_formula(
     builder: &mut Builder,
-    callees: &[Vec<Carrier>],
+    layout: &Layout,
     around: Junction,
-    formula: &Formula,
+    formula: &Formula<'_>,
 ) -> Result<(), AllocError>
     requires { is_small_formula (formula_view formula.now) ≡ true }
-    ensures { OnOk result (Emits (formula_piece (lists_of callees.now) (is_and around)
+    ensures { OnOk result (Emits (formula_piece layout.now (is_and around)
         (formula_view formula.now)) nowhere builder.old builder.new) }
 {
     match formula {
-        Formula::Test(term) => emit_test(builder, around, term),
+        Formula::Test { polarity, term } => {
+            let polarity = *polarity;
+            emit_test(builder, around, Test { polarity, term })
+        }
         Formula::Join {
             junction,
             first,
             rest,
         } => {
             if *junction == around {
-                emit_inside(builder, callees, around, first, rest)
+                emit_inside(builder, layout, around, first, rest)
             } else {
-                emit_outside(builder, callees, around, first, rest)
+                emit_outside(builder, layout, around, first, rest)
             }
         }
         Formula::Each {
@@ -152,25 +132,25 @@ pub(crate) fn emit_formula(
         } => {
             let first = *slot;
             let slots = Slots { first, carriers };
-            emit_each(builder, callees, around, *quantifier, slots, body)
+            emit_each(builder, layout, around, *quantifier, slots, body)
         }
         Formula::Call {
             equation,
             arguments,
-        } => match callees.get(*equation) {
-            Some(carriers) => emit_call(builder, *equation, carriers, arguments),
-            None => emit_call(builder, *equation, &[], arguments),
-        },
+        } => {
+            let carriers = parameters_of(layout, *equation);
+            emit_call(builder, *equation, carriers, arguments)
+        }
     }
 }
 
 /// A test alone.
-fn emit_test(builder: &mut Builder, around: Junction, test: &Term) -> Result<(), AllocError>
-    requires { is_small (term_view test.now) ≡ true }
+fn emit_test(builder: &mut Builder, around: Junction, test: Test<'_>) -> Result<(), AllocError>
+    requires { is_small (tested_term test) ≡ true }
     ensures { OnOk result (Emits (test_piece (is_and around)
-        (term_view test.now)) nowhere builder.old builder.new) }
+        (tested_term test.entry)) nowhere builder.old builder.new) }
 {
-    emit_term(builder, test)?;
+    emit_tested(builder, test)?;
     let passed = builder.label()?;
     let jump = Op::JumpIf {
         condition: neutral(around),
@@ -193,27 +173,27 @@ struct Slots<'a> {
 #[cycle(formulas)]
 fn emit_each(
     builder: &mut Builder,
-    callees: &[Vec<Carrier>],
+    layout: &Layout,
     around: Junction,
     quantifier: Quantifier,
     slots: Slots<'_>,
-    body: &Formula,
+    body: &Formula<'_>,
 ) -> Result<(), AllocError>
     requires { is_small_formula (nested (is_forall quantifier) slots.first slots.carriers.now
         (formula_view body.now)) ≡ true }
-    ensures { OnOk result (Emits (formula_piece (lists_of callees.now) (is_and around)
+    ensures { OnOk result (Emits (formula_piece layout.now (is_and around)
         (nested (is_forall quantifier) slots.entry.first slots.entry.carriers.now
         (formula_view body.now))) nowhere builder.old builder.new) }
 {
     if slots.carriers.is_empty() {
-        return emit_formula(builder, callees, around, body);
+        return emit_formula(builder, layout, around, body);
     }
     let kind = junction_of(quantifier);
     if kind == around {
-        return emit_loops(builder, callees, quantifier, slots, body);
+        return emit_loops(builder, layout, quantifier, slots, body);
     }
     emit_plain(builder, Op::Open(connective_of(kind)))?;
-    emit_loops(builder, callees, quantifier, slots, body)?;
+    emit_loops(builder, layout, quantifier, slots, body)?;
     emit_plain(builder, Op::Close)
 }
 
@@ -221,14 +201,14 @@ fn emit_each(
 #[cycle(formulas)]
 fn emit_loops(
     builder: &mut Builder,
-    callees: &[Vec<Carrier>],
+    layout: &Layout,
     quantifier: Quantifier,
     slots: Slots<'_>,
-    body: &Formula,
+    body: &Formula<'_>,
 ) -> Result<(), AllocError>
     requires { is_small_formula (nested (is_forall quantifier) slots.first slots.carriers.now
         (formula_view body.now)) ≡ true }
-    ensures { OnOk result (Emits (formula_piece (lists_of callees.now) (is_forall quantifier)
+    ensures { OnOk result (Emits (formula_piece layout.now (is_forall quantifier)
         (nested (is_forall quantifier) slots.entry.first slots.entry.carriers.now
         (formula_view body.now))) nowhere builder.old builder.new) }
 {
@@ -239,7 +219,7 @@ fn emit_loops(
         builder.emit(Op::Loop { slot }, None)?;
         begun += 1;
     }
-    emit_formula(builder, callees, junction_of(quantifier), body)?;
+    emit_formula(builder, layout, junction_of(quantifier), body)?;
     let mut ended = 0;
     while ended < count {
         builder.emit(Op::Next, None)?;
@@ -250,16 +230,16 @@ fn emit_loops(
 
 /// Operands joined in a bracket of their kind.
 #[cycle(formulas)]
-fn emit_inside(
+fn emit_inside<'t>(
     builder: &mut Builder,
-    callees: &[Vec<Carrier>],
+    layout: &Layout,
     kind: Junction,
-    first: &Formula,
-    rest: &[Formula],
+    first: &Formula<'t>,
+    rest: &[Formula<'t>],
 ) -> Result<(), AllocError>
     requires { is_small_formula (chained (Join (is_and kind)) (formula_view first.now)
         (formula_views rest.now)) ≡ true }
-    ensures { OnOk result (Emits (formula_piece (lists_of callees.now) (is_and kind)
+    ensures { OnOk result (Emits (formula_piece layout.now (is_and kind)
         (chained (Join (is_and kind)) (formula_view first.now)
         (formula_views rest.now))) nowhere builder.old builder.new) }
 {
@@ -268,7 +248,7 @@ fn emit_inside(
     let mut behind = rest;
     while let Some((next, others)) = behind.split_first() {
         if let Some((test, guarded, more)) = early_test(left, behind) {
-            emit_term(builder, test)?;
+            emit_tested(builder, test)?;
             let passed = builder.label()?;
             let jump = Op::JumpIf {
                 condition: neutral(kind),
@@ -281,12 +261,12 @@ fn emit_inside(
             left = guarded;
             behind = more;
         } else {
-            emit_formula(builder, callees, kind, left)?;
+            emit_formula(builder, layout, kind, left)?;
             left = next;
             behind = others;
         }
     }
-    emit_formula(builder, callees, kind, left)?;
+    emit_formula(builder, layout, kind, left)?;
     builder.place(last);
     Ok(())
 }
@@ -294,16 +274,16 @@ fn emit_inside(
 /// Operands joined in a bracket of the other kind, `around`: the tests before all other operands
 /// need no bracket.
 #[cycle(formulas)]
-fn emit_outside(
+fn emit_outside<'t>(
     builder: &mut Builder,
-    callees: &[Vec<Carrier>],
+    layout: &Layout,
     around: Junction,
-    first: &Formula,
-    rest: &[Formula],
+    first: &Formula<'t>,
+    rest: &[Formula<'t>],
 ) -> Result<(), AllocError>
     requires { is_small_formula (chained (Join (not (is_and around))) (formula_view first.now)
         (formula_views rest.now)) ≡ true }
-    ensures { OnOk result (Emits (formula_piece (lists_of callees.now) (is_and around)
+    ensures { OnOk result (Emits (formula_piece layout.now (is_and around)
         (chained (Join (not (is_and around))) (formula_view first.now)
         (formula_views rest.now))) nowhere builder.old builder.new) }
 {
@@ -311,7 +291,7 @@ fn emit_outside(
     let mut left = first;
     let mut behind = rest;
     while let Some((test, guarded, more)) = early_test(left, behind) {
-        emit_term(builder, test)?;
+        emit_tested(builder, test)?;
         let jump = Op::JumpIf {
             condition: neutral(around),
             target: 0,
@@ -320,32 +300,32 @@ fn emit_outside(
         left = guarded;
         behind = more;
     }
-    emit_untested(builder, callees, around, left, behind)?;
+    emit_untested(builder, layout, around, left, behind)?;
     builder.place(last);
     Ok(())
 }
 
 /// The same, where no test comes first.
 #[cycle(formulas)]
-fn emit_untested(
+fn emit_untested<'t>(
     builder: &mut Builder,
-    callees: &[Vec<Carrier>],
+    layout: &Layout,
     around: Junction,
-    first: &Formula,
-    rest: &[Formula],
+    first: &Formula<'t>,
+    rest: &[Formula<'t>],
 ) -> Result<(), AllocError>
     requires small { is_small_formula (chained (Join (not (is_and around))) (formula_view first.now)
         (formula_views rest.now)) ≡ true }
     requires untested { early_test (formula_view first.now) (formula_views rest.now) ≡ None }
-    ensures { OnOk result (Emits (formula_piece (lists_of callees.now) (is_and around)
+    ensures { OnOk result (Emits (formula_piece layout.now (is_and around)
         (chained (Join (not (is_and around))) (formula_view first.now)
         (formula_views rest.now))) nowhere builder.old builder.new) }
 {
     if rest.is_empty() {
-        return emit_formula(builder, callees, around, first);
+        return emit_formula(builder, layout, around, first);
     }
     let kind = around.dual();
     emit_plain(builder, Op::Open(connective_of(kind)))?;
-    emit_inside(builder, callees, kind, first, rest)?;
+    emit_inside(builder, layout, kind, first, rest)?;
     emit_plain(builder, Op::Close)
 }

@@ -19,6 +19,14 @@ fn push_value(values: &mut Vec<i64>, value: i64) -> Result<(), AllocError>
     Ok(())
 }
 
+/// The place of an equation.
+fn copy_place(place: u8) -> u8
+    ensures same { result ≡ place }
+    ensures fits { is_byte result ≡ true }
+{
+    place
+}
+
 /// The initial instance of a text.
 ///
 /// # Errors
@@ -31,12 +39,10 @@ pub(crate) fn initial(alloc: Global, normal: &Normal<'_>) -> Result<Initial, All
     ensures words { IfOk result (λ i. list_all is_i64 i.values.items ≡ true) }
 {
     let instance = &normal.typed.initial;
+    let equation = copy_place(instance.equation);
     let mut values = Vec::with_capacity(alloc, instance.values.len())?;
     for value in &instance.values {
         push_value(&mut values, *value)?;
     }
-    Ok(Initial {
-        equation: instance.equation,
-        values,
-    })
+    Ok(Initial { equation, values })
 }

@@ -6,10 +6,10 @@
 
 pub mod builder;
 mod call;
+mod callee;
 mod code;
 pub mod compile_error;
 pub mod compiler;
-mod declared;
 mod emission;
 mod equation;
 mod first_excess;
@@ -25,9 +25,9 @@ mod measure_term;
 pub mod measures;
 mod name;
 mod operator;
-mod parameter;
 mod sort;
 mod term;
+mod test;
 
 pub use builder::{Builder, Label};
 pub use compile_error::CompileError;

@@ -3,7 +3,6 @@
 ghost use Rattle.std.specs.Prelude.{◌≡◌};
 ghost use Rattle.pb_normal.specs.View.{formula_view, is_and};
 ghost use Rattle.pb_assembler_scheme.specs.Scheme.{head};
-ghost use Rattle.pb_assembler.specs.MeasureFormulas.{callees_of};
 ghost use Rattle.pb_assembler.specs.MeasureEquations.{AreMeasuresOf, equation_measures};
 
 use crate::formula::junction_of;
@@ -13,7 +12,7 @@ use crate::measure_tally::Tally;
 use crate::measures::Measures;
 use pb_bytecode_program::{MAX_BRACKETS, MAX_LOOPS, MAX_OPERANDS, MAX_TOKENS};
 use pb_normal::{Equation, Formula, Junction};
-use pb_sorts::{Carrier, MAX_INSTRUCTIONS, MAX_LOOP_SLOTS};
+use pb_sorts::{Layout, MAX_INSTRUCTIONS, MAX_LOOP_SLOTS};
 
 /// The measures of an equation's code, given those of its right side and how many loop slots there
 /// are.
@@ -33,11 +32,11 @@ fn bounded(tally: Tally, slots: usize) -> Measures
 
 /// The kind of the outermost bracket of a formula's code.
 #[cycle(heads)]
-pub(crate) fn outermost(formula: &Formula) -> Junction
+pub(crate) fn outermost(formula: &Formula<'_>) -> Junction
     ensures { is_and result ≡ head (formula_view formula.now) }
 {
     match formula {
-        Formula::Test(_) | Formula::Call { .. } => Junction::Or,
+        Formula::Test { .. } | Formula::Call { .. } => Junction::Or,
         Formula::Join {
             junction,
             first,
@@ -66,9 +65,9 @@ pub(crate) fn outermost(formula: &Formula) -> Junction
 
 /// How much the code of an equation takes, where the equations have these parameters. It is counted
 /// before any code is made, in one pass over the normal form.
-pub(crate) fn measure(callees: &[Vec<Carrier>], equation: &Equation) -> Measures
-    ensures { AreMeasuresOf result (callees_of callees.now) equation.now }
+pub(crate) fn measure(layout: &Layout, equation: &Equation<'_>) -> Measures
+    ensures { AreMeasuresOf result layout.now equation.now }
 {
-    let tally = measure_formula(callees, outermost(&equation.right), &equation.right);
+    let tally = measure_formula(layout, outermost(&equation.right), &equation.right);
     bounded(tally, equation.loops.len())
 }

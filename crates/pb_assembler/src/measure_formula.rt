@@ -2,18 +2,17 @@
 
 ghost use Rattle.std.specs.Prelude.{◌≡◌, ◌<◌, ◌||◌, ℕ, Bool, None, drop, length, map};
 ghost use Rattle.std.specs.List.{slice_get};
-ghost use Rattle.pb_typed_tree.specs.View.{chained};
+ghost use Rattle.pb_typed_tree.specs.View.{argument_view, chained};
 ghost use Rattle.pb_normal.specs.Normal.{Call, Join};
-ghost use Rattle.pb_normal.specs.View.{argument_view, formula_view, formula_views, is_and};
-ghost use Rattle.pb_normal.specs.View.{is_forall, nested};
+ghost use Rattle.pb_normal.specs.View.{formula_view, formula_views, is_and, is_forall, nested};
 ghost use Rattle.pb_assembler_scheme.specs.Scheme.{any_tested, parameters, test_of};
-ghost use Rattle.pb_typing.specs.View.{shape_view};
 ghost use Rattle.pb_assembler.specs.MeasureTerms.{capped_load};
-ghost use Rattle.pb_assembler.specs.MeasureFormulas.{arguments_load, call_tally, callees_of};
+ghost use Rattle.pb_assembler.specs.MeasureFormulas.{arguments_load, call_tally};
 ghost use Rattle.pb_assembler.specs.MeasureFormulas.{capped_tally, form_chain, formula_tally};
 ghost use Rattle.pb_assembler.specs.MeasureFormulas.{is_tested, kind_at, kind_behind, kind_by};
 ghost use Rattle.pb_assembler.specs.MeasureFormulas.{leading_tests, load_by};
 
+use crate::callee::parameters_of;
 use crate::formula::junction_of;
 use crate::measure_load::Load;
 use crate::measure_tally::{
@@ -21,9 +20,11 @@ use crate::measure_tally::{
     under_tally,
 };
 use crate::measure_term::measure_term;
-use pb_normal::{Argument, Formula, Junction};
-use pb_sorts::Carrier;
+use crate::test::{Test, as_test, measure_tested};
+use pb_normal::{Formula, Junction};
+use pb_sorts::{Carrier, Layout};
 use pb_text_tree::Quantifier;
+use pb_typed_tree::Argument;
 
 /// Whether an argument at a place is tested for its parameter's range.
 fn tested_at(carriers: &[Carrier], place: usize, argument: &Argument) -> bool
@@ -62,47 +63,26 @@ fn measure_arguments(carriers: &[Carrier], arguments: &[Argument]) -> (bool, Loa
 }
 
 /// How much the code of a call takes.
-fn measure_call(callees: &[Vec<Carrier>], equation: usize, arguments: &[Argument]) -> Tally
-    ensures { result ≡ capped_tally (call_tally
-        (parameters (slice_get (callees_of callees.now) equation))
+fn measure_call(layout: &Layout, equation: usize, arguments: &[Argument]) -> Tally
+    ensures { result ≡ capped_tally (call_tally (parameters (slice_get layout.now equation))
         (map argument_view arguments.now)) }
 {
-    if equation < callees.len() {
-        let (any, load) = measure_arguments(&callees[equation], arguments);
-        ended_call(any, load)
-    } else {
-        let (any, load) = measure_arguments(&[], arguments);
-        ended_call(any, load)
-    }
+    let (any, load) = measure_arguments(parameters_of(layout, equation), arguments);
+    ended_call(any, load)
 }
 
-/// How much the code of a test's term takes, where a formula is one test.
-#[cycle(loads)]
-fn test_load(formula: &Formula) -> Option<Load>
+/// How much the code of a test's value takes, where a formula is a test.
+fn test_load(formula: &Formula<'_>) -> Option<Load>
     ensures { result ≡ load_by (test_of (formula_view formula.now)) }
 {
-    match formula {
-        Formula::Test(term) => Some(measure_term(term)),
-        Formula::Join { first, rest, .. } => {
-            if rest.is_empty() {
-                test_load(first)
-            } else {
-                None
-            }
-        }
-        Formula::Each { carriers, body, .. } => {
-            if carriers.is_empty() {
-                test_load(body)
-            } else {
-                None
-            }
-        }
-        Formula::Call { .. } => None,
+    match as_test(formula) {
+        Some(test) => Some(measure_tested(test)),
+        None => None,
     }
 }
 
 /// The kind of the bracket that is open behind an operand of a chain.
-fn kind_behind(junction: Junction, around: Junction, operand: &Formula) -> Junction
+fn kind_behind(junction: Junction, around: Junction, operand: &Formula<'_>) -> Junction
     ensures { is_and result ≡ kind_behind (is_and junction) (is_and around)
         (formula_view operand.now) }
 {
@@ -113,7 +93,7 @@ fn kind_behind(junction: Junction, around: Junction, operand: &Formula) -> Junct
 }
 
 /// How many operands are tests, up to the first that is none.
-fn leading_tests(operands: &[Formula]) -> usize
+fn leading_tests(operands: &[Formula<'_>]) -> usize
     ensures { result ≡ leading_tests operands.now }
 {
     let mut count = 0;
@@ -136,52 +116,51 @@ fn kind_at(junction: Junction, kind: Junction, leading: usize, place: usize) -> 
 
 /// How much the code of a formula takes, in a bracket of this kind.
 #[cycle(formulas)]
-pub(crate) fn measure_formula(
-    callees: &[Vec<Carrier>],
-    around: Junction,
-    formula: &Formula,
-) -> Tally
-    ensures { result ≡ capped_tally (formula_tally (callees_of callees.now) (is_and around)
+pub(crate) fn measure_formula(layout: &Layout, around: Junction, formula: &Formula<'_>) -> Tally
+    ensures { result ≡ capped_tally (formula_tally layout.now (is_and around)
         (formula_view formula.now)) }
 {
     match formula {
-        Formula::Test(term) => test_tally(measure_term(term)),
+        Formula::Test { polarity, term } => {
+            let polarity = *polarity;
+            test_tally(measure_tested(Test { polarity, term }))
+        }
         Formula::Join {
             junction,
             first,
             rest,
-        } => measure_join(callees, *junction, around, first, rest),
+        } => measure_join(layout, *junction, around, first, rest),
         Formula::Each {
             quantifier,
             carriers,
             body,
             ..
-        } => measure_each(callees, *quantifier, around, carriers, body),
+        } => measure_each(layout, *quantifier, around, carriers, body),
         Formula::Call {
             equation,
             arguments,
-        } => measure_call(callees, *equation, arguments),
+        } => measure_call(layout, *equation, arguments),
     }
 }
 
 /// A quantifier over variables of these carriers.
 #[cycle(formulas)]
 fn measure_each(
-    callees: &[Vec<Carrier>],
+    layout: &Layout,
     quantifier: Quantifier,
     around: Junction,
     carriers: &[Carrier],
-    body: &Formula,
+    body: &Formula<'_>,
 ) -> Tally
     ensures { (slot : ℕ) → result ≡ capped_tally
-        (formula_tally (callees_of callees.now) (is_and around)
+        (formula_tally layout.now (is_and around)
         (nested (is_forall quantifier) slot carriers.now (formula_view body.now))) }
 {
     if carriers.is_empty() {
-        return measure_formula(callees, around, body);
+        return measure_formula(layout, around, body);
     }
     let kind = junction_of(quantifier);
-    let mut tally = measure_formula(callees, kind, body);
+    let mut tally = measure_formula(layout, kind, body);
     let mut left = carriers.len();
     while left > 0 {
         left -= 1;
@@ -202,53 +181,53 @@ struct Chain {
 /// An operand of a chain in front of those from a place on, which are measured.
 #[cycle(formulas)]
 fn measure_link(
-    callees: &[Vec<Carrier>],
+    layout: &Layout,
     chain: Chain,
-    operand: &Formula,
-    operands: &[Formula],
+    operand: &Formula<'_>,
+    operands: &[Formula<'_>],
     place: usize,
     rest: Tally,
 ) -> Tally
     requires some { place < length operands.now }
-    requires rest { rest ≡ capped_tally (formula_tally (callees_of callees.now)
+    requires rest { rest ≡ capped_tally (formula_tally layout.now
         (kind_behind (is_and chain.junction) (is_and chain.around) (formula_view operand.now))
         (form_chain (is_and chain.junction) (drop place operands.now))) }
-    ensures { result ≡ capped_tally (formula_tally (callees_of callees.now) (is_and chain.around)
+    ensures { result ≡ capped_tally (formula_tally layout.now (is_and chain.around)
         (Join (is_and chain.junction) (formula_view operand.now)
         (form_chain (is_and chain.junction) (drop place operands.now)))) }
 {
     match test_load(operand) {
         Some(load) => tested_tally(chain.junction, chain.around, load, rest),
-        None => measure_untested(callees, chain, operand, operands, place, rest),
+        None => measure_untested(layout, chain, operand, operands, place, rest),
     }
 }
 
 /// An operand of a chain that is no test.
 #[cycle(formulas)]
 fn measure_untested(
-    callees: &[Vec<Carrier>],
+    layout: &Layout,
     chain: Chain,
-    operand: &Formula,
-    operands: &[Formula],
+    operand: &Formula<'_>,
+    operands: &[Formula<'_>],
     place: usize,
     rest: Tally,
 ) -> Tally
     requires some { place < length operands.now }
     requires untested { None ≡ load_by (test_of (formula_view operand.now)) }
-    requires rest { rest ≡ capped_tally (formula_tally (callees_of callees.now)
+    requires rest { rest ≡ capped_tally (formula_tally layout.now
         (kind_behind (is_and chain.junction) (is_and chain.around) (formula_view operand.now))
         (form_chain (is_and chain.junction) (drop place operands.now))) }
-    ensures { result ≡ capped_tally (formula_tally (callees_of callees.now) (is_and chain.around)
+    ensures { result ≡ capped_tally (formula_tally layout.now (is_and chain.around)
         (Join (is_and chain.junction) (formula_view operand.now)
         (form_chain (is_and chain.junction) (drop place operands.now)))) }
 {
     match last_test(operands, place) {
         Some(load) => {
-            let own = measure_formula(callees, chain.around, operand);
+            let own = measure_formula(layout, chain.around, operand);
             tested_tally(chain.junction, chain.around, load, own)
         }
         None => {
-            let own = measure_formula(callees, chain.junction, operand);
+            let own = measure_formula(layout, chain.junction, operand);
             let both = after(own, rest);
             under_tally(chain.junction, chain.around, both)
         }
@@ -258,23 +237,23 @@ fn measure_untested(
 /// Operands of one connective, the last one first.
 #[cycle(formulas)]
 fn measure_join(
-    callees: &[Vec<Carrier>],
+    layout: &Layout,
     junction: Junction,
     around: Junction,
-    first: &Formula,
-    rest: &[Formula],
+    first: &Formula<'_>,
+    rest: &[Formula<'_>],
 ) -> Tally
-    ensures { result ≡ capped_tally (formula_tally (callees_of callees.now) (is_and around)
+    ensures { result ≡ capped_tally (formula_tally layout.now (is_and around)
         (chained (Join (is_and junction)) (formula_view first.now) (formula_views rest.now))) }
 {
     if rest.is_empty() {
-        return measure_formula(callees, around, first);
+        return measure_formula(layout, around, first);
     }
     let kind = kind_behind(junction, around, first);
     let leading = leading_tests(rest);
     let mut left = rest.len() - 1;
     let last = kind_at(junction, kind, leading, left);
-    let mut tally = measure_formula(callees, last, &rest[left]);
+    let mut tally = measure_formula(layout, last, &rest[left]);
     while left > 0 {
         let behind = left;
         left -= 1;
@@ -283,14 +262,14 @@ fn measure_join(
             junction,
             around: own,
         };
-        tally = measure_link(callees, chain, &rest[left], rest, behind, tally);
+        tally = measure_link(layout, chain, &rest[left], rest, behind, tally);
     }
     let chain = Chain { junction, around };
-    measure_link(callees, chain, first, rest, 0, tally)
+    measure_link(layout, chain, first, rest, 0, tally)
 }
 
 /// The load of the operand at a place, where it is the last one and a test.
-fn last_test(operands: &[Formula], place: usize) -> Option<Load>
+fn last_test(operands: &[Formula<'_>], place: usize) -> Option<Load>
     requires { place < length operands.now }
     ensures { (joined : Bool) → result ≡ load_by
         (test_of (form_chain joined (drop place operands.now))) }

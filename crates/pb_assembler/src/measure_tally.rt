@@ -3,7 +3,7 @@
 ghost use Rattle.std.specs.Prelude.{◌≡◌, ◌*◌, ◌&&◌, int_le, is_some};
 ghost use Rattle.pb_normal.specs.View.{is_and};
 ghost use Rattle.pb_assembler_scheme.specs.Scheme.{tested_range};
-ghost use Rattle.pb_typing.specs.View.{shape_view};
+ghost use Rattle.pb_typed_tree.specs.View.{shape_view};
 ghost use Rattle.pb_assembler.specs.MeasureTerms.{capped, capped_load};
 ghost use Rattle.pb_assembler.specs.MeasureFormulas.{after, argument_load, bracketed_tally};
 ghost use Rattle.pb_assembler.specs.MeasureFormulas.{capped_tally, deciding, ended_call, looped};
@@ -14,7 +14,7 @@ use crate::measure_load::{Load, add};
 use pb_intervals::Interval;
 use pb_normal::Junction;
 use pb_sorts::{Carrier, Range};
-use pb_typing::Shape;
+use pb_typed_tree::Shape;
 
 /// How many instructions, steps and tokens a formula's code has, and how many operands, brackets
 /// and loops it holds open at most.

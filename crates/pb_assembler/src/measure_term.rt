@@ -8,8 +8,8 @@ ghost use Rattle.pb_assembler.specs.MeasureTerms.{both, capped_load, chosen, con
 ghost use Rattle.pb_assembler.specs.MeasureTerms.{single, term_load};
 
 use crate::measure_load::{Load, both, chosen, followed, single};
-use pb_normal::{Link, Term};
 use pb_text_tree::Connective;
+use pb_typed_tree::{Link, Term};
 
 /// How many instructions a term's code has, and how many operands it holds at most.
 #[cycle(measures)]
@@ -47,7 +47,7 @@ pub(crate) fn measure_term(term: &Term) -> Load
 
 /// An operand, then an instruction.
 #[cycle(measures)]
-fn measure_one(operand: &Term) -> Load
+pub(crate) fn measure_one(operand: &Term) -> Load
     ensures { result ≡ capped_load (followed (term_load (term_view operand.now))) }
 {
     followed(measure_term(operand))

@@ -13,7 +13,7 @@ use crate::builder::Builder;
 use crate::emission::emit_plain;
 use crate::operator::{arithmetic_op, comparison_op};
 use pb_bytecode_program::{Arithmetic, Connective, Equality, Op};
-use pb_normal::{Link, Term};
+use pb_typed_tree::{Link, Term};
 use std::alloc::AllocError;
 
 /// The code that pushes a term's value.

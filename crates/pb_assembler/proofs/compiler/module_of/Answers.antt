@@ -1,7 +1,6 @@
 use Rattle.std.proofs.Common.{List, map, sym, ap, ◌∙◌, subst}
 use Rattle.std.specs.List.{list_all}
 use Rattle.std.proofs.lemmas.Bool.{and_parts}
-use Rattle.pb_sorts.specs.Layout.{lists_of}
 use Rattle.pb_text_tree.specs.declared.sort.SortDeclaration.{SortDeclaration}
 use Rattle.pb_text_tree.specs.declared.spec.Equation as tree
 use Rattle.pb_text_tree.specs.Form.{equation_form, sort_declaration_form, spec_form}
@@ -30,19 +29,19 @@ compile_equations-requires c =
     let normal = c.args.normal.now in
     let text = spec_form normal.typed.now.spec in
     let faultless = normal.typed.now.faultless in
-    let callees = lists_of c.args.callees.now in
+    let callees = normal.typed.now.layout in
     let es = normal.equations.items in
     let small = c.normal_forms_are_small.ensures.accepted text faultless in
     subst (λ (xs : List tree.Equation). AreReady callees callees (map equation_form xs) (c.deref-3).result.now) (sym (c.deref-2).ensures.value)
     (subst (λ (ds : List Equation). AreReady callees callees text.equations ds) (sym (c.deref-3).ensures.value)
-    (all_ready text faultless callees es normal.rights normal.loops c.requires.parameters c.requires.kept c.requires.named small))
+    (all_ready text faultless callees es normal.rights normal.loops normal.typed.now.laid_out.shapes c.requires.kept c.requires.named small))
 
 pub invariant_of-result : goal.invariant_of-result
 invariant_of-result c =
     let normal = c.args.normal.now in
     let text = spec_form normal.typed.now.spec in
     let faultless = normal.typed.now.faultless in
-    let callees = lists_of c.args.callees.now in
+    let callees = normal.typed.now.layout in
     let es = normal.equations.items in
     let small = c.normal_forms_are_small.ensures.accepted text faultless in
     let sorts = c.in_ok-sorts.ensures ∙ ap (λ (ds : List SortDeclaration). struct_names (map erased_declaration (map sort_declaration_form ds))) c.deref.ensures.value in
@@ -52,7 +51,7 @@ invariant_of-result c =
     ∙ ap (λ (ds : List Equation). all_compiled callees callees text.equations ds) (c.deref-3).ensures.value in
     record {
       within_limits =
-          whole_fits text faultless callees es normal.rights normal.loops c.requires.parameters c.requires.kept c.requires.named small
+          whole_fits text faultless callees es normal.rights normal.loops normal.typed.now.laid_out.shapes c.requires.kept c.requires.named small
           (map sort_contents c.in_ok-sorts.sorts.items) (map equation_contents c.in_ok-equations.equations.items) (initial_contents c.in_ok-initial.initial) sorts equations c.in_ok-initial.ensures.equation c.in_ok-initial.ensures.values
           c.in_ok-equations.ensures.fields c.in_ok-initial.ensures.byte c.in_ok-initial.ensures.words
           (c.structs_are_few.ensures.accepted text faultless) (c.shapes_are_declared.ensures.accepted text faultless) (c.normal_forms_keep_bounds.ensures.accepted text faultless) (c.initial_instances_are_there.ensures.accepted text faultless);
@@ -63,7 +62,7 @@ returns-clause-module c =
     let normal = c.args.normal.now in
     let text = spec_form normal.typed.now.spec in
     let faultless = normal.typed.now.faultless in
-    let callees = lists_of c.args.callees.now in
+    let callees = normal.typed.now.layout in
     let es = normal.equations.items in
     let small = c.normal_forms_are_small.ensures.accepted text faultless in
     let sorts = c.in_ok-sorts.ensures ∙ ap (λ (ds : List SortDeclaration). struct_names (map erased_declaration (map sort_declaration_form ds))) c.deref.ensures.value in
@@ -71,7 +70,7 @@ returns-clause-module c =
     c.in_ok-equations.ensures.contents
     ∙ ap (λ (xs : List tree.Equation). all_compiled callees callees (map equation_form xs) (c.deref-3).result.now) (c.deref-2).ensures.value
     ∙ ap (λ (ds : List Equation). all_compiled callees callees text.equations ds) (c.deref-3).ensures.value in
-    compiled text faultless callees es normal.rights normal.loops c.requires.parameters c.requires.kept c.requires.named small
+    compiled text faultless callees es normal.rights normal.loops normal.typed.now.laid_out.shapes c.requires.kept c.requires.named small
     (map sort_contents c.in_ok-sorts.sorts.items) (map equation_contents c.in_ok-equations.equations.items) (initial_contents c.in_ok-initial.initial) sorts equations c.in_ok-initial.ensures.equation c.in_ok-initial.ensures.values
 
 pub returns-clause-kept : goal.returns-clause-kept
@@ -79,7 +78,7 @@ returns-clause-kept c =
     let normal = c.args.normal.now in
     let text = spec_form normal.typed.now.spec in
     let faultless = normal.typed.now.faultless in
-    let callees = lists_of c.args.callees.now in
+    let callees = normal.typed.now.layout in
     let es = normal.equations.items in
     let small = c.normal_forms_are_small.ensures.accepted text faultless in
     let sorts = c.in_ok-sorts.ensures ∙ ap (λ (ds : List SortDeclaration). struct_names (map erased_declaration (map sort_declaration_form ds))) c.deref.ensures.value in
@@ -87,5 +86,5 @@ returns-clause-kept c =
     c.in_ok-equations.ensures.contents
     ∙ ap (λ (xs : List tree.Equation). all_compiled callees callees (map equation_form xs) (c.deref-3).result.now) (c.deref-2).ensures.value
     ∙ ap (λ (ds : List Equation). all_compiled callees callees text.equations ds) (c.deref-3).ensures.value in
-    keeps text faultless callees es normal.rights normal.loops c.requires.parameters c.requires.kept c.requires.named small
+    keeps text faultless callees es normal.rights normal.loops normal.typed.now.laid_out.shapes c.requires.kept c.requires.named small
     (map sort_contents c.in_ok-sorts.sorts.items) (map equation_contents c.in_ok-equations.equations.items) (initial_contents c.in_ok-initial.initial) sorts equations c.in_ok-initial.ensures.equation c.in_ok-initial.ensures.values

@@ -1,13 +1,12 @@
 use Rattle.std.proofs.Common.{◌∙◌}
 use Rattle.std.proofs.lemmas.Bool.{and_from}
-use Rattle.pb_sorts.specs.Layout.{lists_of}
 use Rattle.pb_text_tree.specs.Form.{equation_form}
 use Rattle.pb_assembler.proofs.Equations.{same_contents, steps_exact, tokens_exact}
 use Rattle.pb_assembler.proofs.equation.compile_equation.Goals as goal
 
 pub returns-clause-contents : goal.returns-clause-contents
 returns-clause-contents c =
-    let cs = lists_of c.args.callees.now in
+    let cs = c.args.layout.now in
     let ps = c.args.parameters.now in
     let t = equation_form c.args.text.now in
     let X = c.args.normal.now in
@@ -15,7 +14,7 @@ returns-clause-contents c =
     same_contents c.args.text.now.sign _ _ _ _ _ _ _ _ _ _ _ _
     (c.in_ok-name.ensures ∙ c.deref.ensures)
     c.in_ok-parameters.ensures.same
-    (c.in_ok-loops.ensures.same ∙ (c.deref-2).ensures.value)
+    c.in_ok-loops.ensures.same
     (steps_exact cs ps t X c.requires m c.measure-measures.ensures)
     (tokens_exact cs ps t X c.requires m c.measure-measures.ensures)
     c.in_ok-code.ensures

@@ -1,25 +1,24 @@
 use Rattle.std.proofs.Common.{◌≡◌, ◌∙◌, ◌<◌, ℕ, refl, sym, ap, subst, arith, add-one, true, not, Bool, List, length, Some, OnOk, map}
-use Rattle.std.specs.List.{slice_get}
 use Rattle.std.proofs.lemmas.List.{nil_from_length}
-use Rattle.pb_sorts.specs.Layout.{lists_of}
 use Rattle.pb_bytecode_program.specs.declared.instruction.Connective.{Connective}
 use Rattle.pb_bytecode_program.specs.declared.instruction.Leaf.{Leaf}
 use Rattle.pb_bytecode_program.specs.declared.instruction.Op.TheVariants as op
+use Rattle.pb_typing.specs.View.{is_positive}
 use Rattle.pb_normal.specs.Normal as normal
 use Rattle.pb_normal.specs.Normal.{Join}
 use Rattle.pb_normal.specs.declared.formula.Formula.{Formula}
-use Rattle.pb_normal.specs.View.{argument_view, chained, formula_view, formula_views, is_and, is_forall, nested, term_view}
+use Rattle.pb_normal.specs.View.{chained, formula_view, formula_views, is_and, is_forall, nested, term_view}
 use Rattle.pb_assembler_scheme.specs.Pieces.{Piece, Plain, Unless, Choose}
-use Rattle.pb_assembler_scheme.specs.Scheme.{connective_of, data_piece, deciding, formula_piece, call_piece, parameters}
+use Rattle.pb_assembler_scheme.specs.Scheme.{connective_of, data_piece, deciding, formula_piece}
 use Rattle.pb_assembler.specs.Emitted.{Emits, nowhere}
 use Rattle.pb_assembler.specs.Operands.{Guarded}
+use Rattle.pb_assembler.specs.Tests.{tested_term}
 use Rattle.pb_normal.specs.Small.{is_small_formula}
 use Rattle.pb_assembler.proofs.Awaited.{Awaits, awaits_all, passed_place, awaits_then, awaits_unless, awaits_choose, awaits_no_more, open_place}
 use Rattle.pb_assembler.proofs.Emitting.{on_ok}
 use Rattle.pb_assembler.proofs.FormulaWeight.{formulas_weight, join_is, join_weighs}
-use Rattle.pb_assembler.proofs.Joins.{Begins, Closes, repeated, test_step, test_small, left_weighs, tested_own, tested_other, next_own, small_rest, small_slot, small_body, begins_more, closes_more, each_repeated, each_other, bracket_emitted, other_kind, same_kind, untested, there, not_there}
-use Rattle.pb_normal.specs.declared.formula.Argument.{Argument}
-use Rattle.pb_sorts.specs.declared.carrier.Carrier.{Carrier}
+use Rattle.pb_assembler.proofs.Joins.{Begins, Closes, repeated, test_step, test_small, left_weighs, tested_own, tested_other, next_own, small_rest, small_slot, small_body, begins_more, closes_more, each_repeated, each_other, bracket_emitted, other_kind, same_kind, untested}
+use Rattle.pb_assembler.proofs.Tests.{signed}
 use Rattle.pb_assembler.proofs.formula.+formulas.Goals as goal
 
 pub emit_each-returns-then-eq : goal.emit_each-returns-then-eq
@@ -28,13 +27,13 @@ emit_each-returns-then-eq t c =
     let m = is_forall c.args.quantifier in
     let X = nested m c.args.slots.first c.args.slots.carriers.now (formula_view c.args.body.now) in
     let same : m ≡ is_and c.args.around = sym kind.ensures ∙ same_kind kind.result c.args.around c.eq.result c.eq.ensures c.if-eq.true in
-    subst (λ (k : Bool). OnOk c.emit_loops.result (Emits (formula_piece (lists_of c.args.callees.now) k X) nowhere c.args.builder.now c.emit_loops.new.builder)) same c.emit_loops.ensures
+    subst (λ (k : Bool). OnOk c.emit_loops.result (Emits (formula_piece c.args.layout.now k X) nowhere c.args.builder.now c.emit_loops.new.builder)) same c.emit_loops.ensures
 
 pub emit_each-returns : goal.emit_each-returns
 emit_each-returns t c =
     let m = is_forall c.args.quantifier in
     let kind = c.junction_of-kind in
-    let cs = lists_of c.args.callees.now in
+    let cs = c.args.layout.now in
     let e = c.is_empty.ensures in
     let f = c.if-is_empty.false in
     let other : m ≡ not (is_and c.args.around) = sym kind.ensures ∙ other_kind kind.result c.args.around c.eq.result c.eq.ensures c.if-eq.false in
@@ -46,6 +45,15 @@ emit_each-returns t c =
     subst (λ (q : Piece). Emits q nowhere d (c.emit_plain-2).new.builder) (sym (each_other cs m (is_and c.args.around) c.args.slots.first c.args.slots.carriers.now (formula_view c.args.body.now) other some))
     (bracket_emitted m (formula_piece cs m X) d d1 (c.emit_loops-2).new.builder (c.emit_plain-2).new.builder
     (subst (λ (k : Connective). Emits (Plain (op.Open k)) nowhere d d1) (c.connective_of.ensures ∙ ap connective_of kind.ensures) c.in_ok-emit_plain.ensures) c.in_ok-emit_loops.ensures h))
+
+pub emit_formula-emit_test-requires : goal.emit_formula-emit_test-requires
+emit_formula-emit_test-requires t c =
+    sym (ap is_small_formula (ap formula_view c.in-Test.is ∙ signed (is_positive c.in-Test.polarity) (term_view c.in-Test.term.now))) ∙ c.requires
+
+pub emit_formula-returns-in-Test : goal.emit_formula-returns-in-Test
+emit_formula-returns-in-Test t c =
+    subst (λ (y : normal.Formula). OnOk c.emit_test.result (Emits (formula_piece c.args.layout.now (is_and c.args.around) y) nowhere c.args.builder.now c.emit_test.new.builder))
+    (sym (ap formula_view c.in-Test.is ∙ signed (is_positive c.in-Test.polarity) (term_view c.in-Test.term.now))) c.emit_test.ensures
 
 pub emit_formula-emit_inside-requires : goal.emit_formula-emit_inside-requires
 emit_formula-emit_inside-requires t c =
@@ -75,7 +83,7 @@ emit_formula-returns-then-eq t c =
     let rest = (c.deref-then-eq).result.now in
     let j = c.in-Join in
     let same : is_and j.junction ≡ is_and c.args.around = same_kind j.junction c.args.around c.eq.result c.eq.ensures c.if-eq.true in
-    subst (λ (y : normal.Formula). OnOk c.emit_inside.result (Emits (formula_piece (lists_of c.args.callees.now) (is_and c.args.around) y) nowhere c.args.builder.now c.emit_inside.new.builder))
+    subst (λ (y : normal.Formula). OnOk c.emit_inside.result (Emits (formula_piece c.args.layout.now (is_and c.args.around) y) nowhere c.args.builder.now c.emit_inside.new.builder))
     (ap (λ (m : Bool). chained (Join m) (formula_view x) (formula_views rest)) (sym same) ∙ join_is c.args.formula.now x j.junction j.first j.rest rest j.is c.deref.ensures (c.deref-then-eq).ensures.value)
     c.emit_inside.ensures
 
@@ -85,33 +93,33 @@ emit_formula-returns-else-eq t c =
     let rest = (c.deref-else-eq-2).result.now in
     let j = c.in-Join in
     let same : is_and j.junction ≡ not (is_and c.args.around) = other_kind j.junction c.args.around c.eq.result c.eq.ensures c.if-eq.false in
-    subst (λ (y : normal.Formula). OnOk c.emit_outside.result (Emits (formula_piece (lists_of c.args.callees.now) (is_and c.args.around) y) nowhere c.args.builder.now c.emit_outside.new.builder))
+    subst (λ (y : normal.Formula). OnOk c.emit_outside.result (Emits (formula_piece c.args.layout.now (is_and c.args.around) y) nowhere c.args.builder.now c.emit_outside.new.builder))
     (ap (λ (m : Bool). chained (Join m) (formula_view x) (formula_views rest)) (sym same) ∙ join_is c.args.formula.now x j.junction j.first j.rest rest j.is (c.deref-else-eq).ensures (c.deref-else-eq-2).ensures.value)
     c.emit_outside.ensures
 
 pub emit_inside-loop-next-preserved-in-Some-early_test : goal.emit_inside-loop-next-preserved-in-Some-early_test
 emit_inside-loop-next-preserved-in-Some-early_test t c =
     let m = is_and c.args.kind in
-    let cs = lists_of c.args.callees.now in
+    let cs = c.args.layout.now in
     let s = c.in-Some-early_test in
     let i = c.loop-next.invariant in
     let f = formula_view c.loop-next.left.now in
     let gs = formula_views c.loop-next.behind.now in
-    let r : Guarded = (term_view s.test.now, (formula_view s.guarded.now, formula_views s.more.now)) in
+    let r : Guarded = (tested_term s.test, (formula_view s.guarded.now, formula_views s.more.now)) in
     let whole = formula_piece cs m (chained (Join m) (formula_view c.args.first.now) (formula_views c.args.rest.now)) in
     let rest = formula_piece cs m (chained (Join m) (formula_view s.guarded.now) (formula_views s.more.now)) in
     let l = c.in_ok-last.last.number in
     let d0 = c.args.builder.now in
     let leaf = Plain (op.Emit (deciding m)) in
     let jumps = rw c.neutral.ensures at c.in_ok-emit.ensures.ok in
-    let same = test_step cs m m f gs (Some r) r refl s.ensures.views ∙ tested_own m (term_view s.test.now) rest in
+    let same = test_step cs m m f gs (Some r) r refl s.ensures.views ∙ tested_own m (tested_term s.test) rest in
     let a1 = subst (λ (q : Piece). Awaits whole q l d0 c.loop-next.builder) same i.awaits in
-    let a2 = awaits_then whole (data_piece (term_view s.test.now)) (Choose m leaf rest) l d0 c.loop-next.builder c.emit_term.new.builder a1 c.in_ok-emit_term.ensures in
+    let a2 = awaits_then whole (data_piece (tested_term s.test)) (Choose m leaf rest) l d0 c.loop-next.builder c.emit_tested.new.builder a1 c.in_ok-emit_tested.ensures in
     let w = left_weighs c.loop-next.left.now c.loop-next.behind.now s.guarded.now s.more.now s.ensures.left in
     let w1 = w.1 in
     let w2 = i.lighter in
     record {
-      awaits = awaits_choose whole m leaf rest 0 0 l c.in_ok-passed.passed.number d0 c.emit_term.new.builder (c.label-in-Some-early_test).new.self c.emit.new.self c.emit_plain.new.builder (c.emit-in-Some-early_test).new.self c.place.new.self a2
+      awaits = awaits_choose whole m leaf rest 0 0 l c.in_ok-passed.passed.number d0 c.emit_tested.new.builder (c.label-in-Some-early_test).new.self c.emit.new.self c.emit_plain.new.builder (c.emit-in-Some-early_test).new.self c.place.new.self a2
           c.in_ok-passed.ensures.label c.in_ok-passed.ensures.ok jumps
           (subst (λ (z : Leaf). Emits (Plain (op.Emit z)) nowhere c.emit.new.self c.emit_plain.new.builder) c.deciding.ensures c.in_ok-emit_plain.ensures)
           (c.in_ok-emit-2).ensures.ok c.place.ensures;
@@ -122,7 +130,7 @@ emit_inside-loop-next-preserved-in-Some-early_test t c =
 pub emit_inside-loop-next-preserved : goal.emit_inside-loop-next-preserved
 emit_inside-loop-next-preserved t c =
     let m = is_and c.args.kind in
-    let cs = lists_of c.args.callees.now in
+    let cs = c.args.layout.now in
     let s = c.in-Some in
     let i = c.loop-next.invariant in
     let left = c.loop-next.left.now in
@@ -172,7 +180,7 @@ emit_loops-loop-ended-preserved t c =
 
 pub emit_loops-returns : goal.emit_loops-returns
 emit_loops-returns t c =
-    let cs = lists_of c.args.callees.now in
+    let cs = c.args.layout.now in
     let m = is_forall c.args.quantifier in
     let body = formula_piece cs m (formula_view c.args.body.now) in
     let b1 = c.loop-begun-test.false in
@@ -191,24 +199,24 @@ pub emit_outside-loop-test-preserved : goal.emit_outside-loop-test-preserved
 emit_outside-loop-test-preserved t c =
     let a = is_and c.args.around in
     let m = not a in
-    let cs = lists_of c.args.callees.now in
+    let cs = c.args.layout.now in
     let s = c.in-Some in
     let i = c.loop-test.invariant in
     let f = formula_view c.loop-test.left.now in
     let gs = formula_views c.loop-test.behind.now in
-    let r : Guarded = (term_view s.test.now, (formula_view s.guarded.now, formula_views s.more.now)) in
+    let r : Guarded = (tested_term s.test, (formula_view s.guarded.now, formula_views s.more.now)) in
     let whole = formula_piece cs a (chained (Join m) (formula_view c.args.first.now) (formula_views c.args.rest.now)) in
     let rest = formula_piece cs a (chained (Join m) (formula_view s.guarded.now) (formula_views s.more.now)) in
     let l = c.in_ok-last.last.number in
     let d0 = c.args.builder.now in
-    let same = test_step cs m a f gs (Some r) r refl s.ensures.views ∙ tested_other a (term_view s.test.now) rest in
+    let same = test_step cs m a f gs (Some r) r refl s.ensures.views ∙ tested_other a (tested_term s.test) rest in
     let a1 = subst (λ (q : Piece). Awaits whole q l d0 c.loop-test.builder) same i.awaits in
-    let a2 = awaits_then whole (data_piece (term_view s.test.now)) (Unless a rest) l d0 c.loop-test.builder c.emit_term.new.builder a1 c.in_ok-emit_term.ensures in
+    let a2 = awaits_then whole (data_piece (tested_term s.test)) (Unless a rest) l d0 c.loop-test.builder c.emit_tested.new.builder a1 c.in_ok-emit_tested.ensures in
     let w = left_weighs c.loop-test.left.now c.loop-test.behind.now s.guarded.now s.more.now s.ensures.left in
     let w1 = w.1 in
     let w2 = i.lighter in
     record {
-      awaits = awaits_unless whole a rest 0 l d0 c.emit_term.new.builder c.emit.new.self a2 (rw c.neutral.ensures at c.in_ok-emit.ensures.ok);
+      awaits = awaits_unless whole a rest 0 l d0 c.emit_tested.new.builder c.emit.new.self a2 (rw c.neutral.ensures at c.in_ok-emit.ensures.ok);
       small = (test_small m f gs (Some r) r refl s.ensures.views i.small).1;
       lighter = omega (arith, w1, w2);
     }
@@ -216,7 +224,7 @@ emit_outside-loop-test-preserved t c =
 pub emit_untested-returns : goal.emit_untested-returns
 emit_untested-returns t c =
     let a = is_and c.args.around in
-    let cs = lists_of c.args.callees.now in
+    let cs = c.args.layout.now in
     let e = c.is_empty.ensures in
     let f = c.if-is_empty.false in
     let some : 0 < length c.args.rest.now = grind (arith, e, f) in
@@ -244,7 +252,7 @@ emit_inside-place-requires-2 t c =
 pub emit_inside-returns : goal.emit_inside-returns
 emit_inside-returns t c =
     let m = is_and c.args.kind in
-    let cs = lists_of c.args.callees.now in
+    let cs = c.args.layout.now in
     let left = c.loop-next.left.now in
     let whole = formula_piece cs m (chained (Join m) (formula_view c.args.first.now) (formula_views c.args.rest.now)) in
     let l = c.in_ok-last.last.number in
@@ -254,33 +262,10 @@ emit_inside-returns t c =
     (subst (λ (zs : List Formula). Awaits whole (formula_piece cs m (chained (Join m) (formula_view left) (formula_views zs))) l d0 c.loop-next.builder) none c.loop-next.invariant.awaits)
     (c.in_ok-emit_formula-2).ensures (c.place-2).ensures
 
-pub emit_formula-returns-in-Some : goal.emit_formula-returns-in-Some
-emit_formula-returns-in-Some t c =
-    let cs = c.args.callees.now in
-    let i = c.in-Call.equation in
-    let told = c.in-Some.ensures.lookup in
-    let below : i < length cs = let z = told.0 in omega (arith, z) in
-    subst (λ (q : Piece). OnOk c.emit_call.result (Emits q nowhere c.args.builder.now c.emit_call.new.builder))
-    (ap (λ (ks : List Carrier). call_piece i ks (map argument_view (c.deref-in-Some-2).result.now)) (c.deref-in-Some.ensures.value ∙ sym (there cs i c.in-Some.carriers.now below told.1))
-    ∙ ap (λ (xs : List Argument). call_piece i (parameters (slice_get (lists_of cs) i)) (map argument_view xs)) (c.deref-in-Some-2).ensures.value
-    ∙ sym (ap (λ (f : Formula). formula_piece (lists_of cs) (is_and c.args.around) (formula_view f)) c.in-Call.is))
-    c.emit_call.ensures
-
-pub emit_formula-returns-in-None : goal.emit_formula-returns-in-None
-emit_formula-returns-in-None t c =
-    let cs = c.args.callees.now in
-    let i = c.in-Call.equation in
-    let told = c.in-None.ensures.lookup in
-    subst (λ (q : Piece). OnOk (c.emit_call-in-None).result (Emits q nowhere c.args.builder.now (c.emit_call-in-None).new.builder))
-    (ap (λ (ks : List Carrier). call_piece i ks (map argument_view c.deref-in-None.result.now)) (sym (not_there cs i (omega (arith, told))))
-    ∙ ap (λ (xs : List Argument). call_piece i (parameters (slice_get (lists_of cs) i)) (map argument_view xs)) c.deref-in-None.ensures.value
-    ∙ sym (ap (λ (f : Formula). formula_piece (lists_of cs) (is_and c.args.around) (formula_view f)) c.in-Call.is))
-    (c.emit_call-in-None).ensures
-
 pub emit_inside-loop-next-init : goal.emit_inside-loop-next-init
 emit_inside-loop-next-init t c =
     let m = is_and c.args.kind in
-    let whole = formula_piece (lists_of c.args.callees.now) m (chained (Join m) (formula_view c.args.first.now) (formula_views c.args.rest.now)) in record {
+    let whole = formula_piece c.args.layout.now m (chained (Join m) (formula_view c.args.first.now) (formula_views c.args.rest.now)) in record {
       awaits = awaits_all whole c.in_ok-last.last.number c.args.builder.now c.label.new.self c.in_ok-last.ensures.label c.in_ok-last.ensures.ok;
       small = c.requires;
       lighter = omega arith;
@@ -289,7 +274,7 @@ emit_inside-loop-next-init t c =
 pub emit_outside-loop-test-init : goal.emit_outside-loop-test-init
 emit_outside-loop-test-init t c =
     let a = is_and c.args.around in
-    let whole = formula_piece (lists_of c.args.callees.now) a (chained (Join (not a)) (formula_view c.args.first.now) (formula_views c.args.rest.now)) in record {
+    let whole = formula_piece c.args.layout.now a (chained (Join (not a)) (formula_view c.args.first.now) (formula_views c.args.rest.now)) in record {
       awaits = awaits_all whole c.in_ok-last.last.number c.args.builder.now c.label.new.self c.in_ok-last.ensures.label c.in_ok-last.ensures.ok;
       small = c.requires;
       lighter = omega arith;
@@ -297,5 +282,5 @@ emit_outside-loop-test-init t c =
 
 pub emit_inside-place-requires : goal.emit_inside-place-requires
 emit_inside-place-requires t c =
-    passed_place _ c.in_ok-passed.passed.number _ _ c.emit_term.new.builder c.label-in-Some-early_test.new.self c.emit.new.self c.emit_plain.new.builder c.emit-in-Some-early_test.new.self
+    passed_place _ c.in_ok-passed.passed.number _ _ c.emit_tested.new.builder c.label-in-Some-early_test.new.self c.emit.new.self c.emit_plain.new.builder c.emit-in-Some-early_test.new.self
     c.in_ok-passed.ensures.label c.in_ok-passed.ensures.ok c.in_ok-emit.ensures.ok c.in_ok-emit_plain.ensures (c.in_ok-emit-2).ensures.ok

@@ -1,5 +1,4 @@
 use Rattle.std.proofs.Common.{◌≡◌, ◌+◌, ◌-◌, ◌≤◌, true, not, length, List}
-use Rattle.pb_sorts.specs.Layout.{lists_of}
 use Rattle.pb_normal.specs.Normal.{Join}
 use Rattle.pb_normal.specs.View.{chained, formula_view, formula_views, is_and}
 use Rattle.pb_normal.specs.declared.formula.Formula.{Formula}
@@ -59,7 +58,7 @@ invariant-emit_loops-loop-ended l =
 -- the operands that are left complete the chain
 abbrev pub invariant-emit_inside-loop-next : goal.invariant-emit_inside-loop-next
 invariant-emit_inside-loop-next l =
-    let piece : Formula → List Formula → Piece = λ f fs. formula_piece (lists_of l.callees) (is_and l.kind) (chained (Join (is_and l.kind)) (formula_view f) (formula_views fs)) in
+    let piece : Formula → List Formula → Piece = λ f fs. formula_piece l.layout (is_and l.kind) (chained (Join (is_and l.kind)) (formula_view f) (formula_views fs)) in
     record {
       awaits : Awaits (piece l.first l.rest) (piece l.left l.behind) l.last.number l.fn.builder l.builder;
       small : is_small_formula (chained (Join (is_and l.kind)) (formula_view l.left) (formula_views l.behind)) ≡ true;
@@ -68,7 +67,7 @@ invariant-emit_inside-loop-next l =
 
 abbrev pub invariant-emit_outside-loop-test : goal.invariant-emit_outside-loop-test
 invariant-emit_outside-loop-test l =
-    let piece : Formula → List Formula → Piece = λ f fs. formula_piece (lists_of l.callees) (is_and l.around) (chained (Join (not (is_and l.around))) (formula_view f) (formula_views fs)) in
+    let piece : Formula → List Formula → Piece = λ f fs. formula_piece l.layout (is_and l.around) (chained (Join (not (is_and l.around))) (formula_view f) (formula_views fs)) in
     record {
       awaits : Awaits (piece l.first l.rest) (piece l.left l.behind) l.last.number l.fn.builder l.builder;
       small : is_small_formula (chained (Join (not (is_and l.around))) (formula_view l.left) (formula_views l.behind)) ≡ true;

@@ -1,21 +1,24 @@
 use Rattle.std.proofs.Common.{◌≡◌, ◌-◌, ◌<◌, suc, sym, ap, ◌∙◌, arith, length, drop}
 use Rattle.pb_sorts.specs.Carrier.{values_of}
+use Rattle.pb_typing.specs.View.{is_positive}
 use Rattle.pb_normal.specs.Normal.{Join}
-use Rattle.pb_normal.specs.View.{formula_view, is_and, nested}
+use Rattle.pb_normal.specs.View.{formula_view, is_and, nested, term_view}
 use Rattle.pb_assembler_scheme.specs.Scheme.{test_of}
-use Rattle.pb_assembler.specs.MeasureFormulas.{callees_of, capped_tally, form_chain, formula_tally, kind_at, kind_by, loops_tally, under_tally}
-use Rattle.pb_assembler.proofs.MeasureFormulaLemmas.{weight, forms_weight, weight-join, form_lighter}
-use Rattle.pb_assembler.proofs.MeasureTallies.{looped_by, under_by}
+use Rattle.pb_assembler.specs.MeasureTerms.{term_load}
+use Rattle.pb_assembler.specs.Tests.{signed_term}
+use Rattle.pb_assembler.specs.MeasureFormulas.{capped_tally, form_chain, formula_tally, kind_at, kind_by, loops_tally, under_tally}
+use Rattle.pb_assembler.proofs.MeasureTallies.{test_by, looped_by, under_by}
 use Rattle.pb_assembler.proofs.MeasureChains.{nested_tally, loops_step, all_loops, kind_step, link_step, second_test, no_test}
+use Rattle.pb_assembler.proofs.Tests.{signed}
 use Rattle.pb_assembler.proofs.measure_formula.+formulas.Goals as goal
-use Rattle.pb_assembler.proofs.FormulaWeight.{join_is}
+use Rattle.pb_assembler.proofs.FormulaWeight.{weight, formulas_weight, weight-join, formula_lighter, join_is}
 
 pub measure_each-loop-left-preserved : goal.measure_each-loop-left-preserved
 measure_each-loop-left-preserved t c =
     let cs = c.args.carriers.now in
     let k = c.loop-left.left - 1 in
     let x = c.index-carriers-left.result in
-    let own = formula_tally (callees_of c.args.callees.now) (is_and c.junction_of-kind.result) (formula_view c.args.body.now) in
+    let own = formula_tally c.args.layout.now (is_and c.junction_of-kind.result) (formula_view c.args.body.now) in
     let a = c.loop-left.invariant.0 in
     let b = c.loop-left-test.true in
     let same : suc k ≡ c.loop-left.left = omega (arith, b) in
@@ -27,7 +30,7 @@ measure_each-loop-left-preserved t c =
 pub measure_each-returns : goal.measure_each-returns
 measure_each-returns t c slot =
     let cs = c.args.carriers.now in
-    let callees = callees_of c.args.callees.now in
+    let callees = c.args.layout.now in
     let m = is_and c.junction_of-kind.result in
     let a = is_and c.args.around in
     let own = formula_tally callees m (formula_view c.args.body.now) in
@@ -40,20 +43,28 @@ measure_each-returns t c slot =
     ∙ sym (ap capped_tally (nested_tally callees m a slot cs (formula_view c.args.body.now) some))
     ∙ ap (λ k. capped_tally (formula_tally callees a (nested k slot cs (formula_view c.args.body.now)))) c.junction_of-kind.ensures
 
+pub measure_formula-returns-in-Test : goal.measure_formula-returns-in-Test
+measure_formula-returns-in-Test t c =
+    let x = term_view c.in-Test.term.now in
+    let even = is_positive c.in-Test.polarity in
+    c.test_tally.ensures
+    ∙ test_by c.measure_tested.result (term_load (signed_term even x)) c.measure_tested.ensures
+    ∙ sym (ap (λ y. capped_tally (formula_tally c.args.layout.now (is_and c.args.around) y)) (ap formula_view c.in-Test.is ∙ signed even x))
+
 pub measure_formula-measure_join-requires : goal.measure_formula-measure_join-requires
 measure_formula-measure_join-requires t c =
-    omega (arith, c.decreases, ap weight c.in-Join.is ∙ weight-join c.in-Join.junction c.in-Join.first c.in-Join.rest, ap weight c.deref.ensures, ap forms_weight c.deref-in-Join.ensures.value)
+    omega (arith, c.decreases, ap weight c.in-Join.is ∙ weight-join c.in-Join.junction c.in-Join.first c.in-Join.rest, ap weight c.deref.ensures, ap formulas_weight c.deref-in-Join.ensures.value)
 
 pub measure_formula-returns-in-Join : goal.measure_formula-returns-in-Join
 measure_formula-returns-in-Join t c =
-    c.measure_join.ensures ∙ ap (λ y. capped_tally (formula_tally (callees_of c.args.callees.now) (is_and c.args.around) y)) (join_is c.args.formula.now c.deref.result.now c.in-Join.junction c.in-Join.first c.in-Join.rest c.deref-in-Join.result.now c.in-Join.is c.deref.ensures c.deref-in-Join.ensures.value)
+    c.measure_join.ensures ∙ ap (λ y. capped_tally (formula_tally c.args.layout.now (is_and c.args.around) y)) (join_is c.args.formula.now c.deref.result.now c.in-Join.junction c.in-Join.first c.in-Join.rest c.deref-in-Join.result.now c.in-Join.is c.deref.ensures c.deref-in-Join.ensures.value)
 
 pub measure_join-measure_formula-tally-requires : goal.measure_join-measure_formula-tally-requires
 measure_join-measure_formula-tally-requires t c =
     let e = c.is_empty.ensures in
     let f = c.if-is_empty.false in
     let below : length c.args.rest.now - 1 < length c.args.rest.now = grind (arith, e, f) in
-    omega (arith, c.decreases, form_lighter c.args.rest.now (length c.args.rest.now - 1) c.index-rest-left.result below c.index-rest-left.is)
+    omega (arith, c.decreases, formula_lighter c.args.rest.now (length c.args.rest.now - 1) c.index-rest-left.result below c.index-rest-left.is)
 
 pub measure_join-measure_link-tally-requires : goal.measure_join-measure_link-tally-requires
 measure_join-measure_link-tally-requires t c =
@@ -75,8 +86,8 @@ measure_join-measure_link-tally-requires t c =
     ∙ kind_step m kind rest k x below (c.index-rest-left-in-loop-left).is
     ∙ ap (λ n. kind_by (test_of (formula_view x)) m (kind_at m kind n k)) (sym lead)
     ∙ ap (kind_by (test_of (formula_view x)) m) (sym c.kind_at-own.ensures) in (
-      omega (arith, c.decreases, form_lighter rest k x below (c.index-rest-left-in-loop-left).is),
-      (a, c.loop-left.invariant.1 ∙ ap (λ d. capped_tally (formula_tally (callees_of c.args.callees.now) d (form_chain m (drop left rest)))) kinds),
+      omega (arith, c.decreases, formula_lighter rest k x below (c.index-rest-left-in-loop-left).is),
+      (a, c.loop-left.invariant.1 ∙ ap (λ d. capped_tally (formula_tally c.args.layout.now d (form_chain m (drop left rest)))) kinds),
     )
 
 pub measure_join-loop-left-preserved : goal.measure_join-loop-left-preserved
@@ -86,7 +97,7 @@ measure_join-loop-left-preserved t c =
     let left = c.loop-left.left in
     let k = left - 1 in
     let x = (c.index-rest-left-in-loop-left).result in
-    let callees = callees_of c.args.callees.now in
+    let callees = c.args.layout.now in
     let a = c.loop-left.invariant.0 in
     let b = c.loop-left-test.true in
     let same : suc k ≡ left = omega (arith, b) in (
@@ -101,7 +112,7 @@ measure_untested-returns-in-Some t c =
     let m = is_and c.args.chain.junction in
     let chain = form_chain m (drop c.args.place c.args.operands.now) in
     c.tested_tally.ensures
-    ∙ second_test (callees_of c.args.callees.now) m (is_and c.args.chain.around) (formula_view c.args.operand.now) chain c.in-Some.load c.measure_formula-own.result c.requires.untested (sym c.in-Some.is ∙ c.last_test.ensures m) c.measure_formula-own.ensures
+    ∙ second_test c.args.layout.now m (is_and c.args.chain.around) (formula_view c.args.operand.now) chain c.in-Some.load c.measure_formula-own.result c.requires.untested (sym c.in-Some.is ∙ c.last_test.ensures m) c.measure_formula-own.ensures
 
 pub measure_untested-returns-in-None : goal.measure_untested-returns-in-None
 measure_untested-returns-in-None t c =
@@ -109,4 +120,4 @@ measure_untested-returns-in-None t c =
     let chain = form_chain m (drop c.args.place c.args.operands.now) in
     c.under_tally.ensures
     ∙ ap (λ y. capped_tally (under_tally m (is_and c.args.chain.around) y)) c.after-both.ensures
-    ∙ no_test (callees_of c.args.callees.now) m (is_and c.args.chain.around) (formula_view c.args.operand.now) chain (c.measure_formula-own-in-None).result c.args.rest c.requires.untested (sym c.in-None.is ∙ c.last_test.ensures m) (c.measure_formula-own-in-None).ensures c.requires.rest
+    ∙ no_test c.args.layout.now m (is_and c.args.chain.around) (formula_view c.args.operand.now) chain (c.measure_formula-own-in-None).result c.args.rest c.requires.untested (sym c.in-None.is ∙ c.last_test.ensures m) (c.measure_formula-own-in-None).ensures c.requires.rest

@@ -5,7 +5,7 @@ use Rattle.pb_assembler_scheme.specs.Scheme.{any_tested}
 use Rattle.pb_assembler.specs.MeasureTerms.{capped_load, term_load}
 use Rattle.pb_assembler.specs.MeasureFormulas.{arguments_load, is_tested}
 use Rattle.pb_assembler.proofs.MeasureTallies.{argument_by}
-use Rattle.pb_assembler.proofs.MeasureFormulaLemmas.{argument_step, tested_step, no_arguments, none_tested, none_loaded}
+use Rattle.pb_assembler.proofs.MeasureArguments.{argument_step, tested_step, no_arguments, none_tested, none_loaded}
 use Rattle.pb_assembler.proofs.measure_formula.measure_arguments.Goals as goal
 
 pub loop-left-init : goal.loop-left-init

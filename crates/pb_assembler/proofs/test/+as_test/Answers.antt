@@ -1,9 +1,14 @@
 use Rattle.std.proofs.Common.{◌≡◌, ◌<◌, ◌∙◌, sym, ap, arith, length}
+use Rattle.pb_typing.specs.View.{is_positive}
 use Rattle.pb_normal.specs.declared.formula.Formula.{Formula}
-use Rattle.pb_normal.specs.View.{formula_view, is_forall}
+use Rattle.pb_normal.specs.View.{formula_view, is_forall, term_view}
 use Rattle.pb_assembler_scheme.specs.Scheme.{test_of}
 use Rattle.pb_assembler.proofs.Joins.{alone, several, no_test}
-use Rattle.pb_assembler.proofs.formula.+as_test.Goals as goal
+use Rattle.pb_assembler.proofs.Tests.{signed}
+use Rattle.pb_assembler.proofs.test.+as_test.Goals as goal
+
+pub returns-in-Test : goal.returns-in-Test
+returns-in-Test t c = sym (ap test_of (ap formula_view c.in-Test.is ∙ signed (is_positive c.in-Test.polarity) (term_view c.in-Test.term.now)))
 
 pub returns-then-is_empty : goal.returns-then-is_empty
 returns-then-is_empty t c =
@@ -23,5 +28,5 @@ pub returns-else-is_empty-2 : goal.returns-else-is_empty-2
 returns-else-is_empty-2 t c =
     let e = (c.is_empty-in-Each).ensures in
     let f = (c.if-is_empty-2).false in
-    let some : 0 < length c.in-Each.carriers.items = grind (arith, e, f) in
-    no_test (is_forall c.in-Each.quantifier) c.in-Each.slot c.in-Each.carriers.items _ some ∙ sym (ap (λ (f : Formula). test_of (formula_view f)) c.in-Each.is)
+    let some : 0 < length c.in-Each.carriers.now = grind (arith, e, f) in
+    no_test (is_forall c.in-Each.quantifier) c.in-Each.slot c.in-Each.carriers.now _ some ∙ sym (ap (λ (f : Formula). test_of (formula_view f)) c.in-Each.is)
