@@ -1,5 +1,6 @@
 mod Refusals
 mod Texts
+mod Deliveries
 mod Evidence
 mod Carriers
 mod Placing

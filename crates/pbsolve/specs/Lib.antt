@@ -3,6 +3,7 @@ pub mod Answers
 pub mod CallPlaces
 pub mod Refusals
 pub mod Models
+pub mod Delivery
 pub mod Outputs
 pub mod Program
 pub mod Status

@@ -1,14 +1,15 @@
 //! Modules that bytes spell: whether they are accepted, what they say, and their answers.
-ghost use Rattle.std.specs.Prelude.{◌≡◌, ◌≢◌, true, IfOk, OnOk, IfErr, Err};
+ghost use Rattle.std.specs.Prelude.{◌≢◌, IfOk, IfErr};
 ghost use Rattle.std.specs.Io.KnownBytes.{Appends};
-ghost use Rattle.pb_sorts.specs.Sink.{AppendsPrefix};
 ghost use Rattle.pb_command_line.specs.declared.command.Command.TheVariants.{Verify, List};
 ghost use Rattle.pb_command_line.specs.declared.command.Command.TheVariants.{SolveCode};
 ghost use Rattle.pb_report_texts.specs.Report.{report_text};
 ghost use Rattle.pbsolve.specs.Answers.{IsAnswerOfCode, IsModuleOfCode};
+ghost use Rattle.pbsolve.specs.Delivery.{Delivers};
 ghost use Rattle.pbsolve.specs.Refusals.{IsRefusedBytes, IsUnlisted, IsUnverified};
 ghost use Rattle.pbsolve.specs.Outputs.{Outputs};
 
+use crate::delivery::deliver;
 use crate::module::write_report;
 use crate::solve_error::SolveError;
 use pb_bytecode::decode::decode;
@@ -16,7 +17,7 @@ use pb_bytecode::list::list;
 use pb_exploration::Gate;
 use pb_report_texts::Answer;
 use pb_solution::SolveOptions;
-use pb_sorts::{Sink, put};
+use pb_sorts::Sink;
 use pb_verifier::{Verified, verify};
 use std::alloc::Global;
 use std::thread::Threads;
@@ -53,14 +54,9 @@ pub fn solve_code<R: Threads + Sync, G: Gate + Sync, S: Sink>(
     ensures answer { IfOk result (IsAnswerOfCode bytes.now) }
     ensures report { IfOk result
         (λ answer. Appends (S.taken writer.old) (S.taken writer.new) (report_text answer)) }
-    ensures kept { OnOk result (S.has_failed writer.new ≡ S.has_failed writer.old) }
+    ensures written { Delivers (Outputs SolveCode bytes.now) result
+        S.taken S.has_failed writer.old writer.new }
     ensures refused { IfErr result (IsRefusedBytes bytes.now) }
-    ensures silent { IfErr result (λ e. e ≢ SolveError.Write (record {}) →
-        writer.new ≡ writer.old) }
-    ensures write { result ≡ Err (SolveError.Write (record {})) →
-        Outputs SolveCode bytes.now (AppendsPrefix (S.taken writer.old) (S.taken writer.new)) }
-    ensures write_failed { result ≡ Err (SolveError.Write (record {})) →
-        S.has_failed writer.new ≡ true }
 {
     let verified = verified_code(alloc, bytes)?;
     write_report(rt, alloc, &verified, options, gate, writer)
@@ -73,19 +69,12 @@ pub fn solve_code<R: Threads + Sync, G: Gate + Sync, S: Sink>(
 /// and where; `Memory` comes where a request for memory was refused, and `Write` where the text
 /// could not be written whole.
 pub fn verify_code<S: Sink>(alloc: Global, bytes: &[u8], writer: &mut S) -> Result<(), SolveError>
-    ensures accepted { OnOk result
-        (Outputs Verify bytes.now (Appends (S.taken writer.old) (S.taken writer.new))) }
-    ensures kept { OnOk result (S.has_failed writer.new ≡ S.has_failed writer.old) }
+    ensures accepted { Delivers (Outputs Verify bytes.now) result
+        S.taken S.has_failed writer.old writer.new }
     ensures refused { IfErr result (IsUnverified bytes.now) }
-    ensures silent { IfErr result (λ e. e ≢ SolveError.Write (record {}) →
-        writer.new ≡ writer.old) }
-    ensures write { result ≡ Err (SolveError.Write (record {})) →
-        Outputs Verify bytes.now (AppendsPrefix (S.taken writer.old) (S.taken writer.new)) }
-    ensures write_failed { result ≡ Err (SolveError.Write (record {})) →
-        S.has_failed writer.new ≡ true }
 {
     let _verified = verified_code(alloc, bytes)?;
-    put(b"accepted\n", writer).map_err(SolveError::Write)
+    deliver(b"accepted\n", writer)
 }
 
 /// Lists a module, given by its bytes, whose code need not be accepted.
@@ -94,21 +83,11 @@ pub fn verify_code<S: Sink>(alloc: Global, bytes: &[u8], writer: &mut S) -> Resu
 /// `Module` says what is wrong with the bytes and where; `Memory` comes where a request for memory
 /// was refused, and `Write` where the listing could not be written whole.
 pub fn list_code<S: Sink>(alloc: Global, bytes: &[u8], writer: &mut S) -> Result<(), SolveError>
-    ensures listed { OnOk result
-        (Outputs List bytes.now (Appends (S.taken writer.old) (S.taken writer.new))) }
-    ensures kept { OnOk result (S.has_failed writer.new ≡ S.has_failed writer.old) }
+    ensures listed { Delivers (Outputs List bytes.now) result
+        S.taken S.has_failed writer.old writer.new }
     ensures refused { IfErr result (IsUnlisted bytes.now) }
-    ensures silent { IfErr result (λ e. e ≢ SolveError.Write (record {}) →
-        writer.new ≡ writer.old) }
-    ensures write { result ≡ Err (SolveError.Write (record {})) →
-        Outputs List bytes.now (AppendsPrefix (S.taken writer.old) (S.taken writer.new)) }
-    ensures write_failed { result ≡ Err (SolveError.Write (record {})) →
-        S.has_failed writer.new ≡ true }
 {
     let module = decode(alloc, bytes)?;
     let listing = list(alloc, &module)?;
-    match put(listing.as_slice(), writer) {
-        Ok(()) => Ok(()),
-        Err(failed) => Err(SolveError::Write(failed)),
-    }
+    deliver(listing.as_slice(), writer)
 }

@@ -1,7 +1,5 @@
 //! From texts to their modules.
-ghost use Rattle.std.specs.Prelude.{◌≡◌, ◌≢◌, ◌≤◌, true, length, IfOk, IfErr, OnOk, Err};
-ghost use Rattle.std.specs.Io.KnownBytes.{Appends};
-ghost use Rattle.pb_sorts.specs.Sink.{AppendsPrefix};
+ghost use Rattle.std.specs.Prelude.{◌≡◌, ◌≢◌, ◌≤◌, true, length, IfOk, IfErr};
 ghost use Rattle.pb_text_tree.specs.Form.{spec_form};
 ghost use Rattle.pb_text_meaning.specs.Erase.{erase};
 ghost use Rattle.pb_typing_rules.specs.WellTyped.{IsWellTyped};
@@ -9,9 +7,11 @@ ghost use Rattle.pb_text_names.specs.ModuleNames.{has_names};
 ghost use Rattle.pb_bytecode.specs.Decoded.{module_contents};
 ghost use Rattle.pb_command_line.specs.declared.command.Command.TheVariants.{Compile};
 ghost use Rattle.pbsolve.specs.Answers.{IsTheReading, IsModuleOfForm, IsModuleOfText};
+ghost use Rattle.pbsolve.specs.Delivery.{Delivers};
 ghost use Rattle.pbsolve.specs.Outputs.{Outputs};
 ghost use Rattle.pbsolve.specs.Refusals.{IsRefused, IsUncompiled, IsUncompiledForm};
 
+use crate::delivery::deliver;
 use crate::input::INPUT_LIMIT;
 use crate::solve_error::SolveError;
 use pb_assembler::{CompileError, compile};
@@ -20,7 +20,7 @@ use pb_assembler_modules::verify_compiled;
 use pb_bytecode::Module;
 use pb_bytecode::encode::encode;
 use pb_normal::normalise;
-use pb_sorts::{Sink, put};
+use pb_sorts::Sink;
 use pb_text_names::names_of_texts_are_names_of_modules;
 use pb_typing::Typed;
 use pb_verifier::Verified;
@@ -95,22 +95,12 @@ pub(crate) fn verified_text(alloc: Global, bytes: &[u8]) -> Result<Verified, Sol
 /// could not be written whole.
 pub fn compile_text<S: Sink>(alloc: Global, bytes: &[u8], writer: &mut S) -> Result<(), SolveError>
     requires { length bytes.now ≤ INPUT_LIMIT }
-    ensures module { OnOk result
-        (Outputs Compile bytes.now (Appends (S.taken writer.old) (S.taken writer.new))) }
-    ensures kept { OnOk result (S.has_failed writer.new ≡ S.has_failed writer.old) }
+    ensures module { Delivers (Outputs Compile bytes.now) result
+        S.taken S.has_failed writer.old writer.new }
     ensures refused { IfErr result (IsUncompiled bytes.now) }
-    ensures silent { IfErr result (λ e. e ≢ SolveError.Write (record {}) →
-        writer.new ≡ writer.old) }
-    ensures write { result ≡ Err (SolveError.Write (record {})) →
-        Outputs Compile bytes.now (AppendsPrefix (S.taken writer.old) (S.taken writer.new)) }
-    ensures write_failed { result ≡ Err (SolveError.Write (record {})) →
-        S.has_failed writer.new ≡ true }
 {
     let typed = typed(alloc, bytes)?;
     let module = compiled(alloc, &typed)?;
     let spelled = encode(alloc, &module)?;
-    match put(spelled.as_slice(), writer) {
-        Ok(()) => Ok(()),
-        Err(failed) => Err(SolveError::Write(failed)),
-    }
+    deliver(spelled.as_slice(), writer)
 }

@@ -4,6 +4,7 @@
 mod call_places;
 mod code;
 mod compile;
+mod delivery;
 mod input;
 mod laws;
 mod models;

@@ -1,15 +1,15 @@
 //! From models to the texts of their properties, and to the verdicts on them.
-ghost use Rattle.std.specs.Prelude.{◌≡◌, ◌≢◌, ◌≤◌, ◌<◌, ℕ, List, Some, true, length, IfOk, OnOk, IfErr};
+ghost use Rattle.std.specs.Prelude.{◌≡◌, ◌≢◌, ◌≤◌, ◌<◌, ℕ, List, Some, length, IfOk, IfErr};
 ghost use Rattle.std.specs.Prelude.{Err, IsSome, option_copied, string_bytes};
 ghost use Rattle.std.specs.List.{slice_get};
-ghost use Rattle.std.specs.Io.KnownBytes.{Appends};
-ghost use Rattle.pb_sorts.specs.Sink.{AppendsPrefix};
 ghost use Rattle.pb_model_tree.specs.Form.{PropertyForm, model_form};
 ghost use Rattle.pb_model_properties.specs.Said.{IsModelOf};
+ghost use Rattle.pbsolve.specs.Delivery.{Delivers};
 ghost use Rattle.pbsolve.specs.Models.{AreVerdicts, IsUnchecked, IsUntranslated, IsVerdict};
 ghost use Rattle.pbsolve.specs.Outputs.{OutputsTranslation, OutputsVerdicts};
 
 use crate::compile::verified;
+use crate::delivery::deliver;
 use crate::input::INPUT_LIMIT;
 use crate::solve_error::SolveError;
 use pb_exploration::Gate;
@@ -18,7 +18,7 @@ use pb_model_properties::{push_verdict, read_model, text_at, translation_of};
 use pb_model_typing::TypedModel;
 use pb_report_texts::Answer;
 use pb_solution::{SolveOptions, answer_module};
-use pb_sorts::{Sink, put};
+use pb_sorts::Sink;
 use std::alloc::Global;
 use std::thread::Threads;
 
@@ -39,24 +39,13 @@ pub fn translate_text<S: Sink>(
     writer: &mut S,
 ) -> Result<(), SolveError>
     requires input { length bytes.now ≤ INPUT_LIMIT }
-    ensures text { OnOk result (OutputsTranslation (option_copied property.entry) bytes.now
-        (Appends (S.taken writer.old) (S.taken writer.new))) }
-    ensures kept { OnOk result (S.has_failed writer.new ≡ S.has_failed writer.old) }
+    ensures text { Delivers (OutputsTranslation (option_copied property.entry) bytes.now) result
+        S.taken S.has_failed writer.old writer.new }
     ensures refused { IfErr result (IsUntranslated (option_copied property.entry) bytes.now) }
     ensures named { result ≡ Err SolveError.NoProperty → IsSome property.entry }
-    ensures silent { IfErr result (λ e. e ≢ SolveError.Write (record {}) →
-        writer.new ≡ writer.old) }
-    ensures write { result ≡ Err (SolveError.Write (record {})) →
-        OutputsTranslation (option_copied property.entry) bytes.now
-        (AppendsPrefix (S.taken writer.old) (S.taken writer.new)) }
-    ensures write_failed { result ≡ Err (SolveError.Write (record {})) →
-        S.has_failed writer.new ≡ true }
 {
     let text = translation_of(alloc, bytes, property)?;
-    match put(text.as_slice(), writer) {
-        Ok(()) => Ok(()),
-        Err(failed) => Err(SolveError::Write(failed)),
-    }
+    deliver(text.as_slice(), writer)
 }
 
 // The verdict on the property at a place of a model.
@@ -125,21 +114,11 @@ pub fn check_text<R: Threads + Sync, G: Gate + Sync, S: Sink>(
     writer: &mut S,
 ) -> Result<(), SolveError>
     requires input { length bytes.now ≤ INPUT_LIMIT }
-    ensures verdicts { OnOk result
-        (OutputsVerdicts bytes.now (Appends (S.taken writer.old) (S.taken writer.new))) }
-    ensures kept { OnOk result (S.has_failed writer.new ≡ S.has_failed writer.old) }
+    ensures verdicts { Delivers (OutputsVerdicts bytes.now) result
+        S.taken S.has_failed writer.old writer.new }
     ensures refused { IfErr result (IsUnchecked bytes.now) }
-    ensures silent { IfErr result (λ e. e ≢ SolveError.Write (record {}) →
-        writer.new ≡ writer.old) }
-    ensures write { result ≡ Err (SolveError.Write (record {})) →
-        OutputsVerdicts bytes.now (AppendsPrefix (S.taken writer.old) (S.taken writer.new)) }
-    ensures write_failed { result ≡ Err (SolveError.Write (record {})) →
-        S.has_failed writer.new ≡ true }
 {
     let model = read_model(alloc, bytes)?;
     let lines = verdicts_on(rt, alloc, &model, options, gate)?;
-    match put(lines.as_bytes(), writer) {
-        Ok(()) => Ok(()),
-        Err(failed) => Err(SolveError::Write(failed)),
-    }
+    deliver(lines.as_bytes(), writer)
 }

@@ -1,14 +1,14 @@
 //! The texts of a verified module: its report, its game, its solution, a certificate and its
 //! evidence.
-ghost use Rattle.std.specs.Prelude.{◌≡◌, ◌≢◌, ◌≤◌, ◌<◌, ℕ, Option, true, IfOk, IfErr, OnOk, Err};
+ghost use Rattle.std.specs.Prelude.{◌≢◌, ◌≤◌, ◌<◌, ℕ, Option, IfOk, IfErr};
 ghost use Rattle.std.specs.Io.KnownBytes.{Appends};
-ghost use Rattle.pb_sorts.specs.Sink.{AppendsPrefix};
 ghost use Rattle.pb_text_tree.specs.declared.place.Place.{Place};
 ghost use Rattle.pb_report_texts.specs.Report.{report_text};
 ghost use Rattle.pb_evidence_texts.specs.CallPlaces.{AreCallPlaces};
 ghost use Rattle.pb_evidence_texts.specs.ModuleEvidence.{ForEvidenceText, IsExplanation};
 ghost use Rattle.pb_solution.specs.Answers.{IsAnswerOf, IsSolutionOf};
 ghost use Rattle.pb_solution.specs.Texts.{ForCertificateText, ForGameText, ForSolutionText};
+ghost use Rattle.pbsolve.specs.Delivery.{Delivers};
 ghost use Rattle.pbsolve.specs.Refusals.{IsRefusedModule};
 ghost use Rattle.pbsolve.specs.Outputs.{ForReport};
 
@@ -37,14 +37,9 @@ pub(crate) fn write_report<R: Threads + Sync, G: Gate + Sync, S: Sink>(
     ensures answer { IfOk result (IsAnswerOf verified.now) }
     ensures report { IfOk result
         (λ answer. Appends (S.taken writer.old) (S.taken writer.new) (report_text answer)) }
-    ensures kept { OnOk result (S.has_failed writer.new ≡ S.has_failed writer.old) }
+    ensures written { Delivers (ForReport verified.now) result
+        S.taken S.has_failed writer.old writer.new }
     ensures refused { IfErr result (IsRefusedModule verified.now) }
-    ensures silent { IfErr result (λ e. e ≢ SolveError.Write (record {}) →
-        writer.new ≡ writer.old) }
-    ensures write { result ≡ Err (SolveError.Write (record {})) →
-        ForReport verified.now (AppendsPrefix (S.taken writer.old) (S.taken writer.new)) }
-    ensures write_failed { result ≡ Err (SolveError.Write (record {})) →
-        S.has_failed writer.new ≡ true }
 {
     let answer = answer_module(rt, alloc, verified, options, gate)?;
     report(alloc, &answer, writer)?;
@@ -61,16 +56,9 @@ pub(crate) fn write_game<R: Threads + Sync, G: Gate + Sync, S: Sink>(
     writer: &mut S,
 ) -> Result<(), SolveError>
     requires { (0 < workers) × (workers ≤ 16) }
-    ensures game { OnOk result
-        (ForGameText verified.now (Appends (S.taken writer.old) (S.taken writer.new))) }
-    ensures kept { OnOk result (S.has_failed writer.new ≡ S.has_failed writer.old) }
+    ensures game { Delivers (ForGameText verified.now) result
+        S.taken S.has_failed writer.old writer.new }
     ensures refused { IfErr result (IsRefusedModule verified.now) }
-    ensures silent { IfErr result (λ e. e ≢ SolveError.Write (record {}) →
-        writer.new ≡ writer.old) }
-    ensures write { result ≡ Err (SolveError.Write (record {})) →
-        ForGameText verified.now (AppendsPrefix (S.taken writer.old) (S.taken writer.new)) }
-    ensures write_failed { result ≡ Err (SolveError.Write (record {})) →
-        S.has_failed writer.new ≡ true }
 {
     let built = build_module(rt, alloc, verified, workers, gate)?;
     built.write_game(alloc, verified, writer)?;
@@ -86,16 +74,9 @@ pub(crate) fn write_solution<R: Threads + Sync, G: Gate + Sync, S: Sink>(
     gate: &G,
     writer: &mut S,
 ) -> Result<(), SolveError>
-    ensures solution { OnOk result
-        (ForSolutionText verified.now (Appends (S.taken writer.old) (S.taken writer.new))) }
-    ensures kept { OnOk result (S.has_failed writer.new ≡ S.has_failed writer.old) }
+    ensures solution { Delivers (ForSolutionText verified.now) result
+        S.taken S.has_failed writer.old writer.new }
     ensures refused { IfErr result (IsRefusedModule verified.now) }
-    ensures silent { IfErr result (λ e. e ≢ SolveError.Write (record {}) →
-        writer.new ≡ writer.old) }
-    ensures write { result ≡ Err (SolveError.Write (record {})) →
-        ForSolutionText verified.now (AppendsPrefix (S.taken writer.old) (S.taken writer.new)) }
-    ensures write_failed { result ≡ Err (SolveError.Write (record {})) →
-        S.has_failed writer.new ≡ true }
 {
     let solved = solve_module(rt, alloc, verified, options, gate)?;
     solved.write_solution(alloc, verified, writer)?;
@@ -111,16 +92,9 @@ pub(crate) fn write_certificate<R: Threads + Sync, G: Gate + Sync, S: Sink>(
     gate: &G,
     writer: &mut S,
 ) -> Result<(), SolveError>
-    ensures certificate { OnOk result
-        (ForCertificateText verified.now (Appends (S.taken writer.old) (S.taken writer.new))) }
-    ensures kept { OnOk result (S.has_failed writer.new ≡ S.has_failed writer.old) }
+    ensures certificate { Delivers (ForCertificateText verified.now) result
+        S.taken S.has_failed writer.old writer.new }
     ensures refused { IfErr result (IsRefusedModule verified.now) }
-    ensures silent { IfErr result (λ e. e ≢ SolveError.Write (record {}) →
-        writer.new ≡ writer.old) }
-    ensures write { result ≡ Err (SolveError.Write (record {})) →
-        ForCertificateText verified.now (AppendsPrefix (S.taken writer.old) (S.taken writer.new)) }
-    ensures write_failed { result ≡ Err (SolveError.Write (record {})) →
-        S.has_failed writer.new ≡ true }
 {
     let solved = solve_module(rt, alloc, verified, options, gate)?;
     solved.write_certificate(alloc, verified, writer)?;
@@ -157,18 +131,9 @@ pub(crate) fn write_evidence<S: Sink>(
         × AreCallPlaces place placed.now.explanation.now.evidence placed.now.call_places.now }
     ensures evidence { (place : ℕ → ℕ → Option Place)
         → AreCallPlaces place placed.now.explanation.now.evidence placed.now.call_places.now
-        → OnOk result (ForEvidenceText verified.now place
-        (Appends (S.taken writer.old) (S.taken writer.new))) }
-    ensures kept { OnOk result (S.has_failed writer.new ≡ S.has_failed writer.old) }
+        → Delivers (ForEvidenceText verified.now place) result
+        S.taken S.has_failed writer.old writer.new }
     ensures refused { IfErr result (IsRefusedModule verified.now) }
-    ensures silent { IfErr result (λ e. e ≢ SolveError.Write (record {}) →
-        writer.new ≡ writer.old) }
-    ensures write { result ≡ Err (SolveError.Write (record {})) → (place : ℕ → ℕ → Option Place)
-        → AreCallPlaces place placed.now.explanation.now.evidence placed.now.call_places.now
-        → ForEvidenceText verified.now place
-        (AppendsPrefix (S.taken writer.old) (S.taken writer.new)) }
-    ensures write_failed { result ≡ Err (SolveError.Write (record {})) →
-        S.has_failed writer.new ≡ true }
 {
     write_explanation(alloc, verified, placed, writer)?;
     Ok(())

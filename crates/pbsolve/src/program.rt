@@ -6,6 +6,7 @@ ghost use Rattle.pb_report.specs.declared.fault.ProgramFault.TheVariants as faul
 ghost use Rattle.pb_report.specs.Lines.{line_of};
 ghost use Rattle.pb_command_line.specs.declared.command.Command.TheVariants.{Translate};
 ghost use Rattle.pb_command_line.specs.Words.{AskForSomething, HaveFault, AskNothing, AskPlainly};
+ghost use Rattle.pbsolve.specs.Delivery.{Delivers};
 ghost use Rattle.pbsolve.specs.Outputs.{OutputsFor, IsRefusedFor};
 ghost use Rattle.pbsolve.specs.Program.{fault_status, status_of, error_line_of, Answers};
 ghost use Rattle.pbsolve.specs.Program.{IsRefusedBy, IsToldAs, LackProperty, Tells, ReadsAtMost, Refuses};
@@ -39,18 +40,11 @@ fn answer<R: Threads + Sync, G: Gate + Sync, O: Sink>(
     out: &mut O,
 ) -> Result<(), SolveError>
     requires { length bytes.now ≤ INPUT_LIMIT }
-    ensures answered { OnOk result
-        (OutputsFor request bytes.now (Appends (O.taken out.old) (O.taken out.new))) }
-    ensures kept { OnOk result (O.has_failed out.new ≡ O.has_failed out.old) }
+    ensures written { Delivers (OutputsFor request bytes.now) result
+        O.taken O.has_failed out.old out.new }
     ensures refused { IfErr result (IsRefusedFor request bytes.now) }
     ensures named { result ≡ Err SolveError.NoProperty → IsSome request.property }
     ensures asked { result ≡ Err SolveError.NoProperty → request.command ≡ Translate }
-    ensures silent { IfErr result (λ e. e ≢ SolveError.Write (record {}) → out.new ≡ out.old) }
-    ensures write { result ≡ Err (SolveError.Write (record {})) →
-        OutputsFor request bytes.now
-        (AppendsPrefix (O.taken out.old) (O.taken out.new)) }
-    ensures write_failed { result ≡ Err (SolveError.Write (record {})) →
-        O.has_failed out.new ≡ true }
 {
     let options = SolveOptions {
         workers: request.workers,

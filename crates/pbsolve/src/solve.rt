@@ -1,11 +1,11 @@
 //! From texts to answers.
-ghost use Rattle.std.specs.Prelude.{◌≡◌, ◌≢◌, ◌≤◌, ◌<◌, true, length, IfOk, OnOk, IfErr, Err};
+ghost use Rattle.std.specs.Prelude.{◌≤◌, ◌<◌, length, IfOk, IfErr};
 ghost use Rattle.std.specs.Io.KnownBytes.{Appends};
-ghost use Rattle.pb_sorts.specs.Sink.{AppendsPrefix};
 ghost use Rattle.pb_command_line.specs.declared.command.Command.TheVariants.{Solve, Game, Solution};
 ghost use Rattle.pb_command_line.specs.declared.command.Command.TheVariants.{Certificate};
 ghost use Rattle.pb_report_texts.specs.Report.{report_text};
 ghost use Rattle.pbsolve.specs.Answers.{IsAnswer};
+ghost use Rattle.pbsolve.specs.Delivery.{Delivers};
 ghost use Rattle.pbsolve.specs.Refusals.{IsRefused};
 ghost use Rattle.pbsolve.specs.Outputs.{Outputs, OutputsEvidence};
 
@@ -54,18 +54,13 @@ pub fn solve_text<R: Threads + Sync, G: Gate + Sync, S: Sink>(
     ensures answer { IfOk result (IsAnswer bytes.now) }
     ensures report { IfOk result
         (λ answer. Appends (S.taken writer.old) (S.taken writer.new) (report_text answer)) }
-    ensures kept { OnOk result (S.has_failed writer.new ≡ S.has_failed writer.old) }
+
+    // Nothing is written before the answer is known.
+    ensures written { Delivers (Outputs Solve bytes.now) result
+        S.taken S.has_failed writer.old writer.new }
 
     // What a refusal says of the text.
     ensures refused { IfErr result (IsRefused bytes.now) }
-
-    // Nothing is written before the answer is known.
-    ensures silent { IfErr result (λ e. e ≢ SolveError.Write (record {}) →
-        writer.new ≡ writer.old) }
-    ensures write { result ≡ Err (SolveError.Write (record {})) →
-        Outputs Solve bytes.now (AppendsPrefix (S.taken writer.old) (S.taken writer.new)) }
-    ensures write_failed { result ≡ Err (SolveError.Write (record {})) →
-        S.has_failed writer.new ≡ true }
 {
     let verified = verified_text(alloc, bytes)?;
     instances_have_trees(&verified);
@@ -86,16 +81,9 @@ pub fn game_of<R: Threads + Sync, G: Gate + Sync, S: Sink>(
 ) -> Result<(), SolveError>
     requires input { length bytes.now ≤ INPUT_LIMIT }
     requires workers { (0 < workers) × (workers ≤ 16) }
-    ensures game { OnOk result
-        (Outputs Game bytes.now (Appends (S.taken writer.old) (S.taken writer.new))) }
-    ensures kept { OnOk result (S.has_failed writer.new ≡ S.has_failed writer.old) }
+    ensures game { Delivers (Outputs Game bytes.now) result
+        S.taken S.has_failed writer.old writer.new }
     ensures refused { IfErr result (IsRefused bytes.now) }
-    ensures silent { IfErr result (λ e. e ≢ SolveError.Write (record {}) →
-        writer.new ≡ writer.old) }
-    ensures write { result ≡ Err (SolveError.Write (record {})) →
-        Outputs Game bytes.now (AppendsPrefix (S.taken writer.old) (S.taken writer.new)) }
-    ensures write_failed { result ≡ Err (SolveError.Write (record {})) →
-        S.has_failed writer.new ≡ true }
 {
     let verified = verified_text(alloc, bytes)?;
     write_game(rt, alloc, &verified, workers, gate, writer)
@@ -116,16 +104,9 @@ pub fn solution_of<R: Threads + Sync, G: Gate + Sync, S: Sink>(
     writer: &mut S,
 ) -> Result<(), SolveError>
     requires input { length bytes.now ≤ INPUT_LIMIT }
-    ensures solution { OnOk result
-        (Outputs Solution bytes.now (Appends (S.taken writer.old) (S.taken writer.new))) }
-    ensures kept { OnOk result (S.has_failed writer.new ≡ S.has_failed writer.old) }
+    ensures solution { Delivers (Outputs Solution bytes.now) result
+        S.taken S.has_failed writer.old writer.new }
     ensures refused { IfErr result (IsRefused bytes.now) }
-    ensures silent { IfErr result (λ e. e ≢ SolveError.Write (record {}) →
-        writer.new ≡ writer.old) }
-    ensures write { result ≡ Err (SolveError.Write (record {})) →
-        Outputs Solution bytes.now (AppendsPrefix (S.taken writer.old) (S.taken writer.new)) }
-    ensures write_failed { result ≡ Err (SolveError.Write (record {})) →
-        S.has_failed writer.new ≡ true }
 {
     let verified = verified_text(alloc, bytes)?;
     write_solution(rt, alloc, &verified, options, gate, writer)
@@ -149,16 +130,9 @@ pub fn certificate_of<R: Threads + Sync, G: Gate + Sync, S: Sink>(
     writer: &mut S,
 ) -> Result<(), SolveError>
     requires input { length bytes.now ≤ INPUT_LIMIT }
-    ensures certificate { OnOk result
-        (Outputs Certificate bytes.now (Appends (S.taken writer.old) (S.taken writer.new))) }
-    ensures kept { OnOk result (S.has_failed writer.new ≡ S.has_failed writer.old) }
+    ensures certificate { Delivers (Outputs Certificate bytes.now) result
+        S.taken S.has_failed writer.old writer.new }
     ensures refused { IfErr result (IsRefused bytes.now) }
-    ensures silent { IfErr result (λ e. e ≢ SolveError.Write (record {}) →
-        writer.new ≡ writer.old) }
-    ensures write { result ≡ Err (SolveError.Write (record {})) →
-        Outputs Certificate bytes.now (AppendsPrefix (S.taken writer.old) (S.taken writer.new)) }
-    ensures write_failed { result ≡ Err (SolveError.Write (record {})) →
-        S.has_failed writer.new ≡ true }
 {
     let verified = verified_text(alloc, bytes)?;
     write_certificate(rt, alloc, &verified, options, gate, writer)
@@ -184,17 +158,9 @@ pub fn explain_text<R: Threads + Sync, G: Gate + Sync, S: Sink>(
     writer: &mut S,
 ) -> Result<(), SolveError>
     requires input { length bytes.now ≤ INPUT_LIMIT }
-    ensures evidence { OnOk result (OutputsEvidence options.places bytes.now
-        (Appends (S.taken writer.old) (S.taken writer.new))) }
-    ensures kept { OnOk result (S.has_failed writer.new ≡ S.has_failed writer.old) }
+    ensures evidence { Delivers (OutputsEvidence options.places bytes.now) result
+        S.taken S.has_failed writer.old writer.new }
     ensures refused { IfErr result (IsRefused bytes.now) }
-    ensures silent { IfErr result (λ e. e ≢ SolveError.Write (record {}) →
-        writer.new ≡ writer.old) }
-    ensures write { result ≡ Err (SolveError.Write (record {})) →
-        OutputsEvidence options.places bytes.now
-        (AppendsPrefix (S.taken writer.old) (S.taken writer.new)) }
-    ensures write_failed { result ≡ Err (SolveError.Write (record {})) →
-        S.has_failed writer.new ≡ true }
 {
     let typed = typed(alloc, bytes)?;
     let verified = verified(alloc, &typed)?;

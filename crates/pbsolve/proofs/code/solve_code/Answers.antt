@@ -1,6 +1,25 @@
+use Rattle.std.proofs.Common.{ℕ, List}
+use Rattle.pb_command_line.specs.declared.command.Command.TheVariants.{SolveCode}
+use Rattle.pbsolve.specs.Outputs.{ForReport, Outputs}
+use Rattle.pbsolve.proofs.Deliveries.{less_delivered, nothing_written}
 use Rattle.pbsolve.proofs.Refusals.{refused_code_of}
 use Rattle.pbsolve.proofs.code.solve_code.Goals as goal
+
+pub returns-in_err-verified-clause-written : goal.returns-in_err-verified-clause-written
+returns-in_err-verified-clause-written g c =
+    nothing_written g.S.Sink.taken g.S.Sink.has_failed (Outputs SolveCode c.args.bytes.now) c.args.writer.now
+    c.from_residual.result c.in_err-verified.field-0.0 c.from_residual.ensures.1 c.in_err-verified.ensures.unwritten
 
 pub returns-in_err-verified-clause-refused : goal.returns-in_err-verified-clause-refused
 returns-in_err-verified-clause-refused g c =
     refused_code_of c.args.bytes.now c.from_residual.result c.in_err-verified.field-0.0 c.from_residual.ensures.1 c.in_err-verified.ensures.refused
+
+pub returns-clause-written : goal.returns-clause-written
+returns-clause-written g c =
+    let m = c.in_ok-verified.verified in
+    less_delivered g.S.Sink.taken g.S.Sink.has_failed (ForReport m) (Outputs SolveCode c.args.bytes.now)
+    (λ (P : List ℕ → Type 0) h. (
+      h.0,
+      record { contents = m; of_code = c.in_ok-verified.ensures.«module»; answered = h.1 },
+      h.2,
+    )) c.args.writer.now c.write_report.new.writer c.write_report.result c.write_report.ensures.written

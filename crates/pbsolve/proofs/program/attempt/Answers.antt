@@ -1,5 +1,5 @@
 -- Of the faults of the words and of the input each is told as itself.
-use Rattle.std.proofs.Common.{◌≡◌, ◌≢◌, ◌≤◌, ℕ, List, Option, None, inl, inr, length, map, refl, ap, sym, subst, Result, Ok, Err, IfErr, IsErrAnd, arith}
+use Rattle.std.proofs.Common.{◌≡◌, ◌≢◌, ◌≤◌, ℕ, Bool, true, List, Option, None, inl, inr, length, map, refl, ap, sym, subst, Result, Ok, Err, IfErr, IsErrAnd, arith}
 use Rattle.std.specs.Prelude.{IsSome}
 use Rattle.std.specs.Io.KnownBytes.{Appends}
 use Rattle.pb_sorts.specs.Sink.{AppendsPrefix}
@@ -16,6 +16,7 @@ use Rattle.pbsolve.specs.declared.solve_error.SolveError.TheVariants as solve_er
 use Rattle.pb_command_line.specs.declared.command.Command.{Command}
 use Rattle.pb_command_line.specs.declared.command.Command.TheVariants.{Translate}
 use Rattle.pb_model_properties.specs.Refusals.{LacksProperty}
+use Rattle.pbsolve.specs.Delivery.{Leaves}
 use Rattle.pbsolve.specs.Outputs.{OutputsFor, IsRefusedFor, IsRefusedWith, property_name}
 use Rattle.pbsolve.specs.Program.{ForInput, IsRefusedBy}
 use Rattle.pbsolve.specs.declared.input.InputError.TheVariants.{Failed, TooLong, Memory}
@@ -23,6 +24,7 @@ use Rattle.pbsolve.specs.declared.run_error.RunError.TheVariants.{ProgramFault}
 use Rattle.pb_command_line.specs.declared.words.WordsError.{WordsError}
 use Rattle.pb_command_line.specs.declared.words.WordsError.TheVariants as words_error
 use Rattle.pbsolve.specs.Errors.{input_fault, solve_fault, words_fault}
+use Rattle.pbsolve.proofs.Deliveries.{delivered, left}
 use Rattle.pbsolve.proofs.program.attempt.Goals as goal
 
 -- a request that names no property has none
@@ -178,6 +180,12 @@ by_write P (solve_error.Acceptance error) f h = absurd (cc h)
 by_write P solve_error.TooManyVertices f h = absurd (cc h)
 by_write P solve_error.NoProperty f h = absurd (cc h)
 
+-- what an error left, where it is told as a failed write
+begun : {S : Type 0} (taken : S → Option (List ℕ)) (has_failed : S → Bool) (For : (List ℕ → Type 0) → Type 0) (old new : S) (e : SolveError)
+    → Leaves For e taken has_failed old new → solve_fault e ≡ ProgramFault fault.E02 → For (AppendsPrefix (taken old) (taken new)) × (has_failed new ≡ true)
+begun taken has_failed For old new e h told =
+    by_write _ e (λ same. subst (λ (z : SolveError). Leaves For z taken has_failed old new) same h) told
+
 pub returns-in_err-answer-clause-write : goal.returns-in_err-answer-clause-write
 returns-in_err-answer-clause-write g c is =
     let request = c.in_ok-request.request in
@@ -186,33 +194,79 @@ returns-in_err-answer-clause-write g c is =
     let short : length input.items ≤ INPUT_LIMIT = omega (arith, input.ok.0, c.in_ok-input.ensures.short) in
     let made = err_from_is_err_and c.from_residual-in_err-answer.result c.from_residual-in_err-answer.ensures.1 in
     let told : solve_fault error ≡ ProgramFault fault.E02 = cc (sym made.1, sym made.2, is) in
-    let prefix = AppendsPrefix (g.O.Sink.taken c.args.out.now) (g.O.Sink.taken c.answer.new.out) in
-    by_write _ error (λ same. (
+    let taken = g.O.Sink.taken in
+    let has_failed = g.O.Sink.has_failed in
+    let For = OutputsFor request c.as_slice.result.now in
+    let part = begun taken has_failed For c.args.out.now c.answer.new.out error (left taken has_failed For c.args.out.now c.answer.new.out c.answer.result error c.in_err-answer.was c.answer.ensures.written) told in (
       request,
       c.in_ok-request.ensures.asked,
       (
         input.items,
         short,
         c.in_ok-input.ensures.whole,
-        subst (λ bytes. OutputsFor request bytes prefix) c.as_slice.ensures.value (c.in_err-answer.ensures.write (ap Err same)),
+        subst (λ bytes. OutputsFor request bytes (AppendsPrefix (taken c.args.out.now) (taken c.answer.new.out))) c.as_slice.ensures.value part.0,
       ),
-    )) told
+    )
+
+pub returns-in_err-answer-clause-write_failed : goal.returns-in_err-answer-clause-write_failed
+returns-in_err-answer-clause-write_failed g c is =
+    let error = c.in_err-answer.field-0.0 in
+    let made = err_from_is_err_and c.from_residual-in_err-answer.result c.from_residual-in_err-answer.ensures.1 in
+    let told : solve_fault error ≡ ProgramFault fault.E02 = cc (sym made.1, sym made.2, is) in
+    let taken = g.O.Sink.taken in
+    let has_failed = g.O.Sink.has_failed in
+    let For = OutputsFor c.in_ok-request.request c.as_slice.result.now in
+    let part = begun taken has_failed For c.args.out.now c.answer.new.out error (left taken has_failed For c.args.out.now c.answer.new.out c.answer.result error c.in_err-answer.was c.answer.ensures.written) told in
+    part.1
+
+-- and where it isn't told as one, nothing
+silent_by : {S : Type 0} (taken : S → Option (List ℕ)) (has_failed : S → Bool) (For : (List ℕ → Type 0) → Type 0) (old new : S) (e : SolveError)
+    → Leaves For e taken has_failed old new → solve_fault e ≢ ProgramFault fault.E02 → new ≡ old
+silent_by taken has_failed For old new (solve_error.Write error) h other = absurd (other refl)
+silent_by taken has_failed For old new (solve_error.Memory error) h other = h
+silent_by taken has_failed For old new (solve_error.Text error) h other = h
+silent_by taken has_failed For old new (solve_error.Typing error) h other = h
+silent_by taken has_failed For old new (solve_error.Limit limit equation) h other = h
+silent_by taken has_failed For old new (solve_error.Module error) h other = h
+silent_by taken has_failed For old new (solve_error.Acceptance error) h other = h
+silent_by taken has_failed For old new solve_error.TooManyVertices h other = h
+silent_by taken has_failed For old new solve_error.NoProperty h other = h
+
+-- what holds of an error that is no such fault holds of that which `?` hands up
+other_up : {T : Type 0} (P : Type 0) (f : RunError) (r : Result T RunError) (x : RunError) → IsErrAnd r (λ e. e ≡ x) → (x ≢ f → P) → IfErr r (λ e. e ≢ f → P)
+other_up P f (Ok y) x made h = tt
+other_up P f (Err e) x made h = λ other. h (subst (λ (y : RunError). y ≢ f) made other)
+
+pub returns-in_err-answer-clause-silent : goal.returns-in_err-answer-clause-silent
+returns-in_err-answer-clause-silent g c =
+    let error = c.in_err-answer.field-0.0 in
+    let taken = g.O.Sink.taken in
+    let has_failed = g.O.Sink.has_failed in
+    let For = OutputsFor c.in_ok-request.request c.as_slice.result.now in
+    other_up _ (ProgramFault fault.E02) c.from_residual-in_err-answer.result (solve_fault error) c.from_residual-in_err-answer.ensures.1
+    (silent_by taken has_failed For c.args.out.now c.answer.new.out error (left taken has_failed For c.args.out.now c.answer.new.out c.answer.result error c.in_err-answer.was c.answer.ensures.written))
 
 pub returns-clause-answered : goal.returns-clause-answered
 returns-clause-answered g c =
     let request = c.in_ok-request.request in
     let input = c.in_ok-input.input in
     let short : length input.items ≤ INPUT_LIMIT = omega (arith, input.ok.0, c.in_ok-input.ensures.short) in
-    let whole = Appends (g.O.Sink.taken c.args.out.now) (g.O.Sink.taken c.answer.new.out) in (
+    let taken = g.O.Sink.taken in
+    let whole = delivered taken g.O.Sink.has_failed (OutputsFor request c.as_slice.result.now) c.args.out.now c.answer.new.out c.answer.result c.in_ok-answer.field-0 c.in_ok-answer.was c.answer.ensures.written in (
       request,
       c.in_ok-request.ensures.asked,
       (
         input.items,
         short,
         c.in_ok-input.ensures.whole,
-        subst (λ bytes. OutputsFor request bytes whole) c.as_slice.ensures.value c.in_ok-answer.ensures.answered,
+        subst (λ bytes. OutputsFor request bytes (Appends (taken c.args.out.now) (taken c.answer.new.out))) c.as_slice.ensures.value whole.0,
       ),
     )
+
+pub returns-clause-kept : goal.returns-clause-kept
+returns-clause-kept g c =
+    let whole = delivered g.O.Sink.taken g.O.Sink.has_failed (OutputsFor c.in_ok-request.request c.as_slice.result.now) c.args.out.now c.answer.new.out c.answer.result c.in_ok-answer.field-0 c.in_ok-answer.was c.answer.ensures.written in
+    whole.1
 
 -- what holds where no read failed holds where the fault isn't told as one
 unfailed : (P : Type 0) (e : InputError) → (e ≢ Failed → P) → input_fault e ≢ ProgramFault fault.E01 → P
@@ -220,12 +274,7 @@ unfailed P Failed f h = absurd (h refl)
 unfailed P TooLong f h = f (λ is. absurd (cc is))
 unfailed P Memory f h = f (λ is. absurd (cc is))
 
-unfailed_up : {T : Type 0} (P : Type 0) (r : Result T RunError) (x : RunError) → IsErrAnd r (λ e. e ≡ x) → (x ≢ ProgramFault fault.E01 → P)
-    → IfErr r (λ e. e ≢ ProgramFault fault.E01 → P)
-unfailed_up P (Ok y) x made f = tt
-unfailed_up P (Err e) x made f = λ other. f (subst (λ (y : RunError). y ≢ ProgramFault fault.E01) made other)
-
 pub returns-in_err-input-clause-read_refused : goal.returns-in_err-input-clause-read_refused
 returns-in_err-input-clause-read_refused g c =
-    unfailed_up _ c.from_residual-in_err-input.result (input_fault c.in_err-input.field-0.0) c.from_residual-in_err-input.ensures.1
+    other_up _ (ProgramFault fault.E01) c.from_residual-in_err-input.result (input_fault c.in_err-input.field-0.0) c.from_residual-in_err-input.ensures.1
     (unfailed _ c.in_err-input.field-0.0 c.in_err-input.ensures.err_failed)

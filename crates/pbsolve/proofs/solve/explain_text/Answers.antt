@@ -1,12 +1,14 @@
 use Rattle.std.proofs.Common.{List, Option, sym, subst}
-use Rattle.std.specs.Io.KnownBytes.{Appends}
 use Rattle.pb_text_tree.specs.declared.place.Place.{Place}
-use Rattle.pb_sorts.specs.Sink.{AppendsPrefix}
 use Rattle.pb_text_tree.specs.Form.{spec_form}
 use Rattle.pb_bytecode.specs.Meaning.{parameters}
 use Rattle.pb_evidence_texts.specs.CallPlaces.{AreCallPlaces}
+use Rattle.pb_evidence_texts.specs.ModuleEvidence.{ForEvidenceText}
+use Rattle.pbsolve.specs.declared.solve_error.SolveError.TheVariants.{Memory}
 use Rattle.pbsolve.specs.CallPlaces.{told_place}
-use Rattle.pbsolve.proofs.Evidence.{text_evidence, texts_evidence}
+use Rattle.pbsolve.specs.Outputs.{OutputsEvidence}
+use Rattle.pbsolve.proofs.Deliveries.{less_delivered, nothing_written}
+use Rattle.pbsolve.proofs.Evidence.{text_evidence}
 use Rattle.pbsolve.proofs.Refusals.{form_uncompiled, refused_text}
 use Rattle.pbsolve.proofs.solve.explain_text.Goals as goal
 
@@ -20,22 +22,32 @@ write_evidence-requires-clause-places g c =
     let place = told_place c.args.options.places (spec_form c.in_ok-typed.typed.spec) (parameters c.in_ok-verified.verified) in
     (place, subst (λ (xs : List (Option Place)). AreCallPlaces place c.in_ok-explanation.explanation.evidence xs) (sym c.deref.ensures.value) c.in_ok-call_places.ensures)
 
+pub returns-in_err-typed-clause-evidence : goal.returns-in_err-typed-clause-evidence
+returns-in_err-typed-clause-evidence g c =
+    nothing_written g.S.Sink.taken g.S.Sink.has_failed (OutputsEvidence c.args.options.places c.args.bytes.now) c.args.writer.now
+    c.from_residual.result c.in_err-typed.field-0.0 c.from_residual.ensures.1 c.in_err-typed.ensures.unwritten
+
+pub returns-in_err-verified-clause-evidence : goal.returns-in_err-verified-clause-evidence
+returns-in_err-verified-clause-evidence g c =
+    nothing_written g.S.Sink.taken g.S.Sink.has_failed (OutputsEvidence c.args.options.places c.args.bytes.now) c.args.writer.now
+    c.from_residual-in_err-verified.result c.in_err-verified.field-0.0 c.from_residual-in_err-verified.ensures.1 c.in_err-verified.ensures.unwritten
+
+pub returns-in_err-explanation-clause-evidence : goal.returns-in_err-explanation-clause-evidence
+returns-in_err-explanation-clause-evidence g c =
+    nothing_written g.S.Sink.taken g.S.Sink.has_failed (OutputsEvidence c.args.options.places c.args.bytes.now) c.args.writer.now
+    c.from_residual-in_err-explanation.result c.in_err-explanation.field-0.0 c.from_residual-in_err-explanation.ensures.1 c.in_err-explanation.ensures.unwritten
+
+pub returns-in_err-call_places-clause-evidence : goal.returns-in_err-call_places-clause-evidence
+returns-in_err-call_places-clause-evidence g c =
+    nothing_written g.S.Sink.taken g.S.Sink.has_failed (OutputsEvidence c.args.options.places c.args.bytes.now) c.args.writer.now
+    c.from_residual-in_err-call_places.result (Memory c.in_err-call_places.field-0.0) c.from_residual-in_err-call_places.ensures.1 (λ h. absurd (cc h))
+
 pub returns-clause-evidence : goal.returns-clause-evidence
 returns-clause-evidence g c =
     let text = spec_form c.in_ok-typed.typed.spec in
     let m = c.in_ok-verified.verified in
     let place = told_place c.args.options.places text (parameters m) in
     let are = subst (λ (xs : List (Option Place)). AreCallPlaces place c.in_ok-explanation.explanation.evidence xs) (sym c.deref.ensures.value) c.in_ok-call_places.ensures in
-    texts_evidence c.args.bytes.now text m c.instances_have_trees.ensures c.in_ok-typed.ensures.read.0 c.in_ok-verified.ensures.«module» c.args.options.places
-    (Appends (g.S.Sink.taken c.args.writer.now) (g.S.Sink.taken c.write_evidence.new.writer))
-    c.write_evidence.result (c.write_evidence.ensures.evidence place are)
-
-pub returns-clause-write : goal.returns-clause-write
-returns-clause-write g c failed =
-    let text = spec_form c.in_ok-typed.typed.spec in
-    let m = c.in_ok-verified.verified in
-    let place = told_place c.args.options.places text (parameters m) in
-    let are = subst (λ (xs : List (Option Place)). AreCallPlaces place c.in_ok-explanation.explanation.evidence xs) (sym c.deref.ensures.value) c.in_ok-call_places.ensures in
-    text_evidence c.args.bytes.now text m c.instances_have_trees.ensures c.in_ok-typed.ensures.read.0 c.in_ok-verified.ensures.«module» c.args.options.places
-    (AppendsPrefix (g.S.Sink.taken c.args.writer.now) (g.S.Sink.taken c.write_evidence.new.writer))
-    (c.write_evidence.ensures.write failed place are)
+    less_delivered g.S.Sink.taken g.S.Sink.has_failed (ForEvidenceText m place) (OutputsEvidence c.args.options.places c.args.bytes.now)
+    (text_evidence c.args.bytes.now text m c.instances_have_trees.ensures c.in_ok-typed.ensures.read.0 c.in_ok-verified.ensures.«module» c.args.options.places)
+    c.args.writer.now c.write_evidence.new.writer c.write_evidence.result (c.write_evidence.ensures.evidence place are)

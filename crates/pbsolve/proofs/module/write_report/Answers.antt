@@ -1,0 +1,34 @@
+use Rattle.std.proofs.Common.{ℕ, List}
+use Rattle.pb_report_texts.specs.Report.{report_text}
+use Rattle.pbsolve.specs.Errors.{build_refusal}
+use Rattle.pbsolve.specs.Outputs.{ForReport}
+use Rattle.pbsolve.proofs.Deliveries.{build_unwritten, nothing_written, sent_up, sent_whole, written}
+use Rattle.pbsolve.proofs.module.write_report.Goals as goal
+
+pub returns-in_err-answer-clause-written : goal.returns-in_err-answer-clause-written
+returns-in_err-answer-clause-written g c =
+    let error = c.in_err-answer.field-0.0 in
+    nothing_written g.S.Sink.taken g.S.Sink.has_failed (ForReport c.args.verified.now) c.args.writer.now
+    c.from_residual.result (build_refusal error) c.from_residual.ensures.1 (build_unwritten error)
+
+pub returns-in_err-report-clause-written : goal.returns-in_err-report-clause-written
+returns-in_err-report-clause-written g c =
+    let answer = c.in_ok-answer.answer in
+    let For = ForReport c.args.verified.now in
+    let taken = g.S.Sink.taken in
+    let has_failed = g.S.Sink.has_failed in
+    let knows : (P : List ℕ → Type 0) → P (report_text answer) → For P = λ P h. (answer, c.in_ok-answer.ensures.answer, h) in
+    sent_up taken has_failed For c.args.writer.now c.report.new.sink c.report.result c.in_err-report.field-0.0 c.from_residual-in_err-report.result
+    (written For (report_text answer) knows c.report.result (taken c.args.writer.now) (taken c.report.new.sink) (has_failed c.args.writer.now) (has_failed c.report.new.sink) c.report.ensures.text)
+    c.report.ensures.silent c.in_err-report.was c.from_residual-in_err-report.ensures.1
+
+pub returns-clause-written : goal.returns-clause-written
+returns-clause-written g c =
+    let answer = c.in_ok-answer.answer in
+    let For = ForReport c.args.verified.now in
+    let taken = g.S.Sink.taken in
+    let has_failed = g.S.Sink.has_failed in
+    let knows : (P : List ℕ → Type 0) → P (report_text answer) → For P = λ P h. (answer, c.in_ok-answer.ensures.answer, h) in
+    sent_whole taken has_failed For c.args.writer.now c.report.new.sink c.report.result c.in_ok-report.field-0
+    (written For (report_text answer) knows c.report.result (taken c.args.writer.now) (taken c.report.new.sink) (has_failed c.args.writer.now) (has_failed c.report.new.sink) c.report.ensures.text)
+    c.in_ok-report.was

@@ -1,0 +1,21 @@
+use Rattle.pb_solution.specs.Texts.{ForSolutionText}
+use Rattle.pbsolve.specs.Errors.{build_refusal}
+use Rattle.pbsolve.proofs.Deliveries.{build_unwritten, nothing_written, sent_up, sent_whole}
+use Rattle.pbsolve.proofs.module.write_solution.Goals as goal
+
+pub returns-in_err-solved-clause-solution : goal.returns-in_err-solved-clause-solution
+returns-in_err-solved-clause-solution g c =
+    let error = c.in_err-solved.field-0.0 in
+    nothing_written g.S.Sink.taken g.S.Sink.has_failed (ForSolutionText c.args.verified.now) c.args.writer.now
+    c.from_residual.result (build_refusal error) c.from_residual.ensures.1 (build_unwritten error)
+
+pub returns-in_err-write_solution-clause-solution : goal.returns-in_err-write_solution-clause-solution
+returns-in_err-write_solution-clause-solution g c =
+    sent_up g.S.Sink.taken g.S.Sink.has_failed (ForSolutionText c.args.verified.now) c.args.writer.now c.write_solution.new.sink
+    c.write_solution.result c.in_err-write_solution.field-0.0 c.from_residual-in_err-write_solution.result
+    c.write_solution.ensures.text c.write_solution.ensures.silent c.in_err-write_solution.was c.from_residual-in_err-write_solution.ensures.1
+
+pub returns-clause-solution : goal.returns-clause-solution
+returns-clause-solution g c =
+    sent_whole g.S.Sink.taken g.S.Sink.has_failed (ForSolutionText c.args.verified.now) c.args.writer.now c.write_solution.new.sink
+    c.write_solution.result c.in_ok-write_solution.field-0 c.write_solution.ensures.text c.in_ok-write_solution.was
