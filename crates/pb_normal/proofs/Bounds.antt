@@ -27,7 +27,7 @@ use Rattle.pb_normal.specs.Loops.{equation_loops}
 use Rattle.pb_normal.specs.Plain.{AreFree}
 use Rattle.pb_normal.specs.Structs.{has_enumerator, struct_counts}
 use Rattle.pb_normal.specs.Bounds.{Bounds, is_bounded, are_bounded, is_bounded_formula, bounds_with, HasBounds}
-use Rattle.pb_normal.proofs.LoopSlots.{length-loops}
+use Rattle.pb_typing.proofs.LoopCount.{length-loops}
 use Rattle.pb_typed_tree.proofs.Parameters.{free-parameters}
 use Rattle.pb_normal.proofs.Structs.{enumerator_known, recogniser_known, position-there}
 use Rattle.pb_typed_tree.proofs.Truth.{more-free, free-with}

@@ -3,7 +3,6 @@ mod Truth
 pub mod Views
 mod Weight
 mod Operands
-pub mod Shaped
 mod Positive
 mod Rights
 pub mod Equations

@@ -1,6 +1,5 @@
 -- The quantifiers of a normal form, each with its slot and the shape of its values.
 use Rattle.std.proofs.Common.{◌≡◌, ℕ, suc, ◌+◌, Bool, true, false, not, List, [], ◌∷◌, ◌++◌, length, Option, Some, None, refl, sym, ◌∙◌, ap, arith}
-use Rattle.std.proofs.lemmas.List.{length-append}
 use Rattle.pb_text_meaning.specs.Syntax as syntax
 use Rattle.pb_text_meaning.specs.Syntax.{Variable, Equation, Spec}
 use Rattle.pb_typing_declarations.specs.Shapes.{Shape, sort_shape}
@@ -12,25 +11,7 @@ use Rattle.pb_normal.specs.Loops.{loops, equation_loops, variable_shapes}
 use Rattle.pb_normal.specs.Normal.{Term, Argument, Formula}
 use Rattle.pb_normal.specs.Normalisation.{Slotting, unslotted, with_slot, with_slots, slotted, width, signed_test, is_universal, each, arguments, place_of, call, normal}
 use Rattle.pb_normal.specs.SlotOrder.{quantifiers, numbered}
-
-length-variables : (spec : Spec) (xs : List Variable) → length (variable_shapes spec xs) ≡ length xs
-length-variables spec [] = refl
-length-variables spec (x ∷ xs) = ap suc (length-variables spec xs)
-
-join-length : (ss ts : List Shape) (v w : ℕ) → length ss ≡ v → length ts ≡ w → length (ss ++ ts) ≡ v + w
-join-length ss ts v w h k = length-append ss ts ∙ (ap (λ (a : ℕ). a + length ts) h ∙ ap (λ (a : ℕ). v + a) k)
-
--- a shape for each slot
-pub length-loops : (spec : Spec) (f : syntax.Formula) → length (loops spec f) ≡ width f
-length-loops spec (syntax.Formula.Truth b) = refl
-length-loops spec (syntax.Formula.Val x) = refl
-length-loops spec (syntax.Formula.Not f) = length-loops spec f
-length-loops spec (syntax.Formula.And f g) = join-length (loops spec f) (loops spec g) (width f) (width g) (length-loops spec f) (length-loops spec g)
-length-loops spec (syntax.Formula.Or f g) = join-length (loops spec f) (loops spec g) (width f) (width g) (length-loops spec f) (length-loops spec g)
-length-loops spec (syntax.Formula.Implies f g) = join-length (loops spec f) (loops spec g) (width f) (width g) (length-loops spec f) (length-loops spec g)
-length-loops spec (syntax.Formula.Quantified q xs f) =
-    join-length (variable_shapes spec xs) (loops spec f) (length xs) (width f) (length-variables spec xs) (length-loops spec f)
-length-loops spec (syntax.Formula.Call X es) = refl
+use Rattle.pb_typing.proofs.LoopCount.{length-loops}
 
 numbered-append : (n : ℕ) (ss ts : List Shape) → numbered n (ss ++ ts) ≡ numbered n ss ++ numbered (n + length ss) ts
 numbered-append n [] ts = let none : n ≡ n + 0 = omega arith in ap (λ (a : ℕ). numbered a ts) none

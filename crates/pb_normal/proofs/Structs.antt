@@ -11,7 +11,7 @@ use Rattle.pb_typing_rules.specs.WellTyped.{parameters_of, AreProper, IsWellType
 use Rattle.pb_normal.specs.Expansion.{expanded}
 use Rattle.pb_normal.specs.Loops.{AreShaped, IsShaped, loops, variable_shapes}
 use Rattle.pb_normal.specs.Structs.{with_count, struct_counts, AreFew, has_enumerator, IsDeclaredShape, HasDeclaredShapes}
-use Rattle.pb_normal.proofs.Shaped.{variables-shaped, expanded-shaped}
+use Rattle.pb_typing.proofs.Known.{variables-shaped, known_shaped, right_known}
 
 -- ---- entries of tables
 
@@ -208,18 +208,18 @@ module _ (spec : Spec) (declared : IsDeclared spec) where
   loops_declared (Formula.Quantified q xs f) h = all-append here_counts (variable_shapes spec xs) (loops spec f) (variables_declared xs h.0) (loops_declared f h.1)
   loops_declared (Formula.Call X es) h = all-none here_counts
 
-  equations_declared : (E : List Equation) → All (λ (X : Equation). AllDeclared here_counts (variable_shapes spec X.parameters)) E → AreProper spec E → All (HasDeclaredShapes spec) E
+  equations_declared : (E : List Equation) → All (λ (X : Equation). AreShaped spec X.parameters) E → AreProper spec E → All (HasDeclaredShapes spec) E
   equations_declared [] all proper k d below = absurd (omega arith)
   equations_declared (X ∷ E) all proper zero d below = record {
-    parameters = all 0 X (omega arith);
-    loops = loops_declared (expanded X.right) (expanded-shaped spec true (parameters_of spec X) X.right proper.0);
+    parameters = variables_declared X.parameters (all 0 X (omega arith));
+    loops = loops_declared (expanded X.right) (known_shaped spec (parameters_of spec X) (expanded X.right) (right_known spec declared X.parameters X.right (all 0 X (omega arith)) proper.0));
   }
   equations_declared (X ∷ E) all proper (suc k) d below = equations_declared E (λ n e low. all (suc n) e (omega arith)) proper.1 k d (omega arith)
 
 pub shapes-declared : (spec : Spec) → IsWellTyped spec → All (HasDeclaredShapes spec) spec.equations
 shapes-declared spec h =
     equations_declared spec h.declarations spec.equations
-    (λ k d below. variables_declared spec h.declarations _ (variables-shaped spec _ (h.declarations.parameters k d below).shaped)) h.rights
+    (λ k d below. variables-shaped spec _ (h.declarations.parameters k d below).shaped) h.rights
 
 -- ---- few structs
 
