@@ -8,7 +8,8 @@ use Rattle.pb_typing_declarations.specs.Shapes.{Shape}
 use Rattle.pb_typing_declarations.specs.Entries.{shape_of}
 use Rattle.pb_typing.specs.View.{is_positive}
 pub use Rattle.pb_typing_declarations.specs.Entries.{shapes_of}
-pub use Rattle.pb_typed_tree.specs.View.{chained, calculated, term_view, terms_in, links_in, term_views, link_view, link_views, argument_view}
+pub use Rattle.pb_typed_tree.specs.View.{chained, calculated, term_view, term_views}
+pub use Rattle.pb_typed_tree.specs.View.{link_views, argument_view}
 use Rattle.pb_normal.specs.Normal as normal
 use Rattle.pb_normal.specs.Normal.{Each, Join, Call}
 use Rattle.pb_normal.specs.Normalisation.{signed_test}
@@ -38,8 +39,10 @@ is_forall Exists = false
 abbrev mutual
   pub formula_view : Formula → normal.Formula
   formula_view (formula.Test polarity x) = signed_test (is_positive polarity) (term_view x.now)
-  formula_view (formula.Join' junction p first shape row) = chained (Join (is_and junction)) (formula_view first) (formulas_in row)
-  formula_view (formula.Each' quantifier slot carriers p body) = nested (is_forall quantifier) slot carriers.now (formula_view body)
+  formula_view (formula.Join' junction p first shape row) =
+      chained (Join (is_and junction)) (formula_view first) (formulas_in row)
+  formula_view (formula.Each' quantifier slot carriers p body) =
+      nested (is_forall quantifier) slot carriers.now (formula_view body)
   formula_view (formula.Call equation arguments) = Call equation (map argument_view arguments.now)
 
   pub formulas_in : {m : _} → Row_of-Formula m → List normal.Formula
