@@ -13,19 +13,19 @@ abbrev mutual
   pub weight : Formula → ℕ
   weight (formula.Test x) = 1
   weight (formula.Negation' p f) = 8 + weight f
-  weight (formula.Chain' connective p first shape row) = 8 + (weight first + formulas_row row)
+  weight (formula.Chain' connective p first shape row) = 8 + (weight first + links_row row)
   weight (formula.Quantified' quantifier slot carriers p body) = 8 + weight body
   weight (formula.Call equation arguments) = 1
 
-  formulas_row : {m : _} → Row_of-Formula m → ℕ
-  formulas_row end_of-Formula = 0
-  formulas_row (more_of-Formula x row) = weight x + formulas_row row
+  links_row : {m : _} → Row_of-Formula m → ℕ
+  links_row end_of-Formula = 0
+  links_row (more_of-Formula x row) = weight x + links_row row
 
-abbrev pub formulas_weight : List Formula → ℕ
-formulas_weight [] = 0
-formulas_weight (x ∷ xs) = weight x + formulas_weight xs
+abbrev pub links_weight : List Formula → ℕ
+links_weight [] = 0
+links_weight (x ∷ xs) = weight x + links_weight xs
 
-weights-items : (n : _) (row : Row_of-Formula n) → formulas_row row ≡ formulas_weight (items-the_row-Formula n row)
+weights-items : (n : _) (row : Row_of-Formula n) → links_row row ≡ links_weight (items-the_row-Formula n row)
 weights-items n end_of-Formula = refl
 weights-items n (more_of-Formula x row) = ap (λ w. weight x + w) (weights-items _ row)
 
@@ -33,13 +33,13 @@ abbrev row_in : Formula → (n : Count) × Row_of-Formula n
 row_in (formula.Chain' c p first shape row) = (_, row)
 row_in _ = (_, end_of-Formula)
 
-pub weight-chain : (c : Connective) (first : Box Formula Global) (v : Vec Formula Global) → weight (formula.Chain c first v) ≡ 8 + (weight (box_value first) + formulas_weight v.items)
+pub weight-chain : (c : Connective) (first : Box Formula Global) (v : Vec Formula Global) → weight (formula.Chain c first v) ≡ 8 + (weight (box_value first) + links_weight v.items)
 weight-chain c first v =
     let row = row_in (formula.Chain c first v) in
-    ap (λ w. 8 + (weight (box_value first) + w)) (weights-items row.0 row.1 ∙ ap formulas_weight (items_hidden-the_row-Formula-0 v))
+    ap (λ w. 8 + (weight (box_value first) + w)) (weights-items row.0 row.1 ∙ ap links_weight (items_hidden-the_row-Formula-0 v))
 
 -- an operand weighs no more than all of them
-pub operand_lighter : (xs : List Formula) (k : ℕ) (x : Formula) → k < length xs → x ≡ get_or xs k x → weight x ≤ formulas_weight xs
+pub operand_lighter : (xs : List Formula) (k : ℕ) (x : Formula) → k < length xs → x ≡ get_or xs k x → weight x ≤ links_weight xs
 operand_lighter [] k x below at = absurd (omega (arith, below))
 operand_lighter (y ∷ xs) zero x below at = omega (arith, ap weight at)
 operand_lighter (y ∷ xs) (suc k) x below at = omega (arith, operand_lighter xs k x (omega (arith, below)) at)

@@ -8,14 +8,14 @@ use Rattle.pb_normal.specs.SignedForm.{signed_form}
 use Rattle.pb_normal.specs.View.{nested, is_and, is_forall, formula_view, formula_views}
 use Rattle.pb_normal.proofs.Operands.{chain-signed, quantified-signed, signed_next, signed_ended}
 use Rattle.pb_normal.proofs.Views.{formula-join}
-use Rattle.pb_normal.proofs.Weight.{weight, formulas_weight, weight-chain, operand_lighter, chain_is}
+use Rattle.pb_normal.proofs.Weight.{weight, links_weight, weight-chain, operand_lighter, chain_is}
 use Rattle.pb_normal.proofs.signed.+formulas.Goals as goal
 
 -- ---- chains
 
 pub signed_form-signed_chain-requires : goal.signed_form-signed_chain-requires
 signed_form-signed_chain-requires t c =
-    omega (arith, c.decreases, ap weight c.in-Chain.is ∙ weight-chain c.in-Chain.connective c.in-Chain.first c.in-Chain.links, ap weight c.deref-in-Chain.ensures, ap formulas_weight (c.deref-in-Chain-2).ensures.value)
+    omega (arith, c.decreases, ap weight c.in-Chain.is ∙ weight-chain c.in-Chain.connective c.in-Chain.first c.in-Chain.links, ap weight c.deref-in-Chain.ensures, ap links_weight (c.deref-in-Chain-2).ensures.value)
 
 pub signed_form-returns-in-Chain : goal.signed_form-returns-in-Chain
 signed_form-returns-in-Chain t c =
