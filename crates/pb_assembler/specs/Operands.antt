@@ -1,5 +1,5 @@
 -- The operands of a chain: which of them decides first, and which are left behind it.
-use Rattle.std.specs.Prelude.{◌≡◌, ◌⊎◌, ◌<◌, List, [], ◌∷◌, length, Option, Some, None}
+use Rattle.std.specs.Prelude.{◌≡◌, ◌⊎◌, ◌<◌, Bool, true, false, List, [], ◌∷◌, length, Option, Some, None}
 use Rattle.pb_normal.specs.Normal as normal
 use Rattle.pb_normal.specs.Normal.{Term}
 use Rattle.pb_normal.specs.declared.formula.Formula.{Formula}
@@ -23,3 +23,9 @@ early_test f (g ∷ gs) = guarded_by (test_of f) (test_of g) f g gs
 -- all operands but the first, or the first one of two
 abbrev pub IsLeft : Formula → List Formula → Formula → List Formula → Type 0
 IsLeft first rest f gs = (rest ≡ f ∷ gs) ⊎ ((f ≡ first) × (gs ≡ []) × (0 < length rest))
+
+-- the operand of the first pair that a test guards: the second one, where the test is the first
+abbrev pub other_of : (is_first : Bool) → Formula → List Formula → Formula
+other_of b f [] = f
+other_of true f (g ∷ gs) = g
+other_of false f (g ∷ gs) = f

@@ -1,6 +1,6 @@
 //! Code of formulas.
 
-ghost use Rattle.std.specs.Prelude.{◌≡◌, not, true, length, map, option_map, Option, None, IfSome};
+ghost use Rattle.std.specs.Prelude.{◌≡◌, not, true, drop, option_map, Option, None, IfSome};
 ghost use Rattle.std.specs.Prelude.{OnOk};
 ghost use Rattle.pb_typed_tree.specs.View.{chained};
 ghost use Rattle.pb_normal.specs.Normal.{Join};
@@ -9,7 +9,7 @@ ghost use Rattle.pb_normal.specs.View.{nested};
 ghost use Rattle.pb_assembler_scheme.specs.Scheme.{connective_of, deciding, formula_piece};
 ghost use Rattle.pb_assembler_scheme.specs.Scheme.{test_piece};
 ghost use Rattle.pb_assembler.specs.Emitted.{Emits, nowhere};
-ghost use Rattle.pb_assembler.specs.Operands.{early_test, IsLeft};
+ghost use Rattle.pb_assembler.specs.Operands.{early_test, other_of, IsLeft};
 ghost use Rattle.pb_assembler.specs.Tests.{tested_term};
 ghost use Rattle.pb_normal.specs.Small.{is_small, is_small_formula};
 
@@ -64,30 +64,39 @@ pub(crate) fn junction_of(quantifier: Quantifier) -> Junction
     }
 }
 
-/// The test that decides first whether the other operands run, and those operands, where an operand
-/// of the first pair is a test.
-fn early_test<'a, 't>(
-    first: &'a Formula<'t>,
-    rest: &'a [Formula<'t>],
-) -> Option<(Test<'t>, &'a Formula<'t>, &'a [Formula<'t>])>
+/// A test that decides first whether the other operands run: the first operand, or else the second.
+#[derive(Clone, Copy)]
+struct Early<'t> {
+    test: Test<'t>,
+    is_first: bool,
+}
+
+/// The test that decides first whether the other operands run, where an operand of the first pair
+/// is a test.
+fn early_test<'t>(first: &Formula<'t>, rest: &[Formula<'t>]) -> Option<Early<'t>>
     ensures views { option_map (λ r. (
-      tested_term r.0,
-      (formula_view r.1.now, formula_views r.2.now),
+      tested_term r.test,
+      (formula_view (other_of r.is_first first.now rest.now), formula_views (drop 1 rest.now)),
     )) result
         ≡ early_test (formula_view first.now) (formula_views rest.now) }
-    ensures left { IfSome result (λ r. IsLeft first.now rest.now r.1.now r.2.now) }
+    ensures left { IfSome result (λ r. IsLeft first.now rest.now
+        (other_of r.is_first first.now rest.now) (drop 1 rest.now)) }
 {
     let Some((next, others)) = rest.split_first() else {
         return None;
     };
     if let Some(test) = as_test(first) {
-        return Some((test, next, others));
+        let is_first = true;
+        return Some(Early { test, is_first });
     }
     if !others.is_empty() {
         return None;
     }
     match as_test(next) {
-        Some(test) => Some((test, first, others)),
+        Some(test) => {
+            let is_first = false;
+            Some(Early { test, is_first })
+        }
         None => None,
     }
 }
@@ -246,9 +255,9 @@ fn emit_inside<'t>(
     let last = builder.label()?;
     let mut left = first;
     let mut behind = rest;
-    while let Some((next, others)) = behind.split_first() {
-        if let Some((test, guarded, more)) = early_test(left, behind) {
-            emit_tested(builder, test)?;
+    while !behind.is_empty() {
+        if let Some(early) = early_test(left, behind) {
+            emit_tested(builder, early.test)?;
             let passed = builder.label()?;
             let jump = Op::JumpIf {
                 condition: neutral(kind),
@@ -258,13 +267,14 @@ fn emit_inside<'t>(
             emit_plain(builder, Op::Emit(deciding(kind)))?;
             builder.emit(Op::Jump { target: 0 }, Some(last))?;
             builder.place(passed);
-            left = guarded;
-            behind = more;
+            if early.is_first {
+                left = &behind[0];
+            }
         } else {
             emit_formula(builder, layout, kind, left)?;
-            left = next;
-            behind = others;
+            left = &behind[0];
         }
+        behind = &behind[1..];
     }
     emit_formula(builder, layout, kind, left)?;
     builder.place(last);
@@ -290,15 +300,17 @@ fn emit_outside<'t>(
     let last = builder.label()?;
     let mut left = first;
     let mut behind = rest;
-    while let Some((test, guarded, more)) = early_test(left, behind) {
-        emit_tested(builder, test)?;
+    while let Some(early) = early_test(left, behind) {
+        emit_tested(builder, early.test)?;
         let jump = Op::JumpIf {
             condition: neutral(around),
             target: 0,
         };
         builder.emit(jump, Some(last))?;
-        left = guarded;
-        behind = more;
+        if early.is_first {
+            left = &behind[0];
+        }
+        behind = &behind[1..];
     }
     emit_untested(builder, layout, around, left, behind)?;
     builder.place(last);
