@@ -1,8 +1,8 @@
 -- Chains of formulas, operand by operand, and quantifiers, slot by slot.
-use Rattle.std.proofs.Common.{◌≡◌, ℕ, zero, suc, ◌+◌, ◌<◌, Bool, true, false, not, List, [], ◌∷◌, ◌++◌, length, get_or, ◌≤◌, Option, Some, None, IfSome, refl, sym, ap, ◌∙◌, subst, arith, true≢false, Vec, Global, Box, inl, inr}
+use Rattle.std.proofs.Common.{◌≡◌, ℕ, zero, suc, ◌+◌, ◌<◌, Bool, true, false, not, List, [], ◌∷◌, ◌++◌, length, get_or, take, drop, ◌-◌, ◌≤◌, Option, Some, None, IfSome, refl, sym, ap, ◌∙◌, subst, arith, true≢false, Vec, Global, Box, inl, inr}
 use Rattle.std.proofs.lemmas.Bool.{and_parts, ltb-true}
 use Rattle.std.specs.Prelude.{nat_lt, box_value}
-use Rattle.std.proofs.lemmas.List.{nil_from_length}
+use Rattle.std.proofs.lemmas.List.{nil_from_length, take_rest}
 use denote.Enum.Bare.{sameb}
 use Rattle.pb_sorts.specs.declared.carrier.Carrier.{Carrier}
 use Rattle.pb_normal.specs.Normal as normal
@@ -18,8 +18,9 @@ use Rattle.pb_assembler_scheme.specs.Pieces.{Piece, Plain, Then, Unless, Choose,
 use Rattle.pb_assembler_scheme.specs.Scheme.{data_piece, test_of, tested_piece, join_piece, under, bracketed, deciding, connective_of, formula_piece}
 use Rattle.pb_assembler.specs.Draft.{Draft, Labelled}
 use Rattle.pb_assembler.specs.Emitted.{Emits, nowhere}
-use Rattle.pb_assembler.specs.Operands.{Guarded, early_test, guarded_by, IsLeft}
+use Rattle.pb_assembler.specs.Operands.{Guarded, early_test, guarded_by, IsLeft, other_of}
 use Rattle.pb_normal.specs.Small.{is_small, is_small_formula}
+use Rattle.pb_assembler.proofs.Awaited.{Awaits}
 use Rattle.pb_assembler.proofs.Emitting.{emits_then, emits_repeat, adds_from}
 use Rattle.pb_assembler.proofs.FormulaWeight.{weight, formulas_weight, positive, join_is}
 
@@ -233,3 +234,32 @@ same_kind And And b e is = refl
 same_kind And Or b e is = absurd (true≢false (sym is ∙ e))
 same_kind Or And b e is = absurd (true≢false (sym is ∙ e))
 same_kind Or Or b e is = refl
+
+-- ---- the operands that are left
+
+-- the whole chain of first and rest awaits the code of these operands, which keep what is asked of them
+pub record AreLeft (callees : List (List Carrier)) (m a : Bool) (first : Formula) (rest : List Formula) (l : ℕ) (d0 d : Draft) (f : Formula) (fs : List Formula) : Type 0 where
+  pub awaits : Awaits (formula_piece callees a (chained (Join m) (formula_view first) (formula_views rest))) (formula_piece callees a (chained (Join m) (formula_view f) (formula_views fs))) l d0 d
+  pub small : is_small_formula (chained (Join m) (formula_view f) (formula_views fs)) ≡ true
+  pub lighter : weight f + formulas_weight fs ≤ weight first + formulas_weight rest
+
+-- in the code's words
+pub are_left : (callees : List (List Carrier)) (m a : Bool) (first : Formula) (rest : List Formula) (l : ℕ) (d0 d : Draft) (f g : Formula) (fs : List Formula) → g ≡ f
+    → AreLeft callees m a first rest l d0 d f (drop 1 fs) → AreLeft callees m a first rest l d0 d g (take (length fs - 1) (drop 1 fs))
+are_left callees m a first rest l d0 d f g fs same h =
+    subst (λ (x : Formula). AreLeft callees m a first rest l d0 d x (take (length fs - 1) (drop 1 fs))) (sym same)
+    (subst (λ (xs : List Formula). AreLeft callees m a first rest l d0 d f xs) (sym (take_rest fs 1)) h)
+
+pub second_left : (b : Bool) (f : Formula) (fs : List Formula) (x : Formula) → b ≡ true → 0 < length fs → x ≡ get_or fs 0 x → x ≡ other_of b f fs
+second_left b f [] x e l is = absurd (omega arith)
+second_left true f (g ∷ gs) x e l is = is
+second_left false f (g ∷ gs) x e l is = absurd (true≢false (sym e))
+
+pub first_left : (b : Bool) (f : Formula) (fs : List Formula) → b ≡ false → f ≡ other_of b f fs
+first_left b f [] e = refl
+first_left true f (g ∷ gs) e = absurd (true≢false e)
+first_left false f (g ∷ gs) e = refl
+
+pub behind_first : (fs : List Formula) (x : Formula) → 0 < length fs → x ≡ get_or fs 0 x → fs ≡ x ∷ drop 1 fs
+behind_first [] x l is = absurd (omega arith)
+behind_first (g ∷ gs) x l is = ap (λ (y : Formula). y ∷ gs) (sym is)

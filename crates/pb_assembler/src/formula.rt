@@ -270,11 +270,12 @@ fn emit_inside<'t>(
             if early.is_first {
                 left = &behind[0];
             }
+            behind = &behind[1..];
         } else {
             emit_formula(builder, layout, kind, left)?;
             left = &behind[0];
+            behind = &behind[1..];
         }
-        behind = &behind[1..];
     }
     emit_formula(builder, layout, kind, left)?;
     builder.place(last);

@@ -1,4 +1,4 @@
-use Rattle.std.proofs.Common.{◌≡◌, ◌∙◌, ◌<◌, ℕ, refl, sym, ap, subst, arith, add-one, true, not, Bool, List, length, Some, OnOk, map}
+use Rattle.std.proofs.Common.{◌≡◌, ◌∙◌, ◌<◌, ℕ, refl, sym, ap, subst, arith, add-one, true, not, Bool, List, length, drop, Some, OnOk}
 use Rattle.std.proofs.lemmas.List.{nil_from_length}
 use Rattle.pb_bytecode_program.specs.declared.instruction.Connective.{Connective}
 use Rattle.pb_bytecode_program.specs.declared.instruction.Leaf.{Leaf}
@@ -11,15 +11,16 @@ use Rattle.pb_normal.specs.View.{chained, formula_view, formula_views, is_and, i
 use Rattle.pb_assembler_scheme.specs.Pieces.{Piece, Plain, Unless, Choose}
 use Rattle.pb_assembler_scheme.specs.Scheme.{connective_of, data_piece, deciding, formula_piece}
 use Rattle.pb_assembler.specs.Emitted.{Emits, nowhere}
-use Rattle.pb_assembler.specs.Operands.{Guarded}
+use Rattle.pb_assembler.specs.Operands.{Guarded, other_of}
 use Rattle.pb_assembler.specs.Tests.{tested_term}
 use Rattle.pb_normal.specs.Small.{is_small_formula}
 use Rattle.pb_assembler.proofs.Awaited.{Awaits, awaits_all, passed_place, awaits_then, awaits_unless, awaits_choose, awaits_no_more, open_place}
 use Rattle.pb_assembler.proofs.Emitting.{on_ok}
 use Rattle.pb_assembler.proofs.FormulaWeight.{formulas_weight, join_is, join_weighs}
-use Rattle.pb_assembler.proofs.Joins.{Begins, Closes, repeated, test_step, test_small, left_weighs, tested_own, tested_other, next_own, small_rest, small_slot, small_body, begins_more, closes_more, each_repeated, each_other, bracket_emitted, other_kind, same_kind, untested}
+use Rattle.pb_assembler.proofs.Joins.{Begins, Closes, are_left, second_left, first_left, behind_first, repeated, test_step, test_small, left_weighs, tested_own, tested_other, next_own, small_rest, small_slot, small_body, begins_more, closes_more, each_repeated, each_other, bracket_emitted, other_kind, same_kind, untested}
 use Rattle.pb_assembler.proofs.Tests.{signed}
 use Rattle.pb_assembler.proofs.formula.+formulas.Goals as goal
+use Rattle.pb_assembler.proofs.formula.+formulas.Goals.{emit_inside-then-early, emit_inside-else-early, emit_outside-then-early, emit_outside-else-early}
 
 pub emit_each-returns-then-eq : goal.emit_each-returns-then-eq
 emit_each-returns-then-eq t c =
@@ -97,55 +98,68 @@ emit_formula-returns-else-eq t c =
     (ap (λ (m : Bool). chained (Join m) (formula_view x) (formula_views rest)) (sym same) ∙ join_is c.args.formula.now x j.junction j.first j.rest rest j.is (c.deref-else-eq).ensures (c.deref-else-eq-2).ensures.value)
     c.emit_outside.ensures
 
-pub emit_inside-loop-next-preserved-in-Some-early_test : goal.emit_inside-loop-next-preserved-in-Some-early_test
-emit_inside-loop-next-preserved-in-Some-early_test t c =
+pub emit_inside-loop-behind-preserved-in-Some : goal.emit_inside-loop-behind-preserved-in-Some
+emit_inside-loop-behind-preserved-in-Some t c =
     let m = is_and c.args.kind in
     let cs = c.args.layout.now in
-    let s = c.in-Some-early_test in
-    let i = c.loop-next.invariant in
-    let f = formula_view c.loop-next.left.now in
-    let gs = formula_views c.loop-next.behind.now in
-    let r : Guarded = (tested_term s.test, (formula_view s.guarded.now, formula_views s.more.now)) in
+    let s = c.in-Some in
+    let i = c.loop-behind.invariant in
+    let left = c.loop-behind.left.now in
+    let behind = c.loop-behind.behind.now in
+    let other = other_of s.early.is_first left behind in
+    let more = drop 1 behind in
+    let r : Guarded = (tested_term s.early.test, (formula_view other, formula_views more)) in
     let whole = formula_piece cs m (chained (Join m) (formula_view c.args.first.now) (formula_views c.args.rest.now)) in
-    let rest = formula_piece cs m (chained (Join m) (formula_view s.guarded.now) (formula_views s.more.now)) in
+    let rest = formula_piece cs m (chained (Join m) (formula_view other) (formula_views more)) in
     let l = c.in_ok-last.last.number in
     let d0 = c.args.builder.now in
     let leaf = Plain (op.Emit (deciding m)) in
     let jumps = rw c.neutral.ensures at c.in_ok-emit.ensures.ok in
-    let same = test_step cs m m f gs (Some r) r refl s.ensures.views ∙ tested_own m (tested_term s.test) rest in
-    let a1 = subst (λ (q : Piece). Awaits whole q l d0 c.loop-next.builder) same i.awaits in
-    let a2 = awaits_then whole (data_piece (tested_term s.test)) (Choose m leaf rest) l d0 c.loop-next.builder c.emit_tested.new.builder a1 c.in_ok-emit_tested.ensures in
-    let w = left_weighs c.loop-next.left.now c.loop-next.behind.now s.guarded.now s.more.now s.ensures.left in
+    let same = test_step cs m m (formula_view left) (formula_views behind) (Some r) r refl s.ensures.views ∙ tested_own m (tested_term s.early.test) rest in
+    let a1 = subst (λ (q : Piece). Awaits whole q l d0 c.loop-behind.builder) same i.awaits in
+    let a2 = awaits_then whole (data_piece (tested_term s.early.test)) (Choose m leaf rest) l d0 c.loop-behind.builder c.emit_tested.new.builder a1 c.in_ok-emit_tested.ensures in
+    let w = left_weighs left behind other more s.ensures.left in
+    let w0 = w.0 in
     let w1 = w.1 in
     let w2 = i.lighter in
-    record {
-      awaits = awaits_choose whole m leaf rest 0 0 l c.in_ok-passed.passed.number d0 c.emit_tested.new.builder (c.label-in-Some-early_test).new.self c.emit.new.self c.emit_plain.new.builder (c.emit-in-Some-early_test).new.self c.place.new.self a2
+    let some : 0 < length behind = omega (arith, w0) in
+    let moved : c.if-early.left.now ≡ other = elim c.if-early.branch [
+      | emit_inside-then-early w ↦ rw w.left-is (second_left s.early.is_first left behind w.index-behind-0.result w.if-early.true some w.index-behind-0.is)
+      | emit_inside-else-early w ↦ rw w.left-is (first_left s.early.is_first left behind w.if-early.false)
+    ] in
+    are_left cs m m c.args.first.now c.args.rest.now l d0 c.place.new.self other c.if-early.left.now behind moved (record {
+      awaits = awaits_choose whole m leaf rest 0 0 l c.in_ok-passed.passed.number d0 c.emit_tested.new.builder c.label-in-Some.new.self c.emit.new.self c.emit_plain.new.builder c.emit-in-Some.new.self c.place.new.self a2
           c.in_ok-passed.ensures.label c.in_ok-passed.ensures.ok jumps
           (subst (λ (z : Leaf). Emits (Plain (op.Emit z)) nowhere c.emit.new.self c.emit_plain.new.builder) c.deciding.ensures c.in_ok-emit_plain.ensures)
           (c.in_ok-emit-2).ensures.ok c.place.ensures;
-      small = (test_small m f gs (Some r) r refl s.ensures.views i.small).1;
+      small = (test_small m (formula_view left) (formula_views behind) (Some r) r refl s.ensures.views i.small).1;
       lighter = omega (arith, w1, w2);
-    }
+    })
 
-pub emit_inside-loop-next-preserved : goal.emit_inside-loop-next-preserved
-emit_inside-loop-next-preserved t c =
+pub emit_inside-loop-behind-preserved : goal.emit_inside-loop-behind-preserved
+emit_inside-loop-behind-preserved t c =
     let m = is_and c.args.kind in
     let cs = c.args.layout.now in
-    let s = c.in-Some in
-    let i = c.loop-next.invariant in
-    let left = c.loop-next.left.now in
-    let behind = c.loop-next.behind.now in
+    let i = c.loop-behind.invariant in
+    let left = c.loop-behind.left.now in
+    let behind = c.loop-behind.behind.now in
+    let next = c.index-behind-0-in_default.result in
+    let more = drop 1 behind in
     let whole = formula_piece cs m (chained (Join m) (formula_view c.args.first.now) (formula_views c.args.rest.now)) in
-    let rest = formula_piece cs m (chained (Join m) (formula_view s.next.now) (formula_views s.others.now)) in
+    let rest = formula_piece cs m (chained (Join m) (formula_view next) (formula_views more)) in
     let l = c.in_ok-last.last.number in
     let d0 = c.args.builder.now in
-    let same = next_own cs m left behind s.next.now s.others.now s.ensures.cases.0 (sym c.in_default-early_test.ensures.views) in
-    let w1 = i.lighter in
-    record {
-      awaits = awaits_then whole (formula_piece cs m (formula_view left)) rest l d0 c.loop-next.builder c.emit_formula.new.builder (subst (λ (q : Piece). Awaits whole q l d0 c.loop-next.builder) same i.awaits) c.in_ok-emit_formula.ensures;
-      small = small_rest m (formula_view left) (formula_view s.next.now) (formula_views s.others.now) (subst (λ (zs : List Formula). is_small_formula (chained (Join m) (formula_view left) (formula_views zs)) ≡ true) s.ensures.cases.0 i.small);
-      lighter = omega (arith, w1, ap formulas_weight s.ensures.cases.0);
-    }
+    let e = c.is_empty.ensures in
+    let b = c.loop-behind-test.true in
+    let some : 0 < length behind = grind (arith, e, b) in
+    let first = behind_first behind next some c.index-behind-0-in_default.is in
+    let same = next_own cs m left behind next more first (sym c.in_default.ensures.views) in
+    let w = i.lighter in
+    are_left cs m m c.args.first.now c.args.rest.now l d0 c.emit_formula.new.builder next next behind refl (record {
+      awaits = awaits_then whole (formula_piece cs m (formula_view left)) rest l d0 c.loop-behind.builder c.emit_formula.new.builder (subst (λ (q : Piece). Awaits whole q l d0 c.loop-behind.builder) same i.awaits) c.in_ok-emit_formula.ensures;
+      small = small_rest m (formula_view left) (formula_view next) (formula_views more) (subst (λ (zs : List Formula). is_small_formula (chained (Join m) (formula_view left) (formula_views zs)) ≡ true) first i.small);
+      lighter = omega (arith, w, ap formulas_weight first);
+    })
 
 pub emit_loops-overflow_add-slot : goal.emit_loops-overflow_add-slot
 emit_loops-overflow_add-slot t c =
@@ -195,31 +209,39 @@ emit_loops-returns t c =
     (subst (λ (k : ℕ). Closes k c.emit_formula.new.builder c.loop-ended.builder) ended c.loop-ended.invariant.closes) in
     subst (λ (q : Piece). Emits q nowhere c.args.builder.now c.loop-ended.builder) (ap (λ (k : ℕ). repeated c.args.slots.first k body) begun ∙ sym (each_repeated cs m c.args.slots.first c.args.slots.carriers.now (formula_view c.args.body.now))) all
 
-pub emit_outside-loop-test-preserved : goal.emit_outside-loop-test-preserved
-emit_outside-loop-test-preserved t c =
+pub emit_outside-loop-early-preserved : goal.emit_outside-loop-early-preserved
+emit_outside-loop-early-preserved t c =
     let a = is_and c.args.around in
     let m = not a in
     let cs = c.args.layout.now in
     let s = c.in-Some in
-    let i = c.loop-test.invariant in
-    let f = formula_view c.loop-test.left.now in
-    let gs = formula_views c.loop-test.behind.now in
-    let r : Guarded = (tested_term s.test, (formula_view s.guarded.now, formula_views s.more.now)) in
+    let i = c.loop-early.invariant in
+    let left = c.loop-early.left.now in
+    let behind = c.loop-early.behind.now in
+    let other = other_of s.early.is_first left behind in
+    let more = drop 1 behind in
+    let r : Guarded = (tested_term s.early.test, (formula_view other, formula_views more)) in
     let whole = formula_piece cs a (chained (Join m) (formula_view c.args.first.now) (formula_views c.args.rest.now)) in
-    let rest = formula_piece cs a (chained (Join m) (formula_view s.guarded.now) (formula_views s.more.now)) in
+    let rest = formula_piece cs a (chained (Join m) (formula_view other) (formula_views more)) in
     let l = c.in_ok-last.last.number in
     let d0 = c.args.builder.now in
-    let same = test_step cs m a f gs (Some r) r refl s.ensures.views ∙ tested_other a (tested_term s.test) rest in
-    let a1 = subst (λ (q : Piece). Awaits whole q l d0 c.loop-test.builder) same i.awaits in
-    let a2 = awaits_then whole (data_piece (tested_term s.test)) (Unless a rest) l d0 c.loop-test.builder c.emit_tested.new.builder a1 c.in_ok-emit_tested.ensures in
-    let w = left_weighs c.loop-test.left.now c.loop-test.behind.now s.guarded.now s.more.now s.ensures.left in
+    let same = test_step cs m a (formula_view left) (formula_views behind) (Some r) r refl s.ensures.views ∙ tested_other a (tested_term s.early.test) rest in
+    let a1 = subst (λ (q : Piece). Awaits whole q l d0 c.loop-early.builder) same i.awaits in
+    let a2 = awaits_then whole (data_piece (tested_term s.early.test)) (Unless a rest) l d0 c.loop-early.builder c.emit_tested.new.builder a1 c.in_ok-emit_tested.ensures in
+    let w = left_weighs left behind other more s.ensures.left in
+    let w0 = w.0 in
     let w1 = w.1 in
     let w2 = i.lighter in
-    record {
+    let some : 0 < length behind = omega (arith, w0) in
+    let moved : c.if-early.left.now ≡ other = elim c.if-early.branch [
+      | emit_outside-then-early w ↦ rw w.left-is (second_left s.early.is_first left behind w.index-behind-0.result w.if-early.true some w.index-behind-0.is)
+      | emit_outside-else-early w ↦ rw w.left-is (first_left s.early.is_first left behind w.if-early.false)
+    ] in
+    are_left cs m a c.args.first.now c.args.rest.now l d0 c.emit.new.self other c.if-early.left.now behind moved (record {
       awaits = awaits_unless whole a rest 0 l d0 c.emit_tested.new.builder c.emit.new.self a2 (rw c.neutral.ensures at c.in_ok-emit.ensures.ok);
-      small = (test_small m f gs (Some r) r refl s.ensures.views i.small).1;
+      small = (test_small m (formula_view left) (formula_views behind) (Some r) r refl s.ensures.views i.small).1;
       lighter = omega (arith, w1, w2);
-    }
+    })
 
 pub emit_untested-returns : goal.emit_untested-returns
 emit_untested-returns t c =
@@ -239,31 +261,33 @@ emit_untested-returns t c =
 
 pub emit_outside-place-requires : goal.emit_outside-place-requires
 emit_outside-place-requires t c =
-    open_place _ c.in_ok-last.last.number c.loop-test.builder c.emit_untested.new.builder c.loop-test.invariant.awaits.is_open c.in_ok-emit_untested.ensures
+    open_place _ c.in_ok-last.last.number c.loop-early.builder c.emit_untested.new.builder c.loop-early.invariant.awaits.is_open c.in_ok-emit_untested.ensures
 
 pub emit_outside-returns : goal.emit_outside-returns
 emit_outside-returns t c =
-    awaits_no_more _ _ c.in_ok-last.last.number c.args.builder.now c.loop-test.builder c.emit_untested.new.builder c.place.new.self c.loop-test.invariant.awaits c.in_ok-emit_untested.ensures c.place.ensures
+    awaits_no_more _ _ c.in_ok-last.last.number c.args.builder.now c.loop-early.builder c.emit_untested.new.builder c.place.new.self c.loop-early.invariant.awaits c.in_ok-emit_untested.ensures c.place.ensures
 
 pub emit_inside-place-requires-2 : goal.emit_inside-place-requires-2
 emit_inside-place-requires-2 t c =
-    open_place _ c.in_ok-last.last.number c.loop-next.builder (c.emit_formula-2).new.builder c.loop-next.invariant.awaits.is_open (c.in_ok-emit_formula-2).ensures
+    open_place _ c.in_ok-last.last.number c.loop-behind.builder (c.emit_formula-2).new.builder c.loop-behind.invariant.awaits.is_open (c.in_ok-emit_formula-2).ensures
 
 pub emit_inside-returns : goal.emit_inside-returns
 emit_inside-returns t c =
     let m = is_and c.args.kind in
     let cs = c.args.layout.now in
-    let left = c.loop-next.left.now in
+    let left = c.loop-behind.left.now in
     let whole = formula_piece cs m (chained (Join m) (formula_view c.args.first.now) (formula_views c.args.rest.now)) in
     let l = c.in_ok-last.last.number in
     let d0 = c.args.builder.now in
-    let none = nil_from_length c.loop-next.behind.now c.in_default.ensures.cases in
-    awaits_no_more whole (formula_piece cs m (formula_view left)) l d0 c.loop-next.builder (c.emit_formula-2).new.builder (c.place-2).new.self
-    (subst (λ (zs : List Formula). Awaits whole (formula_piece cs m (chained (Join m) (formula_view left) (formula_views zs))) l d0 c.loop-next.builder) none c.loop-next.invariant.awaits)
+    let e = c.is_empty.ensures in
+    let b = c.loop-behind-test.false in
+    let none = nil_from_length c.loop-behind.behind.now (grind (arith, e, b)) in
+    awaits_no_more whole (formula_piece cs m (formula_view left)) l d0 c.loop-behind.builder (c.emit_formula-2).new.builder (c.place-2).new.self
+    (subst (λ (zs : List Formula). Awaits whole (formula_piece cs m (chained (Join m) (formula_view left) (formula_views zs))) l d0 c.loop-behind.builder) none c.loop-behind.invariant.awaits)
     (c.in_ok-emit_formula-2).ensures (c.place-2).ensures
 
-pub emit_inside-loop-next-init : goal.emit_inside-loop-next-init
-emit_inside-loop-next-init t c =
+pub emit_inside-loop-behind-init : goal.emit_inside-loop-behind-init
+emit_inside-loop-behind-init t c =
     let m = is_and c.args.kind in
     let whole = formula_piece c.args.layout.now m (chained (Join m) (formula_view c.args.first.now) (formula_views c.args.rest.now)) in record {
       awaits = awaits_all whole c.in_ok-last.last.number c.args.builder.now c.label.new.self c.in_ok-last.ensures.label c.in_ok-last.ensures.ok;
@@ -271,8 +295,8 @@ emit_inside-loop-next-init t c =
       lighter = omega arith;
     }
 
-pub emit_outside-loop-test-init : goal.emit_outside-loop-test-init
-emit_outside-loop-test-init t c =
+pub emit_outside-loop-early-init : goal.emit_outside-loop-early-init
+emit_outside-loop-early-init t c =
     let a = is_and c.args.around in
     let whole = formula_piece c.args.layout.now a (chained (Join (not a)) (formula_view c.args.first.now) (formula_views c.args.rest.now)) in record {
       awaits = awaits_all whole c.in_ok-last.last.number c.args.builder.now c.label.new.self c.in_ok-last.ensures.label c.in_ok-last.ensures.ok;
@@ -282,5 +306,5 @@ emit_outside-loop-test-init t c =
 
 pub emit_inside-place-requires : goal.emit_inside-place-requires
 emit_inside-place-requires t c =
-    passed_place _ c.in_ok-passed.passed.number _ _ c.emit_tested.new.builder c.label-in-Some-early_test.new.self c.emit.new.self c.emit_plain.new.builder c.emit-in-Some-early_test.new.self
+    passed_place _ c.in_ok-passed.passed.number _ _ c.emit_tested.new.builder c.label-in-Some.new.self c.emit.new.self c.emit_plain.new.builder c.emit-in-Some.new.self
     c.in_ok-passed.ensures.label c.in_ok-passed.ensures.ok c.in_ok-emit.ensures.ok c.in_ok-emit_plain.ensures (c.in_ok-emit-2).ensures.ok

@@ -1,13 +1,7 @@
-use Rattle.std.proofs.Common.{◌≡◌, ◌+◌, ◌-◌, ◌≤◌, true, not, length, List}
-use Rattle.pb_normal.specs.Normal.{Join}
-use Rattle.pb_normal.specs.View.{chained, formula_view, formula_views, is_and}
-use Rattle.pb_normal.specs.declared.formula.Formula.{Formula}
-use Rattle.pb_assembler_scheme.specs.Pieces.{Piece}
-use Rattle.pb_assembler_scheme.specs.Scheme.{formula_piece}
-use Rattle.pb_normal.specs.Small.{is_small_formula}
-use Rattle.pb_assembler.proofs.Awaited.{Awaits}
+use Rattle.std.proofs.Common.{◌+◌, ◌-◌, ◌≤◌, not, length}
+use Rattle.pb_normal.specs.View.{is_and}
 use Rattle.pb_assembler.proofs.FormulaWeight.{weight, formulas_weight}
-use Rattle.pb_assembler.proofs.Joins.{Begins, Closes}
+use Rattle.pb_assembler.proofs.Joins.{AreLeft, Begins, Closes}
 use Rattle.pb_assembler.proofs.formula.+formulas.Given as goal
 
 abbrev pub decreases-emit_formula : goal.decreases-emit_formula
@@ -34,11 +28,11 @@ decreases-emit_loops-loop-begun l = l.count - l.begun
 abbrev pub decreases-emit_loops-loop-ended : goal.decreases-emit_loops-loop-ended
 decreases-emit_loops-loop-ended l = l.count - l.ended
 
-abbrev pub decreases-emit_inside-loop-next : goal.decreases-emit_inside-loop-next
-decreases-emit_inside-loop-next l = length l.behind
+abbrev pub decreases-emit_inside-loop-behind : goal.decreases-emit_inside-loop-behind
+decreases-emit_inside-loop-behind l = length l.behind
 
-abbrev pub decreases-emit_outside-loop-test : goal.decreases-emit_outside-loop-test
-decreases-emit_outside-loop-test l = length l.behind
+abbrev pub decreases-emit_outside-loop-early : goal.decreases-emit_outside-loop-early
+decreases-emit_outside-loop-early l = length l.behind
 
 -- loops are begun over the slots before this one
 abbrev pub invariant-emit_loops-loop-begun : goal.invariant-emit_loops-loop-begun
@@ -56,20 +50,8 @@ invariant-emit_loops-loop-ended l =
     }
 
 -- the operands that are left complete the chain
-abbrev pub invariant-emit_inside-loop-next : goal.invariant-emit_inside-loop-next
-invariant-emit_inside-loop-next l =
-    let piece : Formula → List Formula → Piece = λ f fs. formula_piece l.layout (is_and l.kind) (chained (Join (is_and l.kind)) (formula_view f) (formula_views fs)) in
-    record {
-      awaits : Awaits (piece l.first l.rest) (piece l.left l.behind) l.last.number l.fn.builder l.builder;
-      small : is_small_formula (chained (Join (is_and l.kind)) (formula_view l.left) (formula_views l.behind)) ≡ true;
-      lighter : weight l.left + formulas_weight l.behind ≤ weight l.first + formulas_weight l.rest;
-    }
+abbrev pub invariant-emit_inside-loop-behind : goal.invariant-emit_inside-loop-behind
+invariant-emit_inside-loop-behind l = AreLeft l.layout (is_and l.kind) (is_and l.kind) l.first l.rest l.last.number l.fn.builder l.builder l.left l.behind
 
-abbrev pub invariant-emit_outside-loop-test : goal.invariant-emit_outside-loop-test
-invariant-emit_outside-loop-test l =
-    let piece : Formula → List Formula → Piece = λ f fs. formula_piece l.layout (is_and l.around) (chained (Join (not (is_and l.around))) (formula_view f) (formula_views fs)) in
-    record {
-      awaits : Awaits (piece l.first l.rest) (piece l.left l.behind) l.last.number l.fn.builder l.builder;
-      small : is_small_formula (chained (Join (not (is_and l.around))) (formula_view l.left) (formula_views l.behind)) ≡ true;
-      lighter : weight l.left + formulas_weight l.behind ≤ weight l.first + formulas_weight l.rest;
-    }
+abbrev pub invariant-emit_outside-loop-early : goal.invariant-emit_outside-loop-early
+invariant-emit_outside-loop-early l = AreLeft l.layout (not (is_and l.around)) (is_and l.around) l.first l.rest l.last.number l.fn.builder l.builder l.left l.behind
