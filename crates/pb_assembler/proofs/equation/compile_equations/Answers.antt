@@ -1,9 +1,13 @@
-use Rattle.pb_assembler.proofs.Equations.{made_equations, made_more, parameters_there, ready_next}
+use Rattle.pb_assembler.proofs.Equations.{made_equations, made_more, parameters_there, ready_next, text_there}
 use Rattle.pb_assembler.proofs.equation.compile_equations.Goals as goal
 
 pub carriers-parameters-requires : goal.carriers-parameters-requires
 carriers-parameters-requires c =
     parameters_there c.args.layout.now c.args.texts.now c.args.normals.now c.loop-place.place c.index-normals-place.result c.loop-place-test.true c.index-normals-place.is c.loop-place.equations.items c.loop-place.invariant
+
+pub bounds-texts-place : goal.bounds-texts-place
+bounds-texts-place c =
+    text_there c.args.layout.now c.args.texts.now c.args.normals.now c.loop-place.place c.index-normals-place.result c.loop-place-test.true c.index-normals-place.is c.loop-place.equations.items c.loop-place.invariant
 
 pub compile_equation-requires : goal.compile_equation-requires
 compile_equation-requires c =
