@@ -1,7 +1,6 @@
 -- The quantifiers of a normal form take the slots behind the parameters, with the carriers of the text's variables.
 use Rattle.std.proofs.Common.{◌≡◌, ℕ, suc, true, List, [], ◌∷◌, length, Some, refl, sym, ap, ◌∙◌}
 use Rattle.pb_sorts.specs.declared.carrier.Carrier.{Carrier}
-use Rattle.pb_text_meaning.specs.Syntax as syntax
 use Rattle.pb_text_meaning.specs.Syntax.{Equation, Spec}
 use Rattle.pb_typing_declarations.specs.Shapes.{Shape}
 use Rattle.pb_typing_declarations.specs.Entries.{carrier_shape}
