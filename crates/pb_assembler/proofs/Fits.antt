@@ -36,7 +36,7 @@ use Rattle.pb_assembler_scheme.specs.Scheme.{equation_code}
 use Rattle.pb_assembler_accepted.proofs.TextEquations.{all_values}
 use Rattle.pb_assembler_modules.specs.Module.{with_names, struct_names}
 use Rattle.pb_assembler.specs.Compiled.{bare_program, compiled_contents, all_compiled, has_fitting_fields, has_fitting_carriers, IsReady, AreReady}
-use Rattle.pb_text_names.specs.ModuleNames.{has_enumerator_names}
+use Rattle.pb_assembler.proofs.Names.{has_enumerator_names}
 use Rattle.pb_assembler.proofs.Fitting.{code_fits, code_some}
 use Rattle.pb_assembler.proofs.Ready.{AreFormsOf}
 

@@ -7,7 +7,7 @@ use Rattle.pb_text_meaning.specs.Syntax.{SortDeclaration, Spec, Sort, Struct, Al
 use Rattle.pb_typing_declarations.specs.WellDeclared.{IsDefined}
 use Rattle.pb_typing.specs.Typed.{is_faultless}
 use Rattle.pb_assembler.specs.Compiled.{IsSort, AreSorts}
-use Rattle.pb_text_names.specs.ModuleNames.{has_enumerator_names}
+use Rattle.pb_assembler.proofs.Names.{has_enumerator_names}
 use Rattle.std.specs.List.{list_all}
 use Rattle.std.proofs.lemmas.Bool.{and_parts}
 use Rattle.pb_typing.proofs.Accepted.{accepted-well-typed}

@@ -33,7 +33,7 @@ use Rattle.pb_assembler_modules.specs.Module.{struct_names, AreEquationsOf, IsCo
 use Rattle.pb_assembler_modules.proofs.Modules.{counted as counted_structs}
 use Rattle.pb_assembler.specs.Compiled.{all_compiled, has_fitting_carriers, AreReady}
 use Rattle.pb_assembler.specs.MeasureEquations.{EachKeepsLimits}
-use Rattle.pb_text_names.specs.ModuleNames.{has_enumerator_names, has_names}
+use Rattle.pb_assembler.proofs.Names.{has_enumerator_names, has_names}
 use Rattle.pb_assembler.proofs.Fits.{AreKnown, sorts_fit, between, callees_fit, equations_fit, compiled_long, instances_same, compiled_at}
 use Rattle.pb_assembler.proofs.MeasureExcess.{module_keeps}
 use Rattle.pb_assembler.proofs.Ready.{AreSound, AreFormsOf, ready, compiled_parameters, are_equations}

@@ -13,10 +13,6 @@ pub enum CompileError {
     /// the machine.
     #[error("{limit} equation {equation}")]
     Limit { limit: Limit, equation: usize },
-    /// An enumerator's or a predicate variable's name isn't one of the grammar, so that no module
-    /// can have it. No text that was read has such a name.
-    #[error("a name that the grammar lacks")]
-    Name,
     /// `M01`: memory was refused.
     #[error("M01")]
     Memory(AllocError),

@@ -1,21 +1,18 @@
 //! From normal forms to modules.
 
-ghost use Rattle.std.specs.Prelude.{◌≡◌, true, IfOk, IfErr};
+ghost use Rattle.std.specs.Prelude.{IfOk, IfErr};
 ghost use Rattle.pb_text_tree.specs.Form.{spec_form};
 ghost use Rattle.pb_text_meaning.specs.Erase.{erase};
 ghost use Rattle.pb_bytecode.specs.Decoded.{module_contents};
 ghost use Rattle.pb_normal.specs.Text.{said};
 ghost use Rattle.pb_assembler_modules.specs.Module.{IsCompiledModule, KeepsAllLimits};
-ghost use Rattle.pb_assembler.specs.Excess.{IsFirstExcess};
 ghost use Rattle.pb_assembler.specs.MeasureEquations.{EachKeepsLimits};
-ghost use Rattle.pb_text_names.specs.ModuleNames.{has_names};
 ghost use Rattle.pb_assembler.specs.Refusal.{IsRefusal};
 
 use crate::compile_error::CompileError;
 use crate::equation::compile_equations;
 use crate::first_excess::first_excess_of;
 use crate::initial::initial;
-use crate::name::has_names;
 use crate::sort::sorts;
 use pb_bytecode::{Module, Version};
 use pb_normal::Normal;
@@ -23,8 +20,7 @@ use std::alloc::{AllocError, Global};
 
 /// The module of a text's normal form.
 fn module_of(alloc: Global, normal: &Normal<'_>) -> Result<Module, AllocError>
-    requires named { has_names (said normal.now.typed.now) ≡ true }
-    requires kept { EachKeepsLimits (said normal.now.typed.now) }
+    requires { EachKeepsLimits (said normal.now.typed.now) }
     ensures module { IfOk result (λ m. IsCompiledModule (said normal.now.typed.now)
         (module_contents m)) }
     ensures kept { IfOk result (λ m. KeepsAllLimits (said normal.now.typed.now)
@@ -53,8 +49,7 @@ fn module_of(alloc: Global, normal: &Normal<'_>) -> Result<Module, AllocError>
 ///
 /// # Errors
 /// `Limit` exactly where the code of an equation exceeds a limit of the machine: the first such
-/// equation, with the least of its limits in the order of their numbers. `Name` comes only where a
-/// name is none of the grammar's, which no text that was read has, and `Memory` only where memory
+/// equation, with the least of its limits in the order of their numbers. `Memory` only where memory
 /// was refused.
 pub fn compile(alloc: Global, normal: &Normal<'_>) -> Result<Module, CompileError>
     // The module is the scheme's.
@@ -63,19 +58,15 @@ pub fn compile(alloc: Global, normal: &Normal<'_>) -> Result<Module, CompileErro
     // Its code keeps the machine's limits.
     ensures kept { IfOk result (λ m. KeepsAllLimits (erase (spec_form normal.now.typed.now.spec))
         (module_contents m)) }
-    // The first equation that exceeds a limit, with its least limit; or else a name that no module
-    // has.
-    ensures refused { IfErr result (λ e. let spec = erase
-        (spec_form normal.now.typed.now.spec) in IsRefusal spec (IsFirstExcess spec) e) }
+    // The first equation that exceeds a limit, with its least limit.
+    ensures refused { IfErr result
+        (λ e. IsRefusal (erase (spec_form normal.now.typed.now.spec)) e) }
 {
     if let Some(excess) = first_excess_of(normal) {
         return Err(CompileError::Limit {
             limit: excess.limit,
             equation: excess.equation,
         });
-    }
-    if !has_names(&normal.typed.spec) {
-        return Err(CompileError::Name);
     }
     match module_of(alloc, normal) {
         Ok(module) => Ok(module),

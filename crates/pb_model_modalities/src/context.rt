@@ -1,5 +1,6 @@
 //! What each part of a translation needs.
 
+use pb_model_names::BareName;
 use pb_model_tree::Model;
 use std::alloc::Global;
 
@@ -8,5 +9,5 @@ use std::alloc::Global;
 pub struct Context<'a> {
     pub alloc: Global,
     pub model: &'a Model,
-    pub names: &'a [String],
+    pub names: &'a [BareName],
 }

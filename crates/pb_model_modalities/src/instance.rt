@@ -10,24 +10,25 @@ ghost use Rattle.pb_model_modalities.specs.View.{name_of, names_by};
 use crate::callee::Callee;
 use crate::context::Context;
 use crate::next_state::next_terms;
+use pb_model_names::BareName;
 use pb_model_tree::Assignment;
 use pb_text_tree::{Formula, Instance, Name, Place};
 use std::alloc::{AllocError, Global};
 
-/// The name at a number, and the empty one past the end.
+/// The name at a number, and `X` past the end.
 pub fn copy_name_at(
     alloc: Global,
-    names: &[String],
+    names: &[BareName],
     number: usize,
     place: Place,
 ) -> Result<Name, AllocError>
     ensures { IfOk result (λ n. name_of n ≡ name_at (names_in names.now) number) }
 {
     let Some(name) = names.get(number) else {
-        let text = String::new(alloc);
+        let text = "X".to_owned(alloc)?;
         return Ok(Name { place, text });
     };
-    let text = name.as_str().to_owned(alloc)?;
+    let text = name.text.as_str().to_owned(alloc)?;
     Ok(Name { place, text })
 }
 

@@ -1,23 +1,19 @@
 -- What the text of a property at a place says.
-use Rattle.std.proofs.Common.{◌≡◌, ◌∙◌, ℕ, List, Some, map, true, sym, subst}
-use Rattle.std.specs.Prelude.{All, Contains}
+use Rattle.std.proofs.Common.{◌≡◌, ℕ, Some, map, sym, subst}
+use Rattle.std.specs.Prelude.{All}
 use Rattle.std.specs.List.{slice_get}
 use Rattle.std.proofs.lemmas.List.Elements.{All-contains, All-tail}
 use Rattle.pb_text_tree.specs.Form.{SpecForm}
 use Rattle.pb_text_meaning.specs.Erase as text
 use Rattle.pb_text_meaning.specs.Meaning.{answer}
-use Rattle.pb_text_meaning.specs.Syntax.{Spec}
-use Rattle.pb_text_names.specs.ModuleNames.{has_names}
-use Rattle.pb_typing_declarations.specs.WellDeclared.{IsDeclared}
 use Rattle.pb_typing_rules.specs.WellTyped.{IsWellTyped}
 use Rattle.pb_model_tree.specs.Form.{PropertyForm, ModelForm}
 use Rattle.pb_model_meaning.specs.Erase.{erase, erased_formula, erased_property}
 use Rattle.pb_model_meaning.specs.Satisfaction as meaning
 use Rattle.pb_model_meaning.specs.Syntax.{Formula, Property}
-use Rattle.pb_model_text.specs.Parsing.{IsReading}
 use Rattle.pb_model_translation.specs.Names.{translation}
 use Rattle.pb_model_typing.specs.Texts.{IsTypedModel, HasTypedText, every_step}
-use Rattle.pb_model_properties.specs.Said.{IsModelOf, IsTextOf}
+use Rattle.pb_model_properties.specs.Said.{IsTextOf}
 use Rattle.pb_model_properties.proofs.Places.{at_mapped, contains_at}
 
 abbrev Translates : ModelForm → ℕ → SpecForm → Type 0
@@ -46,13 +42,3 @@ text_of_property model place x typed translated decides p stands =
       typed = subst IsWellTyped (sym same) (typed_text model typed place p stands);
       decides = decides (erased_property p) at;
     }
-
--- a module can take its names over
-pub names_of_property : (bytes : List ℕ) (model : ModelForm) (place : ℕ) (x : SpecForm) → IsModelOf bytes model
-    → ((bs : List ℕ) (m : ModelForm) (p : PropertyForm) → IsReading bs m → Contains m.properties p
-    → IsDeclared (translation (erase m) (erased_formula p.formula)) → has_names (translation (erase m) (erased_formula p.formula)) ≡ true)
-    → Translates model place x → (p : PropertyForm) → slice_get model.properties place ≡ Some p → has_names (text.erase x) ≡ true
-names_of_property bytes model place x said law translated p stands =
-    let same = translated (erased_property p) (at_mapped erased_property model.properties place p stands) in
-    let declared = (typed_text model said.typed place p stands).declarations in
-    subst (λ (s : Spec). has_names s ≡ true) (sym same) (law bytes model p said.read.reading (contains_at model.properties place p stands) declared)

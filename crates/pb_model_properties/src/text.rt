@@ -1,11 +1,9 @@
 //! The texts of a model's properties.
 
-ghost use Rattle.std.specs.Prelude.{◌≡◌, ◌<◌, ◌≤◌, ℕ, List, length, true, IfErr, IfOk, IsSome};
+ghost use Rattle.std.specs.Prelude.{◌≡◌, ◌<◌, ◌≤◌, ℕ, List, length, IfErr, IfOk, IsSome};
 ghost use Rattle.std.specs.Prelude.{Err, Some, option_copied};
 ghost use Rattle.std.specs.List.{slice_get};
 ghost use Rattle.pb_text_tree.specs.Form.{spec_form};
-ghost use Rattle.pb_text_meaning.specs.Erase.{erase};
-ghost use Rattle.pb_text_names.specs.ModuleNames.{has_names};
 ghost use Rattle.pb_typing_declarations.specs.declared.fault.TypeError.TheVariants.{Memory};
 ghost use Rattle.pb_model_tree.specs.Form.{PropertyForm, model_form};
 ghost use Rattle.pb_model_properties.specs.Printed.{IsTranslation};
@@ -15,9 +13,7 @@ ghost use Rattle.pb_model_properties.specs.Said.{IsModelOf, IsTextOf};
 use crate::asked::place_of;
 use crate::error::ModelError;
 use crate::read::read_model;
-use pb_model_spelling::{
-    models_have_properties, names_of_translations_are_names_of_modules, translations_can_be_said,
-};
+use pb_model_spelling::{models_have_properties, translations_can_be_said};
 use pb_model_typing::{TypedModel, property_text};
 use pb_text_printer::{print, sayable_text_is_read_back};
 use pb_typing::Typed;
@@ -33,9 +29,7 @@ pub fn text_at(alloc: Global, model: &TypedModel, place: usize) -> Result<Typed,
     ensures text { IfOk result (λ text. (p : PropertyForm)
         → slice_get (model_form model.now.model).properties place ≡ Some p
         → IsTextOf (model_form model.now.model) p.formula (spec_form text.spec)) }
-    ensures names { IfOk result (λ text. has_names (erase (spec_form text.spec)) ≡ true) }
 {
-    names_of_translations_are_names_of_modules();
     match property_text(alloc, model, place) {
         Ok(text) => Ok(text),
         Err(_memory) => Err(AllocError),

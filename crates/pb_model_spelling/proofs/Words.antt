@@ -4,8 +4,9 @@ use Rattle.std.specs.List.{list_all, list_any, prefix_len}
 use Rattle.std.specs.Str.{bytes_eq}
 use Rattle.std.proofs.lemmas.Bool.{and_from, and_parts, or_right}
 use Rattle.std.proofs.lemmas.Bool.Decides.{nat_tests}
-use Rattle.std.proofs.lemmas.List.Folds.{length-prefix_len, list_all-append}
+use Rattle.std.proofs.lemmas.List.Folds.{length-prefix_len}
 use Rattle.std.proofs.lemmas.Slice.Eq.{bytes_eq-Decides}
+use Rattle.pb_names.specs.Names.{is_spelled}
 use Rattle.pb_text_lexer.specs.declared.kind.Kind.{Kind}
 use Rattle.pb_text_lexer.specs.declared.kind.Kind.TheVariants as k
 use Rattle.pb_text_lexer.specs.Kinds.{same_kind}
@@ -13,8 +14,8 @@ use Rattle.pb_text_lexer.specs.Bytes.{is_letter, is_name_byte, name_bytes, kind_
 use Rattle.pb_text_lexer.proofs.PieceLemmas.{none-first, none-rest}
 use Rattle.pb_text_lexer.proofs.TokenLemmas.{same-kind}
 use Rattle.pb_text_meaning.specs.Syntax.{Name}
-use Rattle.pb_text_names.specs.Spelled.{is_spelled}
 use Rattle.pb_model_translation.specs.Names.{primes}
+use Rattle.pb_model_translation.proofs.Primes.{primes-spelled}
 use Rattle.pb_model_spelling.specs.Writable.{IsWord}
 
 -- ---- how a name is spelled
@@ -35,7 +36,7 @@ whole_passes p (b ∷ bs) h = go (p b) h (whole_passes p bs)
     go true e rest = rest (omega arith)
     go false e rest = absurd (omega arith)
 
-pub word_spelled : (x : Name) → IsWord x → is_spelled x ≡ true
+word_spelled : (x : Name) → IsWord x → is_spelled x ≡ true
 word_spelled [] h = absurd (cc h)
 word_spelled (b ∷ bs) h =
     let front = and_parts (is_letter b) (length (name_bytes bs) == length bs) (and_parts (is_letter b && length (name_bytes bs) == length bs) (same_kind (word_kind (b ∷ bs)) k.Name) h).0 in
@@ -54,17 +55,6 @@ spelled_word (b ∷ bs) h e =
     (subst (λ (kind : Kind). same_kind kind k.Name ≡ true) (sym e) (same-kind k.Name))
 
 -- ---- primes behind a name
-
-primes_are_names : (n : ℕ) → list_all is_name_byte (primes n) ≡ true
-primes_are_names zero = refl
-primes_are_names (suc n) = primes_are_names n
-
-primes_spelled : (x : Name) (n : ℕ) → is_spelled x ≡ true → is_spelled (x ++ primes n) ≡ true
-primes_spelled [] n h = absurd (cc h)
-primes_spelled (b ∷ bs) n h =
-    let both = and_parts (is_letter b) (list_all is_name_byte bs) h in
-    and_from (is_letter b) (list_all is_name_byte (bs ++ primes n)) both.0
-    (list_all-append is_name_byte bs (primes n) ∙ and_from (list_all is_name_byte bs) (list_all is_name_byte (primes n)) both.1 (primes_are_names n))
 
 abbrev has_prime : List ℕ → Bool
 has_prime = list_any (λ b. b == 39)
@@ -95,4 +85,4 @@ pub primed_word : (x : Name) (n : ℕ) → IsWord x → IsWord (x ++ primes n)
 unfolding word_kind
 primed_word x zero h = subst IsWord (sym (append-nil x)) h
 primed_word x (suc n) h =
-    spelled_word (x ++ primes (suc n)) (primes_spelled x (suc n) (word_spelled x h)) (primed_among reserved (x ++ primes (suc n)) refl (with_prime x n))
+    spelled_word (x ++ primes (suc n)) (primes-spelled x (suc n) (word_spelled x h)) (primed_among reserved (x ++ primes (suc n)) refl (with_prime x n))

@@ -1,6 +1,6 @@
 -- Which models are well typed: their own rules hold, and so do those of the texts of their
 -- properties, and of one text in which each step stands.
-use Rattle.std.specs.Prelude.{◌≡◌, List, [], ◌∷◌, map, All, Contains, ⊤, ◌⊎◌}
+use Rattle.std.specs.Prelude.{◌≡◌, List, [], ◌∷◌, map, codes, All, Contains, ⊤, ◌⊎◌}
 use Rattle.pb_fixpoint.specs.declared.Sign.TheVariants.{Nu}
 use Rattle.pb_text_tree.specs.Form.{SpecForm}
 use Rattle.pb_text_meaning.specs.Erase as text
@@ -15,10 +15,10 @@ use Rattle.pb_typing_rules.specs.Faults.{faults}
 use Rattle.pb_typing_rules.specs.WellTyped.{IsWellTyped}
 use Rattle.pb_model_typing.specs.Faults.{model_faults}
 
--- nu X . [true] X, whose text has the guard and the assignments of each step, with the empty name
--- for X, which no name in a model is
+-- nu X . [true] X, whose text has the guard and the assignments of each step
 abbrev pub every_step : Formula
-every_step = Formula.Fixpoint Nu [] (Formula.Box StepSet.All (Formula.Named []))
+every_step =
+    Formula.Fixpoint Nu (codes "X") (Formula.Box StepSet.All (Formula.Named (codes "X")))
 
 -- the formulas whose texts are checked: that one, and each property's
 abbrev pub checked_formulas : Model → List Formula

@@ -30,11 +30,11 @@ fn check_text(alloc: Global, model: &Model, formula: &Formula) -> Result<(), Typ
     }
 }
 
-/// `nu X . [true] X`, with the empty name for `X`.
+/// `nu X . [true] X`.
 fn every_step(alloc: Global, place: Place) -> Result<Formula, AllocError>
     ensures { IfOk result (λ f. formula_of f ≡ typed.every_step) }
 {
-    let text = String::new(alloc);
+    let text = "X".to_owned(alloc)?;
     let operand = Box::new(alloc, Formula::Variable(Name { place, text }))?;
     let body = Formula::Modal {
         place,
@@ -43,7 +43,7 @@ fn every_step(alloc: Global, place: Place) -> Result<Formula, AllocError>
         operand,
     };
     let body = Box::new(alloc, body)?;
-    let text = String::new(alloc);
+    let text = "X".to_owned(alloc)?;
     Ok(Formula::Fixpoint {
         place,
         sign: Sign::Nu,

@@ -1,6 +1,7 @@
 pub mod DigitLemmas
 pub mod PieceLemmas
 pub mod LanguagePieceLemmas
+pub mod NameLemmas
 pub mod RemainingLemmas
 pub mod TokenLemmas
 pub mod CutLemmas

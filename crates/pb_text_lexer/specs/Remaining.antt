@@ -1,8 +1,9 @@
 -- What a lexer still gives: a function of where it stands.
-use Rattle.std.specs.Prelude.{◌≡◌, ℕ, zero, suc, ◌+◌, ◌-◌, ◌^◌, ◌<◌, if◌then◌else◌, List, [], ◌∷◌, ◌++◌, length, take}
+use Rattle.std.specs.Prelude.{◌≡◌, true, ℕ, zero, suc, ◌+◌, ◌-◌, ◌^◌, ◌<◌, if◌then◌else◌, List, [], ◌∷◌, ◌++◌, length, take}
+use Rattle.pb_names.specs.Names.{is_spelled}
 use Rattle.pb_text_tree.specs.declared.place.Place.{Place}
 use Rattle.pb_text_tree.specs.Form.{RangeForm}
-use Rattle.pb_text_lexer.specs.declared.kind.Kind.TheVariants.{End, Number}
+use Rattle.pb_text_lexer.specs.declared.kind.Kind.TheVariants.{End, Name, Number}
 use Rattle.pb_text_lexer.specs.declared.piece.Piece.{Piece}
 use Rattle.pb_text_lexer.specs.declared.piece.Piece.TheVariants as piece_is
 use Rattle.pb_text_lexer.specs.Kinds.{is_last}
@@ -46,6 +47,10 @@ pub record IsWithin (p : Place) (bytes : List ℕ) : Type 0 where
 -- the text of a number is its digits
 abbrev pub HasDigits : Token → Type 0
 HasDigits t = t.kind ≡ Number → WritesNumber t.text.now
+
+-- the text of a name is spelled as one
+abbrev pub HasSpelling : Token → Type 0
+HasSpelling t = t.kind ≡ Name → is_spelled t.text.now ≡ true
 
 abbrev pub remaining : Language → Lexer → List Tok
 remaining l lexer = tok lexer.token ∷ (if is_last lexer.token.kind then [] else tokens_from l lexer.rest.now 0 lexer.place)

@@ -2,10 +2,10 @@
 use Rattle.std.specs.Str.{IsAscii}
 use Rattle.pb_text_lexer.specs.declared.input.Input.TheInside.{Inside}
 use Rattle.pb_text_lexer.specs.Grammar.{State}
-use Rattle.pb_text_lexer.specs.Remaining.{remaining, IsWithin, HasDigits}
+use Rattle.pb_text_lexer.specs.Remaining.{remaining, IsWithin, HasDigits, HasSpelling}
 
 abbrev pub state_of : Inside → State
 state_of i = record { tokens = remaining i.language i.lexer; operators = i.operators }
 
 abbrev pub IsReady : Inside → Type 0
-IsReady i = IsWithin i.lexer.place i.lexer.rest.now × HasDigits i.lexer.token × IsAscii i.lexer.token.text.now
+IsReady i = IsWithin i.lexer.place i.lexer.rest.now × HasDigits i.lexer.token × HasSpelling i.lexer.token × IsAscii i.lexer.token.text.now

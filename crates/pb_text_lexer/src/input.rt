@@ -1,7 +1,8 @@
 //! The tokens that a reader has before it, one of which it sees, and the steps that take them.
 
-ghost use Rattle.std.specs.Prelude.{◌≡◌, ◌-◌, ◌<◌, ◌^◌, length, false, Ok, OnOk};
+ghost use Rattle.std.specs.Prelude.{◌≡◌, ◌-◌, ◌<◌, ◌^◌, length, false, true, Ok, OnOk, IfOk};
 ghost use Rattle.std.specs.Str.Parse.{digits_value};
+ghost use Rattle.pb_names.specs.Names.{is_spelled};
 ghost use Rattle.pb_text_lexer.specs.Grammar.{State};
 ghost use Rattle.pb_text_lexer.specs.Kinds.{is_last};
 ghost use Rattle.pb_text_lexer.specs.Lexing.{start};
@@ -140,6 +141,7 @@ impl<'a> Input<'a> {
     pub fn expect_name(&mut self) -> Result<(Place, &'a str), Refusal>
         ensures reads { GivesExactly (λ name. token_at name.0 Kind.Name name.1.now)
             (spec.expect Kind.Name self.old) result self.new }
+        ensures spelled { IfOk result (λ name. is_spelled name.1.now ≡ true) }
         ensures fewer { OnOk result (length self.new.tokens < length self.old.tokens) }
     {
         if !same_kind(self.kind(), Kind::Name) {

@@ -3,7 +3,8 @@
 ghost use Rattle.std.specs.Prelude.{◌≡◌, ◌+◌, ◌≤◌, ◌<◌, ◌^◌, length};
 ghost use Rattle.std.specs.Str.{IsAscii};
 ghost use Rattle.pb_text_lexer.specs.Lexing as spec;
-ghost use Rattle.pb_text_lexer.specs.Remaining.{HasDigits, IsWithin, remaining, tokens_from};
+ghost use Rattle.pb_text_lexer.specs.Remaining.{HasDigits, HasSpelling, IsWithin};
+ghost use Rattle.pb_text_lexer.specs.Remaining.{remaining, tokens_from};
 
 use crate::language::Language;
 use crate::model_piece::piece_in;
@@ -59,6 +60,7 @@ pub fn first_token<'a>(language: Language, bytes: &'a [u8], place: Place) -> Lex
     ensures gives { remaining language result ≡ tokens_from language bytes.now 0 place }
     ensures within { IsWithin result.place result.rest.now }
     ensures number { HasDigits result.token }
+    ensures spelled { HasSpelling result.token }
     ensures ascii { IsAscii result.token.text.now }
 {
     let mut rest = bytes;

@@ -1,9 +1,8 @@
 //! From texts to their modules.
-ghost use Rattle.std.specs.Prelude.{◌≡◌, ◌≢◌, ◌≤◌, true, length, IfOk, IfErr};
+ghost use Rattle.std.specs.Prelude.{◌≢◌, ◌≤◌, length, IfOk, IfErr};
 ghost use Rattle.pb_text_tree.specs.Form.{spec_form};
 ghost use Rattle.pb_text_meaning.specs.Erase.{erase};
 ghost use Rattle.pb_typing_rules.specs.WellTyped.{IsWellTyped};
-ghost use Rattle.pb_text_names.specs.ModuleNames.{has_names};
 ghost use Rattle.pb_bytecode.specs.Decoded.{module_contents};
 ghost use Rattle.pb_command_line.specs.declared.command.Command.TheVariants.{Compile};
 ghost use Rattle.pbsolve.specs.Answers.{IsTheReading, IsModuleOfForm, IsModuleOfText};
@@ -21,7 +20,6 @@ use pb_bytecode::Module;
 use pb_bytecode::encode::encode;
 use pb_normal::normalise;
 use pb_sorts::Sink;
-use pb_text_names::names_of_texts_are_names_of_modules;
 use pb_typing::Typed;
 use pb_verifier::Verified;
 use std::alloc::Global;
@@ -30,12 +28,10 @@ use std::alloc::Global;
 pub(crate) fn typed(alloc: Global, bytes: &[u8]) -> Result<Typed, SolveError>
     requires { length bytes.now ≤ INPUT_LIMIT }
     ensures read { IfOk result (λ typed. IsTheReading bytes.now (spec_form typed.spec)
-        × IsWellTyped (erase (spec_form typed.spec))
-        × (has_names (erase (spec_form typed.spec)) ≡ true)) }
+        × IsWellTyped (erase (spec_form typed.spec))) }
     ensures refused { IfErr result (IsUncompiled bytes.now) }
     ensures unwritten { IfErr result (λ e. e ≢ SolveError.Write (record {})) }
 {
-    names_of_texts_are_names_of_modules();
     let spec = pb_text::parse(alloc, bytes)?;
     match pb_typing::check(alloc, spec) {
         Ok(typed) => Ok(typed),
@@ -43,9 +39,8 @@ pub(crate) fn typed(alloc: Global, bytes: &[u8]) -> Result<Typed, SolveError>
     }
 }
 
-// The module of a text, whose names a module can take over.
+// The module of a text.
 fn compiled(alloc: Global, typed: &Typed) -> Result<Module, SolveError>
-    requires named { has_names (erase (spec_form typed.now.spec)) ≡ true }
     requires well_typed { IsWellTyped (erase (spec_form typed.now.spec)) }
     ensures module { IfOk result (λ m. IsModuleOfForm (spec_form typed.now.spec) (module_contents m)) }
     ensures refused { IfErr result (IsUncompiledForm (spec_form typed.now.spec)) }
@@ -56,14 +51,12 @@ fn compiled(alloc: Global, typed: &Typed) -> Result<Module, SolveError>
     match compile(alloc, &normal) {
         Ok(module) => Ok(module),
         Err(CompileError::Limit { limit, equation }) => Err(SolveError::Limit { limit, equation }),
-        Err(CompileError::Name) => unreachable!(),
         Err(CompileError::Memory(refused)) => Err(SolveError::Memory(refused)),
     }
 }
 
 // The module of a text, verified: a compiled module is always accepted.
 pub(crate) fn verified(alloc: Global, typed: &Typed) -> Result<Verified, SolveError>
-    requires named { has_names (erase (spec_form typed.now.spec)) ≡ true }
     requires well_typed { IsWellTyped (erase (spec_form typed.now.spec)) }
     ensures module { IfOk result (λ v. IsModuleOfForm (spec_form typed.now.spec) v) }
     ensures refused { IfErr result (IsUncompiledForm (spec_form typed.now.spec)) }

@@ -11,7 +11,8 @@ use Rattle.pb_bytecode.specs.Views.{equation_contents, initial_contents, sort_co
 use Rattle.pb_normal.specs.declared.normal.Equation.{Equation}
 use Rattle.pb_assembler_modules.specs.Module.{struct_names}
 use Rattle.pb_assembler.specs.Compiled.{all_compiled, AreReady, AreSorts}
-use Rattle.pb_text_names.specs.ModuleNames.{has_enumerator_names}
+use Rattle.pb_assembler.proofs.Names.{has_enumerator_names, text_named}
+use Rattle.pb_typing.proofs.Accepted.{accepted-well-typed}
 use Rattle.pb_assembler.proofs.Texts.{accepted_sorts}
 use Rattle.pb_assembler.proofs.Whole.{all_ready, compiled, keeps, whole_fits}
 use Rattle.pb_assembler.proofs.compiler.module_of.Goals as goal
@@ -22,7 +23,8 @@ sorts-requires c =
     let text = spec_form typed.spec in
     subst (λ (ds : List SortDeclaration). AreSorts (map erased_declaration (map sort_declaration_form ds))) (sym c.deref.ensures.value)
     (accepted_sorts text typed.faultless
-    (and_parts (list_all has_enumerator_names (erase text).sorts) (list_all (λ (X : syntax.Equation). is_name X.name) (erase text).equations) c.requires.named).0)
+    (and_parts (list_all has_enumerator_names (erase text).sorts) (list_all (λ (X : syntax.Equation). is_name X.name) (erase text).equations)
+    (text_named typed.spec (accepted-well-typed text typed.faultless).declarations)).0)
 
 pub compile_equations-requires : goal.compile_equations-requires
 compile_equations-requires c =
@@ -31,10 +33,11 @@ compile_equations-requires c =
     let faultless = normal.typed.now.faultless in
     let callees = normal.typed.now.layout in
     let es = normal.equations.items in
+    let named = text_named normal.typed.now.spec (accepted-well-typed text faultless).declarations in
     let small = c.normal_forms_are_small.ensures.accepted text faultless in
     subst (λ (xs : List tree.Equation). AreReady callees callees (map equation_form xs) (c.deref-3).result.now) (sym (c.deref-2).ensures.value)
     (subst (λ (ds : List Equation). AreReady callees callees text.equations ds) (sym (c.deref-3).ensures.value)
-    (all_ready text faultless callees es normal.rights normal.loops normal.typed.now.laid_out.shapes c.requires.kept c.requires.named small))
+    (all_ready text faultless callees es normal.rights normal.loops normal.typed.now.laid_out.shapes c.requires named small))
 
 pub invariant_of-result : goal.invariant_of-result
 invariant_of-result c =
@@ -43,6 +46,7 @@ invariant_of-result c =
     let faultless = normal.typed.now.faultless in
     let callees = normal.typed.now.layout in
     let es = normal.equations.items in
+    let named = text_named normal.typed.now.spec (accepted-well-typed text faultless).declarations in
     let small = c.normal_forms_are_small.ensures.accepted text faultless in
     let sorts = c.in_ok-sorts.ensures ∙ ap (λ (ds : List SortDeclaration). struct_names (map erased_declaration (map sort_declaration_form ds))) c.deref.ensures.value in
     let equations =
@@ -51,7 +55,7 @@ invariant_of-result c =
     ∙ ap (λ (ds : List Equation). all_compiled callees callees text.equations ds) (c.deref-3).ensures.value in
     record {
       within_limits =
-          whole_fits text faultless callees es normal.rights normal.loops normal.typed.now.laid_out.shapes c.requires.kept c.requires.named small
+          whole_fits text faultless callees es normal.rights normal.loops normal.typed.now.laid_out.shapes c.requires named small
           (map sort_contents c.in_ok-sorts.sorts.items) (map equation_contents c.in_ok-equations.equations.items) (initial_contents c.in_ok-initial.initial) sorts equations c.in_ok-initial.ensures.equation c.in_ok-initial.ensures.values
           c.in_ok-equations.ensures.fields c.in_ok-initial.ensures.byte c.in_ok-initial.ensures.words
           (c.structs_are_few.ensures.accepted text faultless) (c.shapes_are_declared.ensures.accepted text faultless) (c.normal_forms_keep_bounds.ensures.accepted text faultless) (c.initial_instances_are_there.ensures.accepted text faultless);
@@ -64,13 +68,14 @@ returns-clause-module c =
     let faultless = normal.typed.now.faultless in
     let callees = normal.typed.now.layout in
     let es = normal.equations.items in
+    let named = text_named normal.typed.now.spec (accepted-well-typed text faultless).declarations in
     let small = c.normal_forms_are_small.ensures.accepted text faultless in
     let sorts = c.in_ok-sorts.ensures ∙ ap (λ (ds : List SortDeclaration). struct_names (map erased_declaration (map sort_declaration_form ds))) c.deref.ensures.value in
     let equations =
     c.in_ok-equations.ensures.contents
     ∙ ap (λ (xs : List tree.Equation). all_compiled callees callees (map equation_form xs) (c.deref-3).result.now) (c.deref-2).ensures.value
     ∙ ap (λ (ds : List Equation). all_compiled callees callees text.equations ds) (c.deref-3).ensures.value in
-    compiled text faultless callees es normal.rights normal.loops normal.typed.now.laid_out.shapes c.requires.kept c.requires.named small
+    compiled text faultless callees es normal.rights normal.loops normal.typed.now.laid_out.shapes c.requires named small
     (map sort_contents c.in_ok-sorts.sorts.items) (map equation_contents c.in_ok-equations.equations.items) (initial_contents c.in_ok-initial.initial) sorts equations c.in_ok-initial.ensures.equation c.in_ok-initial.ensures.values
 
 pub returns-clause-kept : goal.returns-clause-kept
@@ -80,11 +85,12 @@ returns-clause-kept c =
     let faultless = normal.typed.now.faultless in
     let callees = normal.typed.now.layout in
     let es = normal.equations.items in
+    let named = text_named normal.typed.now.spec (accepted-well-typed text faultless).declarations in
     let small = c.normal_forms_are_small.ensures.accepted text faultless in
     let sorts = c.in_ok-sorts.ensures ∙ ap (λ (ds : List SortDeclaration). struct_names (map erased_declaration (map sort_declaration_form ds))) c.deref.ensures.value in
     let equations =
     c.in_ok-equations.ensures.contents
     ∙ ap (λ (xs : List tree.Equation). all_compiled callees callees (map equation_form xs) (c.deref-3).result.now) (c.deref-2).ensures.value
     ∙ ap (λ (ds : List Equation). all_compiled callees callees text.equations ds) (c.deref-3).ensures.value in
-    keeps text faultless callees es normal.rights normal.loops normal.typed.now.laid_out.shapes c.requires.kept c.requires.named small
+    keeps text faultless callees es normal.rights normal.loops normal.typed.now.laid_out.shapes c.requires named small
     (map sort_contents c.in_ok-sorts.sorts.items) (map equation_contents c.in_ok-equations.equations.items) (initial_contents c.in_ok-initial.initial) sorts equations c.in_ok-initial.ensures.equation c.in_ok-initial.ensures.values

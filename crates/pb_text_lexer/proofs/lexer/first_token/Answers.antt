@@ -1,5 +1,7 @@
-use Rattle.std.proofs.Common.{arith, sym, ◌∙◌}
+use Rattle.std.proofs.Common.{◌≡◌, true, false, ap, arith, sym, ◌∙◌}
+use Rattle.pb_text_lexer.specs.Kinds.{is_last}
 use Rattle.pb_text_lexer.proofs.LanguagePieceLemmas.{blank-takes, token-takes, token-ascii, token-past, stop-takes}
+use Rattle.pb_text_lexer.proofs.NameLemmas.{token-spelled}
 use Rattle.pb_text_lexer.proofs.RemainingLemmas.{blank-step, token-step, stop-step}
 use Rattle.pb_text_lexer.proofs.lexer.first_token.Goals as goal
 
@@ -40,6 +42,15 @@ pub returns-in-Token-clause-number : goal.returns-in-Token-clause-number
 returns-in-Token-clause-number c is =
     let takes = token-takes c.args.language _ _ c.in-Token.kind c.in-Token.len c.in-Token.ensures in
     rw c.split_at-in-Token.ensures.front (takes.4 is)
+
+pub returns-in-Token-clause-spelled : goal.returns-in-Token-clause-spelled
+returns-in-Token-clause-spelled c is = rw c.split_at-in-Token.ensures.front (token-spelled c.args.language _ _ c.in-Token.kind c.in-Token.len (sym c.in-Token.ensures) is)
+
+pub returns-in-Stop-clause-spelled : goal.returns-in-Stop-clause-spelled
+returns-in-Stop-clause-spelled c is =
+    let last = (stop-takes c.args.language _ _ c.in-Stop.kind c.in-Stop.ensures).0 in
+    let name : is_last c.in-Stop.kind ≡ false = ap is_last is in
+    absurd (let q : true ≡ false = sym last ∙ name in cc)
 
 pub returns-in-Token-clause-ascii : goal.returns-in-Token-clause-ascii
 returns-in-Token-clause-ascii c = rw c.split_at-in-Token.ensures.front (token-ascii c.args.language _ _ c.in-Token.kind c.in-Token.len c.in-Token.ensures)

@@ -1,5 +1,5 @@
--- The names of the text are names of modules, and its module says what the text says.
-use Rattle.std.proofs.Common.{◌≡◌, ◌∙◌, ℕ, List, true, false, sym, subst, ap}
+-- The module of the text says what the text says.
+use Rattle.std.proofs.Common.{◌≡◌, ℕ, subst}
 use Rattle.pb_trees.specs.Tree.{Tree}
 use Rattle.pb_text_tree.specs.Form.{spec_form}
 use Rattle.pb_text_meaning.specs.Erase.{erase}
@@ -11,21 +11,8 @@ use Rattle.pb_bytecode.specs.Decoded.{module_contents}
 use Rattle.pb_bytecode.specs.Meaning.{AreTrees}
 use Rattle.pb_assembler_modules.specs.Answers.{SaysTheSame}
 use Rattle.pb_assembler_modules.specs.Module.{IsCompiledModule, KeepsAllLimits}
-use Rattle.pb_text_names.specs.ModuleNames.{has_names}
-use Rattle.pb_assembler.specs.Refusal.{IsRefusal}
-use Rattle.pb_assembler.specs.Excess.{IsFirstExcess}
 use Rattle.pbsolve.specs.Answers.{IsModuleOfForm}
 use Rattle.pbsolve.proofs.compile.compiled.Goals as goal
-
-pub unreachable-requires : goal.unreachable-requires
-unreachable-requires c =
-    let typed = c.args.typed.now in
-    let said = erase (spec_form typed.spec) in
-    let named : has_names said ≡ true = c.requires.named in
-    let spec = erase (spec_form c.in_ok-normal.normal.typed.now.spec) in
-    let unnamed : has_names spec ≡ false = subst (IsRefusal spec (IsFirstExcess spec)) c.in-Err-Name.field-0-is c.in-Err-Name.ensures.refused in
-    let same = ap (λ (t : Typed). has_names (erase (spec_form t.spec))) c.in_ok-normal.ensures.text in
-    cc (sym named ∙ (sym same ∙ unnamed))
 
 -- compiled modules say what the text says
 abbrev CompilesToTheSame : Type 0

@@ -1,5 +1,5 @@
 -- What was checked is what the text says.
-use Rattle.std.proofs.Common.{◌≡◌, ◌≢◌, ℕ, true, List, sym, subst}
+use Rattle.std.proofs.Common.{◌≢◌, ℕ, List, sym, subst}
 use Rattle.pb_text_tree.specs.declared.spec.Spec.{Spec}
 use Rattle.pb_text_tree.specs.Form.{SpecForm, spec_form}
 use Rattle.pb_text_meaning.specs.Erase.{erase}
@@ -8,7 +8,6 @@ use Rattle.pb_typing_declarations.specs.declared.fault.TypeError.{TypeError}
 use Rattle.pb_typing_declarations.specs.declared.fault.TypeError.TheVariants.{Memory, At}
 use Rattle.pb_typing_declarations.specs.Faults.{IsAmong}
 use Rattle.pb_typing_rules.specs.Faults.{faults}
-use Rattle.pb_text_names.specs.ModuleNames.{has_names}
 use Rattle.pbsolve.specs.Answers.{IsTheReading}
 use Rattle.pbsolve.specs.Refusals.{IsUncompiled}
 use Rattle.pbsolve.specs.Errors.{type_refusal}
@@ -24,10 +23,7 @@ pub returns-in-Ok-clause-read : goal.returns-in-Ok-clause-read
 returns-in-Ok-clause-read c =
     let bytes = c.args.bytes.now in
     let reading : IsTheReading bytes (spec_form c.in_ok-spec.spec) = record { reading = c.in_ok-spec.ensures.reading; only = c.in_ok-spec.ensures.only } in
-    let named = c.names_of_texts_are_names_of_modules.ensures bytes (spec_form c.in_ok-spec.spec) c.in_ok-spec.ensures.reading c.in-Ok.ensures.accepted.declarations in
-    subst
-    (λ (s : Spec). IsTheReading bytes (spec_form s) × IsWellTyped (erase (spec_form s)) × (has_names (erase (spec_form s)) ≡ true))
-    (sym c.in-Ok.ensures.kept) (reading, c.in-Ok.ensures.accepted, named)
+    subst (λ (s : Spec). IsTheReading bytes (spec_form s) × IsWellTyped (erase (spec_form s))) (sym c.in-Ok.ensures.kept) (reading, c.in-Ok.ensures.accepted)
 
 pub returns-in-Err-clause-refused : goal.returns-in-Err-clause-refused
 returns-in-Err-clause-refused c =
