@@ -15,7 +15,7 @@ abbrev mutual
   weight (formula.Negation' p f) = 8 + weight f
   weight (formula.Chain' connective p first shape row) = 8 + (weight first + links_row row)
   weight (formula.Quantified' quantifier slot carriers p body) = 8 + weight body
-  weight (formula.Call equation arguments) = 1
+  weight (formula.Call place equation arguments) = 1
 
   links_row : {m : _} → Row_of-Formula m → ℕ
   links_row end_of-Formula = 0

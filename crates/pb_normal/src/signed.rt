@@ -54,6 +54,7 @@ pub(crate) fn signed_form(
         pb_typed_tree::Formula::Call {
             equation,
             arguments,
+            ..
         } => Ok(Formula::Call {
             equation: *equation,
             arguments,

@@ -3,6 +3,7 @@ use Rattle.std.proofs.Common.{◌≡◌, ℕ, zero, suc, ◌+◌, ◌<◌, ◌�
 use Rattle.std.specs.List.{All}
 use Rattle.std.proofs.lemmas.List.{append-nil, append_assoc, drop_all}
 use Rattle.pb_sorts.proofs.Places.{drop-at}
+use Rattle.pb_text_tree.specs.declared.place.Place.{Place}
 use Rattle.pb_text_tree.specs.declared.spec.Equation.{Equation}
 use Rattle.pb_text_tree.specs.Form.{EquationForm, SpecForm, equation_form}
 use Rattle.pb_text_meaning.specs.Syntax as syntax
@@ -19,6 +20,7 @@ use Rattle.pb_typing_rules.specs.Faults.{formula_faults, right_faults}
 use Rattle.pb_typing_rules.specs.WellTyped.{parameters_of}
 use Rattle.pb_typing_rules.proofs.Exact.{proper}
 use Rattle.pb_typed_tree.specs.declared.formula.Equation as declared
+use Rattle.pb_typed_tree.specs.Calls.{call_places, calls_in, text_calls, tree_calls}
 use Rattle.pb_typed_tree.specs.Elaboration.{elaborated_equation}
 use Rattle.pb_typed_tree.specs.Loops.{equation_loops}
 use Rattle.pb_typed_tree.specs.Tree.{Formula}
@@ -72,16 +74,25 @@ loops-push : (done : List declared.Equation) (X : declared.Equation) → loops_o
 loops-push [] X = refl
 loops-push (Y ∷ done) X = ap (λ (fs : List (List Shape)). shapes_of Y.loops.items ∷ fs) (loops-push done X)
 
+abbrev calls_of : EquationForm → List Place
+calls_of X = calls_in X.right
+
+calls-push : (done : List declared.Equation) (X : declared.Equation) → tree_calls (done ++ X ∷ []) ≡ tree_calls done ++ call_places X.right ∷ []
+calls-push [] X = refl
+calls-push (Y ∷ done) X = ap (λ (pss : List (List Place)). call_places Y.right ∷ pss) (calls-push done X)
+
 -- so many equations are elaborated
 pub record AreDone (S : Spec) (xs : List Equation) (k : ℕ) (done : List declared.Equation) : Type 0 where
   pub rights : map (elaborated_equation S) (all_erased xs) ≡ rights_of done ++ map (elaborated_equation S) (all_erased (drop k xs))
   pub loops : map (equation_loops S) (all_erased xs) ≡ loops_of done ++ map (equation_loops S) (all_erased (drop k xs))
+  pub calls : map calls_of (map equation_form xs) ≡ tree_calls done ++ map calls_of (map equation_form (drop k xs))
   pub known : AreKnownEquations S (drop k xs)
 
 pub done_begun : (S : Spec) (xs : List Equation) (done : List declared.Equation) → done ≡ [] → AreKnownEquations S xs → AreDone S xs 0 done
 done_begun S xs done e known = record {
   rights = ap (λ (d : List declared.Equation). rights_of d ++ map (elaborated_equation S) (all_erased xs)) (sym e);
   loops = ap (λ (d : List declared.Equation). loops_of d ++ map (equation_loops S) (all_erased xs)) (sym e);
+  calls = ap (λ (d : List declared.Equation). tree_calls d ++ map calls_of (map equation_form xs)) (sym e);
   known = known;
 }
 
@@ -89,11 +100,12 @@ pub known_at : (S : Spec) (xs : List Equation) (k : ℕ) (X : Equation) (done : 
 known_at S xs k X done below at h = (subst (AreKnownEquations S) (drop-at xs k X below at) h.known).0
 
 pub done_next : (S : Spec) (xs : List Equation) (k : ℕ) (X : Equation) (Y : declared.Equation) (done more : List declared.Equation) → k < length xs → X ≡ get_or xs k X → more ≡ done ++ Y ∷ []
-    → formula_view Y.right ≡ elaborated_equation S (erased X) → shapes_of Y.loops.items ≡ equation_loops S (erased X) → AreDone S xs k done → AreDone S xs (k + 1) more
-done_next S xs k X Y done more below at pushed right loops h =
+    → formula_view Y.right ≡ elaborated_equation S (erased X) → shapes_of Y.loops.items ≡ equation_loops S (erased X) → call_places Y.right ≡ calls_in (equation_form X).right → AreDone S xs k done → AreDone S xs (k + 1) more
+done_next S xs k X Y done more below at pushed right loops calls h =
     let left = drop-at xs k X below at in
     let rest = map (elaborated_equation S) (all_erased (drop (k + 1) xs)) in
     let others = map (equation_loops S) (all_erased (drop (k + 1) xs)) in
+    let called = map calls_of (map equation_form (drop (k + 1) xs)) in
     record {
       rights =
           h.rights
@@ -107,6 +119,12 @@ done_next S xs k X Y done more below at pushed right loops h =
           ∙ (ap (λ (f : List Shape). loops_of done ++ f ∷ others) (sym loops)
           ∙ (sym (append_assoc (loops_of done) (shapes_of Y.loops.items ∷ []) others)
           ∙ (ap (λ (fs : List (List Shape)). fs ++ others) (sym (loops-push done Y)) ∙ ap (λ (d : List declared.Equation). loops_of d ++ others) (sym pushed)))));
+      calls =
+          h.calls
+          ∙ (ap (λ (ys : List Equation). tree_calls done ++ map calls_of (map equation_form ys)) left
+          ∙ (ap (λ (ps : List Place). tree_calls done ++ ps ∷ called) (sym calls)
+          ∙ (sym (append_assoc (tree_calls done) (call_places Y.right ∷ []) called)
+          ∙ (ap (λ (pss : List (List Place)). pss ++ called) (sym (calls-push done Y)) ∙ ap (λ (d : List declared.Equation). tree_calls d ++ called) (sym pushed)))));
       known = (subst (AreKnownEquations S) left h.known).1;
     }
 
@@ -117,3 +135,7 @@ rights_ended S xs k done end h =
 pub loops_ended : (S : Spec) (xs : List Equation) (k : ℕ) (done : List declared.Equation) → length xs ≤ k → AreDone S xs k done → loops_of done ≡ map (equation_loops S) (all_erased xs)
 loops_ended S xs k done end h =
     sym (h.loops ∙ (ap (λ (ys : List Equation). loops_of done ++ map (equation_loops S) (all_erased ys)) (drop_all k xs end) ∙ append-nil (loops_of done)))
+
+pub calls_ended : (S : Spec) (xs : List Equation) (k : ℕ) (done : List declared.Equation) → length xs ≤ k → AreDone S xs k done → tree_calls done ≡ text_calls (map equation_form xs)
+calls_ended S xs k done end h =
+    sym (h.calls ∙ (ap (λ (ys : List Equation). tree_calls done ++ map calls_of (map equation_form ys)) (drop_all k xs end) ∙ append-nil (tree_calls done)))

@@ -1,5 +1,5 @@
 -- Typed formulas, operand by operand and node by node; calls, argument by argument.
-use Rattle.std.proofs.Common.{◌≡◌, ℕ, suc, ◌+◌, ◌<◌, ◌≤◌, cond, List, [], ◌∷◌, ◌++◌, map, length, get_or, drop, refl, sym, ◌∙◌, ap, subst, Box, Vec, Global, Result, IfOk, Option, Some, add-one}
+use Rattle.std.proofs.Common.{◌≡◌, ℕ, suc, ◌+◌, ◌<◌, ◌≤◌, cond, List, [], ◌∷◌, ◌++◌, map, length, get_or, drop, refl, sym, ◌∙◌, ap, subst, Box, Vec, Global, Result, Ok, Err, IfOk, Option, Some, add-one}
 use Rattle.std.specs.Prelude.{box_value}
 use Rattle.std.specs.List.{position_from}
 use Rattle.std.specs.declared.alloc.AllocError.{AllocError}
@@ -9,7 +9,9 @@ use Rattle.pb_sorts.specs.declared.carrier.Carrier.{Carrier}
 use Rattle.pb_sorts.proofs.Places.{drop-at}
 use Rattle.pb_text_tree.specs.declared.operator.Connective.{Connective}
 use Rattle.pb_text_tree.specs.declared.operator.Connective.TheVariants.{And, Or, Implies}
+use Rattle.pb_text_tree.specs.declared.place.Place.{Place}
 use Rattle.pb_text_tree.specs.declared.term.Argument.{Argument}
+use Rattle.pb_text_tree.specs.declared.term.Term as term
 use Rattle.pb_text_tree.specs.declared.formula.Formula as ast
 use Rattle.pb_text_tree.specs.declared.formula.Link.{Link}
 use Rattle.pb_text_tree.specs.Form as form
@@ -20,19 +22,22 @@ use Rattle.pb_text_meaning.specs.Syntax.{Name, same_name, Equation, Spec}
 use Rattle.pb_text_meaning.specs.Erase.{erased_formula, erased_arguments, erased_term, joined}
 use Rattle.pb_typing_declarations.specs.Agreement.{equation_place}
 use Rattle.pb_typing_declarations.specs.Shapes.{Shape}
-use Rattle.pb_typing_rules.specs.Scope.{Scope}
+use Rattle.pb_typing_rules.specs.Scope.{Scope, outermost}
 use Rattle.pb_typing_rules.specs.Term.{shape}
 use Rattle.pb_typed_tree.specs.declared.formula.Argument as declared
 use Rattle.pb_typed_tree.specs.declared.formula.Formula as code
 use Rattle.pb_typed_tree.specs.Expansion.{expanded}
+use Rattle.pb_typed_tree.specs.Calls.{call_places, calls, calls_in, places_of}
+use Rattle.pb_typed_tree.proofs.Calls.{data-calls, no_places}
 use Rattle.pb_typed_tree.specs.Loops.{loops}
 use Rattle.pb_typed_tree.specs.Tree as model
 use Rattle.pb_typed_tree.specs.Tree.{Formula, Connected}
 use Rattle.pb_typed_tree.specs.Elaboration.{Slotting, arguments, elaborated, place_of, slotted}
-use Rattle.pb_typing.specs.Tree.{formula_chain_of, formula_of}
+use Rattle.pb_typing.specs.Tree.{formula_chain_of, formula_of, value_of}
 use Rattle.pb_typed_tree.specs.View.{argument_view, chained, shape_view, term_view, formula_view, formula_views}
 use Rattle.pb_typing_declarations.specs.Entries.{shapes_of}
-use Rattle.pb_typing.specs.FormulaLinks.{AreKnownLinks, elaborated_links, link_width, links_loops}
+use Rattle.pb_typing.specs.FormulaLinks as operands
+use Rattle.pb_typing.specs.FormulaLinks.{AreKnownLinks, elaborated_links, link_width, links_calls, links_loops}
 use Rattle.pb_typing.proofs.ElaboratedChains.{chained-elaborated}
 use Rattle.pb_typing.specs.Known.{AreKnown, IsKnown, IsKnownIn}
 use Rattle.pb_typing.proofs.ValueLemmas.{grown, joined-loops}
@@ -77,8 +82,22 @@ next-elaborated : (S : Spec) (c : Slotting) (scope : Scope) (n : ℕ) (links : L
     → elaborated_links S c scope n (drop k links) ≡ elaborated S c scope n (formula_of link.operand) ∷ elaborated_links S c scope (n + link_width link) (drop (k + 1) links)
 next-elaborated S c scope n links k link below at = ap (elaborated_links S c scope n) (drop-at links k link below at)
 
--- so many links are done: their typed trees, and the carriers of their quantifiers
+places-push : (fs : List code.Formula) (f : code.Formula) → places_of (fs ++ f ∷ []) ≡ places_of fs ++ call_places f
+places-push [] f = append-nil (call_places f)
+places-push (g ∷ fs) f = ap (λ (ps : List Place). call_places g ++ ps) (places-push fs f) ∙ sym (append_assoc (call_places g) (places_of fs) (call_places f))
+
+form-calls : (o : Connective) (first : FormulaForm) (links : List Link) → calls_in (form.chained (FormulaForm.connected o) first (link_forms links)) ≡ calls_in first ++ links_calls links
+form-calls o first [] = sym (append-nil (calls_in first))
+form-calls o first (l ∷ ls) = ap (λ (ps : List Place). calls_in first ++ ps) (form-calls o (formula_form l.operand) ls)
+
+-- the calls of a chain are those of its first operand, then those of the others
+pub chain_calls : (o : Connective) (first : ast.Formula) (links : List Link) (head rest : List Place) → head ≡ calls_in (formula_form first) → rest ≡ links_calls links → head ++ rest ≡ calls_in (operands.chain_form o first links)
+chain_calls o first links head rest h r =
+    ap (λ (ps : List Place). ps ++ rest) h ∙ (ap (λ (ps : List Place). calls_in (formula_form first) ++ ps) r ∙ sym (form-calls o (formula_form first) links))
+
+-- so many links are done: their typed trees, the carriers of their quantifiers and the places of their calls
 pub record AreDone (S : Spec) (c : Slotting) (scope : Scope) (links : List Link) (before : List Carrier) (k : ℕ) (done : List code.Formula) (now : List Carrier) : Type 0 where
+  pub places : places_of done ++ links_calls (drop k links) ≡ links_calls links
   pub rest : elaborated_links S c scope (length before) links ≡ formula_views done ++ elaborated_links S c scope (length now) (drop k links)
   pub carriers : shapes_of now ++ links_loops S (drop k links) ≡ shapes_of before ++ links_loops S links
   pub known : AreKnownLinks S scope (drop k links)
@@ -86,6 +105,7 @@ pub record AreDone (S : Spec) (c : Slotting) (scope : Scope) (links : List Link)
 pub done_begun : (S : Spec) (c : Slotting) (scope : Scope) (links : List Link) (before : List Carrier) (done : List code.Formula) → done ≡ [] → AreKnownLinks S scope links
     → AreDone S c scope links before 0 done before
 done_begun S c scope links before done none known = record {
+  places = ap (λ (fs : List code.Formula). places_of fs ++ links_calls links) none;
   rest = ap (λ (fs : List code.Formula). formula_views fs ++ elaborated_links S c scope (length before) links) (sym none);
   carriers = refl;
   known = known;
@@ -94,11 +114,19 @@ done_begun S c scope links before done none known = record {
 pub done_next : (S : Spec) (c : Slotting) (scope : Scope) (links : List Link) (before old new : List Carrier) (k : ℕ) (link : Link) (f : code.Formula) (done more : List code.Formula)
     → k < length links → link ≡ get_or links k link → more ≡ done ++ f ∷ []
     → formula_view f ≡ elaborated S c scope (length old) (formula_of link.operand) → shapes_of new ≡ shapes_of old ++ loops S (formula_of link.operand)
+    → call_places f ≡ calls_in (formula_form link.operand)
     → AreDone S c scope links before k done old → AreDone S c scope links before (k + 1) more new
-done_next S c scope links before old new k link f done more below at pushed form shapes h =
+done_next S c scope links before old new k link f done more below at pushed form shapes called h =
     let left = drop-at links k link below at in
     let others = elaborated_links S c scope (length new) (drop (k + 1) links) in
+    let behind = links_calls (drop (k + 1) links) in
     record {
+      places =
+          ap (λ (fs : List code.Formula). places_of fs ++ behind) pushed
+          ∙ (ap (λ (ps : List Place). ps ++ behind) (places-push done f)
+          ∙ (append_assoc (places_of done) (call_places f) behind
+          ∙ (ap (λ (ps : List Place). places_of done ++ (ps ++ behind)) called
+          ∙ (ap (λ (ls : List Link). places_of done ++ links_calls ls) (sym left) ∙ h.places))));
       rest =
           h.rest
           ∙ (ap (λ (fs : List Formula). formula_views done ++ fs) (next-elaborated S c scope (length old) links k link below at)
@@ -117,6 +145,11 @@ pub known_at : (S : Spec) (scope : Scope) (links : List Link) (k : ℕ) (link : 
 known_at S scope links k link below at h = (subst (AreKnownLinks S scope) (drop-at links k link below at) h).0
 
 -- all links are done
+pub places_ended : (S : Spec) (c : Slotting) (scope : Scope) (links : List Link) (before now : List Carrier) (k : ℕ) (done : List code.Formula) → length links ≤ k
+    → AreDone S c scope links before k done now → places_of done ≡ links_calls links
+places_ended S c scope links before now k done end h =
+    sym (ap (λ (ls : List Link). places_of done ++ links_calls ls) (drop_all k links end) ∙ append-nil (places_of done)) ∙ h.places
+
 pub shapes_ended : (S : Spec) (c : Slotting) (scope : Scope) (links : List Link) (before now : List Carrier) (k : ℕ) (done : List code.Formula) → length links ≤ k
     → AreDone S c scope links before k done now → shapes_of now ≡ shapes_of before ++ links_loops S links
 shapes_ended S c scope links before now k done end h =
@@ -147,6 +180,12 @@ module _ (S : Spec) (o : Connective) (first : ast.Formula) (links : List Link) (
 
 -- ---- nodes
 
+-- what is read as data has no calls
+pub value_places : (S : Spec) (c : Slotting) (n : ℕ) (x : term.Term) (r : Result code.Formula AllocError)
+    → IfOk r (λ (f : code.Formula). (scope : Scope) → formula_view f ≡ elaborated S c scope n (value_of x)) → IfOk r (λ (f : code.Formula). call_places f ≡ [])
+value_places S c n x (Ok f) h = no_places f (ap calls (h outermost) ∙ data-calls S (erased_term (term_form x)) c outermost n)
+value_places S c n x (Err e) h = tt
+
 -- a result says a formula
 abbrev pub IsElaboratedOf : Spec → Slotting → Scope → ℕ → Result code.Formula AllocError → syntax.Formula → Type 0
 IsElaboratedOf S c scope n r f = IfOk r (λ (y : code.Formula). formula_view y ≡ elaborated S c scope n f)
@@ -159,6 +198,12 @@ pub chain-node : (t x : ast.Formula) (o : Connective) (first : Box ast.Formula G
 chain-node t x o first v links is same are =
     ap (λ (f : FormulaForm). expanded (erased_formula f)) (ap formula_form is ∙ formula-chain o first v)
     ∙ (ap (λ (y : ast.Formula). formula_chain_of o y v.items) (sym same) ∙ ap (formula_chain_of o x) (sym are))
+
+pub chain-form : (t x : ast.Formula) (o : Connective) (first : Box ast.Formula Global) (v : Vec Link Global) (links : List Link) → t ≡ ast.Chain o first v → x ≡ box_value first → links ≡ v.items
+    → formula_form t ≡ operands.chain_form o x links
+chain-form t x o first v links is same are =
+    ap formula_form is
+    ∙ (formula-chain o first v ∙ (ap (λ (y : ast.Formula). operands.chain_form o y v.items) (sym same) ∙ ap (operands.chain_form o x) (sym are)))
 
 -- ---- calls
 

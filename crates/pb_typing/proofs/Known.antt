@@ -1,25 +1,27 @@
 -- In a well-typed formula each variable of a quantifier, in data too, is of a sort that has values, and the shape of
 -- each argument is known: there is an assignment to the variables in scope, and an argument has a value under it.
-use Rattle.std.proofs.Common.{◌≡◌, ◌≤◌, zero, suc, Bool, true, false, not, ◌||◌, if◌then◌else◌, List, [], ◌∷◌, length, refl, ap, arith, ℤ, int_eq}
+use Rattle.std.proofs.Common.{◌≡◌, ◌≤◌, ℕ, zero, suc, Option, Some, None, subst, Bool, true, false, not, ◌||◌, if◌then◌else◌, List, [], ◌∷◌, length, refl, ap, arith, ℤ, int_eq}
 use Rattle.std.specs.List.{All, list_any}
 use Rattle.std.specs.Cmp.{signed_Decides}
 use Rattle.pb_carriers.specs.Carrier.{Carrier, Value, contains}
-use Rattle.pb_text_meaning.specs.Syntax.{Variable, Operator, Term, Terms, Formula, Spec}
+use Rattle.pb_text_meaning.specs.Syntax.{Name, same_name, Variable, Operator, Term, Terms, Formula, Equation, Spec}
 use Rattle.pb_text_meaning.specs.Sorts.{carrier_of}
 use Rattle.pb_text_meaning.specs.Value.{Assignment, value}
 use Rattle.pb_text_meaning.specs.Formula.{equation_named}
+use Rattle.pb_typing_declarations.specs.Agreement.{equation_place}
 use Rattle.pb_typing_declarations.specs.Shapes.{Shape, Unknown, Truths, Places, Wholes, end_of, sort_shape}
 use Rattle.pb_typing_declarations.specs.WellDeclared.{has_shape, IsDeclared}
 use Rattle.pb_typing_rules.specs.Shapes.{kind_of, IsValueOf}
 use Rattle.pb_typing_rules.specs.Scope.{Scope, bound, declare, outermost, Within}
 use Rattle.pb_typing_rules.specs.Term.{passes, shape, AreTyped, IsTyped}
-use Rattle.pb_typing_rules.specs.Formula.{IsProper}
+use Rattle.pb_typing_rules.specs.Formula.{IsCalled, IsProper}
 use Rattle.pb_typing_rules.proofs.Contained.{called_typed, contained}
 use Rattle.pb_typing_rules.proofs.Names.{sort_value, within_declared}
 use Rattle.pb_typing_rules.proofs.SortValues.{some_value}
 use Rattle.pb_typed_tree.specs.Expansion.{has_quantifier, connected, expanded_term, expanded}
 use Rattle.pb_typed_tree.specs.Loops.{AreShaped, IsShaped}
-use Rattle.pb_typing.specs.Known.{AreKnown, IsKnown, IsKnownIn}
+use Rattle.pb_typing.specs.Known.{AreKnown, IsKnown, IsKnownIn, IsThere}
+use Rattle.pb_typing.proofs.Unknown.{found_nowhere, no_position}
 
 -- ---- variables
 
@@ -96,6 +98,16 @@ arguments_known spec scope (Terms.Then x xs) p h =
 
 -- ---- formulas
 
+called_there : (spec : Spec) (scope : Scope) (es : Terms) (X : Name) → IsCalled spec scope es (equation_named spec.equations X) → IsThere (equation_place spec X)
+called_there spec scope es X h = by_place (equation_place spec X) refl
+  where
+    by_place : (o : Option ℕ) → equation_place spec X ≡ o → IsThere o
+    by_place (Some k) e = tt
+    by_place None e =
+        let named = λ (Y : Equation). same_name Y.name X in
+        absurd (subst (IsCalled spec scope es) (found_nowhere named spec.equations (no_position named spec.equations e)) h)
+
+
 expanded-known : (spec : Spec) → IsDeclared spec → (even : Bool) (scope : Scope) (f : Formula) → HasAssignment scope → IsProper spec even scope f → IsKnownIn spec scope (expanded f)
 expanded-known spec d even scope (Formula.Truth b) p h = tt
 expanded-known spec d even scope (Formula.Val x) p h = expanded-term-known spec true scope x h.0
@@ -106,7 +118,10 @@ expanded-known spec d even scope (Formula.Implies f g) p h = (expanded-known spe
 expanded-known spec d even scope (Formula.Quantified q xs f) p h =
     let shaped = variables-shaped spec xs h.0.shaped in
     (shaped, expanded-known spec d even (bound spec xs scope) f (assigned spec d xs scope shaped p) h.1)
-expanded-known spec d even scope (Formula.Call X es) p h = arguments_known spec scope es p (called_typed spec scope es (equation_named spec.equations X) h.1)
+expanded-known spec d even scope (Formula.Call X es) p h = (
+  called_there spec scope es X h.1,
+  arguments_known spec scope es p (called_typed spec scope es (equation_named spec.equations X) h.1),
+)
 
 -- under variables alone
 pub right_known : (spec : Spec) → IsDeclared spec → (xs : List Variable) (f : Formula) → AreShaped spec xs → IsProper spec true (bound spec xs outermost) f → IsKnownIn spec (bound spec xs outermost) (expanded f)

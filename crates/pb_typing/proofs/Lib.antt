@@ -21,3 +21,5 @@ pub mod ValueSteps
 pub mod FormulaSteps
 pub mod Known
 pub mod Equations
+pub mod Weight
+pub mod FormulaWeight

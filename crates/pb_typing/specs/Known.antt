@@ -1,6 +1,7 @@
 -- What typing knows of a formula's names and arguments: the shapes of the values that they have.
-use Rattle.std.specs.Prelude.{⊤}
+use Rattle.std.specs.Prelude.{ℕ, ⊤, Option, Some, None}
 use Rattle.pb_text_meaning.specs.Syntax.{Terms, Formula, Equation, Spec}
+use Rattle.pb_typing_declarations.specs.Agreement.{equation_place}
 use Rattle.pb_typing_declarations.specs.Shapes.{Shape, Unknown, Truths, Places, Wholes}
 use Rattle.pb_typing_rules.specs.Scope.{Scope, bound}
 use Rattle.pb_typing_rules.specs.Term.{shape}
@@ -20,7 +21,13 @@ abbrev pub AreKnown : Spec → Scope → Terms → Type 0
 AreKnown spec scope Terms.NoTerms = ⊤
 AreKnown spec scope (Terms.Then x xs) = IsKnown (shape spec scope x) × AreKnown spec scope xs
 
--- each variable of its quantifiers is of a sort that has values, and each argument's shape is known
+-- an equation has the name
+abbrev pub IsThere : Option ℕ → Type 0
+IsThere None = ⊥
+IsThere (Some k) = ⊤
+
+-- each variable of its quantifiers is of a sort that has values, each call is of an equation, and
+-- each argument's shape is known
 abbrev pub IsKnownIn : Spec → Scope → Formula → Type 0
 IsKnownIn spec scope (Formula.Truth b) = ⊤
 IsKnownIn spec scope (Formula.Val x) = ⊤
@@ -30,7 +37,8 @@ IsKnownIn spec scope (Formula.Or f g) = IsKnownIn spec scope f × IsKnownIn spec
 IsKnownIn spec scope (Formula.Implies f g) = IsKnownIn spec scope f × IsKnownIn spec scope g
 IsKnownIn spec scope (Formula.Quantified q xs f) =
     AreShaped spec xs × IsKnownIn spec (bound spec xs scope) f
-IsKnownIn spec scope (Formula.Call X es) = AreKnown spec scope es
+IsKnownIn spec scope (Formula.Call X es) =
+    IsThere (equation_place spec X) × AreKnown spec scope es
 
 -- the same of an equation, whose parameters are of sorts that have values too
 abbrev pub IsKnownEquation : Spec → Equation → Type 0

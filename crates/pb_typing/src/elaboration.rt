@@ -1,11 +1,14 @@
 //! Formulas over slots: the typed tree of a right side.
 
 ghost use Rattle.std.specs.Prelude.{◌≡◌, ◌++◌, length, IfOk, OnOk};
+ghost use Rattle.pb_text_tree.specs.Form.{formula_form};
 ghost use Rattle.pb_typing_declarations.specs.Entries.{shapes_of};
+ghost use Rattle.pb_typed_tree.specs.Calls.{call_places, calls_in, places_of};
 ghost use Rattle.pb_typed_tree.specs.View.{formula_views};
 ghost use Rattle.pb_typing.specs.Contexts.{slots_in, scope_in, text_in, IsReady, IsElaborated};
 ghost use Rattle.pb_typing.specs.Contexts.{AddsLoops};
-ghost use Rattle.pb_typing.specs.FormulaLinks.{AreKnownLinks, elaborated_links, links_loops};
+ghost use Rattle.pb_typing.specs.FormulaLinks.{AreKnownLinks, elaborated_links, links_calls};
+ghost use Rattle.pb_typing.specs.FormulaLinks.{chain_form, links_loops};
 ghost use Rattle.pb_typing.specs.Scopes.{inner_view};
 ghost use Rattle.pb_typing.specs.Slots.{inner_slots};
 ghost use Rattle.pb_typing.specs.Tree.{formula_chain_of, formula_of, negated_formula};
@@ -41,6 +44,7 @@ pub(crate) fn elaborate_formula<'t>(
     ensures carriers { OnOk result
         (AddsLoops context.now.values carriers.old.items carriers.new.items
         (formula_of formula.now)) }
+    ensures places { IfOk result (λ f. call_places f ≡ calls_in (formula_form formula.now)) }
 {
     match formula {
         pb_text_tree::Formula::Constant { value, .. } => Ok(Formula::Test(Term::Constant(*value))),
@@ -78,6 +82,7 @@ fn elaborate_negation<'t>(
     ensures carriers { OnOk result
         (AddsLoops context.now.values carriers.old.items carriers.new.items
         (negated_formula operand.now)) }
+    ensures places { IfOk result (λ f. call_places f ≡ calls_in (formula_form operand.now)) }
 {
     let operand = elaborate_formula(context, carriers, operand)?;
     Ok(Formula::Negation(Box::new(context.values.alloc, operand)?))
@@ -100,6 +105,7 @@ fn elaborate_quantified<'t>(
     ensures carriers { OnOk result
         (AddsLoops context.now.values carriers.old.items carriers.new.items
         (quantified_formula quantifier variables.now body.now)) }
+    ensures places { IfOk result (λ f. call_places f ≡ calls_in (formula_form body.now)) }
 {
     let alloc = context.values.alloc;
     let declarations = context.values.declarations;
@@ -132,6 +138,7 @@ fn elaborate_body<'a, 't>(
         (formula_of body.now)) }
     ensures carriers { OnOk result (AddsLoops outer.now.values carriers.old.items carriers.new.items
         (formula_of body.now)) }
+    ensures places { IfOk result (λ f. call_places f ≡ calls_in (formula_form body.now)) }
 {
     let scope = Scope::Inner(shapes, outer.scope);
     let slots = Slots::Inner(table, outer.values.slots);
@@ -164,6 +171,8 @@ fn elaborate_chain<'t>(
     ensures carriers { OnOk result
         (AddsLoops context.now.values carriers.old.items carriers.new.items
         (formula_chain_of connective first.now links.now)) }
+    ensures places { IfOk result (λ f. call_places f
+        ≡ calls_in (chain_form connective first.now links.now)) }
 {
     let head = elaborate_formula(context, carriers, first)?;
     let first = Box::new(context.values.alloc, head)?;
@@ -188,6 +197,7 @@ fn elaborate_links<'t>(
         (scope_in context.now) (length carriers.old.items) links.now) }
     ensures carriers { OnOk result (shapes_of carriers.new.items
         ≡ shapes_of carriers.old.items ++ links_loops (text_in context.now.values) links.now) }
+    ensures places { IfOk result (λ all. places_of all.items ≡ links_calls links.now) }
 {
     let mut rest = Vec::new(context.values.alloc);
     for link in links {

@@ -1,11 +1,12 @@
 //! The typed trees of a text's right sides.
 
 ghost use Rattle.std.specs.Prelude.{◌≡◌, [], IfOk};
-ghost use Rattle.pb_text_tree.specs.Form.{equation_form, spec_form};
+ghost use Rattle.pb_text_tree.specs.Form.{equation_form, formula_form, spec_form};
 ghost use Rattle.pb_text_meaning.specs.Erase.{erase, erased_equation};
 ghost use Rattle.pb_typing_declarations.specs.Entries.{shapes_of};
 ghost use Rattle.pb_typing_declarations.specs.View.{spec_of, text_of};
 ghost use Rattle.pb_typing_rules.specs.Faults.{right_faults};
+ghost use Rattle.pb_typed_tree.specs.Calls.{call_places, calls_in, text_calls, tree_calls};
 ghost use Rattle.pb_typed_tree.specs.Elaboration.{elaborated_equation, elaborated_equations};
 ghost use Rattle.pb_typed_tree.specs.Loops.{all_loops, equation_loops, loops};
 ghost use Rattle.pb_typed_tree.specs.View.{formula_view, loop_shapes, right_views};
@@ -41,6 +42,8 @@ pub(crate) fn elaborate_equations(
         (erase (spec_form spec.now)).equations) }
     ensures loops { IfOk result (λ equations. loop_shapes equations.items
         ≡ all_loops (erase (spec_form spec.now))) }
+    ensures calls { IfOk result (λ equations. tree_calls equations.items
+        ≡ text_calls (spec_form spec.now).equations) }
 {
     let mut equations = Vec::with_capacity(alloc, spec.equations.len())?;
     for equation in &spec.equations {
@@ -64,6 +67,8 @@ fn elaborate_equation(
     ensures loops { IfOk result (λ X. shapes_of X.loops.items
         ≡ equation_loops (spec_of declarations.now)
         (erased_equation (equation_form equation.now))) }
+    ensures calls { IfOk result (λ X. call_places X.right
+        ≡ calls_in (equation_form equation.now).right) }
 {
     let shapes = variable_shapes(alloc, declarations, &equation.parameters)?;
     let mut carriers = Vec::new(alloc);
@@ -94,6 +99,8 @@ fn elaborate_right<'t>(
         (formula_of formula.now) X.right) }
     ensures loops { IfOk result (λ X. shapes_of X.loops.items
         ≡ loops (text_in context.now.values) (formula_of formula.now)) }
+    ensures calls { IfOk result (λ X. call_places X.right
+        ≡ calls_in (formula_form formula.now)) }
 {
     let parameters = carriers.len();
     let right = elaborate_formula(context, &mut carriers, formula)?;

@@ -60,7 +60,7 @@ struct Checked {
 fn check_spec(alloc: Global, spec: &Spec) -> Result<Checked, TypeError>
     ensures { MatchResult result
         (λ checked. (faults (spec_form spec.now) ≡ [])
-        × IsChecked (erase (spec_form spec.now)) checked)
+        × IsChecked (spec_form spec.now) checked)
         (IsAmong (faults (spec_form spec.now))) }
 {
     let declarations = Declarations::read(alloc, spec)?;
@@ -78,7 +78,7 @@ fn check_declared(
     ensures { MatchResult result
         (λ checked. (right_faults (erase (spec_form spec.now)) (spec_form spec.now).equations
         ++ initial_faults (erase (spec_form spec.now)) (spec_form spec.now).initial ≡ [])
-        × IsChecked (erase (spec_form spec.now)) checked)
+        × IsChecked (spec_form spec.now) checked)
         (IsAmong (right_faults (erase (spec_form spec.now)) (spec_form spec.now).equations
         ++ initial_faults (erase (spec_form spec.now)) (spec_form spec.now).initial)) }
 {

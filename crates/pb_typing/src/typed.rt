@@ -3,6 +3,7 @@
 ghost use Rattle.std.specs.Prelude.{◌≡◌, true};
 ghost use Rattle.pb_text_tree.specs.Form.{spec_form};
 ghost use Rattle.pb_text_meaning.specs.Erase.{erase};
+ghost use Rattle.pb_typed_tree.specs.Calls.{text_calls, tree_calls};
 ghost use Rattle.pb_typed_tree.specs.Elaboration.{elaborated_equations};
 ghost use Rattle.pb_typed_tree.specs.FormulaSet.{formulas-prop, shapes-prop};
 ghost use Rattle.pb_typed_tree.specs.InitialPlace.{IsInitial};
@@ -30,5 +31,6 @@ pub struct Typed {
         (erase (spec_form spec)).equations } by { formulas-prop _ _ },
     pub ghost loops: { loop_shapes equations.items
         ≡ all_loops (erase (spec_form spec)) } by { shapes-prop _ _ },
+    pub ghost calls: { tree_calls equations.items ≡ text_calls (spec_form spec).equations },
     pub ghost asked: { IsInitial (erase (spec_form spec)) initial.equation initial.values.items },
 }

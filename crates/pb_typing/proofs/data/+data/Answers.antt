@@ -12,7 +12,7 @@ use Rattle.pb_typing.specs.Slots.{slotting, over_slots}
 use Rattle.pb_typed_tree.specs.View.{chained, calculated, term_view, term_views, link_views}
 use Rattle.pb_typed_tree.proofs.Views.{term-chain, term-arithmetic}
 use Rattle.pb_typing.proofs.DataLemmas.{chain, arithmetic, application, of_one, of_two, of_three, other-count, chained-slotted, calculated-slotted, links_done, arithmetic_done}
-use Rattle.pb_evaluation.proofs.Weight.{weight, weight-chain, weight-arithmetic, weight-application, links_weight, arithmetic_weight, arguments_weight, link_lighter, operand_lighter, argument_lighter}
+use Rattle.pb_typing.proofs.Weight.{weight, weight-chain, weight-arithmetic, weight-application, links_weight, arithmetic_weight, arguments_weight, link_lighter, operand_lighter, argument_lighter}
 use Rattle.pb_typing.proofs.data.+data.Goals as goal
 use Rattle.pb_typing.proofs.data.+data.Goals.{slot_application-in_default-via-then-arguments-lt1, slot_application-in_default-via-else-arguments-lt1+else-arguments-lt2+else-arguments-lt3+else-arguments-lt4}
 

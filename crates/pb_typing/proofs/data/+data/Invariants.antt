@@ -1,6 +1,6 @@
 use Rattle.std.proofs.Common.{◌≡◌, ◌+◌, ◌*◌, ◌++◌, drop}
 use Rattle.pb_typing_declarations.specs.View.{spec_of}
-use Rattle.pb_evaluation.proofs.Weight.{weight, links_weight, arithmetic_weight, arguments_weight}
+use Rattle.pb_typing.proofs.Weight.{weight, links_weight, arithmetic_weight, arguments_weight}
 use Rattle.pb_typing.specs.Slots.{slotting, link_terms, arithmetic_terms}
 use Rattle.pb_typed_tree.specs.View.{term_views, link_views}
 use Rattle.pb_typing.proofs.data.+data.Given as goal

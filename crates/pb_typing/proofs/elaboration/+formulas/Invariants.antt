@@ -1,6 +1,6 @@
 use Rattle.std.proofs.Common.{◌+◌, ◌*◌}
 use Rattle.pb_typing_declarations.specs.View.{spec_of}
-use Rattle.pb_evaluation.proofs.FormulaWeight.{weight, links_weight}
+use Rattle.pb_typing.proofs.FormulaWeight.{weight, links_weight}
 use Rattle.pb_typing.specs.Scopes.{scope_view}
 use Rattle.pb_typing.specs.Slots.{slotting}
 use Rattle.pb_typing.proofs.FormulaSteps.{AreDone}

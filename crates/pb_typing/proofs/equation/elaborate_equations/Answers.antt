@@ -5,9 +5,10 @@ use Rattle.pb_text_meaning.specs.Syntax.{Spec}
 use Rattle.pb_text_meaning.specs.Erase.{erase}
 use Rattle.pb_typing_declarations.specs.View.{spec_of, text_of}
 use Rattle.pb_typing_rules.specs.Faults.{right_faults}
+use Rattle.pb_typed_tree.specs.Calls.{text_calls}
 use Rattle.pb_typed_tree.specs.Elaboration.{elaborated_equations}
 use Rattle.pb_typed_tree.specs.Loops.{all_loops, equation_loops}
-use Rattle.pb_typing.proofs.Equations.{all_erased, text_known, done_begun, done_next, known_at, rights_ended, loops_ended}
+use Rattle.pb_typing.proofs.Equations.{all_erased, text_known, done_begun, done_next, known_at, rights_ended, loops_ended, calls_ended}
 use Rattle.pb_typing.proofs.equation.elaborate_equations.Goals as goal
 
 pub loop-equation-init : goal.loop-equation-init
@@ -26,7 +27,7 @@ elaborate_equation-requires c =
 pub loop-equation-preserved : goal.loop-equation-preserved
 loop-equation-preserved c =
     done_next (spec_of c.args.declarations.now) c.deref-equation-items.result.now c.loop-equation.equation-index c.equation-item.result c.in_ok-elaborated.elaborated c.loop-equation.equations.items c.push.new.self.items
-    c.loop-equation-test.true c.equation-item.is c.in_ok-push.ensures.items c.in_ok-elaborated.ensures.right c.in_ok-elaborated.ensures.loops c.loop-equation.invariant
+    c.loop-equation-test.true c.equation-item.is c.in_ok-push.ensures.items c.in_ok-elaborated.ensures.right c.in_ok-elaborated.ensures.loops c.in_ok-elaborated.ensures.calls c.loop-equation.invariant
 
 pub returns-clause-rights : goal.returns-clause-rights
 returns-clause-rights c =
@@ -43,3 +44,8 @@ returns-clause-loops c =
     ∙ (ap (λ (xs : List Equation). map (equation_loops S) (all_erased xs)) c.deref-equation-items.ensures.value
     ∙ (ap (λ (t : SpecForm). map (equation_loops S) (erase t).equations) (sym c.requires.text)
     ∙ ap all_loops (ap erase c.requires.text)))
+
+pub returns-clause-calls : goal.returns-clause-calls
+returns-clause-calls c =
+    calls_ended (spec_of c.args.declarations.now) c.deref-equation-items.result.now c.loop-equation.equation-index c.loop-equation.equations.items (omega (arith, c.loop-equation-test.false)) c.loop-equation.invariant
+    ∙ ap (λ (xs : List Equation). text_calls (map equation_form xs)) c.deref-equation-items.ensures.value

@@ -11,7 +11,7 @@ use Rattle.pb_typing_declarations.specs.View.{spec_of}
 use Rattle.pb_typing_declarations.proofs.Parts.{among_first, first_clear}
 use Rattle.pb_typing.specs.Scopes.{scope_view, table_view, inner_view}
 use Rattle.pb_typing.specs.View.{is_positive}
-use Rattle.pb_evaluation.proofs.FormulaWeight.{weight, weight-chain, links_weight, link_lighter}
+use Rattle.pb_typing.proofs.FormulaWeight.{weight, weight-chain, links_weight, link_lighter}
 use Rattle.pb_typing.proofs.FormulaLinks.{link_faults, chain_first, chain_next}
 use Rattle.pb_typing.proofs.FormulaNodes.{Checks, node, negation_node, value_node, quantified_variables, quantified_body}
 use Rattle.pb_typing.proofs.Nodes.{inner_scope}

@@ -4,7 +4,7 @@ use Rattle.pb_typing_rules.specs.Faults.{formula_faults}
 use Rattle.pb_typing_declarations.specs.View.{spec_of}
 use Rattle.pb_typing.specs.Scopes.{scope_view}
 use Rattle.pb_typing.specs.View.{is_positive}
-use Rattle.pb_evaluation.proofs.FormulaWeight.{weight}
+use Rattle.pb_typing.proofs.FormulaWeight.{weight}
 use Rattle.pb_typing.proofs.FormulaLinks.{link_faults}
 use Rattle.pb_typing.proofs.formula.+check_formula.Given as goal
 

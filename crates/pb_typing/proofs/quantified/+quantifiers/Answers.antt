@@ -1,7 +1,7 @@
 use Rattle.std.proofs.Common.{◌||◌, Bool, refl, sym, ◌∙◌, ap, arith}
 use Rattle.pb_typing.specs.Links.{arithmetic_have_quantifier, links_have_quantifier}
 use Rattle.pb_typing.proofs.QuantifiedTerms.{chain, arithmetic, application}
-use Rattle.pb_evaluation.proofs.Weight.{weight, weight-chain, weight-arithmetic, weight-application, links_weight, arithmetic_weight, arguments_weight, link_lighter, operand_lighter, argument_lighter}
+use Rattle.pb_typing.proofs.Weight.{weight, weight-chain, weight-arithmetic, weight-application, links_weight, arithmetic_weight, arguments_weight, link_lighter, operand_lighter, argument_lighter}
 use Rattle.pb_typing.proofs.quantified.+quantifiers.Goals as goal
 
 -- ---- measures

@@ -1,7 +1,7 @@
 use Rattle.std.proofs.Common.{◌≡◌, ◌+◌, drop}
 use Rattle.pb_typing.specs.Links.{links_have_quantifier, arithmetic_have_quantifier}
 use Rattle.pb_typing.proofs.QuantifiedTerms.{arguments_quantified}
-use Rattle.pb_evaluation.proofs.Weight.{weight, links_weight, arithmetic_weight, arguments_weight}
+use Rattle.pb_typing.proofs.Weight.{weight, links_weight, arithmetic_weight, arguments_weight}
 use Rattle.pb_typing.proofs.quantified.+quantifiers.Given as goal
 
 abbrev pub decreases-has_quantifier : goal.decreases-has_quantifier

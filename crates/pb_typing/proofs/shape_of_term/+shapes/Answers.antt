@@ -15,7 +15,7 @@ use Rattle.pb_typing_declarations.specs.View.{spec_of}
 use Rattle.pb_typing.specs.declared.function.Function as code
 use Rattle.pb_typing.specs.Scopes.{scope_view}
 use Rattle.pb_typing.specs.View.{shape_view, function_view}
-use Rattle.pb_evaluation.proofs.Weight.{weight, weight-arithmetic, weight-application, arithmetic_weight, arguments_weight, operand_lighter, argument_lighter}
+use Rattle.pb_typing.proofs.Weight.{weight, weight-arithmetic, weight-application, arithmetic_weight, arguments_weight, operand_lighter, argument_lighter}
 use Rattle.pb_typing.proofs.Links.{calculated-shape, calculated_shape, chained-shape, some_link_shape, no_link_shape}
 use Rattle.pb_typing.proofs.Nodes.{one_argument, two_arguments, three_behind, shape_of_call, no_result}
 use Rattle.pb_typing.proofs.shape_of_term.+shapes.Goals as goal

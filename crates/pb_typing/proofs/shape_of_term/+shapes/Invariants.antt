@@ -5,7 +5,7 @@ use Rattle.pb_typing_rules.specs.Term.{shape}
 use Rattle.pb_typing_declarations.specs.View.{spec_of}
 use Rattle.pb_typing.specs.Scopes.{scope_view}
 use Rattle.pb_typing.specs.View.{shape_view}
-use Rattle.pb_evaluation.proofs.Weight.{weight, arithmetic_weight, arguments_weight}
+use Rattle.pb_typing.proofs.Weight.{weight, arithmetic_weight, arguments_weight}
 use Rattle.pb_typing.proofs.Links.{calculated_shape}
 use Rattle.pb_typing.proofs.shape_of_term.+shapes.Given as goal
 

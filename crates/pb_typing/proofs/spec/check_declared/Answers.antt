@@ -47,6 +47,7 @@ returns c =
             (record { values = c.in_ok-layout.ensures.carriers; shapes = c.in_ok-layout.ensures.shapes });
         rights = c.in_ok-equations.ensures.rights;
         loops = c.in_ok-equations.ensures.loops;
+        calls = c.in_ok-equations.ensures.calls;
         asked = subst (λ (v : SpecForm). IsInitial (erase v) c.in_ok-initial.initial.equation c.in_ok-initial.initial.values.items) c.requires c.in_ok-initial.ensures.1;
       },
     )

@@ -26,4 +26,4 @@ returns-in_err-declarations c =
 pub returns : goal.returns
 returns c =
     let t = spec_form c.args.spec.now in
-    found_behind (declaration_faults t) _ (IsChecked (erase t)) c.check_declared.result c.in_ok-declarations.ensures.checked c.check_declared.ensures
+    found_behind (declaration_faults t) _ (IsChecked t) c.check_declared.result c.in_ok-declarations.ensures.checked c.check_declared.ensures

@@ -23,7 +23,7 @@ use Rattle.pb_typing_declarations.proofs.Parts.{among_left, among_right, among_f
 use Rattle.pb_typing_declarations.specs.declared.fault.TypingFault.{TypingFault}
 use Rattle.pb_typing.specs.Scopes.{scope_view, table_view, inner_view}
 use Rattle.pb_typing.specs.View.{Judges, shape_view, function_view, operation_of, are_allowed, is_no_link}
-use Rattle.pb_evaluation.proofs.Weight.{weight, weight-chain, weight-arithmetic, weight-application, links_weight, arithmetic_weight, arguments_weight, link_lighter, operand_lighter, argument_lighter}
+use Rattle.pb_typing.proofs.Weight.{weight, weight-chain, weight-arithmetic, weight-application, links_weight, arithmetic_weight, arguments_weight, link_lighter, operand_lighter, argument_lighter}
 use Rattle.pb_typing.proofs.Links.{chained-faults, chained-shape, arithmetic_shape, arithmetic_faults, calculated-faults, calculated-shape, calculated_shape, some_link_shape}
 use Rattle.pb_typing.proofs.Nodes.{negative_operand, comparison_left, comparison_right, quantified_variables, quantified_body, inner_scope, length-shapes, one_argument, two_arguments, three_arguments, application_faults, first_fault, second_fault, third_fault}
 use Rattle.pb_typing.proofs.Applications.{one_applied, two_applied, three_applied}

@@ -6,7 +6,7 @@ use Rattle.pb_typing_rules.specs.Term.{shape}
 use Rattle.pb_typing_declarations.specs.View.{spec_of}
 use Rattle.pb_typing.specs.Scopes.{scope_view}
 use Rattle.pb_typing.specs.View.{shape_view, are_allowed}
-use Rattle.pb_evaluation.proofs.Weight.{weight, links_weight, arithmetic_weight, arguments_weight}
+use Rattle.pb_typing.proofs.Weight.{weight, links_weight, arithmetic_weight, arguments_weight}
 use Rattle.pb_typing.proofs.Links.{arithmetic_faults, calculated_shape}
 use Rattle.pb_typing.proofs.term.+terms.Given as goal
 use Rattle.pb_typing.specs.Chains.{link_faults, chain_faults}

@@ -7,7 +7,7 @@ use Rattle.pb_text_meaning.specs.Syntax as syntax
 use Rattle.pb_text_meaning.specs.Erase.{erased_term}
 use Rattle.pb_typing_declarations.specs.View.{spec_of}
 use Rattle.pb_typing_rules.specs.Scope.{bound}
-use Rattle.pb_evaluation.proofs.Weight.{weight, weight-chain, weight-arithmetic, links_weight, link_lighter}
+use Rattle.pb_typing.proofs.Weight.{weight, weight-chain, weight-arithmetic, links_weight, link_lighter}
 use Rattle.pb_typed_tree.specs.declared.formula.Formula.{Formula}
 use Rattle.pb_typed_tree.specs.Expansion.{expanded_term, has_quantifier}
 use Rattle.pb_typed_tree.specs.Loops.{IsShaped}

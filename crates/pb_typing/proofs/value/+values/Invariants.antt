@@ -1,6 +1,6 @@
 use Rattle.std.proofs.Common.{◌+◌, ◌*◌}
 use Rattle.pb_typing_declarations.specs.View.{spec_of}
-use Rattle.pb_evaluation.proofs.Weight.{weight, links_weight}
+use Rattle.pb_typing.proofs.Weight.{weight, links_weight}
 use Rattle.pb_typing.specs.Slots.{slotting}
 use Rattle.pb_typing.proofs.ValueSteps.{AreDone}
 use Rattle.pb_typing.proofs.value.+values.Given as goal
