@@ -1,4 +1,5 @@
--- How a user sees why bytes are no module: the number of the rule and the byte of the field that breaks it, or `M01`.
+-- How a user sees why bytes are no module: the number of the rule and the byte of the field that
+-- breaks it, or `M01`.
 use Rattle.std.specs.Prelude.{ℕ, List, ◌++◌, codes, decimal}
 use Rattle.pb_bytecode.specs.RuleNumber.{rule_number}
 use Rattle.pb_bytecode.specs.declared.fault.ModuleError.{ModuleError}

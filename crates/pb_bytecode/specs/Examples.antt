@@ -12,12 +12,25 @@ use Rattle.pb_bytecode.specs.Meaning.{answer}
 
 abbrev pub equation_of : Sign → List Carrier → EquationContents
 equation_of sign parameters =
-    record { sign = sign; name = codes "X"; parameters = parameters; loops = []; steps = 1; tokens = 1; code = [] }
+    record {
+      sign = sign;
+      name = codes "X";
+      parameters = parameters;
+      loops = [];
+      steps = 1;
+      tokens = 1;
+      code = [];
+    }
 
 -- the first equation's instance with these values is the initial one
 abbrev pub module_of : List EquationContents → List ℤ → Contents
 module_of equations values =
-    record { version = version.One; sorts = []; equations = equations; initial = record { equation = 0; values = values } }
+    record {
+      version = version.One;
+      sorts = [];
+      equations = equations;
+      initial = record { equation = 0; values = values };
+    }
 
 -- X = X
 abbrev pub alone : Sign → Bool
@@ -25,8 +38,12 @@ alone sign = answer (module_of (equation_of sign [] ∷ []) []) (tree_at (Single
 
 -- X = Y before Y = X
 abbrev pub crossed : Sign → Sign → Bool
-crossed x y = answer (module_of (equation_of x [] ∷ (equation_of y [] ∷ [])) []) (tree_at (Single (Call 1) ∷ (Single (Call 0) ∷ [])))
+crossed x y =
+    answer (module_of (equation_of x [] ∷ (equation_of y [] ∷ [])) [])
+    (tree_at (Single (Call 1) ∷ (Single (Call 0) ∷ [])))
 
 -- X(b: Bool), which is true for `true` alone
 abbrev pub started_at : ℤ → Bool
-started_at value = answer (module_of (equation_of Mu (carrier.Bool ∷ []) ∷ []) (value ∷ [])) (tree_at (Single No ∷ (Single Yes ∷ [])))
+started_at value =
+    answer (module_of (equation_of Mu (carrier.Bool ∷ []) ∷ []) (value ∷ []))
+    (tree_at (Single No ∷ (Single Yes ∷ [])))

@@ -14,18 +14,25 @@ use Rattle.pb_bytecode.specs.declared.format.Format.TheVariants as format
 -- the format behind each code, from 0 on
 abbrev pub first_formats : List Format
 first_formats =
-    format.Plain op.End ∷ format.Int ∷ format.Bool ∷ format.Enumerator ∷ format.Get ∷ format.Plain op.Pop ∷
+    format.Plain op.End ∷ format.Int ∷ format.Bool ∷ format.Enumerator ∷ format.Get
+    ∷ format.Plain op.Pop ∷
     format.Plain (op.Arithmetic arithmetic.Add) ∷ format.Plain (op.Arithmetic arithmetic.Sub) ∷
     format.Plain (op.Arithmetic arithmetic.Mul) ∷ format.Plain op.Negate ∷
     format.Plain (op.Arithmetic arithmetic.Div) ∷ format.Plain (op.Arithmetic arithmetic.Mod) ∷
-    format.Plain (op.Arithmetic arithmetic.Min) ∷ format.Plain (op.Arithmetic arithmetic.Max) ∷ format.Plain op.Absolute ∷
+    format.Plain (op.Arithmetic arithmetic.Min) ∷ format.Plain (op.Arithmetic arithmetic.Max)
+    ∷ format.Plain op.Absolute ∷
     format.Plain (op.Compare comparison.Less) ∷ format.Plain (op.Compare comparison.LessOrEqual) ∷
-    format.Plain (op.Compare comparison.Greater) ∷ format.Plain (op.Compare comparison.GreaterOrEqual) ∷
-    format.Plain (op.Equality equality.Equal) ∷ format.Plain (op.Equality equality.NotEqual) ∷ format.Plain op.Not ∷
+    format.Plain (op.Compare comparison.Greater)
+    ∷ format.Plain (op.Compare comparison.GreaterOrEqual) ∷
+    format.Plain (op.Equality equality.Equal) ∷ format.Plain (op.Equality equality.NotEqual)
+    ∷ format.Plain op.Not ∷
     format.Plain (op.Logic connective.And) ∷ format.Plain (op.Logic connective.Or) ∷
-    format.Jump ∷ format.JumpIf true ∷ format.JumpIf false ∷ format.InRange ∷ format.Loop ∷ format.Plain op.Next ∷
-    format.Plain (op.Open connective.And) ∷ format.Plain (op.Open connective.Or) ∷ format.Plain op.Close ∷
-    format.Plain (op.Emit leaf.Yes) ∷ format.Plain (op.Emit leaf.No) ∷ format.Plain (op.Emit leaf.Cut) ∷ format.Call ∷ []
+    format.Jump ∷ format.JumpIf true ∷ format.JumpIf false ∷ format.InRange ∷ format.Loop
+    ∷ format.Plain op.Next ∷
+    format.Plain (op.Open connective.And) ∷ format.Plain (op.Open connective.Or)
+    ∷ format.Plain op.Close ∷
+    format.Plain (op.Emit leaf.Yes) ∷ format.Plain (op.Emit leaf.No)
+    ∷ format.Plain (op.Emit leaf.Cut) ∷ format.Call ∷ []
 
 -- code 37, of version 2 alone
 abbrev pub second_format : Version → Option Format

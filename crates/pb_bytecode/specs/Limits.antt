@@ -1,4 +1,5 @@
--- Which contents a module may have. Each test is one that computes, so that it can stand in an invariant.
+-- Which contents a module may have. Each test is one that computes, so that it can stand in an
+-- invariant.
 use Rattle.std.specs.Prelude.{ℕ, ◌+◌, ◌^◌, Bool, true, false, ◌&&◌, ◌==◌, nat_le, nat_lt, List, [], ◌∷◌, length, map, Option, Some, None, unwrap_or, slice_get, ℤ, pos, negsuc, int_le}
 use Rattle.std.specs.List.{list_all}
 use Rattle.pb_carriers.specs.Carrier.{Tuple, is_within, tuple_count}
@@ -64,7 +65,8 @@ abbrev pub is_second : Version → Bool
 is_second version.One = false
 is_second version.Two = true
 
--- Enumerators are there, and ranges aren't empty. Slots, callees and targets are a verifier's matter.
+-- Enumerators are there, and ranges aren't empty. Slots, callees and targets are a verifier's
+-- matter.
 abbrev pub fits_op : Version → List ℕ → Op → Bool
 fits_op v sizes (op.PushInt k) = is_i64 k
 fits_op v sizes (op.PushEnum s i) = is_sort sizes s && (is_byte i && nat_lt i (count_of sizes s))
@@ -72,22 +74,27 @@ fits_op v sizes (op.Get slot) = is_byte slot
 fits_op v sizes (op.Jump to) = is_u16 to
 fits_op v sizes (op.JumpIf on to) = is_u16 to
 fits_op v sizes (op.InRange low high to) = are_bounds low high && is_u16 to
-fits_op v sizes (op.SlotInRange slot low high to) = is_second v && (is_byte slot && (are_bounds low high && is_u16 to))
+fits_op v sizes (op.SlotInRange slot low high to) =
+    is_second v && (is_byte slot && (are_bounds low high && is_u16 to))
 fits_op v sizes (op.Loop slot) = is_byte slot
 fits_op v sizes (op.Call equation) = is_byte equation
 fits_op v sizes _ = true
 
 -- ---- equations
 
--- at most MAX_PARAMETERS parameters and MAX_LOOP_SLOTS loop slots, and 1 to MAX_INSTRUCTIONS instructions
+-- at most MAX_PARAMETERS parameters and MAX_LOOP_SLOTS loop slots, and 1 to MAX_INSTRUCTIONS
+-- instructions
 abbrev pub fits_equation : Version → List ℕ → EquationContents → Bool
 fits_equation v sizes e =
     is_name e.name
-    && ((is_between 0 (MAX_PARAMETERS + 1) (length e.parameters) && list_all (fits_carrier sizes) e.parameters)
-    && ((is_between 0 (MAX_LOOP_SLOTS + 1) (length e.loops) && list_all (fits_carrier sizes) e.loops)
+    && ((is_between 0 (MAX_PARAMETERS + 1) (length e.parameters)
+    && list_all (fits_carrier sizes) e.parameters)
+    && ((is_between 0 (MAX_LOOP_SLOTS + 1) (length e.loops)
+    && list_all (fits_carrier sizes) e.loops)
     && (is_u32 e.steps
     && (is_u32 e.tokens
-    && (is_between 1 (MAX_INSTRUCTIONS + 1) (length e.code) && list_all (fits_op v sizes) e.code)))))
+    && (is_between 1 (MAX_INSTRUCTIONS + 1) (length e.code)
+    && list_all (fits_op v sizes) e.code)))))
 
 -- how many instances the equations' predicate variables have
 abbrev pub instance_count : List EquationContents → ℕ
@@ -110,12 +117,15 @@ is_tuple (Some parameters) values = fits_values parameters values
 
 -- the initial instance is of an equation that is there, with values of its parameters' carriers
 abbrev pub fits_initial : List EquationContents → InitialContents → Bool
-fits_initial equations i = is_byte i.equation && is_tuple (parameters_of (slice_get equations i.equation)) i.values
+fits_initial equations i =
+    is_byte i.equation && is_tuple (parameters_of (slice_get equations i.equation)) i.values
 
--- at most MAX_STRUCTS sorts, 1 to MAX_EQUATIONS equations, and MAX_INSTANCES instances over all carriers
+-- at most MAX_STRUCTS sorts, 1 to MAX_EQUATIONS equations, and MAX_INSTANCES instances over all
+-- carriers
 abbrev pub fits : Contents → Bool
 fits m =
     (is_between 0 (MAX_STRUCTS + 1) (length m.sorts) && list_all fits_sort m.sorts)
-    && ((is_between 1 (MAX_EQUATIONS + 1) (length m.equations) && list_all (fits_equation m.version (counts m.sorts)) m.equations)
+    && ((is_between 1 (MAX_EQUATIONS + 1) (length m.equations)
+    && list_all (fits_equation m.version (counts m.sorts)) m.equations)
     && (nat_le (instance_count m.equations) MAX_INSTANCES
     && fits_initial m.equations m.initial))

@@ -1,4 +1,5 @@
--- The listing of a module, for people to read: lines of words, with one space between two of them. Numbers are decimal.
+-- The listing of a module, for people to read: lines of words, with one space between two of them.
+-- Numbers are decimal.
 use Rattle.std.specs.Prelude.{ℕ, suc, Bool, true, false, List, [], ◌∷◌, ◌++◌, length, map, codes, decimal}
 use Rattle.std.specs.Fmt.{signed_decimal}
 use Rattle.pb_fixpoint.specs.declared.Sign.{Sign}
@@ -47,7 +48,8 @@ sort_line n names = line (codes "sort") (decimal n ∷ names)
 abbrev pub carrier_words : Carrier → List Text
 carrier_words carrier.Bool = codes "Bool" ∷ []
 carrier_words (carrier.Enum enum) = codes "Enum" ∷ decimal enum.sort ∷ []
-carrier_words (carrier.Range range) = codes "Range" ∷ signed_decimal range.low ∷ signed_decimal range.high ∷ []
+carrier_words (carrier.Range range) =
+    codes "Range" ∷ signed_decimal range.low ∷ signed_decimal range.high ∷ []
 
 -- a slot of this kind, and its carrier
 abbrev pub slot_line : Text → ℕ → Carrier → List ℕ
@@ -129,7 +131,8 @@ operand_words (op.Get slot) = decimal slot ∷ []
 operand_words (op.Jump to) = decimal to ∷ []
 operand_words (op.JumpIf on to) = decimal to ∷ []
 operand_words (op.InRange low high to) = signed_decimal low ∷ signed_decimal high ∷ decimal to ∷ []
-operand_words (op.SlotInRange slot low high to) = decimal slot ∷ signed_decimal low ∷ signed_decimal high ∷ decimal to ∷ []
+operand_words (op.SlotInRange slot low high to) =
+    decimal slot ∷ signed_decimal low ∷ signed_decimal high ∷ decimal to ∷ []
 operand_words (op.Loop slot) = decimal slot ∷ []
 operand_words (op.Call equation) = decimal equation ∷ []
 operand_words _ = []
@@ -150,18 +153,23 @@ head_line n e = line (codes "equation") (decimal n ∷ sign_name e.sign ∷ e.na
 
 -- the parameters are the first slots, and loop slots follow them
 abbrev pub slot_lines : EquationContents → List ℕ
-slot_lines e = numbered (slot_line (codes "param")) 0 e.parameters ++ numbered (slot_line (codes "loop")) (length e.parameters) e.loops
+slot_lines e =
+    numbered (slot_line (codes "param")) 0 e.parameters
+    ++ numbered (slot_line (codes "loop")) (length e.parameters) e.loops
 
 -- how many steps a run takes and how many tokens it writes at most, as the module states it
 abbrev pub stated_lines : EquationContents → List ℕ
 stated_lines e = count_line (codes "steps") e.steps ++ count_line (codes "tokens") e.tokens
 
 abbrev pub equation_lines : ℕ → EquationContents → List ℕ
-equation_lines n e = head_line n e ++ (slot_lines e ++ (stated_lines e ++ numbered op_line 0 e.code))
+equation_lines n e =
+    head_line n e ++ (slot_lines e ++ (stated_lines e ++ numbered op_line 0 e.code))
 
 -- the equation of the initial instance, and its parameters' values
 abbrev pub initial_line : InitialContents → List ℕ
 initial_line i = line (codes "init") (decimal i.equation ∷ map signed_decimal i.values)
 
 abbrev pub listing : Contents → List ℕ
-listing m = numbered sort_line 0 m.sorts ++ (numbered equation_lines 0 m.equations ++ initial_line m.initial)
+listing m =
+    numbered sort_line 0 m.sorts
+    ++ (numbered equation_lines 0 m.equations ++ initial_line m.initial)

@@ -1,5 +1,6 @@
--- What a module means: its equations as the nested solution reads them (Groote and Willemse 2005). The right side at an
--- instance is the and/or tree with which the run of the equation's code on the instance's values ends.
+-- What a module means: its equations as the nested solution reads them (Groote and Willemse 2005).
+-- The right side at an instance is the and/or tree with which the run of the equation's code on the
+-- instance's values ends.
 use Rattle.std.specs.Prelude.{◌≡◌, ℕ, Bool, List, map, Some}
 use Rattle.std.specs.List.{slice_get}
 use Rattle.pb_carriers.specs.Carrier.{Tuple, tuple_count}
@@ -35,18 +36,21 @@ signature_of e = record { sign = e.sign; size = tuple_count (map values_of e.par
 
 -- the number of an equation's instance with these values
 abbrev pub number_at : Contents → ℕ → Tuple → ℕ
-number_at m k values = number_of (carriers_of (parameters m)) (record { equation = k; values = values })
+number_at m k values =
+    number_of (carriers_of (parameters m)) (record { equation = k; values = values })
 
 -- each instance has the tree with which its run ends
 abbrev pub AreTrees : Contents → (ℕ → Tree) → Type 0
 AreTrees m trees =
-    (k : ℕ) (e : EquationContents) (values : Tuple) → slice_get m.equations k ≡ Some e → AreArguments e.parameters values →
+    (k : ℕ) (e : EquationContents) (values : Tuple) → slice_get m.equations k ≡ Some e
+    → AreArguments e.parameters values →
     EndsWith (program_of m e) values (trees (number_at m k values))
 
 -- the number of the initial instance
 abbrev pub initial_of : Contents → ℕ
 initial_of m = number_at m m.initial.equation m.initial.values
 
--- the answer: the truth of the initial instance in the nested solution of the equations, the instances having these trees
+-- the answer: the truth of the initial instance in the nested solution of the equations, the
+-- instances having these trees
 abbrev pub answer : Contents → (ℕ → Tree) → Bool
 answer m trees = solved (map signature_of m.equations) trees (initial_of m)

@@ -10,4 +10,5 @@ begins_with_letter (b ∷ bs) = is_letter b
 
 -- of 1 to MAX_NAME_BYTES bytes, the first of which is a letter or an underscore
 abbrev pub is_name : List ℕ → Bool
-is_name bs = begins_with_letter bs && (nat_le (length bs) MAX_NAME_BYTES && list_all is_name_byte bs)
+is_name bs =
+    begins_with_letter bs && (nat_le (length bs) MAX_NAME_BYTES && list_all is_name_byte bs)

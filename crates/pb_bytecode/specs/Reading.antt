@@ -1,5 +1,5 @@
--- Reading a module from left to right, with the first fault that is met. Laws join this to the spelling: what is read is
--- spelled so, and what is spelled so is read.
+-- Reading a module from left to right, with the first fault that is met. Laws join this to the
+-- spelling: what is read is spelled so, and what is spelled so is read.
 use Rattle.std.specs.Prelude.{◌≡◌, ℕ, zero, suc, Bool, true, false, ◌==◌, nat_le, nat_lt, List, [], ◌∷◌, length, take, drop, Option, Some, None, Result, Ok, Err, slice_get, unwrap_or, if◌then◌else◌, ℤ, int_le, ◌+◌}
 use Rattle.std.proofs.Common.{refl}
 use Rattle.std.proofs.lemmas.Bool.{ltb-true}
@@ -30,7 +30,8 @@ use Rattle.pb_bytecode.specs.Limits.{is_between, count_of, parameters_of, instan
 use Rattle.pb_bytecode.specs.Spelling.{mark}
 
 infixl 10 ◌>>=◌
-abbrev pub ◌>>=◌ : {A B : Type 0} → Result A ModuleFault → (A → Result B ModuleFault) → Result B ModuleFault
+abbrev pub ◌>>=◌ : {A B : Type 0} → Result A ModuleFault → (A → Result B ModuleFault)
+    → Result B ModuleFault
 (Ok x) >>= f = f x
 (Err e) >>= f = Err e
 
@@ -62,7 +63,8 @@ known None r field rest = Err (record { rule = r; left = length field })
 known (Some x) r field rest = Ok (x, rest)
 
 -- a field whose value has to be one that f knows
-abbrev pub checked : {A B : Type 0} → (List ℕ → Field A) → (A → Option B) → ModuleRule → List ℕ → Field B
+abbrev pub checked : {A B : Type 0} → (List ℕ → Field A) → (A → Option B) → ModuleRule → List ℕ
+    → Field B
 checked read f r bytes = read bytes >>= λ x. known (f x.0) r bytes x.1
 
 -- the value, where it passes the test
@@ -77,7 +79,8 @@ byte_at (b ∷ bytes) = Ok (b, bytes)
 
 abbrev pub number_at : Width → List ℕ → Field ℕ
 number_at w bytes =
-    if nat_lt (length bytes) (byte_len w) then Err truncated else Ok (from_le_bytes w (take (byte_len w) bytes), drop (byte_len w) bytes)
+    if nat_lt (length bytes) (byte_len w) then Err truncated
+    else Ok (from_le_bytes w (take (byte_len w) bytes), drop (byte_len w) bytes)
 
 unfoldable pub signed_at : Width → List ℕ → Field ℤ
 signed_at w bytes = do
@@ -99,7 +102,8 @@ bounds_at bytes = do
 
 abbrev pub items_at : {A : Type 0} → (List ℕ → Field A) → ℕ → List ℕ → Field (List A)
 items_at item zero bytes = Ok ([], bytes)
-items_at item (suc n) bytes = item bytes >>= λ first. items_at item n first.1 >>= λ others. Ok (first.0 ∷ others.0, others.1)
+items_at item (suc n) bytes =
+    item bytes >>= λ first. items_at item n first.1 >>= λ others. Ok (first.0 ∷ others.0, others.1)
 
 -- a byte for how many there are, from low on and below end, and then each
 unfoldable pub counted_at : {A : Type 0} → ℕ → ℕ → (List ℕ → Field A) → List ℕ → Field (List A)
@@ -113,23 +117,28 @@ counted_at low end item bytes = do
 unfoldable pub name_at : List ℕ → Field Text
 name_at bytes = do
   n ← byte_at bytes
-  if nat_lt (length n.1) n.0 then Err truncated else known (kept is_name (take n.0 n.1)) rule.Limit bytes (drop n.0 n.1)
+  if nat_lt (length n.1) n.0 then Err truncated
+      else known (kept is_name (take n.0 n.1)) rule.Limit bytes (drop n.0 n.1)
 
 unfoldable pub sort_at : List ℕ → Field SortContents
 sort_at bytes = counted_at 1 (MAX_ENUMERATORS + 1) name_at bytes
 
 -- the carrier of these bounds, unless it is empty
 abbrev pub range_from : (low high : ℤ) (b : Bool) → int_le low high ≡ b → Option Carrier
-range_from low high true h = Some (carrier.Range (record { low = low; high = high; not_empty = le_true low high h }))
+range_from low high true h =
+    Some (carrier.Range (record { low = low; high = high; not_empty = le_true low high h }))
 range_from low high false h = None
 
 -- the carrier of this sort, unless it is empty
 abbrev pub enum_from : (s n : ℕ) (b : Bool) → nat_lt 0 n ≡ b → Option Carrier
-enum_from s n true h = Some (carrier.Enum (record { sort = s; count = n; not_empty = ltb-true 0 n h }))
+enum_from s n true h =
+    Some (carrier.Enum (record { sort = s; count = n; not_empty = ltb-true 0 n h }))
 enum_from s n false h = None
 
 unfoldable pub enum_at : List ℕ → List ℕ → Field Carrier
-enum_at sizes bytes = checked byte_at (λ s. enum_from s (count_of sizes s) (nat_lt 0 (count_of sizes s)) refl) rule.Limit bytes
+enum_at sizes bytes =
+    checked byte_at (λ s. enum_from s (count_of sizes s) (nat_lt 0 (count_of sizes s)) refl)
+    rule.Limit bytes
 
 unfoldable pub range_at : List ℕ → Field Carrier
 range_at bytes = do
@@ -178,14 +187,16 @@ abbrev pub operands_at : List ℕ → Format → List ℕ → Field Op
 operands_at sizes (format.Plain i) bytes = Ok (i, bytes)
 operands_at sizes format.Int bytes = made (λ k. op.PushInt k) (signed_at w64 bytes)
 operands_at sizes format.Bool bytes = made (λ b. op.PushBool (b == 1)) (between_at 0 2 bytes)
-operands_at sizes format.Enumerator bytes = made (λ e. op.PushEnum e.0 e.1) (enumerator_at sizes bytes)
+operands_at sizes format.Enumerator bytes =
+    made (λ e. op.PushEnum e.0 e.1) (enumerator_at sizes bytes)
 operands_at sizes format.Get bytes = made (λ slot. op.Get slot) (byte_at bytes)
 operands_at sizes format.Jump bytes = made (λ to. op.Jump to) (number_at w16 bytes)
 operands_at sizes (format.JumpIf on) bytes = made (λ to. op.JumpIf on to) (number_at w16 bytes)
 operands_at sizes format.InRange bytes = made (λ t. op.InRange t.0.0 t.0.1 t.1) (test_at bytes)
 operands_at sizes format.Loop bytes = made (λ slot. op.Loop slot) (byte_at bytes)
 operands_at sizes format.Call bytes = made (λ equation. op.Call equation) (byte_at bytes)
-operands_at sizes format.SlotInRange bytes = made (λ t. op.SlotInRange t.0 t.1.0.0 t.1.0.1 t.1.1) (slot_test_at bytes)
+operands_at sizes format.SlotInRange bytes =
+    made (λ t. op.SlotInRange t.0 t.1.0.0 t.1.0.1 t.1.1) (slot_test_at bytes)
 
 unfoldable pub op_at : Version → List ℕ → List ℕ → Field Op
 op_at v sizes bytes = do
@@ -216,13 +227,25 @@ equation_at v sizes bytes = do
   steps ← number_at w32 loops.1
   tokens ← number_at w32 steps.1
   code ← code_at v sizes tokens.1
-  Ok (record { sign = sign.0; name = name.0; parameters = parameters.0; loops = loops.0; steps = steps.0; tokens = tokens.0; code = code.0 }, code.1)
+  Ok (
+    record {
+      sign = sign.0;
+      name = name.0;
+      parameters = parameters.0;
+      loops = loops.0;
+      steps = steps.0;
+      tokens = tokens.0;
+      code = code.0;
+    },
+    code.1,
+  )
 
 -- the first byte that differs
 abbrev pub expect : List ℕ → List ℕ → Field (Unit {0})
 expect [] bytes = Ok (tt, bytes)
 expect (m ∷ ms) [] = Err truncated
-expect (m ∷ ms) (b ∷ bytes) = if b == m then expect ms bytes else Err (record { rule = rule.Mark; left = length (b ∷ bytes) })
+expect (m ∷ ms) (b ∷ bytes) =
+    if b == m then expect ms bytes else Err (record { rule = rule.Mark; left = length (b ∷ bytes) })
 
 -- one field of four bytes
 unfoldable pub mark_at : List ℕ → Field (Unit {0})
@@ -243,7 +266,8 @@ value_at c bytes = checked (signed_at w64) (kept (contains (values_of c))) rule.
 -- a value of each carrier
 abbrev pub values_at : List Carrier → List ℕ → Field Tuple
 values_at [] bytes = Ok ([], bytes)
-values_at (c ∷ cs) bytes = value_at c bytes >>= λ z. values_at cs z.1 >>= λ zs. Ok (z.0 ∷ zs.0, zs.1)
+values_at (c ∷ cs) bytes =
+    value_at c bytes >>= λ z. values_at cs z.1 >>= λ zs. Ok (z.0 ∷ zs.0, zs.1)
 
 -- the carriers of an equation's parameters
 abbrev pub parameters_at : List EquationContents → ℕ → List Carrier
@@ -259,7 +283,8 @@ initial_at equations bytes = do
 unfoldable pub equations_at : Version → List ℕ → List ℕ → Field (List EquationContents)
 equations_at v sizes bytes = do
   equations ← counted_at 1 (MAX_EQUATIONS + 1) (equation_at v sizes) bytes
-  known (kept (λ es. nat_le (instance_count es) MAX_INSTANCES) equations.0) rule.Limit equations.1 equations.1
+  known (kept (λ es. nat_le (instance_count es) MAX_INSTANCES) equations.0) rule.Limit equations.1
+      equations.1
 
 unfoldable pub contents_at : List ℕ → Field Contents
 contents_at bytes = do
@@ -268,7 +293,10 @@ contents_at bytes = do
   sorts ← counted_at 0 (MAX_STRUCTS + 1) sort_at v.1
   equations ← equations_at v.0 (counts sorts.0) sorts.1
   initial ← initial_at equations.0 equations.1
-  Ok (record { version = v.0; sorts = sorts.0; equations = equations.0; initial = initial.0 }, initial.1)
+  Ok (
+    record { version = v.0; sorts = sorts.0; equations = equations.0; initial = initial.0 },
+    initial.1,
+  )
 
 -- all of the bytes
 unfoldable pub all_of : List ℕ → Result Contents ModuleFault

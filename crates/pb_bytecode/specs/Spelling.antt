@@ -1,4 +1,5 @@
--- The one spelling of a module in bytes. Numbers are little-endian, signed ones in two's complement.
+-- The one spelling of a module in bytes. Numbers are little-endian, signed ones in two's
+-- complement.
 use Rattle.std.specs.Prelude.{ℕ, Bool, true, false, List, [], ◌∷◌, ◌++◌, length, ℤ}
 use Rattle.std.specs.List.{flat_map}
 use Rattle.std.specs.Int.{w16, w32, w64, to_le_bytes, cast_unsigned}

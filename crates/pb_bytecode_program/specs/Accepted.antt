@@ -1,6 +1,6 @@
--- What it is for code to be accepted: a table of abstract states that each instruction agrees with, after the rules of
--- bytecode verification (Lindholm and Yellin 1996). A verifier makes one pass; this is a relation between a program and
--- a table, without order.
+-- What it is for code to be accepted: a table of abstract states that each instruction agrees with,
+-- after the rules of bytecode verification (Lindholm and Yellin 1996). A verifier makes one pass;
+-- this is a relation between a program and a table, without order.
 use Rattle.std.specs.Prelude.{◌≡◌, ℕ, ◌<◌, ◌≤◌, List, [], ◌∷◌, length, map, Option, Some, None, slice_get, IsSome, Contains, ◌⊎◌}
 use Rattle.pb_bytecode_program.specs.declared.limits.TheConstants.{MAX_LOOPS, MAX_STEPS, MAX_TOKENS}
 use Rattle.pb_bytecode_program.specs.Abstract.{Covers, abstraction_of}
@@ -94,24 +94,38 @@ IsVisible p q i = (i < length p.parameters) ⊎ Contains (loop_slots p.code (loo
 abbrev pub NamesInScope : Program → ℕ → Op → Type 0
 NamesInScope p q (op.Get i) = IsVisible p q i
 NamesInScope p q (op.SlotInRange i low high to) = IsVisible p q i
-NamesInScope p q (op.Loop i) = (IsSome (carrier_of p i)) × (Contains (loop_slots p.code (loops_around p.code q)) i → ⊥) × (length (loops_around p.code q) < MAX_LOOPS)
+NamesInScope p q (op.Loop i) =
+    (IsSome (carrier_of p i)) × (Contains (loop_slots p.code (loops_around p.code q)) i → ⊥)
+    × (length (loops_around p.code q) < MAX_LOOPS)
 NamesInScope p q (op.Call eq) = eq < length p.callees
 NamesInScope p q op.End = loops_around p.code q ≡ []
 NamesInScope p q _ = Unit {0}
 
 -- what is known at place 0
 abbrev pub entry : Program → AbstractState
-entry p = record { operands = []; operands_below = 0; parameters = map abstraction_of p.parameters; loops = []; brackets = 0; brackets_below = 0; roots = 0 }
+entry p =
+    record {
+      operands = [];
+      operands_below = 0;
+      parameters = map abstraction_of p.parameters;
+      loops = [];
+      brackets = 0;
+      brackets_below = 0;
+      roots = 0;
+    }
 
--- the code keeps the rules by position, states counts that are large enough and within the limits, and has a table whose
--- state at each place covers what flows there
+-- the code keeps the rules by position, states counts that are large enough and within the limits,
+-- and has a table whose state at each place covers what flows there
 pub record Accepted (p : Program) (table : Table) : Type 0 where
   pub placed : (q : ℕ) (i : Op) → slice_get p.code q ≡ Some i → HasValidTarget p q i
   pub sited : (q : ℕ) (i : Op) → slice_get p.code q ≡ Some i → NamesInScope p q i
   pub all_closed : loops_around p.code (length p.code) ≡ []
-  pub closes : (q : ℕ) (i : Op) → slice_get p.code q ≡ Some i → loop_effect i ≡ Leaves → 0 < length (loops_around p.code q)
+  pub closes : (q : ℕ) (i : Op) → slice_get p.code q ≡ Some i → loop_effect i ≡ Leaves
+      → 0 < length (loops_around p.code q)
   pub begins : Leads table (record { to = 0; state = entry p })
-  pub each : (q : ℕ) (i : Op) (k : AbstractState) → slice_get p.code q ≡ Some i → state_at table q ≡ Some k → FlowIsCovered table (transfer p (state_at_loop table (loops_around p.code q)) q i k)
+  pub each : (q : ℕ) (i : Op) (k : AbstractState) → slice_get p.code q ≡ Some i
+      → state_at table q ≡ Some k
+      → FlowIsCovered table (transfer p (state_at_loop table (loops_around p.code q)) q i k)
   pub long : length table ≡ length p.code
   pub steps_stated : static_steps p ≤ p.stated_steps
   pub steps_limit : p.stated_steps ≤ MAX_STEPS

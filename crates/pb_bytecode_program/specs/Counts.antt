@@ -1,5 +1,5 @@
--- Which loops stand around a place, and static counts: how many steps and tokens a run takes at most, an instruction
--- in loops counting as often as their bodies run.
+-- Which loops stand around a place, and static counts: how many steps and tokens a run takes at
+-- most, an instruction in loops counting as often as their bodies run.
 use Rattle.std.specs.Prelude.{ℕ, zero, suc, ◌+◌, ◌*◌, List, [], ◌∷◌, length, Option, Some, None}
 use Rattle.pb_bytecode_program.specs.Values.{tagged_values}
 use Rattle.pb_bytecode_program.specs.Machine.{Program, carrier_of}
@@ -28,7 +28,8 @@ loops_after Straight q st = st
 abbrev pub loops_open_after : List Op → ℕ → List ℕ → ℕ → List ℕ
 loops_open_after [] q st n = st
 loops_open_after (i ∷ is) q st zero = st
-loops_open_after (i ∷ is) q st (suc n) = loops_open_after is (q + 1) (loops_after (loop_effect i) q st) n
+loops_open_after (i ∷ is) q st (suc n) =
+    loops_open_after is (q + 1) (loops_after (loop_effect i) q st) n
 
 -- the places of the LOOPs around a place, the innermost first
 abbrev pub loops_around : List Op → ℕ → List ℕ
@@ -46,7 +47,8 @@ multiplier (w ∷ ws) = w
 
 -- an instruction's cost times the product of the loops around it, and the cost of what follows
 abbrev pub cost_by : Program → LoopEffect → ℕ → List ℕ → (List ℕ → ℕ) → ℕ
-cost_by p (Enters i) c ws rest = multiplier ws * c + rest (multiplier ws * size_of (carrier_of p i) ∷ ws)
+cost_by p (Enters i) c ws rest =
+    multiplier ws * c + rest (multiplier ws * size_of (carrier_of p i) ∷ ws)
 cost_by p Leaves c [] rest = c
 cost_by p Leaves c (w ∷ ws) rest = w * c + rest ws
 cost_by p Straight c ws rest = multiplier ws * c + rest ws

@@ -1,5 +1,6 @@
--- The tagged machine: a stack machine whose operands carry their kinds, which faults where a rule is broken. A run from
--- an instance's arguments ends with the tokens of the instance's and/or tree (small-step semantics, Plotkin 1981).
+-- The tagged machine: a stack machine whose operands carry their kinds, which faults where a rule
+-- is broken. A run from an instance's arguments ends with the tokens of the instance's and/or tree
+-- (small-step semantics, Plotkin 1981).
 use Rattle.std.specs.Prelude.{ℕ, zero, suc, ◌+◌, ◌-◌, Bool, false, not, ◌&&◌, ◌||◌, List, [], ◌∷◌, ◌++◌, length, map, reverse, Option, Some, None, ℤ, pos, neg_ℤ, int_lt, int_le, ◌==◌, nat_lt, if◌then◌else◌, slice_get}
 use Rattle.pb_sorts.specs.Instance.{number_of}
 use Rattle.pb_sorts.specs.Layout.{carriers_of}
@@ -111,7 +112,8 @@ push_equality st vs wanted (Some b) = push st vs (BoolValue (answers wanted b))
 -- what is wrong with an argument
 abbrev pub argument_fault : Value → Carrier → Option MachineFault
 argument_fault (BoolValue b) carrier.Bool = None
-argument_fault (IntValue z) (carrier.Range range) = if int_le range.low z && int_le z range.high then None else Some Argument
+argument_fault (IntValue z) (carrier.Range range) =
+    if int_le range.low z && int_le z range.high then None else Some Argument
 argument_fault (EnumValue s i) (carrier.Enum enum) =
     if s == enum.sort then (if nat_lt i enum.count then None else Some Argument) else Some WrongKind
 argument_fault _ _ = Some WrongKind
@@ -122,7 +124,8 @@ fault_or None next = next
 fault_or (Some f) next = Faults f
 
 -- the arguments of a call, from the last one down
-abbrev pub pop_args : List Carrier → List Value → List Value → (List Value → List Value → Outcome) → Outcome
+abbrev pub pop_args : List Carrier → List Value → List Value → (List Value → List Value → Outcome)
+    → Outcome
 pop_args [] args vs go = go args vs
 pop_args (c ∷ cs) args [] go = Faults MissingOperand
 pop_args (c ∷ cs) args (v ∷ vs) go = fault_or (argument_fault v c) (pop_args cs (v ∷ args) vs go)
@@ -173,24 +176,34 @@ end_run [] zero (suc (suc r)) out = Faults Root
 
 -- the carrier of a loop slot
 abbrev pub carrier_of : Program → ℕ → Option Carrier
-carrier_of p i = if nat_lt i (length p.parameters) then None else slice_get p.loops (i - length p.parameters)
+carrier_of p i =
+    if nat_lt i (length p.parameters) then None else slice_get p.loops (i - length p.parameters)
 
 abbrev pub enter_loop : State → ℕ → List Value → Outcome
 enter_loop st i [] = Faults Loop
 enter_loop st i (v ∷ left) =
-    Continues (record st { place = st.place + 1; loops = record { loop_place = st.place; slot = i; value = v; remaining = left } ∷ st.loops })
+    Continues
+    (record st {
+      place = st.place + 1;
+      loops = record { loop_place = st.place; slot = i; value = v; remaining = left } ∷ st.loops;
+    })
 
 -- LOOP, at most MAX_LOOPS of them nested
 abbrev pub begin_loop : State → ℕ → Option Carrier → Outcome
 begin_loop st i None = Faults NoSlot
 begin_loop st i (Some c) =
-    if nat_lt (length st.loops) MAX_LOOPS && not (is_running st.loops i) then enter_loop st i (tagged_values c) else Faults Loop
+    if nat_lt (length st.loops) MAX_LOOPS && not (is_running st.loops i)
+    then enter_loop st i (tagged_values c) else Faults Loop
 
 -- the next value of the loop, or the place after its NEXT where none remains
 abbrev pub next_turn : State → Frame → List Frame → List Value → Outcome
 next_turn st f fs [] = Continues (record st { place = st.place + 1; loops = fs })
 next_turn st f fs (v ∷ left) =
-    Continues (record st { place = f.loop_place + 1; loops = record { loop_place = f.loop_place; slot = f.slot; value = v; remaining = left } ∷ fs })
+    Continues
+    (record st {
+      place = f.loop_place + 1;
+      loops = record { loop_place = f.loop_place; slot = f.slot; value = v; remaining = left } ∷ fs;
+    })
 
 abbrev pub repeat_or_leave : State → List Frame → Outcome
 repeat_or_leave st [] = Faults Loop
@@ -200,14 +213,21 @@ repeat_or_leave st (f ∷ fs) = next_turn st f fs f.remaining
 
 -- the number of an equation's instance
 abbrev pub number : Program → ℕ → List Value → ℕ
-number p eq args = number_of (carriers_of p.callees) (record { equation = eq; values = map untagged args })
+number p eq args =
+    number_of (carriers_of p.callees) (record { equation = eq; values = map untagged args })
 
 abbrev pub call : Program → State → ℕ → Option (List Carrier) → Outcome
 call p st eq None = Faults NoCallee
 call p st eq (Some cs) =
     pop_args (reverse cs) [] st.operands (λ args vs.
     with_root st.brackets st.roots (λ r.
-    Continues (record st { place = st.place + 1; operands = vs; roots = r; output = st.output ++ token.Call (number p eq args) ∷ [] })))
+    Continues
+    (record st {
+      place = st.place + 1;
+      operands = vs;
+      roots = r;
+      output = st.output ++ token.Call (number p eq args) ∷ [];
+    })))
 
 -- ---- one instruction
 
@@ -227,29 +247,46 @@ execute p (op.Arithmetic c) st =
     if divides c && int_lt b (pos 1) then Faults Divisor else push_int st ws (arithmetic c a b)))
 execute p op.Negate st = pop_int st.operands (λ a vs. push_int st vs (neg_ℤ a))
 execute p op.Absolute st = pop_int st.operands (λ a vs. push_int st vs (absolute a))
-execute p (op.Compare o) st = pop_int st.operands (λ b vs. pop_int vs (λ a ws. push st ws (BoolValue (compares o a b))))
-execute p (op.Equality wanted) st = pop_any st.operands (λ b vs. pop_any vs (λ a ws. push_equality st ws wanted (equals a b)))
+execute p (op.Compare o) st =
+    pop_int st.operands (λ b vs. pop_int vs (λ a ws. push st ws (BoolValue (compares o a b))))
+execute p (op.Equality wanted) st =
+    pop_any st.operands (λ b vs. pop_any vs (λ a ws. push_equality st ws wanted (equals a b)))
 execute p op.Not st = pop_bool st.operands (λ a vs. push st vs (BoolValue (not a)))
 execute p (op.Logic c) st =
     pop_bool st.operands (λ b vs. pop_bool vs (λ a ws. push st ws (BoolValue (connects c a b))))
 execute p (op.Jump to) st = jump_to st to st.operands
 execute p (op.JumpIf on to) st =
-    pop_bool st.operands (λ b vs. if (if on then b else not b) then jump_to st to vs else jump_to st (st.place + 1) vs)
+    pop_bool st.operands
+    (λ b vs. if (if on then b else not b) then jump_to st to vs else jump_to st (st.place + 1) vs)
 execute p (op.InRange low high to) st =
     pop_int st.operands (λ z vs.
-    if int_le low z && int_le z high then jump_to st (st.place + 1) (IntValue z ∷ vs) else jump_to st to (IntValue z ∷ vs))
+    if int_le low z && int_le z high then jump_to st (st.place + 1) (IntValue z ∷ vs)
+    else jump_to st to (IntValue z ∷ vs))
 execute p (op.SlotInRange i low high to) st =
     with_slot (value_at st.loops st.parameters i) (λ v. with_int v (λ z.
-    if int_le low z && int_le z high then jump_to st (st.place + 1) st.operands else jump_to st to st.operands))
+    if int_le low z && int_le z high then jump_to st (st.place + 1) st.operands
+    else jump_to st to st.operands))
 execute p (op.Loop i) st = begin_loop st i (carrier_of p i)
 execute p op.Next st = repeat_or_leave st st.loops
 execute p (op.Open c) st =
     if nat_lt st.brackets MAX_BRACKETS
-    then with_root st.brackets st.roots (λ r. Continues (record st { place = st.place + 1; brackets = st.brackets + 1; roots = r; output = st.output ++ opening c ∷ [] }))
+    then with_root st.brackets st.roots
+    (λ r. Continues
+    (record st {
+      place = st.place + 1;
+      brackets = st.brackets + 1;
+      roots = r;
+      output = st.output ++ opening c ∷ [];
+    }))
     else Faults Bracket
-execute p op.Close st = close_bracket st.brackets (λ n. Continues (record st { place = st.place + 1; brackets = n; output = st.output ++ token.Close ∷ [] }))
+execute p op.Close st =
+    close_bracket st.brackets
+    (λ n. Continues
+    (record st { place = st.place + 1; brackets = n; output = st.output ++ token.Close ∷ [] }))
 execute p (op.Emit l) st =
-    with_root st.brackets st.roots (λ r. Continues (record st { place = st.place + 1; roots = r; output = st.output ++ leaf l ∷ [] }))
+    with_root st.brackets st.roots
+    (λ r. Continues
+    (record st { place = st.place + 1; roots = r; output = st.output ++ leaf l ∷ [] }))
 execute p (op.Call eq) st = call p st eq (slice_get p.callees eq)
 
 abbrev pub execute_at : Program → Option Op → State → Outcome
@@ -273,4 +310,13 @@ run p (suc n) st = and_then (step p st) (run p n)
 
 -- the state at place 0 with the parameters' values
 abbrev pub start : List Value → State
-start args = record { place = 0; operands = []; parameters = args; loops = []; brackets = 0; roots = 0; output = [] }
+start args =
+    record {
+      place = 0;
+      operands = [];
+      parameters = args;
+      loops = [];
+      brackets = 0;
+      roots = 0;
+      output = [];
+    }

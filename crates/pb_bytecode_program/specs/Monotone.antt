@@ -1,5 +1,5 @@
--- The transfer function is monotone: what a verifier finds by one pass from the entry is the least table, so that code
--- without an accepted table is all that it refuses.
+-- The transfer function is monotone: what a verifier finds by one pass from the entry is the least
+-- table, so that code without an accepted table is all that it refuses.
 use Rattle.std.specs.Prelude.{◌≡◌, ℕ, List, Option, Some, None, ◌≤ℤ◌, Contains}
 use Rattle.std.specs.List.{AllByRecursion}
 use Rattle.pb_bytecode_program.specs.Machine.{Program}
@@ -31,6 +31,8 @@ pub record IsCoveredEdge (edges : List Edge) (e : Edge) : Type 0 where
 -- where a rule is met with less known, it is met with more known, each edge being covered
 abbrev pub TransferIsMonotone : Type 0
 TransferIsMonotone =
-    (p : Program) (g h : Option AbstractState) (q : ℕ) (i : Op) (k m : AbstractState) (edges : List Edge) →
+    (p : Program) (g h : Option AbstractState) (q : ℕ) (i : Op) (k m : AbstractState)
+    (edges : List Edge) →
     HasOrderedRange i → IsCoveredAtLoop g h → IsCovered k m → transfer p h q i m ≡ Some edges →
-    (more : List Edge) × (transfer p g q i k ≡ Some more) × AllByRecursion (IsCoveredEdge edges) more
+    (more : List Edge) × (transfer p g q i k ≡ Some more)
+    × AllByRecursion (IsCoveredEdge edges) more

@@ -1,5 +1,5 @@
--- What accepted code owes: on any arguments of its declared carriers no fault comes, and the run ends within the static
--- counts, with the tokens of a tree whose calls are instances.
+-- What accepted code owes: on any arguments of its declared carriers no fault comes, and the run
+-- ends within the static counts, with the tokens of a tree whose calls are instances.
 use Rattle.std.specs.Prelude.{◌≡◌, ℕ, ◌≤◌, true, List, [], ◌∷◌, length, map}
 use Rattle.pb_carriers.specs.Carrier.{Tuple, is_within}
 use Rattle.pb_sorts.specs.Instance.{Instance, is_instance, number_of}
@@ -29,10 +29,13 @@ pub record IsInstance (p : Program) (n : ℕ) : Type 0 where
 
 -- the run on these values ends with the tree
 pub record EndsWith (p : Program) (tuple : Tuple) (tree : Tree) : Type 0 where
-  pub ends : (n : ℕ) → static_steps p ≤ n → run p n (start (arguments p.parameters tuple)) ≡ Ends (tree_tokens tree)
+  pub ends : (n : ℕ) → static_steps p ≤ n
+      → run p n (start (arguments p.parameters tuple)) ≡ Ends (tree_tokens tree)
   pub short : length (tree_tokens tree) ≤ static_tokens p
   pub calls : TreeCalls (IsInstance p) tree
 
 pub record IsSafe (p : Program) : Type 0 where
-  pub never_faults : (tuple : Tuple) → AreArguments p.parameters tuple → (n : ℕ) (f : MachineFault) → run p n (start (arguments p.parameters tuple)) ≡ Faults f → ⊥
-  pub ends : (tuple : Tuple) → AreArguments p.parameters tuple → (tree : Tree) × EndsWith p tuple tree
+  pub never_faults : (tuple : Tuple) → AreArguments p.parameters tuple → (n : ℕ) (f : MachineFault)
+      → run p n (start (arguments p.parameters tuple)) ≡ Faults f → ⊥
+  pub ends : (tuple : Tuple) → AreArguments p.parameters tuple
+      → (tree : Tree) × EndsWith p tuple tree

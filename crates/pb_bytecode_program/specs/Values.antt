@@ -1,4 +1,5 @@
--- Operands with their kinds, the values of a carrier, and arithmetic on whole numbers without bound.
+-- Operands with their kinds, the values of a carrier, and arithmetic on whole numbers without
+-- bound.
 use Rattle.std.specs.Prelude.{ℕ, Bool, true, false, not, ◌&&◌, ◌||◌, List, [], ◌∷◌, map, Option, Some, None, ℤ, pos, int_lt, int_le, ◌==◌, nat_lt, if◌then◌else◌, unsigned_abs}
 use Rattle.std.specs.Ordering.{int_eq}
 use Rattle.pb_carriers.specs.Carrier as carriers

@@ -1,9 +1,11 @@
--- Finite carriers of data, and tuples with a value of each (Groote and Willemse 2005, section 2: data domains).
+-- Finite carriers of data, and tuples with a value of each (Groote and Willemse 2005, section 2:
+-- data domains).
 use Rattle.std.specs.Prelude.{ℕ, zero, suc, ◌*◌, ℤ, pos, negsuc, ◌+ℤ◌, ◌-ℤ◌, Bool, true, false, ◌&&◌, List, [], ◌∷◌, map, length, flat_map}
 use Rattle.std.specs.Ordering.{int_eq}
 use Rattle.std.specs.List.{list_any}
 
--- A value of each kind is a whole number: false is 0 and true is 1, an enumerator is its place among its sort's.
+-- A value of each kind is a whole number: false is 0 and true is 1, an enumerator is its place
+-- among its sort's.
 abbrev pub Value : Type 0
 Value = ℤ
 

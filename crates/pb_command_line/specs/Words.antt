@@ -92,12 +92,13 @@ command_line =
 abbrev pub option_word : List ℕ → Option (List ℕ × List Row) → Option (List ℕ)
 option_word name read = option_and_then (λ p. first_of name p.1) read
 
--- The word is a whole number from 1 to 16, in decimal digits behind a plus or none, and so many workers are asked for; where
--- there is no word, one is.
+-- The word is a whole number from 1 to 16, in decimal digits behind a plus or none, and so many
+-- workers are asked for; where there is no word, one is.
 abbrev pub IsWorkersOf : Option (List ℕ) → ℕ → Type 0
 IsWorkersOf None workers = workers ≡ 1
 IsWorkersOf (Some word) workers =
-    IsNumeral 10 (without_leading_plus word) × (digits_value 10 (without_leading_plus word) ≡ workers) × (0 < workers) × (workers ≤ 16)
+    IsNumeral 10 (without_leading_plus word)
+    × (digits_value 10 (without_leading_plus word) ≡ workers) × (0 < workers) × (workers ≤ 16)
 
 -- the word is the solver's name; where there is none, Zielonka's algorithm is asked for
 abbrev pub IsChosenBy : Option (List ℕ) → Solver → Type 0
@@ -116,7 +117,8 @@ pub record IsRequestOf (read : Option (List ℕ × List Row)) (request : Request
   pub places : ArePlacesToldBy (option_word (codes "places") read) request.places
   pub property : option_word (codes "property") read ≡ option_map string_bytes request.property
 
--- the words, the first of which is the program's name, ask for this: clap finds no fault in them, and what it reads is the request
+-- the words, the first of which is the program's name, ask for this: clap finds no fault in them,
+-- and what it reads is the request
 pub record AskFor (words : List (List ℕ)) (request : Request) : Type 0 where
   pub faultless : fault_of command_line words ≡ []
   pub read : IsRequestOf (subcommand_of command_line words) request
@@ -130,7 +132,8 @@ HaveFault words = ¬ AskForSomething words
 
 -- behind the program's name stands one word, that of a command
 abbrev pub AskPlainly : List (List ℕ) → Type 0
-AskPlainly words = (name : List ℕ) × (command : Command) × (words ≡ name ∷ command_name command ∷ [])
+AskPlainly words =
+    (name : List ℕ) × (command : Command) × (words ≡ name ∷ command_name command ∷ [])
 
 -- behind the program's name stands nothing, or one word that is no command's
 abbrev pub AskNothing : List (List ℕ) → Type 0

@@ -1,5 +1,6 @@
--- Places of calls, one for each name in the lines of evidence, in the order in which they stand there. A name that has none
--- in the list stands without one; so an empty list is that of no places.
+-- Places of calls, one for each name in the lines of evidence, in the order in which they stand
+-- there. A name that has none in the list stands without one; so an empty list is that of no
+-- places.
 use Rattle.std.specs.Prelude.{◌≡◌, ℕ, ◌+◌, ◌<◌, List, [], ◌∷◌, ◌++◌, length, drop}
 use Rattle.std.specs.Prelude.{slice_index, slice_index_or, Option, None}
 use Rattle.pb_text_tree.specs.declared.place.Place.{Place}

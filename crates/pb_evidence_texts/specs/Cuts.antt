@@ -1,5 +1,6 @@
--- Where a truth value rests on a cut call. A call with an argument outside the carrier of its parameter counts as false; so an
--- instance may be false for no other reason, and would be true if the carrier were wide enough.
+-- Where a truth value rests on a cut call. A call with an argument outside the carrier of its
+-- parameter counts as false; so an instance may be false for no other reason, and would be true if
+-- the carrier were wide enough.
 use Rattle.std.specs.Prelude.{ℕ, Bool, not, List, map}
 use Rattle.std.specs.Bool.{beq}
 use Rattle.pb_trees.specs.Tree.{Leaf, Yes, No, Cut, Call, Operands, End, LeafThen, BracketThen}

@@ -1,7 +1,8 @@
--- Evidence as a text: the answer, and then a line for each instance of a proof graph, with its truth value and the instances
--- that it rests on. `X(0) false: Y(1) Y(2)` says that X(0) is false since Y(1) and Y(2) are; nothing stands behind the colon
--- where data alone decides, and `cut` stands last where a call that was cut decides too. Where places are told, `Y(1)@12:8`
--- says that the call stands in line 12, column 8.
+-- Evidence as a text: the answer, and then a line for each instance of a proof graph, with its
+-- truth value and the instances that it rests on. `X(0) false: Y(1) Y(2)` says that X(0) is false
+-- since Y(1) and Y(2) are; nothing stands behind the colon where data alone decides, and `cut`
+-- stands last where a call that was cut decides too. Where places are told, `Y(1)@12:8` says that
+-- the call stands in line 12, column 8.
 use Rattle.std.specs.Prelude.{ℕ, Bool, true, false, List, [], ◌∷◌, ◌++◌, Option, Some, None, codes, decimal}
 use Rattle.std.specs.List.{flat_map}
 use Rattle.pb_text_tree.specs.declared.place.Place.{Place}
@@ -48,7 +49,8 @@ evidence_lines name place truth dependencies cut (n ∷ instances) =
     evidence_line name (place n) truth n (dependencies n) (cut n)
     ++ evidence_lines name place truth dependencies cut instances
 
--- a proof graph for this truth value, whose instances have these names, and where the places are told at which one calls another
+-- a proof graph for this truth value, whose instances have these names, and where the places are
+-- told at which one calls another
 abbrev pub evidence_text :
     (ℕ → List ℕ) → (ℕ → ℕ → Option Place) → Bool → (ℕ → Bool) → Graph → List ℕ
 evidence_text name place truth cut graph =

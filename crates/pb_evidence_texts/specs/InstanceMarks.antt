@@ -4,7 +4,9 @@ use Rattle.pb_rows.specs.Row.{Row, nothing}
 use Rattle.pb_evidence.specs.Marks.{IsMarked}
 
 -- marks stand at the vertices of the first `done` rows alone, and beside each the number of its row
-pub record AreMarked (vertices : List ℕ) (rows : List Row) (done : ℕ) (marks : List Bool) (numbers : List ℕ) : Type 0 where
+pub record AreMarked (vertices : List ℕ) (rows : List Row) (done : ℕ) (marks : List Bool)
+    (numbers : List ℕ) : Type 0 where
   pub marked : (k : ℕ) → k < done → IsMarked marks (slice_index vertices k)
-  pub number : (k : ℕ) → k < done → slice_index numbers (slice_index vertices k) ≡ (slice_index_or rows k nothing).number
+  pub number : (k : ℕ) → k < done
+      → slice_index numbers (slice_index vertices k) ≡ (slice_index_or rows k nothing).number
   pub only : (v : ℕ) → IsMarked marks v → (k : ℕ) × (k < done) × (slice_index vertices k ≡ v)

@@ -25,7 +25,8 @@ use pb_verifier::Verified;
 use std::alloc::Global;
 
 /// An explanation with places of the calls by which its instances name others: one for each name in
-/// the lines, in their order. A name that has none stands without one, so with an empty list all do.
+/// the lines, in their order. A name that has none stands without one, so with an empty list all
+/// do.
 #[derive(Clone, Copy)]
 pub struct PlacedExplanation<'a> {
     pub explanation: &'a Explanation,
@@ -139,7 +140,8 @@ fn write_dependencies<S: Sink>(
         → slice_index basis.now.dependencies.now k < count_of (parameters verified.now) }
     ensures { Sends result (S.taken sink.old) (S.taken sink.new) (S.has_failed sink.old)
         (S.has_failed sink.new) buffer.old.bytes.items buffer.new.bytes.items
-        (placed_names (instance_name verified.now) basis.now.dependencies.now basis.now.call_places.now) }
+        (placed_names (instance_name verified.now) basis.now.dependencies.now
+        basis.now.call_places.now) }
 {
     let numbers = basis.dependencies;
     let call_places = basis.call_places;

@@ -29,8 +29,8 @@ pub struct Explanation {
 /// Willemse 2013), from the solved game of rows of the system, with whichever trees the rows have.
 ///
 /// The work is linear in the number of the game's vertices, and of the edges from those that the
-/// winner's plays come to; where the value is false also in the tokens of the trees shown, each call
-/// being looked up among those that its instance rests on.
+/// winner's plays come to; where the value is false also in the tokens of the trees shown, each
+/// call being looked up among those that its instance rests on.
 pub fn evidence_of_rows(
     alloc: Global,
     solved: &Solved,

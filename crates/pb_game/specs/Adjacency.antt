@@ -1,4 +1,5 @@
--- Directed graphs as flat lists: the successors of vertex v stand from place v to below place v + 1.
+-- Directed graphs as flat lists: the successors of vertex v stand from place v to below place v +
+-- 1.
 use Rattle.std.specs.Prelude.{◌≡◌, ℕ, ◌+◌, ◌^◌, ◌<◌, ◌≤◌, Bool, List, length, slice_index, slice_range, max, []}
 use Rattle.std.specs.Prelude.{◌∷◌, ◌==◌}
 use Rattle.std.specs.List.{list_any}
@@ -18,9 +19,11 @@ pub record IsRows (count : ℕ) (places items : List ℕ) : Type 0 where
   pub ordered : (v : ℕ) → v < count → slice_index places v ≤ slice_index places (v + 1)
   pub within : (v : ℕ) → v < count → slice_index places (v + 1) ≤ length items
   pub rising : (v : ℕ) → v < count → IsStrictlyIncreasing (row places items v)
-  pub closed : (v : ℕ) → v < count → (k : ℕ) → k < length (row places items v) → slice_index (row places items v) k < count
+  pub closed : (v : ℕ) → v < count → (k : ℕ) → k < length (row places items v)
+      → slice_index (row places items v) k < count
 
--- the second rows are the first ones' edges turned round: v is in the row of u there exactly where u is in the row of v here
+-- the second rows are the first ones' edges turned round: v is in the row of u there exactly where
+-- u is in the row of v here
 abbrev pub IsReverse : ℕ → List ℕ → List ℕ → List ℕ → List ℕ → Type 0
 IsReverse count places items reverse_places reverse_items =
     (v u : ℕ) → v < count → u < count →
@@ -31,8 +34,10 @@ abbrev pub greatest_of : List ℕ → ℕ
 greatest_of [] = 0
 greatest_of (x ∷ xs) = max x (greatest_of xs)
 
--- a parity game of at most 2 ^ 24 vertices and 256 priorities, each vertex with a successor, and with its predecessors
-pub record IsFlatGame (owners priorities : List ℕ) (greatest : ℕ) (places successors predecessor_places predecessors : List ℕ) : Type 0 where
+-- a parity game of at most 2 ^ 24 vertices and 256 priorities, each vertex with a successor, and
+-- with its predecessors
+pub record IsFlatGame (owners priorities : List ℕ) (greatest : ℕ)
+    (places successors predecessor_places predecessors : List ℕ) : Type 0 where
   pub small : length owners ≤ 2 ^ 24
   pub player : (v : ℕ) → v < length owners → slice_index owners v < 2
   pub priority : length priorities ≡ length owners

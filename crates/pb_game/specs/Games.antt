@@ -1,5 +1,5 @@
--- Parity games (Zielonka 1998; Jurdzinski 2000): owners, priorities, successors. Player 0 wins an infinite
--- play exactly where the greatest priority that occurs infinitely often is even.
+-- Parity games (Zielonka 1998; Jurdzinski 2000): owners, priorities, successors. Player 0 wins an
+-- infinite play exactly where the greatest priority that occurs infinitely often is even.
 use Rattle.std.specs.Prelude.{ℕ, ◌+◌, ◌^◌, ◌<◌, ◌≤◌, ◌↔◌, List, length, slice_index, Contains}
 use Rattle.std.specs.List.Sorted.{IsStrictlyIncreasing}
 use Rattle.pb_game.specs.declared.Game.{Game}
@@ -47,5 +47,7 @@ pub record IsGame (g : Game) : Type 0 where
   pub rising : (v : ℕ) → v < vertex_count g → IsStrictlyIncreasing (successors_of g v)
   pub predecessor : (v u : ℕ) → v < vertex_count g → u < vertex_count g →
       Contains (predecessors_of g u) v ↔ HasEdge g v u
-  pub predecessors_closed : (v u : ℕ) → u < vertex_count g → Contains (predecessors_of g u) v → v < vertex_count g
-  pub predecessors_rising : (v : ℕ) → v < vertex_count g → IsStrictlyIncreasing (predecessors_of g v)
+  pub predecessors_closed : (v u : ℕ) → u < vertex_count g → Contains (predecessors_of g u) v
+      → v < vertex_count g
+  pub predecessors_rising : (v : ℕ) → v < vertex_count g
+      → IsStrictlyIncreasing (predecessors_of g v)

@@ -32,7 +32,8 @@ pub record HasPlaces (p : Parts) : Type 0 where
 -- the successors of each vertex are vertices that rise
 pub record HasSuccessors (p : Parts) : Type 0 where
   pub closed : All (λ u. u < length p.owners.items) p.successors.items
-  pub rising : (v : ℕ) → v < length p.owners.items → IsStrictlyIncreasing (row p.places.items p.successors.items v)
+  pub rising : (v : ℕ) → v < length p.owners.items
+      → IsStrictlyIncreasing (row p.places.items p.successors.items v)
 
 -- each priority is one of the 256 from 0 on
 abbrev pub HasFewPriorities : Parts → Type 0
@@ -63,14 +64,18 @@ Refuses p TooManyVertices = ¬ HasFewVertices p
 Refuses p Owners = HasFewVertices p × ¬ HasOwners p
 Refuses p Priorities = HasFewVertices p × HasOwners p × ¬ HasPriorities p
 Refuses p Places = HasFewVertices p × HasOwners p × HasPriorities p × ¬ HasPlaces p
-Refuses p Successors = HasFewVertices p × HasOwners p × HasPriorities p × HasPlaces p × ¬ HasSuccessors p
+Refuses p Successors =
+    HasFewVertices p × HasOwners p × HasPriorities p × HasPlaces p × ¬ HasSuccessors p
 Refuses p TooManyPriorities =
-    HasFewVertices p × HasOwners p × HasPriorities p × HasPlaces p × HasSuccessors p × ¬ HasFewPriorities p
+    HasFewVertices p × HasOwners p × HasPriorities p × HasPlaces p × HasSuccessors p
+    × ¬ HasFewPriorities p
 
 -- the game has the parts' vertices
 pub record IsGameOf (p : Parts) (g : Game) : Type 0 where
   pub parts : AreGame p
   pub vertices : vertex_count g ≡ length p.owners.items
   pub owner : (v : ℕ) → v < length p.owners.items → owner_of g v ≡ slice_index p.owners.items v
-  pub priority : (v : ℕ) → v < length p.owners.items → priority_of g v ≡ slice_index p.priorities.items v
-  pub successors : (v : ℕ) → v < length p.owners.items → successors_of g v ≡ row p.places.items p.successors.items v
+  pub priority : (v : ℕ) → v < length p.owners.items
+      → priority_of g v ≡ slice_index p.priorities.items v
+  pub successors : (v : ℕ) → v < length p.owners.items
+      → successors_of g v ≡ row p.places.items p.successors.items v

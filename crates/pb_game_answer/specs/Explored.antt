@@ -1,4 +1,5 @@
--- What exploration hands over: the reached instances of a module, by rising number, with the tokens of their trees.
+-- What exploration hands over: the reached instances of a module, by rising number, with the tokens
+-- of their trees.
 use Rattle.std.specs.Prelude.{ℕ, List, map}
 use Rattle.pb_trees.specs.Tree.{Tree}
 use Rattle.pb_rows.specs.Row.{Row}
@@ -12,15 +13,21 @@ use Rattle.pb_game_of_trees.specs.TreeGame.{AreRowsFrom, IsTreeGame, IsTooLarge}
 abbrev pub HaveTrees : Contents → Type 0
 HaveTrees m = (trees : ℕ → Tree) × AreTrees m trees
 
--- with whichever trees its instances have, the rows are the module's, and one of them is the initial instance's
+-- with whichever trees its instances have, the rows are the module's, and one of them is the
+-- initial instance's
 abbrev pub AreModuleRows : Contents → List Row → Type 0
-AreModuleRows m rows = (trees : ℕ → Tree) → AreTrees m trees → AreRowsFrom (map signature_of m.equations) trees rows (initial_of m)
+AreModuleRows m rows =
+    (trees : ℕ → Tree) → AreTrees m trees
+    → AreRowsFrom (map signature_of m.equations) trees rows (initial_of m)
 
 -- with whichever trees its instances have, it is the game of the module's rows
 abbrev pub IsModuleGame : Contents → List Row → TreeGame → Type 0
 IsModuleGame m rows built =
-    (trees : ℕ → Tree) → AreTrees m trees → IsTreeGame (map signature_of m.equations) trees (rows_of trees rows) (initial_of m) built
+    (trees : ℕ → Tree) → AreTrees m trees
+    → IsTreeGame (map signature_of m.equations) trees (rows_of trees rows) (initial_of m) built
 
--- with whichever trees its instances have, the game of the module's rows has more vertices than a game may have
+-- with whichever trees its instances have, the game of the module's rows has more vertices than a
+-- game may have
 abbrev pub IsModuleTooLarge : Contents → List Row → Type 0
-IsModuleTooLarge m rows = (trees : ℕ → Tree) → AreTrees m trees → IsTooLarge (map signature_of m.equations) trees rows
+IsModuleTooLarge m rows =
+    (trees : ℕ → Tree) → AreTrees m trees → IsTooLarge (map signature_of m.equations) trees rows

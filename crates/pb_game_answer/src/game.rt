@@ -15,8 +15,8 @@ use pb_rows::IndexedRows;
 use pb_verifier::Verified;
 use std::alloc::Global;
 
-/// The game of rows of a module's equations, with whichever trees the rows have: the instances' own,
-/// or others that are assumed.
+/// The game of rows of a module's equations, with whichever trees the rows have: the instances'
+/// own, or others that are assumed.
 ///
 /// # Errors
 /// `TooManyVertices` where the game would have more than 2^24 vertices; else `Memory`.

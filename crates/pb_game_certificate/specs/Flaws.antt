@@ -1,4 +1,5 @@
--- What is wrong with a solution that is no certificate: the least vertex that breaks a rule, and its first rule.
+-- What is wrong with a solution that is no certificate: the least vertex that breaks a rule, and
+-- its first rule.
 use Rattle.std.specs.Prelude.{◌≡◌, ◌≢◌, ℕ, ◌%◌, ◌<◌}
 use Rattle.pb_game.specs.declared.Game.{Game}
 use Rattle.pb_game.specs.Games.{owner_of, priority_of, priority_count, HasEdge}
@@ -21,12 +22,14 @@ pub record LeavesAlong (g : Game) (s : Solution) (v u : ℕ) : Type 0 where
 -- a kept edge along which the counts increase
 pub record IncreasesAlong (g : Game) (s : Solution) (v u : ℕ) : Type 0 where
   pub kept : IsKept g s v u
-  pub more : Decreases (count_of g s u) (count_of g s v) (winner_of s v) (priority_of g v) (priority_count g)
+  pub more : Decreases (count_of g s u) (count_of g s v) (winner_of s v) (priority_of g v)
+      (priority_count g)
 
 -- a kept edge along which the counts don't decrease
 pub record StaysAlong (g : Game) (s : Solution) (v u : ℕ) : Type 0 where
   pub kept : IsKept g s v u
-  pub stays : ¬ Decreases (count_of g s v) (count_of g s u) (winner_of s v) (priority_of g v) (priority_count g)
+  pub stays : ¬ Decreases (count_of g s v) (count_of g s u) (winner_of s v) (priority_of g v)
+      (priority_count g)
 
 -- v has a priority of the loser's parity, and the counts don't decrease along some kept edge
 pub record HasNoDecrease (g : Game) (s : Solution) (v : ℕ) : Type 0 where
@@ -52,10 +55,12 @@ rule_order NoDecrease = 4
 -- the rule fails at v, and no rule before it does there
 pub record IsFirstRule (g : Game) (s : Solution) (v : ℕ) (rule : CertificateRule) : Type 0 where
   pub fails : Fails g s v rule
-  pub first_rule : (earlier : CertificateRule) → rule_order earlier < rule_order rule → ¬ Fails g s v earlier
+  pub first_rule : (earlier : CertificateRule) → rule_order earlier < rule_order rule
+      → ¬ Fails g s v earlier
 
 -- the rule fails at v, no rule before it does there, and none fails at a lesser vertex
 pub record IsFirstFlaw (g : Game) (s : Solution) (v : ℕ) (rule : CertificateRule) : Type 0 where
   pub fails : Fails g s v rule
-  pub first_rule : (earlier : CertificateRule) → rule_order earlier < rule_order rule → ¬ Fails g s v earlier
+  pub first_rule : (earlier : CertificateRule) → rule_order earlier < rule_order rule
+      → ¬ Fails g s v earlier
   pub first_vertex : (u : ℕ) (other : CertificateRule) → u < v → ¬ Fails g s u other

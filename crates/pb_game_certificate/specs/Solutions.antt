@@ -1,4 +1,5 @@
--- Solutions of a parity game: a winner, a positional strategy and a progress measure (Jurdzinski 2000) for each vertex.
+-- Solutions of a parity game: a winner, a positional strategy and a progress measure (Jurdzinski
+-- 2000) for each vertex.
 use Rattle.std.specs.Prelude.{◌≡◌, ℕ, ◌+◌, ◌*◌, length, slice_index, ◌==◌, if◌then◌else◌}
 use Rattle.pb_game.specs.declared.Game.{Game}
 use Rattle.pb_game.specs.Games.{vertex_count, priority_count}

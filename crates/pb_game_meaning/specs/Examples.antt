@@ -1,4 +1,5 @@
--- Small systems by hand: the game of each, the lists of a certificate, and the values of its instances.
+-- Small systems by hand: the game of each, the lists of a certificate, and the values of its
+-- instances.
 use Rattle.std.specs.Prelude.{◌≡◌, ℕ, zero, suc, Bool, true, false, List, [], ◌∷◌}
 use Rattle.pb_game.specs.declared.Game.{Game}
 use Rattle.pb_game_certificate.specs.declared.Solution.{Solution}
@@ -17,10 +18,12 @@ rows_from n (tree ∷ trees) = record { number = n; tree = tree } ∷ rows_from 
 
 abbrev pub values_from : List Signature → List Tree → ℕ → ℕ → List Bool
 values_from signatures trees n zero = []
-values_from signatures trees n (suc count) = solved signatures (tree_at trees) n ∷ values_from signatures trees (suc n) count
+values_from signatures trees n (suc count) =
+    solved signatures (tree_at trees) n ∷ values_from signatures trees (suc n) count
 
 abbrev pub vertex : ℕ → ℕ → List ℕ → Vertex
-vertex owner priority successors = record { owner = owner; priority = priority; successors = successors }
+vertex owner priority successors =
+    record { owner = owner; priority = priority; successors = successors }
 
 -- the lists of a solution
 pub record Lists : Type 0 where
@@ -35,15 +38,18 @@ pub record HasLists (s : Solution) (lists : Lists) : Type 0 where
 
 -- the lists are a certificate of each game with these vertices
 abbrev pub Certify : Lists → List Vertex → Type 0
-Certify lists vertices = (g : Game) (s : Solution) → HasVertices g vertices → HasLists s lists → IsCertificate g s
+Certify lists vertices =
+    (g : Game) (s : Solution) → HasVertices g vertices → HasLists s lists → IsCertificate g s
 
 -- the lists are a certificate of no such game
 abbrev pub DontCertify : Lists → List Vertex → Type 0
-DontCertify lists vertices = (g : Game) (s : Solution) → HasVertices g vertices → HasLists s lists → IsCertificate g s → ⊥
+DontCertify lists vertices =
+    (g : Game) (s : Solution) → HasVertices g vertices → HasLists s lists → IsCertificate g s → ⊥
 
--- A system of which all instances are reached: its rows, the vertices of its game behind the two sinks, a certificate,
--- and the values of its first instances
-pub record IsWorked (signatures : List Signature) (trees : List Tree) (behind : List Vertex) (lists : Lists) (count : ℕ) (values : List Bool) : Type 0 where
+-- A system of which all instances are reached: its rows, the vertices of its game behind the two
+-- sinks, a certificate, and the values of its first instances
+pub record IsWorked (signatures : List Signature) (trees : List Tree) (behind : List Vertex)
+    (lists : Lists) (count : ℕ) (values : List Bool) : Type 0 where
   pub reached : AreRows signatures (tree_at trees) (rows_from 0 trees)
   pub game : game_vertices signatures (rows_from 0 trees) ≡ false_sink ∷ (true_sink ∷ behind)
   pub certificate : Certify lists (game_vertices signatures (rows_from 0 trees))
@@ -107,7 +113,8 @@ GreatestFirst = IsWorked (nu 1 ∷ (mu 1 ∷ [])) (Single (Call 1) ∷ (Single (
 abbrev pub EachOther : Type 0
 EachOther = IsWorked (nu 3 ∷ [])
     (Root Conjunction (LeafThen (Call 1) (LeafThen (Call 2) End))
-    ∷ (Root Conjunction (LeafThen (Call 0) (LeafThen (Call 2) End)) ∷ (Root Conjunction (LeafThen (Call 0) (LeafThen (Call 1) End)) ∷ [])))
+    ∷ (Root Conjunction (LeafThen (Call 0) (LeafThen (Call 2) End))
+    ∷ (Root Conjunction (LeafThen (Call 0) (LeafThen (Call 1) End)) ∷ [])))
     (vertex 1 0 (3 ∷ (4 ∷ [])) ∷ (vertex 1 0 (2 ∷ (4 ∷ [])) ∷ (vertex 1 0 (2 ∷ (3 ∷ [])) ∷ [])))
     (record {
       winner = 1 ∷ (0 ∷ (0 ∷ (0 ∷ (0 ∷ []))));
@@ -120,23 +127,30 @@ EachOther = IsWorked (nu 3 ∷ [])
 abbrev pub AlternatingInstances : Type 0
 AlternatingInstances = IsWorked (nu 2 ∷ (mu 2 ∷ []))
     (Single (Call 2) ∷ (Single (Call 3) ∷ (Single (Call 1) ∷ (Single (Call 2) ∷ []))))
-    (vertex 0 2 (4 ∷ []) ∷ (vertex 0 2 (5 ∷ []) ∷ (vertex 0 1 (3 ∷ []) ∷ (vertex 0 1 (4 ∷ []) ∷ []))))
+    (vertex 0 2 (4 ∷ [])
+    ∷ (vertex 0 2 (5 ∷ []) ∷ (vertex 0 1 (3 ∷ []) ∷ (vertex 0 1 (4 ∷ []) ∷ []))))
     (record {
       winner = 1 ∷ (0 ∷ (0 ∷ (0 ∷ (0 ∷ (0 ∷ [])))));
       choice = 0 ∷ (1 ∷ (4 ∷ (5 ∷ (3 ∷ (4 ∷ [])))));
-      counts = 0 ∷ (0 ∷ (0 ∷ (0 ∷ (0 ∷ (0 ∷ (0 ∷ (0 ∷ (0 ∷ (0 ∷ (0 ∷ (0 ∷ (0 ∷ (1 ∷ (0 ∷ (0 ∷ (2 ∷ (0 ∷ [])))))))))))))))));
+      counts =
+          0 ∷ (0 ∷
+          (0 ∷ (0 ∷
+          (0 ∷ (0 ∷ (0 ∷ (0 ∷ (0 ∷ (0 ∷ (0 ∷ (0 ∷ (0 ∷ (1 ∷ (0 ∷ (0 ∷ (2 ∷ (0 ∷ [])))))))))))))))));
     })
     4 (true ∷ (true ∷ (true ∷ (true ∷ []))))
 
 -- nu X = (X && Y) || Y; mu Y = Y
 abbrev pub NestedBracket : Type 0
 NestedBracket = IsWorked (nu 1 ∷ (mu 1 ∷ []))
-    (Root Disjunction (BracketThen Conjunction (LeafThen (Call 0) (LeafThen (Call 1) End)) (LeafThen (Call 1) End)) ∷ (Single (Call 1) ∷ []))
+    (Root Disjunction
+    (BracketThen Conjunction (LeafThen (Call 0) (LeafThen (Call 1) End)) (LeafThen (Call 1) End))
+    ∷ (Single (Call 1) ∷ []))
     (vertex 0 2 (3 ∷ (4 ∷ [])) ∷ (vertex 1 0 (2 ∷ (4 ∷ [])) ∷ (vertex 0 1 (4 ∷ []) ∷ [])))
     (record {
       winner = 1 ∷ (0 ∷ (1 ∷ (1 ∷ (1 ∷ []))));
       choice = 0 ∷ (1 ∷ (0 ∷ (4 ∷ (0 ∷ []))));
-      counts = 0 ∷ (0 ∷ (0 ∷ (0 ∷ (0 ∷ (0 ∷ (0 ∷ (0 ∷ (1 ∷ (1 ∷ (0 ∷ (0 ∷ (0 ∷ (0 ∷ (0 ∷ []))))))))))))));
+      counts =
+          0 ∷ (0 ∷ (0 ∷ (0 ∷ (0 ∷ (0 ∷ (0 ∷ (0 ∷ (1 ∷ (1 ∷ (0 ∷ (0 ∷ (0 ∷ (0 ∷ (0 ∷ []))))))))))))));
     })
     2 (false ∷ (false ∷ []))
 

@@ -1,5 +1,5 @@
--- When a game is given by a list of vertices: the vertex of each number has the owner, the priority and the successors
--- of the list's element there.
+-- When a game is given by a list of vertices: the vertex of each number has the owner, the priority
+-- and the successors of the list's element there.
 use Rattle.std.specs.Prelude.{◌≡◌, ℕ, List, length, slice_get, Some}
 use Rattle.pb_game.specs.declared.Game.{Game}
 use Rattle.pb_game.specs.Games.{vertex_count, owner_of, priority_of, successors_of}

@@ -219,7 +219,8 @@ impl Builder {
         priority: u32,
     ) -> Result<(), AllocError>
         requires spelled { (tree : Tree) × (tokens.now ≡ tree_tokens tree)
-            × (inner tree < self.old.next) × TreeCalls (λ n. n < length (table_of vertices.now)) tree }
+            × (inner tree < self.old.next)
+            × TreeCalls (λ n. n < length (table_of vertices.now)) tree }
         requires before { (behind : List Vertex) × (limit : ℕ)
             × IsAt (slice_index (table_of vertices.now)) self.old [] behind limit }
         ensures { OnOk result ((tree : Tree) (behind : List Vertex) (limit : ℕ)

@@ -27,9 +27,11 @@ pub(crate) fn draft_of(
     requires levels { AreOrdered levels.now }
     requires small { size.vertices ≤ 16777216 }
     requires rows { (plain : List plain_row) × Hold rows.now plain
-        × (size.vertices ≡ vertex_behind plain 2) × CallBelow (length (table_of vertices.now)) plain }
+        × (size.vertices ≡ vertex_behind plain 2)
+        × CallBelow (length (table_of vertices.now)) plain }
     ensures { IfOk result (λ draft. (plain : List plain_row) → Hold rows.now plain
-        → IsDraft draft (false_sink ∷ (true_sink ∷ row_vertices (slice_index (table_of vertices.now))
+        → IsDraft draft
+        (false_sink ∷ (true_sink ∷ row_vertices (slice_index (table_of vertices.now))
         (priority_in levels.now) plain 2))) }
 {
     let mut builder = Builder {

@@ -2,8 +2,8 @@
 //!
 //! [`solve`] answers with a solution that the checker has certified, whichever [`Solver`] is asked
 //! for. Lifting (Jurdzinski 2000) may have none, and then Zielonka's algorithm (Zielonka 1998),
-//! which always has one, answers in its place. A game has one partition into winning regions, so all solvers name the
-//! same winners; their strategies and measures may differ.
+//! which always has one, answers in its place. A game has one partition into winning regions, so
+//! all solvers name the same winners; their strategies and measures may differ.
 #![tactic(auto)]
 
 ghost use Rattle.std.specs.Prelude.{◌≡◌, ◌<◌, IfOk};

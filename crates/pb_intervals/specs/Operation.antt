@@ -1,4 +1,5 @@
--- The operations on whole numbers, and the interval of each at intervals of its operands (interval arithmetic, Moore 1966).
+-- The operations on whole numbers, and the interval of each at intervals of its operands (interval
+-- arithmetic, Moore 1966).
 use Rattle.std.specs.Prelude.{ℤ, pos, ◌+ℤ◌, ◌-ℤ◌, ◌*ℤ◌, neg_ℤ, int_le, unsigned_abs, Bool, true, false, if◌then◌else◌}
 use Rattle.std.specs.Int.{int_min, int_max}
 use Rattle.pb_carriers.specs.Division.{quotient, remainder}
@@ -60,11 +61,13 @@ differences i j = record { low = i.low -ℤ j.high; high = i.high -ℤ j.low }
 
 -- from the least to the greatest of four numbers
 abbrev pub span_of_four : ℤ → ℤ → ℤ → ℤ → IntegerInterval
-span_of_four a b c d = record { low = int_min (int_min a b) (int_min c d); high = int_max (int_max a b) (int_max c d) }
+span_of_four a b c d =
+    record { low = int_min (int_min a b) (int_min c d); high = int_max (int_max a b) (int_max c d) }
 
 -- from the least to the greatest value of a function at the ends of two intervals
 abbrev pub span_at_ends : (ℤ → ℤ → ℤ) → IntegerInterval → IntegerInterval → IntegerInterval
-span_at_ends f i j = span_of_four (f i.low j.low) (f i.low j.high) (f i.high j.low) (f i.high j.high)
+span_at_ends f i j =
+    span_of_four (f i.low j.low) (f i.low j.high) (f i.high j.low) (f i.high j.high)
 
 abbrev pub products : IntegerInterval → IntegerInterval → IntegerInterval
 products i j = span_at_ends (λ a b. a *ℤ b) i j
@@ -75,7 +78,10 @@ quotients i j = span_at_ends quotient i j
 -- a remainder is below its divisor, and no greater than a number that isn't below 0
 abbrev pub remainders : IntegerInterval → IntegerInterval → IntegerInterval
 remainders i j =
-    record { low = pos 0; high = if int_le (pos 0) i.low then int_min i.high (j.high -ℤ pos 1) else j.high -ℤ pos 1 }
+    record {
+      low = pos 0;
+      high = if int_le (pos 0) i.low then int_min i.high (j.high -ℤ pos 1) else j.high -ℤ pos 1;
+    }
 
 abbrev pub maxima : IntegerInterval → IntegerInterval → IntegerInterval
 maxima i j = record { low = int_max i.low j.low; high = int_max i.high j.high }

@@ -1,4 +1,5 @@
--- What right sides over slots say: the truth of the initial instance in the solution of the equations that have them.
+-- What right sides over slots say: the truth of the initial instance in the solution of the
+-- equations that have them.
 use Rattle.std.specs.Prelude.{pos, Bool, List, [], ◌∷◌, map, unwrap_or}
 use Rattle.std.specs.List.{slice_get}
 use Rattle.pb_fixpoint.specs.Solution as fixpoint
@@ -17,7 +18,8 @@ slots_of vs = λ s. unwrap_or (slice_get vs s) (pos 0)
 
 -- an equation with this right side in place of its own, as the solution reads it
 abbrev pub equation_by : Spec → Equation → Formula → fixpoint.Equation Instance
-equation_by spec X f = record (equation_of spec X) { holds = λ i t. truth spec (slots_of i.values) t f }
+equation_by spec X f =
+    record (equation_of spec X) { holds = λ i t. truth spec (slots_of i.values) t f }
 
 -- equations with these right sides, in order
 abbrev pub equations_by : Spec → List Equation → List Formula → List (fixpoint.Equation Instance)
@@ -28,7 +30,8 @@ equations_by spec (X ∷ E) (f ∷ fs) = equation_by spec X f ∷ equations_by s
 -- the answer, where the equations of a specification have these right sides
 abbrev pub answer_by : Spec → List Formula → Bool
 answer_by spec fs =
-    call_truth spec (solution (equations_by spec spec.equations fs) empty) (record { name = spec.initial; values = values spec [] spec.arguments })
+    call_truth spec (solution (equations_by spec spec.equations fs) empty)
+    (record { name = spec.initial; values = values spec [] spec.arguments })
 
 -- the right sides of a specification in positive normal form
 abbrev pub normal_equations : Spec → List Formula

@@ -1,4 +1,5 @@
--- What bounds the numbers of a normal form: those that stand in it, its slots, its callees and its enumerators.
+-- What bounds the numbers of a normal form: those that stand in it, its slots, its callees and its
+-- enumerators.
 use Rattle.std.specs.Prelude.{◌≡◌, ◌≤◌, ℕ, ◌+◌, ◌^◌, nat_le, nat_lt, Bool, true, ◌&&◌, List, length}
 use Rattle.std.specs.List.{All, list_all}
 use Rattle.pb_sorts.specs.declared.limits.TheConstants.{MAX_LOOP_SLOTS}
@@ -9,7 +10,8 @@ use Rattle.pb_normal.specs.Normal.{Term, Number, Slot, Negative, Absolute, Succe
 use Rattle.pb_normal.specs.Small.{is_small_formula}
 use Rattle.pb_normal.specs.Structs.{struct_counts, has_enumerator}
 
--- the greatest number, how many slots and equations there are, and how many enumerators each struct has
+-- the greatest number, how many slots and equations there are, and how many enumerators each struct
+-- has
 pub record Bounds : Type 0 where
   pub number : ℕ
   pub slots : ℕ
@@ -60,7 +62,9 @@ HasBounds spec X = is_bounded_formula (bounds_of spec X) (normal_equation spec X
 
 -- where it has no more slots than the machine, its numbers fit instructions
 abbrev pub IsSmallWhereLoopsAreFew : Spec → Equation → Type 0
-IsSmallWhereLoopsAreFew spec X = length (equation_loops spec X) ≤ MAX_LOOP_SLOTS → is_small_formula (normal_equation spec X) ≡ true
+IsSmallWhereLoopsAreFew spec X =
+    length (equation_loops spec X) ≤ MAX_LOOP_SLOTS
+    → is_small_formula (normal_equation spec X) ≡ true
 
 -- of each equation
 abbrev pub AreBounded : Spec → Type 0

@@ -20,7 +20,8 @@ abbrev pub AreArgumentsOf : Spec → Option Equation → List Argument → Type 
 AreArgumentsOf spec None es = ⊥
 AreArgumentsOf spec (Some X) es = AreAlike es (variable_shapes spec X.parameters)
 
--- each call is of an equation that is there, with an argument for each of its parameters, of the parameter's kind
+-- each call is of an equation that is there, with an argument for each of its parameters, of the
+-- parameter's kind
 abbrev pub HasCalls : Spec → Formula → Type 0
 HasCalls spec (Test x) = ⊤
 HasCalls spec (Join m f g) = HasCalls spec f × HasCalls spec g

@@ -1,5 +1,5 @@
--- The positive normal form of a formula: negations are driven down to data (De Morgan), names become slots. Data terms
--- are those of the typed tree.
+-- The positive normal form of a formula: negations are driven down to data (De Morgan), names
+-- become slots. Data terms are those of the typed tree.
 use Rattle.std.specs.Prelude.{ℕ, suc, ◌+◌, Bool, true, false, not, List, [], ◌∷◌, Option, Some, None}
 use Rattle.pb_text_tree.specs.declared.operator.Quantifier.{Quantifier}
 use Rattle.pb_text_tree.specs.declared.operator.Quantifier.TheVariants.{Forall, Exists}
@@ -23,19 +23,26 @@ is_universal Exists even = not even
 -- one quantifier for each variable, the next slots being theirs
 abbrev pub each : Spec → Bool → List Variable → Slotting → ℕ → (Slotting → ℕ → Formula) → Formula
 each spec m [] c n body = body c n
-each spec m (x ∷ xs) c n body = Each m n (sort_shape spec x.sort) (each spec m xs (with_slot x.name n c) (suc n) body)
+each spec m (x ∷ xs) c n body =
+    Each m n (sort_shape spec x.sort) (each spec m xs (with_slot x.name n c) (suc n) body)
 
 abbrev pub call : Option ℕ → List Argument → Formula
 call None es = Test (Term.Truth false)
 call (Some X) es = Call X es
 
--- The normal form, in a scope, where the slots from n on are free. `even` says whether the negations around are even in number.
+-- The normal form, in a scope, where the slots from n on are free. `even` says whether the
+-- negations around are even in number.
 abbrev pub normal : Spec → Bool → Slotting → Scope → ℕ → syntax.Formula → Formula
 normal spec even c scope n (syntax.Formula.Truth b) = signed_test even (Term.Truth b)
 normal spec even c scope n (syntax.Formula.Val x) = signed_test even (slotted spec c x)
 normal spec even c scope n (syntax.Formula.Not f) = normal spec (not even) c scope n f
-normal spec even c scope n (syntax.Formula.And f g) = Join even (normal spec even c scope n f) (normal spec even c scope (n + width f) g)
-normal spec even c scope n (syntax.Formula.Or f g) = Join (not even) (normal spec even c scope n f) (normal spec even c scope (n + width f) g)
-normal spec even c scope n (syntax.Formula.Implies f g) = Join (not even) (normal spec (not even) c scope n f) (normal spec even c scope (n + width f) g)
-normal spec even c scope n (syntax.Formula.Quantified q xs f) = each spec (is_universal q even) xs c n (λ d m. normal spec even d (bound spec xs scope) m f)
-normal spec even c scope n (syntax.Formula.Call X es) = call (place_of 0 spec.equations X) (arguments spec c scope es)
+normal spec even c scope n (syntax.Formula.And f g) =
+    Join even (normal spec even c scope n f) (normal spec even c scope (n + width f) g)
+normal spec even c scope n (syntax.Formula.Or f g) =
+    Join (not even) (normal spec even c scope n f) (normal spec even c scope (n + width f) g)
+normal spec even c scope n (syntax.Formula.Implies f g) =
+    Join (not even) (normal spec (not even) c scope n f) (normal spec even c scope (n + width f) g)
+normal spec even c scope n (syntax.Formula.Quantified q xs f) =
+    each spec (is_universal q even) xs c n (λ d m. normal spec even d (bound spec xs scope) m f)
+normal spec even c scope n (syntax.Formula.Call X es) =
+    call (place_of 0 spec.equations X) (arguments spec c scope es)

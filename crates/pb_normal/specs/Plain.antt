@@ -1,4 +1,5 @@
--- What is asked of a formula, of slots and of an assignment, so that the normal form keeps the truth.
+-- What is asked of a formula, of slots and of an assignment, so that the normal form keeps the
+-- truth.
 use Rattle.std.specs.Prelude.{Bool, true, false, not}
 pub use Rattle.pb_typed_tree.specs.Plain.{IsPlain, AreFree, Agree}
 

@@ -7,7 +7,8 @@ use Rattle.pb_normal.specs.Chains.{joins}
 use Rattle.pb_normal.specs.Normal.{Formula, Join, Each, Call}
 use Rattle.pb_normal.specs.Normalisation.{signed_test, is_universal}
 
--- the normal form of a typed tree, where `even` says whether the negations around are even in number
+-- the normal form of a typed tree, where `even` says whether the negations around are even in
+-- number
 abbrev pub signed_form : Bool → typed.Formula → Formula
 signed_form even (typed.Test x) = signed_test even x
 signed_form even (typed.Negation f) = signed_form (not even) f

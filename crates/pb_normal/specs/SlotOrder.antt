@@ -37,12 +37,15 @@ reads_only has_value (Predecessor x) = reads_only has_value x
 reads_only has_value (Binary o x y) = reads_only has_value x && reads_only has_value y
 reads_only has_value (Maximum x y) = reads_only has_value x && reads_only has_value y
 reads_only has_value (Minimum x y) = reads_only has_value x && reads_only has_value y
-reads_only has_value (Choice c x y) = reads_only has_value c && reads_only has_value x && reads_only has_value y
+reads_only has_value (Choice c x y) =
+    reads_only has_value c && reads_only has_value x && reads_only has_value y
 reads_only has_value (Recognised s i x) = reads_only has_value x
 
--- each slot that a formula reads has a value: from outside, or from a quantifier around; no quantifier takes a slot that has one
+-- each slot that a formula reads has a value: from outside, or from a quantifier around; no
+-- quantifier takes a slot that has one
 abbrev pub IsClosed : (ℕ → Bool) → Formula → Type 0
 IsClosed has_value (Test x) = reads_only has_value x ≡ true
 IsClosed has_value (Join m f g) = IsClosed has_value f × IsClosed has_value g
-IsClosed has_value (Each m s shape f) = (has_value s ≡ false) × IsClosed (λ k. k == s || has_value k) f
+IsClosed has_value (Each m s shape f) =
+    (has_value s ≡ false) × IsClosed (λ k. k == s || has_value k) f
 IsClosed has_value (Call X es) = All (λ (e : Argument). reads_only has_value e.term ≡ true) es

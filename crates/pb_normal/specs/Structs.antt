@@ -33,7 +33,8 @@ IsDeclaredShape counts (Wholes l h) = l ≤ℤ h
 
 -- so are those of an equation's parameters and of the variables of its quantifiers
 pub record HasDeclaredShapes (spec : Spec) (X : Equation) : Type 0 where
-  pub parameters : All (IsDeclaredShape (struct_counts spec.sorts)) (variable_shapes spec X.parameters)
+  pub parameters : All (IsDeclaredShape (struct_counts spec.sorts))
+      (variable_shapes spec X.parameters)
   pub loops : All (IsDeclaredShape (struct_counts spec.sorts)) (equation_loops spec X)
 
 -- those of each equation

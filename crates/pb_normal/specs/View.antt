@@ -1,5 +1,5 @@
--- What a normal form of the code says, without boxes and vectors: a chain is folded to nested binary nodes, and a
--- quantifier stands for one variable.
+-- What a normal form of the code says, without boxes and vectors: a chain is folded to nested
+-- binary nodes, and a quantifier stands for one variable.
 use Rattle.std.specs.Prelude.{ℕ, suc, Bool, true, false, List, [], ◌∷◌, map}
 use Rattle.pb_sorts.specs.declared.carrier.Carrier.{Carrier}
 use Rattle.pb_text_tree.specs.declared.operator.Quantifier.{Quantifier}
@@ -22,7 +22,8 @@ use Rattle.pb_normal.specs.declared.formula.Formula.{Formula, Row_of-Formula, en
 -- one quantifier for each carrier, the next slots being theirs
 abbrev pub nested : Bool → ℕ → List Carrier → normal.Formula → normal.Formula
 nested universal slot [] f = f
-nested universal slot (c ∷ cs) f = Each universal slot (shape_of c) (nested universal (suc slot) cs f)
+nested universal slot (c ∷ cs) f =
+    Each universal slot (shape_of c) (nested universal (suc slot) cs f)
 
 -- ---- formulas
 

@@ -29,7 +29,9 @@ line_of M01 = codes "M01\n"
 
 -- a rule, by its number, and where it is broken
 abbrev pub line_at : List ℕ → Place → List ℕ
-line_at rule place = rule ++ (codes " line " ++ (decimal place.line ++ (codes " column " ++ (decimal place.column ++ codes "\n"))))
+line_at rule place =
+    rule ++ (codes " line "
+    ++ (decimal place.line ++ (codes " column " ++ (decimal place.column ++ codes "\n"))))
 
 abbrev pub text_rule_number : text_rule.TextRule → List ℕ
 text_rule_number UnknownByte = codes "P01"
@@ -52,7 +54,8 @@ type_line type_error.Memory = line_of M01
 
 -- a limit, and the equation whose code exceeds it
 abbrev pub limit_line : Limit → ℕ → List ℕ
-limit_line limit equation = limit_number limit ++ (codes " equation " ++ (decimal equation ++ codes "\n"))
+limit_line limit equation =
+    limit_number limit ++ (codes " equation " ++ (decimal equation ++ codes "\n"))
 
 -- a rule, and the byte at which a field breaks it
 abbrev pub byte_line : List ℕ → ℕ → List ℕ
@@ -60,7 +63,9 @@ byte_line rule byte = rule ++ (codes " byte " ++ (decimal byte ++ codes "\n"))
 
 -- a rule, and the equation and the place of its code that break it
 abbrev pub code_line : List ℕ → ℕ → ℕ → List ℕ
-code_line rule equation place = rule ++ (codes " equation " ++ (decimal equation ++ (codes " place " ++ (decimal place ++ codes "\n"))))
+code_line rule equation place =
+    rule ++ (codes " equation "
+    ++ (decimal equation ++ (codes " place " ++ (decimal place ++ codes "\n"))))
 
 -- why bytes are no module
 abbrev pub module_line : ModuleError → List ℕ
@@ -69,5 +74,6 @@ module_line module_error.Memory = line_of M01
 
 -- why a module is not accepted
 abbrev pub verify_line : VerifyError → List ℕ
-verify_line (verify_error.Refusal rule equation place) = code_line (acceptance_rule.rule_number rule) equation place
+verify_line (verify_error.Refusal rule equation place) =
+    code_line (acceptance_rule.rule_number rule) equation place
 verify_line verify_error.Memory = line_of M01

@@ -1,5 +1,6 @@
--- What the answer to a module is. The trees that its instances have are determined by the module, and there are such trees
--- (`meaning_is_unique` and `instances_have_trees` of pb_machine); a fact about them is said of whichever trees they have.
+-- What the answer to a module is. The trees that its instances have are determined by the module,
+-- and there are such trees (`meaning_is_unique` and `instances_have_trees` of pb_machine); a fact
+-- about them is said of whichever trees they have.
 use Rattle.std.specs.Prelude.{◌≡◌, ℕ, ◌<◌, ◌≤◌, ◌↔◌, IsTrue, List}
 use Rattle.pb_trees.specs.Tree.{Tree}
 use Rattle.pb_rows.specs.Row.{Row}
@@ -16,8 +17,9 @@ use Rattle.pb_report_texts.specs.ModuleTexts.{answer_for}
 use Rattle.pb_solution.specs.declared.built_module.BuiltModule.{BuiltModule}
 use Rattle.pb_solution.specs.declared.solved_module.SolvedModule.{SolvedModule}
 
--- The truth of the initial instance in the solution of the module's equations, and the counts of its reached instances, of
--- those whose tree has a Cut, and of their game's vertices, which are at most 2^24.
+-- The truth of the initial instance in the solution of the module's equations, and the counts of
+-- its reached instances, of those whose tree has a Cut, and of their game's vertices, which are at
+-- most 2^24.
 pub record IsAnswerUnder (m : Contents) (trees : ℕ → Tree) (a : Answer) : Type 0 where
   pub rows : List Row
   pub reached : AreReached m trees rows
@@ -27,8 +29,8 @@ pub record IsAnswerUnder (m : Contents) (trees : ℕ → Tree) (a : Answer) : Ty
 abbrev pub IsAnswerOf : Contents → Answer → Type 0
 IsAnswerOf m a = (trees : ℕ → Tree) → AreTrees m trees → IsAnswerUnder m trees a
 
--- The truth is what a solution of the reached instances' game says: who wins the initial instance's vertex. The solution is
--- that of lifting, unless lifting has none.
+-- The truth is what a solution of the reached instances' game says: who wins the initial instance's
+-- vertex. The solution is that of lifting, unless lifting has none.
 pub record IsLiftedAnswer (m : Contents) (a : Answer) : Type 0 where
   pub rows : List Row
   pub explored : AreExplored m rows

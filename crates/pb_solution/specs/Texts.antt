@@ -11,10 +11,12 @@ use Rattle.pb_report_texts.specs.declared.buffer.WriteError.{WriteError}
 use Rattle.pb_report_texts.specs.declared.buffer.WriteError.TheVariants.{Memory, Failed}
 use Rattle.pb_report_texts.specs.ModuleTexts.{module_game_text, module_solution_text, HasCertificateText}
 
--- the reached instances of a module, with whichever trees its instances have, have a text of which P holds
+-- the reached instances of a module, with whichever trees its instances have, have a text of which
+-- P holds
 abbrev pub ForReached : Contents → ((ℕ → Tree) → List Row → List ℕ) → (List ℕ → Type 0) → Type 0
 ForReached m text P =
-    (trees : ℕ → Tree) → AreTrees m trees → (rows : List Row) × AreReached m trees rows × P (text trees rows)
+    (trees : ℕ → Tree) → AreTrees m trees
+    → (rows : List Row) × AreReached m trees rows × P (text trees rows)
 
 -- P holds of the text of the game of the module's reached instances
 abbrev pub ForGameText : Contents → (List ℕ → Type 0) → Type 0
@@ -30,9 +32,13 @@ ForCertificateText m P =
     (trees : ℕ → Tree) → AreTrees m trees → (rows : List Row) × AreReached m trees rows
     × HasCertificateText m trees rows P
 
--- A text of which this is known was appended, or nothing where there was no memory, or a part that begins it where a write
--- failed.
-abbrev pub Sends : {T : Type 0} → ((List ℕ → Type 0) → Type 0) → Result T WriteError → Option (List ℕ) → Option (List ℕ) → Bool → Bool → Type 0
-Sends For (Ok _) old new failed_before failed_after = For (Appends old new) × (failed_after ≡ failed_before)
-Sends For (Err (Memory _)) old new failed_before failed_after = (new ≡ old) × (failed_after ≡ failed_before)
-Sends For (Err (Failed _)) old new failed_before failed_after = For (AppendsPrefix old new) × (failed_after ≡ true)
+-- A text of which this is known was appended, or nothing where there was no memory, or a part that
+-- begins it where a write failed.
+abbrev pub Sends : {T : Type 0} → ((List ℕ → Type 0) → Type 0) → Result T WriteError
+    → Option (List ℕ) → Option (List ℕ) → Bool → Bool → Type 0
+Sends For (Ok _) old new failed_before failed_after =
+    For (Appends old new) × (failed_after ≡ failed_before)
+Sends For (Err (Memory _)) old new failed_before failed_after =
+    (new ≡ old) × (failed_after ≡ failed_before)
+Sends For (Err (Failed _)) old new failed_before failed_after =
+    For (AppendsPrefix old new) × (failed_after ≡ true)

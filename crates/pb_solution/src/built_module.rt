@@ -1,5 +1,5 @@
-//! Modules whose game is built: what is solved, whether its rows are kept behind it or not, and what
-//! can be written of it before anybody solves it.
+//! Modules whose game is built: what is solved, whether its rows are kept behind it or not, and
+//! what can be written of it before anybody solves it.
 ghost use Rattle.std.specs.Prelude.{◌≡◌, ◌<◌, ◌≤◌, IfOk, IfErr, Err};
 ghost use Rattle.pb_game_of_trees.specs.declared.tree_game.BuildError.TheVariants.{TooManyVertices};
 ghost use Rattle.pb_game_certificate.specs.Certificates.{IsCertificate};

@@ -1,4 +1,5 @@
--- What a layout is made of: for each equation the carriers of its parameters, in order. Its numbers follow from these.
+-- What a layout is made of: for each equation the carriers of its parameters, in order. Its numbers
+-- follow from these.
 use Rattle.std.specs.Prelude.{◌≡◌, ℕ, ◌+◌, ◌≤◌, List, map, length, slice_index, All, Vec}
 use Rattle.pb_carriers.specs.Carrier as carriers
 use Rattle.pb_sorts.specs.declared.carrier.Carrier.{Carrier}
@@ -21,7 +22,8 @@ lists_of equations = map (λ parameters. parameters.items) equations
 -- the first number of each equation, and behind these the count of all instances
 pub record IsNumbered (equations : List (List Carrier)) (firsts : List ℕ) : Type 0 where
   pub long : length firsts ≡ length equations + 1
-  pub starts : (k : ℕ) → k ≤ length equations → slice_index firsts k ≡ first_of (carriers_of equations) k
+  pub starts : (k : ℕ) → k ≤ length equations
+      → slice_index firsts k ≡ first_of (carriers_of equations) k
 
 -- so many equations, parameters and instances a layout may have
 pub record IsWithinLimits (equations : List (List Carrier)) : Type 0 where

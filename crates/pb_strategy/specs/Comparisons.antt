@@ -10,15 +10,18 @@ use Rattle.pb_game_certificate.specs.Certificates.{Decreases, IsSame, IsKept}
 
 -- the counts that matter to the winner of v decrease along the edge from v to u
 abbrev pub DecreasesAlong : Game → Solution → ℕ → ℕ → Type 0
-DecreasesAlong g s v u = Decreases (count_of g s v) (count_of g s u) (winner_of s v) (priority_of g v) (priority_count g)
+DecreasesAlong g s v u =
+    Decreases (count_of g s v) (count_of g s u) (winner_of s v) (priority_of g v) (priority_count g)
 
 -- they are equal
 abbrev pub IsSameAlong : Game → Solution → ℕ → ℕ → Type 0
-IsSameAlong g s v u = IsSame (count_of g s v) (count_of g s u) (winner_of s v) (priority_of g v) (priority_count g)
+IsSameAlong g s v u =
+    IsSame (count_of g s v) (count_of g s u) (winner_of s v) (priority_of g v) (priority_count g)
 
 -- they increase
 abbrev pub GrowsAlong : Game → Solution → ℕ → ℕ → Type 0
-GrowsAlong g s v u = Decreases (count_of g s u) (count_of g s v) (winner_of s v) (priority_of g v) (priority_count g)
+GrowsAlong g s v u =
+    Decreases (count_of g s u) (count_of g s v) (winner_of s v) (priority_of g v) (priority_count g)
 
 -- how they change
 abbrev pub Compares : Game → Solution → ℕ → ℕ → Ordering → Type 0

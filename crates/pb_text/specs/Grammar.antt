@@ -1,5 +1,6 @@
--- The grammar of texts, one production for each row (this project's own; names, connectives and declarations as in
--- mCRL2's text of parameterised Boolean equation systems, Groote and Mousavi 2014).
+-- The grammar of texts, one production for each row (this project's own; names, connectives and
+-- declarations as in mCRL2's text of parameterised Boolean equation systems, Groote and Mousavi
+-- 2014).
 use Rattle.std.specs.Prelude.{◌≡◌, ℕ, zero, suc, true, false, List, [], ◌∷◌, ◌++◌, Some, None}
 use Rattle.pb_fixpoint.specs.declared.Sign.{Sign}
 use Rattle.pb_fixpoint.specs.declared.Sign.TheVariants as sign
@@ -15,7 +16,8 @@ use Rattle.pb_text_terms.specs.Grammar.{Name, Variables, Quantified, Instance, I
 
 -- ---- formulas
 
--- What a token of a kind begins that is no quantifier: below a negation Node may stand, in brackets Formula, and as data Term.
+-- What a token of a kind begins that is no quantifier: below a negation Node may stand, in brackets
+-- Formula, and as data Term.
 abbrev pub Begun : Reads FormulaForm → Reads FormulaForm → Reads TermForm → Kind → Reads FormulaForm
 Begun Node Formula Term k.Not = do
   sign ← One k.Not
@@ -45,7 +47,8 @@ Begun Node Formula Term _ = Nothing
 
 -- `&&` binds tightest, then `||`, then `=>`; at their right end a quantifier over Body may stand.
 abbrev pub Connections : Reads FormulaForm → Reads FormulaForm → Reads FormulaForm
-Connections Node Body = Connected (connected_by FormulaForm.connected) Node (Quantified FormulaForm.quantified Body)
+Connections Node Body =
+    Connected (connected_by FormulaForm.connected) Node (Quantified FormulaForm.quantified Body)
 
 -- So many levels may open: each `!`, each bracket and each quantifier opens one.
 abbrev mutual
@@ -55,7 +58,8 @@ abbrev mutual
 
   pub IsFormula : ℕ → Reads FormulaForm
   IsFormula zero = Connections (First (Begun Nothing Nothing Nothing)) Nothing
-  IsFormula (suc depth) = Connections (First (Begun (IsNode depth) (IsFormula depth) (IsTerm depth))) (IsFormula depth)
+  IsFormula (suc depth) =
+      Connections (First (Begun (IsNode depth) (IsFormula depth) (IsTerm depth))) (IsFormula depth)
 
 -- ---- sorts
 
@@ -103,7 +107,10 @@ SortPart = do
 
 -- any number of sort parts
 abbrev pub SortParts : Reads (List SortDeclarationForm)
-SortParts = Extended (Is []) (λ none. Series SortPart (Is {X = Unit {0}} tt) (λ sorts. sorts) (λ sorts u rest. sorts ++ rest))
+SortParts =
+    Extended (Is [])
+    (λ none.
+    Series SortPart (Is {X = Unit {0}} tt) (λ sorts. sorts) (λ sorts u rest. sorts ++ rest))
 
 -- ---- equations and texts
 
@@ -155,7 +162,10 @@ IsSpec ranges depth = do
   semicolon ← One k.Semicolon
   Is (record { sorts = sorts; ranges = ranges; equations = equations; initial = initial })
 
--- The tokens are this text, and then the end. So many levels may open; each equation, and the initial instance, may have so many operators.
+-- The tokens are this text, and then the end. So many levels may open; each equation, and the
+-- initial instance, may have so many operators.
 abbrev pub IsText : ℕ → ℕ → List Tok → List RangeForm → SpecForm → Type 0
 IsText depth operators tokens ranges text =
-    (m : ℕ) × (end : Tok) × IsSpec ranges depth (record { tokens = tokens; operators = operators }) text (record { tokens = end ∷ []; operators = m }) × (end.kind ≡ k.End)
+    (m : ℕ) × (end : Tok)
+    × IsSpec ranges depth (record { tokens = tokens; operators = operators }) text
+    (record { tokens = end ∷ []; operators = m }) × (end.kind ≡ k.End)

@@ -19,15 +19,16 @@ use Rattle.pb_text.specs.declared.error.TextError.TheVariants as error
 use Rattle.pb_text.specs.declared.limits.TheConstants.{DEPTH_LIMIT, OPERATOR_LIMIT}
 use Rattle.pb_text.specs.Grammar.{IsText}
 
--- how many levels of brackets, negations, signs and quantifiers may open, and how many operators with two operands an
--- equation, and the initial instance, may have
+-- how many levels of brackets, negations, signs and quantifiers may open, and how many operators
+-- with two operands an equation, and the initial instance, may have
 abbrev pub depth_limit : ℕ
 depth_limit = DEPTH_LIMIT
 
 abbrev pub operator_limit : ℕ
 operator_limit = OPERATOR_LIMIT
 
--- The bytes are this text: so many levels may open, and each equation, and the initial instance, may have so many operators.
+-- The bytes are this text: so many levels may open, and each equation, and the initial instance,
+-- may have so many operators.
 pub record IsReadingWithin (depth operators : ℕ) (bytes : List ℕ) (x : SpecForm) : Type 0 where
   pub tokens : List Tok
   pub ranges : List RangeForm
@@ -41,7 +42,8 @@ IsReading bytes x = IsReadingWithin depth_limit operator_limit bytes x
 -- bytes are at most one text, places included, whatever the limits
 abbrev pub AtMostOneReading : Type 0
 AtMostOneReading =
-    (bytes : List ℕ) (d n e m : ℕ) (x y : SpecForm) → IsReadingWithin d n bytes x → IsReadingWithin e m bytes y → x ≡ y
+    (bytes : List ℕ) (d n e m : ℕ) (x y : SpecForm) → IsReadingWithin d n bytes x
+    → IsReadingWithin e m bytes y → x ≡ y
 
 -- some text begins with these tokens, where so many levels may open, and so many operators come
 pub record BeginsText (depth operators : ℕ) (tokens : List Tok) : Type 0 where
@@ -54,28 +56,34 @@ pub record BeginsText (depth operators : ℕ) (tokens : List Tok) : Type 0 where
 abbrev pub BeginsNextText : List Tok → Type 0
 BeginsNextText tokens = BeginsText (suc depth_limit) (suc operator_limit) tokens
 
--- Up to each of these tokens at which a limit can be exceeded, some text begins so, within so many levels and operators: none of them is
--- past a limit.
+-- Up to each of these tokens at which a limit can be exceeded, some text begins so, within so many
+-- levels and operators: none of them is past a limit.
 abbrev pub StaysWithin : ℕ → ℕ → List Tok → Type 0
 StaysWithin depth operators tokens =
-    (before behind : List Tok) (t : Tok) → tokens ≡ before ++ t ∷ behind → is_limited t.kind ≡ true → BeginsText depth operators (before ++ t ∷ [])
+    (before behind : List Tok) (t : Tok) → tokens ≡ before ++ t ∷ behind → is_limited t.kind ≡ true
+    → BeginsText depth operators (before ++ t ∷ [])
 
--- The bytes begin with tokens, the last of which stands at this place. No text begins so, within the limits that the rule speaks of;
--- some text begins with the tokens before that one, so it is the first with which none goes on. None of those is past a limit: a fault
--- behind a token past a limit isn't named. Where the rule is a limit, it is a token at which a limit can be exceeded, so the first that
--- is past one; and with one level and one operator more some text begins with it too, so no other fault stands before it.
-pub record IsRefusal (bytes : List ℕ) (broken : token_rule.ReadingRule) (place : Place) : Type 0 where
+-- The bytes begin with tokens, the last of which stands at this place. No text begins so, within
+-- the limits that the rule speaks of; some text begins with the tokens before that one, so it is
+-- the first with which none goes on. None of those is past a limit: a fault behind a token past a
+-- limit isn't named. Where the rule is a limit, it is a token at which a limit can be exceeded, so
+-- the first that is past one; and with one level and one operator more some text begins with it
+-- too, so no other fault stands before it.
+pub record IsRefusal (bytes : List ℕ) (broken : token_rule.ReadingRule)
+    (place : Place) : Type 0 where
   pub front : List Tok
   pub next : Tok
   pub begins : Begins bytes (front ++ next ∷ [])
   pub stands : next.place ≡ place
   pub limited : broken ≡ refused.Limit → is_limited next.kind ≡ true
-  pub none : (d n : ℕ) (tail : List Tok) (ranges : List RangeForm) (x : SpecForm) → Within broken depth_limit operator_limit d n → IsText d n (front ++ next ∷ tail) ranges x → ⊥
+  pub none : (d n : ℕ) (tail : List Tok) (ranges : List RangeForm) (x : SpecForm)
+      → Within broken depth_limit operator_limit d n → IsText d n (front ++ next ∷ tail) ranges x
+      → ⊥
   pub goes_on : BeginsNextText (front ++ going_on broken next)
   pub first : StaysWithin depth_limit operator_limit front
 
--- The bytes are cut into tokens up to this place, where no token stands, nor the end. Some text begins with those tokens, none of which is
--- past a limit.
+-- The bytes are cut into tokens up to this place, where no token stands, nor the end. Some text
+-- begins with those tokens, none of which is past a limit.
 pub record IsBroken (bytes : List ℕ) (kind : Kind) (place : Place) : Type 0 where
   pub front : List Tok
   pub defect : IsDefect bytes front place kind

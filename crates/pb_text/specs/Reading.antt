@@ -44,7 +44,8 @@ unfoldable pub opening : Step Tok → Step Tok
 opening enter = λ s. if is_open (step.kind s) then enter s else refuse Unexpected s
 
 -- What a token begins that is no quantifier. The first step takes a token that opens a level.
-abbrev pub begun : Step Tok → Step FormulaForm → Step FormulaForm → Step TermForm → Step InstanceForm → Kind → Step FormulaForm
+abbrev pub begun : Step Tok → Step FormulaForm → Step FormulaForm → Step TermForm
+    → Step InstanceForm → Kind → Step FormulaForm
 begun enter below inner term instance k.Not = do
   sign ← enter
   operand ← below
@@ -68,7 +69,9 @@ begun enter below inner term instance k.Name = do
 begun enter below inner term instance _ = refuse Unexpected
 
 abbrev pub connections : Step Tok → Step FormulaForm → Step FormulaForm → Step FormulaForm
-connections enter node body = connected (connected_by FormulaForm.connected) is_quantifier node (quantified FormulaForm.quantified enter body)
+connections enter node body =
+    connected (connected_by FormulaForm.connected) is_quantifier node
+    (quantified FormulaForm.quantified enter body)
 
 -- the data term behind `val`
 unfoldable pub data_term : ℕ → Step TermForm
@@ -76,10 +79,13 @@ data_term depth = expressions.term depth
 
 -- where no level may open, and where one may
 abbrev pub last_node : Step FormulaForm
-last_node = peek >>= begun (refuse Limit) (refuse Limit) (refuse Limit) (refuse Limit) (expressions.instance 0)
+last_node =
+    peek >>= begun (refuse Limit) (refuse Limit) (refuse Limit) (refuse Limit)
+    (expressions.instance 0)
 
 abbrev pub node_over : Step FormulaForm → Step FormulaForm → ℕ → Step FormulaForm
-node_over below inner depth = peek >>= begun take_token below inner (data_term depth) (expressions.instance (suc depth))
+node_over below inner depth =
+    peek >>= begun take_token below inner (data_term depth) (expressions.instance (suc depth))
 
 -- The number is how many levels may still open.
 unfoldable mutual
@@ -89,7 +95,8 @@ unfoldable mutual
 
   pub formula : ℕ → Step FormulaForm
   formula zero = connections (refuse Limit) last_node (refuse Limit)
-  formula (suc depth) = connections take_token (node_over (node depth) (formula depth) depth) (formula depth)
+  formula (suc depth) =
+      connections take_token (node_over (node depth) (formula depth) depth) (formula depth)
 
 -- a quantifier with its variables and its body
 unfoldable pub quantification : ℕ → Step FormulaForm
@@ -162,7 +169,9 @@ sort_part = do
   pure found
 
 abbrev pub some_sort_parts : Step (List SortDeclarationForm)
-some_sort_parts = λ s. series sort_part is_sort nothing_between (λ sorts. sorts) (λ sorts u rest. sorts ++ rest) (suc (length s.tokens)) s
+some_sort_parts =
+    λ s. series sort_part is_sort nothing_between (λ sorts. sorts) (λ sorts u rest. sorts ++ rest)
+    (suc (length s.tokens)) s
 
 -- where no part begins, no declaration of one does
 abbrev pub sort_parts : Step (List SortDeclarationForm)
@@ -209,7 +218,8 @@ equation depth = do
   pure (record { sign = sign; name = defined; parameters = its_parameters; right = right })
 
 abbrev pub equations : ℕ → Step (List EquationForm)
-equations depth = λ s. listed (equation depth) begins_equation nothing_between (suc (length s.tokens)) s
+equations depth =
+    λ s. listed (equation depth) begins_equation nothing_between (suc (length s.tokens)) s
 
 -- an instance with all the operators that are allowed
 unfoldable pub initial_instance : ℕ → Step InstanceForm

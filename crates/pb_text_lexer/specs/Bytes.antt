@@ -33,17 +33,23 @@ line = take_while (λ b. not (b == 10))
 
 abbrev pub reserved : List (List ℕ × Kind)
 reserved =
-    (codes "sort", k.Sort) ∷ (codes "struct", k.Struct) ∷ (codes "pbes", k.Pbes) ∷ (codes "mu", k.Mu) ∷ (codes "nu", k.Nu) ∷
-    (codes "init", k.Init) ∷ (codes "val", k.Val) ∷ (codes "true", k.True) ∷ (codes "false", k.False) ∷
-    (codes "forall", k.Forall) ∷ (codes "exists", k.Exists) ∷ (codes "div", k.Div) ∷ (codes "mod", k.Mod) ∷
-    (codes "cons", k.Reserved) ∷ (codes "map", k.Reserved) ∷ (codes "var", k.Reserved) ∷ (codes "eqn", k.Reserved) ∷
-    (codes "glob", k.Reserved) ∷ (codes "lambda", k.Reserved) ∷ (codes "whr", k.Reserved) ∷ (codes "end", k.Reserved) ∷
+    (codes "sort", k.Sort) ∷ (codes "struct", k.Struct) ∷ (codes "pbes", k.Pbes)
+    ∷ (codes "mu", k.Mu) ∷ (codes "nu", k.Nu) ∷
+    (codes "init", k.Init) ∷ (codes "val", k.Val) ∷ (codes "true", k.True)
+    ∷ (codes "false", k.False) ∷
+    (codes "forall", k.Forall) ∷ (codes "exists", k.Exists) ∷ (codes "div", k.Div)
+    ∷ (codes "mod", k.Mod) ∷
+    (codes "cons", k.Reserved) ∷ (codes "map", k.Reserved) ∷ (codes "var", k.Reserved)
+    ∷ (codes "eqn", k.Reserved) ∷
+    (codes "glob", k.Reserved) ∷ (codes "lambda", k.Reserved) ∷ (codes "whr", k.Reserved)
+    ∷ (codes "end", k.Reserved) ∷
     (codes "in", k.Reserved) ∷ (codes "act", k.Reserved) ∷ (codes "proc", k.Reserved) ∷ []
 
 -- the kind that the list gives a word, or else a name
 abbrev pub kind_among : List (List ℕ × Kind) → List ℕ → Kind
 kind_among [] word = k.Name
-kind_among (entry ∷ entries) word = if bytes_eq entry.0 word then entry.1 else kind_among entries word
+kind_among (entry ∷ entries) word =
+    if bytes_eq entry.0 word then entry.1 else kind_among entries word
 
 -- a table of words, as the code keeps it
 abbrev pub entries : List (Bor (List ℕ) × Kind) → List (List ℕ × Kind)
@@ -55,13 +61,15 @@ word_kind = kind_among reserved
 -- a name that is no reserved word
 abbrev pub is_name : List ℕ → Bool
 is_name [] = false
-is_name (b ∷ bs) = is_letter b && length (name_bytes bs) == length bs && same_kind (word_kind (b ∷ bs)) k.Name
+is_name (b ∷ bs) =
+    is_letter b && length (name_bytes bs) == length bs && same_kind (word_kind (b ∷ bs)) k.Name
 
 -- ---- numbers
 
 -- the number that the digits write, if it is no larger than this
 abbrev pub value_within : ℕ → List ℕ → Option ℕ
-value_within largest ds = if nat_lt largest (digits_value 10 ds) then None else Some (digits_value 10 ds)
+value_within largest ds =
+    if nat_lt largest (digits_value 10 ds) then None else Some (digits_value 10 ds)
 
 -- the largest number that a text may write
 abbrev pub largest_number : ℕ
@@ -75,4 +83,5 @@ pub record WritesNumber (ds : List ℕ) : Type 0 where
 -- the same of a word that must be digits, one or more
 abbrev pub whole_within : ℕ → List ℕ → Option ℕ
 whole_within largest [] = None
-whole_within largest (b ∷ bs) = if length (digits (b ∷ bs)) == length (b ∷ bs) then value_within largest (b ∷ bs) else None
+whole_within largest (b ∷ bs) =
+    if length (digits (b ∷ bs)) == length (b ∷ bs) then value_within largest (b ∷ bs) else None

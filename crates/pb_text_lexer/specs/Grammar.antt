@@ -1,5 +1,6 @@
--- The words in which a grammar is written: relations between the tokens before, what is read, and the tokens after.
--- No word has a position or looks ahead, but for `First`, by which a rule goes by its first token.
+-- The words in which a grammar is written: relations between the tokens before, what is read, and
+-- the tokens after. No word has a position or looks ahead, but for `First`, by which a rule goes by
+-- its first token.
 use Rattle.std.specs.Prelude.{◌≡◌, ◌≤◌, ℕ, suc, List, [], ◌∷◌}
 use Rattle.pb_text_lexer.specs.declared.kind.Kind.{Kind}
 use Rattle.pb_text_lexer.specs.declared.fault.ReadingRule.{ReadingRule}
@@ -45,20 +46,25 @@ First R s = by_first R s.tokens s
 
 -- Items, one or more, with what stands between them: end makes a value of the last,
 -- and join of an item, what follows it and the value of the rest.
-pub data Series {X T Y : Type 0} (Item : Reads X) (Between : Reads T) (end : X → Y) (join : X → T → Y → Y) : State → Y → State → Type 0 where
+pub data Series {X T Y : Type 0} (Item : Reads X) (Between : Reads T) (end : X → Y)
+    (join : X → T → Y → Y) : State → Y → State → Type 0 where
   last : {s z : State} {x : X} → Item s x z → Series Item Between end join s (end x) z
-  more : {s m o z : State} {x : X} {t : T} {y : Y} → Item s x m → Between m t o → Series Item Between end join o y z → Series Item Between end join s (join x t y) z
+  more : {s m o z : State} {x : X} {t : T} {y : Y} → Item s x m → Between m t o
+      → Series Item Between end join o y z → Series Item Between end join s (join x t y) z
 
 -- with all the operators that are allowed, whatever comes before and behind
 abbrev pub CountedApart : {X : Type 0} → Reads X → Reads X
-CountedApart R s x z = (m : ℕ) × R s x (record { tokens = z.tokens; operators = m }) × (z.operators ≡ s.operators)
+CountedApart R s x z =
+    (m : ℕ) × R s x (record { tokens = z.tokens; operators = m }) × (z.operators ≡ s.operators)
 
--- The limits that a refusal speaks of: any, or those that are at hand. So many levels may open, and so many operators come.
+-- The limits that a refusal speaks of: any, or those that are at hand. So many levels may open, and
+-- so many operators come.
 abbrev pub Within : ReadingRule → ℕ → ℕ → ℕ → ℕ → Type 0
 Within Unexpected depth operators d n = Unit {0}
 Within Limit depth operators d n = (d ≤ depth) × (n ≤ operators)
 
--- At a refused token: the token with which, within some limits, a text goes on. Where a limit is exceeded it is that one.
+-- At a refused token: the token with which, within some limits, a text goes on. Where a limit is
+-- exceeded it is that one.
 abbrev pub going_on : ReadingRule → Tok → List Tok
 going_on Unexpected next = []
 going_on Limit next = next ∷ []

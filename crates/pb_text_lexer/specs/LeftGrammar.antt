@@ -7,7 +7,8 @@ use Rattle.pb_text_lexer.specs.OpenGrammar.{Either}
 
 -- an operator with two operands, of a kind that passes the test; it counts
 abbrev pub OperatorOf : (Kind → Bool) → Reads Tok
-OperatorOf test s t z = (s.tokens ≡ t ∷ z.tokens) × (test t.kind ≡ true) × (s.operators ≡ suc z.operators)
+OperatorOf test s t z =
+    (s.tokens ≡ t ∷ z.tokens) × (test t.kind ≡ true) × (s.operators ≡ suc z.operators)
 
 -- a thing alone, or a thing and more
 abbrev pub Extended : {X : Type 0} → Reads X → (X → Reads X) → Reads X
@@ -42,10 +43,14 @@ Linked test join Item x = do
 abbrev pub LeftChain : {X : Type 0} → (Kind → Bool) → (X → Tok → X → X) → Reads X → Reads X
 LeftChain test join Item = Extended Item (Linked test join Item)
 
--- One operand, or operands grouped to the left with operators that all pass the one test or all pass the other.
-abbrev pub UnmixedChain : {X : Type 0} → (Kind → Bool) → (Kind → Bool) → (X → Tok → X → X) → Reads X → Reads X
-UnmixedChain test other join Item = Extended Item (λ x. Either (Linked test join Item x) (Linked other join Item x))
+-- One operand, or operands grouped to the left with operators that all pass the one test or all
+-- pass the other.
+abbrev pub UnmixedChain : {X : Type 0} → (Kind → Bool) → (Kind → Bool) → (X → Tok → X → X) → Reads X
+    → Reads X
+UnmixedChain test other join Item =
+    Extended Item (λ x. Either (Linked test join Item x) (Linked other join Item x))
 
 -- one operand, or two with an operator between them that passes the test
 abbrev pub Comparison : {X : Type 0} → (Kind → Bool) → (X → Tok → X → X) → Reads X → Reads X
-Comparison test join Item = Extended Item (λ x. OperatorOf test >>= (λ operator. Item >>= (λ y. Is (join x operator y))))
+Comparison test join Item =
+    Extended Item (λ x. OperatorOf test >>= (λ operator. Item >>= (λ y. Is (join x operator y))))

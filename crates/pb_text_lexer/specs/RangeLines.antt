@@ -1,4 +1,5 @@
--- Range lines: a comment `%range NAME LO HI` at the beginning of a line gives a sort of whole numbers its carrier.
+-- Range lines: a comment `%range NAME LO HI` at the beginning of a line gives a sort of whole
+-- numbers its carrier.
 use Rattle.std.specs.Prelude.{ℕ, ℤ, pos, neg_ℤ, int_le, ◌-◌, Bool, true, false, not, ◌&&◌, ◌||◌, if◌then◌else◌, ◌==◌, List, [], ◌∷◌, length, take, drop, take_while, get_or, Option, Some, None, is_none}
 use Rattle.std.specs.Borrow.{Bor}
 use Rattle.pb_text_tree.specs.declared.place.Place.{Place}
@@ -40,7 +41,9 @@ negative (Some n) = Some (neg_ℤ (pos n))
 -- digits, with `-` before them or not, that write a number from -2^31 to 2^31 - 1
 unfoldable pub bound : List ℕ → Option ℤ
 bound [] = None
-bound (b ∷ bs) = if b == 45 then negative (whole_within 2147483648 bs) else positive (whole_within 2147483647 (b ∷ bs))
+bound (b ∷ bs) =
+    if b == 45 then negative (whole_within 2147483648 bs)
+    else positive (whole_within 2147483647 (b ∷ bs))
 
 -- ---- the line
 
@@ -53,13 +56,15 @@ pub record Bounded : Type 0 where
 abbrev pub bounded : List ℕ → Option ℤ → Option ℤ → Option Bounded
 bounded name None high = None
 bounded name (Some low) None = None
-bounded name (Some low) (Some high) = if int_le low high then Some (record { name = name; low = low; high = high }) else None
+bounded name (Some low) (Some high) =
+    if int_le low high then Some (record { name = name; low = low; high = high }) else None
 
 -- a name, two bounds, the lower one first, and nothing else
 unfoldable pub words_bound : List ℕ → Option Bounded
 words_bound bs =
     if is_name (word bs) && length (word (behind_word (behind_word (behind_word bs)))) == 0
-    then bounded (word bs) (bound (word (behind_word bs))) (bound (word (behind_word (behind_word bs)))) else None
+    then bounded (word bs) (bound (word (behind_word bs)))
+    (bound (word (behind_word (behind_word bs)))) else None
 
 -- a line without the carriage return at its end
 abbrev pub without_return : List ℕ → List ℕ
@@ -72,7 +77,9 @@ ends_word (b ∷ bs) = b == 32 || b == 9
 
 -- what a comment has behind the word `range`, if it begins with that
 unfoldable pub behind_range : List ℕ → Option (List ℕ)
-behind_range (a ∷ b ∷ c ∷ d ∷ e ∷ rest) = if (a == 114 && b == 97 && c == 110 && d == 103 && e == 101) && ends_word rest then Some rest else None
+behind_range (a ∷ b ∷ c ∷ d ∷ e ∷ rest) =
+    if (a == 114 && b == 97 && c == 110 && d == 103 && e == 101) && ends_word rest then Some rest
+    else None
 behind_range _ = None
 
 -- what a comment says of a carrier
@@ -95,7 +102,8 @@ placed p (Some r) = range_at_place p r ∷ []
 
 unfoldable pub ranges_at : Place → List ℕ → List RangeForm
 ranges_at p [] = []
-ranges_at p (b ∷ bs) = if b == 37 && p.column == 1 then placed p (said (behind_range (line bs))) else []
+ranges_at p (b ∷ bs) =
+    if b == 37 && p.column == 1 then placed p (said (behind_range (line bs))) else []
 
 -- the bytes without which no range line begins
 abbrev pub is_mark : List ℕ → Bool

@@ -15,16 +15,19 @@ use Rattle.pb_text_lexer.specs.Bytes.{WritesNumber}
 use Rattle.pb_text_lexer.specs.declared.lexer.Lexer.{Lexer}
 use Rattle.pb_text_lexer.specs.Tokens.{Tok, tok, token_at}
 
--- the token of a piece at the front of the bytes, and then those that follow when so many bytes more are passed over
+-- the token of a piece at the front of the bytes, and then those that follow when so many bytes
+-- more are passed over
 abbrev pub tokens_of : Piece → Place → List ℕ → (ℕ → List Tok) → List Tok
 tokens_of (piece_is.Blank n) p bytes following = following (n - 1)
-tokens_of (piece_is.Token kind n) p bytes following = token_at p kind (take n bytes) ∷ following (n - 1)
+tokens_of (piece_is.Token kind n) p bytes following =
+    token_at p kind (take n bytes) ∷ following (n - 1)
 tokens_of (piece_is.Stop kind) p bytes following = token_at p kind [] ∷ []
 
 -- the tokens from a place on, the first bytes being passed over
 unfoldable pub tokens_from : Language → List ℕ → ℕ → Place → List Tok
 tokens_from l [] n p = token_at p End [] ∷ []
-tokens_from l (b ∷ bs) zero p = tokens_of (piece_in l p (b ∷ bs)) p (b ∷ bs) (λ n. tokens_from l bs n (next_place p b))
+tokens_from l (b ∷ bs) zero p =
+    tokens_of (piece_in l p (b ∷ bs)) p (b ∷ bs) (λ n. tokens_from l bs n (next_place p b))
 tokens_from l (b ∷ bs) (suc n) p = tokens_from l bs n (next_place p b)
 
 -- the range lines at the front of the bytes and those that follow
@@ -36,7 +39,9 @@ ranges_of (piece_is.Stop kind) found following = []
 -- the range lines from a place on, the first bytes being passed over
 unfoldable pub ranges_from : Language → List ℕ → ℕ → Place → List RangeForm
 ranges_from l [] n p = []
-ranges_from l (b ∷ bs) zero p = ranges_of (piece_in l p (b ∷ bs)) (ranges_at p (b ∷ bs)) (λ n. ranges_from l bs n (next_place p b))
+ranges_from l (b ∷ bs) zero p =
+    ranges_of (piece_in l p (b ∷ bs)) (ranges_at p (b ∷ bs))
+    (λ n. ranges_from l bs n (next_place p b))
 ranges_from l (b ∷ bs) (suc n) p = ranges_from l bs n (next_place p b)
 
 -- a line and a column within 32 bits, also behind the bytes
@@ -53,4 +58,6 @@ abbrev pub HasSpelling : Token → Type 0
 HasSpelling t = t.kind ≡ Name → is_spelled t.text.now ≡ true
 
 abbrev pub remaining : Language → Lexer → List Tok
-remaining l lexer = tok lexer.token ∷ (if is_last lexer.token.kind then [] else tokens_from l lexer.rest.now 0 lexer.place)
+remaining l lexer =
+    tok lexer.token
+    ∷ (if is_last lexer.token.kind then [] else tokens_from l lexer.rest.now 0 lexer.place)

@@ -88,7 +88,9 @@ expect k = λ s. if same_kind (kind s) k then take_token s else refuse Unexpecte
 
 -- an operator with two operands
 unfoldable pub take_operator : Step Tok
-take_operator = λ s. if s.operators == 0 then refuse Limit s else take_token (record s { operators = s.operators - 1 })
+take_operator =
+    λ s. if s.operators == 0 then refuse Limit s
+    else take_token (record s { operators = s.operators - 1 })
 
 -- a token that opens a level, where so many may still open
 abbrev pub enter : ℕ → Step Tok
@@ -103,8 +105,10 @@ with_operators n (Err e) = Err e
 abbrev pub alone : {A : Type 0} → Step A → Step A
 alone p = λ s. with_operators s.operators (p s)
 
--- Items with something between them, as long as the test holds of the next token. The number bounds the turns.
-unfoldable pub series : {X T Y : Type 0} → Step X → (Kind → Bool) → Step T → (X → Y) → (X → T → Y → Y) → ℕ → Step Y
+-- Items with something between them, as long as the test holds of the next token. The number bounds
+-- the turns.
+unfoldable pub series : {X T Y : Type 0} → Step X → (Kind → Bool) → Step T → (X → Y)
+    → (X → T → Y → Y) → ℕ → Step Y
 series item test between end join zero = refuse Limit
 series item test between end join (suc n) = do
   x ← item
@@ -136,10 +140,13 @@ abbrev pub disjunction : {X : Type 0} → (Kind → X → Tok → X → X) → S
 disjunction join node = λ s. chain Or (join Or) (conjunction join node) (suc (length s.tokens)) s
 
 abbrev pub implication : {X : Type 0} → (Kind → X → Tok → X → X) → Step X → Step X
-implication join node = λ s. chain Implies (join Implies) (disjunction join node) (suc (length s.tokens)) s
+implication join node =
+    λ s. chain Implies (join Implies) (disjunction join node) (suc (length s.tokens)) s
 
-abbrev pub connected : {X : Type 0} → (Kind → X → Tok → X → X) → (Kind → Bool) → Step X → Step X → Step X
-connected join is_quantifier node quantified = implication join (either is_quantifier node quantified)
+abbrev pub connected : {X : Type 0} → (Kind → X → Tok → X → X) → (Kind → Bool) → Step X → Step X
+    → Step X
+connected join is_quantifier node quantified =
+    implication join (either is_quantifier node quantified)
 
 -- an item, and more where the test holds of the next token
 abbrev pub extended : {X : Type 0} → (Kind → Bool) → Step X → (X → Step X) → Step X
@@ -182,9 +189,11 @@ abbrev pub left_chain : {X : Type 0} → (Kind → Bool) → (X → Tok → X �
 left_chain test join item = extended test item (linked test join item)
 
 -- the same with operators of one group or of the other, unmixed
-abbrev pub unmixed_chain : {X : Type 0} → (Kind → Bool) → (Kind → Bool) → (X → Tok → X → X) → Step X → Step X
+abbrev pub unmixed_chain : {X : Type 0} → (Kind → Bool) → (Kind → Bool) → (X → Tok → X → X) → Step X
+    → Step X
 unmixed_chain test other join item = extended (λ k. test k || other k) item
-    (λ x s. if test (kind s) then unless_next other (linked test join item x) s else unless_next test (linked other join item x) s)
+    (λ x s. if test (kind s) then unless_next other (linked test join item x) s
+    else unless_next test (linked other join item x) s)
 
 -- one operand, or two; a second operator at once behind them is refused
 abbrev pub comparison : {X : Type 0} → (Kind → Bool) → (X → Tok → X → X) → Step X → Step X

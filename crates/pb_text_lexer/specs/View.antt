@@ -8,4 +8,6 @@ abbrev pub state_of : Inside → State
 state_of i = record { tokens = remaining i.language i.lexer; operators = i.operators }
 
 abbrev pub IsReady : Inside → Type 0
-IsReady i = IsWithin i.lexer.place i.lexer.rest.now × HasDigits i.lexer.token × HasSpelling i.lexer.token × IsAscii i.lexer.token.text.now
+IsReady i =
+    IsWithin i.lexer.place i.lexer.rest.now × HasDigits i.lexer.token × HasSpelling i.lexer.token
+    × IsAscii i.lexer.token.text.now

@@ -1,4 +1,5 @@
-//! Which tokens there are. All tokens of a whole language are cut, whichever of them a grammar uses.
+//! Which tokens there are. All tokens of a whole language are cut, whichever of them a grammar
+//! uses.
 
 ghost use Rattle.std.specs.Prelude.{◌≡◌, ◌≢◌, true, false};
 ghost use Rattle.pb_text_lexer.specs.Kinds as spec;

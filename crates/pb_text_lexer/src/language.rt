@@ -1,5 +1,5 @@
-//! The languages whose tokens are cut: that of texts, and that of models, which has more symbols and
-//! more reserved words.
+//! The languages whose tokens are cut: that of texts, and that of models, which has more symbols
+//! and more reserved words.
 
 /// A language of parameterised Boolean equation systems, or of models of protocols.
 #[derive(Clone, Copy, Debug, PartialEq, Eq)]

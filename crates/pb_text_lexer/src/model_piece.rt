@@ -1,4 +1,5 @@
-//! Symbols and words of models that texts don't have: `[`, `]`, `->`, `:=`, and four reserved words.
+//! Symbols and words of models that texts don't have: `[`, `]`, `->`, `:=`, and four reserved
+//! words.
 
 ghost use Rattle.std.specs.Prelude.{◌≡◌};
 ghost use Rattle.pb_text_lexer.specs.Lexing as lexing;

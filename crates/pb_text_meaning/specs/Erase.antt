@@ -42,11 +42,15 @@ abbrev mutual
   erased_term (TermForm.name x) = Term.Named x.text
   erased_term (TermForm.not p x) = Term.Not (erased_term x)
   erased_term (TermForm.negative p x) = Term.Negative (erased_term x)
-  erased_term (TermForm.connected c p x y) = Term.Binary (of_connective c) (erased_term x) (erased_term y)
-  erased_term (TermForm.compared c p x y) = Term.Binary (of_comparison c) (erased_term x) (erased_term y)
-  erased_term (TermForm.computed o p x y) = Term.Binary (of_arithmetic o) (erased_term x) (erased_term y)
+  erased_term (TermForm.connected c p x y) =
+      Term.Binary (of_connective c) (erased_term x) (erased_term y)
+  erased_term (TermForm.compared c p x y) =
+      Term.Binary (of_comparison c) (erased_term x) (erased_term y)
+  erased_term (TermForm.computed o p x y) =
+      Term.Binary (of_arithmetic o) (erased_term x) (erased_term y)
   erased_term (TermForm.application f xs) = Term.Apply f.text (erased_arguments xs)
-  erased_term (TermForm.quantified q p xs x) = Term.Quantified q (erased_variables xs) (erased_term x)
+  erased_term (TermForm.quantified q p xs x) =
+      Term.Quantified q (erased_variables xs) (erased_term x)
 
   pub erased_arguments : ArgumentForms → Terms
   erased_arguments no_arguments = Terms.NoTerms
@@ -63,7 +67,8 @@ erased_formula (FormulaForm.val p x) = Formula.Val (erased_term x)
 erased_formula (FormulaForm.instance i) = Formula.Call i.name.text (erased_arguments i.arguments)
 erased_formula (FormulaForm.negation p f) = Formula.Not (erased_formula f)
 erased_formula (FormulaForm.connected c p f g) = joined c (erased_formula f) (erased_formula g)
-erased_formula (FormulaForm.quantified q p xs f) = Formula.Quantified q (erased_variables xs) (erased_formula f)
+erased_formula (FormulaForm.quantified q p xs f) =
+    Formula.Quantified q (erased_variables xs) (erased_formula f)
 
 abbrev pub erased_recogniser : Option Named → Option Name
 erased_recogniser None = None
@@ -83,7 +88,13 @@ abbrev pub erased_range : RangeForm → Range
 erased_range r = record { name = r.name; low = r.low; high = r.high }
 
 abbrev pub erased_equation : EquationForm → Equation
-erased_equation X = record { sign = X.sign; name = X.name.text; parameters = erased_variables X.parameters; right = erased_formula X.right }
+erased_equation X =
+    record {
+      sign = X.sign;
+      name = X.name.text;
+      parameters = erased_variables X.parameters;
+      right = erased_formula X.right;
+    }
 
 -- a text, as a specification
 abbrev pub erase : SpecForm → Spec

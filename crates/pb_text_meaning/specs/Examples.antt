@@ -43,11 +43,14 @@ greatest_dominates = system (plain Nu Y (call X) ∷ plain Mu X (call Y) ∷ [])
 -- nu X = (X && Y) || Y; mu Y = Y; init X;
 abbrev pub later_least_is_empty : Spec
 later_least_is_empty =
-    system (plain Nu X (Formula.Or (Formula.And (call X) (call Y)) (call Y)) ∷ plain Mu Y (call Y) ∷ [])
+    system (plain Nu X (Formula.Or (Formula.And (call X) (call Y)) (call Y)) ∷ plain Mu Y (call Y)
+    ∷ [])
 
 -- nu X = (X => false) => X; init X;
 abbrev pub premise_twice : Spec
-premise_twice = system (plain Nu X (Formula.Implies (Formula.Implies (call X) (Formula.Truth false)) (call X)) ∷ [])
+premise_twice =
+    system (plain Nu X (Formula.Implies (Formula.Implies (call X) (Formula.Truth false)) (call X))
+    ∷ [])
 
 -- mu X = !(!X); init X;
 abbrev pub double_negation : Spec
@@ -104,26 +107,35 @@ counting_out = record {
 -- sort D = struct a | b | c; pbes nu X(d: D) = forall e: D . val(e != d) => X(e); init X(a);
 abbrev pub all_others : Spec
 all_others = record {
-  sorts = record { name = codes "D"; sort = Struct (enumerator (codes "a") ∷ enumerator (codes "b") ∷ enumerator (codes "c") ∷ []) } ∷ [];
+  sorts = record {
+    name = codes "D";
+    sort = Struct (enumerator (codes "a") ∷ enumerator (codes "b") ∷ enumerator (codes "c") ∷ []);
+  } ∷ [];
   ranges = [];
   equations =
       over Nu X (variable (codes "d") (codes "D"))
       (Formula.Quantified Forall (variable (codes "e") (codes "D") ∷ [])
-      (Formula.Implies (compared Operator.NotEqual (codes "e") (codes "d")) (called X (Term.Named (codes "e"))))) ∷ [];
+      (Formula.Implies (compared Operator.NotEqual (codes "e") (codes "d"))
+      (called X (Term.Named (codes "e"))))) ∷ [];
   initial = X;
   arguments = Terms.Then (Term.Named (codes "a")) Terms.NoTerms;
 }
 
--- sort S = struct s0 | s1; pbes nu X(s: S) = Y(s); mu Y(s: S) = (val(s == s0) && X(s1)) || (val(s == s1) && Y(s0)); init X(s0);
+-- sort S = struct s0 | s1; pbes nu X(s: S) = Y(s); mu Y(s: S) = (val(s == s0) && X(s1)) || (val(s
+-- == s1) && Y(s0)); init X(s0);
 abbrev pub two_states : Spec
 two_states = record {
-  sorts = record { name = codes "S"; sort = Struct (enumerator (codes "s0") ∷ enumerator (codes "s1") ∷ []) } ∷ [];
+  sorts = record
+      { name = codes "S"; sort = Struct (enumerator (codes "s0") ∷ enumerator (codes "s1") ∷ []) }
+      ∷ [];
   ranges = [];
   equations =
       over Nu X (variable (codes "s") (codes "S")) (called Y (Term.Named (codes "s"))) ∷
       over Mu Y (variable (codes "s") (codes "S")) (Formula.Or
-      (Formula.And (compared Operator.Equal (codes "s") (codes "s0")) (called X (Term.Named (codes "s1"))))
-      (Formula.And (compared Operator.Equal (codes "s") (codes "s1")) (called Y (Term.Named (codes "s0"))))) ∷ [];
+      (Formula.And (compared Operator.Equal (codes "s") (codes "s0"))
+      (called X (Term.Named (codes "s1"))))
+      (Formula.And (compared Operator.Equal (codes "s") (codes "s1"))
+      (called Y (Term.Named (codes "s0"))))) ∷ [];
   initial = X;
   arguments = Terms.Then (Term.Named (codes "s0")) Terms.NoTerms;
 }
@@ -132,14 +144,20 @@ two_states = record {
 abbrev pub rounding_down : Spec
 rounding_down =
     let seven : Term = Term.Negative (Term.Number 7) in
-    let quotient_is : Term = Term.Binary Operator.Equal (Term.Binary Operator.Div seven (Term.Number 2)) (Term.Negative (Term.Number 4)) in
-    let remainder_is : Term = Term.Binary Operator.Equal (Term.Binary Operator.Mod seven (Term.Number 2)) (Term.Number 1) in
-    system (plain Nu X (Formula.And (Formula.Val (Term.Binary Operator.And quotient_is remainder_is)) (call X)) ∷ [])
+    let quotient_is : Term =
+    Term.Binary Operator.Equal (Term.Binary Operator.Div seven (Term.Number 2))
+    (Term.Negative (Term.Number 4)) in
+    let remainder_is : Term =
+    Term.Binary Operator.Equal (Term.Binary Operator.Mod seven (Term.Number 2)) (Term.Number 1) in
+    system (plain
+    Nu X (Formula.And (Formula.Val (Term.Binary Operator.And quotient_is remainder_is)) (call X))
+    ∷ [])
 
 -- sort A = B; sort B = Int; with Int from -1 to 1
 abbrev pub alias_of_alias : Spec
 alias_of_alias = record {
-  sorts = record { name = codes "A"; sort = Alias (codes "B") } ∷ record { name = codes "B"; sort = Alias (codes "Int") } ∷ [];
+  sorts = record { name = codes "A"; sort = Alias (codes "B") }
+      ∷ record { name = codes "B"; sort = Alias (codes "Int") } ∷ [];
   ranges = record { name = codes "Int"; low = negsuc 0; high = pos 1 } ∷ [];
   equations = [];
   initial = X;

@@ -1,4 +1,5 @@
--- Terms and formulas that fit: under an assignment each value on the way is within 2^62, and each divisor at least 1.
+-- Terms and formulas that fit: under an assignment each value on the way is within 2^62, and each
+-- divisor at least 1.
 use Rattle.std.specs.Prelude.{◌≡◌, ◌^◌, pos, neg_ℤ, ◌≤ℤ◌, true, ⊤, All, List, [], ◌∷◌}
 use Rattle.pb_carriers.specs.Carrier.{Value, Tuple, contains, is_within}
 use Rattle.pb_text_meaning.specs.Syntax.{Variable, Operator, Term, Terms, Formula, Equation, Spec}
@@ -21,7 +22,8 @@ DivisorFits _ y = ⊤
 -- for all values of the first variable, all of the next, and so on
 abbrev pub FitsFor : Spec → List Variable → (Assignment → Type 0) → Assignment → Type 0
 FitsFor spec [] P a = P a
-FitsFor spec (x ∷ xs) P a = (v : Value) → contains (carrier_of spec x.sort) v ≡ true → FitsFor spec xs P ((x.name, v) ∷ a)
+FitsFor spec (x ∷ xs) P a =
+    (v : Value) → contains (carrier_of spec x.sort) v ≡ true → FitsFor spec xs P ((x.name, v) ∷ a)
 
 abbrev mutual
   pub Fits : Spec → Assignment → Term → Type 0
@@ -30,7 +32,9 @@ abbrev mutual
   Fits spec a (Term.Named x) = IsBounded (value spec a (Term.Named x))
   Fits spec a (Term.Not x) = Fits spec a x
   Fits spec a (Term.Negative x) = Fits spec a x × IsBounded (value spec a (Term.Negative x))
-  Fits spec a (Term.Binary o x y) = Fits spec a x × Fits spec a y × DivisorFits o (value spec a y) × IsBounded (value spec a (Term.Binary o x y))
+  Fits spec a (Term.Binary o x y) =
+      Fits spec a x × Fits spec a y × DivisorFits o (value spec a y)
+      × IsBounded (value spec a (Term.Binary o x y))
   Fits spec a (Term.Apply f xs) = AllFit spec a xs × IsBounded (value spec a (Term.Apply f xs))
   Fits spec a (Term.Quantified q xs x) = FitsFor spec xs (λ b. Fits spec b x) a
 
@@ -51,7 +55,9 @@ FormulaFits spec a (Formula.Call x es) = AllFit spec a es
 
 -- the right side of an equation fits at each tuple of its parameters' carriers
 abbrev pub RightFits : Spec → Equation → Type 0
-RightFits spec X = (vs : Tuple) → is_within (carriers_of spec X.parameters) vs ≡ true → FormulaFits spec (assigned X.parameters vs []) X.right
+RightFits spec X =
+    (vs : Tuple) → is_within (carriers_of spec X.parameters) vs ≡ true
+    → FormulaFits spec (assigned X.parameters vs []) X.right
 
 -- each right side fits, and so do the arguments of the initial instance
 pub record SpecFits (spec : Spec) : Type 0 where

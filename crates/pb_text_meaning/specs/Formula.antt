@@ -39,4 +39,5 @@ truth spec a t (Formula.And f g) = truth spec a t f && truth spec a t g
 truth spec a t (Formula.Or f g) = truth spec a t f || truth spec a t g
 truth spec a t (Formula.Implies f g) = not (truth spec a t f) || truth spec a t g
 truth spec a t (Formula.Quantified q xs f) = quantified spec q xs (λ b. truth spec b t f) a
-truth spec a t (Formula.Call X es) = call_truth spec t (record { name = X; values = values spec a es })
+truth spec a t (Formula.Call X es) =
+    call_truth spec t (record { name = X; values = values spec a es })

@@ -25,6 +25,8 @@ equation_of spec X = record {
 abbrev pub equations_of : Spec → List (fixpoint.Equation Instance)
 equations_of spec = map (equation_of spec) spec.equations
 
--- the answer: the truth of the initial instance under the solution of all equations, from the empty environment
+-- the answer: the truth of the initial instance under the solution of all equations, from the empty
+-- environment
 abbrev pub answer : Spec → Bool
-answer spec = truth spec [] (solution (equations_of spec) empty) (Formula.Call spec.initial spec.arguments)
+answer spec =
+    truth spec [] (solution (equations_of spec) empty) (Formula.Call spec.initial spec.arguments)

@@ -2,7 +2,8 @@
 use Rattle.std.specs.Prelude.{Bool, true, not, ◌≡◌, ⊤, List, [], ◌∷◌}
 use Rattle.pb_text_meaning.specs.Syntax.{Formula, Equation}
 
--- each call stands under an even number of negations, where `even` says whether those around are even; the left side of => counts as one
+-- each call stands under an even number of negations, where `even` says whether those around are
+-- even; the left side of => counts as one
 abbrev pub IsPositive : Bool → Formula → Type 0
 IsPositive even (Formula.Truth b) = ⊤
 IsPositive even (Formula.Val x) = ⊤

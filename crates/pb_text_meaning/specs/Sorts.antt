@@ -23,7 +23,8 @@ carrier_by None false None target = []
 abbrev pub carrier_within : ℕ → Spec → Name → Carrier
 carrier_within zero spec s = []
 carrier_within (suc n) spec s =
-    carrier_by (range_of spec.ranges s) (same_name s (codes "Bool")) (declared spec.sorts s) (carrier_within n spec)
+    carrier_by (range_of spec.ranges s) (same_name s (codes "Bool")) (declared spec.sorts s)
+    (carrier_within n spec)
 
 -- the carrier of a sort: no chain of aliases is longer than the list of sorts
 abbrev pub carrier_of : Spec → Name → Carrier

@@ -13,7 +13,8 @@ use Rattle.pb_carriers.specs.Carrier.{Value, Tuple, Carrier, of_bool}
 use Rattle.pb_carriers.specs.Division.{quotient, remainder}
 use Rattle.pb_text_meaning.specs.Sorts.{carrier_of, is_recogniser, place_in}
 
--- what the variables in scope stand for, the innermost first; so an inner variable hides an outer one of its name
+-- what the variables in scope stand for, the innermost first; so an inner variable hides an outer
+-- one of its name
 abbrev pub Assignment : Type 0
 Assignment = List (Name × Value)
 
@@ -29,7 +30,8 @@ of_values Exists p vs = list_any p vs
 -- for all or some values of the first variable, for all or some of the next, and so on
 abbrev pub quantified : Spec → Quantifier → List Variable → (Assignment → Bool) → Assignment → Bool
 quantified spec q [] p a = p a
-quantified spec q (x ∷ xs) p a = of_values q (λ v. quantified spec q xs p ((x.name, v) ∷ a)) (carrier_of spec x.sort)
+quantified spec q (x ∷ xs) p a =
+    of_values q (λ v. quantified spec q xs p ((x.name, v) ∷ a)) (carrier_of spec x.sort)
 
 -- ---- operators
 
@@ -118,7 +120,8 @@ abbrev mutual
   value spec a (Term.Negative x) = neg_ℤ (value spec a x)
   value spec a (Term.Binary o x y) = binary o (value spec a x) (value spec a y)
   value spec a (Term.Apply f xs) = function_value spec f (values spec a xs)
-  value spec a (Term.Quantified q xs x) = of_bool (quantified spec q xs (λ b. is_true (value spec b x)) a)
+  value spec a (Term.Quantified q xs x) =
+      of_bool (quantified spec q xs (λ b. is_true (value spec b x)) a)
 
   pub values : Spec → Assignment → Terms → Tuple
   values spec a Terms.NoTerms = []

@@ -1,5 +1,6 @@
--- The grammar of data terms, and of what formulas have in common with them: the upper levels (for which see
--- `Connected` of the grammar's words), quantifiers, variables and arguments. One production for each row.
+-- The grammar of data terms, and of what formulas have in common with them: the upper levels (for
+-- which see `Connected` of the grammar's words), quantifiers, variables and arguments. One
+-- production for each row.
 use Rattle.std.specs.Prelude.{◌≡◌, ℕ, zero, suc, true, false, List, [], ◌∷◌, map, flat_map}
 use Rattle.std.specs.Str.Parse.{digits_value}
 use Rattle.pb_text_tree.specs.declared.place.Place.{Place}
@@ -43,7 +44,8 @@ Binding bound Body = do
   body ← Body
   Is (bound variables body)
 
-abbrev pub QuantifiedBy : {X : Type 0} → (Quantifier → Place → List VariableForm → X → X) → Reads X → Kind → Reads X
+abbrev pub QuantifiedBy : {X : Type 0} → (Quantifier → Place → List VariableForm → X → X) → Reads X
+    → Kind → Reads X
 QuantifiedBy quantified Body k.Forall = do
   word ← One k.Forall
   Binding (quantified Forall word.place) Body
@@ -53,7 +55,8 @@ QuantifiedBy quantified Body k.Exists = do
 QuantifiedBy quantified Body _ = Nothing
 
 -- a quantifier with its variables, over its body
-abbrev pub Quantified : {X : Type 0} → (Quantifier → Place → List VariableForm → X → X) → Reads X → Reads X
+abbrev pub Quantified : {X : Type 0} → (Quantifier → Place → List VariableForm → X → X) → Reads X
+    → Reads X
 Quantified quantified Body = First (QuantifiedBy quantified Body)
 
 -- ---- names with arguments
@@ -138,7 +141,9 @@ Equated Unary = Comparison is_equality compared_by (Ordered Unary)
 
 -- The connectives, at whose right end a quantifier over Body may stand.
 abbrev pub Connections : Reads TermForm → Reads TermForm → Reads TermForm
-Connections Unary Body = Connected (connected_by TermForm.connected) (Equated Unary) (Quantified TermForm.quantified Body)
+Connections Unary Body =
+    Connected (connected_by TermForm.connected) (Equated Unary)
+    (Quantified TermForm.quantified Body)
 
 -- So many levels may open: each sign, bracket and quantifier opens one.
 abbrev mutual

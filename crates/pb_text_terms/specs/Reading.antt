@@ -61,11 +61,14 @@ quantifier_of k.Exists = Some Exists
 quantifier_of _ = None
 
 -- The first step takes a token that opens a level.
-abbrev pub quantified_by : {X : Type 0} → (Quantifier → Place → List VariableForm → X → X) → Step Tok → Step X → Option Quantifier → Step X
+abbrev pub quantified_by : {X : Type 0} → (Quantifier → Place → List VariableForm → X → X)
+    → Step Tok → Step X → Option Quantifier → Step X
 quantified_by quantified enter body None = refuse Unexpected
-quantified_by quantified enter body (Some q) = enter >>= (λ word. binding (quantified q word.place) body)
+quantified_by quantified enter body (Some q) =
+    enter >>= (λ word. binding (quantified q word.place) body)
 
-abbrev pub quantified : {X : Type 0} → (Quantifier → Place → List VariableForm → X → X) → Step Tok → Step X → Step X
+abbrev pub quantified : {X : Type 0} → (Quantifier → Place → List VariableForm → X → X) → Step Tok
+    → Step X → Step X
 quantified made enter body = peek >>= (λ kind. quantified_by made enter body (quantifier_of kind))
 
 -- ---- names with arguments
@@ -95,7 +98,9 @@ arguments enter term = do
 abbrev pub instance_of : Step Tok → Step TermForm → Step InstanceForm
 instance_of enter term = extended is_open
     (name >>= (λ found. pure (record { name = found; arguments = no_arguments })))
-    (λ alone. unless_next is_open (arguments enter term >>= (λ found. pure (record { name = alone.name; arguments = found }))))
+    (λ alone.
+    unless_next is_open
+    (arguments enter term >>= (λ found. pure (record { name = alone.name; arguments = found }))))
 
 -- ---- data terms
 
@@ -122,10 +127,12 @@ begun enter unary term k.Open = do
   inner ← term
   close_bracket ← expect k.Close
   closed inner
-begun enter unary term k.Number = take_token >>= (λ token. closed (TermForm.number token.place (digits_value 10 token.text)))
+begun enter unary term k.Number =
+    take_token >>= (λ token. closed (TermForm.number token.place (digits_value 10 token.text)))
 begun enter unary term k.True = truth true
 begun enter unary term k.False = truth false
-begun enter unary term k.Name = instance_of enter term >>= (λ found. pure (applied found.name found.arguments))
+begun enter unary term k.Name =
+    instance_of enter term >>= (λ found. pure (applied found.name found.arguments))
 begun enter unary term _ = refuse Unexpected
 
 -- which operators may stand in one chain
@@ -142,7 +149,9 @@ operation operators item = do
   pure (arithmetic_of sign.kind, sign.place, operand)
 
 abbrev pub operations : Operators → Step TermForm → Step (List (Arithmetic × Place × TermForm))
-operations operators item = λ s. listed (operation operators item) (is_among operators) nothing_between (suc (length s.tokens)) s
+operations operators item =
+    λ s. listed (operation operators item) (is_among operators) nothing_between
+    (suc (length s.tokens)) s
 
 unfoldable pub product : Step TermForm → Step TermForm
 product unary = unmixed_chain is_times is_division computed_by unary
@@ -164,7 +173,8 @@ equated unary = comparison is_equality compared_by (ordered unary)
 
 -- One expression, or a quantifier over a body. The first step takes a token that opens a level.
 abbrev pub lowest_over : Step Tok → Step TermForm → Step TermForm → Step TermForm
-lowest_over enter unary body = either is_quantifier (equated unary) (quantified TermForm.quantified enter body)
+lowest_over enter unary body =
+    either is_quantifier (equated unary) (quantified TermForm.quantified enter body)
 
 -- what a chain of the connective is made of, over what `&&` connects
 abbrev pub operand : {X : Type 0} → (Connective → Place → X → X → X) → Connective → Step X → Step X
@@ -173,7 +183,9 @@ operand make Or node = conjunction (connected_by make) node
 operand make Implies node = disjunction (connected_by make) node
 
 abbrev pub level : {X : Type 0} → (Connective → Place → X → X → X) → Connective → Step X → Step X
-level make c node = λ s. chain (symbol c) (λ x t y. make c t.place x y) (operand make c node) (suc (length s.tokens)) s
+level make c node =
+    λ s. chain
+    (symbol c) (λ x t y. make c t.place x y) (operand make c node) (suc (length s.tokens)) s
 
 -- what a token begins, where a level may open and where none may
 abbrev pub unary_over : Step Tok → Step TermForm → Step TermForm → Step TermForm
@@ -183,11 +195,17 @@ unary_over enter unary term = peek >>= begun enter unary term
 abbrev mutual
   pub unary : ℕ → Step TermForm
   unary zero = unary_over (refuse Limit) (refuse Limit) (refuse Limit)
-  unary (suc depth) = unary_over take_token (unary depth) (level TermForm.connected Implies (lowest depth))
+  unary (suc depth) =
+      unary_over take_token (unary depth) (level TermForm.connected Implies (lowest depth))
 
   pub lowest : ℕ → Step TermForm
-  lowest zero = lowest_over (refuse Limit) (unary_over (refuse Limit) (refuse Limit) (refuse Limit)) (refuse Limit)
-  lowest (suc depth) = lowest_over take_token (unary_over take_token (unary depth) (level TermForm.connected Implies (lowest depth))) (level TermForm.connected Implies (lowest depth))
+  lowest zero =
+      lowest_over (refuse Limit) (unary_over (refuse Limit) (refuse Limit) (refuse Limit))
+      (refuse Limit)
+  lowest (suc depth) =
+      lowest_over take_token
+      (unary_over take_token (unary depth) (level TermForm.connected Implies (lowest depth)))
+      (level TermForm.connected Implies (lowest depth))
 
 abbrev pub term : ℕ → Step TermForm
 term depth = level TermForm.connected Implies (lowest depth)

@@ -1,5 +1,5 @@
--- What a syntax tree says, without boxes and vectors. A chain of operators is folded to nested binary nodes, and
--- each variable stands with its sort.
+-- What a syntax tree says, without boxes and vectors. A chain of operators is folded to nested
+-- binary nodes, and each variable stands with its sort.
 use Rattle.std.specs.Prelude.{ℕ, ℤ, Bool, List, [], ◌∷◌, map, flat_map, string_bytes, Option, Some, None}
 use Rattle.pb_fixpoint.specs.declared.Sign.{Sign}
 use Rattle.pb_text_tree.specs.declared.place.Place.{Place}
@@ -38,7 +38,8 @@ pub record VariableForm : Type 0 where
 
 -- ---- data terms
 
--- The place of a binary node is that of its operator, the place of a quantified one that of its quantifier.
+-- The place of a binary node is that of its operator, the place of a quantified one that of its
+-- quantifier.
 mutual
   pub data TermForm : Type 0 where
     constant : Place → Bool → TermForm
@@ -116,7 +117,8 @@ chained join first (link ∷ links) = join link.0 first (chained join link.1 lin
 -- operands of arithmetic, read to the left: ((first o operand) o operand) ..
 abbrev pub calculated : TermForm → List (Arithmetic × Place × TermForm) → TermForm
 calculated first [] = first
-calculated first ((o, place, operand) ∷ links) = calculated (TermForm.computed o place first operand) links
+calculated first ((o, place, operand) ∷ links) =
+    calculated (TermForm.computed o place first operand) links
 
 -- ---- what the parts of a tree say
 
@@ -125,7 +127,8 @@ named n = record { place = n.place; text = string_bytes n.text }
 
 -- variables, each with its sort
 abbrev pub variables_form : declared_variables.Variables → List VariableForm
-variables_form group = map (λ n. record { name = named n; sort = named group.sort }) group.names.items
+variables_form group =
+    map (λ n. record { name = named n; sort = named group.sort }) group.names.items
 
 abbrev pub variable_forms : List declared_variables.Variables → List VariableForm
 variable_forms groups = flat_map variables_form groups
@@ -137,23 +140,31 @@ abbrev mutual
   term_form (term.Name n) = TermForm.name (named n)
   term_form (term.Not' place p operand) = TermForm.not place (term_form operand)
   term_form (term.Negative' place p operand) = TermForm.negative place (term_form operand)
-  term_form (term.Chain' connective p first shape row) = chained (TermForm.connected connective) (term_form first) (term_links_in row)
-  term_form (term.Comparison' place comparison p left q right) = TermForm.compared comparison place (term_form left) (term_form right)
-  term_form (term.Arithmetic' p first shape row) = calculated (term_form first) (arithmetic_links_in row)
-  term_form (term.Application' function shape row) = TermForm.application (named function) (arguments_in row)
-  term_form (term.Quantified' place quantifier variables p body) = TermForm.quantified quantifier place (variable_forms variables.items) (term_form body)
+  term_form (term.Chain' connective p first shape row) =
+      chained (TermForm.connected connective) (term_form first) (term_links_in row)
+  term_form (term.Comparison' place comparison p left q right) =
+      TermForm.compared comparison place (term_form left) (term_form right)
+  term_form (term.Arithmetic' p first shape row) =
+      calculated (term_form first) (arithmetic_links_in row)
+  term_form (term.Application' function shape row) =
+      TermForm.application (named function) (arguments_in row)
+  term_form (term.Quantified' place quantifier variables p body) =
+      TermForm.quantified quantifier place (variable_forms variables.items) (term_form body)
 
   pub term_links_in : {m : _} → Row_of-TermLink m → List (Place × TermForm)
   term_links_in end_of-TermLink = []
-  term_links_in (more_of-TermLink place operand row) = (place, term_form operand) ∷ term_links_in row
+  term_links_in (more_of-TermLink place operand row) =
+      (place, term_form operand) ∷ term_links_in row
 
   pub arithmetic_links_in : {m : _} → Row_of-ArithmeticLink m → List (Arithmetic × Place × TermForm)
   arithmetic_links_in end_of-ArithmeticLink = []
-  arithmetic_links_in (more_of-ArithmeticLink place operator operand row) = (operator, place, term_form operand) ∷ arithmetic_links_in row
+  arithmetic_links_in (more_of-ArithmeticLink place operator operand row) =
+      (operator, place, term_form operand) ∷ arithmetic_links_in row
 
   pub arguments_in : {m : _} → Row_of-Argument m → ArgumentForms
   arguments_in end_of-Argument = no_arguments
-  arguments_in (more_of-Argument place operand row) = argument place (term_form operand) (arguments_in row)
+  arguments_in (more_of-Argument place operand row) =
+      argument place (term_form operand) (arguments_in row)
 
 -- the links of a chain, and arguments, as lists
 abbrev pub term_link : TermLink → Place × TermForm
@@ -180,9 +191,12 @@ abbrev mutual
   formula_form (formula.Constant place value) = FormulaForm.constant place value
   formula_form (formula.Value place x) = FormulaForm.val place (term_form x)
   formula_form (formula.Instance i) = FormulaForm.instance (instance_form i)
-  formula_form (formula.Negation' place p operand) = FormulaForm.negation place (formula_form operand)
-  formula_form (formula.Chain' connective p first shape row) = chained (FormulaForm.connected connective) (formula_form first) (links_in row)
-  formula_form (formula.Quantified' place quantifier variables p body) = FormulaForm.quantified quantifier place (variable_forms variables.items) (formula_form body)
+  formula_form (formula.Negation' place p operand) =
+      FormulaForm.negation place (formula_form operand)
+  formula_form (formula.Chain' connective p first shape row) =
+      chained (FormulaForm.connected connective) (formula_form first) (links_in row)
+  formula_form (formula.Quantified' place quantifier variables p body) =
+      FormulaForm.quantified quantifier place (variable_forms variables.items) (formula_form body)
 
   pub links_in : {m : _} → Row_of-Link m → List (Place × FormulaForm)
   links_in end_of-Link = []
@@ -212,7 +226,13 @@ abbrev pub range_form : declared_range.Range → RangeForm
 range_form r = record { place = r.place; name = string_bytes r.name; low = r.low; high = r.high }
 
 abbrev pub equation_form : declared_equation.Equation → EquationForm
-equation_form e = record { sign = e.sign; name = named e.name; parameters = variable_forms e.parameters.items; right = formula_form e.right }
+equation_form e =
+    record {
+      sign = e.sign;
+      name = named e.name;
+      parameters = variable_forms e.parameters.items;
+      right = formula_form e.right;
+    }
 
 abbrev pub spec_form : declared_spec.Spec → SpecForm
 spec_form s = record {

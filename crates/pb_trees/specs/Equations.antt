@@ -1,5 +1,6 @@
--- The equations of a system whose instances have trees, as the solution reads them. Instances are numbered by
--- equation, in order: each equation owns the next numbers, as many as its predicate variable has instances.
+-- The equations of a system whose instances have trees, as the solution reads them. Instances are
+-- numbered by equation, in order: each equation owns the next numbers, as many as its predicate
+-- variable has instances.
 use Rattle.std.specs.Prelude.{ℕ, ◌+◌, List, [], ◌∷◌, ◌&&◌, nat_le, nat_lt}
 use Rattle.pb_fixpoint.specs.declared.Sign.{Sign}
 use Rattle.pb_fixpoint.specs.Solution.{Environment, Equation, empty, solution}
@@ -27,7 +28,8 @@ equation first s trees = record {
 -- the equations whose numbers begin at first
 abbrev pub numbered : ℕ → List Signature → (ℕ → Tree) → List (Equation ℕ)
 numbered first [] trees = []
-numbered first (s ∷ signatures) trees = equation first s trees ∷ numbered (first + s.size) signatures trees
+numbered first (s ∷ signatures) trees =
+    equation first s trees ∷ numbered (first + s.size) signatures trees
 
 -- the instances that are true in the solution of the whole system, nothing being true outside
 abbrev pub solved : List Signature → (ℕ → Tree) → Environment ℕ

@@ -12,13 +12,19 @@ pub record EmptyBrackets : Type 0 where
   pub conjunction : tree_truth empty (Root Conjunction End) ≡ true
   pub disjunction : tree_truth full (Root Disjunction End) ≡ false
 
--- X0 && (false || X1 || cut): its tokens, and its truth where all instances are true and where none is
+-- X0 && (false || X1 || cut): its tokens, and its truth where all instances are true and where none
+-- is
 abbrev pub nested : Tree
-nested = Root Conjunction (LeafThen (Call 0) (BracketThen Disjunction (LeafThen No (LeafThen (Call 1) (LeafThen Cut End))) End))
+nested =
+    Root Conjunction
+    (LeafThen (Call 0)
+    (BracketThen Disjunction (LeafThen No (LeafThen (Call 1) (LeafThen Cut End))) End))
 
 pub record NestedBrackets : Type 0 where
   pub tokens : tree_tokens nested
-      ≡ token.And ∷ (token.Call 0 ∷ (token.Or ∷ (token.No ∷ (token.Call 1 ∷ (token.Cut ∷ (token.Close ∷ (token.Close ∷ [])))))))
+      ≡ token.And
+      ∷ (token.Call 0
+      ∷ (token.Or ∷ (token.No ∷ (token.Call 1 ∷ (token.Cut ∷ (token.Close ∷ (token.Close ∷ [])))))))
   pub of_all : tree_truth full nested ≡ true
   pub of_none : tree_truth empty nested ≡ false
 
@@ -41,5 +47,7 @@ pub record SelfReference : Type 0 where
 
 -- mu X = Y; nu Y = X: the first sign decides
 pub record LeastWithinGreatest : Type 0 where
-  pub least_first : solved (mu 1 ∷ (nu 1 ∷ [])) (tree_at (Single (Call 1) ∷ (Single (Call 0) ∷ []))) 0 ≡ false
-  pub greatest_first : solved (nu 1 ∷ (mu 1 ∷ [])) (tree_at (Single (Call 1) ∷ (Single (Call 0) ∷ []))) 0 ≡ true
+  pub least_first : solved (mu 1 ∷ (nu 1 ∷ [])) (tree_at (Single (Call 1) ∷ (Single (Call 0) ∷ [])))
+      0 ≡ false
+  pub greatest_first : solved (nu 1 ∷ (mu 1 ∷ []))
+      (tree_at (Single (Call 1) ∷ (Single (Call 0) ∷ []))) 0 ≡ true

@@ -1,8 +1,10 @@
--- The max-parity game of an equation system's trees: player 0 wins an infinite play exactly where the greatest priority
--- that occurs infinitely often is even (Zielonka 1998; Mader 1997 for the games of Boolean equation systems).
+-- The max-parity game of an equation system's trees: player 0 wins an infinite play exactly where
+-- the greatest priority that occurs infinitely often is even (Zielonka 1998; Mader 1997 for the
+-- games of Boolean equation systems).
 --
--- Vertex 0 is the false sink, of priority 1, and vertex 1 the true sink, of priority 0. Then comes each reached
--- instance in the order of its rows, followed by the brackets inside its tree in the order in which they open.
+-- Vertex 0 is the false sink, of priority 1, and vertex 1 the true sink, of priority 0. Then comes
+-- each reached instance in the order of its rows, followed by the brackets inside its tree in the
+-- order in which they open.
 use Rattle.std.specs.Prelude.{ℕ, suc, ◌+◌, ◌==◌, nat_lt, List, [], ◌∷◌, ◌++◌, if◌then◌else◌}
 use Rattle.pb_fixpoint.specs.declared.Sign.{Sign}
 use Rattle.pb_fixpoint.specs.declared.Sign.TheVariants.{Mu, Nu}
@@ -10,7 +12,8 @@ use Rattle.pb_trees.specs.Tree.{Connective, Conjunction, Disjunction, Leaf, Yes,
 use Rattle.pb_trees.specs.Equations.{Signature}
 use Rattle.pb_trees.specs.Rows.{Row}
 
--- the player who moves at a vertex, 0 or 1, its priority, and the vertices to which that player can move
+-- the player who moves at a vertex, 0 or 1, its priority, and the vertices to which that player can
+-- move
 pub record Vertex : Type 0 where
   pub owner : ℕ
   pub priority : ℕ
@@ -23,7 +26,8 @@ abbrev pub last_priority : Sign → ℕ
 last_priority Nu = 0
 last_priority Mu = 1
 
--- the priority of an equation of this sign before one of sign s and priority p: each change of sign adds 1
+-- the priority of an equation of this sign before one of sign s and priority p: each change of sign
+-- adds 1
 abbrev pub priority_before : Sign → Sign → ℕ → ℕ
 priority_before Mu Mu p = p
 priority_before Mu Nu p = suc p
@@ -34,13 +38,16 @@ priority_before Nu Nu p = p
 abbrev pub first_priority : List Signature → ℕ
 first_priority [] = 0
 first_priority (s ∷ []) = last_priority s.sign
-first_priority (s ∷ u ∷ signatures) = priority_before s.sign u.sign (first_priority (u ∷ signatures))
+first_priority (s ∷ u ∷ signatures) =
+    priority_before s.sign u.sign (first_priority (u ∷ signatures))
 
--- an instance's priority is that of the equation which owns its number, the numbers beginning at first
+-- an instance's priority is that of the equation which owns its number, the numbers beginning at
+-- first
 abbrev pub priority_from : ℕ → List Signature → ℕ → ℕ
 priority_from first [] n = 0
 priority_from first (s ∷ signatures) n =
-    if nat_lt n (first + s.size) then first_priority (s ∷ signatures) else priority_from (first + s.size) signatures n
+    if nat_lt n (first + s.size) then first_priority (s ∷ signatures)
+    else priority_from (first + s.size) signatures n
 
 -- ---- places of vertices
 
@@ -58,7 +65,8 @@ inner (Root c operands) = brackets operands
 -- the vertex of an instance, where the rows' vertices begin at next
 abbrev pub vertex_from : List Row → ℕ → ℕ → ℕ
 vertex_from [] next n = 0
-vertex_from (row ∷ rows) next n = if row.number == n then next else vertex_from rows (suc (next + inner row.tree)) n
+vertex_from (row ∷ rows) next n =
+    if row.number == n then next else vertex_from rows (suc (next + inner row.tree)) n
 
 abbrev pub vertex_of : List Row → ℕ → ℕ
 vertex_of rows n = vertex_from rows 2 n
@@ -76,19 +84,22 @@ target at (Call n) = at n
 abbrev pub targets : (ℕ → ℕ) → Operands → ℕ → List ℕ
 targets at End next = []
 targets at (LeafThen leaf after) next = target at leaf ∷ targets at after next
-targets at (BracketThen c inside after) next = next ∷ targets at after (suc (next + brackets inside))
+targets at (BracketThen c inside after) next =
+    next ∷ targets at after (suc (next + brackets inside))
 
 -- a rising list with one number more, each once
 abbrev pub with_number : ℕ → List ℕ → List ℕ
 with_number n [] = n ∷ []
-with_number n (x ∷ xs) = if nat_lt n x then n ∷ (x ∷ xs) else (if n == x then x ∷ xs else x ∷ with_number n xs)
+with_number n (x ∷ xs) =
+    if nat_lt n x then n ∷ (x ∷ xs) else (if n == x then x ∷ xs else x ∷ with_number n xs)
 
 -- the numbers of a list, rising, each once
 abbrev pub rising : List ℕ → List ℕ
 rising [] = []
 rising (x ∷ xs) = with_number x (rising xs)
 
--- where a bracket without operands leads: a conjunction to the true sink, a disjunction to the false one
+-- where a bracket without operands leads: a conjunction to the true sink, a disjunction to the
+-- false one
 abbrev pub sink_of : Connective → ℕ
 sink_of Conjunction = 1
 sink_of Disjunction = 0
@@ -111,24 +122,34 @@ owner_of Disjunction = 0
 
 abbrev pub bracket_vertex : (ℕ → ℕ) → ℕ → Connective → Operands → ℕ → Vertex
 bracket_vertex at priority c operands next =
-    record { owner = owner_of c; priority = priority; successors = bracket_successors at c operands next }
+    record {
+      owner = owner_of c;
+      priority = priority;
+      successors = bracket_successors at c operands next;
+    }
 
 -- the vertices of brackets inside a tree, which have priority 0
 abbrev pub inner_vertices : (ℕ → ℕ) → Operands → ℕ → List Vertex
 inner_vertices at End next = []
 inner_vertices at (LeafThen leaf after) next = inner_vertices at after next
 inner_vertices at (BracketThen c inside after) next =
-    bracket_vertex at 0 c inside (suc next) ∷ (inner_vertices at inside (suc next) ++ inner_vertices at after (suc (next + brackets inside)))
+    bracket_vertex at 0 c inside (suc next)
+    ∷ (inner_vertices at inside (suc next)
+    ++ inner_vertices at after (suc (next + brackets inside)))
 
--- an instance's vertex, which stands at next, and those of the brackets inside its tree; a tree of one leaf is player 0's
+-- an instance's vertex, which stands at next, and those of the brackets inside its tree; a tree of
+-- one leaf is player 0's
 abbrev pub tree_vertices : (ℕ → ℕ) → ℕ → Tree → ℕ → List Vertex
-tree_vertices at priority (Single leaf) next = record { owner = 0; priority = priority; successors = target at leaf ∷ [] } ∷ []
-tree_vertices at priority (Root c operands) next = bracket_vertex at priority c operands (suc next) ∷ inner_vertices at operands (suc next)
+tree_vertices at priority (Single leaf) next =
+    record { owner = 0; priority = priority; successors = target at leaf ∷ [] } ∷ []
+tree_vertices at priority (Root c operands) next =
+    bracket_vertex at priority c operands (suc next) ∷ inner_vertices at operands (suc next)
 
 abbrev pub row_vertices : (ℕ → ℕ) → (ℕ → ℕ) → List Row → ℕ → List Vertex
 row_vertices at priority [] next = []
 row_vertices at priority (row ∷ rows) next =
-    tree_vertices at (priority row.number) row.tree next ++ row_vertices at priority rows (suc (next + inner row.tree))
+    tree_vertices at (priority row.number) row.tree next
+    ++ row_vertices at priority rows (suc (next + inner row.tree))
 
 abbrev pub false_sink : Vertex
 false_sink = record { owner = 0; priority = 1; successors = 0 ∷ [] }

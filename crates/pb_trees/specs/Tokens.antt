@@ -17,7 +17,8 @@ leaf_token (Call n) = token.Call n
 abbrev pub operands_tokens : Operands → List Token
 operands_tokens End = []
 operands_tokens (LeafThen leaf after) = leaf_token leaf ∷ operands_tokens after
-operands_tokens (BracketThen c inside after) = opening c ∷ (operands_tokens inside ++ token.Close ∷ operands_tokens after)
+operands_tokens (BracketThen c inside after) =
+    opening c ∷ (operands_tokens inside ++ token.Close ∷ operands_tokens after)
 
 abbrev pub tree_tokens : Tree → List Token
 tree_tokens (Single leaf) = leaf_token leaf ∷ []

@@ -1,5 +1,6 @@
--- And/or trees of the instances of predicate variables, and their truth under an environment: the right side of an
--- equation at one instance, with all data evaluated (Groote and Willemse 2005). An instance is named by its number.
+-- And/or trees of the instances of predicate variables, and their truth under an environment: the
+-- right side of an equation at one instance, with all data evaluated (Groote and Willemse 2005). An
+-- instance is named by its number.
 use Rattle.std.specs.Prelude.{ℕ, Bool, true, false, ◌&&◌, ◌||◌}
 use Rattle.pb_fixpoint.specs.Solution.{Environment}
 
@@ -8,8 +9,8 @@ pub data Connective : Type 0 where
   Conjunction : Connective
   Disjunction : Connective
 
--- Yes is true and No is false. Cut is a call with an argument outside its parameter's carrier, which counts as false.
--- Call is true where its instance is in the environment.
+-- Yes is true and No is false. Cut is a call with an argument outside its parameter's carrier,
+-- which counts as false. Call is true where its instance is in the environment.
 pub data Leaf : Type 0 where
   Yes : Leaf
   No : Leaf
@@ -45,7 +46,8 @@ of_none Disjunction = false
 abbrev pub operands_truth : Environment ℕ → Connective → Operands → Bool
 operands_truth t c End = of_none c
 operands_truth t c (LeafThen leaf after) = joined c (leaf_truth t leaf) (operands_truth t c after)
-operands_truth t c (BracketThen d inside after) = joined c (operands_truth t d inside) (operands_truth t c after)
+operands_truth t c (BracketThen d inside after) =
+    joined c (operands_truth t d inside) (operands_truth t c after)
 
 abbrev pub tree_truth : Environment ℕ → Tree → Bool
 tree_truth t (Single leaf) = leaf_truth t leaf

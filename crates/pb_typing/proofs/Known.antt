@@ -107,7 +107,6 @@ called_there spec scope es X h = by_place (equation_place spec X) refl
         let named = λ (Y : Equation). same_name Y.name X in
         absurd (subst (IsCalled spec scope es) (found_nowhere named spec.equations (no_position named spec.equations e)) h)
 
-
 expanded-known : (spec : Spec) → IsDeclared spec → (even : Bool) (scope : Scope) (f : Formula) → HasAssignment scope → IsProper spec even scope f → IsKnownIn spec scope (expanded f)
 expanded-known spec d even scope (Formula.Truth b) p h = tt
 expanded-known spec d even scope (Formula.Val x) p h = expanded-term-known spec true scope x h.0

@@ -37,7 +37,9 @@ name_faults spec None x = unknown_faults spec x
 name_faults spec (Some s) x = unless (is_limited s) rule.LargeInterval x.place
 
 abbrev pub negative_faults : Shape → Place → List TypingFault
-negative_faults s p = unless (may_be_whole s) rule.WrongKind p ++ unless (unary_is_limited Negation s) rule.LargeInterval p
+negative_faults s p =
+    unless (may_be_whole s) rule.WrongKind p
+    ++ unless (unary_is_limited Negation s) rule.LargeInterval p
 
 abbrev pub operator_faults : OperatorKind → Shape → Shape → Place → List TypingFault
 operator_faults o s t p =
@@ -47,7 +49,8 @@ operator_faults o s t p =
 
 -- arguments of the wrong kinds, or an interval beyond the limits, at the function's name
 abbrev pub kind_faults : Function → List Shape → Place → List TypingFault
-kind_faults g ss p = unless (takes g ss) rule.WrongKind p ++ unless (result_is_limited g ss) rule.LargeInterval p
+kind_faults g ss p =
+    unless (takes g ss) rule.WrongKind p ++ unless (result_is_limited g ss) rule.LargeInterval p
 
 abbrev pub function_faults : Spec → Option Function → List Shape → Named → List TypingFault
 function_faults spec None ss f = unknown_faults spec f
@@ -58,10 +61,13 @@ function_faults spec (Some g) ss f =
 abbrev mutual
   pub term_faults : Spec → Bool → Scope → TermForm → List TypingFault
   term_faults spec stands scope (TermForm.constant p b) = []
-  term_faults spec stands scope (TermForm.number p n) = unless (is_within (singleton (pos n)) literals) rule.LargeInterval p
-  term_faults spec stands scope (TermForm.name x) = name_faults spec (named_shape spec scope x.text) x
+  term_faults spec stands scope (TermForm.number p n) =
+      unless (is_within (singleton (pos n)) literals) rule.LargeInterval p
+  term_faults spec stands scope (TermForm.name x) =
+      name_faults spec (named_shape spec scope x.text) x
   term_faults spec stands scope (TermForm.not p x) =
-      term_faults spec stands scope x ++ unless (may_be_truth (shape spec scope (erased_term x))) rule.WrongKind p
+      term_faults spec stands scope x
+      ++ unless (may_be_truth (shape spec scope (erased_term x))) rule.WrongKind p
   term_faults spec stands scope (TermForm.negative p x) =
       term_faults spec false scope x ++ negative_faults (shape spec scope (erased_term x)) p
   term_faults spec stands scope (TermForm.connected c p x y) =
@@ -72,53 +78,68 @@ abbrev mutual
   term_faults spec stands scope (TermForm.compared c p x y) =
       term_faults spec false scope x
       ++ (term_faults spec false scope y
-      ++ operator_faults (kind_of (of_comparison c)) (shape spec scope (erased_term x)) (shape spec scope (erased_term y)) p)
+      ++ operator_faults (kind_of (of_comparison c)) (shape spec scope (erased_term x))
+      (shape spec scope (erased_term y)) p)
   term_faults spec stands scope (TermForm.computed o p x y) =
       term_faults spec false scope x
       ++ (term_faults spec false scope y
-      ++ operator_faults (kind_of (of_arithmetic o)) (shape spec scope (erased_term x)) (shape spec scope (erased_term y)) p)
+      ++ operator_faults (kind_of (of_arithmetic o)) (shape spec scope (erased_term x))
+      (shape spec scope (erased_term y)) p)
   term_faults spec stands scope (TermForm.application f xs) =
-      terms_faults spec scope xs ++ function_faults spec (function_named spec f.text) (shapes spec scope (erased_arguments xs)) f
+      terms_faults spec scope xs
+      ++ function_faults spec (function_named spec f.text) (shapes spec scope (erased_arguments xs))
+      f
   term_faults spec stands scope (TermForm.quantified q p xs x) =
       unless stands rule.QuantifierInData p
       ++ (variables_faults spec xs
       ++ (term_faults spec stands (bound spec (erased_variables xs) scope) x
-      ++ unless (may_be_truth (shape spec (bound spec (erased_variables xs) scope) (erased_term x))) rule.WrongKind p))
+      ++ unless (may_be_truth (shape spec (bound spec (erased_variables xs) scope) (erased_term x)))
+      rule.WrongKind p))
 
   -- arguments, where no quantifier may stand
   pub terms_faults : Spec → Scope → ArgumentForms → List TypingFault
   terms_faults spec scope no_arguments = []
-  terms_faults spec scope (argument p x xs) = term_faults spec false scope x ++ terms_faults spec scope xs
+  terms_faults spec scope (argument p x xs) =
+      term_faults spec false scope x ++ terms_faults spec scope xs
 
 -- ---- formulas
 
 -- arguments against parameters
 abbrev pub argument_faults : Spec → Scope → ArgumentForms → List Variable → List TypingFault
 argument_faults spec scope no_arguments xs = []
-argument_faults spec scope (argument p e es) [] = term_faults spec false scope e ++ argument_faults spec scope es []
+argument_faults spec scope (argument p e es) [] =
+    term_faults spec false scope e ++ argument_faults spec scope es []
 argument_faults spec scope (argument p e es) (x ∷ xs) =
     term_faults spec false scope e
-    ++ (unless (may_be_alike (shape spec scope (erased_term e)) (sort_shape spec x.sort)) rule.WrongKind p
+    ++ (unless (may_be_alike (shape spec scope (erased_term e)) (sort_shape spec x.sort))
+    rule.WrongKind p
     ++ argument_faults spec scope es xs)
 
--- a predicate variable that is declared stands under an even number of negations, and has its arguments; one that isn't is only unknown
-abbrev pub called_faults : Spec → Bool → Scope → ArgumentForms → Option Equation → Place → List TypingFault
-called_faults spec even scope es None p = unless false rule.UnknownName p ++ argument_faults spec scope es []
+-- a predicate variable that is declared stands under an even number of negations, and has its
+-- arguments; one that isn't is only unknown
+abbrev pub called_faults : Spec → Bool → Scope → ArgumentForms → Option Equation → Place
+    → List TypingFault
+called_faults spec even scope es None p =
+    unless false rule.UnknownName p ++ argument_faults spec scope es []
 called_faults spec even scope es (Some X) p =
     unless even rule.OddNegations p
-    ++ (unless (count (erased_arguments es) == length X.parameters) rule.WrongCount p ++ argument_faults spec scope es X.parameters)
+    ++ (unless (count (erased_arguments es) == length X.parameters) rule.WrongCount p
+    ++ argument_faults spec scope es X.parameters)
 
 abbrev pub instance_faults : Spec → Bool → Scope → InstanceForm → List TypingFault
 instance_faults spec even scope i =
-    called_faults spec even scope i.arguments (equation_named spec.equations i.name.text) i.name.place
+    called_faults spec even scope i.arguments (equation_named spec.equations i.name.text)
+    i.name.place
 
--- whether the negations around a left operand are even in number: the left side of => counts as negated
+-- whether the negations around a left operand are even in number: the left side of => counts as
+-- negated
 abbrev pub left_parity : Connective → Bool → Bool
 left_parity And even = even
 left_parity Or even = even
 left_parity Implies even = not even
 
--- the same of an operand in a chain that is read to the right, where so many operands stand behind it
+-- the same of an operand in a chain that is read to the right, where so many operands stand behind
+-- it
 abbrev pub operand_parity : Connective → Bool → ℕ → Bool
 operand_parity c even zero = even
 operand_parity c even (suc behind) = left_parity c even
@@ -127,7 +148,8 @@ operand_parity c even (suc behind) = left_parity c even
 abbrev pub formula_faults : Spec → Bool → Scope → FormulaForm → List TypingFault
 formula_faults spec even scope (FormulaForm.constant p b) = []
 formula_faults spec even scope (FormulaForm.val p x) =
-    term_faults spec true scope x ++ unless (may_be_truth (shape spec scope (erased_term x))) rule.WrongKind p
+    term_faults spec true scope x
+    ++ unless (may_be_truth (shape spec scope (erased_term x))) rule.WrongKind p
 formula_faults spec even scope (FormulaForm.instance i) = instance_faults spec even scope i
 formula_faults spec even scope (FormulaForm.negation p f) = formula_faults spec (not even) scope f
 formula_faults spec even scope (FormulaForm.connected c p f g) =
@@ -140,9 +162,11 @@ formula_faults spec even scope (FormulaForm.quantified q p xs f) =
 abbrev pub right_faults : Spec → List EquationForm → List TypingFault
 right_faults spec [] = []
 right_faults spec (X ∷ E) =
-    formula_faults spec true (bound spec (erased_variables X.parameters) outermost) X.right ++ right_faults spec E
+    formula_faults spec true (bound spec (erased_variables X.parameters) outermost) X.right
+    ++ right_faults spec E
 
--- Whether a parameter may have a value. A sort without values fails by itself, and has no carrier that a value is outside of.
+-- Whether a parameter may have a value. A sort without values fails by itself, and has no carrier
+-- that a value is outside of.
 abbrev pub may_have : Carrier → Value → Bool
 may_have [] v = true
 may_have (w ∷ ws) v = contains (w ∷ ws) v
@@ -152,7 +176,8 @@ abbrev pub value_faults : Spec → ArgumentForms → List Variable → List Typi
 value_faults spec no_arguments xs = []
 value_faults spec (argument p e es) [] = []
 value_faults spec (argument p e es) (x ∷ xs) =
-    unless (may_have (carrier_of spec x.sort) (value spec [] (erased_term e))) rule.OutsideCarrier p ++ value_faults spec es xs
+    unless (may_have (carrier_of spec x.sort) (value spec [] (erased_term e))) rule.OutsideCarrier p
+    ++ value_faults spec es xs
 
 abbrev pub parameters_named : Option Equation → List Variable
 parameters_named None = []
@@ -172,4 +197,5 @@ initial_faults spec i =
 -- all faults of a text: of its declarations, of its right sides and of its initial instance
 abbrev pub faults : SpecForm → List TypingFault
 faults text =
-    declaration_faults text ++ (right_faults (erase text) text.equations ++ initial_faults (erase text) text.initial)
+    declaration_faults text
+    ++ (right_faults (erase text) text.equations ++ initial_faults (erase text) text.initial)

@@ -1,4 +1,5 @@
--- The named functions of data: how many arguments of which kinds each takes, and the shape of what it gives.
+-- The named functions of data: how many arguments of which kinds each takes, and the shape of what
+-- it gives.
 use Rattle.std.specs.Prelude.{ℕ, Bool, true, ◌&&◌, List, [], ◌∷◌, Option, Some, None}
 use Rattle.pb_text_meaning.specs.Syntax.{Name, Spec}
 use Rattle.pb_text_meaning.specs.declared.function.NamedFunction.{NamedFunction}
@@ -11,8 +12,8 @@ use Rattle.pb_typing_declarations.specs.Shapes.{Shape, Unknown, Truths, Wholes}
 use Rattle.pb_typing_declarations.specs.Enumerators.{recogniser_shape}
 use Rattle.pb_typing_rules.specs.Shapes.{may_be_truth, may_be_whole, may_be_alike, hull, unary_shape, unary_is_limited, binary_shape, binary_is_limited}
 
--- a choice between two, an operation on one or two whole numbers, a conversion, which keeps its number, and the
--- recogniser of an enumerator whose struct has this shape
+-- a choice between two, an operation on one or two whole numbers, a conversion, which keeps its
+-- number, and the recogniser of an enumerator whose struct has this shape
 pub data Function : Type 0 where
   Choice Conversion : Function
   OfOne : UnaryOperation → Function

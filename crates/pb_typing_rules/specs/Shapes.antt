@@ -1,5 +1,5 @@
--- What the kinds and intervals of operands allow, and what they make of an operation. A part of unknown shape has a
--- fault of its own, and so it passes each test.
+-- What the kinds and intervals of operands allow, and what they make of an operation. A part of
+-- unknown shape has a fault of its own, and so it passes each test.
 use Rattle.std.specs.Prelude.{ℕ, ℤ, pos, ◌-ℤ◌, int_le, Bool, true, false, not, ◌==◌, ◌&&◌, ◌||◌, if◌then◌else◌, Option, Some, None, max}
 use Rattle.pb_text_meaning.specs.Syntax.{Operator}
 use Rattle.pb_intervals.specs.Interval as intervals
@@ -89,17 +89,21 @@ may_divide o _ = true
 
 abbrev pub binary_shape : BinaryOperation → Shape → Shape → Shape
 binary_shape o (Wholes l h) (Wholes m k) =
-    if may_divide o (Wholes m k) then of_interval (within literals (binary_interval o (interval l h) (interval m k))) else Unknown
+    if may_divide o (Wholes m k)
+    then of_interval (within literals (binary_interval o (interval l h) (interval m k)))
+    else Unknown
 binary_shape o _ _ = Unknown
 
 abbrev pub binary_is_limited : BinaryOperation → Shape → Shape → Bool
 binary_is_limited o (Wholes l h) (Wholes m k) =
-    not (may_divide o (Wholes m k)) || is_within (binary_interval o (interval l h) (interval m k)) literals
+    not (may_divide o (Wholes m k))
+    || is_within (binary_interval o (interval l h) (interval m k)) literals
 binary_is_limited o _ _ = true
 
 -- ---- operators
 
--- what an operator takes: two Booleans, two of one kind, two whole numbers to compare or two to compute with
+-- what an operator takes: two Booleans, two of one kind, two whole numbers to compare or two to
+-- compute with
 pub data OperatorKind : Type 0 where
   OfTruths OfAlike OfWholes : OperatorKind
   Computed : BinaryOperation → OperatorKind

@@ -27,7 +27,8 @@ abbrev mutual
   shape spec scope (Term.Named x) = shape_or_unknown (named_shape spec scope x)
   shape spec scope (Term.Not x) = Truths
   shape spec scope (Term.Negative x) = unary_shape Negation (shape spec scope x)
-  shape spec scope (Term.Binary o x y) = outcome (kind_of o) (shape spec scope x) (shape spec scope y)
+  shape spec scope (Term.Binary o x y) =
+      outcome (kind_of o) (shape spec scope x) (shape spec scope y)
   shape spec scope (Term.Apply f xs) = applied_shape (function_named spec f) (shapes spec scope xs)
   shape spec scope (Term.Quantified q xs x) = Truths
 
@@ -37,7 +38,8 @@ abbrev mutual
 
 -- ---- well typed
 
--- whether a quantifier may stand in the operands, where `stands` says whether one may stand at the operator
+-- whether a quantifier may stand in the operands, where `stands` says whether one may stand at the
+-- operator
 abbrev pub passes : OperatorKind → Bool → Bool
 passes OfTruths stands = stands
 passes OfAlike stands = false
@@ -52,18 +54,22 @@ IsNamed (Some s) = is_limited s ≡ true
 -- a function that is there, with as many arguments as it takes, of the kinds that it takes
 abbrev pub IsApplied : Option Function → List Shape → Type 0
 IsApplied None ss = ⊥
-IsApplied (Some f) ss = (length ss ≡ arity f) × (takes f ss ≡ true) × (result_is_limited f ss ≡ true)
+IsApplied (Some f) ss =
+    (length ss ≡ arity f) × (takes f ss ≡ true) × (result_is_limited f ss ≡ true)
 
 abbrev pub IsOperation : OperatorKind → Shape → Shape → Type 0
-IsOperation o s t = (accepts o s t ≡ true) × (divisor_is_positive o t ≡ true) × (outcome_is_limited o s t ≡ true)
+IsOperation o s t =
+    (accepts o s t ≡ true) × (divisor_is_positive o t ≡ true) × (outcome_is_limited o s t ≡ true)
 
--- `stands` says whether a quantifier may stand here: below nothing but !, &&, ||, => and other quantifiers
+-- `stands` says whether a quantifier may stand here: below nothing but !, &&, ||, => and other
+-- quantifiers
 abbrev mutual
   pub IsTyped : Spec → Bool → Scope → Term → Type 0
   IsTyped spec stands scope (Term.Truth b) = ⊤
   IsTyped spec stands scope (Term.Number n) = is_within (singleton (pos n)) literals ≡ true
   IsTyped spec stands scope (Term.Named x) = IsNamed (named_shape spec scope x)
-  IsTyped spec stands scope (Term.Not x) = IsTyped spec stands scope x × (may_be_truth (shape spec scope x) ≡ true)
+  IsTyped spec stands scope (Term.Not x) =
+      IsTyped spec stands scope x × (may_be_truth (shape spec scope x) ≡ true)
   IsTyped spec stands scope (Term.Negative x) =
       IsTyped spec false scope x
       × (may_be_whole (shape spec scope x) ≡ true)
@@ -72,7 +78,8 @@ abbrev mutual
       IsTyped spec (passes (kind_of o) stands) scope x
       × IsTyped spec (passes (kind_of o) stands) scope y
       × IsOperation (kind_of o) (shape spec scope x) (shape spec scope y)
-  IsTyped spec stands scope (Term.Apply f xs) = AreTyped spec scope xs × IsApplied (function_named spec f) (shapes spec scope xs)
+  IsTyped spec stands scope (Term.Apply f xs) =
+      AreTyped spec scope xs × IsApplied (function_named spec f) (shapes spec scope xs)
   IsTyped spec stands scope (Term.Quantified q xs x) =
       (stands ≡ true)
       × AreVariables spec xs

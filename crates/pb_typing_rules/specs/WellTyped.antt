@@ -16,10 +16,11 @@ abbrev pub AreProper : Spec → List Equation → Type 0
 AreProper spec [] = ⊤
 AreProper spec (X ∷ E) = IsProper spec true (parameters_of spec X) X.right × AreProper spec E
 
--- Declarations are as they must be, right sides are well typed and positive, and so is the initial instance, whose values
--- are in their parameters' carriers.
+-- Declarations are as they must be, right sides are well typed and positive, and so is the initial
+-- instance, whose values are in their parameters' carriers.
 pub record IsWellTyped (spec : Spec) : Type 0 where
   pub declarations : IsDeclared spec
   pub rights : AreProper spec spec.equations
   pub initial : IsProper spec true outermost (Formula.Call spec.initial spec.arguments)
-  pub values : is_instance spec (record { name = spec.initial; values = values spec [] spec.arguments }) ≡ true
+  pub values : is_instance spec
+      (record { name = spec.initial; values = values spec [] spec.arguments }) ≡ true

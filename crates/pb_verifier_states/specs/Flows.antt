@@ -11,7 +11,9 @@ use Rattle.pb_bytecode_program.specs.declared.instruction.Op.TheVariants as op
 
 -- control goes on to the next place alone, with the second state
 abbrev pub GoesOn : Op → AbstractState → AbstractState → Type 0
-GoesOn i k next = (p : Program) (home : Option AbstractState) (q : ℕ) → transfer p home q i k ≡ to_next_place q next
+GoesOn i k next =
+    (p : Program) (home : Option AbstractState) (q : ℕ)
+    → transfer p home q i k ≡ to_next_place q next
 
 -- the instruction's rule fails
 abbrev pub Fails : Op → AbstractState → Type 0
@@ -19,11 +21,14 @@ Fails i k = (p : Program) (home : Option AbstractState) (q : ℕ) → transfer p
 
 -- the rule is the one that is named where the instruction is refused
 abbrev pub IsNamed : Op → AbstractState → AcceptanceRule → Type 0
-IsNamed i k rule = (sorts : List ℕ) (callees : List (List Carrier)) → rule ≡ named_rule sorts callees i k
+IsNamed i k rule =
+    (sorts : List ℕ) (callees : List (List Carrier)) → rule ≡ named_rule sorts callees i k
 
 -- control flows to the next place and to the target, or to one of them, with these states
 abbrev pub FlowsTo : Op → AbstractState → Option AbstractState → Option (ℕ × AbstractState) → Type 0
-FlowsTo i k next jump = (p : Program) (home : Option AbstractState) (q : ℕ) → transfer p home q i k ≡ Some (edges_of q next jump)
+FlowsTo i k next jump =
+    (p : Program) (home : Option AbstractState) (q : ℕ)
+    → transfer p home q i k ≡ Some (edges_of q next jump)
 
 -- control goes on from such an instruction to the next place alone
 abbrev pub GoesOnAlone : Op → Type 0

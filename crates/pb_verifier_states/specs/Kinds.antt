@@ -21,7 +21,8 @@ is_number_on_top ss = is_some (abstract_pop_int ss (λ l h ts. Some []))
 
 -- two numbers on top
 abbrev pub are_numbers_on_top : List AbstractValue → Bool
-are_numbers_on_top ss = is_some (abstract_pop_int ss (λ m n ts. abstract_pop_int ts (λ l h us. Some [])))
+are_numbers_on_top ss =
+    is_some (abstract_pop_int ss (λ m n ts. abstract_pop_int ts (λ l h us. Some [])))
 
 -- on top a number that may be below 1
 abbrev pub may_be_no_divisor : List AbstractValue → Bool

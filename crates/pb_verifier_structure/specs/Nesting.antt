@@ -1,4 +1,5 @@
--- How loops nest: LOOP and NEXT pair like brackets, at most MAX_LOOPS deep, and the end stands in no body.
+-- How loops nest: LOOP and NEXT pair like brackets, at most MAX_LOOPS deep, and the end stands in
+-- no body.
 use Rattle.std.specs.Prelude.{◌≡◌, ℕ, ◌<◌, List, [], ◌∷◌, length, Option, Some, None, slice_get}
 use Rattle.pb_bytecode_program.specs.declared.limits.TheConstants.{MAX_LOOPS}
 use Rattle.pb_bytecode_program.specs.Counts.{loops_around}
@@ -24,4 +25,5 @@ innermost_of (x ∷ xs) = Some x
 -- the table has the place of the innermost LOOP around each place
 pub record IsInnermost (code : List Op) (table : List (Option ℕ)) : Type 0 where
   pub long : length table ≡ length code
-  pub each : (q : ℕ) → q < length code → slice_get table q ≡ Some (innermost_of (loops_around code q))
+  pub each : (q : ℕ) → q < length code
+      → slice_get table q ≡ Some (innermost_of (loops_around code q))

@@ -1,4 +1,5 @@
--- What is asked of code before the pass: the rules by position, and the limits within which the code was decoded.
+-- What is asked of code before the pass: the rules by position, and the limits within which the
+-- code was decoded.
 use Rattle.std.specs.Prelude.{◌≡◌, ℕ, ◌<◌, ◌≤◌, [], length, Some, slice_get}
 use Rattle.pb_sorts.specs.declared.limits.TheConstants.{MAX_INSTRUCTIONS}
 use Rattle.pb_bytecode_program.specs.Machine.{Program}
@@ -12,7 +13,8 @@ pub record IsStructured (p : Program) : Type 0 where
   pub placed : (q : ℕ) (i : Op) → slice_get p.code q ≡ Some i → HasValidTarget p q i
   pub sited : (q : ℕ) (i : Op) → slice_get p.code q ≡ Some i → NamesInScope p q i
   pub all_closed : loops_around p.code (length p.code) ≡ []
-  pub closes : (q : ℕ) (i : Op) → slice_get p.code q ≡ Some i → loop_effect i ≡ Leaves → 0 < length (loops_around p.code q)
+  pub closes : (q : ℕ) (i : Op) → slice_get p.code q ≡ Some i → loop_effect i ≡ Leaves
+      → 0 < length (loops_around p.code q)
 
 -- there are 1 to MAX_INSTRUCTIONS instructions, and the bounds of range tests are in order
 pub record IsWithinLimits (p : Program) : Type 0 where

@@ -23,9 +23,10 @@ pub record IsTheReading (bytes : List ℕ) (x : SpecForm) : Type 0 where
   pub reading : IsReading bytes x
   pub only : (depth operators : ℕ) (y : SpecForm) → IsReadingWithin depth operators bytes y → y ≡ x
 
--- The module of what a text says: that is well typed, and the module is what the compile scheme makes of it, with code that
--- keeps the machine's limits. Whichever trees the runs of its instances end with, these have the text's answer, each of its
--- instances has the truth that it has in the text's solution, and each tree is true where the text's right side is.
+-- The module of what a text says: that is well typed, and the module is what the compile scheme
+-- makes of it, with code that keeps the machine's limits. Whichever trees the runs of its instances
+-- end with, these have the text's answer, each of its instances has the truth that it has in the
+-- text's solution, and each tree is true where the text's right side is.
 pub record IsModuleOfForm (text : SpecForm) (m : Contents) : Type 0 where
   pub typed : IsWellTyped (erase text)
   pub compiled : IsCompiledModule (erase text) m
@@ -48,8 +49,8 @@ pub record IsModuleOfCode (bytes : List ℕ) (m : Contents) : Type 0 where
   pub spell : Spell bytes m
   pub accepted : IsAccepted m
 
--- The answer to a text: what it says is well typed, and its initial instance has this truth in the solution. The counts are
--- those of the reached instances of its module.
+-- The answer to a text: what it says is well typed, and its initial instance has this truth in the
+-- solution. The counts are those of the reached instances of its module.
 pub record IsAnswer (bytes : List ℕ) (a : Answer) : Type 0 where
   pub text : SpecForm
   pub read : IsTheReading bytes text
@@ -65,8 +66,8 @@ pub record IsAnswerOfCode (bytes : List ℕ) (a : Answer) : Type 0 where
   pub of_code : IsModuleOfCode bytes contents
   pub answered : IsAnswerOf contents a
 
--- Evidence for the answer to a text: what it says is well typed, its initial instance has this truth in the solution, and of
--- the module of what it says it shows that.
+-- Evidence for the answer to a text: what it says is well typed, its initial instance has this
+-- truth in the solution, and of the module of what it says it shows that.
 pub record IsEvidence (bytes : List ℕ) (m : Contents) (e : Evidence) : Type 0 where
   pub text : SpecForm
   pub read : IsTheReading bytes text

@@ -42,11 +42,13 @@ model_refusal (model_error.Memory error) = solve_error.Memory error
 
 abbrev pub module_refusal : ModuleError → SolveError
 module_refusal module_error.Memory = solve_error.Memory (record {})
-module_refusal (module_error.ModuleFault rule byte) = solve_error.Module (module_error.ModuleFault rule byte)
+module_refusal (module_error.ModuleFault rule byte) =
+    solve_error.Module (module_error.ModuleFault rule byte)
 
 abbrev pub verify_refusal : VerifyError → SolveError
 verify_refusal verify_error.Memory = solve_error.Memory (record {})
-verify_refusal (verify_error.Refusal rule equation place) = solve_error.Acceptance (verify_error.Refusal rule equation place)
+verify_refusal (verify_error.Refusal rule equation place) =
+    solve_error.Acceptance (verify_error.Refusal rule equation place)
 
 abbrev pub build_refusal : BuildError → SolveError
 build_refusal (build_error.Memory error) = solve_error.Memory error

@@ -15,8 +15,8 @@ use Rattle.pbsolve.specs.declared.solve_error.SolveError.{SolveError}
 use Rattle.pbsolve.specs.declared.solve_error.SolveError.TheVariants as solve_error
 use Rattle.pbsolve.specs.Answers.{IsModuleOfForm}
 
--- The verdict on a property is true exactly where the model satisfies it. The counts are those of the reached instances of the
--- module of the property's text.
+-- The verdict on a property is true exactly where the model satisfies it. The counts are those of
+-- the reached instances of the module of the property's text.
 pub record IsVerdict (model : ModelForm) (p : PropertyForm) (a : Answer) : Type 0 where
   pub exact : a.truth ≡ satisfies model p.formula
   pub text : SpecForm
@@ -29,12 +29,13 @@ pub record IsVerdict (model : ModelForm) (p : PropertyForm) (a : Answer) : Type 
 abbrev pub AreVerdicts : ModelForm → List PropertyForm → List ℕ → Type 0
 AreVerdicts model [] lines = lines ≡ []
 AreVerdicts model (p ∷ ps) lines =
-    (a : Answer) × (rest : List ℕ) × IsVerdict model p a × (lines ≡ verdict_text p.name.text a.truth a.cut ++ rest) × AreVerdicts model ps rest
+    (a : Answer) × (rest : List ℕ) × IsVerdict model p a
+    × (lines ≡ verdict_text p.name.text a.truth a.cut ++ rest) × AreVerdicts model ps rest
 
 -- ---- refusals
 
--- the text of a property of the model has an equation whose code exceeds a limit, and the first such one is this, with this as
--- its first
+-- the text of a property of the model has an equation whose code exceeds a limit, and the first
+-- such one is this, with this as its first
 pub record IsModelOverLimit (bytes : List ℕ) (limit : Limit) (equation : ℕ) : Type 0 where
   pub model : ModelForm
   pub said : IsModelOf bytes model
@@ -68,7 +69,8 @@ IsUntranslated name bytes solve_error.TooManyVertices = ⊥
 IsUntranslated name bytes (solve_error.Module error) = ⊥
 IsUntranslated name bytes (solve_error.Acceptance error) = ⊥
 
--- `check`: they say none, or one with a property whose text isn't compiled, or whose module has too large a game
+-- `check`: they say none, or one with a property whose text isn't compiled, or whose module has too
+-- large a game
 abbrev pub IsUnchecked : List ℕ → SolveError → Type 0
 IsUnchecked bytes (solve_error.Text error) = IsRefusedText bytes error
 IsUnchecked bytes (solve_error.Typing error) = IsRefusedType bytes error

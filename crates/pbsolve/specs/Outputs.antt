@@ -1,4 +1,5 @@
--- What each command writes for its input. A text is spoken of by what holds of it: that it was appended, or a part of it.
+-- What each command writes for its input. A text is spoken of by what holds of it: that it was
+-- appended, or a part of it.
 use Rattle.std.specs.Prelude.{ℕ, Bool, false, List, Option, None, option_map, codes, string_bytes}
 use Rattle.pb_text_tree.specs.Form.{SpecForm}
 use Rattle.pb_trees.specs.Tree.{Tree}
@@ -40,21 +41,23 @@ abbrev pub ForEvidence : List ℕ → (SpecForm → Contents → Evidence → Ty
 ForEvidence bytes Q =
     (m : Contents) × (e : Evidence) × (is : IsEvidence bytes m e) × Q is.text m e
 
--- P holds of a text of evidence for the answer, with the places of calls where they are to be told; which lines name a cut
--- call, the trees of the module's instances say
+-- P holds of a text of evidence for the answer, with the places of calls where they are to be told;
+-- which lines name a cut call, the trees of the module's instances say
 abbrev pub OutputsEvidence : Bool → List ℕ → (List ℕ → Type 0) → Type 0
 OutputsEvidence places bytes P =
     ForEvidence bytes (λ text m e. (trees : ℕ → Tree) → AreTrees m trees
     → P (module_evidence_text m trees (told_place places text (parameters m)) e))
 
--- P holds of the printed text of the property of a name, or of the first where none is named, of the model that the bytes say
+-- P holds of the printed text of the property of a name, or of the first where none is named, of
+-- the model that the bytes say
 abbrev pub OutputsTranslation : Option (List ℕ) → List ℕ → (List ℕ → Type 0) → Type 0
 OutputsTranslation name bytes P = (written : List ℕ) × IsTranslation name bytes written × P written
 
 -- P holds of the lines of the verdicts on the properties of the model that the bytes say
 abbrev pub OutputsVerdicts : List ℕ → (List ℕ → Type 0) → Type 0
 OutputsVerdicts bytes P =
-    (model : ModelForm) × (lines : List ℕ) × IsModelOf bytes model × AreVerdicts model model.properties lines × P lines
+    (model : ModelForm) × (lines : List ℕ) × IsModelOf bytes model
+    × AreVerdicts model model.properties lines × P lines
 
 -- P holds of the text that the command writes for these bytes, with no option
 abbrev pub Outputs : Command → List ℕ → (List ℕ → Type 0) → Type 0
@@ -70,8 +73,8 @@ Outputs command.SolveCode bytes P = (a : Answer) × IsAnswerOfCode bytes a × P 
 Outputs command.Translate bytes P = OutputsTranslation None bytes P
 Outputs command.Check bytes P = OutputsVerdicts bytes P
 
--- the same where places are to be told, or not, and a property is named, or none: only `explain` has places, and only
--- `translate` takes a property
+-- the same where places are to be told, or not, and a property is named, or none: only `explain`
+-- has places, and only `translate` takes a property
 abbrev pub OutputsWith : Command → Bool → Option (List ℕ) → List ℕ → (List ℕ → Type 0) → Type 0
 OutputsWith command.Explain places property bytes P = OutputsEvidence places bytes P
 OutputsWith command.Translate places property bytes P = OutputsTranslation property bytes P
@@ -85,7 +88,8 @@ property_name request = option_map string_bytes request.property
 abbrev pub OutputsFor : Request → List ℕ → (List ℕ → Type 0) → Type 0
 OutputsFor request = OutputsWith request.command request.places (property_name request)
 
--- what an error says of the bytes for which the command was to write, where a property is named, or none
+-- what an error says of the bytes for which the command was to write, where a property is named, or
+-- none
 abbrev pub IsRefusedWith : Command → Option (List ℕ) → List ℕ → SolveError → Type 0
 IsRefusedWith command.Solve property = IsRefused
 IsRefusedWith command.Game property = IsRefused

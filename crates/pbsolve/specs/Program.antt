@@ -40,7 +40,8 @@ error_line_of (run_error.Refused error) = solve_line error
 -- a refusal is told by its own line, or by M01 where there is no memory for it
 abbrev pub IsToldAs : RunError → RunError → Type 0
 IsToldAs (run_error.ProgramFault f) told = told ≡ run_error.ProgramFault f
-IsToldAs (run_error.Refused error) told = (told ≡ run_error.Refused error) ⊎ (told ≡ run_error.ProgramFault M01)
+IsToldAs (run_error.Refused error) told =
+    (told ≡ run_error.Refused error) ⊎ (told ≡ run_error.ProgramFault M01)
 
 -- the line went out, or a part that begins it and then writing failed
 abbrev pub Tells : Option (List ℕ) → Option (List ℕ) → Bool → List ℕ → Type 0
@@ -60,7 +61,8 @@ Answers words known P =
     (request : Request) × AskFor words request
     × ForInput known (λ bytes. OutputsFor request bytes P)
 
--- the input is not what the command takes, which is neither want of memory nor a failed write, nor a property that isn't there
+-- the input is not what the command takes, which is neither want of memory nor a failed write, nor
+-- a property that isn't there
 abbrev pub IsRefusal : SolveError → Type 0
 IsRefusal (solve_error.Text error) = Unit {0}
 IsRefusal (solve_error.Typing error) = Unit {0}
@@ -76,7 +78,8 @@ IsRefusal (solve_error.Write error) = ⊥
 abbrev pub RefusesBy : List (List ℕ) → Option (List ℕ) → SolveError → Type 0
 RefusesBy words known error =
     IsRefusal error ×
-    ((request : Request) × AskFor words request × ForInput known (λ bytes. IsRefusedFor request bytes error))
+    ((request : Request) × AskFor words request
+    × ForInput known (λ bytes. IsRefusedFor request bytes error))
 
 -- the words ask for a property, and the input is a model that has none of the name
 abbrev pub LackProperty : List (List ℕ) → Option (List ℕ) → Type 0
@@ -86,19 +89,23 @@ LackProperty words known =
 
 -- what an error of a run says of the words and the input
 abbrev pub IsRefusedBy : List (List ℕ) → Option (List ℕ) → RunError → Type 0
-IsRefusedBy words known (run_error.ProgramFault U02) = AskForSomething words × IsLongerThan INPUT_LIMIT known
+IsRefusedBy words known (run_error.ProgramFault U02) =
+    AskForSomething words × IsLongerThan INPUT_LIMIT known
 IsRefusedBy words known (run_error.ProgramFault U01) = HaveFault words ⊎ LackProperty words known
 IsRefusedBy words known (run_error.ProgramFault E01) = Unit {0}
 IsRefusedBy words known (run_error.ProgramFault E02) = Unit {0}
 IsRefusedBy words known (run_error.ProgramFault M01) = Unit {0}
 IsRefusedBy words known (run_error.Refused error) = RefusesBy words known error
 
--- the input is refused, and this is the line that says so: it is too long, whatever is asked, or the command refuses it
+-- the input is refused, and this is the line that says so: it is too long, whatever is asked, or
+-- the command refuses it
 abbrev pub IsRefusalLine : List (List ℕ) → Option (List ℕ) → List ℕ → Type 0
 IsRefusalLine words known line =
     (AskForSomething words × IsLongerThan INPUT_LIMIT known × (line ≡ lines.line_of U02))
     ⊎ ((error : SolveError) × RefusesBy words known error × (line ≡ solve_line error))
 
 -- the line of a refused input went out
-abbrev pub Refuses : List (List ℕ) → Option (List ℕ) → Option (List ℕ) → Option (List ℕ) → Bool → Type 0
-Refuses words known old new failed = (line : List ℕ) × IsRefusalLine words known line × Tells old new failed line
+abbrev pub Refuses : List (List ℕ) → Option (List ℕ) → Option (List ℕ) → Option (List ℕ) → Bool
+    → Type 0
+Refuses words known old new failed =
+    (line : List ℕ) × IsRefusalLine words known line × Tells old new failed line

@@ -26,22 +26,27 @@ use Rattle.pbsolve.specs.Answers.{IsTheReading, IsModuleOfText, IsModuleOfCode, 
 -- the bytes have no reading within the limits, and the rule is broken at its place
 abbrev pub IsRefusedText : List ℕ → TextError → Type 0
 IsRefusedText bytes text_error.Memory = ⊥
-IsRefusedText bytes (text_error.Refused rule place) = NoReading bytes (text_error.Refused rule place) × IsFirstFault bytes (text_error.Refused rule place)
+IsRefusedText bytes (text_error.Refused rule place) =
+    NoReading bytes (text_error.Refused rule place)
+    × IsFirstFault bytes (text_error.Refused rule place)
 
 -- what the bytes say is not well typed, and breaks the rule at its place
 abbrev pub IsRefusedType : List ℕ → TypeError → Type 0
 IsRefusedType bytes type_error.Memory = ⊥
-IsRefusedType bytes (type_error.At fault) = (x : SpecForm) × IsTheReading bytes x × (¬ IsWellTyped (erase x)) × Contains (faults x) fault
+IsRefusedType bytes (type_error.At fault) =
+    (x : SpecForm) × IsTheReading bytes x × (¬ IsWellTyped (erase x)) × Contains (faults x) fault
 
--- what the bytes say is well typed, and its first equation whose code exceeds a limit is this one, with this as its first
+-- what the bytes say is well typed, and its first equation whose code exceeds a limit is this one,
+-- with this as its first
 pub record IsOverLimit (bytes : List ℕ) (limit : Limit) (equation : ℕ) : Type 0 where
   pub text : SpecForm
   pub read : IsTheReading bytes text
   pub typed : IsWellTyped (erase text)
   pub exceeds : IsFirstExcess (erase text) limit equation
 
--- What an error says of a text that is well typed, given by its form, where it says of code what `compile` says: its first
--- equation whose code exceeds a limit is this one, with this as its first.
+-- What an error says of a text that is well typed, given by its form, where it says of code what
+-- `compile` says: its first equation whose code exceeds a limit is this one, with this as its
+-- first.
 abbrev pub IsUncompiledForm : SpecForm → SolveError → Type 0
 IsUncompiledForm text (solve_error.Limit limit equation) = IsFirstExcess (erase text) limit equation
 IsUncompiledForm text (solve_error.Memory error) = Unit {0}
@@ -90,7 +95,8 @@ IsUncompiled bytes solve_error.NoProperty = ⊥
 IsUncompiled bytes (solve_error.Module error) = ⊥
 IsUncompiled bytes (solve_error.Acceptance error) = ⊥
 
--- `solve`, `game`, `solution`, `certificate` and `explain`: the text isn't compiled, or its module has too large a game
+-- `solve`, `game`, `solution`, `certificate` and `explain`: the text isn't compiled, or its module
+-- has too large a game
 abbrev pub IsRefused : List ℕ → SolveError → Type 0
 IsRefused bytes solve_error.TooManyVertices = (m : Contents) × IsModuleOfText bytes m × IsTooLarge m
 IsRefused bytes error = IsUncompiled bytes error
@@ -114,5 +120,6 @@ IsUnverified bytes error = IsUnlisted bytes error
 
 -- `solve-code`: the module isn't verified, or has too large a game
 abbrev pub IsRefusedBytes : List ℕ → SolveError → Type 0
-IsRefusedBytes bytes solve_error.TooManyVertices = (m : Contents) × IsModuleOfCode bytes m × IsTooLarge m
+IsRefusedBytes bytes solve_error.TooManyVertices =
+    (m : Contents) × IsModuleOfCode bytes m × IsTooLarge m
 IsRefusedBytes bytes error = IsUnverified bytes error

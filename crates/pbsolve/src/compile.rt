@@ -42,7 +42,8 @@ pub(crate) fn typed(alloc: Global, bytes: &[u8]) -> Result<Typed, SolveError>
 // The module of a text.
 fn compiled(alloc: Global, typed: &Typed) -> Result<Module, SolveError>
     requires well_typed { IsWellTyped (erase (spec_form typed.now.spec)) }
-    ensures module { IfOk result (λ m. IsModuleOfForm (spec_form typed.now.spec) (module_contents m)) }
+    ensures module { IfOk result
+        (λ m. IsModuleOfForm (spec_form typed.now.spec) (module_contents m)) }
     ensures refused { IfErr result (IsUncompiledForm (spec_form typed.now.spec)) }
     ensures unwritten { IfErr result (λ e. e ≢ SolveError.Write (record {})) }
 {

@@ -103,8 +103,9 @@ fn verdicts_on<R: Threads + Sync, G: Gate + Sync>(
 /// Each property's text is explored and solved once, as `solve_text` solves a text.
 ///
 /// # Errors
-/// `Text` and `Typing` say which rule the model breaks and where, `Limit` which limit of the machine
-/// the code of which equation of a property's text exceeds. Others are as with `solve_text`.
+/// `Text` and `Typing` say which rule the model breaks and where, `Limit` which limit of the
+/// machine the code of which equation of a property's text exceeds. Others are as with
+/// `solve_text`.
 pub fn check_text<R: Threads + Sync, G: Gate + Sync, S: Sink>(
     rt: &R,
     alloc: Global,

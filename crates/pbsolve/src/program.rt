@@ -1,5 +1,6 @@
 //! The whole program: words, input, answer, exit status.
-ghost use Rattle.std.specs.Prelude.{◌≡◌, ◌≢◌, ◌≤◌, ◌⊎◌, true, codes, length, map, OnOk, IfErr, Err, IsSome};
+ghost use Rattle.std.specs.Prelude.{◌≡◌, ◌≢◌, ◌≤◌, ◌⊎◌, true, codes, length, map, OnOk, IfErr, Err};
+ghost use Rattle.std.specs.Prelude.{IsSome};
 ghost use Rattle.std.specs.Io.KnownBytes.{Appends};
 ghost use Rattle.pb_sorts.specs.Sink.{AppendsPrefix};
 ghost use Rattle.pb_report.specs.declared.fault.ProgramFault.TheVariants as fault;
@@ -9,7 +10,8 @@ ghost use Rattle.pb_command_line.specs.Words.{AskForSomething, HaveFault, AskNot
 ghost use Rattle.pbsolve.specs.Delivery.{Delivers};
 ghost use Rattle.pbsolve.specs.Outputs.{OutputsFor, IsRefusedFor};
 ghost use Rattle.pbsolve.specs.Program.{fault_status, status_of, error_line_of, Answers};
-ghost use Rattle.pbsolve.specs.Program.{IsRefusedBy, IsToldAs, LackProperty, Tells, ReadsAtMost, Refuses};
+ghost use Rattle.pbsolve.specs.Program.{IsRefusedBy, IsToldAs, LackProperty, Tells, ReadsAtMost};
+ghost use Rattle.pbsolve.specs.Program.{Refuses};
 
 use crate::code::{list_code, solve_code, verify_code};
 use crate::compile::compile_text;
@@ -196,8 +198,9 @@ pub fn run<T: Threads + Sync, S: AsStr, G: Gate + Sync, R: Source, O: Sink, E: S
     ensures statuses { result ≤ 4 }
 
     // The words have a fault exactly where they ask for nothing, which is seen before any byte is
-    // read; memory may be refused first. The word of each command asks for it. Without a fault there
-    // is status 2 only where they name a property that the model which the input is doesn't have.
+    // read; memory may be refused first. The word of each command asks for it. Without a fault
+    // there is status 2 only where they name a property that the model which the input is doesn't
+    // have.
     ensures faulty { HaveFault (map S.text words.now) → ((result ≡ 2) ⊎ (result ≡ 3))
         × (streams.new.input ≡ streams.old.input) }
     ensures understood { result ≡ 2 → HaveFault (map S.text words.now)

@@ -1,6 +1,7 @@
 //! What flows from the instructions that write the tree.
 
-ghost use Rattle.std.specs.Prelude.{◌≡◌, IfErr, IfOk, None, OnErr, Some, map, slice_get, vec_items, ℕ};
+ghost use Rattle.std.specs.Prelude.{◌≡◌, IfErr, IfOk, None, OnErr, Some, map, slice_get, vec_items};
+ghost use Rattle.std.specs.Prelude.{ℕ};
 ghost use Rattle.pb_verifier_states.specs.Flows.{Fails, GoesOn, IsNamed};
 ghost use Rattle.pb_verifier_states.specs.NamedRule.{named_at_call};
 ghost use Rattle.pb_bytecode_program.specs.Transfer.{abstract_call, to_next_place};

@@ -1,6 +1,7 @@
 //! Brackets and roots of abstract states.
 
-ghost use Rattle.std.specs.Prelude.{◌≡◌, ◌+◌, None, Some, [], IfErr, OnErr, OnOk, ℕ, nat_lt, true, false};
+ghost use Rattle.std.specs.Prelude.{◌≡◌, ◌+◌, None, Some, [], IfErr, OnErr, OnOk, ℕ, nat_lt, true};
+ghost use Rattle.std.specs.Prelude.{false};
 ghost use Rattle.std.specs.Prelude.{if◌then◌else◌};
 ghost use Rattle.pb_bytecode_program.specs.Transfer.{Flow, abstract_close, abstract_end};
 ghost use Rattle.pb_bytecode_program.specs.Transfer.{abstract_root};

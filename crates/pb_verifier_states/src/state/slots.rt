@@ -1,6 +1,7 @@
 //! Slots of abstract states: of the loops around, else parameters.
 
-ghost use Rattle.std.specs.Prelude.{◌≡◌, IfSome, Some, None, ℤ, ◌≤ℤ◌, IfErr, IfOk, OnErr, slice_get};
+ghost use Rattle.std.specs.Prelude.{◌≡◌, IfSome, Some, None, ℤ, ◌≤ℤ◌, IfErr, IfOk, OnErr};
+ghost use Rattle.std.specs.Prelude.{slice_get};
 ghost use Rattle.pb_verifier_states.specs.Inhabited.{HasOrderedEnds};
 ghost use Rattle.pb_verifier_states.specs.NamedRule.{named_at_slot};
 ghost use Rattle.pb_bytecode_program.specs.Transfer.{Flow, abstract_slot, among, set_loop};

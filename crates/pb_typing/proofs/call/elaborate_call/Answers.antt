@@ -14,4 +14,20 @@ use Rattle.pb_typing.proofs.call.elaborate_call.Goals as goal
 
 pub elaborate_arguments-requires : goal.elaborate_arguments-requires
 elaborate_arguments-requires c =
-    subst (λ (xs : List ast.Argument). AreKnown (spec_of c.args.context.now.values.declarations.now) (scope_view c.args.context.now.scope.now) (erased_arguments (argument_forms xs))) (sym c.deref-arguments.ensures.value) c.requires.known
+    subst (λ (xs : List ast.Argument). AreKnown (spec_of c.args.context.now.values.declarations.now) (scope_view c.args.context.now.scope.now) (erased_arguments (argument_forms xs))) (sym (c.deref-2).ensures.value) c.requires.known
+
+pub returns-clause-form : goal.returns-clause-form
+returns-clause-form c =
+    let S = spec_of c.args.context.now.values.declarations.now in
+    let slots = slotting c.args.context.now.values.slots.now in
+    let scope = scope_view c.args.context.now.scope.now in
+    let es = call_arguments S slots scope c.args.instance.now.arguments.items in
+    let found = sym c.in-Some.is ∙ (c.equation.ensures ∙ (ap (equation_place S) c.deref.ensures ∙ place-found S (string_bytes c.args.instance.now.name.text))) in
+    ap (model.Call c.in-Some.equation) (c.in_ok-arguments.ensures ∙ ap (λ (xs : List ast.Argument). call_arguments S slots scope xs) (c.deref-2).ensures.value)
+    ∙ ap (λ (o : Option ℕ). call o es) found
+
+pub unreachable-requires : goal.unreachable-requires
+unreachable-requires c =
+    let S = spec_of c.args.context.now.values.declarations.now in
+    let found = sym c.in-None.is ∙ (c.equation.ensures ∙ ap (equation_place S) c.deref.ensures) in
+    subst IsThere (sym found) c.requires.there
