@@ -17,7 +17,7 @@ use Rattle.clap.specs.declared.parser.matches.SubCommand.{SubCommand}
 use Rattle.clap.specs.declared.parser.matches.ArgMatches.{ArgMatches}
 use Rattle.clap.specs.declared.parser.matches.ArgMatches.TheViews.{out-ArgMatches, out-SubCommand}
 use Rattle.clap.proofs.OnLiterals.{clap_on_literals}
-use Rattle.pb_solver_names.specs.declared.solver.Solver.TheVariants.{Zielonka}
+use Rattle.pb_game.specs.declared.solver.Solver.TheVariants.{Zielonka}
 use Rattle.pb_command_line.specs.declared.command.Command.{Command}
 use Rattle.pb_command_line.specs.declared.command.Command.TheVariants.{Solve, Game, Solution, Certificate, Explain, Compile, Verify, List as ListModule, SolveCode, Translate, Check}
 use Rattle.pb_command_line.specs.declared.request.Request.{Request}

@@ -5,7 +5,7 @@ use Rattle.clap.specs.Matches.{first_value}
 use Rattle.clap.specs.Walk.{rows_of}
 use Rattle.clap.specs.declared.parser.matches.Found.{Found}
 use Rattle.clap.proofs.WalkLemmas.{first_value-rows}
-use Rattle.pb_solver_names.specs.declared.solver.Solver.{Solver}
+use Rattle.pb_game.specs.declared.solver.Solver.{Solver}
 use Rattle.pb_command_line.specs.declared.request.Request.{Request}
 use Rattle.pb_command_line.specs.Words.{command_name, ArePlacesToldBy, IsChosenBy, IsRequestOf, IsWorkersOf}
 

@@ -7,9 +7,9 @@ use Rattle.clap.specs.declared.error.kind.ErrorKind.TheVariants.{OutOfMemory}
 use Rattle.clap.specs.Faults.{fault_of}
 use Rattle.clap.specs.Walk.{Row, Rule, first_of}
 use Rattle.clap.specs.Simple.{App, Shape, new_app, new_shape, new_rule, on_top, with_subcommand, subcommand_of}
-use Rattle.pb_solver_names.specs.declared.solver.Solver.{Solver}
-use Rattle.pb_solver_names.specs.declared.solver.Solver.TheVariants.{Zielonka}
-use Rattle.pb_solver_names.specs.Names.{solver_name}
+use Rattle.pb_game.specs.declared.solver.Solver.{Solver}
+use Rattle.pb_game.specs.declared.solver.Solver.TheVariants.{Zielonka}
+use Rattle.pb_game.specs.SolverNames.{solver_name}
 use Rattle.pb_command_line.specs.declared.command.Command.{Command}
 use Rattle.pb_command_line.specs.declared.command.Command.TheVariants.{Solve, Game, Solution, Certificate, Explain, Compile, Verify, List as ListModule, SolveCode, Translate, Check}
 use Rattle.pb_command_line.specs.declared.request.Request.{Request}

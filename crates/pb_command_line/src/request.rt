@@ -2,7 +2,7 @@
 ghost use Rattle.std.specs.Prelude.{◌≡◌, ◌<◌, ◌≤◌, option_copied, option_map, string_bytes};
 
 use crate::command::Command;
-use pb_solver_names::Solver;
+use pb_game::Solver;
 
 /// What the program is asked: a command, by how many workers it explores, if it does, which solver
 /// it calls, if it calls one, whether it tells the places of calls, if it names calls, and which

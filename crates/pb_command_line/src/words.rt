@@ -6,7 +6,7 @@ ghost use Rattle.clap.specs.declared.builder.command.Command.TheViews.{out-Comma
 ghost use Rattle.clap.specs.Matches.{found_of, first_value};
 ghost use Rattle.clap.specs.Walk.{rule_of, rows_of};
 ghost use Rattle.pb_command_line.specs.declared.request.Request.{Request};
-ghost use Rattle.pb_solver_names.specs.declared.solver.Solver.{Solver};
+ghost use Rattle.pb_game.specs.declared.solver.Solver.{Solver};
 ghost use Rattle.pb_command_line.specs.Words.{command_line, exploring_shape, explaining_shape};
 ghost use Rattle.pb_command_line.specs.Words.{solving_shape, translating_shape, workers_rule};
 ghost use Rattle.pb_command_line.specs.Words.{places_rule, property_rule, solver_rule};
@@ -18,7 +18,7 @@ use crate::command::Command;
 use crate::request::Request;
 use clap::error::ErrorKind;
 use clap::{Arg, ArgAction, ArgMatches, Error};
-use pb_solver_names::Solver;
+use pb_game::Solver;
 use std::alloc::{AllocError, Global};
 use std::convert::AsStr;
 

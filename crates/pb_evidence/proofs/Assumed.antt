@@ -1,7 +1,7 @@
 -- What evidence shows doesn't depend on the trees that are not in it.
 use Rattle.std.proofs.Common.{sym}
-use Rattle.pb_proof_graph.proofs.Proving.{proof_graphs_prove}
-use Rattle.pb_proof_graph.proofs.Assumed.{assumed_graphs_prove, assumed_choices_hold}
+use Rattle.pb_evidence.proofs.Proving.{proof_graphs_prove}
+use Rattle.pb_evidence.proofs.AssumedGraphs.{assumed_graphs_prove, assumed_choices_hold}
 use Rattle.pb_evidence.specs.Evidence.{graph_of}
 use Rattle.pb_evidence.specs.Assumed.{AssumedIsShown}
 

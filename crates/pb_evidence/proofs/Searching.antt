@@ -5,10 +5,10 @@ use Rattle.std.proofs.lemmas.Bool.{cases_eq}
 use Rattle.std.proofs.lemmas.List.Elements.{Contains-get_or}
 use Rattle.pb_game.specs.declared.Game.{Game}
 use Rattle.pb_game.specs.Games.{vertex_count}
-use Rattle.pb_game_certificate.specs.declared.Solution.{Solution}
-use Rattle.pb_game_certificate.specs.Certificates.{IsKept}
-use Rattle.pb_proof_graph.specs.Strategies.{IsKeptPath}
-use Rattle.pb_proof_graph.proofs.Strategies.{path_then}
+use Rattle.pb_game.specs.declared.certificate.Solution.{Solution}
+use Rattle.pb_game.specs.Certificates.{IsKept}
+use Rattle.pb_evidence.specs.Strategies.{IsKeptPath}
+use Rattle.pb_evidence.proofs.Strategies.{path_then}
 use Rattle.pb_evidence.specs.declared.found.Found.{Found}
 use Rattle.pb_evidence.specs.Finding.{IsFound, Gains}
 use Rattle.pb_evidence.specs.Searching.{IsOpen, LeadsTo, IsSearched}

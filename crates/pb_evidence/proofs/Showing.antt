@@ -6,21 +6,21 @@ use Rattle.std.proofs.lemmas.List.{get_or-map, length-map}
 use Rattle.std.proofs.lemmas.List.Elements.{Contains-get_or}
 use Rattle.pb_game.specs.declared.Game.{Game}
 use Rattle.pb_game.specs.Adjacency.{row}
-use Rattle.pb_game_certificate.specs.declared.Solution.{Solution}
-use Rattle.pb_game_certificate.specs.Solutions.{winner_of}
-use Rattle.pb_game_certificate.specs.Certificates.{IsCertificate}
+use Rattle.pb_game.specs.declared.certificate.Solution.{Solution}
+use Rattle.pb_game.specs.Solutions.{winner_of}
+use Rattle.pb_game.specs.Certificates.{IsCertificate}
 use Rattle.pb_trees.specs.Tree.{Tree}
 use Rattle.pb_trees.specs.Equations.{Signature, solved}
 use Rattle.pb_trees.specs.Game.{vertex_of}
 use Rattle.pb_trees.specs.Rows.{Row, IsReached}
-use Rattle.pb_game_meaning.specs.Meaning.{IsGameOfRows, IsSolvedAt}
-use Rattle.pb_game_meaning.proofs.Players.{player}
-use Rattle.pb_game_meaning.proofs.Winners.{winner_is}
-use Rattle.pb_proof_graph.specs.ProofGraphs.{Graph, IsProofGraph}
-use Rattle.pb_proof_graph.specs.Supports.{RestsOnChoices}
-use Rattle.pb_proof_graph.specs.Strategies.{player_for, IsInner, IsKeptPath, IsStrategyGraph}
-use Rattle.pb_proof_graph.proofs.Strategies.{merely_prove}
-use Rattle.pb_proof_graph.proofs.Choices.{merely_choose}
+use Rattle.pb_strategy.specs.Meaning.{IsGameOfRows, IsSolvedAt}
+use Rattle.pb_strategy.proofs.Players.{player}
+use Rattle.pb_strategy.proofs.Winners.{winner_is}
+use Rattle.pb_evidence.specs.ProofGraphs.{Graph, IsProofGraph}
+use Rattle.pb_evidence.specs.Supports.{RestsOnChoices}
+use Rattle.pb_evidence.specs.Strategies.{player_for, IsInner, IsKeptPath, IsStrategyGraph}
+use Rattle.pb_evidence.proofs.Strategies.{merely_prove}
+use Rattle.pb_evidence.proofs.Choices.{merely_choose}
 use Rattle.pb_evidence.specs.declared.exploration.Exploration.{Exploration}
 use Rattle.pb_evidence.specs.declared.Evidence.{Evidence}
 use Rattle.pb_evidence.specs.Marks.{IsMarked}

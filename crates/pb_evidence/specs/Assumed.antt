@@ -2,7 +2,7 @@
 use Rattle.std.specs.Prelude.{ℕ, List}
 use Rattle.pb_trees.specs.Tree.{Tree}
 use Rattle.pb_trees.specs.Equations.{Signature}
-use Rattle.pb_proof_graph.specs.Assumed.{AreAssumed}
+use Rattle.pb_evidence.specs.AssumedGraphs.{AreAssumed}
 use Rattle.pb_evidence.specs.declared.Evidence.{Evidence}
 use Rattle.pb_evidence.specs.Evidence.{Shows, graph_of}
 

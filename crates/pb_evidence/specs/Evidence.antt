@@ -8,9 +8,9 @@ use Rattle.pb_trees.specs.Tree.{Tree}
 use Rattle.pb_trees.specs.Equations.{Signature, solved}
 use Rattle.pb_trees.specs.Game.{vertex_of}
 use Rattle.pb_trees.specs.Rows.{Row, IsReached}
-use Rattle.pb_game_meaning.specs.Meaning.{IsGameOfRows}
-use Rattle.pb_proof_graph.specs.ProofGraphs.{Graph, IsProofGraph}
-use Rattle.pb_proof_graph.specs.Supports.{RestsOnChoices}
+use Rattle.pb_strategy.specs.Meaning.{IsGameOfRows}
+use Rattle.pb_evidence.specs.ProofGraphs.{Graph, IsProofGraph}
+use Rattle.pb_evidence.specs.Supports.{RestsOnChoices}
 use Rattle.pb_evidence.specs.declared.Evidence.{Evidence}
 use Rattle.pb_evidence.specs.Marks.{IsMarked}
 use Rattle.pb_evidence.specs.Nearest.{IsNearestFirst}

@@ -4,8 +4,8 @@ use Rattle.std.specs.Prelude.{slice_index, Contains, AllPairs}
 use Rattle.pb_game.specs.declared.Game.{Game}
 use Rattle.pb_game.specs.Adjacency.{row}
 use Rattle.pb_game.specs.Games.{vertex_count}
-use Rattle.pb_game_certificate.specs.declared.Solution.{Solution}
-use Rattle.pb_game_certificate.specs.Solutions.{winner_of}
+use Rattle.pb_game.specs.declared.certificate.Solution.{Solution}
+use Rattle.pb_game.specs.Solutions.{winner_of}
 use Rattle.pb_evidence.specs.declared.exploration.Exploration.{Exploration}
 use Rattle.pb_evidence.specs.Marks.{IsMarked}
 use Rattle.pb_evidence.specs.BreadthFirst.{IsBreadthFirst}

@@ -3,8 +3,8 @@
 use Rattle.std.specs.Prelude.{◌≡◌, ℕ, Bool, List, length, Contains}
 use Rattle.pb_game.specs.declared.Game.{Game}
 use Rattle.pb_game.specs.Games.{vertex_count, priority_of}
-use Rattle.pb_game_certificate.specs.declared.Solution.{Solution}
-use Rattle.pb_proof_graph.specs.Strategies.{IsKeptPath}
+use Rattle.pb_game.specs.declared.certificate.Solution.{Solution}
+use Rattle.pb_evidence.specs.Strategies.{IsKeptPath}
 use Rattle.pb_evidence.specs.declared.found.Found.{Found}
 use Rattle.pb_evidence.specs.Marks.{IsMarked}
 use Rattle.pb_evidence.specs.Finding.{IsFound}

@@ -2,14 +2,13 @@
 
 ghost use Rattle.std.specs.Prelude.{◌≡◌, ◌<◌, ◌↔◌, length, IsTrue, OnOk, []};
 ghost use Rattle.pb_game.specs.Games.{vertex_count, owner_of};
-ghost use Rattle.pb_game_certificate.specs.Solutions.{winner_of, choice_of, HasLengths};
-ghost use Rattle.pb_game_certificate.specs.Certificates.{IsKept};
+ghost use Rattle.pb_game.specs.Solutions.{winner_of, choice_of, HasLengths};
+ghost use Rattle.pb_game.specs.Certificates.{IsKept};
 ghost use Rattle.pb_evidence.specs.Finding.{IsFound, Gains};
 ghost use Rattle.pb_evidence.specs.Searching.{IsOpen, IsSearched};
 
 use crate::found::Found;
-use pb_game::Game;
-use pb_game_certificate::Solution;
+use pb_game::{Game, Solution};
 use std::alloc::AllocError;
 
 /// Finds to where plays from `v` lead, over vertices of brackets; the nearest first. Marks stand at

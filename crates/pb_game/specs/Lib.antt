@@ -3,3 +3,8 @@ pub mod Games
 pub mod Parts
 pub mod Transpose
 pub mod ErrorNumber
+pub mod SolverNames
+pub mod Solutions
+pub mod Certificates
+pub mod Flaws
+pub mod FlawText

@@ -1,4 +1,4 @@
-//! Parity games as flat lists.
+//! Parity games as flat lists, certificates of their winners, and the solvers by their names.
 //!
 //! A parity game (Zielonka 1998) has finitely many vertices, each owned by player 0 or 1, with a
 //! priority and at least one successor. A token moves along the edges for ever, and player 0 wins a
@@ -6,17 +6,21 @@
 //! beside the successors of each vertex its predecessors, which attractors are computed by.
 #![tactic(auto)]
 
+mod adjacency;
+mod certificate;
+mod parts;
+mod predecessors;
+mod solver;
+
 ghost use Rattle.std.specs.Prelude.{◌≡◌, ℕ, ◌<◌, ◌≤◌, length, slice_index, IfOk, IfErr, IsTrue};
 ghost use Rattle.std.specs.Prelude.{Contains, ◌↔◌};
 ghost use Rattle.pb_game.specs.Adjacency.{IsFlatGame};
 
-mod adjacency;
-mod parts;
-mod predecessors;
-
 use adjacency::row_of;
+pub use certificate::{CertificateRule, Flaw, Solution};
 pub use parts::{GameError, Parts};
 use predecessors::{Predecessors, transpose};
+pub use solver::Solver;
 use std::alloc::Global;
 
 /// A parity game of at most 2^24 vertices, which are the numbers below [`Game::len`], and 256

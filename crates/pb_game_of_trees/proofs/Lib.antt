@@ -12,3 +12,5 @@ pub mod PartsOf
 pub mod Vertices
 pub mod Built
 pub mod Searched
+pub mod Sizes
+pub mod Placed

@@ -11,7 +11,7 @@ use Rattle.pb_game.specs.declared.Game.{Game}
 use Rattle.pb_game.specs.declared.parts.Parts.{Parts}
 use Rattle.pb_game.specs.Adjacency.{row}
 use Rattle.pb_game.specs.Parts.{AreGame, IsGameOf}
-use Rattle.pb_game_meaning.specs.Vertices.{HasVertices}
+use Rattle.pb_strategy.specs.Vertices.{HasVertices}
 use Rattle.pb_game_of_trees.specs.Draft.{successors, edge_sums, places, ArePartsOf, MakeGame}
 
 length-edge_sums : (vs : List Vertex) → length (edge_sums vs) ≡ length vs + 1

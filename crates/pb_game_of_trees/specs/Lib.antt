@@ -8,3 +8,4 @@ pub mod Places
 pub mod Numbering
 pub mod TreeGame
 pub mod ErrorNumber
+pub mod Explored

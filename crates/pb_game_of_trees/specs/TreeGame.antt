@@ -6,7 +6,7 @@ use Rattle.pb_trees.specs.Rows as plain
 use Rattle.pb_trees.specs.Game.{vertex_of, game_vertices}
 use Rattle.pb_rows.specs.Row.{Row}
 use Rattle.pb_rows.specs.Reached.{numbers_of, rows_of, AreRowsOf}
-use Rattle.pb_game_meaning.specs.Meaning.{IsGameOfRows}
+use Rattle.pb_strategy.specs.Meaning.{IsGameOfRows}
 use Rattle.pb_game_of_trees.specs.declared.tree_game.TreeGame.{TreeGame}
 
 -- the game of reached instances, with the vertex of each and that of the initial one

@@ -9,7 +9,7 @@ use native.Mathlib.Decide.{ℕ_discrete}
 use Rattle.pb_game.specs.declared.Game.{Game}
 use Rattle.pb_game.specs.Games.{vertex_count, owner_of, priority_of, successors_of, priority_count}
 use Rattle.pb_game.proofs.Laws.{is_game}
-use Rattle.pb_game_certificate.specs.Certificates.{IsProgress}
+use Rattle.pb_game.specs.Certificates.{IsProgress}
 use Rattle.pb_lifting.proofs.Lists.{element_in}
 use Rattle.pb_lifting.specs.Radix.{unit, step_up, better, best}
 use Rattle.pb_lifting.specs.Measures.{vertices_upto, base_of, top_of, counts_of, FallsTo, Falls, IsMeasure, more_of, asked, asked_by, least_rank, IsBelowAll, IsFixed, IsLeastMeasure}

@@ -5,7 +5,7 @@ use mathlib.Core.Logic.{dite}
 use native.Mathlib.Decide.{ℕ_discrete}
 use Rattle.pb_game.specs.declared.Game.{Game}
 use Rattle.pb_game.specs.Games.{vertex_count, priority_of, priority_count}
-use Rattle.pb_game_certificate.specs.Certificates.{IsProgress}
+use Rattle.pb_game.specs.Certificates.{IsProgress}
 use Rattle.pb_lifting.specs.Radix.{unit}
 use Rattle.pb_lifting.specs.Measures.{base_of, top_of, counts_of, asked}
 use Rattle.pb_lifting.specs.Solutions.{count_by_rank}

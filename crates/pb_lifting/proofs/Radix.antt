@@ -5,7 +5,7 @@ use Rattle.std.proofs.Math.Nat.{mul-add-div_right}
 use Rattle.std.proofs.lemmas.Bool.{cases_lt}
 use mathlib.Core.Logic.{dite}
 use native.Mathlib.Decide.{ℕ_discrete}
-use Rattle.pb_game_certificate.specs.Certificates.{Decreases, IsSame, IsProgress}
+use Rattle.pb_game.specs.Certificates.{Decreases, IsSame, IsProgress}
 use Rattle.pb_lifting.specs.Radix.{unit, count_in, step_up}
 
 -- the counts can't decrease both ways

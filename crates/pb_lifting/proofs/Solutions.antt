@@ -5,9 +5,9 @@ use Rattle.std.proofs.lemmas.Nat.{mul-add-lt}
 use mathlib.Core.Logic.{dite}
 use native.Mathlib.Decide.{ℕ_discrete}
 use Rattle.pb_game.specs.declared.Game.{Game}
-use Rattle.pb_game_certificate.specs.declared.Solution.{Solution}
+use Rattle.pb_game.specs.declared.certificate.Solution.{Solution}
 use Rattle.pb_game.specs.Games.{vertex_count, priority_count}
-use Rattle.pb_game_certificate.specs.Solutions.{player_of, winner_of, choice_of, count_of}
+use Rattle.pb_game.specs.Solutions.{player_of, winner_of, choice_of, count_of}
 use Rattle.pb_lifting.specs.Measures.{top_of}
 use Rattle.pb_lifting.specs.Solutions.{winner_by, words_of, IsChoice, count_by_rank, IsSolutionTo, IsSolutionOf, AddsVertex}
 use Rattle.pb_lifting.proofs.Lists.{push_front, push_here}

@@ -9,9 +9,9 @@ use native.Mathlib.Decide.{ℕ_discrete}
 use Rattle.pb_game.specs.declared.Game.{Game}
 use Rattle.pb_game.specs.Games.{vertex_count, owner_of, priority_of, priority_count}
 use Rattle.pb_game.proofs.Laws.{is_game}
-use Rattle.pb_game_certificate.specs.declared.Solution.{Solution}
-use Rattle.pb_game_certificate.specs.Solutions.{winner_of, choice_of, count_of}
-use Rattle.pb_game_certificate.specs.Certificates.{Decreases, IsProgress, IsKept, IsCertificate}
+use Rattle.pb_game.specs.declared.certificate.Solution.{Solution}
+use Rattle.pb_game.specs.Solutions.{winner_of, choice_of, count_of}
+use Rattle.pb_game.specs.Certificates.{Decreases, IsProgress, IsKept, IsCertificate}
 
 -- the counts fall: below n some place is lower at the end, and all places above it are the same
 record Falls (from to : ℕ → ℕ) (n : ℕ) : Type 0 where

@@ -2,7 +2,7 @@
 use Rattle.std.specs.Prelude.{◌≡◌, ◌↔◌, ℕ, ◌<◌, ◌≤◌, List, slice_index}
 use Rattle.pb_game.specs.declared.Game.{Game}
 use Rattle.pb_game.specs.Games.{vertex_count, priority_of, priority_count}
-use Rattle.pb_game_certificate.specs.Certificates.{IsProgress}
+use Rattle.pb_game.specs.Certificates.{IsProgress}
 use Rattle.pb_lifting.specs.Measures.{top_of, counts_of, asked, least_rank, IsMeasure, IsFixed}
 use Rattle.pb_lifting.specs.Measures.{IsLeastMeasure}
 use Rattle.pb_lifting.specs.declared.view.Key.{Key}

@@ -5,7 +5,7 @@ use Rattle.std.specs.Prelude.{List, length, slice_index}
 use Rattle.pb_game.specs.declared.Game.{Game}
 use Rattle.pb_game.specs.Games.{vertex_count, owner_of, priority_of, successors_of, priority_count}
 use Rattle.pb_game.specs.Games.{HasEdge}
-use Rattle.pb_game_certificate.specs.Certificates.{IsProgress}
+use Rattle.pb_game.specs.Certificates.{IsProgress}
 use Rattle.pb_lifting.specs.Radix.{unit, count_in, step_up, best}
 
 -- how many of the first n vertices have the priority

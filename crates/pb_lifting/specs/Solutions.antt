@@ -2,11 +2,11 @@
 use Rattle.std.specs.Prelude.{◌≡◌, ◌≢◌, ◌⊎◌, ℕ, ◌+◌, ◌*◌, ◌<◌, ◌≤◌, ◌==◌, if◌then◌else◌, List, []}
 use Rattle.std.specs.Prelude.{◌∷◌, ◌++◌, length, slice_index, Option, None, Some, MatchOption, min}
 use Rattle.pb_game.specs.declared.Game.{Game}
-use Rattle.pb_game_certificate.specs.declared.Solution.{Solution}
+use Rattle.pb_game.specs.declared.certificate.Solution.{Solution}
 use Rattle.pb_game.specs.Games.{vertex_count, owner_of, priority_of, successors_of, priority_count}
 use Rattle.pb_game.specs.Games.{HasEdge}
-use Rattle.pb_game_certificate.specs.Certificates.{IsProgress}
-use Rattle.pb_game_certificate.specs.Solutions.{winner_of, choice_of, count_of, HasLengths}
+use Rattle.pb_game.specs.Certificates.{IsProgress}
+use Rattle.pb_game.specs.Solutions.{winner_of, choice_of, count_of, HasLengths}
 use Rattle.pb_lifting.specs.declared.measured.Measured.{Measured}
 use Rattle.pb_lifting.specs.Scales.{IsScaleOf}
 use Rattle.pb_lifting.specs.Measures.{top_of, counts_of, IsLeastMeasure}

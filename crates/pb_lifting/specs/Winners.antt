@@ -2,9 +2,9 @@
 use Rattle.std.specs.Prelude.{◌≡◌, ℕ, ◌<◌}
 use Rattle.pb_game.specs.declared.Game.{Game}
 use Rattle.pb_game.specs.Games.{vertex_count}
-use Rattle.pb_game_certificate.specs.declared.Solution.{Solution}
-use Rattle.pb_game_certificate.specs.Solutions.{winner_of}
-use Rattle.pb_game_certificate.specs.Certificates.{IsCertificate}
+use Rattle.pb_game.specs.declared.certificate.Solution.{Solution}
+use Rattle.pb_game.specs.Solutions.{winner_of}
+use Rattle.pb_game.specs.Certificates.{IsCertificate}
 
 -- two certificates of a game name the same winner of each vertex
 abbrev pub WinnersAgree : Type 0

@@ -10,8 +10,7 @@ ghost use Rattle.pb_lifting.specs.Solutions.{AddsMeasured, AddsWinner, IsSolutio
 
 use crate::measured::Measured;
 use crate::scale::{Scale, width};
-use pb_game::Game;
-use pb_game_certificate::Solution;
+use pb_game::{Game, Solution};
 use std::alloc::{AllocError, Global};
 
 /// The solution that the final words of both players say.

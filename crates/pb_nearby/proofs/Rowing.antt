@@ -25,13 +25,13 @@ use Rattle.pb_machine.specs.InstanceTree.{IsTreeAt}
 use Rattle.pb_machine.specs.Reachable.{successors}
 use Rattle.pb_machine.proofs.Successors.{tree_meant, successor_called}
 use Rattle.pb_machine.proofs.TreeCalls.{each_tree}
-use Rattle.pb_proof_graph.specs.Assumed.{leaf_tree, IsAssumed}
-use Rattle.pb_proof_graph.proofs.Proving.{test_of, contained_of}
+use Rattle.pb_evidence.specs.AssumedGraphs.{leaf_tree, IsAssumed}
+use Rattle.pb_evidence.proofs.Proving.{test_of, contained_of}
 use Rattle.pb_rows.specs.Row.{Row, nothing, row_of_tokens}
 use Rattle.pb_rows.specs.Reached.{numbers_of, row_of, rows_of}
 use Rattle.pb_game_of_trees.specs.TreeGame.{AreRowsFrom}
 use Rattle.pb_game_of_trees.proofs.Reached.{found_row}
-use Rattle.pb_game_answer.specs.Explored.{AreModuleRows}
+use Rattle.pb_game_of_trees.specs.Explored.{AreModuleRows}
 use Rattle.pb_nearby.specs.declared.nearby.Nearby.{Nearby}
 use Rattle.pb_nearby.specs.Nearby.{found_in, rows_in, IsNearby}
 use Rattle.pb_nearby.specs.Around.{leaf_of, IsAround, AreAssumedRows}

@@ -3,7 +3,7 @@ ghost use Rattle.std.specs.Prelude.{◌≡◌, ◌≤◌, ◌<◌, ◌^◌, [], 
 ghost use Rattle.std.specs.Prelude.{map};
 ghost use Rattle.pb_rows.specs.Entries.{IsThere, row_there};
 ghost use Rattle.pb_bytecode.specs.Contents.{Contents};
-ghost use Rattle.pb_game_answer.specs.Explored.{AreModuleRows};
+ghost use Rattle.pb_game_of_trees.specs.Explored.{AreModuleRows};
 ghost use Rattle.pb_nearby.specs.Nearby.{IsNearby, found_in, rows_in};
 ghost use Rattle.pb_nearby.specs.Around.{AddsAround, AreAssumedRows};
 

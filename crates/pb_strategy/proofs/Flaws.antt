@@ -1,12 +1,12 @@
 -- A vertex that meets the rules has no flaw, and the other way round.
 use Rattle.std.proofs.Common.{ℕ, inl, inr, arith}
 use Rattle.pb_game.specs.declared.Game.{Game}
-use Rattle.pb_game_certificate.specs.declared.Solution.{Solution}
-use Rattle.pb_game_certificate.specs.declared.CertificateRule.{CertificateRule}
-use Rattle.pb_game_certificate.specs.declared.CertificateRule.TheVariants.{Length, NoSuccessor, LeavesRegion, Increases, NoDecrease}
-use Rattle.pb_game_certificate.specs.Solutions.{HasLengths}
-use Rattle.pb_game_certificate.specs.Certificates.{Decreases, IsSame, IsCertifiedAt}
-use Rattle.pb_game_certificate.specs.Flaws.{Fails}
+use Rattle.pb_game.specs.declared.certificate.Solution.{Solution}
+use Rattle.pb_game.specs.declared.certificate.CertificateRule.{CertificateRule}
+use Rattle.pb_game.specs.declared.certificate.CertificateRule.TheVariants.{Length, NoSuccessor, LeavesRegion, Increases, NoDecrease}
+use Rattle.pb_game.specs.Solutions.{HasLengths}
+use Rattle.pb_game.specs.Certificates.{Decreases, IsSame, IsCertifiedAt}
+use Rattle.pb_game.specs.Flaws.{Fails}
 
 -- the counts can't decrease both ways
 pub one_way : (f t : ℕ → ℕ) (w p limit : ℕ) → Decreases f t w p limit → Decreases t f w p limit → ⊥

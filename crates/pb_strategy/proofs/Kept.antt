@@ -4,9 +4,9 @@ use Rattle.std.proofs.lemmas.List.{get_or_default}
 use Rattle.std.specs.Prelude.{Contains}
 use Rattle.std.proofs.Common.{refl}
 use Rattle.pb_game.specs.declared.Game.{Game}
-use Rattle.pb_game_certificate.specs.declared.Solution.{Solution}
+use Rattle.pb_game.specs.declared.certificate.Solution.{Solution}
 use Rattle.pb_game.specs.Games.{successors_of, HasEdge}
-use Rattle.pb_game_certificate.specs.Certificates.{IsKept}
+use Rattle.pb_game.specs.Certificates.{IsKept}
 
 -- what holds of the element at each index holds of each element
 pub each_element : (xs : List ℕ) (P : ℕ → Type 0) → ((k : ℕ) → k < length xs → P (get_or xs k 0)) → (x : ℕ) → Contains xs x → P x

@@ -1,2 +1,11 @@
 pub mod Kept
 pub mod Flaws
+pub mod Players
+pub mod Lexicographic
+pub mod Priorities
+pub mod Arena
+pub mod Standing
+pub mod Counts
+pub mod Local
+pub mod CertifiedVertices
+pub mod Winners

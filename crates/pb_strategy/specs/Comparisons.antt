@@ -4,9 +4,9 @@ use Rattle.std.specs.declared.cmp.Ordering.{Ordering}
 use Rattle.std.specs.declared.cmp.Ordering.TheVariants.{Less, Equal, Greater}
 use Rattle.pb_game.specs.declared.Game.{Game}
 use Rattle.pb_game.specs.Games.{priority_of, priority_count}
-use Rattle.pb_game_certificate.specs.declared.Solution.{Solution}
-use Rattle.pb_game_certificate.specs.Solutions.{winner_of, count_of}
-use Rattle.pb_game_certificate.specs.Certificates.{Decreases, IsSame, IsKept}
+use Rattle.pb_game.specs.declared.certificate.Solution.{Solution}
+use Rattle.pb_game.specs.Solutions.{winner_of, count_of}
+use Rattle.pb_game.specs.Certificates.{Decreases, IsSame, IsKept}
 
 -- the counts that matter to the winner of v decrease along the edge from v to u
 abbrev pub DecreasesAlong : Game → Solution → ℕ → ℕ → Type 0

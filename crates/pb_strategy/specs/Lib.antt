@@ -1,1 +1,4 @@
 pub mod Comparisons
+pub mod Vertices
+pub mod Meaning
+pub mod Examples

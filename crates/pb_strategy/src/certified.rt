@@ -2,12 +2,11 @@
 //! second run.
 
 ghost use Rattle.std.specs.Prelude.{◌≡◌, ◌↔◌, IsOk, IfErr, IfOk};
-ghost use Rattle.pb_game_certificate.specs.Certificates.{IsCertificate};
-ghost use Rattle.pb_game_certificate.specs.Flaws.{IsFirstFlaw};
+ghost use Rattle.pb_game.specs.Certificates.{IsCertificate};
+ghost use Rattle.pb_game.specs.Flaws.{IsFirstFlaw};
 
 use crate::check;
-use pb_game::Game;
-use pb_game_certificate::{Flaw, Solution};
+use pb_game::{Flaw, Game, Solution};
 use std::marker::Model;
 
 /// A solution that the checker has certified for a game. Only [`certify`] makes one. Contracts see
@@ -18,7 +17,7 @@ pub struct Certified {
 }
 
 impl Model for Certified {
-    ghost use Rattle.pb_game_certificate.specs.declared.Solution.{Solution};
+    ghost use Rattle.pb_game.specs.declared.certificate.Solution.{Solution};
 
     ghost Value = { Solution };
 

@@ -3,14 +3,13 @@
 ghost use Rattle.std.specs.Prelude.{◌≡◌, ◌≢◌, ℕ, ◌+◌, ◌%◌, ◌<◌, ◌≤◌, ◌↔◌, length, IsTrue};
 ghost use Rattle.std.specs.Prelude.{MatchBool, MatchOption};
 ghost use Rattle.pb_game.specs.Games.{vertex_count, owner_of, priority_count, HasEdge};
-ghost use Rattle.pb_game_certificate.specs.Solutions.{winner_of, choice_of, HasLengths};
-ghost use Rattle.pb_game_certificate.specs.Certificates.{IsCertifiedAt};
-ghost use Rattle.pb_game_certificate.specs.Flaws.{LeavesAlong, IncreasesAlong, StaysAlong};
-ghost use Rattle.pb_game_certificate.specs.Flaws.{IsFirstRule};
+ghost use Rattle.pb_game.specs.Solutions.{winner_of, choice_of, HasLengths};
+ghost use Rattle.pb_game.specs.Certificates.{IsCertifiedAt};
+ghost use Rattle.pb_game.specs.Flaws.{LeavesAlong, IncreasesAlong, StaysAlong};
+ghost use Rattle.pb_game.specs.Flaws.{IsFirstRule};
 ghost use Rattle.pb_strategy.specs.Comparisons.{Compares, DecreasesAlong, DontIncrease, EachKept};
 
-use pb_game::Game;
-use pb_game_certificate::{CertificateRule, Solution};
+use pb_game::{CertificateRule, Game, Solution};
 use std::cmp::Ordering;
 
 /// The first rule that fails at `v`.

@@ -6,19 +6,19 @@
 //! each priority.
 #![tactic(auto)]
 
-ghost use Rattle.std.specs.Prelude.{◌≡◌, ◌*◌, ◌<◌, ◌↔◌, length, IsTrue, IsOk, IfErr, IfOk};
-ghost use Rattle.pb_game.specs.Games.{vertex_count, priority_count};
-ghost use Rattle.pb_game_certificate.specs.Solutions.{winner_of, HasLengths};
-ghost use Rattle.pb_game_certificate.specs.Certificates.{IsCertificate};
-ghost use Rattle.pb_game_certificate.specs.Flaws.{IsFirstFlaw};
-
 mod certified;
 mod edges;
+pub mod laws;
+
+ghost use Rattle.std.specs.Prelude.{◌≡◌, ◌*◌, ◌<◌, ◌↔◌, length, IsTrue, IsOk, IfErr, IfOk};
+ghost use Rattle.pb_game.specs.Games.{vertex_count, priority_count};
+ghost use Rattle.pb_game.specs.Solutions.{winner_of, HasLengths};
+ghost use Rattle.pb_game.specs.Certificates.{IsCertificate};
+ghost use Rattle.pb_game.specs.Flaws.{IsFirstFlaw};
 
 pub use certified::{Certified, certify};
 use edges::flaw_at;
-use pb_game::Game;
-use pb_game_certificate::{CertificateRule, Flaw, Solution};
+use pb_game::{CertificateRule, Flaw, Game, Solution};
 
 /// A solution that is a certificate of its game.
 #[derive(Drop)]
@@ -29,7 +29,7 @@ pub struct Checked<'a> {
 }
 
 impl Checked<'_> {
-    ghost use Rattle.pb_game_meaning.specs.Meaning.{IsSolvedAt};
+    ghost use Rattle.pb_strategy.specs.Meaning.{IsSolvedAt};
 
     /// Whether player 0 wins `v`. Of whatever Boolean equation system the game was built, this is
     /// the truth of the instance whose vertex `v` is (Groote and Willemse 2005).

@@ -7,10 +7,10 @@ use Rattle.pb_game_of_trees.specs.declared.tree_game.BuildError.{BuildError}
 use Rattle.pb_game_of_trees.specs.declared.tree_game.BuildError.TheVariants as build_error
 use Rattle.pb_model_properties.specs.declared.error.ModelError.{ModelError}
 use Rattle.pb_model_properties.specs.declared.error.ModelError.TheVariants as model_error
-use Rattle.pb_report_texts.specs.declared.buffer.WriteError.{WriteError}
-use Rattle.pb_report_texts.specs.declared.buffer.WriteError.TheVariants as write_error
-use Rattle.pb_report_texts.specs.Sending.{Writes, IsOutOfMemory}
-use Rattle.pb_solution.specs.Texts.{Sends}
+use Rattle.pb_report.specs.declared.buffer.WriteError.{WriteError}
+use Rattle.pb_report.specs.declared.buffer.WriteError.TheVariants as write_error
+use Rattle.pb_report.specs.Sending.{Writes, IsOutOfMemory}
+use Rattle.pb_module_solver.specs.Texts.{Sends}
 use Rattle.pbsolve.specs.declared.solve_error.SolveError.{SolveError}
 use Rattle.pbsolve.specs.declared.solve_error.SolveError.TheVariants as solve_error
 use Rattle.pbsolve.specs.Delivery.{Delivers, Leaves}

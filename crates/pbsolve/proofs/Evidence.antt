@@ -3,7 +3,7 @@ use Rattle.std.proofs.Common.{◌∙◌, ℕ, Bool, List}
 use Rattle.pb_text_tree.specs.Form.{SpecForm}
 use Rattle.pb_bytecode.specs.Contents.{Contents}
 use Rattle.pb_bytecode.specs.Meaning.{parameters}
-use Rattle.pb_evidence_texts.specs.ModuleEvidence.{ForEvidenceText}
+use Rattle.pb_report.specs.ModuleEvidence.{ForEvidenceText}
 use Rattle.pbsolve.specs.Answers.{IsTheReading, IsModuleOfForm}
 use Rattle.pbsolve.specs.CallPlaces.{told_place}
 use Rattle.pbsolve.specs.Outputs.{OutputsEvidence}

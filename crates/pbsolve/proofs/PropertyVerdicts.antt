@@ -11,8 +11,8 @@ use Rattle.pb_model_properties.specs.Said.{IsModelOf, IsTextOf}
 use Rattle.pb_bytecode.specs.Contents.{Contents}
 use Rattle.pb_game_of_trees.specs.declared.tree_game.BuildError.{BuildError}
 use Rattle.pb_game_of_trees.specs.declared.tree_game.BuildError.TheVariants as build_error
-use Rattle.pb_report_texts.specs.declared.answer.Answer.{Answer}
-use Rattle.pb_solution.specs.Answers.{IsAnswerOf, IsTooLarge}
+use Rattle.pb_report.specs.declared.answer.Answer.{Answer}
+use Rattle.pb_module_solver.specs.Answers.{IsAnswerOf, IsTooLarge}
 use Rattle.pbsolve.specs.declared.solve_error.SolveError.{SolveError}
 use Rattle.pbsolve.specs.declared.solve_error.SolveError.TheVariants as solve_error
 use Rattle.pbsolve.specs.Answers.{IsModuleOfForm}

@@ -4,8 +4,8 @@ use Rattle.std.specs.Prelude.{Result, Ok, Err, IfOk}
 use Rattle.pb_trees.specs.Tree.{Tree}
 use Rattle.pb_bytecode.specs.Contents.{Contents}
 use Rattle.pb_bytecode.specs.Meaning.{AreTrees}
-use Rattle.pb_report_texts.specs.declared.answer.Answer.{Answer}
-use Rattle.pb_solution.specs.Answers.{IsAnswerOf}
+use Rattle.pb_report.specs.declared.answer.Answer.{Answer}
+use Rattle.pb_module_solver.specs.Answers.{IsAnswerOf}
 use Rattle.pbsolve.specs.declared.solve_error.SolveError.{SolveError}
 use Rattle.pbsolve.specs.Answers.{IsAnswer, IsModuleOfText}
 

@@ -13,10 +13,10 @@ use Rattle.pb_bytecode.specs.Spelling.{spelling}
 use Rattle.pb_verifier.specs.Acceptance.{IsAccepted}
 use Rattle.pb_assembler_modules.specs.Answers.{SaysTheSame}
 use Rattle.pb_assembler_modules.specs.Module.{IsCompiledModule, KeepsAllLimits}
-use Rattle.pb_report_texts.specs.declared.answer.Answer.{Answer}
+use Rattle.pb_report.specs.declared.answer.Answer.{Answer}
 use Rattle.pb_evidence.specs.declared.Evidence.{Evidence}
-use Rattle.pb_evidence_texts.specs.ModuleEvidence.{IsModuleEvidence}
-use Rattle.pb_solution.specs.Answers.{IsAnswerOf}
+use Rattle.pb_report.specs.ModuleEvidence.{IsModuleEvidence}
+use Rattle.pb_module_solver.specs.Answers.{IsAnswerOf}
 
 -- the bytes say this within the limits, and they say nothing else, whatever the limits
 pub record IsTheReading (bytes : List ℕ) (x : SpecForm) : Type 0 where

@@ -12,10 +12,10 @@ use Rattle.pb_verifier.specs.declared.verify_error.VerifyError.{VerifyError}
 use Rattle.pb_verifier.specs.declared.verify_error.VerifyError.TheVariants as verify_error
 use Rattle.pb_game_of_trees.specs.declared.tree_game.BuildError.{BuildError}
 use Rattle.pb_game_of_trees.specs.declared.tree_game.BuildError.TheVariants as build_error
-use Rattle.pb_report_texts.specs.declared.buffer.WriteError.{WriteError}
-use Rattle.pb_report_texts.specs.declared.buffer.WriteError.TheVariants as write_error
-use Rattle.pb_report.specs.Lines as lines
-use Rattle.pb_report.specs.declared.fault.ProgramFault.TheVariants.{U01, U02, E01, E02, M01}
+use Rattle.pb_report.specs.declared.buffer.WriteError.{WriteError}
+use Rattle.pb_report.specs.declared.buffer.WriteError.TheVariants as write_error
+use Rattle.pbsolve.specs.Lines as lines
+use Rattle.pbsolve.specs.declared.fault.ProgramFault.TheVariants.{U01, U02, E01, E02, M01}
 use Rattle.pb_command_line.specs.declared.words.WordsError.{WordsError}
 use Rattle.pb_command_line.specs.declared.words.WordsError.TheVariants as words_error
 use Rattle.pbsolve.specs.declared.input.InputError.{InputError}

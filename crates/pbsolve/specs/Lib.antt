@@ -9,4 +9,5 @@ pub mod Program
 pub mod Status
 pub use Rattle.pb_sorts.specs.Sink
 pub use Rattle.pb_sorts.specs.Source
-pub use Rattle.pb_report.specs.Lines
+pub use Rattle.pbsolve.specs.Lines
+pub mod Lines

@@ -9,8 +9,8 @@ use Rattle.pb_model_tree.specs.Form.{ModelForm, PropertyForm}
 use Rattle.pb_model_properties.specs.Refusals.{IsRefusedText, IsRefusedType, LacksProperty}
 use Rattle.pb_model_properties.specs.Said.{satisfies, IsModelOf, IsTextOf}
 use Rattle.pb_model_properties.specs.Verdicts.{verdict_text}
-use Rattle.pb_report_texts.specs.declared.answer.Answer.{Answer}
-use Rattle.pb_solution.specs.Answers.{IsAnswerOf, IsTooLarge}
+use Rattle.pb_report.specs.declared.answer.Answer.{Answer}
+use Rattle.pb_module_solver.specs.Answers.{IsAnswerOf, IsTooLarge}
 use Rattle.pbsolve.specs.declared.solve_error.SolveError.{SolveError}
 use Rattle.pbsolve.specs.declared.solve_error.SolveError.TheVariants as solve_error
 use Rattle.pbsolve.specs.Answers.{IsModuleOfForm}

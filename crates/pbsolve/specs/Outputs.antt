@@ -10,12 +10,12 @@ use Rattle.pb_bytecode.specs.Contents.{Contents}
 use Rattle.pb_bytecode.specs.Meaning.{AreTrees, parameters}
 use Rattle.pb_bytecode.specs.Spelling.{spelling}
 use Rattle.pb_bytecode.specs.Listing.{listing}
-use Rattle.pb_report_texts.specs.declared.answer.Answer.{Answer}
-use Rattle.pb_report_texts.specs.Report.{report_text}
+use Rattle.pb_report.specs.declared.answer.Answer.{Answer}
+use Rattle.pb_report.specs.Report.{report_text}
 use Rattle.pb_evidence.specs.declared.Evidence.{Evidence}
-use Rattle.pb_evidence_texts.specs.ModuleEvidence.{module_evidence_text}
-use Rattle.pb_solution.specs.Answers.{IsAnswerOf}
-use Rattle.pb_solution.specs.Texts.{ForCertificateText, ForGameText, ForSolutionText}
+use Rattle.pb_report.specs.ModuleEvidence.{module_evidence_text}
+use Rattle.pb_module_solver.specs.Answers.{IsAnswerOf}
+use Rattle.pb_module_solver.specs.Texts.{ForCertificateText, ForGameText, ForSolutionText}
 use Rattle.pb_command_line.specs.declared.command.Command.{Command}
 use Rattle.pb_command_line.specs.declared.command.Command.TheVariants as command
 use Rattle.pb_command_line.specs.declared.request.Request.{Request}

@@ -3,9 +3,9 @@ use Rattle.std.specs.Prelude.{◌≡◌, ◌≤◌, ℕ, List, ◌⊎◌, Bool, 
 use Rattle.std.specs.Io.KnownBytes.{Appends, Consumes}
 use Rattle.pb_sorts.specs.Sink.{AppendsPrefix}
 use Rattle.pb_sorts.specs.Source.{IsWhole, IsLongerThan}
-use Rattle.pb_report.specs.Lines as lines
-use Rattle.pb_report.specs.declared.fault.ProgramFault as fault
-use Rattle.pb_report.specs.declared.fault.ProgramFault.TheVariants.{U01, U02, E01, E02, M01}
+use Rattle.pbsolve.specs.Lines as lines
+use Rattle.pbsolve.specs.declared.fault.ProgramFault as fault
+use Rattle.pbsolve.specs.declared.fault.ProgramFault.TheVariants.{U01, U02, E01, E02, M01}
 use Rattle.pb_command_line.specs.declared.request.Request.{Request}
 use Rattle.pb_command_line.specs.Words.{AskFor, AskForSomething, HaveFault}
 use Rattle.pb_command_line.specs.declared.command.Command.TheVariants.{Translate}

@@ -18,7 +18,7 @@ use Rattle.pb_bytecode.specs.Decoded.{FaultStands}
 use Rattle.pb_verifier.specs.Acceptance.{IsAccepted}
 use Rattle.pb_verifier.specs.declared.verify_error.VerifyError.{VerifyError}
 use Rattle.pb_verifier.specs.declared.verify_error.VerifyError.TheVariants as verify_error
-use Rattle.pb_solution.specs.Answers.{IsTooLarge}
+use Rattle.pb_module_solver.specs.Answers.{IsTooLarge}
 use Rattle.pbsolve.specs.declared.solve_error.SolveError.{SolveError}
 use Rattle.pbsolve.specs.declared.solve_error.SolveError.TheVariants as solve_error
 use Rattle.pbsolve.specs.Answers.{IsTheReading, IsModuleOfText, IsModuleOfCode, Spell}

@@ -9,13 +9,13 @@ ghost use Rattle.pb_trees.specs.Tree.{Tree};
 ghost use Rattle.pb_bytecode.specs.Meaning.{AreTrees, parameters};
 ghost use Rattle.pb_assembler_modules.specs.Module.{IsCompiledModule};
 ghost use Rattle.pb_call_places.specs.View.{layout_of, said_by};
-ghost use Rattle.pb_evidence_texts.specs.CallPlaces.{AreCallPlaces};
-ghost use Rattle.pb_evidence_texts.specs.ModuleEvidence.{IsExplanation};
+ghost use Rattle.pb_report.specs.CallPlaces.{AreCallPlaces};
+ghost use Rattle.pb_report.specs.ModuleEvidence.{IsExplanation};
 ghost use Rattle.pbsolve.specs.CallPlaces.{place_of_call, told_place};
 
 use pb_call_places::CallPlaces;
 use pb_evidence::Evidence;
-use pb_evidence_texts::Explanation;
+use pb_report::Explanation;
 use pb_sorts::Layout;
 use pb_text_tree::Place;
 use pb_typing::Typed;

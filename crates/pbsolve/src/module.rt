@@ -3,23 +3,22 @@
 ghost use Rattle.std.specs.Prelude.{◌≢◌, ◌≤◌, ◌<◌, ℕ, Option, IfOk, IfErr};
 ghost use Rattle.std.specs.Io.KnownBytes.{Appends};
 ghost use Rattle.pb_text_tree.specs.declared.place.Place.{Place};
-ghost use Rattle.pb_report_texts.specs.Report.{report_text};
-ghost use Rattle.pb_evidence_texts.specs.CallPlaces.{AreCallPlaces};
-ghost use Rattle.pb_evidence_texts.specs.ModuleEvidence.{ForEvidenceText, IsExplanation};
-ghost use Rattle.pb_solution.specs.Answers.{IsAnswerOf, IsSolutionOf};
-ghost use Rattle.pb_solution.specs.Texts.{ForCertificateText, ForGameText, ForSolutionText};
+ghost use Rattle.pb_report.specs.Report.{report_text};
+ghost use Rattle.pb_report.specs.CallPlaces.{AreCallPlaces};
+ghost use Rattle.pb_report.specs.ModuleEvidence.{ForEvidenceText, IsExplanation};
+ghost use Rattle.pb_module_solver.specs.Answers.{IsAnswerOf, IsSolutionOf};
+ghost use Rattle.pb_module_solver.specs.Texts.{ForCertificateText, ForGameText, ForSolutionText};
 ghost use Rattle.pbsolve.specs.Delivery.{Delivers};
 ghost use Rattle.pbsolve.specs.Refusals.{IsRefusedModule};
 ghost use Rattle.pbsolve.specs.Outputs.{ForReport};
 
 use crate::solve_error::SolveError;
-use pb_evidence_texts::{Explanation, PlacedExplanation};
 use pb_exploration::Gate;
-use pb_report_texts::{Answer, report};
-use pb_solution::{
+use pb_game::Solver;
+use pb_module_solver::{
     SolveOptions, answer_module, build_module, explain_module, solve_module, write_explanation,
 };
-use pb_solver_names::Solver;
+use pb_report::{Answer, Explanation, PlacedExplanation, report};
 use pb_sorts::Sink;
 use pb_verifier::Verified;
 use std::alloc::Global;

@@ -3,8 +3,8 @@ ghost use Rattle.std.specs.Prelude.{◌≡◌, ◌≢◌, ◌≤◌, ◌⊎◌, 
 ghost use Rattle.std.specs.Prelude.{IsSome};
 ghost use Rattle.std.specs.Io.KnownBytes.{Appends};
 ghost use Rattle.pb_sorts.specs.Sink.{AppendsPrefix};
-ghost use Rattle.pb_report.specs.declared.fault.ProgramFault.TheVariants as fault;
-ghost use Rattle.pb_report.specs.Lines.{line_of};
+ghost use Rattle.pbsolve.specs.declared.fault.ProgramFault.TheVariants as fault;
+ghost use Rattle.pbsolve.specs.Lines.{line_of};
 ghost use Rattle.pb_command_line.specs.declared.command.Command.TheVariants.{Translate};
 ghost use Rattle.pb_command_line.specs.Words.{AskForSomething, HaveFault, AskNothing, AskPlainly};
 ghost use Rattle.pbsolve.specs.Delivery.{Delivers};
@@ -23,10 +23,10 @@ use crate::solve::{certificate_of, explain_text, game_of, solution_of, solve_tex
 use crate::solve_error::SolveError;
 use crate::status::Status;
 use crate::streams::Streams;
+use crate::{ErrorLine, ProgramFault};
 use pb_command_line::{Command, Request, request_of};
 use pb_exploration::Gate;
-use pb_report::{ErrorLine, ProgramFault};
-use pb_solution::SolveOptions;
+use pb_module_solver::SolveOptions;
 use pb_sorts::{Sink, Source, put};
 use std::alloc::Global;
 use std::convert::AsStr;

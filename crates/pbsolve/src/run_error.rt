@@ -1,10 +1,10 @@
 //! Why a run of the program has no answer.
 ghost use Rattle.std.specs.Prelude.{◌≡◌};
 
+use crate::ProgramFault;
 use crate::input::InputError;
 use crate::solve_error::SolveError;
 use pb_command_line::WordsError;
-use pb_report::ProgramFault;
 
 /// Why a run has no answer.
 #[derive(Debug, Drop)]

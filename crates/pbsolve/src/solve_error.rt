@@ -1,11 +1,11 @@
 //! The errors of the layers, joined: why there is no answer.
 ghost use Rattle.std.specs.Prelude.{◌≡◌};
 
+use crate::{ErrorLine, ProgramFault, limit_line};
 use pb_bytecode::{Limit, ModuleError};
 use pb_game_of_trees::BuildError;
 use pb_model_properties::ModelError;
-use pb_report::{ErrorLine, ProgramFault, limit_line};
-use pb_report_texts::WriteError;
+use pb_report::WriteError;
 use pb_sorts::E02;
 use pb_text::TextError;
 use pb_typing_declarations::TypeError;

@@ -2,9 +2,8 @@
 #![tactic(auto)]
 
 use pb_exploration::NoGate;
-use pb_report::ProgramFault;
 use pb_sorts::{In, Out};
-use pbsolve::Streams;
+use pbsolve::{ProgramFault, Streams};
 use std::io::ErrorKind;
 use std::process::ExitCode;
 use std::{env, io};

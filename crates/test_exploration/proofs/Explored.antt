@@ -5,7 +5,7 @@ use Rattle.pb_bytecode.specs.Contents.{Contents}
 use Rattle.pb_bytecode.specs.Meaning.{initial_of}
 use Rattle.pb_machine.specs.Reachable.{Starts}
 use Rattle.pb_exploration.specs.Rows.{AreExplored}
-use Rattle.pb_game_answer.specs.Explored.{AreModuleRows}
+use Rattle.pb_game_of_trees.specs.Explored.{AreModuleRows}
 
 pub module_rows : (m : Contents) (rows : List Row) → AreExplored m rows → AreModuleRows m rows
 module_rows m rows explored trees have =

@@ -71,7 +71,7 @@ impl Builder {
 fn explained(
     alloc: Global,
     game: &Game,
-    solution: &pb_game_certificate::Solution,
+    solution: &pb_game::Solution,
     marks: &[bool],
     numbers: &[u32],
     start: u32,

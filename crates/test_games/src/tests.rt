@@ -1,6 +1,5 @@
 use crate::measures::won_by_player_0;
-use pb_game::{Game, GameError, Parts};
-use pb_game_certificate::{CertificateRule, Flaw, Solution};
+use pb_game::{CertificateRule, Flaw, Game, GameError, Parts, Solution};
 use pb_strategy::check;
 use pb_zielonka::solve;
 use std::alloc::Global;

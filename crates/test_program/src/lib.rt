@@ -3,6 +3,10 @@
 #![tactic(auto)]
 
 #[cfg(test)]
+mod budget;
+#[cfg(test)]
+mod failing;
+#[cfg(test)]
 mod fuzzing;
 #[cfg(test)]
 mod tests;

@@ -14,12 +14,12 @@ mod rows;
 mod solvers;
 mod workers;
 
+use crate::budget::Budget;
 use pb_exploration::NoGate;
 use pb_sorts::{In, Source};
 use pbsolve::Streams;
 use std::alloc::{AllocError, Global};
 use std::thread::Threads;
-use test_streams::budget::Budget;
 
 // More than the program writes to either writer.
 const ROOM: usize = 1000;

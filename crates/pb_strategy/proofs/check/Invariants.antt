@@ -1,7 +1,7 @@
 use Rattle.std.proofs.Common.{◌≡◌, ℕ, ◌<◌}
 use Rattle.pb_game.specs.Games.{vertex_count}
-use Rattle.pb_game_certificate.specs.Solutions.{HasLengths}
-use Rattle.pb_game_certificate.specs.Certificates.{IsCertifiedAt}
+use Rattle.pb_game.specs.Solutions.{HasLengths}
+use Rattle.pb_game.specs.Certificates.{IsCertifiedAt}
 use Rattle.pb_strategy.proofs.check.Given as goal
 
 abbrev pub invariant-loop-vertex : goal.invariant-loop-vertex

@@ -1,20 +1,19 @@
 //! From the bytes of a module to what is printed about it.
 ghost use Rattle.std.specs.Prelude.{IfOk};
-ghost use Rattle.pb_game_answer.specs.Explored.{HaveTrees, AreModuleRows, IsModuleGame};
-ghost use Rattle.pb_game_certificate.specs.Solutions.{HasLengths};
+ghost use Rattle.pb_game_of_trees.specs.Explored.{HaveTrees, AreModuleRows, IsModuleGame};
+ghost use Rattle.pb_game.specs.Solutions.{HasLengths};
 
 use pb_bytecode::decode::decode;
 use pb_exploration::{Explored, NoGate, explore};
-use pb_game_answer::{Solved, build};
-use pb_game_of_trees::BuildError;
-use pb_game_solver::solve;
+use pb_game::Solver;
+use pb_game_of_trees::{BuildError, Solved, build};
 use pb_machine::instances_have_trees;
-use pb_report_texts::certificate_text::certificate_text;
-use pb_report_texts::game_text::game_text;
-use pb_report_texts::solution_text::solution_text;
-use pb_report_texts::{Answer, WriteError, report};
+use pb_module_solver::solve;
+use pb_report::certificate_text::certificate_text;
+use pb_report::game_text::game_text;
+use pb_report::solution_text::solution_text;
+use pb_report::{Answer, WriteError, report};
 use pb_rows::IndexedRows;
-use pb_solver_names::Solver;
 use pb_sorts::Sink;
 use pb_verifier::{Verified, VerifyError, verify};
 use std::alloc::{AllocError, Global};

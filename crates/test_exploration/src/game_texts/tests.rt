@@ -1,6 +1,6 @@
 use crate::game_texts::modules;
 use crate::game_texts::printing::{print_certificate, print_game, print_report, print_solution};
-use pb_report_texts::WriteError;
+use pb_report::WriteError;
 use pb_sorts::{Out, Sink};
 use std::alloc::Global;
 use std::io::Cursor;

@@ -1,6 +1,7 @@
 //! Generated and mutated texts: random tokens, and known texts of which some bytes or words are
 //! changed. Each is answered with a status from 0 to 4, and a refusal with one line.
 
+use crate::budget::Budget;
 use crate::fuzzing::flaw::Flaw;
 use crate::fuzzing::random::Generator;
 use pb_exploration::NoGate;
@@ -8,7 +9,6 @@ use pb_sorts::In;
 use pbsolve::Streams;
 use std::alloc::{AllocError, Global};
 use std::thread::Threads;
-use test_streams::budget::Budget;
 
 /// More than the program writes of such a text.
 const ROOM: usize = 1 << 24;

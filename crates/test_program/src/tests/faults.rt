@@ -1,13 +1,13 @@
 //! Wrong words, readers and writers that fail, and input up to its limit.
 use super::{ROOM, run_on, run_over};
+use crate::budget::Budget;
+use crate::failing::{Broken, Failing};
 use pb_sorts::In;
 use pbsolve::{INPUT_LIMIT, Streams};
 use std::alloc::Global;
 use std::io;
 use std::io::Read;
 use std::test::Fail;
-use test_streams::budget::Budget;
-use test_streams::failing::{Broken, Failing};
 
 const SOLVE: [&str; 2] = ["pbsolve", "solve"];
 

@@ -1,11 +1,11 @@
 //! Evidence from a part of the instances: workers explore all of them only where no part is enough,
 //! and what isn't explored decides nothing.
+use crate::budget::Budget;
 use crossbeam_utils::atomic::AtomicCell;
 use pb_exploration::Gate;
 use pb_sorts::In;
 use pbsolve::Streams;
 use std::test::Fail;
-use test_streams::budget::Budget;
 
 /// More than the program writes of these systems.
 const ROOM: usize = 1000;

@@ -2,6 +2,7 @@
 use super::modules::{MODULE, bytes_of};
 use super::rows::ROWS;
 use super::{Outcome, ROOM, report, run_on};
+use crate::budget::Budget;
 use crossbeam_utils::atomic::AtomicCell;
 use pb_exploration::Gate;
 use pb_sorts::In;
@@ -9,7 +10,6 @@ use pbsolve::Streams;
 use std::alloc::{AllocError, Global};
 use std::test::Fail;
 use std::thread::Threads;
-use test_streams::budget::Budget;
 
 const SOLVERS: [&str; 2] = ["zielonka", "lift"];
 

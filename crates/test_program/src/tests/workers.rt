@@ -1,12 +1,12 @@
 //! How many workers explore: so many as the words say, one where they don't.
 use super::ROOM;
+use crate::budget::Budget;
 use crossbeam_utils::Backoff;
 use crossbeam_utils::atomic::AtomicCell;
 use pb_exploration::Gate;
 use pb_sorts::In;
 use pbsolve::Streams;
 use std::test::Fail;
-use test_streams::budget::Budget;
 
 // Each of three instances calls the two others, so that there is something for a second worker.
 const TEXT: &str = "pbes nu X = Y && Z; nu Y = X && Z; nu Z = X && Y; init X;";

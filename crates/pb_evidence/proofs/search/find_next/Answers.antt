@@ -1,6 +1,6 @@
 use Rattle.std.proofs.Common.{◌≡◌, ◌≤◌, ℕ, List, length, get_or, ◌+◌, sym, ap, subst, rules}
 use Rattle.pb_game.specs.Games.{successors_of}
-use Rattle.pb_game_certificate.specs.Certificates.{IsKept}
+use Rattle.pb_game.specs.Certificates.{IsKept}
 use Rattle.pb_evidence.specs.Finding.{Gains}
 use Rattle.pb_strategy.proofs.Kept.{edge_at}
 use Rattle.pb_evidence.proofs.Gaining.{IsKeptBefore, kept_more, kept_skip, kept_all}

@@ -1,6 +1,6 @@
 use Rattle.std.proofs.Common.{◌≡◌, ◌<◌, ◌≤◌, ◌+◌, length, get_or, sym, subst, arith, rules}
 use Rattle.std.proofs.lemmas.List.{get_or_read}
-use Rattle.pb_game_certificate.specs.Certificates.{IsKept}
+use Rattle.pb_game.specs.Certificates.{IsKept}
 use Rattle.pb_evidence.specs.Finding.{Gains}
 use Rattle.pb_evidence.specs.Searching.{IsOpen}
 use Rattle.pb_evidence.proofs.Searching.{IsSearching, search_start, looked_within, search_more, search_skip, search_end}

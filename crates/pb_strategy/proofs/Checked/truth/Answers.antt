@@ -1,6 +1,6 @@
 use Rattle.std.proofs.Common.{ap, ◌∙◌}
 use Rattle.std.specs.Prelude.{◌==◌}
-use Rattle.pb_game_meaning.proofs.Winners.{merely_solved}
+use Rattle.pb_strategy.proofs.Winners.{merely_solved}
 use Rattle.pb_strategy.proofs.Checked.truth.Goals as goal
 
 pub returns-clause-meaning : goal.returns-clause-meaning

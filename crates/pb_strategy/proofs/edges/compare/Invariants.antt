@@ -1,6 +1,6 @@
 use Rattle.std.proofs.Common.{◌≡◌, ◌≢◌, ℕ, ◌<◌, ◌%◌}
 use Rattle.pb_game.specs.Games.{priority_count}
-use Rattle.pb_game_certificate.specs.Solutions.{winner_of, count_of}
+use Rattle.pb_game.specs.Solutions.{winner_of, count_of}
 use Rattle.pb_strategy.proofs.edges.compare.Given as goal
 
 abbrev pub invariant-loop-place : goal.invariant-loop-place

@@ -1,11 +1,11 @@
 use Rattle.std.proofs.Common.{◌≡◌, ℕ, ◌%◌, ◌<◌, inl, inr, refl, sym, subst, arith}
 use Rattle.pb_game.specs.declared.Game.{Game}
 use Rattle.pb_game.specs.Games.{owner_of, priority_of, HasEdge}
-use Rattle.pb_game_certificate.specs.declared.Solution.{Solution}
-use Rattle.pb_game_certificate.specs.declared.CertificateRule.{CertificateRule}
-use Rattle.pb_game_certificate.specs.declared.CertificateRule.TheVariants.{Length, NoSuccessor, LeavesRegion, Increases, NoDecrease}
-use Rattle.pb_game_certificate.specs.Solutions.{winner_of, choice_of, HasLengths}
-use Rattle.pb_game_certificate.specs.Flaws.{Fails, rule_order}
+use Rattle.pb_game.specs.declared.certificate.Solution.{Solution}
+use Rattle.pb_game.specs.declared.certificate.CertificateRule.{CertificateRule}
+use Rattle.pb_game.specs.declared.certificate.CertificateRule.TheVariants.{Length, NoSuccessor, LeavesRegion, Increases, NoDecrease}
+use Rattle.pb_game.specs.Solutions.{winner_of, choice_of, HasLengths}
+use Rattle.pb_game.specs.Flaws.{Fails, rule_order}
 use Rattle.pb_strategy.specs.Comparisons.{DontIncrease, EachKept}
 use Rattle.pb_strategy.proofs.Flaws.{one_way, not_same}
 use Rattle.pb_strategy.proofs.edges.flaw_at.Goals as goal

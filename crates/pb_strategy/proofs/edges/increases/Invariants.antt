@@ -1,6 +1,6 @@
 use Rattle.std.proofs.Common.{ℕ, ◌<◌, get_or}
 use Rattle.pb_game.specs.Games.{successors_of}
-use Rattle.pb_game_certificate.specs.Certificates.{IsKept}
+use Rattle.pb_game.specs.Certificates.{IsKept}
 use Rattle.pb_strategy.specs.Comparisons.{DontIncrease}
 use Rattle.pb_strategy.proofs.edges.increases.Given as goal
 

@@ -1,6 +1,6 @@
 use Rattle.std.proofs.Common.{◌≡◌, ◌<◌, get_or, arith}
 use Rattle.pb_game.specs.Games.{vertex_count}
-use Rattle.pb_game_certificate.specs.Solutions.{winner_of}
+use Rattle.pb_game.specs.Solutions.{winner_of}
 use Rattle.pb_game.proofs.Laws.{is_game}
 use Rattle.pb_strategy.proofs.Kept.{each_kept, edge_at}
 use Rattle.pb_strategy.proofs.edges.leaves_region.Goals as goal

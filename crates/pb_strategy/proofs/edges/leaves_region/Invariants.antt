@@ -1,7 +1,7 @@
 use Rattle.std.proofs.Common.{◌≡◌, ℕ, ◌<◌, get_or}
 use Rattle.pb_game.specs.Games.{successors_of}
-use Rattle.pb_game_certificate.specs.Solutions.{winner_of}
-use Rattle.pb_game_certificate.specs.Certificates.{IsKept}
+use Rattle.pb_game.specs.Solutions.{winner_of}
+use Rattle.pb_game.specs.Certificates.{IsKept}
 use Rattle.pb_strategy.proofs.edges.leaves_region.Given as goal
 
 abbrev pub invariant-loop-target : goal.invariant-loop-target

@@ -1,7 +1,7 @@
 use Rattle.std.proofs.Common.{arith}
 use Rattle.pb_game.specs.Games.{priority_of, priority_count}
-use Rattle.pb_game_certificate.specs.Solutions.{winner_of, count_of}
-use Rattle.pb_game_certificate.specs.Certificates.{Decreases}
+use Rattle.pb_game.specs.Solutions.{winner_of, count_of}
+use Rattle.pb_game.specs.Certificates.{Decreases}
 use Rattle.pb_game.proofs.Laws.{is_game}
 use Rattle.pb_strategy.proofs.Kept.{each_kept, edge_at}
 use Rattle.pb_strategy.proofs.edges.stays.Goals as goal

@@ -1,7 +1,7 @@
 use Rattle.std.proofs.Common.{ℕ, ◌<◌, get_or}
 use Rattle.pb_game.specs.Games.{successors_of, priority_of, priority_count}
-use Rattle.pb_game_certificate.specs.Solutions.{winner_of, count_of}
-use Rattle.pb_game_certificate.specs.Certificates.{IsKept, Decreases}
+use Rattle.pb_game.specs.Solutions.{winner_of, count_of}
+use Rattle.pb_game.specs.Certificates.{IsKept, Decreases}
 use Rattle.pb_strategy.proofs.edges.stays.Given as goal
 
 abbrev pub invariant-loop-target : goal.invariant-loop-target

@@ -6,8 +6,8 @@ use Rattle.pb_sorts.specs.declared.carrier.Carrier.{Carrier}
 use Rattle.pb_sorts.specs.Layout.{carriers_of, count_of}
 use Rattle.pb_bytecode.specs.Meaning.{parameters}
 use Rattle.pb_call_places.specs.View.{said_by}
-use Rattle.pb_evidence_texts.specs.CallPlaces.{AreCallPlaces}
-use Rattle.pb_evidence_texts.proofs.Lines.{instance_below, dependency_below}
+use Rattle.pb_report.specs.CallPlaces.{AreCallPlaces}
+use Rattle.pb_report.proofs.Lines.{instance_below, dependency_below}
 use Rattle.pbsolve.proofs.Carriers.{same_carriers}
 use Rattle.pbsolve.proofs.Placing.{are_told_places}
 use Rattle.pbsolve.proofs.call_places.call_places_of.Goals as goal

@@ -1,4 +1,4 @@
-use Rattle.pb_solution.specs.Texts.{ForGameText}
+use Rattle.pb_module_solver.specs.Texts.{ForGameText}
 use Rattle.pbsolve.specs.Errors.{build_refusal}
 use Rattle.pbsolve.proofs.Deliveries.{build_unwritten, nothing_written, sent_up, sent_whole}
 use Rattle.pbsolve.proofs.module.write_game.Goals as goal

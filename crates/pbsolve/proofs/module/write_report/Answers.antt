@@ -1,5 +1,5 @@
 use Rattle.std.proofs.Common.{ℕ, List}
-use Rattle.pb_report_texts.specs.Report.{report_text}
+use Rattle.pb_report.specs.Report.{report_text}
 use Rattle.pbsolve.specs.Errors.{build_refusal}
 use Rattle.pbsolve.specs.Outputs.{ForReport}
 use Rattle.pbsolve.proofs.Deliveries.{build_unwritten, nothing_written, sent_up, sent_whole, written}

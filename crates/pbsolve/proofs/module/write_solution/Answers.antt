@@ -1,4 +1,4 @@
-use Rattle.pb_solution.specs.Texts.{ForSolutionText}
+use Rattle.pb_module_solver.specs.Texts.{ForSolutionText}
 use Rattle.pbsolve.specs.Errors.{build_refusal}
 use Rattle.pbsolve.proofs.Deliveries.{build_unwritten, nothing_written, sent_up, sent_whole}
 use Rattle.pbsolve.proofs.module.write_solution.Goals as goal

@@ -4,7 +4,7 @@ use Rattle.std.specs.Prelude.{IsSome}
 use Rattle.std.specs.Io.KnownBytes.{Appends}
 use Rattle.pb_sorts.specs.Sink.{AppendsPrefix}
 use Rattle.std.proofs.lemmas.Result.{err_from_is_err_and}
-use Rattle.pb_report.specs.declared.fault.ProgramFault.TheVariants as fault
+use Rattle.pbsolve.specs.declared.fault.ProgramFault.TheVariants as fault
 use Rattle.pb_sorts.specs.Source.{IsLongerThan}
 use Rattle.pb_command_line.specs.declared.request.Request.{Request}
 use Rattle.pb_command_line.specs.Words.{AskFor, AskForSomething}

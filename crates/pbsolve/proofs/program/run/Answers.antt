@@ -1,6 +1,6 @@
 -- The status tells the error, and the error what was read and written; the line with status 1 is that of a refused input.
 use Rattle.std.proofs.Common.{◌≡◌, sym, ◌∙◌, ap, subst, map, inl, inr, Err, arith}
-use Rattle.pb_report.specs.declared.fault.ProgramFault.TheVariants.{E01, E02}
+use Rattle.pbsolve.specs.declared.fault.ProgramFault.TheVariants.{E01, E02}
 use Rattle.pbsolve.specs.declared.run_error.RunError.{RunError}
 use Rattle.pbsolve.specs.declared.run_error.RunError.TheVariants.{ProgramFault}
 use Rattle.pbsolve.specs.declared.status.Status.TheVariants.{Usage, Failed}

@@ -1,6 +1,6 @@
 -- An error is told by its own line, or by that of want of memory.
 use Rattle.std.proofs.Common.{refl, inl, inr, sym, subst}
-use Rattle.pb_report.specs.declared.fault.ProgramFault.TheVariants.{M01}
+use Rattle.pbsolve.specs.declared.fault.ProgramFault.TheVariants.{M01}
 use Rattle.pbsolve.specs.declared.run_error.RunError.TheVariants.{ProgramFault, Refused}
 use Rattle.pbsolve.specs.Program.{IsToldAs}
 use Rattle.pbsolve.proofs.program.tell.Goals as goal

@@ -1,6 +1,6 @@
 use Rattle.std.proofs.Common.{ℕ, List}
 use Rattle.pb_command_line.specs.declared.command.Command.TheVariants.{Certificate}
-use Rattle.pb_solution.specs.Texts.{ForCertificateText}
+use Rattle.pb_module_solver.specs.Texts.{ForCertificateText}
 use Rattle.pbsolve.specs.Outputs.{Outputs}
 use Rattle.pbsolve.proofs.Deliveries.{less_delivered, nothing_written}
 use Rattle.pbsolve.proofs.solve.certificate_of.Goals as goal

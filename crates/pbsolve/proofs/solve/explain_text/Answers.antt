@@ -2,8 +2,8 @@ use Rattle.std.proofs.Common.{List, Option, sym, subst}
 use Rattle.pb_text_tree.specs.declared.place.Place.{Place}
 use Rattle.pb_text_tree.specs.Form.{spec_form}
 use Rattle.pb_bytecode.specs.Meaning.{parameters}
-use Rattle.pb_evidence_texts.specs.CallPlaces.{AreCallPlaces}
-use Rattle.pb_evidence_texts.specs.ModuleEvidence.{ForEvidenceText}
+use Rattle.pb_report.specs.CallPlaces.{AreCallPlaces}
+use Rattle.pb_report.specs.ModuleEvidence.{ForEvidenceText}
 use Rattle.pbsolve.specs.declared.solve_error.SolveError.TheVariants.{Memory}
 use Rattle.pbsolve.specs.CallPlaces.{told_place}
 use Rattle.pbsolve.specs.Outputs.{OutputsEvidence}

@@ -1,5 +1,5 @@
 use Rattle.std.proofs.Common.{sym, subst}
-use Rattle.pb_game_answer.specs.Explored.{AreModuleRows}
+use Rattle.pb_game_of_trees.specs.Explored.{AreModuleRows}
 use Rattle.test_exploration.proofs.game_texts.printing.print_certificate.Goals as goal
 
 pub solved_game-requires-clause-rows : goal.solved_game-requires-clause-rows

@@ -1,8 +1,0 @@
-pub mod InstanceMarks
-pub mod Rising
-pub mod Cuts
-pub mod Reading
-pub mod EvidenceText
-pub mod CallPlaces
-pub mod ModuleLines
-pub mod ModuleEvidence

@@ -1,7 +1,0 @@
-use Rattle.std.proofs.Common.{◌≡◌, map, take}
-use Rattle.pb_bytecode.specs.Meaning.{signature_of}
-use Rattle.pb_game_of_trees.specs.Equations.{plain}
-use Rattle.pb_game_answer.proofs.signatures.signatures_of.Given as goal
-
-abbrev pub invariant-loop-k : goal.invariant-loop-k
-invariant-loop-k l = map plain l.signatures.items ≡ take l.k (map signature_of l.verified.equations)

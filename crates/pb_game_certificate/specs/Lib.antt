@@ -1,4 +1,0 @@
-pub mod Solutions
-pub mod Certificates
-pub mod Flaws
-pub mod FlawText

@@ -1,3 +1,0 @@
-pub mod Vertices
-pub mod Meaning
-pub mod Examples

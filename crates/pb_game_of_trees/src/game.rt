@@ -1,0 +1,51 @@
+//! From the reached instances of a module to their game.
+ghost use Rattle.std.specs.Prelude.{◌≡◌, ℕ, IfOk, Err, map};
+ghost use Rattle.pb_trees.specs.Tree.{Tree};
+ghost use Rattle.pb_rows.specs.Reached.{AreRowsOf};
+ghost use Rattle.pb_bytecode.specs.Meaning.{signature_of, initial_of};
+ghost use Rattle.pb_game_of_trees.specs.TreeGame.{HaveTrees as HaveRowTrees, IsGameOf};
+ghost use Rattle.pb_game_of_trees.specs.TreeGame.{IsTooLarge};
+ghost use Rattle.pb_game_of_trees.specs.declared.tree_game.BuildError.TheVariants.{TooManyVertices};
+ghost use Rattle.pb_game_of_trees.specs.Explored.{HaveTrees, AreModuleRows, IsModuleGame};
+ghost use Rattle.pb_game_of_trees.specs.Explored.{IsModuleTooLarge};
+
+use crate::signatures::signatures_of;
+use crate::{BuildError, TreeGame};
+use pb_rows::IndexedRows;
+use pb_verifier::Verified;
+use std::alloc::Global;
+
+/// The game of rows of a module's equations, with whichever trees the rows have: the instances'
+/// own, or others that are assumed.
+///
+/// # Errors
+/// `TooManyVertices` where the game would have more than 2^24 vertices; else `Memory`.
+pub fn build_rows(
+    alloc: Global,
+    verified: &Verified,
+    rows: &IndexedRows,
+) -> Result<TreeGame, BuildError>
+    requires { HaveRowTrees (map signature_of verified.now.equations) rows.now
+        (initial_of verified.now) }
+    ensures game { IfOk result (IsGameOf (map signature_of verified.now.equations) rows.now
+        (initial_of verified.now)) }
+    ensures too_many { result ≡ Err TooManyVertices → (trees : ℕ → Tree)
+        → AreRowsOf (map signature_of verified.now.equations) trees rows.now
+        → IsTooLarge (map signature_of verified.now.equations) trees rows.now }
+{
+    let signatures = signatures_of(alloc, verified)?;
+    TreeGame::build(alloc, &signatures, rows, verified.initial())
+}
+
+/// The game of the reached instances of a module.
+///
+/// # Errors
+/// `TooManyVertices` where the game would have more than 2^24 vertices; else `Memory`.
+pub fn build(alloc: Global, verified: &Verified, rows: &IndexedRows) -> Result<TreeGame, BuildError>
+    requires trees { HaveTrees verified.now }
+    requires rows { AreModuleRows verified.now rows.now }
+    ensures game { IfOk result (IsModuleGame verified.now rows.now) }
+    ensures too_many { result ≡ Err TooManyVertices → IsModuleTooLarge verified.now rows.now }
+{
+    build_rows(alloc, verified, rows)
+}

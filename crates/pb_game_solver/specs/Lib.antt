@@ -1,2 +1,0 @@
-pub mod Winners
-pub mod Lifting

@@ -1,0 +1,57 @@
+-- Evidence from a game of the nearest instances is evidence of the module.
+use Rattle.std.proofs.Common.{◌≡◌, ℕ, Bool, true, false, not, List, map, refl, sym, ◌∙◌, subst}
+use Rattle.std.specs.Bool.{beq}
+use Rattle.pb_trees.specs.Tree.{Tree}
+use Rattle.pb_trees.specs.Equations.{Signature}
+use Rattle.pb_rows.specs.Row.{Row}
+use Rattle.pb_rows.specs.Reached.{rows_of}
+use Rattle.pb_bytecode.specs.Contents.{Contents}
+use Rattle.pb_bytecode.specs.Meaning.{signature_of, initial_of}
+use Rattle.pb_game_of_trees.specs.declared.tree_game.TreeGame.{TreeGame}
+use Rattle.pb_game_of_trees.specs.TreeGame.{HaveTrees, AreRowsFrom, IsTreeGame, IsGameOf}
+use Rattle.pb_game_of_trees.proofs.Reached.{found_row}
+use Rattle.pb_game_of_trees.specs.Explored as module_rows
+use Rattle.pb_evidence.specs.AssumedGraphs.{IsAssumed}
+use Rattle.pb_evidence.specs.Assumed.{AssumedIsShown}
+use Rattle.pb_report.specs.declared.module_evidence.Explanation.{Explanation}
+use Rattle.pb_report.specs.ModuleEvidence.{Explains, IsExplanation}
+use Rattle.pb_report.proofs.Assumed.{assumed_is_explained}
+use Rattle.pb_nearby.specs.Around.{AreAssumedRows}
+use Rattle.pb_module_solver.proofs.Answered.{IsSomeGame, IsTruth}
+
+pub same_of : (a b : Bool) → not (beq a b) ≡ false → a ≡ b
+same_of true true h = refl
+same_of true false h = cc
+same_of false true h = cc
+same_of false false h = refl
+
+-- what evidence of rows says
+abbrev pub ExplainsRows : List Row → TreeGame → Explanation → Type 0
+ExplainsRows rows built x =
+    (signatures : List Signature) (trees : ℕ → Tree) (initial : ℕ) → AreRowsFrom signatures trees rows initial
+    → IsTreeGame signatures trees (rows_of trees rows) initial built → Explains signatures trees initial x
+
+module _ (m : Contents) (rows : List Row) (some : module_rows.HaveTrees m) (b : Bool) (assumed : AreAssumedRows m b rows) where
+  -- some trees that are assumed
+  pub some_rows : HaveTrees (map signature_of m.equations) rows (initial_of m)
+  some_rows = let a = assumed some.0 some.1 in (a.0, a.2)
+
+  module _ (built : TreeGame) (game : IsGameOf (map signature_of m.equations) rows (initial_of m) built) where
+    pub some_game : IsSomeGame built
+    some_game =
+        let a = some_rows in
+        (map signature_of m.equations, a.0, rows_of a.0 rows, initial_of m, game a.0 a.1, found_row a.0 rows (initial_of m) a.1.found)
+
+    pub shown_by_part : AssumedIsShown → (x : Explanation) → ExplainsRows rows built x → (t : Bool) → IsTruth built t → t ≡ b → IsExplanation m x
+    shown_by_part law x explains t is_truth same trees have =
+        let sigs = map signature_of m.equations in
+        let a = assumed trees have in
+        let is = game a.0 a.2 in
+        let s = explains sigs a.0 (initial_of m) a.2 is in
+        let truth : x.evidence.truth ≡ b =
+        s.shown.truth ∙ (sym (is_truth sigs a.0 (rows_of a.0 rows) (initial_of m) is (found_row a.0 rows (initial_of m) a.2.found)) ∙ same) in
+        assumed_is_explained law sigs trees a.0 (initial_of m) x s (λ k _. subst (λ (v : Bool). IsAssumed trees a.0 v k) (sym truth) (a.1 k))
+
+    pub shown_by_all : module_rows.AreModuleRows m rows → (x : Explanation) → ExplainsRows rows built x → IsExplanation m x
+    shown_by_all are x explains trees have =
+        explains (map signature_of m.equations) trees (initial_of m) (are trees have) (game trees (are trees have))

@@ -1,0 +1,5 @@
+mod Rows
+mod Texts
+mod Answered
+mod Early
+pub mod Results

@@ -1,0 +1,60 @@
+-- What the answer to a module is. The trees that its instances have are determined by the module,
+-- and there are such trees (`meaning_is_unique` and `instances_have_trees` of pb_machine); a fact
+-- about them is said of whichever trees they have.
+use Rattle.std.specs.Prelude.{◌≡◌, ℕ, ◌<◌, ◌≤◌, ◌↔◌, IsTrue, List}
+use Rattle.pb_trees.specs.Tree.{Tree}
+use Rattle.pb_rows.specs.Row.{Row}
+use Rattle.pb_bytecode.specs.Contents.{Contents}
+use Rattle.pb_bytecode.specs.Meaning.{AreTrees}
+use Rattle.pb_exploration.specs.Rows.{AreReached, AreExplored}
+use Rattle.pb_game_of_trees.specs.Explored.{IsModuleGame}
+use Rattle.pb_game.specs.declared.certificate.Solution.{Solution}
+use Rattle.pb_game.specs.Solutions.{winner_of}
+use Rattle.pb_game_of_trees.specs.declared.tree_game.TreeGame.{TreeGame}
+use Rattle.pb_module_solver.specs.Lifting.{IsLiftedOrNone}
+use Rattle.pb_report.specs.declared.answer.Answer.{Answer}
+use Rattle.pb_report.specs.ModuleTexts.{answer_for}
+use Rattle.pb_module_solver.specs.declared.built_module.BuiltModule.{BuiltModule}
+use Rattle.pb_module_solver.specs.declared.solved_module.SolvedModule.{SolvedModule}
+
+-- The truth of the initial instance in the solution of the module's equations, and the counts of
+-- its reached instances, of those whose tree has a Cut, and of their game's vertices, which are at
+-- most 2^24.
+pub record IsAnswerUnder (m : Contents) (trees : ℕ → Tree) (a : Answer) : Type 0 where
+  pub rows : List Row
+  pub reached : AreReached m trees rows
+  pub exact : a ≡ answer_for m trees rows
+  pub few : a.vertices ≤ 16777216
+
+abbrev pub IsAnswerOf : Contents → Answer → Type 0
+IsAnswerOf m a = (trees : ℕ → Tree) → AreTrees m trees → IsAnswerUnder m trees a
+
+-- The truth is what a solution of the reached instances' game says: who wins the initial instance's
+-- vertex. The solution is that of lifting, unless lifting has none.
+pub record IsLiftedAnswer (m : Contents) (a : Answer) : Type 0 where
+  pub rows : List Row
+  pub explored : AreExplored m rows
+  pub built : TreeGame
+  pub game : IsModuleGame m rows built
+  pub solution : Solution
+  pub lifted : IsLiftedOrNone built.game solution
+  pub truth : IsTrue a.truth ↔ (winner_of solution built.start ≡ 0)
+
+-- the game of the reached instances has more than 2^24 vertices
+pub record IsTooLargeUnder (m : Contents) (trees : ℕ → Tree) : Type 0 where
+  pub rows : List Row
+  pub reached : AreReached m trees rows
+  pub large : 16777216 < (answer_for m trees rows).vertices
+
+abbrev pub IsTooLarge : Contents → Type 0
+IsTooLarge m = (trees : ℕ → Tree) → AreTrees m trees → IsTooLargeUnder m trees
+
+-- the rows are the module's reached instances, and the game is that of these
+pub record IsBuiltModule (m : Contents) (b : BuiltModule) : Type 0 where
+  pub explored : AreExplored m b.explored
+  pub game : IsModuleGame m b.explored b.built
+
+-- the same, where the game is solved
+pub record IsSolutionOf (m : Contents) (s : SolvedModule) : Type 0 where
+  pub explored : AreExplored m s.explored
+  pub game : IsModuleGame m s.explored s.solved.built

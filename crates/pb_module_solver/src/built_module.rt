@@ -1,0 +1,99 @@
+//! Modules whose game is built: what is solved, whether its rows are kept behind it or not, and
+//! what can be written of it before anybody solves it.
+ghost use Rattle.std.specs.Prelude.{◌≡◌, ◌<◌, ◌≤◌, IfOk, IfErr, Err};
+ghost use Rattle.pb_game_of_trees.specs.declared.tree_game.BuildError.TheVariants.{TooManyVertices};
+ghost use Rattle.pb_game.specs.Certificates.{IsCertificate};
+ghost use Rattle.pb_module_solver.specs.Lifting.{IsLiftedOrNone};
+ghost use Rattle.pb_report.specs.Sending.{IsOutOfMemory};
+ghost use Rattle.pb_game.specs.declared.solver.Solver.TheVariants.{Lift};
+ghost use Rattle.pb_module_solver.specs.Answers.{IsBuiltModule, IsTooLarge};
+ghost use Rattle.pb_module_solver.specs.Texts.{ForGameText, Sends};
+
+use crate::options::SolveOptions;
+use crate::solve;
+use pb_exploration::{Explored, Gate, explore};
+use pb_game_of_trees::{BuildError, Solved, TreeGame, build};
+use pb_machine::instances_have_trees;
+use pb_report::WriteError;
+use pb_report::game_text::game_text;
+use pb_sorts::Sink;
+use pb_verifier::Verified;
+use std::alloc::{AllocError, Global};
+use std::thread::Threads;
+
+/// The reached instances of a module, with their game.
+#[derive(Drop)]
+pub struct BuiltModule {
+    pub explored: Explored,
+    pub built: TreeGame,
+}
+
+/// Explores the reached instances of a verified module, by so many workers, and builds their game.
+/// The gate sees each attempt of a worker to take an instance. Nothing is solved.
+///
+/// # Errors
+/// `TooManyVertices` where the game would have more than 2^24 vertices; else `Memory`.
+pub fn build_module<R: Threads + Sync, G: Gate + Sync>(
+    rt: &R,
+    alloc: Global,
+    verified: &Verified,
+    workers: u32,
+    gate: &G,
+) -> Result<BuiltModule, BuildError>
+    requires { (0 < workers) × (workers ≤ 16) }
+    ensures built { IfOk result (IsBuiltModule verified.now) }
+    ensures too_many { result ≡ Err TooManyVertices → IsTooLarge verified.now }
+{
+    instances_have_trees(verified);
+    let explored = explore(rt, alloc, verified, workers, gate)?;
+    match build(alloc, verified, explored.rows()) {
+        Ok(built) => Ok(BuiltModule { explored, built }),
+        Err(error) => Err(error),
+    }
+}
+
+impl BuiltModule {
+    /// Appends the game of the reached instances, in the form that PGSolver reads.
+    ///
+    /// # Errors
+    /// `Memory` before the first byte. After `Failed` a part that begins the text, and not the
+    /// whole of it, went out.
+    pub fn write_game<S: Sink>(
+        &self,
+        alloc: Global,
+        verified: &Verified,
+        sink: &mut S,
+    ) -> Result<(), WriteError>
+        requires { IsBuiltModule verified.now self.now }
+        ensures text { Sends (ForGameText verified.now) result (S.taken sink.old) (S.taken sink.new)
+            (S.has_failed sink.old) (S.has_failed sink.new) }
+        ensures silent { IfErr result (λ e. IsOutOfMemory e → sink.new ≡ sink.old) }
+    {
+        instances_have_trees(verified);
+        game_text(alloc, verified, &self.built, self.explored.rows(), sink)
+    }
+}
+
+/// Solves a game by the solver that is asked for. The checker has certified the winners.
+pub(crate) fn solve_game<R: Threads + Sync, G: Gate + Sync>(
+    rt: &R,
+    alloc: Global,
+    built: TreeGame,
+    options: SolveOptions,
+    gate: &G,
+) -> Result<Solved, AllocError>
+    ensures built { IfOk result (λ s. s.built ≡ built) }
+    ensures certificate { IfOk result (λ s. IsCertificate s.built.game s.certified) }
+    ensures lifted { options.solver ≡ Lift → IfOk result
+        (λ s. IsLiftedOrNone s.built.game s.certified) }
+{
+    let certified = solve(
+        rt,
+        alloc,
+        &built.game,
+        options.solver,
+        options.workers,
+        gate,
+    )?;
+    Ok(Solved::new(built, certified))
+}

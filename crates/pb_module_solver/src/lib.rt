@@ -1,0 +1,18 @@
+//! From a verified module to its answer: its reached instances are explored, their game is built
+//! and solved, and what the winners say is the truth of the instances in the nested solution of the
+//! module's equations. It alone calls the solvers.
+#![tactic(auto)]
+
+mod answer;
+pub mod built_module;
+pub mod explanation;
+pub mod options;
+pub mod solved_module;
+mod solver;
+
+pub use answer::answer_module;
+pub use built_module::{BuiltModule, build_module};
+pub use explanation::{explain_module, write_explanation};
+pub use options::SolveOptions;
+pub use solved_module::{SolvedModule, solve_module};
+pub use solver::solve;

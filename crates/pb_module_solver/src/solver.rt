@@ -1,0 +1,83 @@
+//! The solvers of parity games, and one call for all of them.
+//!
+//! [`solve`] answers with a solution that the checker has certified, whichever [`Solver`] is asked
+//! for. Lifting (Jurdzinski 2000) may have none, and then Zielonka's algorithm (Zielonka 1998),
+//! which always has one, answers in its place. A game has one partition into winning regions, so
+//! all solvers name the same winners; their strategies and measures may differ.
+
+ghost use Rattle.std.specs.Prelude.{◌≡◌, ◌<◌, IfOk};
+ghost use Rattle.pb_game.specs.Certificates.{IsCertificate};
+ghost use Rattle.pb_module_solver.specs.Winners.{NamesTheWinners};
+ghost use Rattle.pb_module_solver.specs.Lifting.{IsLiftedOrNone};
+ghost use Rattle.pb_game.specs.declared.solver.Solver.TheVariants.{Lift};
+
+use pb_exploration::Gate;
+use pb_game::{Game, Solver};
+use pb_lifting::{LiftError, lift};
+use pb_strategy::{Certified, certify};
+use std::alloc::{AllocError, Global};
+use std::thread::Threads;
+
+/// The winners of all vertices, which the checker has certified. The workers are those of lifting,
+/// and the gate sees each of their lifts; Zielonka's algorithm takes neither.
+///
+/// # Errors
+///
+/// Memory alone: where lifting has more ranks than a word, or the checker refuses its solution,
+/// Zielonka's algorithm answers, whose solutions the checker can't refuse.
+pub fn solve<G: Gate + Sync, R: Threads + Sync>(
+    rt: &R,
+    alloc: Global,
+    game: &Game,
+    solver: Solver,
+    workers: u32,
+    gate: &G,
+) -> Result<Certified, AllocError>
+    requires workers { 0 < workers }
+    ensures certificate { IfOk result (λ s. IsCertificate game.now s) }
+    ensures winners { IfOk result (NamesTheWinners game.now) }
+    ensures lifted { solver ≡ Lift → IfOk result (IsLiftedOrNone game.now) }
+{
+    match solver {
+        Solver::Zielonka => solve_by_regions(rt, alloc, game),
+        Solver::Lift => lift_or_solve(rt, alloc, game, workers, gate),
+    }
+}
+
+/// The solution of Zielonka's algorithm, once the checker has gone over it.
+fn solve_by_regions<R: Threads + Sync>(
+    rt: &R,
+    alloc: Global,
+    game: &Game,
+) -> Result<Certified, AllocError>
+    ensures { IfOk result (λ s. IsCertificate game.now s) }
+{
+    let solution = pb_zielonka::solve(rt, alloc, game)?;
+    match certify(game, solution) {
+        Ok(certified) => Ok(certified),
+        Err(_) => unreachable!(),
+    }
+}
+
+/// The solution of lifting where it has one that the checker certifies, and else that of Zielonka's
+/// algorithm.
+fn lift_or_solve<G: Gate + Sync, R: Threads + Sync>(
+    rt: &R,
+    alloc: Global,
+    game: &Game,
+    workers: u32,
+    gate: &G,
+) -> Result<Certified, AllocError>
+    requires workers { 0 < workers }
+    ensures certificate { IfOk result (λ s. IsCertificate game.now s) }
+    ensures lifted { IfOk result (IsLiftedOrNone game.now) }
+{
+    match lift(rt, alloc, game, workers, gate) {
+        Ok(solution) => match certify(game, solution) {
+            Ok(certified) => Ok(certified),
+            Err(_) => solve_by_regions(rt, alloc, game),
+        },
+        Err(LiftError::TooManyRanks) => solve_by_regions(rt, alloc, game),
+        Err(LiftError::Memory) => Err(AllocError),
+    }
+}

@@ -1,0 +1,17 @@
+pub mod Marking
+pub mod Placing
+pub mod Lines
+pub mod Reading
+pub mod Searching
+pub mod Called
+pub mod Cutting
+pub mod Assumed
+pub mod Sending
+pub mod Commas
+pub mod Underway
+pub mod Names
+pub mod VertexLines
+pub mod ReachedGames
+pub mod Cut
+pub mod Solutions
+pub mod Certificates

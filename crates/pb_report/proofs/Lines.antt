@@ -1,0 +1,91 @@
+-- The lines of evidence, one after the other, and the instances that they name.
+use Rattle.std.proofs.Common.{◌≡◌, ℕ, suc, ◌+◌, ◌<◌, Bool, false, List, [], ◌∷◌, ◌++◌, Option, None, refl, length, drop, get_or, map, sym, ap, ◌∙◌, subst, arith}
+use Rattle.std.specs.Prelude.{Contains}
+use Rattle.std.proofs.lemmas.Grind.{get_or_after_one}
+use Rattle.std.proofs.lemmas.List.{drop-drop, drop_more, get_or-drop, get_or-map, length-map}
+use Rattle.pb_text_tree.specs.declared.place.Place.{Place}
+use Rattle.pb_report.specs.InstanceName.{instance_name}
+use Rattle.pb_game.specs.Adjacency.{row}
+use Rattle.pb_trees.specs.Tree.{Tree}
+use Rattle.pb_trees.specs.Equations.{total}
+use Rattle.pb_sorts.specs.Layout.{count_of}
+use Rattle.pb_bytecode.specs.Contents.{Contents}
+use Rattle.pb_bytecode.specs.Meaning.{AreTrees, parameters, signature_of}
+use Rattle.pb_bytecode.proofs.InstanceCounts.{count_is_total}
+use Rattle.pb_game_of_trees.specs.Explored.{HaveTrees}
+use Rattle.pb_evidence.specs.declared.Evidence.{Evidence}
+use Rattle.pb_evidence.specs.Evidence.{graph_of}
+use Rattle.pb_evidence.proofs.Finding.{contains_at}
+use Rattle.pb_report.specs.declared.module_evidence.Explanation.{Explanation}
+use Rattle.pb_report.specs.Cuts.{is_cut}
+use Rattle.pb_report.specs.CallPlaces.{AreCallPlaces, placed_names}
+use Rattle.pb_report.specs.EvidenceText.{dependency_text, dependencies_text}
+use Rattle.pb_report.specs.ModuleEvidence.{IsExplanation}
+use Rattle.pb_report.specs.ModuleLines.{line_of, lines_of}
+
+pub next_dependency : (name : ℕ → List ℕ) (ns : List ℕ) (ps : List (Option Place)) (k : ℕ) → k < length ns →
+    placed_names name (drop k ns) (drop k ps) ≡ dependency_text name (get_or ns k 0) (get_or ps k None) ++ placed_names name (drop (k + 1) ns) (drop (k + 1) ps)
+next_dependency name ns ps k l =
+    let here : get_or (drop k ps) 0 None ≡ get_or ps k None = get_or-drop k ps 0 None ∙ ap (λ (i : ℕ). get_or ps i None) (omega arith) in
+    ap (λ (xs : List ℕ). placed_names name xs (drop k ps)) (drop_more ns k 0 l)
+    ∙ (ap (λ (p : Option Place). dependency_text name (get_or ns k 0) p ++ placed_names name (drop (k + 1) ns) (drop 1 (drop k ps))) here
+    ∙ ap (λ (xs : List (Option Place)). dependency_text name (get_or ns k 0) (get_or ps k None) ++ placed_names name (drop (k + 1) ns) xs) (drop-drop 1 k ps))
+
+-- names with the places of a list, where these are those of a function
+pub placed_is : (name : ℕ → List ℕ) (place : ℕ → Option Place) (ns : List ℕ) (ps : List (Option Place))
+    → ((j : ℕ) → j < length ns → get_or ps j None ≡ place (get_or ns j 0)) → placed_names name ns ps ≡ dependencies_text name place ns
+placed_is name place [] ps are = refl
+placed_is name place (n ∷ ns) ps are =
+    let behind : (j : ℕ) → j < length ns → get_or (drop 1 ps) j None ≡ place (get_or ns j 0) =
+    λ j l. get_or_after_one ps j None ∙ (ap (λ (i : ℕ). get_or ps i None) (omega arith) ∙ are (suc j) (omega arith)) in
+    ap (λ (p : Option Place). dependency_text name n p ++ placed_names name ns (drop 1 ps)) (are 0 (omega arith))
+    ∙ ap (λ (xs : List ℕ). dependency_text name n (place n) ++ xs) (placed_is name place ns (drop 1 ps) behind)
+
+pub next_line : (m : Contents) (trees : ℕ → Tree) (place : ℕ → ℕ → Option Place) (e : Evidence) (ns : List ℕ) (k : ℕ) → k < length ns →
+    lines_of m trees place e (drop k ns) ≡ line_of m trees place e (get_or ns k 0) ++ lines_of m trees place e (drop (k + 1) ns)
+next_line m trees place e ns k l = ap (lines_of m trees place e) (drop_more ns k 0 l)
+
+module _ (m : Contents) (have : HaveTrees m) (x : Explanation) (is : IsExplanation m x) where
+  abbrev e : Evidence
+  e = x.evidence
+
+  pub instance_below : (k : ℕ) → k < length e.instances.items → get_or e.instances.items k 0 < count_of (parameters m)
+  instance_below k l =
+      let all : count_of (parameters m) ≡ total (map signature_of m.equations) = count_is_total m in
+      omega (arith, all, (is have.0 have.1).shown.graph.below (get_or e.instances.items k 0) (contains_at e.instances.items k l))
+
+  pub row_at : (k : ℕ) → k < length e.instances.items → (graph_of e).dependencies (get_or e.instances.items k 0) ≡ row e.places.items e.dependencies.items k
+  row_at k l = (is have.0 have.1).shown.each k l
+
+  pub dependency_below : (k : ℕ) → k < length e.instances.items → (list : List ℕ) → list ≡ row e.places.items e.dependencies.items k →
+      (j : ℕ) → j < length list → get_or list j 0 < count_of (parameters m)
+  dependency_below k l list same j h =
+      let shown = (is have.0 have.1).shown in
+      let n = get_or e.instances.items k 0 in
+      let all : count_of (parameters m) ≡ total (map signature_of m.equations) = count_is_total m in
+      let x = get_or list j 0 in
+      let rests = subst (λ (xs : List ℕ). Contains xs x) (same ∙ sym (row_at k l)) (contains_at list j h) in
+      omega (arith, all, shown.graph.below x (shown.graph.closed n x (contains_at e.instances.items k l, rests)))
+
+  -- the names behind the instance at k, with the places of the list from there on
+  pub placed_at : (place : ℕ → ℕ → Option Place) (ps : List (Option Place)) → AreCallPlaces place e ps → (k : ℕ) → k < length e.instances.items
+      → (list : List ℕ) → list ≡ row e.places.items e.dependencies.items k → (first : ℕ) → first ≡ get_or e.places.items k 0
+      → placed_names (instance_name m) list (drop first ps)
+      ≡ dependencies_text (instance_name m) (place (get_or e.instances.items k 0)) ((graph_of e).dependencies (get_or e.instances.items k 0))
+  placed_at place ps are k l list same first is =
+      let here : placed_names (instance_name m) (row e.places.items e.dependencies.items k) (drop (get_or e.places.items k 0) ps)
+      ≡ dependencies_text (instance_name m) (place (get_or e.instances.items k 0)) (row e.places.items e.dependencies.items k) =
+      placed_is (instance_name m) (place (get_or e.instances.items k 0)) (row e.places.items e.dependencies.items k) (drop (get_or e.places.items k 0) ps)
+      (λ j h. get_or-drop (get_or e.places.items k 0) ps j None ∙ are k l j h) in
+      ap (λ (xs : List ℕ). placed_names (instance_name m) xs (drop first ps)) same
+      ∙ (ap (λ (i : ℕ). placed_names (instance_name m) (row e.places.items e.dependencies.items k) (drop i ps)) is
+      ∙ (here ∙ ap (dependencies_text (instance_name m) (place (get_or e.instances.items k 0))) (sym (row_at k l))))
+
+  pub cut_within : (k : ℕ) → k < length e.instances.items → k < length x.cuts.items
+  cut_within k l = omega (arith, l, ap length (is have.0 have.1).cuts, length-map e.instances.items (is_cut have.0 e))
+
+  pub cut_at : (trees : ℕ → Tree) → AreTrees m trees → (k : ℕ) → k < length e.instances.items →
+      get_or x.cuts.items k false ≡ is_cut trees e (get_or e.instances.items k 0)
+  cut_at trees are k l =
+      ap (λ (cs : List Bool). get_or cs k false) (is trees are).cuts
+      ∙ get_or-map (is_cut trees e) e.instances.items k 0 false l

@@ -1,0 +1,11 @@
+use Rattle.std.proofs.lemmas.Result.{err_from_is_err_and}
+use Rattle.pb_report.specs.Report.{report_text}
+use Rattle.pb_report.proofs.Sending.{writes_failed}
+use Rattle.pb_report.proofs.answer.report.Goals as goal
+
+pub returns-in_err-finish-clause-text : goal.returns-in_err-finish-clause-text
+returns-in_err-finish-clause-text g c =
+    let made = err_from_is_err_and c.from_residual-in_err-finish.result c.from_residual-in_err-finish.ensures.1 in
+    writes_failed c.from_residual-in_err-finish.result made.0 _ _ (g.S.Sink.taken c.write_report.new.sink) _ _ _ c.in_ok-buffer.buffer.bytes.items
+    c.write_report.new.buffer.bytes.items (report_text c.args.answer.now) made.1 made.2 c.in_ok-buffer.ensures c.in_ok-write_report.ensures.0
+    c.in_err-finish.ensures.prefix c.in_err-finish.ensures.err_failed

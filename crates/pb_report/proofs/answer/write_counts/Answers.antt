@@ -1,0 +1,32 @@
+use Rattle.std.proofs.Common.{ℕ, List, ◌++◌}
+use Rattle.std.specs.Prelude.{codes}
+use Rattle.pb_report.specs.declared.answer.Answer.{Answer}
+use Rattle.pb_report.specs.Report.{count_line}
+use Rattle.pb_report.proofs.Sending.{sends_then, sends_err}
+use Rattle.pb_report.proofs.answer.write_counts.Goals as goal
+
+abbrev instances : Answer → List ℕ
+instances a = count_line (codes "instances ") a.instances
+
+abbrev cut : Answer → List ℕ
+cut a = count_line (codes "cut ") a.cut
+
+abbrev vertices : Answer → List ℕ
+vertices a = count_line (codes "vertices ") a.vertices
+
+pub returns-in_err-write_count : goal.returns-in_err-write_count
+returns-in_err-write_count g c =
+    let a = c.args.answer.now in
+    sends_err _ _ _ _ _ _ _ (instances a) (cut a ++ vertices a) c.from_residual.ensures.0 c.in_err-write_count.ensures
+
+pub returns-in_err-write_count-2 : goal.returns-in_err-write_count-2
+returns-in_err-write_count-2 g c =
+    let a = c.args.answer.now in
+    sends_then _ _ _ _ _ _ _ _ _ _ (instances a) (cut a ++ vertices a) c.in_ok-write_count.ensures
+    (sends_err _ _ _ _ _ _ _ (cut a) (vertices a) c.from_residual-in_err-write_count-2.ensures.0 c.in_err-write_count-2.ensures)
+
+pub returns : goal.returns
+returns g c =
+    let a = c.args.answer.now in
+    sends_then _ _ _ _ _ _ _ _ _ _ (instances a) (cut a ++ vertices a) c.in_ok-write_count.ensures
+    (sends_then _ _ _ _ _ _ _ _ _ _ (cut a) (vertices a) c.in_ok-write_count-2.ensures c.write_count-3.ensures)

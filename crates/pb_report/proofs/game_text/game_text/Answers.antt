@@ -1,0 +1,39 @@
+use Rattle.std.proofs.Common.{ℕ, ◌<◌, List, length, map, sym, ap, ◌∙◌, subst}
+use Rattle.std.specs.Prelude.{IfSome}
+use Rattle.pb_bytecode.specs.Meaning.{parameters, signature_of, initial_of}
+use Rattle.pb_sorts.specs.Layout.{count_of}
+use Rattle.pb_rows.specs.Reached.{rows_of}
+use Rattle.pb_game_of_trees.proofs.Reached.{reached_of}
+use Rattle.pb_report.specs.VertexNames.{memory_text, number_in, AreRising}
+use Rattle.pb_report.proofs.Sending.{writes_as}
+use Rattle.pb_report.proofs.ReachedGames.{text_is, some_vertex, same_length, are_rising, are_numbers, are_edges}
+use Rattle.pb_report.proofs.game_text.game_text.Goals as goal
+
+pub write_text-requires : goal.write_text-requires
+write_text-requires g c =
+    let m = c.args.verified.now in
+    let rows = c.args.rows.now in
+    let built = c.args.built.now in
+    let trees = c.requires.trees.0 in
+    let have = c.requires.trees.1 in
+    let reached = rows_of trees rows in
+    let are = reached_of trees (map signature_of m.equations) rows (c.requires.rows trees have).are in
+    let is = c.requires.game trees have in
+    let same = c.deref.ensures.value in
+    record {
+      some = some_vertex m rows built trees reached (initial_of m) are is;
+      lengths = ap length same ∙ same_length m rows built trees reached (initial_of m) are is;
+      rising = subst AreRising (sym same) (are_rising m rows built trees reached (initial_of m) are is);
+      edges = are_edges m rows built trees reached (initial_of m) are is c.games_of_rows_are_total.ensures.total;
+      numbers = λ v. subst (λ (vs : List ℕ). IfSome (number_in vs rows v) (λ n. n < count_of (parameters m))) (sym same)
+          (are_numbers m rows built trees reached (initial_of m) are is v);
+    }
+
+pub returns-clause-text : goal.returns-clause-text
+returns-clause-text g c = λ trees have.
+    let m = c.args.verified.now in
+    let rows = c.args.rows.now in
+    let built = c.args.built.now in
+    let are = reached_of trees (map signature_of m.equations) rows (c.requires.rows trees have).are in
+    let same = ap (λ (vs : List ℕ). memory_text m built.game vs rows) c.deref.ensures.value in
+    writes_as _ _ _ _ _ _ _ (same ∙ text_is m rows built trees (rows_of trees rows) (initial_of m) are (c.requires.game trees have)) c.write_text.ensures.text

@@ -1,0 +1,14 @@
+use Rattle.pb_report.specs.GameText.{vertex_at, vertex_text, name_part}
+use Rattle.pb_report.specs.VertexNames.{name_by}
+use Rattle.pb_report.proofs.Sending.{sends_then, sends_err}
+use Rattle.pb_report.proofs.game_text.write_line.Goals as goal
+
+pub returns-in_err-write_vertex : goal.returns-in_err-write_vertex
+returns-in_err-write_vertex g c =
+    let a = c.args in
+    sends_err _ _ _ _ _ _ _ (vertex_text a.vertex (vertex_at a.game.now a.vertex)) (name_part (name_by a.verified.now a.vertex a.number)) c.from_residual.ensures.0 c.in_err-write_vertex.ensures
+
+pub returns : goal.returns
+returns g c =
+    let a = c.args in
+    sends_then _ _ _ _ _ _ _ _ _ _ (vertex_text a.vertex (vertex_at a.game.now a.vertex)) (name_part (name_by a.verified.now a.vertex a.number)) c.in_ok-write_vertex.ensures c.write_line_end.ensures

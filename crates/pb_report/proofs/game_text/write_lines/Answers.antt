@@ -1,0 +1,47 @@
+use Rattle.std.proofs.Common.{ℕ, ◌+◌, ◌-◌, ◌<◌, ◌++◌, Option, sym, ap, ◌∙◌, subst, arith}
+use Rattle.pb_game.specs.Games.{vertex_count}
+use Rattle.pb_report.specs.GameText.{vertex_at, vertex_line}
+use Rattle.pb_report.specs.VertexNames.{name_by, name_in, lines_of, IsAtRow}
+use Rattle.pb_report.proofs.Underway.{went_on, gave_up}
+use Rattle.pb_report.proofs.VertexLines.{next_line, next_row, same_row, is_there, is_absent}
+use Rattle.pb_report.proofs.game_text.write_lines.Goals as goal
+use Rattle.pb_report.proofs.game_text.write_lines.Goals.{then-is_some, else-is_some}
+
+pub returns-in_err-write_line : goal.returns-in_err-write_line
+returns-in_err-write_line g c =
+    let m = c.args.verified.now in
+    let game = c.args.game.now in
+    let v = c.loop-vertex.vertex in
+    let n = vertex_count game in
+    let names = name_in m c.args.vertices.now c.args.rows.now in
+    let below : v < n = omega (arith, c.loop-vertex-test.true, c.len-vertex-end.ensures.value) in
+    let step = next_line names game n v below
+    ∙ ap (λ (o : Option ℕ). vertex_line v (vertex_at game v) (name_by m v o) ++ lines_of names game (v + 1) (n - (v + 1))) (sym c.row_number-number.ensures.number) in
+    gave_up _ _ _ _ _ _ _ _ _ _ _ _ _ _ step c.loop-vertex.invariant.sent c.loop-vertex.invariant.same_failed c.from_residual.ensures.0 c.in_err-write_line.ensures
+
+pub loop-vertex-preserved : goal.loop-vertex-preserved
+loop-vertex-preserved g c =
+    let m = c.args.verified.now in
+    let game = c.args.game.now in
+    let vs = c.args.vertices.now in
+    let k = c.loop-vertex.k in
+    let v = c.loop-vertex.vertex in
+    let n = vertex_count game in
+    let names = name_in m c.args.vertices.now c.args.rows.now in
+    let below : v < n = omega (arith, c.loop-vertex-test.true, c.len-vertex-end.ensures.value) in
+    let step = next_line names game n v below
+    ∙ ap (λ (o : Option ℕ). vertex_line v (vertex_at game v) (name_by m v o) ++ lines_of names game (v + 1) (n - (v + 1))) (sym c.row_number-number.ensures.number) in
+    let h = c.in_ok-write_line.ensures in
+    let some = c.row_number-number.ensures.some in
+    record {
+      sent = went_on _ _ _ _ _ _ _ _ _ _ step c.loop-vertex.invariant.sent h.0;
+      same_failed = h.1 ∙ c.loop-vertex.invariant.same_failed;
+      place = elim c.if-is_some.branch [
+        | then-is_some w ↦
+            let there = some.0 (is_there c.row_number-number.result (sym c.is_some.ensures ∙ w.if-is_some.true)) in
+            subst (λ (j : ℕ). IsAtRow vs j (v + 1)) (sym w.k-is) (next_row vs c.requires.rising k v c.loop-vertex.invariant.place there.0 there.1)
+        | else-is_some w ↦
+            subst (λ (j : ℕ). IsAtRow vs j (v + 1)) (sym w.k-is)
+            (same_row vs c.requires.rising k v c.loop-vertex.invariant.place (λ l e. is_absent c.row_number-number.result (sym c.is_some.ensures ∙ w.if-is_some.false) (some.1 (l, e))))
+      ];
+    }

@@ -1,0 +1,13 @@
+use Rattle.std.proofs.Common.{◌≡◌, ◌-◌}
+use Rattle.pb_game.specs.Games.{vertex_count}
+use Rattle.pb_report.specs.VertexNames.{name_in, lines_of, lines_text, IsAtRow}
+use Rattle.pb_report.proofs.Underway.{IsUnderway}
+use Rattle.pb_report.proofs.game_text.write_lines.Given as goal
+
+abbrev pub invariant-loop-vertex : goal.invariant-loop-vertex
+invariant-loop-vertex g l = record {
+  sent : IsUnderway (g.S.Sink.taken l.fn.sink) (g.S.Sink.taken l.sink) l.fn.buffer.bytes.items l.buffer.bytes.items
+      (lines_text l.verified l.game l.vertices l.rows) (lines_of (name_in l.verified l.vertices l.rows) l.game l.vertex (vertex_count l.game - l.vertex));
+  same_failed : g.S.Sink.has_failed l.sink ≡ g.S.Sink.has_failed l.fn.sink;
+  place : IsAtRow l.vertices l.k l.vertex;
+}

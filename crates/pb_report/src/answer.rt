@@ -1,0 +1,103 @@
+//! The answer to a system, and its report.
+ghost use Rattle.std.specs.Prelude.{◌≡◌, true, IfErr};
+ghost use Rattle.pb_report.specs.Sending.{Sends, Writes, IsOutOfMemory};
+ghost use Rattle.pb_report.specs.Report.{truth_line, count_line, counts_text, report_text};
+
+use crate::buffer::{TextBuffer, WriteError};
+use crate::cuts::count_cut;
+use pb_game_of_trees::Solved;
+use pb_rows::IndexedRows;
+use pb_sorts::{E02, Sink};
+use std::alloc::Global;
+
+/// What was found: whether the initial instance is true, how many instances were reached, how many
+/// of these meet a cut, and how many vertices the game has.
+#[derive(Clone, Copy, Debug, PartialEq, Eq)]
+pub struct Answer {
+    pub truth: bool,
+    pub instances: u32,
+    pub cut: u32,
+    pub vertices: u32,
+}
+
+impl Answer {
+    ghost use Rattle.pb_bytecode.specs.Contents.{Contents};
+    ghost use Rattle.pb_game_of_trees.specs.Explored.{HaveTrees, AreModuleRows, IsModuleGame};
+    ghost use Rattle.pb_report.specs.ModuleTexts.{IsAnswer};
+
+    /// What was found about a module whose game is solved and whose reached instances these are.
+    pub fn of_solved(solved: &Solved, rows: &IndexedRows) -> Answer
+        requires { (m : Contents) × HaveTrees m × AreModuleRows m rows.now
+            × IsModuleGame m rows.now solved.now.built }
+        ensures { (m : Contents) → AreModuleRows m rows.now
+            → IsModuleGame m rows.now solved.now.built → IsAnswer m rows.now result }
+    {
+        Answer {
+            truth: solved.truth(),
+            instances: solved.built.instances(),
+            cut: count_cut(rows),
+            vertices: solved.built.len(),
+        }
+    }
+}
+
+fn write_truth<S: Sink>(buffer: &mut TextBuffer, truth: bool, sink: &mut S) -> Result<(), E02>
+    ensures { Sends result (S.taken sink.old) (S.taken sink.new) (S.has_failed sink.old)
+        (S.has_failed sink.new) buffer.old.bytes.items buffer.new.bytes.items (truth_line truth) }
+{
+    if truth {
+        buffer.write(b"answer true\n", sink)
+    } else {
+        buffer.write(b"answer false\n", sink)
+    }
+}
+
+fn write_count<S: Sink>(
+    buffer: &mut TextBuffer,
+    label: &[u8],
+    count: u32,
+    sink: &mut S,
+) -> Result<(), E02>
+    ensures { Sends result (S.taken sink.old) (S.taken sink.new) (S.has_failed sink.old)
+        (S.has_failed sink.new) buffer.old.bytes.items buffer.new.bytes.items
+        (count_line label.now count) }
+{
+    buffer.write(label, sink)?;
+    buffer.write_number(count, sink)?;
+    buffer.write(b"\n", sink)
+}
+
+fn write_counts<S: Sink>(buffer: &mut TextBuffer, answer: &Answer, sink: &mut S) -> Result<(), E02>
+    ensures { Sends result (S.taken sink.old) (S.taken sink.new) (S.has_failed sink.old)
+        (S.has_failed sink.new) buffer.old.bytes.items buffer.new.bytes.items
+        (counts_text answer.now) }
+{
+    write_count(buffer, b"instances ", answer.instances, sink)?;
+    write_count(buffer, b"cut ", answer.cut, sink)?;
+    write_count(buffer, b"vertices ", answer.vertices, sink)
+}
+
+fn write_report<S: Sink>(buffer: &mut TextBuffer, answer: &Answer, sink: &mut S) -> Result<(), E02>
+    ensures { Sends result (S.taken sink.old) (S.taken sink.new) (S.has_failed sink.old)
+        (S.has_failed sink.new) buffer.old.bytes.items buffer.new.bytes.items
+        (report_text answer.now) }
+{
+    write_truth(buffer, answer.truth, sink)?;
+    write_counts(buffer, answer, sink)
+}
+
+/// Appends the report of an answer.
+///
+/// # Errors
+/// `Memory` before the first byte. After `Failed` a part that begins the report, and not the whole
+/// of it, went out.
+pub fn report<S: Sink>(alloc: Global, answer: &Answer, sink: &mut S) -> Result<(), WriteError>
+    ensures text { Writes result (S.taken sink.old) (S.taken sink.new) (S.has_failed sink.old)
+        (S.has_failed sink.new) (report_text answer.now) }
+    ensures silent { IfErr result (λ e. IsOutOfMemory e → sink.new ≡ sink.old) }
+{
+    let mut buffer = TextBuffer::new(alloc)?;
+    write_report(&mut buffer, answer, sink)?;
+    buffer.finish(sink)?;
+    Ok(())
+}

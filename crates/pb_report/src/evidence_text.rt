@@ -1,0 +1,276 @@
+//! Evidence as a text.
+
+ghost use Rattle.std.specs.Prelude.{◌≡◌, ◌<◌, ℕ, Option, None, IfErr, drop, length, slice_index};
+ghost use Rattle.std.specs.Prelude.{slice_index_or};
+ghost use Rattle.pb_text_tree.specs.declared.place.Place.{Place};
+ghost use Rattle.pb_sorts.specs.Layout.{count_of};
+ghost use Rattle.pb_trees.specs.Tree.{Tree};
+ghost use Rattle.pb_bytecode.specs.Meaning.{AreTrees, parameters};
+ghost use Rattle.pb_game_of_trees.specs.Explored.{HaveTrees};
+ghost use Rattle.pb_report.specs.Report.{truth_line};
+ghost use Rattle.pb_report.specs.InstanceName.{instance_name};
+ghost use Rattle.pb_report.specs.Sending.{Sends, Writes, IsOutOfMemory};
+ghost use Rattle.pb_report.specs.EvidenceText.{truth_mark, place_mark, dependency_text};
+ghost use Rattle.pb_report.specs.EvidenceText.{cut_mark, line_end};
+ghost use Rattle.pb_report.specs.CallPlaces.{AreCallPlaces, placed_names};
+ghost use Rattle.pb_report.specs.ModuleLines.{line_at, lines_of};
+ghost use Rattle.pb_report.specs.ModuleEvidence.{IsExplanation, module_evidence_text};
+
+use crate::instance_name::write_instance_name;
+use crate::module_evidence::Explanation;
+use crate::{TextBuffer, WriteError};
+use pb_sorts::{E02, Sink};
+use pb_text_tree::Place;
+use pb_verifier::Verified;
+use std::alloc::Global;
+
+/// An explanation with places of the calls by which its instances name others: one for each name in
+/// the lines, in their order. A name that has none stands without one, so with an empty list all
+/// do.
+#[derive(Clone, Copy)]
+pub struct PlacedExplanation<'a> {
+    pub explanation: &'a Explanation,
+    pub call_places: &'a [Option<Place>],
+}
+
+/// The names behind an instance, with the places of its calls, and whether it rests on a cut call
+/// too.
+#[derive(Clone, Copy)]
+struct Basis<'a> {
+    dependencies: &'a [u32],
+    call_places: &'a [Option<Place>],
+    cut: bool,
+}
+
+/// The list behind the first places.
+fn behind<'a>(call_places: &'a [Option<Place>], first: usize) -> &'a [Option<Place>]
+    ensures { result.now ≡ drop first call_places.now }
+{
+    &call_places[first.min(call_places.len())..]
+}
+
+/// The place of the call that stands here in the list, if there is one.
+fn place_at(call_places: &[Option<Place>], k: usize) -> Option<Place>
+    ensures { result ≡ slice_index_or call_places.now k None }
+{
+    match call_places.get(k) {
+        Some(place) => *place,
+        None => None,
+    }
+}
+
+fn write_answer<S: Sink>(buffer: &mut TextBuffer, truth: bool, sink: &mut S) -> Result<(), E02>
+    ensures { Sends result (S.taken sink.old) (S.taken sink.new) (S.has_failed sink.old)
+        (S.has_failed sink.new) buffer.old.bytes.items buffer.new.bytes.items (truth_line truth) }
+{
+    if truth {
+        buffer.write(b"answer true\n", sink)
+    } else {
+        buffer.write(b"answer false\n", sink)
+    }
+}
+
+fn write_truth<S: Sink>(buffer: &mut TextBuffer, truth: bool, sink: &mut S) -> Result<(), E02>
+    ensures { Sends result (S.taken sink.old) (S.taken sink.new) (S.has_failed sink.old)
+        (S.has_failed sink.new) buffer.old.bytes.items buffer.new.bytes.items (truth_mark truth) }
+{
+    if truth {
+        buffer.write(b" true:", sink)
+    } else {
+        buffer.write(b" false:", sink)
+    }
+}
+
+/// The word for a cut call, where there is one.
+fn write_cut<S: Sink>(buffer: &mut TextBuffer, cut: bool, sink: &mut S) -> Result<(), E02>
+    ensures { Sends result (S.taken sink.old) (S.taken sink.new) (S.has_failed sink.old)
+        (S.has_failed sink.new) buffer.old.bytes.items buffer.new.bytes.items (cut_mark cut) }
+{
+    if cut {
+        buffer.write(b" cut", sink)
+    } else {
+        Ok(())
+    }
+}
+
+/// The place of a call, where there is one.
+fn write_place<S: Sink>(
+    buffer: &mut TextBuffer,
+    place: Option<Place>,
+    sink: &mut S,
+) -> Result<(), E02>
+    ensures { Sends result (S.taken sink.old) (S.taken sink.new) (S.has_failed sink.old)
+        (S.has_failed sink.new) buffer.old.bytes.items buffer.new.bytes.items (place_mark place) }
+{
+    let Some(place) = place else {
+        return Ok(());
+    };
+    buffer.write(b"@", sink)?;
+    buffer.write_number(place.line, sink)?;
+    buffer.write(b":", sink)?;
+    buffer.write_number(place.column, sink)
+}
+
+/// The name of an instance, after a space, and the place of its call.
+fn write_dependency<S: Sink>(
+    buffer: &mut TextBuffer,
+    verified: &Verified,
+    number: u32,
+    place: Option<Place>,
+    sink: &mut S,
+) -> Result<(), E02>
+    requires { number < count_of (parameters verified.now) }
+    ensures { Sends result (S.taken sink.old) (S.taken sink.new) (S.has_failed sink.old)
+        (S.has_failed sink.new) buffer.old.bytes.items buffer.new.bytes.items
+        (dependency_text (instance_name verified.now) number place) }
+{
+    buffer.write(b" ", sink)?;
+    write_instance_name(buffer, verified, number, sink)?;
+    write_place(buffer, place, sink)
+}
+
+/// The names of instances, each after a space.
+fn write_dependencies<S: Sink>(
+    buffer: &mut TextBuffer,
+    verified: &Verified,
+    basis: &Basis<'_>,
+    sink: &mut S,
+) -> Result<(), E02>
+    requires { (k : ℕ) → k < length basis.now.dependencies.now
+        → slice_index basis.now.dependencies.now k < count_of (parameters verified.now) }
+    ensures { Sends result (S.taken sink.old) (S.taken sink.new) (S.has_failed sink.old)
+        (S.has_failed sink.new) buffer.old.bytes.items buffer.new.bytes.items
+        (placed_names (instance_name verified.now) basis.now.dependencies.now
+        basis.now.call_places.now) }
+{
+    let numbers = basis.dependencies;
+    let call_places = basis.call_places;
+    for k in 0..numbers.len() {
+        write_dependency(buffer, verified, numbers[k], place_at(call_places, k), sink)?;
+    }
+    Ok(())
+}
+
+/// What stands behind an instance's name.
+fn write_line_end<S: Sink>(
+    buffer: &mut TextBuffer,
+    verified: &Verified,
+    truth: bool,
+    basis: &Basis<'_>,
+    sink: &mut S,
+) -> Result<(), E02>
+    requires { (k : ℕ) → k < length basis.now.dependencies.now
+        → slice_index basis.now.dependencies.now k < count_of (parameters verified.now) }
+    ensures { Sends result (S.taken sink.old) (S.taken sink.new) (S.has_failed sink.old)
+        (S.has_failed sink.new) buffer.old.bytes.items buffer.new.bytes.items
+        (line_end truth (placed_names (instance_name verified.now) basis.now.dependencies.now
+        basis.now.call_places.now) basis.now.cut) }
+{
+    write_truth(buffer, truth, sink)?;
+    write_dependencies(buffer, verified, basis, sink)?;
+    write_cut(buffer, basis.cut, sink)?;
+    buffer.write(b"\n", sink)
+}
+
+/// The line of the instance at this place.
+fn write_line<S: Sink>(
+    buffer: &mut TextBuffer,
+    verified: &Verified,
+    placed: &PlacedExplanation<'_>,
+    k: usize,
+    sink: &mut S,
+) -> Result<(), E02>
+    requires place { k < length placed.now.explanation.now.evidence.instances.items }
+    requires trees { HaveTrees verified.now }
+    requires explanation { IsExplanation verified.now placed.now.explanation.now }
+    ensures { (trees : ℕ → Tree) → AreTrees verified.now trees → (place : ℕ → ℕ → Option Place)
+        → AreCallPlaces place placed.now.explanation.now.evidence placed.now.call_places.now
+        → Sends result (S.taken sink.old) (S.taken sink.new) (S.has_failed sink.old)
+        (S.has_failed sink.new) buffer.old.bytes.items buffer.new.bytes.items
+        (line_at verified.now trees place placed.now.explanation.now.evidence k) }
+{
+    let evidence = &placed.explanation.evidence;
+    write_instance_name(buffer, verified, evidence.instances[k], sink)?;
+    let basis = Basis {
+        dependencies: evidence.dependencies(k),
+        call_places: behind(placed.call_places, evidence.places[k]),
+        cut: placed.explanation.cuts[k],
+    };
+    write_line_end(buffer, verified, evidence.truth, &basis, sink)
+}
+
+/// The lines of all instances.
+fn write_lines<S: Sink>(
+    buffer: &mut TextBuffer,
+    verified: &Verified,
+    placed: &PlacedExplanation<'_>,
+    sink: &mut S,
+) -> Result<(), E02>
+    requires trees { HaveTrees verified.now }
+    requires explanation { IsExplanation verified.now placed.now.explanation.now }
+    requires places { (place : ℕ → ℕ → Option Place)
+        × AreCallPlaces place placed.now.explanation.now.evidence placed.now.call_places.now }
+    ensures { (trees : ℕ → Tree) → AreTrees verified.now trees → (place : ℕ → ℕ → Option Place)
+        → AreCallPlaces place placed.now.explanation.now.evidence placed.now.call_places.now
+        → Sends result (S.taken sink.old) (S.taken sink.new) (S.has_failed sink.old)
+        (S.has_failed sink.new) buffer.old.bytes.items buffer.new.bytes.items
+        (lines_of verified.now trees place placed.now.explanation.now.evidence
+        placed.now.explanation.now.evidence.instances.items) }
+{
+    for k in 0..placed.explanation.evidence.instances.len() {
+        write_line(buffer, verified, placed, k, sink)?;
+    }
+    Ok(())
+}
+
+fn write_evidence<S: Sink>(
+    buffer: &mut TextBuffer,
+    verified: &Verified,
+    placed: &PlacedExplanation<'_>,
+    sink: &mut S,
+) -> Result<(), E02>
+    requires trees { HaveTrees verified.now }
+    requires explanation { IsExplanation verified.now placed.now.explanation.now }
+    requires places { (place : ℕ → ℕ → Option Place)
+        × AreCallPlaces place placed.now.explanation.now.evidence placed.now.call_places.now }
+    ensures { (trees : ℕ → Tree) → AreTrees verified.now trees → (place : ℕ → ℕ → Option Place)
+        → AreCallPlaces place placed.now.explanation.now.evidence placed.now.call_places.now
+        → Sends result (S.taken sink.old) (S.taken sink.new) (S.has_failed sink.old)
+        (S.has_failed sink.new) buffer.old.bytes.items buffer.new.bytes.items
+        (module_evidence_text verified.now trees place placed.now.explanation.now.evidence) }
+{
+    write_answer(buffer, placed.explanation.evidence.truth, sink)?;
+    write_lines(buffer, verified, placed, sink)
+}
+
+/// Appends evidence for the truth of a module's initial instance: the answer, and then a line for
+/// each instance with the instances that it rests on, the initial one first and the nearest before
+/// others, and with the places that are given of its calls. The word `cut` stands last in a line
+/// whose instance rests on a cut call too.
+///
+/// # Errors
+/// `Memory` before the first byte. After `Failed` a part that begins the text, and not the whole of
+/// it, went out.
+pub fn evidence_text<S: Sink>(
+    alloc: Global,
+    verified: &Verified,
+    placed: &PlacedExplanation<'_>,
+    sink: &mut S,
+) -> Result<(), WriteError>
+    requires trees { HaveTrees verified.now }
+    requires explanation { IsExplanation verified.now placed.now.explanation.now }
+    requires places { (place : ℕ → ℕ → Option Place)
+        × AreCallPlaces place placed.now.explanation.now.evidence placed.now.call_places.now }
+    ensures text { (trees : ℕ → Tree) → AreTrees verified.now trees
+        → (place : ℕ → ℕ → Option Place)
+        → AreCallPlaces place placed.now.explanation.now.evidence placed.now.call_places.now
+        → Writes result (S.taken sink.old) (S.taken sink.new) (S.has_failed sink.old)
+        (S.has_failed sink.new) (module_evidence_text verified.now trees place
+        placed.now.explanation.now.evidence) }
+    ensures silent { IfErr result (λ e. IsOutOfMemory e → sink.new ≡ sink.old) }
+{
+    let mut buffer = TextBuffer::new(alloc)?;
+    write_evidence(&mut buffer, verified, placed, sink)?;
+    buffer.finish(sink)?;
+    Ok(())
+}

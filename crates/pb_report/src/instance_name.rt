@@ -1,0 +1,158 @@
+//! The names of instances.
+ghost use Rattle.std.specs.Prelude.{◌≡◌, ◌<◌, drop, length, map};
+ghost use Rattle.pb_sorts.specs.Layout.{count_of};
+ghost use Rattle.pb_bytecode.specs.Meaning.{parameters};
+ghost use Rattle.pb_bytecode.specs.Views.{sort_contents};
+ghost use Rattle.pb_report.specs.Sending.{Sends};
+ghost use Rattle.pb_report.specs.InstanceName.{bool_name, enumerator_name, value_name};
+ghost use Rattle.pb_report.specs.InstanceName.{next_value, more_values, values_text};
+ghost use Rattle.pb_report.specs.InstanceName.{arguments, instance_name};
+
+use crate::buffer::TextBuffer;
+use pb_bytecode::Sort;
+use pb_sorts::{Carrier, E02, Sink};
+use pb_verifier::Verified;
+
+/// The name of a truth value, of which 0 is false.
+fn bool_name(value: i64) -> &'static [u8]
+    ensures { result.now ≡ bool_name value }
+{
+    if value == 0 { b"false" } else { b"true" }
+}
+
+/// The name of an enumerator, by its place in its sort; of what is none, no byte.
+fn enumerator_name(sorts: &[Sort], sort: u8, value: i64) -> &[u8]
+    ensures { result.now ≡ enumerator_name (map sort_contents sorts.now) sort value }
+{
+    if value < 0 {
+        return b"";
+    }
+    match sorts.get(sort as usize) {
+        None => b"",
+        Some(sort) => match sort.enumerators.get(value as usize) {
+            None => b"",
+            Some(name) => name.text.as_bytes(),
+        },
+    }
+}
+
+/// The name of a value.
+fn write_value<S: Sink>(
+    buffer: &mut TextBuffer,
+    sorts: &[Sort],
+    carrier: &Carrier,
+    value: &i64,
+    sink: &mut S,
+) -> Result<(), E02>
+    ensures { Sends result (S.taken sink.old) (S.taken sink.new) (S.has_failed sink.old)
+        (S.has_failed sink.new) buffer.old.bytes.items buffer.new.bytes.items
+        (value_name (map sort_contents sorts.now) carrier.now value.now) }
+{
+    match carrier {
+        Carrier::Bool => buffer.write(bool_name(*value), sink),
+        Carrier::Enum(enumeration) => {
+            buffer.write(enumerator_name(sorts, enumeration.sort, *value), sink)
+        }
+        Carrier::Range(_) => buffer.write_signed(*value, sink),
+    }
+}
+
+/// The name of a value, after a comma.
+fn write_next_value<S: Sink>(
+    buffer: &mut TextBuffer,
+    sorts: &[Sort],
+    carrier: &Carrier,
+    value: &i64,
+    sink: &mut S,
+) -> Result<(), E02>
+    ensures { Sends result (S.taken sink.old) (S.taken sink.new) (S.has_failed sink.old)
+        (S.has_failed sink.new) buffer.old.bytes.items buffer.new.bytes.items
+        (next_value (map sort_contents sorts.now) carrier.now value.now) }
+{
+    buffer.write(b",", sink)?;
+    write_value(buffer, sorts, carrier, value, sink)
+}
+
+/// The names of the values behind the first one, each after a comma.
+fn write_more_values<S: Sink>(
+    buffer: &mut TextBuffer,
+    sorts: &[Sort],
+    carriers: &[Carrier],
+    values: &[i64],
+    sink: &mut S,
+) -> Result<(), E02>
+    requires some { 0 < length carriers.now }
+    requires lengths { length values.now ≡ length carriers.now }
+    ensures { Sends result (S.taken sink.old) (S.taken sink.new) (S.has_failed sink.old)
+        (S.has_failed sink.new) buffer.old.bytes.items buffer.new.bytes.items
+        (more_values (map sort_contents sorts.now) (drop 1 carriers.now) (drop 1 values.now)) }
+{
+    for k in 1..carriers.len() {
+        write_next_value(buffer, sorts, &carriers[k], &values[k], sink)?;
+    }
+    Ok(())
+}
+
+/// The names of values with commas between them.
+fn write_values<S: Sink>(
+    buffer: &mut TextBuffer,
+    sorts: &[Sort],
+    carriers: &[Carrier],
+    values: &[i64],
+    sink: &mut S,
+) -> Result<(), E02>
+    requires some { 0 < length carriers.now }
+    requires lengths { length values.now ≡ length carriers.now }
+    ensures { Sends result (S.taken sink.old) (S.taken sink.new) (S.has_failed sink.old)
+        (S.has_failed sink.new) buffer.old.bytes.items buffer.new.bytes.items
+        (values_text (map sort_contents sorts.now) carriers.now values.now) }
+{
+    write_value(buffer, sorts, &carriers[0], &values[0], sink)?;
+    write_more_values(buffer, sorts, carriers, values, sink)
+}
+
+/// The names of values in parentheses, and no byte where there are none.
+fn write_arguments<S: Sink>(
+    buffer: &mut TextBuffer,
+    sorts: &[Sort],
+    carriers: &[Carrier],
+    values: &[i64],
+    sink: &mut S,
+) -> Result<(), E02>
+    requires { length values.now ≡ length carriers.now }
+    ensures { Sends result (S.taken sink.old) (S.taken sink.new) (S.has_failed sink.old)
+        (S.has_failed sink.new) buffer.old.bytes.items buffer.new.bytes.items
+        (arguments (map sort_contents sorts.now) carriers.now values.now) }
+{
+    if carriers.is_empty() {
+        return buffer.write(b"", sink);
+    }
+    buffer.write(b"(", sink)?;
+    write_values(buffer, sorts, carriers, values, sink)?;
+    buffer.write(b")", sink)
+}
+
+/// The name of the instance with this number.
+pub fn write_instance_name<S: Sink>(
+    buffer: &mut TextBuffer,
+    verified: &Verified,
+    number: u32,
+    sink: &mut S,
+) -> Result<(), E02>
+    requires { number < count_of (parameters verified.now) }
+    ensures { Sends result (S.taken sink.old) (S.taken sink.new) (S.has_failed sink.old)
+        (S.has_failed sink.new) buffer.old.bytes.items buffer.new.bytes.items
+        (instance_name verified.now number) }
+{
+    let module = verified.module();
+    let instance = verified.layout().instance(number);
+    let equation = &module.equations[instance.equation as usize];
+    buffer.write(equation.name.text.as_bytes(), sink)?;
+    write_arguments(
+        buffer,
+        &module.sorts,
+        &equation.parameters,
+        &instance.values,
+        sink,
+    )
+}

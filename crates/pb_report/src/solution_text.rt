@@ -1,0 +1,95 @@
+//! The solution at the reached instances, as a text.
+ghost use Rattle.std.specs.Prelude.{◌<◌, ℕ, ◌≡◌, IfErr};
+ghost use Rattle.pb_trees.specs.Tree.{Tree};
+ghost use Rattle.pb_sorts.specs.Layout.{count_of};
+ghost use Rattle.pb_bytecode.specs.Meaning.{parameters, AreTrees};
+ghost use Rattle.pb_game_of_trees.specs.Explored.{HaveTrees, AreModuleRows, IsModuleGame};
+ghost use Rattle.pb_report.specs.Sending.{Sends, Writes, IsOutOfMemory};
+ghost use Rattle.pb_report.specs.InstanceName.{instance_name};
+ghost use Rattle.pb_report.specs.SolutionText.{truth_end, solution_line};
+ghost use Rattle.pb_report.specs.ModuleTexts.{module_solution_text};
+
+use crate::buffer::{TextBuffer, WriteError};
+use crate::instance_name::write_instance_name;
+use pb_game_of_trees::Solved;
+use pb_rows::IndexedRows;
+use pb_sorts::{E02, Sink};
+use pb_verifier::Verified;
+use std::alloc::Global;
+
+fn write_truth<S: Sink>(buffer: &mut TextBuffer, truth: bool, sink: &mut S) -> Result<(), E02>
+    ensures { Sends result (S.taken sink.old) (S.taken sink.new) (S.has_failed sink.old)
+        (S.has_failed sink.new) buffer.old.bytes.items buffer.new.bytes.items (truth_end truth) }
+{
+    if truth {
+        buffer.write(b" true\n", sink)
+    } else {
+        buffer.write(b" false\n", sink)
+    }
+}
+
+fn write_line<S: Sink>(
+    buffer: &mut TextBuffer,
+    verified: &Verified,
+    number: u32,
+    truth: bool,
+    sink: &mut S,
+) -> Result<(), E02>
+    requires { number < count_of (parameters verified.now) }
+    ensures { Sends result (S.taken sink.old) (S.taken sink.new) (S.has_failed sink.old)
+        (S.has_failed sink.new) buffer.old.bytes.items buffer.new.bytes.items
+        (solution_line (instance_name verified.now number) truth) }
+{
+    write_instance_name(buffer, verified, number, sink)?;
+    write_truth(buffer, truth, sink)
+}
+
+/// The lines of all rows.
+fn write_lines<S: Sink>(
+    buffer: &mut TextBuffer,
+    verified: &Verified,
+    solved: &Solved,
+    rows: &IndexedRows,
+    sink: &mut S,
+) -> Result<(), E02>
+    requires trees { HaveTrees verified.now }
+    requires rows { AreModuleRows verified.now rows.now }
+    requires game { IsModuleGame verified.now rows.now solved.now.built }
+    ensures { (trees : ℕ → Tree) → AreTrees verified.now trees
+        → Sends result (S.taken sink.old) (S.taken sink.new) (S.has_failed sink.old)
+        (S.has_failed sink.new) buffer.old.bytes.items buffer.new.bytes.items
+        (module_solution_text verified.now trees rows.now) }
+{
+    for k in 0..rows.len() {
+        let truth = solved.row_truth(k);
+        write_line(buffer, verified, rows.number(k), truth, sink)?;
+    }
+    Ok(())
+}
+
+/// Appends the solution at the reached instances: a line for each, by rising number, with its name
+/// and its truth.
+///
+/// # Errors
+/// `Memory` before the first byte. After `Failed` a part that begins the text, and not the whole of
+/// it, went out.
+pub fn solution_text<S: Sink>(
+    alloc: Global,
+    verified: &Verified,
+    solved: &Solved,
+    rows: &IndexedRows,
+    sink: &mut S,
+) -> Result<(), WriteError>
+    requires trees { HaveTrees verified.now }
+    requires rows { AreModuleRows verified.now rows.now }
+    requires game { IsModuleGame verified.now rows.now solved.now.built }
+    ensures text { (trees : ℕ → Tree) → AreTrees verified.now trees
+        → Writes result (S.taken sink.old) (S.taken sink.new) (S.has_failed sink.old)
+        (S.has_failed sink.new) (module_solution_text verified.now trees rows.now) }
+    ensures silent { IfErr result (λ e. IsOutOfMemory e → sink.new ≡ sink.old) }
+{
+    let mut buffer = TextBuffer::new(alloc)?;
+    write_lines(&mut buffer, verified, solved, rows, sink)?;
+    buffer.finish(sink)?;
+    Ok(())
+}

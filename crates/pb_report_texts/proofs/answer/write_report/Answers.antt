@@ -1,8 +1,0 @@
-use Rattle.pb_report_texts.specs.Report.{truth_line, counts_text}
-use Rattle.pb_report_texts.proofs.Sending.{sends_then}
-use Rattle.pb_report_texts.proofs.answer.write_report.Goals as goal
-
-pub returns : goal.returns
-returns g c =
-    let a = c.args.answer.now in
-    sends_then _ _ _ _ _ _ _ _ _ _ (truth_line a.truth) (counts_text a) c.in_ok-write_truth.ensures c.write_counts.ensures
