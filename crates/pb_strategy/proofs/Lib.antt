@@ -9,3 +9,7 @@ pub mod Counts
 pub mod Local
 pub mod CertifiedVertices
 pub mod Winners
+mod Assigned
+mod Listed
+mod Systems
+mod Tested
