@@ -18,8 +18,8 @@ pub record AbstractState : Type 0 where
   pub operands : List AbstractValue  -- above the floor, the topmost first
   pub operands_below : ℕ  -- how many operands are below the innermost loop's
   pub parameters : List AbstractValue
-  pub loops : List (ℕ × AbstractValue)  -- the loops under way, the innermost first: each slot with
-      its value
+  -- the loops under way, the innermost first: each slot with its value
+  pub loops : List (ℕ × AbstractValue)
   pub brackets : ℕ  -- how many are open
   pub brackets_below : ℕ  -- how many of them a body can't close
   pub roots : ℕ
