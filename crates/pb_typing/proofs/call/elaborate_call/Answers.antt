@@ -1,4 +1,4 @@
-use Rattle.std.proofs.Common.{ℕ, ◌∙◌, sym, ap, subst, List, Option, string_bytes}
+use Rattle.std.proofs.Common.{◌≢◌, ℕ, ◌∙◌, refl, sym, ap, subst, List, Option, Some, None, string_bytes}
 use Rattle.pb_text_tree.specs.declared.term.Argument as ast
 use Rattle.pb_text_tree.specs.Form.{argument_forms}
 use Rattle.pb_text_meaning.specs.Erase.{erased_arguments}
@@ -26,8 +26,12 @@ returns-clause-form c =
     ap (model.Call c.in-Some.equation) (c.in_ok-arguments.ensures ∙ ap (λ (xs : List ast.Argument). call_arguments S slots scope xs) (c.deref-2).ensures.value)
     ∙ ap (λ (o : Option ℕ). call o es) found
 
+there_is : (o : Option ℕ) → IsThere o → ((k : ℕ) → o ≢ Some k) → ⊥
+there_is (Some k) h never = never k refl
+there_is None h never = h
+
 pub unreachable-requires : goal.unreachable-requires
 unreachable-requires c =
     let S = spec_of c.args.context.now.values.declarations.now in
-    let found = sym c.in-None.is ∙ (c.equation.ensures ∙ ap (equation_place S) c.deref.ensures) in
-    subst IsThere (sym found) c.requires.there
+    let found = c.equation.ensures ∙ ap (equation_place S) c.deref.ensures in
+    there_is c.equation.result (subst IsThere (sym found) c.requires.there) c.in_default.not-Some
