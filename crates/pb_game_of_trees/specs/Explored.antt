@@ -10,8 +10,8 @@ use Rattle.pb_game_of_trees.specs.declared.tree_game.TreeGame.{TreeGame}
 use Rattle.pb_game_of_trees.specs.TreeGame.{AreRowsFrom, IsTreeGame, IsTooLarge}
 
 -- the module's instances have trees: their runs end
-abbrev pub HaveTrees : Contents → Type 0
-HaveTrees m = (trees : ℕ → Tree) × AreTrees m trees
+abbrev pub ModuleHasTrees : Contents → Type 0
+ModuleHasTrees m = (trees : ℕ → Tree) × AreTrees m trees
 
 -- with whichever trees its instances have, the rows are the module's, and one of them is the
 -- initial instance's

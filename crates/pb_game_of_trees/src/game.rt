@@ -3,10 +3,10 @@ ghost use Rattle.std.specs.Prelude.{◌≡◌, ℕ, IfOk, Err, map};
 ghost use Rattle.pb_trees.specs.Tree.{Tree};
 ghost use Rattle.pb_rows.specs.Reached.{AreRowsOf};
 ghost use Rattle.pb_bytecode.specs.Meaning.{signature_of, initial_of};
-ghost use Rattle.pb_game_of_trees.specs.TreeGame.{HaveTrees as HaveRowTrees, IsGameOf};
+ghost use Rattle.pb_game_of_trees.specs.TreeGame.{RowsHaveTrees, IsGameOf};
 ghost use Rattle.pb_game_of_trees.specs.TreeGame.{IsTooLarge};
 ghost use Rattle.pb_game_of_trees.specs.declared.tree_game.BuildError.TheVariants.{TooManyVertices};
-ghost use Rattle.pb_game_of_trees.specs.Explored.{HaveTrees, AreModuleRows, IsModuleGame};
+ghost use Rattle.pb_game_of_trees.specs.Explored.{ModuleHasTrees, AreModuleRows, IsModuleGame};
 ghost use Rattle.pb_game_of_trees.specs.Explored.{IsModuleTooLarge};
 
 use crate::signatures::signatures_of;
@@ -25,7 +25,7 @@ pub fn build_rows(
     verified: &Verified,
     rows: &IndexedRows,
 ) -> Result<TreeGame, BuildError>
-    requires { HaveRowTrees (map signature_of verified.now.equations) rows.now
+    requires { RowsHaveTrees (map signature_of verified.now.equations) rows.now
         (initial_of verified.now) }
     ensures game { IfOk result (IsGameOf (map signature_of verified.now.equations) rows.now
         (initial_of verified.now)) }
@@ -42,7 +42,7 @@ pub fn build_rows(
 /// # Errors
 /// `TooManyVertices` where the game would have more than 2^24 vertices; else `Memory`.
 pub fn build(alloc: Global, verified: &Verified, rows: &IndexedRows) -> Result<TreeGame, BuildError>
-    requires trees { HaveTrees verified.now }
+    requires trees { ModuleHasTrees verified.now }
     requires rows { AreModuleRows verified.now rows.now }
     ensures game { IfOk result (IsModuleGame verified.now rows.now) }
     ensures too_many { result ≡ Err TooManyVertices → IsModuleTooLarge verified.now rows.now }

@@ -61,7 +61,7 @@ impl TreeGame {
     ghost use Rattle.pb_trees.specs.Equations.{total};
     ghost use Rattle.pb_game.specs.Games.{vertex_count};
     ghost use Rattle.pb_game_of_trees.specs.Equations.{equations_of};
-    ghost use Rattle.pb_game_of_trees.specs.TreeGame.{HaveTrees, IsGameOf, IsRefusedExactly};
+    ghost use Rattle.pb_game_of_trees.specs.TreeGame.{RowsHaveTrees, IsGameOf, IsRefusedExactly};
     ghost use Rattle.pb_game_of_trees.specs.Places.{IsSizeOf};
 
     /// The game of the reached instances of these equations, where `initial` is one of them. How
@@ -77,7 +77,7 @@ impl TreeGame {
     ) -> Result<TreeGame, BuildError>
         requires few { length signatures.now < 256 }
         requires numbers { total (equations_of signatures.now) < 4294967296 }
-        requires reached { HaveTrees (equations_of signatures.now) rows.now initial }
+        requires reached { RowsHaveTrees (equations_of signatures.now) rows.now initial }
         ensures game { IfOk result (IsGameOf (equations_of signatures.now) rows.now initial) }
         ensures too_many { IsRefusedExactly (result ≡ Err BuildError.TooManyVertices)
             (equations_of signatures.now) rows.now }
@@ -99,7 +99,7 @@ impl TreeGame {
         requires few { length signatures.now < 256 }
         requires numbers { total (equations_of signatures.now) < 4294967296 }
         requires small { size.vertices ≤ 16777216 }
-        requires reached { HaveTrees (equations_of signatures.now) rows.now initial }
+        requires reached { RowsHaveTrees (equations_of signatures.now) rows.now initial }
         requires size { IsSizeOf rows.now size.vertices }
         ensures { IfOk result (IsGameOf (equations_of signatures.now) rows.now initial) }
     {

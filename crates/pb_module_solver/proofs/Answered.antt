@@ -9,7 +9,7 @@ use Rattle.pb_bytecode.specs.Contents.{Contents}
 use Rattle.pb_bytecode.specs.Meaning.{AreTrees, signature_of, initial_of, answer}
 use Rattle.pb_exploration.specs.Rows.{AreExplored}
 use Rattle.pb_game.specs.Games.{vertex_count}
-use Rattle.pb_game_of_trees.specs.Explored.{HaveTrees, IsModuleGame}
+use Rattle.pb_game_of_trees.specs.Explored.{ModuleHasTrees, IsModuleGame}
 use Rattle.pb_game_of_trees.specs.declared.tree_game.TreeGame.{TreeGame}
 use Rattle.pb_game_of_trees.specs.TreeGame.{IsTreeGame, AreRowsFrom}
 use Rattle.pb_game_of_trees.specs.Held.{Hold}
@@ -40,7 +40,7 @@ module _ (m : Contents) (rows : List Row) (built : TreeGame) (explored : AreExpl
   found : (trees : ℕ → Tree) → AreTrees m trees → plain.IsReached (rows_of trees rows) (initial_of m)
   found trees have = found_row trees rows (initial_of m) (from trees have).found
 
-  pub some_game : HaveTrees m → IsSomeGame built
+  pub some_game : ModuleHasTrees m → IsSomeGame built
   some_game some =
       (map signature_of m.equations, some.0, rows_of some.0 rows, initial_of m, game some.0 some.1, found some.0 some.1)
 

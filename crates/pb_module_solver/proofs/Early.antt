@@ -8,7 +8,7 @@ use Rattle.pb_rows.specs.Reached.{rows_of}
 use Rattle.pb_bytecode.specs.Contents.{Contents}
 use Rattle.pb_bytecode.specs.Meaning.{signature_of, initial_of}
 use Rattle.pb_game_of_trees.specs.declared.tree_game.TreeGame.{TreeGame}
-use Rattle.pb_game_of_trees.specs.TreeGame.{HaveTrees, AreRowsFrom, IsTreeGame, IsGameOf}
+use Rattle.pb_game_of_trees.specs.TreeGame.{RowsHaveTrees, AreRowsFrom, IsTreeGame, IsGameOf}
 use Rattle.pb_game_of_trees.proofs.Reached.{found_row}
 use Rattle.pb_game_of_trees.specs.Explored as module_rows
 use Rattle.pb_evidence.specs.AssumedGraphs.{IsAssumed}
@@ -31,9 +31,9 @@ ExplainsRows rows built x =
     (signatures : List Signature) (trees : ℕ → Tree) (initial : ℕ) → AreRowsFrom signatures trees rows initial
     → IsTreeGame signatures trees (rows_of trees rows) initial built → Explains signatures trees initial x
 
-module _ (m : Contents) (rows : List Row) (some : module_rows.HaveTrees m) (b : Bool) (assumed : AreAssumedRows m b rows) where
+module _ (m : Contents) (rows : List Row) (some : module_rows.RowsHaveTrees m) (b : Bool) (assumed : AreAssumedRows m b rows) where
   -- some trees that are assumed
-  pub some_rows : HaveTrees (map signature_of m.equations) rows (initial_of m)
+  pub some_rows : RowsHaveTrees (map signature_of m.equations) rows (initial_of m)
   some_rows = let a = assumed some.0 some.1 in (a.0, a.2)
 
   module _ (built : TreeGame) (game : IsGameOf (map signature_of m.equations) rows (initial_of m) built) where

@@ -17,37 +17,37 @@ use Rattle.pb_report.specs.Sending.{Writes}
 use Rattle.pb_report.specs.CertificateText.{certificate_text}
 use Rattle.pb_game.specs.Certificates.{IsCertificate}
 use Rattle.pb_game.specs.declared.certificate.Solution.{Solution}
-use Rattle.pb_game_of_trees.specs.Explored.{HaveTrees, IsModuleGame}
+use Rattle.pb_game_of_trees.specs.Explored.{ModuleHasTrees, IsModuleGame}
 use Rattle.pb_game_of_trees.specs.declared.tree_game.TreeGame.{TreeGame}
-use Rattle.pb_module_solver.specs.Texts.{ForReached, ForCertificateText, Sends}
+use Rattle.pb_module_solver.specs.Texts.{ForReached, ForCertificateText, SendsText}
 
 -- the text of the rows in memory went out so, whichever trees the instances have
 abbrev WritesAny : {T : Type 0} → Contents → ((ℕ → Tree) → List Row → List ℕ) → List Row → Result T WriteError → Option (List ℕ) → Option (List ℕ) → Bool → Bool → Type 0
 WritesAny m text rows r old new fb fa = (trees : ℕ → Tree) → AreTrees m trees → Writes r old new fb fa (text trees rows)
 
-sent_found : {T : Type 0} (m : Contents) (found : List Row) → AreExplored m found → HaveTrees m → (text : (ℕ → Tree) → List Row → List ℕ)
+sent_found : {T : Type 0} (m : Contents) (found : List Row) → AreExplored m found → ModuleHasTrees m → (text : (ℕ → Tree) → List Row → List ℕ)
     → (r : Result T WriteError) (old new : Option (List ℕ)) (fb fa : Bool) → WritesAny m text found r old new fb fa
-    → Sends (ForReached m text) r old new fb fa
+    → SendsText (ForReached m text) r old new fb fa
 sent_found m found explored some text (Ok x) old new fb fa w =
     ((λ trees have. (found, explored trees have, (w trees have).0)), (w some.0 some.1).1)
 sent_found m found explored some text (Err (Memory e)) old new fb fa w = w some.0 some.1
 sent_found m found explored some text (Err (Failed e)) old new fb fa w =
     ((λ trees have. (found, explored trees have, (w trees have).0)), (w some.0 some.1).1)
 
-pub sent : {T : Type 0} (m : Contents) (found rows : List Row) → rows ≡ found → AreExplored m found → HaveTrees m
+pub sent : {T : Type 0} (m : Contents) (found rows : List Row) → rows ≡ found → AreExplored m found → ModuleHasTrees m
     → (text : (ℕ → Tree) → List Row → List ℕ) → (r : Result T WriteError) (old new : Option (List ℕ)) (fb fa : Bool)
-    → WritesAny m text rows r old new fb fa → Sends (ForReached m text) r old new fb fa
+    → WritesAny m text rows r old new fb fa → SendsText (ForReached m text) r old new fb fa
 sent m found rows same explored some text r old new fb fa w =
     sent_found m found explored some text r old new fb fa (subst (λ (x : List Row). WritesAny m text x r old new fb fa) same w)
 
 -- the text of evidence went out, so that of some evidence did
-module _ (m : Contents) (x : Explanation) (place : ℕ → ℕ → Option Place) (is : IsExplanation m x) (have : HaveTrees m) where
+module _ (m : Contents) (x : Explanation) (place : ℕ → ℕ → Option Place) (is : IsExplanation m x) (have : ModuleHasTrees m) where
   found_evidence : (P : List ℕ → Type 0) → ((trees : ℕ → Tree) → AreTrees m trees → P (module_evidence_text m trees place x.evidence)) → ForEvidenceText m place P
   found_evidence P holds = (x.evidence, λ trees are. (is trees are).shown, holds)
 
   pub sent_evidence : {T : Type 0} (r : Result T WriteError) (old new : Option (List ℕ)) (fb fa : Bool)
       → ((trees : ℕ → Tree) → AreTrees m trees → Writes r old new fb fa (module_evidence_text m trees place x.evidence))
-      → Sends (ForEvidenceText m place) r old new fb fa
+      → SendsText (ForEvidenceText m place) r old new fb fa
   sent_evidence (Ok v) old new fb fa w = (found_evidence (Appends old new) (λ trees are. (w trees are).0), (w have.0 have.1).1)
   sent_evidence (Err (Memory v)) old new fb fa w = w have.0 have.1
   sent_evidence (Err (Failed v)) old new fb fa w = (found_evidence (AppendsPrefix old new) (λ trees are. (w trees are).0), (w have.0 have.1).1)
@@ -63,7 +63,7 @@ module _ (m : Contents) (rows : List Row) (explored : AreExplored m rows) (built
   )
 
   pub sent_certificate : {T : Type 0} (r : Result T WriteError) (old new : Option (List ℕ)) (fb fa : Bool)
-      → Writes r old new fb fa (certificate_text built.game s) → Sends (ForCertificateText m) r old new fb fa
+      → Writes r old new fb fa (certificate_text built.game s) → SendsText (ForCertificateText m) r old new fb fa
   sent_certificate (Ok x) old new fb fa w = (found_certificate (Appends old new) w.0, w.1)
   sent_certificate (Err (Memory e)) old new fb fa w = w
   sent_certificate (Err (Failed e)) old new fb fa w = (found_certificate (AppendsPrefix old new) w.0, w.1)

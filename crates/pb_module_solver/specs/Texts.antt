@@ -34,11 +34,11 @@ ForCertificateText m P =
 
 -- A text of which this is known was appended, or nothing where there was no memory, or a part that
 -- begins it where a write failed.
-abbrev pub Sends : {T : Type 0} → ((List ℕ → Type 0) → Type 0) → Result T WriteError
+abbrev pub SendsText : {T : Type 0} → ((List ℕ → Type 0) → Type 0) → Result T WriteError
     → Option (List ℕ) → Option (List ℕ) → Bool → Bool → Type 0
-Sends For (Ok _) old new failed_before failed_after =
+SendsText For (Ok _) old new failed_before failed_after =
     For (Appends old new) × (failed_after ≡ failed_before)
-Sends For (Err (Memory _)) old new failed_before failed_after =
+SendsText For (Err (Memory _)) old new failed_before failed_after =
     (new ≡ old) × (failed_after ≡ failed_before)
-Sends For (Err (Failed _)) old new failed_before failed_after =
+SendsText For (Err (Failed _)) old new failed_before failed_after =
     For (AppendsPrefix old new) × (failed_after ≡ true)

@@ -7,7 +7,7 @@ ghost use Rattle.pb_module_solver.specs.Lifting.{IsLiftedOrNone};
 ghost use Rattle.pb_report.specs.Sending.{IsOutOfMemory};
 ghost use Rattle.pb_game.specs.declared.solver.Solver.TheVariants.{Lift};
 ghost use Rattle.pb_module_solver.specs.Answers.{IsBuiltModule, IsTooLarge};
-ghost use Rattle.pb_module_solver.specs.Texts.{ForGameText, Sends};
+ghost use Rattle.pb_module_solver.specs.Texts.{ForGameText, SendsText};
 
 use crate::options::SolveOptions;
 use crate::solve;
@@ -65,7 +65,7 @@ impl BuiltModule {
         sink: &mut S,
     ) -> Result<(), WriteError>
         requires { IsBuiltModule verified.now self.now }
-        ensures text { Sends (ForGameText verified.now) result (S.taken sink.old) (S.taken sink.new)
+        ensures text { SendsText (ForGameText verified.now) result (S.taken sink.old) (S.taken sink.new)
             (S.has_failed sink.old) (S.has_failed sink.new) }
         ensures silent { IfErr result (λ e. IsOutOfMemory e → sink.new ≡ sink.old) }
     {

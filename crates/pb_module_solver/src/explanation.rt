@@ -11,7 +11,7 @@ ghost use Rattle.pb_report.specs.Sending.{IsOutOfMemory};
 ghost use Rattle.pb_nearby.specs.Nearby.{IsNearby};
 ghost use Rattle.pb_module_solver.specs.Answers.{IsTooLarge};
 ghost use Rattle.pb_module_solver.specs.Parts.{IsPart};
-ghost use Rattle.pb_module_solver.specs.Texts.{Sends};
+ghost use Rattle.pb_module_solver.specs.Texts.{SendsText};
 
 use crate::built_module::solve_game;
 use crate::options::SolveOptions;
@@ -192,7 +192,7 @@ pub fn write_explanation<S: Sink>(
         × AreCallPlaces place placed.now.explanation.now.evidence placed.now.call_places.now }
     ensures text { (place : ℕ → ℕ → Option Place)
         → AreCallPlaces place placed.now.explanation.now.evidence placed.now.call_places.now
-        → Sends (ForEvidenceText verified.now place) result (S.taken sink.old) (S.taken sink.new)
+        → SendsText (ForEvidenceText verified.now place) result (S.taken sink.old) (S.taken sink.new)
         (S.has_failed sink.old) (S.has_failed sink.new) }
     ensures silent { IfErr result (λ e. IsOutOfMemory e → sink.new ≡ sink.old) }
 {

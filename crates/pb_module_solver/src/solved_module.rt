@@ -6,7 +6,7 @@ ghost use Rattle.pb_module_solver.specs.Lifting.{IsLiftedOrNone};
 ghost use Rattle.pb_report.specs.Sending.{IsOutOfMemory};
 ghost use Rattle.pb_game.specs.declared.solver.Solver.TheVariants.{Lift};
 ghost use Rattle.pb_module_solver.specs.Answers.{IsSolutionOf, IsTooLarge};
-ghost use Rattle.pb_module_solver.specs.Texts.{ForCertificateText, ForSolutionText, Sends};
+ghost use Rattle.pb_module_solver.specs.Texts.{ForCertificateText, ForSolutionText, SendsText};
 
 use crate::built_module::{BuiltModule, build_module, solve_game};
 use crate::options::SolveOptions;
@@ -69,7 +69,7 @@ impl SolvedModule {
         sink: &mut S,
     ) -> Result<(), WriteError>
         requires { IsSolutionOf verified.now self.now }
-        ensures text { Sends (ForSolutionText verified.now) result (S.taken sink.old)
+        ensures text { SendsText (ForSolutionText verified.now) result (S.taken sink.old)
             (S.taken sink.new) (S.has_failed sink.old) (S.has_failed sink.new) }
         ensures silent { IfErr result (λ e. IsOutOfMemory e → sink.new ≡ sink.old) }
     {
@@ -90,7 +90,7 @@ impl SolvedModule {
     ) -> Result<(), WriteError>
         requires solved { IsSolutionOf verified.now self.now }
         requires certificate { IsCertificate self.now.solved.built.game self.now.solved.certified }
-        ensures text { Sends (ForCertificateText verified.now) result (S.taken sink.old)
+        ensures text { SendsText (ForCertificateText verified.now) result (S.taken sink.old)
             (S.taken sink.new) (S.has_failed sink.old) (S.has_failed sink.new) }
         ensures silent { IfErr result (λ e. IsOutOfMemory e → sink.new ≡ sink.old) }
     {

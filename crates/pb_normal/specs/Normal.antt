@@ -8,7 +8,9 @@ use Rattle.pb_text_meaning.specs.Syntax.{Spec}
 use Rattle.pb_text_meaning.specs.Value.{is_true, of_values}
 use Rattle.pb_text_meaning.specs.Formula.{Instance, call_truth}
 use Rattle.pb_typing_declarations.specs.Shapes.{Shape, shape_carrier}
-pub use Rattle.pb_typed_tree.specs.Tree.{Term, Number, Slot, Negative, Absolute, Successor, Predecessor, Binary, Maximum, Minimum, Choice, Recognised, Argument}
+pub use Rattle.pb_typed_tree.specs.Tree.{Term, Number, Slot, Negative, Absolute, Successor}
+pub use Rattle.pb_typed_tree.specs.Tree.{Predecessor, Binary, Maximum, Minimum, Choice, Recognised}
+pub use Rattle.pb_typed_tree.specs.Tree.{Argument}
 pub use Rattle.pb_typed_tree.specs.Meaning.{Slots, set, value, name_of, called}
 
 -- Join true is a conjunction and Join false a disjunction; Each true is for all values of a slot

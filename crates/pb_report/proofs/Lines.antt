@@ -12,7 +12,7 @@ use Rattle.pb_sorts.specs.Layout.{count_of}
 use Rattle.pb_bytecode.specs.Contents.{Contents}
 use Rattle.pb_bytecode.specs.Meaning.{AreTrees, parameters, signature_of}
 use Rattle.pb_bytecode.proofs.InstanceCounts.{count_is_total}
-use Rattle.pb_game_of_trees.specs.Explored.{HaveTrees}
+use Rattle.pb_game_of_trees.specs.Explored.{ModuleHasTrees}
 use Rattle.pb_evidence.specs.declared.Evidence.{Evidence}
 use Rattle.pb_evidence.specs.Evidence.{graph_of}
 use Rattle.pb_evidence.proofs.Finding.{contains_at}
@@ -45,7 +45,7 @@ pub next_line : (m : Contents) (trees : ℕ → Tree) (place : ℕ → ℕ → O
     lines_of m trees place e (drop k ns) ≡ line_of m trees place e (get_or ns k 0) ++ lines_of m trees place e (drop (k + 1) ns)
 next_line m trees place e ns k l = ap (lines_of m trees place e) (drop_more ns k 0 l)
 
-module _ (m : Contents) (have : HaveTrees m) (x : Explanation) (is : IsExplanation m x) where
+module _ (m : Contents) (have : ModuleHasTrees m) (x : Explanation) (is : IsExplanation m x) where
   abbrev e : Evidence
   e = x.evidence
 

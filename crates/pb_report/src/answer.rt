@@ -22,12 +22,12 @@ pub struct Answer {
 
 impl Answer {
     ghost use Rattle.pb_bytecode.specs.Contents.{Contents};
-    ghost use Rattle.pb_game_of_trees.specs.Explored.{HaveTrees, AreModuleRows, IsModuleGame};
+    ghost use Rattle.pb_game_of_trees.specs.Explored.{ModuleHasTrees, AreModuleRows, IsModuleGame};
     ghost use Rattle.pb_report.specs.ModuleTexts.{IsAnswer};
 
     /// What was found about a module whose game is solved and whose reached instances these are.
     pub fn of_solved(solved: &Solved, rows: &IndexedRows) -> Answer
-        requires { (m : Contents) × HaveTrees m × AreModuleRows m rows.now
+        requires { (m : Contents) × ModuleHasTrees m × AreModuleRows m rows.now
             × IsModuleGame m rows.now solved.now.built }
         ensures { (m : Contents) → AreModuleRows m rows.now
             → IsModuleGame m rows.now solved.now.built → IsAnswer m rows.now result }

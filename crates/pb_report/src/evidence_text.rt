@@ -6,7 +6,7 @@ ghost use Rattle.pb_text_tree.specs.declared.place.Place.{Place};
 ghost use Rattle.pb_sorts.specs.Layout.{count_of};
 ghost use Rattle.pb_trees.specs.Tree.{Tree};
 ghost use Rattle.pb_bytecode.specs.Meaning.{AreTrees, parameters};
-ghost use Rattle.pb_game_of_trees.specs.Explored.{HaveTrees};
+ghost use Rattle.pb_game_of_trees.specs.Explored.{ModuleHasTrees};
 ghost use Rattle.pb_report.specs.Report.{truth_line};
 ghost use Rattle.pb_report.specs.InstanceName.{instance_name};
 ghost use Rattle.pb_report.specs.Sending.{Sends, Writes, IsOutOfMemory};
@@ -181,7 +181,7 @@ fn write_line<S: Sink>(
     sink: &mut S,
 ) -> Result<(), E02>
     requires place { k < length placed.now.explanation.now.evidence.instances.items }
-    requires trees { HaveTrees verified.now }
+    requires trees { ModuleHasTrees verified.now }
     requires explanation { IsExplanation verified.now placed.now.explanation.now }
     ensures { (trees : ℕ → Tree) → AreTrees verified.now trees → (place : ℕ → ℕ → Option Place)
         → AreCallPlaces place placed.now.explanation.now.evidence placed.now.call_places.now
@@ -206,7 +206,7 @@ fn write_lines<S: Sink>(
     placed: &PlacedExplanation<'_>,
     sink: &mut S,
 ) -> Result<(), E02>
-    requires trees { HaveTrees verified.now }
+    requires trees { ModuleHasTrees verified.now }
     requires explanation { IsExplanation verified.now placed.now.explanation.now }
     requires places { (place : ℕ → ℕ → Option Place)
         × AreCallPlaces place placed.now.explanation.now.evidence placed.now.call_places.now }
@@ -229,7 +229,7 @@ fn write_evidence<S: Sink>(
     placed: &PlacedExplanation<'_>,
     sink: &mut S,
 ) -> Result<(), E02>
-    requires trees { HaveTrees verified.now }
+    requires trees { ModuleHasTrees verified.now }
     requires explanation { IsExplanation verified.now placed.now.explanation.now }
     requires places { (place : ℕ → ℕ → Option Place)
         × AreCallPlaces place placed.now.explanation.now.evidence placed.now.call_places.now }
@@ -257,7 +257,7 @@ pub fn evidence_text<S: Sink>(
     placed: &PlacedExplanation<'_>,
     sink: &mut S,
 ) -> Result<(), WriteError>
-    requires trees { HaveTrees verified.now }
+    requires trees { ModuleHasTrees verified.now }
     requires explanation { IsExplanation verified.now placed.now.explanation.now }
     requires places { (place : ℕ → ℕ → Option Place)
         × AreCallPlaces place placed.now.explanation.now.evidence placed.now.call_places.now }

@@ -6,7 +6,7 @@ ghost use Rattle.pb_sorts.specs.Layout.{count_of};
 ghost use Rattle.pb_bytecode.specs.Meaning.{parameters, AreTrees};
 ghost use Rattle.pb_game.specs.Games.{vertex_count, successors_of};
 ghost use Rattle.pb_trees.specs.Tree.{Tree};
-ghost use Rattle.pb_game_of_trees.specs.Explored.{HaveTrees, AreModuleRows, IsModuleGame};
+ghost use Rattle.pb_game_of_trees.specs.Explored.{ModuleHasTrees, AreModuleRows, IsModuleGame};
 ghost use Rattle.pb_report.specs.ModuleTexts.{module_game_text};
 ghost use Rattle.pb_report.specs.Sending.{Sends, Writes, IsOutOfMemory};
 ghost use Rattle.pb_report.specs.InstanceName.{instance_name};
@@ -207,7 +207,7 @@ pub fn game_text<S: Sink>(
     rows: &IndexedRows,
     sink: &mut S,
 ) -> Result<(), WriteError>
-    requires trees { HaveTrees verified.now }
+    requires trees { ModuleHasTrees verified.now }
     requires rows { AreModuleRows verified.now rows.now }
     requires game { IsModuleGame verified.now rows.now built.now }
     ensures text { (trees : ℕ → Tree) → AreTrees verified.now trees

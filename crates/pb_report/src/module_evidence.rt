@@ -6,7 +6,7 @@ ghost use Rattle.pb_trees.specs.Equations.{Signature};
 ghost use Rattle.pb_rows.specs.Reached.{rows_of};
 ghost use Rattle.pb_bytecode.specs.Contents.{Contents};
 ghost use Rattle.pb_game_of_trees.specs.TreeGame.{AreRowsFrom, IsTreeGame};
-ghost use Rattle.pb_game_of_trees.specs.Explored.{HaveTrees, AreModuleRows, IsModuleGame};
+ghost use Rattle.pb_game_of_trees.specs.Explored.{ModuleHasTrees, AreModuleRows, IsModuleGame};
 ghost use Rattle.pb_report.specs.ModuleEvidence.{Explains, IsExplanation};
 
 use crate::cuts::cuts_of;
@@ -67,7 +67,7 @@ pub fn evidence_of(
     solved: &Solved,
     rows: &IndexedRows,
 ) -> Result<Explanation, AllocError>
-    requires { (m : Contents) × HaveTrees m × AreModuleRows m rows.now
+    requires { (m : Contents) × ModuleHasTrees m × AreModuleRows m rows.now
         × IsModuleGame m rows.now solved.now.built }
     ensures { IfOk result (λ x. (m : Contents) → AreModuleRows m rows.now
         → IsModuleGame m rows.now solved.now.built → IsExplanation m x) }

@@ -3,7 +3,7 @@ ghost use Rattle.std.specs.Prelude.{◌<◌, ℕ, ◌≡◌, IfErr};
 ghost use Rattle.pb_trees.specs.Tree.{Tree};
 ghost use Rattle.pb_sorts.specs.Layout.{count_of};
 ghost use Rattle.pb_bytecode.specs.Meaning.{parameters, AreTrees};
-ghost use Rattle.pb_game_of_trees.specs.Explored.{HaveTrees, AreModuleRows, IsModuleGame};
+ghost use Rattle.pb_game_of_trees.specs.Explored.{ModuleHasTrees, AreModuleRows, IsModuleGame};
 ghost use Rattle.pb_report.specs.Sending.{Sends, Writes, IsOutOfMemory};
 ghost use Rattle.pb_report.specs.InstanceName.{instance_name};
 ghost use Rattle.pb_report.specs.SolutionText.{truth_end, solution_line};
@@ -52,7 +52,7 @@ fn write_lines<S: Sink>(
     rows: &IndexedRows,
     sink: &mut S,
 ) -> Result<(), E02>
-    requires trees { HaveTrees verified.now }
+    requires trees { ModuleHasTrees verified.now }
     requires rows { AreModuleRows verified.now rows.now }
     requires game { IsModuleGame verified.now rows.now solved.now.built }
     ensures { (trees : ℕ → Tree) → AreTrees verified.now trees
@@ -80,7 +80,7 @@ pub fn solution_text<S: Sink>(
     rows: &IndexedRows,
     sink: &mut S,
 ) -> Result<(), WriteError>
-    requires trees { HaveTrees verified.now }
+    requires trees { ModuleHasTrees verified.now }
     requires rows { AreModuleRows verified.now rows.now }
     requires game { IsModuleGame verified.now rows.now solved.now.built }
     ensures text { (trees : ℕ → Tree) → AreTrees verified.now trees

@@ -10,7 +10,7 @@ use Rattle.pb_model_properties.specs.declared.error.ModelError.TheVariants as mo
 use Rattle.pb_report.specs.declared.buffer.WriteError.{WriteError}
 use Rattle.pb_report.specs.declared.buffer.WriteError.TheVariants as write_error
 use Rattle.pb_report.specs.Sending.{Writes, IsOutOfMemory}
-use Rattle.pb_module_solver.specs.Texts.{Sends}
+use Rattle.pb_module_solver.specs.Texts.{SendsText}
 use Rattle.pbsolve.specs.declared.solve_error.SolveError.{SolveError}
 use Rattle.pbsolve.specs.declared.solve_error.SolveError.TheVariants as solve_error
 use Rattle.pbsolve.specs.Delivery.{Delivers, Leaves}
@@ -87,12 +87,12 @@ module _ {S : Type 0} (taken : S → Option (List ℕ)) (has_failed : S → Bool
 
   -- what the writers of a module's texts send
   module _ {T : Type 0} (For : (List ℕ → Type 0) → Type 0) (old new : S) where
-    pub sent_whole : (r : Result T WriteError) (v : T) → Sends For r (taken old) (taken new) (has_failed old) (has_failed new) → r ≡ Ok v
+    pub sent_whole : (r : Result T WriteError) (v : T) → SendsText For r (taken old) (taken new) (has_failed old) (has_failed new) → r ≡ Ok v
         → For (Appends (taken old) (taken new)) × (has_failed new ≡ has_failed old)
     sent_whole (Ok w) v sent is = sent
     sent_whole (Err e) v sent is = absurd (cc is)
 
-    sent_part : (r : Result T WriteError) (x : WriteError) → Sends For r (taken old) (taken new) (has_failed old) (has_failed new)
+    sent_part : (r : Result T WriteError) (x : WriteError) → SendsText For r (taken old) (taken new) (has_failed old) (has_failed new)
         → IfErr r (λ e. IsOutOfMemory e → new ≡ old) → r ≡ Err x → Leaves For (write_failure x) taken has_failed old new
     sent_part (Ok v) x sent silent is = absurd (cc is)
     sent_part (Err (write_error.Memory a)) (write_error.Memory b) sent silent is = silent tt
@@ -100,13 +100,13 @@ module _ {S : Type 0} (taken : S → Option (List ℕ)) (has_failed : S → Bool
     sent_part (Err (write_error.Failed a)) (write_error.Memory b) sent silent is = absurd (cc is)
     sent_part (Err (write_error.Failed a)) (write_error.Failed b) sent silent is = sent
 
-    pub sent_up : {U : Type 0} (r : Result T WriteError) (x : WriteError) (s : Result U SolveError) → Sends For r (taken old) (taken new) (has_failed old) (has_failed new)
+    pub sent_up : {U : Type 0} (r : Result T WriteError) (x : WriteError) (s : Result U SolveError) → SendsText For r (taken old) (taken new) (has_failed old) (has_failed new)
         → IfErr r (λ e. IsOutOfMemory e → new ≡ old) → r ≡ Err x → IsErrAnd s (λ y. y ≡ write_failure x) → Delivers For s taken has_failed old new
     sent_up r x s sent silent is made = left_by For old new s (write_failure x) made (sent_part r x sent silent is)
 
 -- a whole text is one of which this is known
 pub written : {T : Type 0} (For : (List ℕ → Type 0) → Type 0) (text : List ℕ) (knows : (P : List ℕ → Type 0) → P text → For P)
-    (r : Result T WriteError) (old new : Option (List ℕ)) (fb fa : Bool) → Writes r old new fb fa text → Sends For r old new fb fa
+    (r : Result T WriteError) (old new : Option (List ℕ)) (fb fa : Bool) → Writes r old new fb fa text → SendsText For r old new fb fa
 written For text knows (Ok v) old new fb fa h = (knows _ h.0, h.1)
 written For text knows (Err (write_error.Memory a)) old new fb fa h = h
 written For text knows (Err (write_error.Failed a)) old new fb fa h = (knows _ h.0, h.1)

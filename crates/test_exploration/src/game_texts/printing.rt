@@ -1,6 +1,6 @@
 //! From the bytes of a module to what is printed about it.
 ghost use Rattle.std.specs.Prelude.{IfOk};
-ghost use Rattle.pb_game_of_trees.specs.Explored.{HaveTrees, AreModuleRows, IsModuleGame};
+ghost use Rattle.pb_game_of_trees.specs.Explored.{ModuleHasTrees, AreModuleRows, IsModuleGame};
 ghost use Rattle.pb_game.specs.Solutions.{HasLengths};
 
 use pb_bytecode::decode::decode;
@@ -47,7 +47,7 @@ fn solved_game<R: Threads + Sync>(
     verified: &Verified,
     rows: &IndexedRows,
 ) -> Result<Solved, BuildError>
-    requires trees { HaveTrees verified.now }
+    requires trees { ModuleHasTrees verified.now }
     requires rows { AreModuleRows verified.now rows.now }
     ensures game { IfOk result (λ s. IsModuleGame verified.now rows.now s.built) }
     ensures lengths { IfOk result (λ s. HasLengths s.built.game s.certified) }
