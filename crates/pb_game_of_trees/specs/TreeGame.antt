@@ -25,7 +25,8 @@ pub record AreRowsFrom (signatures : List Signature) (trees : ℕ → Tree) (row
 
 -- that is so with some trees
 abbrev pub RowsHaveTrees : List Signature → List Row → ℕ → Type 0
-RowsHaveTrees signatures rows initial = (trees : ℕ → Tree) × AreRowsFrom signatures trees rows initial
+RowsHaveTrees signatures rows initial =
+    (trees : ℕ → Tree) × AreRowsFrom signatures trees rows initial
 
 -- with whichever trees that is so, it is the game of the rows
 abbrev pub IsGameOf : List Signature → List Row → ℕ → TreeGame → Type 0

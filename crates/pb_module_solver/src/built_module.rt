@@ -65,7 +65,8 @@ impl BuiltModule {
         sink: &mut S,
     ) -> Result<(), WriteError>
         requires { IsBuiltModule verified.now self.now }
-        ensures text { SendsText (ForGameText verified.now) result (S.taken sink.old) (S.taken sink.new)
+        ensures text { SendsText (ForGameText verified.now) result (S.taken sink.old)
+            (S.taken sink.new)
             (S.has_failed sink.old) (S.has_failed sink.new) }
         ensures silent { IfErr result (λ e. IsOutOfMemory e → sink.new ≡ sink.old) }
     {

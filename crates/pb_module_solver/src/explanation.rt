@@ -192,7 +192,8 @@ pub fn write_explanation<S: Sink>(
         × AreCallPlaces place placed.now.explanation.now.evidence placed.now.call_places.now }
     ensures text { (place : ℕ → ℕ → Option Place)
         → AreCallPlaces place placed.now.explanation.now.evidence placed.now.call_places.now
-        → SendsText (ForEvidenceText verified.now place) result (S.taken sink.old) (S.taken sink.new)
+        → SendsText (ForEvidenceText verified.now place) result (S.taken sink.old)
+        (S.taken sink.new)
         (S.has_failed sink.old) (S.has_failed sink.new) }
     ensures silent { IfErr result (λ e. IsOutOfMemory e → sink.new ≡ sink.old) }
 {
