@@ -4,7 +4,7 @@ ghost use Rattle.pb_report.specs.Sending.{Sends, Writes, IsOutOfMemory};
 ghost use Rattle.pb_report.specs.Report.{truth_line, count_line, counts_text, report_text};
 
 use crate::buffer::{TextBuffer, WriteError};
-use crate::cuts::count_cut;
+use crate::cut_calls::count_cut;
 use pb_game_of_trees::Solved;
 use pb_rows::IndexedRows;
 use pb_sorts::{E02, Sink};
