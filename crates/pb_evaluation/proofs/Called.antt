@@ -1,9 +1,13 @@
--- The truth of an instance, by its number.
-use Rattle.std.proofs.Common.{◌≡◌, ℕ, zero, suc, ◌+◌, ◌<◌, ◌≤◌, Bool, true, false, cond, ◌&&◌, List, [], ◌∷◌, ◌++◌, map, length, get_or, drop, Option, Some, refl, sym, ◌∙◌, ap, arith, find, append_assoc, append-nil}
-use Rattle.std.specs.Prelude.{position, slice_index_or}
-use Rattle.std.specs.List.{slice_get}
+-- The truth of a call, by the number of its instance.
+use Rattle.std.proofs.Common.{◌≡◌, ℕ, zero, suc, ◌+◌, ◌<◌, ◌≤◌, Bool, true, false, not, cond, ◌&&◌, List, [], ◌∷◌, ◌++◌, map, length, get_or, drop, Option, Some, None, refl, sym, ◌∙◌, ap, arith, find, subst, append_assoc, append-nil}
+use Rattle.std.specs.Prelude.{position, slice_index_or, nat_lt}
+use Rattle.std.specs.List.{slice_get, position_or_len}
+use Rattle.std.specs.Cmp.Lexicographic.{same_text}
+use Rattle.std.proofs.lemmas.Bool.{false_from_ne_true, lt-ltb}
+use Rattle.std.proofs.lemmas.Option.{slice_get_within, get_or_from_slice_get}
+use Rattle.std.proofs.lemmas.Slice.Eq.{bytes_eq-Decides}
 use Rattle.std.proofs.lemmas.List.Quantifiers.{position-Some}
-use Rattle.std.proofs.lemmas.List.{drop_all}
+use Rattle.std.proofs.lemmas.List.{drop_all, length-map}
 use Rattle.std.proofs.Math.Bool.{and_self_left}
 use Rattle.pb_carriers.specs.Carrier as carriers
 use Rattle.pb_carriers.specs.Carrier.{Tuple, Value}
@@ -12,17 +16,20 @@ use Rattle.pb_sorts.specs.Layout.{carriers_of}
 use Rattle.pb_sorts.specs.Instance as numbered
 use Rattle.pb_sorts.specs.Instance.{instances, is_instance, is_tuple_of, number_of}
 use Rattle.pb_sorts.proofs.Numbers.{number_of-slice_get, is_instance-slice_get}
-use Rattle.pb_sorts.proofs.Equations.{slice_get-carriers_of}
+use Rattle.pb_sorts.proofs.Equations.{slice_get-carriers_of, length-carriers_of}
 use Rattle.pb_sorts.proofs.Reading.{is_within-other_length}
 use Rattle.pb_sorts.proofs.Places.{drop-at}
-use Rattle.pb_text_tree.specs.declared.term.Argument.{Argument}
-use Rattle.pb_text_tree.specs.Form.{argument_forms, term_form}
+use Rattle.pb_typed_tree.specs.Tree as tree
+use Rattle.pb_typed_tree.specs.declared.formula.Argument.{Argument}
+use Rattle.pb_typed_tree.specs.Meaning as typed
+use Rattle.pb_typed_tree.specs.Meaning.{Slots, name_of}
+use Rattle.pb_typed_tree.specs.Fits.{Fits, AllFit}
+use Rattle.pb_typed_tree.specs.View.{argument_view, term_view}
 use Rattle.pb_text_meaning.specs.Syntax.{Name, same_name, Equation, Spec}
-use Rattle.pb_text_meaning.specs.Value.{Assignment, value, values}
 use Rattle.pb_text_meaning.specs.Formula.{Instance, fits, call_truth}
 use Rattle.pb_text_meaning.specs.Formula as formula
-use Rattle.pb_text_meaning.specs.Erase.{erased_term, erased_arguments}
-use Rattle.pb_evaluation.specs.Environment.{all_carriers, environment_of, place_named, truth_at, truth_of}
+use Rattle.pb_text_meaning.specs.Names.{AreNamedApart}
+use Rattle.pb_evaluation.specs.Environment.{all_carriers, environment_of, place_named, truth_at, truth_of, IsLaidOut}
 
 first_found : (p : Equation → Bool) (E : List Equation) (k : ℕ) (d : Equation) → k < length E → p (get_or E k d) ≡ true → ((j : ℕ) → j < k → p (get_or E j d) ≡ false) → find p E ≡ slice_get E k
 first_found p [] k d lt e before = absurd (omega arith)
@@ -73,22 +80,70 @@ pub not_counted : (layout : List (List Carrier)) (all : List (List carriers.Carr
 not_counted layout all truths i laid none =
     ap (λ (css : List (List carriers.Carrier)). truth_at css truths i) (sym laid) ∙ ap (λ (b : Bool). b && slice_index_or truths (number_of (carriers_of layout) i) false) none
 
+-- ---- places and names
+
+first_place : (p : Equation → Bool) (E : List Equation) (k : ℕ) (d : Equation) → k < length E → p (get_or E k d) ≡ true → ((j : ℕ) → j < k → p (get_or E j d) ≡ false) → position_or_len p E ≡ k
+first_place p [] k d lt e before = absurd (omega arith)
+first_place p (X ∷ E) zero d lt e before = ap (λ b. cond (not b) (1 + position_or_len p E) 0) e
+first_place p (X ∷ E) (suc k) d lt e before =
+    ap (λ b. cond (not b) (1 + position_or_len p E) 0) (before 0 (omega arith))
+    ∙ (omega (arith, first_place p E k d (omega arith) e (λ j below. before (suc j) (omega arith))))
+
+-- the name of the equation at a place is found there
+pub place_here : (E : List Equation) (k : ℕ) (X : Equation) (x : Name) → AreNamedApart E → slice_get E k ≡ Some X → same_name X.name x ≡ true → place_named E x ≡ Some k
+place_here E k X x apart at same =
+    let p : Equation → Bool = λ (Y : Equation). same_name Y.name x in
+    let lt = slice_get_within E k X at in
+    let read : get_or E k X ≡ X = get_or_from_slice_get E k X X at in
+    let is_x : X.name ≡ x = same_text X.name x (sym same) in
+    let here : position_or_len p E ≡ k = first_place p E k X lt (ap p read ∙ same)
+    (λ j below. false_from_ne_true (p (get_or E j X)) (λ e. apart j k X below lt (same_text (get_or E j X).name x (sym e) ∙ (sym is_x ∙ ap (λ (Y : Equation). Y.name) (sym read))))) in
+    ap (λ (n : ℕ). cond (nat_lt n (length E)) (Some n) None) here ∙ ap (λ (b : Bool). cond b (Some k) None) (lt-ltb k (length E) lt)
+
+pub record IsThere {X : Type 0} (xs : List X) (k : ℕ) : Type 0 where
+  pub item : X
+  pub at : slice_get xs k ≡ Some item
+
+pub there : {X : Type 0} (xs : List X) (k : ℕ) → k < length xs → IsThere xs k
+there [] k lt = absurd (omega (arith, lt))
+there (x ∷ xs) zero lt = record { item = x; at = refl }
+there (x ∷ xs) (suc k) lt = let rest = there xs k (omega (arith, lt)) in record { item = rest.item; at = rest.at }
+
+-- so many equations as the layout has
+pub length-laid_out : (S : Spec) (layout : List (List Carrier)) → IsLaidOut S layout → length layout ≡ length S.equations
+length-laid_out S layout laid =
+    sym (length-carriers_of layout) ∙ (ap length laid.carriers ∙ length-map S.equations (λ (X : Equation). formula.carriers_of S X.parameters))
+
+pub place_known : (S : Spec) (layout : List (List Carrier)) (k : ℕ) → IsLaidOut S layout → k < length layout → place_named S.equations (name_of (slice_get S.equations k)) ≡ Some k
+place_known S layout k laid lt =
+    let here : IsThere S.equations k = there S.equations k (omega (arith, lt, length-laid_out S layout laid)) in
+    ap (λ (o : Option Equation). place_named S.equations (name_of o)) here.at
+    ∙ place_here S.equations k here.item here.item.name laid.apart here.at ((bytes_eq-Decides here.item.name here.item.name).1 refl)
+
 -- ---- arguments
 
-pub length-values : (S : Spec) (a : Assignment) (xs : List Argument) → length (values S a (erased_arguments (argument_forms xs))) ≡ length xs
-length-values S a [] = refl
-length-values S a (x ∷ xs) = ap suc (length-values S a xs)
+abbrev pub argument_values : Slots → List Argument → List Value
+argument_values a xs = map (λ (e : tree.Argument). typed.value a e.term) (map argument_view xs)
+
+pub length-values : (a : Slots) (xs : List Argument) → length (argument_values a xs) ≡ length xs
+length-values a [] = refl
+length-values a (x ∷ xs) = ap suc (length-values a xs)
+
+pub argument_fits : (n : ℕ) (a : Slots) (xs : List Argument) (k : ℕ) (x : Argument) → AllFit n a (map argument_view xs) → k < length xs → x ≡ get_or xs k x → Fits n a (term_view x.term)
+argument_fits n a [] k x f lt at = absurd (omega arith)
+argument_fits n a (y ∷ xs) zero x f lt at = subst (λ (z : Argument). Fits n a (term_view z.term)) (sym at) f.0
+argument_fits n a (y ∷ xs) (suc k) x f lt at = argument_fits n a xs k x f.1 (omega arith) at
 
 -- one more argument's value
-pub values_more : (S : Spec) (a : Assignment) (xs : List Argument) (k : ℕ) (x : Argument) (done more all : List Value) (v : Value) → k < length xs → x ≡ get_or xs k x → v ≡ value S a (erased_term (term_form x.term)) → more ≡ done ++ v ∷ []
-    → done ++ values S a (erased_arguments (argument_forms (drop k xs))) ≡ all → more ++ values S a (erased_arguments (argument_forms (drop (k + 1) xs))) ≡ all
-values_more S a xs k x done more all v lt at is pushed h =
-    let rest = values S a (erased_arguments (argument_forms (drop (k + 1) xs))) in
+pub values_more : (a : Slots) (xs : List Argument) (k : ℕ) (x : Argument) (done more all : List Value) (v : Value) → k < length xs → x ≡ get_or xs k x → v ≡ typed.value a (term_view x.term) → more ≡ done ++ v ∷ []
+    → done ++ argument_values a (drop k xs) ≡ all → more ++ argument_values a (drop (k + 1) xs) ≡ all
+values_more a xs k x done more all v lt at is pushed h =
+    let rest = argument_values a (drop (k + 1) xs) in
     ap (λ (ws : List Value). ws ++ rest) pushed
     ∙ (append_assoc done (v ∷ []) rest
     ∙ (ap (λ (w : Value). done ++ w ∷ rest) is
-    ∙ (ap (λ (ys : List Argument). done ++ values S a (erased_arguments (argument_forms ys))) (sym (drop-at xs k x lt at)) ∙ h)))
+    ∙ (ap (λ (ys : List Argument). done ++ argument_values a ys) (sym (drop-at xs k x lt at)) ∙ h)))
 
-pub values_all : (S : Spec) (a : Assignment) (xs : List Argument) (k : ℕ) (done all : List Value) → length xs ≤ k → done ++ values S a (erased_arguments (argument_forms (drop k xs))) ≡ all → done ≡ all
-values_all S a xs k done all le h =
-    sym (append-nil done) ∙ (ap (λ (ys : List Argument). done ++ values S a (erased_arguments (argument_forms ys))) (sym (drop_all k xs le)) ∙ h)
+pub values_all : (a : Slots) (xs : List Argument) (k : ℕ) (done all : List Value) → length xs ≤ k → done ++ argument_values a (drop k xs) ≡ all → done ≡ all
+values_all a xs k done all le h =
+    sym (append-nil done) ∙ (ap (λ (ys : List Argument). done ++ argument_values a ys) (sym (drop_all k xs le)) ∙ h)

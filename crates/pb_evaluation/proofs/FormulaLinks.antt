@@ -1,54 +1,35 @@
--- The truth of a chain, link by link, and why its operands fit.
-use Rattle.std.proofs.Common.{◌≡◌, ℕ, zero, suc, ◌<◌, Bool, List, [], ◌∷◌, length, get_or, refl, sym, ◌∙◌, ap, arith, subst}
+-- The truth of a chain, operand by operand, and why its operands fit.
+use Rattle.std.proofs.Common.{◌≡◌, ℕ, zero, suc, ◌<◌, Bool, List, [], ◌∷◌, length, get_or, refl, sym, ap, arith, subst}
 use Rattle.std.specs.Prelude.{⊤}
 use Rattle.pb_fixpoint.specs.Solution.{Environment}
 use Rattle.pb_text_tree.specs.declared.operator.Connective.{Connective}
-use Rattle.pb_text_tree.specs.declared.operator.Connective.TheVariants.{And, Or, Implies}
-use Rattle.pb_text_tree.specs.declared.formula.Link.{Link}
-use Rattle.pb_text_tree.specs.Form.{FormulaForm, formula_form, chained, link_forms}
-use Rattle.pb_text_meaning.specs.Syntax.{Formula, Spec}
-use Rattle.pb_text_meaning.specs.Value.{Assignment}
-use Rattle.pb_text_meaning.specs.Formula.{Instance, truth}
-use Rattle.pb_text_meaning.specs.Erase.{joined, erased_formula}
-use Rattle.pb_text_meaning.specs.Fits.{FormulaFits}
-use Rattle.pb_evaluation.specs.Connective.{connected_truth}
-
--- the truth of a form
-abbrev pub truth_of : Spec → Assignment → Environment Instance → FormulaForm → Bool
-truth_of S a t f = truth S a t (erased_formula f)
+use Rattle.pb_text_meaning.specs.Syntax.{Spec}
+use Rattle.pb_text_meaning.specs.Formula.{Instance}
+use Rattle.pb_typed_tree.specs.declared.formula.Formula.{Formula}
+use Rattle.pb_typed_tree.specs.Tree as tree
+use Rattle.pb_typed_tree.specs.Tree.{Connected}
+use Rattle.pb_typed_tree.specs.View.{chained, formula_view, formula_views}
+use Rattle.pb_typed_tree.specs.Meaning.{Slots, connected_truth, truth}
+use Rattle.pb_typed_tree.specs.Fits.{FormulaFits}
 
 -- the truth of a chain whose first operand has this truth
-abbrev pub chain_truth : Spec → Assignment → Environment Instance → Connective → Bool → List Link → Bool
+abbrev pub chain_truth : Spec → Slots → Environment Instance → Connective → Bool → List Formula → Bool
 chain_truth S a t c x [] = x
-chain_truth S a t c x (link ∷ links) = connected_truth c x (chain_truth S a t c (truth_of S a t (formula_form link.operand)) links)
+chain_truth S a t c x (f ∷ fs) = connected_truth c x (chain_truth S a t c (truth S a t (formula_view f)) fs)
 
-abbrev pub LinksFit : Spec → Assignment → List Link → Type 0
-LinksFit S a [] = ⊤
-LinksFit S a (link ∷ links) = FormulaFits S a (erased_formula (formula_form link.operand)) × LinksFit S a links
+abbrev pub OperandsFit : ℕ → ℕ → Slots → List Formula → Type 0
+OperandsFit k n a [] = ⊤
+OperandsFit k n a (f ∷ fs) = FormulaFits k n a (formula_view f) × OperandsFit k n a fs
 
-truth-joined : (S : Spec) (a : Assignment) (t : Environment Instance) (c : Connective) (f g : Formula) → truth S a t (joined c f g) ≡ connected_truth c (truth S a t f) (truth S a t g)
-truth-joined S a t And f g = refl
-truth-joined S a t Or f g = refl
-truth-joined S a t Implies f g = refl
-
-pub truth-chained : (S : Spec) (a : Assignment) (t : Environment Instance) (c : Connective) (first : FormulaForm) (links : List Link) → truth_of S a t (chained (FormulaForm.connected c) first (link_forms links)) ≡ chain_truth S a t c (truth_of S a t first) links
+pub truth-chained : (S : Spec) (a : Slots) (t : Environment Instance) (c : Connective) (first : tree.Formula) (fs : List Formula) → truth S a t (chained (Connected c) first (formula_views fs)) ≡ chain_truth S a t c (truth S a t first) fs
 truth-chained S a t c first [] = refl
-truth-chained S a t c first (link ∷ links) =
-    truth-joined S a t c (erased_formula first) (erased_formula (chained (FormulaForm.connected c) (formula_form link.operand) (link_forms links)))
-    ∙ ap (connected_truth c (truth_of S a t first)) (truth-chained S a t c (formula_form link.operand) links)
+truth-chained S a t c first (f ∷ fs) = ap (connected_truth c (truth S a t first)) (truth-chained S a t c (formula_view f) fs)
 
-fits-joined : (S : Spec) (a : Assignment) (c : Connective) (f g : Formula) → FormulaFits S a (joined c f g) → FormulaFits S a f × FormulaFits S a g
-fits-joined S a And f g h = h
-fits-joined S a Or f g h = h
-fits-joined S a Implies f g h = h
+pub fits-chained : (k n : ℕ) (a : Slots) (c : Connective) (first : tree.Formula) (fs : List Formula) → FormulaFits k n a (chained (Connected c) first (formula_views fs)) → FormulaFits k n a first × OperandsFit k n a fs
+fits-chained k n a c first [] h = (h, tt)
+fits-chained k n a c first (f ∷ fs) h = (h.0, fits-chained k n a c (formula_view f) fs h.1)
 
-pub fits-chained : (S : Spec) (a : Assignment) (c : Connective) (first : FormulaForm) (links : List Link) → FormulaFits S a (erased_formula (chained (FormulaForm.connected c) first (link_forms links))) → FormulaFits S a (erased_formula first) × LinksFit S a links
-fits-chained S a c first [] f = (f, tt)
-fits-chained S a c first (link ∷ links) f =
-    let p = fits-joined S a c (erased_formula first) (erased_formula (chained (FormulaForm.connected c) (formula_form link.operand) (link_forms links))) f in
-    (p.0, fits-chained S a c (formula_form link.operand) links p.1)
-
-pub link_fits : (S : Spec) (a : Assignment) (links : List Link) (k : ℕ) (link : Link) → LinksFit S a links → k < length links → link ≡ get_or links k link → FormulaFits S a (erased_formula (formula_form link.operand))
-link_fits S a [] k link f lt at = absurd (omega arith)
-link_fits S a (l ∷ links) zero link f lt at = subst (λ (m : Link). FormulaFits S a (erased_formula (formula_form m.operand))) (sym at) f.0
-link_fits S a (l ∷ links) (suc k) link f lt at = link_fits S a links k link f.1 (omega arith) at
+pub operand_fits : (k n : ℕ) (a : Slots) (fs : List Formula) (i : ℕ) (f : Formula) → OperandsFit k n a fs → i < length fs → f ≡ get_or fs i f → FormulaFits k n a (formula_view f)
+operand_fits k n a [] i f h lt at = absurd (omega arith)
+operand_fits k n a (g ∷ fs) zero f h lt at = subst (λ (e : Formula). FormulaFits k n a (formula_view e)) (sym at) h.0
+operand_fits k n a (g ∷ fs) (suc i) f h lt at = operand_fits k n a fs i f h.1 (omega arith) at

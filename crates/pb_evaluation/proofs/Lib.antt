@@ -1,9 +1,8 @@
-pub mod Weight
 pub mod Links
-pub mod Numbers
-pub mod Quantified
-pub mod Arguments
-pub mod FormulaWeight
-pub mod FormulaLinks
+pub mod Runs
+pub mod Slots
+pub mod Nested
 pub mod Called
-pub mod Odometer
+pub mod Filled
+pub mod FormulaLinks
+pub mod Turns

@@ -1,5 +1,3 @@
-pub mod Binding
-pub mod Scope
-pub mod Quantifier
-pub mod Connective
+pub mod Slots
 pub mod Environment
+pub mod Quantifier

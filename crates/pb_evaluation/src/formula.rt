@@ -1,151 +1,148 @@
-//! The truth of a formula under a scope and an environment.
+//! The truth of a typed formula over slots, under an environment.
 
-ghost use Rattle.std.specs.Prelude.{◌≡◌, IfOk};
-ghost use Rattle.pb_text_tree.specs.Form.{FormulaForm, formula_form, instance_form, variable_forms};
-ghost use Rattle.pb_typing_declarations.specs.View.{spec_of};
-ghost use Rattle.pb_text_meaning.specs.Erase.{erased_arguments, erased_formula, erased_variables};
-ghost use Rattle.pb_text_meaning.specs.Formula.{truth};
-ghost use Rattle.pb_text_meaning.specs.Value as meaning;
-ghost use Rattle.pb_text_meaning.specs.Fits.{AllFit, FitsFor, FormulaFits};
-ghost use Rattle.pb_evaluation.specs.Environment.{environment_of};
-ghost use Rattle.pb_evaluation.specs.Scope.{assignment_of};
+ghost use Rattle.std.specs.Prelude.{◌≡◌, ◌<◌, length, map};
+ghost use Rattle.pb_text_meaning.specs.Formula.{call_truth};
+ghost use Rattle.pb_text_meaning.specs.Syntax.{Spec};
+ghost use Rattle.pb_typed_tree.specs.Fits.{AllFit, FormulaFits};
+ghost use Rattle.pb_typed_tree.specs.Meaning.{called, truth};
+ghost use Rattle.pb_typed_tree.specs.Tree as tree;
+ghost use Rattle.pb_typed_tree.specs.View.{argument_view, formula_view, nested};
+ghost use Rattle.pb_evaluation.specs.Environment.{IsLaidOut, environment_of};
+ghost use Rattle.pb_evaluation.specs.Slots.{slots_of};
 
-use crate::binding::{advance, bindings_of, has_no_values};
 use crate::environment::Environment;
+use crate::odometer::{advance, clear, deciding, start};
 use crate::operation::{decided_by, is_true};
-use crate::quantifier::deciding;
-use crate::scope::Scope;
 use crate::term::value;
-use pb_sorts::Tuple;
-use pb_text_tree::{Formula, Instance, Quantifier, Variables};
-use std::alloc::AllocError;
+use pb_sorts::{Carrier, Instance, Tuple};
+use pb_text_tree::{Connective, Quantifier};
+use pb_typed_tree::{Argument, Formula};
 
-/// The truth of a formula (Groote and Willemse 2005).
+/// The truth of a formula over these slots (Groote and Willemse 2005). A call with a value outside
+/// its parameter's carrier is false.
 ///
 /// Each value on the way must be within 2^62 and each divisor at least 1, as type checking ensures.
-/// Recursion goes as deep as formulas nest.
-///
-/// # Errors
-/// Memory was refused.
+/// The quantifiers' slots must hold 0, and do again afterwards. Recursion goes as deep as formulas
+/// nest.
 #[cycle(formulas)]
-pub fn formula_truth<'a>(
-    formula: &'a Formula,
-    scope: &'a Scope<'a>,
-    environment: &Environment<'_, '_>,
-) -> Result<bool, AllocError>
-    requires { FormulaFits (spec_of environment.now.declarations.now) (assignment_of scope.now)
-        (erased_formula (formula_form formula.now)) }
-    ensures { IfOk result (λ holds. holds ≡ truth (spec_of environment.now.declarations.now)
-        (assignment_of scope.now) (environment_of
-        (spec_of environment.now.declarations.now) environment.now.truths.now)
-        (erased_formula (formula_form formula.now))) }
+pub fn formula_truth(formula: &Formula, slots: &mut [i64], environment: &Environment<'_>) -> bool
+    requires { FormulaFits (length environment.now.layout.now) (length slots.old)
+        (slots_of slots.old) (formula_view formula.now) }
+    ensures truth { (spec : Spec) → IsLaidOut spec environment.now.layout.now
+        → result ≡ truth spec (slots_of slots.old)
+        (environment_of spec environment.now.truths.now) (formula_view formula.now) }
+    ensures kept { slots.new ≡ slots.old }
 {
     match formula {
-        Formula::Constant { value, .. } => Ok(*value),
-        Formula::Value { term, .. } => {
-            let value = value(term, scope, environment.declarations)?;
-            Ok(is_true(value))
-        }
-        Formula::Instance(instance) => instance_truth(instance, scope, environment),
-        Formula::Negation { operand, .. } => {
-            let operand = formula_truth(operand, scope, environment)?;
-            Ok(!operand)
-        }
+        Formula::Test(term) => is_true(value(term, slots)),
+        Formula::Negation(operand) => !formula_truth(operand, slots, environment),
         Formula::Chain {
             connective,
             first,
             links,
         } => {
-            let mut current = formula_truth(first, scope, environment)?;
-            for link in links.iter() {
+            let mut current = formula_truth(first, slots, environment);
+            for link in links {
                 if let Some(decided) = decided_by(*connective, current) {
-                    return Ok(decided);
+                    return decided;
                 }
-                current = formula_truth(&link.operand, scope, environment)?;
+                current = formula_truth(link, slots, environment);
             }
-            Ok(current)
+            current
         }
         Formula::Quantified {
             quantifier,
-            variables,
+            slot,
+            carriers,
             body,
+        } => {
+            let loops = Loops {
+                slot: *slot,
+                carriers,
+            };
+            quantified(*quantifier, &loops, body, slots, environment)
+        }
+        Formula::Call {
+            equation,
+            arguments,
             ..
-        } => quantified(*quantifier, variables, body, scope, environment),
+        } => call_truth(*equation, arguments, slots, environment),
     }
 }
 
-/// Whether a formula is true for all or some values of variables.
+/// The slots of a quantifier: those from `slot` on, which have these carriers.
+#[derive(Clone, Copy)]
+struct Loops<'a> {
+    slot: usize,
+    carriers: &'a [Carrier],
+}
+
+/// Whether a formula is true for all or some values of slots.
 #[cycle(formulas)]
-fn quantified<'a>(
+fn quantified(
     quantifier: Quantifier,
-    variables: &'a Vec<Variables>,
-    body: &'a Formula,
-    scope: &'a Scope<'a>,
-    environment: &Environment<'_, '_>,
-) -> Result<bool, AllocError>
-    requires { FitsFor (spec_of environment.now.declarations.now)
-        (erased_variables (variable_forms variables.now.items))
-        (λ a. FormulaFits (spec_of environment.now.declarations.now) a
-        (erased_formula (formula_form body.now))) (assignment_of scope.now) }
-    ensures { IfOk result (λ holds. holds ≡ meaning.quantified
-        (spec_of environment.now.declarations.now) quantifier
-        (erased_variables (variable_forms variables.now.items))
-        (λ a. truth (spec_of environment.now.declarations.now) a
-        (environment_of (spec_of environment.now.declarations.now) environment.now.truths.now)
-        (erased_formula (formula_form body.now))) (assignment_of scope.now)) }
+    loops: &Loops<'_>,
+    body: &Formula,
+    slots: &mut [i64],
+    environment: &Environment<'_>,
+) -> bool
+    requires { FormulaFits (length environment.now.layout.now) (length slots.old)
+        (slots_of slots.old)
+        (nested quantifier loops.now.slot loops.now.carriers.now (formula_view body.now)) }
+    ensures truth { (spec : Spec) → IsLaidOut spec environment.now.layout.now
+        → result ≡ truth spec (slots_of slots.old)
+        (environment_of spec environment.now.truths.now)
+        (nested quantifier loops.now.slot loops.now.carriers.now (formula_view body.now)) }
+    ensures kept { slots.new ≡ slots.old }
 {
-    let mut bindings = bindings_of(variables, environment.declarations)?;
-    if has_no_values(&bindings) {
-        return Ok(!deciding(quantifier));
+    let count = loops.carriers.len();
+    if count == 0 {
+        return formula_truth(body, slots, environment);
     }
+    let end = loops.slot + count;
+    start(loops.carriers, &mut slots[loops.slot..end]);
     loop {
-        let inner = Scope::Quantified(&bindings, &*scope);
-        let holds = formula_truth(&*body, &inner, environment)?;
+        let holds = formula_truth(body, slots, environment);
         if holds == deciding(quantifier) {
-            return Ok(holds);
+            clear(&mut slots[loops.slot..end]);
+            return holds;
         }
-        if !advance(&mut bindings) {
-            return Ok(holds);
+        if !advance(loops.carriers, &mut slots[loops.slot..end]) {
+            clear(&mut slots[loops.slot..end]);
+            return holds;
         }
     }
 }
 
-/// The truth of an instance: false where its values are outside their carriers or no equation has
-/// its name.
-///
-/// # Errors
-/// Memory was refused.
-pub fn instance_truth<'a>(
-    instance: &'a Instance,
-    scope: &'a Scope<'a>,
-    environment: &Environment<'_, '_>,
-) -> Result<bool, AllocError>
-    requires { AllFit (spec_of environment.now.declarations.now) (assignment_of scope.now)
-        (erased_arguments (instance_form instance.now).arguments) }
-    ensures { IfOk result (λ holds. holds ≡ truth (spec_of environment.now.declarations.now)
-        (assignment_of scope.now) (environment_of
-        (spec_of environment.now.declarations.now) environment.now.truths.now)
-        (erased_formula (FormulaForm.instance (instance_form instance.now)))) }
+/// The truth of a call: false where its values are outside their carriers.
+fn call_truth(
+    equation: usize,
+    arguments: &Vec<Argument>,
+    slots: &[i64],
+    environment: &Environment<'_>,
+) -> bool
+    requires known { equation < length environment.now.layout.now }
+    requires fits { AllFit (length slots.now) (slots_of slots.now)
+        (map argument_view arguments.now.items) }
+    ensures { (spec : Spec) → IsLaidOut spec environment.now.layout.now
+        → result ≡ call_truth spec (environment_of spec environment.now.truths.now)
+        (called spec (slots_of slots.now) equation (map argument_view arguments.now.items)) }
 {
-    let Some(equation) = environment.declarations.equation(&instance.name.text) else {
-        return Ok(false);
-    };
     let known = equation < environment.layout.equation_count();
     prove!(known);
-    if environment.layout.carriers(equation).len() != instance.arguments.len() {
-        return Ok(false);
+    if environment.layout.carriers(equation).len() != arguments.len() {
+        return false;
     }
-    let mut values = Tuple::new(*instance.arguments.allocator());
-    for argument in &instance.arguments {
-        let value = value(&argument.term, scope, environment.declarations)?;
-        values.push_reserved(value);
+    let mut values = Tuple::new(*arguments.allocator());
+    for argument in arguments {
+        values.push_reserved(value(&argument.term, slots));
     }
-    let numbered = pb_sorts::Instance {
+    let instance = Instance {
         equation: equation as u8,
         values,
     };
-    match environment.layout.number(&numbered) {
-        Some(number) => Ok(environment.truths[number as usize]),
-        None => Ok(false),
+    match environment.layout.number(&instance) {
+        Some(number) => environment.truths[number as usize],
+        None => false,
     }
 }

@@ -1,18 +1,16 @@
 //! The value of a data term in 64 bits, and the truth of a formula under an environment (Groote and
-//! Willemse 2005), on the syntax tree as it is read. It stands below whatever evaluates a text: the
-//! plain solver, and type checking where it judges an argument by its value.
+//! Willemse 2005), on the typed tree: the variables are slots, whose values stand in one list. It
+//! stands below whatever evaluates a text: the plain solver, type checking where it judges an
+//! argument by its value, and the search for a call's place.
 #![tactic(auto)]
 
-mod binding;
 mod environment;
 mod formula;
+mod odometer;
 mod operation;
-mod quantifier;
-mod scope;
 mod term;
 
-pub use binding::Binding;
 pub use environment::Environment;
-pub use formula::{formula_truth, instance_truth};
-pub use scope::Scope;
+pub use formula::formula_truth;
+pub use odometer::{advance, clear, deciding, start};
 pub use term::value;

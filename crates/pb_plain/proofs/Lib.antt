@@ -1,7 +1,9 @@
 pub mod Order
 pub mod Approach
 pub mod Ranges
-pub mod Rights
+pub mod Owned
 pub mod Sets
-pub mod Turn
 pub mod Ready
+pub mod Turn
+pub mod Slots
+pub mod Asked

@@ -1,10 +1,9 @@
 -- Lists of truths as environments: the set of one equation in them.
-use Rattle.std.proofs.Common.{◌≡◌, ℕ, zero, suc, ◌+◌, ◌<◌, Bool, true, false, not, cond, ◌&&◌, if◌then◌else◌, List, [], ◌∷◌, length, get_or, Option, Some, None, refl, sym, ◌∙◌, ap, arith, true≢false}
-use Rattle.std.specs.Prelude.{nat_lt, ◌==◌}
-use Rattle.std.specs.List.{position_or_len, slice_get}
-use Rattle.std.specs.Cmp.Lexicographic.{same_text}
+use Rattle.std.proofs.Common.{◌≡◌, ℕ, Bool, true, false, ◌&&◌, if◌then◌else◌, List, get_or, Option, Some, None, refl, sym, ◌∙◌, ap, true≢false}
+use Rattle.std.specs.Prelude.{◌==◌}
+use Rattle.std.specs.List.{slice_get}
 use Rattle.std.proofs.Math.Path.{fun_ext}
-use Rattle.std.proofs.lemmas.Bool.{eq-eqb, eqb-true, false_from_ne_true, lt-ltb, and_parts}
+use Rattle.std.proofs.lemmas.Bool.{eq-eqb, eqb-true, false_from_ne_true, and_parts}
 use Rattle.std.proofs.lemmas.Option.{slice_get_within, get_or_from_slice_get}
 use Rattle.std.proofs.lemmas.List.Quantifiers.{position-Some}
 use Rattle.pb_fixpoint.specs.Solution.{assign}
@@ -16,35 +15,15 @@ use Rattle.pb_sorts.specs.Instance.{instances, is_instance, is_tuple_of, number_
 use Rattle.pb_sorts.specs.Layout.{carriers_of}
 use Rattle.pb_sorts.proofs.Numbers.{HasNumber, number-is_instance, number_of-slice_get, owns_number-owns_instance}
 use Rattle.pb_sorts.proofs.Places.{slice_get-mapped}
-use Rattle.pb_text_meaning.specs.Syntax.{Name, same_name, Equation, Spec}
+use Rattle.pb_text_meaning.specs.Syntax.{same_name, Equation, Spec}
 use Rattle.pb_text_meaning.specs.Formula as formula
 use Rattle.pb_text_meaning.specs.Formula.{Instance, truth}
 use Rattle.pb_text_meaning.specs.Meaning.{equation_of}
 use Rattle.pb_text_meaning.specs.Names.{AreNamedApart}
 use Rattle.pb_evaluation.specs.Environment.{all_carriers, environment_of, place_named, truth_at, truth_of}
-use Rattle.pb_evaluation.proofs.Called.{counted}
+use Rattle.pb_evaluation.proofs.Called.{counted, place_here}
 use Rattle.pb_plain.specs.Side.{side_of, joined}
 use Rattle.pb_plain.specs.Step.{ChangesOnly, TakesSet, JoinsRight, right_truth, right_truth_at}
-
--- ---- the place of a name
-
-first_place : (p : Equation → Bool) (E : List Equation) (k : ℕ) (d : Equation) → k < length E → p (get_or E k d) ≡ true → ((j : ℕ) → j < k → p (get_or E j d) ≡ false) → position_or_len p E ≡ k
-first_place p [] k d lt e before = absurd (omega arith)
-first_place p (X ∷ E) zero d lt e before = ap (λ b. cond (not b) (1 + position_or_len p E) 0) e
-first_place p (X ∷ E) (suc k) d lt e before =
-    ap (λ b. cond (not b) (1 + position_or_len p E) 0) (before 0 (omega arith))
-    ∙ (omega (arith, first_place p E k d (omega arith) e (λ j below. before (suc j) (omega arith))))
-
--- the name of the equation at a place is found there
-pub place_here : (E : List Equation) (k : ℕ) (X : Equation) (x : Name) → AreNamedApart E → slice_get E k ≡ Some X → same_name X.name x ≡ true → place_named E x ≡ Some k
-place_here E k X x apart at same =
-    let p : Equation → Bool = λ (Y : Equation). same_name Y.name x in
-    let lt = slice_get_within E k X at in
-    let read : get_or E k X ≡ X = get_or_from_slice_get E k X X at in
-    let is_x : X.name ≡ x = same_text X.name x (sym same) in
-    let here : position_or_len p E ≡ k = first_place p E k X lt (ap p read ∙ same)
-    (λ j below. false_from_ne_true (p (get_or E j X)) (λ e. apart j k X below lt (same_text (get_or E j X).name x (sym e) ∙ (sym is_x ∙ ap (λ (Y : Equation). Y.name) (sym read))))) in
-    ap (λ (n : ℕ). cond (nat_lt n (length E)) (Some n) None) here ∙ ap (λ (b : Bool). cond b (Some k) None) (lt-ltb k (length E) lt)
 
 -- ---- one equation
 

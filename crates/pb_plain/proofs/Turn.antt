@@ -24,8 +24,9 @@ use Rattle.pb_text_meaning.proofs.Instances.{are_monotone, text_is_solved}
 use Rattle.pb_evaluation.specs.Environment.{all_carriers, environment_of, place_named, truth_of}
 use Rattle.pb_plain.specs.Side.{side_of}
 use Rattle.pb_plain.specs.Bounds.{AreBounds}
-use Rattle.pb_plain.specs.Step.{IsSolvable, ChangesOnly, TakesSet, JoinsRight}
+use Rattle.pb_plain.specs.Step.{ChangesOnly, TakesSet, JoinsRight}
 use Rattle.pb_plain.proofs.Approach.{OwnApart, IsApproach, begins, steps, moves, stops, ends, near_moves, far_holds, settled, kept_bounds, assign-twice, no_bounds}
+use Rattle.pb_plain.proofs.Ready.{IsSolvable}
 use Rattle.pb_plain.proofs.Sets.{HasPlace, has_place, changes_only, takes_set, joins_right}
 
 -- ---- lists
@@ -162,7 +163,7 @@ module _ (S : Spec) (layout : List (List Carrier)) (laid : carriers_of layout �
 
 -- ---- where the solver begins
 
-get_or-replicate_same : {A : Type 0} (n k : ℕ) (a : A) → get_or (replicate n a) k a ≡ a
+pub get_or-replicate_same : {A : Type 0} (n k : ℕ) (a : A) → get_or (replicate n a) k a ≡ a
 get_or-replicate_same zero k a = refl
 get_or-replicate_same (suc n) zero a = refl
 get_or-replicate_same (suc n) (suc k) a = get_or-replicate_same n k a
@@ -191,9 +192,9 @@ upper_bounds S layout n t laid apart all =
 -- ---- lists in a vector
 
 -- a vector's list after a write through its slice
-pub written : (items new : List Bool) (len : ℕ) → length new ≡ length items → length items ≡ len → take len (new ++ drop (length new) items) ≡ new
-written items new len same long =
-    ap (λ (ys : List Bool). take len (new ++ ys)) (drop_all (length new) items (omega (arith, same)))
+pub written : {A : Type 0} (items new : List A) (len : ℕ) → length new ≡ length items → length items ≡ len → take len (new ++ drop (length new) items) ≡ new
+written {A} items new len same long =
+    ap (λ (ys : List A). take len (new ++ ys)) (drop_all (length new) items (omega (arith, same)))
     ∙ (ap (take len) (append-nil new) ∙ take_all len new (omega (arith, same, long)))
 
 -- ---- the equation at a place

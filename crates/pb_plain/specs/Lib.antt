@@ -1,4 +1,3 @@
 pub mod Side
 pub mod Bounds
-pub mod Names
 pub mod Step

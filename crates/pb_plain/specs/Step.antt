@@ -1,9 +1,10 @@
 -- One step of the solver at the equation at a place, on lists of truths that stand for
 -- environments.
-use Rattle.std.specs.Prelude.{◌≡◌, ℕ, Bool, true, false, List, [], ⊤, All, slice_index_or, Option}
+use Rattle.std.specs.Prelude.{◌≡◌, ℕ, Bool, true, false, List, [], length, slice_index_or, Option}
 use Rattle.std.specs.Prelude.{Some, None}
 use Rattle.std.specs.List.{slice_get}
 use Rattle.pb_fixpoint.specs.Solution.{Environment}
+use Rattle.pb_carriers.specs.Carrier.{Tuple}
 use Rattle.pb_sorts.specs.declared.carrier.Carrier.{Carrier}
 use Rattle.pb_sorts.specs.Layout.{carriers_of}
 use Rattle.pb_sorts.specs.Instance as numbered
@@ -11,17 +12,16 @@ use Rattle.pb_sorts.specs.Instance.{instances, owns_number}
 use Rattle.pb_text_meaning.specs.Syntax.{Equation, Spec}
 use Rattle.pb_text_meaning.specs.Formula.{Instance, truth}
 use Rattle.pb_text_meaning.specs.Meaning.{assigned}
-use Rattle.pb_text_meaning.specs.Names.{AreNamedApart}
-use Rattle.pb_text_meaning.specs.Positive.{ArePositive}
-use Rattle.pb_text_meaning.specs.Fits.{FormulaFits, RightFits}
+use Rattle.pb_typed_tree.specs.Fits.{AreClear, slot_count}
 use Rattle.pb_evaluation.specs.Environment.{environment_of}
+use Rattle.pb_evaluation.specs.Slots.{slots_of}
 use Rattle.pb_plain.specs.Side.{side_of, joined}
 
--- equations of different names, each right side positive, its values within 64 bits
-pub record IsSolvable (spec : Spec) : Type 0 where
-  pub apart : AreNamedApart spec.equations
-  pub positive : ArePositive spec.equations
-  pub fits : All (RightFits spec) spec.equations
+-- Slots for an equation's right side: one for each parameter, and free ones for the variables of
+-- its quantifiers.
+pub record AreSlots (spec : Spec) (X : Equation) (slots : Tuple) : Type 0 where
+  pub count : length slots ≡ slot_count spec X
+  pub free : AreClear (length X.parameters) (slots_of slots)
 
 -- the truth of an equation's right side at an instance, if there is one
 abbrev pub right_truth : Spec → Environment Instance → Equation → Option numbered.Instance → Bool
@@ -53,11 +53,3 @@ JoinsRight spec layout k X below old new =
     → slice_index_or new n false
     ≡ joined (side_of X.sign) (slice_index_or old n false)
     (right_truth_at spec (environment_of spec below) X layout n)
-
--- an equation's right side fits at the instance with a number
-abbrev pub FitsAtInstance : Spec → Equation → Option numbered.Instance → Type 0
-FitsAtInstance spec X None = ⊤
-FitsAtInstance spec X (Some i) = FormulaFits spec (assigned X.parameters i.values []) X.right
-
-abbrev pub FitsAt : Spec → List (List Carrier) → Equation → ℕ → Type 0
-FitsAt spec layout X n = FitsAtInstance spec X (slice_get (instances (carriers_of layout)) n)

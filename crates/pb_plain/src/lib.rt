@@ -2,10 +2,7 @@
 //! solution (Groote and Willemse 2005) equation by equation, over the sets of all instances.
 #![tactic(auto)]
 
-mod right;
 mod set;
 mod solver;
-mod system;
-mod typed;
 
-pub use typed::solve;
+pub use solver::solve;

@@ -1,24 +1,22 @@
 //! The set of one equation, among the truths of all instances.
 
 ghost use Rattle.std.specs.Prelude.{◌≡◌, ◌<◌, ◌≤◌, ◌+◌, not, true, false, length, Some, IfOk, OnOk};
+ghost use Rattle.std.specs.Prelude.{IsTrue};
 ghost use Rattle.std.specs.List.{slice_get};
-ghost use Rattle.pb_text_tree.specs.Form.{equation_form, spec_form};
-ghost use Rattle.pb_typing_declarations.specs.View.{spec_of, text_of};
-ghost use Rattle.pb_sorts.specs.Instance.{first_of, size_of};
+ghost use Rattle.pb_text_tree.specs.Form.{spec_form};
+ghost use Rattle.pb_sorts.specs.Instance.{first_of, owns_number, size_of};
 ghost use Rattle.pb_sorts.specs.Layout.{carriers_of, count_of};
-ghost use Rattle.pb_text_meaning.specs.Erase.{erased_equation};
+ghost use Rattle.pb_text_meaning.specs.Erase.{erase};
 ghost use Rattle.pb_text_meaning.specs.Syntax as syntax;
-ghost use Rattle.pb_evaluation.specs.Environment.{all_carriers, environment_of};
+ghost use Rattle.pb_evaluation.specs.Environment.{environment_of};
 ghost use Rattle.pb_plain.specs.Side.{side_of};
-ghost use Rattle.pb_plain.specs.Step.{ChangesOnly, FitsAt, IsSolvable, JoinsRight, TakesSet};
+ghost use Rattle.pb_plain.specs.Step.{AreSlots, ChangesOnly, JoinsRight, TakesSet};
 ghost use Rattle.pb_plain.specs.Step.{right_truth_at};
 
-use crate::right::right_truth;
-use pb_evaluation::{Environment, Scope};
+use pb_evaluation::{Environment, formula_truth};
 use pb_fixpoint::Sign;
 use pb_sorts::Layout;
-use pb_text_tree::{Equation, Spec};
-use pb_typing_declarations::Declarations;
+use pb_typing::Typed;
 use std::alloc::AllocError;
 
 /// The numbers of an equation's instances: those from `start` on, below `end`.
@@ -91,39 +89,32 @@ fn starts_full(sign: Sign) -> bool
 /// # Errors
 /// Memory was refused.
 pub(crate) fn improve(
-    spec: &Spec,
-    declarations: &Declarations<'_>,
-    layout: &Layout,
+    typed: &Typed,
     equation: usize,
     truths: &mut [bool],
     below: &[bool],
 ) -> Result<bool, AllocError>
-    requires known { equation < length layout.now }
-    requires said { text_of declarations.now ≡ spec_form spec.now }
-    requires laid_out { carriers_of layout.now ≡ all_carriers (spec_of declarations.now) }
-    requires solvable { IsSolvable (spec_of declarations.now) }
-    requires truths { length truths.old ≡ count_of layout.now }
-    requires below { length below.now ≡ count_of layout.now }
+    requires known { equation < length typed.now.layout }
+    requires truths { length truths.old ≡ count_of typed.now.layout }
+    requires below { length below.now ≡ count_of typed.now.layout }
     ensures joins { OnOk result ((X : syntax.Equation)
-        → slice_get (spec_of declarations.now).equations equation ≡ Some X
-        → JoinsRight
-        (spec_of declarations.now) layout.now equation X below.now truths.old truths.new) }
-    ensures others { OnOk result (ChangesOnly layout.now equation truths.old truths.new) }
+        → slice_get (erase (spec_form typed.now.spec)).equations equation ≡ Some X
+        → JoinsRight (erase (spec_form typed.now.spec)) typed.now.layout equation X below.now
+        truths.old truths.new) }
+    ensures others { OnOk result (ChangesOnly typed.now.layout equation truths.old truths.new) }
     ensures unchanged { IfOk result (λ changed. changed ≡ false
-        → TakesSet layout.now equation truths.old truths.new) }
+        → TakesSet typed.now.layout equation truths.old truths.new) }
 {
-    let right_side = &spec.equations[equation];
-    let environment = Environment {
-        declarations,
-        layout,
-        truths: below,
-    };
-    let start = starts_full(right_side.sign);
-    let numbers = numbers_of(layout, equation);
+    let start = starts_full(typed.spec.equations[equation].sign);
+    let parameters = typed.layout.carriers(equation).len();
+    let count = parameters + typed.equations[equation].loops.len();
+    let mut memory = vec![in *typed.equations.allocator(); 0; count]?;
+    let slots = memory.as_mut_slice();
+    let numbers = numbers_of(&typed.layout, equation);
     let mut changed = false;
     for number in numbers.start..numbers.end {
         if truths[number] == start {
-            let holds = right_truth_of(right_side, number as u32, &environment)?;
+            let holds = right_truth(typed, equation, number as u32, slots, below);
             if holds != start {
                 truths[number] = !start;
                 changed = true;
@@ -133,26 +124,35 @@ pub(crate) fn improve(
     Ok(changed)
 }
 
-/// The truth of an equation's right side at the instance with a number.
-fn right_truth_of(
-    equation: &Equation,
+/// The truth of an equation's right side at its instance with a number, whose values come to stand
+/// in the first slots.
+fn right_truth(
+    typed: &Typed,
+    equation: usize,
     number: u32,
-    environment: &Environment<'_, '_>,
-) -> Result<bool, AllocError>
-    requires number { number < count_of environment.now.layout.now }
-    requires fits { FitsAt (spec_of environment.now.declarations.now) environment.now.layout.now
-        (erased_equation (equation_form equation.now)) number }
-    ensures { IfOk result (λ holds. holds ≡ right_truth_at
-        (spec_of environment.now.declarations.now)
-        (environment_of (spec_of environment.now.declarations.now) environment.now.truths.now)
-        (erased_equation (equation_form equation.now)) environment.now.layout.now number) }
+    slots: &mut [i64],
+    below: &[bool],
+) -> bool
+    requires known { equation < length typed.now.layout }
+    requires own { IsTrue (owns_number (carriers_of typed.now.layout) equation number) }
+    requires below { length below.now ≡ count_of typed.now.layout }
+    requires slots { (X : syntax.Equation)
+        → slice_get (erase (spec_form typed.now.spec)).equations equation ≡ Some X
+        → AreSlots (erase (spec_form typed.now.spec)) X slots.old }
+    ensures truth { (X : syntax.Equation)
+        → slice_get (erase (spec_form typed.now.spec)).equations equation ≡ Some X
+        → result ≡ right_truth_at (erase (spec_form typed.now.spec))
+        (environment_of (erase (spec_form typed.now.spec)) below.now) X typed.now.layout number }
+    ensures slots { (X : syntax.Equation)
+        → slice_get (erase (spec_form typed.now.spec)).equations equation ≡ Some X
+        → AreSlots (erase (spec_form typed.now.spec)) X slots.new }
 {
-    let instance = environment.layout.instance(number);
-    right_truth(
-        &equation.parameters,
-        &instance.values,
-        &Scope::Outermost,
-        &equation.right,
-        environment,
-    )
+    let instance = typed.layout.instance(number);
+    let count = instance.values.len();
+    slots[..count].copy_from_slice(&instance.values);
+    let environment = Environment {
+        layout: &typed.layout,
+        truths: below,
+    };
+    formula_truth(&typed.equations[equation].right, slots, &environment)
 }

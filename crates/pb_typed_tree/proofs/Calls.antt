@@ -36,7 +36,7 @@ chain-places c first v =
 
 -- ---- a place for each call
 
-nested-calls : (q : Quantifier) (slot : ℕ) (cs : List Carrier) (f : tree.Formula) → calls (nested q slot cs f) ≡ calls f
+pub nested-calls : (q : Quantifier) (slot : ℕ) (cs : List Carrier) (f : tree.Formula) → calls (nested q slot cs f) ≡ calls f
 nested-calls q slot [] f = refl
 nested-calls q slot (c ∷ cs) f = nested-calls q (suc slot) cs f
 

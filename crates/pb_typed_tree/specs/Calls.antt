@@ -1,5 +1,5 @@
--- The calls of a formula in the order in which they are written: their places in the text, which the
--- typed tree of the code keeps.
+-- The calls of a formula in the order in which they are written: their places in the text, which
+-- the typed tree of the code keeps.
 use Rattle.std.specs.Prelude.{ℕ, ◌+◌, List, [], ◌∷◌, ◌++◌, flat_map, map}
 use Rattle.pb_text_tree.specs.declared.place.Place.{Place}
 use Rattle.pb_text_tree.specs.Form.{FormulaForm, EquationForm}

@@ -1,5 +1,5 @@
--- Elaboration: which typed tree a text has. Names become slots, enumerators, functions and places of equations, and
--- each argument has the kind and the interval of its values.
+-- Elaboration: which typed tree a text has. Names become slots, enumerators, functions and places
+-- of equations, and each argument has the kind and the interval of its values.
 use Rattle.std.specs.Prelude.{ℕ, suc, ◌+◌, Bool, true, false, if◌then◌else◌, List, [], ◌∷◌, length, map, Option, Some, None}
 use Rattle.pb_text_tree.specs.declared.operator.Connective.TheVariants as connective
 use Rattle.pb_text_tree.specs.declared.operator.Quantifier.{Quantifier}
@@ -119,13 +119,16 @@ width (syntax.Formula.Quantified q xs f) = length xs + width f
 width (syntax.Formula.Call X es) = 0
 
 -- one quantifier for each variable, the next slots being theirs
-abbrev pub each : Spec → Quantifier → List Variable → Slotting → ℕ → (Slotting → ℕ → Formula) → Formula
+abbrev pub each : Spec → Quantifier → List Variable → Slotting → ℕ → (Slotting → ℕ → Formula)
+    → Formula
 each spec q [] c n body = body c n
-each spec q (x ∷ xs) c n body = Quantified q n (sort_shape spec x.sort) (each spec q xs (with_slot x.name n c) (suc n) body)
+each spec q (x ∷ xs) c n body =
+    Quantified q n (sort_shape spec x.sort) (each spec q xs (with_slot x.name n c) (suc n) body)
 
 abbrev pub arguments : Spec → Slotting → Scope → Terms → List Argument
 arguments spec c scope Terms.NoTerms = []
-arguments spec c scope (Terms.Then x xs) = record { term = slotted spec c x; shape = shape spec scope x } ∷ arguments spec c scope xs
+arguments spec c scope (Terms.Then x xs) =
+    record { term = slotted spec c x; shape = shape spec scope x } ∷ arguments spec c scope xs
 
 -- the place of the first equation of a name
 abbrev pub place_of : ℕ → List Equation → Name → Option ℕ
@@ -136,23 +139,31 @@ abbrev pub call : Option ℕ → List Argument → Formula
 call None es = Test (Term.Truth false)
 call (Some X) es = Call X es
 
--- The typed tree of a formula whose data has no quantifiers, in a scope, where the slots from n on are free.
+-- The typed tree of a formula whose data has no quantifiers, in a scope, where the slots from n on
+-- are free.
 abbrev pub elaborated : Spec → Slotting → Scope → ℕ → syntax.Formula → Formula
 elaborated spec c scope n (syntax.Formula.Truth b) = Test (Term.Truth b)
 elaborated spec c scope n (syntax.Formula.Val x) = Test (slotted spec c x)
 elaborated spec c scope n (syntax.Formula.Not f) = Negation (elaborated spec c scope n f)
-elaborated spec c scope n (syntax.Formula.And f g) = Connected connective.And (elaborated spec c scope n f) (elaborated spec c scope (n + width f) g)
-elaborated spec c scope n (syntax.Formula.Or f g) = Connected connective.Or (elaborated spec c scope n f) (elaborated spec c scope (n + width f) g)
-elaborated spec c scope n (syntax.Formula.Implies f g) = Connected connective.Implies (elaborated spec c scope n f) (elaborated spec c scope (n + width f) g)
-elaborated spec c scope n (syntax.Formula.Quantified q xs f) = each spec q xs c n (λ d m. elaborated spec d (bound spec xs scope) m f)
-elaborated spec c scope n (syntax.Formula.Call X es) = call (place_of 0 spec.equations X) (arguments spec c scope es)
+elaborated spec c scope n (syntax.Formula.And f g) =
+    Connected connective.And (elaborated spec c scope n f) (elaborated spec c scope (n + width f) g)
+elaborated spec c scope n (syntax.Formula.Or f g) =
+    Connected connective.Or (elaborated spec c scope n f) (elaborated spec c scope (n + width f) g)
+elaborated spec c scope n (syntax.Formula.Implies f g) =
+    Connected connective.Implies (elaborated spec c scope n f)
+    (elaborated spec c scope (n + width f) g)
+elaborated spec c scope n (syntax.Formula.Quantified q xs f) =
+    each spec q xs c n (λ d m. elaborated spec d (bound spec xs scope) m f)
+elaborated spec c scope n (syntax.Formula.Call X es) =
+    call (place_of 0 spec.equations X) (arguments spec c scope es)
 
 -- ---- equations
 
 -- the typed right side of an equation, whose parameters have the first slots
 abbrev pub elaborated_equation : Spec → Equation → Formula
 elaborated_equation spec X =
-    elaborated spec (with_slots X.parameters 0 unslotted) (parameters_of spec X) (length X.parameters) (expanded X.right)
+    elaborated spec (with_slots X.parameters 0 unslotted) (parameters_of spec X)
+    (length X.parameters) (expanded X.right)
 
 abbrev pub elaborated_equations : Spec → List Equation → List Formula
 elaborated_equations spec E = map (elaborated_equation spec) E

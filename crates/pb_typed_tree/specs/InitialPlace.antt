@@ -8,7 +8,8 @@ use Rattle.pb_text_meaning.specs.Formula.{carriers_of}
 
 -- the place of the equation that the initial instance names
 abbrev pub initial_place : Spec → ℕ
-initial_place spec = position_or_len (λ (X : Equation). same_name X.name spec.initial) spec.equations
+initial_place spec =
+    position_or_len (λ (X : Equation). same_name X.name spec.initial) spec.equations
 
 -- the values of its arguments
 abbrev pub initial_values : Spec → Tuple

@@ -41,6 +41,7 @@ IsShaped spec (Formula.Implies f g) = IsShaped spec f × IsShaped spec g
 IsShaped spec (Formula.Quantified q xs f) = AreShaped spec xs × IsShaped spec f
 IsShaped spec (Formula.Call X es) = ⊤
 
--- each variable of an equation, its parameters and those of its quantifiers, is of a sort that has values
+-- each variable of an equation, its parameters and those of its quantifiers, is of a sort that has
+-- values
 abbrev pub IsShapedEquation : Spec → Equation → Type 0
 IsShapedEquation spec X = AreShaped spec X.parameters × IsShaped spec (expanded X.right)

@@ -1,13 +1,12 @@
 use Rattle.std.proofs.Common.{◌≡◌, ◌+◌, drop}
-use Rattle.pb_text_tree.specs.Form.{formula_form, variable_forms}
-use Rattle.pb_typing_declarations.specs.View.{spec_of}
-use Rattle.pb_text_meaning.specs.Erase.{erased_formula, erased_variables}
-use Rattle.pb_text_meaning.specs.Formula.{truth}
-use Rattle.pb_evaluation.specs.Environment.{environment_of}
-use Rattle.pb_evaluation.specs.Scope.{assignment_of}
-use Rattle.pb_evaluation.proofs.FormulaWeight.{weight}
-use Rattle.pb_evaluation.proofs.FormulaLinks.{truth_of, chain_truth}
-use Rattle.pb_evaluation.proofs.Odometer.{IsUnderWay, left_of}
+use Rattle.pb_text_meaning.specs.Syntax.{Spec}
+use Rattle.pb_typed_tree.specs.Meaning.{truth}
+use Rattle.pb_typed_tree.specs.View.{formula_view}
+use Rattle.pb_typed_tree.proofs.FormulaWeight.{weight}
+use Rattle.pb_evaluation.specs.Environment.{IsLaidOut, environment_of}
+use Rattle.pb_evaluation.specs.Slots.{slots_of}
+use Rattle.pb_evaluation.proofs.FormulaLinks.{chain_truth}
+use Rattle.pb_evaluation.proofs.Turns.{IsUnderWay, left_of}
 use Rattle.pb_evaluation.proofs.formula.+formulas.Given as goal
 
 abbrev pub decreases-formula_truth : goal.decreases-formula_truth
@@ -16,20 +15,19 @@ decreases-formula_truth l = weight l.formula.now
 abbrev pub decreases-quantified : goal.decreases-quantified
 decreases-quantified l = 1 + weight l.body.now
 
--- the links that are left, behind the operand whose truth is known, have the chain's truth
+-- the operands that are left, behind the one whose truth is known, have the chain's truth
 abbrev pub invariant-formula_truth-loop-link : goal.invariant-formula_truth-loop-link
-invariant-formula_truth-loop-link l =
-    let S = spec_of l.environment.declarations.now in
-    let a = assignment_of l.scope in
-    let t = environment_of S l.environment.truths.now in
-    chain_truth S a t l.connective l.current (drop l.link-index l.link-items) ≡ truth_of S a t (formula_form l.formula)
+invariant-formula_truth-loop-link l = record {
+  kept : l.slots ≡ l.fn.slots;
+  truth : (S : Spec) → IsLaidOut S l.environment.layout.now
+      → chain_truth S (slots_of l.fn.slots) (environment_of S l.environment.truths.now) l.connective l.current (drop l.link-index l.link-items)
+      ≡ truth S (slots_of l.fn.slots) (environment_of S l.environment.truths.now) (formula_view l.formula);
+}
 
--- the values that are left have the answer
-abbrev pub invariant-quantified-loop-bindings : goal.invariant-quantified-loop-bindings
-invariant-quantified-loop-bindings l =
-    let S = spec_of l.environment.declarations.now in
-    let t = environment_of S l.environment.truths.now in
-    IsUnderWay S l.quantifier (erased_variables (variable_forms l.variables.items)) l.bindings.items (λ a. truth S a t (erased_formula (formula_form l.body))) (assignment_of l.scope)
+-- no tuple before the present one decides
+abbrev pub invariant-quantified-loop-quantifier : goal.invariant-quantified-loop-quantifier
+invariant-quantified-loop-quantifier l =
+    IsUnderWay l.environment.layout.now l.environment.truths.now l.quantifier (formula_view l.body) l.loops.carriers.now l.loops.slot l.fn.slots l.slots
 
-abbrev pub decreases-quantified-loop-bindings : goal.decreases-quantified-loop-bindings
-decreases-quantified-loop-bindings l = left_of l.bindings.items
+abbrev pub decreases-quantified-loop-quantifier : goal.decreases-quantified-loop-quantifier
+decreases-quantified-loop-quantifier l = left_of l.loops.carriers.now l.loops.slot l.slots
