@@ -1,73 +1,97 @@
--- Whether a chain makes a call, link by link.
-use Rattle.std.proofs.Common.{◌≡◌, ℕ, ◌+◌, ◌<◌, ◌≤◌, Bool, true, false, not, ◌&&◌, ◌||◌, List, [], ◌∷◌, length, get_or, drop, refl, sym, ◌∙◌, ap, Vec, Global, Box}
-use Rattle.std.specs.Prelude.{box_value}
-use Rattle.std.proofs.lemmas.List.{drop_all}
+-- Whether a chain makes a call, operand by operand.
+use Rattle.std.proofs.Common.{◌≡◌, ℕ, zero, suc, ◌<◌, Bool, true, false, not, ◌&&◌, ◌||◌}
+use Rattle.std.proofs.Common.{List, [], ◌∷◌, ◌++◌, length, get_or, take, drop, refl, sym, ◌∙◌, ap}
+use Rattle.std.proofs.Common.{subst, append-nil, Vec, Global, Box, arith}
+use Rattle.std.specs.Prelude.{⊤, box_value}
+use Rattle.std.proofs.Math.Seq.{take-append_seam, drop-append_seam}
 use Rattle.pb_text_tree.specs.declared.operator.Connective.{Connective}
-use Rattle.pb_text_tree.specs.declared.formula.Formula as formula
-use Rattle.pb_text_tree.specs.declared.formula.Formula.{Formula}
-use Rattle.pb_text_tree.specs.declared.formula.Link.{Link}
-use Rattle.pb_text_tree.specs.Form.{FormulaForm, formula_form, chained, link_forms}
-use Rattle.pb_text_tree.proofs.FormLemmas.{formula-chain}
-use Rattle.pb_sorts.proofs.Places.{drop-at}
-use Rattle.pb_text_meaning.specs.Value.{Assignment}
+use Rattle.pb_text_tree.specs.declared.place.Place.{Place}
+use Rattle.pb_sorts.specs.Instance.{instance_of}
+use Rattle.pb_text_meaning.specs.Syntax.{Spec}
+use Rattle.pb_typed_tree.specs.Calls.{call_places, calls, places_of}
+use Rattle.pb_typed_tree.specs.Fits.{FormulaFits}
+use Rattle.pb_typed_tree.specs.Meaning.{Slots}
+use Rattle.pb_typed_tree.specs.Tree as tree
+use Rattle.pb_typed_tree.specs.Tree.{Connected}
+use Rattle.pb_typed_tree.specs.View.{chained, formula_view, formula_views}
+use Rattle.pb_typed_tree.specs.declared.formula.Formula as formula
+use Rattle.pb_typed_tree.specs.declared.formula.Formula.{Formula}
+use Rattle.pb_typed_tree.proofs.Calls.{calls-counted, chain-places}
+use Rattle.pb_typed_tree.proofs.Views.{formula-chain}
+use Rattle.pb_call_places.specs.Made.{is_deciding, made}
+use Rattle.pb_call_places.specs.Sought.{is_made}
 use Rattle.pb_call_places.specs.declared.sought.Sought.{Sought}
-use Rattle.pb_call_places.specs.Calls.{is_deciding_test}
-use Rattle.pb_call_places.specs.Made.{is_made, spec_at}
 
--- whether an operand is a test that decides
-abbrev pub is_deciding : Sought → Assignment → Connective → FormulaForm → Bool
-is_deciding s a c f = is_deciding_test (spec_at s) a c f
+-- ---- each operand fits
 
--- whether links make the call
-abbrev pub links_make : Sought → Assignment → Connective → List Link → Bool
-links_make s a c [] = false
-links_make s a c (link ∷ links) =
-    is_made s a (formula_form link.operand) || (not (is_deciding s a c (formula_form link.operand)) && links_make s a c links)
+abbrev pub LinksFit : ℕ → ℕ → Slots → List Formula → Type 0
+LinksFit k n a [] = ⊤
+LinksFit k n a (f ∷ fs) = FormulaFits k n a (formula_view f) × LinksFit k n a fs
 
-nothing_behind : (made deciding : Bool) → made ≡ made || (not deciding && false)
-nothing_behind true d = refl
-nothing_behind false true = refl
-nothing_behind false false = refl
+pub fits-chained : (k n : ℕ) (a : Slots) (o : Connective) (t : tree.Formula) (fs : List Formula)
+    → FormulaFits k n a (chained (Connected o) t (formula_views fs))
+    → FormulaFits k n a t × LinksFit k n a fs
+fits-chained k n a o t [] h = (h, tt)
+fits-chained k n a o t (f ∷ fs) h = (h.0, fits-chained k n a o (formula_view f) fs h.1)
 
-made-chained : (s : Sought) (a : Assignment) (c : Connective) (first : FormulaForm) (links : List Link)
-    → is_made s a (chained (FormulaForm.connected c) first (link_forms links)) ≡ is_made s a first || (not (is_deciding s a c first) && links_make s a c links)
-made-chained s a c first [] = nothing_behind (is_made s a first) (is_deciding s a c first)
-made-chained s a c first (link ∷ links) =
-    ap (λ (b : Bool). is_made s a first || (not (is_deciding s a c first) && b)) (made-chained s a c (formula_form link.operand) links)
+pub link-fits : (k n : ℕ) (a : Slots) (fs : List Formula) (j : ℕ) (f : Formula)
+    → LinksFit k n a fs → j < length fs → f ≡ get_or fs j f → FormulaFits k n a (formula_view f)
+link-fits k n a [] j f h lt at = absurd (omega (arith, lt))
+link-fits k n a (g ∷ fs) zero f h lt at =
+    subst (λ (e : Formula). FormulaFits k n a (formula_view e)) (sym at) h.0
+link-fits k n a (g ∷ fs) (suc j) f h lt at = link-fits k n a fs j f h.1 (omega (arith, lt)) at
 
--- a chain makes the call where its first operand does, or the links behind it where that doesn't decide
-pub made-chain : (s : Sought) (a : Assignment) (f : Formula) (c : Connective) (first : Box Formula Global) (v : Vec Link Global) → f ≡ formula.Chain c first v
-    → is_made s a (formula_form f) ≡ is_made s a (formula_form (box_value first)) || (not (is_deciding s a c (formula_form (box_value first))) && links_make s a c v.items)
-made-chain s a f c first v is =
-    ap (λ (g : Formula). is_made s a (formula_form g)) is ∙ (ap (is_made s a) (formula-chain c first v) ∙ made-chained s a c (formula_form (box_value first)) v.items)
+-- ---- operands make the call
 
-pub links_make-at : (s : Sought) (a : Assignment) (c : Connective) (links : List Link) (k : ℕ) (link : Link) → k < length links → link ≡ get_or links k link
-    → links_make s a c (drop k links) ≡ is_made s a (formula_form link.operand) || (not (is_deciding s a c (formula_form link.operand)) && links_make s a c (drop (k + 1) links))
-links_make-at s a c links k link lt at = ap (links_make s a c) (drop-at links k link lt at)
+nothing-behind : (here deciding : Bool) → here ≡ here || (not deciding && false)
+nothing-behind true d = refl
+nothing-behind false true = refl
+nothing-behind false false = refl
 
--- ---- one operand
+module _ (spec : Spec) (s : Sought) (a : Slots) (o : Connective) where
+  -- the operands behind the first
+  abbrev pub links_make : List Formula → Bool
+  links_make [] = false
+  links_make (f ∷ fs) =
+      is_made spec s a f || (not (is_deciding spec a o (formula_view f)) && links_make fs)
 
--- it makes the call
-pub makes : (made rest all : Bool) → all ≡ made || rest → made ≡ true → true ≡ all
-makes made rest all e is_true = sym (e ∙ ap (λ (b : Bool). b || rest) is_true)
+  abbrev chain_makes : tree.Formula → List Place → Bool
+  chain_makes t ps = made spec (instance_of s.called.now) s.place a t ps
 
--- it doesn't
-pub goes_on : (made rest all : Bool) → all ≡ made || rest → made ≡ false → rest ≡ all
-goes_on made rest all e is_false = sym (e ∙ ap (λ (b : Bool). b || rest) is_false)
+  made-chained : (first : Formula) (fs : List Formula)
+      → chain_makes (chained (Connected o) (formula_view first) (formula_views fs))
+      (call_places first ++ places_of fs)
+      ≡ is_made spec s a first || (not (is_deciding spec a o (formula_view first)) && links_make fs)
+  made-chained first [] =
+      ap (chain_makes (formula_view first)) (append-nil (call_places first))
+      ∙ nothing-behind (is_made spec s a first) (is_deciding spec a o (formula_view first))
+  made-chained first (f ∷ fs) =
+      let t = formula_view first in
+      let u = chained (Connected o) (formula_view f) (formula_views fs) in
+      let ps = call_places first in
+      let qs = call_places f ++ places_of fs in
+      let count : calls t ≡ length ps = sym (calls-counted first) in
+      let front : take (calls t) (ps ++ qs) ≡ ps =
+      ap (λ k. take k (ps ++ qs)) count ∙ take-append_seam ps qs in
+      let back : drop (calls t) (ps ++ qs) ≡ qs =
+      ap (λ k. drop k (ps ++ qs)) count ∙ drop-append_seam ps qs in
+      let both : Bool → Bool → Bool = λ b c. b || (not (is_deciding spec a o t) && c) in
+      ap (λ xs. both (chain_makes t xs) (chain_makes u (drop (calls t) (ps ++ qs)))) front
+      ∙ (ap (λ xs. both (chain_makes t ps) (chain_makes u xs)) back
+      ∙ ap (both (chain_makes t ps)) (made-chained f fs))
 
--- what stands behind an operand that doesn't decide
-pub behind : (decided rest all : Bool) → (not decided && rest) ≡ all → decided ≡ false → all ≡ rest
-behind decided rest all e is_false = sym e ∙ ap (λ (b : Bool). not b && rest) is_false
-
--- behind one that does, nothing is made
-pub nothing_made : (decided rest all : Bool) → (not decided && rest) ≡ all → decided ≡ true → false ≡ all
-nothing_made decided rest all e is_true = sym (ap (λ (b : Bool). not b && rest) is_true) ∙ e
-
--- no link is left
-pub none_left : (s : Sought) (a : Assignment) (c : Connective) (links : List Link) (k : ℕ) (decided all : Bool) → length links ≤ k → (not decided && links_make s a c (drop k links)) ≡ all → false ≡ all
-none_left s a c links k decided all le e =
-    no_more decided ∙ (ap (λ (ls : List Link). not decided && links_make s a c ls) (sym (drop_all k links le)) ∙ e)
-  where
-    no_more : (d : Bool) → false ≡ (not d && false)
-    no_more true = refl
-    no_more false = refl
+  -- a chain makes the call where its first operand does, or those behind it where that doesn't
+  -- decide
+  pub made-chain : (f : Formula) (first : Box Formula Global) (v : Vec Formula Global)
+      → f ≡ formula.Chain o first v
+      → is_made spec s a f
+      ≡ is_made spec s a (box_value first)
+      || (not (is_deciding spec a o (formula_view (box_value first))) && links_make v.items)
+  made-chain f first v is =
+      ap (is_made spec s a) is
+      ∙ (ap (λ (t : tree.Formula). chain_makes t (call_places (formula.Chain o first v)))
+      (formula-chain o first v)
+      ∙ (ap (chain_makes (chained (Connected o) (formula_view (box_value first))
+      (formula_views v.items)))
+      (chain-places o first v)
+      ∙ made-chained (box_value first) v.items))

@@ -1,9 +1,10 @@
-pub mod ChainCalls
+pub mod EquationNames
+pub mod Unmade
+pub mod Elaborated
+pub mod Truths
+pub mod Operands
+pub mod Holding
+pub mod Arguments
 pub mod ChainMade
-pub mod Values
-pub mod AnySort
-pub mod NothingHolds
+pub mod TuplesMade
 pub mod Callers
-pub mod FitsFacts
-pub mod FirstCall
-pub mod NoCall

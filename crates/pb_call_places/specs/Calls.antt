@@ -1,6 +1,6 @@
--- The calls of a formula, the instance that each names, and the place of the first call by which an
+-- The instance that a call of a formula names, and the place of the first call by which an
 -- equation's right side names an instance.
-use Rattle.std.specs.Prelude.{◌==◌, Bool, true, false, not, ◌&&◌, ◌||◌, List, [], ◌∷◌, ◌++◌}
+use Rattle.std.specs.Prelude.{◌==◌, Bool, true, false, not, ◌&&◌, ◌||◌, []}
 use Rattle.std.specs.Prelude.{Option, Some, None}
 use Rattle.std.specs.Cmp.Lexicographic.{pointwise}
 use Rattle.std.specs.List.{find, slice_get}
@@ -19,15 +19,7 @@ use Rattle.pb_text_meaning.specs.Value.{Assignment, quantified, values}
 use Rattle.pb_text_meaning.specs.Formula.{Instance, truth}
 use Rattle.pb_text_meaning.specs.Meaning.{assigned}
 use Rattle.pb_text_meaning.specs.Erase.{erase, erased_arguments, erased_formula, erased_variables}
-
--- the places of a formula's calls, in the order in which they are written
-abbrev pub calls_in : FormulaForm → List Place
-calls_in (FormulaForm.constant p b) = []
-calls_in (FormulaForm.val p x) = []
-calls_in (FormulaForm.instance call) = call.name.place ∷ []
-calls_in (FormulaForm.negation p f) = calls_in f
-calls_in (FormulaForm.connected c p f g) = calls_in f ++ calls_in g
-calls_in (FormulaForm.quantified q p xs f) = calls_in f
+use Rattle.pb_typed_tree.specs.Calls.{calls_in}
 
 -- a formula without calls
 abbrev pub is_test : FormulaForm → Bool

@@ -1,26 +1,54 @@
--- What it takes that a formula makes the call that is looked for, in the words of the code.
-use Rattle.std.specs.Prelude.{Bool}
-use Rattle.pb_text_tree.specs.Form.{FormulaForm}
-use Rattle.pb_typing_declarations.specs.View.{spec_of}
-use Rattle.pb_text_meaning.specs.Erase.{erased_formula}
+-- Whether a typed formula makes the call at a place, and this call names an instance. The formula
+-- is given with the places of its calls, in their order.
+use Rattle.std.specs.Prelude.{◌==◌, ℕ, Bool, false, not, ◌&&◌, ◌||◌}
+use Rattle.std.specs.Prelude.{List, [], ◌∷◌, map, take, drop, Option}
+use Rattle.std.specs.Cmp.Lexicographic.{pointwise}
+use Rattle.std.specs.List.{find}
+use Rattle.std.specs.Ordering.{int_eq}
+use Rattle.pb_fixpoint.specs.Solution.{empty}
+use Rattle.pb_text_tree.specs.declared.place.Place.{Place}
+use Rattle.pb_text_tree.specs.declared.operator.Connective.{Connective}
+use Rattle.pb_text_tree.specs.declared.operator.Quantifier.TheVariants.{Exists}
+use Rattle.pb_carriers.specs.Carrier.{Tuple}
+use Rattle.pb_sorts.specs.Instance.{Instance}
 use Rattle.pb_text_meaning.specs.Syntax.{Spec}
-use Rattle.pb_text_meaning.specs.Value.{Assignment}
-use Rattle.pb_text_meaning.specs.Formula.{Instance}
-use Rattle.pb_text_meaning.specs.Fits.{FormulaFits}
-use Rattle.pb_call_places.specs.declared.sought.Sought.{Sought}
-use Rattle.pb_call_places.specs.Calls.{makes_call}
+use Rattle.pb_text_meaning.specs.Value.{of_values}
+use Rattle.pb_typing_declarations.specs.Shapes.{shape_carrier}
+use Rattle.pb_typed_tree.specs.Calls.{calls}
+use Rattle.pb_typed_tree.specs.Meaning.{Slots, set, value, truth}
+use Rattle.pb_typed_tree.specs.Tree.{Argument, Formula, Test, Negation, Connected, Quantified, Call}
+use Rattle.pb_call_places.specs.Calls.{decides, same_place}
 
--- the text of the call, and the instance that it names
-abbrev pub spec_at : Sought → Spec
-spec_at sought = spec_of sought.environment.declarations.now
+-- a test that decides what it is connected to, whatever stands behind it
+abbrev pub is_deciding : Spec → Slots → Connective → Formula → Bool
+is_deciding spec a c f = (calls f == 0) && decides c (truth spec a empty f)
 
-abbrev pub instance_sought : Sought → Instance
-instance_sought sought = record { name = sought.name.now; values = sought.values.now }
+-- whether the first of some places is this one
+abbrev pub is_first : Place → List Place → Bool
+is_first place [] = false
+is_first place (p ∷ ps) = same_place p place
 
--- whether a formula makes the call
-abbrev pub is_made : Sought → Assignment → FormulaForm → Bool
-is_made sought a f = makes_call (spec_at sought) (instance_sought sought) sought.place a f
+abbrev pub argument_values : Slots → List Argument → Tuple
+argument_values a es = map (λ (e : Argument). value a e.term) es
 
--- each term of a formula can be evaluated
-abbrev pub CanMake : Sought → Assignment → FormulaForm → Type 0
-CanMake sought a f = FormulaFits (spec_at sought) a (erased_formula f)
+-- a call names an instance: it is of its equation, and its arguments have its values
+abbrev pub names_instance : Slots → ℕ → List Argument → Instance → Bool
+names_instance a X es i =
+    (X == i.equation) && pointwise int_eq (argument_values a es) i.values
+
+-- Under values of its slots a formula makes the call at a place, and the call names an instance.
+-- Behind a test that decides no call is made; a quantifier's body is taken for each value of its
+-- slot. The calls of a first operand stand before those of the second.
+abbrev pub made : Spec → Instance → Place → Slots → Formula → List Place → Bool
+made spec i place a (Test x) ps = false
+made spec i place a (Negation f) ps = made spec i place a f ps
+made spec i place a (Connected c f g) ps =
+    made spec i place a f (take (calls f) ps)
+    || (not (is_deciding spec a c f) && made spec i place a g (drop (calls f) ps))
+made spec i place a (Quantified q s shape f) ps =
+    of_values Exists (λ v. made spec i place (set a s v) f ps) (shape_carrier shape)
+made spec i place a (Call X es) ps = is_first place ps && names_instance a X es i
+
+-- the place of the first call that a formula makes and that names an instance
+abbrev pub first_made : Spec → Instance → Slots → Formula → List Place → Option Place
+first_made spec i a f ps = find (λ place. made spec i place a f ps) ps

@@ -1,9 +1,7 @@
 -- What a `CallPlaces` shows: its text, and the layout of the text's instances.
 use Rattle.std.specs.Prelude.{List}
 use Rattle.pb_text_tree.specs.Form.{SpecForm, spec_form}
-use Rattle.pb_typing_declarations.specs.View.{spec_of}
 use Rattle.pb_sorts.specs.declared.carrier.Carrier.{Carrier}
-use Rattle.pb_text_meaning.specs.Syntax.{Spec}
 use Rattle.pb_call_places.specs.declared.places.CallPlaces.{CallPlaces}
 
 -- the text that it is of
@@ -13,7 +11,3 @@ said_by places = spec_form places.typed.now.spec
 -- the carriers of each equation's parameters
 abbrev pub layout_of : CallPlaces → List (List Carrier)
 layout_of places = places.typed.now.layout
-
--- what the text says whose declarations it has read
-abbrev pub declared_by : CallPlaces → Spec
-declared_by places = spec_of places.declarations

@@ -1,16 +1,18 @@
-//! The calls of a formula, as they are written.
+//! The calls of a typed formula, in the order of the text.
 
-ghost use Rattle.std.specs.Prelude.{◌≡◌, ◌++◌, IfOk, OnOk};
+ghost use Rattle.std.specs.Prelude.{◌≡◌, ◌==◌, ◌++◌, IfOk, OnOk};
 ghost use Rattle.std.specs.List.{list_any};
-ghost use Rattle.pb_text_tree.specs.Form.{formula_form};
-ghost use Rattle.pb_call_places.specs.Calls.{calls_in, is_test, same_place};
+ghost use Rattle.pb_typed_tree.specs.Calls.{call_places, calls};
+ghost use Rattle.pb_typed_tree.specs.View.{formula_view};
+ghost use Rattle.pb_call_places.specs.Calls.{same_place};
 
-use pb_text_tree::{Formula, Place};
+use pb_text_tree::Place;
+use pb_typed_tree::Formula;
 use std::alloc::{AllocError, Global};
 
 /// The places of a formula's calls, in the order in which they are written.
-pub(crate) fn calls_in(alloc: Global, formula: &Formula) -> Result<Vec<Place>, AllocError>
-    ensures { IfOk result (λ places. places.items ≡ calls_in (formula_form formula.now)) }
+pub(crate) fn places_of_calls(alloc: Global, formula: &Formula) -> Result<Vec<Place>, AllocError>
+    ensures { IfOk result (λ places. places.items ≡ call_places formula.now) }
 {
     let mut places = Vec::new(alloc);
     push_calls(formula, &mut places)?;
@@ -19,47 +21,46 @@ pub(crate) fn calls_in(alloc: Global, formula: &Formula) -> Result<Vec<Place>, A
 
 /// Puts the places of a formula's calls behind others.
 fn push_calls(formula: &Formula, places: &mut Vec<Place>) -> Result<(), AllocError>
-    ensures { OnOk result (places.new.items
-        ≡ places.old.items ++ calls_in (formula_form formula.now)) }
+    ensures { OnOk result (places.new.items ≡ places.old.items ++ call_places formula.now) }
 {
     match formula {
-        Formula::Constant { .. } | Formula::Value { .. } => Ok(()),
-        Formula::Instance(call) => {
-            places.push(call.name.place)?;
-            Ok(())
-        }
-        Formula::Negation { operand, .. } => push_calls(operand, places),
+        Formula::Test(_) => Ok(()),
+        Formula::Negation(operand) => push_calls(operand, places),
         Formula::Chain { first, links, .. } => {
             push_calls(first, places)?;
             for link in links.iter() {
-                push_calls(&link.operand, places)?;
+                push_calls(link, places)?;
             }
             Ok(())
         }
         Formula::Quantified { body, .. } => push_calls(body, places),
+        Formula::Call { place, .. } => {
+            places.push(*place)?;
+            Ok(())
+        }
     }
 }
 
 /// Whether a formula has no calls.
 pub(crate) fn is_test(formula: &Formula) -> bool
-    ensures { result ≡ is_test (formula_form formula.now) }
+    ensures { result ≡ (calls (formula_view formula.now) == 0) }
 {
     match formula {
-        Formula::Constant { .. } | Formula::Value { .. } => true,
-        Formula::Instance(_) => false,
-        Formula::Negation { operand, .. } => is_test(operand),
+        Formula::Test(_) => true,
+        Formula::Negation(operand) => is_test(operand),
         Formula::Chain { first, links, .. } => {
             if !is_test(first) {
                 return false;
             }
             for link in links.iter() {
-                if !is_test(&link.operand) {
+                if !is_test(link) {
                     return false;
                 }
             }
             true
         }
         Formula::Quantified { body, .. } => is_test(body),
+        Formula::Call { .. } => false,
     }
 }
 
@@ -72,23 +73,23 @@ pub(crate) fn same_place(left: Place, right: Place) -> bool
 
 /// Whether a formula has a call at a place.
 pub(crate) fn has_call_at(formula: &Formula, place: Place) -> bool
-    ensures { result ≡ list_any (λ p. same_place p place) (calls_in (formula_form formula.now)) }
+    ensures { result ≡ list_any (λ p. same_place p place) (call_places formula.now) }
 {
     match formula {
-        Formula::Constant { .. } | Formula::Value { .. } => false,
-        Formula::Instance(call) => same_place(call.name.place, place),
-        Formula::Negation { operand, .. } => has_call_at(operand, place),
+        Formula::Test(_) => false,
+        Formula::Negation(operand) => has_call_at(operand, place),
         Formula::Chain { first, links, .. } => {
             if has_call_at(first, place) {
                 return true;
             }
             for link in links.iter() {
-                if has_call_at(&link.operand, place) {
+                if has_call_at(link, place) {
                     return true;
                 }
             }
             false
         }
         Formula::Quantified { body, .. } => has_call_at(body, place),
+        Formula::Call { place: own, .. } => same_place(*own, place),
     }
 }

@@ -3,11 +3,11 @@
 #![tactic(auto)]
 
 mod calls;
+mod loops;
 mod made;
 mod named;
-mod parameters;
 mod places;
+mod slots;
 mod sought;
-mod variables;
 
 pub use places::CallPlaces;

@@ -1,23 +1,23 @@
-//! Whether a formula makes the call that is looked for.
+//! Whether a typed formula makes the call that is looked for.
 
-ghost use Rattle.std.specs.Prelude.{◌≡◌, ◌++◌, IfOk, string_bytes};
-ghost use Rattle.pb_text_tree.specs.Form.{formula_form, variable_forms};
+ghost use Rattle.std.specs.Prelude.{◌≡◌};
+ghost use Rattle.pb_text_meaning.specs.Syntax.{Spec};
 ghost use Rattle.pb_text_tree.specs.declared.operator.Quantifier.TheVariants.{Exists};
-ghost use Rattle.pb_text_meaning.specs.Erase.{erased_variables};
-ghost use Rattle.pb_text_meaning.specs.Fits.{FitsFor};
-ghost use Rattle.pb_text_meaning.specs.Value.{quantified};
-ghost use Rattle.pb_evaluation.specs.Quantifier.{variables_of};
-ghost use Rattle.pb_evaluation.specs.Scope.{assignment_of};
-ghost use Rattle.pb_call_places.specs.Calls.{decides, is_deciding_test};
-ghost use Rattle.pb_call_places.specs.Made.{CanMake, is_made, spec_at};
+ghost use Rattle.pb_sorts.specs.Instance.{instance_of};
+ghost use Rattle.pb_typed_tree.specs.Calls.{call_places};
+ghost use Rattle.pb_typed_tree.specs.View.{formula_view, nested};
+ghost use Rattle.pb_evaluation.specs.Slots.{slots_of};
+ghost use Rattle.pb_call_places.specs.Calls.{decides};
+ghost use Rattle.pb_call_places.specs.Made.{is_deciding, made};
+ghost use Rattle.pb_call_places.specs.Sought.{Fits, IsOf, is_made};
 
-use crate::calls::{has_call_at, is_test};
-use crate::named::is_sought;
+use crate::calls::{has_call_at, is_test, same_place};
+use crate::loops::Loops;
+use crate::named::names_instance;
 use crate::sought::Sought;
-use crate::variables::values_of_sort;
-use pb_evaluation::{Scope, formula_truth};
-use pb_text_tree::{Connective, Formula, Name, Variables};
-use std::alloc::AllocError;
+use pb_evaluation::formula_truth;
+use pb_text_tree::Connective;
+use pb_typed_tree::Formula;
 
 /// Whether a left operand of this truth decides what it is connected to.
 fn decides(connective: Connective, left: bool) -> bool
@@ -30,126 +30,105 @@ fn decides(connective: Connective, left: bool) -> bool
 }
 
 /// Whether an operand is a test that decides what it is connected to.
-fn is_deciding_test<'a>(
+fn is_deciding(
     connective: Connective,
-    operand: &'a Formula,
-    scope: &'a Scope<'a>,
-    sought: &Sought<'_, '_>,
-) -> Result<bool, AllocError>
-    requires { CanMake sought.now (assignment_of scope.now) (formula_form operand.now) }
-    ensures { IfOk result (λ deciding. deciding ≡ is_deciding_test (spec_at sought.now)
-        (assignment_of scope.now) connective (formula_form operand.now)) }
+    operand: &Formula,
+    slots: &mut [i64],
+    sought: &Sought<'_>,
+) -> bool
+    requires { Fits sought.now slots.old (formula_view operand.now) }
+    ensures deciding { (spec : Spec) → IsOf sought.now spec → result
+        ≡ is_deciding spec (slots_of slots.old) connective (formula_view operand.now) }
+    ensures kept { slots.new ≡ slots.old }
 {
     if !is_test(operand) {
-        return Ok(false);
+        return false;
     }
-    let holds = formula_truth(operand, scope, &sought.environment)?;
-    Ok(decides(connective, holds))
+    let holds = formula_truth(operand, slots, &sought.environment);
+    decides(connective, holds)
 }
 
-/// Whether a formula makes the call that is looked for.
-///
-/// # Errors
-/// Memory was refused.
+/// Whether a formula makes the call that is looked for. The quantifiers' slots must hold 0, and do
+/// again afterwards.
 #[cycle(made)]
-pub(crate) fn makes_call<'a>(
-    formula: &'a Formula,
-    scope: &'a Scope<'a>,
-    sought: &Sought<'_, '_>,
-) -> Result<bool, AllocError>
-    requires { CanMake sought.now (assignment_of scope.now) (formula_form formula.now) }
-    ensures { IfOk result (λ made. made
-        ≡ is_made sought.now (assignment_of scope.now) (formula_form formula.now)) }
+pub(crate) fn makes_call(formula: &Formula, slots: &mut [i64], sought: &Sought<'_>) -> bool
+    requires { Fits sought.now slots.old (formula_view formula.now) }
+    ensures made { (spec : Spec) → IsOf sought.now spec → result
+        ≡ is_made spec sought.now (slots_of slots.old) formula.now }
+    ensures kept { slots.new ≡ slots.old }
 {
     match formula {
-        Formula::Constant { .. } | Formula::Value { .. } => Ok(false),
-        Formula::Instance(call) => is_sought(call, scope, sought),
-        Formula::Negation { operand, .. } => makes_call(operand, scope, sought),
+        Formula::Test(_) => false,
+        Formula::Negation(operand) => makes_call(operand, slots, sought),
         Formula::Chain {
             connective,
             first,
             links,
         } => {
-            let made = makes_call(first, scope, sought)?;
-            if made {
-                return Ok(true);
+            if makes_call(first, slots, sought) {
+                return true;
             }
-            let mut decided = is_deciding_test(*connective, first, scope, sought)?;
+            let mut decided = is_deciding(*connective, first, slots, sought);
             for link in links.iter() {
                 if decided {
-                    return Ok(false);
+                    return false;
                 }
-                let made = makes_call(&link.operand, scope, sought)?;
-                if made {
-                    return Ok(true);
+                if makes_call(link, slots, sought) {
+                    return true;
                 }
-                decided = is_deciding_test(*connective, &link.operand, scope, sought)?;
+                decided = is_deciding(*connective, link, slots, sought);
             }
-            Ok(false)
+            false
         }
         Formula::Quantified {
-            variables,
+            slot,
+            carriers,
             body,
             ..
         } => {
             if !has_call_at(body, sought.place) {
-                return Ok(false);
+                return false;
             }
-            makes_call_for(variables, body, scope, sought)
+            let loops = Loops {
+                slot: *slot,
+                carriers,
+            };
+            makes_call_for(&loops, body, slots, sought)
+        }
+        Formula::Call {
+            place,
+            equation,
+            arguments,
+        } => {
+            same_place(*place, sought.place)
+                && names_instance(*equation, arguments, slots, sought.called)
         }
     }
 }
 
-/// Whether a formula makes the call for some values of variables.
+/// Whether a formula makes the call for some values of a quantifier's slots.
 #[cycle(made)]
-fn makes_call_for<'a>(
-    groups: &'a [Variables],
-    body: &'a Formula,
-    scope: &'a Scope<'a>,
-    sought: &Sought<'_, '_>,
-) -> Result<bool, AllocError>
-    requires { FitsFor (spec_at sought.now) (erased_variables (variable_forms groups.now))
-        (λ a. CanMake sought.now a (formula_form body.now)) (assignment_of scope.now) }
-    ensures { IfOk result (λ made. made ≡ quantified (spec_at sought.now) Exists
-        (erased_variables (variable_forms groups.now))
-        (λ a. is_made sought.now a (formula_form body.now)) (assignment_of scope.now)) }
+fn makes_call_for(loops: &Loops<'_>, body: &Formula, slots: &mut [i64], sought: &Sought<'_>) -> bool
+    requires { Fits sought.now slots.old
+        (nested Exists loops.now.slot loops.now.carriers.now (formula_view body.now)) }
+    ensures made { (spec : Spec) → IsOf sought.now spec → result
+        ≡ made spec (instance_of sought.now.called.now) sought.now.place (slots_of slots.old)
+        (nested Exists loops.now.slot loops.now.carriers.now (formula_view body.now))
+        (call_places body.now) }
+    ensures kept { slots.new ≡ slots.old }
 {
-    match groups.split_first() {
-        None => makes_call(body, scope, sought),
-        Some((group, rest)) => {
-            makes_call_for_group(&group.names, &group.sort, rest, body, scope, sought)
+    if loops.carriers.is_empty() {
+        return makes_call(body, slots, sought);
+    }
+    loops.start(slots);
+    'tuples: loop {
+        if makes_call(body, slots, sought) {
+            loops.clear(slots);
+            return true;
+        }
+        if !loops.advance(slots) {
+            loops.clear(slots);
+            return false;
         }
     }
-}
-
-/// The same where variables of one sort come first.
-#[cycle(made)]
-fn makes_call_for_group<'a>(
-    names: &'a [Name],
-    sort: &'a Name,
-    rest: &'a [Variables],
-    body: &'a Formula,
-    scope: &'a Scope<'a>,
-    sought: &Sought<'_, '_>,
-) -> Result<bool, AllocError>
-    requires { FitsFor (spec_at sought.now) (variables_of names.now (string_bytes sort.now.text)
-        ++ erased_variables (variable_forms rest.now))
-        (λ a. CanMake sought.now a (formula_form body.now)) (assignment_of scope.now) }
-    ensures { IfOk result (λ made. made ≡ quantified (spec_at sought.now) Exists
-        (variables_of names.now (string_bytes sort.now.text)
-        ++ erased_variables (variable_forms rest.now))
-        (λ a. is_made sought.now a (formula_form body.now)) (assignment_of scope.now)) }
-{
-    let Some((name, names)) = names.split_first() else {
-        return makes_call_for(rest, body, scope, sought);
-    };
-    let values = values_of_sort(sort, sought.environment.declarations);
-    for place in 0..values.count {
-        let inner = Scope::Bound(&name.text, values.at(place), scope);
-        let made = makes_call_for_group(names, sort, rest, body, &inner, sought)?;
-        if made {
-            return Ok(true);
-        }
-    }
-    Ok(false)
 }

@@ -1,58 +1,46 @@
-//! Whether a call is the one that is looked for: it stands at its place, and names its instance.
+//! Whether a call names an instance: it is of its equation, and its arguments have its values.
 
-ghost use Rattle.std.specs.Prelude.{◌≡◌, IfOk};
-ghost use Rattle.pb_text_tree.specs.Form.{FormulaForm, argument_forms, instance_form};
-ghost use Rattle.pb_typing_declarations.specs.View.{spec_of};
-ghost use Rattle.pb_text_meaning.specs.Erase.{erased_arguments};
-ghost use Rattle.pb_text_meaning.specs.Fits.{AllFit};
-ghost use Rattle.pb_text_meaning.specs.Value as meaning;
-ghost use Rattle.pb_evaluation.specs.Scope.{assignment_of};
-ghost use Rattle.pb_call_places.specs.Made.{is_made, spec_at};
+ghost use Rattle.std.specs.Prelude.{◌≡◌, length, map};
+ghost use Rattle.std.specs.Cmp.Lexicographic.{pointwise};
+ghost use Rattle.std.specs.Ordering.{int_eq};
+ghost use Rattle.pb_sorts.specs.Instance.{instance_of};
+ghost use Rattle.pb_typed_tree.specs.Fits.{AllFit};
+ghost use Rattle.pb_typed_tree.specs.View.{argument_view};
+ghost use Rattle.pb_evaluation.specs.Slots.{slots_of};
+ghost use Rattle.pb_call_places.specs.Made.{argument_values, names_instance};
 
-use crate::calls::same_place;
-use crate::sought::Sought;
-use pb_evaluation::{Scope, value};
-use pb_sorts::Tuple;
-use pb_text_tree::{Argument, Instance};
-use pb_typing_declarations::Declarations;
-use std::alloc::AllocError;
+use pb_evaluation::value;
+use pb_sorts::Instance;
+use pb_typed_tree::Argument;
 
-/// Whether a call is the one that is looked for.
-///
-/// # Errors
-/// Memory was refused.
-pub(crate) fn is_sought<'a>(
-    call: &'a Instance,
-    scope: &'a Scope<'a>,
-    sought: &Sought<'_, '_>,
-) -> Result<bool, AllocError>
-    requires { AllFit (spec_at sought.now) (assignment_of scope.now)
-        (erased_arguments (instance_form call.now).arguments) }
-    ensures { IfOk result (λ made. made ≡ is_made sought.now (assignment_of scope.now)
-        (FormulaForm.instance (instance_form call.now))) }
+/// Whether a call of an equation, by its place, with these arguments names an instance.
+pub(crate) fn names_instance(
+    equation: usize,
+    arguments: &[Argument],
+    slots: &[i64],
+    called: &Instance,
+) -> bool
+    requires { AllFit (length slots.now) (slots_of slots.now) (map argument_view arguments.now) }
+    ensures { result ≡ names_instance (slots_of slots.now) equation
+        (map argument_view arguments.now) (instance_of called.now) }
 {
-    if !same_place(call.name.place, sought.place) || call.name.text.as_str() != sought.name {
-        return Ok(false);
-    }
-    let values = values_of(&call.arguments, scope, sought.environment.declarations)?;
-    Ok(values.as_slice() == sought.values)
+    equation == usize::from(called.equation)
+        && have_values(arguments, slots, called.values.as_slice())
 }
 
-/// The values of arguments.
-fn values_of<'a>(
-    arguments: &'a Vec<Argument>,
-    scope: &'a Scope<'a>,
-    declarations: &Declarations<'_>,
-) -> Result<Tuple, AllocError>
-    requires { AllFit (spec_of declarations.now) (assignment_of scope.now)
-        (erased_arguments (argument_forms arguments.now.items)) }
-    ensures { IfOk result (λ values. values.items ≡ meaning.values (spec_of declarations.now)
-        (assignment_of scope.now) (erased_arguments (argument_forms arguments.now.items))) }
+/// Whether arguments have these values, one each.
+fn have_values(arguments: &[Argument], slots: &[i64], values: &[i64]) -> bool
+    requires { AllFit (length slots.now) (slots_of slots.now) (map argument_view arguments.now) }
+    ensures { result ≡ pointwise int_eq (argument_values (slots_of slots.now)
+        (map argument_view arguments.now)) values.now }
 {
-    let mut values = Tuple::new(*arguments.allocator());
-    for argument in arguments {
-        let value = value(&argument.term, scope, declarations)?;
-        values.push(value)?;
+    if arguments.len() != values.len() {
+        return false;
     }
-    Ok(values)
+    for index in 0..arguments.len() {
+        if value(&arguments[index].term, slots) != values[index] {
+            return false;
+        }
+    }
+    true
 }

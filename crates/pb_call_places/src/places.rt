@@ -1,44 +1,43 @@
 //! The places of the calls in a typed text's right sides.
 
 ghost use Rattle.std.specs.Prelude.{◌≡◌, false, replicate};
-ghost use Rattle.pb_text_tree.specs.Form.{spec_form};
-ghost use Rattle.pb_typing_declarations.specs.View.{spec_of, text_of};
 ghost use Rattle.pb_sorts.specs.Layout.{carriers_of, count_of};
-ghost use Rattle.pb_evaluation.specs.Environment.{all_carriers};
 
-use crate::calls::calls_in;
-use crate::parameters::makes_call_at;
+use crate::calls::places_of_calls;
+use crate::made::makes_call;
+use crate::slots::slots_at;
 use crate::sought::Sought;
-use pb_evaluation::{Environment, Scope};
+use pb_evaluation::Environment;
 use pb_sorts::Instance;
-use pb_text_tree::{Equation, Place};
+use pb_text_tree::Place;
+use pb_typed_tree::Formula;
 use pb_typing::Typed;
-use pb_typing_declarations::{Declarations, TypeError};
 use std::alloc::{AllocError, Global};
 
 /// The places of the calls in a typed text's right sides.
 #[derive(Drop)]
 pub struct CallPlaces<'a> {
     typed: &'a Typed,
-    declarations: Declarations<'a>,
+    /// No instance holds where tests are evaluated.
     truths: Vec<bool>,
-    pub ghost said: { ∥ text_of declarations ≡ spec_form typed.now.spec ∥₁ },
-    pub ghost laid_out: { carriers_of typed.now.layout ≡ all_carriers (spec_of declarations) },
     pub ghost nothing_holds: { truths.items ≡ replicate (count_of typed.now.layout) false },
 }
 
 impl<'a> CallPlaces<'a> {
-    ghost use Rattle.std.specs.Prelude.{true, [], IfOk};
-    ghost use Rattle.pb_text_tree.specs.Form.{equation_form};
-    ghost use Rattle.pb_text_meaning.specs.Erase.{erased_formula, erased_variables};
-    ghost use Rattle.pb_text_meaning.specs.Fits.{FormulaFits};
-    ghost use Rattle.pb_text_meaning.specs.Meaning.{assigned};
+    ghost use Rattle.std.specs.Prelude.{true, length, IfOk};
+    ghost use Rattle.pb_text_tree.specs.Form.{spec_form};
+    ghost use Rattle.pb_text_meaning.specs.Syntax.{Spec};
     ghost use Rattle.pb_sorts.specs.Instance.{instance_of, is_instance};
-    ghost use Rattle.pb_call_places.specs.Calls.{call_place, first_call};
-    ghost use Rattle.pb_call_places.specs.Made.{instance_sought, spec_at};
-    ghost use Rattle.pb_call_places.specs.View.{declared_by, layout_of, said_by};
+    ghost use Rattle.pb_typed_tree.specs.Calls.{call_places};
+    ghost use Rattle.pb_typed_tree.specs.Fits.{FormulaFits};
+    ghost use Rattle.pb_typed_tree.specs.View.{formula_view};
+    ghost use Rattle.pb_evaluation.specs.Environment.{IsLaidOut};
+    ghost use Rattle.pb_evaluation.specs.Slots.{slots_of};
+    ghost use Rattle.pb_call_places.specs.Calls.{call_place};
+    ghost use Rattle.pb_call_places.specs.Made.{first_made};
+    ghost use Rattle.pb_call_places.specs.View.{layout_of, said_by};
 
-    /// Reads what a text declares, once for all its calls.
+    /// Makes ready what the places of all calls need.
     ///
     /// # Errors
     /// Memory was refused.
@@ -47,16 +46,7 @@ impl<'a> CallPlaces<'a> {
         ensures layout { IfOk result (λ places. layout_of places ≡ typed.now.layout) }
     {
         let truths = vec![in alloc; false; typed.layout.count() as usize]?;
-        match Declarations::read(alloc, &typed.spec) {
-            Ok(declarations) => Ok(CallPlaces {
-                typed,
-                declarations,
-                truths,
-            }),
-            Err(TypeError::Memory) => Err(AllocError),
-            // Nothing that is declared is at fault.
-            Err(TypeError::At(_)) => unreachable!(),
-        }
+        Ok(CallPlaces { typed, truths })
     }
 
     /// The place of the first call by which the caller's right side names the called instance;
@@ -77,65 +67,51 @@ impl<'a> CallPlaces<'a> {
         ensures { IfOk result (λ place. place
             ≡ call_place (said_by self.now) (instance_of caller.now) (instance_of called.now)) }
     {
-        let equations = &self.typed.spec.equations;
+        let equations = &self.typed.equations;
         let Some(equation) = equations.get(usize::from(caller.equation)) else {
             return Ok(None);
         };
-        let Some(named) = equations.get(usize::from(called.equation)) else {
+        if usize::from(called.equation) >= equations.len() {
             return Ok(None);
-        };
-        self.first_call(alloc, equation, &caller.values, named, &called.values)
+        }
+        let mut slots = slots_at(alloc, caller.values.as_slice(), &equation.loops)?;
+        self.first_call(alloc, &equation.right, &mut slots, called)
     }
 
-    /// The place of the first call by which an equation's right side, where its parameters have
-    /// values, names the instance of an equation with values.
+    /// The place of the first call by which a right side, over these slots, names an instance.
     fn first_call<'b>(
         &'b self,
         alloc: Global,
-        equation: &'b Equation,
-        values: &[i64],
-        named: &'b Equation,
-        called: &'b [i64],
+        right: &Formula,
+        slots: &mut [i64],
+        called: &'b Instance,
     ) -> Result<Option<Place>, AllocError>
-        requires { FormulaFits (declared_by self.now)
-            (assigned (erased_variables (equation_form equation.now).parameters) values.now [])
-            (erased_formula (equation_form equation.now).right) }
-        ensures { IfOk result (λ place. place ≡ first_call (declared_by self.now)
-            (record { name = (equation_form named.now).name.text; values = called.now })
-            (assigned (erased_variables (equation_form equation.now).parameters) values.now [])
-            (equation_form equation.now).right) }
+        requires { FormulaFits (length (layout_of self.now)) (length slots.old)
+            (slots_of slots.old) (formula_view right.now) }
+        ensures { (spec : Spec) → IsLaidOut spec (layout_of self.now) → IfOk result (λ place. place
+            ≡ first_made spec (instance_of called.now) (slots_of slots.old)
+            (formula_view right.now) (call_places right.now)) }
     {
-        let calls = calls_in(alloc, &equation.right)?;
+        let calls = places_of_calls(alloc, right)?;
         for place in &calls {
-            let sought = self.sought(*place, named, called);
-            let made = makes_call_at(
-                &equation.parameters,
-                values,
-                &equation.right,
-                &Scope::Outermost,
-                &sought,
-            )?;
-            if made {
+            let sought = self.sought(*place, called);
+            if makes_call(right, slots, &sought) {
                 return Ok(Some(*place));
             }
         }
         Ok(None)
     }
 
-    /// The call at a place by which an instance is named. Where its text is evaluated, nothing
-    /// holds.
-    fn sought<'b>(&'b self, place: Place, named: &'b Equation, called: &'b [i64]) -> Sought<'b, 'a>
-        ensures text { spec_at result ≡ declared_by self.now }
+    /// The call at a place by which an instance is named.
+    fn sought<'b>(&'b self, place: Place, called: &'b Instance) -> Sought<'b>
         ensures place { result.place ≡ place }
-        ensures instance { instance_sought result
-            ≡ record { name = (equation_form named.now).name.text; values = called.now } }
+        ensures called { result.called.now ≡ called.now }
+        ensures layout { result.environment.layout.now ≡ layout_of self.now }
     {
         Sought {
             place,
-            name: &named.name.text,
-            values: called,
+            called,
             environment: Environment {
-                declarations: &self.declarations,
                 layout: &self.typed.layout,
                 truths: &self.truths,
             },

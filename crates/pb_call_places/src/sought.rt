@@ -1,21 +1,18 @@
 //! A call that is looked for.
 
-ghost use Rattle.std.specs.Prelude.{◌≡◌};
-ghost use Rattle.pb_fixpoint.specs.Solution.{empty};
-ghost use Rattle.pb_typing_declarations.specs.View.{spec_of};
-ghost use Rattle.pb_evaluation.specs.Environment.{environment_of};
+ghost use Rattle.std.specs.Prelude.{◌≡◌, false, replicate};
+ghost use Rattle.pb_sorts.specs.Layout.{count_of};
 
 use pb_evaluation::Environment;
+use pb_sorts::Instance;
 use pb_text_tree::Place;
 
-/// A call at a place that names an instance, by the name of its equation and its values. Tests are
-/// evaluated under the empty environment.
+/// A call at a place that names an instance. Tests are evaluated where nothing holds.
 #[derive(Clone, Copy)]
-pub(crate) struct Sought<'a, 'd> {
+pub(crate) struct Sought<'a> {
     pub place: Place,
-    pub name: &'a str,
-    pub values: &'a [i64],
-    pub environment: Environment<'a, 'd>,
-    pub ghost nothing_holds: { environment_of (spec_of environment.declarations.now)
-        environment.truths.now ≡ empty },
+    pub called: &'a Instance,
+    pub environment: Environment<'a>,
+    pub ghost nothing_holds: { environment.truths.now
+        ≡ replicate (count_of environment.layout.now) false },
 }

@@ -1,294 +1,314 @@
-use Rattle.std.proofs.Common.{rules, false, ◌≡◌, ◌∙◌, ◌++◌, ◌∷◌, ◌&&◌, ◌||◌, ◌+◌, IfOk, Bool, not, List, ℕ, ℤ, length, drop, sym, ap, refl, subst, arith, string_bytes, SFits, w64, to_z, of_z, to_z-of_z}
-use Rattle.pb_text_tree.specs.declared.name.Name.{Name}
-use Rattle.pb_text_tree.specs.declared.formula.Formula.{Formula}
-use Rattle.pb_text_tree.specs.declared.formula.Link.{Link}
+use Rattle.std.proofs.Common.{◌≡◌, ◌∙◌, ◌+◌, ◌≤◌, not, ◌&&◌, ◌||◌, Bool, true, false, List, length}
+use Rattle.std.proofs.Common.{map, pos, sym, ap, subst, arith, rules}
+use Rattle.std.proofs.lemmas.Bool.{eqb-false}
+use Rattle.std.proofs.lemmas.List.{length-map}
+use Rattle.pb_carriers.specs.Carrier.{Tuple, Value}
+use Rattle.pb_sorts.specs.Instance.{instance_of}
+use Rattle.pb_sorts.specs.declared.carrier.Carrier.{Carrier}
 use Rattle.pb_text_tree.specs.declared.operator.Quantifier.TheVariants.{Exists}
-use Rattle.pb_text_tree.specs.Form.{FormulaForm, formula_form, variable_forms}
-use Rattle.pb_text_tree.proofs.FormLemmas.{formula-chain}
-use Rattle.pb_carriers.specs.Carrier.{Value}
-use Rattle.pb_text_meaning.specs.Erase.{erased_formula, erased_variables}
-use Rattle.pb_text_meaning.specs.Sorts.{carrier_of}
-use Rattle.pb_text_meaning.specs.Syntax.{Variable}
-use Rattle.pb_text_meaning.specs.Value.{Assignment, of_values, quantified}
-use Rattle.pb_text_meaning.specs.Fits.{FitsFor, FormulaFits}
-use Rattle.pb_evaluation.specs.Quantifier.{variables_of}
-use Rattle.pb_evaluation.specs.Scope.{assignment_of}
-use Rattle.pb_evaluation.proofs.Weight.{groups_weight}
-use Rattle.pb_evaluation.proofs.FormulaWeight.{weight, weight-chain, links_weight, link_lighter}
-use Rattle.pb_evaluation.proofs.FormulaLinks.{LinksFit, fits-chained, link_fits}
-use Rattle.pb_evaluation.proofs.Numbers.{number_contained}
-use Rattle.pb_evaluation.proofs.Quantified.{first_group, over, over_end}
-use Rattle.pb_call_places.specs.Calls.{calls_in}
-use Rattle.pb_call_places.specs.Made.{CanMake, instance_sought, is_made, spec_at}
-use Rattle.pb_call_places.proofs.ChainMade.{behind, goes_on, is_deciding, links_make, links_make-at, made-chain, makes, none_left, nothing_made}
-use Rattle.pb_call_places.proofs.NoCall.{any_at, no_call_made}
-use Rattle.pb_call_places.proofs.Values.{at_place, from_first}
+use Rattle.pb_typed_tree.specs.Calls.{call_places}
+use Rattle.pb_typed_tree.specs.Fits.{FormulaFits}
+use Rattle.pb_typed_tree.specs.Tree as tree
+use Rattle.pb_typed_tree.specs.View.{formula_view, nested}
+use Rattle.pb_typed_tree.specs.declared.formula.Formula.{Formula}
+use Rattle.pb_typed_tree.proofs.FormulaWeight.{links_weight, operand_lighter, weight, weight-chain}
+use Rattle.pb_typed_tree.proofs.Views.{formula-chain}
+use Rattle.pb_evaluation.specs.Slots.{slots_of}
+use Rattle.pb_evaluation.proofs.Nested.{room}
+use Rattle.pb_call_places.specs.Loops.{Holds, holding}
+use Rattle.pb_call_places.specs.Made.{is_deciding, made}
+use Rattle.pb_call_places.specs.Sought.{is_made}
+use Rattle.pb_call_places.proofs.ChainMade.{LinksFit, fits-chained, link-fits, links_make}
+use Rattle.pb_call_places.proofs.ChainMade.{made-chain}
+use Rattle.pb_call_places.proofs.Holding.{tuple-length}
+use Rattle.pb_call_places.proofs.Truths.{goes_on, makes}
+use Rattle.pb_call_places.proofs.TuplesMade.{any-quantifier-fits, any-quantifier-makes, begun}
+use Rattle.pb_call_places.proofs.TuplesMade.{body-fits, cleared, fewer-left, has-room, is-made}
+use Rattle.pb_call_places.proofs.TuplesMade.{is-unmade, next-tuple}
+use Rattle.pb_call_places.proofs.Unmade.{any_at, nothing_made}
 use Rattle.pb_call_places.proofs.made.+made.Goals as goal
 
 -- ---- chains
 
 pub makes_call-makes_call-requires-in-Chain : goal.makes_call-makes_call-requires-in-Chain
 makes_call-makes_call-requires-in-Chain t c =
-    let s = c.args.sought.now in
-    let a = assignment_of c.args.scope.now in
+    let k = length c.args.sought.now.environment.layout.now in
+    let n = length c.args.slots.now in
+    let a = slots_of c.args.slots.now in
     let o = c.in-Chain.connective in
     let f = c.in-Chain.first in
-    let is = ap formula_form c.in-Chain.is ∙ formula-chain o f c.in-Chain.links in
-    let fit = fits-chained (spec_at s) a o (formula_form f.value) c.in-Chain.links.items (subst (λ (x : FormulaForm). FormulaFits (spec_at s) a (erased_formula x)) is c.requires) in
-    (omega (arith, c.decreases, ap weight c.in-Chain.is ∙ weight-chain o f c.in-Chain.links, ap weight c.deref-in-Chain.ensures), subst (λ (x : Formula). CanMake s a (formula_form x)) (sym c.deref-in-Chain.ensures) fit.0)
+    let v = c.in-Chain.links in
+    let is = ap formula_view c.in-Chain.is ∙ formula-chain o f v in
+    let all = subst (λ (x : tree.Formula). FormulaFits k n a x) is c.requires in
+    let fits = fits-chained k n a o (formula_view f.value) v.items all in (
+      omega (
+        arith,
+        c.decreases,
+        ap weight c.in-Chain.is
+            ∙ weight-chain o f v,
+        ap weight c.deref-in-Chain.ensures,
+      ),
+      subst (λ (g : Formula). FormulaFits k n a (formula_view g))
+          (sym c.deref-in-Chain.ensures) fits.0,
+    )
 
-pub makes_call-returns-then-made : goal.makes_call-returns-then-made
-makes_call-returns-then-made t c =
+pub makes_call-returns-then-makes_call-clause-made : goal.makes_call-returns-then-makes_call-clause-made
+makes_call-returns-then-makes_call-clause-made t c = λ spec of.
     let s = c.args.sought.now in
-    let a = assignment_of c.args.scope.now in
+    let a = slots_of c.args.slots.now in
     let o = c.in-Chain.connective in
     let f = c.in-Chain.first in
-    let made = c.in_ok-made-in-Chain.made in
-    let rest = not (is_deciding s a o (formula_form f.value)) && links_make s a o c.in-Chain.links.items in
-    let all = is_made s a (formula_form c.args.formula.now) in
-    let made_is : made ≡ is_made s a (formula_form f.value) = c.in_ok-made-in-Chain.ensures ∙ ap (λ (g : Formula). is_made s a (formula_form g)) c.deref-in-Chain.ensures in
-    let split : all ≡ made || rest = made-chain s a c.args.formula.now o f c.in-Chain.links c.in-Chain.is ∙ ap (λ (b : Bool). b || rest) (sym made_is) in
-    makes made rest all split c.if-made.true
+    let v = c.in-Chain.links in
+    let here = c.makes_call-in-Chain.result in
+    let here_is = c.makes_call-in-Chain.ensures.made spec of ∙ ap
+    (is_made spec s a) c.deref-in-Chain.ensures in
+    let rest = not (is_deciding spec a o (formula_view f.value)) && links_make spec s a o v.items in
+    makes here rest (is_made spec s a c.args.formula.now)
+    (made-chain spec s a o c.args.formula.now f v c.in-Chain.is ∙ ap (λ (b : Bool). b || rest)
+    (sym here_is))
+    c.if-makes_call.true
 
-pub makes_call-is_deciding_test-requires : goal.makes_call-is_deciding_test-requires
-makes_call-is_deciding_test-requires t c =
-    let s = c.args.sought.now in
-    let a = assignment_of c.args.scope.now in
+pub makes_call-is_deciding-decided-requires : goal.makes_call-is_deciding-decided-requires
+makes_call-is_deciding-decided-requires t c =
+    let k = length c.args.sought.now.environment.layout.now in
+    let n = length c.args.slots.now in
+    let a = slots_of c.args.slots.now in
     let o = c.in-Chain.connective in
     let f = c.in-Chain.first in
-    let is = ap formula_form c.in-Chain.is ∙ formula-chain o f c.in-Chain.links in
-    let fit = fits-chained (spec_at s) a o (formula_form f.value) c.in-Chain.links.items (subst (λ (x : FormulaForm). FormulaFits (spec_at s) a (erased_formula x)) is c.requires) in
-    subst (λ (x : Formula). CanMake s a (formula_form x)) (sym c.deref-in-Chain-2.ensures) fit.0
+    let v = c.in-Chain.links in
+    let is = ap formula_view c.in-Chain.is ∙ formula-chain o f v in
+    let all = subst (λ (x : tree.Formula). FormulaFits k n a x) is c.requires in
+    let fits = fits-chained k n a o (formula_view f.value) v.items all in
+    subst (λ (vs : Tuple). FormulaFits k (length vs) (slots_of vs)
+    (formula_view c.deref-in-Chain-2.result.now))
+    (sym c.makes_call-in-Chain.ensures.kept)
+    (subst (λ (g : Formula). FormulaFits k n a (formula_view g))
+    (sym c.deref-in-Chain-2.ensures) fits.0)
 
 pub makes_call-loop-link-init : goal.makes_call-loop-link-init
-makes_call-loop-link-init t c =
-    let s = c.args.sought.now in
-    let a = assignment_of c.args.scope.now in
-    let o = c.in-Chain.connective in
-    let f = c.in-Chain.first in
-    let made = c.in_ok-made-in-Chain.made in
-    let rest = not (is_deciding s a o (formula_form f.value)) && links_make s a o c.in-Chain.links.items in
-    let all = is_made s a (formula_form c.args.formula.now) in
-    let made_is : made ≡ is_made s a (formula_form f.value) = c.in_ok-made-in-Chain.ensures ∙ ap (λ (g : Formula). is_made s a (formula_form g)) c.deref-in-Chain.ensures in
-    let split : all ≡ made || rest = made-chain s a c.args.formula.now o f c.in-Chain.links c.in-Chain.is ∙ ap (λ (b : Bool). b || rest) (sym made_is) in
-    let decided = c.in_ok-decided-in-Chain.decided in
-    let decided_is : decided ≡ is_deciding s a o (formula_form f.value) = c.in_ok-decided-in-Chain.ensures ∙ ap (λ (g : Formula). is_deciding s a o (formula_form g)) c.deref-in-Chain-2.ensures in
-    ap (λ (ls : List Link). not decided && links_make s a o ls) c.deref-link-items.ensures.value
-    ∙ (ap (λ (d : Bool). not d && links_make s a o c.in-Chain.links.items) decided_is ∙ goes_on made rest all split c.if-made.false)
+makes_call-loop-link-init t c = (
+  c.is_deciding-decided.ensures.kept ∙ c.makes_call-in-Chain.ensures.kept,
+  λ spec of.
+      let s = c.args.sought.now in
+      let a = slots_of c.args.slots.now in
+      let o = c.in-Chain.connective in
+      let f = c.in-Chain.first in
+      let v = c.in-Chain.links in
+      let here = c.makes_call-in-Chain.result in
+      let here_is = c.makes_call-in-Chain.ensures.made spec of ∙ ap
+      (is_made spec s a) c.deref-in-Chain.ensures in
+      let rest = not (is_deciding spec a o
+      (formula_view f.value)) && links_make spec s a o v.items in
+      let decided = c.is_deciding-decided.result in
+      let decided_is =
+      c.is_deciding-decided.ensures.deciding spec of
+      ∙ (ap (λ (vs : Tuple). is_deciding spec (slots_of vs) o
+      (formula_view c.deref-in-Chain-2.result.now)) c.makes_call-in-Chain.ensures.kept
+      ∙ ap (λ (g : Formula). is_deciding spec a o (formula_view g)) c.deref-in-Chain-2.ensures) in
+      ap (λ (fs : List Formula). not decided && links_make spec s a o fs) c.deref-link-items.ensures.value
+      ∙ (ap (λ (d : Bool). not d && links_make spec s a o v.items) decided_is
+      ∙ goes_on here rest (is_made spec s a c.args.formula.now)
+      (made-chain spec s a o c.args.formula.now f v c.in-Chain.is ∙ ap (λ (b : Bool). b || rest)
+      (sym here_is))
+      c.if-makes_call.false),
+)
 
 pub makes_call-makes_call-requires-in-loop-link : goal.makes_call-makes_call-requires-in-loop-link
 makes_call-makes_call-requires-in-loop-link t c =
-    let s = c.args.sought.now in
-    let a = assignment_of c.args.scope.now in
+    let k = length c.args.sought.now.environment.layout.now in
+    let n = length c.args.slots.now in
+    let a = slots_of c.args.slots.now in
     let o = c.in-Chain.connective in
     let f = c.in-Chain.first in
-    let is = ap formula_form c.in-Chain.is ∙ formula-chain o f c.in-Chain.links in
-    let fit = fits-chained (spec_at s) a o (formula_form f.value) c.in-Chain.links.items (subst (λ (x : FormulaForm). FormulaFits (spec_at s) a (erased_formula x)) is c.requires) in
-    let at = c.link-item.is in
-    let here = link_fits (spec_at s) a c.deref-link-items.result.now c.loop-link.link-index c.link-item.result (subst (LinksFit (spec_at s) a) (sym c.deref-link-items.ensures.value) fit.1) c.loop-link-test.true at in
-    (omega (arith, c.decreases, ap weight c.in-Chain.is ∙ weight-chain o f c.in-Chain.links, ap links_weight c.deref-link-items.ensures.value, link_lighter c.deref-link-items.result.now c.loop-link.link-index c.link-item.result c.loop-link-test.true at), here)
-
-pub makes_call-returns-then-decided : goal.makes_call-returns-then-decided
-makes_call-returns-then-decided t c =
-    let s = c.args.sought.now in
-    let a = assignment_of c.args.scope.now in
-    let o = c.in-Chain.connective in
-    let links = c.deref-link-items.result.now in
-    let k = c.loop-link.link-index in
+    let v = c.in-Chain.links in
+    let fs = c.deref-link-items.result.now in
+    let j = c.loop-link.link-index in
     let link = c.link-item.result in
-    let all = is_made s a (formula_form c.args.formula.now) in
-    nothing_made c.loop-link.decided (links_make s a o (drop k links)) all c.loop-link.invariant c.if-decided.true
+    let is = ap formula_view c.in-Chain.is ∙ formula-chain o f v in
+    let all = subst (λ (x : tree.Formula). FormulaFits k n a x) is c.requires in
+    let fits = fits-chained k n a o (formula_view f.value) v.items all in
+    let links = subst (LinksFit k n a) (sym c.deref-link-items.ensures.value) fits.1 in (
+      omega (
+        arith,
+        c.decreases,
+        ap weight c.in-Chain.is
+            ∙ weight-chain o f v,
+        ap links_weight c.deref-link-items.ensures.value,
+        operand_lighter fs j link c.loop-link-test.true c.link-item.is,
+      ),
+      subst (λ (vs : Tuple). FormulaFits k (length vs) (slots_of vs) (formula_view link))
+          (sym c.loop-link.invariant.0)
+          (link-fits k n a fs j link links c.loop-link-test.true c.link-item.is),
+    )
 
-pub makes_call-returns-then-made-2 : goal.makes_call-returns-then-made-2
-makes_call-returns-then-made-2 t c =
-    let s = c.args.sought.now in
-    let a = assignment_of c.args.scope.now in
-    let o = c.in-Chain.connective in
-    let links = c.deref-link-items.result.now in
-    let k = c.loop-link.link-index in
-    let link = c.link-item.result in
-    let all = is_made s a (formula_form c.args.formula.now) in
-    let made = c.in_ok-made-in-Chain-2.made in
-    let rest = not (is_deciding s a o (formula_form link.operand)) && links_make s a o (drop (k + 1) links) in
-    let split : all ≡ made || rest =
-    behind c.loop-link.decided (links_make s a o (drop k links)) all c.loop-link.invariant c.if-decided.false
-    ∙ (links_make-at s a o links k link c.loop-link-test.true c.link-item.is ∙ ap (λ (b : Bool). b || rest) (sym c.in_ok-made-in-Chain-2.ensures)) in
-    makes made rest all split c.if-made-2.true
-
-pub makes_call-is_deciding_test-requires-in-loop-link : goal.makes_call-is_deciding_test-requires-in-loop-link
-makes_call-is_deciding_test-requires-in-loop-link t c =
-    let s = c.args.sought.now in
-    let a = assignment_of c.args.scope.now in
+pub makes_call-is_deciding-decided-requires-in-loop-link : goal.makes_call-is_deciding-decided-requires-in-loop-link
+makes_call-is_deciding-decided-requires-in-loop-link t c =
+    let k = length c.args.sought.now.environment.layout.now in
+    let n = length c.args.slots.now in
+    let a = slots_of c.args.slots.now in
     let o = c.in-Chain.connective in
     let f = c.in-Chain.first in
-    let is = ap formula_form c.in-Chain.is ∙ formula-chain o f c.in-Chain.links in
-    let fit = fits-chained (spec_at s) a o (formula_form f.value) c.in-Chain.links.items (subst (λ (x : FormulaForm). FormulaFits (spec_at s) a (erased_formula x)) is c.requires) in
-    let at = c.link-item.is in
-    let here = link_fits (spec_at s) a c.deref-link-items.result.now c.loop-link.link-index c.link-item.result (subst (LinksFit (spec_at s) a) (sym c.deref-link-items.ensures.value) fit.1) c.loop-link-test.true at in
-    here
-
-pub makes_call-loop-link-preserved : goal.makes_call-loop-link-preserved
-makes_call-loop-link-preserved t c =
-    let s = c.args.sought.now in
-    let a = assignment_of c.args.scope.now in
-    let o = c.in-Chain.connective in
-    let links = c.deref-link-items.result.now in
-    let k = c.loop-link.link-index in
+    let v = c.in-Chain.links in
+    let fs = c.deref-link-items.result.now in
     let link = c.link-item.result in
-    let all = is_made s a (formula_form c.args.formula.now) in
-    let made = c.in_ok-made-in-Chain-2.made in
-    let rest = not (is_deciding s a o (formula_form link.operand)) && links_make s a o (drop (k + 1) links) in
-    let split : all ≡ made || rest =
-    behind c.loop-link.decided (links_make s a o (drop k links)) all c.loop-link.invariant c.if-decided.false
-    ∙ (links_make-at s a o links k link c.loop-link-test.true c.link-item.is ∙ ap (λ (b : Bool). b || rest) (sym c.in_ok-made-in-Chain-2.ensures)) in
-    ap (λ (d : Bool). not d && links_make s a o (drop (k + 1) links)) c.in_ok-decided-in-Chain-2.ensures ∙ goes_on made rest all split c.if-made-2.false
-
-pub makes_call-returns-after-loop-link : goal.makes_call-returns-after-loop-link
-makes_call-returns-after-loop-link t c =
-    let s = c.args.sought.now in
-    let a = assignment_of c.args.scope.now in
-    let o = c.in-Chain.connective in
-    let links = c.deref-link-items.result.now in
-    let k = c.loop-link.link-index in
-    let all = is_made s a (formula_form c.args.formula.now) in
-    none_left s a o links k c.loop-link.decided all (omega arith) c.loop-link.invariant
+    let is = ap formula_view c.in-Chain.is ∙ formula-chain o f v in
+    let all = subst (λ (x : tree.Formula). FormulaFits k n a x) is c.requires in
+    let fits = fits-chained k n a o (formula_view f.value) v.items all in
+    let links = subst (LinksFit k n a) (sym c.deref-link-items.ensures.value) fits.1 in
+    subst (λ (vs : Tuple). FormulaFits k (length vs) (slots_of vs) (formula_view link))
+    (sym (c.makes_call-in-loop-link.ensures.kept ∙ c.loop-link.invariant.0))
+    (link-fits k n a fs c.loop-link.link-index link links c.loop-link-test.true c.link-item.is)
 
 -- ---- quantifiers
 
-pub makes_call-returns-then-not-has_call_at : goal.makes_call-returns-then-not-has_call_at
-makes_call-returns-then-not-has_call_at t c =
+pub makes_call-returns-then-not-has_call_at-clause-made : goal.makes_call-returns-then-not-has_call_at-clause-made
+makes_call-returns-then-not-has_call_at-clause-made t c = λ spec of.
     let s = c.args.sought.now in
-    let a = assignment_of c.args.scope.now in
     let f = c.args.formula.now in
     let is_false : c.has_call_at.result ≡ false = search rules in
-    let no_call = ap (λ (g : Formula). any_at s.place (calls_in (formula_form g))) c.in-Quantified.is
-    ∙ (ap (λ (g : Formula). any_at s.place (calls_in (formula_form g))) (sym c.deref-in-Quantified.ensures) ∙ (sym c.has_call_at.ensures ∙ is_false)) in
-    sym (no_call_made (spec_at s) (instance_sought s) s.place (formula_form f) no_call a)
+    let any : Formula → Bool = λ g. any_at s.place (call_places g) in
+    let no_call = ap any c.in-Quantified.is ∙ (ap any (sym c.deref-in-Quantified.ensures)
+    ∙ (sym c.has_call_at.ensures ∙ is_false)) in
+    sym (nothing_made spec (instance_of s.called.now) s.place (slots_of c.args.slots.now)
+    (formula_view f) (call_places f) no_call)
 
-pub makes_call_for-makes_call_for_group-requires : goal.makes_call_for-makes_call_for_group-requires
-makes_call_for-makes_call_for_group-requires t c =
-    let s = c.args.sought.now in
-    let a = assignment_of c.args.scope.now in
-    let S = spec_at s in
-    let group = c.in-Some.group.now in
-    let rest = c.in-Some.rest.now in
-    let first = first_group c.args.groups.now group rest c.deref.result.now (string_bytes group.sort.text) c.in-Some.ensures.cases.0 c.deref.ensures.value refl in (
-      omega (arith, c.decreases, ap groups_weight c.in-Some.ensures.cases.0, ap (λ (ns : List Name). length ns) c.deref.ensures.value),
-      subst (λ (xs : List Variable). FitsFor S xs (λ b. CanMake s b (formula_form c.args.body.now)) a) first c.requires,
+pub makes_call-makes_call_for-requires : goal.makes_call-makes_call_for-requires
+makes_call-makes_call_for-requires t c =
+    let k = length c.args.sought.now.environment.layout.now in
+    let n = length c.args.slots.now in
+    let a = slots_of c.args.slots.now in
+    let slot = c.in-Quantified.slot in
+    let cs = c.in-Quantified.carriers.items in
+    let body = c.in-Quantified.body in
+    let whole = subst (λ (g : Formula). FormulaFits k n a
+    (formula_view g)) c.in-Quantified.is c.requires in
+    let fits = any-quantifier-fits k n c.in-Quantified.quantifier Exists slot cs
+    (formula_view body.value) a whole in (
+      omega (arith, c.decreases, ap weight c.in-Quantified.is, ap weight c.deref-in-Quantified-3.ensures),
+      subst (λ (ds : List Carrier). FormulaFits k n a (nested Exists slot ds
+          (formula_view c.deref-in-Quantified-3.result.now)))
+          (sym c.deref-in-Quantified-2.ensures.value)
+          (subst (λ (g : Formula). FormulaFits k n a (nested Exists slot cs (formula_view g)))
+          (sym c.deref-in-Quantified-3.ensures) fits),
     )
 
-pub makes_call_for-returns-in-Some : goal.makes_call_for-returns-in-Some
-makes_call_for-returns-in-Some t c =
+pub makes_call-returns-else-not-has_call_at-clause-made : goal.makes_call-returns-else-not-has_call_at-clause-made
+makes_call-returns-else-not-has_call_at-clause-made t c = λ spec of.
     let s = c.args.sought.now in
-    let a = assignment_of c.args.scope.now in
-    let S = spec_at s in
-    let group = c.in-Some.group.now in
-    let rest = c.in-Some.rest.now in
-    let first = first_group c.args.groups.now group rest c.deref.result.now (string_bytes group.sort.text) c.in-Some.ensures.cases.0 c.deref.ensures.value refl in
-    subst (λ (xs : List Variable). IfOk c.makes_call_for_group.result (λ made. made ≡ quantified S Exists xs (λ b. is_made s b (formula_form c.args.body.now)) a)) (sym first) c.makes_call_for_group.ensures
+    let a = slots_of c.args.slots.now in
+    let i = instance_of s.called.now in
+    let slot = c.in-Quantified.slot in
+    let cs = c.in-Quantified.carriers.items in
+    let body = c.in-Quantified.body.value in
+    let one : List Carrier → Formula → Bool = λ ds g. made spec i s.place a (nested Exists slot ds
+    (formula_view g)) (call_places g) in
+    c.makes_call_for.ensures.made spec of
+    ∙ (ap (λ (ds : List Carrier). one ds c.deref-in-Quantified-3.result.now) c.deref-in-Quantified-2.ensures.value
+    ∙ (ap (one cs) c.deref-in-Quantified-3.ensures
+    ∙ (any-quantifier-makes spec i s.place Exists c.in-Quantified.quantifier slot cs
+    (formula_view body) (call_places body) a
+    ∙ ap (is_made spec s a) (sym c.in-Quantified.is))))
 
-pub makes_call_for_group-loop-place-init : goal.makes_call_for_group-loop-place-init
-makes_call_for_group-loop-place-init t c =
-    let s = c.args.sought.now in
-    let a = assignment_of c.args.scope.now in
-    let S = spec_at s in
-    let sort = string_bytes c.args.sort.now.text in
-    let name = c.in-Some.name.now in
-    let names = c.in-Some.names.now in
-    let rest = erased_variables (variable_forms c.args.rest.now) in
-    let m : Assignment → Bool = λ b. is_made s b (formula_form c.args.body.now) in
-    let p : Value → Bool = λ v. quantified S Exists (variables_of names sort ++ rest) m ((string_bytes name.text, v) ∷ a) in
-    let least = c.values_of_sort-values.result.least in
-    let n = c.values_of_sort-values.result.count in
-    from_first p least n
-    ∙ (ap (of_values Exists p) (sym c.values_of_sort-values.ensures)
-    ∙ ap (λ (ns : List Name). quantified S Exists (variables_of ns sort ++ rest) m a) (sym c.in-Some.ensures.cases.0))
+pub makes_call_for-start-requires : goal.makes_call_for-start-requires
+makes_call_for-start-requires t c =
+    let l = c.args.loops.now in
+    let k = length c.args.sought.now.environment.layout.now in
+    let has = room k (length c.args.slots.now) Exists
+    (formula_view c.args.body.now) l.carriers.now l.slot (slots_of c.args.slots.now) c.requires in
+    let g = c.if-is_empty.ensures in
+    let some = eqb-false (length l.carriers.now) 0 (sym g) in
+    has.within (omega (arith, some))
 
-pub makes_call_for_group-makes_call_for_group-requires : goal.makes_call_for_group-makes_call_for_group-requires
-makes_call_for_group-makes_call_for_group-requires t c =
-    let s = c.args.sought.now in
-    let a = assignment_of c.args.scope.now in
-    let S = spec_at s in
-    let sort = string_bytes c.args.sort.now.text in
-    let name = c.in-Some.name.now in
-    let names = c.in-Some.names.now in
-    let rest = erased_variables (variable_forms c.args.rest.now) in
-    let m : Assignment → Bool = λ b. is_made s b (formula_form c.args.body.now) in
-    let p : Value → Bool = λ v. quantified S Exists (variables_of names sort ++ rest) m ((string_bytes name.text, v) ∷ a) in
-    let least = c.values_of_sort-values.result.least in
-    let n = c.values_of_sort-values.result.count in
-    let k = c.loop-place.place in
-    let v = c.at.result in
-    let all = quantified S Exists (variables_of c.args.names.now sort ++ rest) m a in
-    let fits : SFits w64 v = record { sfits = omega arith } in
-    let same : (string_bytes name.text, v) ≡ (c.deref.result.now, to_z w64 (of_z w64 v)) =
-    ap (λ (x : List ℕ). (x, v)) (sym c.deref.ensures) ∙ ap (λ (w : ℤ). (c.deref.result.now, w)) (sym (to_z-of_z fits)) in
-    let fit = subst (λ (ns : List Name). FitsFor S (variables_of ns sort ++ rest) (λ b. CanMake s b (formula_form c.args.body.now)) a) c.in-Some.ensures.cases.0 c.requires in (
-      omega (arith, c.decreases, ap (λ (ns : List Name). length ns) c.in-Some.ensures.cases.0),
-      subst (λ (y : List ℕ × ℤ). FitsFor S (variables_of names sort ++ rest) (λ b. CanMake s b (formula_form c.args.body.now)) (y ∷ a)) same
-          (fit v (number_contained (carrier_of S sort) least n k v c.values_of_sort-values.ensures c.loop-place-test.true c.at.ensures)),
+pub makes_call_for-tuples-init : goal.makes_call_for-tuples-init
+makes_call_for-tuples-init t c =
+    begun c.args.sought.now c.args.loops.now c.args.body.now c.args.slots.now c.start.new.slots c.start.ensures
+
+pub makes_call_for-makes_call-requires-in-tuples : goal.makes_call_for-makes_call-requires-in-tuples
+makes_call_for-makes_call-requires-in-tuples t c = (
+  omega (arith, c.decreases),
+  body-fits c.args.sought.now c.args.loops.now c.args.body.now c.args.slots.now c.tuples.slots c.requires c.tuples.invariant,
+)
+
+pub makes_call_for-clear-requires : goal.makes_call_for-clear-requires
+makes_call_for-clear-requires t c =
+    let l = c.args.loops.now in
+    subst (λ (vs : Tuple). l.slot + length l.carriers.now ≤ length vs)
+    (sym c.makes_call-in-tuples.ensures.kept)
+    (has-room c.args.sought.now l c.args.body.now c.args.slots.now c.tuples.slots c.tuples.invariant)
+
+pub makes_call_for-returns-then-makes_call-clause-made : goal.makes_call_for-returns-then-makes_call-clause-made
+makes_call_for-returns-then-makes_call-clause-made t c = λ spec of.
+    is-made c.args.sought.now c.args.loops.now c.args.body.now c.args.slots.now c.tuples.slots c.tuples.invariant spec of
+    c.makes_call-in-tuples.result (c.makes_call-in-tuples.ensures.made spec of) c.if-makes_call.true
+
+pub makes_call_for-returns-then-makes_call-clause-kept : goal.makes_call_for-returns-then-makes_call-clause-kept
+makes_call_for-returns-then-makes_call-clause-kept t c =
+    let l = c.args.loops.now in
+    let h = c.tuples.invariant.holds in
+    let zeros = map (λ (v : Value). pos 0) h.tuple in
+    let count = tuple-length l c.tuples.invariant.place h.tuple h.at in
+    c.clear.ensures h.tuple count
+    ∙ (ap (λ (vs : Tuple). holding l vs zeros) c.makes_call-in-tuples.ensures.kept
+    ∙ cleared c.args.sought.now l c.args.body.now c.args.slots.now c.tuples.slots c.requires c.tuples.invariant)
+
+pub makes_call_for-advance-requires : goal.makes_call_for-advance-requires
+makes_call_for-advance-requires t c =
+    let l = c.args.loops.now in
+    subst (λ (vs : Tuple). l.slot + length l.carriers.now ≤ length vs)
+    (sym c.makes_call-in-tuples.ensures.kept)
+    (has-room c.args.sought.now l c.args.body.now c.args.slots.now c.tuples.slots c.tuples.invariant)
+
+pub makes_call_for-clear-requires-then-not-advance : goal.makes_call_for-clear-requires-then-not-advance
+makes_call_for-clear-requires-then-not-advance t c =
+    let some = has-room c.args.sought.now c.args.loops.now c.args.body.now c.args.slots.now c.tuples.slots c.tuples.invariant in
+    omega (
+      arith,
+      c.advance.auto.slots,
+      ap
+          (λ (vs : Tuple). length vs) c.makes_call-in-tuples.ensures.kept,
+      some,
     )
 
-pub makes_call_for_group-returns-then-made : goal.makes_call_for_group-returns-then-made
-makes_call_for_group-returns-then-made t c =
-    let s = c.args.sought.now in
-    let a = assignment_of c.args.scope.now in
-    let S = spec_at s in
-    let sort = string_bytes c.args.sort.now.text in
-    let name = c.in-Some.name.now in
-    let names = c.in-Some.names.now in
-    let rest = erased_variables (variable_forms c.args.rest.now) in
-    let m : Assignment → Bool = λ b. is_made s b (formula_form c.args.body.now) in
-    let p : Value → Bool = λ v. quantified S Exists (variables_of names sort ++ rest) m ((string_bytes name.text, v) ∷ a) in
-    let least = c.values_of_sort-values.result.least in
-    let n = c.values_of_sort-values.result.count in
-    let k = c.loop-place.place in
-    let v = c.at.result in
-    let all = quantified S Exists (variables_of c.args.names.now sort ++ rest) m a in
-    let fits : SFits w64 v = record { sfits = omega arith } in
-    let same : (string_bytes name.text, v) ≡ (c.deref.result.now, to_z w64 (of_z w64 v)) =
-    ap (λ (x : List ℕ). (x, v)) (sym c.deref.ensures) ∙ ap (λ (w : ℤ). (c.deref.result.now, w)) (sym (to_z-of_z fits)) in
-    let made = c.in_ok-made.made in
-    let made_is : made ≡ p v = c.in_ok-made.ensures ∙ ap (λ (y : List ℕ × ℤ). quantified S Exists (variables_of names sort ++ rest) m (y ∷ a)) (sym same) in
-    let split = at_place p least k n v made all c.loop-place-test.true c.at.ensures made_is c.loop-place.invariant in
-    makes made (over Exists p least (k + 1) n) all split c.if-made.true
+pub makes_call_for-returns-then-not-advance-clause-made : goal.makes_call_for-returns-then-not-advance-clause-made
+makes_call_for-returns-then-not-advance-clause-made t c = λ spec of.
+    let l = c.args.loops.now in
+    let w = c.tuples.invariant in
+    let outer = c.args.slots.now in
+    let is_false : c.advance.result ≡ false = search rules in
+    let holds = subst (Holds l outer w.place) (sym c.makes_call-in-tuples.ensures.kept) w.holds in
+    is-unmade c.args.sought.now l c.args.body.now outer c.tuples.slots w
+    (c.advance.ensures.last outer w.place holds is_false) spec of
+    c.makes_call-in-tuples.result
+    (c.makes_call-in-tuples.ensures.made spec of) c.if-makes_call.false
 
-pub makes_call_for_group-loop-place-preserved : goal.makes_call_for_group-loop-place-preserved
-makes_call_for_group-loop-place-preserved t c =
-    let s = c.args.sought.now in
-    let a = assignment_of c.args.scope.now in
-    let S = spec_at s in
-    let sort = string_bytes c.args.sort.now.text in
-    let name = c.in-Some.name.now in
-    let names = c.in-Some.names.now in
-    let rest = erased_variables (variable_forms c.args.rest.now) in
-    let m : Assignment → Bool = λ b. is_made s b (formula_form c.args.body.now) in
-    let p : Value → Bool = λ v. quantified S Exists (variables_of names sort ++ rest) m ((string_bytes name.text, v) ∷ a) in
-    let least = c.values_of_sort-values.result.least in
-    let n = c.values_of_sort-values.result.count in
-    let k = c.loop-place.place in
-    let v = c.at.result in
-    let all = quantified S Exists (variables_of c.args.names.now sort ++ rest) m a in
-    let fits : SFits w64 v = record { sfits = omega arith } in
-    let same : (string_bytes name.text, v) ≡ (c.deref.result.now, to_z w64 (of_z w64 v)) =
-    ap (λ (x : List ℕ). (x, v)) (sym c.deref.ensures) ∙ ap (λ (w : ℤ). (c.deref.result.now, w)) (sym (to_z-of_z fits)) in
-    let made = c.in_ok-made.made in
-    let made_is : made ≡ p v = c.in_ok-made.ensures ∙ ap (λ (y : List ℕ × ℤ). quantified S Exists (variables_of names sort ++ rest) m (y ∷ a)) (sym same) in
-    let split = at_place p least k n v made all c.loop-place-test.true c.at.ensures made_is c.loop-place.invariant in
-    goes_on made (over Exists p least (k + 1) n) all split c.if-made.false
+pub makes_call_for-returns-then-not-advance-clause-kept : goal.makes_call_for-returns-then-not-advance-clause-kept
+makes_call_for-returns-then-not-advance-clause-kept t c =
+    let l = c.args.loops.now in
+    let h = c.tuples.invariant.holds in
+    let zeros = map (λ (v : Value). pos 0) h.tuple in
+    let count = tuple-length l c.tuples.invariant.place h.tuple h.at in
+    c.clear-then-not-advance.ensures h.tuple count
+    ∙ (c.advance.ensures.others zeros (length-map h.tuple (λ (v : Value). pos 0) ∙ count)
+    ∙ (ap (λ (vs : Tuple). holding l vs zeros) c.makes_call-in-tuples.ensures.kept
+    ∙ cleared c.args.sought.now l c.args.body.now c.args.slots.now c.tuples.slots c.requires c.tuples.invariant))
 
-pub makes_call_for_group-returns : goal.makes_call_for_group-returns
-makes_call_for_group-returns t c =
-    let s = c.args.sought.now in
-    let a = assignment_of c.args.scope.now in
-    let S = spec_at s in
-    let sort = string_bytes c.args.sort.now.text in
-    let name = c.in-Some.name.now in
-    let names = c.in-Some.names.now in
-    let rest = erased_variables (variable_forms c.args.rest.now) in
-    let m : Assignment → Bool = λ b. is_made s b (formula_form c.args.body.now) in
-    let p : Value → Bool = λ v. quantified S Exists (variables_of names sort ++ rest) m ((string_bytes name.text, v) ∷ a) in
-    let least = c.values_of_sort-values.result.least in
-    let n = c.values_of_sort-values.result.count in
-    let k = c.loop-place.place in
-    sym (over_end Exists p least k n (omega (arith, c.loop-place-test.false))) ∙ c.loop-place.invariant
+pub makes_call_for-tuples-smaller : goal.makes_call_for-tuples-smaller
+makes_call_for-tuples-smaller t c =
+    let l = c.args.loops.now in
+    let w = c.tuples.invariant in
+    let outer = c.args.slots.now in
+    let is_true : c.advance.result ≡ true = search rules in
+    let holds = subst (Holds l outer w.place) (sym c.makes_call-in-tuples.ensures.kept) w.holds in
+    fewer-left l outer c.tuples.slots c.advance.new.slots w.place w.holds
+    (c.advance.ensures.next outer w.place holds is_true)
+
+pub makes_call_for-tuples-preserved : goal.makes_call_for-tuples-preserved
+makes_call_for-tuples-preserved t c =
+    let l = c.args.loops.now in
+    let w = c.tuples.invariant in
+    let outer = c.args.slots.now in
+    let is_true : c.advance.result ≡ true = search rules in
+    let holds = subst (Holds l outer w.place) (sym c.makes_call-in-tuples.ensures.kept) w.holds in
+    next-tuple c.args.sought.now l c.args.body.now outer c.tuples.slots c.advance.new.slots w
+    (c.advance.ensures.next outer w.place holds is_true)
+    c.makes_call-in-tuples.result c.makes_call-in-tuples.ensures.made c.if-makes_call.false

@@ -1,38 +1,29 @@
-use Rattle.std.proofs.Common.{Bool, ◌≡◌, ◌+◌, ◌++◌, ◌∷◌, ◌&&◌, not, drop, length, string_bytes}
-use Rattle.pb_text_tree.specs.declared.operator.Quantifier.TheVariants.{Exists}
-use Rattle.pb_text_tree.specs.Form.{formula_form, variable_forms}
-use Rattle.pb_carriers.specs.Carrier.{Value}
-use Rattle.pb_text_meaning.specs.Erase.{erased_variables}
-use Rattle.pb_text_meaning.specs.Value.{Assignment, quantified}
-use Rattle.pb_evaluation.specs.Quantifier.{variables_of}
-use Rattle.pb_evaluation.specs.Scope.{assignment_of}
-use Rattle.pb_evaluation.proofs.Weight.{groups_weight}
-use Rattle.pb_evaluation.proofs.FormulaWeight.{weight}
-use Rattle.pb_evaluation.proofs.Quantified.{over}
-use Rattle.pb_call_places.specs.Made.{is_made, spec_at}
+use Rattle.std.proofs.Common.{◌≡◌, ◌+◌, ◌&&◌, not, drop}
+use Rattle.pb_text_meaning.specs.Syntax.{Spec}
+use Rattle.pb_typed_tree.proofs.FormulaWeight.{weight}
+use Rattle.pb_evaluation.specs.Slots.{slots_of}
+use Rattle.pb_call_places.specs.Sought.{IsOf, is_made}
 use Rattle.pb_call_places.proofs.ChainMade.{links_make}
+use Rattle.pb_call_places.proofs.TuplesMade.{IsUnderWay, remaining}
 use Rattle.pb_call_places.proofs.made.+made.Given as goal
 
 abbrev pub decreases-makes_call : goal.decreases-makes_call
 decreases-makes_call l = weight l.formula.now
 
 abbrev pub decreases-makes_call_for : goal.decreases-makes_call_for
-decreases-makes_call_for l = 1 + (groups_weight l.groups.now + weight l.body.now)
+decreases-makes_call_for l = 1 + weight l.body.now
 
-abbrev pub decreases-makes_call_for_group : goal.decreases-makes_call_for_group
-decreases-makes_call_for_group l = 2 + (length l.names.now + (groups_weight l.rest.now + weight l.body.now))
-
--- the links that are left make the call, where the operand before them doesn't decide, exactly where the chain does
+-- the slots are as they were, and the operands that are left decide
 abbrev pub invariant-makes_call-loop-link : goal.invariant-makes_call-loop-link
 invariant-makes_call-loop-link l =
-    (not l.decided && links_make l.sought (assignment_of l.scope) l.connective (drop l.link-index l.link-items)) ≡ is_made l.sought (assignment_of l.scope) (formula_form l.formula)
+    let a = slots_of l.fn.slots in
+    (l.slots ≡ l.fn.slots)
+    × ((spec : Spec) → IsOf l.sought spec
+    → (not l.decided && links_make spec l.sought a l.connective (drop l.link-index l.link-items))
+    ≡ is_made spec l.sought a l.formula)
 
--- the call is made for some of the values that are left exactly where it is for some of all
-abbrev pub invariant-makes_call_for_group-loop-place : goal.invariant-makes_call_for_group-loop-place
-invariant-makes_call_for_group-loop-place l =
-    let S = spec_at l.sought in
-    let p : Assignment → Bool = λ a. is_made l.sought a (formula_form l.body) in
-    let sort = string_bytes l.sort.text in
-    let xs = erased_variables (variable_forms l.rest) in
-    over Exists (λ (v : Value). quantified S Exists (variables_of l.names sort ++ xs) p ((string_bytes l.name.text, v) ∷ assignment_of l.scope)) l.values.least l.place l.values.count
-    ≡ quantified S Exists (variables_of l.fn.names sort ++ xs) p (assignment_of l.scope)
+abbrev pub invariant-makes_call_for-tuples : goal.invariant-makes_call_for-tuples
+invariant-makes_call_for-tuples l = IsUnderWay l.sought l.loops l.body l.fn.slots l.slots
+
+abbrev pub decreases-makes_call_for-tuples : goal.decreases-makes_call_for-tuples
+decreases-makes_call_for-tuples l = remaining l.loops l.slots

@@ -1,0 +1,99 @@
+-- The calls of a chain, operand by operand.
+use Rattle.std.proofs.Common.{◌≡◌, ℕ, zero, suc, ◌+◌, ◌==◌, ◌<◌, ◌≤◌, Bool, true, false, ◌&&◌, ◌||◌}
+use Rattle.std.proofs.Common.{List, [], ◌∷◌, ◌++◌, length, get_or, drop, refl, sym, ◌∙◌, ap}
+use Rattle.std.proofs.Common.{append_assoc, append-nil, Vec, Global, Box, arith}
+use Rattle.std.specs.Prelude.{box_value}
+use Rattle.std.proofs.lemmas.Bool.{ne_eqb}
+use Rattle.std.proofs.lemmas.List.{drop_all}
+use Rattle.std.proofs.lemmas.List.Folds.{list_any-append}
+use Rattle.pb_text_tree.specs.declared.place.Place.{Place}
+use Rattle.pb_text_tree.specs.declared.operator.Connective.{Connective}
+use Rattle.pb_text_tree.specs.declared.operator.Quantifier.{Quantifier}
+use Rattle.pb_sorts.specs.declared.carrier.Carrier.{Carrier}
+use Rattle.pb_sorts.proofs.Places.{drop-at}
+use Rattle.pb_typed_tree.specs.Calls.{call_places, calls, places_of}
+use Rattle.pb_typed_tree.specs.Tree as tree
+use Rattle.pb_typed_tree.specs.Tree.{Connected}
+use Rattle.pb_typed_tree.specs.View.{chained, formula_view, formula_views, nested}
+use Rattle.pb_typed_tree.specs.declared.formula.Formula as formula
+use Rattle.pb_typed_tree.specs.declared.formula.Formula.{Formula}
+use Rattle.pb_typed_tree.proofs.Calls.{chain-places}
+use Rattle.pb_typed_tree.proofs.Views.{formula-chain}
+use Rattle.pb_call_places.proofs.Unmade.{any_at}
+
+-- ---- places
+
+pub chain-calls : (f : Formula) (c : Connective) (first : Box Formula Global)
+    (v : Vec Formula Global) → f ≡ formula.Chain c first v
+    → call_places f ≡ call_places (box_value first) ++ places_of v.items
+chain-calls f c first v is = ap call_places is ∙ chain-places c first v
+
+-- one more operand's places
+pub places-more : (fs : List Formula) (k : ℕ) (f : Formula) (done more all : List Place)
+    → k < length fs → f ≡ get_or fs k f → more ≡ done ++ call_places f
+    → done ++ places_of (drop k fs) ≡ all → more ++ places_of (drop (k + 1) fs) ≡ all
+places-more fs k f done more all lt at pushed h =
+    ap (λ (ps : List Place). ps ++ places_of (drop (k + 1) fs)) pushed
+    ∙ (append_assoc done (call_places f) (places_of (drop (k + 1) fs))
+    ∙ (ap (λ (gs : List Formula). done ++ places_of gs) (sym (drop-at fs k f lt at)) ∙ h))
+
+-- no operand is left
+pub places-all : (fs : List Formula) (k : ℕ) (done all : List Place) → length fs ≤ k
+    → done ++ places_of (drop k fs) ≡ all → done ≡ all
+places-all fs k done all le h =
+    sym (append-nil done)
+    ∙ (ap (λ (gs : List Formula). done ++ places_of gs) (sym (drop_all k fs le)) ∙ h)
+
+-- ---- tests
+
+-- no operand has calls
+abbrev pub are_tests : List Formula → Bool
+are_tests [] = true
+are_tests (f ∷ fs) = (calls (formula_view f) == 0) && are_tests fs
+
+both-none : (m n : ℕ) → (m + n == 0) ≡ (m == 0) && (n == 0)
+both-none zero n = ap (λ k. k == 0) (omega arith)
+both-none (suc m) n =
+    ne_eqb (suc m + n) 0 (λ e. omega (arith, e))
+    ∙ sym (ap (λ b. b && (n == 0)) (ne_eqb (suc m) 0 (λ e. omega (arith, e))))
+
+and-true : (b : Bool) → b ≡ b && true
+and-true true = refl
+and-true false = refl
+
+test-chained : (c : Connective) (first : tree.Formula) (fs : List Formula)
+    → (calls (chained (Connected c) first (formula_views fs)) == 0)
+    ≡ (calls first == 0) && are_tests fs
+test-chained c first [] = and-true (calls first == 0)
+test-chained c first (f ∷ fs) =
+    both-none (calls first) (calls (chained (Connected c) (formula_view f) (formula_views fs)))
+    ∙ ap (λ (b : Bool). (calls first == 0) && b) (test-chained c (formula_view f) fs)
+
+-- a chain is a test where all its operands are
+pub test-chain : (f : Formula) (c : Connective) (first : Box Formula Global)
+    (v : Vec Formula Global) → f ≡ formula.Chain c first v
+    → (calls (formula_view f) == 0)
+    ≡ (calls (formula_view (box_value first)) == 0) && are_tests v.items
+test-chain f c first v is =
+    ap (λ (g : Formula). calls (formula_view g) == 0) is
+    ∙ (ap (λ (t : tree.Formula). calls t == 0) (formula-chain c first v)
+    ∙ test-chained c (formula_view (box_value first)) v.items)
+
+-- ---- calls at a place
+
+-- one of its first operand's calls or of the others' is there
+pub any-chain : (place : Place) (f : Formula) (c : Connective) (first : Box Formula Global)
+    (v : Vec Formula Global) → f ≡ formula.Chain c first v
+    → any_at place (call_places f)
+    ≡ any_at place (call_places (box_value first)) || any_at place (places_of v.items)
+any-chain place f c first v is =
+    ap (any_at place) (chain-calls f c first v is)
+    ∙ list_any-append _ (call_places (box_value first)) (places_of v.items)
+
+pub any-link : (place : Place) (fs : List Formula) (k : ℕ) (f : Formula) → k < length fs
+    → f ≡ get_or fs k f
+    → any_at place (places_of (drop k fs))
+    ≡ any_at place (call_places f) || any_at place (places_of (drop (k + 1) fs))
+any-link place fs k f lt at =
+    ap (λ (gs : List Formula). any_at place (places_of gs)) (drop-at fs k f lt at)
+    ∙ list_any-append _ (call_places f) (places_of (drop (k + 1) fs))
