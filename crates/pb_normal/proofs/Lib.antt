@@ -1,7 +1,6 @@
 mod SignedForms
 mod Truth
 pub mod Views
-mod Weight
 mod Operands
 mod Positive
 mod Rights

@@ -11,7 +11,7 @@ use Rattle.pb_typing_rules.specs.WellTyped.{parameters_of, AreProper, IsWellType
 use Rattle.pb_normal.specs.Expansion.{expanded}
 use Rattle.pb_normal.specs.Loops.{AreShaped, IsShaped, loops, variable_shapes}
 use Rattle.pb_normal.specs.Structs.{with_count, struct_counts, AreFew, has_enumerator, IsDeclaredShape, HasDeclaredShapes}
-use Rattle.pb_typing.proofs.Known.{variables-shaped, known_shaped, right_known}
+use Rattle.pb_typing.proofs.Shaped.{variables-shaped, expanded-shaped}
 
 -- ---- entries of tables
 
@@ -212,7 +212,7 @@ module _ (spec : Spec) (declared : IsDeclared spec) where
   equations_declared [] all proper k d below = absurd (omega arith)
   equations_declared (X ∷ E) all proper zero d below = record {
     parameters = variables_declared X.parameters (all 0 X (omega arith));
-    loops = loops_declared (expanded X.right) (known_shaped spec (parameters_of spec X) (expanded X.right) (right_known spec declared X.parameters X.right (all 0 X (omega arith)) proper.0));
+    loops = loops_declared (expanded X.right) (expanded-shaped spec true (parameters_of spec X) X.right proper.0);
   }
   equations_declared (X ∷ E) all proper (suc k) d below = equations_declared E (λ n e low. all (suc n) e (omega arith)) proper.1 k d (omega arith)
 

@@ -1,20 +1,18 @@
 -- Operations on two numbers: where no rule fails, and what comes out.
-use Rattle.std.proofs.Common.{◌≡◌, Bool, true, false, cond, ◌&&◌, ◌||◌, not, [], ◌∷◌, ◌++◌, refl, sym, ◌∙◌, ap, arith, Some, None, true≢false}
+use Rattle.std.proofs.Common.{◌≡◌, Bool, true, false, cond, ◌||◌, not, [], ◌++◌, refl, sym, ◌∙◌, ap, arith, Some, None, true≢false}
 use Rattle.pb_text_tree.specs.declared.place.Place.{Place}
 use Rattle.pb_text_tree.specs.declared.operator.Arithmetic.{Arithmetic}
 use Rattle.pb_text_tree.specs.declared.operator.Arithmetic.TheVariants as arithmetic
 use Rattle.pb_intervals.specs.Interval.{IntegerInterval, is_within, within, literals}
-use Rattle.pb_intervals.specs.Operation.{BinaryOperation, binary_interval, divides}
+use Rattle.pb_intervals.specs.Operation.{BinaryOperation, binary_interval}
 use Rattle.pb_text_meaning.specs.Erase.{of_arithmetic}
 use Rattle.pb_typing_declarations.specs.declared.fault.TypingRule.TheVariants as rule
 use Rattle.pb_typing_declarations.specs.Faults.{unless}
 use Rattle.pb_typing_declarations.specs.declared.fault.TypeError.TheVariants.{At}
 use Rattle.pb_typing_declarations.specs.Faults.{IsAmong}
 use Rattle.pb_typing_declarations.specs.Shapes.{Shape, Unknown, Wholes}
-use Rattle.pb_typing_rules.specs.Shapes.{may_be_whole, may_divide, binary_shape, binary_is_limited, of_interval, kind_of, Computed}
-use Rattle.pb_typing_rules.specs.Functions.{OfTwo}
-use Rattle.pb_typing_rules.specs.Faults.{kind_faults, operator_faults}
-use Rattle.pb_typing_rules.proofs.Functions.{may_follow}
+use Rattle.pb_typing_rules.specs.Shapes.{may_divide, binary_shape, binary_is_limited, of_interval, kind_of, Computed}
+use Rattle.pb_typing_rules.specs.Faults.{operator_faults}
 use Rattle.pb_typing_declarations.proofs.Parts.{no_whole, unless_holds}
 use Rattle.pb_typing.specs.View.{operation_of}
 
@@ -64,8 +62,3 @@ kind_of-arithmetic arithmetic.Minus = refl
 kind_of-arithmetic arithmetic.Times = refl
 kind_of-arithmetic arithmetic.Div = refl
 kind_of-arithmetic arithmetic.Mod = refl
-
--- what isn't a division takes each second operand, so the same rules fail for it as an operator and as a function
-pub same_faults : (o : BinaryOperation) (s t : Shape) (p : Place) → divides o ≡ false → operator_faults (Computed o) s t p ≡ kind_faults (OfTwo o) (s ∷ t ∷ []) p
-same_faults o s t p e =
-    ap (λ b. unless (may_be_whole s && may_be_whole t) rule.WrongKind p ++ (unless b rule.Divisor p ++ unless (binary_is_limited o s t) rule.LargeInterval p)) (may_follow o t e)

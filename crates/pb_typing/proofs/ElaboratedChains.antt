@@ -1,20 +1,19 @@
 -- Chains and quantifiers of typed trees: what the code's flat nodes stand for.
-use Rattle.std.proofs.Common.{◌≡◌, ℕ, suc, ◌+◌, Bool, false, if◌then◌else◌, List, [], ◌∷◌, length, refl, sym, ◌∙◌, ap, arith, Some, true≢false}
+use Rattle.std.proofs.Common.{◌≡◌, ℕ, suc, ◌+◌, List, [], ◌∷◌, length, refl, sym, ◌∙◌, ap, arith, Some}
 use Rattle.pb_sorts.specs.declared.carrier.Carrier.{Carrier}
 use Rattle.pb_text_tree.specs.declared.operator.Connective.{Connective}
 use Rattle.pb_text_tree.specs.declared.operator.Connective.TheVariants.{And, Or, Implies}
 use Rattle.pb_text_tree.specs.declared.operator.Quantifier.{Quantifier}
 use Rattle.pb_text_tree.specs.declared.formula.Link.{Link}
 use Rattle.pb_text_tree.specs.Form as form
-use Rattle.pb_text_tree.specs.Form.{FormulaForm, TermForm, formula_form, link_forms, term_form, term_links}
-use Rattle.pb_text_meaning.specs.Syntax as syntax
-use Rattle.pb_text_meaning.specs.Syntax.{Variable, Operator, Spec}
+use Rattle.pb_text_tree.specs.Form.{FormulaForm, formula_form, link_forms}
+use Rattle.pb_text_meaning.specs.Syntax.{Variable, Spec}
 use Rattle.pb_text_meaning.specs.Erase.{erased_formula}
 use Rattle.pb_typing_declarations.specs.Shapes.{Shape, sort_shape}
 use Rattle.pb_typing_declarations.specs.Entries.{carrier_shape}
 use Rattle.pb_typing_rules.specs.Scope.{Scope}
 use Rattle.pb_typing.specs.FormulaLinks.{elaborated_links}
-use Rattle.pb_typed_tree.specs.Expansion.{has_quantifier, expanded, expanded_term, connected}
+use Rattle.pb_typed_tree.specs.Expansion.{expanded}
 use Rattle.pb_typed_tree.specs.Tree.{Formula, Connected, Quantified}
 use Rattle.pb_typed_tree.specs.Elaboration.{Slotting, with_slot, with_slots, each, elaborated, width}
 use Rattle.pb_typed_tree.specs.Loops.{variable_shapes}
@@ -45,15 +44,3 @@ each-nested S q (x ∷ xs) c n body (k ∷ ks) h =
     ∙ ap (Quantified q n (carrier_shape (Some k)))
     (each-nested S q xs (with_slot x.name n c) (suc n) body ks others
     ∙ ap (λ (m : ℕ). nested q (suc n) ks (body (with_slots xs (suc n) (with_slot x.name n c)) m)) (omega arith))
-
--- ---- data terms
-
-pub plain-expanded : (x : syntax.Term) → has_quantifier x ≡ false → expanded_term x ≡ syntax.Formula.Val x
-plain-expanded (syntax.Term.Truth b) h = refl
-plain-expanded (syntax.Term.Number n) h = refl
-plain-expanded (syntax.Term.Named x) h = refl
-plain-expanded (syntax.Term.Not x) h = ap (λ (b : Bool). if b then syntax.Formula.Not (expanded_term x) else syntax.Formula.Val (syntax.Term.Not x)) h
-plain-expanded (syntax.Term.Negative x) h = refl
-plain-expanded (syntax.Term.Binary o x y) h = ap (λ (b : Bool). if b then connected o (expanded_term x) (expanded_term y) (syntax.Formula.Val (syntax.Term.Binary o x y)) else syntax.Formula.Val (syntax.Term.Binary o x y)) h
-plain-expanded (syntax.Term.Apply f xs) h = refl
-plain-expanded (syntax.Term.Quantified q xs x) h = absurd (true≢false h)

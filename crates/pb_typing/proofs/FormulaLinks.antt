@@ -12,12 +12,9 @@ use Rattle.pb_text_meaning.specs.Syntax.{Spec}
 use Rattle.pb_typing_declarations.specs.declared.fault.TypingFault.{TypingFault}
 use Rattle.pb_typing_rules.specs.Scope.{Scope}
 use Rattle.pb_typing_rules.specs.Faults.{formula_faults, left_parity, operand_parity}
+use Rattle.pb_typing.specs.FormulaLinks.{link_faults}
 
-abbrev pub link_faults : Spec → Scope → Connective → Bool → List Link → List TypingFault
-link_faults S a c even [] = []
-link_faults S a c even (link ∷ links) = formula_faults S (operand_parity c even (length links)) a (formula_form link.operand) ++ link_faults S a c even links
-
-chained-faults : (S : Spec) (a : Scope) (c : Connective) (even : Bool) (first : FormulaForm) (links : List Link)
+pub chained-faults : (S : Spec) (a : Scope) (c : Connective) (even : Bool) (first : FormulaForm) (links : List Link)
     → formula_faults S even a (chained (FormulaForm.connected c) first (link_forms links)) ≡ formula_faults S (operand_parity c even (length links)) a first ++ link_faults S a c even links
 chained-faults S a c even first [] = sym (append-nil (formula_faults S even a first))
 chained-faults S a c even first (link ∷ links) =

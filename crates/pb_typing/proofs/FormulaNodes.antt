@@ -1,53 +1,84 @@
--- What the parts of a formula say of the formula.
-use Rattle.std.proofs.Common.{◌≡◌, Bool, not, List, [], ◌++◌, sym, ◌∙◌, ap, subst, Result, MatchResult, Box, Vec, Global}
+-- Typed formulas, node by node.
+use Rattle.std.proofs.Common.{◌≡◌, ℕ, Bool, not, List, ◌++◌, sym, ◌∙◌, ap, subst, Result, IfOk, OnOk, Box, Vec, Global}
 use Rattle.std.specs.Prelude.{box_value}
+use Rattle.std.proofs.lemmas.List.{append-nil}
+use Rattle.pb_sorts.specs.declared.carrier.Carrier.{Carrier}
 use Rattle.pb_text_tree.specs.declared.place.Place.{Place}
 use Rattle.pb_text_tree.specs.declared.operator.Quantifier.{Quantifier}
 use Rattle.pb_text_tree.specs.declared.variable.Variables.{Variables}
 use Rattle.pb_text_tree.specs.declared.term.Term.{Term}
 use Rattle.pb_text_tree.specs.declared.formula.Formula as ast
-use Rattle.pb_text_tree.specs.Form.{FormulaForm, term_form, formula_form, variable_forms}
+use Rattle.pb_text_tree.specs.declared.formula.Instance.{Instance}
+use Rattle.pb_text_tree.specs.Form.{FormulaForm, formula_form, instance_form, term_form, variable_forms}
+use Rattle.pb_text_meaning.specs.Syntax as syntax
 use Rattle.pb_text_meaning.specs.Syntax.{Spec}
 use Rattle.pb_text_meaning.specs.Erase.{erased_variables}
-use Rattle.pb_typing_declarations.specs.declared.fault.TypingFault.{TypingFault}
 use Rattle.pb_typing_declarations.specs.declared.fault.TypeError.{TypeError}
-use Rattle.pb_typing_declarations.specs.Faults.{IsAmong}
 use Rattle.pb_typing_declarations.specs.Declarations.{variables_faults}
-use Rattle.pb_typing_rules.specs.Scope.{Scope, bound}
+use Rattle.pb_typing_declarations.specs.Entries.{shapes_of}
 use Rattle.pb_typing_rules.specs.Faults.{formula_faults}
-use Rattle.pb_typing_declarations.proofs.Parts.{among_left}
+use Rattle.pb_typing_rules.specs.Scope.{Scope, bound}
+use Rattle.pb_typed_tree.specs.declared.formula.Formula as code
+use Rattle.pb_typed_tree.specs.Calls.{call_places, calls_in}
+use Rattle.pb_typed_tree.specs.Elaboration.{Slotting}
+use Rattle.pb_typed_tree.specs.Loops.{loops}
+use Rattle.pb_typing.specs.Elaborated.{ChecksFormulaIn, ChecksTruthIn}
+use Rattle.pb_typing.specs.Tree.{formula_of, value_of}
+use Rattle.pb_typing.proofs.ValueNodes.{on_ok}
 
--- there is no fault, or one of them is answered
-abbrev pub Checks : List TypingFault → Result (Unit {0}) TypeError → Type 0
-Checks all r = MatchResult r (λ _. all ≡ []) (IsAmong all)
+-- ---- data
 
-pub node : (S : Spec) (even : Bool) (a : Scope) (f g : ast.Formula) (r : Result (Unit {0}) TypeError) → f ≡ g → Checks (formula_faults S even a (formula_form g)) r → Checks (formula_faults S even a (formula_form f)) r
-node S even a f g r is h = subst (λ (z : ast.Formula). Checks (formula_faults S even a (formula_form z)) r) (sym is) h
+pub value_formula : (S : Spec) (a : Scope) (c : Slotting) (even : Bool) (n : ℕ) (f : ast.Formula) (p : Place) (x : Term) (r : Result code.Formula TypeError) → f ≡ ast.Value p x → ChecksTruthIn S a c n (term_form x) p r
+    → ChecksFormulaIn S a c even n (formula_form f) r
+value_formula S a c even n f p x r is h = subst (λ (g : ast.Formula). ChecksFormulaIn S a c even n (formula_form g) r) (sym is) h
 
-pub negation_node : (S : Spec) (even : Bool) (a : Scope) (f x : ast.Formula) (p : Place) (operand : Box ast.Formula Global) (r : Result (Unit {0}) TypeError) → f ≡ ast.Negation p operand → x ≡ box_value operand
-    → Checks (formula_faults S (not even) a (formula_form x)) r → Checks (formula_faults S even a (formula_form f)) r
-negation_node S even a f x p operand r is same h =
-    node S even a f (ast.Negation p operand) r is (subst (λ (z : ast.Formula). Checks (formula_faults S (not even) a (formula_form z)) r) same h)
+pub value_loops : (S : Spec) (f : ast.Formula) (p : Place) (x : Term) (old new : List Carrier) (r : Result code.Formula TypeError) → f ≡ ast.Value p x → OnOk r (shapes_of new ≡ shapes_of old ++ loops S (value_of x))
+    → OnOk r (shapes_of new ≡ shapes_of old ++ loops S (formula_of f))
+value_loops S f p x old new r is h = subst (λ (g : ast.Formula). OnOk r (shapes_of new ≡ shapes_of old ++ loops S (formula_of g))) (sym is) h
 
-pub value_node : (S : Spec) (even : Bool) (a : Scope) (f : ast.Formula) (p : Place) (x : Term) (r : Result (Unit {0}) TypeError) → f ≡ ast.Value p x
-    → Checks (formula_faults S even a (FormulaForm.val p (term_form x))) r → Checks (formula_faults S even a (formula_form f)) r
-value_node S even a f p x r is h = subst (λ (g : ast.Formula). Checks (formula_faults S even a (formula_form g)) r) (sym is) h
+pub at_places : (f g : ast.Formula) (r : Result code.Formula TypeError) → f ≡ g → IfOk r (λ (y : code.Formula). call_places y ≡ calls_in (formula_form g)) → IfOk r (λ (y : code.Formula). call_places y ≡ calls_in (formula_form f))
+at_places f g r is h = subst (λ (z : ast.Formula). IfOk r (λ (y : code.Formula). call_places y ≡ calls_in (formula_form z))) (sym is) h
 
-pub quantified_variables : (S : Spec) (even : Bool) (a : Scope) (f : ast.Formula) (p : Place) (q : Quantifier) (vs : Vec Variables Global) (body : Box ast.Formula Global) (groups : List Variables) (e : TypeError)
-    → f ≡ ast.Quantified p q vs body → groups ≡ vs.items → IsAmong (variables_faults S (variable_forms groups)) e → IsAmong (formula_faults S even a (formula_form f)) e
-quantified_variables S even a f p q vs body groups e is same h =
-    subst (λ (g : ast.Formula). IsAmong (formula_faults S even a (formula_form g)) e) (sym is)
-    (among_left (variables_faults S (variable_forms vs.items)) _ e (subst (λ (g : List Variables). IsAmong (variables_faults S (variable_forms g)) e) same h))
+-- ---- calls
 
-pub quantified_body : (S : Spec) (even : Bool) (a inner : Scope) (f x : ast.Formula) (p : Place) (q : Quantifier) (vs : Vec Variables Global) (body : Box ast.Formula Global) (groups : List Variables) (r : Result (Unit {0}) TypeError)
-    → f ≡ ast.Quantified p q vs body → x ≡ box_value body → groups ≡ vs.items → variables_faults S (variable_forms groups) ≡ [] → inner ≡ bound S (erased_variables (variable_forms groups)) a
-    → Checks (formula_faults S even inner (formula_form x)) r → Checks (formula_faults S even a (formula_form f)) r
-quantified_body S even a inner f x p q vs body groups r is same groups_are none scope h =
-    let b = bound S (erased_variables (variable_forms vs.items)) a in
-    let scope_is : inner ≡ b = scope ∙ ap (λ (gs : List Variables). bound S (erased_variables (variable_forms gs)) a) groups_are in
-    let here : Checks (formula_faults S even b (formula_form (box_value body))) r =
-    subst (λ (z : ast.Formula). Checks (formula_faults S even b (formula_form z)) r) same (subst (λ (i : Scope). Checks (formula_faults S even i (formula_form x)) r) scope_is h) in
-    let no_variables : variables_faults S (variable_forms vs.items) ≡ [] = subst (λ (gs : List Variables). variables_faults S (variable_forms gs) ≡ []) groups_are none in
-    let whole : formula_faults S even a (formula_form (ast.Quantified p q vs body)) ≡ formula_faults S even b (formula_form (box_value body)) =
-    ap (λ (zs : List TypingFault). zs ++ formula_faults S even b (formula_form (box_value body))) no_variables in
-    subst (λ (g : ast.Formula). Checks (formula_faults S even a (formula_form g)) r) (sym is) (subst (λ (zs : List TypingFault). Checks zs r) (sym whole) here)
+pub call_formula : (S : Spec) (a : Scope) (c : Slotting) (even : Bool) (n : ℕ) (f : ast.Formula) (i : Instance) (r : Result code.Formula TypeError) → f ≡ ast.Instance i → ChecksFormulaIn S a c even n (FormulaForm.instance (instance_form i)) r
+    → ChecksFormulaIn S a c even n (formula_form f) r
+call_formula S a c even n f i r is h = subst (λ (g : ast.Formula). ChecksFormulaIn S a c even n (formula_form g) r) (sym is) h
+
+-- a call has no quantifier
+pub call_loops : (S : Spec) (f : ast.Formula) (i : Instance) (old : List Carrier) (r : Result code.Formula TypeError) → f ≡ ast.Instance i → OnOk r (shapes_of old ≡ shapes_of old ++ loops S (formula_of f))
+call_loops S f i old r is = on_ok r _ (sym (ap (λ (g : ast.Formula). shapes_of old ++ loops S (formula_of g)) is ∙ append-nil (shapes_of old)))
+
+-- ---- negations
+
+pub negation-faults : (S : Spec) (even opposite : Bool) (a : Scope) (f x : ast.Formula) (p : Place) (operand : Box ast.Formula Global) → f ≡ ast.Negation p operand → x ≡ box_value operand → opposite ≡ not even
+    → formula_faults S even a (formula_form f) ≡ formula_faults S opposite a (formula_form x)
+negation-faults S even opposite a f x p operand is same odd =
+    ap (λ (g : ast.Formula). formula_faults S even a (formula_form g)) is
+    ∙ (ap (λ (g : ast.Formula). formula_faults S (not even) a (formula_form g)) (sym same) ∙ ap (λ (b : Bool). formula_faults S b a (formula_form x)) (sym odd))
+
+pub negation-form : (f x : ast.Formula) (p : Place) (operand : Box ast.Formula Global) → f ≡ ast.Negation p operand → x ≡ box_value operand → formula_of f ≡ syntax.Formula.Not (formula_of x)
+negation-form f x p operand is same = ap formula_of is ∙ ap (λ (g : ast.Formula). syntax.Formula.Not (formula_of g)) (sym same)
+
+pub negation-calls : (f x : ast.Formula) (p : Place) (operand : Box ast.Formula Global) → f ≡ ast.Negation p operand → x ≡ box_value operand → calls_in (formula_form f) ≡ calls_in (formula_form x)
+negation-calls f x p operand is same = ap (λ (g : ast.Formula). calls_in (formula_form g)) is ∙ ap (λ (g : ast.Formula). calls_in (formula_form g)) (sym same)
+
+-- ---- quantifiers
+
+pub quantified-faults : (S : Spec) (even : Bool) (a : Scope) (f : ast.Formula) (p : Place) (q : Quantifier) (vs : Vec Variables Global) (body : Box ast.Formula Global) (x : ast.Formula) (groups : List Variables)
+    → f ≡ ast.Quantified p q vs body → x ≡ box_value body → groups ≡ vs.items
+    → formula_faults S even a (formula_form f) ≡ variables_faults S (variable_forms groups) ++ formula_faults S even (bound S (erased_variables (variable_forms groups)) a) (formula_form x)
+quantified-faults S even a f p q vs body x groups is same are =
+    ap (λ (g : ast.Formula). formula_faults S even a (formula_form g)) is
+    ∙ sym (ap (λ (gs : List Variables). variables_faults S (variable_forms gs) ++ formula_faults S even (bound S (erased_variables (variable_forms gs)) a) (formula_form x)) are
+    ∙ ap (λ (g : ast.Formula). variables_faults S (variable_forms vs.items) ++ formula_faults S even (bound S (erased_variables (variable_forms vs.items)) a) (formula_form g)) same)
+
+pub quantified-form : (f : ast.Formula) (p : Place) (q : Quantifier) (vs : Vec Variables Global) (body : Box ast.Formula Global) (x : ast.Formula) (groups : List Variables)
+    → f ≡ ast.Quantified p q vs body → x ≡ box_value body → groups ≡ vs.items → formula_of f ≡ syntax.Formula.Quantified q (erased_variables (variable_forms groups)) (formula_of x)
+quantified-form f p q vs body x groups is same are =
+    ap formula_of is
+    ∙ sym (ap (λ (gs : List Variables). syntax.Formula.Quantified q (erased_variables (variable_forms gs)) (formula_of x)) are
+    ∙ ap (λ (g : ast.Formula). syntax.Formula.Quantified q (erased_variables (variable_forms vs.items)) (formula_of g)) same)
+
+pub quantified-calls : (f : ast.Formula) (p : Place) (q : Quantifier) (vs : Vec Variables Global) (body : Box ast.Formula Global) (x : ast.Formula) → f ≡ ast.Quantified p q vs body → x ≡ box_value body → calls_in (formula_form f) ≡ calls_in (formula_form x)
+quantified-calls f p q vs body x is same = ap (λ (g : ast.Formula). calls_in (formula_form g)) is ∙ ap (λ (g : ast.Formula). calls_in (formula_form g)) (sym same)

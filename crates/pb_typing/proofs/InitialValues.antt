@@ -1,10 +1,9 @@
 -- The values of the initial instance's arguments, against the carriers of its equation's parameters.
-use Rattle.std.proofs.Common.{◌≡◌, ℕ, zero, suc, Bool, true, false, List, [], ◌∷◌, map, length, Option, Some, None, cond, refl, sym, ◌∙◌, ap, subst, arith, find, true≢false, ◌<◌}
-use Rattle.std.specs.Prelude.{Result, Ok, Err, MatchResult, nat_lt, position}
-use Rattle.std.specs.List.{slice_get, position_or_len}
-use Rattle.std.proofs.lemmas.List.Folds.{find_at}
-use Rattle.std.proofs.lemmas.Option.{cond_some, slice_get_past}
-use Rattle.std.proofs.lemmas.Bool.{ltb-false, ltb-true}
+use Rattle.std.proofs.Common.{◌≡◌, ℕ, zero, suc, Bool, true, false, List, [], ◌∷◌, map, length, Option, Some, None, refl, sym, ◌∙◌, ap, subst, arith, true≢false, ◌<◌}
+use Rattle.std.specs.Prelude.{Result, Ok, Err, MatchResult, nat_lt}
+use Rattle.std.specs.List.{slice_get}
+use Rattle.std.proofs.lemmas.Option.{cond_some}
+use Rattle.std.proofs.lemmas.Bool.{ltb-true}
 use Rattle.pb_carriers.specs.Carrier as carriers
 use Rattle.pb_carriers.specs.Carrier.{Value, contains}
 use Rattle.pb_sorts.specs.declared.carrier.Carrier.{Carrier}
@@ -41,6 +40,7 @@ use Rattle.pb_typing_rules.proofs.Exact.{instance_proper}
 use Rattle.pb_typing_declarations.proofs.Parts.{among_left, among_right, no_whole}
 use Rattle.pb_typing_rules.proofs.WellTypedLemmas.{may_have_of_some}
 use Rattle.pb_typing.specs.Typed.{IsLayout}
+use Rattle.pb_typing.proofs.Found.{found, not_found}
 
 abbrev first : List carriers.Carrier → carriers.Carrier
 first [] = []
@@ -113,16 +113,6 @@ mapped : (S : Spec) (E : List Equation) (k : ℕ) → slice_get (map (λ (X : Eq
 mapped S [] k = refl
 mapped S (X ∷ E) zero = refl
 mapped S (X ∷ E) (suc k) = mapped S E k
-
-found : (p : Equation → Bool) (E : List Equation) (k : ℕ) → position p E ≡ Some k → find p E ≡ slice_get E k
-found p E k e = find_at p E ∙ ap (slice_get E) (cond_some (nat_lt (position_or_len p E) (length E)) (position_or_len p E) k e).1
-
-no_place : (b : Bool) (n : ℕ) → cond b (Some n) None ≡ None → b ≡ false
-no_place true n e = cc
-no_place false n e = refl
-
-not_found : (p : Equation → Bool) (E : List Equation) → position p E ≡ None → find p E ≡ None
-not_found p E e = find_at p E ∙ slice_get_past E (position_or_len p E) (ltb-false (position_or_len p E) (length E) (no_place (nat_lt (position_or_len p E) (length E)) (position_or_len p E) e))
 
 same_parameters : (S : Spec) (o : Option Equation) (cs : List carriers.Carrier) → carriers_at S o ≡ Some cs → cs ≡ carriers_of S (parameters_named o)
 same_parameters S None cs e = cc

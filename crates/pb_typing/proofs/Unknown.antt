@@ -1,7 +1,7 @@
 -- A name that stands for nothing in data.
-use Rattle.std.proofs.Common.{◌≡◌, ℕ, suc, ◌+◌, ◌<◌, ◌≤◌, length, get_or, Bool, true, false, cond, not, ◌||◌, List, [], ◌∷◌, ◌++◌, refl, sym, ◌∙◌, ap, arith, Some, None, true≢false, eqb-true}
-use Rattle.std.specs.Prelude.{nat_lt, ◌==◌}
-use Rattle.std.specs.List.{position, prefix_len, find, list_any}
+use Rattle.std.proofs.Common.{◌≡◌, ℕ, ◌+◌, ◌<◌, ◌≤◌, length, Bool, true, false, cond, not, ◌||◌, List, [], ◌∷◌, ◌++◌, refl, sym, ◌∙◌, ap, arith, Some, None, true≢false}
+use Rattle.std.specs.Prelude.{nat_lt}
+use Rattle.std.specs.List.{position, prefix_len, list_any}
 use borrow.Author.Tests.{ltb-true}
 use Rattle.std.proofs.lemmas.Bool.Decides.{nat_tests}
 use Rattle.pb_text_tree.specs.Form.{Named}
@@ -11,11 +11,9 @@ use Rattle.pb_typing_declarations.specs.declared.fault.TypingRule.TheVariants as
 use Rattle.pb_typing_declarations.specs.declared.fault.TypeError.TheVariants.{At}
 use Rattle.pb_typing_declarations.specs.Faults.{unless, IsAmong}
 use Rattle.pb_typing_declarations.specs.Agreement.{equation_place}
-use Rattle.pb_typing_declarations.specs.Shapes.{Shape}
-use Rattle.pb_typing_rules.specs.Functions.{Function, arity}
-use Rattle.pb_typing_rules.specs.Faults.{unknown_faults, function_faults, kind_faults}
+use Rattle.pb_typing_rules.specs.Faults.{unknown_faults}
 
--- the first place at which a test passes: there is one exactly where some element passes, and `find` gives what stands there
+-- the first place at which a test passes: there is one exactly where some element passes
 below : {A : Type 0} (t : A → Bool) (xs : List A) → prefix_len (λ x. not (t x)) xs < length xs → list_any t xs ≡ true
 below t [] h = absurd (omega (arith, h))
 below t (x ∷ xs) h = by_test (t x) h (below t xs)
@@ -46,26 +44,6 @@ no_position t xs e = by_test (nat_lt (prefix_len (λ x. not (t x)) xs) (length x
     by_test true is f = absurd (cc)
     by_test false is f = grind (arith, nat_tests)
 
-pub found_at : {A : Type 0} (t : A → Bool) (xs : List A) (d : A) → prefix_len (λ x. not (t x)) xs < length xs → find t xs ≡ Some (get_or xs (prefix_len (λ x. not (t x)) xs) d)
-found_at t [] d h = absurd (omega (arith, h))
-found_at t (x ∷ xs) d h = by_test (t x) h (found_at t xs d)
-  where
-    next : (n : ℕ) → get_or xs n d ≡ get_or (x ∷ xs) (1 + n) d
-    next n = let e : 1 + n ≡ suc n = omega arith in sym (ap (λ m. get_or (x ∷ xs) m d) e)
-
-    by_test : (b : Bool) → cond (not b) (1 + prefix_len (λ y. not (t y)) xs) 0 < length (x ∷ xs) → (prefix_len (λ y. not (t y)) xs < length xs → find t xs ≡ Some (get_or xs (prefix_len (λ y. not (t y)) xs) d))
-        → cond b (Some x) (find t xs) ≡ Some (get_or (x ∷ xs) (cond (not b) (1 + prefix_len (λ y. not (t y)) xs) 0) d)
-    by_test true h rest = refl
-    by_test false h rest = rest (omega (arith, h)) ∙ ap Some (next (prefix_len (λ y. not (t y)) xs))
-
-pub found_nowhere : {A : Type 0} (t : A → Bool) (xs : List A) → length xs ≤ prefix_len (λ x. not (t x)) xs → find t xs ≡ None
-found_nowhere t [] h = refl
-found_nowhere t (x ∷ xs) h = by_test (t x) h (found_nowhere t xs)
-  where
-    by_test : (b : Bool) → length (x ∷ xs) ≤ cond (not b) (1 + prefix_len (λ y. not (t y)) xs) 0 → (length xs ≤ prefix_len (λ y. not (t y)) xs → find t xs ≡ None) → cond b (Some x) (find t xs) ≡ None
-    by_test true h rest = absurd (omega (arith, h))
-    by_test false h rest = rest (omega (arith, h))
-
 abbrev named_as : Name → Equation → Bool
 named_as x X = same_name X.name x
 
@@ -85,11 +63,3 @@ unknown_name S x text same e =
     by_test : (d : Bool) → d ≡ false → IsAmong (unless (not d) rule.PredicateInData x.place ++ unless d rule.UnknownName x.place) (At (record { rule = rule.UnknownName; place = x.place }))
     by_test true f = absurd (true≢false f)
     by_test false f = (0, omega arith, refl)
-
--- a function with another count of arguments
-pub wrong_count : (S : Spec) (g : Function) (ss : List Shape) (f : Named) (n : ℕ) → length ss ≡ n → (arity g ≡ n → ⊥) → IsAmong (function_faults S (Some g) ss f) (At (record { rule = rule.WrongCount; place = f.place }))
-wrong_count S g ss f n same differs = by_test (length ss == arity g) refl
-  where
-    by_test : (b : Bool) → (length ss == arity g) ≡ b → IsAmong (unless b rule.WrongCount f.place ++ kind_faults g ss f.place) (At (record { rule = rule.WrongCount; place = f.place }))
-    by_test true e = absurd (differs (sym (eqb-true (length ss) (arity g) e) ∙ same))
-    by_test false e = (0, omega arith, refl)

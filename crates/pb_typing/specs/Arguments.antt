@@ -1,7 +1,6 @@
--- Arguments against parameters, group by group.
-use Rattle.std.specs.Prelude.{ℕ, ◌+◌, false, List, [], ◌∷◌, ◌++◌, length}
+-- Arguments against the shapes of parameters.
+use Rattle.std.specs.Prelude.{false, List, [], ◌∷◌, ◌++◌}
 use Rattle.pb_text_tree.specs.declared.term.Argument.{Argument}
-use Rattle.pb_text_tree.specs.declared.variable.Variables.{Variables}
 use Rattle.pb_text_tree.specs.Form.{term_form}
 use Rattle.pb_text_meaning.specs.Syntax.{Spec}
 use Rattle.pb_text_meaning.specs.Erase.{erased_term}
@@ -14,16 +13,15 @@ use Rattle.pb_typing_rules.specs.Scope.{Scope}
 use Rattle.pb_typing_rules.specs.Term.{shape}
 use Rattle.pb_typing_rules.specs.Faults.{term_faults}
 
--- how many parameters groups of variables are
-abbrev pub parameter_count : List Variables → ℕ
-parameter_count [] = 0
-parameter_count (group ∷ groups) = length group.names.items + parameter_count groups
-
--- arguments that all have to be of one kind
-abbrev pub each_faults : Spec → Scope → List Argument → Shape → List TypingFault
-each_faults spec scope [] s = []
-each_faults spec scope (x ∷ xs) s =
+-- the faults of an argument of a parameter of this shape
+abbrev pub own_faults : Spec → Scope → Argument → Shape → List TypingFault
+own_faults spec scope x s =
     term_faults spec false scope (term_form x.term)
-    ++ (unless (may_be_alike (shape spec scope (erased_term (term_form x.term))) s)
-    WrongKind x.place
-    ++ each_faults spec scope xs s)
+    ++ unless (may_be_alike (shape spec scope (erased_term (term_form x.term))) s) WrongKind x.place
+
+-- of as many arguments as there are parameters
+abbrev pub faults_against : Spec → Scope → List Argument → List Shape → List TypingFault
+faults_against spec scope [] ss = []
+faults_against spec scope (x ∷ xs) [] = []
+faults_against spec scope (x ∷ xs) (s ∷ ss) =
+    own_faults spec scope x s ++ faults_against spec scope xs ss

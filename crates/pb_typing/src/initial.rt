@@ -1,6 +1,6 @@
 //! The check of the initial instance.
 
-ghost use Rattle.std.specs.Prelude.{◌≡◌, ◌++◌, List, [], length, map, MatchResult, OnOk};
+ghost use Rattle.std.specs.Prelude.{◌≡◌, ◌++◌, List, [], false, length, map, MatchResult, OnOk};
 ghost use Rattle.pb_sorts.specs.Carrier.{values_of};
 ghost use Rattle.pb_text_meaning.specs.Syntax.{Variable};
 ghost use Rattle.pb_text_tree.specs.Form.{argument_forms, instance_form, spec_form};
@@ -11,9 +11,15 @@ ghost use Rattle.pb_text_meaning.specs.Fits.{AllFit};
 ghost use Rattle.pb_typing_declarations.specs.Faults.{IsAmong};
 ghost use Rattle.pb_typing_declarations.specs.View.{spec_of, text_of};
 ghost use Rattle.pb_typing_rules.specs.Faults.{initial_faults, value_faults};
+ghost use Rattle.pb_typing_rules.specs.Scope.{outermost};
+ghost use Rattle.pb_typed_tree.specs.Elaboration as elaboration;
+ghost use Rattle.pb_typed_tree.specs.Elaboration.{unslotted};
+ghost use Rattle.pb_typed_tree.specs.Expansion.{have_quantifier};
 ghost use Rattle.pb_typed_tree.specs.InitialPlace.{IsInitial};
+ghost use Rattle.pb_typed_tree.specs.View.{argument_view};
 ghost use Rattle.pb_typing.specs.Typed.{IsLayout};
 
+use crate::context::Context;
 use crate::instance::check_instance;
 use crate::polarity::Polarity;
 use crate::scope::Scope;
@@ -40,38 +46,45 @@ pub(crate) fn check_initial(
         (IsAmong (initial_faults (spec_of declarations.now) (instance_form spec.now.initial))) }
 {
     let initial = &spec.initial;
-    check_instance(
+    let context = Context {
         alloc,
         declarations,
-        spec,
-        &Scope::Outermost,
-        Polarity::Positive,
-        initial,
+        layout,
+        scope: &Scope::Outermost,
+    };
+    let call = check_instance(&context, Polarity::Positive, initial)?;
+    let carriers = layout.carriers(call.equation);
+    let mut values = Vec::with_capacity(alloc, carriers.len())?;
+    let arguments = &initial.arguments;
+    check_values(
+        declarations,
+        carriers,
+        arguments,
+        &call.arguments,
+        &mut values,
     )?;
-    match declarations.equation(&initial.name.text) {
-        Some(equation) => {
-            let carriers = layout.carriers(equation);
-            let mut values = Vec::with_capacity(alloc, carriers.len())?;
-            check_values(declarations, carriers, &initial.arguments, &mut values)?;
-            Ok(Initial {
-                equation: equation as u8,
-                values,
-            })
-        }
-        None => unreachable!(),
-    }
+    Ok(Initial {
+        equation: call.equation as u8,
+        values,
+    })
 }
 
-/// Checks that each argument's value is in its carrier, and adds the values to others.
+/// Checks that the value of each argument, which is also given over slots, is in its carrier, and
+/// adds the values to others.
 fn check_values(
     declarations: &Declarations<'_>,
     carriers: &[Carrier],
     arguments: &[Argument],
+    typed: &[pb_typed_tree::Argument],
     values: &mut Vec<i64>,
 ) -> Result<(), TypeError>
     requires fit { AllFit (spec_of declarations.now) []
         (erased_arguments (argument_forms arguments.now)) }
+    requires plain { have_quantifier (erased_arguments (argument_forms arguments.now)) ≡ false }
     requires counted { length arguments.now ≡ length carriers.now }
+    requires typed { map argument_view typed.now
+        ≡ elaboration.arguments (spec_of declarations.now) unslotted outermost
+        (erased_arguments (argument_forms arguments.now)) }
     ensures faults { (xs : List Variable) → map values_of carriers.now
         ≡ carriers_of (spec_of declarations.now) xs → MatchResult result
         (λ _. value_faults (spec_of declarations.now) (argument_forms arguments.now) xs ≡ [])
@@ -80,24 +93,21 @@ fn check_values(
         ≡ values.old.items ++ meaning.values (spec_of declarations.now) []
         (erased_arguments (argument_forms arguments.now))) }
 {
-    match arguments.split_first() {
-        None => Ok(()),
-        Some((argument, arguments)) => match carriers.split_first() {
-            None => unreachable!(),
-            Some((carrier, carriers)) => {
-                let value = value(
-                    &argument.term,
-                    &pb_evaluation::Scope::Outermost,
-                    declarations,
-                )?;
-                require(
-                    carrier.contains(value),
-                    TypingRule::OutsideCarrier,
-                    argument.place,
-                )?;
-                values.push(value)?;
-                check_values(declarations, carriers, arguments, values)
-            }
-        },
-    }
+    let Some((argument, arguments)) = arguments.split_first() else {
+        return Ok(());
+    };
+    let Some((carrier, carriers)) = carriers.split_first() else {
+        unreachable!()
+    };
+    let Some((first, typed)) = typed.split_first() else {
+        unreachable!()
+    };
+    let value = value(&first.term, &[]);
+    require(
+        carrier.contains(value),
+        TypingRule::OutsideCarrier,
+        argument.place,
+    )?;
+    values.push(value)?;
+    check_values(declarations, carriers, arguments, typed, values)
 }

@@ -1,149 +1,114 @@
 //! The check of instances of predicate variables.
 
-ghost use Rattle.std.specs.Prelude.{◌≡◌, ◌==◌, ◌++◌, [], length, MatchResult};
-ghost use Rattle.pb_text_tree.specs.Form.{argument_forms, instance_form, spec_form, variable_forms};
-ghost use Rattle.pb_text_meaning.specs.Erase.{erased_variables};
-ghost use Rattle.pb_typing_rules.specs.Faults.{argument_faults, instance_faults};
+ghost use Rattle.std.specs.Prelude.{◌≡◌, ◌++◌, [], false, length, map, MatchResult};
+ghost use Rattle.pb_text_tree.specs.Form.{argument_forms, instance_form, term_form};
+ghost use Rattle.pb_text_meaning.specs.Erase.{erased_arguments, erased_term};
+ghost use Rattle.pb_typing_rules.specs.Faults.{instance_faults, term_faults};
+ghost use Rattle.pb_typing_rules.specs.Shapes.{may_be_alike};
+ghost use Rattle.pb_typing_rules.specs.Term.{shape};
+ghost use Rattle.pb_typing_declarations.specs.Entries.{shape_of, shapes_of};
 ghost use Rattle.pb_typing_declarations.specs.Faults.{IsAmong, unless};
-ghost use Rattle.pb_typing_declarations.specs.View.{spec_of, text_of};
-ghost use Rattle.pb_typing.specs.Arguments.{each_faults, parameter_count};
-ghost use Rattle.pb_typing.specs.Scopes.{scope_view};
-ghost use Rattle.pb_typing.specs.View.{is_positive, shape_view};
+ghost use Rattle.pb_typed_tree.specs.Elaboration as elaboration;
+ghost use Rattle.pb_typed_tree.specs.View.{argument_view};
+ghost use Rattle.pb_typing.specs.Arguments.{faults_against};
+ghost use Rattle.pb_typing.specs.Contexts.{scope_in, slots_in, text_in};
+ghost use Rattle.pb_typing.specs.Elaborated.{Elaborates, IsCall};
+ghost use Rattle.pb_typing.specs.Slots.{over_slots};
+ghost use Rattle.pb_typing.specs.Typed.{IsLayout};
+ghost use Rattle.pb_typing.specs.View.{is_positive};
 
+use crate::context::Context;
 use crate::operation::fault;
 use crate::polarity::Polarity;
-use crate::quantifiers::Quantifiers;
-use crate::scope::{Scope, sort_shape};
-use crate::shape::Shape;
+use crate::shape::{are_alike, carrier_shape};
 use crate::term::check_term;
-use pb_text_tree::{Argument, Instance, Place, Spec, Variables};
-use pb_typing_declarations::{Declarations, TypeError, TypingRule, require};
-use std::alloc::Global;
+use pb_sorts::Carrier;
+use pb_text_tree::Instance;
+use pb_typed_tree::Argument;
+use pb_typing_declarations::{TypeError, TypingRule, require};
+
+/// An instance of an equation, by its place, with these arguments.
+#[derive(Drop)]
+pub(crate) struct Call {
+    pub equation: usize,
+    pub arguments: Vec<Argument>,
+}
 
 /// Checks a predicate variable with its arguments, which has to be of positive polarity. A name
 /// that no equation declares is no predicate variable, so that it breaks no rule of negations.
-pub(crate) fn check_instance<'t>(
-    alloc: Global,
-    declarations: &Declarations<'_>,
-    spec: &Spec,
-    scope: &Scope<'_, 't>,
+pub(crate) fn check_instance(
+    context: &Context<'_, '_, '_>,
     polarity: Polarity,
-    instance: &'t Instance,
-) -> Result<(), TypeError>
-    requires { text_of declarations.now ≡ spec_form spec.now }
+    instance: &Instance,
+) -> Result<Call, TypeError>
+    requires { IsLayout (text_in context.now) context.now.layout.now }
     ensures { MatchResult result
-        (λ _. instance_faults (spec_of declarations.now) (is_positive polarity)
-        (scope_view scope.now) (instance_form instance.now) ≡ [])
-        (IsAmong (instance_faults (spec_of declarations.now) (is_positive polarity)
-        (scope_view scope.now) (instance_form instance.now))) }
+        (λ call. (instance_faults (text_in context.now) (is_positive polarity)
+        (scope_in context.now) (instance_form instance.now) ≡ [])
+        × IsCall (text_in context.now) (scope_in context.now) (slots_in context.now)
+        (instance_form instance.now) call)
+        (IsAmong (instance_faults (text_in context.now) (is_positive polarity)
+        (scope_in context.now) (instance_form instance.now))) }
 {
     let place = instance.name.place;
-    match declarations.equation(&instance.name.text) {
-        Some(index) => {
-            let parameters = &spec.equations[index].parameters;
+    match context.declarations.equation(&instance.name.text) {
+        Some(equation) => {
+            let carriers = context.layout.carriers(equation);
             require(polarity.is_positive(), TypingRule::OddNegations, place)?;
-            check_call(
-                alloc,
-                declarations,
-                scope,
-                parameters,
-                &instance.arguments,
-                place,
-            )
+            let is_count = instance.arguments.len() == carriers.len();
+            require(is_count, TypingRule::WrongCount, place)?;
+            let arguments = check_arguments(context, carriers, &instance.arguments)?;
+            Ok(Call {
+                equation,
+                arguments,
+            })
         }
         None => Err(TypeError::At(fault(TypingRule::UnknownName, place))),
     }
 }
 
-/// Checks arguments against parameters: first their number.
-fn check_call<'t>(
-    alloc: Global,
-    declarations: &Declarations<'_>,
-    scope: &Scope<'_, 't>,
-    parameters: &[Variables],
-    arguments: &'t [Argument],
-    place: Place,
-) -> Result<(), TypeError>
+/// Checks arguments against the carriers of as many parameters.
+fn check_arguments(
+    context: &Context<'_, '_, '_>,
+    carriers: &[Carrier],
+    arguments: &[pb_text_tree::Argument],
+) -> Result<Vec<Argument>, TypeError>
+    requires { length arguments.now ≡ length carriers.now }
     ensures { MatchResult result
-        (λ _. unless
-        (length arguments.now == parameter_count parameters.now) TypingRule.WrongCount place
-        ++ argument_faults (spec_of declarations.now) (scope_view scope.now)
-        (argument_forms arguments.now) (erased_variables (variable_forms parameters.now)) ≡ [])
-        (IsAmong
-        (unless
-        (length arguments.now == parameter_count parameters.now) TypingRule.WrongCount place
-        ++ argument_faults (spec_of declarations.now) (scope_view scope.now)
-        (argument_forms arguments.now) (erased_variables (variable_forms parameters.now)))) }
+        (λ es. (faults_against (text_in context.now) (scope_in context.now) arguments.now
+        (shapes_of carriers.now) ≡ [])
+        × (map argument_view es.items ≡ elaboration.arguments (text_in context.now)
+        (slots_in context.now) (scope_in context.now)
+        (erased_arguments (argument_forms arguments.now))))
+        (IsAmong (faults_against (text_in context.now) (scope_in context.now) arguments.now
+        (shapes_of carriers.now))) }
 {
-    let is_count = are_counted(parameters, arguments.len());
-    require(is_count, TypingRule::WrongCount, place)?;
-    check_arguments(alloc, declarations, scope, parameters, arguments)
+    let mut checked = Vec::with_capacity(context.alloc, arguments.len())?;
+    for (index, argument) in arguments.iter().enumerate() {
+        let typed = check_argument(context, argument, carriers[index])?;
+        checked.push(typed)?;
+    }
+    Ok(checked)
 }
 
-/// Whether parameters are so many.
-fn are_counted(parameters: &[Variables], count: usize) -> bool
-    ensures { result ≡ (count == parameter_count parameters.now) }
+/// Checks an argument against its parameter's carrier.
+fn check_argument(
+    context: &Context<'_, '_, '_>,
+    argument: &pb_text_tree::Argument,
+    parameter: Carrier,
+) -> Result<Argument, TypeError>
+    ensures { Elaborates
+        (term_faults (text_in context.now) false (scope_in context.now)
+        (term_form argument.now.term)
+        ++ unless (may_be_alike (shape (text_in context.now) (scope_in context.now)
+        (erased_term (term_form argument.now.term))) (shape_of parameter))
+        TypingRule.WrongKind argument.now.place)
+        (shape (text_in context.now) (scope_in context.now)
+        (erased_term (term_form argument.now.term)))
+        (over_slots (text_in context.now) (slots_in context.now) argument.now.term) result }
 {
-    let mut left = count;
-    for group in parameters {
-        let names = group.names.len();
-        if names > left {
-            return false;
-        }
-        left -= names;
-    }
-    left == 0
-}
-
-/// Checks arguments against as many parameters.
-fn check_arguments<'t>(
-    alloc: Global,
-    declarations: &Declarations<'_>,
-    scope: &Scope<'_, 't>,
-    parameters: &[Variables],
-    arguments: &'t [Argument],
-) -> Result<(), TypeError>
-    requires { length arguments.now ≡ parameter_count parameters.now }
-    ensures { MatchResult result
-        (λ _. argument_faults (spec_of declarations.now) (scope_view scope.now)
-        (argument_forms arguments.now) (erased_variables (variable_forms parameters.now)) ≡ [])
-        (IsAmong (argument_faults (spec_of declarations.now) (scope_view scope.now)
-        (argument_forms arguments.now) (erased_variables (variable_forms parameters.now)))) }
-{
-    let mut rest = arguments;
-    for group in parameters {
-        let shape = sort_shape(declarations, &group.sort.text);
-        let (here, behind) = rest.split_at(group.names.len());
-        check_each(alloc, declarations, scope, here, &shape)?;
-        rest = behind;
-    }
-    Ok(())
-}
-
-/// Checks arguments that all have to be of one kind.
-fn check_each<'t>(
-    alloc: Global,
-    declarations: &Declarations<'_>,
-    scope: &Scope<'_, 't>,
-    arguments: &'t [Argument],
-    parameter: &Shape,
-) -> Result<(), TypeError>
-    ensures { MatchResult result
-        (λ _. each_faults (spec_of declarations.now) (scope_view scope.now) arguments.now
-        (shape_view parameter.now) ≡ [])
-        (IsAmong (each_faults (spec_of declarations.now) (scope_view scope.now) arguments.now
-        (shape_view parameter.now))) }
-{
-    for argument in arguments {
-        let shape = check_term(
-            alloc,
-            declarations,
-            scope,
-            Quantifiers::Forbidden,
-            &argument.term,
-        )?;
-        let accepted = shape.may_be_alike(parameter);
-        require(accepted, TypingRule::WrongKind, argument.place)?;
-    }
-    Ok(())
+    let typed = check_term(context, &argument.term)?;
+    let accepted = are_alike(&typed.shape, &carrier_shape(parameter));
+    require(accepted, TypingRule::WrongKind, argument.place)?;
+    Ok(typed)
 }

@@ -1,72 +1,63 @@
-//! Names in data: variables, enumerators and functions.
+//! Names in data: variables and enumerators.
 
-ghost use Rattle.std.specs.Prelude.{◌≡◌, List, Some, length, Contains, MatchResult};
-ghost use Rattle.std.specs.Option.{option_map};
+ghost use Rattle.std.specs.Prelude.{◌≡◌, Contains};
 ghost use Rattle.pb_text_tree.specs.Form.{named};
-ghost use Rattle.pb_typing_rules.specs.Faults.{function_faults, name_faults, unknown_faults};
-ghost use Rattle.pb_typing_rules.specs.Functions.{arity, function_named};
+ghost use Rattle.pb_typing_rules.specs.Faults.{name_faults, unknown_faults};
 ghost use Rattle.pb_typing_rules.specs.Scope.{named_shape};
 ghost use Rattle.pb_typing_rules.specs.Shapes.{is_limited};
 ghost use Rattle.pb_typing_rules.specs.Term.{shape_or_unknown};
-ghost use Rattle.pb_typing_declarations.specs.Enumerators.{position_shape};
 ghost use Rattle.pb_typing_declarations.specs.Faults.{unless};
-ghost use Rattle.pb_typing_declarations.specs.Shapes as model;
 ghost use Rattle.pb_typing_declarations.specs.View.{spec_of};
-ghost use Rattle.pb_typing.specs.Scopes.{scope_view};
+ghost use Rattle.pb_typed_tree.specs.Elaboration as elaboration;
+ghost use Rattle.pb_typed_tree.specs.View.{shape_view};
+ghost use Rattle.pb_typing.specs.Contexts.{scope_in, slots_in, text_in};
+ghost use Rattle.pb_typing.specs.Elaborated.{Resolves};
 ghost use Rattle.pb_typing.specs.Found.{Finds};
-ghost use Rattle.pb_typing.specs.View.{function_view, shape_view};
 
-use crate::function::Function;
+use crate::context::Context;
 use crate::operation::fault;
-use crate::scope::{Scope, variable_shape};
-use crate::shape::Shape;
-use pb_text_meaning::NamedFunction;
+use crate::scope::find_variable;
+use crate::shape::is_limited;
 use pb_text_tree::{Name, Place};
-use pb_typing_declarations::{Declarations, Enumerator, TypingFault, TypingRule, require};
+use pb_typed_tree::{Argument as TypedTerm, Enumerator, Shape, Term};
+use pb_typing_declarations::{Declarations, TypingFault, TypingRule, require};
 
-/// The shape of a variable in scope, else of an enumerator.
-pub(crate) fn name_shape(
-    declarations: &Declarations<'_>,
-    scope: &Scope<'_, '_>,
+/// A variable in scope, else an enumerator.
+pub(crate) fn check_name(
+    context: &Context<'_, '_, '_>,
     name: &Name,
-) -> Result<Shape, TypingFault>
-    ensures { Finds (name_faults (spec_of declarations.now)
-        (named_shape (spec_of declarations.now) (scope_view scope.now) (named name.now).text)
+) -> Result<TypedTerm, TypingFault>
+    ensures { Resolves
+        (name_faults (text_in context.now)
+        (named_shape (text_in context.now) (scope_in context.now) (named name.now).text)
         (named name.now))
-        (shape_or_unknown (named_shape (spec_of declarations.now) (scope_view scope.now)
-        (named name.now).text)) result }
+        (shape_or_unknown (named_shape (text_in context.now) (scope_in context.now)
+        (named name.now).text))
+        (elaboration.named (text_in context.now) (slots_in context.now (named name.now).text)
+        (named name.now).text) result }
 {
-    match known_shape(declarations, scope, &name.text) {
-        Some(shape) => limited(shape, name.place),
-        None => Err(unknown(declarations, name)),
+    if let Some(variable) = find_variable(context.scope, &name.text) {
+        return Ok(TypedTerm {
+            term: Term::Slot(variable.slot),
+            shape: limited(variable.shape, name.place)?,
+        });
     }
-}
-
-/// The shape of a variable in scope, else of an enumerator, if the name is one of the two.
-pub(crate) fn known_shape(
-    declarations: &Declarations<'_>,
-    scope: &Scope<'_, '_>,
-    name: &str,
-) -> Option<Shape>
-    ensures { option_map shape_view result ≡ named_shape (spec_of declarations.now)
-        (scope_view scope.now) name.now }
-{
-    match variable_shape(scope, name) {
-        Some(shape) => Some(shape),
-        None => struct_shape(declarations.enumerator(name)),
-    }
-}
-
-/// The shape of an enumerator's sort.
-fn struct_shape(enumerator: Option<Enumerator>) -> Option<Shape>
-    ensures { option_map shape_view result ≡ option_map position_shape enumerator }
-{
-    match enumerator {
-        Some(enumerator) => Some(Shape::Places {
-            sort: enumerator.sort,
-            count: enumerator.count,
-        }),
-        None => None,
+    match context.declarations.enumerator(&name.text) {
+        Some(found) => {
+            let shape = Shape::Places {
+                sort: found.sort,
+                count: found.count,
+            };
+            let enumerator = Enumerator {
+                sort: found.sort,
+                place: found.place,
+            };
+            Ok(TypedTerm {
+                term: Term::Enumerator(enumerator),
+                shape: limited(shape, name.place)?,
+            })
+        }
+        None => Err(unknown(context.declarations, name)),
     }
 }
 
@@ -75,56 +66,16 @@ fn limited(shape: Shape, place: Place) -> Result<Shape, TypingFault>
     ensures { Finds (unless (is_limited (shape_view shape)) TypingRule.LargeInterval place)
         (shape_view shape) result }
 {
-    let accepted = shape.is_limited();
-    require(accepted, TypingRule::LargeInterval, place)?;
+    require(is_limited(&shape), TypingRule::LargeInterval, place)?;
     Ok(shape)
 }
 
 /// What is wrong with a name in data that stands for nothing there.
-fn unknown(declarations: &Declarations<'_>, name: &Name) -> TypingFault
+pub(crate) fn unknown(declarations: &Declarations<'_>, name: &Name) -> TypingFault
     ensures { Contains (unknown_faults (spec_of declarations.now) (named name.now)) result }
 {
     match declarations.equation(&name.text) {
         Some(_) => fault(TypingRule::PredicateInData, name.place),
         None => fault(TypingRule::UnknownName, name.place),
-    }
-}
-
-/// A function that is there and takes so many arguments.
-pub(crate) fn find_function(
-    declarations: &Declarations<'_>,
-    name: &Name,
-    count: usize,
-) -> Result<Function, TypingFault>
-    ensures { MatchResult result
-        (λ f. (function_named (spec_of declarations.now) (named name.now).text
-        ≡ Some (function_view f)) × (arity (function_view f) ≡ count))
-        (λ e. (ss : List model.Shape) → length ss ≡ count
-        → Contains (function_faults (spec_of declarations.now)
-        (function_named (spec_of declarations.now) (named name.now).text) ss
-        (named name.now)) e) }
-{
-    match function_named(declarations, &name.text) {
-        Some(function) => {
-            if function.arity() == count {
-                Ok(function)
-            } else {
-                Err(fault(TypingRule::WrongCount, name.place))
-            }
-        }
-        None => Err(unknown(declarations, name)),
-    }
-}
-
-/// The function of a name.
-pub(crate) fn function_named(declarations: &Declarations<'_>, name: &str) -> Option<Function>
-    ensures { option_map function_view result ≡ function_named (spec_of declarations.now) name.now }
-{
-    match NamedFunction::named(name) {
-        Some(function) => Some(Function::of(function)),
-        None => match struct_shape(declarations.recogniser(name)) {
-            Some(shape) => Some(Function::Recogniser(shape)),
-            None => None,
-        },
     }
 }

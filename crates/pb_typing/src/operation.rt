@@ -1,4 +1,4 @@
-//! Operations on whole numbers at the shapes of their operands: what comes out, and which rule
+//! Operations on whole numbers at the shapes of their operands: what comes out, or which rule
 //! fails.
 
 ghost use Rattle.std.specs.Prelude.{◌≡◌, [], ◌∷◌, true};
@@ -8,12 +8,13 @@ ghost use Rattle.pb_typing_rules.specs.Faults.{kind_faults, operator_faults};
 ghost use Rattle.pb_typing_rules.specs.Functions as functions;
 ghost use Rattle.pb_typing_rules.specs.Shapes.{Computed, binary_shape, may_divide, unary_shape};
 ghost use Rattle.pb_typing_declarations.specs.Shapes as model;
+ghost use Rattle.pb_typed_tree.specs.View.{shape_view};
 ghost use Rattle.pb_typing.specs.Found.{Finds};
-ghost use Rattle.pb_typing.specs.View.{binary_operation, shape_view, unary_operation};
+ghost use Rattle.pb_typing.specs.View.{binary_operation, unary_operation};
 
-use crate::shape::Shape;
 use pb_intervals::Interval;
 use pb_text_tree::Place;
+use pb_typed_tree::Shape;
 use pb_typing_declarations::{TypingFault, TypingRule, require};
 
 /// A rule that fails at a place.
@@ -47,26 +48,13 @@ impl UnaryOperation {
         }
     }
 
-    /// The shape of what it gives.
-    pub(crate) fn shape(self, operand: Shape) -> Shape
-        ensures { shape_view result ≡ unary_shape (unary_operation self) (shape_view operand) }
-    {
-        match operand {
-            Shape::Wholes(interval) => Shape::of_interval(self.interval(interval)),
-            Shape::Unknown => Shape::Unknown,
-            Shape::Truths => Shape::Unknown,
-            Shape::Places { .. } => Shape::Unknown,
-        }
-    }
-
-    /// The same, where no rule fails.
+    /// The shape of what it gives, where no rule fails.
     pub(crate) fn check(self, operand: Shape, place: Place) -> Result<Shape, TypingFault>
         ensures { Finds
             (kind_faults (functions.OfOne (unary_operation self)) (shape_view operand ∷ []) place)
             (unary_shape (unary_operation self) (shape_view operand)) result }
     {
         match operand {
-            Shape::Unknown => Ok(Shape::Unknown),
             Shape::Wholes(interval) => match self.interval(interval) {
                 Some(interval) => Ok(Shape::Wholes(interval)),
                 None => Err(fault(TypingRule::LargeInterval, place)),
@@ -122,31 +110,7 @@ impl BinaryOperation {
         }
     }
 
-    /// The shape of what it gives.
-    pub(crate) fn shape(self, left: Shape, right: Shape) -> Shape
-        ensures { shape_view result ≡ binary_shape (binary_operation self) (shape_view left)
-            (shape_view right) }
-    {
-        match left {
-            Shape::Wholes(left) => match right {
-                Shape::Wholes(right) => {
-                    if self.may_divide(right) {
-                        Shape::of_interval(self.interval(left, right))
-                    } else {
-                        Shape::Unknown
-                    }
-                }
-                Shape::Unknown => Shape::Unknown,
-                Shape::Truths => Shape::Unknown,
-                Shape::Places { .. } => Shape::Unknown,
-            },
-            Shape::Unknown => Shape::Unknown,
-            Shape::Truths => Shape::Unknown,
-            Shape::Places { .. } => Shape::Unknown,
-        }
-    }
-
-    /// The same, where no rule fails.
+    /// The shape of what it gives, where no rule fails.
     pub(crate) fn check(self, left: Shape, right: Shape, place: Place) -> Result<Shape, TypingFault>
         ensures { Finds
             (operator_faults (Computed (binary_operation self)) (shape_view left)
@@ -154,17 +118,7 @@ impl BinaryOperation {
             (binary_shape (binary_operation self) (shape_view left) (shape_view right)) result }
     {
         match left {
-            Shape::Unknown => match right {
-                Shape::Unknown => Ok(Shape::Unknown),
-                Shape::Wholes(right) => {
-                    let divides = self.may_divide(right);
-                    require(divides, TypingRule::Divisor, place)?;
-                    Ok(Shape::Unknown)
-                }
-                Shape::Truths | Shape::Places { .. } => Err(fault(TypingRule::WrongKind, place)),
-            },
             Shape::Wholes(left) => match right {
-                Shape::Unknown => Ok(Shape::Unknown),
                 Shape::Wholes(right) => self.check_intervals(left, right, place),
                 Shape::Truths | Shape::Places { .. } => Err(fault(TypingRule::WrongKind, place)),
             },

@@ -1,26 +1,19 @@
-//! Operators of terms at the shapes of their operands.
+//! Operators at the shapes of their operands.
 
 ghost use Rattle.std.specs.Prelude.{◌≡◌};
 ghost use Rattle.pb_text_meaning.specs.Erase.{of_comparison};
-ghost use Rattle.pb_intervals.specs.Operation as operations;
-ghost use Rattle.pb_typing_rules.specs.Faults.{negative_faults, operator_faults};
-ghost use Rattle.pb_typing_rules.specs.Shapes.{Computed, binary_shape, kind_of, unary_shape};
+ghost use Rattle.pb_typing_rules.specs.Faults.{operator_faults};
+ghost use Rattle.pb_typing_rules.specs.Shapes.{Computed, binary_shape, kind_of};
 ghost use Rattle.pb_typing_declarations.specs.Shapes as model;
-ghost use Rattle.pb_typing.specs.Found.{Finds};
-ghost use Rattle.pb_typing.specs.View.{binary_operation, operation_of, shape_view};
+ghost use Rattle.pb_typed_tree.specs.View.{shape_view};
+ghost use Rattle.pb_typing.specs.Found.{Finds, Judges};
+ghost use Rattle.pb_typing.specs.View.{binary_operation, operation_of};
 
-use crate::operation::{BinaryOperation, UnaryOperation};
-use crate::shape::Shape;
+use crate::operation::BinaryOperation;
+use crate::shape::{are_alike, is_whole};
 use pb_text_tree::{Arithmetic, Comparison, Place};
-use pb_typing_declarations::{TypingFault, TypingRule, require};
-
-/// The negation of a number.
-pub(crate) fn negative(shape: Shape, place: Place) -> Result<Shape, TypingFault>
-    ensures { Finds (negative_faults (shape_view shape) place)
-        (unary_shape operations.Negation (shape_view shape)) result }
-{
-    UnaryOperation::Negation.check(shape, place)
-}
+use pb_typed_tree::Shape;
+use pb_typing_declarations::{TypeError, TypingFault, TypingRule, require};
 
 /// A comparison of two values.
 pub(crate) fn compare(
@@ -35,9 +28,9 @@ pub(crate) fn compare(
         result }
 {
     let accepted = match comparison {
-        Comparison::Equal | Comparison::NotEqual => left.may_be_alike(&right),
+        Comparison::Equal | Comparison::NotEqual => are_alike(&left, &right),
         Comparison::Less | Comparison::LessEqual | Comparison::Greater | Comparison::GreaterEqual =>
-            left.may_be_whole() && right.may_be_whole(),
+            is_whole(&left) && is_whole(&right),
     };
     require(accepted, TypingRule::WrongKind, place)?;
     Ok(Shape::Truths)
@@ -57,24 +50,17 @@ fn operation_of(operator: Arithmetic) -> BinaryOperation
 }
 
 /// The shape of an operation on two numbers.
-pub(crate) fn operation_shape(operator: Arithmetic, left: Shape, right: Shape) -> Shape
-    ensures { shape_view result ≡ binary_shape (operation_of operator) (shape_view left)
-        (shape_view right) }
-{
-    operation_of(operator).shape(left, right)
-}
-
-/// The same, where no rule fails.
 pub(crate) fn compute(
     operator: Arithmetic,
     left: Shape,
     right: Shape,
     place: Place,
-) -> Result<Shape, TypingFault>
-    ensures { Finds
+) -> Result<Shape, TypeError>
+    ensures { Judges
         (operator_faults (Computed (operation_of operator)) (shape_view left)
         (shape_view right) place)
         (binary_shape (operation_of operator) (shape_view left) (shape_view right)) result }
 {
-    operation_of(operator).check(left, right, place)
+    let shape = operation_of(operator).check(left, right, place)?;
+    Ok(shape)
 }

@@ -1,25 +1,14 @@
-//! What is known of a data term's values: their kind, and the interval of whole numbers.
+//! What the shapes of data terms allow: their kinds, and intervals within 2^62.
 
-ghost use Rattle.std.specs.Prelude.{◌≡◌, pos};
+ghost use Rattle.std.specs.Prelude.{◌≡◌, true, false, pos, MatchOption};
 ghost use Rattle.pb_intervals.specs.Interval.{literals, singleton, within};
+ghost use Rattle.pb_typing_declarations.specs.Entries.{shape_of};
 ghost use Rattle.pb_typing_rules.specs.Shapes as shapes;
-ghost use Rattle.pb_typing.specs.View.{shape_view};
+ghost use Rattle.pb_typed_tree.specs.View.{shape_view};
 
 use pb_intervals::Interval;
-
-/// Kind and interval together.
-#[derive(Clone, Copy, Debug, PartialEq, Eq)]
-pub enum Shape {
-    /// Nothing is known: some part has a fault.
-    Unknown,
-    /// False and true.
-    Truths,
-    /// The enumerators of the struct with the number `sort` among the structs in declared order,
-    /// `count` in number.
-    Places { sort: u8, count: u8 },
-    /// The whole numbers of an interval.
-    Wholes(Interval),
-}
+use pb_sorts::Carrier;
+use pb_typed_tree::Shape;
 
 /// The interval of a literal, if it is within 2^62.
 pub(crate) fn literal_interval(number: u64) -> Option<Interval>
@@ -32,80 +21,84 @@ pub(crate) fn literal_interval(number: u64) -> Option<Interval>
     }
 }
 
-impl Shape {
-    /// The whole numbers of an interval, if there is one.
-    pub(crate) fn of_interval(interval: Option<Interval>) -> Shape
-        ensures { shape_view result ≡ shapes.of_interval interval }
-    {
-        match interval {
-            Some(interval) => Shape::Wholes(interval),
-            None => Shape::Unknown,
+/// The shape of a carrier's values.
+pub(crate) fn carrier_shape(carrier: Carrier) -> Shape
+    ensures { shape_view result ≡ shape_of carrier }
+{
+    match carrier {
+        Carrier::Bool => Shape::Truths,
+        Carrier::Enum(enumeration) => Shape::Places {
+            sort: enumeration.sort,
+            count: enumeration.count,
+        },
+        Carrier::Range(range) => {
+            Shape::Wholes(Interval::new(i64::from(range.low), i64::from(range.high)))
         }
     }
+}
 
-    /// Whether values may be Booleans. What is unknown passes.
-    pub(crate) fn may_be_truth(&self) -> bool
-        ensures { result ≡ shapes.may_be_truth (shape_view self.now) }
-    {
-        matches!(self, Shape::Unknown | Shape::Truths)
+/// Whether values are Booleans.
+pub(crate) fn is_truth(shape: &Shape) -> bool
+    ensures { result ≡ shapes.may_be_truth (shape_view shape.now) }
+{
+    matches!(shape, Shape::Truths)
+}
+
+/// Whether values are whole numbers.
+pub(crate) fn is_whole(shape: &Shape) -> bool
+    ensures { result ≡ shapes.may_be_whole (shape_view shape.now) }
+{
+    matches!(shape, Shape::Wholes(_))
+}
+
+/// Whether values are of one kind.
+pub(crate) fn are_alike(left: &Shape, right: &Shape) -> bool
+    ensures { result ≡ shapes.may_be_alike (shape_view left.now) (shape_view right.now) }
+{
+    match (left, right) {
+        (Shape::Truths, Shape::Truths) => true,
+        (Shape::Places { sort, .. }, Shape::Places { sort: other, .. }) => sort == other,
+        (Shape::Wholes(_), Shape::Wholes(_)) => true,
+        _ => false,
     }
+}
 
-    /// Whether values may be whole numbers. What is unknown passes.
-    pub(crate) fn may_be_whole(&self) -> bool
-        ensures { result ≡ shapes.may_be_whole (shape_view self.now) }
-    {
-        matches!(self, Shape::Unknown | Shape::Wholes(_))
+/// What is known of either of two values, if they are of one kind.
+pub(crate) fn hull(left: Shape, right: Shape) -> Option<Shape>
+    ensures { MatchOption result
+        (shapes.may_be_alike (shape_view left) (shape_view right) ≡ false)
+        (λ s. (shapes.may_be_alike (shape_view left) (shape_view right) ≡ true)
+        × (shape_view s ≡ shapes.hull (shape_view left) (shape_view right))) }
+{
+    match left {
+        Shape::Truths => match right {
+            Shape::Truths => Some(Shape::Truths),
+            _ => None,
+        },
+        Shape::Places { sort, count } => match right {
+            Shape::Places { sort: s, count: c } if sort == s => Some(Shape::Places {
+                sort,
+                count: count.max(c),
+            }),
+            _ => None,
+        },
+        Shape::Wholes(interval) => match right {
+            Shape::Wholes(other) => Some(Shape::Wholes(interval.hull(other))),
+            _ => None,
+        },
     }
+}
 
-    /// Whether values may be of one kind. What is unknown passes.
-    pub(crate) fn may_be_alike(&self, other: &Shape) -> bool
-        ensures { result ≡ shapes.may_be_alike (shape_view self.now) (shape_view other.now) }
-    {
-        match (self, other) {
-            (Shape::Unknown, _) | (_, Shape::Unknown) => true,
-            (Shape::Truths, Shape::Truths) => true,
-            (Shape::Places { sort, .. }, Shape::Places { sort: other, .. }) => sort == other,
-            (Shape::Wholes(_), Shape::Wholes(_)) => true,
-            _ => false,
-        }
-    }
-
-    /// What is known of either of two values.
-    pub(crate) fn hull(self, other: Shape) -> Shape
-        ensures { shape_view result ≡ shapes.hull (shape_view self) (shape_view other) }
-    {
-        match self {
-            Shape::Unknown => Shape::Unknown,
-            Shape::Truths => match other {
-                Shape::Truths => Shape::Truths,
-                _ => Shape::Unknown,
-            },
-            Shape::Places { sort, count } => match other {
-                Shape::Places { sort: s, count: c } if sort == s => Shape::Places {
-                    sort,
-                    count: count.max(c),
-                },
-                _ => Shape::Unknown,
-            },
-            Shape::Wholes(interval) => match other {
-                Shape::Wholes(other) => Shape::Wholes(interval.hull(other)),
-                _ => Shape::Unknown,
-            },
-        }
-    }
-
-    /// Whether all values are within 2^62.
-    pub(crate) fn is_limited(&self) -> bool
-        ensures { result ≡ shapes.is_limited (shape_view self.now) }
-    {
-        match self {
-            Shape::Wholes(interval) => interval.is_within(Interval::literals()),
-            Shape::Unknown => true,
-            Shape::Truths => true,
-            Shape::Places { count, .. } => {
-                let _count = *count;
-                true
-            }
+/// Whether all values are within 2^62.
+pub(crate) fn is_limited(shape: &Shape) -> bool
+    ensures { result ≡ shapes.is_limited (shape_view shape.now) }
+{
+    match shape {
+        Shape::Wholes(interval) => interval.is_within(Interval::literals()),
+        Shape::Truths => true,
+        Shape::Places { count, .. } => {
+            let _count = *count;
+            true
         }
     }
 }

@@ -1,25 +1,20 @@
 //! The check of a whole text.
 
 ghost use Rattle.std.specs.Prelude.{◌≡◌, ◌≢◌, ◌++◌, [], true, MatchResult, OnOk, IfErr};
-ghost use Rattle.pb_text_tree.specs.Form.{equation_form, spec_form};
-ghost use Rattle.pb_text_meaning.specs.Erase.{erase, erased_variables};
+ghost use Rattle.pb_text_tree.specs.Form.{spec_form};
+ghost use Rattle.pb_text_meaning.specs.Erase.{erase};
 ghost use Rattle.pb_typing_declarations.specs.Faults.{IsAmong};
-ghost use Rattle.pb_typing_declarations.specs.View.{spec_of, text_of};
-ghost use Rattle.pb_typing_rules.specs.Faults.{faults, formula_faults, initial_faults};
-ghost use Rattle.pb_typing_rules.specs.Faults.{right_faults};
-ghost use Rattle.pb_typing_rules.specs.Scope.{bound, outermost};
+ghost use Rattle.pb_typing_declarations.specs.View.{text_of};
+ghost use Rattle.pb_typing_rules.specs.Faults.{faults, initial_faults, right_faults};
 ghost use Rattle.pb_typing_rules.specs.WellTyped.{IsWellTyped};
 ghost use Rattle.pb_typing.specs.Checked.{IsChecked};
 
-use crate::equation::elaborate_equations;
-use crate::formula::check_formula;
+use crate::equation::check_rights;
 use crate::initial::check_initial;
-use crate::polarity::Polarity;
-use crate::scope::{Scope, variable_shapes};
 use crate::typed::Typed;
 use pb_sorts::Layout;
-use pb_text_tree::{Equation, Spec};
-use pb_typed_tree::Initial;
+use pb_text_tree::Spec;
+use pb_typed_tree::{Equation, Initial};
 use pb_typing_declarations::{Declarations, TypeError};
 use std::alloc::Global;
 
@@ -52,7 +47,7 @@ pub fn check(alloc: Global, spec: Spec) -> Result<Typed, (Spec, TypeError)>
 #[derive(Drop)]
 struct Checked {
     layout: Layout,
-    equations: Vec<pb_typed_tree::Equation>,
+    equations: Vec<Equation>,
     initial: Initial,
 }
 
@@ -67,8 +62,7 @@ fn check_spec(alloc: Global, spec: &Spec) -> Result<Checked, TypeError>
     check_declared(alloc, &declarations, spec)
 }
 
-/// Checks each right side, then the initial instance, by what the text declares. The typed trees of
-/// right sides are made once all are checked.
+/// Checks each right side, then the initial instance, by what the text declares.
 fn check_declared(
     alloc: Global,
     declarations: &Declarations<'_>,
@@ -82,60 +76,12 @@ fn check_declared(
         (IsAmong (right_faults (erase (spec_form spec.now)) (spec_form spec.now).equations
         ++ initial_faults (erase (spec_form spec.now)) (spec_form spec.now).initial)) }
 {
-    check_rights(alloc, declarations, spec)?;
     let layout = declarations.layout(alloc)?;
+    let equations = check_rights(alloc, declarations, spec, &layout)?;
     let initial = check_initial(alloc, declarations, spec, &layout)?;
-    let equations = elaborate_equations(alloc, declarations, spec)?;
     Ok(Checked {
         layout,
         equations,
         initial,
     })
-}
-
-/// Checks the right side of each equation.
-fn check_rights(
-    alloc: Global,
-    declarations: &Declarations<'_>,
-    spec: &Spec,
-) -> Result<(), TypeError>
-    requires { text_of declarations.now ≡ spec_form spec.now }
-    ensures { MatchResult result
-        (λ _. right_faults (spec_of declarations.now) (spec_form spec.now).equations ≡ [])
-        (IsAmong (right_faults (spec_of declarations.now) (spec_form spec.now).equations)) }
-{
-    for equation in &spec.equations {
-        check_right(alloc, declarations, spec, equation)?;
-    }
-    Ok(())
-}
-
-/// Checks a right side under its equation's parameters.
-fn check_right(
-    alloc: Global,
-    declarations: &Declarations<'_>,
-    spec: &Spec,
-    equation: &Equation,
-) -> Result<(), TypeError>
-    requires { text_of declarations.now ≡ spec_form spec.now }
-    ensures { MatchResult result
-        (λ _. formula_faults (spec_of declarations.now) true
-        (bound (spec_of declarations.now)
-        (erased_variables (equation_form equation.now).parameters) outermost)
-        (equation_form equation.now).right ≡ [])
-        (IsAmong (formula_faults (spec_of declarations.now) true
-        (bound (spec_of declarations.now)
-        (erased_variables (equation_form equation.now).parameters) outermost)
-        (equation_form equation.now).right)) }
-{
-    let parameters = variable_shapes(alloc, declarations, &equation.parameters)?;
-    let scope = Scope::Inner(&parameters, &Scope::Outermost);
-    check_formula(
-        alloc,
-        declarations,
-        spec,
-        &scope,
-        Polarity::Positive,
-        &equation.right,
-    )
 }

@@ -1,251 +1,264 @@
-//! The check of data terms.
+//! The check of data terms in which no quantifier may stand: the typed term, or which rule fails.
 
-ghost use Rattle.std.specs.Prelude.{◌≡◌, ◌++◌, [], MatchResult, false, pos, true};
-ghost use Rattle.pb_text_tree.specs.Form.{FormulaForm, TermForm, argument_forms, arithmetic_links};
-ghost use Rattle.pb_text_tree.specs.Form.{calculated, named, term_form};
+ghost use Rattle.std.specs.Prelude.{◌≡◌, [], false, length, pos, MatchResult};
+ghost use Rattle.pb_text_tree.specs.Form.{TermForm, argument_forms, arithmetic_links, calculated};
+ghost use Rattle.pb_text_tree.specs.Form.{chained, named, term_form, term_links};
 ghost use Rattle.pb_intervals.specs.Interval.{is_within, literals, singleton};
-ghost use Rattle.pb_text_meaning.specs.Erase.{erased_term};
-ghost use Rattle.pb_typing_rules.specs.Faults.{formula_faults, term_faults};
-ghost use Rattle.pb_typing_rules.specs.Shapes.{literal_shape, may_be_truth};
-ghost use Rattle.pb_typing_rules.specs.Term.{shape};
+ghost use Rattle.pb_typing_rules.specs.Shapes.{literal_shape};
 ghost use Rattle.pb_typing_declarations.specs.Faults.{IsAmong, unless};
-ghost use Rattle.pb_typing_declarations.specs.Shapes as model;
-ghost use Rattle.pb_typing_declarations.specs.View.{spec_of};
-ghost use Rattle.pb_typing.specs.Chains.{chain_faults, chain_shape};
-ghost use Rattle.pb_typing.specs.Found.{Finds};
-ghost use Rattle.pb_typing.specs.Scopes.{scope_view};
-ghost use Rattle.pb_typing.specs.View.{Judges, are_allowed};
+ghost use Rattle.pb_typed_tree.specs.Tree as tree;
+ghost use Rattle.pb_typed_tree.specs.View.{shape_view, term_views};
+ghost use Rattle.pb_typing.specs.Chains.{link_faults, operand_shape, own_faults};
+ghost use Rattle.pb_typing.specs.Contexts.{ChecksTerm, scope_in, slots_in, text_in};
+ghost use Rattle.pb_typing.specs.Elaborated.{Elaborates, Resolves};
+ghost use Rattle.pb_typing.specs.Functions.{IsChoice, IsOfOne, IsOfTwo};
+ghost use Rattle.pb_typing.specs.Slots.{link_terms, over_slots};
 
-use crate::name::{find_function, name_shape};
-use crate::operation::fault;
-use crate::operator::{compare, compute, negative};
-use crate::quantifiers::Quantifiers;
-use crate::scope::{Scope, variable_shapes};
-use crate::shape::{Shape, literal_interval};
-use pb_text_tree::{Argument, ArithmeticLink, Name, Place, Term, TermLink};
-use pb_typing_declarations::{Declarations, TypeError, TypingFault, TypingRule, require};
-use std::alloc::Global;
+use crate::apply::{apply_one, apply_two, choose, compared, negated, operated};
+use crate::context::Context;
+use crate::function::{Extreme, Function, FunctionOfOne, find_function};
+use crate::name::check_name;
+use crate::operation::{UnaryOperation, fault};
+use crate::operator::compute;
+use crate::shape::{is_truth, literal_interval};
+use pb_text_tree::{Argument, ArithmeticLink, Connective, Name, Place, TermLink};
+use pb_typed_tree::{Argument as TypedTerm, Link, Shape, Term};
+use pb_typing_declarations::{TypeError, TypingFault, TypingRule, require};
 
 /// A literal.
-fn literal(number: u64, place: Place) -> Result<Shape, TypingFault>
-    ensures { Finds (unless (is_within (singleton
-        (pos number)) literals) TypingRule.LargeInterval place) (literal_shape number) result }
+fn literal(number: u64, place: Place) -> Result<TypedTerm, TypingFault>
+    ensures { Resolves (unless (is_within (singleton (pos number)) literals)
+        TypingRule.LargeInterval place) (literal_shape number) (tree.Number number) result }
 {
     match literal_interval(number) {
-        Some(interval) => Ok(Shape::Wholes(interval)),
+        Some(interval) => Ok(TypedTerm {
+            term: Term::Number(number),
+            shape: Shape::Wholes(interval),
+        }),
         None => Err(fault(TypingRule::LargeInterval, place)),
     }
 }
 
-/// Checks a data term of a formula, which must be a Boolean; the place is that of `val`.
-pub(crate) fn check_truth<'t>(
-    alloc: Global,
-    declarations: &Declarations<'_>,
-    scope: &Scope<'_, 't>,
-    term: &'t Term,
-    place: Place,
-) -> Result<(), TypeError>
-    ensures { MatchResult result
-        (λ _. formula_faults (spec_of declarations.now) true (scope_view scope.now)
-        (FormulaForm.val place (term_form term.now)) ≡ [])
-        (IsAmong (formula_faults (spec_of declarations.now) true (scope_view scope.now)
-        (FormulaForm.val place (term_form term.now)))) }
-{
-    check_boolean(
-        alloc,
-        declarations,
-        scope,
-        Quantifiers::Allowed,
-        term,
-        place,
-    )?;
-    Ok(())
-}
-
-/// Checks an operand that must be a Boolean, of a term at a place that is one too.
+/// Checks a data term where no quantifier may stand.
 #[cycle(terms)]
-fn check_boolean<'t>(
-    alloc: Global,
-    declarations: &Declarations<'_>,
-    scope: &Scope<'_, 't>,
-    quantifiers: Quantifiers,
-    operand: &'t Term,
-    place: Place,
-) -> Result<Shape, TypeError>
-    ensures { Judges
-        (term_faults (spec_of declarations.now) (are_allowed quantifiers) (scope_view scope.now)
-        (term_form operand.now)
-        ++ unless (may_be_truth (shape (spec_of declarations.now) (scope_view scope.now)
-        (erased_term (term_form operand.now))))
-        TypingRule.WrongKind place)
-        model.Truths result }
-{
-    let shape = check_term(alloc, declarations, scope, quantifiers, operand)?;
-    let accepted = shape.may_be_truth();
-    require(accepted, TypingRule::WrongKind, place)?;
-    Ok(Shape::Truths)
-}
-
-/// Checks a data term: its shape, if no rule fails.
-#[cycle(terms)]
-pub(crate) fn check_term<'t>(
-    alloc: Global,
-    declarations: &Declarations<'_>,
-    scope: &Scope<'_, 't>,
-    quantifiers: Quantifiers,
-    term: &'t Term,
-) -> Result<Shape, TypeError>
-    ensures { Judges (term_faults (spec_of declarations.now) (are_allowed quantifiers)
-        (scope_view scope.now) (term_form term.now))
-        (shape (spec_of declarations.now) (scope_view scope.now)
-        (erased_term (term_form term.now))) result }
+pub(crate) fn check_term(
+    context: &Context<'_, '_, '_>,
+    term: &pb_text_tree::Term,
+) -> Result<TypedTerm, TypeError>
+    ensures { ChecksTerm context.now (term_form term.now) result }
 {
     match term {
-        Term::Constant { .. } => Ok(Shape::Truths),
-        Term::Number { place, value } => Ok(literal(*value, *place)?),
-        Term::Name(name) => Ok(name_shape(declarations, scope, name)?),
-        Term::Not { place, operand } => {
-            check_boolean(alloc, declarations, scope, quantifiers, operand, *place)
+        pb_text_tree::Term::Constant { value, .. } => Ok(TypedTerm {
+            term: Term::Constant(*value),
+            shape: Shape::Truths,
+        }),
+        pb_text_tree::Term::Number { place, value } => Ok(literal(*value, *place)?),
+        pb_text_tree::Term::Name(name) => Ok(check_name(context, name)?),
+        pb_text_tree::Term::Not { place, operand } => {
+            let operand = check_term(context, operand)?;
+            negated(context.alloc, operand, *place)
         }
-        Term::Negative { place, operand } => {
-            let shape = check_term(alloc, declarations, scope, Quantifiers::Forbidden, operand)?;
-            Ok(negative(shape, *place)?)
+        pb_text_tree::Term::Negative { place, operand } => {
+            let operand = check_term(context, operand)?;
+            operated(context.alloc, UnaryOperation::Negation, operand, *place)
         }
-        Term::Chain { first, links, .. } => {
-            check_chain(alloc, declarations, scope, quantifiers, first, links)
-        }
-        Term::Comparison {
+        pb_text_tree::Term::Chain {
+            connective,
+            first,
+            links,
+        } => check_chain(context, *connective, first, links),
+        pb_text_tree::Term::Comparison {
             place,
             comparison,
             left,
             right,
         } => {
-            let left = check_term(alloc, declarations, scope, Quantifiers::Forbidden, left)?;
-            let right = check_term(alloc, declarations, scope, Quantifiers::Forbidden, right)?;
-            Ok(compare(*comparison, left, right, *place)?)
+            let left = check_term(context, left)?;
+            let right = check_term(context, right)?;
+            compared(context.alloc, *comparison, left, right, *place)
         }
-        Term::Arithmetic { first, links } => {
-            check_arithmetic(alloc, declarations, scope, quantifiers, first, links)
-        }
-        Term::Application {
+        pb_text_tree::Term::Arithmetic { first, links } => check_arithmetic(context, first, links),
+        pb_text_tree::Term::Application {
             function,
             arguments,
-        } => check_application(alloc, declarations, scope, function, arguments),
-        Term::Quantified {
-            place,
-            variables,
-            body,
-            ..
-        } => {
-            let allowed = quantifiers.are_allowed();
-            require(allowed, TypingRule::QuantifierInData, *place)?;
-            declarations.check_variables(alloc, variables)?;
-            let table = variable_shapes(alloc, declarations, variables)?;
-            let inner = Scope::Inner(&table, &*scope);
-            check_boolean(alloc, declarations, &inner, quantifiers, body, *place)
+        } => check_application(context, function, arguments),
+        pb_text_tree::Term::Quantified { place, .. } => {
+            Err(TypeError::At(fault(TypingRule::QuantifierInData, *place)))
         }
     }
 }
 
-/// Checks operands of one connective: which one makes no difference.
+/// Checks operands of one connective.
 #[cycle(terms)]
-fn check_chain<'t>(
-    alloc: Global,
-    declarations: &Declarations<'_>,
-    scope: &Scope<'_, 't>,
-    quantifiers: Quantifiers,
-    first: &'t Term,
-    links: &'t [TermLink],
-) -> Result<Shape, TypeError>
-    ensures { Judges
-        (chain_faults (spec_of declarations.now) (are_allowed quantifiers) (scope_view scope.now)
-        (term_form first.now) links.now)
-        (chain_shape (shape (spec_of declarations.now) (scope_view scope.now)
-        (erased_term (term_form first.now))) links.now)
-        result }
+fn check_chain(
+    context: &Context<'_, '_, '_>,
+    connective: Connective,
+    first: &pb_text_tree::Term,
+    links: &[TermLink],
+) -> Result<TypedTerm, TypeError>
+    ensures { ChecksTerm context.now (chained (TermForm.connected connective)
+        (term_form first.now) (term_links links.now)) result }
 {
-    let mut left = check_term(alloc, declarations, scope, quantifiers, first)?;
-    for (index, link) in links.iter().enumerate() {
-        require(left.may_be_truth(), TypingRule::WrongKind, link.place)?;
-        left = check_term(alloc, declarations, scope, quantifiers, &link.operand)?;
-        let accepted = index + 1 < links.len() || left.may_be_truth();
-        require(accepted, TypingRule::WrongKind, link.place)?;
-    }
+    let head = check_term(context, first)?;
     if links.is_empty() {
-        Ok(left)
-    } else {
-        Ok(Shape::Truths)
+        return Ok(head);
     }
+    let links = check_links(context, head.shape, links)?;
+    Ok(TypedTerm {
+        term: Term::Chain {
+            connective,
+            first: Box::new(context.alloc, head.term)?,
+            links,
+        },
+        shape: Shape::Truths,
+    })
+}
+
+/// Checks the operands of a connective behind the first, which has this shape.
+#[cycle(terms)]
+fn check_links(
+    context: &Context<'_, '_, '_>,
+    first: Shape,
+    links: &[TermLink],
+) -> Result<Vec<Term>, TypeError>
+    ensures { MatchResult result
+        (λ xs. (link_faults (text_in context.now) false (scope_in context.now) (shape_view first)
+        links.now ≡ [])
+        × (term_views xs.items ≡ link_terms (text_in context.now) (slots_in context.now)
+        links.now))
+        (IsAmong (link_faults (text_in context.now) false (scope_in context.now)
+        (shape_view first) links.now)) }
+{
+    let mut left = first;
+    let mut operands = Vec::with_capacity(context.alloc, links.len())?;
+    for (index, link) in links.iter().enumerate() {
+        let operand = check_link(context, left, link, index + 1 < links.len())?;
+        left = operand.shape;
+        operands.push(operand.term)?;
+    }
+    Ok(operands)
+}
+
+/// Checks an operand behind one of this shape; `more` says whether others follow.
+#[cycle(terms)]
+fn check_link(
+    context: &Context<'_, '_, '_>,
+    left: Shape,
+    link: &TermLink,
+    more: bool,
+) -> Result<TypedTerm, TypeError>
+    ensures { Elaborates
+        (own_faults (text_in context.now) false (scope_in context.now) (shape_view left) link.now
+        more)
+        (operand_shape (text_in context.now) (scope_in context.now) link.now)
+        (over_slots (text_in context.now) (slots_in context.now) link.now.operand) result }
+{
+    require(is_truth(&left), TypingRule::WrongKind, link.place)?;
+    let operand = check_term(context, &link.operand)?;
+    let is_accepted = is_truth(&operand.shape);
+    require(more || is_accepted, TypingRule::WrongKind, link.place)?;
+    Ok(operand)
 }
 
 /// Checks operands of arithmetic.
 #[cycle(terms)]
-fn check_arithmetic<'t>(
-    alloc: Global,
-    declarations: &Declarations<'_>,
-    scope: &Scope<'_, 't>,
-    quantifiers: Quantifiers,
-    first: &'t Term,
-    links: &'t [ArithmeticLink],
-) -> Result<Shape, TypeError>
-    ensures { Judges (term_faults (spec_of declarations.now) (are_allowed quantifiers)
-        (scope_view scope.now) (calculated (term_form first.now) (arithmetic_links links.now)))
-        (shape (spec_of declarations.now) (scope_view scope.now)
-        (erased_term (calculated (term_form first.now) (arithmetic_links links.now)))) result }
+pub(crate) fn check_arithmetic(
+    context: &Context<'_, '_, '_>,
+    first: &pb_text_tree::Term,
+    links: &[ArithmeticLink],
+) -> Result<TypedTerm, TypeError>
+    ensures { ChecksTerm context.now (calculated (term_form first.now)
+        (arithmetic_links links.now)) result }
 {
-    let in_first = quantifiers.in_first_operand(links);
-    let mut left = check_term(alloc, declarations, scope, in_first, first)?;
+    let head = check_term(context, first)?;
+    let mut shape = head.shape;
+    let mut operands = Vec::with_capacity(context.alloc, links.len())?;
     for link in links {
-        let right = check_term(
-            alloc,
-            declarations,
-            scope,
-            Quantifiers::Forbidden,
-            &link.operand,
-        )?;
-        left = compute(link.operator, left, right, link.place)?;
+        let right = check_term(context, &link.operand)?;
+        shape = compute(link.operator, shape, right.shape, link.place)?;
+        operands.push(Link {
+            operator: link.operator,
+            operand: right.term,
+        })?;
     }
-    Ok(left)
+    Ok(TypedTerm {
+        term: Term::Arithmetic {
+            first: Box::new(context.alloc, head.term)?,
+            links: operands,
+        },
+        shape,
+    })
 }
 
-/// Checks a function or a recogniser with its arguments.
+/// Checks a function or a recogniser with its arguments: first its name and their number.
 #[cycle(terms)]
-fn check_application<'t>(
-    alloc: Global,
-    declarations: &Declarations<'_>,
-    scope: &Scope<'_, 't>,
+fn check_application(
+    context: &Context<'_, '_, '_>,
     name: &Name,
-    arguments: &'t [Argument],
-) -> Result<Shape, TypeError>
-    ensures { Judges (term_faults (spec_of declarations.now) false (scope_view scope.now)
-        (TermForm.application (named name.now) (argument_forms arguments.now)))
-        (shape (spec_of declarations.now) (scope_view scope.now)
-        (erased_term (TermForm.application (named name.now)
-        (argument_forms arguments.now)))) result }
+    arguments: &[Argument],
+) -> Result<TypedTerm, TypeError>
+    ensures { ChecksTerm context.now (TermForm.application (named name.now)
+        (argument_forms arguments.now)) result }
 {
-    let function = find_function(declarations, name, arguments.len())?;
-    match arguments {
-        [x] => {
-            let shape = check_term(alloc, declarations, scope, Quantifiers::Forbidden, &x.term)?;
-            Ok(function.apply_one(shape, name.place)?)
-        }
-        [x, y] => {
-            let left = check_term(alloc, declarations, scope, Quantifiers::Forbidden, &x.term)?;
-            let right = check_term(alloc, declarations, scope, Quantifiers::Forbidden, &y.term)?;
-            Ok(function.apply_two(left, right, name.place)?)
-        }
-        [condition, x, y] => {
-            let condition = check_term(
-                alloc,
-                declarations,
-                scope,
-                Quantifiers::Forbidden,
-                &condition.term,
-            )?;
-            let left = check_term(alloc, declarations, scope, Quantifiers::Forbidden, &x.term)?;
-            let right = check_term(alloc, declarations, scope, Quantifiers::Forbidden, &y.term)?;
-            Ok(function.apply_three(condition, left, right, name.place)?)
-        }
-        _ => unreachable!(),
+    let function = find_function(context.declarations, name)?;
+    let is_count = arguments.len() == function.arity();
+    require(is_count, TypingRule::WrongCount, name.place)?;
+    match function {
+        Function::OfOne(function) => check_one(context, function, name, arguments),
+        Function::OfTwo(extreme) => check_two(context, extreme, name, arguments),
+        Function::Choice => check_choice(context, name, arguments),
     }
+}
+
+/// Checks a function of one argument.
+#[cycle(terms)]
+fn check_one(
+    context: &Context<'_, '_, '_>,
+    function: FunctionOfOne,
+    name: &Name,
+    arguments: &[Argument],
+) -> Result<TypedTerm, TypeError>
+    requires function { IsOfOne (text_in context.now) (named name.now).text function }
+    requires count { length arguments.now ≡ 1 }
+    ensures { ChecksTerm context.now (TermForm.application (named name.now)
+        (argument_forms arguments.now)) result }
+{
+    let x = check_term(context, &arguments[0].term)?;
+    apply_one(context.alloc, function, x, name.place)
+}
+
+/// Checks a function of two arguments.
+#[cycle(terms)]
+fn check_two(
+    context: &Context<'_, '_, '_>,
+    extreme: Extreme,
+    name: &Name,
+    arguments: &[Argument],
+) -> Result<TypedTerm, TypeError>
+    requires function { IsOfTwo (text_in context.now) (named name.now).text extreme }
+    requires count { length arguments.now ≡ 2 }
+    ensures { ChecksTerm context.now (TermForm.application (named name.now)
+        (argument_forms arguments.now)) result }
+{
+    let x = check_term(context, &arguments[0].term)?;
+    let y = check_term(context, &arguments[1].term)?;
+    apply_two(context.alloc, extreme, x, y, name.place)
+}
+
+/// Checks a choice between two values.
+#[cycle(terms)]
+fn check_choice(
+    context: &Context<'_, '_, '_>,
+    name: &Name,
+    arguments: &[Argument],
+) -> Result<TypedTerm, TypeError>
+    requires function { IsChoice (text_in context.now) (named name.now).text }
+    requires count { length arguments.now ≡ 3 }
+    ensures { ChecksTerm context.now (TermForm.application (named name.now)
+        (argument_forms arguments.now)) result }
+{
+    let condition = check_term(context, &arguments[0].term)?;
+    let x = check_term(context, &arguments[1].term)?;
+    let y = check_term(context, &arguments[2].term)?;
+    choose(context.alloc, condition, x, y, name.place)
 }

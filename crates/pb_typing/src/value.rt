@@ -1,252 +1,241 @@
-//! Data terms of kind Bool as formulas: the connectives and quantifiers above the last quantifier
-//! become those of the formula, and what has no quantifier is one test.
+//! The check of data below `val`, where quantifiers may stand, though below connectives alone:
+//! above a quantifier the connectives and quantifiers of data become those of a formula.
 
-ghost use Rattle.std.specs.Prelude.{◌≡◌, ◌++◌, length, true, IfOk, OnOk};
-ghost use Rattle.pb_text_tree.specs.Form.{term_form};
+ghost use Rattle.std.specs.Prelude.{◌≡◌, ◌++◌, ℕ, [], length, true, false, MatchResult, OnOk};
+ghost use Rattle.std.specs.Prelude.{IfOk};
+ghost use Rattle.pb_text_tree.specs.Form.{TermForm, chained, term_form, term_links};
 ghost use Rattle.pb_text_meaning.specs.Erase.{erased_term};
+ghost use Rattle.pb_typing_rules.specs.Faults.{term_faults};
+ghost use Rattle.pb_typing_rules.specs.Shapes.{may_be_truth};
+ghost use Rattle.pb_typing_rules.specs.Term.{shape};
 ghost use Rattle.pb_typing_declarations.specs.Entries.{shapes_of};
-ghost use Rattle.pb_typing_rules.specs.Scope.{Scope};
-ghost use Rattle.pb_typed_tree.specs.Elaboration.{slotted};
-ghost use Rattle.pb_typed_tree.specs.Expansion.{expanded_term, has_quantifier};
-ghost use Rattle.pb_typed_tree.specs.Tree.{Test};
-ghost use Rattle.pb_typed_tree.specs.View.{formula_view, formula_views};
-ghost use Rattle.pb_typing.specs.Contexts.{text_in, slots_in, IsShapedIn, IsElaboratedValue};
-ghost use Rattle.pb_typing.specs.Contexts.{AddsLoops};
-ghost use Rattle.pb_typing.specs.Links.{quantified_count};
-ghost use Rattle.pb_typing.specs.Slots.{inner_slots};
-ghost use Rattle.pb_typing.specs.Tail.{tail_tests};
-ghost use Rattle.pb_typing.specs.Tree.{chain_of, negated_value, quantified_value, value_of};
-ghost use Rattle.pb_typing.specs.ValueLinks.{AreShapedLinks, elaborated_values, value_loops};
+ghost use Rattle.pb_typing_declarations.specs.Faults.{IsAmong, unless};
+ghost use Rattle.pb_typing_declarations.specs.Shapes as model;
+ghost use Rattle.pb_typed_tree.specs.Expansion.{has_quantifier};
+ghost use Rattle.pb_typed_tree.specs.View.{shape_view};
+ghost use Rattle.pb_typing.specs.Chains.{link_faults, operand_shape, own_faults};
+ghost use Rattle.pb_typing.specs.Contexts.{AddsLoops, ChecksTruth, ChecksValue, scope_in};
+ghost use Rattle.pb_typing.specs.Contexts.{slots_in, text_in};
+ghost use Rattle.pb_typing.specs.Elaborated.{ChecksTruthIn, ElaboratesValue};
+ghost use Rattle.pb_typing.specs.Scopes.{inner_slots, inner_view};
+ghost use Rattle.pb_typing.specs.Tree.{chain_of, operand_terms, value_of};
+ghost use Rattle.pb_typing.specs.Value as values;
+ghost use Rattle.pb_typing.specs.Value.{values_of};
+ghost use Rattle.pb_typing.specs.ValueLinks.{operand, value_loops};
+ghost use Rattle.pb_typing.specs.ValueView.{value_shape, value_view, value_views};
+ghost use Rattle.pb_typed_tree.specs.Expansion.{expanded_term};
 
+use crate::apply::negated;
 use crate::context::Context;
-use crate::data::{slot_chain, slot_term};
-use crate::quantified::has_quantifier;
-use crate::slots::Slots;
-use crate::variables::bind_variables;
+use crate::joined::{Value, joined_values};
+use crate::scope::{Scope, Variable};
+use crate::shape::is_truth;
+use crate::term::check_term;
+use crate::variables::{bind_variables, quantified};
 use pb_sorts::Carrier;
-use pb_text_tree::{Connective, Quantifier, TermLink, Variables};
-use pb_typed_tree::Formula;
-use std::alloc::AllocError;
+use pb_text_tree::{Connective, Place, Term, TermLink};
+use pb_typed_tree::{Formula, Shape};
+use pb_typing_declarations::{TypeError, TypingRule, require};
+use std::alloc::Global;
 use std::collections::HashMap;
 
-/// A data term as one test.
-fn plain_test(
-    context: &Context<'_, '_, '_>,
-    term: &pb_text_tree::Term,
-) -> Result<Formula, AllocError>
-    ensures { IfOk result (λ f. formula_view f ≡ Test (slotted (text_in context.now)
-        (slots_in context.now) (erased_term (term_form term.now)))) }
-{
-    let term = slot_term(context.alloc, context.declarations, context.slots, term)?;
-    Ok(Formula::Test(term))
-}
-
-/// A data term of kind Bool. The carriers are those of the slots so far, to which it adds those of
-/// its own.
-///
-/// # Errors
-/// Memory was refused.
+/// Checks a data term that must be a Boolean, and reads it as a formula. The carriers are those of
+/// the slots so far, to which it adds those of its quantifiers.
 #[cycle(values)]
-pub(crate) fn elaborate_value<'t>(
+pub(crate) fn check_truth<'t>(
     context: &Context<'_, '_, 't>,
     carriers: &mut Vec<Carrier>,
-    term: &'t pb_text_tree::Term,
-) -> Result<Formula, AllocError>
-    requires { IsShapedIn context.now (value_of term.now) }
-    ensures form { IfOk result (IsElaboratedValue context.now (slots_in context.now)
-        carriers.old.items (value_of term.now)) }
+    term: &'t Term,
+    place: Place,
+) -> Result<Formula, TypeError>
+    ensures checked { ChecksTruth context.now (length carriers.old.items) (term_form term.now)
+        place result }
     ensures carriers { OnOk result (AddsLoops context.now carriers.old.items carriers.new.items
         (value_of term.now)) }
 {
-    if !has_quantifier(term) {
-        return plain_test(context, term);
-    }
+    let value = check_value(context, carriers, term)?;
+    require(is_truth(&value.shape()), TypingRule::WrongKind, place)?;
+    Ok(value.into_formula())
+}
+
+/// Checks a data term where quantifiers may stand.
+#[cycle(values)]
+fn check_value<'t>(
+    context: &Context<'_, '_, 't>,
+    carriers: &mut Vec<Carrier>,
+    term: &'t Term,
+) -> Result<Value, TypeError>
+    ensures checked { ChecksValue context.now (length carriers.old.items) (term_form term.now)
+        result }
+    ensures carriers { OnOk result (AddsLoops context.now carriers.old.items carriers.new.items
+        (value_of term.now)) }
+{
     match term {
-        pb_text_tree::Term::Not { operand, .. } => elaborate_negation(context, carriers, operand),
-        pb_text_tree::Term::Chain {
+        Term::Not { place, operand } => {
+            let operand = check_value(context, carriers, operand)?;
+            negated_value(context.alloc, operand, *place)
+        }
+        Term::Chain {
             connective,
             first,
             links,
-        } => elaborate_operands(context, carriers, *connective, first, links),
-        pb_text_tree::Term::Arithmetic { first, links } => {
+        } => check_chain(context, carriers, *connective, first, links),
+        Term::Arithmetic { first, links } => {
             if links.is_empty() {
-                elaborate_value(context, carriers, first)
+                check_value(context, carriers, first)
             } else {
-                plain_test(context, term)
+                check_data(context, term)
             }
         }
-        pb_text_tree::Term::Quantified {
+        Term::Quantified {
+            place,
             quantifier,
             variables,
             body,
-            ..
-        } => elaborate_quantified(context, carriers, *quantifier, variables, body),
-        pb_text_tree::Term::Constant { .. }
-        | pb_text_tree::Term::Number { .. }
-        | pb_text_tree::Term::Name(_)
-        | pb_text_tree::Term::Negative { .. }
-        | pb_text_tree::Term::Comparison { .. }
-        | pb_text_tree::Term::Application { .. } => plain_test(context, term),
+        } => {
+            let bound = bind_variables(context, carriers, variables)?;
+            let body = check_body(&*context, carriers, &bound.table, body, *place)?;
+            let formula = quantified(context.alloc, *quantifier, bound, body)?;
+            Ok(Value::Formula(formula))
+        }
+        Term::Constant { .. } => check_data(context, term),
+        Term::Number { .. } => check_data(context, term),
+        Term::Name(_) => check_data(context, term),
+        Term::Negative { .. } => check_data(context, term),
+        Term::Comparison { .. } => check_data(context, term),
+        Term::Application { .. } => check_data(context, term),
     }
 }
 
-/// A negation of what has a quantifier.
-#[cycle(values)]
-fn elaborate_negation<'t>(
-    context: &Context<'_, '_, 't>,
-    carriers: &mut Vec<Carrier>,
-    operand: &'t pb_text_tree::Term,
-) -> Result<Formula, AllocError>
-    requires { IsShapedIn context.now (value_of operand.now) }
-    ensures form { IfOk result (IsElaboratedValue context.now (slots_in context.now)
-        carriers.old.items (negated_value operand.now)) }
-    ensures carriers { OnOk result (AddsLoops context.now carriers.old.items carriers.new.items
-        (negated_value operand.now)) }
+/// Checks data below which no quantifier may stand.
+fn check_data(context: &Context<'_, '_, '_>, term: &Term) -> Result<Value, TypeError>
+    ensures checked { (n : ℕ) → ElaboratesValue
+        (term_faults (text_in context.now) false (scope_in context.now) (term_form term.now))
+        (shape (text_in context.now) (scope_in context.now) (erased_term (term_form term.now)))
+        (values.value_of (text_in context.now) (slots_in context.now) (scope_in context.now) n
+        (erased_term (term_form term.now))) result }
+    ensures plain { IfOk result (λ _. has_quantifier (erased_term (term_form term.now)) ≡ false) }
 {
-    let operand = elaborate_value(context, carriers, operand)?;
-    Ok(Formula::Negation(Box::new(context.alloc, operand)?))
+    let data = check_term(context, term)?;
+    Ok(Value::Data(data))
 }
 
-/// A quantifier.
-#[cycle(values)]
-fn elaborate_quantified<'t>(
-    context: &Context<'_, '_, 't>,
-    carriers: &mut Vec<Carrier>,
-    quantifier: Quantifier,
-    variables: &'t [Variables],
-    body: &'t pb_text_tree::Term,
-) -> Result<Formula, AllocError>
-    requires { IsShapedIn context.now (quantified_value quantifier variables.now body.now) }
-    ensures form { IfOk result (IsElaboratedValue context.now (slots_in context.now)
-        carriers.old.items (quantified_value quantifier variables.now body.now)) }
-    ensures carriers { OnOk result (AddsLoops context.now carriers.old.items carriers.new.items
-        (quantified_value quantifier variables.now body.now)) }
+/// A negation.
+fn negated_value(alloc: Global, operand: Value, place: Place) -> Result<Value, TypeError>
+    ensures { ElaboratesValue
+        (unless (may_be_truth (value_shape operand)) TypingRule.WrongKind place) model.Truths
+        (values.negated (value_view operand)) result }
 {
-    let alloc = context.alloc;
-    let slot = carriers.len();
-    let (table, own) = bind_variables(alloc, context.declarations, variables, carriers)?;
-    let body = elaborate_body(context, &table, carriers, body)?;
-    Ok(Formula::Quantified {
-        quantifier,
-        slot,
-        carriers: own,
-        body: Box::new(alloc, body)?,
-    })
+    match operand {
+        Value::Data(data) => {
+            let data = negated(alloc, data, place)?;
+            Ok(Value::Data(data))
+        }
+        Value::Formula(formula) => {
+            let formula = Box::new(alloc, formula)?;
+            Ok(Value::Formula(Formula::Negation(formula)))
+        }
+    }
 }
 
-/// A quantifier's body, whose variables have the slots of a table.
+/// Checks a quantifier's body, whose variables stand in a table.
 #[cycle(values)]
-fn elaborate_body<'a, 't>(
+fn check_body<'a, 't>(
     outer: &'a Context<'a, '_, 't>,
-    table: &'a HashMap<&'t str, usize>,
     carriers: &mut Vec<Carrier>,
-    body: &'t pb_text_tree::Term,
-) -> Result<Formula, AllocError>
-    requires { IsShapedIn outer.now (value_of body.now) }
-    ensures form { IfOk result (IsElaboratedValue outer.now
-        (inner_slots table.now (slots_in outer.now)) carriers.old.items (value_of body.now)) }
+    table: &'a HashMap<&'t str, Variable>,
+    body: &'t Term,
+    place: Place,
+) -> Result<Formula, TypeError>
+    ensures checked { ChecksTruthIn (text_in outer.now)
+        (inner_view table.now (scope_in outer.now)) (inner_slots table.now (slots_in outer.now))
+        (length carriers.old.items) (term_form body.now) place result }
     ensures carriers { OnOk result (AddsLoops outer.now carriers.old.items carriers.new.items
         (value_of body.now)) }
 {
-    let slots = Slots::Inner(table, outer.slots);
+    let scope = Scope::Inner(table, outer.scope);
     let context = Context {
         alloc: outer.alloc,
         declarations: outer.declarations,
-        slots: &slots,
+        layout: outer.layout,
+        scope: &scope,
     };
-    elaborate_value(&context, carriers, body)
+    check_truth(&context, carriers, body, place)
 }
 
-/// Operands of one connective. What stands behind the last quantifier is one test.
+/// Checks operands of one connective.
 #[cycle(values)]
-fn elaborate_operands<'t>(
+fn check_chain<'t>(
     context: &Context<'_, '_, 't>,
     carriers: &mut Vec<Carrier>,
     connective: Connective,
-    first: &'t pb_text_tree::Term,
+    first: &'t Term,
     links: &'t [TermLink],
-) -> Result<Formula, AllocError>
-    requires shaped { IsShapedIn context.now (expanded_term
-        (chain_of connective first.now links.now)) }
-    requires quantified { has_quantifier (chain_of connective first.now links.now) ≡ true }
-    ensures form { IfOk result (IsElaboratedValue context.now (slots_in context.now)
-        carriers.old.items (expanded_term (chain_of connective first.now links.now))) }
+) -> Result<Value, TypeError>
+    ensures checked { ChecksValue context.now (length carriers.old.items)
+        (chained (TermForm.connected connective) (term_form first.now) (term_links links.now))
+        result }
     ensures carriers { OnOk result (AddsLoops context.now carriers.old.items carriers.new.items
         (expanded_term (chain_of connective first.now links.now))) }
 {
-    let head = elaborate_value(context, carriers, first)?;
-    let first = Box::new(context.alloc, head)?;
-    let links = elaborate_links(context, carriers, connective, links)?;
-    Ok(Formula::Chain {
-        connective,
-        first,
-        links,
-    })
+    let head = check_value(context, carriers, first)?;
+    if links.is_empty() {
+        return Ok(head);
+    }
+    let rest = check_links(context, carriers, head.shape(), links)?;
+    let value = joined_values(context.alloc, connective, head, rest)?;
+    Ok(value)
 }
 
-/// The operands behind the first.
+/// Checks the operands of a connective behind the first, which has this shape.
 #[cycle(values)]
-fn elaborate_links<'t>(
+fn check_links<'t>(
     context: &Context<'_, '_, 't>,
     carriers: &mut Vec<Carrier>,
-    connective: Connective,
+    first: Shape,
     links: &'t [TermLink],
-) -> Result<Vec<Formula>, AllocError>
-    requires { AreShapedLinks (text_in context.now) links.now }
-    ensures form { IfOk result (λ all. (scope : Scope) → formula_views all.items
-        ≡ elaborated_values (text_in context.now) connective (slots_in context.now) scope
-        (length carriers.old.items) links.now) }
+) -> Result<Vec<Value>, TypeError>
+    ensures checked { MatchResult result
+        (λ vs. (link_faults (text_in context.now) true (scope_in context.now) (shape_view first)
+        links.now ≡ [])
+        × (value_views vs.items ≡ values_of (text_in context.now) (slots_in context.now)
+        (scope_in context.now) (length carriers.old.items) (operand_terms links.now)))
+        (IsAmong (link_faults (text_in context.now) true (scope_in context.now)
+        (shape_view first) links.now)) }
     ensures carriers { OnOk result (shapes_of carriers.new.items
         ≡ shapes_of carriers.old.items ++ value_loops (text_in context.now) links.now) }
 {
-    let (operands, tail) = links.split_at(quantified_links(links));
-    let mut rest = Vec::new(context.alloc);
-    for link in operands {
-        let operand = elaborate_value(context, carriers, &link.operand)?;
-        rest.push(operand)?;
+    let mut left = first;
+    let mut operands = Vec::with_capacity(context.alloc, links.len())?;
+    for (index, link) in links.iter().enumerate() {
+        let operand = check_link(context, carriers, left, link, index + 1 < links.len())?;
+        left = operand.shape();
+        operands.push(operand)?;
     }
-    let all = with_tail(context, connective, rest, tail)?;
-    Ok(all)
+    Ok(operands)
 }
 
-/// How many links stand up to the last that has a quantifier.
-fn quantified_links(links: &[TermLink]) -> usize
-    ensures { result ≡ quantified_count links.now }
+/// Checks an operand behind one of this shape; `more` says whether others follow.
+#[cycle(values)]
+fn check_link<'t>(
+    context: &Context<'_, '_, 't>,
+    carriers: &mut Vec<Carrier>,
+    left: Shape,
+    link: &'t TermLink,
+    more: bool,
+) -> Result<Value, TypeError>
+    ensures checked { ElaboratesValue
+        (own_faults (text_in context.now) true (scope_in context.now) (shape_view left) link.now
+        more)
+        (operand_shape (text_in context.now) (scope_in context.now) link.now)
+        (values.value_of (text_in context.now) (slots_in context.now) (scope_in context.now)
+        (length carriers.old.items) (erased_term (term_form link.now.operand))) result }
+    ensures carriers { OnOk result (AddsLoops context.now carriers.old.items carriers.new.items
+        (operand link.now)) }
 {
-    let mut count = links.len();
-    while count > 0 {
-        if has_quantifier(&links[count - 1].operand) {
-            return count;
-        }
-        count -= 1;
-    }
-    0
-}
-
-/// Adds the operands behind the last quantifier, if there are any, as one test.
-fn with_tail(
-    context: &Context<'_, '_, '_>,
-    connective: Connective,
-    mut operands: Vec<Formula>,
-    tail: &[TermLink],
-) -> Result<Vec<Formula>, AllocError>
-    ensures { IfOk result (λ all. formula_views all.items
-        ≡ formula_views operands.items ++ tail_tests (text_in context.now) (slots_in context.now)
-        connective tail.now) }
-{
-    match tail.split_first() {
-        None => Ok(operands),
-        Some((next, behind)) => {
-            let term = slot_chain(
-                context.alloc,
-                context.declarations,
-                context.slots,
-                connective,
-                &next.operand,
-                behind,
-            )?;
-            operands.push(Formula::Test(term))?;
-            Ok(operands)
-        }
-    }
+    require(is_truth(&left), TypingRule::WrongKind, link.place)?;
+    let operand = check_value(context, carriers, &link.operand)?;
+    let is_accepted = is_truth(&operand.shape());
+    require(more || is_accepted, TypingRule::WrongKind, link.place)?;
+    Ok(operand)
 }

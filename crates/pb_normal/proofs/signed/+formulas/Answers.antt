@@ -8,7 +8,7 @@ use Rattle.pb_normal.specs.SignedForm.{signed_form}
 use Rattle.pb_normal.specs.View.{nested, is_and, is_forall, formula_view, formula_views}
 use Rattle.pb_normal.proofs.Operands.{chain-signed, quantified-signed, signed_next, signed_ended}
 use Rattle.pb_normal.proofs.Views.{formula-join}
-use Rattle.pb_normal.proofs.Weight.{weight, links_weight, weight-chain, operand_lighter, chain_is}
+use Rattle.pb_typed_tree.proofs.FormulaWeight.{weight, links_weight, weight-chain, operand_lighter, chain_is}
 use Rattle.pb_normal.proofs.signed.+formulas.Goals as goal
 
 -- ---- chains

@@ -6,6 +6,7 @@ use Rattle.pb_typing_declarations.specs.Faults.{IsAmong}
 use Rattle.pb_typing_rules.specs.Faults.{initial_faults, right_faults}
 use Rattle.pb_typing_declarations.proofs.Parts.{among_left, among_right, no_whole}
 use Rattle.pb_typed_tree.specs.InitialPlace.{IsInitial}
+use Rattle.pb_typing.specs.Rights.{AreRights}
 use Rattle.pb_typing.specs.Typed.{IsLayout}
 use Rattle.pb_typing.proofs.spec.check_declared.Goals as goal
 
@@ -21,10 +22,10 @@ initial_of : (u t : SpecForm) (e : TypeError) → u ≡ t → IsAmong (initial_f
 initial_of u t e same h =
     among_right (right_faults (erase t) t.equations) _ e (subst (λ (v : SpecForm). IsAmong (initial_faults (erase v) t.initial) e) same h)
 
-pub returns-in_err-check_rights : goal.returns-in_err-check_rights
-returns-in_err-check_rights c =
-    let h : Told (spec_form c.args.spec.now) c.in_err-check_rights.field-0.0 =
-    rights_of _ (spec_form c.args.spec.now) c.in_err-check_rights.field-0.0 c.requires c.in_err-check_rights.ensures in
+pub returns-in_err-equations : goal.returns-in_err-equations
+returns-in_err-equations c =
+    let h : Told (spec_form c.args.spec.now) c.in_err-equations.field-0.0 =
+    rights_of _ (spec_form c.args.spec.now) c.in_err-equations.field-0.0 c.requires c.in_err-equations.ensures in
     search rules
 
 pub returns-in_err-initial : goal.returns-in_err-initial
@@ -33,21 +34,22 @@ returns-in_err-initial c =
     initial_of _ (spec_form c.args.spec.now) c.in_err-initial.field-0.0 c.requires c.in_err-initial.ensures in
     search rules
 
-pub elaborate_equations-requires : goal.elaborate_equations-requires
-elaborate_equations-requires c = record { text = c.requires; faultless = c.in_ok-check_rights.ensures }
+pub check_rights-requires : goal.check_rights-requires
+check_rights-requires c = record { text = c.requires; layout = record { values = c.in_ok-layout.ensures.carriers; shapes = c.in_ok-layout.ensures.shapes } }
 
 pub returns : goal.returns
 returns c =
-    let t = spec_form c.args.spec.now in (
+    let t = spec_form c.args.spec.now in
+    let made = subst (λ (v : SpecForm). AreRights (erase v) t.equations c.in_ok-equations.equations.items) c.requires c.in_ok-equations.ensures.1 in (
       no_whole (right_faults (erase t) t.equations) _
-          (ap (λ (v : SpecForm). right_faults (erase v) t.equations) (sym c.requires) ∙ c.in_ok-check_rights.ensures)
+          (ap (λ (v : SpecForm). right_faults (erase v) t.equations) (sym c.requires) ∙ c.in_ok-equations.ensures.0)
           (ap (λ (v : SpecForm). initial_faults (erase v) t.initial) (sym c.requires) ∙ c.in_ok-initial.ensures.0),
       record {
         laid_out = subst (λ (v : SpecForm). IsLayout (erase v) c.in_ok-layout.layout) c.requires
             (record { values = c.in_ok-layout.ensures.carriers; shapes = c.in_ok-layout.ensures.shapes });
-        rights = c.in_ok-equations.ensures.rights;
-        loops = c.in_ok-equations.ensures.loops;
-        calls = c.in_ok-equations.ensures.calls;
+        rights = made.rights;
+        loops = made.loops;
+        calls = made.calls;
         asked = subst (λ (v : SpecForm). IsInitial (erase v) c.in_ok-initial.initial.equation c.in_ok-initial.initial.values.items) c.requires c.in_ok-initial.ensures.1;
       },
     )

@@ -1,7 +1,6 @@
 use Rattle.std.proofs.Common.{◌≡◌, ◌++◌, List, [], rules, Result, Ok, Err}
 use Rattle.std.specs.Prelude.{MatchResult}
 use Rattle.pb_text_tree.specs.Form.{spec_form}
-use Rattle.pb_text_meaning.specs.Erase.{erase}
 use Rattle.pb_typing_declarations.specs.declared.fault.TypeError.{TypeError}
 use Rattle.pb_typing_declarations.specs.declared.fault.TypingFault.{TypingFault}
 use Rattle.pb_typing_declarations.specs.Declarations.{declaration_faults}

@@ -1,252 +1,234 @@
-use Rattle.std.proofs.Common.{◌≡◌, ◌∙◌, ◌+◌, drop, ◌++◌, ◌&&◌, refl, sym, ap, subst, rules, arith, Bool, List, [], ◌∷◌}
+use Rattle.std.proofs.Common.{◌≡◌, ◌∙◌, ◌+◌, ◌≤◌, ◌++◌, drop, get_or, length, Ok, refl, sym, ap, subst, rules, arith, false, List, [], ℕ}
+use Rattle.std.specs.Prelude.{◌==◌}
+use Rattle.std.proofs.lemmas.Bool.{eqb-true}
 use Rattle.std.proofs.lemmas.List.{drop_all}
 use Rattle.pb_sorts.proofs.Places.{drop-at}
-use Rattle.pb_text_tree.specs.declared.variable.Variables.{Variables}
 use Rattle.pb_text_tree.specs.declared.term.Term.{Term}
 use Rattle.pb_text_tree.specs.declared.term.TermLink.{TermLink}
 use Rattle.pb_text_tree.specs.declared.term.ArithmeticLink.{ArithmeticLink}
 use Rattle.pb_text_tree.specs.declared.term.Argument.{Argument}
-use Rattle.pb_text_tree.specs.Form.{TermForm, named, argument_forms, arithmetic_links, calculated, chained, term_form, term_links, variable_forms}
+use Rattle.pb_text_tree.specs.Form.{TermForm, named, argument_forms, arithmetic_links, calculated, chained, term_form, term_links}
 use Rattle.pb_text_tree.proofs.FormLemmas.{term-chain, term-arithmetic, term-application}
-use Rattle.pb_text_meaning.specs.Erase.{erased_term, erased_arguments, erased_variables}
+use Rattle.pb_text_meaning.specs.Erase.{erased_arguments, of_connective}
 use Rattle.pb_typing_rules.specs.Faults.{term_faults, operator_faults}
-use Rattle.pb_typing_rules.specs.Shapes.{Computed, binary_shape, may_be_truth}
-use Rattle.pb_typing_rules.specs.Scope.{bound, outermost}
-use Rattle.pb_typing_rules.specs.Term.{shape, shapes}
+use Rattle.pb_typing_rules.specs.Shapes.{Computed, may_be_truth}
+use Rattle.pb_typing_rules.specs.Term.{shapes}
 use Rattle.pb_typing_declarations.specs.declared.fault.TypingRule.TheVariants as rule
 use Rattle.pb_typing_declarations.specs.declared.fault.TypingFault.{TypingFault}
 use Rattle.pb_typing_declarations.specs.declared.fault.TypeError.TheVariants.{At}
 use Rattle.pb_typing_declarations.specs.Faults.{unless, IsAmong}
 use Rattle.pb_typing_declarations.specs.Shapes as model
-use Rattle.pb_typing_declarations.specs.View.{spec_of}
-use Rattle.pb_typing_declarations.proofs.Parts.{among_left, among_right, among_first, first_clear}
-use Rattle.pb_typing_declarations.specs.declared.fault.TypingFault.{TypingFault}
-use Rattle.pb_typing.specs.Scopes.{scope_view, table_view, inner_view}
-use Rattle.pb_typing.specs.View.{Judges, shape_view, function_view, operation_of, are_allowed, is_no_link}
+use Rattle.pb_typing_declarations.proofs.Parts.{among_left, among_right, among_first, first_clear, holds_unless}
+use Rattle.pb_typed_tree.specs.Tree as tree
+use Rattle.pb_typed_tree.specs.Tree.{Binary}
+use Rattle.pb_typed_tree.specs.View as view
+use Rattle.pb_typed_tree.specs.View.{shape_view, term_view, term_views, link_views}
+use Rattle.pb_typed_tree.proofs.Views as made
+use Rattle.pb_typing.specs.Chains.{link_faults, own_faults}
+use Rattle.pb_typing.specs.Contexts.{scope_in, slots_in, text_in}
+use Rattle.pb_typing.specs.Elaborated.{ChecksTermIn}
+use Rattle.pb_typing.specs.Functions.{IsFunction, arity_of}
+use Rattle.pb_typing.specs.Slots.{over_slots, link_terms, arithmetic_terms}
+use Rattle.pb_typing.specs.View.{operation_of}
+use Rattle.pb_typing.proofs.Applications.{one_node, two_node, choice_node}
+use Rattle.pb_typing.proofs.DataLemmas.{chained-slotted, calculated-slotted, links_done, arithmetic_done, terms_next}
+use Rattle.pb_typing.proofs.FunctionArguments.{application_faults, argument_fault, count_fault, one_argument, two_arguments, three_arguments}
+use Rattle.pb_typing.proofs.Links.{chained-faults, some-shape, links_next, arithmetic_faults, calculated-faults, calculated-shape, calculated_shape}
+use Rattle.pb_typing.proofs.Nodes.{not_operand, not_node, negative_operand, negative_node, comparison_left, comparison_right, comparison_node, lone_chain}
 use Rattle.pb_typing.proofs.Weight.{weight, weight-chain, weight-arithmetic, weight-application, links_weight, arithmetic_weight, arguments_weight, link_lighter, operand_lighter, argument_lighter}
-use Rattle.pb_typing.proofs.Links.{chained-faults, chained-shape, arithmetic_shape, arithmetic_faults, calculated-faults, calculated-shape, calculated_shape, some_link_shape}
-use Rattle.pb_typing.proofs.Nodes.{negative_operand, comparison_left, comparison_right, quantified_variables, quantified_body, inner_scope, length-shapes, one_argument, two_arguments, three_arguments, application_faults, first_fault, second_fault, third_fault}
-use Rattle.pb_typing.proofs.Applications.{one_applied, two_applied, three_applied}
 use Rattle.pb_typing.proofs.term.+terms.Goals as goal
-use Rattle.pb_typing.specs.Chains.{link_faults, chain_faults, chain_shape}
 
 -- ---- functions
 
 pub check_application-returns-in_err-function : goal.check_application-returns-in_err-function
 check_application-returns-in_err-function t c =
-    let S = spec_of c.args.declarations.now in
-    let a = scope_view c.args.scope.now in
+    let S = text_in c.args.context.now in
+    let a = scope_in c.args.context.now in
     let xs = c.args.arguments.now in
     let h : IsAmong (application_faults S a (named c.args.name.now) xs) (At c.in_err-function.field-0.0) =
-    among_right _ _ (At c.in_err-function.field-0.0) (c.in_err-function.ensures (shapes S a (erased_arguments (argument_forms xs))) (length-shapes S a xs)) in
+    among_right _ _ (At c.in_err-function.field-0.0) (c.in_err-function.ensures (shapes S a (erased_arguments (argument_forms xs)))) in
     search rules
 
-pub check_application-returns-in_err-shape-in-len1 : goal.check_application-returns-in_err-shape-in-len1
-check_application-returns-in_err-shape-in-len1 t c =
-    let xs = c.args.arguments.now in
-    let h : IsAmong (application_faults (spec_of c.args.declarations.now) (scope_view c.args.scope.now) (named c.args.name.now) xs) c.in_err-shape-in-len1.field-0.0 =
-    first_fault _ _ (named c.args.name.now) xs [] c.x-item.result _ (one_argument xs c.x-item.result c.in-len1.len_at_least c.in-len1.len_below c.x-item.is) c.in_err-shape-in-len1.ensures in
-    search rules
-
-pub check_application-returns-in_err-left-in-len2 : goal.check_application-returns-in_err-left-in-len2
-check_application-returns-in_err-left-in-len2 t c =
-    let xs = c.args.arguments.now in
-    let x = (c.x-item-then-arguments-lt3).result in
-    let h : IsAmong (application_faults (spec_of c.args.declarations.now) (scope_view c.args.scope.now) (named c.args.name.now) xs) c.in_err-left-in-len2.field-0.0 =
-    first_fault _ _ (named c.args.name.now) xs (c.y-item.result ∷ []) x _ (two_arguments xs x c.y-item.result c.in-len2.len_at_least c.in-len2.len_below (c.x-item-then-arguments-lt3).is c.y-item.is) c.in_err-left-in-len2.ensures in
-    search rules
-
-pub check_application-returns-in_err-right-in-len2 : goal.check_application-returns-in_err-right-in-len2
-check_application-returns-in_err-right-in-len2 t c =
-    let xs = c.args.arguments.now in
-    let x = (c.x-item-then-arguments-lt3).result in
-    let h : IsAmong (application_faults (spec_of c.args.declarations.now) (scope_view c.args.scope.now) (named c.args.name.now) xs) c.in_err-right-in-len2.field-0.0 =
-    second_fault _ _ (named c.args.name.now) xs [] x c.y-item.result _ (two_arguments xs x c.y-item.result c.in-len2.len_at_least c.in-len2.len_below (c.x-item-then-arguments-lt3).is c.y-item.is) c.in_err-right-in-len2.ensures in
-    search rules
-
-pub check_application-returns-in_err-condition-in-len3 : goal.check_application-returns-in_err-condition-in-len3
-check_application-returns-in_err-condition-in-len3 t c =
-    let xs = c.args.arguments.now in
-    let q = c.condition-item in
-    let x = c.x-item-then-arguments-lt4 in
-    let y = c.y-item-then-arguments-lt4 in
-    let h : IsAmong (application_faults (spec_of c.args.declarations.now) (scope_view c.args.scope.now) (named c.args.name.now) xs) c.in_err-condition-in-len3.field-0.0 =
-    first_fault _ _ (named c.args.name.now) xs (x.result ∷ y.result ∷ []) q.result _ (three_arguments xs q.result x.result y.result c.in-len3.len_at_least c.in-len3.len_below q.is x.is y.is) c.in_err-condition-in-len3.ensures in
-    search rules
-
-pub check_application-returns-in_err-left-in-len3 : goal.check_application-returns-in_err-left-in-len3
-check_application-returns-in_err-left-in-len3 t c =
-    let xs = c.args.arguments.now in
-    let q = c.condition-item in
-    let x = c.x-item-then-arguments-lt4 in
-    let y = c.y-item-then-arguments-lt4 in
-    let h : IsAmong (application_faults (spec_of c.args.declarations.now) (scope_view c.args.scope.now) (named c.args.name.now) xs) c.in_err-left-in-len3.field-0.0 =
-    second_fault _ _ (named c.args.name.now) xs (y.result ∷ []) q.result x.result _ (three_arguments xs q.result x.result y.result c.in-len3.len_at_least c.in-len3.len_below q.is x.is y.is) c.in_err-left-in-len3.ensures in
-    search rules
-
-pub check_application-returns-in_err-right-in-len3 : goal.check_application-returns-in_err-right-in-len3
-check_application-returns-in_err-right-in-len3 t c =
-    let xs = c.args.arguments.now in
-    let q = c.condition-item in
-    let x = c.x-item-then-arguments-lt4 in
-    let y = c.y-item-then-arguments-lt4 in
-    let h : IsAmong (application_faults (spec_of c.args.declarations.now) (scope_view c.args.scope.now) (named c.args.name.now) xs) c.in_err-right-in-len3.field-0.0 =
-    third_fault _ _ (named c.args.name.now) xs [] q.result x.result y.result _ (three_arguments xs q.result x.result y.result c.in-len3.len_at_least c.in-len3.len_below q.is x.is y.is) c.in_err-right-in-len3.ensures in
-    search rules
-
--- ---- functions whose arguments have no faults
-
-pub check_application-returns-in_ok-apply_one-in-len1 : goal.check_application-returns-in_ok-apply_one-in-len1
-check_application-returns-in_ok-apply_one-in-len1 t c =
-    let S = spec_of c.args.declarations.now in
-    let a = scope_view c.args.scope.now in
+pub check_application-returns-in_err-require : goal.check_application-returns-in_err-require
+check_application-returns-in_err-require t c =
+    let S = text_in c.args.context.now in
+    let a = scope_in c.args.context.now in
     let f = named c.args.name.now in
-    let g = function_view c.in_ok-function.function in
     let xs = c.args.arguments.now in
-    let x = c.x-item.result in
-    let all = one_applied S a f xs g x (shape_view c.in_ok-shape-in-len1.shape) c.in_ok-function.ensures
-    (one_argument xs x c.in-len1.len_at_least c.in-len1.len_below c.x-item.is) c.in_ok-shape-in-len1.ensures in
-    (all.faults ∙ c.in_ok-apply_one-in-len1.ensures.0, c.in_ok-apply_one-in-len1.ensures.1 ∙ all.shape)
-
-pub check_application-returns-in_err-apply_one-in-len1 : goal.check_application-returns-in_err-apply_one-in-len1
-check_application-returns-in_err-apply_one-in-len1 t c =
-    let S = spec_of c.args.declarations.now in
-    let a = scope_view c.args.scope.now in
-    let f = named c.args.name.now in
-    let g = function_view c.in_ok-function.function in
-    let xs = c.args.arguments.now in
-    let x = c.x-item.result in
-    let all = one_applied S a f xs g x (shape_view c.in_ok-shape-in-len1.shape) c.in_ok-function.ensures
-    (one_argument xs x c.in-len1.len_at_least c.in-len1.len_below c.x-item.is) c.in_ok-shape-in-len1.ensures in
-    let e = c.in_err-apply_one-in-len1.field-0.0 in
-    let h : IsAmong (application_faults S a f xs) (At e) =
-    subst (λ (fs : List TypingFault). IsAmong fs (At e)) (sym all.faults) c.in_err-apply_one-in-len1.ensures in
+    let e = At c.in_err-require.field-0.0 in
+    let here = subst (λ (n : ℕ). IsAmong (unless (length xs == n) rule.WrongCount f.place) e) c.arity.ensures c.in_err-require.ensures in
+    let h : IsAmong (application_faults S a f xs) e = count_fault S a f c.in_ok-function.function xs e c.in_ok-function.ensures here in
     search rules
 
-pub check_application-returns-in_ok-apply_two-in-len2 : goal.check_application-returns-in_ok-apply_two-in-len2
-check_application-returns-in_ok-apply_two-in-len2 t c =
-    let S = spec_of c.args.declarations.now in
-    let a = scope_view c.args.scope.now in
-    let f = named c.args.name.now in
-    let g = function_view c.in_ok-function.function in
+pub check_application-check_one-requires : goal.check_application-check_one-requires
+check_application-check_one-requires t c =
+    let S = text_in c.args.context.now in
+    let f = c.in_ok-function.function in
     let xs = c.args.arguments.now in
-    let x = (c.x-item-then-arguments-lt3).result in
-    let y = c.y-item.result in
-    let all = two_applied S a f xs g x y (shape_view c.in_ok-left-in-len2.left) (shape_view c.in_ok-right-in-len2.right) c.in_ok-function.ensures
-    (two_arguments xs x y c.in-len2.len_at_least c.in-len2.len_below (c.x-item-then-arguments-lt3).is c.y-item.is) c.in_ok-left-in-len2.ensures c.in_ok-right-in-len2.ensures in
-    (all.faults ∙ c.in_ok-apply_two-in-len2.ensures.0, c.in_ok-apply_two-in-len2.ensures.1 ∙ all.shape)
+    let passed = subst (λ (n : ℕ). unless (length xs == n) rule.WrongCount c.args.name.now.place ≡ []) c.arity.ensures c.in_ok-require.ensures in
+    let count : length xs ≡ arity_of f = eqb-true (length xs) (arity_of f) (holds_unless (length xs == arity_of f) rule.WrongCount c.args.name.now.place passed) in
+    (omega (arith, c.decreases), (subst (IsFunction S (named c.args.name.now).text) c.in-OfOne.is c.in_ok-function.ensures, count ∙ ap arity_of c.in-OfOne.is))
 
-pub check_application-returns-in_err-apply_two-in-len2 : goal.check_application-returns-in_err-apply_two-in-len2
-check_application-returns-in_err-apply_two-in-len2 t c =
-    let S = spec_of c.args.declarations.now in
-    let a = scope_view c.args.scope.now in
-    let f = named c.args.name.now in
-    let g = function_view c.in_ok-function.function in
+pub check_application-check_two-requires : goal.check_application-check_two-requires
+check_application-check_two-requires t c =
+    let S = text_in c.args.context.now in
+    let f = c.in_ok-function.function in
     let xs = c.args.arguments.now in
-    let x = (c.x-item-then-arguments-lt3).result in
-    let y = c.y-item.result in
-    let all = two_applied S a f xs g x y (shape_view c.in_ok-left-in-len2.left) (shape_view c.in_ok-right-in-len2.right) c.in_ok-function.ensures
-    (two_arguments xs x y c.in-len2.len_at_least c.in-len2.len_below (c.x-item-then-arguments-lt3).is c.y-item.is) c.in_ok-left-in-len2.ensures c.in_ok-right-in-len2.ensures in
-    let e = c.in_err-apply_two-in-len2.field-0.0 in
-    let h : IsAmong (application_faults S a f xs) (At e) =
-    subst (λ (fs : List TypingFault). IsAmong fs (At e)) (sym all.faults) c.in_err-apply_two-in-len2.ensures in
+    let passed = subst (λ (n : ℕ). unless (length xs == n) rule.WrongCount c.args.name.now.place ≡ []) c.arity.ensures c.in_ok-require.ensures in
+    let count : length xs ≡ arity_of f = eqb-true (length xs) (arity_of f) (holds_unless (length xs == arity_of f) rule.WrongCount c.args.name.now.place passed) in
+    (omega (arith, c.decreases), (subst (IsFunction S (named c.args.name.now).text) c.in-OfTwo.is c.in_ok-function.ensures, count ∙ ap arity_of c.in-OfTwo.is))
+
+pub check_application-check_choice-requires : goal.check_application-check_choice-requires
+check_application-check_choice-requires t c =
+    let S = text_in c.args.context.now in
+    let f = c.in_ok-function.function in
+    let xs = c.args.arguments.now in
+    let passed = subst (λ (n : ℕ). unless (length xs == n) rule.WrongCount c.args.name.now.place ≡ []) c.arity.ensures c.in_ok-require.ensures in
+    let count : length xs ≡ arity_of f = eqb-true (length xs) (arity_of f) (holds_unless (length xs == arity_of f) rule.WrongCount c.args.name.now.place passed) in
+    (omega (arith, c.decreases), (subst (IsFunction S (named c.args.name.now).text) c.in-Choice.is c.in_ok-function.ensures, count ∙ ap arity_of c.in-Choice.is))
+
+pub check_one-check_term-requires : goal.check_one-check_term-requires
+check_one-check_term-requires t c =
+    let xs = c.args.arguments.now in
+    let i = c.index-arguments-0 in
+    omega (arith, c.decreases, argument_lighter xs 0 (get_or xs 0 i.result) (omega (arith, c.requires.count)) (ap (get_or xs 0) i.is))
+
+pub check_one-returns-in_err-x : goal.check_one-returns-in_err-x
+check_one-returns-in_err-x t c =
+    let S = text_in c.args.context.now in
+    let a = scope_in c.args.context.now in
+    let xs = c.args.arguments.now in
+    let e = c.in_err-x.field-0.0 in
+    let h : IsAmong (application_faults S a (named c.args.name.now) xs) e = argument_fault S a (named c.args.name.now) xs 0 (get_or xs 0 c.index-arguments-0.result) e (omega (arith, c.requires.count)) (ap (get_or xs 0) c.index-arguments-0.is) c.in_err-x.ensures in
     search rules
 
-pub check_application-returns-in_ok-apply_three-in-len3 : goal.check_application-returns-in_ok-apply_three-in-len3
-check_application-returns-in_ok-apply_three-in-len3 t c =
-    let S = spec_of c.args.declarations.now in
-    let a = scope_view c.args.scope.now in
-    let f = named c.args.name.now in
-    let g = function_view c.in_ok-function.function in
+pub check_one-returns : goal.check_one-returns
+check_one-returns t c =
+    let S = text_in c.args.context.now in
+    let a = scope_in c.args.context.now in
+    let s = slots_in c.args.context.now in
     let xs = c.args.arguments.now in
-    let q = c.condition-item in
-    let x = c.x-item-then-arguments-lt4 in
-    let y = c.y-item-then-arguments-lt4 in
-    let all = three_applied S a f xs g q.result x.result y.result (shape_view c.in_ok-condition-in-len3.condition) (shape_view c.in_ok-left-in-len3.left) (shape_view c.in_ok-right-in-len3.right) c.in_ok-function.ensures
-    (three_arguments xs q.result x.result y.result c.in-len3.len_at_least c.in-len3.len_below q.is x.is y.is) c.in_ok-condition-in-len3.ensures c.in_ok-left-in-len3.ensures c.in_ok-right-in-len3.ensures in
-    (all.faults ∙ c.in_ok-apply_three-in-len3.ensures.0, c.in_ok-apply_three-in-len3.ensures.1 ∙ all.shape)
+    one_node S a s (named c.args.name.now) c.args.function xs (get_or xs 0 c.index-arguments-0.result) c.in_ok-x.x c.apply_one.result c.requires.function
+    (one_argument xs (get_or xs 0 c.index-arguments-0.result) (omega (arith, c.requires.count)) (omega (arith, c.requires.count)) (ap (get_or xs 0) c.index-arguments-0.is)) c.in_ok-x.ensures c.apply_one.ensures
 
-pub check_application-returns-in_err-apply_three-in-len3 : goal.check_application-returns-in_err-apply_three-in-len3
-check_application-returns-in_err-apply_three-in-len3 t c =
-    let S = spec_of c.args.declarations.now in
-    let a = scope_view c.args.scope.now in
-    let f = named c.args.name.now in
-    let g = function_view c.in_ok-function.function in
+pub check_two-check_term-requires : goal.check_two-check_term-requires
+check_two-check_term-requires t c =
     let xs = c.args.arguments.now in
-    let q = c.condition-item in
-    let x = c.x-item-then-arguments-lt4 in
-    let y = c.y-item-then-arguments-lt4 in
-    let all = three_applied S a f xs g q.result x.result y.result (shape_view c.in_ok-condition-in-len3.condition) (shape_view c.in_ok-left-in-len3.left) (shape_view c.in_ok-right-in-len3.right) c.in_ok-function.ensures
-    (three_arguments xs q.result x.result y.result c.in-len3.len_at_least c.in-len3.len_below q.is x.is y.is) c.in_ok-condition-in-len3.ensures c.in_ok-left-in-len3.ensures c.in_ok-right-in-len3.ensures in
-    let e = c.in_err-apply_three-in-len3.field-0.0 in
-    let h : IsAmong (application_faults S a f xs) (At e) =
-    subst (λ (fs : List TypingFault). IsAmong fs (At e)) (sym all.faults) c.in_err-apply_three-in-len3.ensures in
+    let i = c.index-arguments-0 in
+    omega (arith, c.decreases, argument_lighter xs 0 (get_or xs 0 i.result) (omega (arith, c.requires.count)) (ap (get_or xs 0) i.is))
+
+pub check_two-check_term-requires-2 : goal.check_two-check_term-requires-2
+check_two-check_term-requires-2 t c =
+    let xs = c.args.arguments.now in
+    let i = c.index-arguments-1 in
+    omega (arith, c.decreases, argument_lighter xs 1 (get_or xs 1 i.result) (omega (arith, c.requires.count)) (ap (get_or xs 1) i.is))
+
+pub check_two-returns-in_err-x : goal.check_two-returns-in_err-x
+check_two-returns-in_err-x t c =
+    let S = text_in c.args.context.now in
+    let a = scope_in c.args.context.now in
+    let xs = c.args.arguments.now in
+    let e = c.in_err-x.field-0.0 in
+    let h : IsAmong (application_faults S a (named c.args.name.now) xs) e = argument_fault S a (named c.args.name.now) xs 0 (get_or xs 0 c.index-arguments-0.result) e (omega (arith, c.requires.count)) (ap (get_or xs 0) c.index-arguments-0.is) c.in_err-x.ensures in
     search rules
 
--- ---- chains
-
-pub check_chain-returns-in_err-left : goal.check_chain-returns-in_err-left
-check_chain-returns-in_err-left t c =
-    let S = spec_of c.args.declarations.now in
-    let a = scope_view c.args.scope.now in
-    let whole = chain_faults S (are_allowed c.args.quantifiers) a (term_form c.args.first.now) c.args.links.now in
-    let h : IsAmong whole c.in_err-left.field-0.0 = among_first whole _ _ c.in_err-left.field-0.0 refl c.in_err-left.ensures in
+pub check_two-returns-in_err-y : goal.check_two-returns-in_err-y
+check_two-returns-in_err-y t c =
+    let S = text_in c.args.context.now in
+    let a = scope_in c.args.context.now in
+    let xs = c.args.arguments.now in
+    let e = c.in_err-y.field-0.0 in
+    let h : IsAmong (application_faults S a (named c.args.name.now) xs) e = argument_fault S a (named c.args.name.now) xs 1 (get_or xs 1 c.index-arguments-1.result) e (omega (arith, c.requires.count)) (ap (get_or xs 1) c.index-arguments-1.is) c.in_err-y.ensures in
     search rules
 
-pub check_chain-loop-index-init : goal.check_chain-loop-index-init
-check_chain-loop-index-init t c =
-    let S = spec_of c.args.declarations.now in
-    let a = scope_view c.args.scope.now in
-    let checked = c.in_ok-left.ensures in
-    record {
-      left =
-          first_clear _ _ _ refl checked.0
-          ∙ ap (λ (s : model.Shape). link_faults S (are_allowed c.args.quantifiers) a s c.args.links.now) (sym checked.1);
-      first = λ _. checked.1;
-    }
+pub check_two-returns : goal.check_two-returns
+check_two-returns t c =
+    let S = text_in c.args.context.now in
+    let a = scope_in c.args.context.now in
+    let s = slots_in c.args.context.now in
+    let xs = c.args.arguments.now in
+    two_node S a s (named c.args.name.now) c.args.extreme xs (get_or xs 0 c.index-arguments-0.result) (get_or xs 1 c.index-arguments-1.result) c.in_ok-x.x c.in_ok-y.y c.apply_two.result c.requires.function
+    (two_arguments xs (get_or xs 0 c.index-arguments-0.result) (get_or xs 1 c.index-arguments-1.result) (omega (arith, c.requires.count)) (omega (arith, c.requires.count)) (ap (get_or xs 0) c.index-arguments-0.is) (ap (get_or xs 1) c.index-arguments-1.is)) c.in_ok-x.ensures c.in_ok-y.ensures c.apply_two.ensures
 
-pub check_chain-check_term-requires-in-loop-index : goal.check_chain-check_term-requires-in-loop-index
-check_chain-check_term-requires-in-loop-index t c =
-    omega (arith, c.decreases, link_lighter c.args.links.now c.loop-index.index c.index-links-index.result c.loop-index-test.true c.index-links-index.is)
+pub check_choice-check_term-requires : goal.check_choice-check_term-requires
+check_choice-check_term-requires t c =
+    let xs = c.args.arguments.now in
+    let i = c.index-arguments-0 in
+    omega (arith, c.decreases, argument_lighter xs 0 (get_or xs 0 i.result) (omega (arith, c.requires.count)) (ap (get_or xs 0) i.is))
 
-pub check_chain-returns-in_err-left-2 : goal.check_chain-returns-in_err-left-2
-check_chain-returns-in_err-left-2 t c =
-    let S = spec_of c.args.declarations.now in
-    let a = scope_view c.args.scope.now in
-    let whole = chain_faults S (are_allowed c.args.quantifiers) a (term_form c.args.first.now) c.args.links.now in
-    let next = ap (link_faults S (are_allowed c.args.quantifiers) a (shape_view c.loop-index.left)) (drop-at c.args.links.now c.loop-index.index c.index-links-index.result c.loop-index-test.true c.index-links-index.is) in
-    let place = c.index-links-index.result.place in
-    let passed = sym (ap (λ (b : Bool). unless b rule.WrongKind place) c.may_be_truth.ensures) ∙ c.in_ok-require.ensures in
-    let h : IsAmong whole (c.in_err-left-2).field-0.0 =
-    among_first whole _ _ (c.in_err-left-2).field-0.0 (first_clear whole _ _ (c.loop-index.invariant.left ∙ next) passed) (c.in_err-left-2).ensures in
+pub check_choice-check_term-requires-2 : goal.check_choice-check_term-requires-2
+check_choice-check_term-requires-2 t c =
+    let xs = c.args.arguments.now in
+    let i = c.index-arguments-1 in
+    omega (arith, c.decreases, argument_lighter xs 1 (get_or xs 1 i.result) (omega (arith, c.requires.count)) (ap (get_or xs 1) i.is))
+
+pub check_choice-check_term-requires-3 : goal.check_choice-check_term-requires-3
+check_choice-check_term-requires-3 t c =
+    let xs = c.args.arguments.now in
+    let i = c.index-arguments-2 in
+    omega (arith, c.decreases, argument_lighter xs 2 (get_or xs 2 i.result) (omega (arith, c.requires.count)) (ap (get_or xs 2) i.is))
+
+pub check_choice-returns-in_err-condition : goal.check_choice-returns-in_err-condition
+check_choice-returns-in_err-condition t c =
+    let S = text_in c.args.context.now in
+    let a = scope_in c.args.context.now in
+    let xs = c.args.arguments.now in
+    let e = c.in_err-condition.field-0.0 in
+    let h : IsAmong (application_faults S a (named c.args.name.now) xs) e = argument_fault S a (named c.args.name.now) xs 0 (get_or xs 0 c.index-arguments-0.result) e (omega (arith, c.requires.count)) (ap (get_or xs 0) c.index-arguments-0.is) c.in_err-condition.ensures in
     search rules
+
+pub check_choice-returns-in_err-x : goal.check_choice-returns-in_err-x
+check_choice-returns-in_err-x t c =
+    let S = text_in c.args.context.now in
+    let a = scope_in c.args.context.now in
+    let xs = c.args.arguments.now in
+    let e = c.in_err-x.field-0.0 in
+    let h : IsAmong (application_faults S a (named c.args.name.now) xs) e = argument_fault S a (named c.args.name.now) xs 1 (get_or xs 1 c.index-arguments-1.result) e (omega (arith, c.requires.count)) (ap (get_or xs 1) c.index-arguments-1.is) c.in_err-x.ensures in
+    search rules
+
+pub check_choice-returns-in_err-y : goal.check_choice-returns-in_err-y
+check_choice-returns-in_err-y t c =
+    let S = text_in c.args.context.now in
+    let a = scope_in c.args.context.now in
+    let xs = c.args.arguments.now in
+    let e = c.in_err-y.field-0.0 in
+    let h : IsAmong (application_faults S a (named c.args.name.now) xs) e = argument_fault S a (named c.args.name.now) xs 2 (get_or xs 2 c.index-arguments-2.result) e (omega (arith, c.requires.count)) (ap (get_or xs 2) c.index-arguments-2.is) c.in_err-y.ensures in
+    search rules
+
+pub check_choice-returns : goal.check_choice-returns
+check_choice-returns t c =
+    let S = text_in c.args.context.now in
+    let a = scope_in c.args.context.now in
+    let s = slots_in c.args.context.now in
+    let xs = c.args.arguments.now in
+    choice_node S a s (named c.args.name.now) xs (get_or xs 0 c.index-arguments-0.result) (get_or xs 1 c.index-arguments-1.result) (get_or xs 2 c.index-arguments-2.result) c.in_ok-condition.condition c.in_ok-x.x c.in_ok-y.y c.choose.result c.requires.function
+    (three_arguments xs (get_or xs 0 c.index-arguments-0.result) (get_or xs 1 c.index-arguments-1.result) (get_or xs 2 c.index-arguments-2.result) (omega (arith, c.requires.count)) (omega (arith, c.requires.count)) (ap (get_or xs 0) c.index-arguments-0.is) (ap (get_or xs 1) c.index-arguments-1.is) (ap (get_or xs 2) c.index-arguments-2.is)) c.in_ok-condition.ensures c.in_ok-x.ensures c.in_ok-y.ensures c.choose.ensures
 
 -- ---- arithmetic
 
-pub check_arithmetic-returns-in_err-left : goal.check_arithmetic-returns-in_err-left
-check_arithmetic-returns-in_err-left t c =
-    let S = spec_of c.args.declarations.now in
-    let a = scope_view c.args.scope.now in
-    let whole = term_faults S (are_allowed c.args.quantifiers) a (calculated (term_form c.args.first.now) (arithmetic_links c.args.links.now)) in
-    let all = calculated-faults S (are_allowed c.args.quantifiers) a (term_form c.args.first.now) c.args.links.now in
-    let here : IsAmong (term_faults S ((are_allowed c.args.quantifiers) && is_no_link c.args.links.now) a (term_form c.args.first.now)) c.in_err-left.field-0.0 =
-    subst (λ (b : Bool). IsAmong (term_faults S b a (term_form c.args.first.now)) c.in_err-left.field-0.0) c.in_first_operand-in_first.ensures c.in_err-left.ensures in
-    let h : IsAmong whole c.in_err-left.field-0.0 = among_first whole _ _ c.in_err-left.field-0.0 all here in
+pub check_arithmetic-returns-in_err-head : goal.check_arithmetic-returns-in_err-head
+check_arithmetic-returns-in_err-head t c =
+    let S = text_in c.args.context.now in
+    let a = scope_in c.args.context.now in
+    let whole = term_faults S false a (calculated (term_form c.args.first.now) (arithmetic_links c.args.links.now)) in
+    let h : IsAmong whole c.in_err-head.field-0.0 = among_first whole _ _ c.in_err-head.field-0.0 (calculated-faults S false a (term_form c.args.first.now) c.args.links.now) c.in_err-head.ensures in
     search rules
 
 pub check_arithmetic-loop-link-init : goal.check_arithmetic-loop-link-init
 check_arithmetic-loop-link-init t c =
-    let S = spec_of c.args.declarations.now in
-    let a = scope_view c.args.scope.now in
+    let S = text_in c.args.context.now in
+    let a = scope_in c.args.context.now in
+    let s = slots_in c.args.context.now in
     let links = c.args.links.now in
     let first = term_form c.args.first.now in
-    let checked = c.in_ok-left.ensures in
-    let none : term_faults S ((are_allowed c.args.quantifiers) && is_no_link links) a first ≡ [] = subst (λ (b : Bool). term_faults S b a first ≡ []) c.in_first_operand-in_first.ensures checked.0 in
+    let checked = c.in_ok-head.ensures in
     record {
       left =
-          first_clear _ _ _ (calculated-faults S (are_allowed c.args.quantifiers) a first links) none
-          ∙ ap (λ (s : model.Shape). arithmetic_faults S a s links) (sym checked.1);
-      whole = calculated-shape S a first links ∙ ap (λ (s : model.Shape). calculated_shape S a s links) (sym checked.1);
+          first_clear _ _ _ (calculated-faults S false a first links) checked.0
+          ∙ ap (λ (s : model.Shape). arithmetic_faults S a s links) (sym checked.1.0);
+      whole = calculated-shape S a first links ∙ ap (λ (s : model.Shape). calculated_shape S a s links) (sym checked.1.0);
+      head = checked.1.1;
+      operands = ap (λ zs. link_views zs ++ arithmetic_terms S s links) (sym c.in_ok-operands.ensures.items);
     }
 
 pub check_arithmetic-check_term-requires-in-loop-link : goal.check_arithmetic-check_term-requires-in-loop-link
@@ -255,47 +237,163 @@ check_arithmetic-check_term-requires-in-loop-link t c =
 
 pub check_arithmetic-returns-in_err-right : goal.check_arithmetic-returns-in_err-right
 check_arithmetic-returns-in_err-right t c =
-    let S = spec_of c.args.declarations.now in
-    let a = scope_view c.args.scope.now in
-    let whole = term_faults S (are_allowed c.args.quantifiers) a (calculated (term_form c.args.first.now) (arithmetic_links c.args.links.now)) in
-    let next = ap (arithmetic_faults S a (shape_view c.loop-link.left)) (drop-at c.args.links.now c.loop-link.link-index c.link-item.result c.loop-link-test.true c.link-item.is) in
+    let S = text_in c.args.context.now in
+    let a = scope_in c.args.context.now in
+    let whole = term_faults S false a (calculated (term_form c.args.first.now) (arithmetic_links c.args.links.now)) in
+    let next = ap (arithmetic_faults S a (shape_view c.loop-link.shape)) (drop-at c.args.links.now c.loop-link.link-index c.link-item.result c.loop-link-test.true c.link-item.is) in
     let h : IsAmong whole c.in_err-right.field-0.0 =
     among_first whole _ _ c.in_err-right.field-0.0 (c.loop-link.invariant.left ∙ next) c.in_err-right.ensures in
     search rules
 
-pub check_arithmetic-returns-in_err-left-2 : goal.check_arithmetic-returns-in_err-left-2
-check_arithmetic-returns-in_err-left-2 t c =
-    let S = spec_of c.args.declarations.now in
-    let a = scope_view c.args.scope.now in
-    let whole = term_faults S (are_allowed c.args.quantifiers) a (calculated (term_form c.args.first.now) (arithmetic_links c.args.links.now)) in
+pub check_arithmetic-returns-in_err-shape : goal.check_arithmetic-returns-in_err-shape
+check_arithmetic-returns-in_err-shape t c =
+    let S = text_in c.args.context.now in
+    let a = scope_in c.args.context.now in
+    let whole = term_faults S false a (calculated (term_form c.args.first.now) (arithmetic_links c.args.links.now)) in
     let link = c.link-item.result in
-    let next = ap (arithmetic_faults S a (shape_view c.loop-link.left)) (drop-at c.args.links.now c.loop-link.link-index link c.loop-link-test.true c.link-item.is) in
+    let next = ap (arithmetic_faults S a (shape_view c.loop-link.shape)) (drop-at c.args.links.now c.loop-link.link-index link c.loop-link-test.true c.link-item.is) in
     let checked = c.in_ok-right.ensures in
     let rest = first_clear whole _ _ (c.loop-link.invariant.left ∙ next) checked.0 in
-    let here = subst (λ (s : model.Shape). IsAmong (operator_faults (Computed (operation_of link.operator)) (shape_view c.loop-link.left) s link.place) (At (c.in_err-left-2).field-0.0)) checked.1 (c.in_err-left-2).ensures in
-    let h : IsAmong whole (At (c.in_err-left-2).field-0.0) = among_first whole _ _ (At (c.in_err-left-2).field-0.0) rest here in
+    let here = subst (λ (s : model.Shape). IsAmong (operator_faults (Computed (operation_of link.operator)) (shape_view c.loop-link.shape) s link.place) c.in_err-shape.field-0.0) checked.1.0 c.in_err-shape.ensures in
+    let h : IsAmong whole c.in_err-shape.field-0.0 = among_first whole _ _ c.in_err-shape.field-0.0 rest here in
     search rules
 
-pub check_arithmetic-loop-link-preserved : goal.check_arithmetic-loop-link-preserved
-check_arithmetic-loop-link-preserved t c =
-    let S = spec_of c.args.declarations.now in
-    let a = scope_view c.args.scope.now in
-    let whole = term_faults S (are_allowed c.args.quantifiers) a (calculated (term_form c.args.first.now) (arithmetic_links c.args.links.now)) in
-    let link = c.link-item.result in
-    let o = operation_of link.operator in
-    let s = shape_view c.loop-link.left in
-    let behind = drop (c.loop-link.link-index + 1) c.args.links.now in
-    let at = drop-at c.args.links.now c.loop-link.link-index link c.loop-link-test.true c.link-item.is in
-    let checked = c.in_ok-right.ensures in
-    let rest = first_clear whole _ _ (c.loop-link.invariant.left ∙ ap (arithmetic_faults S a s) at) checked.0 in
-    let none : operator_faults (Computed o) s (arithmetic_shape S a link) link.place ≡ [] =
-    subst (λ (r : model.Shape). operator_faults (Computed o) s r link.place ≡ []) checked.1 (c.in_ok-left-2).ensures.0 in
-    let made : shape_view (c.in_ok-left-2).left ≡ binary_shape o s (arithmetic_shape S a link) =
-    (c.in_ok-left-2).ensures.1 ∙ ap (binary_shape o s) checked.1 in
+pub check_arithmetic-returns : goal.check_arithmetic-returns
+check_arithmetic-returns t c =
+    let S = text_in c.args.context.now in
+    let a = scope_in c.args.context.now in
+    let s = slots_in c.args.context.now in
+    let links = c.args.links.now in
+    let over = c.loop-link.invariant in
+    let none = drop_all c.loop-link.link-index links (omega (arith, c.loop-link-test.false)) in (
+      over.left ∙ ap (arithmetic_faults S a (shape_view c.loop-link.shape)) none,
+      (
+        sym (over.whole ∙ ap (calculated_shape S a (shape_view c.loop-link.shape)) none),
+        made.term-arithmetic c.in_ok-new.field-0 c.loop-link.operands
+            ∙ (ap (λ (x : tree.Term). view.calculated x (link_views c.loop-link.operands.items)) (ap term_view c.in_ok-new.ensures.ok ∙ over.head)
+            ∙ (ap (view.calculated (over_slots S s c.args.first.now)) (sym (arithmetic_done S s links c.loop-link.link-index _ _ (omega (arith, c.loop-link-test.false)) over.operands))
+            ∙ sym (calculated-slotted S s (term_form c.args.first.now) links))),
+      ),
+    )
+
+-- ---- chains
+
+pub check_links-loop-index-init : goal.check_links-loop-index-init
+check_links-loop-index-init t c =
+    let S = text_in c.args.context.now in
+    let s = slots_in c.args.context.now in
     record {
-      left = first_clear whole _ _ rest none ∙ ap (λ (r : model.Shape). arithmetic_faults S a r behind) (sym made);
-      whole = c.loop-link.invariant.whole ∙ ap (calculated_shape S a s) at ∙ ap (λ (r : model.Shape). calculated_shape S a r behind) (sym made);
+      left = refl;
+      operands = ap (λ zs. term_views zs ++ link_terms S s c.args.links.now) (sym c.in_ok-operands.ensures.items);
     }
+
+pub check_links-check_link-requires : goal.check_links-check_link-requires
+check_links-check_link-requires t c =
+    omega (arith, c.decreases, link_lighter c.args.links.now c.loop-index.index c.index-links-index.result c.loop-index-test.true c.index-links-index.is)
+
+pub check_links-returns-in_err-operand : goal.check_links-returns-in_err-operand
+check_links-returns-in_err-operand t c =
+    let S = text_in c.args.context.now in
+    let a = scope_in c.args.context.now in
+    let links = c.args.links.now in
+    let k = c.loop-index.index in
+    let link = c.index-links-index.result in
+    let next = links_next S false a (shape_view c.loop-index.left) links k link c.loop-index-test.true c.index-links-index.is in
+    let whole = link_faults S false a (shape_view c.args.first) links in
+    let h : IsAmong whole c.in_err-operand.field-0.0 = among_first whole _ _ c.in_err-operand.field-0.0 (c.loop-index.invariant.left ∙ next) c.in_err-operand.ensures in
+    search rules
+
+pub check_links-loop-index-preserved : goal.check_links-loop-index-preserved
+check_links-loop-index-preserved t c =
+    let S = text_in c.args.context.now in
+    let a = scope_in c.args.context.now in
+    let s = slots_in c.args.context.now in
+    let links = c.args.links.now in
+    let k = c.loop-index.index in
+    let link = c.index-links-index.result in
+    let next = links_next S false a (shape_view c.loop-index.left) links k link c.loop-index-test.true c.index-links-index.is in
+    let over = c.loop-index.invariant in
+    let done = c.in_ok-operand.ensures in
+    record {
+      left = first_clear _ _ _ (over.left ∙ next) done.0 ∙ ap (λ (u : model.Shape). link_faults S false a u (drop (k + 1) links)) (sym done.1.0);
+      operands = terms_next S s links k link c.in_ok-operand.operand.term c.loop-index.operands.items c.push.new.self.items c.loop-index-test.true c.index-links-index.is c.in_ok-push.ensures.items done.1.1 over.operands;
+    }
+
+pub check_links-returns : goal.check_links-returns
+check_links-returns t c =
+    let S = text_in c.args.context.now in
+    let a = scope_in c.args.context.now in
+    let s = slots_in c.args.context.now in
+    let links = c.args.links.now in
+    let over = c.loop-index.invariant in
+    let end : length links ≤ c.loop-index.index = omega (arith, c.loop-index-test.false) in (
+      over.left ∙ ap (link_faults S false a (shape_view c.loop-index.left)) (drop_all c.loop-index.index links end),
+      sym (links_done S s links c.loop-index.index _ _ end over.operands),
+    )
+
+pub check_link-returns-in_err-operand : goal.check_link-returns-in_err-operand
+check_link-returns-in_err-operand t c =
+    let S = text_in c.args.context.now in
+    let a = scope_in c.args.context.now in
+    let link = c.args.link.now in
+    let s = shape_view c.args.left in
+    let e = c.in_err-operand.field-0.0 in
+    let h : IsAmong (own_faults S false a s link c.args.more) e =
+    among_right (unless (may_be_truth s) rule.WrongKind link.place) _ e (among_left (term_faults S false a (term_form link.operand)) _ e c.in_err-operand.ensures) in
+    search rules
+
+pub check_chain-returns-in_err-head : goal.check_chain-returns-in_err-head
+check_chain-returns-in_err-head t c =
+    let S = text_in c.args.context.now in
+    let a = scope_in c.args.context.now in
+    let first = term_form c.args.first.now in
+    let links = c.args.links.now in
+    let all = chained-faults S false a c.args.connective first links in
+    let whole = term_faults S false a (chained (TermForm.connected c.args.connective) first (term_links links)) in
+    let h : IsAmong whole c.in_err-head.field-0.0 = among_first whole _ _ c.in_err-head.field-0.0 all c.in_err-head.ensures in
+    search rules
+
+pub check_chain-returns-then-is_empty : goal.check_chain-returns-then-is_empty
+check_chain-returns-then-is_empty t c =
+    let S = text_in c.args.context.now in
+    let a = scope_in c.args.context.now in
+    let s = slots_in c.args.context.now in
+    lone_chain S a s c.args.connective (term_form c.args.first.now) c.args.links.now (Ok c.in_ok-head.head) (sym c.is_empty.ensures ∙ c.if-is_empty.true) c.in_ok-head.ensures
+
+pub check_chain-returns-in_err-links : goal.check_chain-returns-in_err-links
+check_chain-returns-in_err-links t c =
+    let S = text_in c.args.context.now in
+    let a = scope_in c.args.context.now in
+    let first = term_form c.args.first.now in
+    let links = c.args.links.now in
+    let all = chained-faults S false a c.args.connective first links in
+    let whole = term_faults S false a (chained (TermForm.connected c.args.connective) first (term_links links)) in
+    let checked = c.in_ok-head.ensures in
+    let e = c.in_err-links.field-0.0 in
+    let here = subst (λ (u : model.Shape). IsAmong (link_faults S false a u links) e) checked.1.0 c.in_err-links.ensures in
+    let h : IsAmong whole e = subst (λ (zs : List TypingFault). IsAmong zs e) (sym (first_clear _ _ _ all checked.0)) here in
+    search rules
+
+pub check_chain-returns : goal.check_chain-returns
+check_chain-returns t c =
+    let S = text_in c.args.context.now in
+    let a = scope_in c.args.context.now in
+    let s = slots_in c.args.context.now in
+    let first = term_form c.args.first.now in
+    let links = c.args.links.now in
+    let all = chained-faults S false a c.args.connective first links in
+    let o = Binary (of_connective c.args.connective) in
+    let checked = c.in_ok-head.ensures in
+    let others = c.in_ok-links.ensures in (
+      first_clear _ _ _ all checked.0 ∙ (ap (λ (u : model.Shape). link_faults S false a u links) (sym checked.1.0) ∙ others.0),
+      (
+        sym (some-shape S a c.args.connective first links (sym c.is_empty.ensures ∙ c.if-is_empty.false)),
+        made.term-chain c.args.connective c.in_ok-new.field-0 c.in_ok-links.links
+            ∙ (ap (λ (x : tree.Term). view.chained o x (term_views c.in_ok-links.links.items)) (ap term_view c.in_ok-new.ensures.ok ∙ checked.1.1)
+            ∙ (ap (view.chained o (over_slots S s c.args.first.now)) others.1
+            ∙ sym (chained-slotted S s c.args.connective first links))),
+      ),
+    )
 
 -- ---- nodes
 
@@ -303,142 +401,96 @@ pub check_term-check_chain-requires : goal.check_term-check_chain-requires
 check_term-check_chain-requires t c =
     omega (arith, c.decreases, ap weight c.in-Chain.is ∙ weight-chain c.in-Chain.connective c.in-Chain.first c.in-Chain.links, ap weight c.deref-in-Chain.ensures, ap links_weight c.deref-in-Chain-2.ensures.value)
 
-pub check_term-returns-in-Chain : goal.check_term-returns-in-Chain
-check_term-returns-in-Chain t c =
-    let S = spec_of c.args.declarations.now in
-    let a = scope_view c.args.scope.now in
-    let o = c.in-Chain.connective in
-    let f = c.in-Chain.first in
-    let ls = c.in-Chain.links in
-    let is = ap term_form c.in-Chain.is ∙ term-chain o f ls in
-    let here : Judges (chain_faults S (are_allowed c.args.quantifiers) a (term_form f.value) ls.items) (chain_shape (shape S a (erased_term (term_form f.value))) ls.items) c.check_chain.result =
-    subst (λ (ys : List TermLink). Judges (chain_faults S (are_allowed c.args.quantifiers) a (term_form f.value) ys) (chain_shape (shape S a (erased_term (term_form f.value))) ys) c.check_chain.result) c.deref-in-Chain-2.ensures.value
-    (subst (λ (x : Term). Judges (chain_faults S (are_allowed c.args.quantifiers) a (term_form x) c.deref-in-Chain-2.result.now) (chain_shape (shape S a (erased_term (term_form x))) c.deref-in-Chain-2.result.now) c.check_chain.result) c.deref-in-Chain.ensures c.check_chain.ensures) in
-    subst (λ (x : TermForm). Judges (term_faults S (are_allowed c.args.quantifiers) a x) (shape S a (erased_term x)) c.check_chain.result) (sym is)
-    (subst (λ (fs : List TypingFault). Judges fs (shape S a (erased_term (chained (TermForm.connected o) (term_form f.value) (term_links ls.items)))) c.check_chain.result) (sym (chained-faults S (are_allowed c.args.quantifiers) a o (term_form f.value) ls.items))
-    (subst (λ (s : model.Shape). Judges (chain_faults S (are_allowed c.args.quantifiers) a (term_form f.value) ls.items) s c.check_chain.result) (sym (chained-shape S a o (term_form f.value) ls.items)) here))
-
 pub check_term-check_arithmetic-requires : goal.check_term-check_arithmetic-requires
 check_term-check_arithmetic-requires t c =
     omega (arith, c.decreases, ap weight c.in-Arithmetic.is ∙ weight-arithmetic c.in-Arithmetic.first c.in-Arithmetic.links, ap weight c.deref-in-Arithmetic.ensures, ap arithmetic_weight c.deref-in-Arithmetic-2.ensures.value)
-
-pub check_term-returns-in-Arithmetic : goal.check_term-returns-in-Arithmetic
-check_term-returns-in-Arithmetic t c =
-    let S = spec_of c.args.declarations.now in
-    let a = scope_view c.args.scope.now in
-    let f = c.in-Arithmetic.first in
-    let is = ap term_form c.in-Arithmetic.is ∙ term-arithmetic f c.in-Arithmetic.links in
-    let same = ap (λ (x : Term). calculated (term_form x) (arithmetic_links c.deref-in-Arithmetic-2.result.now)) c.deref-in-Arithmetic.ensures
-    ∙ (ap (λ (ls : List ArithmeticLink). calculated (term_form f.value) (arithmetic_links ls)) c.deref-in-Arithmetic-2.ensures.value ∙ sym is) in
-    subst (λ (x : TermForm). Judges (term_faults S (are_allowed c.args.quantifiers) a x) (shape S a (erased_term x)) c.check_arithmetic.result) same c.check_arithmetic.ensures
 
 pub check_term-check_application-requires : goal.check_term-check_application-requires
 check_term-check_application-requires t c =
     omega (arith, c.decreases, ap weight c.in-Application.is ∙ weight-application c.in-Application.function c.in-Application.arguments, ap arguments_weight c.deref-in-Application.ensures.value)
 
+pub check_term-returns-in-Chain : goal.check_term-returns-in-Chain
+check_term-returns-in-Chain t c =
+    let S = text_in c.args.context.now in
+    let a = scope_in c.args.context.now in
+    let s = slots_in c.args.context.now in
+    let o = c.in-Chain.connective in
+    let f = c.in-Chain.first in
+    let is = ap term_form c.in-Chain.is ∙ term-chain o f c.in-Chain.links in
+    let same = ap (λ (x : Term). chained (TermForm.connected o) (term_form x) (term_links c.deref-in-Chain-2.result.now)) c.deref-in-Chain.ensures
+    ∙ (ap (λ (ls : List TermLink). chained (TermForm.connected o) (term_form f.value) (term_links ls)) c.deref-in-Chain-2.ensures.value ∙ sym is) in
+    subst (λ (x : TermForm). ChecksTermIn S a s x c.check_chain.result) same c.check_chain.ensures
+
+pub check_term-returns-in-Arithmetic : goal.check_term-returns-in-Arithmetic
+check_term-returns-in-Arithmetic t c =
+    let S = text_in c.args.context.now in
+    let a = scope_in c.args.context.now in
+    let s = slots_in c.args.context.now in
+    let f = c.in-Arithmetic.first in
+    let is = ap term_form c.in-Arithmetic.is ∙ term-arithmetic f c.in-Arithmetic.links in
+    let same = ap (λ (x : Term). calculated (term_form x) (arithmetic_links c.deref-in-Arithmetic-2.result.now)) c.deref-in-Arithmetic.ensures
+    ∙ (ap (λ (ls : List ArithmeticLink). calculated (term_form f.value) (arithmetic_links ls)) c.deref-in-Arithmetic-2.ensures.value ∙ sym is) in
+    subst (λ (x : TermForm). ChecksTermIn S a s x c.check_arithmetic.result) same c.check_arithmetic.ensures
+
 pub check_term-returns-in-Application : goal.check_term-returns-in-Application
 check_term-returns-in-Application t c =
-    let S = spec_of c.args.declarations.now in
-    let a = scope_view c.args.scope.now in
+    let S = text_in c.args.context.now in
+    let a = scope_in c.args.context.now in
+    let s = slots_in c.args.context.now in
     let is = ap term_form c.in-Application.is ∙ term-application c.in-Application.function c.in-Application.arguments in
     let same = ap (λ (xs : List Argument). TermForm.application (named c.in-Application.function) (argument_forms xs)) c.deref-in-Application.ensures.value ∙ sym is in
-    subst (λ (x : TermForm). Judges (term_faults S (are_allowed c.args.quantifiers) a x) (shape S a (erased_term x)) c.check_application.result) same c.check_application.ensures
+    subst (λ (x : TermForm). ChecksTermIn S a s x c.check_application.result) same c.check_application.ensures
 
-pub check_term-returns-in_err-shape-in-Negative : goal.check_term-returns-in_err-shape-in-Negative
-check_term-returns-in_err-shape-in-Negative t c =
-    let S = spec_of c.args.declarations.now in
-    let a = scope_view c.args.scope.now in
-    let h : IsAmong (term_faults S (are_allowed c.args.quantifiers) a (term_form c.args.term.now)) c.in_err-shape-in-Negative.field-0.0 =
-    negative_operand S (are_allowed c.args.quantifiers) a c.args.term.now c.deref-in-Negative.result.now c.in-Negative.place c.in-Negative.operand _
-    c.in-Negative.is c.deref-in-Negative.ensures c.in_err-shape-in-Negative.ensures in
+pub check_term-returns-in_err-operand-in-Not : goal.check_term-returns-in_err-operand-in-Not
+check_term-returns-in_err-operand-in-Not t c =
+    let S = text_in c.args.context.now in
+    let a = scope_in c.args.context.now in
+    let h : IsAmong (term_faults S false a (term_form c.args.term.now)) c.in_err-operand-in-Not.field-0.0 =
+    not_operand S false a c.args.term.now c.deref.result.now c.in-Not.place c.in-Not.operand _ c.in-Not.is c.deref.ensures c.in_err-operand-in-Not.ensures in
     search rules
+
+pub check_term-returns-in_ok-operand-in-Not : goal.check_term-returns-in_ok-operand-in-Not
+check_term-returns-in_ok-operand-in-Not t c =
+    let S = text_in c.args.context.now in
+    let a = scope_in c.args.context.now in
+    let s = slots_in c.args.context.now in
+    not_node S a s c.args.term.now c.deref.result.now c.in-Not.place c.in-Not.operand c.in_ok-operand-in-Not.operand c.negated.result c.in-Not.is c.deref.ensures c.in_ok-operand-in-Not.ensures c.negated.ensures
+
+pub check_term-returns-in_err-operand-in-Negative : goal.check_term-returns-in_err-operand-in-Negative
+check_term-returns-in_err-operand-in-Negative t c =
+    let S = text_in c.args.context.now in
+    let a = scope_in c.args.context.now in
+    let h : IsAmong (term_faults S false a (term_form c.args.term.now)) c.in_err-operand-in-Negative.field-0.0 =
+    negative_operand S false a c.args.term.now c.deref-in-Negative.result.now c.in-Negative.place c.in-Negative.operand _ c.in-Negative.is c.deref-in-Negative.ensures c.in_err-operand-in-Negative.ensures in
+    search rules
+
+pub check_term-returns-in_ok-operand-in-Negative : goal.check_term-returns-in_ok-operand-in-Negative
+check_term-returns-in_ok-operand-in-Negative t c =
+    let S = text_in c.args.context.now in
+    let a = scope_in c.args.context.now in
+    let s = slots_in c.args.context.now in
+    negative_node S a s c.args.term.now c.deref-in-Negative.result.now c.in-Negative.place c.in-Negative.operand c.in_ok-operand-in-Negative.operand c.operated.result c.in-Negative.is c.deref-in-Negative.ensures c.in_ok-operand-in-Negative.ensures c.operated.ensures
 
 pub check_term-returns-in_err-left-in-Comparison : goal.check_term-returns-in_err-left-in-Comparison
 check_term-returns-in_err-left-in-Comparison t c =
-    let S = spec_of c.args.declarations.now in
-    let a = scope_view c.args.scope.now in
-    let h : IsAmong (term_faults S (are_allowed c.args.quantifiers) a (term_form c.args.term.now)) c.in_err-left-in-Comparison.field-0.0 =
-    comparison_left S (are_allowed c.args.quantifiers) a c.args.term.now c.deref-in-Comparison.result.now c.in-Comparison.place c.in-Comparison.comparison c.in-Comparison.left c.in-Comparison.right _
-    c.in-Comparison.is c.deref-in-Comparison.ensures c.in_err-left-in-Comparison.ensures in
+    let S = text_in c.args.context.now in
+    let a = scope_in c.args.context.now in
+    let h : IsAmong (term_faults S false a (term_form c.args.term.now)) c.in_err-left-in-Comparison.field-0.0 =
+    comparison_left S false a c.args.term.now c.deref-in-Comparison.result.now c.in-Comparison.place c.in-Comparison.comparison c.in-Comparison.left c.in-Comparison.right _ c.in-Comparison.is c.deref-in-Comparison.ensures c.in_err-left-in-Comparison.ensures in
     search rules
 
 pub check_term-returns-in_err-right-in-Comparison : goal.check_term-returns-in_err-right-in-Comparison
 check_term-returns-in_err-right-in-Comparison t c =
-    let S = spec_of c.args.declarations.now in
-    let a = scope_view c.args.scope.now in
-    let h : IsAmong (term_faults S (are_allowed c.args.quantifiers) a (term_form c.args.term.now)) c.in_err-right-in-Comparison.field-0.0 =
-    comparison_right S (are_allowed c.args.quantifiers) a c.args.term.now c.deref-in-Comparison-2.result.now c.in-Comparison.place c.in-Comparison.comparison c.in-Comparison.left c.in-Comparison.right _
-    c.in-Comparison.is c.deref-in-Comparison-2.ensures c.in_err-right-in-Comparison.ensures in
+    let S = text_in c.args.context.now in
+    let a = scope_in c.args.context.now in
+    let h : IsAmong (term_faults S false a (term_form c.args.term.now)) c.in_err-right-in-Comparison.field-0.0 =
+    comparison_right S false a c.args.term.now c.deref-in-Comparison-2.result.now c.in-Comparison.place c.in-Comparison.comparison c.in-Comparison.left c.in-Comparison.right _ c.in-Comparison.is c.deref-in-Comparison-2.ensures c.in_err-right-in-Comparison.ensures in
     search rules
 
--- ---- quantifiers
-
-pub check_term-returns-in_err-check_variables-in-Quantified : goal.check_term-returns-in_err-check_variables-in-Quantified
-check_term-returns-in_err-check_variables-in-Quantified t c =
-    let S = spec_of c.args.declarations.now in
-    let a = scope_view c.args.scope.now in
-    let q = c.in-Quantified in
-    let h : IsAmong (term_faults S (are_allowed c.args.quantifiers) a (term_form c.args.term.now)) c.in_err-check_variables-in-Quantified.field-0.0 =
-    quantified_variables S (are_allowed c.args.quantifiers) a c.args.term.now q.place q.quantifier q.variables q.body c.deref-in-Quantified.result.now _ q.is c.deref-in-Quantified.ensures.value c.in_err-check_variables-in-Quantified.ensures in
-    search rules
-
-pub check_term-returns-in_ok-table-in-Quantified : goal.check_term-returns-in_ok-table-in-Quantified
-check_term-returns-in_ok-table-in-Quantified t c =
-    let S = spec_of c.args.declarations.now in
-    let a = scope_view c.args.scope.now in
-    let q = c.in-Quantified in
-    let table = table_view c.in_ok-table-in-Quantified.table in
-    let groups = c.deref-in-Quantified.result.now in
-    let xs = erased_variables (variable_forms groups) in
-    quantified_body S (are_allowed c.args.quantifiers) a (inner_view c.in_ok-table-in-Quantified.table a) c.args.term.now c.deref-in-Quantified-3.result.now q.place q.quantifier q.variables q.body groups c.check_boolean-in-Quantified.result
-    q.is c.deref-in-Quantified-3.ensures c.deref-in-Quantified.ensures.value
-    (sym (ap (λ (b : Bool). unless b rule.QuantifierInData q.place) c.are_allowed-allowed.ensures) ∙ c.in_ok-require-in-Quantified.ensures) c.in_ok-check_variables-in-Quantified.ensures
-    (inner_scope S xs table a (λ x. c.in_ok-table-in-Quantified.ensures x ∙ ap (λ (gs : List Variables). bound S (erased_variables (variable_forms gs)) outermost x) (c.deref-in-Quantified-2.ensures.value ∙ sym c.deref-in-Quantified.ensures.value)))
-    c.check_boolean-in-Quantified.ensures
-
-pub check_boolean-returns-in_err-shape : goal.check_boolean-returns-in_err-shape
-check_boolean-returns-in_err-shape t c =
-    let S = spec_of c.args.declarations.now in
-    let a = scope_view c.args.scope.now in
-    let h : IsAmong (term_faults S (are_allowed c.args.quantifiers) a (term_form c.args.operand.now) ++ unless (may_be_truth (shape S a (erased_term (term_form c.args.operand.now)))) rule.WrongKind c.args.place) c.in_err-shape.field-0.0 =
-    among_left (term_faults S (are_allowed c.args.quantifiers) a (term_form c.args.operand.now)) _ c.in_err-shape.field-0.0 c.in_err-shape.ensures in
-    search rules
-
-pub check_chain-returns-else-is_empty : goal.check_chain-returns-else-is_empty
-check_chain-returns-else-is_empty t c =
-    let S = spec_of c.args.declarations.now in
-    let a = scope_view c.args.scope.now in
-    let links = c.args.links.now in (
-      c.loop-index.invariant.left ∙ ap (link_faults S (are_allowed c.args.quantifiers) a (shape_view c.loop-index.left)) (drop_all c.loop-index.index links (omega (arith, c.loop-index-test.false))),
-      some_link_shape (shape S a (erased_term (term_form c.args.first.now))) links (sym c.is_empty.ensures ∙ c.if-is_empty.false),
-    )
-
-pub check_application-check_term-requires : goal.check_application-check_term-requires
-check_application-check_term-requires t c =
-    let x = c.x-item in
-    omega (arith, argument_lighter c.args.arguments.now 0 x.result (omega (arith, c.in-len1.len_at_least)) x.is)
-
-pub check_application-check_term-requires-in-len2 : goal.check_application-check_term-requires-in-len2
-check_application-check_term-requires-in-len2 t c =
-    let x = c.x-item-then-arguments-lt3 in
-    omega (arith, argument_lighter c.args.arguments.now 0 x.result (omega (arith, c.in-len2.len_at_least)) x.is)
-
-pub check_application-check_term-requires-in-len2-2 : goal.check_application-check_term-requires-in-len2-2
-check_application-check_term-requires-in-len2-2 t c =
-    let x = c.y-item in
-    omega (arith, argument_lighter c.args.arguments.now 1 x.result (omega (arith, c.in-len2.len_at_least)) x.is)
-
-pub check_application-check_term-requires-in-len3 : goal.check_application-check_term-requires-in-len3
-check_application-check_term-requires-in-len3 t c =
-    let x = c.condition-item in
-    omega (arith, argument_lighter c.args.arguments.now 0 x.result (omega (arith, c.in-len3.len_at_least)) x.is)
-
-pub check_application-check_term-requires-in-len3-2 : goal.check_application-check_term-requires-in-len3-2
-check_application-check_term-requires-in-len3-2 t c =
-    let x = c.x-item-then-arguments-lt4 in
-    omega (arith, argument_lighter c.args.arguments.now 1 x.result (omega (arith, c.in-len3.len_at_least)) x.is)
-
-pub check_application-check_term-requires-in-len3-3 : goal.check_application-check_term-requires-in-len3-3
-check_application-check_term-requires-in-len3-3 t c =
-    let x = c.y-item-then-arguments-lt4 in
-    omega (arith, argument_lighter c.args.arguments.now 2 x.result (omega (arith, c.in-len3.len_at_least)) x.is)
+pub check_term-returns-in_ok-right-in-Comparison : goal.check_term-returns-in_ok-right-in-Comparison
+check_term-returns-in_ok-right-in-Comparison t c =
+    let S = text_in c.args.context.now in
+    let a = scope_in c.args.context.now in
+    let s = slots_in c.args.context.now in
+    comparison_node S a s c.args.term.now c.deref-in-Comparison.result.now c.deref-in-Comparison-2.result.now c.in-Comparison.place c.in-Comparison.comparison c.in-Comparison.left c.in-Comparison.right
+    c.in_ok-left-in-Comparison.left c.in_ok-right-in-Comparison.right c.compared.result c.in-Comparison.is c.deref-in-Comparison.ensures c.deref-in-Comparison-2.ensures c.in_ok-left-in-Comparison.ensures c.in_ok-right-in-Comparison.ensures c.compared.ensures

@@ -1,183 +1,421 @@
-use Rattle.std.proofs.Common.{◌≡◌, ℕ, ◌<◌, ◌++◌, List, length, drop, sym, ◌∙◌, ap, subst, arith, true≢false, vec_len}
-use Rattle.std.specs.Prelude.{box_value, ◌==◌}
+use Rattle.std.proofs.Common.{◌≡◌, ◌∙◌, ◌++◌, length, Ok, refl, sym, ap, subst, rules, arith, Bool, true, List, [], ℕ, OnOk, vec_len, true≢false}
+use Rattle.std.specs.Prelude.{◌==◌}
 use Rattle.std.proofs.lemmas.Bool.{eqb-true}
-use Rattle.pb_text_tree.specs.declared.term.TermLink.{TermLink}
-use Rattle.pb_text_tree.specs.Form.{term_form}
+use Rattle.pb_text_tree.specs.Form.{TermForm, chained, term_form, term_links, variable_forms}
 use Rattle.pb_text_meaning.specs.Syntax as syntax
 use Rattle.pb_text_meaning.specs.Erase.{erased_term}
-use Rattle.pb_typing_declarations.specs.View.{spec_of}
-use Rattle.pb_typing_rules.specs.Scope.{bound}
+use Rattle.pb_typing_rules.specs.Faults.{term_faults}
+use Rattle.pb_typing_rules.specs.Scope.{Scope}
+use Rattle.pb_typing_rules.specs.Shapes.{may_be_truth}
+use Rattle.pb_typing_rules.specs.Term.{shape}
+use Rattle.pb_typing_declarations.specs.declared.fault.TypingRule.TheVariants as rule
+use Rattle.pb_typing_declarations.specs.declared.fault.TypingFault.{TypingFault}
+use Rattle.pb_typing_declarations.specs.declared.fault.TypeError.TheVariants.{At}
+use Rattle.pb_typing_declarations.specs.Declarations.{variables_faults}
+use Rattle.pb_typing_declarations.specs.Entries.{shapes_of}
+use Rattle.pb_typing_declarations.specs.Faults.{unless, IsAmong}
+use Rattle.pb_typing_declarations.specs.Shapes as model
+use Rattle.pb_typing_declarations.proofs.Parts.{among_left, among_right, among_first, first_clear}
+use Rattle.pb_typed_tree.specs.Elaboration.{elaborated}
+use Rattle.pb_typed_tree.specs.Expansion.{expanded_term}
+use Rattle.pb_typed_tree.specs.Loops.{loops}
+use Rattle.pb_typed_tree.specs.View.{shape_view}
+use Rattle.pb_typing.specs.Chains.{link_faults, own_faults}
+use Rattle.pb_typing.specs.Contexts.{scope_in, slots_in, text_in}
+use Rattle.pb_typing.specs.Elaborated.{truth_faults}
+use Rattle.pb_typing.specs.Scopes.{inner_slots}
+use Rattle.pb_typing.specs.Value.{Whole, value_of}
+use Rattle.pb_typing.specs.ValueView.{value_shape}
+use Rattle.pb_typing.proofs.Links.{chained-faults, links_next, some-shape}
+use Rattle.pb_typing.proofs.Nodes.{not_operand}
+use Rattle.pb_typing.proofs.SlotLemmas.{inner_scope, inner_slotting, variables_of}
+use Rattle.pb_typing.proofs.ValueNodes.{value_node, data_node, not_value, truth_formula, truth_clear, truth_kind, quantified-view, quantified-loops, quantified-faults, quantified-form, chain-node, lone_value, lone_loops, chain-loops, chain-value, done_begun, done_next, faults_ended, values_ended, loops_ended, empty-count, operand-node, arithmetic-same, application-same, same-faults, on_ok, not_loops, data_grows}
 use Rattle.pb_typing.proofs.Weight.{weight, weight-chain, weight-arithmetic, links_weight, link_lighter}
-use Rattle.pb_typed_tree.specs.declared.formula.Formula.{Formula}
-use Rattle.pb_typed_tree.specs.Expansion.{expanded_term, has_quantifier}
-use Rattle.pb_typed_tree.specs.Loops.{IsShaped}
-use Rattle.pb_typing.specs.Links.{quantified_count}
-use Rattle.pb_typing.specs.Slots.{slotting}
-use Rattle.pb_typing.specs.ValueLinks.{elaborated_values}
-use Rattle.pb_typing.specs.Tail.{tail_tests}
-use Rattle.pb_typing.specs.Tree.{value_of}
-use Rattle.pb_typed_tree.specs.Tree.{Negation}
-use Rattle.pb_typed_tree.specs.View.{nested, formula_view, formula_views}
-use Rattle.pb_typing.proofs.LinkCount.{count_within}
-use Rattle.pb_typing.proofs.ElaboratedChains.{plain-expanded}
-use Rattle.pb_typing.proofs.SlotLemmas.{inner_slotting, variables_of}
-use Rattle.pb_typing.proofs.ValueLemmas.{chain_shaped, grown}
-use Rattle.pb_typing.proofs.ValueSteps.{empty-count, done_begun, done_next, done_ended, shapes_ended, chain-shapes, link_at, shaped_at, chain-view, plain_says, plain_grows, says_same, grows_same, arithmetic-node, chain-node, operand-node, quantified-view}
-use Rattle.pb_typed_tree.proofs.Views.{formula-chain}
 use Rattle.pb_typing.proofs.value.+values.Goals as goal
+
+-- ---- Booleans
+
+pub check_truth-returns-in_err-value-clause-checked : goal.check_truth-returns-in_err-value-clause-checked
+check_truth-returns-in_err-value-clause-checked t c =
+    let S = text_in c.args.context.now in
+    let a = scope_in c.args.context.now in
+    let x = term_form c.args.term.now in
+    let h : IsAmong (truth_faults S a x c.args.place) c.in_err-value.field-0.0 = among_left (term_faults S true a x) _ c.in_err-value.field-0.0 c.in_err-value.ensures.checked in
+    search rules
+
+pub check_truth-returns-in_err-require-clause-checked : goal.check_truth-returns-in_err-require-clause-checked
+check_truth-returns-in_err-require-clause-checked t c =
+    let S = text_in c.args.context.now in
+    let a = scope_in c.args.context.now in
+    let x = term_form c.args.term.now in
+    let e = At c.in_err-require.field-0.0 in
+    let v = c.in_ok-value.value in
+    let here = subst (λ (b : Bool). IsAmong (unless b rule.WrongKind c.args.place) e) (c.is_truth.ensures ∙ ap may_be_truth c.shape.ensures) c.in_err-require.ensures in
+    let h : IsAmong (truth_faults S a x c.args.place) e = truth_kind S a x c.args.place (value_shape v) e c.in_ok-value.ensures.checked.1 here in
+    search rules
+
+pub check_truth-returns-clause-checked : goal.check_truth-returns-clause-checked
+check_truth-returns-clause-checked t c =
+    let S = text_in c.args.context.now in
+    let a = scope_in c.args.context.now in
+    let s = slots_in c.args.context.now in
+    let n = length c.args.carriers.now.items in
+    let x = term_form c.args.term.now in
+    let v = c.in_ok-value.value in
+    let h = c.in_ok-value.ensures.checked in (
+      truth_clear S a x c.args.place (value_shape v) h.0 h.1 (sym (ap (λ (b : Bool). unless b rule.WrongKind c.args.place) (c.is_truth.ensures ∙ ap may_be_truth c.shape.ensures)) ∙ c.in_ok-require.ensures),
+      truth_formula S a s n x v c.into_formula.result h.2 c.into_formula.ensures,
+    )
 
 -- ---- chains
 
-pub elaborate_operands-elaborate_value-requires : goal.elaborate_operands-elaborate_value-requires
-elaborate_operands-elaborate_value-requires t c =
-    (omega (arith, c.decreases), (chain_shaped (spec_of c.args.context.now.declarations.now) c.args.connective c.args.first.now c.args.links.now c.requires.shaped).0)
-
-pub elaborate_operands-elaborate_links-requires : goal.elaborate_operands-elaborate_links-requires
-elaborate_operands-elaborate_links-requires t c =
-    (omega (arith, c.decreases), (chain_shaped (spec_of c.args.context.now.declarations.now) c.args.connective c.args.first.now c.args.links.now c.requires.shaped).1)
-
-pub elaborate_operands-returns-clause-form : goal.elaborate_operands-returns-clause-form
-elaborate_operands-returns-clause-form t c = λ scope.
-    let S = spec_of c.args.context.now.declarations.now in
-    let slots = slotting c.args.context.now.slots.now in
-    let before = c.args.carriers.now.items in
-    let first = c.args.first.now in
+pub check_chain-returns-in_err-head-clause-checked : goal.check_chain-returns-in_err-head-clause-checked
+check_chain-returns-in_err-head-clause-checked t c =
+    let S = text_in c.args.context.now in
+    let a = scope_in c.args.context.now in
+    let first = term_form c.args.first.now in
     let links = c.args.links.now in
-    let head = ap formula_view c.in_ok-first.ensures.ok ∙ c.in_ok-head.ensures.form scope in
-    let others = ap (λ (n : ℕ). elaborated_values S c.args.connective slots scope n links) (sym (grown S (value_of first) before c.elaborate_value.new.carriers.items c.in_ok-head.ensures.carriers)) ∙ sym (c.in_ok-links.ensures.form scope) in
-    formula-chain c.args.connective c.in_ok-first.first c.in_ok-links.links
-    ∙ chain-view S c.args.connective slots scope (length before) first links (formula_view (box_value c.in_ok-first.first)) (formula_views c.in_ok-links.links.items) head others c.requires.quantified
+    let all = chained-faults S true a c.args.connective first links in
+    let whole = term_faults S true a (chained (TermForm.connected c.args.connective) first (term_links links)) in
+    let h : IsAmong whole c.in_err-head.field-0.0 = among_first whole _ _ c.in_err-head.field-0.0 all c.in_err-head.ensures.checked in
+    search rules
 
-pub elaborate_operands-returns-clause-carriers : goal.elaborate_operands-returns-clause-carriers
-elaborate_operands-returns-clause-carriers t c =
-    chain-shapes (spec_of c.args.context.now.declarations.now) c.args.connective c.args.first.now c.args.links.now c.args.carriers.now.items c.elaborate_value.new.carriers.items c.elaborate_links.new.carriers.items
-    c.in_ok-head.ensures.carriers c.in_ok-links.ensures.carriers
+pub check_chain-returns-then-is_empty-clause-checked : goal.check_chain-returns-then-is_empty-clause-checked
+check_chain-returns-then-is_empty-clause-checked t c =
+    let S = text_in c.args.context.now in
+    let a = scope_in c.args.context.now in
+    let s = slots_in c.args.context.now in
+    let n = length c.args.carriers.now.items in
+    lone_value S a s n c.args.connective (term_form c.args.first.now) c.args.links.now (Ok c.in_ok-head.head) (sym c.is_empty.ensures ∙ c.if-is_empty.true) c.in_ok-head.ensures.checked
 
-pub elaborate_links-split_at-requires : goal.elaborate_links-split_at-requires
-elaborate_links-split_at-requires t c = omega (arith, c.quantified_links.ensures, count_within c.args.links.now)
+pub check_chain-returns-then-is_empty-clause-carriers : goal.check_chain-returns-then-is_empty-clause-carriers
+check_chain-returns-then-is_empty-clause-carriers t c =
+    let S = text_in c.args.context.now in
+    let a = scope_in c.args.context.now in
+    let s = slots_in c.args.context.now in
+    let n = length c.args.carriers.now.items in
+    c.in_ok-head.ensures.carriers ∙ ap (λ (ss : List model.Shape). shapes_of c.args.carriers.now.items ++ ss) (sym (lone_loops S c.args.connective c.args.first.now c.args.links.now (sym c.is_empty.ensures ∙ c.if-is_empty.true)))
 
-pub elaborate_links-loop-link-init : goal.elaborate_links-loop-link-init
-elaborate_links-loop-link-init t c =
-    done_begun (spec_of c.args.context.now.declarations.now) c.args.connective (slotting c.args.context.now.slots.now) c.args.links.now c.args.carriers.now.items c.new-rest.result.items c.new-rest.ensures.items c.requires
-
-pub elaborate_links-elaborate_value-requires : goal.elaborate_links-elaborate_value-requires
-elaborate_links-elaborate_value-requires t c =
+pub check_chain-returns-in_err-rest-clause-checked : goal.check_chain-returns-in_err-rest-clause-checked
+check_chain-returns-in_err-rest-clause-checked t c =
+    let S = text_in c.args.context.now in
+    let a = scope_in c.args.context.now in
+    let first = term_form c.args.first.now in
     let links = c.args.links.now in
-    let k = c.loop-link.link-index in
-    let link = c.link-item.result in
-    let below : k < length links = omega (arith, c.loop-link-test.true, c.split_at.ensures.front_len, c.quantified_links.ensures, count_within links) in
-    let at = link_at links c.split_at.result.0.now c.split_at.result.1.now k link c.loop-link-test.true c.split_at.ensures.by_index.0 c.link-item.is in
-    (omega (arith, c.decreases, link_lighter links k link below at), shaped_at (spec_of c.args.context.now.declarations.now) links k link below at c.loop-link.invariant.shaped)
+    let all = chained-faults S true a c.args.connective first links in
+    let whole = term_faults S true a (chained (TermForm.connected c.args.connective) first (term_links links)) in
+    let checked = c.in_ok-head.ensures.checked in
+    let e = c.in_err-rest.field-0.0 in
+    let here = subst (λ (u : model.Shape). IsAmong (link_faults S true a u links) e) (c.shape.ensures ∙ checked.1) c.in_err-rest.ensures.checked in
+    let h : IsAmong whole e = subst (λ (zs : List TypingFault). IsAmong zs e) (sym (first_clear _ _ _ all checked.0)) here in
+    search rules
 
-pub elaborate_links-loop-link-preserved : goal.elaborate_links-loop-link-preserved
-elaborate_links-loop-link-preserved t c =
+pub check_chain-returns-clause-checked : goal.check_chain-returns-clause-checked
+check_chain-returns-clause-checked t c =
+    let S = text_in c.args.context.now in
+    let a = scope_in c.args.context.now in
+    let s = slots_in c.args.context.now in
+    let n = length c.args.carriers.now.items in
+    let first = term_form c.args.first.now in
     let links = c.args.links.now in
-    let k = c.loop-link.link-index in
-    let link = c.link-item.result in
-    let counts : k < quantified_count links = omega (arith, c.loop-link-test.true, c.split_at.ensures.front_len, c.quantified_links.ensures) in
-    let below : k < length links = omega (arith, counts, count_within links) in
-    let at = link_at links c.split_at.result.0.now c.split_at.result.1.now k link c.loop-link-test.true c.split_at.ensures.by_index.0 c.link-item.is in
-    done_next (spec_of c.args.context.now.declarations.now) c.args.connective (slotting c.args.context.now.slots.now) links c.args.carriers.now.items c.loop-link.carriers.items c.elaborate_value.new.carriers.items k link
-    c.in_ok-operand.operand c.loop-link.rest.items c.push.new.self.items
-    below at counts c.in_ok-push.ensures.items c.in_ok-operand.ensures.form c.in_ok-operand.ensures.carriers c.loop-link.invariant
-
-pub elaborate_links-returns-clause-form : goal.elaborate_links-returns-clause-form
-elaborate_links-returns-clause-form t c = λ scope.
-    let S = spec_of c.args.context.now.declarations.now in
-    let slots = slotting c.args.context.now.slots.now in
-    let links = c.args.links.now in
-    let k = c.loop-link.link-index in
-    let all : k ≡ quantified_count links = omega (arith, c.loop-link-test.false, c.loop-link.auto.link-index-end, c.split_at.ensures.front_len, c.quantified_links.ensures) in
-    let left : c.split_at.result.1.now ≡ drop k links = c.split_at.ensures.back ∙ ap (λ (n : ℕ). drop n links) (c.quantified_links.ensures ∙ sym all) in
-    sym (done_ended S c.args.connective slots links c.args.carriers.now.items c.loop-link.carriers.items k c.loop-link.rest.items all c.loop-link.invariant scope
-    ∙ (ap (λ (ls : List TermLink). formula_views c.loop-link.rest.items ++ tail_tests S slots c.args.connective ls) (sym left) ∙ sym c.in_ok-all.ensures))
-
-pub elaborate_links-returns-clause-carriers : goal.elaborate_links-returns-clause-carriers
-elaborate_links-returns-clause-carriers t c =
-    shapes_ended (spec_of c.args.context.now.declarations.now) c.args.connective (slotting c.args.context.now.slots.now) c.args.links.now c.args.carriers.now.items c.loop-link.carriers.items c.loop-link.link-index c.loop-link.rest.items
-    (omega (arith, c.loop-link-test.false, c.loop-link.auto.link-index-end, c.split_at.ensures.front_len, c.quantified_links.ensures)) c.loop-link.invariant
-
--- ---- negations and quantifiers
-
-pub elaborate_negation-returns-clause-form : goal.elaborate_negation-returns-clause-form
-elaborate_negation-returns-clause-form t c = λ scope.
-    ap (λ (f : Formula). Negation (formula_view f)) c.in_ok-new.ensures.ok ∙ ap Negation (c.in_ok-operand.ensures.form scope)
-
-pub elaborate_quantified-returns-clause-form : goal.elaborate_quantified-returns-clause-form
-elaborate_quantified-returns-clause-form t c = λ scope.
-    let S = spec_of c.args.context.now.declarations.now in
-    let xs = variables_of c.args.variables.now in
-    ap (λ (f : Formula). nested c.args.quantifier c.len-slot.result c.in_ok-table.own.items (formula_view f)) c.in_ok-new.ensures.ok
-    ∙ quantified-view S c.args.quantifier xs (slotting c.args.context.now.slots.now) _ scope (value_of c.args.body.now) c.args.carriers.now.items c.bind_variables.new.carriers.items c.in_ok-table.own.items c.len-slot.result c.in_ok-body.body
-    (omega (arith, c.len-slot.ensures, c.args.carriers.now.ok.0)) (inner_slotting xs (length c.args.carriers.now.items) c.in_ok-table.table (slotting c.args.context.now.slots.now) c.in_ok-table.ensures.slots)
-    c.in_ok-table.ensures.own c.in_ok-table.ensures.carriers (c.in_ok-body.ensures.form (bound S xs scope))
-
--- ---- nodes
-
-pub elaborate_value-returns-then-not-has_quantifier-clause-form : goal.elaborate_value-returns-then-not-has_quantifier-clause-form
-elaborate_value-returns-then-not-has_quantifier-clause-form t c =
-    plain_says (spec_of c.args.context.now.declarations.now) (slotting c.args.context.now.slots.now) (length c.args.carriers.now.items) c.plain_test.result (value_of c.args.term.now) (erased_term (term_form c.args.term.now))
-    (plain-expanded (erased_term (term_form c.args.term.now)) (sym c.has_quantifier.ensures ∙ c.if-not-has_quantifier.true)) c.plain_test.ensures
-
-pub elaborate_value-returns-then-not-has_quantifier-clause-carriers : goal.elaborate_value-returns-then-not-has_quantifier-clause-carriers
-elaborate_value-returns-then-not-has_quantifier-clause-carriers t c =
-    plain_grows (spec_of c.args.context.now.declarations.now) (erased_term (term_form c.args.term.now)) (value_of c.args.term.now) c.args.carriers.now.items c.plain_test.result
-    (plain-expanded (erased_term (term_form c.args.term.now)) (sym c.has_quantifier.ensures ∙ c.if-not-has_quantifier.true))
-
-pub elaborate_value-elaborate_operands-requires : goal.elaborate_value-elaborate_operands-requires
-elaborate_value-elaborate_operands-requires t c =
-    let node = chain-node c.args.term.now c.deref-in-Chain.result.now c.in-Chain.connective c.in-Chain.first c.in-Chain.links (c.deref-in-Chain-2).result.now c.in-Chain.is c.deref-in-Chain.ensures (c.deref-in-Chain-2).ensures.value in (
-      omega (arith, c.decreases, ap weight c.in-Chain.is ∙ weight-chain c.in-Chain.connective c.in-Chain.first c.in-Chain.links, ap weight c.deref-in-Chain.ensures, ap links_weight (c.deref-in-Chain-2).ensures.value),
-      (
-        subst (λ (x : syntax.Term). IsShaped (spec_of c.args.context.now.declarations.now) (expanded_term x)) node c.requires,
-        sym (ap has_quantifier node) ∙ (sym c.has_quantifier.ensures ∙ c.if-not-has_quantifier.false),
-      ),
+    let all = chained-faults S true a c.args.connective first links in
+    let whole = term_faults S true a (chained (TermForm.connected c.args.connective) first (term_links links)) in
+    let checked = c.in_ok-head.ensures.checked in
+    let others = c.in_ok-rest.ensures.checked in (
+      first_clear _ _ _ all checked.0 ∙ (ap (λ (u : model.Shape). link_faults S true a u links) (sym (c.shape.ensures ∙ checked.1)) ∙ others.0),
+      c.in_ok-value.ensures.shape ∙ sym (some-shape S a c.args.connective first links (sym c.is_empty.ensures ∙ c.if-is_empty.false)),
+      chain-value S a s c.args.connective c.args.first.now links c.args.carriers.now.items c.check_value.new.carriers.items c.in_ok-head.head c.in_ok-rest.rest.items _ c.in_ok-head.ensures.carriers checked.2 others.1 c.in_ok-value.ensures.value,
     )
 
-pub elaborate_value-returns-in-Chain-clause-form : goal.elaborate_value-returns-in-Chain-clause-form
-elaborate_value-returns-in-Chain-clause-form t c =
-    let node = chain-node c.args.term.now c.deref-in-Chain.result.now c.in-Chain.connective c.in-Chain.first c.in-Chain.links (c.deref-in-Chain-2).result.now c.in-Chain.is c.deref-in-Chain.ensures (c.deref-in-Chain-2).ensures.value in
-    says_same (spec_of c.args.context.now.declarations.now) (slotting c.args.context.now.slots.now) (length c.args.carriers.now.items) c.elaborate_operands.result _ _ (ap expanded_term node) c.elaborate_operands.ensures.form
+pub check_chain-returns-clause-carriers : goal.check_chain-returns-clause-carriers
+check_chain-returns-clause-carriers t c =
+    chain-loops (text_in c.args.context.now) c.args.connective c.args.first.now c.args.links.now c.args.carriers.now.items c.check_value.new.carriers.items c.check_links.new.carriers.items c.in_ok-head.ensures.carriers c.in_ok-rest.ensures.carriers
 
-pub elaborate_value-returns-in-Chain-clause-carriers : goal.elaborate_value-returns-in-Chain-clause-carriers
-elaborate_value-returns-in-Chain-clause-carriers t c =
-    let node = chain-node c.args.term.now c.deref-in-Chain.result.now c.in-Chain.connective c.in-Chain.first c.in-Chain.links (c.deref-in-Chain-2).result.now c.in-Chain.is c.deref-in-Chain.ensures (c.deref-in-Chain-2).ensures.value in
-    grows_same (spec_of c.args.context.now.declarations.now) c.args.carriers.now.items c.elaborate_operands.new.carriers.items c.elaborate_operands.result _ _ (ap expanded_term node) c.elaborate_operands.ensures.carriers
+pub check_links-loop-index-init : goal.check_links-loop-index-init
+check_links-loop-index-init t c =
+    let S = text_in c.args.context.now in
+    let a = scope_in c.args.context.now in
+    let s = slots_in c.args.context.now in
+    let n = length c.args.carriers.now.items in
+    done_begun S a s c.args.links.now (shape_view c.args.first) c.args.carriers.now.items c.in_ok-operands.operands.items c.in_ok-operands.ensures.items
 
--- arithmetic without an operator is its operand
-pub elaborate_value-elaborate_value-requires : goal.elaborate_value-elaborate_value-requires
-elaborate_value-elaborate_value-requires t c =
-    let links = c.in-Arithmetic.links in
-    let none : length links.items ≡ 0 = omega (arith, eqb-true (vec_len links) 0 (sym c.is_empty.ensures ∙ c.if-is_empty.true), links.ok.0) in
-    let node = operand-node c.args.term.now c.deref-then-is_empty.result.now c.in-Arithmetic.first links c.in-Arithmetic.is c.deref-then-is_empty.ensures none in (
-      omega (arith, c.decreases, ap weight c.in-Arithmetic.is ∙ weight-arithmetic c.in-Arithmetic.first links, ap weight c.deref-then-is_empty.ensures),
-      subst (λ (x : syntax.Term). IsShaped (spec_of c.args.context.now.declarations.now) (expanded_term x)) node c.requires,
-    )
+pub check_links-check_link-requires : goal.check_links-check_link-requires
+check_links-check_link-requires t c =
+    omega (arith, c.decreases, link_lighter c.args.links.now c.loop-index.index c.index-links-index.result c.loop-index-test.true c.index-links-index.is)
 
-pub elaborate_value-returns-then-is_empty-clause-form : goal.elaborate_value-returns-then-is_empty-clause-form
-elaborate_value-returns-then-is_empty-clause-form t c =
+pub check_links-returns-in_err-operand-clause-checked : goal.check_links-returns-in_err-operand-clause-checked
+check_links-returns-in_err-operand-clause-checked t c =
+    let S = text_in c.args.context.now in
+    let a = scope_in c.args.context.now in
+    let links = c.args.links.now in
+    let k = c.loop-index.index in
+    let link = c.index-links-index.result in
+    let next = links_next S true a (shape_view c.loop-index.left) links k link c.loop-index-test.true c.index-links-index.is in
+    let whole = link_faults S true a (shape_view c.args.first) links in
+    let h : IsAmong whole c.in_err-operand.field-0.0 = among_first whole _ _ c.in_err-operand.field-0.0 (c.loop-index.invariant.faults ∙ next) c.in_err-operand.ensures.checked in
+    search rules
+
+pub check_links-loop-index-preserved : goal.check_links-loop-index-preserved
+check_links-loop-index-preserved t c =
+    let S = text_in c.args.context.now in
+    let a = scope_in c.args.context.now in
+    let s = slots_in c.args.context.now in
+    let n = length c.args.carriers.now.items in
+    let links = c.args.links.now in
+    let k = c.loop-index.index in
+    let link = c.index-links-index.result in
+    let next = links_next S true a (shape_view c.loop-index.left) links k link c.loop-index-test.true c.index-links-index.is in
+    let h = c.in_ok-operand.ensures.checked in
+    done_next S a s links (shape_view c.args.first) (shape_view c.loop-index.left) _ c.args.carriers.now.items c.loop-index.carriers.items c.check_link.new.carriers.items k link c.in_ok-operand.operand c.loop-index.operands.items c.push.new.self.items
+    c.loop-index-test.true c.index-links-index.is c.in_ok-push.ensures.items (first_clear _ _ _ next h.0) (c.shape-left.ensures ∙ h.1) h.2 c.in_ok-operand.ensures.carriers c.loop-index.invariant
+
+pub check_links-returns-clause-checked : goal.check_links-returns-clause-checked
+check_links-returns-clause-checked t c =
+    let S = text_in c.args.context.now in
+    let a = scope_in c.args.context.now in
+    let s = slots_in c.args.context.now in
+    let n = length c.args.carriers.now.items in
+    (faults_ended S a s c.args.links.now (shape_view c.args.first) (shape_view c.loop-index.left) c.args.carriers.now.items c.loop-index.carriers.items c.loop-index.index c.loop-index.operands.items (omega (arith, c.loop-index-test.false)) c.loop-index.invariant, values_ended S a s c.args.links.now (shape_view c.args.first) (shape_view c.loop-index.left) c.args.carriers.now.items c.loop-index.carriers.items c.loop-index.index c.loop-index.operands.items (omega (arith, c.loop-index-test.false)) c.loop-index.invariant)
+
+pub check_links-returns-clause-carriers : goal.check_links-returns-clause-carriers
+check_links-returns-clause-carriers t c =
+    let S = text_in c.args.context.now in
+    let a = scope_in c.args.context.now in
+    let s = slots_in c.args.context.now in
+    let n = length c.args.carriers.now.items in
+    loops_ended S a s c.args.links.now (shape_view c.args.first) (shape_view c.loop-index.left) c.args.carriers.now.items c.loop-index.carriers.items c.loop-index.index c.loop-index.operands.items (omega (arith, c.loop-index-test.false)) c.loop-index.invariant
+
+pub check_link-returns-in_err-operand-clause-checked : goal.check_link-returns-in_err-operand-clause-checked
+check_link-returns-in_err-operand-clause-checked t c =
+    let S = text_in c.args.context.now in
+    let a = scope_in c.args.context.now in
+    let link = c.args.link.now in
+    let u = shape_view c.args.left in
+    let e = c.in_err-operand.field-0.0 in
+    let h : IsAmong (own_faults S true a u link c.args.more) e =
+    among_right (unless (may_be_truth u) rule.WrongKind link.place) _ e (among_left (term_faults S true a (term_form link.operand)) _ e c.in_err-operand.ensures.checked) in
+    search rules
+
+-- ---- negations
+
+pub check_value-returns-in_err-operand-in-Not-clause-checked : goal.check_value-returns-in_err-operand-in-Not-clause-checked
+check_value-returns-in_err-operand-in-Not-clause-checked t c =
+    let S = text_in c.args.context.now in
+    let a = scope_in c.args.context.now in
+    let h : IsAmong (term_faults S true a (term_form c.args.term.now)) c.in_err-operand-in-Not.field-0.0 =
+    not_operand S true a c.args.term.now c.deref.result.now c.in-Not.place c.in-Not.operand _ c.in-Not.is c.deref.ensures c.in_err-operand-in-Not.ensures.checked in
+    search rules
+
+pub check_value-returns-in_ok-operand-in-Not-clause-checked : goal.check_value-returns-in_ok-operand-in-Not-clause-checked
+check_value-returns-in_ok-operand-in-Not-clause-checked t c =
+    let S = text_in c.args.context.now in
+    let a = scope_in c.args.context.now in
+    let s = slots_in c.args.context.now in
+    let n = length c.args.carriers.now.items in
+    not_value S a s n c.args.term.now c.deref.result.now c.in-Not.place c.in-Not.operand c.in_ok-operand-in-Not.operand c.negated_value.result c.in-Not.is c.deref.ensures c.in_ok-operand-in-Not.ensures.checked c.negated_value.ensures
+
+pub check_value-returns-in_ok-operand-in-Not-clause-carriers : goal.check_value-returns-in_ok-operand-in-Not-clause-carriers
+check_value-returns-in_ok-operand-in-Not-clause-carriers t c =
+    let S = text_in c.args.context.now in
+    let a = scope_in c.args.context.now in
+    let s = slots_in c.args.context.now in
+    let n = length c.args.carriers.now.items in
+    on_ok c.negated_value.result _
+    (c.in_ok-operand-in-Not.ensures.carriers ∙ ap (λ (ss : List model.Shape). shapes_of c.args.carriers.now.items ++ ss) (sym (not_loops S c.args.term.now c.deref.result.now c.in-Not.place c.in-Not.operand c.in-Not.is c.deref.ensures)))
+
+-- ---- chains, as nodes
+
+pub check_value-check_chain-requires : goal.check_value-check_chain-requires
+check_value-check_chain-requires t c =
+    omega (arith, c.decreases, ap weight c.in-Chain.is ∙ weight-chain c.in-Chain.connective c.in-Chain.first c.in-Chain.links, ap weight c.deref-in-Chain.ensures, ap links_weight c.deref-in-Chain-2.ensures.value)
+
+pub check_value-returns-in-Chain-clause-checked : goal.check_value-returns-in-Chain-clause-checked
+check_value-returns-in-Chain-clause-checked t c =
+    let S = text_in c.args.context.now in
+    let a = scope_in c.args.context.now in
+    let s = slots_in c.args.context.now in
+    let n = length c.args.carriers.now.items in
+    let node = chain-node c.args.term.now c.deref-in-Chain.result.now c.in-Chain.connective c.in-Chain.first c.in-Chain.links c.deref-in-Chain-2.result.now c.in-Chain.is c.deref-in-Chain.ensures c.deref-in-Chain-2.ensures.value in
+    value_node S a s n (term_form c.args.term.now) _ c.check_chain.result node c.check_chain.ensures.checked
+
+pub check_value-returns-in-Chain-clause-carriers : goal.check_value-returns-in-Chain-clause-carriers
+check_value-returns-in-Chain-clause-carriers t c =
+    let S = text_in c.args.context.now in
+    let a = scope_in c.args.context.now in
+    let s = slots_in c.args.context.now in
+    let n = length c.args.carriers.now.items in
+    let node = chain-node c.args.term.now c.deref-in-Chain.result.now c.in-Chain.connective c.in-Chain.first c.in-Chain.links c.deref-in-Chain-2.result.now c.in-Chain.is c.deref-in-Chain.ensures c.deref-in-Chain-2.ensures.value in
+    subst (λ (x : TermForm). OnOk c.check_chain.result (shapes_of c.check_chain.new.carriers.items ≡ shapes_of c.args.carriers.now.items ++ loops S (expanded_term (erased_term x)))) (sym node) c.check_chain.ensures.carriers
+
+-- ---- arithmetic
+
+pub check_value-check_value-requires-then-is_empty : goal.check_value-check_value-requires-then-is_empty
+check_value-check_value-requires-then-is_empty t c =
+    omega (arith, c.decreases, ap weight c.in-Arithmetic.is ∙ weight-arithmetic c.in-Arithmetic.first c.in-Arithmetic.links, ap weight c.deref-then-is_empty.ensures)
+
+pub check_value-returns-then-is_empty-clause-checked : goal.check_value-returns-then-is_empty-clause-checked
+check_value-returns-then-is_empty-clause-checked t c =
+    let S = text_in c.args.context.now in
+    let a = scope_in c.args.context.now in
+    let s = slots_in c.args.context.now in
+    let n = length c.args.carriers.now.items in
     let links = c.in-Arithmetic.links in
     let none : length links.items ≡ 0 = omega (arith, eqb-true (vec_len links) 0 (sym c.is_empty.ensures ∙ c.if-is_empty.true), links.ok.0) in
     let node = operand-node c.args.term.now c.deref-then-is_empty.result.now c.in-Arithmetic.first links c.in-Arithmetic.is c.deref-then-is_empty.ensures none in
-    says_same (spec_of c.args.context.now.declarations.now) (slotting c.args.context.now.slots.now) (length c.args.carriers.now.items) c.elaborate_value.result _ _ (ap expanded_term node) c.elaborate_value.ensures.form
+    value_node S a s n (term_form c.args.term.now) _ c.check_value-then-is_empty.result node c.check_value-then-is_empty.ensures.checked
 
-pub elaborate_value-returns-then-is_empty-clause-carriers : goal.elaborate_value-returns-then-is_empty-clause-carriers
-elaborate_value-returns-then-is_empty-clause-carriers t c =
+pub check_value-returns-then-is_empty-clause-carriers : goal.check_value-returns-then-is_empty-clause-carriers
+check_value-returns-then-is_empty-clause-carriers t c =
+    let S = text_in c.args.context.now in
+    let a = scope_in c.args.context.now in
+    let s = slots_in c.args.context.now in
+    let n = length c.args.carriers.now.items in
     let links = c.in-Arithmetic.links in
     let none : length links.items ≡ 0 = omega (arith, eqb-true (vec_len links) 0 (sym c.is_empty.ensures ∙ c.if-is_empty.true), links.ok.0) in
     let node = operand-node c.args.term.now c.deref-then-is_empty.result.now c.in-Arithmetic.first links c.in-Arithmetic.is c.deref-then-is_empty.ensures none in
-    grows_same (spec_of c.args.context.now.declarations.now) c.args.carriers.now.items c.elaborate_value.new.carriers.items c.elaborate_value.result _ _ (ap expanded_term node) c.elaborate_value.ensures.carriers
+    subst (λ (x : TermForm). OnOk c.check_value-then-is_empty.result (shapes_of c.check_value-then-is_empty.new.carriers.items ≡ shapes_of c.args.carriers.now.items ++ loops S (expanded_term (erased_term x)))) (sym node) c.check_value-then-is_empty.ensures.carriers
 
-pub elaborate_value-returns-else-is_empty-clause-form : goal.elaborate_value-returns-else-is_empty-clause-form
-elaborate_value-returns-else-is_empty-clause-form t c =
+pub check_value-returns-else-is_empty-clause-checked : goal.check_value-returns-else-is_empty-clause-checked
+check_value-returns-else-is_empty-clause-checked t c =
+    let S = text_in c.args.context.now in
+    let a = scope_in c.args.context.now in
+    let s = slots_in c.args.context.now in
+    let n = length c.args.carriers.now.items in
     let links = c.in-Arithmetic.links in
-    let some : length links.items ≡ 0 → ⊥ = λ e. true≢false (sym (ap (λ (n : ℕ). n == 0) (empty-count links e)) ∙ (sym c.is_empty.ensures ∙ c.if-is_empty.false)) in
-    plain_says (spec_of c.args.context.now.declarations.now) (slotting c.args.context.now.slots.now) (length c.args.carriers.now.items) c.plain_test-else-is_empty.result (value_of c.args.term.now) (erased_term (term_form c.args.term.now))
-    (arithmetic-node c.args.term.now c.in-Arithmetic.first links c.in-Arithmetic.is some) c.plain_test-else-is_empty.ensures
+    let some : length links.items ≡ 0 → ⊥ = λ e. true≢false (sym (ap (λ (m : ℕ). m == 0) (empty-count links e)) ∙ (sym c.is_empty.ensures ∙ c.if-is_empty.false)) in
+    data_node S a s n (term_form c.args.term.now) c.check_data.result (arithmetic-same S a c.args.term.now c.in-Arithmetic.first links c.in-Arithmetic.is some) c.check_data.ensures.checked
 
-pub elaborate_value-returns-else-is_empty-clause-carriers : goal.elaborate_value-returns-else-is_empty-clause-carriers
-elaborate_value-returns-else-is_empty-clause-carriers t c =
-    let links = c.in-Arithmetic.links in
-    let some : length links.items ≡ 0 → ⊥ = λ e. true≢false (sym (ap (λ (n : ℕ). n == 0) (empty-count links e)) ∙ (sym c.is_empty.ensures ∙ c.if-is_empty.false)) in
-    plain_grows (spec_of c.args.context.now.declarations.now) (erased_term (term_form c.args.term.now)) (value_of c.args.term.now) c.args.carriers.now.items c.plain_test-else-is_empty.result
-    (arithmetic-node c.args.term.now c.in-Arithmetic.first links c.in-Arithmetic.is some)
+pub check_value-returns-else-is_empty-clause-carriers : goal.check_value-returns-else-is_empty-clause-carriers
+check_value-returns-else-is_empty-clause-carriers t c =
+    data_grows (text_in c.args.context.now) (erased_term (term_form c.args.term.now)) c.args.carriers.now.items c.check_data.result c.check_data.ensures.plain
+
+-- ---- data below which no quantifier may stand
+
+pub check_value-returns-in-Constant-clause-checked : goal.check_value-returns-in-Constant-clause-checked
+check_value-returns-in-Constant-clause-checked t c =
+    let S = text_in c.args.context.now in
+    let a = scope_in c.args.context.now in
+    data_node S a (slots_in c.args.context.now) (length c.args.carriers.now.items) (term_form c.args.term.now) c.check_data-in-Constant.result (same-faults S a c.args.term.now _ c.in-Constant.is refl) c.check_data-in-Constant.ensures.checked
+
+pub check_value-returns-in-Constant-clause-carriers : goal.check_value-returns-in-Constant-clause-carriers
+check_value-returns-in-Constant-clause-carriers t c =
+    data_grows (text_in c.args.context.now) (erased_term (term_form c.args.term.now)) c.args.carriers.now.items c.check_data-in-Constant.result c.check_data-in-Constant.ensures.plain
+
+pub check_value-returns-in-Number-clause-checked : goal.check_value-returns-in-Number-clause-checked
+check_value-returns-in-Number-clause-checked t c =
+    let S = text_in c.args.context.now in
+    let a = scope_in c.args.context.now in
+    data_node S a (slots_in c.args.context.now) (length c.args.carriers.now.items) (term_form c.args.term.now) c.check_data-in-Number.result (same-faults S a c.args.term.now _ c.in-Number.is refl) c.check_data-in-Number.ensures.checked
+
+pub check_value-returns-in-Number-clause-carriers : goal.check_value-returns-in-Number-clause-carriers
+check_value-returns-in-Number-clause-carriers t c =
+    data_grows (text_in c.args.context.now) (erased_term (term_form c.args.term.now)) c.args.carriers.now.items c.check_data-in-Number.result c.check_data-in-Number.ensures.plain
+
+pub check_value-returns-in-Name-clause-checked : goal.check_value-returns-in-Name-clause-checked
+check_value-returns-in-Name-clause-checked t c =
+    let S = text_in c.args.context.now in
+    let a = scope_in c.args.context.now in
+    data_node S a (slots_in c.args.context.now) (length c.args.carriers.now.items) (term_form c.args.term.now) c.check_data-in-Name.result (same-faults S a c.args.term.now _ c.in-Name.is refl) c.check_data-in-Name.ensures.checked
+
+pub check_value-returns-in-Name-clause-carriers : goal.check_value-returns-in-Name-clause-carriers
+check_value-returns-in-Name-clause-carriers t c =
+    data_grows (text_in c.args.context.now) (erased_term (term_form c.args.term.now)) c.args.carriers.now.items c.check_data-in-Name.result c.check_data-in-Name.ensures.plain
+
+pub check_value-returns-in-Negative-clause-checked : goal.check_value-returns-in-Negative-clause-checked
+check_value-returns-in-Negative-clause-checked t c =
+    let S = text_in c.args.context.now in
+    let a = scope_in c.args.context.now in
+    data_node S a (slots_in c.args.context.now) (length c.args.carriers.now.items) (term_form c.args.term.now) c.check_data-in-Negative.result (same-faults S a c.args.term.now _ c.in-Negative.is refl) c.check_data-in-Negative.ensures.checked
+
+pub check_value-returns-in-Negative-clause-carriers : goal.check_value-returns-in-Negative-clause-carriers
+check_value-returns-in-Negative-clause-carriers t c =
+    data_grows (text_in c.args.context.now) (erased_term (term_form c.args.term.now)) c.args.carriers.now.items c.check_data-in-Negative.result c.check_data-in-Negative.ensures.plain
+
+pub check_value-returns-in-Comparison-clause-checked : goal.check_value-returns-in-Comparison-clause-checked
+check_value-returns-in-Comparison-clause-checked t c =
+    let S = text_in c.args.context.now in
+    let a = scope_in c.args.context.now in
+    data_node S a (slots_in c.args.context.now) (length c.args.carriers.now.items) (term_form c.args.term.now) c.check_data-in-Comparison.result (same-faults S a c.args.term.now _ c.in-Comparison.is refl) c.check_data-in-Comparison.ensures.checked
+
+pub check_value-returns-in-Comparison-clause-carriers : goal.check_value-returns-in-Comparison-clause-carriers
+check_value-returns-in-Comparison-clause-carriers t c =
+    data_grows (text_in c.args.context.now) (erased_term (term_form c.args.term.now)) c.args.carriers.now.items c.check_data-in-Comparison.result c.check_data-in-Comparison.ensures.plain
+
+pub check_value-returns-in-Application-clause-checked : goal.check_value-returns-in-Application-clause-checked
+check_value-returns-in-Application-clause-checked t c =
+    let S = text_in c.args.context.now in
+    let a = scope_in c.args.context.now in
+    data_node S a (slots_in c.args.context.now) (length c.args.carriers.now.items) (term_form c.args.term.now) c.check_data-in-Application.result (application-same S a c.args.term.now c.in-Application.function c.in-Application.arguments c.in-Application.is) c.check_data-in-Application.ensures.checked
+
+pub check_value-returns-in-Application-clause-carriers : goal.check_value-returns-in-Application-clause-carriers
+check_value-returns-in-Application-clause-carriers t c =
+    data_grows (text_in c.args.context.now) (erased_term (term_form c.args.term.now)) c.args.carriers.now.items c.check_data-in-Application.result c.check_data-in-Application.ensures.plain
+
+-- ---- quantifiers
+
+pub check_value-returns-in_err-bound-in-Quantified-clause-checked : goal.check_value-returns-in_err-bound-in-Quantified-clause-checked
+check_value-returns-in_err-bound-in-Quantified-clause-checked t c =
+    let S = text_in c.args.context.now in
+    let a = scope_in c.args.context.now in
+    let q = c.in-Quantified in
+    let groups = c.deref-in-Quantified.result.now in
+    let e = c.in_err-bound-in-Quantified.field-0.0 in
+    let whole = term_faults S true a (term_form c.args.term.now) in
+    let h : IsAmong whole e = among_first whole (variables_faults S (variable_forms groups)) _ e (quantified-faults S a c.args.term.now q.place q.quantifier q.variables q.body q.body.value groups q.is refl c.deref-in-Quantified.ensures.value) c.in_err-bound-in-Quantified.ensures.bound in
+    search rules
+
+pub check_value-returns-in_err-body-in-Quantified-clause-checked : goal.check_value-returns-in_err-body-in-Quantified-clause-checked
+check_value-returns-in_err-body-in-Quantified-clause-checked t c =
+    let S = text_in c.args.context.now in
+    let a = scope_in c.args.context.now in
+    let q = c.in-Quantified in
+    let groups = c.deref-in-Quantified.result.now in
+    let xs = variables_of groups in
+    let x = c.deref-in-Quantified-2.result.now in
+    let b = c.in_ok-bound-in-Quantified.ensures.bound in
+    let inner = inner_scope S xs c.in_ok-bound-in-Quantified.bound.table a b.1.shapes in
+    let all = quantified-faults S a c.args.term.now q.place q.quantifier q.variables q.body x groups q.is c.deref-in-Quantified-2.ensures c.deref-in-Quantified.ensures.value in
+    let e = c.in_err-body-in-Quantified.field-0.0 in
+    let whole = term_faults S true a (term_form c.args.term.now) in
+    let here = subst (λ (i : Scope). IsAmong (truth_faults S i (term_form x) q.place) e) inner c.in_err-body-in-Quantified.ensures.checked in
+    let h : IsAmong whole e = subst (λ (zs : List TypingFault). IsAmong zs e) (sym (first_clear _ _ _ all b.0)) here in
+    search rules
+
+pub check_value-returns-in_ok-formula-in-Quantified-clause-checked : goal.check_value-returns-in_ok-formula-in-Quantified-clause-checked
+check_value-returns-in_ok-formula-in-Quantified-clause-checked t c =
+    let S = text_in c.args.context.now in
+    let a = scope_in c.args.context.now in
+    let s = slots_in c.args.context.now in
+    let n = length c.args.carriers.now.items in
+    let q = c.in-Quantified in
+    let groups = c.deref-in-Quantified.result.now in
+    let xs = variables_of groups in
+    let x = c.deref-in-Quantified-2.result.now in
+    let b = c.in_ok-bound-in-Quantified.ensures.bound in
+    let inner = inner_scope S xs c.in_ok-bound-in-Quantified.bound.table a b.1.shapes in
+    let all = quantified-faults S a c.args.term.now q.place q.quantifier q.variables q.body x groups q.is c.deref-in-Quantified-2.ensures c.deref-in-Quantified.ensures.value in
+    let bound_is = c.in_ok-bound-in-Quantified.bound in
+    let body = c.in_ok-body-in-Quantified.ensures.checked in
+    let mid = c.bind_variables.new.carriers.items in
+    let f = expanded_term (erased_term (term_form x)) in
+    let form = quantified-form c.args.term.now q.place q.quantifier q.variables q.body x groups q.is c.deref-in-Quantified-2.ensures c.deref-in-Quantified.ensures.value in (
+      first_clear _ _ _ all b.0 ∙ subst (λ (i : Scope). truth_faults S i (term_form x) q.place ≡ []) inner body.0,
+      sym (ap (shape S a) form),
+      ap Whole (c.in_ok-formula-in-Quantified.ensures.view
+          ∙ quantified-view S q.quantifier xs s _ a f c.args.carriers.now.items mid bound_is.carriers.items bound_is.slot c.in_ok-body-in-Quantified.body
+          b.1.slot (inner_slotting xs n bound_is.table s b.1.slots) b.1.carriers c.in_ok-bound-in-Quantified.ensures.carriers
+          (body.1 ∙ ap (λ (i : Scope). elaborated S (inner_slots bound_is.table s) i (length mid) f) inner))
+          ∙ sym (ap (value_of S s a n) form),
+    )
+
+pub check_value-returns-in_ok-formula-in-Quantified-clause-carriers : goal.check_value-returns-in_ok-formula-in-Quantified-clause-carriers
+check_value-returns-in_ok-formula-in-Quantified-clause-carriers t c =
+    let S = text_in c.args.context.now in
+    let a = scope_in c.args.context.now in
+    let q = c.in-Quantified in
+    let groups = c.deref-in-Quantified.result.now in
+    let x = c.deref-in-Quantified-2.result.now in
+    let form = quantified-form c.args.term.now q.place q.quantifier q.variables q.body x groups q.is c.deref-in-Quantified-2.ensures c.deref-in-Quantified.ensures.value in
+    quantified-loops S q.quantifier (variables_of groups) (expanded_term (erased_term (term_form x))) c.args.carriers.now.items c.bind_variables.new.carriers.items c.check_body.new.carriers.items
+    c.in_ok-bound-in-Quantified.ensures.carriers c.in_ok-body-in-Quantified.ensures.carriers
+    ∙ sym (ap (λ (z : syntax.Term). shapes_of c.args.carriers.now.items ++ loops S (expanded_term z)) form)

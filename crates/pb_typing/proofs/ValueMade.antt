@@ -1,0 +1,86 @@
+-- What the code builds.
+use Rattle.std.proofs.Common.{◌≡◌, ℕ, List, [], ◌∷◌, ◌++◌, map, length, sym, ◌∙◌, ap, Vec, Box, Global}
+use Rattle.std.specs.Prelude.{box_value, slice_index_or}
+use Rattle.std.proofs.lemmas.List.{append-nil, append_assoc, map-append}
+use Rattle.pb_text_tree.specs.declared.operator.Connective.{Connective}
+use Rattle.pb_text_meaning.specs.Erase.{of_connective}
+use Rattle.pb_typed_tree.specs.Tree as tree
+use Rattle.pb_typed_tree.specs.Tree.{Binary, Test, Connected}
+use Rattle.pb_typed_tree.specs.View.{chained, term_view, term_views, formula_view, formula_views}
+use Rattle.pb_typed_tree.specs.declared.term.Term as term
+use Rattle.pb_typed_tree.specs.declared.formula.Formula as formula
+use Rattle.pb_typed_tree.proofs.Views.{term-chain, formula-chain as formula-chain-view}
+use Rattle.pb_typing.specs.declared.joined.Joined.{Joined}
+use Rattle.pb_typing.specs.declared.joined.Joined.TheVariants as state
+use Rattle.pb_typing.specs.Value.{Value, Data, Whole, folded, tail}
+use Rattle.pb_typing.specs.ValueView.{pieces, value_view}
+use Rattle.pb_typing.specs.declared.joined.Value as declared_value
+use Rattle.std.proofs.Common.{false, true≢false, arith}
+use Rattle.std.specs.Prelude.{◌==◌}
+use Rattle.std.specs.List.{remove}
+use Rattle.pb_typing.proofs.ValueFold.{data-chain, formula-chain, as-tests, lists}
+
+pub chain-made : (o : Connective) (x : term.Term) (b : Box term.Term Global) (v : Vec term.Term Global) → box_value b ≡ x
+    → term_view (term.Chain o b v) ≡ chained (Binary (of_connective o)) (term_view x) (term_views v.items)
+chain-made o x b v is = term-chain o b v ∙ ap (λ (y : term.Term). chained (Binary (of_connective o)) (term_view y) (term_views v.items)) is
+
+pub terms-made : (o : Connective) (s : Joined) (x : term.Term) (b : Box term.Term Global) (v : Vec term.Term Global) → s ≡ state.Terms x v → box_value b ≡ x
+    → Data (term_view (term.Chain o b v)) ≡ folded o (pieces s)
+terms-made o s x b v is boxed =
+    ap Data (chain-made o x b v boxed) ∙ (sym (data-chain o (term_view x) (term_views v.items)) ∙ sym (ap (λ (t : Joined). folded o (pieces t)) is))
+
+pub formulas-made : (o : Connective) (s : Joined) (f : formula.Formula) (fs all : Vec formula.Formula Global) (v : Vec term.Term Global) (b : Box formula.Formula Global)
+    → s ≡ state.Formulas f fs v → box_value b ≡ f → formula_views all.items ≡ formula_views fs.items ++ tail o (term_views v.items)
+    → Whole (formula_view (formula.Chain o b all)) ≡ folded o (pieces s)
+formulas-made o s f fs all v b is boxed made =
+    ap Whole (formula-chain-view o b all
+    ∙ (ap (λ (g : formula.Formula). chained (Connected o) (formula_view g) (formula_views all.items)) boxed
+    ∙ ap (chained (Connected o) (formula_view f)) made))
+    ∙ (sym (formula-chain o (formula_view f) (formula_views fs.items) (term_views v.items)) ∙ sym (ap (λ (t : Joined). folded o (pieces t)) is))
+
+pub tail-made : (o : Connective) (fs all : List formula.Formula) (xs : List term.Term) (x : term.Term) (b : Box term.Term Global) (v : Vec term.Term Global)
+    → box_value b ≡ x → xs ≡ x ∷ v.items → all ≡ fs ++ (formula.Test (term.Chain o b v) ∷ []) → formula_views all ≡ formula_views fs ++ tail o (term_views xs)
+tail-made o fs all xs x b v boxed are made =
+    ap formula_views made ∙ (map-append formula_view fs (formula.Test (term.Chain o b v) ∷ [])
+    ∙ (ap (λ t. formula_views fs ++ (Test t ∷ [])) (chain-made o x b v boxed) ∙ sym (ap (λ (ys : List term.Term). formula_views fs ++ tail o (term_views ys)) are)))
+
+pub head-removed : {A : Type 0} (n : ℕ) (xs ys : List A) (x : A) → ((n == 0) ≡ false) → length xs ≡ n → x ≡ slice_index_or xs 0 x → ys ≡ remove xs 0 → xs ≡ x ∷ ys
+head-removed n [] ys x h len e r = absurd (true≢false (ap (λ m. m == 0) len ∙ h))
+head-removed n (z ∷ zs) ys x h len e r = ap (λ y. y ∷ zs) (sym e) ∙ ap (λ y. x ∷ y) (sym r)
+
+abbrev built : List formula.Formula → List term.Term → List Value
+built all none = map Whole (formula_views all) ++ map Data (term_views none)
+
+pub added-terms : (s : Joined) (v : declared_value.Value) (x : term.Term) (l : Vec term.Term Global) (f : formula.Formula) (old all : List formula.Formula) (none : List term.Term)
+    → s ≡ state.Terms x l → v ≡ declared_value.TheVariants.Formula f → old ≡ [] → formula_views all ≡ formula_views old ++ (map Test (term_views l.items) ++ (formula_view f ∷ [])) → none ≡ []
+    → (o : Connective) (xs : List Value) → folded o (Whole (Test (term_view x)) ∷ (built all none ++ xs)) ≡ folded o (pieces s ++ (value_view v ∷ xs))
+added-terms s v x l f old all none is-s is-v is-old made is-none o xs =
+    ap (λ ts. folded o (Whole (Test (term_view x)) ∷ ((map Whole (formula_views all) ++ map Data (term_views ts)) ++ xs))) is-none
+    ∙ (ap (λ fs. folded o (Whole (Test (term_view x)) ∷ ((map Whole fs ++ []) ++ xs))) (made ∙ ap (λ (fs : List formula.Formula). formula_views fs ++ (map Test (term_views l.items) ++ (formula_view f ∷ []))) is-old)
+    ∙ (ap (λ vs. folded o (Whole (Test (term_view x)) ∷ vs)) (lists [] (map Test (term_views l.items)) (formula_view f) xs)
+    ∙ (as-tests o [] (term_view x ∷ term_views l.items) (formula_view f) xs
+    ∙ (sym (ap (λ (t : Joined). folded o (pieces t ++ (Whole (formula_view f) ∷ xs))) is-s)
+    ∙ sym (ap (λ (w : declared_value.Value). folded o (pieces s ++ (value_view w ∷ xs))) is-v)))))
+
+pub added-formulas : (s : Joined) (v : declared_value.Value) (x : formula.Formula) (fs : Vec formula.Formula Global) (l : Vec term.Term Global) (f : formula.Formula) (all : List formula.Formula) (none : List term.Term)
+    → s ≡ state.Formulas x fs l → v ≡ declared_value.TheVariants.Formula f → formula_views all ≡ formula_views fs.items ++ (map Test (term_views l.items) ++ (formula_view f ∷ [])) → none ≡ []
+    → (o : Connective) (xs : List Value) → folded o (Whole (formula_view x) ∷ (built all none ++ xs)) ≡ folded o (pieces s ++ (value_view v ∷ xs))
+added-formulas s v x fs l f all none is-s is-v made is-none o xs =
+    ap (λ ts. folded o (Whole (formula_view x) ∷ ((map Whole (formula_views all) ++ map Data (term_views ts)) ++ xs))) is-none
+    ∙ (ap (λ gs. folded o (Whole (formula_view x) ∷ ((map Whole gs ++ []) ++ xs))) made
+    ∙ (ap (λ vs. folded o (Whole (formula_view x) ∷ vs)) (lists (formula_views fs.items) (map Test (term_views l.items)) (formula_view f) xs)
+    ∙ (as-tests o (Whole (formula_view x) ∷ map Whole (formula_views fs.items)) (term_views l.items) (formula_view f) xs
+    ∙ (sym (ap (λ (t : Joined). folded o (pieces t ++ (Whole (formula_view f) ∷ xs))) is-s)
+    ∙ sym (ap (λ (w : declared_value.Value). folded o (pieces s ++ (value_view w ∷ xs))) is-v)))))
+
+pub tests-ended : (fs all before : List formula.Formula) (rest terms : List term.Term) (f : formula.Formula)
+    → all ≡ fs ++ (f ∷ []) → length rest ≡ 0 → formula_views fs ++ map Test (term_views rest) ≡ formula_views before ++ map Test (term_views terms)
+    → formula_views all ≡ formula_views before ++ (map Test (term_views terms) ++ (formula_view f ∷ []))
+tests-ended fs all before [] terms f made none h =
+    ap formula_views made ∙ (map-append formula_view fs (f ∷ [])
+    ∙ (ap (λ gs. gs ++ (formula_view f ∷ [])) (sym (append-nil (formula_views fs)) ∙ h)
+    ∙ append_assoc (formula_views before) (map Test (term_views terms)) (formula_view f ∷ [])))
+tests-ended fs all before (x ∷ rest) terms f made none h = absurd (omega arith)
+
+pub with-last : (before : List tree.Formula) (ts : List tree.Formula) (all : List formula.Formula) (f g : formula.Formula) → f ≡ g → formula_views all ≡ before ++ (ts ++ (formula_view f ∷ [])) → formula_views all ≡ before ++ (ts ++ (formula_view g ∷ []))
+with-last before ts all f g same h = h ∙ ap (λ (x : formula.Formula). before ++ (ts ++ (formula_view x ∷ []))) same

@@ -1,0 +1,52 @@
+use Rattle.std.proofs.Common.{◌≡◌, ℕ, ◌++◌, [], true, List, length, ◌∙◌, ap, subst, arith, Result, Ok, Err}
+use Rattle.std.specs.Prelude.{MatchResult}
+use Rattle.pb_text_tree.specs.declared.variable.Variables.{Variables}
+use Rattle.pb_text_tree.specs.declared.formula.Formula as ast
+use Rattle.pb_text_tree.specs.declared.spec.Equation as declared
+use Rattle.pb_text_tree.specs.Form.{equation_form, formula_form}
+use Rattle.pb_text_meaning.specs.Syntax.{Spec}
+use Rattle.pb_typing_declarations.specs.declared.fault.TypeError.{TypeError}
+use Rattle.pb_typing_declarations.specs.Entries.{shapes_of}
+use Rattle.pb_typing_declarations.specs.Faults.{IsAmong}
+use Rattle.pb_typing_declarations.specs.View.{spec_of}
+use Rattle.pb_typing_rules.specs.Faults.{formula_faults}
+use Rattle.pb_typing_rules.specs.Scope.{Scope, bound, outermost}
+use Rattle.pb_typed_tree.specs.declared.formula.Equation.{Equation}
+use Rattle.pb_typed_tree.specs.Elaboration.{Slotting, unslotted, with_slots}
+use Rattle.pb_typed_tree.specs.Loops.{variable_shapes}
+use Rattle.pb_typing.specs.Rights.{IsRight, IsRightIn, own_faults}
+use Rattle.pb_typing.specs.Scopes.{inner_slots}
+use Rattle.pb_typing.proofs.SlotLemmas.{inner_scope, inner_slotting, length_behind, length-variables, variables_of}
+use Rattle.pb_typing.proofs.equation.check_right.Goals as goal
+
+-- what is found of a right side in a scope
+abbrev Found : Spec → ast.Formula → Result Equation TypeError → Scope → Slotting → ℕ → Type 0
+Found S f r a c n = MatchResult r (λ X. (formula_faults S true a (formula_form f) ≡ []) × IsRightIn S a c n f X) (IsAmong (formula_faults S true a (formula_form f)))
+
+-- under an equation's parameters it is the equation's
+made : (S : Spec) (X : declared.Equation) (r : Result Equation TypeError)
+    → Found S X.right r (bound S (variables_of X.parameters.items) outermost) (with_slots (variables_of X.parameters.items) 0 unslotted) (length (variables_of X.parameters.items))
+    → MatchResult r (λ Y. (own_faults S (equation_form X) ≡ []) × IsRight S (equation_form X) Y) (IsAmong (own_faults S (equation_form X)))
+made S X (Ok Y) h = (h.0, record { right = h.1.right; loops = h.1.loops; calls = h.1.calls })
+made S X (Err e) h = h
+
+pub returns : goal.returns
+returns c =
+    let S = spec_of c.args.declarations.now in
+    let groups = c.args.equation.now.parameters.items in
+    let xs = variables_of groups in
+    let f = c.args.equation.now.right in
+    let r = c.check_under.result in
+    let table = c.in_ok-table.table in
+    let mid = c.declare_variables.new.carriers.items in
+    let begun : length c.new-carriers.result.items ≡ 0 = ap length c.new-carriers.ensures.items in
+    let shapes = c.in_ok-table.ensures.shapes ∙ ap (λ (gs : List Variables). bound S (variables_of gs) outermost) c.deref.ensures.value in
+    let slots = c.in_ok-table.ensures.slots
+    ∙ (ap (λ (gs : List Variables). with_slots (variables_of gs) (length c.new-carriers.result.items) unslotted) c.deref.ensures.value
+    ∙ ap (λ (n : ℕ). with_slots xs n unslotted) begun) in
+    let grown = c.in_ok-table.ensures.carriers ∙ ap (λ (gs : List Variables). shapes_of c.new-carriers.result.items ++ variable_shapes S (variables_of gs)) c.deref.ensures.value in
+    let count : length mid ≡ length xs = omega (arith, length_behind c.new-carriers.result.items mid (variable_shapes S xs) grown, length-variables S xs, begun) in
+    made S c.args.equation.now r
+    (subst (λ (n : ℕ). Found S f r (bound S xs outermost) (with_slots xs 0 unslotted) n) count
+    (subst (λ (s : Slotting). Found S f r (bound S xs outermost) s (length mid)) (inner_slotting xs 0 table unslotted slots)
+    (subst (λ (a : Scope). Found S f r a (inner_slots table unslotted) (length mid)) (inner_scope S xs table outermost shapes) c.check_under.ensures)))

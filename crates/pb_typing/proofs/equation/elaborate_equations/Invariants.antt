@@ -1,6 +1,0 @@
-use Rattle.pb_typing_declarations.specs.View.{spec_of}
-use Rattle.pb_typing.proofs.Equations.{AreDone}
-use Rattle.pb_typing.proofs.equation.elaborate_equations.Given as goal
-
-abbrev pub invariant-loop-equation : goal.invariant-loop-equation
-invariant-loop-equation l = AreDone (spec_of l.declarations) l.equation-items l.equation-index l.equations.items

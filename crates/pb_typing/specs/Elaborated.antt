@@ -1,0 +1,90 @@
+-- What the check finds of a part: no fault, and its typed tree; or a fault.
+use Rattle.std.specs.Prelude.{◌≡◌, ℕ, Bool, true, false, ◌++◌, [], List, Result, Contains}
+use Rattle.std.specs.Prelude.{MatchResult, Some, map}
+use Rattle.pb_text_tree.specs.declared.place.Place.{Place}
+use Rattle.pb_text_tree.specs.Form.{FormulaForm, InstanceForm, TermForm}
+use Rattle.pb_text_meaning.specs.Syntax.{Spec}
+use Rattle.pb_text_meaning.specs.Erase.{erased_arguments, erased_formula, erased_term}
+use Rattle.pb_typing_declarations.specs.declared.fault.TypingRule.TheVariants.{WrongKind}
+use Rattle.pb_typing_declarations.specs.declared.fault.TypingFault.{TypingFault}
+use Rattle.pb_typing_declarations.specs.declared.fault.TypeError.{TypeError}
+use Rattle.pb_typing_declarations.specs.Faults.{IsAmong, unless}
+use Rattle.pb_typing_declarations.specs.Shapes.{Shape}
+use Rattle.pb_typing_rules.specs.Faults.{formula_faults, term_faults}
+use Rattle.pb_typing_rules.specs.Scope.{Scope}
+use Rattle.pb_typing_rules.specs.Shapes.{may_be_truth}
+use Rattle.pb_typing_rules.specs.Term.{shape}
+use Rattle.pb_typed_tree.specs.declared.formula.Argument as typed
+use Rattle.pb_typed_tree.specs.declared.formula.Formula as code
+use Rattle.pb_typed_tree.specs.Elaboration.{Slotting, arguments, elaborated, place_of, slotted}
+use Rattle.pb_typed_tree.specs.Expansion.{expanded, expanded_term}
+use Rattle.pb_typed_tree.specs.Tree.{Formula, Term}
+use Rattle.pb_typed_tree.specs.View.{argument_view, formula_view, shape_view, term_view}
+use Rattle.pb_typing.specs.declared.instance.Call.{Call}
+use Rattle.pb_typing.specs.declared.joined.Value as program
+use Rattle.pb_typing.specs.Value.{Value, value_of}
+use Rattle.pb_typing.specs.ValueView.{value_shape, value_view}
+
+-- ---- data terms
+
+-- this shape and this typed tree
+abbrev pub IsTypedAs : Shape → Term → typed.Argument → Type 0
+IsTypedAs s x r = (shape_view r.shape ≡ s) × (term_view r.term ≡ x)
+
+abbrev pub Elaborates : List TypingFault → Shape → Term → Result typed.Argument TypeError → Type 0
+Elaborates all s x result = MatchResult result (λ r. (all ≡ []) × IsTypedAs s x r) (IsAmong all)
+
+-- the same where no memory is asked for
+abbrev pub Resolves : List TypingFault → Shape → Term → Result typed.Argument TypingFault → Type 0
+Resolves all s x result = MatchResult result (λ r. (all ≡ []) × IsTypedAs s x r) (Contains all)
+
+-- a term where no quantifier may stand
+abbrev pub ChecksTermIn : Spec → Scope → Slotting → TermForm → Result typed.Argument TypeError
+    → Type 0
+ChecksTermIn S a c x result =
+    Elaborates (term_faults S false a x) (shape S a (erased_term x)) (slotted S c (erased_term x))
+    result
+
+-- ---- data below val
+
+abbrev pub ElaboratesValue : List TypingFault → Shape → Value → Result program.Value TypeError
+    → Type 0
+ElaboratesValue all s v result =
+    MatchResult result (λ r. (all ≡ []) × (value_shape r ≡ s) × (value_view r ≡ v)) (IsAmong all)
+
+-- a term where quantifiers may stand, the slots from n on being free
+abbrev pub ChecksValueIn : Spec → Scope → Slotting → ℕ → TermForm → Result program.Value TypeError
+    → Type 0
+ChecksValueIn S a c n x result =
+    ElaboratesValue (term_faults S true a x) (shape S a (erased_term x))
+    (value_of S c a n (erased_term x)) result
+
+-- ---- formulas
+
+abbrev pub ElaboratesFormula : List TypingFault → Formula → Result code.Formula TypeError → Type 0
+ElaboratesFormula all f result =
+    MatchResult result (λ r. (all ≡ []) × (formula_view r ≡ f)) (IsAmong all)
+
+-- a term that must be a Boolean at a place that wants one
+abbrev pub truth_faults : Spec → Scope → TermForm → Place → List TypingFault
+truth_faults S a x place =
+    term_faults S true a x ++ unless (may_be_truth (shape S a (erased_term x))) WrongKind place
+
+abbrev pub ChecksTruthIn : Spec → Scope → Slotting → ℕ → TermForm → Place
+    → Result code.Formula TypeError → Type 0
+ChecksTruthIn S a c n x place result =
+    ElaboratesFormula (truth_faults S a x place)
+    (elaborated S c a n (expanded_term (erased_term x))) result
+
+abbrev pub ChecksFormulaIn : Spec → Scope → Slotting → Bool → ℕ → FormulaForm
+    → Result code.Formula TypeError → Type 0
+ChecksFormulaIn S a c even n f result =
+    ElaboratesFormula (formula_faults S even a f)
+    (elaborated S c a n (expanded (erased_formula f))) result
+
+-- an instance of the equation that has its name, with its arguments
+pub record IsCall (S : Spec) (a : Scope) (c : Slotting) (i : InstanceForm) (call : Call)
+    : Type 0 where
+  pub equation : place_of 0 S.equations i.name.text ≡ Some call.equation
+  pub arguments : map argument_view call.arguments.items
+      ≡ arguments S c a (erased_arguments i.arguments)

@@ -1,0 +1,54 @@
+-- Data below val, as it is built bottom up: a term without quantifiers, or the formula as which
+-- data is read.
+use Rattle.std.specs.Prelude.{ℕ, ◌+◌, Bool, true, false, List, [], ◌∷◌}
+use Rattle.pb_text_tree.specs.declared.operator.Connective.{Connective}
+use Rattle.pb_text_meaning.specs.Erase.{of_connective}
+use Rattle.pb_text_meaning.specs.Syntax as syntax
+use Rattle.pb_text_meaning.specs.Syntax.{Spec}
+use Rattle.pb_typing_rules.specs.Scope.{Scope}
+use Rattle.pb_typed_tree.specs.Tree.{Term, Binary, Formula, Test, Connected, Negation}
+use Rattle.pb_typed_tree.specs.Elaboration.{Slotting, slotted, elaborated, width}
+use Rattle.pb_typed_tree.specs.Expansion.{has_quantifier, expanded_term}
+use Rattle.pb_typed_tree.specs.View.{chained}
+
+pub data Value : Type 0 where
+  Data : Term → Value
+  Whole : Formula → Value
+
+abbrev pub as_formula : Value → Formula
+as_formula (Data x) = Test x
+as_formula (Whole f) = f
+
+abbrev pub negated : Value → Value
+negated (Data x) = Data (Term.Not x)
+negated (Whole f) = Whole (Negation f)
+
+-- two operands: data where both are
+abbrev pub joined : Connective → Value → Value → Value
+joined o (Data x) (Data y) = Data (Binary (of_connective o) x y)
+joined o (Data x) (Whole g) = Whole (Connected o (Test x) g)
+joined o (Whole f) y = Whole (Connected o f (as_formula y))
+
+abbrev pub folded : Connective → List Value → Value
+folded o [] = Data (Term.Truth false)
+folded o (x ∷ xs) = chained (joined o) x xs
+
+-- data behind the last formula is one test, if there is any
+abbrev pub tail : Connective → List Term → List Formula
+tail o [] = []
+tail o (x ∷ xs) = Test (chained (Binary (of_connective o)) x xs) ∷ []
+
+abbrev pub chosen : Bool → Formula → Term → Value
+chosen true f x = Whole f
+chosen false f x = Data x
+
+-- which value a term of the text has
+abbrev pub value_of : Spec → Slotting → Scope → ℕ → syntax.Term → Value
+value_of spec c scope n x =
+    chosen (has_quantifier x) (elaborated spec c scope n (expanded_term x)) (slotted spec c x)
+
+-- each takes its slots
+abbrev pub values_of : Spec → Slotting → Scope → ℕ → List syntax.Term → List Value
+values_of spec c scope n [] = []
+values_of spec c scope n (x ∷ xs) =
+    value_of spec c scope n x ∷ values_of spec c scope (n + width (expanded_term x)) xs
