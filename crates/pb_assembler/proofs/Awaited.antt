@@ -1,7 +1,7 @@
 -- Code whose jumps go to one label at its end, which has no place yet.
 use Rattle.std.proofs.Common.{◌≡◌, ℕ, suc, ◌+◌, ◌<◌, ◌≤◌, Bool, List, [], ◌∷◌, ◌++◌, length, Some, None, sym, ap, ◌∙◌, arith, append_assoc, length-append}
 use Rattle.std.specs.Prelude.{unwrap_or}
-use Rattle.std.specs.List.{slice_get, slice_set}
+use Rattle.std.specs.List.{slice_set}
 use Rattle.std.proofs.lemmas.List.{length-map}
 use Rattle.pb_assembler_scheme.proofs.Flat.{long}
 use Rattle.pb_bytecode_program.specs.declared.instruction.Op.{Op}
@@ -172,19 +172,3 @@ pub awaits_no_more : (whole x : Piece) (l : ℕ) (d0 d d1 d2 : Draft) → Awaits
 awaits_no_more whole x l d0 d d1 d2 a h e =
     let w = still_open l d d1 a.is_open (emits_follows x nowhere d d1 h) in
     a.completed d2 (ends_last x l d d1 d2 h (sets_from d1 d2 l (unplaced d1.places l w.there w.open_yet) e))
-
--- the label can be placed
-pub open_place : (x : Piece) (l : ℕ) (d d1 : Draft) → IsOpen l d → Emits x nowhere d d1 → slice_get d1.places l ≡ Some None
-open_place x l d d1 w h = let v = still_open l d d1 w (emits_follows x nowhere d d1 h) in unplaced d1.places l v.there v.open_yet
-
--- a label that was made can be placed behind a jump to it, a piece and another jump
-pub passed_place : (x : Piece) (l : ℕ) (o p : Labelled) (d d1 d2 d3 d4 : Draft) → l ≡ length d.places → d1 ≡ record d { places = d.places ++ None ∷ [] } → d2 ≡ record d1 { ops = d1.ops ++ o ∷ [] }
-    → Emits x nowhere d2 d3 → d4 ≡ record d3 { ops = d3.ops ++ p ∷ [] } → slice_get d4.places l ≡ Some None
-passed_place x l o p d d1 d2 d3 d4 n e1 e2 hx e4 =
-    let m = makes_from d d1 l n e1 in
-    let long1 = m.long in
-    let a2 = adds_from d1 d2 o e2 in
-    let a4 = adds_from d3 d4 p e4 in
-    let f = then_follows d1 d3 d4 (then_follows d1 d2 d3 (adds_follows d1 d2 o a2) (emits_follows x nowhere d2 d3 hx)) (adds_follows d3 d4 p a4) in
-    let g = f.grown in
-    unplaced d4.places l (omega arith) (f.kept l (omega arith) ∙ new_place d d1 l n e1)

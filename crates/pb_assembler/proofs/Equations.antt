@@ -3,7 +3,6 @@ use Rattle.std.proofs.Common.{◌≡◌, ℕ, zero, suc, ◌+◌, ◌<◌, ◌�
 use Rattle.std.specs.List.{list_all, slice_get}
 use Rattle.std.proofs.lemmas.List.{append_assoc, append-nil, map_push, drop_all}
 use Rattle.std.proofs.lemmas.Option.{get_or_from_slice_get}
-use Rattle.pb_fixpoint.specs.declared.Sign.{Sign}
 use Rattle.pb_sorts.specs.declared.carrier.Carrier.{Carrier}
 use Rattle.pb_sorts.proofs.Places.{drop-at}
 use Rattle.pb_text_tree.specs.declared.spec.Equation as tree
@@ -13,16 +12,16 @@ use Rattle.pb_bytecode.specs.Views.{equation_contents}
 use Rattle.pb_bytecode.specs.declared.equation.Equation as bytecode
 use Rattle.pb_bytecode_program.specs.Counts.{one_step, tokens_of, static_steps, static_tokens}
 use Rattle.pb_bytecode_program.specs.Machine.{Program}
-use Rattle.pb_bytecode_program.specs.declared.instruction.Op.{Op}
 use Rattle.pb_normal.specs.View.{formula_view}
 use Rattle.pb_normal.specs.declared.normal.Equation.{Equation}
 use Rattle.pb_assembler_scheme.specs.Scheme.{equation_code}
+use Rattle.pb_assembler_accepted.proofs.Limits.{within_limits}
 use Rattle.pb_assembler.specs.Compiled.{bare_program, compiled_contents, all_compiled, has_fitting_carriers, IsReady, AreReady}
-use Rattle.pb_assembler.specs.Excess.{AreMeasures}
+use Rattle.pb_assembler.specs.Measures.{AreMeasures}
 use Rattle.pb_assembler.specs.MeasureEquations.{IsProgram}
 use Rattle.pb_assembler.specs.declared.measures.Measures.{Measures}
 use Rattle.pb_assembler.proofs.Drafts.{append_one}
-use Rattle.pb_assembler.proofs.MeasureMade.{cost_same}
+use Rattle.pb_assembler_modules.proofs.StatedCounts.{cost_same}
 
 -- ---- stated counts
 
@@ -44,18 +43,10 @@ module _ (callees : List (List Carrier)) (parameters : List Carrier) (text : Equ
   its_measures = measured stating (record { compiled = record { code = refl; slots = ready.slots; steps = same_steps; tokens = same_tokens }; loops = refl; callees = refl })
 
   pub steps_exact : m.steps ≡ static_steps bare
-  steps_exact = let a = its_measures.steps in let b = ready.kept.steps in let e = same_steps in omega (arith, a, b, e)
+  steps_exact = let a = its_measures.steps in let b = (within_limits bare (formula_view X.right) ready.kept).steps in let e = same_steps in omega (arith, a, b, e)
 
   pub tokens_exact : m.tokens ≡ static_tokens bare
-  tokens_exact = let a = its_measures.tokens in let b = ready.kept.tokens in let e = same_tokens in omega (arith, a, b, e)
-
-abbrev pub contents : Sign → List ℕ → (parameters loops : List Carrier) → (steps tokens : ℕ) → List Op → EquationContents
-contents sign name parameters loops steps tokens code = record { sign = sign; name = name; parameters = parameters; loops = loops; steps = steps; tokens = tokens; code = code }
-
-pub same_contents : (s : Sign) (n n' : List ℕ) (ps ps' ls ls' : List Carrier) (st st' to to' : ℕ) (co co' : List Op) → n ≡ n' → ps ≡ ps' → ls ≡ ls' → st ≡ st' → to ≡ to' → co ≡ co' → contents s n ps ls st to co ≡ contents s n' ps' ls' st' to' co'
-same_contents s n n' ps ps' ls ls' st st' to to' co co' a b c d e f =
-    ap (λ x. contents s x ps ls st to co) a ∙ ap (λ x. contents s n' x ls st to co) b ∙ ap (λ x. contents s n' ps' x st to co) c
-    ∙ ap (λ x. contents s n' ps' ls' x to co) d ∙ ap (λ x. contents s n' ps' ls' st' x co) e ∙ ap (λ x. contents s n' ps' ls' st' to' x) f
+  tokens_exact = let a = its_measures.tokens in let b = (within_limits bare (formula_view X.right) ready.kept).tokens in let e = same_tokens in omega (arith, a, b, e)
 
 -- ---- equation by equation
 

@@ -33,6 +33,7 @@ use Rattle.pb_normal.specs.Structs.{with_count, struct_counts, AreFew, IsDeclare
 use Rattle.pb_normal.specs.View.{formula_view, shapes_of}
 use Rattle.pb_normal.specs.declared.normal.Equation.{Equation}
 use Rattle.pb_assembler_scheme.specs.Scheme.{equation_code}
+use Rattle.pb_assembler_accepted.proofs.Limits.{within_limits}
 use Rattle.pb_assembler_accepted.proofs.TextEquations.{all_values}
 use Rattle.pb_assembler_modules.specs.Module.{with_names, struct_names}
 use Rattle.pb_assembler.specs.Compiled.{bare_program, compiled_contents, all_compiled, has_fitting_fields, has_fitting_carriers, IsReady, AreReady}
@@ -126,11 +127,12 @@ module _ (spec : Spec) (sizes : List ℕ) (same : struct_counts spec.sorts ≡ s
         let count = ap length parameters in
         let long = length-map cs (λ (c : Carrier). carrier_shape (Some c)) in
         let wide = length-map X.parameters (λ (x : Variable). sort_shape spec x.sort) in
-        let slots = r.kept.slots in
-        let steps = r.kept.steps in
-        let tokens = r.kept.tokens in
-        let code = r.kept.instructions in
         let f = formula_view e.right in
+        let kept = within_limits (bare_program callees cs e) f r.kept in
+        let slots = kept.slots in
+        let steps = kept.steps in
+        let tokens = kept.tokens in
+        let code = kept.instructions in
         let bounded = subst (λ (g : Formula). is_bounded_formula (bounds_of spec X) g ≡ true) (sym right) bounds in
         and_from _ _ r.named
         (and_from _ _ (and_from _ _ (between 0 (MAX_PARAMETERS + 1) (length cs) (omega arith) (omega arith)) (parameters_fit X cs shapes parameters both.0))

@@ -1,6 +1,5 @@
 pub mod Drafts
 pub mod Emitting
-pub mod Weight
 pub mod Chains
 pub mod Views
 pub mod Measured
@@ -22,6 +21,7 @@ pub mod MeasureMade
 pub mod MeasureExcess
 pub mod Reached
 pub mod ReachedBounds
+pub mod Nesting
 pub mod ReachedTexts
 pub mod Tests
 pub mod Codes

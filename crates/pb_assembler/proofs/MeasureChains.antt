@@ -1,7 +1,8 @@
 -- Loops and chains, measured part by part.
-use Rattle.std.proofs.Common.{◌≡◌, ℕ, zero, suc, ◌<◌, ◌≤◌, Bool, true, false, cond, List, [], ◌∷◌, length, get_or, drop, Option, Some, None, refl, sym, ap, ◌∙◌, arith, true≢false}
+use Rattle.std.proofs.Common.{◌≡◌, ℕ, zero, suc, ◌-◌, ◌<◌, ◌≤◌, Bool, true, false, cond, List, [], ◌∷◌, length, length-drop, get_or, take, drop, Option, Some, None, refl, sym, ap, ◌∙◌, arith, true≢false}
 use Rattle.std.specs.Prelude.{nat_le, unwrap_or}
 use Rattle.std.proofs.lemmas.Bool.{le-leb, leb-true}
+use Rattle.std.proofs.lemmas.List.{take_all}
 use Rattle.pb_sorts.specs.Carrier.{values_of}
 use Rattle.pb_sorts.specs.declared.carrier.Carrier.{Carrier}
 use Rattle.pb_sorts.specs.declared.carrier.Carrier.TheVariants as carriers
@@ -52,6 +53,10 @@ all_loops cs (suc k) x e = absurd (omega arith)
 
 -- ---- chains
 
+-- what a slice from a place on holds
+pub all_from : (fs : List Formula) (k : ℕ) → take (length fs - k) (drop k fs) ≡ drop k fs
+all_from fs k = take_all (length fs - k) (drop k fs) (omega (arith, length-drop k fs))
+
 le_same : (a b c d : ℕ) → (a ≤ b → c ≤ d) → (c ≤ d → a ≤ b) → nat_le a b ≡ nat_le c d
 le_same a b c d f g = by (nat_le a b) (nat_le c d) refl refl
   where
@@ -101,14 +106,15 @@ link_last m (g ∷ []) (suc k) f l e = absurd (omega arith)
 link_last m (g ∷ h ∷ hs) zero f l e = absurd (omega arith)
 link_last m (g ∷ h ∷ hs) (suc k) f l e = link_last m (h ∷ hs) k f (omega arith) e
 
-pub link_many : (m : Bool) (fs : List Formula) (k : ℕ) → suc k < length fs → None ≡ load_by (test_of (form_chain m (drop k fs)))
-link_many m [] k l = absurd (omega arith)
-link_many m (f ∷ []) k l = absurd (omega arith)
-link_many m (f ∷ g ∷ gs) zero l = refl
-link_many m (f ∷ g ∷ gs) (suc k) l = link_many m (g ∷ gs) k (omega arith)
+pub many_no_test : (m : Bool) (fs : List Formula) → 1 < length fs → None ≡ load_by (test_of (form_chain m fs))
+many_no_test m [] l = absurd (omega arith)
+many_no_test m (f ∷ []) l = absurd (omega arith)
+many_no_test m (f ∷ g ∷ gs) l = refl
 
-pub link_last_load : (m : Bool) (fs : List Formula) (k : ℕ) (f : Formula) → suc k ≡ length fs → f ≡ get_or fs k f → load_by (test_of (formula_view f)) ≡ load_by (test_of (form_chain m (drop k fs)))
-link_last_load m fs k f l e = ap (λ y. load_by (test_of y)) (sym (link_last m fs k f l e))
+pub only_load : (m : Bool) (fs : List Formula) (f : Formula) → length fs ≡ 1 → f ≡ get_or fs 0 f → load_by (test_of (formula_view f)) ≡ load_by (test_of (form_chain m fs))
+only_load m [] f l e = absurd (omega arith)
+only_load m (g ∷ []) f l e = ap (λ (x : Formula). load_by (test_of (formula_view x))) e
+only_load m (g ∷ h ∷ hs) f l e = absurd (omega arith)
 
 some_load : (o : Option normal.Term) (load : Load) → Some load ≡ load_by o → (t : normal.Term) × ((o ≡ Some t) × (load ≡ capped_load (term_load t)))
 some_load (Some t) load e = (t, (refl, ap (λ o. unwrap_or o load) e))

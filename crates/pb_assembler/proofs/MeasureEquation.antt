@@ -13,7 +13,7 @@ use Rattle.pb_assembler_accepted.specs.Limits.{formula_operands, formula_bracket
 use Rattle.pb_assembler_accepted.proofs.Weights.{code_long, steps_weighed, tokens_weighed}
 use Rattle.pb_assembler.specs.declared.measures.Measures.{Measures}
 use Rattle.pb_assembler.specs.declared.measure_tally.Tally.{Tally}
-use Rattle.pb_assembler.specs.Excess.{AreMeasures}
+use Rattle.pb_assembler.specs.Measures.{AreMeasures}
 use Rattle.pb_assembler.specs.MeasureFormulas.{capped_tally, formula_tally}
 use Rattle.pb_assembler.specs.MeasureEquations.{equation_measures, IsProgram}
 use Rattle.pb_assembler.proofs.MeasureCosts.{Costs, equation_costs}

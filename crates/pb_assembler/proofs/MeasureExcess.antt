@@ -1,9 +1,10 @@
 -- The first equation whose code exceeds a limit.
-use Rattle.std.proofs.Common.{◌≡◌, ℕ, suc, ◌+◌, ◌<◌, ◌≤◌, List, [], ◌∷◌, length, Option, Some, None, refl, sym, ap, ◌∙◌, subst, arith, ⊎_elim}
+use Rattle.std.proofs.Common.{◌≡◌, ℕ, suc, ◌+◌, ◌<◌, ◌≤◌, List, [], ◌∷◌, ◌++◌, length, Option, Some, None, refl, sym, ap, ◌∙◌, subst, arith, ⊎_elim, length-append}
 use Rattle.std.specs.List.{slice_get}
 use Rattle.std.proofs.lemmas.Bool.{cases_lt}
-use Rattle.std.proofs.lemmas.Option.{slice_get_within}
+use Rattle.std.proofs.lemmas.Option.{slice_get_within, same_Some}
 use Rattle.pb_sorts.specs.declared.carrier.Carrier.{Carrier}
+use Rattle.pb_sorts.proofs.Places.{IsPlaceAfter, append_cases}
 use Rattle.pb_text_meaning.specs.Syntax as syntax
 use Rattle.pb_text_meaning.specs.Syntax.{Spec}
 use Rattle.pb_bytecode.specs.Contents.{EquationContents, Contents}
@@ -20,9 +21,10 @@ use Rattle.pb_assembler_modules.specs.Module.{AreEquationsOf, IsCompiledModule, 
 use Rattle.pb_assembler_modules.proofs.Modules.{made}
 use Rattle.pb_bytecode.specs.declared.limit.Limit.{Limit}
 use Rattle.pb_assembler.specs.declared.measures.Measures.{Measures}
-use Rattle.pb_assembler.specs.Excess.{AreMeasures, ExceedsFirst, IsFirstExcess, first_excess}
-use Rattle.pb_assembler.specs.MeasureEquations.{AreMeasuresOf, EachKeepsLimits, IsProgram}
-use Rattle.pb_assembler.proofs.Measured.{kept}
+use Rattle.pb_assembler.specs.Excess.{ExceedsFirst, IsFirstExcess}
+use Rattle.pb_assembler.specs.Measures.{first_excess}
+use Rattle.pb_assembler.specs.MeasureEquations.{AreMeasuresOfAll, AreMeasuresOf, EachKeepsLimits, IsProgram}
+use Rattle.pb_assembler.proofs.Measured.{none_exceeded, exceeded_first}
 use Rattle.pb_assembler.proofs.MeasureMade.{form_at, text_at, parameters_at, program, program_made, made_is_program}
 use Rattle.pb_assembler.proofs.Ready.{AreFormsOf}
 
@@ -37,38 +39,52 @@ abbrev pub Exceeds : List (List Carrier) → Equation → Limit → Type 0
 Exceeds callees e l = (p : Program) → IsProgram callees e p → ExceedsFirst p (formula_view e.right) l
 
 pub keeps : (callees : List (List Carrier)) (e : Equation) (m : Measures) (o : Option Limit) → AreMeasuresOf m callees e → o ≡ first_excess m → o ≡ None → Keeps callees e
-keeps callees e m o h f g p made = kept m p (formula_view e.right) (h p made) (sym f ∙ g)
-
-abbrev measures : (i o b n l s k : ℕ) → Measures
-measures i o b n l s k = record { instructions = i; operands = o; brackets = b; nesting = n; slots = l; steps = s; tokens = k }
-
--- measures are determined by the program and its right side
-same_measures : (m n : Measures) (p : Program) (f : Formula) → AreMeasures m p f → AreMeasures n p f → m ≡ n
-same_measures m n p f a b =
-    ap (λ x. measures x m.operands m.brackets m.nesting m.slots m.steps m.tokens) (a.instructions ∙ sym b.instructions)
-    ∙ ap (λ x. measures n.instructions x m.brackets m.nesting m.slots m.steps m.tokens) (a.operands ∙ sym b.operands)
-    ∙ ap (λ x. measures n.instructions n.operands x m.nesting m.slots m.steps m.tokens) (a.brackets ∙ sym b.brackets)
-    ∙ ap (λ x. measures n.instructions n.operands n.brackets x m.slots m.steps m.tokens) (a.nesting ∙ sym b.nesting)
-    ∙ ap (λ x. measures n.instructions n.operands n.brackets n.nesting x m.steps m.tokens) (a.slots ∙ sym b.slots)
-    ∙ ap (λ x. measures n.instructions n.operands n.brackets n.nesting n.slots x m.tokens) (a.steps ∙ sym b.steps)
-    ∙ ap (λ x. measures n.instructions n.operands n.brackets n.nesting n.slots n.steps x) (a.tokens ∙ sym b.tokens)
+keeps callees e m o h f g p made = none_exceeded m p (formula_view e.right) (h p made) (sym f ∙ g)
 
 pub exceeds : (callees : List (List Carrier)) (e : Equation) (m : Measures) (o : Option Limit) (l : Limit) → AreMeasuresOf m callees e → o ≡ first_excess m → o ≡ Some l → Exceeds callees e l
-exceeds callees e m o l h f g p made n a =
-    ap first_excess (same_measures n m p (formula_view e.right) a (h p made)) ∙ sym f ∙ g
+exceeds callees e m o l h f g p made = exceeded_first m p (formula_view e.right) (h p made) l (sym f ∙ g)
 
 -- ---- the equations up to a place
 
 abbrev pub KeepTo : List (List Carrier) → List Equation → ℕ → Type 0
 KeepTo callees es n = (j : ℕ) (e : Equation) → j < n → slice_get es j ≡ Some e → Keeps callees e
 
-pub keep_more : (callees : List (List Carrier)) (es : List Equation) (n m : ℕ) (d : Equation) → m ≡ n + 1 → slice_get es n ≡ Some d → KeepTo callees es n → Keeps callees d → KeepTo callees es m
+keep_more : (callees : List (List Carrier)) (es : List Equation) (n m : ℕ) (d : Equation) → m ≡ n + 1 → slice_get es n ≡ Some d → KeepTo callees es n → Keeps callees d → KeepTo callees es m
 keep_more callees es n m d f here h k j e l at =
     ⊎_elim (λ (less : j < n). h j e less at) (λ (more : n ≤ j).
     let same : j ≡ n = omega arith in
     let found : Some d ≡ Some e = sym here ∙ ap (slice_get es) (sym same) ∙ at in
     let equal : d ≡ e = cc in
     subst (λ (x : Equation). Keeps callees x) equal k) (cases_lt j n)
+
+-- these are the measures of the first n equations, which keep the limits
+pub record MeasuredTo (callees : List (List Carrier)) (es : List Equation) (n : ℕ) (ms : List Measures) : Type 0 where
+  pub long : length ms ≡ n
+  pub each : (k : ℕ) (e : Equation) (m : Measures) → slice_get es k ≡ Some e → slice_get ms k ≡ Some m → AreMeasuresOf m callees e
+  pub keep : KeepTo callees es n
+
+pub measured_more : (callees : List (List Carrier)) (es : List Equation) (n : ℕ) (d : Equation) (ms more : List Measures) (m : Measures) → slice_get es n ≡ Some d → more ≡ ms ++ m ∷ []
+    → AreMeasuresOf m callees d → Keeps callees d → MeasuredTo callees es n ms → MeasuredTo callees es (n + 1) more
+measured_more callees es n d ms more m here pushed own k h = record {
+  long = let a = ap length pushed in let b = h.long in omega (arith, a, b, length-append ms (m ∷ []));
+  each = λ j e w at there.
+      ⊎_elim (λ (earlier : slice_get ms j ≡ Some w). h.each j e w at earlier)
+      (λ (last : IsPlaceAfter ms (m ∷ []) j w). one j e w at last)
+      (append_cases ms (m ∷ []) j w (ap (λ (ws : List Measures). slice_get ws j) (sym pushed) ∙ there));
+  keep = keep_more callees es n (n + 1) d refl here h.keep k;
+}
+  where
+    one : (j : ℕ) (e : Equation) (w : Measures) → slice_get es j ≡ Some e → IsPlaceAfter ms (m ∷ []) j w → AreMeasuresOf w callees e
+    one j e w at last =
+        let none = slice_get_within (m ∷ []) last.place w last.at in
+        let first : last.place ≡ 0 = omega (arith, none) in
+        let same : m ≡ w = same_Some m w (ap (slice_get (m ∷ [])) (sym first) ∙ last.at) in
+        let place : j ≡ n = let a = last.after in let b = h.long in omega (arith, a, b, first) in
+        let equal : d ≡ e = same_Some d e (sym here ∙ ap (slice_get es) (sym place) ∙ at) in
+        subst (λ (x : Measures). AreMeasuresOf x callees e) same (subst (λ (x : Equation). AreMeasuresOf m callees x) equal own)
+
+pub all_measured : (callees : List (List Carrier)) (es : List Equation) (n : ℕ) (ms : List Measures) → n ≡ length es → MeasuredTo callees es n ms → AreMeasuresOfAll callees es ms
+all_measured callees es n ms e h = record { long = h.long ∙ e; each = h.each }
 
 -- ---- texts
 

@@ -1,16 +1,14 @@
 -- A program of each of a text's equations, and what is known of all of them.
-use Rattle.std.proofs.Common.{◌≡◌, ℕ, zero, suc, ◌+◌, ◌*◌, List, [], ◌∷◌, map, length, Option, Some, None, refl, sym, ap, ◌∙◌, subst}
+use Rattle.std.proofs.Common.{◌≡◌, ℕ, zero, suc, List, [], ◌∷◌, map, length, Some, refl, sym, ap, ◌∙◌, subst}
 use Rattle.std.specs.List.{slice_get}
-use Rattle.std.specs.Prelude.{nat_lt, cond, ◌-◌}
 use Rattle.std.proofs.lemmas.List.{length-map}
 use Rattle.pb_sorts.specs.declared.carrier.Carrier.{Carrier}
 use Rattle.pb_text_meaning.specs.Syntax as syntax
 use Rattle.pb_text_meaning.specs.Syntax.{Variable, Spec}
 use Rattle.pb_typing_declarations.specs.Shapes.{Shape, sort_shape}
 use Rattle.pb_typing_declarations.specs.Entries.{carrier_shape}
-use Rattle.pb_bytecode_program.specs.Machine.{Program, carrier_of}
-use Rattle.pb_bytecode_program.specs.Counts.{LoopEffect, Enters, Leaves, Straight, loop_effect, size_of, multiplier, cost_by, cost_of, one_step, tokens_of, static_steps, static_tokens}
-use Rattle.pb_bytecode_program.specs.declared.instruction.Op.{Op}
+use Rattle.pb_bytecode_program.specs.Machine.{Program}
+use Rattle.pb_bytecode_program.specs.Counts.{one_step, tokens_of, static_steps, static_tokens}
 use Rattle.pb_normal.specs.Equations.{normal_equation}
 use Rattle.pb_normal.specs.Loops.{equation_loops, variable_shapes}
 use Rattle.pb_normal.specs.Normal.{Formula}
@@ -19,28 +17,9 @@ use Rattle.pb_normal.specs.declared.normal.Equation.{Equation}
 use Rattle.pb_assembler_scheme.specs.Scheme.{equation_code, parameters}
 use Rattle.pb_assembler_scheme.specs.Correct.{IsCompiled, quantifiers, slots_from}
 use Rattle.pb_assembler_accepted.specs.Made.{struct_counts, parameter_shapes, IsMadeOf}
+use Rattle.pb_assembler_modules.proofs.StatedCounts.{cost_same}
 use Rattle.pb_assembler.specs.MeasureEquations.{IsProgram}
 use Rattle.pb_assembler.proofs.MeasureSlots.{equation_quantifiers, slots_long}
-
--- ---- static counts do not depend on what a program states
-
-module _ (p q : Program) (parameters : p.parameters ≡ q.parameters) (loops : p.loops ≡ q.loops) where
-  carrier_same : (s : ℕ) → carrier_of p s ≡ carrier_of q s
-  carrier_same s =
-      ap (λ (cs : List Carrier). cond (nat_lt s (length cs)) None (slice_get p.loops (s - length cs))) parameters
-      ∙ ap (λ (cs : List Carrier). cond (nat_lt s (length q.parameters)) None (slice_get cs (s - length q.parameters))) loops
-
-  pub cost_same : (cost : Op → ℕ) (is : List Op) (ws : List ℕ) → cost_of p cost is ws ≡ cost_of q cost is ws
-  cost_same cost [] ws = refl
-  cost_same cost (i ∷ is) ws = by (loop_effect i) ws (cost_same cost is)
-    where
-      by : (e : LoopEffect) (vs : List ℕ) → ((us : List ℕ) → cost_of p cost is us ≡ cost_of q cost is us) → cost_by p e (cost i) vs (cost_of p cost is) ≡ cost_by q e (cost i) vs (cost_of q cost is)
-      by (Enters s) vs h =
-          ap (λ n. multiplier vs * cost i + n)
-          (ap (λ (o : Option Carrier). cost_of p cost is (multiplier vs * size_of o ∷ vs)) (carrier_same s) ∙ h (multiplier vs * size_of (carrier_of q s) ∷ vs))
-      by Leaves [] h = refl
-      by Leaves (v ∷ vs) h = ap (λ n. v * cost i + n) (h vs)
-      by Straight vs h = ap (λ n. multiplier vs * cost i + n) (h vs)
 
 -- ---- programs that state their counts
 

@@ -1,15 +1,6 @@
 -- Tallies that stop just above a million, put together.
-use Rattle.std.proofs.Common.{◌≡◌, ℕ, zero, suc, ◌+◌, ◌*◌, ◌<◌, Bool, true, false, refl, sym, ap, ◌∙◌, arith, ⊎_elim}
-use Rattle.std.specs.Prelude.{not, int_le, ◌&&◌, ℤ, is_some, cond, Some, None}
+use Rattle.std.proofs.Common.{◌≡◌, ℕ, zero, suc, ◌+◌, ◌*◌, ◌<◌, Bool, true, false, ap, ◌∙◌, arith, ⊎_elim}
 use Rattle.std.proofs.lemmas.Bool.{cases_lt}
-use Rattle.pb_intervals.specs.Interval.{IntegerInterval}
-use Rattle.pb_sorts.specs.declared.carrier.Carrier.{Carrier}
-use Rattle.pb_sorts.specs.declared.carrier.Carrier.TheVariants as carrier
-use Rattle.pb_sorts.specs.declared.carrier.Range.{Range}
-use Rattle.pb_typed_tree.specs.declared.shape.Shape.{Shape}
-use Rattle.pb_typed_tree.specs.declared.shape.Shape.TheVariants as code
-use Rattle.pb_typed_tree.specs.View.{shape_view}
-use Rattle.pb_assembler_scheme.specs.Scheme.{tested_range}
 use Rattle.pb_assembler.specs.declared.measure_load.Load.{Load}
 use Rattle.pb_assembler.specs.declared.measure_tally.Tally.{Tally}
 use Rattle.pb_assembler.specs.MeasureTerms.{capped, capped_load}
@@ -35,17 +26,6 @@ times_capped (suc n) x = ⊎_elim (λ l. above n x l) (λ g. let a : capped x �
 -- in a loop over n values
 pub steps_capped : (n s : ℕ) → capped (capped (n * capped (s + 1)) + 1) ≡ capped (1 + n * (1 + s))
 steps_capped n s = let t = times_capped n (s + 1) in let e : n * (s + 1) ≡ n * (1 + s) = ap (λ k. n * k) (omega arith) in omega (arith, t, e)
-
--- ---- tests
-
-not_within : (b : Bool) (r : ℤ × ℤ) → not b ≡ is_some (cond b None (Some r))
-not_within true r = refl
-not_within false r = refl
-
-pub tested_from : (c : Carrier) (s : Shape) (r : Range) (i : IntegerInterval) (b : Bool) → c ≡ carrier.Range r → s ≡ code.Wholes i → b ≡ (int_le r.low i.low && int_le i.high r.high) → not b ≡ is_some (tested_range c (shape_view s))
-tested_from c s r i b e f g =
-    ap not g ∙ not_within (int_le r.low i.low && int_le i.high r.high) (r.low, r.high)
-    ∙ sym (ap (λ (d : Carrier). is_some (tested_range d (shape_view s))) e ∙ ap (λ (d : Shape). is_some (tested_range (carrier.Range r) (shape_view d))) f)
 
 -- ---- tallies of parts, in the words of their measures
 

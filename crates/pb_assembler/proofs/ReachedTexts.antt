@@ -12,7 +12,8 @@ use Rattle.pb_assembler_scheme.specs.Scheme.{head}
 use Rattle.pb_assembler_accepted.specs.Limits.{formula_brackets, formula_operands}
 use Rattle.pb_assembler_accepted.specs.Made.{IsMadeOf}
 use Rattle.pb_assembler_accepted.proofs.TextEquations.{program_made}
-use Rattle.pb_assembler.specs.Reached.{AreMostBrackets, AreMostOperands, HoldWhatIsCounted, IsFullProgram}
+use Rattle.pb_assembler.specs.Reached.{AreMostBrackets, AreMostOperands, HoldsWhatIsCounted, HoldWhatIsCounted, IsFullProgram}
+use Rattle.pb_assembler.proofs.Nesting.{most_loops}
 use Rattle.pb_assembler.proofs.Reached.{operands_reached, brackets_reached}
 use Rattle.pb_assembler.proofs.ReachedBounds.{operands_bounded, brackets_bounded}
 
@@ -29,9 +30,17 @@ module _ (spec : Spec) where
     calls = equation-full spec p.callees (program_made spec X p made).callees X proper;
   }
 
-  each_holds : (E : List Equation) → AreProper spec E → All (λ (X : Equation). (p : Program) → IsMadeOf spec X p → AreMostOperands p (formula_operands (normal_equation spec X)) × AreMostBrackets p (suc (formula_brackets (head (normal_equation spec X)) (normal_equation spec X)))) E
+  holds : (X : Equation) (p : Program) → IsProper spec true (parameters_of spec X) X.right → IsMadeOf spec X p → HoldsWhatIsCounted p (normal_equation spec X)
+  holds X p proper made =
+      let full = made_full X p proper made in record {
+        operands = most_operands p (normal_equation spec X) full;
+        brackets = most_brackets p (normal_equation spec X) full;
+        loops = most_loops p (normal_equation spec X) made.compiled;
+      }
+
+  each_holds : (E : List Equation) → AreProper spec E → All (λ (X : Equation). (p : Program) → IsMadeOf spec X p → HoldsWhatIsCounted p (normal_equation spec X)) E
   each_holds [] proper k d below = absurd (omega arith)
-  each_holds (X ∷ E) proper zero d below = λ p made. let full = made_full X p proper.0 made in (most_operands p (normal_equation spec X) full, most_brackets p (normal_equation spec X) full)
+  each_holds (X ∷ E) proper zero d below = λ p made. holds X p proper.0 made
   each_holds (X ∷ E) proper (suc k) d below = each_holds E proper.1 k d (omega arith)
 
 pub texts_hold : (spec : Spec) → IsWellTyped spec → HoldWhatIsCounted spec

@@ -23,11 +23,13 @@ use Rattle.pb_normal.specs.declared.normal.Equation.{Equation}
 use Rattle.pb_assembler_scheme.specs.Correct.{IsCompiled, quantifiers}
 use Rattle.pb_assembler_scheme.specs.Scheme.{equation_code}
 use Rattle.pb_assembler_accepted.specs.Limits.{KeepsLimits}
+use Rattle.pb_assembler_accepted.proofs.Limits.{within_limits, keeps_limits}
 use Rattle.pb_assembler_accepted.specs.Made.{IsMadeOf, parameter_shapes}
 use Rattle.pb_assembler_modules.specs.Module.{AreEquationsOf}
 use Rattle.pb_assembler.specs.Compiled.{bare_program, compiled_contents, all_compiled, IsReady, AreReady}
 use Rattle.pb_normal.specs.Small.{is_small_formula}
-use Rattle.pb_assembler.proofs.MeasureMade.{cost_same, program, program_made}
+use Rattle.pb_assembler_modules.proofs.StatedCounts.{cost_same}
+use Rattle.pb_assembler.proofs.MeasureMade.{program, program_made}
 
 -- what is known of each of the equations
 pub record AreSound (spec : Spec) (E : List syntax.Equation) : Type 0 where
@@ -59,17 +61,18 @@ module _ (spec : Spec) (callees : List (List Carrier)) (calls : map shapes_of ca
         let N = normal_equation spec X in
         let steps = cost_same (coded N) P refl refl one_step (equation_code callees N) [] in
         let tokens = cost_same (coded N) P refl refl tokens_of (equation_code callees N) [] in
-        let few_steps = k.steps in
-        let few_tokens = k.tokens in
-        let here : KeepsLimits (coded N) N = record {
-          instructions = k.instructions;
-          operands = k.operands;
-          brackets = k.brackets;
-          nesting = k.nesting;
-          slots = k.slots;
+        let w = within_limits P N k in
+        let few_steps = w.steps in
+        let few_tokens = w.tokens in
+        let here : KeepsLimits (coded N) N = keeps_limits (coded N) N (record {
+          instructions = w.instructions;
+          operands = w.operands;
+          brackets = w.brackets;
+          nesting = w.nesting;
+          slots = w.slots;
           steps = omega (arith, steps, few_steps);
           tokens = omega (arith, tokens, few_tokens);
-        } in
+        }) in
         subst (λ (f : Formula). KeepsLimits (coded f) f) (sym right) here
 
   pub ready : (E : List EquationForm) (css : List (List Carrier)) (es : List Equation) → AreFormsOf spec (map erased_equation E) css es → AreSound spec (map erased_equation E) → AreReady callees css E es
@@ -88,7 +91,7 @@ module _ (spec : Spec) (callees : List (List Carrier)) (calls : map shapes_of ca
       let parameters : shapes_of cs ≡ variable_shapes spec X.parameters = cc in
       let made = program_made spec callees cs e.loops.now X calls parameters loops in
       let kept = s.kept 0 X refl (program spec callees cs e.loops.now X) made in
-      let few = kept.slots in
+      let few = (within_limits (program spec callees cs e.loops.now X) (normal_equation spec X) kept).slots in
       let count = ap length loops in
       let rest : AreFormsOf spec (map erased_equation E) css es = record { rights = cc; loops = cc; parameters = cc } in (
         record {

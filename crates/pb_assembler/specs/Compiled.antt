@@ -18,7 +18,8 @@ use Rattle.pb_assembler_scheme.specs.Scheme.{equation_code}
 use Rattle.pb_assembler_accepted.specs.Limits.{KeepsLimits}
 use Rattle.pb_normal.specs.Small.{is_small_formula}
 
--- the scheme's program of an equation whose parameters have these carriers, without sorts and stated counts
+-- the scheme's program of an equation whose parameters have these carriers, without sorts and
+-- stated counts
 abbrev pub bare_program : List (List Carrier) → List Carrier → Equation → Program
 bare_program callees parameters X = record {
   sorts = [];
@@ -31,7 +32,8 @@ bare_program callees parameters X = record {
 }
 
 -- an equation's sign, name, carriers and code, with exactly its static counts
-abbrev pub compiled_contents : List (List Carrier) → List Carrier → EquationForm → Equation → EquationContents
+abbrev pub compiled_contents :
+    List (List Carrier) → List Carrier → EquationForm → Equation → EquationContents
 compiled_contents callees parameters text X = record {
   sign = text.sign;
   name = text.name.text;
@@ -43,32 +45,41 @@ compiled_contents callees parameters text X = record {
 }
 
 -- one for each, in order
-abbrev pub all_compiled : List (List Carrier) → List (List Carrier) → List EquationForm → List Equation → List EquationContents
-all_compiled callees (cs ∷ css) (text ∷ texts) (X ∷ E) = compiled_contents callees cs text X ∷ all_compiled callees css texts E
+abbrev pub all_compiled :
+    List (List Carrier) → List (List Carrier) → List EquationForm → List Equation
+    → List EquationContents
+all_compiled callees (cs ∷ css) (text ∷ texts) (X ∷ E) =
+    compiled_contents callees cs text X ∷ all_compiled callees css texts E
 all_compiled callees css texts E = []
 
 -- ---- what may be compiled
 
 -- a struct has names that a module may have, and at most MAX_ENUMERATORS enumerators
 abbrev pub IsSort : Sort → Type 0
-IsSort (Struct es) = (length es ≤ MAX_ENUMERATORS) × (list_all (λ (e : Enumerator). is_name e.name) es ≡ true)
+IsSort (Struct es) =
+    (length es ≤ MAX_ENUMERATORS) × (list_all (λ (e : Enumerator). is_name e.name) es ≡ true)
 IsSort (Alias s) = ⊤
 
 abbrev pub AreSorts : List SortDeclaration → Type 0
 AreSorts [] = ⊤
 AreSorts (d ∷ ds) = IsSort d.sort × AreSorts ds
 
--- an equation that a module may have: its name, its numbers, its slots, and the code keeps the machine's limits
-pub record IsReady (callees : List (List Carrier)) (parameters : List Carrier) (text : EquationForm) (X : Equation) : Type 0 where
+-- an equation that a module may have: its name, its numbers, its slots, and the code keeps the
+-- machine's limits
+pub record IsReady
+    (callees : List (List Carrier)) (parameters : List Carrier) (text : EquationForm) (X : Equation)
+    : Type 0 where
   pub named : is_name text.name.text ≡ true
   pub small : is_small_formula (formula_view X.right) ≡ true
   pub slots : quantifiers (formula_view X.right) ≡ slots_from (length parameters) X.loops.now
   pub kept : KeepsLimits (bare_program callees parameters X) (formula_view X.right)
 
 -- each of them, in order
-abbrev pub AreReady : List (List Carrier) → List (List Carrier) → List EquationForm → List Equation → Type 0
+abbrev pub AreReady :
+    List (List Carrier) → List (List Carrier) → List EquationForm → List Equation → Type 0
 AreReady callees [] [] [] = ⊤
-AreReady callees (cs ∷ css) (text ∷ texts) (X ∷ E) = IsReady callees cs text X × AreReady callees css texts E
+AreReady callees (cs ∷ css) (text ∷ texts) (X ∷ E) =
+    IsReady callees cs text X × AreReady callees css texts E
 AreReady callees css texts E = ⊥
 
 -- ---- carriers, whose fields have so many bits
@@ -79,4 +90,5 @@ has_fitting_fields (carrier.Enum e) = is_byte e.sort
 has_fitting_fields (carrier.Range r) = is_i32 r.low && is_i32 r.high
 
 abbrev pub has_fitting_carriers : EquationContents → Bool
-has_fitting_carriers e = list_all has_fitting_fields e.parameters && list_all has_fitting_fields e.loops
+has_fitting_carriers e =
+    list_all has_fitting_fields e.parameters && list_all has_fitting_fields e.loops

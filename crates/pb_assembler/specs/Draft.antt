@@ -1,4 +1,5 @@
--- Code in the making: instructions, each with the label of its target if it has one, and the places of the labels so far.
+-- Code in the making: instructions, each with the label of its target if it has one, and the places
+-- of the labels so far.
 use Rattle.std.specs.Prelude.{ℕ, suc, Bool, true, false, nat_le, nat_lt, is_some, List, [], ◌∷◌, map, Option, Some, None, unwrap_or, if◌then◌else◌}
 use Rattle.std.specs.List.{slice_get, list_all, list_any}
 use Rattle.pb_bytecode_program.specs.declared.instruction.Op.{Op}

@@ -1,5 +1,5 @@
--- What it is for a builder to have emitted a piece of code: whatever places the labels still get, the instructions that
--- were added resolve to the piece's.
+-- What it is for a builder to have emitted a piece of code: whatever places the labels still get,
+-- the instructions that were added resolve to the piece's.
 use Rattle.std.specs.Prelude.{◌≡◌, ℕ, ◌<◌, ◌≤◌, ◌++◌, length, Option, Some, None, unwrap_or}
 use Rattle.pb_text_tree.specs.declared.operator.Connective.{Connective}
 use Rattle.pb_text_tree.specs.declared.operator.Connective.TheVariants as connective
@@ -12,13 +12,15 @@ use Rattle.pb_assembler.specs.Draft.{Draft, Places, open_labels, place_of, resol
 abbrev pub Keeps : Draft → Places → Type 0
 Keeps d M = (l q : ℕ) → place_of d.places l ≡ Some q → M l ≡ Some q
 
--- the second draft has the piece's instructions behind those of the first, in a block that ends at this place; the
--- labels of the first have the places that they had, and all others have one
+-- the second draft has the piece's instructions behind those of the first, in a block that ends at
+-- this place; the labels of the first have the places that they had, and all others have one
 pub record Emits (x : Piece) (end : Places → ℕ) (d d' : Draft) : Type 0 where
   pub grown : length d.places ≤ length d'.places
   pub kept : (l : ℕ) → l < length d.places → place_of d'.places l ≡ place_of d.places l
   pub settled : open_labels d'.places ≡ open_labels d.places
-  pub code : (M : Places) → Keeps d' M → resolved M d'.ops ≡ resolved M d.ops ++ flat (length d.ops) (end M) x
+  pub code :
+      (M : Places) → Keeps d' M
+      → resolved M d'.ops ≡ resolved M d.ops ++ flat (length d.ops) (end M) x
 
 -- the end of the block around, for pieces that leave none
 abbrev pub nowhere : Places → ℕ
@@ -28,7 +30,8 @@ nowhere M = 0
 abbrev pub connected_behind : Connective → Piece → Piece
 connected_behind connective.And x = Then x (Plain (op.Logic connectives.And))
 connected_behind connective.Or x = Then x (Plain (op.Logic connectives.Or))
-connected_behind connective.Implies x = Then (Then x (Plain op.Not)) (Plain (op.Logic connectives.Or))
+connected_behind connective.Implies x =
+    Then (Then x (Plain op.Not)) (Plain (op.Logic connectives.Or))
 
 -- the end of the block around, which has this label, if there is one
 abbrev pub block_end : Option ℕ → Places → ℕ

@@ -1,6 +1,7 @@
 pub mod Draft
 pub mod Emitted
 pub mod Excess
+pub mod Measures
 pub mod MeasureTerms
 pub mod MeasureEquations
 pub mod MeasureFormulas

@@ -13,10 +13,9 @@ use Rattle.pb_normal.specs.declared.normal.Equation.{Equation}
 use Rattle.pb_assembler_scheme.specs.Correct.{IsCompiled}
 use Rattle.pb_assembler_accepted.specs.Limits.{KeepsLimits}
 use Rattle.pb_assembler_accepted.specs.Made.{IsMadeOf}
-use Rattle.pb_assembler.specs.declared.first_excess.Excess.{Excess}
 use Rattle.pb_assembler.specs.declared.measures.Measures.{Measures}
 use Rattle.pb_assembler.specs.declared.measure_tally.Tally.{Tally}
-use Rattle.pb_assembler.specs.Excess.{AreMeasures, IsFirstExcess}
+use Rattle.pb_assembler.specs.Measures.{AreMeasures}
 
 -- a right side's, in its outermost bracket and with END behind it
 abbrev pub equation_measures : Tally → (slots : ℕ) → Measures
@@ -30,7 +29,8 @@ equation_measures t slots = record {
   tokens = min (2 + t.tokens) (suc MAX_TOKENS);
 }
 
--- the scheme's program of an equation: it has the equation's loops, and what it calls has parameters of these shapes
+-- the scheme's program of an equation: it has the equation's loops, and what it calls has
+-- parameters of these shapes
 pub record IsProgram (parameters : List (List Carrier)) (X : Equation) (p : Program) : Type 0 where
   pub compiled : IsCompiled p (formula_view X.right)
   pub loops : length p.loops ≡ length X.loops.now
@@ -38,13 +38,19 @@ pub record IsProgram (parameters : List (List Carrier)) (X : Equation) (p : Prog
 
 -- these are the measures of each program of the equation
 abbrev pub AreMeasuresOf : Measures → List (List Carrier) → Equation → Type 0
-AreMeasuresOf m parameters X = (p : Program) → IsProgram parameters X p → AreMeasures m p (formula_view X.right)
+AreMeasuresOf m parameters X =
+    (p : Program) → IsProgram parameters X p → AreMeasures m p (formula_view X.right)
 
 -- the code of each of a text's equations keeps the machine's limits
 abbrev pub EachKeepsLimits : Spec → Type 0
 EachKeepsLimits spec =
-    (k : ℕ) (X : syntax.Equation) → slice_get spec.equations k ≡ Some X → (p : Program) → IsMadeOf spec X p
-    → KeepsLimits p (normal_equation spec X)
+    (k : ℕ) (X : syntax.Equation) → slice_get spec.equations k ≡ Some X
+    → (p : Program) → IsMadeOf spec X p → KeepsLimits p (normal_equation spec X)
 
-abbrev pub IsExcess : Spec → Excess → Type 0
-IsExcess spec excess = IsFirstExcess spec excess.limit excess.equation
+-- these are the measures of the equations, one for each
+pub record AreMeasuresOfAll
+    (parameters : List (List Carrier)) (E : List Equation) (ms : List Measures) : Type 0 where
+  pub long : length ms ≡ length E
+  pub each :
+      (k : ℕ) (X : Equation) (m : Measures) → slice_get E k ≡ Some X → slice_get ms k ≡ Some m
+      → AreMeasuresOf m parameters X

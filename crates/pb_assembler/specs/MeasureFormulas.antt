@@ -26,15 +26,31 @@ capped_tally t = record {
 
 -- a test alone
 abbrev pub test_tally : Load → Tally
-test_tally l = record { instructions = 2 + l.instructions; operands = l.operands; brackets = 0; nesting = 0; steps = 2 + l.instructions; tokens = 1 }
+test_tally l = record {
+  instructions = 2 + l.instructions;
+  operands = l.operands;
+  brackets = 0;
+  nesting = 0;
+  steps = 2 + l.instructions;
+  tokens = 1;
+}
 
 -- a test that passes over what follows
 abbrev pub passing : Load → Tally → Tally
-passing l x = record x { instructions = 1 + (l.instructions + x.instructions); operands = max l.operands x.operands; steps = 1 + (l.instructions + x.steps) }
+passing l x = record x {
+  instructions = 1 + (l.instructions + x.instructions);
+  operands = max l.operands x.operands;
+  steps = 1 + (l.instructions + x.steps);
+}
 
 -- a test that writes the deciding leaf in place of what follows
 abbrev pub deciding : Load → Tally → Tally
-deciding l x = record x { instructions = 3 + (l.instructions + x.instructions); operands = max l.operands x.operands; steps = 3 + (l.instructions + x.steps); tokens = 1 + x.tokens }
+deciding l x = record x {
+  instructions = 3 + (l.instructions + x.instructions);
+  operands = max l.operands x.operands;
+  steps = 3 + (l.instructions + x.steps);
+  tokens = 1 + x.tokens;
+}
 
 -- a test joined by m with what follows under the bracket that is open
 abbrev pub tested_tally : (m around : Bool) → Load → Tally → Tally
@@ -44,7 +60,12 @@ tested_tally true false l x = passing l x
 tested_tally false true l x = passing l x
 
 abbrev pub bracketed_tally : Tally → Tally
-bracketed_tally x = record x { instructions = 2 + x.instructions; brackets = 1 + x.brackets; steps = 2 + x.steps; tokens = 2 + x.tokens }
+bracketed_tally x = record x {
+  instructions = 2 + x.instructions;
+  brackets = 1 + x.brackets;
+  steps = 2 + x.steps;
+  tokens = 2 + x.tokens;
+}
 
 abbrev pub under_tally : (m around : Bool) → Tally → Tally
 under_tally true true x = x
@@ -65,12 +86,21 @@ after x y = record {
 
 -- in a loop over so many values
 abbrev pub looped : ℕ → Tally → Tally
-looped n x = record x { instructions = 2 + x.instructions; nesting = 1 + x.nesting; steps = 1 + n * (1 + x.steps); tokens = n * x.tokens }
+looped n x = record x {
+  instructions = 2 + x.instructions;
+  nesting = 1 + x.nesting;
+  steps = 1 + n * (1 + x.steps);
+  tokens = n * x.tokens;
+}
 
-abbrev pub join_tally : (m around : Bool) → (f g : Option Term) → (f_around g_around f_own g_own : Tally) → Tally
-join_tally m around (Some t) g f_around g_around f_own g_own = tested_tally m around (term_load t) g_around
-join_tally m around None (Some t) f_around g_around f_own g_own = tested_tally m around (term_load t) f_around
-join_tally m around None None f_around g_around f_own g_own = under_tally m around (after f_own g_own)
+abbrev pub join_tally :
+    (m around : Bool) → (f g : Option Term) → (f_around g_around f_own g_own : Tally) → Tally
+join_tally m around (Some t) g f_around g_around f_own g_own =
+    tested_tally m around (term_load t) g_around
+join_tally m around None (Some t) f_around g_around f_own g_own =
+    tested_tally m around (term_load t) f_around
+join_tally m around None None f_around g_around f_own g_own =
+    under_tally m around (after f_own g_own)
 
 -- ---- calls
 
@@ -86,20 +116,39 @@ guard_length false false = 0
 
 -- an argument in front of those that follow it
 abbrev pub argument_load : (tested later : Bool) → Load → Load → Load
-argument_load tested later l m = record { instructions = guard_length tested later + (l.instructions + m.instructions); operands = one_kept l.operands m.operands }
+argument_load tested later l m = record {
+  instructions = guard_length tested later + (l.instructions + m.instructions);
+  operands = one_kept l.operands m.operands;
+}
 
 abbrev pub nothing : Load
 nothing = record { instructions = 0; operands = 0 }
 
 abbrev pub arguments_load : List Carrier → List Argument → Load
-arguments_load (c ∷ cs) (x ∷ xs) = argument_load (is_some (tested_range c x.shape)) (any_tested cs xs) (term_load x.term) (arguments_load cs xs)
+arguments_load (c ∷ cs) (x ∷ xs) =
+    argument_load (is_some (tested_range c x.shape)) (any_tested cs xs) (term_load x.term)
+    (arguments_load cs xs)
 arguments_load [] (x ∷ xs) = argument_load false false (term_load x.term) (arguments_load [] xs)
 arguments_load cs [] = nothing
 
 -- the call, and where there is a test the cut and the jump over it
 abbrev pub ended_call : (any : Bool) → Load → Tally
-ended_call true l = record { instructions = 3 + l.instructions; operands = l.operands; brackets = 0; nesting = 0; steps = 3 + l.instructions; tokens = 2 }
-ended_call false l = record { instructions = 1 + l.instructions; operands = l.operands; brackets = 0; nesting = 0; steps = 1 + l.instructions; tokens = 1 }
+ended_call true l = record {
+  instructions = 3 + l.instructions;
+  operands = l.operands;
+  brackets = 0;
+  nesting = 0;
+  steps = 3 + l.instructions;
+  tokens = 2;
+}
+ended_call false l = record {
+  instructions = 1 + l.instructions;
+  operands = l.operands;
+  brackets = 0;
+  nesting = 0;
+  steps = 1 + l.instructions;
+  tokens = 1;
+}
 
 abbrev pub call_tally : List Carrier → List Argument → Tally
 call_tally cs xs = ended_call (any_tested cs xs) (arguments_load cs xs)
@@ -113,9 +162,12 @@ abbrev pub formula_tally : List (List Carrier) → (around : Bool) → Formula �
 formula_tally callees around (Test t) = test_tally (term_load t)
 formula_tally callees around (Join m f g) =
     join_tally m around (test_of f) (test_of g)
-    (formula_tally callees around f) (formula_tally callees around g) (formula_tally callees m f) (formula_tally callees m g)
-formula_tally callees around (Each m s shape f) = under_tally m around (looped (shape_size shape) (formula_tally callees m f))
-formula_tally callees around (Call equation xs) = call_tally (parameters (slice_get callees equation)) xs
+    (formula_tally callees around f) (formula_tally callees around g)
+    (formula_tally callees m f) (formula_tally callees m g)
+formula_tally callees around (Each m s shape f) =
+    under_tally m around (looped (shape_size shape) (formula_tally callees m f))
+formula_tally callees around (Call equation xs) =
+    call_tally (parameters (slice_get callees equation)) xs
 
 -- ---- chains of one connective
 
@@ -144,8 +196,8 @@ leading_tests (f ∷ fs) = more_tests (test_of (formula_view f)) (leading_tests 
 abbrev pub load_by : Option Term → Option Load
 load_by o = option_map (λ t. capped_load (term_load t)) o
 
--- the kind of the bracket that is open in front of an operand behind the first, given the kind behind the first one and
--- how many tests lead
+-- the kind of the bracket that is open in front of an operand behind the first, given the kind
+-- behind the first one and how many tests lead
 abbrev pub kind_at : (m kind : Bool) → (leading place : ℕ) → Bool
 kind_at m kind leading place = if nat_le place leading then kind else m
 

@@ -49,11 +49,17 @@ followed l = record l { instructions = suc l.instructions }
 
 -- the second one behind the first one, whose value is kept
 abbrev pub both : Load → Load → Load
-both l m = record { instructions = l.instructions + m.instructions; operands = one_kept l.operands m.operands }
+both l m = record {
+  instructions = l.instructions + m.instructions;
+  operands = one_kept l.operands m.operands;
+}
 
 -- the first one, and then one of the other two
 abbrev pub chosen : Load → Load → Load → Load
-chosen c l m = record { instructions = suc (suc (c.instructions + (l.instructions + m.instructions))); operands = max c.operands (max l.operands m.operands) }
+chosen c l m = record {
+  instructions = suc (suc (c.instructions + (l.instructions + m.instructions)));
+  operands = max c.operands (max l.operands m.operands);
+}
 
 -- an operand of a connective behind the operands that follow it
 abbrev pub connected : Connective → Load → Load → Load

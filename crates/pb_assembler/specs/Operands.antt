@@ -9,8 +9,10 @@ use Rattle.pb_assembler_scheme.specs.Scheme.{test_of}
 abbrev pub Guarded : Type 0
 Guarded = Term × (normal.Formula × List normal.Formula)
 
--- The first operand if it is a test, with all behind it. Of two operands otherwise the second one, with the first one.
-abbrev pub guarded_by : Option Term → Option Term → (f g : normal.Formula) → List normal.Formula → Option Guarded
+-- The first operand if it is a test, with all behind it. Of two operands otherwise the second one,
+-- with the first one.
+abbrev pub guarded_by :
+    Option Term → Option Term → (f g : normal.Formula) → List normal.Formula → Option Guarded
 guarded_by (Some t) u f g gs = Some (t, (g, gs))
 guarded_by None (Some t) f g [] = Some (t, (f, []))
 guarded_by None (Some t) f g (h ∷ hs) = None

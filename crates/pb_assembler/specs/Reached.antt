@@ -1,8 +1,10 @@
--- Which places of the code are reached, with how many operands and open brackets, as if every test of a truth value or of
--- a range could go both ways and each loop were left after one turn.
-use Rattle.std.specs.Prelude.{◌≡◌, ◌≤◌, ◌⊎◌, ℕ, zero, suc, ◌+◌, Some, length}
+-- Which places of the code are reached, with how many operands and open brackets, as if every test
+-- of a truth value or of a range could go both ways and each loop were left after one turn; and how
+-- many loops stand around a place.
+use Rattle.std.specs.Prelude.{◌≡◌, ◌<◌, ◌≤◌, ◌⊎◌, ℕ, zero, suc, ◌+◌, Some, length}
 use Rattle.std.specs.List.{All, slice_get}
 use Rattle.pb_text_meaning.specs.Syntax.{Equation, Spec}
+use Rattle.pb_bytecode_program.specs.Counts.{loops_around}
 use Rattle.pb_bytecode_program.specs.Machine.{Program}
 use Rattle.pb_bytecode_program.specs.declared.instruction.Op.{Op}
 use Rattle.pb_bytecode_program.specs.declared.instruction.Op.TheVariants as op
@@ -10,7 +12,7 @@ use Rattle.pb_normal.specs.Equations.{normal_equation}
 use Rattle.pb_normal.specs.Normal.{Formula}
 use Rattle.pb_assembler_scheme.specs.Correct.{HasFullCalls, IsCompiled}
 use Rattle.pb_assembler_scheme.specs.Scheme.{head, parameters}
-use Rattle.pb_assembler_accepted.specs.Limits.{formula_brackets, formula_operands}
+use Rattle.pb_assembler_accepted.specs.Limits.{formula_brackets, formula_loops, formula_operands}
 use Rattle.pb_assembler_accepted.specs.Made.{IsMadeOf}
 
 -- a place, and what is held there
@@ -111,17 +113,36 @@ pub record AreMostBrackets (p : Program) (n : ℕ) : Type 0 where
   pub held : HoldsBrackets p n
   pub most : (h : Height) → IsReached p h → h.brackets ≤ n
 
+-- so many loops stand around some place
+abbrev pub HoldsLoops : Program → ℕ → Type 0
+HoldsLoops p n = (q : ℕ) × (q < length p.code) × (length (loops_around p.code q) ≡ n)
+
+-- the greatest number of loops around a place
+pub record AreMostLoops (p : Program) (n : ℕ) : Type 0 where
+  pub held : HoldsLoops p n
+  pub most : (q : ℕ) → q < length p.code → length (loops_around p.code q) ≤ n
+
 -- they are what is counted on the right side
 abbrev pub OperandsAreCounted : Type 0
-OperandsAreCounted = (p : Program) (f : Formula) → IsFullProgram p f → AreMostOperands p (formula_operands f)
+OperandsAreCounted =
+    (p : Program) (f : Formula) → IsFullProgram p f → AreMostOperands p (formula_operands f)
 
 abbrev pub BracketsAreCounted : Type 0
 BracketsAreCounted =
-    (p : Program) (f : Formula) → IsFullProgram p f → AreMostBrackets p (suc (formula_brackets (head f) f))
+    (p : Program) (f : Formula) → IsFullProgram p f
+    → AreMostBrackets p (suc (formula_brackets (head f) f))
+
+abbrev pub LoopsAreCounted : Type 0
+LoopsAreCounted =
+    (p : Program) (f : Formula) → IsCompiled p f → AreMostLoops p (formula_loops f)
 
 -- so for each equation of a text
+pub record HoldsWhatIsCounted (p : Program) (f : Formula) : Type 0 where
+  pub operands : AreMostOperands p (formula_operands f)
+  pub brackets : AreMostBrackets p (suc (formula_brackets (head f) f))
+  pub loops : AreMostLoops p (formula_loops f)
+
 abbrev pub HoldWhatIsCounted : Spec → Type 0
 HoldWhatIsCounted spec =
     All (λ (X : Equation). (p : Program) → IsMadeOf spec X p
-    → let f = normal_equation spec X in
-    AreMostOperands p (formula_operands f) × AreMostBrackets p (suc (formula_brackets (head f) f))) spec.equations
+    → HoldsWhatIsCounted p (normal_equation spec X)) spec.equations

@@ -2,7 +2,7 @@
 
 ghost use Rattle.std.specs.Prelude.{◌≡◌, ◌≤◌, ◌<◌, ◌++◌, ◌∷◌, [], true, false, length, map, IfOk};
 ghost use Rattle.std.specs.Prelude.{IfErr, OnOk, OnErr, Some, None, option_map};
-ghost use Rattle.std.specs.List.{list_any, slice_get, slice_set};
+ghost use Rattle.std.specs.List.{list_any, slice_set};
 ghost use Rattle.pb_sorts.specs.declared.limits.TheConstants.{MAX_INSTRUCTIONS};
 ghost use Rattle.pb_assembler.specs.Draft.{are_placed, are_within, is_label, is_slot_test};
 ghost use Rattle.pb_assembler.specs.Draft.{place_of, resolved, resolved_op, version_of};
@@ -95,16 +95,6 @@ fn resolve(places: &[Option<usize>], op: Op, label: Option<usize>) -> Op
 }
 
 impl Builder {
-    /// No instruction, and no label.
-    pub fn new(alloc: Global) -> Builder
-        ensures { result ≡ record { ops = []; places = [] } }
-    {
-        Builder {
-            ops: Vec::new(alloc),
-            places: Vec::new(alloc),
-        }
-    }
-
     /// No instruction, and no label, with room for so many instructions.
     ///
     /// # Errors
@@ -139,16 +129,17 @@ impl Builder {
         Ok(Label { number })
     }
 
-    /// Gives a label its place: the next instruction's.
+    /// Gives a label of this builder its place: the next instruction's.
     pub fn place(&mut self, label: Label)
-        requires { slice_get self.old.places label.number ≡ Some None }
         ensures { self.new ≡ record self.old {
           places = slice_set self.old.places label.number
               (Some (length self.old.ops));
         } }
     {
         let place = self.ops.len();
-        self.places[label.number] = Some(place);
+        if label.number < self.places.len() {
+            self.places[label.number] = Some(place);
+        }
     }
 
     /// Adds an instruction, whose target is the label's place.

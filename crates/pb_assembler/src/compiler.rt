@@ -6,21 +6,28 @@ ghost use Rattle.pb_text_meaning.specs.Erase.{erase};
 ghost use Rattle.pb_bytecode.specs.Decoded.{module_contents};
 ghost use Rattle.pb_normal.specs.Text.{said};
 ghost use Rattle.pb_assembler_modules.specs.Module.{IsCompiledModule, KeepsAllLimits};
-ghost use Rattle.pb_assembler.specs.MeasureEquations.{EachKeepsLimits};
+ghost use Rattle.pb_assembler.specs.MeasureEquations.{AreMeasuresOfAll, EachKeepsLimits};
 ghost use Rattle.pb_assembler.specs.Refusal.{IsRefusal};
 
 use crate::compile_error::CompileError;
 use crate::equation::compile_equations;
-use crate::first_excess::first_excess_of;
+use crate::first_excess::measures_within_limits;
 use crate::initial::initial;
+use crate::measures::Measures;
 use crate::sort::sorts;
 use pb_bytecode::{Module, Version};
 use pb_normal::Normal;
 use std::alloc::{AllocError, Global};
 
-/// The module of a text's normal form.
-fn module_of(alloc: Global, normal: &Normal<'_>) -> Result<Module, AllocError>
-    requires { EachKeepsLimits (said normal.now.typed.now) }
+/// The module of a text's normal form, given how much the code of each equation takes.
+fn module_of(
+    alloc: Global,
+    normal: &Normal<'_>,
+    measures: &[Measures],
+) -> Result<Module, AllocError>
+    requires kept { EachKeepsLimits (said normal.now.typed.now) }
+    requires measured { AreMeasuresOfAll normal.now.typed.now.layout normal.now.equations.items
+        measures.now }
     ensures module { IfOk result (λ m. IsCompiledModule (said normal.now.typed.now)
         (module_contents m)) }
     ensures kept { IfOk result (λ m. KeepsAllLimits (said normal.now.typed.now)
@@ -34,7 +41,7 @@ fn module_of(alloc: Global, normal: &Normal<'_>) -> Result<Module, AllocError>
     let spec = &normal.typed.spec;
     let layout = &normal.typed.layout;
     let sorts = sorts(alloc, &spec.sorts)?;
-    let equations = compile_equations(alloc, layout, &spec.equations, &normal.equations)?;
+    let equations = compile_equations(alloc, layout, &spec.equations, &normal.equations, measures)?;
     let initial = initial(alloc, normal)?;
     Ok(Module {
         version: Version::One,
@@ -62,13 +69,8 @@ pub fn compile(alloc: Global, normal: &Normal<'_>) -> Result<Module, CompileErro
     ensures refused { IfErr result
         (λ e. IsRefusal (erase (spec_form normal.now.typed.now.spec)) e) }
 {
-    if let Some(excess) = first_excess_of(normal) {
-        return Err(CompileError::Limit {
-            limit: excess.limit,
-            equation: excess.equation,
-        });
-    }
-    match module_of(alloc, normal) {
+    let measures = measures_within_limits(alloc, normal)?;
+    match module_of(alloc, normal, &measures) {
         Ok(module) => Ok(module),
         Err(error) => Err(CompileError::Memory(error)),
     }

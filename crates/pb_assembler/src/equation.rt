@@ -7,9 +7,10 @@ ghost use Rattle.pb_bytecode.specs.Views.{equation_contents};
 ghost use Rattle.pb_assembler.specs.Compiled.{all_compiled, compiled_contents};
 ghost use Rattle.pb_assembler.specs.Compiled.{has_fitting_carriers, has_fitting_fields, AreReady};
 ghost use Rattle.pb_assembler.specs.Compiled.{IsReady};
+ghost use Rattle.pb_assembler.specs.MeasureEquations.{AreMeasuresOfAll, AreMeasuresOf};
 
 use crate::code::equation_code;
-use crate::measure_equation::measure;
+use crate::measures::Measures;
 use crate::name::copy_name;
 use pb_bytecode::Equation;
 use pb_sorts::{Carrier, Layout};
@@ -36,6 +37,13 @@ fn copy_carriers(alloc: Global, carriers: &[Carrier]) -> Result<Vec<Carrier>, Al
     Ok(copies)
 }
 
+/// An equation's normal form, and how much its code takes.
+#[derive(Clone, Copy)]
+struct Measured<'a, 't> {
+    normal: &'a pb_normal::Equation<'t>,
+    measures: &'a Measures,
+}
+
 /// An equation of a text, whose normal form is given, with the carriers of its parameters and
 /// exactly its static counts.
 fn compile_equation(
@@ -43,15 +51,18 @@ fn compile_equation(
     layout: &Layout,
     parameters: &[Carrier],
     text: &pb_text_tree::Equation,
-    normal: &pb_normal::Equation<'_>,
+    measured: Measured<'_, '_>,
 ) -> Result<Equation, AllocError>
-    requires { IsReady layout.now parameters.now (equation_form text.now) normal.now }
+    requires ready { IsReady layout.now parameters.now (equation_form text.now)
+        measured.normal.now }
+    requires measured { AreMeasuresOf measured.measures.now layout.now measured.normal.now }
     ensures contents { IfOk result (λ X. equation_contents X
         ≡ compiled_contents layout.now parameters.now
-        (equation_form text.now) normal.now) }
+        (equation_form text.now) measured.entry.normal.now) }
     ensures fields { IfOk result (λ X. has_fitting_carriers (equation_contents X) ≡ true) }
 {
-    let measures = measure(layout, normal);
+    let normal = measured.normal;
+    let measures = measured.measures;
     let name = copy_name(alloc, &text.name.text)?;
     let parameters = copy_carriers(alloc, parameters)?;
     let loops = copy_carriers(alloc, normal.loops)?;
@@ -68,7 +79,8 @@ fn compile_equation(
     })
 }
 
-/// The equations of a text, whose normal forms are given, with the carriers of their parameters.
+/// The equations of a text, whose normal forms are given and measured, with the carriers of their
+/// parameters.
 ///
 /// # Errors
 /// Memory was refused.
@@ -77,9 +89,11 @@ pub(crate) fn compile_equations(
     layout: &Layout,
     texts: &[pb_text_tree::Equation],
     normals: &[pb_normal::Equation<'_>],
+    measures: &[Measures],
 ) -> Result<Vec<Equation>, AllocError>
-    requires { AreReady layout.now layout.now
+    requires ready { AreReady layout.now layout.now
         (map equation_form texts.now) normals.now }
+    requires measured { AreMeasuresOfAll layout.now normals.now measures.now }
     ensures contents { IfOk result (λ equations. map equation_contents equations.items
         ≡ all_compiled layout.now layout.now
         (map equation_form texts.now) normals.now) }
@@ -89,7 +103,9 @@ pub(crate) fn compile_equations(
     let mut equations = Vec::with_capacity(alloc, normals.len())?;
     for (place, normal) in normals.iter().enumerate() {
         let parameters = layout.carriers(place);
-        let equation = compile_equation(alloc, layout, parameters, &texts[place], normal)?;
+        let measures = &measures[place];
+        let measured = Measured { normal, measures };
+        let equation = compile_equation(alloc, layout, parameters, &texts[place], measured)?;
         equations.push(equation)?;
     }
     Ok(equations)

@@ -1,39 +1,48 @@
-//! The first equation of a text whose code exceeds a limit of the machine.
+//! How much the code of a text's equations takes, and the first equation whose code exceeds a limit
+//! of the machine.
 
-ghost use Rattle.std.specs.Prelude.{IfNone, IfSome};
+ghost use Rattle.std.specs.Prelude.{◌≡◌, ◌++◌, ◌∷◌, [], IfOk, IfErr, OnOk};
 ghost use Rattle.pb_normal.specs.Text.{said};
-ghost use Rattle.pb_assembler.specs.MeasureEquations.{EachKeepsLimits, IsExcess};
+ghost use Rattle.pb_assembler.specs.MeasureEquations.{AreMeasuresOfAll, EachKeepsLimits};
+ghost use Rattle.pb_assembler.specs.Refusal.{IsRefusal};
 
+use crate::compile_error::CompileError;
 use crate::measure_equation::measure;
-use crate::measures::first_excess;
-use pb_bytecode::Limit;
+use crate::measures::{Measures, first_excess};
 use pb_normal::Normal;
+use std::alloc::{AllocError, Global};
 
-/// A limit that the code of an equation exceeds. The equation is given by its place.
-#[derive(Clone, Copy, Debug, PartialEq, Eq)]
-pub(crate) struct Excess {
-    pub limit: Limit,
-    pub equation: usize,
+/// Adds the measures of an equation.
+fn push_measures(all: &mut Vec<Measures>, measures: Measures) -> Result<(), AllocError>
+    ensures { OnOk result (all.new.items ≡ all.old.items ++ measures ∷ []) }
+{
+    all.push(measures)?;
+    Ok(())
 }
 
-/// The first equation of a text whose code exceeds a limit, with the least of its limits.
-pub(crate) fn first_excess_of(normal: &Normal<'_>) -> Option<Excess>
-    ensures kept { IfNone result (EachKeepsLimits (said normal.now.typed.now)) }
-    ensures exceeded { IfSome result (IsExcess (said normal.now.typed.now)) }
+/// How much the code of each equation of a text takes.
+///
+/// # Errors
+/// `Limit` where the code of an equation exceeds a limit: the first such equation, with the least
+/// of its limits. `Memory` only where memory was refused.
+pub(crate) fn measures_within_limits(
+    alloc: Global,
+    normal: &Normal<'_>,
+) -> Result<Vec<Measures>, CompileError>
+    ensures measured { IfOk result (λ all. AreMeasuresOfAll normal.now.typed.now.layout
+        normal.now.equations.items all.items) }
+    ensures kept { IfOk result (λ all. EachKeepsLimits (said normal.now.typed.now)) }
+    ensures refused { IfErr result (IsRefusal (said normal.now.typed.now)) }
 {
     let layout = &normal.typed.layout;
-    let mut place = 0;
-    while place < normal.equations.len() {
-        match first_excess(&measure(layout, &normal.equations[place])) {
-            Some(limit) => {
-                return Some(Excess {
-                    limit,
-                    equation: place,
-                });
-            }
-            None => {}
+    let mut all = Vec::with_capacity(alloc, normal.equations.len())?;
+    for equation in &normal.equations {
+        let measures = measure(layout, equation);
+        if let Some(limit) = first_excess(&measures) {
+            let equation = all.len();
+            return Err(CompileError::Limit { limit, equation });
         }
-        place += 1;
+        push_measures(&mut all, measures)?;
     }
-    None
+    Ok(all)
 }

@@ -139,9 +139,12 @@ pub(crate) fn emit_formula(
             carriers,
             body,
         } => {
-            let first = *slot;
-            let slots = Slots { first, carriers };
-            emit_each(builder, layout, around, *quantifier, slots, body)
+            let loops = Loops {
+                quantifier: *quantifier,
+                first: *slot,
+                carriers,
+            };
+            emit_each(builder, layout, around, loops, body)
         }
         Formula::Call {
             equation,
@@ -171,9 +174,10 @@ fn emit_test(builder: &mut Builder, around: Junction, test: Test<'_>) -> Result<
     Ok(())
 }
 
-/// The slots from `first` on, which have these carriers.
+/// Loops over the values of the slots from `first` on, which have these carriers.
 #[derive(Clone, Copy)]
-struct Slots<'a> {
+struct Loops<'a> {
+    quantifier: Quantifier,
     first: usize,
     carriers: &'a [Carrier],
 }
@@ -184,25 +188,24 @@ fn emit_each(
     builder: &mut Builder,
     layout: &Layout,
     around: Junction,
-    quantifier: Quantifier,
-    slots: Slots<'_>,
+    loops: Loops<'_>,
     body: &Formula<'_>,
 ) -> Result<(), AllocError>
-    requires { is_small_formula (nested (is_forall quantifier) slots.first slots.carriers.now
-        (formula_view body.now)) ≡ true }
+    requires { is_small_formula (nested (is_forall loops.quantifier) loops.first
+        loops.carriers.now (formula_view body.now)) ≡ true }
     ensures { OnOk result (Emits (formula_piece layout.now (is_and around)
-        (nested (is_forall quantifier) slots.entry.first slots.entry.carriers.now
+        (nested (is_forall loops.entry.quantifier) loops.entry.first loops.entry.carriers.now
         (formula_view body.now))) nowhere builder.old builder.new) }
 {
-    if slots.carriers.is_empty() {
+    if loops.carriers.is_empty() {
         return emit_formula(builder, layout, around, body);
     }
-    let kind = junction_of(quantifier);
+    let kind = junction_of(loops.quantifier);
     if kind == around {
-        return emit_loops(builder, layout, quantifier, slots, body);
+        return emit_loops(builder, layout, loops, body);
     }
     emit_plain(builder, Op::Open(connective_of(kind)))?;
-    emit_loops(builder, layout, quantifier, slots, body)?;
+    emit_loops(builder, layout, loops, body)?;
     emit_plain(builder, Op::Close)
 }
 
@@ -211,24 +214,23 @@ fn emit_each(
 fn emit_loops(
     builder: &mut Builder,
     layout: &Layout,
-    quantifier: Quantifier,
-    slots: Slots<'_>,
+    loops: Loops<'_>,
     body: &Formula<'_>,
 ) -> Result<(), AllocError>
-    requires { is_small_formula (nested (is_forall quantifier) slots.first slots.carriers.now
-        (formula_view body.now)) ≡ true }
-    ensures { OnOk result (Emits (formula_piece layout.now (is_forall quantifier)
-        (nested (is_forall quantifier) slots.entry.first slots.entry.carriers.now
+    requires { is_small_formula (nested (is_forall loops.quantifier) loops.first
+        loops.carriers.now (formula_view body.now)) ≡ true }
+    ensures { OnOk result (Emits (formula_piece layout.now (is_forall loops.entry.quantifier)
+        (nested (is_forall loops.entry.quantifier) loops.entry.first loops.entry.carriers.now
         (formula_view body.now))) nowhere builder.old builder.new) }
 {
-    let count = slots.carriers.len();
+    let count = loops.carriers.len();
     let mut begun = 0;
     while begun < count {
-        let slot = (slots.first + begun) as u8;
+        let slot = (loops.first + begun) as u8;
         builder.emit(Op::Loop { slot }, None)?;
         begun += 1;
     }
-    emit_formula(builder, layout, junction_of(quantifier), body)?;
+    emit_formula(builder, layout, junction_of(loops.quantifier), body)?;
     let mut ended = 0;
     while ended < count {
         builder.emit(Op::Next, None)?;

@@ -4,6 +4,7 @@
 //! refused, and `specs/Emitted.antt` what it is to have emitted a piece.
 #![tactic(auto)]
 
+mod argument;
 pub mod builder;
 mod call;
 mod callee;
@@ -22,7 +23,7 @@ mod measure_load;
 pub mod measure_places;
 mod measure_tally;
 mod measure_term;
-pub mod measures;
+mod measures;
 mod name;
 mod operator;
 mod sort;
@@ -32,4 +33,3 @@ mod test;
 pub use builder::{Builder, Label};
 pub use compile_error::CompileError;
 pub use compiler::compile;
-pub use measures::Measures;

@@ -1,6 +1,6 @@
 //! How much the code of formulas takes.
 
-ghost use Rattle.std.specs.Prelude.{◌≡◌, ◌<◌, ◌||◌, ℕ, Bool, None, drop, length, map};
+ghost use Rattle.std.specs.Prelude.{◌≡◌, ◌<◌, ◌||◌, ℕ, Bool, None, length, map};
 ghost use Rattle.std.specs.List.{slice_get};
 ghost use Rattle.pb_typed_tree.specs.View.{argument_view, chained};
 ghost use Rattle.pb_normal.specs.Normal.{Call, Join};
@@ -9,15 +9,15 @@ ghost use Rattle.pb_assembler_scheme.specs.Scheme.{any_tested, parameters, test_
 ghost use Rattle.pb_assembler.specs.MeasureTerms.{capped_load};
 ghost use Rattle.pb_assembler.specs.MeasureFormulas.{arguments_load, call_tally};
 ghost use Rattle.pb_assembler.specs.MeasureFormulas.{capped_tally, form_chain, formula_tally};
-ghost use Rattle.pb_assembler.specs.MeasureFormulas.{is_tested, kind_at, kind_behind, kind_by};
-ghost use Rattle.pb_assembler.specs.MeasureFormulas.{leading_tests, load_by};
+ghost use Rattle.pb_assembler.specs.MeasureFormulas.{kind_at, kind_behind, leading_tests};
+ghost use Rattle.pb_assembler.specs.MeasureFormulas.{load_by};
 
+use crate::argument::is_tested;
 use crate::callee::parameters_of;
 use crate::formula::junction_of;
 use crate::measure_load::Load;
 use crate::measure_tally::{
-    Tally, after, argument_load, ended_call, is_tested, looped, nothing, test_tally, tested_tally,
-    under_tally,
+    Tally, after, argument_load, ended_call, looped, nothing, test_tally, tested_tally, under_tally,
 };
 use crate::measure_term::measure_term;
 use crate::test::{Test, as_test, measure_tested};
@@ -25,16 +25,6 @@ use pb_normal::{Formula, Junction};
 use pb_sorts::{Carrier, Layout};
 use pb_text_tree::Quantifier;
 use pb_typed_tree::Argument;
-
-/// Whether an argument at a place is tested for its parameter's range.
-fn tested_at(carriers: &[Carrier], place: usize, argument: &Argument) -> bool
-    ensures { result ≡ is_tested (slice_get carriers.now place) (argument_view argument.now).shape }
-{
-    match carriers.get(place) {
-        Some(carrier) => is_tested(carrier, &argument.shape),
-        None => false,
-    }
-}
 
 fn either(a: bool, b: bool) -> bool
     ensures { result ≡ (a || b) }
@@ -54,7 +44,7 @@ fn measure_arguments(carriers: &[Carrier], arguments: &[Argument]) -> (bool, Loa
     while left > 0 {
         left -= 1;
         let argument = &arguments[left];
-        let tested = tested_at(carriers, left, argument);
+        let tested = is_tested(carriers, left, argument);
         let own = measure_term(&argument.term);
         load = argument_load(tested, any, own, load);
         any = either(tested, any);
@@ -86,7 +76,7 @@ fn kind_behind(junction: Junction, around: Junction, operand: &Formula<'_>) -> J
     ensures { is_and result ≡ kind_behind (is_and junction) (is_and around)
         (formula_view operand.now) }
 {
-    match test_load(operand) {
+    match as_test(operand) {
         Some(_) => around,
         None => junction,
     }
@@ -98,7 +88,7 @@ fn leading_tests(operands: &[Formula<'_>]) -> usize
 {
     let mut count = 0;
     while count < operands.len() {
-        match test_load(&operands[count]) {
+        match as_test(&operands[count]) {
             Some(_) => {}
             None => return count,
         }
@@ -178,27 +168,26 @@ struct Chain {
     around: Junction,
 }
 
-/// An operand of a chain in front of those from a place on, which are measured.
+/// An operand of a chain in front of those behind it, which are measured.
 #[cycle(formulas)]
 fn measure_link(
     layout: &Layout,
     chain: Chain,
     operand: &Formula<'_>,
-    operands: &[Formula<'_>],
-    place: usize,
+    behind: &[Formula<'_>],
     rest: Tally,
 ) -> Tally
-    requires some { place < length operands.now }
+    requires some { 0 < length behind.now }
     requires rest { rest ≡ capped_tally (formula_tally layout.now
         (kind_behind (is_and chain.junction) (is_and chain.around) (formula_view operand.now))
-        (form_chain (is_and chain.junction) (drop place operands.now))) }
+        (form_chain (is_and chain.junction) behind.now)) }
     ensures { result ≡ capped_tally (formula_tally layout.now (is_and chain.around)
         (Join (is_and chain.junction) (formula_view operand.now)
-        (form_chain (is_and chain.junction) (drop place operands.now)))) }
+        (form_chain (is_and chain.junction) behind.now))) }
 {
     match test_load(operand) {
         Some(load) => tested_tally(chain.junction, chain.around, load, rest),
-        None => measure_untested(layout, chain, operand, operands, place, rest),
+        None => measure_untested(layout, chain, operand, behind, rest),
     }
 }
 
@@ -208,20 +197,19 @@ fn measure_untested(
     layout: &Layout,
     chain: Chain,
     operand: &Formula<'_>,
-    operands: &[Formula<'_>],
-    place: usize,
+    behind: &[Formula<'_>],
     rest: Tally,
 ) -> Tally
-    requires some { place < length operands.now }
+    requires some { 0 < length behind.now }
     requires untested { None ≡ load_by (test_of (formula_view operand.now)) }
     requires rest { rest ≡ capped_tally (formula_tally layout.now
         (kind_behind (is_and chain.junction) (is_and chain.around) (formula_view operand.now))
-        (form_chain (is_and chain.junction) (drop place operands.now))) }
+        (form_chain (is_and chain.junction) behind.now)) }
     ensures { result ≡ capped_tally (formula_tally layout.now (is_and chain.around)
         (Join (is_and chain.junction) (formula_view operand.now)
-        (form_chain (is_and chain.junction) (drop place operands.now)))) }
+        (form_chain (is_and chain.junction) behind.now))) }
 {
-    match last_test(operands, place) {
+    match only_test(behind) {
         Some(load) => {
             let own = measure_formula(layout, chain.around, operand);
             tested_tally(chain.junction, chain.around, load, own)
@@ -262,21 +250,20 @@ fn measure_join(
             junction,
             around: own,
         };
-        tally = measure_link(layout, chain, &rest[left], rest, behind, tally);
+        tally = measure_link(layout, chain, &rest[left], &rest[behind..], tally);
     }
     let chain = Chain { junction, around };
-    measure_link(layout, chain, first, rest, 0, tally)
+    measure_link(layout, chain, first, rest, tally)
 }
 
-/// The load of the operand at a place, where it is the last one and a test.
-fn last_test(operands: &[Formula<'_>], place: usize) -> Option<Load>
-    requires { place < length operands.now }
-    ensures { (joined : Bool) → result ≡ load_by
-        (test_of (form_chain joined (drop place operands.now))) }
+/// The load of the only operand, where it is a test.
+fn only_test(operands: &[Formula<'_>]) -> Option<Load>
+    requires { 0 < length operands.now }
+    ensures { (joined : Bool) → result ≡ load_by (test_of (form_chain joined operands.now)) }
 {
-    if operands.len() - place > 1 {
+    if operands.len() > 1 {
         None
     } else {
-        test_load(&operands[place])
+        test_load(&operands[0])
     }
 }

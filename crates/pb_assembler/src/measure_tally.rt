@@ -1,9 +1,7 @@
 //! How much the code of formulas takes, counted no further than just above a million.
 
-ghost use Rattle.std.specs.Prelude.{◌≡◌, ◌*◌, ◌&&◌, int_le, is_some};
+ghost use Rattle.std.specs.Prelude.{◌≡◌, ◌*◌};
 ghost use Rattle.pb_normal.specs.View.{is_and};
-ghost use Rattle.pb_assembler_scheme.specs.Scheme.{tested_range};
-ghost use Rattle.pb_typed_tree.specs.View.{shape_view};
 ghost use Rattle.pb_assembler.specs.MeasureTerms.{capped, capped_load};
 ghost use Rattle.pb_assembler.specs.MeasureFormulas.{after, argument_load, bracketed_tally};
 ghost use Rattle.pb_assembler.specs.MeasureFormulas.{capped_tally, deciding, ended_call, looped};
@@ -11,10 +9,7 @@ ghost use Rattle.pb_assembler.specs.MeasureFormulas.{nothing, passing, test_tall
 ghost use Rattle.pb_assembler.specs.MeasureFormulas.{under_tally};
 
 use crate::measure_load::{Load, add};
-use pb_intervals::Interval;
 use pb_normal::Junction;
-use pb_sorts::{Carrier, Range};
-use pb_typed_tree::Shape;
 
 /// How many instructions, steps and tokens a formula's code has, and how many operands, brackets
 /// and loops it holds open at most.
@@ -152,24 +147,6 @@ pub(crate) fn looped(count: u64, body: Tally) -> Tally
         nesting: add(body.nesting, 1),
         steps: add(times(count, add(body.steps, 1)), 1),
         tokens: times(count, body.tokens),
-    }
-}
-
-/// Whether an interval lies within a range.
-fn is_inside(range: &Range, known: &Interval) -> bool
-    ensures { result
-        ≡ (int_le range.now.low known.now.low && int_le known.now.high range.now.high) }
-{
-    range.low as i64 <= known.low() && known.high() <= range.high as i64
-}
-
-/// Whether an argument is tested for its parameter's range.
-pub(crate) fn is_tested(carrier: &Carrier, known: &Shape) -> bool
-    ensures { result ≡ is_some (tested_range carrier.now (shape_view known.now)) }
-{
-    match (carrier, known) {
-        (Carrier::Range(range), Shape::Wholes(known)) => { !is_inside(range, known) }
-        _ => false,
     }
 }
 

@@ -1,7 +1,7 @@
 //! How much an equation's code takes of the machine's limits, and the first that it exceeds.
 
 ghost use Rattle.std.specs.Prelude.{◌≡◌};
-ghost use Rattle.pb_assembler.specs.Excess.{first_excess};
+ghost use Rattle.pb_assembler.specs.Measures.{first_excess};
 
 use pb_bytecode::Limit;
 use pb_bytecode_program::{MAX_BRACKETS, MAX_LOOPS, MAX_OPERANDS, MAX_STEPS, MAX_TOKENS};
@@ -10,7 +10,7 @@ use pb_sorts::{MAX_INSTRUCTIONS, MAX_LOOP_SLOTS};
 /// How much an equation's code takes of each. What is above a limit is counted no further than just
 /// above it.
 #[derive(Clone, Copy, Debug, PartialEq, Eq)]
-pub struct Measures {
+pub(crate) struct Measures {
     pub instructions: u32,
     pub operands: u32,
     pub brackets: u32,

@@ -29,7 +29,7 @@ use Rattle.pb_bytecode_program.specs.Transfer.{abstract_slot}
 use Rattle.pb_bytecode_program.specs.Accepted.{CoversEach, CoversLoops}
 use Rattle.pb_bytecode_program.specs.declared.instruction.Arithmetic.{Arithmetic}
 use Rattle.pb_bytecode_program.specs.declared.instruction.Arithmetic.TheVariants as arithmetic
-use Rattle.pb_normal.specs.Normal.{Term, Number, Slot, Negative, Absolute, Successor, Predecessor, Binary, Maximum, Minimum, Choice, Recognised}
+use Rattle.pb_normal.specs.Normal.{Term, Slot, Negative, Absolute, Successor, Predecessor, Binary, Maximum, Minimum, Choice, Recognised}
 use Rattle.pb_normal.specs.Normalisation as made
 use Rattle.pb_normal.specs.Normalisation.{Slotting, slotted, slotted_all, applied_to_one, applied_to_two, applied_to_three, applied}
 use Rattle.pb_assembler_accepted.specs.Made.{struct_counts}

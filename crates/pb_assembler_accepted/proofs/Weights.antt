@@ -140,7 +140,7 @@ module _ (p : Program) where
   formula_straight callees (Each m s shape f) around = under_straight m around _ (formula_straight callees f m)
   formula_straight callees (Call equation xs) around = call_straight equation (parameters (slice_get callees equation)) xs
 
-  equation_straight : (callees : List (List Carrier)) (f : Formula) → IsStraight p (equation_piece callees f)
+  pub equation_straight : (callees : List (List Carrier)) (f : Formula) → IsStraight p (equation_piece callees f)
   equation_straight callees f = ((refl, (formula_straight callees f (head f), refl)), refl)
 
 -- ---- programs of the scheme

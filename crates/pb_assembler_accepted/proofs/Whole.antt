@@ -21,6 +21,7 @@ use Rattle.pb_assembler_scheme.specs.Correct.{IsCompiled}
 use Rattle.pb_assembler_scheme.proofs.Flat as code
 use Rattle.pb_assembler_scheme.proofs.Whole.{equation_stands}
 use Rattle.pb_assembler_accepted.specs.Limits.{KeepsLimits}
+use Rattle.pb_assembler_accepted.proofs.Limits.{IsWithinLimits, within_limits}
 use Rattle.pb_assembler_accepted.proofs.Tables.{Flows, states, HasStates, long, first, noted_front, noted_back, each_in, each_both, each_one, EachIn, around_end}
 use Rattle.pb_assembler_accepted.proofs.Formulas.{TypedFormula, Settled, formula_flows}
 use Rattle.pb_assembler_accepted.proofs.Calls.{calls_flow}
@@ -35,7 +36,10 @@ pub parameters_solid : Program → (cs : List Carrier) → AreInhabited cs → C
 parameters_solid p [] h = tt
 parameters_solid p (c ∷ cs) h = (self_covers c h.0, parameters_solid p cs h.1)
 
-module _ (p : Program) (f : Formula) (compiled : IsCompiled p f) (typed : TypedFormula p [] (map abstraction_of p.parameters) f) (inhabited : AreInhabited p.parameters) (limits : KeepsLimits p f) where
+module _ (p : Program) (f : Formula) (compiled : IsCompiled p f) (typed : TypedFormula p [] (map abstraction_of p.parameters) f) (inhabited : AreInhabited p.parameters) (kept : KeepsLimits p f) where
+  limits : IsWithinLimits p f
+  limits = within_limits p f kept
+
   abbrev inner : Piece
   inner = formula_piece p.callees (head f) f
 

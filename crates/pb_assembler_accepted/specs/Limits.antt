@@ -1,12 +1,14 @@
--- The limits of the machine, of an equation's program and the right side that it is made of. How many operands, brackets
--- and loops are open at once is counted on the right side, as if every test of a truth value or of a range could go both
--- ways.
-use Rattle.std.specs.Prelude.{ℕ, suc, ◌≤◌, max, Bool, true, false, List, [], ◌∷◌, length, Option, Some, None}
+-- The limits of the machine, of an equation's program and the right side that it is made of. How
+-- many operands, brackets and loops are open at once is counted on the right side, as if every test
+-- of a truth value or of a range could go both ways.
+use Rattle.std.specs.Prelude.{◌≡◌, ℕ, suc, nat_lt, max, Bool, true, false, ◌||◌, List, [], ◌∷◌, length, Option, Some, None}
 use Rattle.pb_sorts.specs.declared.limits.TheConstants.{MAX_LOOP_SLOTS, MAX_INSTRUCTIONS}
 use Rattle.pb_text_meaning.specs.Syntax.{Operator}
 use Rattle.pb_bytecode_program.specs.declared.limits.TheConstants.{MAX_OPERANDS, MAX_BRACKETS, MAX_LOOPS, MAX_STEPS, MAX_TOKENS}
 use Rattle.pb_bytecode_program.specs.Machine.{Program}
 use Rattle.pb_bytecode_program.specs.Counts.{static_steps, static_tokens}
+use Rattle.pb_bytecode.specs.declared.limit.Limit.{Limit}
+use Rattle.pb_bytecode.specs.declared.limit.Limit.TheVariants as limit
 use Rattle.pb_normal.specs.Normal.{Term, Number, Slot, Negative, Absolute, Successor, Predecessor, Binary, Maximum, Minimum, Choice, Recognised, Argument, Formula, Test, Join, Each, Call}
 use Rattle.pb_assembler_scheme.specs.Scheme.{test_of, head}
 
@@ -60,18 +62,22 @@ brackets_under false false n = n
 brackets_under true false n = suc n
 brackets_under false true n = suc n
 
--- those of two operands joined by m, given each one's under the bracket that is open and under one of kind m
-abbrev pub join_brackets : (m around : Bool) → (f g : Option Term) → (f_around g_around f_own g_own : ℕ) → ℕ
+-- those of two operands joined by m, given each one's under the bracket that is open and under one
+-- of kind m
+abbrev pub join_brackets :
+    (m around : Bool) → (f g : Option Term) → (f_around g_around f_own g_own : ℕ) → ℕ
 join_brackets m around (Some t) g f_around g_around f_own g_own = g_around
 join_brackets m around None (Some t) f_around g_around f_own g_own = f_around
-join_brackets m around None None f_around g_around f_own g_own = brackets_under m around (max f_own g_own)
+join_brackets m around None None f_around g_around f_own g_own =
+    brackets_under m around (max f_own g_own)
 
 -- how many brackets a formula's code opens within the one that is open
 abbrev pub formula_brackets : (around : Bool) → Formula → ℕ
 formula_brackets around (Test t) = 0
 formula_brackets around (Join m f g) =
     join_brackets m around (test_of f) (test_of g)
-    (formula_brackets around f) (formula_brackets around g) (formula_brackets m f) (formula_brackets m g)
+    (formula_brackets around f) (formula_brackets around g)
+    (formula_brackets m f) (formula_brackets m g)
 formula_brackets around (Each m s shape f) = brackets_under m around (formula_brackets m f)
 formula_brackets around (Call equation xs) = 0
 
@@ -84,13 +90,18 @@ formula_loops (Join m f g) = max (formula_loops f) (formula_loops g)
 formula_loops (Each m s shape f) = suc (formula_loops f)
 formula_loops (Call equation xs) = 0
 
--- ---- all limits, in the order of their rules
+-- ---- all limits
 
+-- whether the program of this right side exceeds a limit
+abbrev pub exceeds : Program → Formula → Limit → Bool
+exceeds p f limit.Instructions = nat_lt MAX_INSTRUCTIONS (length p.code)
+exceeds p f limit.Operands = nat_lt MAX_OPERANDS (formula_operands f)
+exceeds p f limit.Brackets = nat_lt MAX_BRACKETS (suc (formula_brackets (head f) f))
+exceeds p f limit.Loops =
+    nat_lt MAX_LOOPS (formula_loops f) || nat_lt MAX_LOOP_SLOTS (length p.loops)
+exceeds p f limit.Steps = nat_lt MAX_STEPS (static_steps p)
+exceeds p f limit.Tokens = nat_lt MAX_TOKENS (static_tokens p)
+
+-- it exceeds none
 pub record KeepsLimits (p : Program) (f : Formula) : Type 0 where
-  pub instructions : length p.code ≤ MAX_INSTRUCTIONS
-  pub operands : formula_operands f ≤ MAX_OPERANDS
-  pub brackets : suc (formula_brackets (head f) f) ≤ MAX_BRACKETS
-  pub nesting : formula_loops f ≤ MAX_LOOPS
-  pub slots : length p.loops ≤ MAX_LOOP_SLOTS
-  pub steps : static_steps p ≤ MAX_STEPS
-  pub tokens : static_tokens p ≤ MAX_TOKENS
+  pub none : (l : Limit) → exceeds p f l ≡ false

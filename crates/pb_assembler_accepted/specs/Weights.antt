@@ -1,5 +1,5 @@
--- What a piece's code costs, in the loops that it has: instruction by instruction, a loop's body as often as the slot's
--- carrier has values.
+-- What a piece's code costs, in the loops that it has: instruction by instruction, a loop's body as
+-- often as the slot's carrier has values.
 use Rattle.std.specs.Prelude.{ℕ, ◌+◌, ◌*◌}
 use Rattle.pb_bytecode_program.specs.Machine.{Program, carrier_of}
 use Rattle.pb_bytecode_program.specs.Counts.{size_of}
@@ -14,7 +14,8 @@ weight p cost jump (Plain i) = cost i
 weight p cost jump (Then a b) = weight p cost jump a + weight p cost jump b
 weight p cost jump (Unless on a) = jump + weight p cost jump a
 weight p cost jump (Choose on a b) = jump + (weight p cost jump a + (jump + weight p cost jump b))
-weight p cost jump (Repeat s a) = cost (op.Loop s) + size_of (carrier_of p s) * (weight p cost jump a + cost op.Next)
+weight p cost jump (Repeat s a) =
+    cost (op.Loop s) + size_of (carrier_of p s) * (weight p cost jump a + cost op.Next)
 weight p cost jump (Block a) = weight p cost jump a
 weight p cost jump Leave = jump
 weight p cost jump (Guard low high a) = jump + (weight p cost jump a + cost op.Pop)

@@ -15,17 +15,24 @@ use Rattle.pb_bytecode.specs.Contents.{EquationContents, Contents}
 use Rattle.pb_bytecode.specs.Meaning.{signature_of, number_at, answer}
 use Rattle.pb_assembler_scheme.specs.Correct.{number_in}
 
--- under every environment of numbers, each instance's tree is true exactly where the text's equation holds there
+-- under every environment of numbers, each instance's tree is true exactly where the text's
+-- equation holds there
 abbrev pub TreesHold : Spec → Contents → (ℕ → Tree) → Type 0
 TreesHold spec m trees =
-    (k : ℕ) (X : Equation) (e : EquationContents) (values : Tuple) → slice_get spec.equations k ≡ Some X → slice_get m.equations k ≡ Some e → AreArguments e.parameters values
-    → (numbers : Environment ℕ) (t : Environment Instance) → Matches (is_instance spec) (number_in spec) numbers t
-    → tree_truth numbers (trees (number_at m k values)) ≡ (equation_of spec X).holds (record { name = X.name; values = values }) t
+    (k : ℕ) (X : Equation) (e : EquationContents) (values : Tuple)
+    → slice_get spec.equations k ≡ Some X → slice_get m.equations k ≡ Some e
+    → AreArguments e.parameters values
+    → (numbers : Environment ℕ) (t : Environment Instance)
+    → Matches (is_instance spec) (number_in spec) numbers t
+    → tree_truth numbers (trees (number_at m k values))
+    ≡ (equation_of spec X).holds (record { name = X.name; values = values }) t
 
 -- each instance of the text is true exactly where its number is
 abbrev pub SolutionsMatch : Spec → Contents → (ℕ → Tree) → Type 0
 SolutionsMatch spec m trees =
-    (i : Instance) → is_instance spec i ≡ true → solved (map signature_of m.equations) trees (number_in spec i) ≡ solution (equations_of spec) empty i
+    (i : Instance) → is_instance spec i ≡ true
+    → solved (map signature_of m.equations) trees (number_in spec i)
+    ≡ solution (equations_of spec) empty i
 
 pub record SaysTheSame (spec : Spec) (m : Contents) (trees : ℕ → Tree) : Type 0 where
   pub answer : answer m trees ≡ text.answer spec

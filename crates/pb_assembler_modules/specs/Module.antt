@@ -1,5 +1,5 @@
--- The module that the compile scheme makes of a text: its sorts, signs, names, carriers and initial instance are those of
--- the text, and the code of each equation is the scheme's.
+-- The module that the compile scheme makes of a text: its sorts, signs, names, carriers and initial
+-- instance are those of the text, and the code of each equation is the scheme's.
 use Rattle.std.specs.Prelude.{◌≡◌, ⊤, List, [], ◌∷◌, map}
 use Rattle.std.specs.List.{position_or_len}
 use Rattle.pb_text_meaning.specs.Syntax.{same_name, Enumerator, Sort, Struct, Alias, SortDeclaration, Equation, Spec}
@@ -22,7 +22,8 @@ abbrev pub struct_names : List SortDeclaration → List SortContents
 struct_names [] = []
 struct_names (d ∷ ds) = with_names d.sort (struct_names ds)
 
-pub record IsEquationOf (spec : Spec) (m : Contents) (X : Equation) (e : EquationContents) : Type 0 where
+pub record IsEquationOf (spec : Spec) (m : Contents) (X : Equation) (e : EquationContents)
+    : Type 0 where
   pub sign : e.sign ≡ X.sign
   pub name : e.name ≡ X.name
   pub parameters : shapes_of e.parameters ≡ variable_shapes spec X.parameters
@@ -39,12 +40,15 @@ pub record IsCompiledModule (spec : Spec) (m : Contents) : Type 0 where
   pub version : m.version ≡ version.One
   pub sorts : m.sorts ≡ struct_names spec.sorts
   pub equations : AreEquationsOf spec m spec.equations m.equations
-  pub initial : m.initial.equation ≡ position_or_len (λ (X : Equation). same_name X.name spec.initial) spec.equations
+  pub initial :
+      m.initial.equation
+      ≡ position_or_len (λ (X : Equation). same_name X.name spec.initial) spec.equations
   pub values : m.initial.values ≡ values spec [] spec.arguments
 
 -- the code of each equation keeps the machine's limits
 abbrev pub KeepLimits : Spec → Contents → List Equation → List EquationContents → Type 0
-KeepLimits spec m (X ∷ E) (e ∷ es) = KeepsLimits (program_of m e) (normal_equation spec X) × KeepLimits spec m E es
+KeepLimits spec m (X ∷ E) (e ∷ es) =
+    KeepsLimits (program_of m e) (normal_equation spec X) × KeepLimits spec m E es
 KeepLimits spec m E es = ⊤
 
 abbrev pub KeepsAllLimits : Spec → Contents → Type 0

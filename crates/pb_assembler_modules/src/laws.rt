@@ -37,3 +37,9 @@ pub fn compiled_modules_have_the_answer()
     pb_assembler_accepted::made_programs_are_the_schemes();
     pb_assembler_scheme::compiled_equations_decide();
 }
+
+/// A specification has at most one module that the scheme makes of it.
+pub fn compiled_modules_are_unique()
+    ensures { (spec : Spec) (m n : Contents) → IsCompiledModule spec m → IsCompiledModule spec n
+        → m ≡ n }
+{}

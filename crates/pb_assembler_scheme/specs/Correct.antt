@@ -30,8 +30,8 @@ abbrev pub slots_from : ℕ → List Carrier → List (ℕ × Shape)
 slots_from n [] = []
 slots_from n (c ∷ cs) = (n, carrier_shape (Some c)) ∷ slots_from (suc n) cs
 
--- the scheme's program for an equation with this right side: its code, a slot behind the parameters for each quantifier
--- in order, and exactly the static counts
+-- the scheme's program for an equation with this right side: its code, a slot behind the parameters
+-- for each quantifier in order, and exactly the static counts
 pub record IsCompiled (p : Program) (f : Formula) : Type 0 where
   pub code : p.code ≡ equation_code p.callees f
   pub slots : quantifiers f ≡ slots_from (length p.parameters) p.loops
@@ -62,20 +62,25 @@ pub record Declares (spec : Spec) (callees : List (List Carrier)) : Type 0 where
 -- an instance's number; its equation is the first one of its name
 abbrev pub number_in : Spec → Instance → ℕ
 number_in spec i =
-    number_of (all_carriers spec) (record { equation = position_or_len (λ (X : Equation). same_name X.name i.name) spec.equations; values = i.values })
+    number_of (all_carriers spec) (record {
+      equation = position_or_len (λ (X : Equation). same_name X.name i.name) spec.equations;
+      values = i.values;
+    })
 
--- where an instance counts as true exactly if its number does, the tree has the truth of the formula, the first slots
--- holding these values
+-- where an instance counts as true exactly if its number does, the tree has the truth of the
+-- formula, the first slots holding these values
 abbrev pub HasTruth : Spec → Formula → Tuple → Tree → Type 0
 HasTruth spec f tuple tree =
-    (numbers : Environment ℕ) (t : Environment Instance) → Matches (is_instance spec) (number_in spec) numbers t
+    (numbers : Environment ℕ) (t : Environment Instance)
+    → Matches (is_instance spec) (number_in spec) numbers t
     → tree_truth numbers tree ≡ truth spec (slots_of tuple) t f
 
 -- ---- runs
 
 -- no run on these values faults
 abbrev pub IsFaultless : Program → Tuple → Type 0
-IsFaultless p tuple = (n : ℕ) (fault : MachineFault) → run p n (start (arguments p.parameters tuple)) ≢ Faults fault
+IsFaultless p tuple =
+    (n : ℕ) (fault : MachineFault) → run p n (start (arguments p.parameters tuple)) ≢ Faults fault
 
 -- the run on these values ends with the tokens of a tree that has the formula's truth
 pub record Decides (spec : Spec) (p : Program) (f : Formula) (tuple : Tuple) : Type 0 where

@@ -25,5 +25,7 @@ pub record IsProgramOf (spec : Spec) (X : Equation) (p : Program) : Type 0 where
 abbrev pub DecidesEquation : Spec → Equation → Program → Type 0
 DecidesEquation spec X p =
     (tuple : Tuple) (tree : Tree) → AreArguments p.parameters tuple → EndsWith p tuple tree
-    → (numbers : Environment ℕ) (t : Environment Instance) → Matches (is_instance spec) (number_in spec) numbers t
-    → tree_truth numbers tree ≡ (equation_of spec X).holds (record { name = X.name; values = tuple }) t
+    → (numbers : Environment ℕ) (t : Environment Instance)
+    → Matches (is_instance spec) (number_in spec) numbers t
+    → tree_truth numbers tree
+    ≡ (equation_of spec X).holds (record { name = X.name; values = tuple }) t

@@ -29,7 +29,10 @@ abbrev pub letter : List ℕ → syntax.Enumerator
 letter name = record { name = name; recogniser = None }
 
 abbrev pub letters : syntax.SortDeclaration
-letters = record { name = codes "D"; sort = syntax.Struct (letter (codes "a") ∷ (letter (codes "b") ∷ (letter (codes "c") ∷ []))) }
+letters = record {
+  name = codes "D";
+  sort = syntax.Struct (letter (codes "a") ∷ (letter (codes "b") ∷ (letter (codes "c") ∷ [])));
+}
 
 abbrev pub others_equation : Equation
 others_equation = record {
@@ -38,7 +41,8 @@ others_equation = record {
   parameters = record { name = codes "d"; sort = codes "D" } ∷ [];
   right = syntax.Formula.Quantified Forall (record { name = codes "e"; sort = codes "D" } ∷ [])
       (syntax.Formula.Implies
-      (syntax.Formula.Val (syntax.Binary Operator.NotEqual (syntax.Named (codes "e")) (syntax.Named (codes "d"))))
+      (syntax.Formula.Val
+      (syntax.Binary Operator.NotEqual (syntax.Named (codes "e")) (syntax.Named (codes "d"))))
       (syntax.Formula.Call (codes "X") (syntax.Then (syntax.Named (codes "e")) syntax.NoTerms)));
 }
 
@@ -54,7 +58,8 @@ others_spec = record {
 abbrev pub others_form : Formula
 others_form =
     Each true 1 (Places 0 3)
-    (Join false (Test (Term.Not (Binary Operator.NotEqual (Slot 1) (Slot 0)))) (Call 0 (record { term = Slot 1; shape = Places 0 3 } ∷ [])))
+    (Join false (Test (Term.Not (Binary Operator.NotEqual (Slot 1) (Slot 0))))
+    (Call 0 (record { term = Slot 1; shape = Places 0 3 } ∷ [])))
 
 abbrev pub others_code : List Op
 others_code =
@@ -89,7 +94,9 @@ others_program = record {
 pub record OthersAreCompiled : Type 0 where
   pub form : normal_equation others_spec others_equation ≡ others_form
   pub program : IsProgramOf others_spec others_equation others_program
-  pub at_b : run others_program 28 (start (arguments others_program.parameters (pos 1 ∷ []))) ≡ Ends (token.And ∷ (token.Call 0 ∷ (token.Call 2 ∷ (token.Close ∷ []))))
+  pub at_b :
+      run others_program 28 (start (arguments others_program.parameters (pos 1 ∷ [])))
+      ≡ Ends (token.And ∷ (token.Call 0 ∷ (token.Call 2 ∷ (token.Close ∷ []))))
 
 -- ---- %range Int 0 9; mu X(n: Int) = val(n == 0) || X(n - 1)
 
@@ -99,8 +106,11 @@ countdown_equation = record {
   name = codes "X";
   parameters = record { name = codes "n"; sort = codes "Int" } ∷ [];
   right = syntax.Formula.Or
-      (syntax.Formula.Val (syntax.Binary Operator.Equal (syntax.Named (codes "n")) (syntax.Number 0)))
-      (syntax.Formula.Call (codes "X") (syntax.Then (syntax.Binary Operator.Minus (syntax.Named (codes "n")) (syntax.Number 1)) syntax.NoTerms));
+      (syntax.Formula.Val
+      (syntax.Binary Operator.Equal (syntax.Named (codes "n")) (syntax.Number 0)))
+      (syntax.Formula.Call (codes "X")
+      (syntax.Then (syntax.Binary Operator.Minus (syntax.Named (codes "n")) (syntax.Number 1))
+      syntax.NoTerms));
 }
 
 abbrev pub countdown_spec : Spec
@@ -115,7 +125,11 @@ countdown_spec = record {
 abbrev pub countdown_form : Formula
 countdown_form =
     Join false (Test (Binary Operator.Equal (Slot 0) (Number 0)))
-    (Call 0 (record { term = Binary Operator.Minus (Slot 0) (Number 1); shape = Wholes (negsuc 0) (pos 8) } ∷ []))
+    (Call 0
+    (record {
+      term = Binary Operator.Minus (Slot 0) (Number 1);
+      shape = Wholes (negsuc 0) (pos 8);
+    } ∷ []))
 
 abbrev pub countdown_code : List Op
 countdown_code =
@@ -139,7 +153,11 @@ countdown_code =
     ∷ []))))))))))))))))
 
 abbrev pub digit_carrier : Carrier
-digit_carrier = carrier.Range (record { low = pos 0; high = pos 9; not_empty = le_true (pos 0) (pos 9) refl })
+digit_carrier = carrier.Range (record {
+  low = pos 0;
+  high = pos 9;
+  not_empty = le_true (pos 0) (pos 9) refl;
+})
 
 abbrev pub countdown_program : Program
 countdown_program = record {
@@ -155,5 +173,9 @@ countdown_program = record {
 pub record CountdownIsCompiled : Type 0 where
   pub form : normal_equation countdown_spec countdown_equation ≡ countdown_form
   pub program : IsProgramOf countdown_spec countdown_equation countdown_program
-  pub at_0 : run countdown_program 17 (start (arguments countdown_program.parameters (pos 0 ∷ []))) ≡ Ends (token.Or ∷ (token.Yes ∷ (token.Close ∷ [])))
-  pub at_9 : run countdown_program 17 (start (arguments countdown_program.parameters (pos 9 ∷ []))) ≡ Ends (token.Or ∷ (token.Call 8 ∷ (token.Close ∷ [])))
+  pub at_0 :
+      run countdown_program 17 (start (arguments countdown_program.parameters (pos 0 ∷ [])))
+      ≡ Ends (token.Or ∷ (token.Yes ∷ (token.Close ∷ [])))
+  pub at_9 :
+      run countdown_program 17 (start (arguments countdown_program.parameters (pos 9 ∷ [])))
+      ≡ Ends (token.Or ∷ (token.Call 8 ∷ (token.Close ∷ [])))

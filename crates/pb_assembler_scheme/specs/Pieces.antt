@@ -4,9 +4,10 @@ use Rattle.std.specs.List.{slice_get}
 use Rattle.pb_bytecode_program.specs.declared.instruction.Op.{Op}
 use Rattle.pb_bytecode_program.specs.declared.instruction.Op.TheVariants as op
 
--- Unless is passed over where the operand on top is the given truth. Choose runs its second part there, and its first
--- part otherwise. Repeat runs its part for each value of a slot. Leave jumps to the end of the block around. Guard is
--- passed over where the number on top lies outside low to high; either way its end takes an operand off.
+-- Unless is passed over where the operand on top is the given truth. Choose runs its second part
+-- there, and its first part otherwise. Repeat runs its part for each value of a slot. Leave jumps
+-- to the end of the block around. Guard is passed over where the number on top lies outside low to
+-- high; either way its end takes an operand off.
 pub data Piece : Type 0 where
   Empty : Piece
   Plain : Op → Piece
@@ -42,22 +43,28 @@ flat q e (Choose on a b) =
 flat q e (Repeat s a) = op.Loop s ∷ (flat (q + 1) e a ++ op.Next ∷ [])
 flat q e (Block a) = flat q (end q a) a
 flat q e Leave = op.Jump e ∷ []
-flat q e (Guard low high a) = op.InRange low high (end (q + 1) a) ∷ (flat (q + 1) e a ++ op.Pop ∷ [])
+flat q e (Guard low high a) =
+    op.InRange low high (end (q + 1) a) ∷ (flat (q + 1) e a ++ op.Pop ∷ [])
 
 -- the instructions of a piece that begins at place q stand in the code
 abbrev pub HasPieceAt : List Op → ℕ → ℕ → Piece → Type 0
 HasPieceAt code q e Empty = Unit {0}
 HasPieceAt code q e (Plain i) = slice_get code q ≡ Some i
 HasPieceAt code q e (Then a b) = HasPieceAt code q e a × HasPieceAt code (end q a) e b
-HasPieceAt code q e (Unless on a) = (slice_get code q ≡ Some (op.JumpIf on (end (q + 1) a))) × HasPieceAt code (q + 1) e a
+HasPieceAt code q e (Unless on a) =
+    (slice_get code q ≡ Some (op.JumpIf on (end (q + 1) a))) × HasPieceAt code (q + 1) e a
 HasPieceAt code q e (Choose on a b) =
     (slice_get code q ≡ Some (op.JumpIf on (end (q + 1) a + 1)))
     × HasPieceAt code (q + 1) e a
     × (slice_get code (end (q + 1) a) ≡ Some (op.Jump (end (end (q + 1) a + 1) b)))
     × HasPieceAt code (end (q + 1) a + 1) e b
 HasPieceAt code q e (Repeat s a) =
-    (slice_get code q ≡ Some (op.Loop s)) × HasPieceAt code (q + 1) e a × (slice_get code (end (q + 1) a) ≡ Some op.Next)
+    (slice_get code q ≡ Some (op.Loop s))
+    × HasPieceAt code (q + 1) e a
+    × (slice_get code (end (q + 1) a) ≡ Some op.Next)
 HasPieceAt code q e (Block a) = HasPieceAt code q (end q a) a
 HasPieceAt code q e Leave = slice_get code q ≡ Some (op.Jump e)
 HasPieceAt code q e (Guard low high a) =
-    (slice_get code q ≡ Some (op.InRange low high (end (q + 1) a))) × HasPieceAt code (q + 1) e a × (slice_get code (end (q + 1) a) ≡ Some op.Pop)
+    (slice_get code q ≡ Some (op.InRange low high (end (q + 1) a)))
+    × HasPieceAt code (q + 1) e a
+    × (slice_get code (end (q + 1) a) ≡ Some op.Pop)

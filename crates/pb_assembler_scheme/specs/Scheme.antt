@@ -54,13 +54,16 @@ data_piece (Slot s) = Plain (op.Get s)
 data_piece (Term.Not x) = Then (data_piece x) (Plain op.Not)
 data_piece (Negative x) = Then (data_piece x) (Plain op.Negate)
 data_piece (Absolute x) = Then (data_piece x) (Plain op.Absolute)
-data_piece (Successor x) = in_order (op.Arithmetic arithmetic.Add) (data_piece x) (Plain (op.PushInt (pos 1)))
-data_piece (Predecessor x) = in_order (op.Arithmetic arithmetic.Sub) (data_piece x) (Plain (op.PushInt (pos 1)))
+data_piece (Successor x) =
+    in_order (op.Arithmetic arithmetic.Add) (data_piece x) (Plain (op.PushInt (pos 1)))
+data_piece (Predecessor x) =
+    in_order (op.Arithmetic arithmetic.Sub) (data_piece x) (Plain (op.PushInt (pos 1)))
 data_piece (Binary o x y) = binary_piece o (data_piece x) (data_piece y)
 data_piece (Maximum x y) = in_order (op.Arithmetic arithmetic.Max) (data_piece x) (data_piece y)
 data_piece (Minimum x y) = in_order (op.Arithmetic arithmetic.Min) (data_piece x) (data_piece y)
 data_piece (Choice c x y) = Then (data_piece c) (Choose false (data_piece x) (data_piece y))
-data_piece (Recognised s i x) = in_order (op.Equality equality.Equal) (data_piece x) (Plain (op.PushEnum s i))
+data_piece (Recognised s i x) =
+    in_order (op.Equality equality.Equal) (data_piece x) (Plain (op.PushEnum s i))
 
 -- ---- brackets. A kind is true for a conjunction and false for a disjunction, as in formulas.
 
@@ -100,16 +103,18 @@ abbrev pub test_of : Formula → Option Term
 test_of (Test t) = Some t
 test_of _ = None
 
--- Two operands f and g joined by m: the first that is a test decides whether the other one runs. The code of each
--- operand under the bracket that is open, and under one of kind m, is given.
-abbrev pub join_piece : (m around : Bool) → (f g : Option Term) → (f_around g_around f_own g_own : Piece) → Piece
+-- Two operands f and g joined by m: the first that is a test decides whether the other one runs.
+-- The code of each operand under the bracket that is open, and under one of kind m, is given.
+abbrev pub join_piece :
+    (m around : Bool) → (f g : Option Term) → (f_around g_around f_own g_own : Piece) → Piece
 join_piece m around (Some t) g f_around g_around f_own g_own = tested_piece m around t g_around
 join_piece m around None (Some t) f_around g_around f_own g_own = tested_piece m around t f_around
 join_piece m around None None f_around g_around f_own g_own = under m around (Then f_own g_own)
 
 -- ---- calls
 
--- the range that an argument is tested for: its parameter's, unless all that is known of the argument lies within
+-- the range that an argument is tested for: its parameter's, unless all that is known of the
+-- argument lies within
 abbrev pub tested_range : Carrier → Shape → Option (ℤ × ℤ)
 tested_range (carrier.Range r) (Wholes l h) =
     if is_within (interval l h) (interval r.low r.high) then None else Some (r.low, r.high)
@@ -128,7 +133,8 @@ guarded None false x = x
 -- the arguments for these parameters, and the last piece behind them all
 abbrev pub arguments_piece : List Carrier → List Argument → Piece → Piece
 arguments_piece (c ∷ cs) (x ∷ xs) last =
-    Then (data_piece x.term) (guarded (tested_range c x.shape) (any_tested cs xs) (arguments_piece cs xs last))
+    Then (data_piece x.term)
+    (guarded (tested_range c x.shape) (any_tested cs xs) (arguments_piece cs xs last))
 arguments_piece [] (x ∷ xs) last = Then (data_piece x.term) (arguments_piece [] xs last)
 arguments_piece cs [] last = last
 
@@ -136,7 +142,9 @@ arguments_piece cs [] last = last
 abbrev pub call_piece : ℕ → List Carrier → List Argument → Piece
 call_piece equation cs xs =
     if any_tested cs xs
-    then Block (Then (arguments_piece cs xs (Then (Plain (op.Call equation)) Leave)) (Plain (op.Emit leaf.Cut)))
+    then Block
+    (Then (arguments_piece cs xs (Then (Plain (op.Call equation)) Leave))
+    (Plain (op.Emit leaf.Cut)))
     else arguments_piece cs xs (Plain (op.Call equation))
 
 -- an equation's parameters, and none where there is no equation
@@ -150,9 +158,12 @@ abbrev pub formula_piece : List (List Carrier) → (around : Bool) → Formula �
 formula_piece callees around (Test t) = test_piece around t
 formula_piece callees around (Join m f g) =
     join_piece m around (test_of f) (test_of g)
-    (formula_piece callees around f) (formula_piece callees around g) (formula_piece callees m f) (formula_piece callees m g)
-formula_piece callees around (Each m s shape f) = under m around (Repeat s (formula_piece callees m f))
-formula_piece callees around (Call equation xs) = call_piece equation (parameters (slice_get callees equation)) xs
+    (formula_piece callees around f) (formula_piece callees around g)
+    (formula_piece callees m f) (formula_piece callees m g)
+formula_piece callees around (Each m s shape f) =
+    under m around (Repeat s (formula_piece callees m f))
+formula_piece callees around (Call equation xs) =
+    call_piece equation (parameters (slice_get callees equation)) xs
 
 -- the kind of the outermost bracket
 abbrev pub head : Formula → Bool
@@ -161,7 +172,8 @@ head (Each m s shape f) = m
 head _ = false
 
 abbrev pub equation_piece : List (List Carrier) → Formula → Piece
-equation_piece callees f = Then (bracketed (head f) (formula_piece callees (head f) f)) (Plain op.End)
+equation_piece callees f =
+    Then (bracketed (head f) (formula_piece callees (head f) f)) (Plain op.End)
 
 -- the code of an equation with this right side
 abbrev pub equation_code : List (List Carrier) → Formula → List Op

@@ -25,8 +25,10 @@ ArePrograms spec (X ∷ E) [] = ⊥
 -- each instance, by its number, has a tree with which the run of its equation's program ends
 abbrev pub AreTrees : Spec → List Program → (ℕ → Tree) → Type 0
 AreTrees spec programs trees =
-    (k : ℕ) (p : Program) (tuple : Tuple) → slice_get programs k ≡ Some p → AreArguments p.parameters tuple
-    → EndsWith p tuple (trees (number_of (all_carriers spec) (record { equation = k; values = tuple })))
+    (k : ℕ) (p : Program) (tuple : Tuple) → slice_get programs k ≡ Some p
+    → AreArguments p.parameters tuple
+    → EndsWith p tuple
+    (trees (number_of (all_carriers spec) (record { equation = k; values = tuple })))
 
 -- an equation's sign, and how many instances it has
 abbrev pub signature_of : Spec → Equation → Signature
@@ -35,7 +37,9 @@ signature_of spec X = record { sign = X.sign; size = tuple_count (carriers_of sp
 abbrev pub initial_instance : Spec → Instance
 initial_instance spec = record { name = spec.initial; values = values spec [] spec.arguments }
 
--- the trees' equations have the answer of the specification: the truth of the initial instance's number in their solution
+-- the trees' equations have the answer of the specification: the truth of the initial instance's
+-- number in their solution
 abbrev pub HaveAnswer : Spec → (ℕ → Tree) → Type 0
 HaveAnswer spec trees =
-    solved (map (signature_of spec) spec.equations) trees (number_in spec (initial_instance spec)) ≡ answer spec
+    solved (map (signature_of spec) spec.equations) trees (number_in spec (initial_instance spec))
+    ≡ answer spec

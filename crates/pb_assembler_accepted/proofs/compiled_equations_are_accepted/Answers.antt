@@ -1,6 +1,5 @@
 use Rattle.pb_typing.proofs.Accepted.{accepted-well-typed}
 use Rattle.pb_text_meaning.specs.Erase.{erase}
-use Rattle.pb_typing_rules.proofs.WellTypedLemmas.{well_typed}
 use Rattle.pb_assembler_accepted.proofs.TextEquations.{equations_accepted}
 use Rattle.pb_assembler_accepted.proofs.compiled_equations_are_accepted.Goals as goal
 

@@ -1,9 +1,9 @@
-use Rattle.std.proofs.Common.{Option, subst, IfNone}
-use Rattle.pb_normal.specs.Text.{said}
-use Rattle.pb_assembler.specs.MeasureEquations.{EachKeepsLimits}
-use Rattle.pb_assembler.specs.declared.first_excess.Excess.{Excess}
+use Rattle.std.proofs.Common.{List, sym, subst}
+use Rattle.pb_assembler.specs.MeasureEquations.{AreMeasuresOfAll}
+use Rattle.pb_assembler.specs.declared.measures.Measures.{Measures}
 use Rattle.pb_assembler.proofs.compiler.compile.Goals as goal
 
-pub module_of-requires : goal.module_of-requires
-module_of-requires c =
-    subst (λ (o : Option Excess). IfNone o (EachKeepsLimits (said c.args.normal.now.typed.now))) c.in_default.is c.first_excess_of.ensures.kept
+pub module_of-requires-clause-measured : goal.module_of-requires-clause-measured
+module_of-requires-clause-measured c =
+    let normal = c.args.normal.now in
+    subst (λ (ms : List Measures). AreMeasuresOfAll normal.typed.now.layout normal.equations.items ms) (sym c.deref.ensures.value) c.in_ok-measures.ensures.measured

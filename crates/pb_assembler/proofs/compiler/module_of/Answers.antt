@@ -11,6 +11,7 @@ use Rattle.pb_bytecode.specs.Views.{equation_contents, initial_contents, sort_co
 use Rattle.pb_normal.specs.declared.normal.Equation.{Equation}
 use Rattle.pb_assembler_modules.specs.Module.{struct_names}
 use Rattle.pb_assembler.specs.Compiled.{all_compiled, AreReady, AreSorts}
+use Rattle.pb_assembler.specs.MeasureEquations.{AreMeasuresOfAll}
 use Rattle.pb_assembler.proofs.Names.{has_enumerator_names, text_named}
 use Rattle.pb_typing.proofs.Accepted.{accepted-well-typed}
 use Rattle.pb_assembler.proofs.Texts.{accepted_sorts}
@@ -26,8 +27,8 @@ sorts-requires c =
     (and_parts (list_all has_enumerator_names (erase text).sorts) (list_all (λ (X : syntax.Equation). is_name X.name) (erase text).equations)
     (text_named typed.spec (accepted-well-typed text typed.faultless).declarations)).0)
 
-pub compile_equations-requires : goal.compile_equations-requires
-compile_equations-requires c =
+pub compile_equations-requires-clause-ready : goal.compile_equations-requires-clause-ready
+compile_equations-requires-clause-ready c =
     let normal = c.args.normal.now in
     let text = spec_form normal.typed.now.spec in
     let faultless = normal.typed.now.faultless in
@@ -37,7 +38,12 @@ compile_equations-requires c =
     let small = c.normal_forms_are_small.ensures.accepted text faultless in
     subst (λ (xs : List tree.Equation). AreReady callees callees (map equation_form xs) (c.deref-3).result.now) (sym (c.deref-2).ensures.value)
     (subst (λ (ds : List Equation). AreReady callees callees text.equations ds) (sym (c.deref-3).ensures.value)
-    (all_ready text faultless callees es normal.rights normal.loops normal.typed.now.laid_out.shapes c.requires named small))
+    (all_ready text faultless callees es normal.rights normal.loops normal.typed.now.laid_out.shapes c.requires.kept named small))
+
+pub compile_equations-requires-clause-measured : goal.compile_equations-requires-clause-measured
+compile_equations-requires-clause-measured c =
+    let layout = c.args.normal.now.typed.now.layout in
+    subst (λ (es : List Equation). AreMeasuresOfAll layout es c.args.measures.now) (sym (c.deref-3).ensures.value) c.requires.measured
 
 pub invariant_of-result : goal.invariant_of-result
 invariant_of-result c =
@@ -55,7 +61,7 @@ invariant_of-result c =
     ∙ ap (λ (ds : List Equation). all_compiled callees callees text.equations ds) (c.deref-3).ensures.value in
     record {
       within_limits =
-          whole_fits text faultless callees es normal.rights normal.loops normal.typed.now.laid_out.shapes c.requires named small
+          whole_fits text faultless callees es normal.rights normal.loops normal.typed.now.laid_out.shapes c.requires.kept named small
           (map sort_contents c.in_ok-sorts.sorts.items) (map equation_contents c.in_ok-equations.equations.items) (initial_contents c.in_ok-initial.initial) sorts equations c.in_ok-initial.ensures.equation c.in_ok-initial.ensures.values
           c.in_ok-equations.ensures.fields c.in_ok-initial.ensures.byte c.in_ok-initial.ensures.words
           (c.structs_are_few.ensures.accepted text faultless) (c.shapes_are_declared.ensures.accepted text faultless) (c.normal_forms_keep_bounds.ensures.accepted text faultless) (c.initial_instances_are_there.ensures.accepted text faultless);
@@ -75,7 +81,7 @@ returns-clause-module c =
     c.in_ok-equations.ensures.contents
     ∙ ap (λ (xs : List tree.Equation). all_compiled callees callees (map equation_form xs) (c.deref-3).result.now) (c.deref-2).ensures.value
     ∙ ap (λ (ds : List Equation). all_compiled callees callees text.equations ds) (c.deref-3).ensures.value in
-    compiled text faultless callees es normal.rights normal.loops normal.typed.now.laid_out.shapes c.requires named small
+    compiled text faultless callees es normal.rights normal.loops normal.typed.now.laid_out.shapes c.requires.kept named small
     (map sort_contents c.in_ok-sorts.sorts.items) (map equation_contents c.in_ok-equations.equations.items) (initial_contents c.in_ok-initial.initial) sorts equations c.in_ok-initial.ensures.equation c.in_ok-initial.ensures.values
 
 pub returns-clause-kept : goal.returns-clause-kept
@@ -92,5 +98,5 @@ returns-clause-kept c =
     c.in_ok-equations.ensures.contents
     ∙ ap (λ (xs : List tree.Equation). all_compiled callees callees (map equation_form xs) (c.deref-3).result.now) (c.deref-2).ensures.value
     ∙ ap (λ (ds : List Equation). all_compiled callees callees text.equations ds) (c.deref-3).ensures.value in
-    keeps text faultless callees es normal.rights normal.loops normal.typed.now.laid_out.shapes c.requires named small
+    keeps text faultless callees es normal.rights normal.loops normal.typed.now.laid_out.shapes c.requires.kept named small
     (map sort_contents c.in_ok-sorts.sorts.items) (map equation_contents c.in_ok-equations.equations.items) (initial_contents c.in_ok-initial.initial) sorts equations c.in_ok-initial.ensures.equation c.in_ok-initial.ensures.values

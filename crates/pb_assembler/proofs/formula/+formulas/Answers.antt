@@ -14,7 +14,7 @@ use Rattle.pb_assembler.specs.Emitted.{Emits, nowhere}
 use Rattle.pb_assembler.specs.Operands.{Guarded, other_of}
 use Rattle.pb_assembler.specs.Tests.{tested_term}
 use Rattle.pb_normal.specs.Small.{is_small_formula}
-use Rattle.pb_assembler.proofs.Awaited.{Awaits, awaits_all, passed_place, awaits_then, awaits_unless, awaits_choose, awaits_no_more, open_place}
+use Rattle.pb_assembler.proofs.Awaited.{Awaits, awaits_all, awaits_then, awaits_unless, awaits_choose, awaits_no_more}
 use Rattle.pb_assembler.proofs.Emitting.{on_ok}
 use Rattle.pb_assembler.proofs.FormulaWeight.{formulas_weight, join_is, join_weighs}
 use Rattle.pb_assembler.proofs.Joins.{Begins, Closes, are_left, second_left, first_left, behind_first, repeated, test_step, test_small, left_weighs, tested_own, tested_other, next_own, small_rest, small_slot, small_body, begins_more, closes_more, each_repeated, each_other, bracket_emitted, other_kind, same_kind, untested}
@@ -25,25 +25,25 @@ use Rattle.pb_assembler.proofs.formula.+formulas.Goals.{emit_inside-then-early, 
 pub emit_each-returns-then-eq : goal.emit_each-returns-then-eq
 emit_each-returns-then-eq t c =
     let kind = c.junction_of-kind in
-    let m = is_forall c.args.quantifier in
-    let X = nested m c.args.slots.first c.args.slots.carriers.now (formula_view c.args.body.now) in
+    let m = is_forall c.args.loops.quantifier in
+    let X = nested m c.args.loops.first c.args.loops.carriers.now (formula_view c.args.body.now) in
     let same : m ≡ is_and c.args.around = sym kind.ensures ∙ same_kind kind.result c.args.around c.eq.result c.eq.ensures c.if-eq.true in
     subst (λ (k : Bool). OnOk c.emit_loops.result (Emits (formula_piece c.args.layout.now k X) nowhere c.args.builder.now c.emit_loops.new.builder)) same c.emit_loops.ensures
 
 pub emit_each-returns : goal.emit_each-returns
 emit_each-returns t c =
-    let m = is_forall c.args.quantifier in
+    let m = is_forall c.args.loops.quantifier in
     let kind = c.junction_of-kind in
     let cs = c.args.layout.now in
     let e = c.is_empty.ensures in
     let f = c.if-is_empty.false in
     let other : m ≡ not (is_and c.args.around) = sym kind.ensures ∙ other_kind kind.result c.args.around c.eq.result c.eq.ensures c.if-eq.false in
-    let some : 0 < length c.args.slots.carriers.now = grind (arith, e, f) in
+    let some : 0 < length c.args.loops.carriers.now = grind (arith, e, f) in
     let d = c.args.builder.now in
     let d1 = c.emit_plain.new.builder in
-    let X = nested m c.args.slots.first c.args.slots.carriers.now (formula_view c.args.body.now) in
+    let X = nested m c.args.loops.first c.args.loops.carriers.now (formula_view c.args.body.now) in
     on_ok (c.emit_plain-2).result _ _ (c.emit_plain-2).ensures (λ h.
-    subst (λ (q : Piece). Emits q nowhere d (c.emit_plain-2).new.builder) (sym (each_other cs m (is_and c.args.around) c.args.slots.first c.args.slots.carriers.now (formula_view c.args.body.now) other some))
+    subst (λ (q : Piece). Emits q nowhere d (c.emit_plain-2).new.builder) (sym (each_other cs m (is_and c.args.around) c.args.loops.first c.args.loops.carriers.now (formula_view c.args.body.now) other some))
     (bracket_emitted m (formula_piece cs m X) d d1 (c.emit_loops-2).new.builder (c.emit_plain-2).new.builder
     (subst (λ (k : Connective). Emits (Plain (op.Open k)) nowhere d d1) (c.connective_of.ensures ∙ ap connective_of kind.ensures) c.in_ok-emit_plain.ensures) c.in_ok-emit_loops.ensures h))
 
@@ -164,12 +164,12 @@ emit_inside-loop-behind-preserved t c =
 pub emit_loops-overflow_add-slot : goal.emit_loops-overflow_add-slot
 emit_loops-overflow_add-slot t c =
     let b = c.loop-begun-test.true in
-    let h = small_slot (is_forall c.args.quantifier) c.args.slots.first c.args.slots.carriers.now (formula_view c.args.body.now) c.loop-begun.begun (omega (arith, b)) c.requires in omega (arith, h)
+    let h = small_slot (is_forall c.args.loops.quantifier) c.args.loops.first c.args.loops.carriers.now (formula_view c.args.body.now) c.loop-begun.begun (omega (arith, b)) c.requires in omega (arith, h)
 
 pub emit_loops-overflow_cast-slot : goal.emit_loops-overflow_cast-slot
 emit_loops-overflow_cast-slot t c =
     let b = c.loop-begun-test.true in
-    let h = small_slot (is_forall c.args.quantifier) c.args.slots.first c.args.slots.carriers.now (formula_view c.args.body.now) c.loop-begun.begun (omega (arith, b)) c.requires in omega (arith, h)
+    let h = small_slot (is_forall c.args.loops.quantifier) c.args.loops.first c.args.loops.carriers.now (formula_view c.args.body.now) c.loop-begun.begun (omega (arith, b)) c.requires in omega (arith, h)
 
 pub emit_loops-loop-begun-preserved : goal.emit_loops-loop-begun-preserved
 emit_loops-loop-begun-preserved t c =
@@ -177,11 +177,11 @@ emit_loops-loop-begun-preserved t c =
     let k = c.loop-begun.begun in
     record {
       below = omega (arith, b);
-      begins = subst (λ (n : ℕ). Begins c.args.slots.first n c.args.builder.now c.emit.new.self) (sym (add-one k)) (begins_more c.args.slots.first k c.args.builder.now c.loop-begun.builder c.emit.new.self c.loop-begun.invariant.begins c.in_ok-emit.ensures.ok);
+      begins = subst (λ (n : ℕ). Begins c.args.loops.first n c.args.builder.now c.emit.new.self) (sym (add-one k)) (begins_more c.args.loops.first k c.args.builder.now c.loop-begun.builder c.emit.new.self c.loop-begun.invariant.begins c.in_ok-emit.ensures.ok);
     }
 
 pub emit_loops-emit_formula-requires : goal.emit_loops-emit_formula-requires
-emit_loops-emit_formula-requires t c = (omega (arith, c.decreases), small_body (is_forall c.args.quantifier) c.args.slots.first c.args.slots.carriers.now (formula_view c.args.body.now) c.requires)
+emit_loops-emit_formula-requires t c = (omega (arith, c.decreases), small_body (is_forall c.args.loops.quantifier) c.args.loops.first c.args.loops.carriers.now (formula_view c.args.body.now) c.requires)
 
 pub emit_loops-loop-ended-preserved : goal.emit_loops-loop-ended-preserved
 emit_loops-loop-ended-preserved t c =
@@ -195,19 +195,19 @@ emit_loops-loop-ended-preserved t c =
 pub emit_loops-returns : goal.emit_loops-returns
 emit_loops-returns t c =
     let cs = c.args.layout.now in
-    let m = is_forall c.args.quantifier in
+    let m = is_forall c.args.loops.quantifier in
     let body = formula_piece cs m (formula_view c.args.body.now) in
     let b1 = c.loop-begun-test.false in
     let b2 = c.loop-begun.invariant.below in
     let e1 = c.loop-ended-test.false in
     let e2 = c.loop-ended.invariant.below in
-    let begun : c.loop-begun.begun ≡ length c.args.slots.carriers.now = omega (arith, b1, b2) in
+    let begun : c.loop-begun.begun ≡ length c.args.loops.carriers.now = omega (arith, b1, b2) in
     let ended : c.loop-ended.ended ≡ c.loop-begun.begun = omega (arith, b1, b2, e1, e2) in
     let inner : Emits body nowhere c.loop-begun.builder c.emit_formula.new.builder =
     subst (λ (k : Bool). Emits (formula_piece cs k (formula_view c.args.body.now)) nowhere c.loop-begun.builder c.emit_formula.new.builder) c.junction_of.ensures c.in_ok-emit_formula.ensures in
     let all = c.loop-begun.invariant.begins body c.emit_formula.new.builder c.loop-ended.builder inner
     (subst (λ (k : ℕ). Closes k c.emit_formula.new.builder c.loop-ended.builder) ended c.loop-ended.invariant.closes) in
-    subst (λ (q : Piece). Emits q nowhere c.args.builder.now c.loop-ended.builder) (ap (λ (k : ℕ). repeated c.args.slots.first k body) begun ∙ sym (each_repeated cs m c.args.slots.first c.args.slots.carriers.now (formula_view c.args.body.now))) all
+    subst (λ (q : Piece). Emits q nowhere c.args.builder.now c.loop-ended.builder) (ap (λ (k : ℕ). repeated c.args.loops.first k body) begun ∙ sym (each_repeated cs m c.args.loops.first c.args.loops.carriers.now (formula_view c.args.body.now))) all
 
 pub emit_outside-loop-early-preserved : goal.emit_outside-loop-early-preserved
 emit_outside-loop-early-preserved t c =
@@ -259,17 +259,9 @@ emit_untested-returns t c =
     (bracket_emitted (not a) (piece (not a)) d d1 c.emit_inside.new.builder (c.emit_plain-2).new.builder
     (subst (λ (k : Connective). Emits (Plain (op.Open k)) nowhere d d1) (c.connective_of.ensures ∙ ap connective_of c.dual-kind.ensures) c.in_ok-emit_plain.ensures) inner h))
 
-pub emit_outside-place-requires : goal.emit_outside-place-requires
-emit_outside-place-requires t c =
-    open_place _ c.in_ok-last.last.number c.loop-early.builder c.emit_untested.new.builder c.loop-early.invariant.awaits.is_open c.in_ok-emit_untested.ensures
-
 pub emit_outside-returns : goal.emit_outside-returns
 emit_outside-returns t c =
     awaits_no_more _ _ c.in_ok-last.last.number c.args.builder.now c.loop-early.builder c.emit_untested.new.builder c.place.new.self c.loop-early.invariant.awaits c.in_ok-emit_untested.ensures c.place.ensures
-
-pub emit_inside-place-requires-2 : goal.emit_inside-place-requires-2
-emit_inside-place-requires-2 t c =
-    open_place _ c.in_ok-last.last.number c.loop-behind.builder (c.emit_formula-2).new.builder c.loop-behind.invariant.awaits.is_open (c.in_ok-emit_formula-2).ensures
 
 pub emit_inside-returns : goal.emit_inside-returns
 emit_inside-returns t c =
@@ -303,8 +295,3 @@ emit_outside-loop-early-init t c =
       small = c.requires;
       lighter = omega arith;
     }
-
-pub emit_inside-place-requires : goal.emit_inside-place-requires
-emit_inside-place-requires t c =
-    passed_place _ c.in_ok-passed.passed.number _ _ c.emit_tested.new.builder c.label-in-Some.new.self c.emit.new.self c.emit_plain.new.builder c.emit-in-Some.new.self
-    c.in_ok-passed.ensures.label c.in_ok-passed.ensures.ok c.in_ok-emit.ensures.ok c.in_ok-emit_plain.ensures (c.in_ok-emit-2).ensures.ok

@@ -39,7 +39,7 @@ abbrev pub invariant-emit_loops-loop-begun : goal.invariant-emit_loops-loop-begu
 invariant-emit_loops-loop-begun l =
     record {
       below : l.begun ≤ l.count;
-      begins : Begins l.slots.first l.begun l.fn.builder l.builder;
+      begins : Begins l.loops.first l.begun l.fn.builder l.builder;
     }
 
 abbrev pub invariant-emit_loops-loop-ended : goal.invariant-emit_loops-loop-ended

@@ -1,4 +1,4 @@
-use Rattle.std.proofs.Common.{◌≡◌, ◌-◌, ◌<◌, suc, sym, ap, ◌∙◌, arith, length, drop}
+use Rattle.std.proofs.Common.{◌≡◌, ◌-◌, ◌<◌, suc, sym, ap, ◌∙◌, arith, length, length-drop, drop}
 use Rattle.pb_sorts.specs.Carrier.{values_of}
 use Rattle.pb_typing.specs.View.{is_positive}
 use Rattle.pb_normal.specs.Normal.{Join}
@@ -8,7 +8,7 @@ use Rattle.pb_assembler.specs.MeasureTerms.{term_load}
 use Rattle.pb_assembler.specs.Tests.{signed_term}
 use Rattle.pb_assembler.specs.MeasureFormulas.{capped_tally, form_chain, formula_tally, kind_at, kind_by, loops_tally, under_tally}
 use Rattle.pb_assembler.proofs.MeasureTallies.{test_by, looped_by, under_by}
-use Rattle.pb_assembler.proofs.MeasureChains.{nested_tally, loops_step, all_loops, kind_step, link_step, second_test, no_test}
+use Rattle.pb_assembler.proofs.MeasureChains.{all_from, nested_tally, loops_step, all_loops, kind_step, link_step, second_test, no_test}
 use Rattle.pb_assembler.proofs.Tests.{signed}
 use Rattle.pb_assembler.proofs.measure_formula.+formulas.Goals as goal
 use Rattle.pb_assembler.proofs.FormulaWeight.{weight, formulas_weight, weight-join, formula_lighter, join_is}
@@ -80,6 +80,7 @@ measure_join-measure_link-tally-requires t c =
     let b = c.loop-left-test.true in
     let same : suc k ≡ left = omega (arith, b) in
     let below : k < length rest = omega (arith, a) in
+    let all = all_from rest left in
     let kinds =
     ap (kind_at m kind leading) (sym same)
     ∙ ap (λ n. kind_at m kind n (suc k)) lead
@@ -87,7 +88,12 @@ measure_join-measure_link-tally-requires t c =
     ∙ ap (λ n. kind_by (test_of (formula_view x)) m (kind_at m kind n k)) (sym lead)
     ∙ ap (kind_by (test_of (formula_view x)) m) (sym c.kind_at-own.ensures) in (
       omega (arith, c.decreases, formula_lighter rest k x below (c.index-rest-left-in-loop-left).is),
-      (a, c.loop-left.invariant.1 ∙ ap (λ d. capped_tally (formula_tally c.args.layout.now d (form_chain m (drop left rest)))) kinds),
+      (
+        omega (arith, a, ap length all, length-drop left rest),
+        c.loop-left.invariant.1
+            ∙ ap (λ d. capped_tally (formula_tally c.args.layout.now d (form_chain m (drop left rest)))) kinds
+            ∙ ap (λ fs. capped_tally (formula_tally c.args.layout.now (kind_by (test_of (formula_view x)) m (is_and c.kind_at-own.result)) (form_chain m fs))) (sym all),
+      ),
     )
 
 pub measure_join-loop-left-preserved : goal.measure_join-loop-left-preserved
@@ -103,6 +109,7 @@ measure_join-loop-left-preserved t c =
     let same : suc k ≡ left = omega (arith, b) in (
       omega (arith, a),
       c.measure_link-tally.ensures
+          ∙ ap (λ fs. capped_tally (formula_tally callees (is_and c.kind_at-own.result) (Join m (formula_view x) (form_chain m fs)))) (all_from rest left)
           ∙ ap (λ d. capped_tally (formula_tally callees d (Join m (formula_view x) (form_chain m (drop left rest))))) c.kind_at-own.ensures
           ∙ ap (λ y. capped_tally (formula_tally callees (kind_at m (is_and c.kind_behind-kind.result) c.leading_tests-leading.result k) y)) (ap (λ n. Join m (formula_view x) (form_chain m (drop n rest))) (sym same) ∙ link_step m rest k x (omega (arith, a, b)) (c.index-rest-left-in-loop-left).is),
     )
@@ -110,14 +117,14 @@ measure_join-loop-left-preserved t c =
 pub measure_untested-returns-in-Some : goal.measure_untested-returns-in-Some
 measure_untested-returns-in-Some t c =
     let m = is_and c.args.chain.junction in
-    let chain = form_chain m (drop c.args.place c.args.operands.now) in
+    let chain = form_chain m c.args.behind.now in
     c.tested_tally.ensures
-    ∙ second_test c.args.layout.now m (is_and c.args.chain.around) (formula_view c.args.operand.now) chain c.in-Some.load c.measure_formula-own.result c.requires.untested (sym c.in-Some.is ∙ c.last_test.ensures m) c.measure_formula-own.ensures
+    ∙ second_test c.args.layout.now m (is_and c.args.chain.around) (formula_view c.args.operand.now) chain c.in-Some.load c.measure_formula-own.result c.requires.untested (sym c.in-Some.is ∙ c.only_test.ensures m) c.measure_formula-own.ensures
 
 pub measure_untested-returns-in-None : goal.measure_untested-returns-in-None
 measure_untested-returns-in-None t c =
     let m = is_and c.args.chain.junction in
-    let chain = form_chain m (drop c.args.place c.args.operands.now) in
+    let chain = form_chain m c.args.behind.now in
     c.under_tally.ensures
     ∙ ap (λ y. capped_tally (under_tally m (is_and c.args.chain.around) y)) c.after-both.ensures
-    ∙ no_test c.args.layout.now m (is_and c.args.chain.around) (formula_view c.args.operand.now) chain (c.measure_formula-own-in-None).result c.args.rest c.requires.untested (sym c.in-None.is ∙ c.last_test.ensures m) (c.measure_formula-own-in-None).ensures c.requires.rest
+    ∙ no_test c.args.layout.now m (is_and c.args.chain.around) (formula_view c.args.operand.now) chain (c.measure_formula-own-in-None).result c.args.rest c.requires.untested (sym c.in-None.is ∙ c.only_test.ensures m) (c.measure_formula-own-in-None).ensures c.requires.rest
