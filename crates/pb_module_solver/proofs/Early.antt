@@ -31,7 +31,7 @@ ExplainsRows rows built x =
     (signatures : List Signature) (trees : ℕ → Tree) (initial : ℕ) → AreRowsFrom signatures trees rows initial
     → IsTreeGame signatures trees (rows_of trees rows) initial built → Explains signatures trees initial x
 
-module _ (m : Contents) (rows : List Row) (some : module_rows.RowsHaveTrees m) (b : Bool) (assumed : AreAssumedRows m b rows) where
+module _ (m : Contents) (rows : List Row) (some : module_rows.ModuleHasTrees m) (b : Bool) (assumed : AreAssumedRows m b rows) where
   -- some trees that are assumed
   pub some_rows : RowsHaveTrees (map signature_of m.equations) rows (initial_of m)
   some_rows = let a = assumed some.0 some.1 in (a.0, a.2)
