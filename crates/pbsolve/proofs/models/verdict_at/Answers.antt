@@ -7,10 +7,10 @@ use Rattle.pbsolve.specs.Errors.{build_refusal}
 use Rattle.pbsolve.proofs.PropertyVerdicts.{property_verdict, some_property, text_at_place, unbuilt_property, unchecked_up, uncompiled_property}
 use Rattle.pbsolve.proofs.models.verdict_at.Goals as goal
 
-pub verified-requires-clause-well_typed : goal.verified-requires-clause-well_typed
-verified-requires-clause-well_typed g c =
+pub verified-requires : goal.verified-requires
+verified-requires g c =
     let some = some_property property_form c.args.model.now.model.properties.items c.args.place c.requires.within in
-    (c.in_ok-text.ensures.text some.0 some.1).typed
+    record { well_typed = (c.in_ok-text.ensures.text some.0 some.1).typed }
 
 pub returns-in_err-verified-clause-refused : goal.returns-in_err-verified-clause-refused
 returns-in_err-verified-clause-refused g c =
