@@ -4,6 +4,7 @@ use Rattle.std.specs.Prelude.{Some}
 use Rattle.std.specs.List.{flat_map}
 use Rattle.pb_trees.specs.Game.{Vertex}
 use Rattle.pb_trees.specs.Laws.{IsGameVertex}
+use Rattle.pb_game.specs.declared.TheConstants.Game.{LIMIT}
 use Rattle.pb_game.specs.declared.parts.Parts.{Parts}
 use Rattle.pb_game_of_trees.specs.declared.draft.Draft.{Draft}
 
@@ -42,6 +43,6 @@ pub record ArePartsOf (parts : Parts) (vertices : List Vertex) : Type 0 where
 
 -- the vertices are those of a game, with at most 256 priorities
 pub record MakeGame (vertices : List Vertex) : Type 0 where
-  pub few : length vertices ≤ 16777216
+  pub few : length vertices ≤ LIMIT
   pub each : (v : ℕ) (x : Vertex) → slice_get vertices v ≡ Some x → IsGameVertex (length vertices) x
   pub low : (v : ℕ) (x : Vertex) → slice_get vertices v ≡ Some x → x.priority < 256

@@ -6,7 +6,7 @@ ghost use Rattle.pb_trees.specs.Game.{Vertex, rising};
 ghost use Rattle.pb_game_of_trees.specs.Draft.{IsDraft, ArePartsOf};
 
 use crate::falling::push_falling;
-use pb_game::Parts;
+use pb_game::{Game, Parts};
 use std::alloc::{AllocError, Global};
 
 #[derive(Drop)]
@@ -21,7 +21,7 @@ pub(crate) struct Draft {
 impl Draft {
     /// No vertices, with room for so many and their edges.
     pub fn with_capacity(alloc: Global, vertices: usize, edges: usize) -> Result<Draft, AllocError>
-        requires { vertices ≤ 16777216 }
+        requires { vertices ≤ Game.LIMIT }
         ensures { IfOk result (λ draft. IsDraft draft []) }
     {
         let mut sums = Vec::with_capacity(alloc, vertices + 1)?;

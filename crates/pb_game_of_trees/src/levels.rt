@@ -1,5 +1,5 @@
 //! The priorities of equations.
-ghost use Rattle.std.specs.Prelude.{◌≡◌, ◌<◌, ◌≤◌, IfOk, length, map, slice_index};
+ghost use Rattle.std.specs.Prelude.{◌≡◌, ◌+◌, ◌^◌, ◌<◌, ◌≤◌, IfOk, length, map, slice_index};
 ghost use Rattle.pb_trees.specs.Equations.{total};
 ghost use Rattle.pb_trees.specs.Game.{last_priority, priority_before};
 ghost use Rattle.pb_game_of_trees.specs.Levels.{levels_from, priority_in, ends, AreOrdered};
@@ -29,7 +29,7 @@ fn last_priority(sign: Sign) -> u32
 
 /// The priority of an equation before one of the sign `next` and this priority.
 fn priority_before(sign: Sign, next: Sign, priority: u32) -> u32
-    requires { priority < 4294967295 }
+    requires { priority + 1 < 2 ^ 32 }
     ensures { result ≡ priority_before sign next priority }
 {
     match (sign, next) {
@@ -42,7 +42,7 @@ fn priority_before(sign: Sign, next: Sign, priority: u32) -> u32
 
 /// How many instances the equations have.
 pub(crate) fn count_instances(signatures: &[Signature]) -> u32
-    requires { total (map plain signatures.now) < 4294967296 }
+    requires { total (map plain signatures.now) < 2 ^ 32 }
     ensures { result ≡ total (map plain signatures.now) }
 {
     let mut count = 0;
@@ -54,8 +54,8 @@ pub(crate) fn count_instances(signatures: &[Signature]) -> u32
 
 /// The level of each equation, in order.
 pub(crate) fn levels(alloc: Global, signatures: &[Signature]) -> Result<Vec<Level>, AllocError>
-    requires few { length signatures.now < 4294967296 }
-    requires numbers { total (map plain signatures.now) < 4294967296 }
+    requires few { length signatures.now < 2 ^ 32 }
+    requires numbers { total (map plain signatures.now) < 2 ^ 32 }
     ensures { IfOk result (λ levels. levels.items ≡ levels_from 0 (map plain signatures.now)) }
 {
     let mut levels = Vec::with_capacity(alloc, signatures.len())?;

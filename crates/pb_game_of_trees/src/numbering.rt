@@ -8,6 +8,7 @@ ghost use Rattle.pb_game_of_trees.specs.Places.{vertex_behind, vertices_from, nu
 
 use crate::size::inner_brackets;
 use crate::sorted_vertices::{SortedVertices, numbers_of_rows};
+use pb_game::Game;
 use pb_rows::IndexedRows;
 use std::alloc::{AllocError, Global};
 
@@ -36,9 +37,10 @@ impl Numbering<'_> {
     }
 }
 
-/// The vertex of each row.
+/// The vertices of the rows' trees lie side by side, behind the two sinks.
 pub(crate) fn vertices_of_rows(alloc: Global, rows: &IndexedRows) -> Result<Vec<u32>, AllocError>
-    requires { (plain : List plain_row) × Hold rows.now plain × (vertex_behind plain 2 ≤ 16777216) }
+    requires { (plain : List plain_row) × Hold rows.now plain
+        × (vertex_behind plain 2 ≤ Game.LIMIT) }
     ensures { IfOk result (λ vertices. (plain : List plain_row) → Hold rows.now plain
         → vertices.items ≡ vertices_from plain 2) }
 {

@@ -13,6 +13,7 @@ use crate::draft::Draft;
 use crate::levels::{Level, priority_at};
 use crate::numbering::Numbering;
 use crate::size::Size;
+use pb_game::Game;
 use pb_rows::IndexedRows;
 use std::alloc::{AllocError, Global};
 
@@ -25,7 +26,7 @@ pub(crate) fn draft_of(
     size: Size,
 ) -> Result<Draft, AllocError>
     requires levels { AreOrdered levels.now }
-    requires small { size.vertices ≤ 16777216 }
+    requires small { size.vertices ≤ Game.LIMIT }
     requires rows { (plain : List plain_row) × Hold rows.now plain
         × (size.vertices ≡ vertex_behind plain 2)
         × CallBelow (length (table_of vertices.now)) plain }

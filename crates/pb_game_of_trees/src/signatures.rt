@@ -5,6 +5,7 @@ ghost use Rattle.pb_bytecode.specs.Meaning.{signature_of};
 ghost use Rattle.pb_game_of_trees.specs.Equations.{equations_of};
 
 use crate::Signature;
+use pb_sorts::{MAX_EQUATIONS, MAX_INSTANCES};
 use pb_verifier::Verified;
 use std::alloc::{AllocError, Global};
 
@@ -15,11 +16,13 @@ pub(crate) fn signatures_of(
 ) -> Result<Vec<Signature>, AllocError>
     ensures equations { IfOk result (λ signatures. equations_of signatures.items
         ≡ map signature_of verified.now.equations) }
-    ensures few { IfOk result (λ signatures. total (equations_of signatures.items) ≤ 4194304) }
-    ensures count { IfOk result (λ signatures. length signatures.items ≤ 64) }
+    ensures few { IfOk result (λ signatures.
+        total (equations_of signatures.items) ≤ MAX_INSTANCES) }
+    ensures count { IfOk result (λ signatures. length signatures.items ≤ MAX_EQUATIONS) }
 {
     let module = verified.module();
     let layout = verified.layout();
+    // For its contract alone: the instances of all equations are few.
     let _few = layout.count();
     let mut signatures = Vec::with_capacity(alloc, layout.equation_count())?;
     for k in 0..layout.equation_count() {

@@ -18,7 +18,6 @@ pub(crate) struct Size {
     pub edges: usize,
 }
 
-/// Whether a token closes a bracket.
 fn is_closing(token: Token) -> bool
     ensures { result ≡ is_closing token }
 {
@@ -28,7 +27,6 @@ fn is_closing(token: Token) -> bool
     }
 }
 
-/// How many tokens close a bracket.
 fn count_closing(tokens: &[Token]) -> usize
     ensures count { result ≡ count_by is_closing tokens.now }
     ensures bound { result ≤ length tokens.now }
@@ -51,12 +49,12 @@ pub(crate) fn inner_brackets(tokens: &[Token]) -> usize
     count_closing(tokens).saturating_sub(1)
 }
 
-/// The size of the game of these rows; none where it has more vertices than a game may have.
+/// The size of the game of these rows; none where it has more vertices than a game may have (G01).
 pub(crate) fn size_of(rows: &IndexedRows) -> Option<Size>
     ensures size { (plain : List plain_row) → Hold rows.now plain
-        → MatchOption result (16777216 < vertex_behind plain 2)
+        → MatchOption result (Game.LIMIT < vertex_behind plain 2)
         (λ size. size.vertices ≡ vertex_behind plain 2) }
-    ensures small { IfSome result (λ size. size.vertices ≤ 16777216) }
+    ensures small { IfSome result (λ size. size.vertices ≤ Game.LIMIT) }
 {
     let mut vertices = 2;
     let mut edges: usize = 2;

@@ -30,7 +30,6 @@ impl SortedVertices<'_> {
     }
 }
 
-/// The number of each row.
 pub(crate) fn numbers_of_rows(alloc: Global, rows: &IndexedRows) -> Result<Vec<u32>, AllocError>
     ensures { IfOk result (λ list. list.items ≡ numbers_of rows.now) }
 {

@@ -1,5 +1,6 @@
 //! The game of a system's reached instances.
 ghost use Rattle.std.specs.Prelude.{◌≡◌, ◌≤◌, vec_len};
+ghost use Rattle.pb_game.specs.declared.TheConstants.Game.{LIMIT};
 ghost use Rattle.pb_game_of_trees.specs.declared.tree_game.BuildError.TheVariants.{Memory};
 
 use crate::finished::game_of;
@@ -53,11 +54,11 @@ pub struct TreeGame {
     pub vertices: Vec<u32>,
     /// The vertex of the initial instance.
     pub start: u32,
-    pub ghost few: { vec_len vertices ≤ 16777216 },
+    pub ghost few: { vec_len vertices ≤ LIMIT },
 }
 
 impl TreeGame {
-    ghost use Rattle.std.specs.Prelude.{◌≤◌, ◌<◌, IfOk, Err, length, slice_index};
+    ghost use Rattle.std.specs.Prelude.{◌≤◌, ◌<◌, ◌^◌, IfOk, Err, length, slice_index};
     ghost use Rattle.pb_trees.specs.Equations.{total};
     ghost use Rattle.pb_game.specs.Games.{vertex_count};
     ghost use Rattle.pb_game_of_trees.specs.Equations.{equations_of};
@@ -76,7 +77,7 @@ impl TreeGame {
         initial: u32,
     ) -> Result<TreeGame, BuildError>
         requires few { length signatures.now < 256 }
-        requires numbers { total (equations_of signatures.now) < 4294967296 }
+        requires numbers { total (equations_of signatures.now) < 2 ^ 32 }
         requires reached { RowsHaveTrees (equations_of signatures.now) rows.now initial }
         ensures game { IfOk result (IsGameOf (equations_of signatures.now) rows.now initial) }
         ensures too_many { IsRefusedExactly (result ≡ Err BuildError.TooManyVertices)
@@ -97,8 +98,8 @@ impl TreeGame {
         size: Size,
     ) -> Result<TreeGame, AllocError>
         requires few { length signatures.now < 256 }
-        requires numbers { total (equations_of signatures.now) < 4294967296 }
-        requires small { size.vertices ≤ 16777216 }
+        requires numbers { total (equations_of signatures.now) < 2 ^ 32 }
+        requires small { size.vertices ≤ Game.LIMIT }
         requires reached { RowsHaveTrees (equations_of signatures.now) rows.now initial }
         requires size { IsSizeOf rows.now size.vertices }
         ensures { IfOk result (IsGameOf (equations_of signatures.now) rows.now initial) }

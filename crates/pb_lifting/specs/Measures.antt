@@ -22,7 +22,7 @@ base_of g player q = if q % 2 == player then 1 else vertices_upto g q (vertex_co
 unfoldable pub top_of : Game → ℕ → ℕ
 top_of g player = unit (base_of g player) (priority_count g)
 
--- the ranks, top counted, are more than a word has
+-- K06: the ranks, top counted, are more than a word has
 abbrev pub HasTooManyRanks : Game → ℕ → Type 0
 HasTooManyRanks g player = 18446744073709551615 < top_of g player + 1
 

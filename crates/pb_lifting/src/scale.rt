@@ -72,7 +72,7 @@ fn base(player: u8, priority: u32, vertices: u32) -> u64
 }
 
 impl Scale {
-    /// The scale of a player, or nothing where the ranks are more than a word has.
+    /// The scale of a player, or nothing where the ranks are more than a word has (K06).
     pub(crate) fn of(game: &Game, player: u8, counts: &PriorityCounts) -> Option<Scale>
         requires counts { AreCountsOf game.now counts.now }
         ensures { MatchOption result (HasTooManyRanks game.now player) (IsScaleOf game.now player) }
@@ -101,7 +101,7 @@ impl Scale {
         self.places[priority]
     }
 
-    /// The top rank.
+    /// The rank above all others, of a vertex that the player does not win.
     pub(crate) fn top(&self, game: &Game, player: u8) -> u64
         requires scale { IsScaleOf game.now player self.now }
         ensures { result ≡ top_of game.now player }
@@ -126,7 +126,6 @@ impl Scale {
         step(place, top, more, rank)
     }
 
-    /// The count of a rank at a priority.
     pub(crate) fn count(&self, game: &Game, player: u8, rank: u64, priority: u32) -> u64
         requires scale { IsScaleOf game.now player self.now }
         requires priority { priority < priority_count game.now }

@@ -128,7 +128,6 @@ fn choice_at(game: &Game, player: u8, measured: &Measured, v: u32) -> u32
     }
 }
 
-/// The least successor of `v`.
 fn least_successor(game: &Game, v: u32) -> u32
     requires vertex { v < vertex_count game.now }
     ensures { IsLeastSuccessor game.now v result }

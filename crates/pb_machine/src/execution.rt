@@ -12,17 +12,17 @@ ghost use Rattle.pb_machine.specs.Output.{CallsOf, CanRun, IsOutput};
 
 use crate::code::Code;
 use crate::instance_values::write_values;
-use crate::machine::{MAX_OPERANDS, Machine};
+use crate::machine::Machine;
 use crate::registers::Registers;
-use crate::results::truth;
+use crate::results::{Bounds, truth};
 use arrayvec::ArrayVec;
-use pb_bytecode_program::Op;
+use pb_bytecode_program::{MAX_OPERANDS, Op};
 use pb_sorts::{Carrier, Layout, MAX_INSTANCES};
 use std::alloc::AllocError;
 
 /// Makes all places for operands be there.
 fn fill(operands: &mut ArrayVec<i64, MAX_OPERANDS>)
-    ensures { array_vec_len operands.new ≡ 32 }
+    ensures { array_vec_len operands.new ≡ MAX_OPERANDS }
 {
     if !operands.is_full() {
         *operands = ArrayVec::from([0; MAX_OPERANDS]);
@@ -49,7 +49,6 @@ impl Machine {
         self.push(registers, self.slot(slot as usize));
     }
 
-    /// Pushes a number.
     fn push_int(&mut self, registers: &mut Registers, value: i64)
         requires { (p : Program) × IsReady p self.old registers.old (op.PushInt value) }
         ensures { (p : Program) → Executes p (op.PushInt value) self.old registers.old self.new
@@ -58,7 +57,6 @@ impl Machine {
         self.push(registers, value);
     }
 
-    /// Pushes a truth value.
     fn push_bool(&mut self, registers: &mut Registers, value: bool)
         requires { (p : Program) × IsReady p self.old registers.old (op.PushBool value) }
         ensures { (p : Program) → Executes p (op.PushBool value) self.old registers.old self.new
@@ -67,7 +65,6 @@ impl Machine {
         self.push(registers, truth(value));
     }
 
-    /// Pushes an enumerator.
     fn push_enum(&mut self, registers: &mut Registers, sort: u8, index: u8)
         requires { (p : Program) × IsReady p self.old registers.old (op.PushEnum sort index) }
         ensures { (p : Program) → Executes p (op.PushEnum sort index) self.old registers.old
@@ -106,13 +103,15 @@ impl Machine {
             Op::Logic(connective) => self.connect(registers, *connective),
             Op::Jump { target } => registers.go_to(*target as usize),
             Op::JumpIf { condition, target } => self.jump_if(registers, *condition, *target),
-            Op::InRange { low, high, target } => self.in_range(registers, *low, *high, *target),
+            Op::InRange { low, high, target } => {
+                self.in_range(registers, Bounds::new(*low, *high), *target)
+            }
             Op::SlotInRange {
                 slot,
                 low,
                 high,
                 target,
-            } => self.slot_in_range(registers, *slot, *low, *high, *target),
+            } => self.slot_in_range(registers, *slot, Bounds::new(*low, *high), *target),
             Op::Loop { slot } => self.enter_loop(registers, loops, *slot),
             Op::Next => self.next_turn(registers),
             Op::Open(connective) => self.open_bracket(registers, *connective),

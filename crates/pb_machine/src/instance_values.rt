@@ -4,7 +4,6 @@ ghost use Rattle.std.specs.Prelude.{vec_capacity};
 ghost use Rattle.pb_carriers.specs.Carrier.{tuples, tuple_count};
 ghost use Rattle.pb_sorts.specs.Carrier.{values_of};
 
-use crate::carrier_bounds::bounds;
 use pb_sorts::Carrier;
 
 /// The value at a place among those of its carrier.
@@ -12,7 +11,7 @@ fn value_at(carrier: &Carrier, place: u64) -> i64
     requires { place < length (values_of carrier.now) }
     ensures { slice_get (values_of carrier.now) place ≡ Some result }
 {
-    let (least, _) = bounds(carrier);
+    let (least, _) = carrier.bounds();
     least + place as i64
 }
 

@@ -15,7 +15,6 @@ pub struct Registers {
 }
 
 impl Registers {
-    /// Goes to a place.
     pub(crate) fn go_to(&mut self, place: usize)
         ensures { (p : Program) (m : memory) (st : State) → Mirrors p m self.old st
             → Mirrors p m self.new (record st { place = place }) }

@@ -6,6 +6,7 @@ ghost use Rattle.std.specs.List.{slice_get};
 ghost use Rattle.pb_text_tree.specs.Form.{spec_form};
 ghost use Rattle.pb_sorts.specs.Instance.{first_of, owns_number, size_of};
 ghost use Rattle.pb_sorts.specs.Layout.{carriers_of, count_of};
+ghost use Rattle.pb_sorts.specs.declared.limits.TheConstants.{MAX_INSTANCES};
 ghost use Rattle.pb_text_meaning.specs.Erase.{erase};
 ghost use Rattle.pb_text_meaning.specs.Syntax as syntax;
 ghost use Rattle.pb_evaluation.specs.Environment.{environment_of};
@@ -33,7 +34,7 @@ pub(crate) fn numbers_of(layout: &Layout, equation: usize) -> Numbers
     ensures end { result.end ≡ first_of (carriers_of layout.now) equation
         + size_of (carriers_of layout.now) equation }
     ensures within { result.end ≤ count_of layout.now }
-    ensures few { result.end ≤ 4194304 }
+    ensures few { result.end ≤ MAX_INSTANCES }
 {
     let start = layout.first(equation) as usize;
     let end = start + layout.size(equation) as usize;

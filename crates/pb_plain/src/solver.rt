@@ -1,6 +1,6 @@
 //! The nested solution, equation by equation.
 
-ghost use Rattle.std.specs.Prelude.{◌≡◌, ◌≤◌, ◌<◌, not, true, false, length, drop, IfOk, OnOk};
+ghost use Rattle.std.specs.Prelude.{◌≡◌, ◌+◌, ◌≤◌, ◌<◌, not, true, false, length, drop, IfOk, OnOk};
 ghost use Rattle.std.specs.Prelude.{Some, vec_len};
 ghost use Rattle.std.specs.List.{slice_get};
 ghost use Rattle.pb_fixpoint.specs.Solution.{solution};
@@ -98,12 +98,11 @@ fn approach(
         (environment_of (erase (spec_form typed.now.spec)) truths.old.items)) }
     ensures count { OnOk result (vec_len truths.new ≡ count_of typed.now.layout) }
 {
-    let sign = typed.spec.equations[first].sign;
     take_set(&typed.layout, first, near, truths);
     let mut kept = Vec::from_slice(*truths.allocator(), near)?;
     for _step in 0..typed.layout.size(first) {
         let mut below = truths.clone()?;
-        solve_toward(typed, sign, first + 1, &mut below, &kept, far)?;
+        solve_behind(typed, first, &mut below, &kept, far)?;
         let changed = improve(typed, first, truths, &below)?;
         if !changed {
             *truths = below;
@@ -111,40 +110,44 @@ fn approach(
         }
         kept = below;
     }
-    solve_toward(typed, sign, first + 1, truths, &kept, far)
+    solve_behind(typed, first, truths, &kept, far)
 }
 
-/// The same with bounds on the side where a sign's steps begin, and on the other side.
+/// Brings an environment to the solution of the equations behind the one at `first`: `near` bounds
+/// their sets on the side where the steps of that one's sign begin, and `far` on the other side.
 #[cycle(solver)]
-fn solve_toward(
+fn solve_behind(
     typed: &Typed,
-    sign: Sign,
     first: usize,
     truths: &mut Vec<bool>,
     near: &[bool],
     far: &[bool],
 ) -> Result<(), AllocError>
-    requires within { first ≤ length typed.now.layout }
+    requires within { first < length typed.now.layout }
     requires count { vec_len truths.old ≡ count_of typed.now.layout }
     requires lower { length near.now ≡ count_of typed.now.layout }
     requires upper { length far.now ≡ count_of typed.now.layout }
-    requires near { AreBounds (side_of sign) (drop first
+    requires near { (X : syntax.Equation) → slice_get
+        (erase (spec_form typed.now.spec)).equations first ≡ Some X
+        → AreBounds (side_of X.sign) (drop (first + 1)
         (equations_of (erase (spec_form typed.now.spec))))
         (environment_of (erase (spec_form typed.now.spec)) truths.old.items)
         (environment_of (erase (spec_form typed.now.spec)) near.now) }
-    requires far { AreBounds (not (side_of sign))
-        (drop first (equations_of (erase (spec_form typed.now.spec))))
+    requires far { (X : syntax.Equation) → slice_get
+        (erase (spec_form typed.now.spec)).equations first ≡ Some X
+        → AreBounds (not (side_of X.sign)) (drop (first + 1)
+        (equations_of (erase (spec_form typed.now.spec))))
         (environment_of (erase (spec_form typed.now.spec)) truths.old.items)
         (environment_of (erase (spec_form typed.now.spec)) far.now) }
     ensures solved { OnOk result (environment_of
         (erase (spec_form typed.now.spec)) truths.new.items
-        ≡ solution (drop first (equations_of (erase (spec_form typed.now.spec))))
+        ≡ solution (drop (first + 1) (equations_of (erase (spec_form typed.now.spec))))
         (environment_of (erase (spec_form typed.now.spec)) truths.old.items)) }
     ensures count { OnOk result (vec_len truths.new ≡ count_of typed.now.layout) }
 {
-    match sign {
-        Sign::Mu => solve_from(typed, first, truths, near, far),
-        Sign::Nu => solve_from(typed, first, truths, far, near),
+    match typed.spec.equations[first].sign {
+        Sign::Mu => solve_from(typed, first + 1, truths, near, far),
+        Sign::Nu => solve_from(typed, first + 1, truths, far, near),
     }
 }
 

@@ -18,7 +18,7 @@ use pb_verifier_states::AcceptanceRule;
 use pb_verifier_structure::{EquationCode, check_structure, static_counts};
 use std::alloc::Global;
 
-// Whether the stated counts are at least the static ones and within the limits.
+// Whether the stated counts are at least the static ones and within the limits (V16).
 fn are_enough(code: &EquationCode, steps: u32, tokens: u32) -> bool
     requires { (p : Program) → IsProgramOf p code.now → IsStructured p }
     ensures { (p : Program) → IsProgramOf p code.now → IsTrue result ↔ StatesCounts p steps tokens }

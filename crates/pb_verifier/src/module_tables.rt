@@ -24,7 +24,6 @@ pub(crate) fn enumerator_counts(alloc: Global, sorts: &[Sort]) -> Result<Vec<u8>
     Ok(sizes)
 }
 
-/// The carriers of each equation's parameters.
 pub(crate) fn parameter_carriers(
     alloc: Global,
     equations: &[Equation],

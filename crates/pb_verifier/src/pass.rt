@@ -57,7 +57,6 @@ fn take_state(table: &mut Vec<Option<AbstractState>>, place: usize) -> Option<Ab
     table[place].take()
 }
 
-// The carrier of a loop slot.
 fn loop_carrier(equation: &Equation, slot: u8) -> Option<Carrier>
     ensures { (sorts : List ℕ) (callees : List (List carrier_type))
         → result ≡ carrier_of (program_in sorts callees equation.now) slot }
@@ -91,7 +90,6 @@ impl PassState {
     // One place: what is known there flows on.
     fn step(
         &mut self,
-        alloc: Global,
         names: &Names<'_>,
         equation: &Equation,
         place: usize,
@@ -112,10 +110,10 @@ impl PassState {
     {
         let known = take_state(&mut self.table, place);
         match instruction {
-            Op::Loop { slot } => self.start_loop(alloc, equation, slot, place, known),
+            Op::Loop { slot } => self.start_loop(equation, slot, place, known),
             Op::Next => Ok(self.end_loop(place, known)?),
             _ => match known {
-                Some(state) => visit(state, alloc, names, place, instruction, &mut self.table),
+                Some(state) => visit(state, names, place, instruction, &mut self.table),
                 None => Ok(()),
             },
         }
@@ -124,7 +122,6 @@ impl PassState {
     // The start of a loop, of which this is known.
     fn start_loop(
         &mut self,
-        alloc: Global,
         equation: &Equation,
         slot: u8,
         place: usize,
@@ -143,7 +140,7 @@ impl PassState {
         match known {
             Some(state) => {
                 let carrier = loop_carrier(equation, slot);
-                visit_loop(&state, alloc, slot, carrier, place, &mut self.table)?;
+                visit_loop(&state, slot, carrier, place, &mut self.table)?;
                 self.open_loops.enter(Some(state))?;
                 Ok(())
             }
@@ -193,7 +190,7 @@ pub(crate) fn pass(
     let names = Names { sorts, callees };
     let mut pass = PassState::opening(alloc, equation)?;
     for (place, instruction) in equation.code.iter().enumerate() {
-        match pass.step(alloc, &names, equation, place, *instruction) {
+        match pass.step(&names, equation, place, *instruction) {
             Ok(()) => {}
             Err(FlowError::Refused(rule)) => return Err(EquationError::Refused { rule, place }),
             Err(FlowError::Memory) => return Err(EquationError::Memory),

@@ -7,7 +7,7 @@ ghost use Rattle.pb_verifier.specs.Pass.{merge_edges as merged_edges, merge_stat
 
 use pb_verifier_states::{AbstractState, AcceptanceRule, Edges};
 
-/// Joins a state into what is known at a place.
+/// Joins a state into what is known at a place of the code (V15), if the two can be joined (V11).
 pub(crate) fn merge(
     table: &mut Vec<Option<AbstractState>>,
     to: usize,

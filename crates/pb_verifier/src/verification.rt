@@ -48,7 +48,7 @@ fn check_equations(
     Ok(())
 }
 
-// The number of the initial instance. Up to eight values take no memory.
+// The number of the initial instance. Up to `MAX_PARAMETERS` values take no memory.
 fn initial_number(alloc: Global, module: &Module, layout: &Layout) -> Result<u32, AllocError>
     requires { layout.now ≡ parameters (module_contents «module».now) }
     ensures { IfOk result (IsInitial (module_contents «module».now)) }
@@ -79,8 +79,8 @@ fn check(alloc: Global, module: &Module) -> Result<(Layout, u32), VerifyError>
 }
 
 /// Verifies a module: it is accepted where the code of each equation keeps the rules by position,
-/// states counts that are at least the static ones and at most 1,000,000 steps and 100,000 tokens,
-/// and has a table of abstract states with which each instruction agrees (bytecode verification,
+/// states counts that are at least the static ones and at most `MAX_STEPS` and `MAX_TOKENS`, and
+/// has a table of abstract states with which each instruction agrees (bytecode verification,
 /// Lindholm and Yellin 1996).
 ///
 /// # Errors

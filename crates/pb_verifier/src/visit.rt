@@ -16,7 +16,6 @@ use pb_bytecode_program::Op;
 use pb_sorts::Carrier;
 use pb_verifier_states::flow::flow;
 use pb_verifier_states::{AbstractState, AcceptanceRule, FlowError};
-use std::alloc::Global;
 
 /// What the instructions of a module may name: its sorts, by how many enumerators each has, and its
 /// equations, by the carriers of their parameters.
@@ -30,7 +29,6 @@ pub(crate) struct Names<'a> {
 /// table.
 pub(crate) fn visit(
     state: AbstractState,
-    alloc: Global,
     names: &Names<'_>,
     place: usize,
     instruction: Op,
@@ -44,6 +42,7 @@ pub(crate) fn visit(
     ensures refused { OnRefused result
         (FlowsTo names.now place instruction state table.old.items None) }
 {
+    let alloc = *table.allocator();
     let edges = flow(state, alloc, names.sorts, names.callees, instruction)?;
     merge_edges(table, place, edges)?;
     Ok(())
@@ -53,7 +52,6 @@ pub(crate) fn visit(
 /// loop slot.
 pub(crate) fn visit_loop(
     state: &AbstractState,
-    alloc: Global,
     slot: u8,
     carrier: Option<Carrier>,
     place: usize,
@@ -70,6 +68,7 @@ pub(crate) fn visit_loop(
     let Some(carrier) = carrier else {
         return Err(FlowError::Refused(AcceptanceRule::UnknownName));
     };
+    let alloc = *table.allocator();
     let body = state.enter_loop(alloc, slot, carrier)?;
     merge(table, place + 1, body)?;
     Ok(())

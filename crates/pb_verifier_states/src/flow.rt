@@ -1,6 +1,6 @@
 //! What flows from an instruction.
 
-ghost use Rattle.std.specs.Prelude.{◌≡◌, IfOk, None, Option, Some, map, vec_items, ℕ};
+ghost use Rattle.std.specs.Prelude.{◌≡◌, ◌≤ℤ◌, IfOk, None, Option, Some, map, vec_items, ℕ};
 ghost use Rattle.pb_verifier_states.specs.Edges.{edges_of};
 ghost use Rattle.pb_verifier_states.specs.Flows.{GoesOnAlone};
 ghost use Rattle.pb_verifier_states.specs.NamedRule.{named_rule};
@@ -19,6 +19,7 @@ use crate::edges::Edges;
 use crate::flow_error::FlowError;
 use crate::state::AbstractState;
 use pb_bytecode_program::{AbstractValue, Op};
+use pb_intervals::Interval;
 use pb_sorts::Carrier;
 use std::alloc::Global;
 
@@ -55,18 +56,29 @@ pub fn flow(
         },
         Op::Jump { target } => Ok(Edges::jump(target, state)),
         Op::JumpIf { condition, target } => control::jump_if(state, alloc, condition, target),
-        Op::InRange { low, high, target } => control::in_range(state, alloc, low, high, target),
+        Op::InRange { low, high, target } => {
+            control::in_range(state, alloc, range_between(low, high), target)
+        }
         Op::SlotInRange {
             slot,
             low,
             high,
             target,
-        } => control::slot_in_range(state, alloc, slot, low, high, target),
+        } => control::slot_in_range(state, alloc, slot, range_between(low, high), target),
         _ => {
             let next = next_state(state, sorts, callees, op)?;
             Ok(Edges::next(next))
         }
     }
+}
+
+// The numbers from `low` to `high`.
+fn range_between(low: i32, high: i32) -> Interval
+    requires { low ≤ℤ high }
+    ensures range { result ≡ record { low = low; high = high } }
+    ensures ordered { result.low ≤ℤ result.high }
+{
+    Interval::new(i64::from(low), i64::from(high))
 }
 
 // What is known at the next place, where control goes on to that place alone.

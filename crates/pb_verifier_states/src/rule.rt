@@ -24,14 +24,14 @@ pub enum AcceptanceRule {
     ArgumentOutside,
     /// V09: no such slot, no such loop slot, a loop slot that is in use, or no such equation.
     UnknownName,
-    /// V10: more than 32 operands.
+    /// V10: more than `MAX_OPERANDS` operands.
     TooManyOperands,
     /// V11: what is known on two ways does not join.
     WaysDiffer,
     /// V12: loops do not pair, are nested too deep, contain the end, or end otherwise than they
     /// began.
     LoopStructure,
-    /// V13: brackets do not pair, or more than 32 are open.
+    /// V13: brackets do not pair, or more than `MAX_BRACKETS` are open.
     Brackets,
     /// V14: not exactly one root.
     Roots,

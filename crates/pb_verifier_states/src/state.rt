@@ -21,11 +21,11 @@ use std::marker::Model;
 /// is empty.
 #[derive(Drop)]
 pub struct AbstractState {
-    // The topmost first; there are at most 32 of them and of those below.
+    // The topmost first; there are at most `MAX_OPERANDS` of them and of those below.
     operands: Vec<AbstractValue>,
     operands_below: u8,
     parameters: Vec<AbstractValue>,
-    // The slots of the loops around, the innermost first: there are at most 8.
+    // The slots of the loops around, the innermost first: there are at most `MAX_LOOPS`.
     loops: Vec<(u8, AbstractValue)>,
     brackets: u8,
     brackets_below: u8,

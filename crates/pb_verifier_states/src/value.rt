@@ -53,7 +53,7 @@ pub fn are_of_one_kind(a: AbstractValue, b: AbstractValue) -> bool
     }
 }
 
-/// Whether each value that `a` stands for is one of the carrier.
+/// Whether each value that `a` stands for is one of the carrier (V08).
 pub fn is_accepted(a: AbstractValue, carrier: Carrier) -> bool
     ensures { result ≡ transfers.accepts a carrier }
 {

@@ -11,11 +11,12 @@ use Rattle.pb_bytecode_program.specs.Counts.{LoopEffect, Enters, Leaves, Straigh
 use Rattle.pb_bytecode_program.specs.declared.instruction.Op.{Op}
 use Rattle.pb_bytecode_program.proofs.Places.{around_next}
 use Rattle.pb_verifier_structure.specs.Structure.{IsStructured}
+use Rattle.pb_verifier_structure.specs.declared.counts.TheConstants.{SATURATED}
 use Rattle.pb_verifier_structure.proofs.Around.{start_around}
 
 -- a count that stops
 abbrev pub stopped : ℕ → ℕ
-stopped n = min n 1000001
+stopped n = min n SATURATED
 
 -- the counts, the innermost loop's last
 abbrev pub stacked : List ℕ → List ℕ
@@ -34,15 +35,15 @@ last_weight (w ∷ ws) items e =
 
 -- ---- arithmetic on counts that stop
 
-stopped_sum : (a b m n : ℕ) → a ≡ stopped m → b ≡ stopped n → min (a + b) 1000001 ≡ stopped (m + n)
+stopped_sum : (a b m n : ℕ) → a ≡ stopped m → b ≡ stopped n → min (a + b) SATURATED ≡ stopped (m + n)
 stopped_sum a b m n e f = omega arith
 
-stopped_product : (a m n : ℕ) → a ≡ stopped m → min (a * n) 1000001 ≡ stopped (m * n)
+stopped_product : (a m n : ℕ) → a ≡ stopped m → min (a * n) SATURATED ≡ stopped (m * n)
 stopped_product a m zero e = omega arith
 stopped_product a m (suc n) e = ⊎_elim
-    (λ (small : (leb m 1000001 ≡ true) × (m ≤ 1000001)). let l = small.1 in let same : a ≡ m = omega arith in ap (λ x. min (x * suc n) 1000001) same)
-    (λ (large : (leb m 1000001 ≡ false) × (1000001 < m)). let l = large.1 in omega (arith, mul-suc m n, mul-suc a n))
-    (leb_tells m 1000001)
+    (λ (small : (leb m SATURATED ≡ true) × (m ≤ SATURATED)). let l = small.1 in let same : a ≡ m = omega arith in ap (λ x. min (x * suc n) SATURATED) same)
+    (λ (large : (leb m SATURATED ≡ false) × (SATURATED < m)). let l = large.1 in omega (arith, mul-suc m n, mul-suc a n))
+    (leb_tells m SATURATED)
 
 -- ---- one instruction
 
@@ -99,7 +100,7 @@ module _ (p : Program) (w : IsStructured p) (q : ℕ) (items : List ℕ) (steps 
   cost_next : (cost : Op → ℕ) → cost_of p cost (drop q p.code) h.weights ≡ multiplier h.weights * cost i + cost_of p cost (drop (q + 1) p.code) (weights_after p (loop_effect i) h.weights)
   cost_next cost = ap (λ is. cost_of p cost is h.weights) (drop-slice_get p.code q i here) ∙ cost_split p (loop_effect i) (cost i) h.weights (cost_of p cost (drop (q + 1) p.code)) some_around
 
-  more : (x y : ℕ) → x ≡ stopped (multiplier h.weights) → y ≡ stopped (multiplier h.weights * tokens_of i) → (after : List ℕ) → after ≡ stacked (weights_after p (loop_effect i) h.weights) → IsCounted p (q + 1) after (min (steps + x) 1000001) (min (tokens + y) 1000001)
+  more : (x y : ℕ) → x ≡ stopped (multiplier h.weights) → y ≡ stopped (multiplier h.weights * tokens_of i) → (after : List ℕ) → after ≡ stacked (weights_after p (loop_effect i) h.weights) → IsCounted p (q + 1) after (min (steps + x) SATURATED) (min (tokens + y) SATURATED)
   more x y e f after same = record {
     weights = weights_after p (loop_effect i) h.weights;
     same = same;
@@ -112,19 +113,19 @@ module _ (p : Program) (w : IsStructured p) (q : ℕ) (items : List ℕ) (steps 
     all_tokens = let a = h.all_tokens in let b = cost_next tokens_of in omega arith;
   }
 
-  module _ (x y : ℕ) (e : x ≡ get_or items (length items - 1) 1) (f : y ≡ min (x * tokens_of i) 1000001) where
+  module _ (x y : ℕ) (e : x ≡ get_or items (length items - 1) 1) (f : y ≡ min (x * tokens_of i) SATURATED) where
     here_weight : x ≡ stopped (multiplier h.weights)
     here_weight = e ∙ last_weight h.weights items h.same
 
     here_tokens : y ≡ stopped (multiplier h.weights * tokens_of i)
     here_tokens = f ∙ stopped_product x (multiplier h.weights) (tokens_of i) here_weight
 
-    pub counted_in : (slot n : ℕ) → loop_effect i ≡ Enters slot → n ≡ min (x * size_of (carrier_of p slot)) 1000001 → IsCounted p (q + 1) (items ++ n ∷ []) (min (steps + x) 1000001) (min (tokens + y) 1000001)
+    pub counted_in : (slot n : ℕ) → loop_effect i ≡ Enters slot → n ≡ min (x * size_of (carrier_of p slot)) SATURATED → IsCounted p (q + 1) (items ++ n ∷ []) (min (steps + x) SATURATED) (min (tokens + y) SATURATED)
     counted_in slot n t g =
         more x y here_weight here_tokens (items ++ n ∷ [])
         (ap (λ (ws : List ℕ). ws ++ n ∷ []) h.same ∙ ap (λ m. stacked h.weights ++ m ∷ []) (g ∙ stopped_product x (multiplier h.weights) (size_of (carrier_of p slot)) here_weight) ∙ ap (λ u. stacked (weights_after p u h.weights)) (sym t))
 
-    pub counted_out : loop_effect i ≡ Leaves → IsCounted p (q + 1) (take (length items - 1) items) (min (steps + x) 1000001) (min (tokens + y) 1000001)
+    pub counted_out : loop_effect i ≡ Leaves → IsCounted p (q + 1) (take (length items - 1) items) (min (steps + x) SATURATED) (min (tokens + y) SATURATED)
     counted_out t =
         more x y here_weight here_tokens (take (length items - 1) items)
         (rest h.weights items h.same (some_around t) ∙ ap (λ u. stacked (weights_after p u h.weights)) (sym t))
@@ -135,10 +136,10 @@ module _ (p : Program) (w : IsStructured p) (q : ℕ) (items : List ℕ) (steps 
             let long : length items - 1 ≡ length (stacked ws) = omega (arith, ap length e, length-append (stacked ws) (stopped v ∷ [])) in
             rw (long, e) (take-append_seam (stacked ws) (stopped v ∷ []))
 
-    pub counted_on : loop_effect i ≡ Straight → IsCounted p (q + 1) items (min (steps + x) 1000001) (min (tokens + y) 1000001)
+    pub counted_on : loop_effect i ≡ Straight → IsCounted p (q + 1) items (min (steps + x) SATURATED) (min (tokens + y) SATURATED)
     counted_on t = more x y here_weight here_tokens items (h.same ∙ ap (λ u. stacked (weights_after p u h.weights)) (sym t))
 
-pub counted_all : (p : Program) (q : ℕ) (items : List ℕ) (steps tokens : ℕ) → IsCounted p q items steps tokens → length p.code ≤ q → (steps ≡ min (static_steps p) 1000001) × (tokens ≡ min (static_tokens p) 1000001)
+pub counted_all : (p : Program) (q : ℕ) (items : List ℕ) (steps tokens : ℕ) → IsCounted p q items steps tokens → length p.code ≤ q → (steps ≡ min (static_steps p) SATURATED) × (tokens ≡ min (static_tokens p) SATURATED)
 counted_all p q items steps tokens h l =
     let none = drop_all q p.code l in
     let a = h.all_steps in

@@ -37,8 +37,8 @@ impl Bodies {
     /// The bodies of this code.
     ///
     /// # Errors
-    /// `Refused` exactly where loops do not nest: for the first NEXT without a LOOP, END in a body
-    /// or LOOP nested too deep, and else for the first LOOP without a NEXT.
+    /// `Refused` (V12) exactly where loops do not nest: for the first NEXT without a LOOP, END in a
+    /// body or LOOP nested too deep, and else for the first LOOP without a NEXT.
     pub(crate) fn of(alloc: Global, code: &[Op]) -> Result<Bodies, StructureError>
         requires { length code.now ≤ MAX_INSTRUCTIONS }
         ensures innermost { IfOk result (λ bodies. IsInnermost code.now bodies.innermost.items) }
@@ -103,8 +103,8 @@ impl Bodies {
     /// Whether the place may be the target of a jump.
     ///
     /// # Errors
-    /// The first rule that is broken: the target is behind the last instruction, it isn't behind
-    /// the jump, or it is in another body.
+    /// The first rule that is broken: the target is behind the last instruction (V05), it isn't
+    /// behind the jump (V06), or it is in another body (V07).
     pub(crate) fn check_target(&self, place: usize, target: u16) -> Result<(), AcceptanceRule>
         ensures ok { OnOk result ((code : List Op) → place < length code
             → IsInnermost code self.now.innermost.items → IsTarget code place target) }

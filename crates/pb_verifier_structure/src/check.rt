@@ -19,7 +19,6 @@ use pb_bytecode_program::Op;
 use pb_verifier_states::AcceptanceRule;
 use std::alloc::Global;
 
-// Whether the slot is a loop's.
 fn is_loop_slot(code: &EquationCode, slot: u8) -> bool
     ensures { (p : Program) → IsProgramOf p code.now → IsTrue result ↔ IsSome (carrier_of p slot) }
 {
@@ -134,9 +133,10 @@ fn check_instruction(
 ///
 /// # Errors
 /// `Refused` exactly where a rule is broken. It names first, in the order of places, what breaks
-/// the nesting of loops (V12): NEXT without a LOOP, END in a body, a LOOP inside eight others; then
-/// the first LOOP without a NEXT. Where loops nest, it names the first place that breaks another
-/// rule, and there a name (V09) before a target (V05, V06, V07). `Memory` where memory is refused.
+/// the nesting of loops (V12): NEXT without a LOOP, END in a body, a LOOP inside `MAX_LOOPS`
+/// others; then the first LOOP without a NEXT. Where loops nest, it names the first place that
+/// breaks another rule, and there a name (V09) before a target (V05, V06, V07). `Memory` where
+/// memory is refused.
 pub fn check_structure(alloc: Global, code: &EquationCode) -> Result<(), StructureError>
     requires { length code.now.instructions.now ≤ MAX_INSTRUCTIONS }
     ensures ok { OnOk result ((p : Program) → IsProgramOf p code.now → IsStructured p) }

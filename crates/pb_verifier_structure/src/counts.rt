@@ -11,11 +11,11 @@ ghost use Rattle.pb_verifier_structure.specs.Views.{IsProgramOf};
 
 use crate::equation_code::EquationCode;
 use arrayvec::ArrayVec;
-use pb_bytecode_program::Op;
+use pb_bytecode_program::{MAX_LOOPS, MAX_STEPS, Op};
 
-/// The count at which counting stops. It is above the limits of stated counts, which are 1,000,000
-/// steps and 100,000 tokens, so that a comparison with a count within these is exact.
-pub const SATURATED: u64 = 1_000_001;
+/// The count at which counting stops. It is above the limits of stated counts, `MAX_STEPS` and
+/// `MAX_TOKENS`, so that a comparison with a count within these is exact.
+pub const SATURATED: u64 = MAX_STEPS as u64 + 1;
 
 /// The static counts of code; in place of one above `SATURATED` stands that.
 #[derive(Clone, Copy, Debug, PartialEq, Eq)]
@@ -64,7 +64,7 @@ fn multiplier(weights: &[u64]) -> u64
     }
 }
 
-/// The static counts of code that keeps the rules by position.
+/// The static counts of code that keeps the rules by position; fewer may not be stated (V16).
 pub fn static_counts(code: &EquationCode) -> StaticCounts
     requires { (p : Program) → IsProgramOf p code.now → IsStructured p }
     ensures steps { (p : Program) → IsProgramOf p code.now
@@ -72,7 +72,7 @@ pub fn static_counts(code: &EquationCode) -> StaticCounts
     ensures tokens { (p : Program) → IsProgramOf p code.now
         → result.tokens ≡ min (static_tokens p) SATURATED }
 {
-    let mut weights: ArrayVec<u64, 8> = ArrayVec::new();
+    let mut weights: ArrayVec<u64, MAX_LOOPS> = ArrayVec::new();
     let mut steps = 0;
     let mut tokens = 0;
     for instruction in code.instructions {

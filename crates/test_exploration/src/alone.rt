@@ -6,7 +6,7 @@ ghost use Rattle.pb_instances.specs.Explored.{IsEnd};
 ghost use Rattle.pb_instances.specs.Seats.{words_of};
 
 use crate::steps::close;
-use pb_exploration::{Crew, Hints, Limit, NoGate, Site, work};
+use pb_exploration::{Crew, Hints, Limit, NoGate, Site, Worker, work};
 use pb_instances::{Statuses, Table};
 use pb_rows::Rows;
 use pb_verifier::Verified;
@@ -23,18 +23,19 @@ fn work_branded<B: Limit>(
 {
     let (table, mut seats) = Table::start(alloc, verified, 1)?;
     let mut hints = Hints::<B>::start(alloc, verified.initial(), 1)?;
-    let Some(mut seat) = seats.pop() else {
+    let Some(seat) = seats.pop() else {
         return Err(AllocError);
     };
-    let Some(mut own) = hints.pop() else {
+    let Some(hints) = hints.pop() else {
         return Err(AllocError);
     };
+    let mut worker = Worker { id: 0, seat, hints };
     let site = Site {
         verified,
         table: &table,
         crew: &Crew::of(1),
     };
-    let rows = work(alloc, &site, &mut seat, &mut own, 0, &NoGate);
+    let rows = work(alloc, &site, &mut worker, &NoGate);
     Ok((rows, close(alloc, verified, table)))
 }
 

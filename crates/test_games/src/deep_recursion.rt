@@ -51,6 +51,7 @@ fn all_priorities_within_two_megabytes(rt: HostRuntime) -> Result<(), Fail> {
     Ok(())
 }
 
+/// G06.
 #[test]
 fn one_priority_more_is_refused(rt: HostRuntime) -> Result<(), Fail> {
     let alloc = rt.alloc();

@@ -171,6 +171,41 @@ fn equal_counts_are_a_flaw(rt: HostRuntime) -> Result<(), Fail> {
     Ok(())
 }
 
+/// What the checker says where player 0 is given a third vertex, its own and of priority 0, with
+/// this choice; `count` is that of priority 1 at the sink that player 0 wins.
+fn flaw_at_third(
+    alloc: Global,
+    successors: &[u32],
+    choice: u32,
+    count: u64,
+) -> Result<Option<Flaw>, Fail> {
+    let mut builder = Builder::with_sinks(alloc)?;
+    builder.push(0, 0, successors)?;
+    let game = builder.game(alloc)?;
+    let solution = Solution {
+        winner: vec![in alloc; 1, 0, 0]?,
+        choice: vec![in alloc; 0, 1, choice]?,
+        counts: vec![in alloc; 0, 0, 0, count, 0, 0]?,
+    };
+    Ok(check(&game, &solution).err())
+}
+
+#[test]
+fn edges_are_flaws(rt: HostRuntime) -> Result<(), Fail> {
+    let alloc = rt.alloc();
+    let flaw = |rule| Some(Flaw { vertex: 2, rule });
+    // K01: the choice is no successor
+    assert!(rt; flaw_at_third(alloc, &[1], 0, 0)? == flaw(CertificateRule::NoSuccessor));
+    // K02: the chosen edge leads to what player 1 wins
+    assert!(rt; flaw_at_third(alloc, &[0, 1], 0, 0)? == flaw(CertificateRule::LeavesRegion));
+    // K03: along the chosen edge the count rises
+    assert!(rt; flaw_at_third(alloc, &[1], 1, 1)? == flaw(CertificateRule::Increases));
+    // and this is a certificate
+    assert!(rt; flaw_at_third(alloc, &[1], 1, 0)?.is_none());
+    Ok(())
+}
+
+/// K05.
 #[test]
 fn short_list_is_a_flaw(rt: HostRuntime) -> Result<(), Fail> {
     let alloc = rt.alloc();
@@ -192,9 +227,11 @@ fn short_list_is_a_flaw(rt: HostRuntime) -> Result<(), Fail> {
 #[test]
 fn faulty_parts(rt: HostRuntime) -> Result<(), Fail> {
     let alloc = rt.alloc();
+    // G02
     let mut owner = Builder::with_sinks(alloc)?;
     owner.push(2, 0, &[0])?;
     assert!(rt; matches!(Game::from_parts(alloc, owner.parts), Err(GameError::Owners)));
+    // G03
     let mut priority = Builder::with_sinks(alloc)?;
     priority.parts.priorities.push(0)?;
     assert!(rt;
@@ -203,6 +240,7 @@ fn faulty_parts(rt: HostRuntime) -> Result<(), Fail> {
             Err(GameError::Priorities)
         )
     );
+    // G04
     let mut lonely = Builder::with_sinks(alloc)?;
     lonely.push(0, 0, &[])?;
     assert!(rt;
@@ -211,6 +249,7 @@ fn faulty_parts(rt: HostRuntime) -> Result<(), Fail> {
             Err(GameError::Places)
         )
     );
+    // G05
     let mut twice = Builder::with_sinks(alloc)?;
     twice.push(0, 0, &[1, 1])?;
     assert!(rt;

@@ -8,8 +8,7 @@ ghost use Rattle.pb_sorts.specs.declared.carrier.Carrier.{Carrier as carrier_typ
 ghost use Rattle.pb_verifier_states.specs.Refusals.{IfRefused, OnRefused};
 ghost use Rattle.pb_bytecode_program.specs.Machine.{Program};
 ghost use Rattle.pb_bytecode_program.specs.Transfer.{AbstractState as Known, abstract_push};
-ghost use Rattle.pb_bytecode_program.specs.Transfer.{abstract_slot, to_next_place, transfer};
-ghost use Rattle.pb_bytecode_program.specs.declared.abstract_value.AbstractValue.TheVariants as abstract;
+ghost use Rattle.pb_bytecode_program.specs.Transfer.{to_next_place, transfer};
 ghost use Rattle.pb_bytecode_program.specs.declared.instruction.Op.TheVariants as op;
 
 use crate::edges::Edges;
@@ -20,7 +19,6 @@ use pb_bytecode_program::AbstractValue;
 use pb_intervals::Interval;
 use std::alloc::Global;
 
-/// Pushes a value.
 pub fn push(mut state: AbstractState, value: AbstractValue) -> Result<AbstractState, FlowError>
     requires { HasOrderedEnds value }
     ensures flows { IfOk result (λ k. (q : ℕ)
@@ -57,7 +55,7 @@ pub fn push_enum(
     push(state, AbstractValue::Enum { sort, count })
 }
 
-// How many enumerators a sort has.
+// How many enumerators a sort has; a function of its own for the prover alone.
 fn enumerators(sorts: &[u8], sort: u8) -> Option<u8>
     ensures { result ≡ slice_get sorts.now sort }
 {
@@ -95,22 +93,21 @@ pub fn jump_if(
     })
 }
 
-/// Goes on where the number on top is from `low` to `high`, and else jumps. A way that its interval
+/// Goes on where the number on top is one of the range, and else jumps. A way that its interval
 /// excludes is not taken.
 pub fn in_range(
     mut state: AbstractState,
     alloc: Global,
-    low: i32,
-    high: i32,
+    range: Interval,
     target: u16,
 ) -> Result<Edges, FlowError>
-    requires { low ≤ℤ high }
-    ensures flows { IfOk result (λ e. FlowsTo (op.InRange low high target) state e.next e.jump) }
-    ensures refused { OnRefused result (Fails (op.InRange low high target) state) }
-    ensures rule { IfRefused result (IsNamed (op.InRange low high target) state) }
+    requires { range.low ≤ℤ range.high }
+    ensures flows { IfOk result (λ e. FlowsTo
+        (op.InRange range.low range.high target) state e.next e.jump) }
+    ensures refused { OnRefused result (Fails (op.InRange range.low range.high target) state) }
+    ensures rule { IfRefused result (IsNamed (op.InRange range.low range.high target) state) }
 {
     let interval = state.top_int()?;
-    let range = range_between(low, high);
     let Some(inside) = interval.cut(range) else {
         return Ok(Edges::jump(target, state));
     };
@@ -126,56 +123,16 @@ pub fn in_range(
     })
 }
 
-/// Goes on where the number in the slot is from `low` to `high`, and else jumps. A way that its
+/// Goes on where the number in the slot is one of the range, and else jumps. A way that its
 /// interval excludes is not taken.
 pub fn slot_in_range(
-    state: AbstractState,
-    alloc: Global,
-    slot: u8,
-    low: i32,
-    high: i32,
-    target: u16,
-) -> Result<Edges, FlowError>
-    requires { low ≤ℤ high }
-    ensures flows { IfOk result (λ e. FlowsTo
-        (op.SlotInRange slot low high target) state e.next e.jump) }
-    ensures refused { OnRefused result (Fails (op.SlotInRange slot low high target) state) }
-    ensures rule { IfRefused result (IsNamed (op.SlotInRange slot low high target) state) }
-{
-    match state.slot_int(slot) {
-        Ok(interval) => split_slot(
-            state,
-            alloc,
-            slot,
-            interval,
-            range_between(low, high),
-            target,
-        ),
-        Err(rule) => Err(FlowError::Refused(rule)),
-    }
-}
-
-// The numbers from `low` to `high`.
-fn range_between(low: i32, high: i32) -> Interval
-    requires { low ≤ℤ high }
-    ensures { result ≡ record { low = low; high = high } }
-{
-    Interval::new(i64::from(low), i64::from(high))
-}
-
-// The same, the slot having a number of the interval.
-fn split_slot(
     mut state: AbstractState,
     alloc: Global,
     slot: u8,
-    interval: Interval,
     range: Interval,
     target: u16,
 ) -> Result<Edges, FlowError>
-    requires some { interval.low ≤ℤ interval.high }
-    requires known { abstract_slot state.loops state.parameters slot
-        ≡ Some (abstract.Int interval.low interval.high) }
-    requires ordered { range.low ≤ℤ range.high }
+    requires { range.low ≤ℤ range.high }
     ensures flows { IfOk result (λ e. FlowsTo
         (op.SlotInRange slot range.low range.high target) state e.next e.jump) }
     ensures refused { OnRefused result
@@ -183,6 +140,7 @@ fn split_slot(
     ensures rule { IfRefused result
         (IsNamed (op.SlotInRange slot range.low range.high target) state) }
 {
+    let interval = state.slot_int(slot)?;
     let Some(inside) = interval.cut(range) else {
         return Ok(Edges::jump(target, state));
     };

@@ -14,7 +14,6 @@ use crate::value::{are_of_one_kind, numbers};
 use pb_bytecode_program::{AbstractValue, Arithmetic, Comparison, Connective, Equality};
 use pb_intervals::Interval;
 
-/// Pops an operand.
 pub fn pop(mut state: AbstractState) -> Result<AbstractState, AcceptanceRule>
     ensures flows { IfOk result (GoesOn op.Pop state) }
     ensures err { OnErr result (Fails op.Pop state) }
@@ -24,7 +23,7 @@ pub fn pop(mut state: AbstractState) -> Result<AbstractState, AcceptanceRule>
     Ok(state)
 }
 
-/// An operator on two numbers.
+/// An operator on two numbers, whose result is within 64 bits (V04).
 pub fn arithmetic(
     mut state: AbstractState,
     operator: Arithmetic,
@@ -46,7 +45,7 @@ pub fn arithmetic(
     Ok(state)
 }
 
-// Whether the second operand is a divisor that may be below 1.
+// Whether the second operand is a divisor that may be below 1 (V03).
 fn may_be_no_divisor(operator: Arithmetic, b: Interval) -> bool
     ensures { result ≡ (divides operator && int_lt b.low (pos 1)) }
 {

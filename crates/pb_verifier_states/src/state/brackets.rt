@@ -13,7 +13,7 @@ use crate::state::AbstractState;
 use pb_bytecode_program::MAX_BRACKETS;
 
 impl AbstractState {
-    /// Counts a leaf or a bracket, which is a root where no bracket is open: there may be one.
+    /// Counts a leaf or a bracket, a root (V14) where no bracket is open: there may be one.
     pub fn add_root(&mut self) -> Result<(), AcceptanceRule>
         ensures ok { OnOk result ((go : ℕ → Flow)
             → abstract_root self.old.brackets self.old.roots go ≡ go self.new.roots) }
@@ -31,7 +31,7 @@ impl AbstractState {
         Ok(())
     }
 
-    /// Whether a bracket may be opened: there may be `MAX_BRACKETS`.
+    /// Whether a bracket may be opened: there may be `MAX_BRACKETS` (V13).
     pub fn test_brackets(&self) -> Result<(), AcceptanceRule>
         ensures ok { OnOk result (nat_lt self.now.brackets MAX_BRACKETS ≡ true) }
         ensures err { OnErr result (nat_lt self.now.brackets MAX_BRACKETS ≡ false) }
@@ -43,7 +43,6 @@ impl AbstractState {
         Ok(())
     }
 
-    /// Opens a bracket.
     pub fn open_bracket(&mut self)
         requires { nat_lt self.old.brackets MAX_BRACKETS ≡ true }
         ensures { self.new ≡ record self.old { brackets = self.old.brackets + 1 } }
@@ -51,7 +50,7 @@ impl AbstractState {
         self.brackets += 1;
     }
 
-    /// Closes the innermost bracket, which was opened above the floor.
+    /// Closes the innermost bracket, which was opened above the floor (V13).
     pub fn close_bracket(&mut self) -> Result<(), AcceptanceRule>
         ensures ok { OnOk result ((go : ℕ → Flow)
             → abstract_close self.old.brackets_below self.old.brackets go ≡ go self.new.brackets) }

@@ -47,7 +47,7 @@ impl AbstractState {
     }
 
     /// What is known after a loop: what was known at its start, `home`, if the body left operands,
-    /// brackets and roots as they were.
+    /// brackets and roots as they were (V12).
     pub fn leave_loop(&self, home: AbstractState) -> Result<AbstractState, AcceptanceRule>
         ensures ok { IfOk result (λ k. (q : ℕ)
             → abstract_next q self.now self.now.operands (Some home) ≡ to_next_place q k) }

@@ -22,7 +22,7 @@ use pb_intervals::Interval;
 use pb_sorts::Carrier;
 
 impl AbstractState {
-    /// Pushes an operand, or refuses a 33rd one.
+    /// Pushes an operand, or refuses one more than `MAX_OPERANDS` (V10).
     pub fn push(&mut self, value: AbstractValue) -> Result<(), FlowError>
         requires { HasOrderedEnds value }
         ensures pushed { OnOk result (self.new
@@ -38,7 +38,7 @@ impl AbstractState {
         Ok(())
     }
 
-    /// Whether so many operands stand above the floor.
+    /// Whether so many operands stand above the floor (V01).
     pub fn test_operands(&self, count: usize) -> Result<(), AcceptanceRule>
         ensures ok { OnOk result (count ≤ length self.now.operands) }
         ensures err { OnErr result (length self.now.operands < count) }
@@ -66,7 +66,7 @@ impl AbstractState {
         Ok(self.operands.remove(0))
     }
 
-    /// Pops a number.
+    /// Pushes an operand, or refuses one more than `MAX_OPERANDS` (V10).
     pub fn pop_int(&mut self) -> Result<Interval, AcceptanceRule>
         ensures ok { IfOk result (λ i. self.old
             ≡ record self.new { operands = abstract.Int i.low i.high ∷ self.new.operands }) }
@@ -81,7 +81,6 @@ impl AbstractState {
         }
     }
 
-    /// Pops a truth value.
     pub fn pop_bool(&mut self) -> Result<(), AcceptanceRule>
         ensures ok { OnOk result
             (self.old ≡ record self.new { operands = abstract.Bool ∷ self.new.operands }) }
@@ -123,7 +122,7 @@ impl AbstractState {
         self.operands[0] = numbers(interval);
     }
 
-    /// Whether a call finds its arguments, each of its carrier's kind.
+    /// Whether a call finds its arguments, each of its carrier's kind (V02).
     #[tactic(auto, using(crate::proofs::Missing::no_arguments, crate::proofs::Missing::wrong_kinds))]
     pub fn test_arguments(&self, carriers: &[Carrier]) -> Result<(), AcceptanceRule>
         ensures there { OnOk result (length carriers.now ≤ length self.now.operands) }
@@ -141,7 +140,7 @@ impl AbstractState {
         Ok(())
     }
 
-    /// Pops the arguments of a call, the last one first: each is one of its carrier.
+    /// Pops the arguments of a call, the last one first: each is one of its carrier (V08).
     pub fn pop_arguments(&mut self, carriers: &[Carrier]) -> Result<(), AcceptanceRule>
         requires { length carriers.now ≤ length self.old.operands }
         ensures ok { OnOk result ((go : List value_type → Flow)

@@ -77,7 +77,7 @@ fn find_slot(
     find_param(parameters, slot)
 }
 
-// What is known of the slot of a parameter.
+// What is known of the slot of a parameter; a function of its own for the prover alone.
 fn find_param(parameters: &[AbstractValue], slot: u8) -> Option<AbstractValue>
     ensures { result ≡ slice_get parameters.now slot }
 {

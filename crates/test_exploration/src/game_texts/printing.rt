@@ -8,7 +8,7 @@ use pb_exploration::{Explored, NoGate, explore};
 use pb_game::Solver;
 use pb_game_of_trees::{BuildError, Solved, build};
 use pb_machine::instances_have_trees;
-use pb_module_solver::solve;
+use pb_module_solver::{Context, solve};
 use pb_report::certificate_text::certificate_text;
 use pb_report::game_text::game_text;
 use pb_report::solution_text::solution_text;
@@ -53,7 +53,12 @@ fn solved_game<R: Threads + Sync>(
     ensures lengths { IfOk result (λ s. HasLengths s.built.game s.certified) }
 {
     let built = build(alloc, verified, rows)?;
-    let certified = solve(rt, alloc, &built.game, Solver::Zielonka, 1, &NoGate)?;
+    let context = Context {
+        rt,
+        alloc,
+        gate: &NoGate,
+    };
+    let certified = solve(&context, &built.game, Solver::Zielonka, 1)?;
     Ok(Solved::new(built, certified))
 }
 

@@ -11,7 +11,6 @@ use std::thread::Threads;
 /// More bytes than a text of these tests has.
 const ROOM: usize = 512;
 
-/// Asserts that the report of a module is the text.
 fn assert_report<R: Abort + Threads + Sync>(
     rt: &R,
     alloc: Global,
@@ -26,7 +25,6 @@ fn assert_report<R: Abort + Threads + Sync>(
     Ok(())
 }
 
-/// Asserts that the game of a module is the text.
 fn assert_game<R: Abort + Threads + Sync>(
     rt: &R,
     alloc: Global,
@@ -41,7 +39,6 @@ fn assert_game<R: Abort + Threads + Sync>(
     Ok(())
 }
 
-/// Asserts that the solution of a module is the text.
 fn assert_solution<R: Abort + Threads + Sync>(
     rt: &R,
     alloc: Global,

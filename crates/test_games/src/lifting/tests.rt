@@ -7,7 +7,7 @@ use crate::lifting::overlap::Overlap;
 use pb_exploration::{Gate, NoGate};
 use pb_game::{Game, Solver};
 use pb_lifting::{LiftError, Ranks, lift};
-use pb_module_solver::solve;
+use pb_module_solver::{Context, solve};
 use pb_strategy::check;
 use std::alloc::Global;
 use std::process::Abort;
@@ -123,7 +123,12 @@ fn too_many_ranks(rt: HostRuntime) -> Result<(), Fail> {
     let game = long_cycle(alloc)?;
     let refused = lift(&rt, alloc, &game, 2, &NoGate);
     assert!(rt; matches!(refused, Err(LiftError::TooManyRanks)));
-    let certified = solve(&rt, alloc, &game, Solver::Lift, 2, &NoGate)?;
+    let context = Context {
+        rt: &rt,
+        alloc,
+        gate: &NoGate,
+    };
+    let certified = solve(&context, &game, Solver::Lift, 2)?;
     let winners = &certified.solution().winner;
     assert!(rt; winners.len() == 128);
     assert!(rt; winners.iter().all(|&winner| winner == 1));
@@ -133,9 +138,14 @@ fn too_many_ranks(rt: HostRuntime) -> Result<(), Fail> {
 #[test]
 fn winners_of_generated_games(rt: HostRuntime) -> Result<(), Fail> {
     let alloc = rt.alloc();
+    let context = Context {
+        rt: &rt,
+        alloc,
+        gate: &NoGate,
+    };
     for seed in 0..1000u64 {
         let game = generated(alloc, seed)?;
-        let zielonka = solve(&rt, alloc, &game, Solver::Zielonka, 1, &NoGate)?;
+        let zielonka = solve(&context, &game, Solver::Zielonka, 1)?;
         let Ok(lifted) = lift(&rt, alloc, &game, 2, &NoGate) else {
             panic!(rt; "seed {seed}");
         };

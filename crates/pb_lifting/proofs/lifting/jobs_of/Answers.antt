@@ -1,6 +1,6 @@
 use Rattle.std.proofs.Common.{[], ◌∷◌, length, ap, ◌∙◌, arith}
 use Rattle.std.specs.Prelude.{slice_get}
-use Rattle.pb_lifting.specs.declared.lifting.Job.{Job}
+use Rattle.pb_lifting.specs.declared.work.Job.{Job}
 use Rattle.pb_lifting.specs.Seats.{IsSeatOf}
 use Rattle.pb_lifting.proofs.Pushed.{each_pushed}
 use Rattle.pb_lifting.proofs.Seating.{get_front, get_last}

@@ -1,9 +1,5 @@
-use Rattle.std.proofs.Common.{◌-◌}
 use Rattle.pb_lifting.specs.Seats.{IsSeatOf, IsSameSeat}
 use Rattle.pb_lifting.proofs.work.lift_up.Given as goal
 
 abbrev pub invariant-loop-v : goal.invariant-loop-v
-invariant-loop-v g l = IsSeatOf l.ranks l.seat × IsSameSeat l.fn.seat l.seat
-
-abbrev pub decreases-loop-v : goal.decreases-loop-v
-decreases-loop-v g l = l.end - l.v
+invariant-loop-v g l = IsSeatOf l.ranks l.job.seat × IsSameSeat l.fn.job.seat l.job.seat

@@ -155,20 +155,17 @@ approach-loop-step-init t c =
           (subst (λ (u : List Bool). AreBounds (side_of X.sign) after (environment_of S new) (environment_of S u)) (sym c.in_ok-kept.ensures.items) (first X at).1);
     }
 
-pub approach-solve_toward-requires : goal.approach-solve_toward-requires
-approach-solve_toward-requires t c =
+pub approach-solve_behind-requires : goal.approach-solve_behind-requires
+approach-solve_behind-requires t c =
     let S = erase (spec_form c.args.typed.now.spec) in
     let layout = c.args.typed.now.layout in
     let k = c.args.first in
-    let R = c.index.result.now in
-    let at = equation_known c.args.typed.now.spec layout k R c.args.typed.now.laid_out.values c.requires.within c.index.ensures in
-    let X = erased_equation (equation_form R) in
     let after = drop (k + 1) (equations_of S) in
     let inv = c.loop-step.invariant in
     let same = each_same _ _ c.in_ok-below.ensures.cases.0 in (
       omega (arith, c.decreases, c.requires.within),
       (
-        omega (arith, c.requires.within),
+        c.requires.within,
         (
           omega (arith, ap (λ (ys : List Bool). length ys) same, c.in_ok-below.below.ok.0, c.loop-step.truths.ok.0, inv.count),
           (
@@ -176,9 +173,9 @@ approach-solve_toward-requires t c =
             (
               c.requires.upper,
               (
-                subst (λ (u : List Bool). AreBounds (side_of X.sign) after (environment_of S u) (environment_of S c.deref.result.now)) (sym same)
+                λ X at. subst (λ (u : List Bool). AreBounds (side_of X.sign) after (environment_of S u) (environment_of S c.deref.result.now)) (sym same)
                     (subst (λ (u : List Bool). AreBounds (side_of X.sign) after (environment_of S c.loop-step.truths.items) (environment_of S u)) (sym c.deref.ensures.value) (inv.bounds X at)),
-                subst (λ (u : List Bool). AreBounds (not (side_of X.sign)) after (environment_of S u) (environment_of S c.args.far.now)) (sym same)
+                λ X at. subst (λ (u : List Bool). AreBounds (not (side_of X.sign)) after (environment_of S u) (environment_of S c.args.far.now)) (sym same)
                     (far S layout c.args.typed.now.laid_out.values (able c.args.typed.now) k X at (environment_of S c.args.truths.now.items) c.loop-step._step c.loop-step.truths.items (environment_of S c.args.far.now) (inv.approach X at) (c.requires.far X at)),
               ),
             ),
@@ -196,19 +193,17 @@ approach-returns-then-not-changed-clause-solved t c =
     let S = erase (spec_form c.args.typed.now.spec) in
     let layout = c.args.typed.now.layout in
     let k = c.args.first in
-    let R = c.index.result.now in
-    let at = equation_known c.args.typed.now.spec layout k R c.args.typed.now.laid_out.values c.requires.within c.index.ensures in
-    let X = erased_equation (equation_form R) in
+    let X = equation_exists S layout k c.args.typed.now.laid_out.values c.requires.within in
     let after = drop (k + 1) (equations_of S) in
     let cur = c.loop-step.truths.items in
-    let below = c.solve_toward.new.truths.items in
+    let below = c.solve_behind.new.truths.items in
     let next = c.improve.new.truths in
     let same = each_same _ _ c.in_ok-below.ensures.cases.0 in
-    let joins = subst (λ (o : List Bool). JoinsRight S layout k X below o next) c.deref_mut-in-loop-step.ensures.value
-    (subst (λ (u : List Bool). JoinsRight S layout k X u c.deref_mut-in-loop-step.result.now next) c.deref-in-loop-step.ensures.value (c.in_ok-changed.ensures.joins X at)) in
+    let joins = subst (λ (o : List Bool). JoinsRight S layout k X.0 below o next) c.deref_mut-in-loop-step.ensures.value
+    (subst (λ (u : List Bool). JoinsRight S layout k X.0 u c.deref_mut-in-loop-step.result.now next) c.deref-in-loop-step.ensures.value (c.in_ok-changed.ensures.joins X.0 X.1)) in
     let unchanged = subst (λ (o : List Bool). TakesSet layout k o next) c.deref_mut-in-loop-step.ensures.value (c.in_ok-changed.ensures.unchanged c.if-not-changed.true) in
-    stopped S layout c.args.typed.now.laid_out.values (able c.args.typed.now) k X at (environment_of S c.args.truths.now.items) c.loop-step._step cur below next (c.loop-step.invariant.approach X at)
-    (c.in_ok-solve_toward.ensures.solved ∙ ap (λ (u : List Bool). solution after (environment_of S u)) same) joins unchanged
+    stopped S layout c.args.typed.now.laid_out.values (able c.args.typed.now) k X.0 X.1 (environment_of S c.args.truths.now.items) c.loop-step._step cur below next (c.loop-step.invariant.approach X.0 X.1)
+    (c.in_ok-solve_behind.ensures.solved ∙ ap (λ (u : List Bool). solution after (environment_of S u)) same) joins unchanged
 
 pub approach-loop-step-preserved : goal.approach-loop-step-preserved
 approach-loop-step-preserved t c =
@@ -218,7 +213,7 @@ approach-loop-step-preserved t c =
     let after = drop (k + 1) (equations_of S) in
     let start = environment_of S c.args.truths.now.items in
     let cur = c.loop-step.truths.items in
-    let below = c.solve_toward.new.truths.items in
+    let below = c.solve_behind.new.truths.items in
     let next = c.improve.new.truths in
     let same = each_same _ _ c.in_ok-below.ensures.cases.0 in
     let W = written cur next c.loop-step.truths.len (omega (arith, c.improve.auto.truths, ap (λ (ys : List Bool). length ys) c.deref_mut-in-loop-step.ensures.value)) (sym c.loop-step.truths.ok.0) in
@@ -226,27 +221,24 @@ approach-loop-step-preserved t c =
     let joins = λ (X : syntax.Equation) (at : slice_get S.equations k ≡ Some X). subst (λ (o : List Bool). JoinsRight S layout k X below o next) c.deref_mut-in-loop-step.ensures.value
     (subst (λ (u : List Bool). JoinsRight S layout k X u c.deref_mut-in-loop-step.result.now next) c.deref-in-loop-step.ensures.value (c.in_ok-changed.ensures.joins X at)) in
     let step = λ (X : syntax.Equation) (at : slice_get S.equations k ≡ Some X). stepped S layout c.args.typed.now.laid_out.values (able c.args.typed.now) k X at start c.loop-step._step cur below next (c.loop-step.invariant.approach X at)
-    (c.in_ok-solve_toward.ensures.solved ∙ ap (λ (u : List Bool). solution after (environment_of S u)) same) others (joins X at) in
+    (c.in_ok-solve_behind.ensures.solved ∙ ap (λ (u : List Bool). solution after (environment_of S u)) same) others (joins X at) in
     record {
       count = c.loop-step.invariant.count;
-      kept = c.in_ok-solve_toward.ensures.count;
+      kept = c.in_ok-solve_behind.ensures.count;
       approach = λ X at. subst (λ (u : List Bool). IsApproach (equation_of S X) after start (c.loop-step._step + 1) (environment_of S u)) (sym W) (step X at).0;
       bounds = λ X at. subst (λ (u : List Bool). AreBounds (side_of X.sign) after (environment_of S u) (environment_of S below)) (sym W) (step X at).1;
     }
 
-pub approach-solve_toward-requires-2 : goal.approach-solve_toward-requires-2
-approach-solve_toward-requires-2 t c =
+pub approach-solve_behind-requires-2 : goal.approach-solve_behind-requires-2
+approach-solve_behind-requires-2 t c =
     let S = erase (spec_form c.args.typed.now.spec) in
     let layout = c.args.typed.now.layout in
     let k = c.args.first in
-    let R = c.index.result.now in
-    let at = equation_known c.args.typed.now.spec layout k R c.args.typed.now.laid_out.values c.requires.within c.index.ensures in
-    let X = erased_equation (equation_form R) in
     let after = drop (k + 1) (equations_of S) in
     let inv = c.loop-step.invariant in (
       omega (arith, c.decreases, c.requires.within),
       (
-        omega (arith, c.requires.within),
+        c.requires.within,
         (
           inv.count,
           (
@@ -254,8 +246,8 @@ approach-solve_toward-requires-2 t c =
             (
               c.requires.upper,
               (
-                subst (λ (u : List Bool). AreBounds (side_of X.sign) after (environment_of S c.loop-step.truths.items) (environment_of S u)) (sym c.deref-2.ensures.value) (inv.bounds X at),
-                far S layout c.args.typed.now.laid_out.values (able c.args.typed.now) k X at (environment_of S c.args.truths.now.items) c.loop-step._step c.loop-step.truths.items (environment_of S c.args.far.now) (inv.approach X at) (c.requires.far X at),
+                λ X at. subst (λ (u : List Bool). AreBounds (side_of X.sign) after (environment_of S c.loop-step.truths.items) (environment_of S u)) (sym c.deref-2.ensures.value) (inv.bounds X at),
+                λ X at. far S layout c.args.typed.now.laid_out.values (able c.args.typed.now) k X at (environment_of S c.args.truths.now.items) c.loop-step._step c.loop-step.truths.items (environment_of S c.args.far.now) (inv.approach X at) (c.requires.far X at),
               ),
             ),
           ),
@@ -268,10 +260,64 @@ approach-returns-clause-solved t c =
     let S = erase (spec_form c.args.typed.now.spec) in
     let layout = c.args.typed.now.layout in
     let k = c.args.first in
-    let R = c.index.result.now in
-    let at = equation_known c.args.typed.now.spec layout k R c.args.typed.now.laid_out.values c.requires.within c.index.ensures in
-    let X = erased_equation (equation_form R) in
+    let X = equation_exists S layout k c.args.typed.now.laid_out.values c.requires.within in
     let all : c.loop-step._step ≡ size_of (carriers_of layout) k = omega (arith, c.loop-step-test.false, c.loop-step.auto._step-end, c.size-step-end.ensures) in
-    on_ok_weaker c.solve_toward-2.result
-    (ended S layout c.args.typed.now.laid_out.values (able c.args.typed.now) k X at (environment_of S c.args.truths.now.items) c.loop-step._step c.loop-step.truths.items c.solve_toward-2.new.truths.items all (c.loop-step.invariant.approach X at))
-    c.solve_toward-2.ensures.solved
+    on_ok_weaker c.solve_behind-2.result
+    (ended S layout c.args.typed.now.laid_out.values (able c.args.typed.now) k X.0 X.1 (environment_of S c.args.truths.now.items) c.loop-step._step c.loop-step.truths.items c.solve_behind-2.new.truths.items all (c.loop-step.invariant.approach X.0 X.1))
+    c.solve_behind-2.ensures.solved
+
+-- ---- the equations behind one
+
+pub solve_behind-solve_from-requires : goal.solve_behind-solve_from-requires
+solve_behind-solve_from-requires t c =
+    let S = erase (spec_form c.args.typed.now.spec) in
+    let k = c.args.first in
+    let R = c.index.result.now in
+    let at = equation_known c.args.typed.now.spec c.args.typed.now.layout k R c.args.typed.now.laid_out.values c.requires.within c.index.ensures in
+    let X = erased_equation (equation_form R) in
+    let after = drop (k + 1) (equations_of S) in (
+      omega (arith, c.decreases, c.requires.within),
+      (
+        omega (arith, c.requires.within),
+        (
+          c.requires.count,
+          (
+            c.requires.lower,
+            (
+              c.requires.upper,
+              (
+                subst (λ (s : Sign). AreBounds (side_of s) after (environment_of S c.args.truths.now.items) (environment_of S c.args.near.now)) c.in-Mu.is (c.requires.near X at),
+                subst (λ (s : Sign). AreBounds (not (side_of s)) after (environment_of S c.args.truths.now.items) (environment_of S c.args.far.now)) c.in-Mu.is (c.requires.far X at),
+              ),
+            ),
+          ),
+        ),
+      ),
+    )
+
+pub solve_behind-solve_from-requires-in-Nu : goal.solve_behind-solve_from-requires-in-Nu
+solve_behind-solve_from-requires-in-Nu t c =
+    let S = erase (spec_form c.args.typed.now.spec) in
+    let k = c.args.first in
+    let R = c.index.result.now in
+    let at = equation_known c.args.typed.now.spec c.args.typed.now.layout k R c.args.typed.now.laid_out.values c.requires.within c.index.ensures in
+    let X = erased_equation (equation_form R) in
+    let after = drop (k + 1) (equations_of S) in (
+      omega (arith, c.decreases, c.requires.within),
+      (
+        omega (arith, c.requires.within),
+        (
+          c.requires.count,
+          (
+            c.requires.upper,
+            (
+              c.requires.lower,
+              (
+                subst (λ (s : Sign). AreBounds (not (side_of s)) after (environment_of S c.args.truths.now.items) (environment_of S c.args.far.now)) c.in-Nu.is (c.requires.far X at),
+                subst (λ (s : Sign). AreBounds (side_of s) after (environment_of S c.args.truths.now.items) (environment_of S c.args.near.now)) c.in-Nu.is (c.requires.near X at),
+              ),
+            ),
+          ),
+        ),
+      ),
+    )

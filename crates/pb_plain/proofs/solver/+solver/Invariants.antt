@@ -12,13 +12,13 @@ use Rattle.pb_plain.proofs.Approach.{IsApproach}
 use Rattle.pb_plain.proofs.solver.+solver.Given as goal
 
 abbrev pub decreases-solve_from : goal.decreases-solve_from
-decreases-solve_from l = 3 * (length l.typed.now.layout - l.first) + 1
+decreases-solve_from l = 3 * (length l.typed.now.layout - l.first) + 2
 
 abbrev pub decreases-approach : goal.decreases-approach
-decreases-approach l = 3 * (length l.typed.now.layout - l.first)
+decreases-approach l = 3 * (length l.typed.now.layout - l.first) + 1
 
-abbrev pub decreases-solve_toward : goal.decreases-solve_toward
-decreases-solve_toward l = 3 * (length l.typed.now.layout - l.first) + 2
+abbrev pub decreases-solve_behind : goal.decreases-solve_behind
+decreases-solve_behind l = 3 * (length l.typed.now.layout - l.first)
 
 -- after so many steps the set has been approached, and what is kept bounds the sets behind it
 abbrev pub invariant-approach-loop-step : goal.invariant-approach-loop-step

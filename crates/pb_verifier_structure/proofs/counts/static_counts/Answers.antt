@@ -6,6 +6,7 @@ use Rattle.pb_bytecode_program.specs.Counts.{loop_effect, loops_around, tokens_o
 use Rattle.pb_bytecode_program.specs.declared.instruction.Op.{Op}
 use Rattle.pb_bytecode_program.specs.declared.instruction.Op.TheVariants as op
 use Rattle.pb_verifier_structure.specs.Structure.{IsStructured}
+use Rattle.pb_verifier_structure.specs.declared.counts.TheConstants.{SATURATED}
 use Rattle.pb_verifier_structure.proofs.Nests.{quiet}
 use Rattle.pb_verifier_structure.proofs.Programs.{some_program, of_code}
 use Rattle.pb_verifier_structure.proofs.Weights.{IsCounted, begun, counted_in, counted_out, counted_on, counted_all, stacked_long}
@@ -68,9 +69,9 @@ loop-instruction-preserved c = λ p e.
     let x = c.multiplier-weight.result in
     let y = c.product.result in
     let weight : x ≡ get_or items (length items - 1) 1 = c.multiplier-weight.ensures ∙ ap (λ (xs : List ℕ). get_or xs (length xs - 1) 1) c.as_slice.ensures.value in
-    let written : y ≡ min (x * tokens_of i) 1000001 = c.product.ensures ∙ ap (λ n. min (x * n) 1000001) c.tokens_of.ensures in
+    let written : y ≡ min (x * tokens_of i) SATURATED = c.product.ensures ∙ ap (λ n. min (x * n) SATURATED) c.tokens_of.ensures in
     rw (c.sum-steps.ensures, c.sum-tokens.ensures) (elim c.match-instruction.branch [
-      | in-Loop v ↦ rw (v.weights-is, v.push.ensures.items) (counted_in p w q items _ _ h i at x y weight written v.in-Loop.slot v.product-in-Loop.result (ap loop_effect v.in-Loop.is) (v.product-in-Loop.ensures ∙ ap (λ n. min (x * n) 1000001) (v.turns.ensures p e)))
+      | in-Loop v ↦ rw (v.weights-is, v.push.ensures.items) (counted_in p w q items _ _ h i at x y weight written v.in-Loop.slot v.product-in-Loop.result (ap loop_effect v.in-Loop.is) (v.product-in-Loop.ensures ∙ ap (λ n. min (x * n) SATURATED) (v.turns.ensures p e)))
       | in-Next v ↦ rw (v.weights-is, v.truncate.ensures.items, v.len.ensures.value) (counted_out p w q items _ _ h i at x y weight written (ap loop_effect v.in-Next.is))
       | in_default v ↦ rw (v.weights-is) (counted_on p w q items _ _ h i at x y weight written (quiet i v.in_default.not-Loop v.in_default.not-Next))
     ])

@@ -4,12 +4,16 @@ use Rattle.pb_zielonka.proofs.Forcing.{written}
 use Rattle.pb_zielonka.proofs.RoundLemmas.{on_ok3, passed_taken, search_passed, stops_outside}
 use Rattle.pb_zielonka.proofs.rounds.settle.Goals as goal
 
-pub take_in-requires-clause-search : goal.take_in-requires-clause-search
-take_in-requires-clause-search c =
+pub take_in-requires-clause-under_way : goal.take_in-requires-clause-under_way
+take_in-requires-clause-under_way c =
     let a = c.args.attractor.now in
-    let here : c.args.v < length a.passed.items = omega (arith, c.requires.search.known.size, c.requires.candidate.untaken.vertex) in
-    search_passed c.args.arena.now.game.now c.args.arena.now.region.now c.args.arena.now.player a _ c.args.next.now.items c.args.v c.args.place refl refl refl
-    c.requires.candidate.untaken.inside (written a.passed.items c.args.v c.args.place here) c.requires.stops c.requires.search
+    let here : c.args.v < length a.passed.items = omega (arith, c.requires.under_way.search.known.size, c.requires.candidate.untaken.vertex) in
+    record {
+      small = c.requires.under_way.small;
+      started = c.requires.under_way.started;
+      search = search_passed c.args.arena.now.game.now c.args.arena.now.region.now c.args.arena.now.player a _ c.args.next.now.items c.args.v c.args.place refl refl refl
+          c.requires.candidate.untaken.inside (written a.passed.items c.args.v c.args.place here) c.requires.stops c.requires.under_way.search;
+    }
 
 pub take_in-requires-clause-taken : goal.take_in-requires-clause-taken
 take_in-requires-clause-taken c =
@@ -21,12 +25,16 @@ take_in-requires-clause-taken c =
 pub take_in-requires-clause-untaken : goal.take_in-requires-clause-untaken
 take_in-requires-clause-untaken c = c.requires.candidate.untaken
 
-pub returns-then-place-successors-clause-search : goal.returns-then-place-successors-clause-search
-returns-then-place-successors-clause-search c =
+pub returns-then-place-successors-clause-under_way : goal.returns-then-place-successors-clause-under_way
+returns-then-place-successors-clause-under_way c =
     let a = c.args.attractor.now in
-    let here : c.args.v < length a.passed.items = omega (arith, c.requires.search.known.size, c.requires.candidate.untaken.vertex) in
-    search_passed c.args.arena.now.game.now c.args.arena.now.region.now c.args.arena.now.player a _ c.args.next.now.items c.args.v c.args.place refl refl refl
-    c.requires.candidate.untaken.inside (written a.passed.items c.args.v c.args.place here) c.requires.stops c.requires.search
+    let here : c.args.v < length a.passed.items = omega (arith, c.requires.under_way.search.known.size, c.requires.candidate.untaken.vertex) in
+    record {
+      small = c.requires.under_way.small;
+      started = c.requires.under_way.started;
+      search = search_passed c.args.arena.now.game.now c.args.arena.now.region.now c.args.arena.now.player a _ c.args.next.now.items c.args.v c.args.place refl refl refl
+          c.requires.candidate.untaken.inside (written a.passed.items c.args.v c.args.place here) c.requires.stops c.requires.under_way.search;
+    }
 
 pub returns-then-place-successors-clause-outside : goal.returns-then-place-successors-clause-outside
 returns-then-place-successors-clause-outside c = λ inside z.

@@ -4,7 +4,6 @@ use Rattle.std.specs.Prelude.{IfOk, IfErr, OnErr, slice_get, vec_items}
 use Rattle.pb_sorts.specs.declared.carrier.Carrier.{Carrier}
 use Rattle.pb_bytecode_program.specs.Transfer.{abstract_call, to_next_place}
 use Rattle.pb_verifier_states.specs.NamedRule.{named_at_call}
-use Rattle.pb_verifier_states.specs.declared.rule.AcceptanceRule.TheVariants as rule
 use Rattle.pb_verifier_states.proofs.flow.tree.call.Goals as goal
 
 named : (vs : List (Vec Carrier Global)) (i : ℕ) (v : Vec Carrier Global) → i < length vs → v ≡ get_or vs i v → slice_get (map vec_items vs) i ≡ Some v.items
