@@ -28,7 +28,6 @@ pub(crate) fn tested_range(carrier: Carrier, shape: Shape) -> Option<Range>
     }
 }
 
-/// Whether the argument at a place is tested.
 pub(crate) fn is_tested(carriers: &[Carrier], place: usize, argument: &Argument) -> bool
     ensures { result ≡ is_tested (slice_get carriers.now place) (argument_view argument.now).shape }
 {

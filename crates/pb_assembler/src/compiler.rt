@@ -5,6 +5,8 @@ ghost use Rattle.pb_text_tree.specs.Form.{spec_form};
 ghost use Rattle.pb_text_meaning.specs.Erase.{erase};
 ghost use Rattle.pb_bytecode.specs.Decoded.{module_contents};
 ghost use Rattle.pb_normal.specs.Text.{said};
+ghost use Rattle.pb_verifier.specs.Acceptance.{IsAccepted};
+ghost use Rattle.pb_assembler_modules.specs.Answers.{HasMeaningOf};
 ghost use Rattle.pb_assembler_modules.specs.Module.{IsCompiledModule, KeepsAllLimits};
 ghost use Rattle.pb_assembler.specs.MeasureEquations.{AreMeasuresOfAll, EachKeepsLimits};
 ghost use Rattle.pb_assembler.specs.Refusal.{IsRefusal};
@@ -15,6 +17,7 @@ use crate::first_excess::measures_within_limits;
 use crate::initial::initial;
 use crate::measures::Measures;
 use crate::sort::sorts;
+use pb_assembler_modules::laws::{compiled_modules_are_accepted, compiled_modules_have_the_answer};
 use pb_bytecode::{Module, Version};
 use pb_normal::Normal;
 use std::alloc::{AllocError, Global};
@@ -52,7 +55,8 @@ fn module_of(
 }
 
 /// The module that the compile scheme makes of a text's normal form (Groote and Willemse 2005: the
-/// right sides of its equations are code that writes and/or trees). It is always accepted.
+/// right sides of its equations are code that writes and/or trees). It is always accepted, and has
+/// the text's meaning.
 ///
 /// # Errors
 /// `Limit` exactly where the code of an equation exceeds a limit of the machine: the first such
@@ -65,10 +69,17 @@ pub fn compile(alloc: Global, normal: &Normal<'_>) -> Result<Module, CompileErro
     // Its code keeps the machine's limits.
     ensures kept { IfOk result (λ m. KeepsAllLimits (erase (spec_form normal.now.typed.now.spec))
         (module_contents m)) }
+    // It is accepted.
+    ensures accepted { IfOk result (λ m. IsAccepted (module_contents m)) }
+    // Whichever trees the runs of its instances end with, they say what the text says.
+    ensures meaning { IfOk result (λ m. HasMeaningOf (erase (spec_form normal.now.typed.now.spec))
+        (module_contents m)) }
     // The first equation that exceeds a limit, with its least limit.
     ensures refused { IfErr result
         (λ e. IsRefusal (erase (spec_form normal.now.typed.now.spec)) e) }
 {
+    compiled_modules_are_accepted();
+    compiled_modules_have_the_answer();
     let measures = measures_within_limits(alloc, normal)?;
     match module_of(alloc, normal, &measures) {
         Ok(module) => Ok(module),

@@ -8,7 +8,7 @@ ghost use Rattle.pb_assembler.specs.MeasureFormulas.{capped_tally, deciding, end
 ghost use Rattle.pb_assembler.specs.MeasureFormulas.{nothing, passing, test_tally, tested_tally};
 ghost use Rattle.pb_assembler.specs.MeasureFormulas.{under_tally};
 
-use crate::measure_load::{Load, add};
+use crate::measure_load::{Load, MOST, add};
 use pb_normal::Junction;
 
 /// How many instructions, steps and tokens a formula's code has, and how many operands, brackets
@@ -27,7 +27,7 @@ pub(crate) struct Tally {
 fn times(count: u64, each: u32) -> u32
     ensures { result ≡ capped (count * each) }
 {
-    count.saturating_mul(each as u64).min(1_000_001) as u32
+    count.saturating_mul(each as u64).min(MOST as u64) as u32
 }
 
 /// A test alone.
@@ -37,7 +37,7 @@ pub(crate) fn test_tally(load: Load) -> Tally
     let length = add(load.instructions, 2);
     Tally {
         instructions: length,
-        operands: load.operands.min(1_000_001),
+        operands: load.operands.min(MOST),
         brackets: 0,
         nesting: 0,
         steps: length,
@@ -51,11 +51,11 @@ fn passing(load: Load, rest: Tally) -> Tally
 {
     Tally {
         instructions: add(add(load.instructions, rest.instructions), 1),
-        operands: load.operands.max(rest.operands).min(1_000_001),
-        brackets: rest.brackets.min(1_000_001),
-        nesting: rest.nesting.min(1_000_001),
+        operands: load.operands.max(rest.operands).min(MOST),
+        brackets: rest.brackets.min(MOST),
+        nesting: rest.nesting.min(MOST),
         steps: add(add(load.instructions, rest.steps), 1),
-        tokens: rest.tokens.min(1_000_001),
+        tokens: rest.tokens.min(MOST),
     }
 }
 
@@ -65,9 +65,9 @@ fn deciding(load: Load, rest: Tally) -> Tally
 {
     Tally {
         instructions: add(add(load.instructions, rest.instructions), 3),
-        operands: load.operands.max(rest.operands).min(1_000_001),
-        brackets: rest.brackets.min(1_000_001),
-        nesting: rest.nesting.min(1_000_001),
+        operands: load.operands.max(rest.operands).min(MOST),
+        brackets: rest.brackets.min(MOST),
+        nesting: rest.nesting.min(MOST),
         steps: add(add(load.instructions, rest.steps), 3),
         tokens: add(rest.tokens, 1),
     }
@@ -89,9 +89,9 @@ fn bracketed(tally: Tally) -> Tally
 {
     Tally {
         instructions: add(tally.instructions, 2),
-        operands: tally.operands.min(1_000_001),
+        operands: tally.operands.min(MOST),
         brackets: add(tally.brackets, 1),
-        nesting: tally.nesting.min(1_000_001),
+        nesting: tally.nesting.min(MOST),
         steps: add(tally.steps, 2),
         tokens: add(tally.tokens, 2),
     }
@@ -101,12 +101,12 @@ fn same(tally: Tally) -> Tally
     ensures { result ≡ capped_tally tally }
 {
     Tally {
-        instructions: tally.instructions.min(1_000_001),
-        operands: tally.operands.min(1_000_001),
-        brackets: tally.brackets.min(1_000_001),
-        nesting: tally.nesting.min(1_000_001),
-        steps: tally.steps.min(1_000_001),
-        tokens: tally.tokens.min(1_000_001),
+        instructions: tally.instructions.min(MOST),
+        operands: tally.operands.min(MOST),
+        brackets: tally.brackets.min(MOST),
+        nesting: tally.nesting.min(MOST),
+        steps: tally.steps.min(MOST),
+        tokens: tally.tokens.min(MOST),
     }
 }
 
@@ -127,9 +127,9 @@ pub(crate) fn after(first: Tally, second: Tally) -> Tally
 {
     Tally {
         instructions: add(first.instructions, second.instructions),
-        operands: first.operands.max(second.operands).min(1_000_001),
-        brackets: first.brackets.max(second.brackets).min(1_000_001),
-        nesting: first.nesting.max(second.nesting).min(1_000_001),
+        operands: first.operands.max(second.operands).min(MOST),
+        brackets: first.brackets.max(second.brackets).min(MOST),
+        nesting: first.nesting.max(second.nesting).min(MOST),
         steps: add(first.steps, second.steps),
         tokens: add(first.tokens, second.tokens),
     }
@@ -142,8 +142,8 @@ pub(crate) fn looped(count: u64, body: Tally) -> Tally
 {
     Tally {
         instructions: add(body.instructions, 2),
-        operands: body.operands.min(1_000_001),
-        brackets: body.brackets.min(1_000_001),
+        operands: body.operands.min(MOST),
+        brackets: body.brackets.min(MOST),
         nesting: add(body.nesting, 1),
         steps: add(times(count, add(body.steps, 1)), 1),
         tokens: times(count, body.tokens),
@@ -161,7 +161,7 @@ pub(crate) fn argument_load(tested: bool, later: bool, load: Load, rest: Load) -
     };
     Load {
         instructions: add(add(load.instructions, rest.instructions), more),
-        operands: load.operands.max(add(rest.operands, 1)).min(1_000_001),
+        operands: load.operands.max(add(rest.operands, 1)).min(MOST),
     }
 }
 
@@ -186,7 +186,7 @@ pub(crate) fn ended_call(any: bool, load: Load) -> Tally
     };
     Tally {
         instructions: length,
-        operands: load.operands.min(1_000_001),
+        operands: load.operands.min(MOST),
         brackets: 0,
         nesting: 0,
         steps: length,

@@ -20,7 +20,7 @@ pub(crate) struct Measures {
     pub tokens: u32,
 }
 
-/// The first limit that the code exceeds, if there is one.
+/// The first limit that the code exceeds, if there is one: C01, C02, C03, C04, C05 or C06.
 pub(crate) fn first_excess(measures: &Measures) -> Option<Limit>
     ensures { result ≡ first_excess measures.now }
 {

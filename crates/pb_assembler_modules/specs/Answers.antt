@@ -12,7 +12,7 @@ use Rattle.pb_text_meaning.specs.Meaning as text
 use Rattle.pb_text_meaning.specs.Meaning.{equation_of, equations_of}
 use Rattle.pb_bytecode_program.specs.Safety.{AreArguments}
 use Rattle.pb_bytecode.specs.Contents.{EquationContents, Contents}
-use Rattle.pb_bytecode.specs.Meaning.{signature_of, number_at, answer}
+use Rattle.pb_bytecode.specs.Meaning.{signature_of, AreTrees, number_at, answer}
 use Rattle.pb_assembler_scheme.specs.Correct.{number_in}
 
 -- under every environment of numbers, each instance's tree is true exactly where the text's
@@ -38,3 +38,7 @@ pub record SaysTheSame (spec : Spec) (m : Contents) (trees : ℕ → Tree) : Typ
   pub answer : answer m trees ≡ text.answer spec
   pub solutions : SolutionsMatch spec m trees
   pub trees_hold : TreesHold spec m trees
+
+-- whichever trees the runs of its instances end with, they say what the text says
+abbrev pub HasMeaningOf : Spec → Contents → Type 0
+HasMeaningOf spec m = (trees : ℕ → Tree) → AreTrees m trees → SaysTheSame spec m trees

@@ -1,16 +1,14 @@
 //! The laws of compiled modules. The functions do nothing.
 
-ghost use Rattle.std.specs.Prelude.{◌≡◌, ℕ, true};
-ghost use Rattle.pb_trees.specs.Tree.{Tree};
+ghost use Rattle.std.specs.Prelude.{◌≡◌, true};
 ghost use Rattle.pb_text_tree.specs.Form.{SpecForm};
 ghost use Rattle.pb_text_meaning.specs.Erase.{erase};
 ghost use Rattle.pb_text_meaning.specs.Syntax.{Spec};
 ghost use Rattle.pb_typing_rules.specs.WellTyped.{IsWellTyped};
 ghost use Rattle.pb_typing.specs.Typed.{is_faultless};
 ghost use Rattle.pb_bytecode.specs.Contents.{Contents};
-ghost use Rattle.pb_bytecode.specs.Meaning.{AreTrees};
 ghost use Rattle.pb_verifier.specs.Acceptance.{IsAccepted};
-ghost use Rattle.pb_assembler_modules.specs.Answers.{SaysTheSame};
+ghost use Rattle.pb_assembler_modules.specs.Answers.{HasMeaningOf};
 ghost use Rattle.pb_assembler_modules.specs.Module.{IsCompiledModule, KeepsAllLimits};
 
 /// The module that the scheme makes of a well-typed specification, and so of a text that typing
@@ -29,10 +27,9 @@ pub fn compiled_modules_are_accepted()
 /// the text's is, and each tree exactly where the text's equation holds.
 pub fn compiled_modules_have_the_answer()
     ensures well_typed { (spec : Spec) → IsWellTyped spec → (m : Contents) → IsCompiledModule spec m
-        → (trees : ℕ → Tree) → AreTrees m trees → SaysTheSame spec m trees }
+        → HasMeaningOf spec m }
     ensures accepted { (text : SpecForm) → is_faultless text ≡ true → (m : Contents)
-        → IsCompiledModule (erase text) m → (trees : ℕ → Tree) → AreTrees m trees
-        → SaysTheSame (erase text) m trees }
+        → IsCompiledModule (erase text) m → HasMeaningOf (erase text) m }
 {
     pb_assembler_accepted::made_programs_are_the_schemes();
     pb_assembler_scheme::compiled_equations_decide();

@@ -5,6 +5,7 @@ ghost use Rattle.pb_game.specs.declared.solver.Solver.TheVariants.{Lift};
 ghost use Rattle.pb_module_solver.specs.Answers.{IsAnswerOf, IsLiftedAnswer, IsTooLarge};
 
 use crate::built_module::{BuiltModule, build_module, solve_game};
+use crate::context::Context;
 use crate::options::SolveOptions;
 use pb_exploration::Gate;
 use pb_game_of_trees::BuildError;
@@ -12,7 +13,6 @@ use pb_machine::instances_have_trees;
 use pb_report::Answer;
 use pb_report::cut_calls::count_cut;
 use pb_verifier::Verified;
-use std::alloc::Global;
 use std::thread::Threads;
 
 /// Answers a verified module, which is solved as by `solve_module`: the truth of the initial
@@ -23,22 +23,20 @@ use std::thread::Threads;
 /// # Errors
 /// As with `solve_module`.
 pub fn answer_module<R: Threads + Sync, G: Gate + Sync>(
-    rt: &R,
-    alloc: Global,
+    context: &Context<'_, R, G>,
     verified: &Verified,
     options: SolveOptions,
-    gate: &G,
 ) -> Result<Answer, BuildError>
     ensures answer { IfOk result (IsAnswerOf verified.now) }
     ensures lifted { options.solver ≡ Lift → IfOk result (IsLiftedAnswer verified.now) }
     ensures too_many { result ≡ Err TooManyVertices → IsTooLarge verified.now }
 {
     instances_have_trees(verified);
-    match build_module(rt, alloc, verified, options.workers, gate) {
+    match build_module(context, verified, options.workers) {
         Ok(BuiltModule { explored, built }) => {
             let cut = count_cut(explored.rows());
             drop(explored);
-            let solved = solve_game(rt, alloc, built, options, gate)?;
+            let solved = solve_game(context, built, options)?;
             Ok(Answer {
                 truth: solved.truth(),
                 instances: solved.built.instances(),

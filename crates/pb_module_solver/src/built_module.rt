@@ -1,14 +1,15 @@
 //! Modules whose game is built: what is solved, whether its rows are kept behind it or not, and
 //! what can be written of it before anybody solves it.
-ghost use Rattle.std.specs.Prelude.{◌≡◌, ◌<◌, ◌≤◌, IfOk, IfErr, Err};
+ghost use Rattle.std.specs.Prelude.{◌≡◌, ◌<◌, ◌≤◌, IfOk, Err};
 ghost use Rattle.pb_game_of_trees.specs.declared.tree_game.BuildError.TheVariants.{TooManyVertices};
 ghost use Rattle.pb_game.specs.Certificates.{IsCertificate};
 ghost use Rattle.pb_module_solver.specs.Lifting.{IsLiftedOrNone};
-ghost use Rattle.pb_report.specs.Sending.{IsOutOfMemory};
+ghost use Rattle.pb_report.specs.Delivery.{Delivers, is_failed};
 ghost use Rattle.pb_game.specs.declared.solver.Solver.TheVariants.{Lift};
 ghost use Rattle.pb_module_solver.specs.Answers.{IsBuiltModule, IsTooLarge};
-ghost use Rattle.pb_module_solver.specs.Texts.{ForGameText, SendsText};
+ghost use Rattle.pb_module_solver.specs.Texts.{ForGameText};
 
+use crate::context::Context;
 use crate::options::SolveOptions;
 use crate::solve;
 use pb_exploration::{Explored, Gate, explore};
@@ -34,19 +35,17 @@ pub struct BuiltModule {
 /// # Errors
 /// `TooManyVertices` where the game would have more than 2^24 vertices; else `Memory`.
 pub fn build_module<R: Threads + Sync, G: Gate + Sync>(
-    rt: &R,
-    alloc: Global,
+    context: &Context<'_, R, G>,
     verified: &Verified,
     workers: u32,
-    gate: &G,
 ) -> Result<BuiltModule, BuildError>
     requires { (0 < workers) × (workers ≤ 16) }
     ensures built { IfOk result (IsBuiltModule verified.now) }
     ensures too_many { result ≡ Err TooManyVertices → IsTooLarge verified.now }
 {
     instances_have_trees(verified);
-    let explored = explore(rt, alloc, verified, workers, gate)?;
-    match build(alloc, verified, explored.rows()) {
+    let explored = explore(context.rt, context.alloc, verified, workers, context.gate)?;
+    match build(context.alloc, verified, explored.rows()) {
         Ok(built) => Ok(BuiltModule { explored, built }),
         Err(error) => Err(error),
     }
@@ -65,10 +64,8 @@ impl BuiltModule {
         sink: &mut S,
     ) -> Result<(), WriteError>
         requires { IsBuiltModule verified.now self.now }
-        ensures text { SendsText (ForGameText verified.now) result (S.taken sink.old)
-            (S.taken sink.new)
-            (S.has_failed sink.old) (S.has_failed sink.new) }
-        ensures silent { IfErr result (λ e. IsOutOfMemory e → sink.new ≡ sink.old) }
+        ensures { Delivers is_failed (ForGameText verified.now) result
+            S.taken S.has_failed sink.old sink.new }
     {
         instances_have_trees(verified);
         game_text(alloc, verified, &self.built, self.explored.rows(), sink)
@@ -77,24 +74,15 @@ impl BuiltModule {
 
 /// Solves a game by the solver that is asked for. The checker has certified the winners.
 pub(crate) fn solve_game<R: Threads + Sync, G: Gate + Sync>(
-    rt: &R,
-    alloc: Global,
+    context: &Context<'_, R, G>,
     built: TreeGame,
     options: SolveOptions,
-    gate: &G,
 ) -> Result<Solved, AllocError>
     ensures built { IfOk result (λ s. s.built ≡ built) }
     ensures certificate { IfOk result (λ s. IsCertificate s.built.game s.certified) }
     ensures lifted { options.solver ≡ Lift → IfOk result
         (λ s. IsLiftedOrNone s.built.game s.certified) }
 {
-    let certified = solve(
-        rt,
-        alloc,
-        &built.game,
-        options.solver,
-        options.workers,
-        gate,
-    )?;
+    let certified = solve(context, &built.game, options.solver, options.workers)?;
     Ok(Solved::new(built, certified))
 }

@@ -1,19 +1,19 @@
 //! Why a module's initial instance is true or false. Evidence names few instances, and holds
 //! whatever trees the others have; so parts of the instances are tried first, each larger than the
 //! one before, and everything is explored only where none of them is enough.
-ghost use Rattle.std.specs.Prelude.{◌≡◌, ℕ, Option, IfOk, IfErr, IfSome, Err};
+ghost use Rattle.std.specs.Prelude.{◌≡◌, ℕ, Option, IfOk, IfSome, Err};
 ghost use Rattle.pb_text_tree.specs.declared.place.Place.{Place};
 ghost use Rattle.pb_bytecode.specs.Contents.{Contents};
 ghost use Rattle.pb_game_of_trees.specs.declared.tree_game.BuildError.TheVariants.{TooManyVertices};
 ghost use Rattle.pb_report.specs.CallPlaces.{AreCallPlaces};
 ghost use Rattle.pb_report.specs.ModuleEvidence.{ForEvidenceText, IsExplanation};
-ghost use Rattle.pb_report.specs.Sending.{IsOutOfMemory};
+ghost use Rattle.pb_report.specs.Delivery.{Delivers, is_failed};
 ghost use Rattle.pb_nearby.specs.Nearby.{IsNearby};
 ghost use Rattle.pb_module_solver.specs.Answers.{IsTooLarge};
 ghost use Rattle.pb_module_solver.specs.Parts.{IsPart};
-ghost use Rattle.pb_module_solver.specs.Texts.{SendsText};
 
 use crate::built_module::solve_game;
+use crate::context::Context;
 use crate::options::SolveOptions;
 use crate::solved_module::solve_module;
 use pb_exploration::Gate;
@@ -65,11 +65,9 @@ fn part_of(alloc: Global, nearby: &Nearby, truth: bool) -> Result<Part, AllocErr
 /// Evidence from a part of the instances, where the initial one has the part's truth value
 /// whichever trees the others have, or where there are no others.
 fn shown_by<R: Threads + Sync, G: Gate + Sync>(
-    rt: &R,
-    alloc: Global,
+    context: &Context<'_, R, G>,
     verified: &Verified,
     options: SolveOptions,
-    gate: &G,
     part: &Part,
 ) -> Result<Option<Explanation>, AllocError>
     requires { IsPart verified.now part.now }
@@ -77,16 +75,16 @@ fn shown_by<R: Threads + Sync, G: Gate + Sync>(
 {
     instances_have_trees(verified);
     pb_evidence::assumed_is_shown();
-    let built = match build_rows(alloc, verified, &part.rows) {
+    let built = match build_rows(context.alloc, verified, &part.rows) {
         Ok(built) => built,
         Err(BuildError::TooManyVertices) => return Ok(None),
         Err(BuildError::Memory(error)) => return Err(error),
     };
-    let solved = solve_game(rt, alloc, built, options, gate)?;
+    let solved = solve_game(context, built, options)?;
     if solved.truth() != part.truth && !part.is_whole {
         return Ok(None);
     }
-    Ok(Some(evidence_of_rows(alloc, &solved, &part.rows)?))
+    Ok(Some(evidence_of_rows(context.alloc, &solved, &part.rows)?))
 }
 
 /// Whether a part of the instances more often shows that the initial one is true. A least fixpoint
@@ -103,16 +101,14 @@ fn shows_truth(verified: &Verified) -> bool {
 /// are explored breadth first on the calling thread, so that what is found is the same whatever the
 /// workers do. A round whose last instance calls too many is left out.
 fn explain_early<R: Threads + Sync, G: Gate + Sync>(
-    rt: &R,
-    alloc: Global,
+    context: &Context<'_, R, G>,
     verified: &Verified,
     options: SolveOptions,
-    gate: &G,
 ) -> Result<Option<Explanation>, AllocError>
     ensures { IfOk result (λ found. IfSome found (IsExplanation verified.now)) }
 {
     let shows_truth = shows_truth(verified);
-    let mut nearby = Nearby::new(alloc, verified)?;
+    let mut nearby = Nearby::new(context.alloc, verified)?;
     for &most in &ROUNDS {
         nearby.grow(verified, most)?;
         if nearby.len() / 2 > most {
@@ -122,8 +118,8 @@ fn explain_early<R: Threads + Sync, G: Gate + Sync>(
             if most == LAST_ROUND && truth != shows_truth {
                 continue;
             }
-            let part = part_of(alloc, &nearby, truth)?;
-            let found = shown_by(rt, alloc, verified, options, gate, &part)?;
+            let part = part_of(context.alloc, &nearby, truth)?;
+            let found = shown_by(context, verified, options, &part)?;
             if found.is_some() {
                 return Ok(found);
             }
@@ -134,18 +130,16 @@ fn explain_early<R: Threads + Sync, G: Gate + Sync>(
 
 /// Evidence from all reached instances.
 fn explain_whole<R: Threads + Sync, G: Gate + Sync>(
-    rt: &R,
-    alloc: Global,
+    context: &Context<'_, R, G>,
     verified: &Verified,
     options: SolveOptions,
-    gate: &G,
 ) -> Result<Explanation, BuildError>
     ensures evidence { IfOk result (IsExplanation verified.now) }
     ensures too_many { result ≡ Err TooManyVertices → IsTooLarge verified.now }
 {
     instances_have_trees(verified);
-    match solve_module(rt, alloc, verified, options, gate) {
-        Ok(module) => Ok(evidence_of(alloc, &module.solved, module.explored.rows())?),
+    match solve_module(context, verified, options) {
+        Ok(module) => Ok(evidence_of(context.alloc, &module.solved, module.explored.rows())?),
         Err(error) => Err(error),
     }
 }
@@ -158,19 +152,17 @@ fn explain_whole<R: Threads + Sync, G: Gate + Sync>(
 /// `TooManyVertices` where the game would have more than 2^24 vertices, and the instances nearby
 /// are not enough; else `Memory`.
 pub fn explain_module<R: Threads + Sync, G: Gate + Sync>(
-    rt: &R,
-    alloc: Global,
+    context: &Context<'_, R, G>,
     verified: &Verified,
     options: SolveOptions,
-    gate: &G,
 ) -> Result<Explanation, BuildError>
     ensures evidence { IfOk result (IsExplanation verified.now) }
     ensures too_many { result ≡ Err TooManyVertices → IsTooLarge verified.now }
 {
-    if let Some(explanation) = explain_early(rt, alloc, verified, options, gate)? {
+    if let Some(explanation) = explain_early(context, verified, options)? {
         return Ok(explanation);
     }
-    explain_whole(rt, alloc, verified, options, gate)
+    explain_whole(context, verified, options)
 }
 
 /// Appends why the initial instance has its truth value: the answer, and then a line for each
@@ -190,12 +182,10 @@ pub fn write_explanation<S: Sink>(
     requires explanation { IsExplanation verified.now placed.now.explanation.now }
     requires places { (place : ℕ → ℕ → Option Place)
         × AreCallPlaces place placed.now.explanation.now.evidence placed.now.call_places.now }
-    ensures text { (place : ℕ → ℕ → Option Place)
+    ensures { (place : ℕ → ℕ → Option Place)
         → AreCallPlaces place placed.now.explanation.now.evidence placed.now.call_places.now
-        → SendsText (ForEvidenceText verified.now place) result (S.taken sink.old)
-        (S.taken sink.new)
-        (S.has_failed sink.old) (S.has_failed sink.new) }
-    ensures silent { IfErr result (λ e. IsOutOfMemory e → sink.new ≡ sink.old) }
+        → Delivers is_failed (ForEvidenceText verified.now place) result
+        S.taken S.has_failed sink.old sink.new }
 {
     instances_have_trees(verified);
     evidence_text(alloc, verified, placed, sink)

@@ -5,6 +5,7 @@
 
 mod answer;
 pub mod built_module;
+mod context;
 pub mod explanation;
 pub mod options;
 pub mod solved_module;
@@ -12,6 +13,7 @@ mod solver;
 
 pub use answer::answer_module;
 pub use built_module::{BuiltModule, build_module};
+pub use context::Context;
 pub use explanation::{explain_module, write_explanation};
 pub use options::SolveOptions;
 pub use solved_module::{SolvedModule, solve_module};

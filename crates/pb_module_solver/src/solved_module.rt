@@ -1,14 +1,15 @@
 //! Verified modules that are solved.
-ghost use Rattle.std.specs.Prelude.{◌≡◌, IfOk, IfErr, Err};
+ghost use Rattle.std.specs.Prelude.{◌≡◌, IfOk, Err};
 ghost use Rattle.pb_game_of_trees.specs.declared.tree_game.BuildError.TheVariants.{TooManyVertices};
 ghost use Rattle.pb_game.specs.Certificates.{IsCertificate};
 ghost use Rattle.pb_module_solver.specs.Lifting.{IsLiftedOrNone};
-ghost use Rattle.pb_report.specs.Sending.{IsOutOfMemory};
+ghost use Rattle.pb_report.specs.Delivery.{Delivers, is_failed};
 ghost use Rattle.pb_game.specs.declared.solver.Solver.TheVariants.{Lift};
 ghost use Rattle.pb_module_solver.specs.Answers.{IsSolutionOf, IsTooLarge};
-ghost use Rattle.pb_module_solver.specs.Texts.{ForCertificateText, ForSolutionText, SendsText};
+ghost use Rattle.pb_module_solver.specs.Texts.{ForCertificateText, ForSolutionText};
 
 use crate::built_module::{BuiltModule, build_module, solve_game};
+use crate::context::Context;
 use crate::options::SolveOptions;
 use pb_exploration::{Explored, Gate};
 use pb_game_of_trees::{BuildError, Solved};
@@ -35,11 +36,9 @@ pub struct SolvedModule {
 /// # Errors
 /// `TooManyVertices` where the game would have more than 2^24 vertices; else `Memory`.
 pub fn solve_module<R: Threads + Sync, G: Gate + Sync>(
-    rt: &R,
-    alloc: Global,
+    context: &Context<'_, R, G>,
     verified: &Verified,
     options: SolveOptions,
-    gate: &G,
 ) -> Result<SolvedModule, BuildError>
     ensures solved { IfOk result (IsSolutionOf verified.now) }
     ensures certificate { IfOk result
@@ -48,9 +47,9 @@ pub fn solve_module<R: Threads + Sync, G: Gate + Sync>(
         (λ s. IsLiftedOrNone s.solved.built.game s.solved.certified) }
     ensures too_many { result ≡ Err TooManyVertices → IsTooLarge verified.now }
 {
-    match build_module(rt, alloc, verified, options.workers, gate) {
+    match build_module(context, verified, options.workers) {
         Ok(BuiltModule { explored, built }) => {
-            let solved = solve_game(rt, alloc, built, options, gate)?;
+            let solved = solve_game(context, built, options)?;
             Ok(SolvedModule { explored, solved })
         }
         Err(error) => Err(error),
@@ -69,9 +68,8 @@ impl SolvedModule {
         sink: &mut S,
     ) -> Result<(), WriteError>
         requires { IsSolutionOf verified.now self.now }
-        ensures text { SendsText (ForSolutionText verified.now) result (S.taken sink.old)
-            (S.taken sink.new) (S.has_failed sink.old) (S.has_failed sink.new) }
-        ensures silent { IfErr result (λ e. IsOutOfMemory e → sink.new ≡ sink.old) }
+        ensures { Delivers is_failed (ForSolutionText verified.now) result
+            S.taken S.has_failed sink.old sink.new }
     {
         instances_have_trees(verified);
         solution_text(alloc, verified, &self.solved, self.explored.rows(), sink)
@@ -90,9 +88,8 @@ impl SolvedModule {
     ) -> Result<(), WriteError>
         requires solved { IsSolutionOf verified.now self.now }
         requires certificate { IsCertificate self.now.solved.built.game self.now.solved.certified }
-        ensures text { SendsText (ForCertificateText verified.now) result (S.taken sink.old)
-            (S.taken sink.new) (S.has_failed sink.old) (S.has_failed sink.new) }
-        ensures silent { IfErr result (λ e. IsOutOfMemory e → sink.new ≡ sink.old) }
+        ensures { Delivers is_failed (ForCertificateText verified.now) result
+            S.taken S.has_failed sink.old sink.new }
     {
         instances_have_trees(verified);
         let certificate = self.solved.certified.solution();

@@ -11,6 +11,7 @@ ghost use Rattle.pb_module_solver.specs.Winners.{NamesTheWinners};
 ghost use Rattle.pb_module_solver.specs.Lifting.{IsLiftedOrNone};
 ghost use Rattle.pb_game.specs.declared.solver.Solver.TheVariants.{Lift};
 
+use crate::context::Context;
 use pb_exploration::Gate;
 use pb_game::{Game, Solver};
 use pb_lifting::{LiftError, lift};
@@ -26,12 +27,10 @@ use std::thread::Threads;
 /// Memory alone: where lifting has more ranks than a word, or the checker refuses its solution,
 /// Zielonka's algorithm answers, whose solutions the checker can't refuse.
 pub fn solve<G: Gate + Sync, R: Threads + Sync>(
-    rt: &R,
-    alloc: Global,
+    context: &Context<'_, R, G>,
     game: &Game,
     solver: Solver,
     workers: u32,
-    gate: &G,
 ) -> Result<Certified, AllocError>
     requires workers { 0 < workers }
     ensures certificate { IfOk result (λ s. IsCertificate game.now s) }
@@ -39,8 +38,8 @@ pub fn solve<G: Gate + Sync, R: Threads + Sync>(
     ensures lifted { solver ≡ Lift → IfOk result (IsLiftedOrNone game.now) }
 {
     match solver {
-        Solver::Zielonka => solve_by_regions(rt, alloc, game),
-        Solver::Lift => lift_or_solve(rt, alloc, game, workers, gate),
+        Solver::Zielonka => solve_by_regions(context.rt, context.alloc, game),
+        Solver::Lift => lift_or_solve(context, game, workers),
     }
 }
 
@@ -62,22 +61,20 @@ fn solve_by_regions<R: Threads + Sync>(
 /// The solution of lifting where it has one that the checker certifies, and else that of Zielonka's
 /// algorithm.
 fn lift_or_solve<G: Gate + Sync, R: Threads + Sync>(
-    rt: &R,
-    alloc: Global,
+    context: &Context<'_, R, G>,
     game: &Game,
     workers: u32,
-    gate: &G,
 ) -> Result<Certified, AllocError>
     requires workers { 0 < workers }
     ensures certificate { IfOk result (λ s. IsCertificate game.now s) }
     ensures lifted { IfOk result (IsLiftedOrNone game.now) }
 {
-    match lift(rt, alloc, game, workers, gate) {
+    match lift(context.rt, context.alloc, game, workers, context.gate) {
         Ok(solution) => match certify(game, solution) {
             Ok(certified) => Ok(certified),
-            Err(_) => solve_by_regions(rt, alloc, game),
+            Err(_) => solve_by_regions(context.rt, context.alloc, game),
         },
-        Err(LiftError::TooManyRanks) => solve_by_regions(rt, alloc, game),
+        Err(LiftError::TooManyRanks) => solve_by_regions(context.rt, context.alloc, game),
         Err(LiftError::Memory) => Err(AllocError),
     }
 }

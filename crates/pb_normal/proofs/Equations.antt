@@ -1,5 +1,5 @@
 -- The normal form of each equation of a well-typed specification has the truth of the equation's right side.
-use Rattle.std.proofs.Common.{zero, suc, true, List, [], ◌∷◌, length, sym, ◌∙◌, arith}
+use Rattle.std.proofs.Common.{◌≡◌, zero, suc, true, List, [], ◌∷◌, map, length, sym, ◌∙◌, subst, arith}
 use Rattle.std.specs.List.{All}
 use Rattle.pb_text_meaning.specs.Syntax.{Equation, Spec}
 use Rattle.pb_text_meaning.specs.Meaning.{assigned}
@@ -10,7 +10,9 @@ use Rattle.pb_typing_rules.specs.WellTyped.{parameters_of, AreProper, IsWellType
 use Rattle.pb_typing_rules.proofs.Fitting.{spec_positive}
 use Rattle.pb_normal.specs.Expansion.{expanded}
 use Rattle.pb_normal.specs.Normalisation.{unslotted, with_slots}
-use Rattle.pb_normal.specs.Equations.{KeepsTruth}
+use Rattle.pb_normal.specs.Answer.{normal_equations}
+use Rattle.pb_normal.specs.Equations.{normal_equation, HaveTruth, KeepsTruth}
+use Rattle.pb_normal.specs.Normal.{Formula}
 use Rattle.pb_typed_tree.proofs.Expanded.{expanded-truth}
 use Rattle.pb_normal.proofs.Truth.{normal-truth}
 use Rattle.pb_normal.proofs.Positive.{expanded-positive}
@@ -34,3 +36,12 @@ rights-keep-truth spec (X ∷ E) proper positive (suc k) d below = rights-keep-t
 
 pub equations-keep-truth : (spec : Spec) → IsWellTyped spec → All (KeepsTruth spec) spec.equations
 equations-keep-truth spec h = rights-keep-truth spec spec.equations h.rights (spec_positive spec h)
+
+have-truth : (spec : Spec) (E : List Equation) → All (KeepsTruth spec) E → HaveTruth spec E (map (normal_equation spec) E)
+have-truth spec [] all = tt
+have-truth spec (X ∷ E) all = (all 0 X (omega arith), have-truth spec E (λ k d below. all (suc k) d (omega arith)))
+
+-- right sides that are the normal forms have the truth of the text's
+pub normal-equations-have-truth : (spec : Spec) (fs : List Formula) → IsWellTyped spec → fs ≡ normal_equations spec → HaveTruth spec spec.equations fs
+normal-equations-have-truth spec fs typed same =
+    subst (λ (gs : List Formula). HaveTruth spec spec.equations gs) (sym same) (have-truth spec spec.equations (equations-keep-truth spec typed))

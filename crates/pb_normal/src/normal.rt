@@ -4,6 +4,7 @@ ghost use Rattle.std.specs.Prelude.{◌≡◌, true, IfOk};
 ghost use Rattle.pb_text_meaning.specs.Meaning.{answer};
 ghost use Rattle.pb_typed_tree.specs.View as tree;
 ghost use Rattle.pb_normal.specs.Answer.{answer_by, normal_equations};
+ghost use Rattle.pb_normal.specs.Equations.{HaveTruth};
 ghost use Rattle.pb_normal.specs.FormulaSet.{formulas-prop, shapes-prop};
 ghost use Rattle.pb_normal.specs.Loops.{all_loops};
 ghost use Rattle.pb_normal.specs.SignedForm.{signed_form};
@@ -49,6 +50,9 @@ pub fn normalise(alloc: Global, typed: &Typed) -> Result<Normal<'_>, AllocError>
     // Each right side is the positive normal form of the text's.
     ensures rights { IfOk result (λ normal. right_views normal.equations.items
         ≡ normal_equations (said typed.now)) }
+    // Each has the truth of the text's, at every instance and under every environment.
+    ensures truth { IfOk result (λ normal. HaveTruth (said typed.now) (said typed.now).equations
+        (right_views normal.equations.items)) }
     // They have the answer of the text.
     ensures answer { IfOk result (λ normal. answer_by (said typed.now)
         (right_views normal.equations.items) ≡ answer (said typed.now)) }

@@ -6,6 +6,7 @@ pub mod Searching
 pub mod Called
 pub mod Cutting
 pub mod Assumed
+pub mod Delivery
 pub mod Sending
 pub mod Commas
 pub mod Underway

@@ -6,10 +6,9 @@ use Rattle.std.proofs.KnownBytes.{Appends-trans}
 use Rattle.std.proofs.lemmas.List.{take-append-le}
 use Rattle.std.proofs.Math.Seq.{take-append-add}
 use Rattle.pb_sorts.specs.Sink.{AppendsPrefix}
-use Rattle.pb_report.specs.declared.buffer.WriteError.{WriteError}
-use Rattle.pb_report.specs.declared.buffer.WriteError.TheVariants.{Failed}
 use Rattle.pb_sorts.specs.declared.sink.E02.{E02}
-use Rattle.pb_report.specs.Sending.{IsSent, Sends, Writes}
+use Rattle.pb_report.specs.Delivery.{Delivers}
+use Rattle.pb_report.specs.Sending.{IsSent, ForBuffered, is_failed_put}
 
 -- a part that begins a text begins each longer one
 pub prefix_more : (a b : Option (List ℕ)) (xs ys : List ℕ) → AppendsPrefix a b xs → AppendsPrefix a b (xs ++ ys)
@@ -32,63 +31,74 @@ after_sent a b c sent ys out h =
 regrouped : (sent q p A B : List ℕ) → sent ++ q ≡ p ++ A → sent ++ (q ++ B) ≡ p ++ (A ++ B)
 regrouped sent q p A B e = sym (append_assoc sent q B) ∙ (ap (λ (zs : List ℕ). zs ++ B) e ∙ append_assoc p A B)
 
-pub prefix_after : (a b c : Option (List ℕ)) (p q A B : List ℕ) → IsSent a b p q A → AppendsPrefix b c (q ++ B) → AppendsPrefix a c (p ++ (A ++ B))
+pub prefix_after : (a b c : Option (List ℕ)) (p q A B : List ℕ) → IsSent (Appends a b) p q A → AppendsPrefix b c (q ++ B) → AppendsPrefix a c (p ++ (A ++ B))
 prefix_after a b c p q A B is h =
     subst (AppendsPrefix a c) (regrouped is.sent q p A B is.rest) (after_sent a b c is.sent (q ++ B) is.went_out h)
 
-pub sent_after : (a b c : Option (List ℕ)) (p q s A B : List ℕ) → IsSent a b p q A → IsSent b c q s B → IsSent a c p s (A ++ B)
+pub sent_after : (a b c : Option (List ℕ)) (p q s A B : List ℕ) → IsSent (Appends a b) p q A → IsSent (Appends b c) q s B → IsSent (Appends a c) p s (A ++ B)
 sent_after a b c p q s A B x y = record {
   sent = x.sent ++ y.sent;
   went_out = Appends-trans a b c x.sent y.sent x.went_out y.went_out;
   rest = append_assoc x.sent y.sent s ∙ (ap (λ (zs : List ℕ). x.sent ++ zs) y.rest ∙ regrouped x.sent q p A B x.rest);
 }
 
--- one piece was sent, and then another one is
-pub sends_then : {T E : Type 0} (r : Result T E) (a b c : Option (List ℕ)) (f g h : Bool) (p q s A B : List ℕ) →
-    IsSent a b p q A × (g ≡ f) → Sends r b c g h q s B → Sends r a c f h p s (A ++ B)
-sends_then (Ok x) a b c f g h p q s A B first second = (sent_after a b c p q s A B first.0 second.0, second.1 ∙ first.1)
-sends_then (Err x) a b c f g h p q s A B first second = (prefix_after a b c p q A B first.0 second.0, second.1)
+pub sent_as : (P : List ℕ → Type 0) (p s t u : List ℕ) → t ≡ u → IsSent P p s t → IsSent P p s u
+sent_as P p s t u e h = subst (λ (x : List ℕ). IsSent P p s x) e h
 
--- a piece is not sent, so neither is what follows it
-pub sends_err : {T E : Type 0} (r : Result T E) (a b : Option (List ℕ)) (f g : Bool) (p s A B : List ℕ) →
-    IsErr r → AppendsPrefix a b (p ++ A) × (g ≡ true) → Sends r a b f g p s (A ++ B)
-sends_err (Ok x) a b f g p s A B is h = cc
-sends_err (Err x) a b f g p s A B is h =
-    (subst (AppendsPrefix a b) (append_assoc p A B) (prefix_more a b (p ++ A) B h.0), h.1)
+module _ {S T : Type 0} (taken : S → Option (List ℕ)) (has_failed : S → Bool) where
+  -- what a call sends of a text through a buffer that held `before` and holds `after`
+  abbrev pub SendsText : Result T E02 → S → S → List ℕ → List ℕ → List ℕ → Type 0
+  SendsText r a b before after text = Delivers is_failed_put (ForBuffered r before after text) r taken has_failed a b
 
--- what was in the buffer, and then the text
-pub put_both : {T E : Type 0} (r : Result T E) (a b c : Option (List ℕ)) (f g h : Bool) (p after text : List ℕ) → Appends a b p → g ≡ f →
-    OnOk r (Appends b c text) → OnOk r (h ≡ g) → OnErr r (AppendsPrefix b c text) → OnErr r (h ≡ true) → after ≡ [] → Sends r a c f h p after text
-put_both (Ok x) a b c f g h p after text out same all ok part bad none = (
-  record {
-    sent = p ++ text;
-    went_out = Appends-trans a b c p text out all;
-    rest = ap (λ (zs : List ℕ). (p ++ text) ++ zs) none ∙ append-nil (p ++ text);
-  },
-  ok ∙ same,
-)
-put_both (Err x) a b c f g h p after text out same all ok part bad none = (after_sent a b c p text out part, bad)
+  -- one piece was sent, and then another one is
+  pub sends_then : (r : Result T E02) (a b c : S) (p q s A B : List ℕ) → IsSent (Appends (taken a) (taken b)) p q A × (has_failed b ≡ has_failed a)
+      → SendsText r b c q s B → SendsText r a c p s (A ++ B)
+  sends_then (Ok x) a b c p q s A B first second = (sent_after (taken a) (taken b) (taken c) p q s A B first.0 second.0, second.1 ∙ first.1)
+  sends_then (Err x) a b c p q s A B first second = (prefix_after (taken a) (taken b) (taken c) p q A B first.0 second.0, second.1)
 
--- the buffer was not sent after the whole text had come
-pub writes_failed : {T : Type 0} (r : Result T WriteError) (y : WriteError) (x : E02) (a b c : Option (List ℕ)) (f h : Bool) (before after text : List ℕ) →
-    r ≡ Err y → y ≡ Failed x → before ≡ [] → IsSent a b before after text → AppendsPrefix b c after → h ≡ true → Writes r a c f h text
-writes_failed r y x a b c f h before after text e made none is part bad =
-    let all : is.sent ++ after ≡ text = is.rest ∙ ap (λ (zs : List ℕ). zs ++ text) none in
-    subst (λ (s : Result _ WriteError). Writes s a c f h text) (sym (e ∙ ap Err made))
-    (subst (AppendsPrefix a c) all (after_sent a b c is.sent after is.went_out part), bad)
+  -- a piece is not sent, so neither is what follows it
+  pub sends_err : (r : Result T E02) (a b : S) (p s A B : List ℕ) → IsErr r → AppendsPrefix (taken a) (taken b) (p ++ A) × (has_failed b ≡ true)
+      → SendsText r a b p s (A ++ B)
+  sends_err (Ok x) a b p s A B is h = cc
+  sends_err (Err x) a b p s A B is h =
+      (subst (AppendsPrefix (taken a) (taken b)) (append_assoc p A B) (prefix_more (taken a) (taken b) (p ++ A) B h.0), h.1)
 
--- the same text, otherwise written
-pub sends_as : {T E : Type 0} (r : Result T E) (a b : Option (List ℕ)) (f g : Bool) (p s t u : List ℕ) → t ≡ u → Sends r a b f g p s t → Sends r a b f g p s u
-sends_as r a b f g p s t u e h = subst (λ (x : List ℕ). Sends r a b f g p s x) e h
+  -- what was in the buffer, and then the text
+  pub put_both : (r : Result T E02) (a b c : S) (p after text : List ℕ) → Appends (taken a) (taken b) p → has_failed b ≡ has_failed a
+      → OnOk r (Appends (taken b) (taken c) text) → OnOk r (has_failed c ≡ has_failed b) → OnErr r (AppendsPrefix (taken b) (taken c) text) → OnErr r (has_failed c ≡ true)
+      → after ≡ [] → SendsText r a c p after text
+  put_both (Ok x) a b c p after text out same all ok part failed none = (
+    record {
+      sent = p ++ text;
+      went_out = Appends-trans (taken a) (taken b) (taken c) p text out all;
+      rest = ap (λ (zs : List ℕ). (p ++ text) ++ zs) none ∙ append-nil (p ++ text);
+    },
+    ok ∙ same,
+  )
+  put_both (Err x) a b c p after text out same all ok part failed none = (after_sent (taken a) (taken b) (taken c) p text out part, failed)
 
-pub sent_as : (a b : Option (List ℕ)) (p s t u : List ℕ) → t ≡ u → IsSent a b p s t → IsSent a b p s u
-sent_as a b p s t u e h = subst (λ (x : List ℕ). IsSent a b p s x) e h
+  -- a text is put only in part
+  pub put_part : (r : Result T E02) (a b : S) (text : List ℕ) → IsErr r → AppendsPrefix (taken a) (taken b) text → has_failed b ≡ true
+      → Delivers is_failed_put (λ (P : List ℕ → Type 0). P text) r taken has_failed a b
+  put_part (Ok x) a b text is part failed = cc
+  put_part (Err x) a b text is part failed = (part, failed)
 
-pub writes_as : {T : Type 0} (r : Result T WriteError) (a b : Option (List ℕ)) (f g : Bool) (t u : List ℕ) → t ≡ u → Writes r a b f g t → Writes r a b f g u
-writes_as r a b f g t u e h = subst (λ (x : List ℕ). Writes r a b f g x) e h
+  -- the same text, otherwise written
+  pub sends_as : (r : Result T E02) (a b : S) (p s t u : List ℕ) → t ≡ u → SendsText r a b p s t → SendsText r a b p s u
+  sends_as r a b p s t u e h = subst (λ (x : List ℕ). SendsText r a b p s x) e h
 
 -- all that was sent through the buffer went out
-pub all_out : (a b c : Option (List ℕ)) (before after text : List ℕ) → before ≡ [] → IsSent a b before after text → Appends b c after → Appends a c text
+pub all_out : (a b c : Option (List ℕ)) (before after text : List ℕ) → before ≡ [] → IsSent (Appends a b) before after text → Appends b c after → Appends a c text
 all_out a b c before after text none is out =
     let all : is.sent ++ after ≡ text = is.rest ∙ ap (λ (zs : List ℕ). zs ++ text) none in
     subst (Appends a c) all (Appends-trans a b c is.sent after is.went_out out)
+
+-- or a part of it, where the buffer was not sent after all had come
+pub part_out : (a b c : Option (List ℕ)) (before after text : List ℕ) → before ≡ [] → IsSent (Appends a b) before after text → AppendsPrefix b c after → AppendsPrefix a c text
+part_out a b c before after text none is part =
+    let all : is.sent ++ after ≡ text = is.rest ∙ ap (λ (zs : List ℕ). zs ++ text) none in
+    subst (AppendsPrefix a c) all (after_sent a b c is.sent after is.went_out part)
+
+-- or a part of it, where the text did not come whole
+pub begins : (a b : Option (List ℕ)) (before text : List ℕ) → before ≡ [] → AppendsPrefix a b (before ++ text) → AppendsPrefix a b text
+begins a b before text none part = subst (AppendsPrefix a b) (ap (λ (zs : List ℕ). zs ++ text) none) part

@@ -3,12 +3,13 @@ use Rattle.std.proofs.Common.{◌≡◌, ℕ, Bool, true, List, [], ◌++◌, Op
 use Rattle.std.specs.Prelude.{IsErr}
 use Rattle.std.specs.Io.KnownBytes.{Appends}
 use Rattle.pb_sorts.specs.Sink.{AppendsPrefix}
-use Rattle.pb_report.specs.Sending.{IsSent, Sends}
-use Rattle.pb_report.proofs.Sending.{sends_then, sends_err, sends_as, sent_after, sent_as}
+use Rattle.pb_sorts.specs.declared.sink.E02.{E02}
+use Rattle.pb_report.specs.Sending.{IsSent}
+use Rattle.pb_report.proofs.Sending.{SendsText, sends_then, sends_err, sends_as, sent_after, sent_as}
 
 pub record IsUnderway (old new : Option (List ℕ)) (before after whole rest : List ℕ) : Type 0 where
   pub done : List ℕ
-  pub sent : IsSent old new before after done
+  pub sent : IsSent (Appends old new) before after done
   pub split : done ++ rest ≡ whole
 
 pub begun : (a : Option (List ℕ)) (p whole : List ℕ) → Appends a a [] → IsUnderway a a p p whole whole
@@ -16,7 +17,7 @@ begun a p whole none = record { done = []; sent = record { sent = []; went_out =
 
 -- a piece of the rest was sent
 pub went_on : (a b c : Option (List ℕ)) (p q s whole rest A more : List ℕ) → rest ≡ A ++ more →
-    IsUnderway a b p q whole rest → IsSent b c q s A → IsUnderway a c p s whole more
+    IsUnderway a b p q whole rest → IsSent (Appends b c) q s A → IsUnderway a c p s whole more
 went_on a b c p q s whole rest A more e u is = record {
   done = u.done ++ A;
   sent = sent_after a b c p q s u.done A u.sent is;
@@ -24,12 +25,14 @@ went_on a b c p q s whole rest A more e u is = record {
 }
 
 -- a piece of the rest was not sent
-pub gave_up : {T E : Type 0} (r : Result T E) (a b c : Option (List ℕ)) (f g h : Bool) (p q s whole rest A more : List ℕ) → rest ≡ A ++ more →
-    IsUnderway a b p q whole rest → g ≡ f → IsErr r → AppendsPrefix b c (q ++ A) × (h ≡ true) → Sends r a c f h p s whole
-gave_up r a b c f g h p q s whole rest A more e u same err part =
-    sends_as r a c f h p s (u.done ++ (A ++ more)) whole (ap (λ (xs : List ℕ). u.done ++ xs) (sym e) ∙ u.split)
-    (sends_then r a b c f g h p q s u.done (A ++ more) (u.sent, same) (sends_err r b c g h q s A more err part))
+pub gave_up : {S T : Type 0} (taken : S → Option (List ℕ)) (has_failed : S → Bool) (r : Result T E02) (a b c : S) (p q s whole rest A more : List ℕ) → rest ≡ A ++ more
+    → IsUnderway (taken a) (taken b) p q whole rest → has_failed b ≡ has_failed a → IsErr r → AppendsPrefix (taken b) (taken c) (q ++ A) × (has_failed c ≡ true)
+    → SendsText taken has_failed r a c p s whole
+gave_up taken has_failed r a b c p q s whole rest A more e u same err part =
+    sends_as taken has_failed r a c p s (u.done ++ (A ++ more)) whole (ap (λ (xs : List ℕ). u.done ++ xs) (sym e) ∙ u.split)
+    (sends_then taken has_failed r a b c p q s u.done (A ++ more) (u.sent, same) (sends_err taken has_failed r b c q s A more err part))
 
 -- nothing is to come
-pub ended : (a b : Option (List ℕ)) (p q whole rest : List ℕ) → rest ≡ [] → IsUnderway a b p q whole rest → IsSent a b p q whole
-ended a b p q whole rest e u = sent_as a b p q u.done whole (sym (append-nil u.done) ∙ (ap (λ (xs : List ℕ). u.done ++ xs) (sym e) ∙ u.split)) u.sent
+pub ended : (a b : Option (List ℕ)) (p q whole rest : List ℕ) → rest ≡ [] → IsUnderway a b p q whole rest → IsSent (Appends a b) p q whole
+ended a b p q whole rest e u =
+    sent_as (Appends a b) p q u.done whole (sym (append-nil u.done) ∙ (ap (λ (xs : List ℕ). u.done ++ xs) (sym e) ∙ u.split)) u.sent

@@ -6,6 +6,7 @@ pub mod EvidenceText
 pub mod CallPlaces
 pub mod ModuleLines
 pub mod ModuleEvidence
+pub mod Delivery
 pub mod Sending
 pub mod Report
 pub mod GameText

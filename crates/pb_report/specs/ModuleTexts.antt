@@ -37,6 +37,10 @@ answer_for m trees rows = record {
 abbrev pub IsAnswer : Contents → List Row → Answer → Type 0
 IsAnswer m rows found = (trees : ℕ → Tree) → AreTrees m trees → found ≡ answer_for m trees rows
 
+-- P holds of a text that the trees say, with whichever trees the module's instances have
+abbrev pub ForTrees : Contents → ((ℕ → Tree) → List ℕ) → (List ℕ → Type 0) → Type 0
+ForTrees m text P = (trees : ℕ → Tree) → AreTrees m trees → P (text trees)
+
 -- the game of the reached instances, the sinks and the instances by name
 abbrev pub module_game_text : Contents → (ℕ → Tree) → List Row → List ℕ
 module_game_text m trees rows =

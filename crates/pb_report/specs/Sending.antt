@@ -1,38 +1,30 @@
 -- How a text goes to a sink through a buffer.
 use Rattle.std.specs.Prelude.{◌≡◌, ℕ, Bool, true, List, ◌++◌, Option, Result, Ok, Err}
-use Rattle.std.specs.Io.KnownBytes.{Appends}
-use Rattle.pb_sorts.specs.Sink.{AppendsPrefix}
-use Rattle.pb_report.specs.declared.buffer.WriteError.{WriteError}
-use Rattle.pb_report.specs.declared.buffer.WriteError.TheVariants.{Memory, Failed}
+use Rattle.pb_sorts.specs.declared.sink.E02.{E02}
+use Rattle.pb_report.specs.declared.buffer.TextBuffer.{TextBuffer}
+use Rattle.pb_report.specs.Delivery.{Delivers}
 
--- The known bytes of the sink grew, and the buffer holds what is left: `before` was in it, and
+-- A part of which P holds went out, and the buffer holds what is left: `before` was in it, and
 -- `text` came.
-pub record IsSent (old new : Option (List ℕ)) (before after text : List ℕ) : Type 0 where
+pub record IsSent (P : List ℕ → Type 0) (before after text : List ℕ) : Type 0 where
   pub sent : List ℕ
-  pub went_out : Appends old new sent
+  pub went_out : P sent
   pub rest : sent ++ after ≡ before ++ text
 
--- so it is at Ok, and the sink is no more failed than before; after an error a part that begins it
--- all went out
-abbrev pub Sends : {T E : Type 0} → Result T E → Option (List ℕ) → Option (List ℕ) → Bool → Bool
-    → List ℕ → List ℕ → List ℕ → Type 0
-Sends (Ok _) old new failed_before failed_after before after text =
-    IsSent old new before after text × (failed_after ≡ failed_before)
-Sends (Err _) old new failed_before failed_after before after text =
-    AppendsPrefix old new (before ++ text) × (failed_after ≡ true)
+-- what went out of a buffer that held `before` when `text` came: at Ok all but what it still holds,
+-- while an error leaves nothing to come
+abbrev pub ForBuffered : {T E : Type 0} → Result T E → (before after text : List ℕ)
+    → (List ℕ → Type 0) → Type 0
+ForBuffered (Ok _) before after text P = IsSent P before after text
+ForBuffered (Err _) before after text P = P (before ++ text)
 
--- A whole text: at Ok it was appended. Want of memory changes nothing. After a write that failed a
--- part that begins it went out.
-abbrev pub Writes : {T : Type 0} → Result T WriteError → Option (List ℕ) → Option (List ℕ) → Bool
-    → Bool → List ℕ → Type 0
-Writes (Ok _) old new failed_before failed_after text =
-    Appends old new text × (failed_after ≡ failed_before)
-Writes (Err (Memory _)) old new failed_before failed_after text =
-    (new ≡ old) × (failed_after ≡ failed_before)
-Writes (Err (Failed _)) old new failed_before failed_after text =
-    AppendsPrefix old new text × (failed_after ≡ true)
+-- a put fails only where a write does
+abbrev pub is_failed_put : E02 → Bool
+is_failed_put _ = true
 
--- the error is want of memory
-abbrev pub IsOutOfMemory : WriteError → Type 0
-IsOutOfMemory (Memory _) = Unit {0}
-IsOutOfMemory (Failed _) = ⊥
+-- a text is delivered through a buffer
+abbrev pub Sends : {S T : Type 0} → List ℕ → Result T E02 → (S → Option (List ℕ)) → (S → Bool)
+    → (old new : S) → (before after : TextBuffer) → Type 0
+Sends text result taken has_failed old new before after =
+    Delivers is_failed_put (ForBuffered result before.bytes.items after.bytes.items text) result
+    taken has_failed old new

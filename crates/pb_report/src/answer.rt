@@ -1,6 +1,6 @@
 //! The answer to a system, and its report.
-ghost use Rattle.std.specs.Prelude.{◌≡◌, true, IfErr};
-ghost use Rattle.pb_report.specs.Sending.{Sends, Writes, IsOutOfMemory};
+ghost use Rattle.pb_report.specs.Delivery.{Delivers, is_failed};
+ghost use Rattle.pb_report.specs.Sending.{Sends};
 ghost use Rattle.pb_report.specs.Report.{truth_line, count_line, counts_text, report_text};
 
 use crate::buffer::{TextBuffer, WriteError};
@@ -42,8 +42,8 @@ impl Answer {
 }
 
 fn write_truth<S: Sink>(buffer: &mut TextBuffer, truth: bool, sink: &mut S) -> Result<(), E02>
-    ensures { Sends result (S.taken sink.old) (S.taken sink.new) (S.has_failed sink.old)
-        (S.has_failed sink.new) buffer.old.bytes.items buffer.new.bytes.items (truth_line truth) }
+    ensures { Sends (truth_line truth)
+        result S.taken S.has_failed sink.old sink.new buffer.old buffer.new }
 {
     if truth {
         buffer.write(b"answer true\n", sink)
@@ -58,9 +58,8 @@ fn write_count<S: Sink>(
     count: u32,
     sink: &mut S,
 ) -> Result<(), E02>
-    ensures { Sends result (S.taken sink.old) (S.taken sink.new) (S.has_failed sink.old)
-        (S.has_failed sink.new) buffer.old.bytes.items buffer.new.bytes.items
-        (count_line label.now count) }
+    ensures { Sends (count_line label.now count)
+        result S.taken S.has_failed sink.old sink.new buffer.old buffer.new }
 {
     buffer.write(label, sink)?;
     buffer.write_number(count, sink)?;
@@ -68,9 +67,8 @@ fn write_count<S: Sink>(
 }
 
 fn write_counts<S: Sink>(buffer: &mut TextBuffer, answer: &Answer, sink: &mut S) -> Result<(), E02>
-    ensures { Sends result (S.taken sink.old) (S.taken sink.new) (S.has_failed sink.old)
-        (S.has_failed sink.new) buffer.old.bytes.items buffer.new.bytes.items
-        (counts_text answer.now) }
+    ensures { Sends (counts_text answer.now)
+        result S.taken S.has_failed sink.old sink.new buffer.old buffer.new }
 {
     write_count(buffer, b"instances ", answer.instances, sink)?;
     write_count(buffer, b"cut ", answer.cut, sink)?;
@@ -78,9 +76,8 @@ fn write_counts<S: Sink>(buffer: &mut TextBuffer, answer: &Answer, sink: &mut S)
 }
 
 fn write_report<S: Sink>(buffer: &mut TextBuffer, answer: &Answer, sink: &mut S) -> Result<(), E02>
-    ensures { Sends result (S.taken sink.old) (S.taken sink.new) (S.has_failed sink.old)
-        (S.has_failed sink.new) buffer.old.bytes.items buffer.new.bytes.items
-        (report_text answer.now) }
+    ensures { Sends (report_text answer.now)
+        result S.taken S.has_failed sink.old sink.new buffer.old buffer.new }
 {
     write_truth(buffer, answer.truth, sink)?;
     write_counts(buffer, answer, sink)
@@ -92,9 +89,8 @@ fn write_report<S: Sink>(buffer: &mut TextBuffer, answer: &Answer, sink: &mut S)
 /// `Memory` before the first byte. After `Failed` a part that begins the report, and not the whole
 /// of it, went out.
 pub fn report<S: Sink>(alloc: Global, answer: &Answer, sink: &mut S) -> Result<(), WriteError>
-    ensures text { Writes result (S.taken sink.old) (S.taken sink.new) (S.has_failed sink.old)
-        (S.has_failed sink.new) (report_text answer.now) }
-    ensures silent { IfErr result (λ e. IsOutOfMemory e → sink.new ≡ sink.old) }
+    ensures { Delivers is_failed (λ P. P (report_text answer.now)) result
+        S.taken S.has_failed sink.old sink.new }
 {
     let mut buffer = TextBuffer::new(alloc)?;
     write_report(&mut buffer, answer, sink)?;

@@ -1,6 +1,7 @@
 //! A buffer between a text and a sink. Its memory is taken once, before the first byte goes out.
-ghost use Rattle.std.specs.Prelude.{◌≡◌, ◌≤◌, ◌+◌, ◌++◌, IfOk, OnOk, OnErr, true, [], decimal};
+ghost use Rattle.std.specs.Prelude.{◌≡◌, ◌≤◌, ◌+◌, ◌++◌, IfOk, OnOk, [], decimal};
 ghost use Rattle.std.specs.Prelude.{length, vec_len, vec_capacity};
+ghost use Rattle.pb_report.specs.declared.buffer.TheConstants.{CAPACITY};
 ghost use Rattle.pb_report.specs.declared.buffer.WriteError.TheVariants.{Memory, Failed};
 
 use itoa::Buffer;
@@ -36,14 +37,14 @@ impl From<E02> for WriteError {
 }
 
 /// How many bytes a buffer holds.
-pub const CAPACITY: usize = 65536;
+pub const CAPACITY: usize = 65_536;
 
 /// Bytes on their way to a sink.
 #[derive(Drop)]
 pub struct TextBuffer {
     pub bytes: Vec<u8>,
-    pub ghost room: { 65536 ≤ vec_capacity bytes },
-    pub ghost within: { vec_len bytes ≤ 65536 },
+    pub ghost room: { CAPACITY ≤ vec_capacity bytes },
+    pub ghost within: { vec_len bytes ≤ CAPACITY },
 }
 
 /// Adds text where there is room for it.
@@ -59,10 +60,9 @@ fn append(bytes: &mut Vec<u8>, text: &[u8])
 }
 
 impl TextBuffer {
-    ghost use Rattle.std.specs.Io.KnownBytes.{Appends};
-    ghost use Rattle.pb_sorts.specs.Sink.{AppendsPrefix};
     ghost use Rattle.std.specs.Fmt.{signed_decimal};
-    ghost use Rattle.pb_report.specs.Sending.{Sends};
+    ghost use Rattle.pb_report.specs.Delivery.{Delivers};
+    ghost use Rattle.pb_report.specs.Sending.{Sends, is_failed_put};
 
     /// An empty buffer.
     pub fn new(alloc: Global) -> Result<TextBuffer, AllocError>
@@ -75,8 +75,7 @@ impl TextBuffer {
 
     /// Sends text after that which is in the buffer.
     pub fn write<S: Sink>(&mut self, text: &[u8], sink: &mut S) -> Result<(), E02>
-        ensures { Sends result (S.taken sink.old) (S.taken sink.new) (S.has_failed sink.old)
-            (S.has_failed sink.new) self.old.bytes.items self.new.bytes.items text.now }
+        ensures { Sends text.now result S.taken S.has_failed sink.old sink.new self.old self.new }
     {
         if text.len() > CAPACITY - self.bytes.len() {
             put(&self.bytes, sink)?;
@@ -91,8 +90,8 @@ impl TextBuffer {
 
     /// Sends a number in decimal.
     pub fn write_number<S: Sink>(&mut self, number: u32, sink: &mut S) -> Result<(), E02>
-        ensures { Sends result (S.taken sink.old) (S.taken sink.new) (S.has_failed sink.old)
-            (S.has_failed sink.new) self.old.bytes.items self.new.bytes.items (decimal number) }
+        ensures { Sends (decimal number)
+            result S.taken S.has_failed sink.old sink.new self.old self.new }
     {
         let mut digits = Buffer::new();
         self.write(digits.format(number).as_bytes(), sink)
@@ -100,9 +99,8 @@ impl TextBuffer {
 
     /// Sends a number in decimal, which may be below 0.
     pub fn write_signed<S: Sink>(&mut self, number: i64, sink: &mut S) -> Result<(), E02>
-        ensures { Sends result (S.taken sink.old) (S.taken sink.new) (S.has_failed sink.old)
-            (S.has_failed sink.new) self.old.bytes.items self.new.bytes.items
-            (signed_decimal number) }
+        ensures { Sends (signed_decimal number)
+            result S.taken S.has_failed sink.old sink.new self.old self.new }
     {
         let mut digits = Buffer::new();
         self.write(digits.format(number).as_bytes(), sink)
@@ -110,12 +108,8 @@ impl TextBuffer {
 
     /// Sends what is in the buffer.
     pub fn finish<S: Sink>(&mut self, sink: &mut S) -> Result<(), E02>
-        ensures sent { OnOk result (Appends (S.taken sink.old)
-            (S.taken sink.new) self.old.bytes.items) }
-        ensures ok_failed { OnOk result (S.has_failed sink.new ≡ S.has_failed sink.old) }
-        ensures prefix { OnErr result (AppendsPrefix (S.taken sink.old)
-            (S.taken sink.new) self.old.bytes.items) }
-        ensures err_failed { OnErr result (S.has_failed sink.new ≡ true) }
+        ensures written { Delivers is_failed_put (λ P. P self.old.bytes.items) result
+            S.taken S.has_failed sink.old sink.new }
         ensures empty { OnOk result (self.new.bytes.items ≡ []) }
     {
         put(&self.bytes, sink)?;

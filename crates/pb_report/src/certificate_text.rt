@@ -1,9 +1,10 @@
 //! The text of a certificate, in the form that PGSolver and other tools of parity games read and
 //! write, so that the winners can be checked without this program.
-ghost use Rattle.std.specs.Prelude.{◌≡◌, ◌<◌, IfErr, Some};
+ghost use Rattle.std.specs.Prelude.{◌≡◌, ◌<◌, Some};
 ghost use Rattle.pb_game.specs.Games.{vertex_count};
 ghost use Rattle.pb_game.specs.Solutions.{HasLengths};
-ghost use Rattle.pb_report.specs.Sending.{Sends, Writes, IsOutOfMemory};
+ghost use Rattle.pb_report.specs.Delivery.{Delivers, is_failed};
+ghost use Rattle.pb_report.specs.Sending.{Sends};
 ghost use Rattle.pb_report.specs.CertificateText.{strategy_at, strategy_part, winner_line};
 ghost use Rattle.pb_report.specs.CertificateText.{winner_lines, certificate_head};
 ghost use Rattle.pb_report.specs.CertificateText.{certificate_text};
@@ -33,9 +34,8 @@ fn write_strategy<S: Sink>(
     strategy: Option<u32>,
     sink: &mut S,
 ) -> Result<(), E02>
-    ensures { Sends result (S.taken sink.old) (S.taken sink.new) (S.has_failed sink.old)
-        (S.has_failed sink.new) buffer.old.bytes.items buffer.new.bytes.items
-        (strategy_part strategy) }
+    ensures { Sends (strategy_part strategy)
+        result S.taken S.has_failed sink.old sink.new buffer.old buffer.new }
 {
     match strategy {
         None => buffer.write(b";\n", sink),
@@ -45,16 +45,14 @@ fn write_strategy<S: Sink>(
 
 /// The successor that a strategy names, and the line's end.
 fn write_choice<S: Sink>(buffer: &mut TextBuffer, choice: u32, sink: &mut S) -> Result<(), E02>
-    ensures { Sends result (S.taken sink.old) (S.taken sink.new) (S.has_failed sink.old)
-        (S.has_failed sink.new) buffer.old.bytes.items buffer.new.bytes.items
-        (strategy_part (Some choice)) }
+    ensures { Sends (strategy_part (Some choice))
+        result S.taken S.has_failed sink.old sink.new buffer.old buffer.new }
 {
     buffer.write(b" ", sink)?;
     buffer.write_number(choice, sink)?;
     buffer.write(b";\n", sink)
 }
 
-/// The line of a vertex.
 fn write_line<S: Sink>(
     buffer: &mut TextBuffer,
     game: &Game,
@@ -64,9 +62,8 @@ fn write_line<S: Sink>(
 ) -> Result<(), E02>
     requires lengths { HasLengths game.now solution.now }
     requires vertex { vertex < vertex_count game.now }
-    ensures { Sends result (S.taken sink.old) (S.taken sink.new) (S.has_failed sink.old)
-        (S.has_failed sink.new) buffer.old.bytes.items buffer.new.bytes.items
-        (winner_line game.now solution.now vertex) }
+    ensures { Sends (winner_line game.now solution.now vertex)
+        result S.taken S.has_failed sink.old sink.new buffer.old buffer.new }
 {
     write_field(buffer, vertex, sink)?;
     buffer.write_number(u32::from(solution.winner(vertex)), sink)?;
@@ -81,9 +78,8 @@ fn write_lines<S: Sink>(
     sink: &mut S,
 ) -> Result<(), E02>
     requires lengths { HasLengths game.now solution.now }
-    ensures { Sends result (S.taken sink.old) (S.taken sink.new) (S.has_failed sink.old)
-        (S.has_failed sink.new) buffer.old.bytes.items buffer.new.bytes.items
-        (winner_lines game.now solution.now 0 (vertex_count game.now)) }
+    ensures { Sends (winner_lines game.now solution.now 0 (vertex_count game.now))
+        result S.taken S.has_failed sink.old sink.new buffer.old buffer.new }
 {
     for vertex in 0..game.len() {
         write_line(buffer, game, solution, vertex, sink)?;
@@ -92,9 +88,8 @@ fn write_lines<S: Sink>(
 }
 
 fn write_head<S: Sink>(buffer: &mut TextBuffer, greatest: u32, sink: &mut S) -> Result<(), E02>
-    ensures { Sends result (S.taken sink.old) (S.taken sink.new) (S.has_failed sink.old)
-        (S.has_failed sink.new) buffer.old.bytes.items buffer.new.bytes.items
-        (certificate_head greatest) }
+    ensures { Sends (certificate_head greatest)
+        result S.taken S.has_failed sink.old sink.new buffer.old buffer.new }
 {
     buffer.write(b"paritysol ", sink)?;
     buffer.write_number(greatest, sink)?;
@@ -109,9 +104,8 @@ fn write_certificate<S: Sink>(
     sink: &mut S,
 ) -> Result<(), E02>
     requires lengths { HasLengths game.now solution.now }
-    ensures { Sends result (S.taken sink.old) (S.taken sink.new) (S.has_failed sink.old)
-        (S.has_failed sink.new) buffer.old.bytes.items buffer.new.bytes.items
-        (certificate_text game.now solution.now) }
+    ensures { Sends (certificate_text game.now solution.now)
+        result S.taken S.has_failed sink.old sink.new buffer.old buffer.new }
 {
     write_head(buffer, game.len().saturating_sub(1), sink)?;
     write_lines(buffer, game, solution, sink)
@@ -130,9 +124,8 @@ pub fn certificate_text<S: Sink>(
     sink: &mut S,
 ) -> Result<(), WriteError>
     requires lengths { HasLengths game.now solution.now }
-    ensures text { Writes result (S.taken sink.old) (S.taken sink.new) (S.has_failed sink.old)
-        (S.has_failed sink.new) (certificate_text game.now solution.now) }
-    ensures silent { IfErr result (λ e. IsOutOfMemory e → sink.new ≡ sink.old) }
+    ensures { Delivers is_failed (λ P. P (certificate_text game.now solution.now)) result
+        S.taken S.has_failed sink.old sink.new }
 {
     let mut buffer = TextBuffer::new(alloc)?;
     write_certificate(&mut buffer, game, solution, sink)?;

@@ -1,6 +1,6 @@
 //! Evidence as a text.
 
-ghost use Rattle.std.specs.Prelude.{◌≡◌, ◌<◌, ℕ, Option, None, IfErr, drop, length, slice_index};
+ghost use Rattle.std.specs.Prelude.{◌≡◌, ◌<◌, ℕ, Option, None, drop, length, slice_index};
 ghost use Rattle.std.specs.Prelude.{slice_index_or};
 ghost use Rattle.pb_text_tree.specs.declared.place.Place.{Place};
 ghost use Rattle.pb_sorts.specs.Layout.{count_of};
@@ -9,12 +9,14 @@ ghost use Rattle.pb_bytecode.specs.Meaning.{AreTrees, parameters};
 ghost use Rattle.pb_game_of_trees.specs.Explored.{ModuleHasTrees};
 ghost use Rattle.pb_report.specs.Report.{truth_line};
 ghost use Rattle.pb_report.specs.InstanceName.{instance_name};
-ghost use Rattle.pb_report.specs.Sending.{Sends, Writes, IsOutOfMemory};
+ghost use Rattle.pb_report.specs.Delivery.{Delivers, is_failed};
+ghost use Rattle.pb_report.specs.Sending.{Sends};
 ghost use Rattle.pb_report.specs.EvidenceText.{truth_mark, place_mark, dependency_text};
 ghost use Rattle.pb_report.specs.EvidenceText.{cut_mark, line_end};
 ghost use Rattle.pb_report.specs.CallPlaces.{AreCallPlaces, placed_names};
 ghost use Rattle.pb_report.specs.ModuleLines.{line_at, lines_of};
 ghost use Rattle.pb_report.specs.ModuleEvidence.{IsExplanation, module_evidence_text};
+ghost use Rattle.pb_report.specs.ModuleTexts.{ForTrees};
 
 use crate::instance_name::write_instance_name;
 use crate::module_evidence::Explanation;
@@ -60,8 +62,8 @@ fn place_at(call_places: &[Option<Place>], k: usize) -> Option<Place>
 }
 
 fn write_answer<S: Sink>(buffer: &mut TextBuffer, truth: bool, sink: &mut S) -> Result<(), E02>
-    ensures { Sends result (S.taken sink.old) (S.taken sink.new) (S.has_failed sink.old)
-        (S.has_failed sink.new) buffer.old.bytes.items buffer.new.bytes.items (truth_line truth) }
+    ensures { Sends (truth_line truth)
+        result S.taken S.has_failed sink.old sink.new buffer.old buffer.new }
 {
     if truth {
         buffer.write(b"answer true\n", sink)
@@ -71,8 +73,8 @@ fn write_answer<S: Sink>(buffer: &mut TextBuffer, truth: bool, sink: &mut S) -> 
 }
 
 fn write_truth<S: Sink>(buffer: &mut TextBuffer, truth: bool, sink: &mut S) -> Result<(), E02>
-    ensures { Sends result (S.taken sink.old) (S.taken sink.new) (S.has_failed sink.old)
-        (S.has_failed sink.new) buffer.old.bytes.items buffer.new.bytes.items (truth_mark truth) }
+    ensures { Sends (truth_mark truth)
+        result S.taken S.has_failed sink.old sink.new buffer.old buffer.new }
 {
     if truth {
         buffer.write(b" true:", sink)
@@ -83,8 +85,8 @@ fn write_truth<S: Sink>(buffer: &mut TextBuffer, truth: bool, sink: &mut S) -> R
 
 /// The word for a cut call, where there is one.
 fn write_cut<S: Sink>(buffer: &mut TextBuffer, cut: bool, sink: &mut S) -> Result<(), E02>
-    ensures { Sends result (S.taken sink.old) (S.taken sink.new) (S.has_failed sink.old)
-        (S.has_failed sink.new) buffer.old.bytes.items buffer.new.bytes.items (cut_mark cut) }
+    ensures { Sends (cut_mark cut)
+        result S.taken S.has_failed sink.old sink.new buffer.old buffer.new }
 {
     if cut {
         buffer.write(b" cut", sink)
@@ -99,8 +101,8 @@ fn write_place<S: Sink>(
     place: Option<Place>,
     sink: &mut S,
 ) -> Result<(), E02>
-    ensures { Sends result (S.taken sink.old) (S.taken sink.new) (S.has_failed sink.old)
-        (S.has_failed sink.new) buffer.old.bytes.items buffer.new.bytes.items (place_mark place) }
+    ensures { Sends (place_mark place)
+        result S.taken S.has_failed sink.old sink.new buffer.old buffer.new }
 {
     let Some(place) = place else {
         return Ok(());
@@ -120,9 +122,8 @@ fn write_dependency<S: Sink>(
     sink: &mut S,
 ) -> Result<(), E02>
     requires { number < count_of (parameters verified.now) }
-    ensures { Sends result (S.taken sink.old) (S.taken sink.new) (S.has_failed sink.old)
-        (S.has_failed sink.new) buffer.old.bytes.items buffer.new.bytes.items
-        (dependency_text (instance_name verified.now) number place) }
+    ensures { Sends (dependency_text (instance_name verified.now) number place)
+        result S.taken S.has_failed sink.old sink.new buffer.old buffer.new }
 {
     buffer.write(b" ", sink)?;
     write_instance_name(buffer, verified, number, sink)?;
@@ -138,10 +139,9 @@ fn write_dependencies<S: Sink>(
 ) -> Result<(), E02>
     requires { (k : ℕ) → k < length basis.now.dependencies.now
         → slice_index basis.now.dependencies.now k < count_of (parameters verified.now) }
-    ensures { Sends result (S.taken sink.old) (S.taken sink.new) (S.has_failed sink.old)
-        (S.has_failed sink.new) buffer.old.bytes.items buffer.new.bytes.items
-        (placed_names (instance_name verified.now) basis.now.dependencies.now
-        basis.now.call_places.now) }
+    ensures { Sends (placed_names (instance_name verified.now) basis.now.dependencies.now
+        basis.now.call_places.now)
+        result S.taken S.has_failed sink.old sink.new buffer.old buffer.new }
 {
     let numbers = basis.dependencies;
     let call_places = basis.call_places;
@@ -161,10 +161,9 @@ fn write_line_end<S: Sink>(
 ) -> Result<(), E02>
     requires { (k : ℕ) → k < length basis.now.dependencies.now
         → slice_index basis.now.dependencies.now k < count_of (parameters verified.now) }
-    ensures { Sends result (S.taken sink.old) (S.taken sink.new) (S.has_failed sink.old)
-        (S.has_failed sink.new) buffer.old.bytes.items buffer.new.bytes.items
-        (line_end truth (placed_names (instance_name verified.now) basis.now.dependencies.now
-        basis.now.call_places.now) basis.now.cut) }
+    ensures { Sends (line_end truth (placed_names (instance_name verified.now)
+        basis.now.dependencies.now basis.now.call_places.now) basis.now.cut)
+        result S.taken S.has_failed sink.old sink.new buffer.old buffer.new }
 {
     write_truth(buffer, truth, sink)?;
     write_dependencies(buffer, verified, basis, sink)?;
@@ -185,9 +184,8 @@ fn write_line<S: Sink>(
     requires explanation { IsExplanation verified.now placed.now.explanation.now }
     ensures { (trees : ℕ → Tree) → AreTrees verified.now trees → (place : ℕ → ℕ → Option Place)
         → AreCallPlaces place placed.now.explanation.now.evidence placed.now.call_places.now
-        → Sends result (S.taken sink.old) (S.taken sink.new) (S.has_failed sink.old)
-        (S.has_failed sink.new) buffer.old.bytes.items buffer.new.bytes.items
-        (line_at verified.now trees place placed.now.explanation.now.evidence k) }
+        → Sends (line_at verified.now trees place placed.now.explanation.now.evidence k)
+        result S.taken S.has_failed sink.old sink.new buffer.old buffer.new }
 {
     let evidence = &placed.explanation.evidence;
     write_instance_name(buffer, verified, evidence.instances[k], sink)?;
@@ -212,10 +210,9 @@ fn write_lines<S: Sink>(
         × AreCallPlaces place placed.now.explanation.now.evidence placed.now.call_places.now }
     ensures { (trees : ℕ → Tree) → AreTrees verified.now trees → (place : ℕ → ℕ → Option Place)
         → AreCallPlaces place placed.now.explanation.now.evidence placed.now.call_places.now
-        → Sends result (S.taken sink.old) (S.taken sink.new) (S.has_failed sink.old)
-        (S.has_failed sink.new) buffer.old.bytes.items buffer.new.bytes.items
-        (lines_of verified.now trees place placed.now.explanation.now.evidence
-        placed.now.explanation.now.evidence.instances.items) }
+        → Sends (lines_of verified.now trees place placed.now.explanation.now.evidence
+        placed.now.explanation.now.evidence.instances.items)
+        result S.taken S.has_failed sink.old sink.new buffer.old buffer.new }
 {
     for k in 0..placed.explanation.evidence.instances.len() {
         write_line(buffer, verified, placed, k, sink)?;
@@ -235,9 +232,8 @@ fn write_evidence<S: Sink>(
         × AreCallPlaces place placed.now.explanation.now.evidence placed.now.call_places.now }
     ensures { (trees : ℕ → Tree) → AreTrees verified.now trees → (place : ℕ → ℕ → Option Place)
         → AreCallPlaces place placed.now.explanation.now.evidence placed.now.call_places.now
-        → Sends result (S.taken sink.old) (S.taken sink.new) (S.has_failed sink.old)
-        (S.has_failed sink.new) buffer.old.bytes.items buffer.new.bytes.items
-        (module_evidence_text verified.now trees place placed.now.explanation.now.evidence) }
+        → Sends (module_evidence_text verified.now trees place placed.now.explanation.now.evidence)
+        result S.taken S.has_failed sink.old sink.new buffer.old buffer.new }
 {
     write_answer(buffer, placed.explanation.evidence.truth, sink)?;
     write_lines(buffer, verified, placed, sink)
@@ -261,13 +257,11 @@ pub fn evidence_text<S: Sink>(
     requires explanation { IsExplanation verified.now placed.now.explanation.now }
     requires places { (place : ℕ → ℕ → Option Place)
         × AreCallPlaces place placed.now.explanation.now.evidence placed.now.call_places.now }
-    ensures text { (trees : ℕ → Tree) → AreTrees verified.now trees
-        → (place : ℕ → ℕ → Option Place)
+    ensures { (place : ℕ → ℕ → Option Place)
         → AreCallPlaces place placed.now.explanation.now.evidence placed.now.call_places.now
-        → Writes result (S.taken sink.old) (S.taken sink.new) (S.has_failed sink.old)
-        (S.has_failed sink.new) (module_evidence_text verified.now trees place
-        placed.now.explanation.now.evidence) }
-    ensures silent { IfErr result (λ e. IsOutOfMemory e → sink.new ≡ sink.old) }
+        → Delivers is_failed (ForTrees verified.now (λ trees.
+        module_evidence_text verified.now trees place placed.now.explanation.now.evidence)) result
+        S.taken S.has_failed sink.old sink.new }
 {
     let mut buffer = TextBuffer::new(alloc)?;
     write_evidence(&mut buffer, verified, placed, sink)?;

@@ -1,14 +1,13 @@
 //! The text of a game of reached instances, in the form that PGSolver reads.
 ghost use Rattle.std.specs.Prelude.{◌≡◌, ◌<◌, ◌-◌, ◌↔◌, ℕ, IfSome, IsSome, Some};
-ghost use Rattle.std.specs.Prelude.{None, length, slice_index, IfErr};
-ghost use Rattle.pb_rows.specs.Row as in_memory;
+ghost use Rattle.std.specs.Prelude.{None, length, slice_index};
 ghost use Rattle.pb_sorts.specs.Layout.{count_of};
-ghost use Rattle.pb_bytecode.specs.Meaning.{parameters, AreTrees};
+ghost use Rattle.pb_bytecode.specs.Meaning.{parameters};
 ghost use Rattle.pb_game.specs.Games.{vertex_count, successors_of};
-ghost use Rattle.pb_trees.specs.Tree.{Tree};
 ghost use Rattle.pb_game_of_trees.specs.Explored.{ModuleHasTrees, AreModuleRows, IsModuleGame};
-ghost use Rattle.pb_report.specs.ModuleTexts.{module_game_text};
-ghost use Rattle.pb_report.specs.Sending.{Sends, Writes, IsOutOfMemory};
+ghost use Rattle.pb_report.specs.ModuleTexts.{module_game_text, ForTrees};
+ghost use Rattle.pb_report.specs.Delivery.{Delivers, is_failed};
+ghost use Rattle.pb_report.specs.Sending.{Sends};
 ghost use Rattle.pb_report.specs.InstanceName.{instance_name};
 ghost use Rattle.pb_report.specs.GameText.{name_part, vertex_at, vertex_line};
 ghost use Rattle.pb_report.specs.VertexNames.{name_by, number_in, IsAtRow, AreRising};
@@ -24,6 +23,20 @@ use pb_sorts::{E02, Sink};
 use pb_verifier::Verified;
 use std::alloc::Global;
 
+/// Rows of a game, with the vertex of each.
+#[derive(Clone, Copy)]
+struct PlacedRows<'a> {
+    rows: &'a IndexedRows,
+    vertices: &'a [u32],
+}
+
+/// A vertex, with the number of the instance that has its name, if there is one.
+#[derive(Clone, Copy)]
+struct NamedVertex {
+    vertex: u32,
+    instance: Option<u32>,
+}
+
 /// An instance's name in its quotes, and the line's end.
 fn write_quoted<S: Sink>(
     buffer: &mut TextBuffer,
@@ -32,9 +45,8 @@ fn write_quoted<S: Sink>(
     sink: &mut S,
 ) -> Result<(), E02>
     requires { number < count_of (parameters verified.now) }
-    ensures { Sends result (S.taken sink.old) (S.taken sink.new) (S.has_failed sink.old)
-        (S.has_failed sink.new) buffer.old.bytes.items buffer.new.bytes.items
-        (name_part (Some (instance_name verified.now number))) }
+    ensures { Sends (name_part (Some (instance_name verified.now number)))
+        result S.taken S.has_failed sink.old sink.new buffer.old buffer.new }
 {
     buffer.write(b" \"", sink)?;
     write_instance_name(buffer, verified, number, sink)?;
@@ -50,9 +62,8 @@ fn write_line_end<S: Sink>(
     sink: &mut S,
 ) -> Result<(), E02>
     requires { IfSome number (λ n. n < count_of (parameters verified.now)) }
-    ensures { Sends result (S.taken sink.old) (S.taken sink.new) (S.has_failed sink.old)
-        (S.has_failed sink.new) buffer.old.bytes.items buffer.new.bytes.items
-        (name_part (name_by verified.now vertex number)) }
+    ensures { Sends (name_part (name_by verified.now vertex number))
+        result S.taken S.has_failed sink.old sink.new buffer.old buffer.new }
 {
     if vertex == 0 {
         return write_name(buffer, b"false", sink);
@@ -71,19 +82,18 @@ fn write_line<S: Sink>(
     buffer: &mut TextBuffer,
     verified: &Verified,
     game: &Game,
-    vertex: u32,
-    number: Option<u32>,
+    named: NamedVertex,
     sink: &mut S,
 ) -> Result<(), E02>
-    requires vertex { vertex < vertex_count game.now }
-    requires edges { 0 < length (successors_of game.now vertex) }
-    requires number { IfSome number (λ n. n < count_of (parameters verified.now)) }
-    ensures { Sends result (S.taken sink.old) (S.taken sink.new) (S.has_failed sink.old)
-        (S.has_failed sink.new) buffer.old.bytes.items buffer.new.bytes.items
-        (vertex_line vertex (vertex_at game.now vertex) (name_by verified.now vertex number)) }
+    requires vertex { named.vertex < vertex_count game.now }
+    requires edges { 0 < length (successors_of game.now named.vertex) }
+    requires number { IfSome named.instance (λ n. n < count_of (parameters verified.now)) }
+    ensures { Sends (vertex_line named.vertex (vertex_at game.now named.vertex) (name_by
+        verified.now named.vertex named.instance))
+        result S.taken S.has_failed sink.old sink.new buffer.old buffer.new }
 {
-    write_vertex(buffer, game, vertex, sink)?;
-    write_line_end(buffer, verified, vertex, number, sink)
+    write_vertex(buffer, game, named.vertex, sink)?;
+    write_line_end(buffer, verified, named.vertex, named.instance, sink)
 }
 
 /// The number of the row whose vertex this is, if it is one's; `k` is the first row whose vertex is
@@ -108,23 +118,25 @@ fn write_lines<S: Sink>(
     buffer: &mut TextBuffer,
     verified: &Verified,
     game: &Game,
-    vertices: &[u32],
-    rows: &IndexedRows,
+    placed: &PlacedRows<'_>,
     sink: &mut S,
 ) -> Result<(), E02>
-    requires lengths { length vertices.now ≡ length rows.now }
-    requires rising { AreRising vertices.now }
+    requires lengths { length placed.now.vertices.now ≡ length placed.now.rows.now }
+    requires rising { AreRising placed.now.vertices.now }
     requires edges { (v : ℕ) → v < vertex_count game.now → 0 < length (successors_of game.now v) }
-    requires numbers { (v : ℕ) → IfSome (number_in vertices.now rows.now v)
+    requires numbers { (v : ℕ) → IfSome (number_in placed.now.vertices.now placed.now.rows.now v)
         (λ n. n < count_of (parameters verified.now)) }
-    ensures { Sends result (S.taken sink.old) (S.taken sink.new) (S.has_failed sink.old)
-        (S.has_failed sink.new) buffer.old.bytes.items buffer.new.bytes.items
-        (lines_text verified.now game.now vertices.now rows.now) }
+    ensures { Sends (lines_text verified.now game.now placed.now.vertices.now placed.now.rows.now)
+        result S.taken S.has_failed sink.old sink.new buffer.old buffer.new }
 {
     let mut k = 0;
     for vertex in 0..game.len() {
-        let number = row_number(vertices, rows, k, vertex);
-        write_line(buffer, verified, game, vertex, number, sink)?;
+        let number = row_number(placed.vertices, placed.rows, k, vertex);
+        let named = NamedVertex {
+            vertex,
+            instance: number,
+        };
+        write_line(buffer, verified, game, named, sink)?;
         if number.is_some() {
             k += 1;
         }
@@ -137,9 +149,8 @@ fn write_first_line<S: Sink>(
     greatest: u32,
     sink: &mut S,
 ) -> Result<(), E02>
-    ensures { Sends result (S.taken sink.old) (S.taken sink.new) (S.has_failed sink.old)
-        (S.has_failed sink.new) buffer.old.bytes.items buffer.new.bytes.items
-        (first_line greatest) }
+    ensures { Sends (first_line greatest)
+        result S.taken S.has_failed sink.old sink.new buffer.old buffer.new }
 {
     buffer.write(b"parity ", sink)?;
     buffer.write_number(greatest, sink)?;
@@ -151,45 +162,41 @@ fn write_game<S: Sink>(
     buffer: &mut TextBuffer,
     verified: &Verified,
     game: &Game,
-    vertices: &[u32],
-    rows: &IndexedRows,
+    placed: &PlacedRows<'_>,
     sink: &mut S,
 ) -> Result<(), E02>
     requires some { 0 < vertex_count game.now }
-    requires lengths { length vertices.now ≡ length rows.now }
-    requires rising { AreRising vertices.now }
+    requires lengths { length placed.now.vertices.now ≡ length placed.now.rows.now }
+    requires rising { AreRising placed.now.vertices.now }
     requires edges { (v : ℕ) → v < vertex_count game.now → 0 < length (successors_of game.now v) }
-    requires numbers { (v : ℕ) → IfSome (number_in vertices.now rows.now v)
+    requires numbers { (v : ℕ) → IfSome (number_in placed.now.vertices.now placed.now.rows.now v)
         (λ n. n < count_of (parameters verified.now)) }
-    ensures { Sends result (S.taken sink.old) (S.taken sink.new) (S.has_failed sink.old)
-        (S.has_failed sink.new) buffer.old.bytes.items buffer.new.bytes.items
-        (memory_text verified.now game.now vertices.now rows.now) }
+    ensures { Sends (memory_text verified.now game.now placed.now.vertices.now placed.now.rows.now)
+        result S.taken S.has_failed sink.old sink.new buffer.old buffer.new }
 {
     write_first_line(buffer, game.len() - 1, sink)?;
-    write_lines(buffer, verified, game, vertices, rows, sink)
+    write_lines(buffer, verified, game, placed, sink)
 }
 
-/// The text of a game, with the vertex of each row.
 fn write_text<S: Sink>(
     alloc: Global,
     verified: &Verified,
     game: &Game,
-    vertices: &[u32],
-    rows: &IndexedRows,
+    placed: &PlacedRows<'_>,
     sink: &mut S,
 ) -> Result<(), WriteError>
     requires some { 0 < vertex_count game.now }
-    requires lengths { length vertices.now ≡ length rows.now }
-    requires rising { AreRising vertices.now }
+    requires lengths { length placed.now.vertices.now ≡ length placed.now.rows.now }
+    requires rising { AreRising placed.now.vertices.now }
     requires edges { (v : ℕ) → v < vertex_count game.now → 0 < length (successors_of game.now v) }
-    requires numbers { (v : ℕ) → IfSome (number_in vertices.now rows.now v)
+    requires numbers { (v : ℕ) → IfSome (number_in placed.now.vertices.now placed.now.rows.now v)
         (λ n. n < count_of (parameters verified.now)) }
-    ensures text { Writes result (S.taken sink.old) (S.taken sink.new) (S.has_failed sink.old)
-        (S.has_failed sink.new) (memory_text verified.now game.now vertices.now rows.now) }
-    ensures silent { IfErr result (λ e. IsOutOfMemory e → sink.new ≡ sink.old) }
+    ensures { Delivers is_failed
+        (λ P. P (memory_text verified.now game.now placed.now.vertices.now placed.now.rows.now))
+        result S.taken S.has_failed sink.old sink.new }
 {
     let mut buffer = TextBuffer::new(alloc)?;
-    write_game(&mut buffer, verified, game, vertices, rows, sink)?;
+    write_game(&mut buffer, verified, game, placed, sink)?;
     buffer.finish(sink)?;
     Ok(())
 }
@@ -210,11 +217,14 @@ pub fn game_text<S: Sink>(
     requires trees { ModuleHasTrees verified.now }
     requires rows { AreModuleRows verified.now rows.now }
     requires game { IsModuleGame verified.now rows.now built.now }
-    ensures text { (trees : ℕ → Tree) → AreTrees verified.now trees
-        → Writes result (S.taken sink.old) (S.taken sink.new) (S.has_failed sink.old)
-        (S.has_failed sink.new) (module_game_text verified.now trees rows.now) }
-    ensures silent { IfErr result (λ e. IsOutOfMemory e → sink.new ≡ sink.old) }
+    ensures { Delivers is_failed
+        (ForTrees verified.now (λ trees. module_game_text verified.now trees rows.now)) result
+        S.taken S.has_failed sink.old sink.new }
 {
     pb_trees::games_of_rows_are_total();
-    write_text(alloc, verified, &built.game, &built.vertices, rows, sink)
+    let placed = PlacedRows {
+        rows,
+        vertices: &built.vertices,
+    };
+    write_text(alloc, verified, &built.game, &placed, sink)
 }

@@ -44,9 +44,8 @@ fn write_value<S: Sink>(
     value: &i64,
     sink: &mut S,
 ) -> Result<(), E02>
-    ensures { Sends result (S.taken sink.old) (S.taken sink.new) (S.has_failed sink.old)
-        (S.has_failed sink.new) buffer.old.bytes.items buffer.new.bytes.items
-        (value_name (map sort_contents sorts.now) carrier.now value.now) }
+    ensures { Sends (value_name (map sort_contents sorts.now) carrier.now value.now)
+        result S.taken S.has_failed sink.old sink.new buffer.old buffer.new }
 {
     match carrier {
         Carrier::Bool => buffer.write(bool_name(*value), sink),
@@ -65,9 +64,8 @@ fn write_next_value<S: Sink>(
     value: &i64,
     sink: &mut S,
 ) -> Result<(), E02>
-    ensures { Sends result (S.taken sink.old) (S.taken sink.new) (S.has_failed sink.old)
-        (S.has_failed sink.new) buffer.old.bytes.items buffer.new.bytes.items
-        (next_value (map sort_contents sorts.now) carrier.now value.now) }
+    ensures { Sends (next_value (map sort_contents sorts.now) carrier.now value.now)
+        result S.taken S.has_failed sink.old sink.new buffer.old buffer.new }
 {
     buffer.write(b",", sink)?;
     write_value(buffer, sorts, carrier, value, sink)
@@ -83,9 +81,9 @@ fn write_more_values<S: Sink>(
 ) -> Result<(), E02>
     requires some { 0 < length carriers.now }
     requires lengths { length values.now ≡ length carriers.now }
-    ensures { Sends result (S.taken sink.old) (S.taken sink.new) (S.has_failed sink.old)
-        (S.has_failed sink.new) buffer.old.bytes.items buffer.new.bytes.items
-        (more_values (map sort_contents sorts.now) (drop 1 carriers.now) (drop 1 values.now)) }
+    ensures { Sends (more_values (map sort_contents sorts.now) (drop 1 carriers.now) (drop 1
+        values.now))
+        result S.taken S.has_failed sink.old sink.new buffer.old buffer.new }
 {
     for k in 1..carriers.len() {
         write_next_value(buffer, sorts, &carriers[k], &values[k], sink)?;
@@ -103,9 +101,8 @@ fn write_values<S: Sink>(
 ) -> Result<(), E02>
     requires some { 0 < length carriers.now }
     requires lengths { length values.now ≡ length carriers.now }
-    ensures { Sends result (S.taken sink.old) (S.taken sink.new) (S.has_failed sink.old)
-        (S.has_failed sink.new) buffer.old.bytes.items buffer.new.bytes.items
-        (values_text (map sort_contents sorts.now) carriers.now values.now) }
+    ensures { Sends (values_text (map sort_contents sorts.now) carriers.now values.now)
+        result S.taken S.has_failed sink.old sink.new buffer.old buffer.new }
 {
     write_value(buffer, sorts, &carriers[0], &values[0], sink)?;
     write_more_values(buffer, sorts, carriers, values, sink)
@@ -120,9 +117,8 @@ fn write_arguments<S: Sink>(
     sink: &mut S,
 ) -> Result<(), E02>
     requires { length values.now ≡ length carriers.now }
-    ensures { Sends result (S.taken sink.old) (S.taken sink.new) (S.has_failed sink.old)
-        (S.has_failed sink.new) buffer.old.bytes.items buffer.new.bytes.items
-        (arguments (map sort_contents sorts.now) carriers.now values.now) }
+    ensures { Sends (arguments (map sort_contents sorts.now) carriers.now values.now)
+        result S.taken S.has_failed sink.old sink.new buffer.old buffer.new }
 {
     if carriers.is_empty() {
         return buffer.write(b"", sink);
@@ -140,9 +136,8 @@ pub fn write_instance_name<S: Sink>(
     sink: &mut S,
 ) -> Result<(), E02>
     requires { number < count_of (parameters verified.now) }
-    ensures { Sends result (S.taken sink.old) (S.taken sink.new) (S.has_failed sink.old)
-        (S.has_failed sink.new) buffer.old.bytes.items buffer.new.bytes.items
-        (instance_name verified.now number) }
+    ensures { Sends (instance_name verified.now number)
+        result S.taken S.has_failed sink.old sink.new buffer.old buffer.new }
 {
     let module = verified.module();
     let instance = verified.layout().instance(number);

@@ -1,13 +1,14 @@
 //! The solution at the reached instances, as a text.
-ghost use Rattle.std.specs.Prelude.{◌<◌, ℕ, ◌≡◌, IfErr};
+ghost use Rattle.std.specs.Prelude.{◌<◌, ℕ};
 ghost use Rattle.pb_trees.specs.Tree.{Tree};
 ghost use Rattle.pb_sorts.specs.Layout.{count_of};
 ghost use Rattle.pb_bytecode.specs.Meaning.{parameters, AreTrees};
 ghost use Rattle.pb_game_of_trees.specs.Explored.{ModuleHasTrees, AreModuleRows, IsModuleGame};
-ghost use Rattle.pb_report.specs.Sending.{Sends, Writes, IsOutOfMemory};
+ghost use Rattle.pb_report.specs.Delivery.{Delivers, is_failed};
+ghost use Rattle.pb_report.specs.Sending.{Sends};
 ghost use Rattle.pb_report.specs.InstanceName.{instance_name};
 ghost use Rattle.pb_report.specs.SolutionText.{truth_end, solution_line};
-ghost use Rattle.pb_report.specs.ModuleTexts.{module_solution_text};
+ghost use Rattle.pb_report.specs.ModuleTexts.{module_solution_text, ForTrees};
 
 use crate::buffer::{TextBuffer, WriteError};
 use crate::instance_name::write_instance_name;
@@ -18,8 +19,8 @@ use pb_verifier::Verified;
 use std::alloc::Global;
 
 fn write_truth<S: Sink>(buffer: &mut TextBuffer, truth: bool, sink: &mut S) -> Result<(), E02>
-    ensures { Sends result (S.taken sink.old) (S.taken sink.new) (S.has_failed sink.old)
-        (S.has_failed sink.new) buffer.old.bytes.items buffer.new.bytes.items (truth_end truth) }
+    ensures { Sends (truth_end truth)
+        result S.taken S.has_failed sink.old sink.new buffer.old buffer.new }
 {
     if truth {
         buffer.write(b" true\n", sink)
@@ -36,15 +37,13 @@ fn write_line<S: Sink>(
     sink: &mut S,
 ) -> Result<(), E02>
     requires { number < count_of (parameters verified.now) }
-    ensures { Sends result (S.taken sink.old) (S.taken sink.new) (S.has_failed sink.old)
-        (S.has_failed sink.new) buffer.old.bytes.items buffer.new.bytes.items
-        (solution_line (instance_name verified.now number) truth) }
+    ensures { Sends (solution_line (instance_name verified.now number) truth)
+        result S.taken S.has_failed sink.old sink.new buffer.old buffer.new }
 {
     write_instance_name(buffer, verified, number, sink)?;
     write_truth(buffer, truth, sink)
 }
 
-/// The lines of all rows.
 fn write_lines<S: Sink>(
     buffer: &mut TextBuffer,
     verified: &Verified,
@@ -56,9 +55,8 @@ fn write_lines<S: Sink>(
     requires rows { AreModuleRows verified.now rows.now }
     requires game { IsModuleGame verified.now rows.now solved.now.built }
     ensures { (trees : ℕ → Tree) → AreTrees verified.now trees
-        → Sends result (S.taken sink.old) (S.taken sink.new) (S.has_failed sink.old)
-        (S.has_failed sink.new) buffer.old.bytes.items buffer.new.bytes.items
-        (module_solution_text verified.now trees rows.now) }
+        → Sends (module_solution_text verified.now trees rows.now)
+        result S.taken S.has_failed sink.old sink.new buffer.old buffer.new }
 {
     for k in 0..rows.len() {
         let truth = solved.row_truth(k);
@@ -83,10 +81,9 @@ pub fn solution_text<S: Sink>(
     requires trees { ModuleHasTrees verified.now }
     requires rows { AreModuleRows verified.now rows.now }
     requires game { IsModuleGame verified.now rows.now solved.now.built }
-    ensures text { (trees : ℕ → Tree) → AreTrees verified.now trees
-        → Writes result (S.taken sink.old) (S.taken sink.new) (S.has_failed sink.old)
-        (S.has_failed sink.new) (module_solution_text verified.now trees rows.now) }
-    ensures silent { IfErr result (λ e. IsOutOfMemory e → sink.new ≡ sink.old) }
+    ensures { Delivers is_failed
+        (ForTrees verified.now (λ trees. module_solution_text verified.now trees rows.now)) result
+        S.taken S.has_failed sink.old sink.new }
 {
     let mut buffer = TextBuffer::new(alloc)?;
     write_lines(&mut buffer, verified, solved, rows, sink)?;

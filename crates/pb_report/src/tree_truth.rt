@@ -107,7 +107,6 @@ impl Reading {
         self.inner = self.inner.with_operand(truth);
     }
 
-    /// Reads a token.
     fn read(&mut self, named: &Named, token: Token) -> Result<(), AllocError>
         ensures { OnOk result ((rest : List Token)
             → read_on (exactly named.now.value named.now.numbers.items) self.new rest

@@ -15,8 +15,8 @@ pub(crate) fn write_field<S: Sink>(
     number: u32,
     sink: &mut S,
 ) -> Result<(), E02>
-    ensures { Sends result (S.taken sink.old) (S.taken sink.new) (S.has_failed sink.old)
-        (S.has_failed sink.new) buffer.old.bytes.items buffer.new.bytes.items (field number) }
+    ensures { Sends (field number)
+        result S.taken S.has_failed sink.old sink.new buffer.old buffer.new }
 {
     buffer.write_number(number, sink)?;
     buffer.write(b" ", sink)
@@ -29,9 +29,8 @@ fn write_head<S: Sink>(
     owner: u32,
     sink: &mut S,
 ) -> Result<(), E02>
-    ensures { Sends result (S.taken sink.old) (S.taken sink.new) (S.has_failed sink.old)
-        (S.has_failed sink.new) buffer.old.bytes.items buffer.new.bytes.items
-        (head vertex priority owner) }
+    ensures { Sends (head vertex priority owner)
+        result S.taken S.has_failed sink.old sink.new buffer.old buffer.new }
 {
     write_field(buffer, vertex, sink)?;
     write_field(buffer, priority, sink)?;
@@ -39,17 +38,16 @@ fn write_head<S: Sink>(
 }
 
 fn write_item<S: Sink>(buffer: &mut TextBuffer, number: u32, sink: &mut S) -> Result<(), E02>
-    ensures { Sends result (S.taken sink.old) (S.taken sink.new) (S.has_failed sink.old)
-        (S.has_failed sink.new) buffer.old.bytes.items buffer.new.bytes.items (item number) }
+    ensures { Sends (item number)
+        result S.taken S.has_failed sink.old sink.new buffer.old buffer.new }
 {
     buffer.write(b",", sink)?;
     buffer.write_number(number, sink)
 }
 
 fn write_more<S: Sink>(buffer: &mut TextBuffer, numbers: &[u32], sink: &mut S) -> Result<(), E02>
-    ensures { Sends result (S.taken sink.old) (S.taken sink.new) (S.has_failed sink.old)
-        (S.has_failed sink.new) buffer.old.bytes.items buffer.new.bytes.items
-        (more_numbers numbers.now) }
+    ensures { Sends (more_numbers numbers.now)
+        result S.taken S.has_failed sink.old sink.new buffer.old buffer.new }
 {
     for k in 0..numbers.len() {
         write_item(buffer, numbers[k], sink)?;
@@ -59,9 +57,8 @@ fn write_more<S: Sink>(buffer: &mut TextBuffer, numbers: &[u32], sink: &mut S) -
 
 fn write_numbers<S: Sink>(buffer: &mut TextBuffer, numbers: &[u32], sink: &mut S) -> Result<(), E02>
     requires { 0 < length numbers.now }
-    ensures { Sends result (S.taken sink.old) (S.taken sink.new) (S.has_failed sink.old)
-        (S.has_failed sink.new) buffer.old.bytes.items buffer.new.bytes.items
-        (numbers_text numbers.now) }
+    ensures { Sends (numbers_text numbers.now)
+        result S.taken S.has_failed sink.old sink.new buffer.old buffer.new }
 {
     buffer.write_number(numbers[0], sink)?;
     write_more(buffer, &numbers[1..], sink)
@@ -73,9 +70,8 @@ pub(crate) fn write_name<S: Sink>(
     name: &[u8],
     sink: &mut S,
 ) -> Result<(), E02>
-    ensures { Sends result (S.taken sink.old) (S.taken sink.new) (S.has_failed sink.old)
-        (S.has_failed sink.new) buffer.old.bytes.items buffer.new.bytes.items
-        (name_part (Some name.now)) }
+    ensures { Sends (name_part (Some name.now))
+        result S.taken S.has_failed sink.old sink.new buffer.old buffer.new }
 {
     buffer.write(b" \"", sink)?;
     buffer.write(name, sink)?;
@@ -91,9 +87,8 @@ pub(crate) fn write_vertex<S: Sink>(
 ) -> Result<(), E02>
     requires vertex { vertex < vertex_count game.now }
     requires edges { 0 < length (successors_of game.now vertex) }
-    ensures { Sends result (S.taken sink.old) (S.taken sink.new) (S.has_failed sink.old)
-        (S.has_failed sink.new) buffer.old.bytes.items buffer.new.bytes.items
-        (vertex_text vertex (vertex_at game.now vertex)) }
+    ensures { Sends (vertex_text vertex (vertex_at game.now vertex))
+        result S.taken S.has_failed sink.old sink.new buffer.old buffer.new }
 {
     write_head(
         buffer,

@@ -9,11 +9,12 @@ use Rattle.pb_model_properties.specs.declared.error.ModelError.{ModelError}
 use Rattle.pb_model_properties.specs.declared.error.ModelError.TheVariants as model_error
 use Rattle.pb_report.specs.declared.buffer.WriteError.{WriteError}
 use Rattle.pb_report.specs.declared.buffer.WriteError.TheVariants as write_error
-use Rattle.pb_report.specs.Sending.{Writes, IsOutOfMemory}
-use Rattle.pb_module_solver.specs.Texts.{SendsText}
+use Rattle.pb_report.specs.Delivery as delivery
+use Rattle.pb_report.specs.Delivery.{is_failed, Leaves}
+use Rattle.pb_report.proofs.Delivery as known
 use Rattle.pbsolve.specs.declared.solve_error.SolveError.{SolveError}
 use Rattle.pbsolve.specs.declared.solve_error.SolveError.TheVariants as solve_error
-use Rattle.pbsolve.specs.Delivery.{Delivers, Leaves}
+use Rattle.pbsolve.specs.Delivery.{Delivers, is_failed_write}
 use Rattle.pbsolve.specs.Errors.{build_refusal, model_refusal, module_refusal, write_failure}
 
 -- the error is no failed write
@@ -35,7 +36,7 @@ model_unwritten model_error.NoProperty h = absurd (cc h)
 model_unwritten (model_error.Memory error) h = absurd (cc h)
 
 module _ {S : Type 0} (taken : S → Option (List ℕ)) (has_failed : S → Bool) where
-  nothing_left : (For : (List ℕ → Type 0) → Type 0) (w : S) (e : SolveError) → Unwritten e → Leaves For e taken has_failed w w
+  nothing_left : (For : (List ℕ → Type 0) → Type 0) (w : S) (e : SolveError) → Unwritten e → Leaves (is_failed_write e) For taken has_failed w w
   nothing_left For w (solve_error.Write error) other = absurd (other refl)
   nothing_left For w (solve_error.Memory error) other = refl
   nothing_left For w (solve_error.Text error) other = refl
@@ -48,9 +49,9 @@ module _ {S : Type 0} (taken : S → Option (List ℕ)) (has_failed : S → Bool
 
   -- `?` hands an error up as it is
   pub left_by : {T : Type 0} (For : (List ℕ → Type 0) → Type 0) (old new : S) (r : Result T SolveError) (e : SolveError)
-      → IsErrAnd r (λ x. x ≡ e) → Leaves For e taken has_failed old new → Delivers For r taken has_failed old new
+      → IsErrAnd r (λ x. x ≡ e) → Leaves (is_failed_write e) For taken has_failed old new → Delivers For r taken has_failed old new
   left_by For old new (Ok x) e made h = absurd made
-  left_by For old new (Err x) e made h = subst (λ (z : SolveError). Leaves For z taken has_failed old new) (sym made) h
+  left_by For old new (Err x) e made h = subst (λ (z : SolveError). Leaves (is_failed_write z) For taken has_failed old new) (sym made) h
 
   -- so where nothing was written yet
   pub nothing_written : {T : Type 0} (For : (List ℕ → Type 0) → Type 0) (w : S) (r : Result T SolveError) (e : SolveError)
@@ -64,52 +65,33 @@ module _ {S : Type 0} (taken : S → Option (List ℕ)) (has_failed : S → Bool
   delivered For old new (Err e) v is h = absurd (cc is)
 
   pub left : {T : Type 0} (For : (List ℕ → Type 0) → Type 0) (old new : S) (r : Result T SolveError) (e : SolveError) → r ≡ Err e
-      → Delivers For r taken has_failed old new → Leaves For e taken has_failed old new
+      → Delivers For r taken has_failed old new → Leaves (is_failed_write e) For taken has_failed old new
   left For old new (Ok x) e is h = absurd (cc is)
-  left For old new (Err x) e is h = let same : x ≡ e = cc is in subst (λ (z : SolveError). Leaves For z taken has_failed old new) same h
+  left For old new (Err x) e is h = let same : x ≡ e = cc is in subst (λ (z : SolveError). Leaves (is_failed_write z) For taken has_failed old new) same h
 
   -- a text of which less is known
-  module _ (For Less : (List ℕ → Type 0) → Type 0) (less : (P : List ℕ → Type 0) → For P → Less P) (old new : S) where
-    pub less_left : (e : SolveError) → Leaves For e taken has_failed old new → Leaves Less e taken has_failed old new
-    less_left (solve_error.Write error) h = (less _ h.0, h.1)
-    less_left (solve_error.Memory error) h = h
-    less_left (solve_error.Text error) h = h
-    less_left (solve_error.Typing error) h = h
-    less_left (solve_error.Limit limit equation) h = h
-    less_left (solve_error.Module error) h = h
-    less_left (solve_error.Acceptance error) h = h
-    less_left solve_error.TooManyVertices h = h
-    less_left solve_error.NoProperty h = h
+  pub less_delivered : {T : Type 0} (For Less : (List ℕ → Type 0) → Type 0) → ((P : List ℕ → Type 0) → For P → Less P) → (old new : S) → (r : Result T SolveError)
+      → Delivers For r taken has_failed old new → Delivers Less r taken has_failed old new
+  less_delivered For Less less old new r h = known.less_delivered is_failed_write taken has_failed For Less less old new r h
 
-    pub less_delivered : {T : Type 0} (r : Result T SolveError) → Delivers For r taken has_failed old new → Delivers Less r taken has_failed old new
-    less_delivered (Ok x) h = (less _ h.0, h.1)
-    less_delivered (Err e) h = less_left e h
-
-  -- what the writers of a module's texts send
+  -- what the writers of a module's texts deliver
   module _ {T : Type 0} (For : (List ℕ → Type 0) → Type 0) (old new : S) where
-    pub sent_whole : (r : Result T WriteError) (v : T) → SendsText For r (taken old) (taken new) (has_failed old) (has_failed new) → r ≡ Ok v
+    pub sent_whole : (r : Result T WriteError) (v : T) → delivery.Delivers is_failed For r taken has_failed old new → r ≡ Ok v
         → For (Appends (taken old) (taken new)) × (has_failed new ≡ has_failed old)
     sent_whole (Ok w) v sent is = sent
     sent_whole (Err e) v sent is = absurd (cc is)
 
-    sent_part : (r : Result T WriteError) (x : WriteError) → SendsText For r (taken old) (taken new) (has_failed old) (has_failed new)
-        → IfErr r (λ e. IsOutOfMemory e → new ≡ old) → r ≡ Err x → Leaves For (write_failure x) taken has_failed old new
-    sent_part (Ok v) x sent silent is = absurd (cc is)
-    sent_part (Err (write_error.Memory a)) (write_error.Memory b) sent silent is = silent tt
-    sent_part (Err (write_error.Memory a)) (write_error.Failed b) sent silent is = absurd (cc is)
-    sent_part (Err (write_error.Failed a)) (write_error.Memory b) sent silent is = absurd (cc is)
-    sent_part (Err (write_error.Failed a)) (write_error.Failed b) sent silent is = sent
+    sent_part : (r : Result T WriteError) (x : WriteError) → delivery.Delivers is_failed For r taken has_failed old new → r ≡ Err x
+        → Leaves (is_failed_write (write_failure x)) For taken has_failed old new
+    sent_part (Ok v) x sent is = absurd (cc is)
+    sent_part (Err (write_error.Memory a)) (write_error.Memory b) sent is = sent
+    sent_part (Err (write_error.Memory a)) (write_error.Failed b) sent is = absurd (cc is)
+    sent_part (Err (write_error.Failed a)) (write_error.Memory b) sent is = absurd (cc is)
+    sent_part (Err (write_error.Failed a)) (write_error.Failed b) sent is = sent
 
-    pub sent_up : {U : Type 0} (r : Result T WriteError) (x : WriteError) (s : Result U SolveError) → SendsText For r (taken old) (taken new) (has_failed old) (has_failed new)
-        → IfErr r (λ e. IsOutOfMemory e → new ≡ old) → r ≡ Err x → IsErrAnd s (λ y. y ≡ write_failure x) → Delivers For s taken has_failed old new
-    sent_up r x s sent silent is made = left_by For old new s (write_failure x) made (sent_part r x sent silent is)
-
--- a whole text is one of which this is known
-pub written : {T : Type 0} (For : (List ℕ → Type 0) → Type 0) (text : List ℕ) (knows : (P : List ℕ → Type 0) → P text → For P)
-    (r : Result T WriteError) (old new : Option (List ℕ)) (fb fa : Bool) → Writes r old new fb fa text → SendsText For r old new fb fa
-written For text knows (Ok v) old new fb fa h = (knows _ h.0, h.1)
-written For text knows (Err (write_error.Memory a)) old new fb fa h = h
-written For text knows (Err (write_error.Failed a)) old new fb fa h = (knows _ h.0, h.1)
+    pub sent_up : {U : Type 0} (r : Result T WriteError) (x : WriteError) (s : Result U SolveError) → delivery.Delivers is_failed For r taken has_failed old new
+        → r ≡ Err x → IsErrAnd s (λ y. y ≡ write_failure x) → Delivers For s taken has_failed old new
+    sent_up r x s sent is made = left_by For old new s (write_failure x) made (sent_part r x sent is)
 
 -- what holds of a failed write holds of the only error of a call that does nothing but write
 pub only_write : {T : Type 0} (P : SolveError → Type 0) → P (solve_error.Write (record {})) → (r : Result T SolveError)

@@ -1,6 +1,5 @@
 -- What the answer to a text is, and what its module is.
 use Rattle.std.specs.Prelude.{◌≡◌, ℕ, true, List}
-use Rattle.pb_trees.specs.Tree.{Tree}
 use Rattle.pb_text_tree.specs.Form.{SpecForm}
 use Rattle.pb_text.specs.Parsing.{IsReading, IsReadingWithin}
 use Rattle.pb_typing_rules.specs.WellTyped.{IsWellTyped}
@@ -8,10 +7,9 @@ use Rattle.pb_text_meaning.specs.Erase.{erase}
 use Rattle.pb_text_meaning.specs.Meaning.{answer}
 use Rattle.pb_bytecode.specs.Contents.{Contents}
 use Rattle.pb_bytecode.specs.Limits.{fits}
-use Rattle.pb_bytecode.specs.Meaning.{AreTrees}
 use Rattle.pb_bytecode.specs.Spelling.{spelling}
 use Rattle.pb_verifier.specs.Acceptance.{IsAccepted}
-use Rattle.pb_assembler_modules.specs.Answers.{SaysTheSame}
+use Rattle.pb_assembler_modules.specs.Answers.{HasMeaningOf}
 use Rattle.pb_assembler_modules.specs.Module.{IsCompiledModule, KeepsAllLimits}
 use Rattle.pb_report.specs.declared.answer.Answer.{Answer}
 use Rattle.pb_evidence.specs.declared.Evidence.{Evidence}
@@ -24,14 +22,15 @@ pub record IsTheReading (bytes : List ℕ) (x : SpecForm) : Type 0 where
   pub only : (depth operators : ℕ) (y : SpecForm) → IsReadingWithin depth operators bytes y → y ≡ x
 
 -- The module of what a text says: that is well typed, and the module is what the compile scheme
--- makes of it, with code that keeps the machine's limits. Whichever trees the runs of its instances
--- end with, these have the text's answer, each of its instances has the truth that it has in the
--- text's solution, and each tree is true where the text's right side is.
+-- makes of it, with code that keeps the machine's limits and is accepted. Whichever trees the runs
+-- of its instances end with, these have the text's answer, each of its instances has the truth that
+-- it has in the text's solution, and each tree is true where the text's right side is.
 pub record IsModuleOfForm (text : SpecForm) (m : Contents) : Type 0 where
   pub typed : IsWellTyped (erase text)
   pub compiled : IsCompiledModule (erase text) m
   pub kept : KeepsAllLimits (erase text) m
-  pub says : (trees : ℕ → Tree) → AreTrees m trees → SaysTheSame (erase text) m trees
+  pub accepted : IsAccepted m
+  pub says : HasMeaningOf (erase text) m
 
 -- the module of a text, given by its bytes
 pub record IsModuleOfText (bytes : List ℕ) (m : Contents) : Type 0 where

@@ -47,7 +47,7 @@ IsToldAs (run_error.Refused error) told =
 abbrev pub Tells : Option (List ℕ) → Option (List ℕ) → Bool → List ℕ → Type 0
 Tells old new failed line = Appends old new line ⊎ ((failed ≡ true) × AppendsPrefix old new line)
 
--- at most n bytes left the source
+-- at most n bytes left the source, which is said where reading failed (E01)
 abbrev pub ReadsAtMost : ℕ → Option (List ℕ) → Option (List ℕ) → Type 0
 ReadsAtMost n old new = (bytes : List ℕ) × (length bytes ≤ n) × Consumes old new bytes
 

@@ -15,7 +15,7 @@ use crate::solve_error::SolveError;
 use pb_bytecode::decode::decode;
 use pb_bytecode::list::list;
 use pb_exploration::Gate;
-use pb_module_solver::SolveOptions;
+use pb_module_solver::{Context, SolveOptions};
 use pb_report::Answer;
 use pb_sorts::Sink;
 use pb_verifier::{Verified, verify};
@@ -44,11 +44,9 @@ fn verified_code(alloc: Global, bytes: &[u8]) -> Result<Verified, SolveError>
 /// and where. Others are as with `solve_text`, but for `Text`, `Typing` and `Limit`, which never
 /// come.
 pub fn solve_code<R: Threads + Sync, G: Gate + Sync, S: Sink>(
-    rt: &R,
-    alloc: Global,
+    context: &Context<'_, R, G>,
     bytes: &[u8],
     options: SolveOptions,
-    gate: &G,
     writer: &mut S,
 ) -> Result<Answer, SolveError>
     ensures answer { IfOk result (IsAnswerOfCode bytes.now) }
@@ -58,8 +56,8 @@ pub fn solve_code<R: Threads + Sync, G: Gate + Sync, S: Sink>(
         S.taken S.has_failed writer.old writer.new }
     ensures refused { IfErr result (IsRefusedBytes bytes.now) }
 {
-    let verified = verified_code(alloc, bytes)?;
-    write_report(rt, alloc, &verified, options, gate, writer)
+    let verified = verified_code(context.alloc, bytes)?;
+    write_report(context, &verified, options, writer)
 }
 
 /// Verifies a module, given by its bytes, and writes `accepted` and a line feed.

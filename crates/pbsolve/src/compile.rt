@@ -14,7 +14,6 @@ use crate::delivery::deliver;
 use crate::input::INPUT_LIMIT;
 use crate::solve_error::SolveError;
 use pb_assembler::{CompileError, compile};
-use pb_assembler_modules::laws::compiled_modules_have_the_answer;
 use pb_assembler_modules::verify_compiled;
 use pb_bytecode::Module;
 use pb_bytecode::encode::encode;
@@ -48,7 +47,6 @@ fn compiled(alloc: Global, typed: &Typed) -> Result<Module, SolveError>
     ensures unwritten { IfErr result (λ e. e ≢ SolveError.Write (record {})) }
 {
     let normal = normalise(alloc, typed)?;
-    compiled_modules_have_the_answer();
     match compile(alloc, &normal) {
         Ok(module) => Ok(module),
         Err(CompileError::Limit { limit, equation }) => Err(SolveError::Limit { limit, equation }),

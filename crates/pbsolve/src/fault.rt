@@ -5,15 +5,15 @@ ghost use Rattle.pbsolve.specs.Lines.{line_of};
 /// A fault of the whole run.
 #[derive(Clone, Copy, Debug, PartialEq, Eq)]
 pub enum ProgramFault {
-    /// The words of the command line ask for nothing that the program does.
+    /// U01: the words of the command line ask for nothing that the program does.
     U01,
-    /// The input is longer than its limit.
+    /// U02: the input is longer than its limit.
     U02,
-    /// Reading failed.
+    /// E01: reading failed.
     E01,
-    /// Writing failed.
+    /// E02: writing failed.
     E02,
-    /// A request for memory was refused.
+    /// M01: a request for memory was refused.
     M01,
 }
 

@@ -15,9 +15,9 @@ const PIECE: usize = 65_536;
 /// Why there is no input.
 #[derive(Clone, Copy, Debug, PartialEq, Eq)]
 pub(crate) enum InputError {
-    /// Reading failed.
+    /// E01: reading failed.
     Failed,
-    /// There are more bytes than `INPUT_LIMIT`.
+    /// U02: there are more bytes than `INPUT_LIMIT`.
     TooLong,
     /// A request for memory was refused.
     Memory,

@@ -29,7 +29,7 @@ pub use laws::bytes_spell_one_module;
 pub use limit::limit_line;
 pub use models::{check_text, translate_text};
 pub use options::ExplainOptions;
-pub use pb_module_solver::SolveOptions;
+pub use pb_module_solver::{Context, SolveOptions};
 pub use program::{run, tell_fault};
 pub use solve::{certificate_of, explain_text, game_of, solution_of, solve_text};
 pub use solve_error::SolveError;

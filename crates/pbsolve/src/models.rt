@@ -16,7 +16,7 @@ use pb_exploration::Gate;
 use pb_machine::instances_have_trees;
 use pb_model_properties::{push_verdict, read_model, text_at, translation_of};
 use pb_model_typing::TypedModel;
-use pb_module_solver::{SolveOptions, answer_module};
+use pb_module_solver::{Context, SolveOptions, answer_module};
 use pb_report::Answer;
 use pb_sorts::Sink;
 use std::alloc::Global;
@@ -48,14 +48,11 @@ pub fn translate_text<S: Sink>(
     deliver(text.as_slice(), writer)
 }
 
-// The verdict on the property at a place of a model.
 fn verdict_at<R: Threads + Sync, G: Gate + Sync>(
-    rt: &R,
-    alloc: Global,
+    context: &Context<'_, R, G>,
     model: &TypedModel,
     place: usize,
     options: SolveOptions,
-    gate: &G,
 ) -> Result<Answer, SolveError>
     requires read { (bytes : List ℕ) × IsModelOf bytes (model_form model.now.model) }
     requires within { place < length model.now.model.properties.items }
@@ -66,19 +63,17 @@ fn verdict_at<R: Threads + Sync, G: Gate + Sync>(
         → IsModelOf bytes (model_form model.now.model) → IsUnchecked bytes e) }
     ensures unwritten { IfErr result (λ e. e ≢ SolveError.Write (record {})) }
 {
-    let text = text_at(alloc, model, place)?;
-    let verified = verified(alloc, &text)?;
+    let text = text_at(context.alloc, model, place)?;
+    let verified = verified(context.alloc, &text)?;
     instances_have_trees(&verified);
-    Ok(answer_module(rt, alloc, &verified, options, gate)?)
+    Ok(answer_module(context, &verified, options)?)
 }
 
 // The lines of the verdicts on a model's properties.
 fn verdicts_on<R: Threads + Sync, G: Gate + Sync>(
-    rt: &R,
-    alloc: Global,
+    context: &Context<'_, R, G>,
     model: &TypedModel,
     options: SolveOptions,
-    gate: &G,
 ) -> Result<String, SolveError>
     requires read { (bytes : List ℕ) × IsModelOf bytes (model_form model.now.model) }
     ensures lines { IfOk result (λ lines. AreVerdicts (model_form model.now.model)
@@ -87,11 +82,11 @@ fn verdicts_on<R: Threads + Sync, G: Gate + Sync>(
         → IsModelOf bytes (model_form model.now.model) → IsUnchecked bytes e) }
     ensures unwritten { IfErr result (λ e. e ≢ SolveError.Write (record {})) }
 {
-    let mut lines = String::new(alloc);
+    let mut lines = String::new(context.alloc);
     for place in 0..model.model.properties.len() {
-        let answer = verdict_at(rt, alloc, model, place, options, gate)?;
+        let answer = verdict_at(context, model, place, options)?;
         let name = &model.model.properties[place].name.text;
-        push_verdict(alloc, &mut lines, name, answer.truth, answer.cut)?;
+        push_verdict(context.alloc, &mut lines, name, answer.truth, answer.cut)?;
     }
     Ok(lines)
 }
@@ -107,11 +102,9 @@ fn verdicts_on<R: Threads + Sync, G: Gate + Sync>(
 /// machine the code of which equation of a property's text exceeds. Others are as with
 /// `solve_text`.
 pub fn check_text<R: Threads + Sync, G: Gate + Sync, S: Sink>(
-    rt: &R,
-    alloc: Global,
+    context: &Context<'_, R, G>,
     bytes: &[u8],
     options: SolveOptions,
-    gate: &G,
     writer: &mut S,
 ) -> Result<(), SolveError>
     requires input { length bytes.now ≤ INPUT_LIMIT }
@@ -119,7 +112,7 @@ pub fn check_text<R: Threads + Sync, G: Gate + Sync, S: Sink>(
         S.taken S.has_failed writer.old writer.new }
     ensures refused { IfErr result (IsUnchecked bytes.now) }
 {
-    let model = read_model(alloc, bytes)?;
-    let lines = verdicts_on(rt, alloc, &model, options, gate)?;
+    let model = read_model(context.alloc, bytes)?;
+    let lines = verdicts_on(context, &model, options)?;
     deliver(lines.as_bytes(), writer)
 }

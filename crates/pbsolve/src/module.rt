@@ -6,7 +6,7 @@ ghost use Rattle.pb_text_tree.specs.declared.place.Place.{Place};
 ghost use Rattle.pb_report.specs.Report.{report_text};
 ghost use Rattle.pb_report.specs.CallPlaces.{AreCallPlaces};
 ghost use Rattle.pb_report.specs.ModuleEvidence.{ForEvidenceText, IsExplanation};
-ghost use Rattle.pb_module_solver.specs.Answers.{IsAnswerOf, IsSolutionOf};
+ghost use Rattle.pb_module_solver.specs.Answers.{IsAnswerOf};
 ghost use Rattle.pb_module_solver.specs.Texts.{ForCertificateText, ForGameText, ForSolutionText};
 ghost use Rattle.pbsolve.specs.Delivery.{Delivers};
 ghost use Rattle.pbsolve.specs.Refusals.{IsRefusedModule};
@@ -16,7 +16,8 @@ use crate::solve_error::SolveError;
 use pb_exploration::Gate;
 use pb_game::Solver;
 use pb_module_solver::{
-    SolveOptions, answer_module, build_module, explain_module, solve_module, write_explanation,
+    Context, SolveOptions, answer_module, build_module, explain_module, solve_module,
+    write_explanation,
 };
 use pb_report::{Answer, Explanation, PlacedExplanation, report};
 use pb_sorts::Sink;
@@ -24,13 +25,10 @@ use pb_verifier::Verified;
 use std::alloc::Global;
 use std::thread::Threads;
 
-// Writes the report of a module.
 pub(crate) fn write_report<R: Threads + Sync, G: Gate + Sync, S: Sink>(
-    rt: &R,
-    alloc: Global,
+    context: &Context<'_, R, G>,
     verified: &Verified,
     options: SolveOptions,
-    gate: &G,
     writer: &mut S,
 ) -> Result<Answer, SolveError>
     ensures answer { IfOk result (IsAnswerOf verified.now) }
@@ -40,18 +38,16 @@ pub(crate) fn write_report<R: Threads + Sync, G: Gate + Sync, S: Sink>(
         S.taken S.has_failed writer.old writer.new }
     ensures refused { IfErr result (IsRefusedModule verified.now) }
 {
-    let answer = answer_module(rt, alloc, verified, options, gate)?;
-    report(alloc, &answer, writer)?;
+    let answer = answer_module(context, verified, options)?;
+    report(context.alloc, &answer, writer)?;
     Ok(answer)
 }
 
-// Writes the game of a module, which nobody solves.
+// Nobody solves the game.
 pub(crate) fn write_game<R: Threads + Sync, G: Gate + Sync, S: Sink>(
-    rt: &R,
-    alloc: Global,
+    context: &Context<'_, R, G>,
     verified: &Verified,
     workers: u32,
-    gate: &G,
     writer: &mut S,
 ) -> Result<(), SolveError>
     requires { (0 < workers) × (workers ≤ 16) }
@@ -59,54 +55,46 @@ pub(crate) fn write_game<R: Threads + Sync, G: Gate + Sync, S: Sink>(
         S.taken S.has_failed writer.old writer.new }
     ensures refused { IfErr result (IsRefusedModule verified.now) }
 {
-    let built = build_module(rt, alloc, verified, workers, gate)?;
-    built.write_game(alloc, verified, writer)?;
+    let built = build_module(context, verified, workers)?;
+    built.write_game(context.alloc, verified, writer)?;
     Ok(())
 }
 
-// Writes the solution of a module.
 pub(crate) fn write_solution<R: Threads + Sync, G: Gate + Sync, S: Sink>(
-    rt: &R,
-    alloc: Global,
+    context: &Context<'_, R, G>,
     verified: &Verified,
     options: SolveOptions,
-    gate: &G,
     writer: &mut S,
 ) -> Result<(), SolveError>
     ensures solution { Delivers (ForSolutionText verified.now) result
         S.taken S.has_failed writer.old writer.new }
     ensures refused { IfErr result (IsRefusedModule verified.now) }
 {
-    let solved = solve_module(rt, alloc, verified, options, gate)?;
-    solved.write_solution(alloc, verified, writer)?;
+    let solved = solve_module(context, verified, options)?;
+    solved.write_solution(context.alloc, verified, writer)?;
     Ok(())
 }
 
-// Writes a certificate of the game of a module.
 pub(crate) fn write_certificate<R: Threads + Sync, G: Gate + Sync, S: Sink>(
-    rt: &R,
-    alloc: Global,
+    context: &Context<'_, R, G>,
     verified: &Verified,
     options: SolveOptions,
-    gate: &G,
     writer: &mut S,
 ) -> Result<(), SolveError>
     ensures certificate { Delivers (ForCertificateText verified.now) result
         S.taken S.has_failed writer.old writer.new }
     ensures refused { IfErr result (IsRefusedModule verified.now) }
 {
-    let solved = solve_module(rt, alloc, verified, options, gate)?;
-    solved.write_certificate(alloc, verified, writer)?;
+    let solved = solve_module(context, verified, options)?;
+    solved.write_certificate(context.alloc, verified, writer)?;
     Ok(())
 }
 
 // Why the initial instance of a module has its truth value.
 pub(crate) fn explained<R: Threads + Sync, G: Gate + Sync>(
-    rt: &R,
-    alloc: Global,
+    context: &Context<'_, R, G>,
     verified: &Verified,
     workers: u32,
-    gate: &G,
 ) -> Result<Explanation, SolveError>
     requires { (0 < workers) × (workers ≤ 16) }
     ensures explanation { IfOk result (IsExplanation verified.now) }
@@ -115,7 +103,7 @@ pub(crate) fn explained<R: Threads + Sync, G: Gate + Sync>(
 {
     let solver = Solver::Zielonka;
     let options = SolveOptions { workers, solver };
-    Ok(explain_module(rt, alloc, verified, options, gate)?)
+    Ok(explain_module(context, verified, options)?)
 }
 
 // Writes the evidence of a module, with the places that are given of its calls.

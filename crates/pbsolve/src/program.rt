@@ -26,7 +26,7 @@ use crate::streams::Streams;
 use crate::{ErrorLine, ProgramFault};
 use pb_command_line::{Command, Request, request_of};
 use pb_exploration::Gate;
-use pb_module_solver::SolveOptions;
+use pb_module_solver::{Context, SolveOptions};
 use pb_sorts::{Sink, Source, put};
 use std::alloc::Global;
 use std::convert::AsStr;
@@ -34,11 +34,9 @@ use std::thread::Threads;
 
 // What a request asks for, of these bytes.
 fn answer<R: Threads + Sync, G: Gate + Sync, O: Sink>(
-    rt: &R,
-    alloc: Global,
+    context: &Context<'_, R, G>,
     request: Request,
     bytes: &[u8],
-    gate: &G,
     out: &mut O,
 ) -> Result<(), SolveError>
     requires { length bytes.now ≤ INPUT_LIMIT }
@@ -54,38 +52,36 @@ fn answer<R: Threads + Sync, G: Gate + Sync, O: Sink>(
     };
     match request.command {
         Command::Solve => {
-            solve_text(rt, alloc, bytes, options, gate, out)?;
+            solve_text(context, bytes, options, out)?;
             Ok(())
         }
-        Command::Game => game_of(rt, alloc, bytes, request.workers, gate, out),
-        Command::Solution => solution_of(rt, alloc, bytes, options, gate, out),
-        Command::Certificate => certificate_of(rt, alloc, bytes, options, gate, out),
+        Command::Game => game_of(context, bytes, request.workers, out),
+        Command::Solution => solution_of(context, bytes, options, out),
+        Command::Certificate => certificate_of(context, bytes, options, out),
         Command::Explain => {
             let options = ExplainOptions {
                 workers: request.workers,
                 places: request.places,
             };
-            explain_text(rt, alloc, bytes, options, gate, out)
+            explain_text(context, bytes, options, out)
         }
-        Command::Compile => compile_text(alloc, bytes, out),
-        Command::Verify => verify_code(alloc, bytes, out),
-        Command::List => list_code(alloc, bytes, out),
+        Command::Compile => compile_text(context.alloc, bytes, out),
+        Command::Verify => verify_code(context.alloc, bytes, out),
+        Command::List => list_code(context.alloc, bytes, out),
         Command::SolveCode => {
-            solve_code(rt, alloc, bytes, options, gate, out)?;
+            solve_code(context, bytes, options, out)?;
             Ok(())
         }
-        Command::Translate => translate_text(alloc, bytes, request.property_name(), out),
-        Command::Check => check_text(rt, alloc, bytes, options, gate, out),
+        Command::Translate => translate_text(context.alloc, bytes, request.property_name(), out),
+        Command::Check => check_text(context, bytes, options, out),
     }
 }
 
 // Everything but the line on standard error.
 fn attempt<T: Threads + Sync, S: AsStr, R: Source, G: Gate + Sync, O: Sink>(
-    rt: &T,
-    alloc: Global,
+    context: &Context<'_, T, G>,
     words: &[S],
     reader: &mut R,
-    gate: &G,
     out: &mut O,
 ) -> Result<(), RunError>
     ensures answered { OnOk result
@@ -120,9 +116,9 @@ fn attempt<T: Threads + Sync, S: AsStr, R: Source, G: Gate + Sync, O: Sink>(
         O.has_failed out.new ≡ true }
     ensures silent { IfErr result (λ e. e ≢ RunError.ProgramFault fault.E02 → out.new ≡ out.old) }
 {
-    let request = request_of(alloc, words)?;
-    let input = read_input(alloc, reader)?;
-    answer(rt, alloc, request, input.as_slice(), gate, out)?;
+    let request = request_of(context.alloc, words)?;
+    let input = read_input(context.alloc, reader)?;
+    answer(context, request, input.as_slice(), out)?;
     Ok(())
 }
 
@@ -244,14 +240,8 @@ pub fn run<T: Threads + Sync, S: AsStr, G: Gate + Sync, R: Source, O: Sink, E: S
         × Tells (E.taken streams.old.error) (E.taken streams.new.error)
         (E.has_failed streams.new.error) (codes "E02\n")) }
 {
-    match attempt(
-        rt,
-        alloc,
-        words,
-        &mut streams.input,
-        gate,
-        &mut streams.output,
-    ) {
+    let context = Context { rt, alloc, gate };
+    match attempt(&context, words, &mut streams.input, &mut streams.output) {
         Ok(()) => u8::from(Status::Answered),
         Err(error) => u8::from(tell(alloc, &error, &mut streams.error)),
     }

@@ -19,10 +19,9 @@ use crate::options::ExplainOptions;
 use crate::solve_error::SolveError;
 use pb_exploration::Gate;
 use pb_machine::instances_have_trees;
-use pb_module_solver::SolveOptions;
+use pb_module_solver::{Context, SolveOptions};
 use pb_report::{Answer, PlacedExplanation};
 use pb_sorts::Sink;
-use std::alloc::Global;
 use std::thread::Threads;
 
 /// Answers a text: reads it, checks it, compiles it to a module, explores that by so many workers,
@@ -31,7 +30,7 @@ use std::thread::Threads;
 ///
 /// The text is that of a fixpoint equation system (Groote and Willemse 2005; Groote and Mousavi
 /// 2014), and the answer is the truth of its initial instance in the nested fixpoint solution.
-/// `gate` sees each attempt of a worker to take an instance, and to lift a vertex.
+/// The gate sees each attempt of a worker to take an instance, and to lift a vertex.
 ///
 /// # Errors
 /// `Text` and `Typing` say which rule the text breaks and where, `Limit` which limit of the machine
@@ -39,11 +38,9 @@ use std::thread::Threads;
 /// 2^24 vertices, `Memory` where a request for memory was refused, and `Write` where the report
 /// could not be written whole. No other error comes.
 pub fn solve_text<R: Threads + Sync, G: Gate + Sync, S: Sink>(
-    rt: &R,
-    alloc: Global,
+    context: &Context<'_, R, G>,
     bytes: &[u8],
     options: SolveOptions,
-    gate: &G,
     writer: &mut S,
 ) -> Result<Answer, SolveError>
     requires input { length bytes.now ≤ INPUT_LIMIT }
@@ -61,9 +58,9 @@ pub fn solve_text<R: Threads + Sync, G: Gate + Sync, S: Sink>(
     // What a refusal says of the text.
     ensures refused { IfErr result (IsRefused bytes.now) }
 {
-    let verified = verified_text(alloc, bytes)?;
+    let verified = verified_text(context.alloc, bytes)?;
     instances_have_trees(&verified);
-    write_report(rt, alloc, &verified, options, gate, writer)
+    write_report(context, &verified, options, writer)
 }
 
 /// Writes the parity game of a text's reached instances, in the form that PGSolver reads.
@@ -71,11 +68,9 @@ pub fn solve_text<R: Threads + Sync, G: Gate + Sync, S: Sink>(
 /// # Errors
 /// As with `solve_text`.
 pub fn game_of<R: Threads + Sync, G: Gate + Sync, S: Sink>(
-    rt: &R,
-    alloc: Global,
+    context: &Context<'_, R, G>,
     bytes: &[u8],
     workers: u32,
-    gate: &G,
     writer: &mut S,
 ) -> Result<(), SolveError>
     requires input { length bytes.now ≤ INPUT_LIMIT }
@@ -84,8 +79,8 @@ pub fn game_of<R: Threads + Sync, G: Gate + Sync, S: Sink>(
         S.taken S.has_failed writer.old writer.new }
     ensures refused { IfErr result (IsRefused bytes.now) }
 {
-    let verified = verified_text(alloc, bytes)?;
-    write_game(rt, alloc, &verified, workers, gate, writer)
+    let verified = verified_text(context.alloc, bytes)?;
+    write_game(context, &verified, workers, writer)
 }
 
 /// Writes the truth of each reached instance of a text in its solution: a line for each, by rising
@@ -95,11 +90,9 @@ pub fn game_of<R: Threads + Sync, G: Gate + Sync, S: Sink>(
 /// # Errors
 /// As with `solve_text`.
 pub fn solution_of<R: Threads + Sync, G: Gate + Sync, S: Sink>(
-    rt: &R,
-    alloc: Global,
+    context: &Context<'_, R, G>,
     bytes: &[u8],
     options: SolveOptions,
-    gate: &G,
     writer: &mut S,
 ) -> Result<(), SolveError>
     requires input { length bytes.now ≤ INPUT_LIMIT }
@@ -107,8 +100,8 @@ pub fn solution_of<R: Threads + Sync, G: Gate + Sync, S: Sink>(
         S.taken S.has_failed writer.old writer.new }
     ensures refused { IfErr result (IsRefused bytes.now) }
 {
-    let verified = verified_text(alloc, bytes)?;
-    write_solution(rt, alloc, &verified, options, gate, writer)
+    let verified = verified_text(context.alloc, bytes)?;
+    write_solution(context, &verified, options, writer)
 }
 
 /// Writes a certificate of the game that `game_of` writes: for each vertex its winner, and the
@@ -121,11 +114,9 @@ pub fn solution_of<R: Threads + Sync, G: Gate + Sync, S: Sink>(
 /// # Errors
 /// As with `solve_text`.
 pub fn certificate_of<R: Threads + Sync, G: Gate + Sync, S: Sink>(
-    rt: &R,
-    alloc: Global,
+    context: &Context<'_, R, G>,
     bytes: &[u8],
     options: SolveOptions,
-    gate: &G,
     writer: &mut S,
 ) -> Result<(), SolveError>
     requires input { length bytes.now ≤ INPUT_LIMIT }
@@ -133,8 +124,8 @@ pub fn certificate_of<R: Threads + Sync, G: Gate + Sync, S: Sink>(
         S.taken S.has_failed writer.old writer.new }
     ensures refused { IfErr result (IsRefused bytes.now) }
 {
-    let verified = verified_text(alloc, bytes)?;
-    write_certificate(rt, alloc, &verified, options, gate, writer)
+    let verified = verified_text(context.alloc, bytes)?;
+    write_certificate(context, &verified, options, writer)
 }
 
 /// Writes why a text's initial instance has its truth value: the answer, and then a line for each
@@ -149,11 +140,9 @@ pub fn certificate_of<R: Threads + Sync, G: Gate + Sync, S: Sink>(
 /// # Errors
 /// As with `solve_text`.
 pub fn explain_text<R: Threads + Sync, G: Gate + Sync, S: Sink>(
-    rt: &R,
-    alloc: Global,
+    context: &Context<'_, R, G>,
     bytes: &[u8],
     options: ExplainOptions,
-    gate: &G,
     writer: &mut S,
 ) -> Result<(), SolveError>
     requires input { length bytes.now ≤ INPUT_LIMIT }
@@ -161,14 +150,20 @@ pub fn explain_text<R: Threads + Sync, G: Gate + Sync, S: Sink>(
         S.taken S.has_failed writer.old writer.new }
     ensures refused { IfErr result (IsRefused bytes.now) }
 {
-    let typed = typed(alloc, bytes)?;
-    let verified = verified(alloc, &typed)?;
+    let typed = typed(context.alloc, bytes)?;
+    let verified = verified(context.alloc, &typed)?;
     instances_have_trees(&verified);
-    let explanation = explained(rt, alloc, &verified, options.workers, gate)?;
-    let call_places = call_places_of(alloc, &typed, &verified, &explanation, options.places)?;
+    let explanation = explained(context, &verified, options.workers)?;
+    let call_places = call_places_of(
+        context.alloc,
+        &typed,
+        &verified,
+        &explanation,
+        options.places,
+    )?;
     let placed = PlacedExplanation {
         explanation: &explanation,
         call_places: &call_places,
     };
-    write_evidence(alloc, &verified, &placed, writer)
+    write_evidence(context.alloc, &verified, &placed, writer)
 }

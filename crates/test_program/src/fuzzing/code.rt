@@ -322,7 +322,6 @@ impl<'a> Coder<'a> {
         Ok(())
     }
 
-    /// Opens a bracket.
     fn open_bracket(&mut self) -> Result<(), AllocError> {
         let op = self.generator.byte_below(2).saturating_add(0x1e);
         self.write(&[op])?;

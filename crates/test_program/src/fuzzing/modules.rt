@@ -13,7 +13,7 @@ use pb_game::Solver;
 use pb_machine::Machine;
 use pb_sorts::{Out, Sink};
 use pb_verifier::{Verified, VerifyError, verify};
-use pbsolve::{SolveOptions, solve_code};
+use pbsolve::{Context, SolveOptions, solve_code};
 use std::alloc::Global;
 use std::io;
 use std::thread::Threads;
@@ -113,7 +113,12 @@ fn solve<R: Threads + Sync>(
         solver: Solver::Zielonka,
     };
     let mut out = Out::new(io::sink());
-    match solve_code(rt, alloc, bytes, options, &NoGate, &mut out) {
+    let context = Context {
+        rt,
+        alloc,
+        gate: &NoGate,
+    };
+    match solve_code(&context, bytes, options, &mut out) {
         Ok(found) if found == wanted && !out.failed() => Ok(found.truth),
         Ok(_) => Err(Flaw::Answer),
         Err(_) => Err(Flaw::Refused),

@@ -121,46 +121,49 @@ fn is_accepted(alloc: Global, system: &System, text: &str) -> Result<bool, Alloc
     }
 }
 
+/// Lines of evidence for what counts down, and whether they are a proof graph.
+const PROOF_GRAPHS: [(&str, bool); 8] = [
+    (
+        "answer false\nX(0,a) false: X(1,a)\nX(1,a) false: X(2,a)\nX(2,a) false:\n",
+        true,
+    ),
+    // one too many
+    (
+        "answer false\nX(0,a) false: X(1,a) X(2,a)\nX(1,a) false: X(2,a)\nX(2,a) false:\n",
+        true,
+    ),
+    // one left out, of an instance and of the graph
+    (
+        "answer false\nX(0,a) false:\nX(1,a) false: X(2,a)\nX(2,a) false:\n",
+        false,
+    ),
+    (
+        "answer false\nX(0,a) false: X(1,a)\nX(1,a) false: X(2,a)\n",
+        false,
+    ),
+    // not the initial instance, or not first
+    ("answer false\nX(1,a) false: X(2,a)\nX(2,a) false:\n", false),
+    // another value, of all and of one
+    (
+        "answer true\nX(0,a) true: X(1,a)\nX(1,a) true: X(2,a)\nX(2,a) true:\n",
+        false,
+    ),
+    (
+        "answer false\nX(0,a) false: X(1,a)\nX(1,a) true: X(2,a)\nX(2,a) false:\n",
+        false,
+    ),
+    // a cycle of the wrong sign
+    (
+        "answer false\nX(0,a) false: X(1,a)\nX(1,a) false: X(0,a) X(2,a)\nX(2,a) false:\n",
+        false,
+    ),
+];
+
 /// The checker accepts what is a proof graph, and nothing else.
 #[test]
 fn checker_tells_proof_graphs(rt: HostRuntime) -> Result<(), Fail> {
     let counting = counting(rt.alloc())?;
-    for (text, accepted) in [
-        (
-            "answer false\nX(0,a) false: X(1,a)\nX(1,a) false: X(2,a)\nX(2,a) false:\n",
-            true,
-        ),
-        // one too many
-        (
-            "answer false\nX(0,a) false: X(1,a) X(2,a)\nX(1,a) false: X(2,a)\nX(2,a) false:\n",
-            true,
-        ),
-        // one left out, of an instance and of the graph
-        (
-            "answer false\nX(0,a) false:\nX(1,a) false: X(2,a)\nX(2,a) false:\n",
-            false,
-        ),
-        (
-            "answer false\nX(0,a) false: X(1,a)\nX(1,a) false: X(2,a)\n",
-            false,
-        ),
-        // not the initial instance, or not first
-        ("answer false\nX(1,a) false: X(2,a)\nX(2,a) false:\n", false),
-        // another value, of all and of one
-        (
-            "answer true\nX(0,a) true: X(1,a)\nX(1,a) true: X(2,a)\nX(2,a) true:\n",
-            false,
-        ),
-        (
-            "answer false\nX(0,a) false: X(1,a)\nX(1,a) true: X(2,a)\nX(2,a) false:\n",
-            false,
-        ),
-        // a cycle of the wrong sign
-        (
-            "answer false\nX(0,a) false: X(1,a)\nX(1,a) false: X(0,a) X(2,a)\nX(2,a) false:\n",
-            false,
-        ),
-    ] {
+    for (text, accepted) in PROOF_GRAPHS {
         assert!(rt;
             is_accepted(rt.alloc(), &counting, text)? == accepted,
             "{text}"

@@ -71,7 +71,6 @@ impl Generator {
         high.checked_rem(bound).unwrap_or(0)
     }
 
-    /// One of the pieces.
     fn one_of(&mut self, pieces: &[&'static str]) -> &'static str {
         let place = self.below(pieces.len());
         pieces.get(place).copied().unwrap_or("true")

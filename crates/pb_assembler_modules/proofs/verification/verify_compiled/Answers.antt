@@ -8,6 +8,5 @@ use Rattle.pb_assembler_modules.proofs.verification.verify_compiled.Goals as goa
 pub unreachable-requires : goal.unreachable-requires
 unreachable-requires c =
     let m = module_contents c.args.«module» in
-    let h = c.requires in
     let refused = subst (λ (e : VerifyError). WhereRefused e (IsAccepted m → ⊥)) c.in-Err-default-Refusal.field-0-1-is c.in-Err-default-Refusal.ensures.refused in
-    refused (c.compiled_modules_are_accepted.ensures.well_typed h.0 h.1 m h.2 h.3)
+    refused c.requires

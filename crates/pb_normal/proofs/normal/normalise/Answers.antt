@@ -4,7 +4,9 @@ use Rattle.pb_typed_tree.specs.View as typed
 use Rattle.pb_typing.proofs.Accepted.{accepted-well-typed}
 use Rattle.pb_normal.specs.Answer.{answer_by}
 use Rattle.pb_normal.specs.Text.{said}
+use Rattle.pb_normal.specs.View.{right_views}
 use Rattle.pb_normal.proofs.Answer.{normal-answer}
+use Rattle.pb_normal.proofs.Equations.{normal-equations-have-truth}
 use Rattle.pb_normal.proofs.Rights.{done_begun, done_next, rights_ended, loops_ended}
 use Rattle.pb_normal.proofs.normal.normalise.Goals as goal
 
@@ -26,6 +28,14 @@ pub invariant_of-result-clause-loops : goal.invariant_of-result-clause-loops
 invariant_of-result-clause-loops c =
     loops_ended c.deref-equation-items.result.now c.loop-equation.equation-index c.loop-equation.equations.items c.loop-equation-test.false c.loop-equation.invariant
     ∙ (ap typed.loop_shapes c.deref-equation-items.ensures.value ∙ c.args.typed.now.loops)
+
+pub returns-clause-truth : goal.returns-clause-truth
+returns-clause-truth c =
+    let typing = c.args.typed.now in
+    let well_typed = accepted-well-typed (spec_form typing.spec) typing.faultless in
+    normal-equations-have-truth (said typing) (right_views c.loop-equation.equations.items) well_typed
+    (rights_ended (said typing) c.deref-equation-items.result.now c.loop-equation.equation-index c.loop-equation.equations.items well_typed
+    (ap typed.right_views c.deref-equation-items.ensures.value ∙ typing.rights) c.loop-equation-test.false c.loop-equation.invariant)
 
 pub returns-clause-answer : goal.returns-clause-answer
 returns-clause-answer c =

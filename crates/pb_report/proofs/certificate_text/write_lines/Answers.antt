@@ -10,7 +10,7 @@ returns-in_err-write_line g c =
     let v = c.loop-vertex.vertex in
     let below : v < vertex_count game = omega (arith, c.loop-vertex-test.true, c.len-vertex-end.ensures.value) in
     let step = next_winner game c.args.solution.now v (vertex_count game) below in
-    gave_up _ _ _ _ _ _ _ _ _ _ _ _ _ _ step c.loop-vertex.invariant.sent c.loop-vertex.invariant.same_failed c.from_residual.ensures.0 c.in_err-write_line.ensures
+    gave_up g.S.Sink.taken g.S.Sink.has_failed _ _ _ _ _ _ _ _ _ _ _ step c.loop-vertex.invariant.sent c.loop-vertex.invariant.same_failed c.from_residual.ensures.0 c.in_err-write_line.ensures
 
 pub loop-vertex-preserved : goal.loop-vertex-preserved
 loop-vertex-preserved g c =

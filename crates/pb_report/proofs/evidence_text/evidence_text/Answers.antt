@@ -1,20 +1,45 @@
-use Rattle.std.proofs.Common.{◌∙◌}
-use Rattle.std.proofs.lemmas.Result.{err_from_is_err_and}
-use Rattle.pb_report.proofs.Sending.{all_out, writes_failed}
+use Rattle.std.proofs.Common.{ℕ, List, ◌∙◌, refl}
+use Rattle.pb_trees.specs.Tree.{Tree}
 use Rattle.pb_report.specs.ModuleEvidence.{module_evidence_text}
+use Rattle.pb_report.specs.ModuleTexts.{ForTrees}
+use Rattle.pb_report.specs.Delivery.{is_failed}
+use Rattle.pb_report.proofs.Delivery.{left_nothing, left_part}
+use Rattle.pb_report.proofs.Sending.{all_out, part_out, begins}
 use Rattle.pb_report.proofs.evidence_text.evidence_text.Goals as goal
 
-pub returns-in_err-finish-clause-text : goal.returns-in_err-finish-clause-text
-returns-in_err-finish-clause-text g c = λ trees have place are.
-    let made = err_from_is_err_and c.from_residual-in_err-finish.result c.from_residual-in_err-finish.ensures.1 in
-    writes_failed c.from_residual-in_err-finish.result made.0 _ _ (g.S.Sink.taken c.write_evidence.new.sink) _ _ _ c.in_ok-buffer.buffer.bytes.items
-    c.write_evidence.new.buffer.bytes.items (module_evidence_text c.args.verified.now trees place c.args.placed.now.explanation.now.evidence) made.1 made.2 c.in_ok-buffer.ensures
-    (c.in_ok-write_evidence.ensures trees have place are).0 c.in_err-finish.ensures.prefix c.in_err-finish.ensures.err_failed
+pub returns-in_err-buffer : goal.returns-in_err-buffer
+returns-in_err-buffer g c = λ place are.
+    let text : (ℕ → Tree) → List ℕ = λ trees. module_evidence_text c.args.verified.now trees place c.args.placed.now.explanation.now.evidence in
+    left_nothing is_failed g.S.Sink.taken g.S.Sink.has_failed (ForTrees c.args.verified.now text) c.args.sink.now
+    c.from_residual.result _ c.from_residual.ensures.1 refl
 
-pub returns-clause-text : goal.returns-clause-text
-returns-clause-text g c = λ trees have place are.
-    let sent = c.in_ok-write_evidence.ensures trees have place are in (
-      all_out _ _ _ c.in_ok-buffer.buffer.bytes.items c.write_evidence.new.buffer.bytes.items
-          (module_evidence_text c.args.verified.now trees place c.args.placed.now.explanation.now.evidence) c.in_ok-buffer.ensures sent.0 c.in_ok-finish.ensures.sent,
-      c.in_ok-finish.ensures.ok_failed ∙ sent.1,
+pub returns-in_err-write_evidence : goal.returns-in_err-write_evidence
+returns-in_err-write_evidence g c = λ place are.
+    let taken = g.S.Sink.taken in
+    let text : (ℕ → Tree) → List ℕ = λ trees. module_evidence_text c.args.verified.now trees place c.args.placed.now.explanation.now.evidence in
+    let h = c.in_err-write_evidence.ensures in
+    let e = c.from_residual-in_err-write_evidence in
+    let some = c.requires.trees in
+    left_part is_failed taken g.S.Sink.has_failed (ForTrees c.args.verified.now text) c.args.sink.now c.write_evidence.new.sink e.result _ e.ensures.1 refl
+    (λ trees have. begins (taken c.args.sink.now) (taken c.write_evidence.new.sink) c.in_ok-buffer.buffer.bytes.items (text trees) c.in_ok-buffer.ensures (h trees have place are).0)
+    (h some.0 some.1 place are).1
+
+pub returns-in_err-finish : goal.returns-in_err-finish
+returns-in_err-finish g c = λ place are.
+    let taken = g.S.Sink.taken in
+    let text : (ℕ → Tree) → List ℕ = λ trees. module_evidence_text c.args.verified.now trees place c.args.placed.now.explanation.now.evidence in
+    let h = c.in_ok-write_evidence.ensures in
+    let e = c.from_residual-in_err-finish in
+    left_part is_failed taken g.S.Sink.has_failed (ForTrees c.args.verified.now text) c.args.sink.now c.finish.new.sink e.result _ e.ensures.1 refl
+    (λ trees have. part_out (taken c.args.sink.now) (taken c.write_evidence.new.sink) (taken c.finish.new.sink) c.in_ok-buffer.buffer.bytes.items c.write_evidence.new.buffer.bytes.items (text trees)
+    c.in_ok-buffer.ensures (h trees have place are).0 c.in_err-finish.ensures.written.0) c.in_err-finish.ensures.written.1
+
+pub returns : goal.returns
+returns g c = λ place are.
+    let taken = g.S.Sink.taken in
+    let h = c.in_ok-write_evidence.ensures in
+    let some = c.requires.trees in (
+      λ trees have. all_out (taken c.args.sink.now) (taken c.write_evidence.new.sink) (taken c.finish.new.sink) c.in_ok-buffer.buffer.bytes.items c.write_evidence.new.buffer.bytes.items
+          (module_evidence_text c.args.verified.now trees place c.args.placed.now.explanation.now.evidence) c.in_ok-buffer.ensures (h trees have place are).0 c.in_ok-finish.ensures.written.0,
+      c.in_ok-finish.ensures.written.1 ∙ (h some.0 some.1 place are).1,
     )

@@ -23,7 +23,7 @@ returns-in_err-write_dependency g c =
     let k = c.loop-k.k in
     let read = ap (λ (place : Option Place). dependency_text name (get_or ns k 0) place ++ placed_names name (drop (k + 1) ns) (drop (k + 1) ps)) (sym c.place_at.ensures) in
     let step = next_dependency name ns ps k c.loop-k-test.true ∙ read in
-    gave_up _ _ _ _ _ _ _ _ _ _ _ _ _ _ step c.loop-k.invariant.sent c.loop-k.invariant.same_failed c.from_residual.ensures.0 c.in_err-write_dependency.ensures
+    gave_up g.S.Sink.taken g.S.Sink.has_failed _ _ _ _ _ _ _ _ _ _ _ step c.loop-k.invariant.sent c.loop-k.invariant.same_failed c.from_residual.ensures.0 c.in_err-write_dependency.ensures
 
 pub loop-k-preserved : goal.loop-k-preserved
 loop-k-preserved g c =

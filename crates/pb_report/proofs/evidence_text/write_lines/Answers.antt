@@ -19,7 +19,7 @@ pub returns-in_err-write_line : goal.returns-in_err-write_line
 returns-in_err-write_line g c = λ trees have place are.
     let e = c.args.placed.now.explanation.now.evidence in
     let step = next_line c.args.verified.now trees place e e.instances.items c.loop-k.k (omega arith) in
-    gave_up _ _ _ _ _ _ _ _ _ _ _ _ _ _ step (c.loop-k.invariant.sent trees have place are) c.loop-k.invariant.same_failed c.from_residual.ensures.0
+    gave_up g.S.Sink.taken g.S.Sink.has_failed _ _ _ _ _ _ _ _ _ _ _ step (c.loop-k.invariant.sent trees have place are) c.loop-k.invariant.same_failed c.from_residual.ensures.0
     (c.in_err-write_line.ensures trees have place are)
 
 pub loop-k-preserved : goal.loop-k-preserved

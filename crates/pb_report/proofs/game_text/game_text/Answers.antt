@@ -4,8 +4,10 @@ use Rattle.pb_bytecode.specs.Meaning.{parameters, signature_of, initial_of}
 use Rattle.pb_sorts.specs.Layout.{count_of}
 use Rattle.pb_rows.specs.Reached.{rows_of}
 use Rattle.pb_game_of_trees.proofs.Reached.{reached_of}
+use Rattle.pb_report.specs.Delivery.{is_failed}
+use Rattle.pb_report.specs.ModuleTexts.{module_game_text, ForTrees}
 use Rattle.pb_report.specs.VertexNames.{memory_text, number_in, AreRising}
-use Rattle.pb_report.proofs.Sending.{writes_as}
+use Rattle.pb_report.proofs.Delivery.{less_delivered}
 use Rattle.pb_report.proofs.ReachedGames.{text_is, some_vertex, same_length, are_rising, are_numbers, are_edges}
 use Rattle.pb_report.proofs.game_text.game_text.Goals as goal
 
@@ -29,11 +31,15 @@ write_text-requires g c =
           (are_numbers m rows built trees reached (initial_of m) are is v);
     }
 
-pub returns-clause-text : goal.returns-clause-text
-returns-clause-text g c = λ trees have.
+pub returns : goal.returns
+returns g c =
     let m = c.args.verified.now in
     let rows = c.args.rows.now in
     let built = c.args.built.now in
-    let are = reached_of trees (map signature_of m.equations) rows (c.requires.rows trees have).are in
     let same = ap (λ (vs : List ℕ). memory_text m built.game vs rows) c.deref.ensures.value in
-    writes_as _ _ _ _ _ _ _ (same ∙ text_is m rows built trees (rows_of trees rows) (initial_of m) are (c.requires.game trees have)) c.write_text.ensures.text
+    less_delivered is_failed g.S.Sink.taken g.S.Sink.has_failed (λ (P : List ℕ → Type 0). P (memory_text m built.game c.deref.result.now rows))
+    (ForTrees m (λ trees. module_game_text m trees rows))
+    (λ (P : List ℕ → Type 0) h trees have.
+    let are = reached_of trees (map signature_of m.equations) rows (c.requires.rows trees have).are in
+    subst P (same ∙ text_is m rows built trees (rows_of trees rows) (initial_of m) are (c.requires.game trees have)) h)
+    c.args.sink.now c.write_text.new.sink c.write_text.result c.write_text.ensures

@@ -13,21 +13,21 @@ returns-in_err-write_line g c =
     let game = c.args.game.now in
     let v = c.loop-vertex.vertex in
     let n = vertex_count game in
-    let names = name_in m c.args.vertices.now c.args.rows.now in
+    let names = name_in m c.args.placed.now.vertices.now c.args.placed.now.rows.now in
     let below : v < n = omega (arith, c.loop-vertex-test.true, c.len-vertex-end.ensures.value) in
     let step = next_line names game n v below
     ∙ ap (λ (o : Option ℕ). vertex_line v (vertex_at game v) (name_by m v o) ++ lines_of names game (v + 1) (n - (v + 1))) (sym c.row_number-number.ensures.number) in
-    gave_up _ _ _ _ _ _ _ _ _ _ _ _ _ _ step c.loop-vertex.invariant.sent c.loop-vertex.invariant.same_failed c.from_residual.ensures.0 c.in_err-write_line.ensures
+    gave_up g.S.Sink.taken g.S.Sink.has_failed _ _ _ _ _ _ _ _ _ _ _ step c.loop-vertex.invariant.sent c.loop-vertex.invariant.same_failed c.from_residual.ensures.0 c.in_err-write_line.ensures
 
 pub loop-vertex-preserved : goal.loop-vertex-preserved
 loop-vertex-preserved g c =
     let m = c.args.verified.now in
     let game = c.args.game.now in
-    let vs = c.args.vertices.now in
+    let vs = c.args.placed.now.vertices.now in
     let k = c.loop-vertex.k in
     let v = c.loop-vertex.vertex in
     let n = vertex_count game in
-    let names = name_in m c.args.vertices.now c.args.rows.now in
+    let names = name_in m c.args.placed.now.vertices.now c.args.placed.now.rows.now in
     let below : v < n = omega (arith, c.loop-vertex-test.true, c.len-vertex-end.ensures.value) in
     let step = next_line names game n v below
     ∙ ap (λ (o : Option ℕ). vertex_line v (vertex_at game v) (name_by m v o) ++ lines_of names game (v + 1) (n - (v + 1))) (sym c.row_number-number.ensures.number) in

@@ -7,7 +7,7 @@ use Rattle.pb_report.proofs.instance_name.write_more_values.Goals as goal
 pub returns-in_err-write_next_value : goal.returns-in_err-write_next_value
 returns-in_err-write_next_value g c =
     let step = next_at (map sort_contents c.args.sorts.now) c.args.carriers.now c.args.values.now c.loop-k.k c.index-carriers-k.result (pos 0) c.loop-k-test.true c.requires.lengths c.index-carriers-k.is in
-    gave_up _ _ _ _ _ _ _ _ _ _ _ _ _ _ step c.loop-k.invariant.sent c.loop-k.invariant.same_failed c.from_residual.ensures.0 c.in_err-write_next_value.ensures
+    gave_up g.S.Sink.taken g.S.Sink.has_failed _ _ _ _ _ _ _ _ _ _ _ step c.loop-k.invariant.sent c.loop-k.invariant.same_failed c.from_residual.ensures.0 c.in_err-write_next_value.ensures
 
 pub loop-k-preserved : goal.loop-k-preserved
 loop-k-preserved g c =

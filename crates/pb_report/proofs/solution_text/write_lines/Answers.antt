@@ -53,7 +53,7 @@ returns-in_err-write_line g c = λ trees have.
     let truth = c.row_truth-truth.ensures sigs trees reached (initial_of m) n.next (c.requires.game trees have) (at_place reached k n.next (drop (k + 1) reached) n.rest) in
     let step = next_line (instance_name m) (solved sigs trees) reached k (get_or rows k nothing) c.row_truth-truth.result n truth
     ∙ ap (λ (x : ℕ). solution_line (instance_name m x) c.row_truth-truth.result ++ solution_text (instance_name m) (solved sigs trees) (drop (k + 1) reached)) (sym c.number.ensures) in
-    gave_up _ _ _ _ _ _ _ _ _ _ _ _ _ _ step (c.loop-k.invariant.sent trees have) c.loop-k.invariant.same_failed c.from_residual.ensures.0 c.in_err-write_line.ensures
+    gave_up g.S.Sink.taken g.S.Sink.has_failed _ _ _ _ _ _ _ _ _ _ _ step (c.loop-k.invariant.sent trees have) c.loop-k.invariant.same_failed c.from_residual.ensures.0 c.in_err-write_line.ensures
 
 pub loop-k-preserved : goal.loop-k-preserved
 loop-k-preserved g c =

@@ -12,8 +12,8 @@ returns g c =
     ap (λ (n : ℕ). head v n c.from.result ++ numbers_text c.successors.result.now) c.priority.ensures.value
     ∙ (ap (λ (n : ℕ). head v (priority_of game v) n ++ numbers_text c.successors.result.now) (c.from.ensures ∙ c.owner.ensures.value)
     ∙ ap (λ (ns : List ℕ). head v (priority_of game v) (owner_of game v) ++ numbers_text ns) c.successors.ensures.list) in
-    sends_as _ _ _ _ _ _ _ _ _ text
-    (sends_then _ _ _ _ _ _ _ _ _ _ (head v c.priority.result c.from.result) (numbers_text c.successors.result.now) c.in_ok-write_head.ensures c.write_numbers.ensures)
+    sends_as g.S.Sink.taken g.S.Sink.has_failed _ _ _ _ _ _ _ text
+    (sends_then g.S.Sink.taken g.S.Sink.has_failed _ _ _ _ _ _ _ (head v c.priority.result c.from.result) (numbers_text c.successors.result.now) c.in_ok-write_head.ensures c.write_numbers.ensures)
 
 pub returns-in_err-write_head : goal.returns-in_err-write_head
 returns-in_err-write_head g c =
@@ -23,5 +23,5 @@ returns-in_err-write_head g c =
     let text : head v c.priority.result c.from.result ++ numbers_text x.successors ≡ vertex_text v x =
     ap (λ (n : ℕ). head v n c.from.result ++ numbers_text x.successors) c.priority.ensures.value
     ∙ ap (λ (n : ℕ). head v (priority_of game v) n ++ numbers_text x.successors) (c.from.ensures ∙ c.owner.ensures.value) in
-    sends_as _ _ _ _ _ _ _ _ _ text
-    (sends_err _ _ _ _ _ _ _ (head v c.priority.result c.from.result) (numbers_text x.successors) c.from_residual.ensures.0 c.in_err-write_head.ensures)
+    sends_as g.S.Sink.taken g.S.Sink.has_failed _ _ _ _ _ _ _ text
+    (sends_err g.S.Sink.taken g.S.Sink.has_failed _ _ _ _ _ (head v c.priority.result c.from.result) (numbers_text x.successors) c.from_residual.ensures.0 c.in_err-write_head.ensures)

@@ -1,5 +1,5 @@
 -- Each turn adds the verdict on one property.
-use Rattle.std.proofs.Common.{◌≡◌, ◌∙◌, ℕ, ◌<◌, ◌≤◌, List, ◌++◌, length, string_bytes, subst, ap, take_all, arith}
+use Rattle.std.proofs.Common.{◌∙◌, ℕ, ◌<◌, ◌≤◌, List, ◌++◌, length, string_bytes, subst, ap, take_all, arith}
 use Rattle.std.proofs.lemmas.List.{get_or_read, length-map}
 use Rattle.pb_model_tree.specs.Form.{PropertyForm, model_form, property_form}
 use Rattle.pb_model_properties.specs.Verdicts.{verdict_text}

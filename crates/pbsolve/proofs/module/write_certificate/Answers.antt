@@ -13,9 +13,9 @@ pub returns-in_err-write_certificate-clause-certificate : goal.returns-in_err-wr
 returns-in_err-write_certificate-clause-certificate g c =
     sent_up g.S.Sink.taken g.S.Sink.has_failed (ForCertificateText c.args.verified.now) c.args.writer.now c.write_certificate.new.sink
     c.write_certificate.result c.in_err-write_certificate.field-0.0 c.from_residual-in_err-write_certificate.result
-    c.write_certificate.ensures.text c.write_certificate.ensures.silent c.in_err-write_certificate.was c.from_residual-in_err-write_certificate.ensures.1
+    c.write_certificate.ensures c.in_err-write_certificate.was c.from_residual-in_err-write_certificate.ensures.1
 
 pub returns-clause-certificate : goal.returns-clause-certificate
 returns-clause-certificate g c =
     sent_whole g.S.Sink.taken g.S.Sink.has_failed (ForCertificateText c.args.verified.now) c.args.writer.now c.write_certificate.new.sink
-    c.write_certificate.result c.in_ok-write_certificate.field-0 c.write_certificate.ensures.text c.in_ok-write_certificate.was
+    c.write_certificate.result c.in_ok-write_certificate.field-0 c.write_certificate.ensures c.in_ok-write_certificate.was

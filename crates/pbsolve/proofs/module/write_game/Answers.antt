@@ -13,9 +13,9 @@ pub returns-in_err-write_game-clause-game : goal.returns-in_err-write_game-claus
 returns-in_err-write_game-clause-game g c =
     sent_up g.S.Sink.taken g.S.Sink.has_failed (ForGameText c.args.verified.now) c.args.writer.now c.write_game.new.sink
     c.write_game.result c.in_err-write_game.field-0.0 c.from_residual-in_err-write_game.result
-    c.write_game.ensures.text c.write_game.ensures.silent c.in_err-write_game.was c.from_residual-in_err-write_game.ensures.1
+    c.write_game.ensures c.in_err-write_game.was c.from_residual-in_err-write_game.ensures.1
 
 pub returns-clause-game : goal.returns-clause-game
 returns-clause-game g c =
     sent_whole g.S.Sink.taken g.S.Sink.has_failed (ForGameText c.args.verified.now) c.args.writer.now c.write_game.new.sink
-    c.write_game.result c.in_ok-write_game.field-0 c.write_game.ensures.text c.in_ok-write_game.was
+    c.write_game.result c.in_ok-write_game.field-0 c.write_game.ensures c.in_ok-write_game.was

@@ -2,7 +2,9 @@ use Rattle.std.proofs.Common.{ℕ, List}
 use Rattle.pb_report.specs.Report.{report_text}
 use Rattle.pbsolve.specs.Errors.{build_refusal}
 use Rattle.pbsolve.specs.Outputs.{ForReport}
-use Rattle.pbsolve.proofs.Deliveries.{build_unwritten, nothing_written, sent_up, sent_whole, written}
+use Rattle.pb_report.specs.Delivery.{is_failed}
+use Rattle.pb_report.proofs.Delivery as known
+use Rattle.pbsolve.proofs.Deliveries.{build_unwritten, nothing_written, sent_up, sent_whole}
 use Rattle.pbsolve.proofs.module.write_report.Goals as goal
 
 pub returns-in_err-answer-clause-written : goal.returns-in_err-answer-clause-written
@@ -19,8 +21,8 @@ returns-in_err-report-clause-written g c =
     let has_failed = g.S.Sink.has_failed in
     let knows : (P : List ℕ → Type 0) → P (report_text answer) → For P = λ P h. (answer, c.in_ok-answer.ensures.answer, h) in
     sent_up taken has_failed For c.args.writer.now c.report.new.sink c.report.result c.in_err-report.field-0.0 c.from_residual-in_err-report.result
-    (written For (report_text answer) knows c.report.result (taken c.args.writer.now) (taken c.report.new.sink) (has_failed c.args.writer.now) (has_failed c.report.new.sink) c.report.ensures.text)
-    c.report.ensures.silent c.in_err-report.was c.from_residual-in_err-report.ensures.1
+    (known.less_delivered is_failed taken has_failed (λ (P : List ℕ → Type 0). P (report_text answer)) For knows c.args.writer.now c.report.new.sink c.report.result c.report.ensures)
+    c.in_err-report.was c.from_residual-in_err-report.ensures.1
 
 pub returns-clause-written : goal.returns-clause-written
 returns-clause-written g c =
@@ -30,5 +32,5 @@ returns-clause-written g c =
     let has_failed = g.S.Sink.has_failed in
     let knows : (P : List ℕ → Type 0) → P (report_text answer) → For P = λ P h. (answer, c.in_ok-answer.ensures.answer, h) in
     sent_whole taken has_failed For c.args.writer.now c.report.new.sink c.report.result c.in_ok-report.field-0
-    (written For (report_text answer) knows c.report.result (taken c.args.writer.now) (taken c.report.new.sink) (has_failed c.args.writer.now) (has_failed c.report.new.sink) c.report.ensures.text)
+    (known.less_delivered is_failed taken has_failed (λ (P : List ℕ → Type 0). P (report_text answer)) For knows c.args.writer.now c.report.new.sink c.report.result c.report.ensures)
     c.in_ok-report.was

@@ -13,9 +13,9 @@ pub returns-in_err-write_solution-clause-solution : goal.returns-in_err-write_so
 returns-in_err-write_solution-clause-solution g c =
     sent_up g.S.Sink.taken g.S.Sink.has_failed (ForSolutionText c.args.verified.now) c.args.writer.now c.write_solution.new.sink
     c.write_solution.result c.in_err-write_solution.field-0.0 c.from_residual-in_err-write_solution.result
-    c.write_solution.ensures.text c.write_solution.ensures.silent c.in_err-write_solution.was c.from_residual-in_err-write_solution.ensures.1
+    c.write_solution.ensures c.in_err-write_solution.was c.from_residual-in_err-write_solution.ensures.1
 
 pub returns-clause-solution : goal.returns-clause-solution
 returns-clause-solution g c =
     sent_whole g.S.Sink.taken g.S.Sink.has_failed (ForSolutionText c.args.verified.now) c.args.writer.now c.write_solution.new.sink
-    c.write_solution.result c.in_ok-write_solution.field-0 c.write_solution.ensures.text c.in_ok-write_solution.was
+    c.write_solution.result c.in_ok-write_solution.field-0 c.write_solution.ensures c.in_ok-write_solution.was

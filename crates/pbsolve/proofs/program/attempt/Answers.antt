@@ -16,7 +16,8 @@ use Rattle.pbsolve.specs.declared.solve_error.SolveError.TheVariants as solve_er
 use Rattle.pb_command_line.specs.declared.command.Command.{Command}
 use Rattle.pb_command_line.specs.declared.command.Command.TheVariants.{Translate}
 use Rattle.pb_model_properties.specs.Refusals.{LacksProperty}
-use Rattle.pbsolve.specs.Delivery.{Leaves}
+use Rattle.pb_report.specs.Delivery.{Leaves}
+use Rattle.pbsolve.specs.Delivery.{is_failed_write}
 use Rattle.pbsolve.specs.Outputs.{OutputsFor, IsRefusedFor, IsRefusedWith, property_name}
 use Rattle.pbsolve.specs.Program.{ForInput, IsRefusedBy}
 use Rattle.pbsolve.specs.declared.input.InputError.TheVariants.{Failed, TooLong, Memory}
@@ -182,9 +183,9 @@ by_write P solve_error.NoProperty f h = absurd (cc h)
 
 -- what an error left, where it is told as a failed write
 begun : {S : Type 0} (taken : S → Option (List ℕ)) (has_failed : S → Bool) (For : (List ℕ → Type 0) → Type 0) (old new : S) (e : SolveError)
-    → Leaves For e taken has_failed old new → solve_fault e ≡ ProgramFault fault.E02 → For (AppendsPrefix (taken old) (taken new)) × (has_failed new ≡ true)
+    → Leaves (is_failed_write e) For taken has_failed old new → solve_fault e ≡ ProgramFault fault.E02 → For (AppendsPrefix (taken old) (taken new)) × (has_failed new ≡ true)
 begun taken has_failed For old new e h told =
-    by_write _ e (λ same. subst (λ (z : SolveError). Leaves For z taken has_failed old new) same h) told
+    by_write _ e (λ same. subst (λ (z : SolveError). Leaves (is_failed_write z) For taken has_failed old new) same h) told
 
 pub returns-in_err-answer-clause-write : goal.returns-in_err-answer-clause-write
 returns-in_err-answer-clause-write g c is =
@@ -221,7 +222,7 @@ returns-in_err-answer-clause-write_failed g c is =
 
 -- and where it isn't told as one, nothing
 silent_by : {S : Type 0} (taken : S → Option (List ℕ)) (has_failed : S → Bool) (For : (List ℕ → Type 0) → Type 0) (old new : S) (e : SolveError)
-    → Leaves For e taken has_failed old new → solve_fault e ≢ ProgramFault fault.E02 → new ≡ old
+    → Leaves (is_failed_write e) For taken has_failed old new → solve_fault e ≢ ProgramFault fault.E02 → new ≡ old
 silent_by taken has_failed For old new (solve_error.Write error) h other = absurd (other refl)
 silent_by taken has_failed For old new (solve_error.Memory error) h other = h
 silent_by taken has_failed For old new (solve_error.Text error) h other = h

@@ -6,6 +6,6 @@ use Rattle.pb_report.proofs.buffer.TextBuffer.write.Goals as goal
 pub returns-then-text-gt-CAPACITY : goal.returns-then-text-gt-CAPACITY
 returns-then-text-gt-CAPACITY g c =
     let last = c.put-then-text-gt-CAPACITY in
-    put_both last.result _ (g.S.Sink.taken c.put.new.writer) _ _ (g.S.Sink.has_failed c.put.new.writer) _ c.args.self.now.bytes.items c.clear.new.self.items c.args.text.now
+    put_both g.S.Sink.taken g.S.Sink.has_failed last.result c.args.sink.now c.put.new.writer last.new.writer c.args.self.now.bytes.items c.clear.new.self.items c.args.text.now
     (subst (Appends _ _) c.deref.ensures.value c.in_ok-put.ensures.all) c.in_ok-put.ensures.ok_failed
     last.ensures.all last.ensures.ok_failed last.ensures.prefix last.ensures.err_failed c.clear.ensures.items
