@@ -25,7 +25,7 @@ binary_operands Operator.Or m n = one_kept n m
 binary_operands Operator.Implies m n = one_kept n m
 binary_operands _ m n = one_kept m n
 
--- how many operands a term's code holds at most
+-- C02: how many operands a term's code holds at most
 abbrev pub term_operands : Term → ℕ
 term_operands (Term.Truth b) = 1
 term_operands (Number n) = 1
@@ -71,7 +71,7 @@ join_brackets m around None (Some t) f_around g_around f_own g_own = f_around
 join_brackets m around None None f_around g_around f_own g_own =
     brackets_under m around (max f_own g_own)
 
--- how many brackets a formula's code opens within the one that is open
+-- C03: how many brackets a formula's code opens within the one that is open
 abbrev pub formula_brackets : (around : Bool) → Formula → ℕ
 formula_brackets around (Test t) = 0
 formula_brackets around (Join m f g) =
@@ -83,7 +83,7 @@ formula_brackets around (Call equation xs) = 0
 
 -- ---- loops
 
--- how deep the loops of a formula's code are nested
+-- C04: how deep the loops of a formula's code are nested
 abbrev pub formula_loops : Formula → ℕ
 formula_loops (Test t) = 0
 formula_loops (Join m f g) = max (formula_loops f) (formula_loops g)
@@ -92,7 +92,8 @@ formula_loops (Call equation xs) = 0
 
 -- ---- all limits
 
--- whether the program of this right side exceeds a limit
+-- whether the program of this right side exceeds a limit: of instructions (C01), operands (C02),
+-- brackets (C03), loops (C04), steps (C05) or tokens (C06)
 abbrev pub exceeds : Program → Formula → Limit → Bool
 exceeds p f limit.Instructions = nat_lt MAX_INSTRUCTIONS (length p.code)
 exceeds p f limit.Operands = nat_lt MAX_OPERANDS (formula_operands f)

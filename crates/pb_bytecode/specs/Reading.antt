@@ -53,7 +53,7 @@ Gives view (Err e) read = Fails e read
 abbrev pub Field : Type 0 → Type 0
 Field A = Result (A × List ℕ) ModuleFault
 
--- the input ends in a field, so that no byte is left
+-- B03: the input ends in a field, so that no byte is left
 abbrev pub truncated : ModuleFault
 truncated = record { rule = rule.Truncated; left = 0 }
 
@@ -87,7 +87,7 @@ signed_at w bytes = do
   n ← number_at w bytes
   Ok (cast_signed w n.0, n.1)
 
--- a byte from low on, and below end
+-- a byte from low on, and below end; else B05
 unfoldable pub between_at : ℕ → ℕ → List ℕ → Field ℕ
 between_at low end bytes = checked byte_at (kept (is_between low end)) rule.Limit bytes
 
@@ -113,7 +113,7 @@ counted_at low end item bytes = do
 
 -- ---- names, sorts and carriers
 
--- one field: the length and the bytes
+-- one field: the length and the bytes; B05 where they are no name
 unfoldable pub name_at : List ℕ → Field Text
 name_at bytes = do
   n ← byte_at bytes
@@ -198,6 +198,7 @@ operands_at sizes format.Call bytes = made (λ equation. op.Call equation) (byte
 operands_at sizes format.SlotInRange bytes =
     made (λ t. op.SlotInRange t.0 t.1.0.0 t.1.0.1 t.1.1) (slot_test_at bytes)
 
+-- an instruction whose code the version has; else B04
 unfoldable pub op_at : Version → List ℕ → List ℕ → Field Op
 op_at v sizes bytes = do
   f ← checked byte_at (format_of v) rule.UnknownOp bytes
@@ -215,6 +216,7 @@ sign_of zero = Some Mu
 sign_of (suc zero) = Some Nu
 sign_of (suc (suc n)) = None
 
+-- 0 or 1; else B05
 unfoldable pub sign_at : List ℕ → Field Sign
 sign_at bytes = checked byte_at sign_of rule.Limit bytes
 
@@ -240,7 +242,7 @@ equation_at v sizes bytes = do
     code.1,
   )
 
--- the first byte that differs
+-- B01: the first byte that differs
 abbrev pub expect : List ℕ → List ℕ → Field (Unit {0})
 expect [] bytes = Ok (tt, bytes)
 expect (m ∷ ms) [] = Err truncated
@@ -256,10 +258,11 @@ version_of (suc zero) = Some version.One
 version_of (suc (suc zero)) = Some version.Two
 version_of _ = None
 
+-- version 1 or 2; else B02
 unfoldable pub version_at : List ℕ → Field Version
 version_at bytes = checked byte_at version_of rule.Version bytes
 
--- a value of the carrier
+-- a value of the carrier; else B07
 unfoldable pub value_at : Carrier → List ℕ → Field ℤ
 value_at c bytes = checked (signed_at w64) (kept (contains (values_of c))) rule.Initial bytes
 
@@ -273,13 +276,14 @@ values_at (c ∷ cs) bytes =
 abbrev pub parameters_at : List EquationContents → ℕ → List Carrier
 parameters_at equations e = unwrap_or (parameters_of (slice_get equations e)) []
 
+-- an equation that is there, with a value for each parameter; else B07
 unfoldable pub initial_at : List EquationContents → List ℕ → Field InitialContents
 initial_at equations bytes = do
   e ← checked byte_at (kept (λ e. nat_lt e (length equations))) rule.Initial bytes
   values ← values_at (parameters_at equations e.0) e.1
   Ok (record { equation = e.0; values = values.0 }, values.1)
 
--- equations whose instances aren't too many; else the fault stands behind them
+-- equations whose instances aren't too many; else the fault (B05) stands behind them
 unfoldable pub equations_at : Version → List ℕ → List ℕ → Field (List EquationContents)
 equations_at v sizes bytes = do
   equations ← counted_at 1 (MAX_EQUATIONS + 1) (equation_at v sizes) bytes
@@ -298,7 +302,7 @@ contents_at bytes = do
     initial.1,
   )
 
--- all of the bytes
+-- all of the bytes; where some stand behind the module, B06
 unfoldable pub all_of : List ℕ → Result Contents ModuleFault
 all_of bytes = do
   m ← contents_at bytes

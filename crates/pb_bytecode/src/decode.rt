@@ -19,7 +19,7 @@ use std::alloc::Global;
 /// The first bytes of a module.
 pub(crate) const MARK: [u8; 4] = *b"PBES";
 
-/// The bytes behind the mark.
+/// The bytes behind the mark; B01 at the first byte that differs from it.
 #[tactic(auto, unfolding(crate::specs::Reading::mark_at))]
 fn mark_at(bytes: &[u8]) -> Result<&[u8], ModuleFault>
     ensures { IsRead (λ x. (tt, x.now)) result (mark_at bytes.now) }
@@ -34,6 +34,7 @@ fn mark_at(bytes: &[u8]) -> Result<&[u8], ModuleFault>
     }
 }
 
+/// Version 1 or 2; else B02.
 #[tactic(auto, unfolding(crate::specs::Reading::version_at))]
 fn version_at(bytes: &[u8]) -> Result<(Version, &[u8]), ModuleFault>
     ensures { IsRead (λ x. (x.0, x.1.now)) result (version_at bytes.now) }
@@ -46,7 +47,7 @@ fn version_at(bytes: &[u8]) -> Result<(Version, &[u8]), ModuleFault>
     }
 }
 
-/// The fields of a module, all of the bytes.
+/// The fields of a module, all of the bytes; where some stand behind it, B06.
 #[tactic(auto, unfolding(crate::specs::Reading::all_of, crate::specs::Reading::contents_at))]
 fn fields(
     alloc: Global,

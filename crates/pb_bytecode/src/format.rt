@@ -76,7 +76,7 @@ static FORMATS: [Format; 37] = [
     Format::Call,
 ];
 
-/// The format behind a code, if the version has that code.
+/// The format behind a code, if the version has that code (B04).
 pub fn format_of(version: Version, code: u8) -> Option<Format>
     ensures { result ≡ format_of version code }
 {

@@ -6,7 +6,7 @@ ghost use Rattle.pb_bytecode.specs.Views.{equation_contents};
 use crate::equation::Equation;
 use pb_sorts::{MAX_INSTANCES, count_tuples};
 
-/// Whether there are no more instances than the limit.
+/// Whether there are no more instances than the limit (B05).
 pub(crate) fn has_few_instances(equations: &[Equation]) -> bool
     ensures { result ≡ nat_le (instance_count (map equation_contents equations.now)) MAX_INSTANCES }
 {

@@ -29,7 +29,7 @@ fn are_name_bytes(text: &[u8]) -> bool
     text.iter().all(|byte| is_name_byte(*byte))
 }
 
-/// Whether a module may have the name.
+/// Whether a module may have the name (B05).
 pub fn is_name(text: &[u8]) -> bool
     ensures { result ≡ is_name text.now }
 {

@@ -49,7 +49,7 @@ pub record IsCovered (k m : AbstractState) : Type 0 where
   pub brackets_below : k.brackets_below ≡ m.brackets_below
   pub roots : k.roots ≡ m.roots
 
--- the table has a state at the edge's place, which covers what flows there
+-- the table has a state at the edge's place (V15), which covers what flows there (V11)
 pub record Leads (table : Table) (e : Edge) : Type 0 where
   pub known : AbstractState
   pub there : state_at table e.to ≡ Some known
@@ -63,7 +63,7 @@ abbrev pub FlowIsCovered : Table → Flow → Type 0
 FlowIsCovered table None = ⊥
 FlowIsCovered table (Some es) = AllLead table es
 
--- a jump's target: it stands behind the jump and in the same body
+-- a jump's target: it is inside the code (V05), behind the jump (V06) and in the same body (V07)
 pub record IsTarget (code : List Op) (q to : ℕ) : Type 0 where
   pub later : q < to
   pub inside : to < length code
@@ -90,7 +90,7 @@ loop_slots code (q ∷ qs) = slots_at (slice_get code q) (loop_slots code qs)
 abbrev pub IsVisible : Program → ℕ → ℕ → Type 0
 IsVisible p q i = (i < length p.parameters) ⊎ Contains (loop_slots p.code (loops_around p.code q)) i
 
--- which slots and callees an instruction may name, and which loops may be open there
+-- which slots and callees an instruction may name (V09), and which loops may be open there (V12)
 abbrev pub NamesInScope : Program → ℕ → Op → Type 0
 NamesInScope p q (op.Get i) = IsVisible p q i
 NamesInScope p q (op.SlotInRange i low high to) = IsVisible p q i
@@ -114,8 +114,8 @@ entry p =
       roots = 0;
     }
 
--- the code keeps the rules by position, states counts that are large enough and within the limits,
--- and has a table whose state at each place covers what flows there
+-- the code keeps the rules by position, states counts that are large enough and within the limits
+-- (V16), and has a table whose state at each place covers what flows there
 pub record Accepted (p : Program) (table : Table) : Type 0 where
   pub placed : (q : ℕ) (i : Op) → slice_get p.code q ≡ Some i → HasValidTarget p q i
   pub sited : (q : ℕ) (i : Op) → slice_get p.code q ≡ Some i → NamesInScope p q i

@@ -35,10 +35,12 @@ Flow = Option (List Edge)
 
 -- ---- operands
 
+-- where an operand is popped: one stands above the floor (V01)
 abbrev pub abstract_pop : List AbstractValue → (AbstractValue → List AbstractValue → Flow) → Flow
 abstract_pop [] go = None
 abstract_pop (s ∷ ss) go = go s ss
 
+-- where a number is popped: one stands on top (V01, V02)
 abbrev pub abstract_pop_int : List AbstractValue → (ℤ → ℤ → List AbstractValue → Flow) → Flow
 abstract_pop_int [] go = None
 abstract_pop_int (abstract.Int l h ∷ ss) go = go l h ss
@@ -54,16 +56,18 @@ abstract_pop_bool (abstract.Enum s n ∷ ss) go = None
 abbrev pub to_next_place : ℕ → AbstractState → Flow
 to_next_place q k = Some (record { to = q + 1; state = k } ∷ [])
 
+-- where an operand is pushed: with those below the floor there are MAX_OPERANDS at most (V10)
 abbrev pub abstract_push : ℕ → AbstractState → List AbstractValue → AbstractValue → Flow
 abstract_push q k ss s =
     if nat_lt (length ss + k.operands_below) MAX_OPERANDS
     then to_next_place q (record k { operands = s ∷ ss }) else None
 
+-- where a number is pushed: its interval is within 64 bits (V04)
 abbrev pub abstract_push_int : ℕ → AbstractState → List AbstractValue → ℤ × ℤ → Flow
 abstract_push_int q k ss i =
     if fits64 i.0 i.1 then abstract_push q k ss (abstract.Int i.0 i.1) else None
 
--- each value that the abstract value stands for is one of the carrier
+-- V08: each value that the abstract value stands for is one of the carrier
 abbrev pub accepts : AbstractValue → Carrier → Bool
 accepts abstract.Bool carrier.Bool = true
 accepts (abstract.Int l h) (carrier.Range range) = int_le range.low l && int_le h range.high
@@ -111,15 +115,18 @@ set_slot k i s =
 
 -- ---- brackets and roots
 
+-- where a leaf or a bracket is written: outside all brackets it is the one root (V14)
 abbrev pub abstract_root : ℕ → ℕ → (ℕ → Flow) → Flow
 abstract_root (suc n) roots go = go roots
 abstract_root zero zero go = go 1
 abstract_root zero (suc n) go = None
 
+-- where a bracket is closed: it is open, and was opened in this body (V13)
 abbrev pub abstract_close : ℕ → ℕ → (ℕ → Flow) → Flow
 abstract_close brackets_below zero go = None
 abstract_close brackets_below (suc n) go = if nat_le brackets_below n then go n else None
 
+-- where the code ends: no loop (V12) and no bracket (V13) is open, and there is one root (V14)
 abbrev pub abstract_end : List (ℕ × AbstractValue) → ℕ → ℕ → Flow
 abstract_end [] zero (suc zero) = Some []
 abstract_end _ _ _ = None
@@ -142,7 +149,8 @@ abstract_loop q k i (Some c) =
     })
     else None
 
--- home: what is known at the LOOP
+-- where a body ends: it leaves operands, brackets and roots as they were (V12); home: what is known
+-- at the LOOP
 abbrev pub abstract_next : ℕ → AbstractState → List AbstractValue → Option AbstractState → Flow
 abstract_next q k ss None = None
 abstract_next q k (s ∷ ss) (Some home) = None
@@ -175,7 +183,7 @@ abstract_call q k (Some cs) =
     (λ ss. abstract_root k.brackets k.roots
     (λ r. to_next_place q (record k { operands = ss; roots = r })))
 
--- what the instruction at place q does to what is known there
+-- what the instruction at place q does to what is known there; no divisor may be below 1 (V03)
 abbrev pub transfer : Program → Option AbstractState → ℕ → Op → AbstractState → Flow
 transfer p home q op.End k = abstract_end k.loops k.brackets k.roots
 transfer p home q (op.PushInt z) k = abstract_push q k k.operands (abstract.Int z z)

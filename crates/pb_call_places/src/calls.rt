@@ -71,7 +71,6 @@ pub(crate) fn same_place(left: Place, right: Place) -> bool
     left.line == right.line && left.column == right.column
 }
 
-/// Whether a formula has a call at a place.
 pub(crate) fn has_call_at(formula: &Formula, place: Place) -> bool
     ensures { result ≡ list_any (λ p. same_place p place) (call_places formula.now) }
 {

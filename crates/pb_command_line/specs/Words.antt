@@ -126,7 +126,7 @@ pub record AskFor (words : List (List ℕ)) (request : Request) : Type 0 where
 abbrev pub AskForSomething : List (List ℕ) → Type 0
 AskForSomething words = (request : Request) × AskFor words request
 
--- the words have a fault: there is nothing for which they ask
+-- U01: the words have a fault: there is nothing for which they ask
 abbrev pub HaveFault : List (List ℕ) → Type 0
 HaveFault words = ¬ AskForSomething words
 

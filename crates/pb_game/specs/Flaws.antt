@@ -9,17 +9,17 @@ use Rattle.pb_game.specs.declared.certificate.CertificateRule.TheVariants.{Lengt
 use Rattle.pb_game.specs.Solutions.{winner_of, choice_of, count_of, HasLengths}
 use Rattle.pb_game.specs.Certificates.{Decreases, IsKept}
 
--- the winner of v moves there, and the choice is no successor
+-- K01: the winner of v moves there, and the choice is no successor
 pub record HasNoSuccessor (g : Game) (s : Solution) (v : ℕ) : Type 0 where
   pub owner : owner_of g v ≡ winner_of s v
   pub missing : ¬ HasEdge g v (choice_of s v)
 
--- a kept edge out of the winner's region
+-- K02: a kept edge out of the winner's region
 pub record LeavesAlong (g : Game) (s : Solution) (v u : ℕ) : Type 0 where
   pub kept : IsKept g s v u
   pub leaves : winner_of s u ≢ winner_of s v
 
--- a kept edge along which the counts increase
+-- K03: a kept edge along which the counts increase
 pub record IncreasesAlong (g : Game) (s : Solution) (v u : ℕ) : Type 0 where
   pub kept : IsKept g s v u
   pub more : Decreases (count_of g s u) (count_of g s v) (winner_of s v) (priority_of g v)
@@ -31,12 +31,12 @@ pub record StaysAlong (g : Game) (s : Solution) (v u : ℕ) : Type 0 where
   pub stays : ¬ Decreases (count_of g s v) (count_of g s u) (winner_of s v) (priority_of g v)
       (priority_count g)
 
--- v has a priority of the loser's parity, and the counts don't decrease along some kept edge
+-- K04: v has a priority of the loser's parity, and the counts don't decrease along some kept edge
 pub record HasNoDecrease (g : Game) (s : Solution) (v : ℕ) : Type 0 where
   pub losing : priority_of g v % 2 ≢ winner_of s v
   pub along : (u : ℕ) × StaysAlong g s v u
 
--- the rule fails at v. The lengths are the whole solution's, and count at vertex 0
+-- the rule fails at v. The lengths (K05) are the whole solution's, and count at vertex 0
 abbrev pub Fails : Game → Solution → ℕ → CertificateRule → Type 0
 Fails g s v Length = (v ≡ 0) × ¬ HasLengths g s
 Fails g s v NoSuccessor = HasNoSuccessor g s v

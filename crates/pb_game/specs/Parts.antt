@@ -10,32 +10,33 @@ use Rattle.pb_game.specs.declared.parts.PartsFault.TheVariants as fault
 use Rattle.pb_game.specs.Adjacency.{row}
 use Rattle.pb_game.specs.Games.{vertex_count, owner_of, priority_of, successors_of}
 
--- at most 2 ^ 24 vertices
+-- G01: at most 2 ^ 24 vertices
 abbrev pub HasFewVertices : Parts → Type 0
 HasFewVertices p = length p.owners.items ≤ 2 ^ 24
 
--- each owner is player 0 or 1
+-- G02: each owner is player 0 or 1
 abbrev pub HasOwners : Parts → Type 0
 HasOwners p = All (λ owner. owner < 2) p.owners.items
 
--- one priority for each vertex
+-- G03: one priority for each vertex
 abbrev pub HasPriorities : Parts → Type 0
 HasPriorities p = length p.priorities.items ≡ length p.owners.items
 
--- one place for each vertex and one more, which begin at 0, rise, and end behind the last successor
+-- G04: one place for each vertex and one more, which begin at 0, rise, and end behind the last
+-- successor
 pub record HasPlaces (p : Parts) : Type 0 where
   pub size : length p.places.items ≡ length p.owners.items + 1
   pub first : slice_index p.places.items 0 ≡ 0
   pub rising : IsStrictlyIncreasing p.places.items
   pub last : slice_index p.places.items (length p.owners.items) ≡ length p.successors.items
 
--- the successors of each vertex are vertices that rise
+-- G05: the successors of each vertex are vertices that rise
 pub record HasSuccessors (p : Parts) : Type 0 where
   pub closed : All (λ u. u < length p.owners.items) p.successors.items
   pub rising : (v : ℕ) → v < length p.owners.items
       → IsStrictlyIncreasing (row p.places.items p.successors.items v)
 
--- each priority is one of the 256 from 0 on
+-- G06: each priority is one of the 256 from 0 on
 abbrev pub HasFewPriorities : Parts → Type 0
 HasFewPriorities p = All (λ priority. priority < 256) p.priorities.items
 

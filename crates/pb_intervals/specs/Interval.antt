@@ -25,7 +25,7 @@ is_non_empty i = int_le i.low i.high
 abbrev pub is_within : IntegerInterval → IntegerInterval → Bool
 is_within i outer = int_le outer.low i.low && int_le i.high outer.high
 
--- the interval, or none where it isn't within the limits
+-- the interval, or none where it isn't within the limits (T10 of texts, V04 of code)
 abbrev pub within : IntegerInterval → IntegerInterval → Option IntegerInterval
 within limits i = if is_within i limits then Some i else None
 

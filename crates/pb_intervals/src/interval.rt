@@ -263,7 +263,7 @@ impl Interval {
     }
 }
 
-// The numbers from `low` to `high`, if they are within the limits.
+// The numbers from `low` to `high`, if they are within the limits (T10 of texts, V04 of code).
 fn limited(low: i128, high: i128, limits: Interval) -> Option<Interval>
     requires { low ≤ℤ high }
     ensures { result ≡ within limits (record { low = low; high = high }) }

@@ -18,11 +18,11 @@ use Rattle.pb_model_tree.specs.Form.{PropertyForm, ModelForm}
 abbrev pub texts : List Named → List Name
 texts = map (λ (x : Named). x.text)
 
--- a name that is none of these
+-- T01: a name that is none of these
 abbrev pub known_faults : List Name → Named → List TypingFault
 known_faults names x = unless (is_among names x.text) rule.UnknownName x.place
 
--- a name that one of these has already
+-- T02: a name that one of these has already
 abbrev pub new_faults : List Name → Named → List TypingFault
 new_faults names x = unless (not (is_among names x.text)) rule.NameTwice x.place
 
@@ -57,10 +57,10 @@ is_constant f = false
 abbrev pub variable_faults : List Name → Named → List TypingFault
 variable_faults state x = new_faults state x ++ length_faults x
 
--- A variable is that of a fixpoint around it. What calls an equation stands under an even number of
--- negations: a variable, a fixpoint, and a modality whose operand is neither `true` nor `false`.
--- Such an operand and a fixpoint's body have equations of their own, so that the negations around
--- don't count in them. The left side of => counts as one.
+-- A variable is that of a fixpoint around it (T01). What calls an equation stands under an even
+-- number of negations (T06): a variable, a fixpoint, and a modality whose operand is neither `true`
+-- nor `false`. Such an operand and a fixpoint's body have equations of their own, so that the
+-- negations around don't count in them. The left side of => counts as one.
 abbrev pub formula_faults :
     List Name → List Name → List Name → Bool → FormulaForm → List TypingFault
 formula_faults state steps bound even (FormulaForm.constant p b) = []
@@ -90,8 +90,8 @@ property_names = map (λ (p : PropertyForm). p.name)
 abbrev pub property_faults : List Name → List Name → PropertyForm → List TypingFault
 property_faults state steps p = formula_faults state steps [] true p.formula
 
--- at most MAX_PARAMETERS state variables; and no two of them, of the steps and of the properties
--- have one name
+-- at most MAX_PARAMETERS state variables (T12); and no two of them, of the steps and of the
+-- properties have one name (T02)
 abbrev pub names_faults : List Named → List Named → List Named → List TypingFault
 names_faults state steps properties =
     limit_faults MAX_PARAMETERS state

@@ -38,7 +38,7 @@ fn is_constant(formula: &Formula) -> bool
     }
 }
 
-/// Whether a modality of this operand may stand where negations are even or odd in number.
+/// Whether a modality of this operand may stand where negations are even or odd in number (T06).
 fn may_stand(operand: &Formula, is_even: bool) -> bool
     ensures { result ≡ (is_constant (formula_form operand.now) || is_even) }
 {
@@ -130,7 +130,7 @@ fn check_links<'a>(
     Ok(())
 }
 
-/// Checks the name of a fixpoint's variable.
+/// Checks the name of a fixpoint's variable: it is new (T02) and short enough (T12).
 fn check_variable(declared: &Declared<'_>, variable: &Name) -> Result<(), TypingFault>
     ensures { MatchResult result
         (λ _. variable_faults (state_in declared.now) (named variable.now) ≡ [])

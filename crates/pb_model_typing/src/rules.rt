@@ -65,7 +65,7 @@ fn check_names(
     check_apart(alloc, &properties)
 }
 
-/// Checks that there are at most as many state variables as an equation may have parameters.
+/// Checks that there are at most as many state variables as an equation may have parameters (T12).
 fn check_count(state: &[&Name]) -> Result<(), TypingFault>
     ensures { MatchResult result
         (λ _. limit_faults MAX_PARAMETERS (names_in state.now) ≡ [])
@@ -103,7 +103,6 @@ fn property_names(alloc: Global, properties: &[Property]) -> Result<Vec<&Name>, 
     Ok(names)
 }
 
-/// Checks each step.
 fn check_steps(alloc: Global, state: &[&Name], steps: &[Step]) -> Result<(), TypeError>
     ensures { MatchResult result
         (λ _. flat_map (step_faults (texts (names_in state.now))) (map step_form steps.now) ≡ [])
@@ -115,7 +114,6 @@ fn check_steps(alloc: Global, state: &[&Name], steps: &[Step]) -> Result<(), Typ
     Ok(())
 }
 
-/// Checks each property.
 fn check_properties(declared: &Declared<'_>, properties: &[Property]) -> Result<(), TypingFault>
     ensures { MatchResult result
         (λ _. flat_map (property_faults (state_in declared.now) (steps_in declared.now))

@@ -15,7 +15,6 @@ use pb_typing::check;
 use pb_typing_declarations::TypeError;
 use std::alloc::{AllocError, Global};
 
-/// Checks the text of a formula.
 fn check_text(alloc: Global, model: &Model, formula: &Formula) -> Result<(), TypeError>
     ensures accepted { OnOk result (HasTypedText (model_of model.now) (formula_of formula.now)) }
     ensures fails { IfErr result

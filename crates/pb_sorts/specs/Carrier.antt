@@ -18,6 +18,6 @@ IsRange Bool low high = ⊥
 IsRange (Enum e) low high = ⊥
 IsRange (Range r) low high = (r.low ≡ low) × (r.high ≡ high)
 
--- bounds of a range: at least one number, and both within 32 bits
+-- L01: bounds of a range: at least one number, and both within 32 bits
 abbrev pub FitsRange : ℤ → ℤ → Type 0
 FitsRange low high = (negsuc 2147483647 ≤ℤ low) × (low ≤ℤ high) × (high ≤ℤ pos 2147483647)

@@ -25,7 +25,7 @@ pub record IsNumbered (equations : List (List Carrier)) (firsts : List ℕ) : Ty
   pub starts : (k : ℕ) → k ≤ length equations
       → slice_index firsts k ≡ first_of (carriers_of equations) k
 
--- so many equations, parameters and instances a layout may have
+-- so many equations, parameters and instances (L02) a layout may have
 pub record IsWithinLimits (equations : List (List Carrier)) : Type 0 where
   pub few_equations : length equations ≤ MAX_EQUATIONS
   pub few_parameters : All (λ parameters. length parameters ≤ MAX_PARAMETERS) equations

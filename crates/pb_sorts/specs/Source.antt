@@ -6,7 +6,7 @@ abbrev pub IsWhole : Option (List ℕ) → List ℕ → Type 0
 IsWhole None text = ⊤
 IsWhole (Some known) text = text ≡ known
 
--- more than n bytes are known
+-- U02: more than n bytes are known
 abbrev pub IsLongerThan : ℕ → Option (List ℕ) → Type 0
 IsLongerThan n None = ⊤
 IsLongerThan n (Some known) = n < length known

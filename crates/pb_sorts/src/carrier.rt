@@ -3,7 +3,7 @@ ghost use Rattle.std.specs.Prelude.{◌≡◌, ◌<◌, ◌≤ℤ◌, ℤ};
 
 use std::fmt;
 
-/// A range is empty, or a bound lies outside 32 bits.
+/// L01: a range is empty, or a bound lies outside 32 bits.
 #[derive(Clone, Copy, Debug, PartialEq, Eq)]
 pub struct L01;
 
@@ -114,7 +114,6 @@ impl Carrier {
         }
     }
 
-    /// The value at a place.
     pub(crate) fn value(&self, place: u64) -> i64
         requires { place < length (values_of self.now) }
         ensures { slice_get (values_of self.now) place ≡ Some result }

@@ -8,7 +8,7 @@ ghost use Rattle.pb_sorts.specs.Sink.{AppendsPrefix};
 use std::fmt;
 use std::io::Write;
 
-/// Writing failed, or a writer took nothing of a piece that isn't empty.
+/// E02: writing failed, or a writer took nothing of a piece that isn't empty.
 #[derive(Clone, Copy, Debug, PartialEq, Eq)]
 pub struct E02;
 

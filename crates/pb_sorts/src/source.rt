@@ -7,7 +7,7 @@ ghost use Rattle.std.specs.Io.KnownBytes.{ReadConsumes};
 use std::fmt;
 use std::io::Read;
 
-/// Reading failed.
+/// E01: reading failed.
 #[derive(Clone, Copy, Debug, PartialEq, Eq)]
 pub struct E01;
 

@@ -39,7 +39,7 @@ pub(crate) fn flaw_at(game: &Game, solution: &Solution, v: u32) -> Option<Certif
     None
 }
 
-/// Whether `u` is a successor of `v`.
+/// Whether `u` is a successor of `v`, as the winner's choice has to be (K01).
 fn has_edge(game: &Game, v: u32, u: u32) -> bool
     requires { v < vertex_count game.now }
     ensures { IsTrue result ↔ HasEdge game.now v u }
@@ -62,7 +62,7 @@ fn is_kept(game: &Game, solution: &Solution, v: u32, u: u32) -> bool
     game.owner(v) != solution.winner(v) || solution.choice(v) == u
 }
 
-/// Whether a kept edge from `v` leaves the winner's region.
+/// Whether a kept edge from `v` leaves the winner's region (K02).
 fn leaves_region(game: &Game, solution: &Solution, v: u32) -> bool
     requires lengths { HasLengths game.now solution.now }
     requires vertex { v < vertex_count game.now }
@@ -80,7 +80,7 @@ fn leaves_region(game: &Game, solution: &Solution, v: u32) -> bool
     false
 }
 
-/// Whether the counts increase along a kept edge from `v`.
+/// Whether the counts increase along a kept edge from `v` (K03).
 fn increases(game: &Game, solution: &Solution, v: u32) -> bool
     requires lengths { HasLengths game.now solution.now }
     requires vertex { v < vertex_count game.now }
@@ -97,7 +97,7 @@ fn increases(game: &Game, solution: &Solution, v: u32) -> bool
     false
 }
 
-/// Whether the counts don't decrease along a kept edge from `v`.
+/// Whether the counts don't decrease along a kept edge from `v` (K04).
 fn stays(game: &Game, solution: &Solution, v: u32) -> bool
     requires lengths { HasLengths game.now solution.now }
     requires vertex { v < vertex_count game.now }

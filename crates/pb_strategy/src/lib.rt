@@ -47,7 +47,7 @@ impl Checked<'_> {
 /// # Errors
 ///
 /// The least vertex at which a rule fails, with the first such rule, where the solution is no
-/// certificate. A list of a wrong length is a flaw at vertex 0, before all others.
+/// certificate. A list of a wrong length is a flaw (K05) at vertex 0, before all others.
 pub fn check<'a>(game: &'a Game, solution: &'a Solution) -> Result<Checked<'a>, Flaw>
     ensures certificate { IsOk result ↔ IsCertificate game.entry.now solution.entry.now }
     ensures flaw { IfErr result

@@ -19,8 +19,8 @@ use Rattle.pb_text.specs.declared.error.TextError.TheVariants as error
 use Rattle.pb_text.specs.declared.limits.TheConstants.{DEPTH_LIMIT, OPERATOR_LIMIT}
 use Rattle.pb_text.specs.Grammar.{IsText}
 
--- how many levels of brackets, negations, signs and quantifiers may open, and how many operators
--- with two operands an equation, and the initial instance, may have
+-- P04: how many levels of brackets, negations, signs and quantifiers may open, and how many
+-- operators with two operands an equation, and the initial instance, may have
 abbrev pub depth_limit : ℕ
 depth_limit = DEPTH_LIMIT
 
@@ -90,7 +90,9 @@ pub record IsBroken (bytes : List ℕ) (kind : Kind) (place : Place) : Type 0 wh
   pub goes_on : BeginsNextText front
   pub first : StaysWithin depth_limit operator_limit front
 
--- what a refusal says of the bytes
+-- what a refusal says of the bytes: no token stands at the place but a byte that begins none (P01),
+-- a number above the largest (P03) or a range line that says nothing (P05); or a token stands there
+-- with which no text goes on (P02), or that is past a limit (P04)
 abbrev pub IsFirstFaultBy : TextRule → List ℕ → Place → Type 0
 IsFirstFaultBy rule.UnknownByte bytes place = IsBroken bytes k.Unknown place
 IsFirstFaultBy rule.UnexpectedToken bytes place = IsRefusal bytes refused.Unexpected place

@@ -1,4 +1,4 @@
-//! Limits of texts.
+//! Limits of texts: P04 beyond them.
 
 /// How many levels of brackets, negations, signs and quantifiers may open.
 pub const DEPTH_LIMIT: u32 = 64;

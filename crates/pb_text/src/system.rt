@@ -63,7 +63,7 @@ pub fn parameters(input: &mut Input<'_>, alloc: Global) -> Result<Vec<Variables>
     Ok(parameters)
 }
 
-/// The right side of an equation, with all the operators that one may have.
+/// The right side of an equation, with all the levels and operators that one may have (P04).
 #[tactic(auto, unfolding(crate::specs::Reading::right_side))]
 fn right_side(input: &mut Input<'_>, alloc: Global) -> Result<Formula, ReadingFault>
     ensures reads { Gives formula_form (reading.right_side depth_limit input.old) result input.new }

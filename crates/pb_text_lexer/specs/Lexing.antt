@@ -30,7 +30,7 @@ two_byte_symbols =
     ∷ (62, 61, k.GreaterOrEqual) ∷
     (38, 38, k.And) ∷ (124, 124, k.Or) ∷ []
 
--- the symbol of one byte, or else no token
+-- the symbol of one byte, or else no token (P01)
 abbrev pub one_byte_among : List (ℕ × Kind) → ℕ → Piece
 one_byte_among [] a = Stop k.Unknown
 one_byte_among (entry ∷ entries) a =
@@ -49,6 +49,7 @@ symbol a (Some b) = two_bytes_among two_byte_symbols a b
 
 -- ---- numbers
 
+-- a number of n digits, unless it is above the largest (P03)
 abbrev pub number_of : ℕ → Option ℕ → Piece
 number_of n None = Stop k.LargeNumber
 number_of n (Some value) = Token k.Number n

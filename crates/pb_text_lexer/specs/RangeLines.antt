@@ -87,7 +87,7 @@ abbrev pub said : Option (List ℕ) → Option Bounded
 said None = None
 said (Some bs) = words_bound (without_return bs)
 
--- whether a comment that begins its line is a range line, and says nothing
+-- P05: whether a comment that begins its line is a range line, and says nothing
 abbrev pub is_wrong : Option (List ℕ) → Bool
 is_wrong None = false
 is_wrong (Some bs) = is_none (words_bound (without_return bs))

@@ -118,7 +118,7 @@ impl<'a> Input<'a> {
         token
     }
 
-    /// Takes the next token, which must be of this kind.
+    /// Takes the next token, which must be of this kind (P02).
     ///
     /// A token of another kind is refused as `ReadingRule::Unexpected`, which is the one error.
     #[tactic(auto, unfolding(crate::specs::Steps::expect))]
@@ -154,8 +154,8 @@ impl<'a> Input<'a> {
 
     /// Takes the next token, an operator with two operands.
     ///
-    /// Where no more of these may come it is refused as `ReadingRule::Limit`, which is the one
-    /// error.
+    /// Where no more of these may come it is refused as `ReadingRule::Limit` (P04), which is the
+    /// one error.
     #[tactic(auto, unfolding(crate::specs::Steps::take_operator))]
     pub fn take_operator(&mut self) -> Result<Token<'a>, Refusal>
         requires { is_last (spec.kind self.old) ≡ false }
@@ -171,7 +171,7 @@ impl<'a> Input<'a> {
 
     /// Takes the next token, which opens a level, where so many levels may still open.
     ///
-    /// Where none may, it is refused as `ReadingRule::Limit`, which is the one error.
+    /// Where none may, it is refused as `ReadingRule::Limit` (P04), which is the one error.
     pub fn enter(&mut self, depth: u32) -> Result<Token<'a>, Refusal>
         requires { is_last (spec.kind self.old) ≡ false }
         ensures reads { GivesExactly tok (spec.enter depth self.old) result self.new }

@@ -37,7 +37,7 @@ const PAIRS: [(u8, u8, Kind); 7] = [
     (b'|', b'|', Kind::Or),
 ];
 
-/// The symbol of one byte.
+/// The symbol of one byte, or else no token (P01).
 #[inline(always)]
 fn one_byte_symbol(byte: u8) -> Piece
     ensures { result ≡ spec.one_byte_among spec.one_byte_symbols byte }
@@ -87,7 +87,7 @@ fn symbol(first: u8, second: Option<u8>) -> Piece
     }
 }
 
-/// A number, by its digits.
+/// A number, by its digits, unless it is above the largest (P03).
 #[tactic(auto, unfolding(crate::specs::Lexing::number))]
 fn number(digits: &[u8]) -> Piece
     requires { AllDigits 10 digits.now }

@@ -128,7 +128,7 @@ fn behind_range(line: &[u8]) -> Option<&[u8]>
 }
 
 /// Whether a comment that begins its line and goes on with these bytes is a range line that says
-/// nothing.
+/// nothing (P05).
 pub fn is_wrong(bytes: &[u8]) -> bool
     ensures { result ≡ spec.is_wrong (spec.behind_range (line bytes.now)) }
 {

@@ -189,7 +189,6 @@ fn write_parameters(out: &mut Writer, parameters: &[Variables]) -> Result<(), Al
     out.close(")")
 }
 
-/// An equation.
 fn write_equation(out: &mut Writer, alloc: Global, equation: &Equation) -> Result<(), AllocError>
     ensures { OnOk result (page out.new ≡ after (words.equation_words (equation_form equation.now))
         (page out.old)) }
@@ -202,7 +201,6 @@ fn write_equation(out: &mut Writer, alloc: Global, equation: &Equation) -> Resul
     write_semicolon(out)
 }
 
-/// Equations.
 fn write_equations(
     out: &mut Writer,
     alloc: Global,

@@ -78,7 +78,6 @@ pub fn write_variables(out: &mut Writer, groups: &[Variables]) -> Result<(), All
     write_last_sort(out, last)
 }
 
-/// A quantifier.
 fn write_binder(out: &mut Writer, quantifier: Quantifier) -> Result<(), AllocError>
     ensures { OnOk result (page out.new ≡ after (quantifier_word quantifier ∷ []) (page out.old)) }
 {

@@ -1,4 +1,4 @@
-//! Operators and functions over typed terms: the typed term, or which rule fails.
+//! Operators and functions over typed terms: the typed term, or which rule fails, T04 or T10.
 
 ghost use Rattle.std.specs.Prelude.{◌≡◌, [], ◌∷◌, box_value};
 ghost use Rattle.pb_text_meaning.specs.Erase.{of_comparison};
@@ -44,7 +44,6 @@ pub(crate) fn negated(
     })
 }
 
-/// A comparison.
 pub(crate) fn compared(
     alloc: Global,
     comparison: Comparison,
@@ -135,7 +134,7 @@ fn convert(x: TypedTerm, place: Place) -> Result<TypedTerm, TypeError>
     }
 }
 
-/// Whether a value is an enumerator, of whose struct it has to be.
+/// Whether a value is an enumerator, of whose struct it has to be (T04).
 fn recognise(
     alloc: Global,
     enumerator: Enumerator,

@@ -80,7 +80,8 @@ impl Function {
     }
 }
 
-/// The function of a name: one that is there in each text, else a recogniser.
+/// The function of a name: one that is there in each text, else a recogniser; else the name is
+/// unknown (T01).
 pub(crate) fn find_function(
     declarations: &Declarations<'_>,
     name: &Name,

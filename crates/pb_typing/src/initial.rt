@@ -69,8 +69,8 @@ pub(crate) fn check_initial(
     })
 }
 
-/// Checks that the value of each argument, which is also given over slots, is in its carrier, and
-/// adds the values to others.
+/// Checks that the value of each argument, which is also given over slots, is in its carrier (T11),
+/// and adds the values to others.
 fn check_values(
     declarations: &Declarations<'_>,
     carriers: &[Carrier],

@@ -34,8 +34,9 @@ pub(crate) struct Call {
     pub arguments: Vec<Argument>,
 }
 
-/// Checks a predicate variable with its arguments, which has to be of positive polarity. A name
-/// that no equation declares is no predicate variable, so that it breaks no rule of negations.
+/// Checks a predicate variable, which has to be of positive polarity (T06), with as many arguments
+/// as it has parameters (T08). A name that no equation declares (T01) is no predicate variable, so
+/// that it breaks no rule of negations.
 pub(crate) fn check_instance(
     context: &Context<'_, '_, '_>,
     polarity: Polarity,
@@ -91,7 +92,7 @@ fn check_arguments(
     Ok(checked)
 }
 
-/// Checks an argument against its parameter's carrier.
+/// Checks an argument against its parameter's carrier, by their kinds (T04).
 fn check_argument(
     context: &Context<'_, '_, '_>,
     argument: &pb_text_tree::Argument,

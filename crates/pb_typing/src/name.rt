@@ -61,7 +61,7 @@ pub(crate) fn check_name(
     }
 }
 
-/// A shape whose values are within 2^62.
+/// A shape whose values are within 2^62 (T10).
 fn limited(shape: Shape, place: Place) -> Result<Shape, TypingFault>
     ensures { Finds (unless (is_limited (shape_view shape)) TypingRule.LargeInterval place)
         (shape_view shape) result }
@@ -70,7 +70,8 @@ fn limited(shape: Shape, place: Place) -> Result<Shape, TypingFault>
     Ok(shape)
 }
 
-/// What is wrong with a name in data that stands for nothing there.
+/// What is wrong with a name in data that stands for nothing there: it isn't declared (T01), or is
+/// a predicate variable's (T07).
 pub(crate) fn unknown(declarations: &Declarations<'_>, name: &Name) -> TypingFault
     ensures { Contains (unknown_faults (spec_of declarations.now) (named name.now)) result }
 {

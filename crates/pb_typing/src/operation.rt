@@ -78,7 +78,7 @@ pub(crate) enum BinaryOperation {
 }
 
 impl BinaryOperation {
-    /// Whether the numbers of an interval may be second operands: no divisor is below 1.
+    /// Whether the numbers of an interval may be second operands: no divisor is below 1 (T09).
     fn may_divide(self, right: Interval) -> bool
         ensures { result ≡ may_divide (binary_operation self) (model.Wholes right.low right.high) }
     {
@@ -126,7 +126,8 @@ impl BinaryOperation {
         }
     }
 
-    /// The same of two numbers of these intervals.
+    /// The same of two numbers of these intervals: no divisor is below 1 (T09), and the result is
+    /// within 2^62 (T10).
     fn check_intervals(
         self,
         left: Interval,

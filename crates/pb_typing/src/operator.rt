@@ -15,7 +15,7 @@ use pb_text_tree::{Arithmetic, Comparison, Place};
 use pb_typed_tree::Shape;
 use pb_typing_declarations::{TypeError, TypingFault, TypingRule, require};
 
-/// A comparison of two values.
+/// A comparison of two values, of one kind, or numbers where an order is asked for (T04).
 pub(crate) fn compare(
     comparison: Comparison,
     left: Shape,

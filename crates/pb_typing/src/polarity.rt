@@ -33,7 +33,7 @@ impl Polarity {
 }
 
 /// The polarity of an operand of a chain, whose own is given, where `behind` operands stand behind
-/// it. The left side of `=>` counts as negated, and a chain is read to the right.
+/// it. The left side of `=>` counts as negated (T06), and a chain is read to the right.
 pub fn operand_polarity(connective: Connective, polarity: Polarity, behind: usize) -> Polarity
     ensures { is_positive result ≡ operand_parity connective (is_positive polarity) behind }
 {

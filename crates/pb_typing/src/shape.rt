@@ -51,7 +51,7 @@ pub(crate) fn is_whole(shape: &Shape) -> bool
     matches!(shape, Shape::Wholes(_))
 }
 
-/// Whether values are of one kind.
+/// Whether values are of one kind (T04).
 pub(crate) fn are_alike(left: &Shape, right: &Shape) -> bool
     ensures { result ≡ shapes.may_be_alike (shape_view left.now) (shape_view right.now) }
 {

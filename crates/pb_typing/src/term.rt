@@ -25,7 +25,7 @@ use pb_text_tree::{Argument, ArithmeticLink, Connective, Name, Place, TermLink};
 use pb_typed_tree::{Argument as TypedTerm, Link, Shape, Term};
 use pb_typing_declarations::{TypeError, TypingFault, TypingRule, require};
 
-/// A literal.
+/// A literal, within 2^62 (T10).
 fn literal(number: u64, place: Place) -> Result<TypedTerm, TypingFault>
     ensures { Resolves (unless (is_within (singleton (pos number)) literals)
         TypingRule.LargeInterval place) (literal_shape number) (tree.Number number) result }
@@ -39,7 +39,7 @@ fn literal(number: u64, place: Place) -> Result<TypedTerm, TypingFault>
     }
 }
 
-/// Checks a data term where no quantifier may stand.
+/// Checks a data term where no quantifier may stand (T13).
 #[cycle(terms)]
 pub(crate) fn check_term(
     context: &Context<'_, '_, '_>,
@@ -139,7 +139,8 @@ fn check_links(
     Ok(operands)
 }
 
-/// Checks an operand behind one of this shape; `more` says whether others follow.
+/// Checks an operand behind one of this shape, both Booleans (T04); `more` says whether others
+/// follow.
 #[cycle(terms)]
 fn check_link(
     context: &Context<'_, '_, '_>,
@@ -190,7 +191,7 @@ pub(crate) fn check_arithmetic(
     })
 }
 
-/// Checks a function or a recogniser with its arguments: first its name and their number.
+/// Checks a function or a recogniser with its arguments: first its name and their number (T08).
 #[cycle(terms)]
 fn check_application(
     context: &Context<'_, '_, '_>,

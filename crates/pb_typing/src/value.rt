@@ -39,8 +39,8 @@ use pb_typing_declarations::{TypeError, TypingRule, require};
 use std::alloc::Global;
 use std::collections::HashMap;
 
-/// Checks a data term that must be a Boolean, and reads it as a formula. The carriers are those of
-/// the slots so far, to which it adds those of its quantifiers.
+/// Checks a data term that must be a Boolean (T04), and reads it as a formula. The carriers are
+/// those of the slots so far, to which it adds those of its quantifiers.
 #[cycle(values)]
 pub(crate) fn check_truth<'t>(
     context: &Context<'_, '_, 't>,

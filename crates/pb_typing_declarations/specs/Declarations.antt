@@ -24,7 +24,7 @@ use Rattle.pb_sorts.specs.declared.limits.TheConstants.{MAX_PARAMETERS, MAX_INST
 
 -- ---- limits
 
--- the one that comes after so many passes the limit
+-- T12: the one that comes after so many passes the limit
 abbrev pub limit_fault : Option Named → List TypingFault
 limit_fault None = []
 limit_fault (Some x) = unless false Limit x.place
@@ -57,6 +57,7 @@ all_enumerator_forms ds = flat_map (λ (d : SortDeclarationForm). enumerators_of
 abbrev pub is_named_function : Name → Bool
 is_named_function f = is_some (named_function f)
 
+-- T02: no recogniser has such a function's name
 abbrev pub recogniser_faults : Option Named → List TypingFault
 recogniser_faults None = []
 recogniser_faults (Some x) = unless (not (is_named_function x.text)) NameTwice x.place
@@ -72,13 +73,14 @@ is_endless (Shaped h) = false
 is_endless (Unranged k) = false
 is_endless Undeclared = false
 
--- an alias's target is a sort, and its chain has an end
+-- T03: an alias's target is a sort, and its chain has an end
 abbrev pub definition_faults : Spec → Named → SortForm → List TypingFault
 definition_faults spec s (struct es) = []
 definition_faults spec s (alias target) =
     unless (is_sort spec target.text) UnknownSort target.place
     ++ unless (not (is_endless (base_of spec s.text))) UnknownSort s.place
 
+-- T02: no sort has a built-in sort's name
 abbrev pub sort_faults : Spec → SortDeclarationForm → List TypingFault
 sort_faults spec d =
     unless (not (is_built_in d.name.text)) NameTwice d.name.place
@@ -87,8 +89,8 @@ sort_faults spec d =
 abbrev pub own_names : List EnumeratorForm → List Named
 own_names es = map (λ (e : EnumeratorForm). e.name) es
 
--- behind n structs: the one after MAX_STRUCTS passes the limit, and each has 1 to MAX_ENUMERATORS
--- enumerators
+-- T12: behind n structs: the one after MAX_STRUCTS passes the limit, and each has 1 to
+-- MAX_ENUMERATORS enumerators
 abbrev pub struct_faults : ℕ → Place → SortForm → List TypingFault
 struct_faults n place (struct es) =
     unless (stays_within MAX_STRUCTS n (suc n)) Limit place
@@ -127,7 +129,7 @@ may_begin_at low (Shaped h) = true
 may_begin_at low Undeclared = true
 may_begin_at low Endless = true
 
--- the range of an integer sort, which begins at its least value or above
+-- the range of an integer sort (T03), which begins at its least value or above (T05)
 abbrev pub range_faults : Spec → RangeForm → List TypingFault
 range_faults spec r =
     unless
@@ -135,7 +137,7 @@ range_faults spec r =
     UnknownSort r.place
     ++ unless (may_begin_at r.low (base_of spec r.name)) MissingRange r.place
 
--- and isn't empty
+-- and isn't empty (T05)
 abbrev pub empty_faults : RangeForm → List TypingFault
 empty_faults r = unless (int_le r.low r.high) MissingRange r.place
 
@@ -144,7 +146,7 @@ range_name r = record { place = r.place; text = r.name }
 
 -- ---- variables
 
--- what a sort with this end lacks: a range, or its declaration
+-- what a sort with this end lacks: a range (T05), or its declaration (T03)
 abbrev pub end_faults : Bool → End → Place → List TypingFault
 end_faults declared (Shaped h) place = []
 end_faults declared (Unranged k) place = unless false MissingRange place
@@ -177,7 +179,7 @@ equation_faults spec X =
     ++ variables_faults spec X.parameters)
 
 -- behind so many instances: a predicate variable is as it must be, and its instances don't pass the
--- limit
+-- limit (T12)
 abbrev pub equations_faults_behind : Spec → ℕ → List EquationForm → List TypingFault
 equations_faults_behind spec n [] = []
 equations_faults_behind spec n (X ∷ E) =

@@ -27,7 +27,7 @@ IsAmong all (At fault) = Contains all fault
 abbrev pub is_among : List Name → Name → Bool
 is_among names x = list_any (λ y. same_name y x) names
 
--- a name that was declared before, among names that stand behind others
+-- T02: a name that was declared before, among names that stand behind others
 abbrev pub repeated_after : List Name → List Named → List TypingFault
 repeated_after before [] = []
 repeated_after before (x ∷ xs) =
@@ -36,6 +36,6 @@ repeated_after before (x ∷ xs) =
 abbrev pub repeated : List Named → List TypingFault
 repeated = repeated_after []
 
--- a name of at most MAX_NAME_BYTES bytes
+-- T12: a name of at most MAX_NAME_BYTES bytes
 abbrev pub length_faults : Named → List TypingFault
 length_faults x = unless (nat_le (length x.text) MAX_NAME_BYTES) Limit x.place

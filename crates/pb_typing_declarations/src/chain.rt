@@ -55,7 +55,7 @@ impl End {
         matches!(self, End::Unranged(_))
     }
 
-    /// Whether a range of the sort may begin at `low`: `Pos` begins at 1 and `Nat` at 0.
+    /// Whether a range of the sort may begin at `low` (T05): `Pos` begins at 1 and `Nat` at 0.
     pub fn may_begin_at(&self, low: i32) -> bool
         ensures { result ≡ may_begin_at low (end_shown self.now) }
     {

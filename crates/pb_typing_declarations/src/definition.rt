@@ -161,7 +161,8 @@ fn read_definition<'a>(
     }
 }
 
-/// Whether a struct has few enough enumerators; the fault stands at the one that passes the limit.
+/// Whether a struct has few enough enumerators; the fault (T12) stands at the one that passes the
+/// limit.
 fn check_count(enumerators: &[pb_text_tree::Enumerator]) -> Result<(), TypingFault>
     ensures { MatchResult result
         (λ _. (limit_faults MAX_ENUMERATORS (own_names (map enumerator_form enumerators.now)) ≡ [])
@@ -208,7 +209,7 @@ fn push_enumerators<'a>(
     Ok(())
 }
 
-/// Adds the name of an enumerator's recogniser, if it has one.
+/// Adds the name of an enumerator's recogniser, if it has one, which is no function's (T02).
 fn push_recogniser<'a>(
     names: &mut Vec<Entry<'a, DataName>>,
     position: Enumerator,

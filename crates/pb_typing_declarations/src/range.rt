@@ -49,7 +49,7 @@ fn read_ranges(
     Ok(entries)
 }
 
-/// The bounds of a range that isn't empty.
+/// The bounds of a range that isn't empty (T05).
 fn read_range(range: &pb_text_tree::Range) -> Result<Range, TypingFault>
     ensures { MatchResult result
         (λ bounds. (empty_faults (range_form range.now) ≡ [])

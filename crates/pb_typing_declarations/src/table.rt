@@ -11,7 +11,7 @@ use crate::fault::{TypeError, TypingRule, require};
 use std::alloc::Global;
 use std::collections::HashMap;
 
-/// The values of names. A name that stands twice is a fault at the later one.
+/// The values of names. A name that stands twice is a fault at the later one (T02).
 pub(crate) fn table<'a, V: Copy>(
     alloc: Global,
     entries: &[Entry<'a, V>],

@@ -144,7 +144,8 @@ impl<'a> Tables<'a> {
         Ok(())
     }
 
-    /// A sort isn't a built-in one; an alias's target is a sort, and its chain has an end.
+    /// A sort isn't a built-in one (T02); an alias's target is a sort, and its chain has an end
+    /// (T03).
     fn check_sort(&self, alloc: Global, declaration: &SortDeclaration) -> Result<(), TypingFault>
         ensures { MatchResult result
             (λ _. sort_faults (erase (spec_form self.now.spec.now))
@@ -188,7 +189,8 @@ impl<'a> Tables<'a> {
         Ok(())
     }
 
-    /// A range is that of an integer sort, and doesn't begin below the sort's least value.
+    /// A range is that of an integer sort (T03), and doesn't begin below the sort's least value
+    /// (T05).
     fn check_range(&self, alloc: Global, range: &pb_text_tree::Range) -> Result<(), TypingFault>
         requires { HaveEnds (erase (spec_form self.now.spec.now)) }
         ensures { MatchResult result
@@ -267,7 +269,7 @@ impl<'a> Tables<'a> {
         Ok(carriers)
     }
 
-    /// The carrier of a variable's sort.
+    /// The carrier of a variable's sort, which is there (T03) and has a range if it has to (T05).
     fn variable_carrier(&self, sort: &Name) -> Result<Carrier, TypingFault>
         requires { HaveEnds (erase (spec_form self.now.spec.now)) }
         ensures { MatchResult result
@@ -286,7 +288,7 @@ impl<'a> Tables<'a> {
     }
 }
 
-/// So many instances and those of one more predicate variable, if they are within the limit.
+/// So many instances and those of one more predicate variable, if they are within the limit (T12).
 fn add_instances(count: u32, parameters: &[Carrier], place: Place) -> Result<u32, TypingFault>
     requires { count ≤ MAX_INSTANCES }
     ensures { MatchResult result
@@ -335,7 +337,7 @@ fn equation_entries(
     Ok(entries)
 }
 
-/// Whether there are at most so many; the fault stands at the one that passes the limit.
+/// Whether there are at most so many; the fault (T12) stands at the one that passes the limit.
 fn check_limit<V: Copy>(entries: &[Entry<'_, V>], limit: usize) -> Result<(), TypingFault>
     ensures { MatchResult result
         (λ _. limit_faults limit (entry_names entries.now) ≡ [])

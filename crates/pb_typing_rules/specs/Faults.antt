@@ -26,7 +26,7 @@ use Rattle.pb_typing_rules.specs.Formula.{count}
 
 -- ---- data
 
--- a name in data that stands for nothing there; a predicate variable's fails as such
+-- a name in data that stands for nothing there (T01); a predicate variable's fails as such (T07)
 abbrev pub unknown_faults : Spec → Named → List TypingFault
 unknown_faults spec x =
     unless (not (is_declared spec.equations x.text)) rule.PredicateInData x.place
@@ -41,23 +41,26 @@ negative_faults s p =
     unless (may_be_whole s) rule.WrongKind p
     ++ unless (unary_is_limited Negation s) rule.LargeInterval p
 
+-- operands of the wrong kinds (T04), a divisor that may be below 1 (T09), or an interval beyond the
+-- limits (T10)
 abbrev pub operator_faults : OperatorKind → Shape → Shape → Place → List TypingFault
 operator_faults o s t p =
     unless (accepts o s t) rule.WrongKind p
     ++ (unless (divisor_is_positive o t) rule.Divisor p
     ++ unless (outcome_is_limited o s t) rule.LargeInterval p)
 
--- arguments of the wrong kinds, or an interval beyond the limits, at the function's name
+-- arguments of the wrong kinds (T04) or an interval beyond the limits (T10), at the function's name
 abbrev pub kind_faults : Function → List Shape → Place → List TypingFault
 kind_faults g ss p =
     unless (takes g ss) rule.WrongKind p ++ unless (result_is_limited g ss) rule.LargeInterval p
 
+-- T08: a function has as many arguments as it takes
 abbrev pub function_faults : Spec → Option Function → List Shape → Named → List TypingFault
 function_faults spec None ss f = unknown_faults spec f
 function_faults spec (Some g) ss f =
     unless (length ss == arity g) rule.WrongCount f.place ++ kind_faults g ss f.place
 
--- `stands` says whether a quantifier may stand here
+-- T13: `stands` says whether a quantifier may stand here
 abbrev mutual
   pub term_faults : Spec → Bool → Scope → TermForm → List TypingFault
   term_faults spec stands scope (TermForm.constant p b) = []
@@ -115,8 +118,8 @@ argument_faults spec scope (argument p e es) (x ∷ xs) =
     rule.WrongKind p
     ++ argument_faults spec scope es xs)
 
--- a predicate variable that is declared stands under an even number of negations, and has its
--- arguments; one that isn't is only unknown
+-- a predicate variable that is declared stands under an even number of negations (T06), and has its
+-- arguments (T08); one that isn't is only unknown (T01)
 abbrev pub called_faults : Spec → Bool → Scope → ArgumentForms → Option Equation → Place
     → List TypingFault
 called_faults spec even scope es None p =
@@ -171,7 +174,7 @@ abbrev pub may_have : Carrier → Value → Bool
 may_have [] v = true
 may_have (w ∷ ws) v = contains (w ∷ ws) v
 
--- arguments without variables: each value is in its parameter's carrier
+-- T11: arguments without variables: each value is in its parameter's carrier
 abbrev pub value_faults : Spec → ArgumentForms → List Variable → List TypingFault
 value_faults spec no_arguments xs = []
 value_faults spec (argument p e es) [] = []

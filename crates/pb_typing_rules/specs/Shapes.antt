@@ -124,6 +124,7 @@ kind_of Operator.Times = Computed Product
 kind_of Operator.Div = Computed Quotient
 kind_of Operator.Mod = Computed Remainder
 
+-- T04: the operands are of the kinds that the operator takes
 abbrev pub accepts : OperatorKind → Shape → Shape → Bool
 accepts OfTruths s t = may_be_truth s && may_be_truth t
 accepts OfAlike s t = may_be_alike s t
@@ -134,10 +135,12 @@ abbrev pub outcome : OperatorKind → Shape → Shape → Shape
 outcome (Computed o) s t = binary_shape o s t
 outcome _ s t = Truths
 
+-- T09: by its interval, no divisor of div and mod is below 1
 abbrev pub divisor_is_positive : OperatorKind → Shape → Bool
 divisor_is_positive (Computed o) t = may_divide o t
 divisor_is_positive _ t = true
 
+-- T10: by the intervals of the operands, the result is within the limits
 abbrev pub outcome_is_limited : OperatorKind → Shape → Shape → Bool
 outcome_is_limited (Computed o) s t = binary_is_limited o s t
 outcome_is_limited _ s t = true

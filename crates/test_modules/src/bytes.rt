@@ -101,6 +101,7 @@ fn reads_what_only_a_verifier_refuses(rt: HostRuntime) -> Result<(), Fail> {
     Ok(())
 }
 
+/// B03.
 #[test]
 fn input_that_ends_inside_a_field_is_truncated(rt: HostRuntime) {
     for length in 0..OTHERS.len() {
@@ -123,6 +124,7 @@ fn input_that_ends_inside_a_field_is_truncated(rt: HostRuntime) {
     }
 }
 
+/// B06.
 #[test]
 fn bytes_behind_the_module_are_refused(rt: HostRuntime) -> Result<(), Fail> {
     let mut twice = OTHERS.to_vec(rt.alloc())?;
@@ -134,6 +136,7 @@ fn bytes_behind_the_module_are_refused(rt: HostRuntime) -> Result<(), Fail> {
     Ok(())
 }
 
+/// B01, B02, B05, B04 and B07.
 #[test]
 fn fields_out_of_their_limits_are_refused(rt: HostRuntime) {
     let mut bytes = SMALL;
@@ -153,6 +156,7 @@ fn fields_out_of_their_limits_are_refused(rt: HostRuntime) {
     assert_fault(&rt, rt.alloc(), &bytes, ModuleRule::Initial, 24);
 }
 
+/// B04 in version 1.
 #[test]
 fn only_version_2_tests_slots(rt: HostRuntime) -> Result<(), Fail> {
     let module = decode(rt.alloc(), &TESTED)?;

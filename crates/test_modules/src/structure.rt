@@ -67,7 +67,6 @@ fn loops_pair_like_brackets(rt: HostRuntime) -> Result<(), Fail> {
 
 #[test]
 fn eight_loops_may_be_nested(rt: HostRuntime) -> Result<(), Fail> {
-    let alloc = rt.alloc();
     let code = [
         start(1),
         start(2),
@@ -91,8 +90,13 @@ fn eight_loops_may_be_nested(rt: HostRuntime) -> Result<(), Fail> {
         steps: SATURATED,
         tokens: 0,
     };
-    assert!(rt; found(alloc, &code) == Ok(most));
-    let deeper = [
+    assert!(rt; found(rt.alloc(), &code) == Ok(most));
+    Ok(())
+}
+
+#[test]
+fn nine_loops_may_not(rt: HostRuntime) -> Result<(), Fail> {
+    let code = [
         start(1),
         start(2),
         start(3),
@@ -112,45 +116,26 @@ fn eight_loops_may_be_nested(rt: HostRuntime) -> Result<(), Fail> {
         Op::Next,
         Op::Next,
     ];
-    assert!(rt; found(alloc, &deeper) == refusal(AcceptanceRule::LoopStructure, 8));
+    assert!(rt; found(rt.alloc(), &code) == refusal(AcceptanceRule::LoopStructure, 8));
     Ok(())
+}
+
+const fn call(equation: u8) -> Op {
+    Op::Call { equation }
+}
+
+const fn test(slot: u8, target: u16) -> Op {
+    Op::SlotInRange {
+        slot,
+        low: 0,
+        high: 1,
+        target,
+    }
 }
 
 #[test]
 fn names_are_there(rt: HostRuntime) -> Result<(), Fail> {
     let alloc = rt.alloc();
-    let unknown = |place| refusal(AcceptanceRule::UnknownName, place);
-    let call = |equation| Op::Call { equation };
-    let test = |slot, target| Op::SlotInRange {
-        slot,
-        low: 0,
-        high: 1,
-        target,
-    };
-    // a slot that is none, or a loop's that isn't around
-    assert!(rt; found(alloc, &[get(10), Op::End]) == unknown(0));
-    assert!(rt; found(alloc, &[get(1), Op::End]) == unknown(0));
-    assert!(rt; found(alloc, &[start(1), Op::Next, get(1), Op::End]) == unknown(2));
-    assert!(rt;
-        found(
-            alloc,
-            &[start(1), start(2), Op::Next, get(2), Op::Next, Op::End]
-        ) == unknown(3)
-    );
-    assert!(rt; found(alloc, &[test(3, 1), Op::End]) == unknown(0));
-    // its name comes before its target
-    assert!(rt; found(alloc, &[test(3, 9), Op::End]) == unknown(0));
-    // a LOOP of a parameter, of no slot, or of a slot that runs around it
-    assert!(rt; found(alloc, &[start(0), Op::Next, Op::End]) == unknown(0));
-    assert!(rt; found(alloc, &[start(10), Op::Next, Op::End]) == unknown(0));
-    assert!(rt;
-        found(
-            alloc,
-            &[start(1), start(2), start(1), Op::Next, Op::Next, Op::Next]
-        ) == unknown(2)
-    );
-    // no such equation
-    assert!(rt; found(alloc, &[call(2), Op::End]) == unknown(0));
     // what may be named
     let fine = [
         get(0),
@@ -165,13 +150,31 @@ fn names_are_there(rt: HostRuntime) -> Result<(), Fail> {
         Op::Next,
     ];
     assert!(rt; found(alloc, &fine).is_ok());
-    assert!(rt;
-        found(
-            alloc,
-            &[start(1), Op::Next, start(1), Op::Next, call(0), call(1)]
-        )
-        .is_ok()
-    );
+    let calls = [start(1), Op::Next, start(1), Op::Next, call(0), call(1)];
+    assert!(rt; found(alloc, &calls).is_ok());
+    Ok(())
+}
+
+#[test]
+fn names_are_missed(rt: HostRuntime) -> Result<(), Fail> {
+    let alloc = rt.alloc();
+    let unknown = |place| refusal(AcceptanceRule::UnknownName, place);
+    // a slot that is none, or a loop's that isn't around
+    assert!(rt; found(alloc, &[get(10), Op::End]) == unknown(0));
+    assert!(rt; found(alloc, &[get(1), Op::End]) == unknown(0));
+    assert!(rt; found(alloc, &[start(1), Op::Next, get(1), Op::End]) == unknown(2));
+    let behind = [start(1), start(2), Op::Next, get(2), Op::Next, Op::End];
+    assert!(rt; found(alloc, &behind) == unknown(3));
+    assert!(rt; found(alloc, &[test(3, 1), Op::End]) == unknown(0));
+    // its name comes before its target
+    assert!(rt; found(alloc, &[test(3, 9), Op::End]) == unknown(0));
+    // a LOOP of a parameter, of no slot, or of a slot that runs around it
+    assert!(rt; found(alloc, &[start(0), Op::Next, Op::End]) == unknown(0));
+    assert!(rt; found(alloc, &[start(10), Op::Next, Op::End]) == unknown(0));
+    let inside = [start(1), start(2), start(1), Op::Next, Op::Next, Op::Next];
+    assert!(rt; found(alloc, &inside) == unknown(2));
+    // no such equation
+    assert!(rt; found(alloc, &[call(2), Op::End]) == unknown(0));
     Ok(())
 }
 

@@ -24,6 +24,7 @@ fn past_limit(column: u32) -> Answer {
     Answer::Refused(TextRule::LimitExceeded, column)
 }
 
+/// P04 at the 65th level.
 #[test]
 fn bracket_past_the_limit_comes_first(rt: HostRuntime) -> Result<(), Fail> {
     let a = rt.alloc();
@@ -53,6 +54,7 @@ fn val_at_the_last_level_is_refused_at_its_bracket(rt: HostRuntime) -> Result<()
     Ok(())
 }
 
+/// P04 at the 8,193rd operator.
 #[test]
 fn operator_past_the_limit_comes_first(rt: HostRuntime) -> Result<(), Fail> {
     let a = rt.alloc();

@@ -35,7 +35,6 @@ impl Random {
         if bound == 0 { 0 } else { number % bound }
     }
 
-    /// A token.
     fn token(&mut self) -> &'static str {
         let index = self.below(TOKENS.len());
         TOKENS.get(index).copied().unwrap_or("end")
@@ -275,7 +274,7 @@ fn compare(
     Ok(answer == Answer::Read)
 }
 
-/// The reader accepts what the recogniser accepts, and refuses where it refuses.
+/// The reader accepts what the recogniser accepts, and refuses (P02) where it refuses.
 #[test]
 fn sequences(rt: HostRuntime) -> Result<(), Fail> {
     let a = rt.alloc();

@@ -109,6 +109,7 @@ fn cuts_the_longest_symbols(rt: HostRuntime) -> Result<(), Fail> {
     Ok(())
 }
 
+/// P03: the last number of each text is above the largest.
 #[test]
 fn cuts_numbers(rt: HostRuntime) -> Result<(), Fail> {
     let found = kinds(
@@ -129,6 +130,7 @@ fn cuts_numbers(rt: HostRuntime) -> Result<(), Fail> {
     Ok(())
 }
 
+/// P01 at a byte that begins no token, P05 at a range line that says nothing.
 #[test]
 fn stops_where_no_token_stands(rt: HostRuntime) -> Result<(), Fail> {
     let a = rt.alloc();
@@ -217,6 +219,7 @@ fn is_refused(text: &[u8]) -> bool
     same_kind(token.kind(), Kind::RangeLine)
 }
 
+/// P05.
 #[test]
 fn refuses_range_lines_that_say_nothing(rt: HostRuntime) {
     assert!(rt; is_refused(b"%range"));

@@ -9,7 +9,7 @@ use crate::fault::{ModuleFault, ModuleRule, ReadError};
 use pb_sorts::{Carrier, Enumeration, Range};
 use std::alloc::Global;
 
-/// A sort, `sizes` giving how many enumerators each has.
+/// A sort, `sizes` giving how many enumerators each has; B05 where there is no such sort.
 #[tactic(auto, unfolding(crate::specs::Reading::enum_at))]
 fn enum_at<'a>(sizes: &[u8], bytes: &'a [u8]) -> Result<(Carrier, &'a [u8]), ModuleFault>
     ensures { IsRead (λ x. (x.0, x.1.now)) result (enum_at sizes.now bytes.now) }

@@ -19,6 +19,7 @@ use pb_fixpoint::Sign;
 use pb_sorts::{Carrier, MAX_EQUATIONS, MAX_LOOP_SLOTS, MAX_PARAMETERS};
 use std::alloc::Global;
 
+/// 0 or 1; else B05.
 #[tactic(auto, unfolding(crate::specs::Reading::sign_at))]
 fn sign_at(bytes: &[u8]) -> Result<(Sign, &[u8]), ModuleFault>
     ensures { IsRead (λ x. (x.0, x.1.now)) result (sign_at bytes.now) }
@@ -82,7 +83,7 @@ fn items_at<'a>(
     Ok((equations, rest))
 }
 
-/// The equations of a module, with no more instances than the limit.
+/// The equations of a module, with no more instances than the limit (B05).
 #[tactic(auto, unfolding(crate::specs::Reading::equations_at, crate::specs::Reading::counted_at))]
 pub(crate) fn equations_at<'a>(
     alloc: Global,
@@ -102,7 +103,7 @@ pub(crate) fn equations_at<'a>(
     }
 }
 
-/// A value of the carrier.
+/// A value of the carrier; else B07.
 #[tactic(auto, unfolding(crate::specs::Reading::value_at))]
 fn value_at<'a>(carrier: &Carrier, bytes: &'a [u8]) -> Result<(i64, &'a [u8]), ModuleFault>
     ensures { IsRead (λ x. (x.0, x.1.now)) result (value_at carrier.now bytes.now) }
@@ -133,6 +134,7 @@ fn values_at<'a>(
     Ok((values, rest))
 }
 
+/// An equation that is there, with a value for each parameter; else B07.
 #[tactic(auto, unfolding(crate::specs::Reading::initial_at))]
 pub(crate) fn initial_at<'a>(
     alloc: Global,

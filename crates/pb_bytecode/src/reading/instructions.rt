@@ -98,6 +98,7 @@ fn operands_at<'a>(
     }
 }
 
+/// An instruction whose code the version has; else B04.
 #[tactic(auto, unfolding(crate::specs::Reading::op_at))]
 fn op_at<'a>(version: Version, sizes: &[u8], bytes: &'a [u8]) -> Result<(Op, &'a [u8]), ModuleFault>
     ensures { IsRead (λ x. (x.0, x.1.now)) result (op_at version sizes.now bytes.now) }
@@ -130,7 +131,7 @@ fn ops_at<'a>(
     Ok((code, rest))
 }
 
-/// The instructions of an equation, at least one.
+/// The instructions of an equation, at least one; else B05.
 #[tactic(auto, unfolding(crate::specs::Reading::code_at))]
 pub(crate) fn code_at<'a>(
     alloc: Global,

@@ -11,6 +11,7 @@ use crate::sort::Sort;
 use pb_sorts::{MAX_ENUMERATORS, MAX_STRUCTS};
 use std::alloc::{AllocError, Global};
 
+/// The length of a name and its bytes; B05 where they are none.
 #[tactic(auto, unfolding(crate::specs::Reading::name_at))]
 pub(crate) fn name_at(alloc: Global, bytes: &[u8]) -> Result<(Name, &[u8]), ReadError>
     ensures { Gives (λ x. (text_of x.0, x.1.now)) result (name_at bytes.now) }

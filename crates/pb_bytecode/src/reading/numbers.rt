@@ -16,7 +16,7 @@ pub(crate) fn fault(rule: ModuleRule, field: &[u8]) -> ModuleFault
     }
 }
 
-/// The input ends inside a field.
+/// The input ends inside a field (B03).
 pub(crate) fn truncated() -> ModuleFault
     ensures { result ≡ truncated }
 {
@@ -86,7 +86,7 @@ pub(crate) fn i64_at(bytes: &[u8]) -> Result<(i64, &[u8]), ModuleFault>
     Ok((number.cast_signed(), rest))
 }
 
-/// A byte from `low` on, and below `end`.
+/// A byte from `low` on, and below `end`; else B05.
 #[tactic(auto, unfolding(crate::specs::Reading::between_at))]
 pub(crate) fn between_at(low: usize, end: usize, bytes: &[u8]) -> Result<(u8, &[u8]), ModuleFault>
     ensures { IsRead (λ x. (x.0, x.1.now)) result (between_at low end bytes.now) }

@@ -3,6 +3,7 @@
 use pb_sorts::{Carrier, Enumeration, L01, Range, count_tuples};
 use std::test::Fail;
 
+/// L01.
 #[test]
 fn ranges_are_not_empty_and_within_32_bits(rt: HostRuntime) {
     assert!(rt; Carrier::range(3, 2) == Err(L01));

@@ -14,6 +14,7 @@ fn readers_and_tests(rt: HostRuntime) {
     assert!(rt; !interval.is_within(Interval::new(-3, 1)));
 }
 
+/// T10.
 #[test]
 fn greatest_literal(rt: HostRuntime) {
     let greatest = 4_611_686_018_427_387_904;
@@ -28,6 +29,7 @@ fn greatest_literal(rt: HostRuntime) {
     assert!(rt; literal.negation(Interval::literals()) == Some(Interval::singleton(-greatest)));
 }
 
+/// V04.
 #[test]
 fn least_word(rt: HostRuntime) {
     let least = Interval::singleton(i64::MIN);

@@ -58,6 +58,7 @@ fn the_last_parameter_runs_fastest(rt: HostRuntime) -> Result<(), Fail> {
     Ok(())
 }
 
+/// L02.
 #[test]
 fn instances_are_limited(rt: HostRuntime) -> Result<(), Fail> {
     let alloc = rt.alloc();

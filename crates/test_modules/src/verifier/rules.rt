@@ -1,4 +1,4 @@
-//! For each rule, codes that break it, one for each reason.
+//! For each rule, codes that break it, one for each reason; V08 stands with the small codes.
 
 use crate::verifier::modules::{Case, Slots, Stated, assert_cases, at, module_of, refusal};
 use crate::verifier::ops::*;
@@ -6,6 +6,7 @@ use pb_verifier::VerifyError;
 use pb_verifier_states::AcceptanceRule;
 use std::test::Fail;
 
+/// V01.
 #[test]
 fn missing_operands(rt: HostRuntime) -> Result<(), Fail> {
     let none = Slots::None;
@@ -24,6 +25,7 @@ fn missing_operands(rt: HostRuntime) -> Result<(), Fail> {
     )
 }
 
+/// V02.
 #[test]
 fn wrong_kinds(rt: HostRuntime) -> Result<(), Fail> {
     let none = Slots::None;
@@ -48,6 +50,7 @@ fn wrong_kinds(rt: HostRuntime) -> Result<(), Fail> {
     )
 }
 
+/// V03.
 #[test]
 fn divisors(rt: HostRuntime) -> Result<(), Fail> {
     let by_zero = [GET, 0, GET, 0, MOD, END];
@@ -69,6 +72,7 @@ fn divisors(rt: HostRuntime) -> Result<(), Fail> {
     )
 }
 
+/// V04.
 #[test]
 fn overflow(rt: HostRuntime) -> Result<(), Fail> {
     let none = Slots::None;
@@ -96,9 +100,13 @@ fn overflow(rt: HostRuntime) -> Result<(), Fail> {
     )
 }
 
+/// V05, V06 and V07.
 #[test]
 fn targets(rt: HostRuntime) -> Result<(), Fail> {
     let none = Slots::None;
+    let outside = |place: usize| at(AcceptanceRule::TargetOutside, place);
+    let elsewhere = |place: usize| at(AcceptanceRule::TargetInOtherBody, place);
+    let not_later = at(AcceptanceRule::TargetNotLater, 1);
     let out_of_a_body = [LOOP, 0, JMP, 3, 0, NEXT, YES, END];
     let to_the_end = [LOOP, 0, JMP, 2, 0, NEXT, YES, END];
     let to_the_next = [LOOP, 0, NEXT, JMP, 4, 0, LOOP, 0, NEXT, YES, END];
@@ -107,41 +115,17 @@ fn targets(rt: HostRuntime) -> Result<(), Fail> {
         &rt,
         rt.alloc(),
         &[
-            Case::new(
-                none,
-                3,
-                &[BOOL, 1, JT, 3, 0, END],
-                at(AcceptanceRule::TargetOutside, 1),
-            ),
-            Case::new(
-                none,
-                3,
-                &[BOOL, 1, JF, 1, 0, END],
-                at(AcceptanceRule::TargetNotLater, 1),
-            ),
-            Case::new(
-                Slots::Loop,
-                5,
-                &out_of_a_body,
-                at(AcceptanceRule::TargetInOtherBody, 1),
-            ),
+            Case::new(none, 3, &[BOOL, 1, JT, 3, 0, END], outside(1)),
+            Case::new(none, 3, &[BOOL, 1, JF, 1, 0, END], not_later),
+            Case::new(Slots::Loop, 5, &out_of_a_body, elsewhere(1)),
             Case::new(Slots::Loop, 5, &to_the_end, None),
-            Case::new(
-                Slots::Loop,
-                7,
-                &to_the_next,
-                at(AcceptanceRule::TargetInOtherBody, 2),
-            ),
-            Case::new(
-                Slots::Parameter,
-                3,
-                &slot_test,
-                at(AcceptanceRule::TargetOutside, 0),
-            ),
+            Case::new(Slots::Loop, 7, &to_the_next, elsewhere(2)),
+            Case::new(Slots::Parameter, 3, &slot_test, outside(0)),
         ],
     )
 }
 
+/// V09.
 #[test]
 fn unknown_names(rt: HostRuntime) -> Result<(), Fail> {
     let unknown = |place: usize| at(AcceptanceRule::UnknownName, place);
@@ -165,6 +149,7 @@ fn unknown_names(rt: HostRuntime) -> Result<(), Fail> {
     )
 }
 
+/// V10.
 #[test]
 fn operands_below_the_floor_count(rt: HostRuntime) -> Result<(), Fail> {
     let alloc = rt.alloc();
@@ -177,6 +162,7 @@ fn operands_below_the_floor_count(rt: HostRuntime) -> Result<(), Fail> {
     assert_cases(&rt, alloc, &[Case::new(Slots::Loop, 38, &code, expected)])
 }
 
+/// V11.
 #[test]
 fn ways_that_differ(rt: HostRuntime) -> Result<(), Fail> {
     let none = Slots::None;
@@ -197,6 +183,7 @@ fn ways_that_differ(rt: HostRuntime) -> Result<(), Fail> {
     )
 }
 
+/// V12.
 #[test]
 fn structure_of_loops(rt: HostRuntime) -> Result<(), Fail> {
     let body = Slots::Loop;
@@ -220,6 +207,7 @@ fn structure_of_loops(rt: HostRuntime) -> Result<(), Fail> {
     )
 }
 
+/// V13.
 #[test]
 fn brackets(rt: HostRuntime) -> Result<(), Fail> {
     let alloc = rt.alloc();
@@ -244,6 +232,7 @@ fn brackets(rt: HostRuntime) -> Result<(), Fail> {
     )
 }
 
+/// V14.
 #[test]
 fn roots(rt: HostRuntime) -> Result<(), Fail> {
     let none = Slots::None;
@@ -258,6 +247,7 @@ fn roots(rt: HostRuntime) -> Result<(), Fail> {
     )
 }
 
+/// V15.
 #[test]
 fn past_the_end(rt: HostRuntime) -> Result<(), Fail> {
     assert_cases(
@@ -280,6 +270,7 @@ fn past_the_end(rt: HostRuntime) -> Result<(), Fail> {
     )
 }
 
+/// V16.
 #[test]
 fn stated_counts(rt: HostRuntime) -> Result<(), Fail> {
     let alloc = rt.alloc();

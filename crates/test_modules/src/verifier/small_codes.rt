@@ -104,6 +104,7 @@ fn operands(rt: HostRuntime) -> Result<(), Fail> {
             Case::new(none, 4, &kinds, at(AcceptanceRule::WrongKind, 2)),
             Case::new(none, 5, &overflow, at(AcceptanceRule::Overflow, 2)),
             Case::new(none, 7, &ways, at(AcceptanceRule::WaysDiffer, 4)),
+            // V08
             Case::new(
                 Slots::Parameter,
                 5,

@@ -1,4 +1,4 @@
-//! Limits of names, parameters, instances, enumerators, structs and equations.
+//! T12: limits of names, parameters, instances, enumerators, structs and equations.
 
 use crate::typing::answer::Answer::{Accepted, Refused};
 use crate::typing::answer::{Answer, check_all, checked};

@@ -8,6 +8,7 @@ use std::test::Fail;
 
 /// Each text, and what the check answers.
 const NAMES: [(&[u8], Answer); 40] = [
+    // T01
     (
         b"pbes nu X = val(z); init X;",
         Refused(TypingRule::UnknownName, 1, 17),
@@ -36,6 +37,7 @@ const NAMES: [(&[u8], Answer); 40] = [
         b"pbes nu X(b: Bool) = X(b); init X(b);",
         Refused(TypingRule::UnknownName, 1, 35),
     ),
+    // T02
     (
         b"sort D = struct a; D = struct b; pbes nu X = X; init X;",
         Refused(TypingRule::NameTwice, 1, 20),
@@ -92,6 +94,7 @@ const NAMES: [(&[u8], Answer); 40] = [
         b"sort D = struct a?is_a | b; pbes nu X(is_a: D) = val(is_a(is_a)); init X(a);",
         Accepted,
     ),
+    // T03
     (
         b"pbes nu X(n: Foo) = X(n); init X(true);",
         Refused(TypingRule::UnknownSort, 1, 14),
@@ -148,6 +151,7 @@ const NAMES: [(&[u8], Answer); 40] = [
         b"%range M 0 3\nsort N = M; M = K; K = Int; pbes nu X(n: N) = X(n); init X(4);",
         Refused(TypingRule::OutsideCarrier, 2, 60),
     ),
+    // T05
     (
         b"%range M 0 3\nsort N = M; M = K; K = Int; pbes nu X(n: K) = X(n); init X(3);",
         Refused(TypingRule::MissingRange, 2, 42),

@@ -8,6 +8,7 @@ use std::test::Fail;
 
 /// Each text, and what the check answers.
 const TERMS: [(&[u8], Answer); 55] = [
+    // T04
     (
         b"pbes nu X = val(1 + true == 2); init X;",
         Refused(TypingRule::WrongKind, 1, 19),
@@ -104,6 +105,7 @@ const TERMS: [(&[u8], Answer); 55] = [
         b"pbes nu X(b: Bool) = X(b); init X(1);",
         Refused(TypingRule::WrongKind, 1, 35),
     ),
+    // T06
     (
         b"pbes nu X = (X => true) && X; init X;",
         Refused(TypingRule::OddNegations, 1, 14),
@@ -120,6 +122,7 @@ const TERMS: [(&[u8], Answer); 55] = [
         b"pbes nu X = (!X => true) && !(X => false); init X;",
         Accepted,
     ),
+    // T07
     (
         b"pbes nu X = val(X); init X;",
         Refused(TypingRule::PredicateInData, 1, 17),
@@ -133,6 +136,7 @@ const TERMS: [(&[u8], Answer); 55] = [
         Refused(TypingRule::PredicateInData, 1, 38),
     ),
     (b"pbes nu X(X: Bool) = val(X); init X(true);", Accepted),
+    // T08
     (
         b"pbes nu X(b: Bool) = X; init X(true);",
         Refused(TypingRule::WrongCount, 1, 22),
@@ -161,6 +165,7 @@ const TERMS: [(&[u8], Answer); 55] = [
         b"sort D = struct a?is_a | b; pbes nu X = val(is_a(a, b)); init X;",
         Refused(TypingRule::WrongCount, 1, 45),
     ),
+    // T09
     (
         b"pbes nu X = val(4 mod 0 == 0); init X;",
         Refused(TypingRule::Divisor, 1, 19),
@@ -173,6 +178,7 @@ const TERMS: [(&[u8], Answer); 55] = [
         b"pbes nu X = val(4 div (2 div (1 - 1)) == 0); init X;",
         Refused(TypingRule::Divisor, 1, 26),
     ),
+    // T10
     (
         b"pbes nu X = val(succ(4611686018427387904) > 0); init X;",
         Refused(TypingRule::LargeInterval, 1, 17),
@@ -193,6 +199,7 @@ const TERMS: [(&[u8], Answer); 55] = [
         b"pbes nu X = val(-(4611686018427387904) < abs(-4611686018427387904)); init X;",
         Accepted,
     ),
+    // T09
     (
         b"%range Int -3 4\npbes nu X(n: Int) = val(4 div succ(n mod 2) > 0); init X(4);",
         Accepted,
@@ -201,6 +208,7 @@ const TERMS: [(&[u8], Answer); 55] = [
         b"%range Int -3 4\npbes nu X(n: Int) = val(4 div (n mod 2) > 0); init X(4);",
         Refused(TypingRule::Divisor, 2, 27),
     ),
+    // T11
     (
         b"%range Int 0 9\npbes nu X(n: Int) = X(n); init X((5 + 5));",
         Refused(TypingRule::OutsideCarrier, 2, 34),
@@ -213,6 +221,7 @@ const TERMS: [(&[u8], Answer); 55] = [
         b"%range Int 0 9\npbes nu X(n: Int) = X(n); init X(if(true, 9, 10));",
         Accepted,
     ),
+    // T13
     (
         b"pbes nu X(b: Bool) = X(forall c: Bool . c); init X(true);",
         Refused(TypingRule::QuantifierInData, 1, 24),
