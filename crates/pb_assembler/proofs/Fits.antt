@@ -7,7 +7,7 @@ use Rattle.std.proofs.lemmas.List.{length-map}
 use Rattle.std.proofs.lemmas.List.Folds.{list_all-map}
 use Rattle.pb_carriers.specs.Carrier.{tuple_count}
 use Rattle.pb_intervals.proofs.Ends.{from_le}
-use Rattle.pb_sorts.specs.declared.limits.TheConstants.{MAX_ENUMERATORS, MAX_PARAMETERS, MAX_LOOP_SLOTS, MAX_INSTRUCTIONS}
+use Rattle.pb_limits.specs.declared.TheConstants.{MAX_ENUMERATORS, MAX_PARAMETERS, MAX_LOOP_SLOTS, MAX_INSTRUCTIONS}
 use Rattle.pb_sorts.specs.Carrier.{values_of}
 use Rattle.pb_sorts.specs.declared.carrier.Carrier.{Carrier}
 use Rattle.pb_sorts.specs.declared.carrier.Carrier.TheVariants as carrier

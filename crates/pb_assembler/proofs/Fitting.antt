@@ -8,7 +8,7 @@ use Rattle.std.proofs.lemmas.Int.{ints}
 use Rattle.std.proofs.lemmas.Option.{slice_get_within}
 use Rattle.pb_intervals.proofs.Ends.{from_le}
 use Rattle.pb_intervals.specs.Interval.{is_within}
-use Rattle.pb_sorts.specs.declared.limits.TheConstants.{MAX_ENUMERATORS, MAX_INSTRUCTIONS}
+use Rattle.pb_limits.specs.declared.TheConstants.{MAX_ENUMERATORS, MAX_INSTRUCTIONS}
 use Rattle.pb_sorts.specs.declared.carrier.Carrier.{Carrier}
 use Rattle.pb_sorts.specs.declared.carrier.Carrier.TheVariants as carrier
 use Rattle.pb_text_meaning.specs.Syntax.{Operator}

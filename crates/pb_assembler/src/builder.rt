@@ -3,7 +3,7 @@
 ghost use Rattle.std.specs.Prelude.{◌≡◌, ◌≤◌, ◌<◌, ◌++◌, ◌∷◌, [], true, false, length, map, IfOk};
 ghost use Rattle.std.specs.Prelude.{IfErr, OnOk, OnErr, Some, None, option_map};
 ghost use Rattle.std.specs.List.{list_any, slice_set};
-ghost use Rattle.pb_sorts.specs.declared.limits.TheConstants.{MAX_INSTRUCTIONS};
+ghost use Rattle.pb_limits.specs.declared.TheConstants.{MAX_INSTRUCTIONS};
 ghost use Rattle.pb_assembler.specs.Draft.{are_placed, are_within, is_label, is_slot_test};
 ghost use Rattle.pb_assembler.specs.Draft.{place_of, resolved, resolved_op, version_of};
 ghost use Rattle.pb_assembler.specs.Draft.{with_target};

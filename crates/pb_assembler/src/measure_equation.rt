@@ -10,9 +10,11 @@ use crate::measure_formula::measure_formula;
 use crate::measure_load::add;
 use crate::measure_tally::Tally;
 use crate::measures::Measures;
-use pb_bytecode_program::{MAX_BRACKETS, MAX_LOOPS, MAX_OPERANDS, MAX_TOKENS};
+use pb_limits::{
+    MAX_BRACKETS, MAX_INSTRUCTIONS, MAX_LOOP_SLOTS, MAX_LOOPS, MAX_OPERANDS, MAX_TOKENS,
+};
 use pb_normal::{Equation, Formula, Junction};
-use pb_sorts::{Layout, MAX_INSTRUCTIONS, MAX_LOOP_SLOTS};
+use pb_sorts::Layout;
 
 /// The measures of an equation's code, given those of its right side and how many loop slots there
 /// are.
@@ -20,13 +22,13 @@ fn bounded(tally: Tally, slots: usize) -> Measures
     ensures { result ≡ equation_measures tally slots }
 {
     Measures {
-        instructions: add(tally.instructions, 3).min(MAX_INSTRUCTIONS + 1),
+        instructions: add(tally.instructions, 3).min(MAX_INSTRUCTIONS as u32 + 1),
         operands: tally.operands.min(MAX_OPERANDS as u32 + 1),
-        brackets: add(tally.brackets, 1).min(u32::from(MAX_BRACKETS) + 1),
+        brackets: add(tally.brackets, 1).min(MAX_BRACKETS as u32 + 1),
         nesting: tally.nesting.min(MAX_LOOPS as u32 + 1),
         slots: slots.min(MAX_LOOP_SLOTS + 1) as u32,
         steps: add(tally.steps, 3),
-        tokens: add(tally.tokens, 2).min(MAX_TOKENS + 1),
+        tokens: add(tally.tokens, 2).min(MAX_TOKENS as u32 + 1),
     }
 }
 

@@ -4,8 +4,9 @@ ghost use Rattle.std.specs.Prelude.{◌≡◌};
 ghost use Rattle.pb_assembler.specs.Measures.{first_excess};
 
 use pb_bytecode::Limit;
-use pb_bytecode_program::{MAX_BRACKETS, MAX_LOOPS, MAX_OPERANDS, MAX_STEPS, MAX_TOKENS};
-use pb_sorts::{MAX_INSTRUCTIONS, MAX_LOOP_SLOTS};
+use pb_limits::{
+    MAX_BRACKETS, MAX_INSTRUCTIONS, MAX_LOOP_SLOTS, MAX_LOOPS, MAX_OPERANDS, MAX_STEPS, MAX_TOKENS,
+};
 
 /// How much an equation's code takes of each. What is above a limit is counted no further than just
 /// above it.
@@ -24,22 +25,22 @@ pub(crate) struct Measures {
 pub(crate) fn first_excess(measures: &Measures) -> Option<Limit>
     ensures { result ≡ first_excess measures.now }
 {
-    if measures.instructions > MAX_INSTRUCTIONS {
+    if measures.instructions as usize > MAX_INSTRUCTIONS {
         return Some(Limit::Instructions);
     }
     if measures.operands > MAX_OPERANDS as u32 {
         return Some(Limit::Operands);
     }
-    if measures.brackets > u32::from(MAX_BRACKETS) {
+    if measures.brackets as usize > MAX_BRACKETS {
         return Some(Limit::Brackets);
     }
     if measures.nesting > MAX_LOOPS as u32 || measures.slots > MAX_LOOP_SLOTS as u32 {
         return Some(Limit::Loops);
     }
-    if measures.steps > MAX_STEPS {
+    if measures.steps as usize > MAX_STEPS {
         return Some(Limit::Steps);
     }
-    if measures.tokens > MAX_TOKENS {
+    if measures.tokens as usize > MAX_TOKENS {
         return Some(Limit::Tokens);
     }
     None

@@ -4,7 +4,8 @@ ghost use Rattle.pb_bytecode.specs.Limits.{instance_count};
 ghost use Rattle.pb_bytecode.specs.Views.{equation_contents};
 
 use crate::equation::Equation;
-use pb_sorts::{MAX_INSTANCES, count_tuples};
+use pb_limits::MAX_INSTANCES;
+use pb_sorts::count_tuples;
 
 /// Whether there are no more instances than the limit (B05).
 pub(crate) fn has_few_instances(equations: &[Equation]) -> bool
@@ -16,7 +17,7 @@ pub(crate) fn has_few_instances(equations: &[Equation]) -> bool
             return false;
         };
         total += count;
-        if total > MAX_INSTANCES {
+        if total as usize > MAX_INSTANCES {
             return false;
         }
     }

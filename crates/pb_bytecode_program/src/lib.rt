@@ -9,9 +9,7 @@
 pub mod abstract_value;
 pub mod instruction;
 pub mod laws;
-pub mod limits;
 
 pub use abstract_value::AbstractValue;
 pub use instruction::{Arithmetic, Comparison, Connective, Equality, Leaf, Op};
 pub use laws::{accepted_is_safe, transfer_is_monotone};
-pub use limits::{MAX_BRACKETS, MAX_LOOPS, MAX_OPERANDS, MAX_STEPS, MAX_TOKENS};

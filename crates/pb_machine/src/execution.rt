@@ -16,8 +16,9 @@ use crate::machine::Machine;
 use crate::registers::Registers;
 use crate::results::{Bounds, truth};
 use arrayvec::ArrayVec;
-use pb_bytecode_program::{MAX_OPERANDS, Op};
-use pb_sorts::{Carrier, Layout, MAX_INSTANCES};
+use pb_bytecode_program::Op;
+use pb_limits::{MAX_INSTANCES, MAX_OPERANDS};
+use pb_sorts::{Carrier, Layout};
 use std::alloc::AllocError;
 
 /// Makes all places for operands be there.

@@ -1,5 +1,6 @@
 //! From bytes to a model that is well typed.
 
+ghost use Rattle.pb_limits.specs.declared.TheConstants.{MAX_INPUT_BYTES};
 ghost use Rattle.std.specs.Prelude.{◌≤◌, length, IfErr, IfOk};
 ghost use Rattle.pb_model_tree.specs.Form.{model_form};
 ghost use Rattle.pb_model_properties.specs.Refusals.{IsRefusedModel};
@@ -16,7 +17,7 @@ use std::alloc::Global;
 /// `Text` and `Typing` say which rule it breaks and where; `Memory` comes only where memory was
 /// refused.
 pub fn read_model(alloc: Global, bytes: &[u8]) -> Result<TypedModel, ModelError>
-    requires { length bytes.now ≤ 67108864 }
+    requires { length bytes.now ≤ MAX_INPUT_BYTES }
     ensures model { IfOk result (λ typed. IsModelOf bytes.now (model_form typed.model)) }
     ensures refused { IfErr result (IsRefusedModel bytes.now) }
 {

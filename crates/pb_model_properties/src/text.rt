@@ -1,5 +1,6 @@
 //! The texts of a model's properties.
 
+ghost use Rattle.pb_limits.specs.declared.TheConstants.{MAX_INPUT_BYTES};
 ghost use Rattle.std.specs.Prelude.{◌≡◌, ◌<◌, ◌≤◌, ℕ, List, length, IfErr, IfOk, IsSome};
 ghost use Rattle.std.specs.Prelude.{Err, Some, option_copied};
 ghost use Rattle.std.specs.List.{slice_get};
@@ -47,7 +48,7 @@ pub fn translation_of(
     bytes: &[u8],
     name: Option<&str>,
 ) -> Result<Vec<u8>, ModelError>
-    requires { length bytes.now ≤ 67108864 }
+    requires { length bytes.now ≤ MAX_INPUT_BYTES }
     ensures text { IfOk result
         (λ text. IsTranslation (option_copied name.entry) bytes.now text.items) }
     ensures refused { IfErr result (IsUntranslated (option_copied name.entry) bytes.now) }

@@ -9,8 +9,8 @@ ghost use Rattle.pb_model_text.specs.Reading as reading;
 use crate::formula::formula;
 use crate::scope::Scope;
 use crate::step::steps;
+use pb_limits::MAX_DEPTH;
 use pb_model_tree::{InitialState, Model, Property};
-use pb_text::limits::DEPTH_LIMIT;
 use pb_text::sort::sort_parts;
 use pb_text_lexer::fault::{ReadingFault, ReadingRule};
 use pb_text_lexer::input::Input;
@@ -25,7 +25,7 @@ fn initial_parts(input: &mut Input<'_>, alloc: Global) -> Result<InitialState, R
     ensures { Gives initial_form (reading.initial_parts depth_limit input.old) result input.new }
 {
     let place = input.expect(Kind::Init)?.place;
-    let values = argument_list(input, alloc, DEPTH_LIMIT)?;
+    let values = argument_list(input, alloc, MAX_DEPTH as u32)?;
     input.expect(Kind::Semicolon)?;
     Ok(InitialState { place, values })
 }
@@ -53,7 +53,7 @@ fn property_parts(input: &mut Input<'_>, alloc: Global) -> Result<Property, Read
     input.expect(Kind::Is)?;
     let scope = Scope {
         names: &[],
-        depth: DEPTH_LIMIT,
+        depth: MAX_DEPTH as u32,
     };
     let formula = formula(input, alloc, scope)?;
     input.expect(Kind::Semicolon)?;

@@ -6,8 +6,8 @@ ghost use Rattle.pb_text.specs.Parsing.{depth_limit};
 ghost use Rattle.pb_model_tree.specs.Form.{assignment_form, step_form};
 ghost use Rattle.pb_model_text.specs.Reading as reading;
 
+use pb_limits::MAX_DEPTH;
 use pb_model_tree::{Assignment, Step};
-use pb_text::limits::DEPTH_LIMIT;
 use pb_text::system::parameters;
 use pb_text_lexer::fault::ReadingFault;
 use pb_text_lexer::input::Input;
@@ -27,7 +27,7 @@ fn assignment(input: &mut Input<'_>, alloc: Global) -> Result<Assignment, Readin
     let variable = name(input, alloc)?;
     input.expect(Kind::Assign)?;
     let place = input.place();
-    let term = term(input, alloc, DEPTH_LIMIT)?;
+    let term = term(input, alloc, MAX_DEPTH as u32)?;
     let value = Argument { place, term };
     Ok(Assignment { variable, value })
 }
@@ -58,7 +58,7 @@ fn step_parts(input: &mut Input<'_>, alloc: Global) -> Result<Step, ReadingFault
     let name = name(input, alloc)?;
     let variables = parameters(input, alloc)?;
     input.expect(Kind::Colon)?;
-    let guard = term(input, alloc, DEPTH_LIMIT)?;
+    let guard = term(input, alloc, MAX_DEPTH as u32)?;
     input.expect(Kind::Arrow)?;
     let assignments = assignments(input, alloc)?;
     input.expect(Kind::Semicolon)?;

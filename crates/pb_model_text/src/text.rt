@@ -1,13 +1,14 @@
 //! From bytes to a syntax tree.
 
+ghost use Rattle.pb_limits.specs.declared.TheConstants.{MAX_INPUT_BYTES};
 ghost use Rattle.std.specs.Prelude.{◌≡◌, ◌≤◌, ℕ, length, IfOk, IfErr};
 ghost use Rattle.pb_model_tree.specs.Form.{ModelForm, model_form};
 ghost use Rattle.pb_model_text.specs.Parsing.{IsReading, IsReadingWithin, NoReading, IsFirstFault};
 
 use crate::model::whole;
+use pb_limits::MAX_OPERATORS;
 use pb_model_tree::Model;
 use pb_text::error::TextError;
-use pb_text::limits::OPERATOR_LIMIT;
 use pb_text_lexer::input::Input;
 use pb_text_lexer::language::Language;
 use pb_text_lexer::ranges::ranges;
@@ -24,7 +25,7 @@ use std::alloc::Global;
 /// Lines and columns count from 1, columns in bytes; the end of the text stands where its next byte
 /// would.
 pub fn parse_model(alloc: Global, bytes: &[u8]) -> Result<Model, TextError>
-    requires { length bytes.now ≤ 67108864 }
+    requires { length bytes.now ≤ MAX_INPUT_BYTES }
     // It is what the bytes say, within the limits, places included.
     ensures reading { IfOk result (λ m. IsReading bytes.now (model_form m)) }
     // They say nothing else, within any limits.
@@ -38,7 +39,7 @@ pub fn parse_model(alloc: Global, bytes: &[u8]) -> Result<Model, TextError>
     // too, so it is the first past a limit; with one level and one operator more some model does.
     ensures stands { IfErr result (λ e. IsFirstFault bytes.now e) }
 {
-    let mut input = Input::new(Language::Model, bytes, OPERATOR_LIMIT);
+    let mut input = Input::new(Language::Model, bytes, MAX_OPERATORS as u32);
     let mut model = whole(&mut input, alloc)?;
     model.ranges = ranges(alloc, Language::Model, bytes)?;
     Ok(model)

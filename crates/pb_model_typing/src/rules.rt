@@ -1,7 +1,7 @@
 //! The rules of whole models.
 
 ghost use Rattle.std.specs.Prelude.{◌≡◌, [], map, flat_map, Contains, IfOk, MatchResult};
-ghost use Rattle.pb_sorts.specs.declared.limits.TheConstants.{MAX_PARAMETERS};
+ghost use Rattle.pb_limits.specs.declared.TheConstants.{MAX_PARAMETERS};
 ghost use Rattle.pb_typing_declarations.specs.Declarations.{limit_faults};
 ghost use Rattle.pb_typing_declarations.specs.Faults.{IsAmong};
 ghost use Rattle.pb_model_tree.specs.Form.{model_form, property_form, step_form};
@@ -14,8 +14,8 @@ use crate::bound::Bound;
 use crate::formula::{Declared, check_formula};
 use crate::names::{check_apart, variable_names};
 use crate::step::check_step;
+use pb_limits::MAX_PARAMETERS;
 use pb_model_tree::{Model, Property, Step};
-use pb_sorts::MAX_PARAMETERS;
 use pb_text_tree::Name;
 use pb_typing::Polarity;
 use pb_typing_declarations::{TypeError, TypingFault, TypingRule};

@@ -11,8 +11,8 @@ ghost use Rattle.pb_sorts.specs.Layout.{lists_of};
 
 use crate::carrier::Carrier;
 use crate::instance::Instance;
-use crate::limits::{MAX_EQUATIONS, MAX_INSTANCES, MAX_PARAMETERS};
 use crate::tuple::{count_tuples, place_of_tuple, tuple_at};
+use pb_limits::{MAX_EQUATIONS, MAX_INSTANCES, MAX_PARAMETERS};
 use std::alloc::{AllocError, AllocFailed, Global};
 use std::fmt;
 use std::marker::Model;
@@ -89,7 +89,7 @@ fn count_instances(equations: &[Vec<Carrier>]) -> Option<u32>
     let mut count = 0;
     for parameters in equations {
         count += count_tuples(parameters)?;
-        if count > MAX_INSTANCES {
+        if count as usize > MAX_INSTANCES {
             return None;
         }
     }

@@ -6,7 +6,6 @@ pub mod carrier;
 pub mod instance;
 pub mod laws;
 pub mod layout;
-mod limits;
 pub mod sink;
 pub mod source;
 mod tuple;
@@ -14,10 +13,6 @@ mod tuple;
 pub use carrier::{Carrier, Enumeration, L01, Range};
 pub use instance::{Instance, Tuple};
 pub use layout::{Layout, LayoutError};
-pub use limits::{
-    MAX_ENUMERATORS, MAX_EQUATIONS, MAX_INSTANCES, MAX_INSTRUCTIONS, MAX_LOOP_SLOTS,
-    MAX_NAME_BYTES, MAX_PARAMETERS, MAX_STRUCTS,
-};
 pub use sink::{E02, Out, Sink, put};
 pub use source::{E01, In, Source};
 pub use tuple::count_tuples;

@@ -16,16 +16,16 @@ use Rattle.pb_text.specs.declared.error.TextRule.{TextRule}
 use Rattle.pb_text.specs.declared.error.TextRule.TheVariants as rule
 use Rattle.pb_text.specs.declared.error.TextError.{TextError}
 use Rattle.pb_text.specs.declared.error.TextError.TheVariants as error
-use Rattle.pb_text.specs.declared.limits.TheConstants.{DEPTH_LIMIT, OPERATOR_LIMIT}
+use Rattle.pb_limits.specs.declared.TheConstants.{MAX_DEPTH, MAX_OPERATORS}
 use Rattle.pb_text.specs.Grammar.{IsText}
 
 -- P04: how many levels of brackets, negations, signs and quantifiers may open, and how many
 -- operators with two operands an equation, and the initial instance, may have
 abbrev pub depth_limit : ℕ
-depth_limit = DEPTH_LIMIT
+depth_limit = MAX_DEPTH
 
 abbrev pub operator_limit : ℕ
-operator_limit = OPERATOR_LIMIT
+operator_limit = MAX_OPERATORS
 
 -- The bytes are this text: so many levels may open, and each equation, and the initial instance,
 -- may have so many operators.

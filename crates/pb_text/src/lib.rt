@@ -8,7 +8,6 @@
 pub mod error;
 mod formula;
 pub mod laws;
-pub mod limits;
 pub mod next;
 pub mod sort;
 pub mod system;

@@ -8,10 +8,10 @@ ghost use Rattle.pb_text.specs.Parsing.{depth_limit};
 ghost use Rattle.pb_text.specs.Reading as reading;
 
 use crate::formula::formula;
-use crate::limits::DEPTH_LIMIT;
 use crate::next::unless;
 use crate::sort::sort_parts;
 use pb_fixpoint::Sign;
+use pb_limits::MAX_DEPTH;
 use pb_text_lexer::fault::{ReadingFault, ReadingRule, Refusal};
 use pb_text_lexer::input::Input;
 use pb_text_lexer::kind::{Kind, same_kind};
@@ -56,7 +56,7 @@ pub fn parameters(input: &mut Input<'_>, alloc: Global) -> Result<Vec<Variables>
     if !same_kind(input.kind(), Kind::Open) {
         return Ok(Vec::new(alloc));
     }
-    input.enter(DEPTH_LIMIT)?;
+    input.enter(MAX_DEPTH as u32)?;
     let parameters = variables(input, alloc)?;
     input.expect(Kind::Close)?;
     unless(input, Kind::Open)?;
@@ -70,7 +70,7 @@ fn right_side(input: &mut Input<'_>, alloc: Global) -> Result<Formula, ReadingFa
     ensures fewer { OnOk result (length input.new.tokens < length input.old.tokens) }
 {
     let allowed = input.operators();
-    let formula = formula(input, alloc, DEPTH_LIMIT)?;
+    let formula = formula(input, alloc, MAX_DEPTH as u32)?;
     input.allow(allowed);
     Ok(formula)
 }
@@ -117,7 +117,7 @@ fn initial_instance(input: &mut Input<'_>, alloc: Global) -> Result<Instance, Re
         (reading.initial_instance depth_limit input.old) result input.new }
 {
     let allowed = input.operators();
-    let initial = instance(input, alloc, DEPTH_LIMIT)?;
+    let initial = instance(input, alloc, MAX_DEPTH as u32)?;
     input.allow(allowed);
     Ok(initial)
 }

@@ -1,12 +1,13 @@
 //! From bytes to a syntax tree.
 
+ghost use Rattle.pb_limits.specs.declared.TheConstants.{MAX_INPUT_BYTES};
 ghost use Rattle.std.specs.Prelude.{◌≡◌, ◌≤◌, ℕ, length, IfOk, IfErr};
 ghost use Rattle.pb_text_tree.specs.Form.{SpecForm, spec_form};
 ghost use Rattle.pb_text.specs.Parsing.{IsReading, IsReadingWithin, NoReading, IsFirstFault};
 
 use crate::error::TextError;
-use crate::limits::OPERATOR_LIMIT;
 use crate::system::whole;
+use pb_limits::MAX_OPERATORS;
 use pb_text_lexer::input::Input;
 use pb_text_lexer::language::Language;
 use pb_text_lexer::ranges::ranges;
@@ -23,7 +24,7 @@ use std::alloc::Global;
 /// `TextRule::LimitExceeded` (P04) at a token that goes past a limit. Lines and columns count from
 /// 1, columns in bytes; the end of the text stands where its next byte would.
 pub fn parse(alloc: Global, bytes: &[u8]) -> Result<Spec, TextError>
-    requires { length bytes.now ≤ 67108864 }
+    requires { length bytes.now ≤ MAX_INPUT_BYTES }
     // It is what the bytes say, within the limits, places included.
     ensures reading { IfOk result (λ s. IsReading bytes.now (spec_form s)) }
     // They say nothing else, within any limits.
@@ -37,7 +38,7 @@ pub fn parse(alloc: Global, bytes: &[u8]) -> Result<Spec, TextError>
     // so it is the first past a limit; with one level and one operator more some text does.
     ensures stands { IfErr result (λ e. IsFirstFault bytes.now e) }
 {
-    let mut input = Input::new(Language::Text, bytes, OPERATOR_LIMIT);
+    let mut input = Input::new(Language::Text, bytes, MAX_OPERATORS as u32);
     let mut text = whole(&mut input, alloc)?;
     text.ranges = ranges(alloc, Language::Text, bytes)?;
     Ok(text)

@@ -18,7 +18,7 @@ use Rattle.pb_text_meaning.specs.Value.{value}
 use Rattle.pb_text_meaning.specs.Formula.{carriers_of, equation_named}
 use Rattle.pb_text_tree.specs.Form.{SpecForm}
 use Rattle.pb_text_meaning.specs.Erase.{erase}
-use Rattle.pb_sorts.specs.declared.limits.TheConstants.{MAX_EQUATIONS}
+use Rattle.pb_limits.specs.declared.TheConstants.{MAX_EQUATIONS}
 use Rattle.pb_typing_declarations.specs.Declarations.{declaration_faults}
 use Rattle.pb_typing_declarations.proofs.DeclaredLaw.{declared}
 use Rattle.pb_typing_rules.specs.Formula.{count, IsCalled}

@@ -7,7 +7,7 @@ use Rattle.pb_sorts.specs.Carrier.{values_of}
 use Rattle.pb_sorts.specs.Layout as layouts
 use Rattle.pb_sorts.specs.Layout.{lists_of}
 use Rattle.pb_carriers.specs.Carrier as carriers
-use Rattle.pb_sorts.specs.declared.limits.TheConstants.{MAX_PARAMETERS}
+use Rattle.pb_limits.specs.declared.TheConstants.{MAX_PARAMETERS}
 use Rattle.pb_typing_declarations.specs.Entries.{shapes_of}
 
 abbrev Parameters : Type 0

@@ -1,7 +1,7 @@
 -- An equation's parameters, by the check of their list.
 use Rattle.std.proofs.Common.{◌≡◌, List, [], subst, Vec, Global}
 use Rattle.std.specs.Prelude.{Result, Ok, Err, MatchResult}
-use Rattle.pb_sorts.specs.declared.limits.TheConstants.{MAX_PARAMETERS}
+use Rattle.pb_limits.specs.declared.TheConstants.{MAX_PARAMETERS}
 use Rattle.pb_sorts.specs.declared.carrier.Carrier.{Carrier}
 use Rattle.pb_text_tree.specs.Form.{VariableForm, EquationForm}
 use Rattle.pb_text_meaning.specs.Syntax.{Spec}

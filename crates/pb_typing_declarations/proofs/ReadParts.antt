@@ -1,7 +1,7 @@
 -- The faults that are found as names are gathered, and those that are found by the tables, part by part.
 use Rattle.std.proofs.Common.{◌≡◌, ◌++◌, List, [], map, refl, subst, arith}
 use Rattle.std.specs.Prelude.{flat_map, Contains}
-use Rattle.pb_sorts.specs.declared.limits.TheConstants.{MAX_EQUATIONS}
+use Rattle.pb_limits.specs.declared.TheConstants.{MAX_EQUATIONS}
 use Rattle.pb_text_tree.specs.Form.{SpecForm}
 use Rattle.pb_text_meaning.specs.Erase.{erase}
 use Rattle.pb_typing_declarations.specs.declared.fault.TypingFault.{TypingFault}

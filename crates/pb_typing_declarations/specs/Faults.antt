@@ -2,7 +2,7 @@
 use Rattle.std.specs.Prelude.{Bool, true, false, not, nat_le, List, [], ◌∷◌, ◌++◌, length, Contains}
 use Rattle.std.specs.Prelude.{⊤}
 use Rattle.std.specs.List.{list_any}
-use Rattle.pb_sorts.specs.declared.limits.TheConstants.{MAX_NAME_BYTES}
+use Rattle.pb_limits.specs.declared.TheConstants.{MAX_NAME_BYTES}
 use Rattle.pb_text_tree.specs.declared.place.Place.{Place}
 use Rattle.pb_text_tree.specs.Form.{Named}
 use Rattle.pb_text_meaning.specs.Syntax.{Name, same_name}

@@ -36,7 +36,8 @@ use crate::fault::{TypeError, TypingFault, TypingRule, require};
 use crate::range::range_table;
 use crate::table::table;
 use crate::variables::variable_entries;
-use pb_sorts::{Carrier, MAX_EQUATIONS, MAX_INSTANCES, MAX_PARAMETERS, Range, count_tuples};
+use pb_limits::{MAX_EQUATIONS, MAX_INSTANCES, MAX_PARAMETERS};
+use pb_sorts::{Carrier, Range, count_tuples};
 use pb_text_tree::{Equation, Name, Place, Sort, SortDeclaration, Spec};
 use std::alloc::{AllocError, Global};
 use std::collections::HashMap;
@@ -297,7 +298,7 @@ fn add_instances(count: u32, parameters: &[Carrier], place: Place) -> Result<u32
         (map values_of parameters.now)) MAX_INSTANCES) TypingRule.Limit place)) }
 {
     match count_tuples(parameters) {
-        Some(size) if count + size <= MAX_INSTANCES => Ok(count + size),
+        Some(size) if (count + size) as usize <= MAX_INSTANCES => Ok(count + size),
         _ => Err(TypingFault {
             rule: TypingRule::Limit,
             place,

@@ -12,7 +12,7 @@ ghost use Rattle.pb_verifier_structure.specs.Structure.{IsWithinLimits};
 use crate::equation_error::EquationError;
 use crate::pass::pass;
 use pb_bytecode::Equation;
-use pb_bytecode_program::{MAX_STEPS, MAX_TOKENS};
+use pb_limits::{MAX_STEPS, MAX_TOKENS};
 use pb_sorts::Carrier;
 use pb_verifier_states::AcceptanceRule;
 use pb_verifier_structure::{EquationCode, check_structure, static_counts};
@@ -25,7 +25,7 @@ fn are_enough(code: &EquationCode, steps: u32, tokens: u32) -> bool
 {
     let counts = static_counts(code);
     let enough = counts.steps <= u64::from(steps) && counts.tokens <= u64::from(tokens);
-    enough && steps <= MAX_STEPS && tokens <= MAX_TOKENS
+    enough && steps as usize <= MAX_STEPS && tokens as usize <= MAX_TOKENS
 }
 
 /// Checks the code of an equation. `sorts` has the counts of enumerators, `callees` the carriers of

@@ -14,7 +14,7 @@ ghost use Rattle.pb_verifier.specs.Pass.{code_passes, homes_after, opening, visi
 ghost use Rattle.pb_verifier.specs.Programs.{program_in};
 ghost use Rattle.pb_verifier.specs.Names.{program_with};
 ghost use Rattle.pb_verifier_structure.specs.Structure.{IsWithinLimits};
-ghost use Rattle.pb_sorts.specs.declared.limits.TheConstants.{MAX_INSTRUCTIONS};
+ghost use Rattle.pb_limits.specs.declared.TheConstants.{MAX_INSTRUCTIONS};
 ghost use Rattle.pb_sorts.specs.declared.carrier.Carrier.{Carrier as carrier_type};
 
 use crate::equation_error::EquationError;

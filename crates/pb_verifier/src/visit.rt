@@ -1,7 +1,7 @@
 //! One place of the pass.
 
 ghost use Rattle.std.specs.Prelude.{◌≡◌, ◌≤◌, None, OnErr, OnOk, Option, Some};
-ghost use Rattle.pb_sorts.specs.declared.limits.TheConstants.{MAX_INSTRUCTIONS};
+ghost use Rattle.pb_limits.specs.declared.TheConstants.{MAX_INSTRUCTIONS};
 ghost use Rattle.pb_bytecode_program.specs.Monotone.{HasOrderedRange};
 ghost use Rattle.pb_verifier_states.specs.Refusals.{OnRefused};
 ghost use Rattle.pb_bytecode_program.specs.Counts.{Straight, loop_effect};

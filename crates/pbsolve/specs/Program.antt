@@ -10,7 +10,7 @@ use Rattle.pb_command_line.specs.declared.request.Request.{Request}
 use Rattle.pb_command_line.specs.Words.{AskFor, AskForSomething, HaveFault}
 use Rattle.pb_command_line.specs.declared.command.Command.TheVariants.{Translate}
 use Rattle.pb_model_properties.specs.Refusals.{LacksProperty}
-use Rattle.pbsolve.specs.declared.input.TheConstants.{INPUT_LIMIT}
+use Rattle.pb_limits.specs.declared.TheConstants.{MAX_INPUT_BYTES}
 use Rattle.pbsolve.specs.declared.solve_error.SolveError.{SolveError}
 use Rattle.pbsolve.specs.declared.solve_error.SolveError.TheVariants as solve_error
 use Rattle.pbsolve.specs.declared.run_error.RunError.{RunError}
@@ -53,7 +53,8 @@ ReadsAtMost n old new = (bytes : List ℕ) × (length bytes ≤ n) × Consumes o
 
 -- the whole input has at most so many bytes as the program takes, and this holds of it
 abbrev pub ForInput : Option (List ℕ) → (List ℕ → Type 0) → Type 0
-ForInput known P = (bytes : List ℕ) × (length bytes ≤ INPUT_LIMIT) × IsWhole known bytes × P bytes
+ForInput known P =
+    (bytes : List ℕ) × (length bytes ≤ MAX_INPUT_BYTES) × IsWhole known bytes × P bytes
 
 -- P holds of what the command for which the words ask writes for the input
 abbrev pub Answers : List (List ℕ) → Option (List ℕ) → (List ℕ → Type 0) → Type 0
@@ -90,7 +91,7 @@ LackProperty words known =
 -- what an error of a run says of the words and the input
 abbrev pub IsRefusedBy : List (List ℕ) → Option (List ℕ) → RunError → Type 0
 IsRefusedBy words known (run_error.ProgramFault U02) =
-    AskForSomething words × IsLongerThan INPUT_LIMIT known
+    AskForSomething words × IsLongerThan MAX_INPUT_BYTES known
 IsRefusedBy words known (run_error.ProgramFault U01) = HaveFault words ⊎ LackProperty words known
 IsRefusedBy words known (run_error.ProgramFault E01) = Unit {0}
 IsRefusedBy words known (run_error.ProgramFault E02) = Unit {0}
@@ -101,7 +102,7 @@ IsRefusedBy words known (run_error.Refused error) = RefusesBy words known error
 -- the command refuses it
 abbrev pub IsRefusalLine : List (List ℕ) → Option (List ℕ) → List ℕ → Type 0
 IsRefusalLine words known line =
-    (AskForSomething words × IsLongerThan INPUT_LIMIT known × (line ≡ lines.line_of U02))
+    (AskForSomething words × IsLongerThan MAX_INPUT_BYTES known × (line ≡ lines.line_of U02))
     ⊎ ((error : SolveError) × RefusesBy words known error × (line ≡ solve_line error))
 
 -- the line of a refused input went out

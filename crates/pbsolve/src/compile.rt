@@ -11,12 +11,12 @@ ghost use Rattle.pbsolve.specs.Outputs.{Outputs};
 ghost use Rattle.pbsolve.specs.Refusals.{IsRefused, IsUncompiled, IsUncompiledForm};
 
 use crate::delivery::deliver;
-use crate::input::INPUT_LIMIT;
 use crate::solve_error::SolveError;
 use pb_assembler::{CompileError, compile};
 use pb_assembler_modules::verify_compiled;
 use pb_bytecode::Module;
 use pb_bytecode::encode::encode;
+use pb_limits::MAX_INPUT_BYTES;
 use pb_normal::normalise;
 use pb_sorts::Sink;
 use pb_typing::Typed;
@@ -25,7 +25,7 @@ use std::alloc::Global;
 
 // What a text says, which is well typed.
 pub(crate) fn typed(alloc: Global, bytes: &[u8]) -> Result<Typed, SolveError>
-    requires { length bytes.now ≤ INPUT_LIMIT }
+    requires { length bytes.now ≤ MAX_INPUT_BYTES }
     ensures read { IfOk result (λ typed. IsTheReading bytes.now (spec_form typed.spec)
         × IsWellTyped (erase (spec_form typed.spec))) }
     ensures refused { IfErr result (IsUncompiled bytes.now) }
@@ -70,7 +70,7 @@ pub(crate) fn verified(alloc: Global, typed: &Typed) -> Result<Verified, SolveEr
 
 // The module of a text, verified.
 pub(crate) fn verified_text(alloc: Global, bytes: &[u8]) -> Result<Verified, SolveError>
-    requires { length bytes.now ≤ INPUT_LIMIT }
+    requires { length bytes.now ≤ MAX_INPUT_BYTES }
     ensures module { IfOk result (IsModuleOfText bytes.now) }
     ensures refused { IfErr result (IsRefused bytes.now) }
     ensures unwritten { IfErr result (λ e. e ≢ SolveError.Write (record {})) }
@@ -86,7 +86,7 @@ pub(crate) fn verified_text(alloc: Global, bytes: &[u8]) -> Result<Verified, Sol
 /// and where; `Memory` comes where a request for memory was refused, and `Write` where the bytes
 /// could not be written whole.
 pub fn compile_text<S: Sink>(alloc: Global, bytes: &[u8], writer: &mut S) -> Result<(), SolveError>
-    requires { length bytes.now ≤ INPUT_LIMIT }
+    requires { length bytes.now ≤ MAX_INPUT_BYTES }
     ensures module { Delivers (Outputs Compile bytes.now) result
         S.taken S.has_failed writer.old writer.new }
     ensures refused { IfErr result (IsUncompiled bytes.now) }

@@ -3,11 +3,9 @@ ghost use Rattle.std.specs.Prelude.{◌≡◌, ◌≢◌, ◌≤◌, true, IfOk,
 ghost use Rattle.pb_sorts.specs.Source.{IsWhole, IsLongerThan};
 ghost use Rattle.pbsolve.specs.Program.{ReadsAtMost};
 
+use pb_limits::MAX_INPUT_BYTES;
 use pb_sorts::Source;
 use std::alloc::{AllocError, Global};
-
-/// The most bytes that the program takes.
-pub const INPUT_LIMIT: usize = 67_108_864;
 
 // So many bytes are asked for at a time.
 const PIECE: usize = 65_536;
@@ -17,7 +15,7 @@ const PIECE: usize = 65_536;
 pub(crate) enum InputError {
     /// E01: reading failed.
     Failed,
-    /// U02: there are more bytes than `INPUT_LIMIT`.
+    /// U02: there are more bytes than `MAX_INPUT_BYTES`.
     TooLong,
     /// A request for memory was refused.
     Memory,
@@ -36,13 +34,13 @@ impl From<AllocError> for InputError {
 /// Reads to the end of the input. Of a failure and of too many bytes it answers what the reading
 /// meets first.
 pub(crate) fn read_input<R: Source>(alloc: Global, reader: &mut R) -> Result<Vec<u8>, InputError>
-    ensures short { IfOk result (λ text. vec_len text ≤ INPUT_LIMIT) }
+    ensures short { IfOk result (λ text. vec_len text ≤ MAX_INPUT_BYTES) }
     ensures whole { IfOk result (λ text. IsWhole (R.left reader.old) text.items) }
     ensures too_long { result ≡ Err InputError.TooLong →
-        IsLongerThan INPUT_LIMIT (R.left reader.old) }
+        IsLongerThan MAX_INPUT_BYTES (R.left reader.old) }
     ensures failed { result ≡ Err InputError.Failed → R.has_failed reader.new ≡ true }
     ensures failed_within { result ≡ Err InputError.Failed →
-        ReadsAtMost INPUT_LIMIT (R.left reader.old) (R.left reader.new) }
+        ReadsAtMost MAX_INPUT_BYTES (R.left reader.old) (R.left reader.new) }
     ensures ok_failed { OnOk result (R.has_failed reader.new ≡ R.has_failed reader.old) }
     ensures err_failed { IfErr result (λ e. e ≢ InputError.Failed →
         R.has_failed reader.new ≡ R.has_failed reader.old) }
@@ -56,7 +54,7 @@ pub(crate) fn read_input<R: Source>(alloc: Global, reader: &mut R) -> Result<Vec
         if n == 0 {
             return Ok(text);
         }
-        if n > INPUT_LIMIT - text.len() {
+        if n > MAX_INPUT_BYTES - text.len() {
             return Err(InputError::TooLong);
         }
         text.extend_from_slice(&piece[..n])?;

@@ -10,9 +10,9 @@ ghost use Rattle.pbsolve.specs.Outputs.{OutputsTranslation, OutputsVerdicts};
 
 use crate::compile::verified;
 use crate::delivery::deliver;
-use crate::input::INPUT_LIMIT;
 use crate::solve_error::SolveError;
 use pb_exploration::Gate;
+use pb_limits::MAX_INPUT_BYTES;
 use pb_machine::instances_have_trees;
 use pb_model_properties::{push_verdict, read_model, text_at, translation_of};
 use pb_model_typing::TypedModel;
@@ -38,7 +38,7 @@ pub fn translate_text<S: Sink>(
     property: Option<&str>,
     writer: &mut S,
 ) -> Result<(), SolveError>
-    requires input { length bytes.now ≤ INPUT_LIMIT }
+    requires input { length bytes.now ≤ MAX_INPUT_BYTES }
     ensures text { Delivers (OutputsTranslation (option_copied property.entry) bytes.now) result
         S.taken S.has_failed writer.old writer.new }
     ensures refused { IfErr result (IsUntranslated (option_copied property.entry) bytes.now) }
@@ -107,7 +107,7 @@ pub fn check_text<R: Threads + Sync, G: Gate + Sync, S: Sink>(
     options: SolveOptions,
     writer: &mut S,
 ) -> Result<(), SolveError>
-    requires input { length bytes.now ≤ INPUT_LIMIT }
+    requires input { length bytes.now ≤ MAX_INPUT_BYTES }
     ensures verdicts { Delivers (OutputsVerdicts bytes.now) result
         S.taken S.has_failed writer.old writer.new }
     ensures refused { IfErr result (IsUnchecked bytes.now) }

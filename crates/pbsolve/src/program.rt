@@ -15,7 +15,7 @@ ghost use Rattle.pbsolve.specs.Program.{Refuses};
 
 use crate::code::{list_code, solve_code, verify_code};
 use crate::compile::compile_text;
-use crate::input::{INPUT_LIMIT, read_input};
+use crate::input::read_input;
 use crate::models::{check_text, translate_text};
 use crate::options::ExplainOptions;
 use crate::run_error::RunError;
@@ -26,6 +26,7 @@ use crate::streams::Streams;
 use crate::{ErrorLine, ProgramFault};
 use pb_command_line::{Command, Request, request_of};
 use pb_exploration::Gate;
+use pb_limits::MAX_INPUT_BYTES;
 use pb_module_solver::{Context, SolveOptions};
 use pb_sorts::{Sink, Source, put};
 use std::alloc::Global;
@@ -39,7 +40,7 @@ fn answer<R: Threads + Sync, G: Gate + Sync, O: Sink>(
     bytes: &[u8],
     out: &mut O,
 ) -> Result<(), SolveError>
-    requires { length bytes.now ≤ INPUT_LIMIT }
+    requires { length bytes.now ≤ MAX_INPUT_BYTES }
     ensures written { Delivers (OutputsFor request bytes.now) result
         O.taken O.has_failed out.old out.new }
     ensures refused { IfErr result (IsRefusedFor request bytes.now) }
@@ -106,7 +107,7 @@ fn attempt<T: Threads + Sync, S: AsStr, R: Source, G: Gate + Sync, O: Sink>(
     ensures read_failed { result ≡ Err (RunError.ProgramFault fault.E01) →
         R.has_failed reader.new ≡ true }
     ensures read_within { result ≡ Err (RunError.ProgramFault fault.E01) →
-        ReadsAtMost INPUT_LIMIT (R.left reader.old) (R.left reader.new) }
+        ReadsAtMost MAX_INPUT_BYTES (R.left reader.old) (R.left reader.new) }
     ensures read_refused { IfErr result (λ e. e ≢ RunError.ProgramFault fault.E01 →
         R.has_failed reader.new ≡ R.has_failed reader.old) }
     ensures write { result ≡ Err (RunError.ProgramFault fault.E02) →
@@ -231,7 +232,7 @@ pub fn run<T: Threads + Sync, S: AsStr, G: Gate + Sync, R: Source, O: Sink, E: S
     ensures failed { result ≡ 4 →
         (AskForSomething (map S.text words.now)
         × (R.has_failed streams.new.input ≡ true) × (streams.new.output ≡ streams.old.output)
-        × ReadsAtMost INPUT_LIMIT (R.left streams.old.input) (R.left streams.new.input)
+        × ReadsAtMost MAX_INPUT_BYTES (R.left streams.old.input) (R.left streams.new.input)
         × Tells (E.taken streams.old.error) (E.taken streams.new.error)
         (E.has_failed streams.new.error) (codes "E01\n"))
         ⊎ ((O.has_failed streams.new.output ≡ true)

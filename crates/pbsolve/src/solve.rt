@@ -11,13 +11,13 @@ ghost use Rattle.pbsolve.specs.Outputs.{Outputs, OutputsEvidence};
 
 use crate::call_places::call_places_of;
 use crate::compile::{typed, verified, verified_text};
-use crate::input::INPUT_LIMIT;
 use crate::module::{
     explained, write_certificate, write_evidence, write_game, write_report, write_solution,
 };
 use crate::options::ExplainOptions;
 use crate::solve_error::SolveError;
 use pb_exploration::Gate;
+use pb_limits::MAX_INPUT_BYTES;
 use pb_machine::instances_have_trees;
 use pb_module_solver::{Context, SolveOptions};
 use pb_report::{Answer, PlacedExplanation};
@@ -43,7 +43,7 @@ pub fn solve_text<R: Threads + Sync, G: Gate + Sync, S: Sink>(
     options: SolveOptions,
     writer: &mut S,
 ) -> Result<Answer, SolveError>
-    requires input { length bytes.now ≤ INPUT_LIMIT }
+    requires input { length bytes.now ≤ MAX_INPUT_BYTES }
 
     // The answer is the truth of the initial instance in the solution of what the text says, and is
     // reported.
@@ -73,7 +73,7 @@ pub fn game_of<R: Threads + Sync, G: Gate + Sync, S: Sink>(
     workers: u32,
     writer: &mut S,
 ) -> Result<(), SolveError>
-    requires input { length bytes.now ≤ INPUT_LIMIT }
+    requires input { length bytes.now ≤ MAX_INPUT_BYTES }
     requires workers { (0 < workers) × (workers ≤ 16) }
     ensures game { Delivers (Outputs Game bytes.now) result
         S.taken S.has_failed writer.old writer.new }
@@ -95,7 +95,7 @@ pub fn solution_of<R: Threads + Sync, G: Gate + Sync, S: Sink>(
     options: SolveOptions,
     writer: &mut S,
 ) -> Result<(), SolveError>
-    requires input { length bytes.now ≤ INPUT_LIMIT }
+    requires input { length bytes.now ≤ MAX_INPUT_BYTES }
     ensures solution { Delivers (Outputs Solution bytes.now) result
         S.taken S.has_failed writer.old writer.new }
     ensures refused { IfErr result (IsRefused bytes.now) }
@@ -119,7 +119,7 @@ pub fn certificate_of<R: Threads + Sync, G: Gate + Sync, S: Sink>(
     options: SolveOptions,
     writer: &mut S,
 ) -> Result<(), SolveError>
-    requires input { length bytes.now ≤ INPUT_LIMIT }
+    requires input { length bytes.now ≤ MAX_INPUT_BYTES }
     ensures certificate { Delivers (Outputs Certificate bytes.now) result
         S.taken S.has_failed writer.old writer.new }
     ensures refused { IfErr result (IsRefused bytes.now) }
@@ -145,7 +145,7 @@ pub fn explain_text<R: Threads + Sync, G: Gate + Sync, S: Sink>(
     options: ExplainOptions,
     writer: &mut S,
 ) -> Result<(), SolveError>
-    requires input { length bytes.now ≤ INPUT_LIMIT }
+    requires input { length bytes.now ≤ MAX_INPUT_BYTES }
     ensures evidence { Delivers (OutputsEvidence options.places bytes.now) result
         S.taken S.has_failed writer.old writer.new }
     ensures refused { IfErr result (IsRefused bytes.now) }

@@ -16,7 +16,8 @@ use crate::initial::Initial;
 use crate::instances::has_few_instances;
 use crate::version::Version;
 use pb_fixpoint::Sign;
-use pb_sorts::{Carrier, MAX_EQUATIONS, MAX_LOOP_SLOTS, MAX_PARAMETERS};
+use pb_limits::{MAX_EQUATIONS, MAX_LOOP_SLOTS, MAX_PARAMETERS};
+use pb_sorts::Carrier;
 use std::alloc::Global;
 
 /// 0 or 1; else B05.

@@ -10,7 +10,7 @@ ghost use Rattle.pb_verifier_states.specs.Flows.{IsNamed};
 
 use crate::rule::AcceptanceRule;
 use crate::state::AbstractState;
-use pb_bytecode_program::MAX_BRACKETS;
+use pb_limits::MAX_BRACKETS;
 
 impl AbstractState {
     /// Counts a leaf or a bracket, a root (V14) where no bracket is open: there may be one.
@@ -37,7 +37,7 @@ impl AbstractState {
         ensures err { OnErr result (nat_lt self.now.brackets MAX_BRACKETS ≡ false) }
         ensures rule { IfErr result (λ rule. rule ≡ AcceptanceRule.Brackets) }
     {
-        if self.brackets >= MAX_BRACKETS {
+        if usize::from(self.brackets) >= MAX_BRACKETS {
             return Err(AcceptanceRule::Brackets);
         }
         Ok(())

@@ -8,7 +8,7 @@ use crate::flow_error::FlowError;
 use crate::rule::AcceptanceRule;
 use crate::state::AbstractState;
 use crate::value::abstraction;
-use pb_bytecode_program::MAX_LOOPS;
+use pb_limits::MAX_LOOPS;
 use pb_sorts::Carrier;
 use std::alloc::Global;
 

@@ -17,8 +17,9 @@ use crate::flow_error::FlowError;
 use crate::rule::AcceptanceRule;
 use crate::state::AbstractState;
 use crate::value::{is_accepted, is_of_kind, numbers};
-use pb_bytecode_program::{AbstractValue, MAX_OPERANDS};
+use pb_bytecode_program::AbstractValue;
 use pb_intervals::Interval;
+use pb_limits::MAX_OPERANDS;
 use pb_sorts::Carrier;
 
 impl AbstractState {

@@ -3,7 +3,7 @@ use super::{ROOM, run_on, run_over};
 use crate::budget::Budget;
 use crate::failing::{Broken, Failing};
 use pb_sorts::In;
-use pbsolve::{INPUT_LIMIT, Streams};
+use pbsolve::{MAX_INPUT_BYTES, Streams};
 use std::alloc::Global;
 use std::io;
 use std::io::Read;
@@ -164,10 +164,10 @@ fn keeps_its_status_where_no_line_can_be_told(rt: HostRuntime) -> Result<(), Fai
 fn takes_input_up_to_the_limit(rt: HostRuntime) -> Result<(), Fail> {
     for (length, line) in [
         (
-            INPUT_LIMIT as u64,
+            MAX_INPUT_BYTES as u64,
             b"P02 line 1 column 67108865\n".as_slice(),
         ),
-        (INPUT_LIMIT as u64 + 1, b"U02\n".as_slice()),
+        (MAX_INPUT_BYTES as u64 + 1, b"U02\n".as_slice()),
     ] {
         let reader = In::new(io::repeat(b'%').take(length));
         let outcome = run_on(&rt, rt.alloc(), &SOLVE, reader, ROOM);

@@ -1,5 +1,5 @@
 use Rattle.std.proofs.Common.{refl, arith, length, false}
-use Rattle.pb_sorts.specs.declared.limits.TheConstants.{MAX_ENUMERATORS}
+use Rattle.pb_limits.specs.declared.TheConstants.{MAX_ENUMERATORS}
 use Rattle.pb_typing_declarations.specs.declared.fault.TypingRule.TheVariants.{Limit}
 use Rattle.pb_typing_declarations.specs.declared.fault.TypeError.TheVariants.{At}
 use Rattle.pb_typing_declarations.specs.Faults.{unless}

@@ -1,6 +1,6 @@
 use Rattle.std.proofs.Common.{rules, arith, map, List, subst}
 use Rattle.std.specs.Prelude.{flat_map, nat_lt}
-use Rattle.pb_sorts.specs.declared.limits.TheConstants.{MAX_STRUCTS}
+use Rattle.pb_limits.specs.declared.TheConstants.{MAX_STRUCTS}
 use Rattle.pb_text_tree.specs.Form.{enumerator_form, sort_form}
 use Rattle.pb_text_tree.specs.declared.sort.Enumerator.{Enumerator}
 use Rattle.pb_typing_declarations.specs.declared.fault.TypingRule.TheVariants.{Limit}

@@ -9,7 +9,7 @@ use Rattle.pb_sorts.specs.Source.{IsLongerThan}
 use Rattle.pb_command_line.specs.declared.request.Request.{Request}
 use Rattle.pb_command_line.specs.Words.{AskFor, AskForSomething}
 use Rattle.pbsolve.specs.declared.input.InputError.{InputError}
-use Rattle.pbsolve.specs.declared.input.TheConstants.{INPUT_LIMIT}
+use Rattle.pb_limits.specs.declared.TheConstants.{MAX_INPUT_BYTES}
 use Rattle.pbsolve.specs.declared.run_error.RunError.{RunError}
 use Rattle.pbsolve.specs.declared.solve_error.SolveError.{SolveError}
 use Rattle.pbsolve.specs.declared.solve_error.SolveError.TheVariants as solve_error
@@ -87,7 +87,7 @@ pub returns-clause-faulty : goal.returns-clause-faulty
 returns-clause-faulty g c fault = absurd (fault (c.in_ok-request.request, c.in_ok-request.ensures.asked))
 
 -- too long an input is refused whatever is asked
-input_refused : (words : List (List ℕ)) (known : Option (List ℕ)) (e : InputError) → AskForSomething words → (e ≡ TooLong → IsLongerThan INPUT_LIMIT known)
+input_refused : (words : List (List ℕ)) (known : Option (List ℕ)) (e : InputError) → AskForSomething words → (e ≡ TooLong → IsLongerThan MAX_INPUT_BYTES known)
     → IsRefusedBy words known (input_fault e)
 input_refused words known Failed asked long = tt
 input_refused words known TooLong asked long = (asked, long refl)
@@ -134,7 +134,7 @@ returns-in_err-answer-clause-understood g c is =
     let told : solve_fault c.in_err-answer.field-0.0 ≡ ProgramFault fault.U01 = cc (sym made.1, sym made.2, is) in
     let request = c.in_ok-request.request in
     let input = c.in_ok-input.input in
-    let short : length input.items ≤ INPUT_LIMIT = omega (arith, input.ok.0, c.in_ok-input.ensures.short) in
+    let short : length input.items ≤ MAX_INPUT_BYTES = omega (arith, input.ok.0, c.in_ok-input.ensures.short) in
     inr (by_property _ c.in_err-answer.field-0.0 (λ same.
     let named = c.in_err-answer.ensures.asked (ap Err same) in
     let refused = subst (λ (e : SolveError). IsRefusedFor request c.as_slice.result.now e) same c.in_err-answer.ensures.refused in (
@@ -156,7 +156,7 @@ returns-in_err-answer-clause-refused g c =
     let request = c.in_ok-request.request in
     let input = c.in_ok-input.input in
     let error = c.in_err-answer.field-0.0 in
-    let short : length input.items ≤ INPUT_LIMIT = omega (arith, input.ok.0, c.in_ok-input.ensures.short) in
+    let short : length input.items ≤ MAX_INPUT_BYTES = omega (arith, input.ok.0, c.in_ok-input.ensures.short) in
     refused_up words known c.from_residual-in_err-answer.result (solve_fault error) c.from_residual-in_err-answer.ensures.1
     (answer_refused words known error (
       request,
@@ -192,7 +192,7 @@ returns-in_err-answer-clause-write g c is =
     let request = c.in_ok-request.request in
     let input = c.in_ok-input.input in
     let error = c.in_err-answer.field-0.0 in
-    let short : length input.items ≤ INPUT_LIMIT = omega (arith, input.ok.0, c.in_ok-input.ensures.short) in
+    let short : length input.items ≤ MAX_INPUT_BYTES = omega (arith, input.ok.0, c.in_ok-input.ensures.short) in
     let made = err_from_is_err_and c.from_residual-in_err-answer.result c.from_residual-in_err-answer.ensures.1 in
     let told : solve_fault error ≡ ProgramFault fault.E02 = cc (sym made.1, sym made.2, is) in
     let taken = g.O.Sink.taken in
@@ -251,7 +251,7 @@ pub returns-clause-answered : goal.returns-clause-answered
 returns-clause-answered g c =
     let request = c.in_ok-request.request in
     let input = c.in_ok-input.input in
-    let short : length input.items ≤ INPUT_LIMIT = omega (arith, input.ok.0, c.in_ok-input.ensures.short) in
+    let short : length input.items ≤ MAX_INPUT_BYTES = omega (arith, input.ok.0, c.in_ok-input.ensures.short) in
     let taken = g.O.Sink.taken in
     let whole = delivered taken g.O.Sink.has_failed (OutputsFor request c.as_slice.result.now) c.args.out.now c.answer.new.out c.answer.result c.in_ok-answer.field-0 c.in_ok-answer.was c.answer.ensures.written in (
       request,

@@ -1,5 +1,5 @@
 use Rattle.std.proofs.Common.{◌≤◌, length, ap, ◌∙◌, arith}
-use Rattle.pb_sorts.specs.declared.limits.TheConstants.{MAX_INSTRUCTIONS}
+use Rattle.pb_limits.specs.declared.TheConstants.{MAX_INSTRUCTIONS}
 use Rattle.pb_assembler.specs.Draft.{Draft, are_within}
 use Rattle.pb_assembler.proofs.Drafts.{are_within_more}
 use Rattle.pb_assembler.proofs.builder.Builder.resolved_ops.Goals as goal

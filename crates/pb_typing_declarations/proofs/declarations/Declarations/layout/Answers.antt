@@ -3,7 +3,7 @@ use Rattle.pb_sorts.specs.declared.carrier.Carrier.{Carrier}
 use Rattle.std.specs.Prelude.{Err, vec_len}
 use Rattle.pb_text_tree.specs.declared.spec.Equation.{Equation}
 use Rattle.pb_text_tree.specs.Form.{equation_form}
-use Rattle.pb_sorts.specs.declared.limits.TheConstants.{MAX_EQUATIONS, MAX_PARAMETERS, MAX_INSTANCES}
+use Rattle.pb_limits.specs.declared.TheConstants.{MAX_EQUATIONS, MAX_PARAMETERS, MAX_INSTANCES}
 use Rattle.pb_sorts.specs.Layout.{lists_of, count_of}
 use Rattle.pb_typing_declarations.specs.declared.fault.TypeError.TheVariants.{Memory}
 use Rattle.pb_typing_declarations.specs.Declarations.{limit_faults, equation_names, equations_faults_behind}

@@ -1,7 +1,7 @@
 use Rattle.std.proofs.Common.{◌≡◌, ◌+◌, ◌++◌, ◌∙◌, ℕ, List, [], ◌∷◌, drop, rules, map, sym, ap, subst, Bool}
 use Rattle.std.specs.Prelude.{nat_le}
 use Rattle.pb_carriers.specs.Carrier.{tuple_count}
-use Rattle.pb_sorts.specs.declared.limits.TheConstants.{MAX_INSTANCES}
+use Rattle.pb_limits.specs.declared.TheConstants.{MAX_INSTANCES}
 use Rattle.pb_sorts.specs.Layout as layouts
 use Rattle.pb_sorts.specs.Layout.{lists_of}
 use Rattle.pb_sorts.proofs.Places.{drop-at}

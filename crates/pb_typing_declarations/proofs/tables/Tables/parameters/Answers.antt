@@ -1,5 +1,5 @@
 use Rattle.std.proofs.Common.{◌≡◌, ◌∙◌, Bool, List, rules, sym, ap, subst}
-use Rattle.pb_sorts.specs.declared.limits.TheConstants.{MAX_PARAMETERS}
+use Rattle.pb_limits.specs.declared.TheConstants.{MAX_PARAMETERS}
 use Rattle.pb_text_tree.specs.Form.{Named, spec_form, equation_form, variable_forms}
 use Rattle.pb_text_meaning.specs.Erase.{erase}
 use Rattle.pb_typing_declarations.specs.declared.fault.TypingRule.TheVariants.{Limit}
