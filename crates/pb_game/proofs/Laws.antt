@@ -49,7 +49,6 @@ pub is_game : (g : Game) → IsGame g
 unfolding vertex_count owner_of priority_of greatest_priority successors_of predecessors_of
 is_game g = record {
   small = g.well_formed.small;
-  owners = g.well_formed.player;
   greatest = λ v h. greatest_of-upper g.priorities.items v (omega (arith, g.well_formed.priority));
   few_priorities = omega (arith, g.well_formed.maximum, g.well_formed.few);
   successor = first_successor g;

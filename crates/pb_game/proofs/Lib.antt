@@ -6,3 +6,4 @@ pub mod Membership
 pub mod Placing
 pub mod Checking
 pub mod Laws
+pub mod Players

@@ -4,6 +4,7 @@ use Rattle.std.specs.Prelude.{◌≡◌, ℕ, ◌+◌, ◌^◌, ◌<◌, ◌≤�
 use Rattle.std.specs.Prelude.{◌∷◌, ◌==◌}
 use Rattle.std.specs.List.{list_any}
 use Rattle.std.specs.List.Sorted.{IsStrictlyIncreasing}
+use Rattle.pb_game.specs.declared.player.Player.{Player}
 
 -- the items of vertex v
 abbrev pub row : List ℕ → List ℕ → ℕ → List ℕ
@@ -36,10 +37,9 @@ greatest_of (x ∷ xs) = max x (greatest_of xs)
 
 -- a parity game of at most 2 ^ 24 vertices and 256 priorities, each vertex with a successor, and
 -- with its predecessors
-pub record IsFlatGame (owners priorities : List ℕ) (greatest : ℕ)
+pub record IsFlatGame (owners : List Player) (priorities : List ℕ) (greatest : ℕ)
     (places successors predecessor_places predecessors : List ℕ) : Type 0 where
   pub small : length owners ≤ 2 ^ 24
-  pub player : (v : ℕ) → v < length owners → slice_index owners v < 2
   pub priority : length priorities ≡ length owners
   pub maximum : greatest ≡ greatest_of priorities
   pub few : greatest < 256

@@ -2,6 +2,8 @@
 -- along whose kept edges no play is lost (Jurdzinski 2000, for both players).
 use Rattle.std.specs.Prelude.{◌≡◌, ◌≢◌, ℕ, ◌%◌, ◌<◌, ◌≤◌, ◌⊎◌}
 use Rattle.pb_game.specs.declared.Game.{Game}
+use Rattle.pb_game.specs.declared.player.Player.{Player}
+use Rattle.pb_game.specs.Players.{parity_of}
 use Rattle.pb_game.specs.Games.{vertex_count, owner_of, priority_of, priority_count, HasEdge}
 use Rattle.pb_game.specs.declared.certificate.Solution.{Solution}
 use Rattle.pb_game.specs.Solutions.{winner_of, choice_of, count_of, HasLengths}
@@ -11,22 +13,22 @@ use Rattle.pb_game.specs.Solutions.{winner_of, choice_of, count_of, HasLengths}
 -- below `limit` matter, the highest first.
 
 -- the counts decrease: the first that differs is lower at the end
-pub record Decreases (from to : ℕ → ℕ) (winner p limit : ℕ) : Type 0 where
+pub record Decreases (from to : ℕ → ℕ) (winner : Player) (p limit : ℕ) : Type 0 where
   pub place : ℕ
   pub above : p ≤ place
   pub below : place < limit
-  pub losing : place % 2 ≢ winner
+  pub losing : place % 2 ≢ parity_of winner
   pub less : to place < from place
-  pub same : (q : ℕ) → place < q → q < limit → q % 2 ≢ winner → to q ≡ from q
+  pub same : (q : ℕ) → place < q → q < limit → q % 2 ≢ parity_of winner → to q ≡ from q
 
 -- the counts are equal
-pub record IsSame (from to : ℕ → ℕ) (winner p limit : ℕ) : Type 0 where
-  pub same : (q : ℕ) → p ≤ q → q < limit → q % 2 ≢ winner → to q ≡ from q
+pub record IsSame (from to : ℕ → ℕ) (winner : Player) (p limit : ℕ) : Type 0 where
+  pub same : (q : ℕ) → p ≤ q → q < limit → q % 2 ≢ parity_of winner → to q ≡ from q
 
 -- the counts don't increase, and decrease where p has the loser's parity
-abbrev pub IsProgress : (ℕ → ℕ) → (ℕ → ℕ) → ℕ → ℕ → ℕ → Type 0
+abbrev pub IsProgress : (ℕ → ℕ) → (ℕ → ℕ) → Player → ℕ → ℕ → Type 0
 IsProgress from to winner p limit =
-    Decreases from to winner p limit ⊎ ((p % 2 ≡ winner) × IsSame from to winner p limit)
+    Decreases from to winner p limit ⊎ ((p % 2 ≡ parity_of winner) × IsSame from to winner p limit)
 
 -- an edge of a play in which the winner of v follows the strategy: where the winner moves the
 -- choice, else any edge

@@ -6,7 +6,6 @@ use Rattle.pb_game.specs.declared.parts.GameError.TheVariants as error
 abbrev pub error_number : GameError → List ℕ
 error_number (error.Memory _) = codes "M01"
 error_number error.TooManyVertices = codes "G01"
-error_number error.Owners = codes "G02"
 error_number error.Priorities = codes "G03"
 error_number error.Places = codes "G04"
 error_number error.Successors = codes "G05"

@@ -2,6 +2,7 @@
 -- its first rule.
 use Rattle.std.specs.Prelude.{◌≡◌, ◌≢◌, ℕ, ◌%◌, ◌<◌}
 use Rattle.pb_game.specs.declared.Game.{Game}
+use Rattle.pb_game.specs.Players.{parity_of}
 use Rattle.pb_game.specs.Games.{owner_of, priority_of, priority_count, HasEdge}
 use Rattle.pb_game.specs.declared.certificate.Solution.{Solution}
 use Rattle.pb_game.specs.declared.certificate.CertificateRule.{CertificateRule}
@@ -33,7 +34,7 @@ pub record StaysAlong (g : Game) (s : Solution) (v u : ℕ) : Type 0 where
 
 -- K04: v has a priority of the loser's parity, and the counts don't decrease along some kept edge
 pub record HasNoDecrease (g : Game) (s : Solution) (v : ℕ) : Type 0 where
-  pub losing : priority_of g v % 2 ≢ winner_of s v
+  pub losing : priority_of g v % 2 ≢ parity_of (winner_of s v)
   pub along : (u : ℕ) × StaysAlong g s v u
 
 -- the rule fails at v. The lengths (K05) are the whole solution's, and count at vertex 0

@@ -1,17 +1,19 @@
--- Parity games (Zielonka 1998; Jurdzinski 2000): owners, priorities, successors. Player 0 wins an
--- infinite play exactly where the greatest priority that occurs infinitely often is even.
-use Rattle.std.specs.Prelude.{ℕ, ◌+◌, ◌^◌, ◌<◌, ◌≤◌, ◌↔◌, List, length, slice_index, Contains}
+-- Parity games (Zielonka 1998; Jurdzinski 2000): owners, priorities, successors. A player wins an
+-- infinite play exactly where the greatest priority that occurs infinitely often has its parity.
+use Rattle.std.specs.Prelude.{ℕ, ◌+◌, ◌^◌, ◌<◌, ◌≤◌, ◌↔◌, List, length, slice_index, slice_index_or, Contains}
 use Rattle.std.specs.List.Sorted.{IsStrictlyIncreasing}
 use Rattle.pb_game.specs.declared.Game.{Game}
+use Rattle.pb_game.specs.declared.player.Player.{Player}
+use Rattle.pb_game.specs.declared.player.Player.TheVariants.{Even}
 use Rattle.pb_game.specs.Adjacency.{row, greatest_of}
 
 -- how many vertices there are; they are the numbers below
 unfoldable pub vertex_count : Game → ℕ
 vertex_count g = length g.owners.items
 
--- the player, 0 or 1, that moves at v
-unfoldable pub owner_of : Game → ℕ → ℕ
-owner_of g v = slice_index g.owners.items v
+-- the player that moves at v
+unfoldable pub owner_of : Game → ℕ → Player
+owner_of g v = slice_index_or g.owners.items v Even
 
 unfoldable pub priority_of : Game → ℕ → ℕ
 priority_of g v = slice_index g.priorities.items v
@@ -39,7 +41,6 @@ HasEdge g v u = Contains (successors_of g v) u
 -- What holds of each game. Module `proofs/Laws` proves it for every value of the type.
 pub record IsGame (g : Game) : Type 0 where
   pub small : vertex_count g ≤ 2 ^ 24
-  pub owners : (v : ℕ) → v < vertex_count g → owner_of g v < 2
   pub greatest : (v : ℕ) → v < vertex_count g → priority_of g v ≤ greatest_priority g
   pub few_priorities : priority_count g ≤ 256
   pub successor : (v : ℕ) → v < vertex_count g → (u : ℕ) × HasEdge g v u

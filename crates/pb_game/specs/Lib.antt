@@ -1,4 +1,5 @@
 pub mod Adjacency
+pub mod Players
 pub mod Games
 pub mod Parts
 pub mod Transpose

@@ -1,10 +1,11 @@
 -- What parts make a game, and what is wrong with those that don't.
-use Rattle.std.specs.Prelude.{◌≡◌, ℕ, ◌+◌, ◌^◌, ◌<◌, ◌≤◌, length, slice_index, All, ⊤}
+use Rattle.std.specs.Prelude.{◌≡◌, ℕ, ◌+◌, ◌^◌, ◌<◌, ◌≤◌, length, slice_index, slice_index_or, All, ⊤}
 use Rattle.std.specs.List.Sorted.{IsStrictlyIncreasing}
 use Rattle.pb_game.specs.declared.Game.{Game}
+use Rattle.pb_game.specs.declared.player.Player.TheVariants.{Even}
 use Rattle.pb_game.specs.declared.parts.Parts.{Parts}
 use Rattle.pb_game.specs.declared.parts.GameError.{GameError}
-use Rattle.pb_game.specs.declared.parts.GameError.TheVariants.{Memory, TooManyVertices, Owners, Priorities, Places, Successors, TooManyPriorities}
+use Rattle.pb_game.specs.declared.parts.GameError.TheVariants.{Memory, TooManyVertices, Priorities, Places, Successors, TooManyPriorities}
 use Rattle.pb_game.specs.declared.parts.PartsFault.{PartsFault}
 use Rattle.pb_game.specs.declared.parts.PartsFault.TheVariants as fault
 use Rattle.pb_game.specs.Adjacency.{row}
@@ -13,10 +14,6 @@ use Rattle.pb_game.specs.Games.{vertex_count, owner_of, priority_of, successors_
 -- G01: at most 2 ^ 24 vertices
 abbrev pub HasFewVertices : Parts → Type 0
 HasFewVertices p = length p.owners.items ≤ 2 ^ 24
-
--- G02: each owner is player 0 or 1
-abbrev pub HasOwners : Parts → Type 0
-HasOwners p = All (λ owner. owner < 2) p.owners.items
 
 -- G03: one priority for each vertex
 abbrev pub HasPriorities : Parts → Type 0
@@ -43,7 +40,6 @@ HasFewPriorities p = All (λ priority. priority < 256) p.priorities.items
 -- parts that make a game
 pub record AreGame (p : Parts) : Type 0 where
   pub few : HasFewVertices p
-  pub owners : HasOwners p
   pub priorities : HasPriorities p
   pub places : HasPlaces p
   pub successors : HasSuccessors p
@@ -52,30 +48,28 @@ pub record AreGame (p : Parts) : Type 0 where
 -- the error that names a fault of parts
 abbrev pub error_of : PartsFault → GameError
 error_of fault.TooManyVertices = TooManyVertices
-error_of fault.Owners = Owners
 error_of fault.Priorities = Priorities
 error_of fault.Places = Places
 error_of fault.Successors = Successors
 error_of fault.TooManyPriorities = TooManyPriorities
 
--- the first of the six that fails, in this order
+-- the first of the five that fails, in this order
 abbrev pub Refuses : Parts → GameError → Type 0
 Refuses p (Memory _) = ⊤
 Refuses p TooManyVertices = ¬ HasFewVertices p
-Refuses p Owners = HasFewVertices p × ¬ HasOwners p
-Refuses p Priorities = HasFewVertices p × HasOwners p × ¬ HasPriorities p
-Refuses p Places = HasFewVertices p × HasOwners p × HasPriorities p × ¬ HasPlaces p
+Refuses p Priorities = HasFewVertices p × ¬ HasPriorities p
+Refuses p Places = HasFewVertices p × HasPriorities p × ¬ HasPlaces p
 Refuses p Successors =
-    HasFewVertices p × HasOwners p × HasPriorities p × HasPlaces p × ¬ HasSuccessors p
+    HasFewVertices p × HasPriorities p × HasPlaces p × ¬ HasSuccessors p
 Refuses p TooManyPriorities =
-    HasFewVertices p × HasOwners p × HasPriorities p × HasPlaces p × HasSuccessors p
+    HasFewVertices p × HasPriorities p × HasPlaces p × HasSuccessors p
     × ¬ HasFewPriorities p
 
 -- the game has the parts' vertices
 pub record IsGameOf (p : Parts) (g : Game) : Type 0 where
   pub parts : AreGame p
   pub vertices : vertex_count g ≡ length p.owners.items
-  pub owner : (v : ℕ) → v < length p.owners.items → owner_of g v ≡ slice_index p.owners.items v
+  pub owner : (v : ℕ) → v < length p.owners.items → owner_of g v ≡ slice_index_or p.owners.items v Even
   pub priority : (v : ℕ) → v < length p.owners.items
       → priority_of g v ≡ slice_index p.priorities.items v
   pub successors : (v : ℕ) → v < length p.owners.items

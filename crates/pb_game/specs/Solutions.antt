@@ -1,17 +1,15 @@
 -- Solutions of a parity game: a winner, a positional strategy and a progress measure (Jurdzinski
 -- 2000) for each vertex.
-use Rattle.std.specs.Prelude.{◌≡◌, ℕ, ◌+◌, ◌*◌, length, slice_index, ◌==◌, if◌then◌else◌}
+use Rattle.std.specs.Prelude.{◌≡◌, ℕ, ◌+◌, ◌*◌, length, slice_index, slice_index_or}
 use Rattle.pb_game.specs.declared.Game.{Game}
 use Rattle.pb_game.specs.Games.{vertex_count, priority_count}
+use Rattle.pb_game.specs.declared.player.Player.{Player}
+use Rattle.pb_game.specs.declared.player.Player.TheVariants.{Even}
 use Rattle.pb_game.specs.declared.certificate.Solution.{Solution}
 
--- the player that a byte names
-abbrev pub player_of : ℕ → ℕ
-player_of byte = if byte == 0 then 0 else 1
-
 -- who wins v
-unfoldable pub winner_of : Solution → ℕ → ℕ
-winner_of s v = player_of (slice_index s.winner.items v)
+unfoldable pub winner_of : Solution → ℕ → Player
+winner_of s v = slice_index_or s.winner.items v Even
 
 -- the winner's choice at v, where the winner moves
 unfoldable pub choice_of : Solution → ℕ → ℕ

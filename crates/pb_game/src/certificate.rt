@@ -10,15 +10,14 @@ ghost use Rattle.std.specs.Prelude.{◌≡◌, ◌+◌, ◌*◌, ◌^◌, ◌<�
 ghost use Rattle.pb_game.specs.Games.{vertex_count, priority_count};
 ghost use Rattle.pb_game.specs.Solutions.{winner_of, choice_of, count_of, HasLengths};
 
-use crate::Game;
+use crate::{Game, Player};
 use std::fmt;
 
-/// For each vertex its winner (0 names player 0, any other byte player 1), the winner's choice, and
-/// one count for each priority. Vertex `v`'s counts stand from `v * (d + 1)`, where `d` is the
+/// For each vertex its winner, the winner's choice, and one count for each priority. Vertex `v`'s counts stand from `v * (d + 1)`, where `d` is the
 /// game's greatest priority.
 #[derive(Drop)]
 pub struct Solution {
-    pub winner: Vec<u8>,
+    pub winner: Vec<Player>,
     pub choice: Vec<u32>,
     pub counts: Vec<u64>,
 }
@@ -88,14 +87,13 @@ impl fmt::Display for Flaw {
 }
 
 impl Solution {
-    /// The player, 0 or 1, that wins `v`.
+    /// The player who wins `v`.
     #[tactic(auto, unfolding(crate::specs::Solutions::winner_of))]
-    pub fn winner(&self, v: u32) -> u8
+    pub fn winner(&self, v: u32) -> Player
         requires { v < length self.now.winner.items }
-        ensures value { result ≡ winner_of self.now v }
-        ensures player { result < 2 }
+        ensures { result ≡ winner_of self.now v }
     {
-        if self.winner[v as usize] == 0 { 0 } else { 1 }
+        self.winner[v as usize]
     }
 
     /// The winner's choice at `v`.

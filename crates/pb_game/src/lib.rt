@@ -1,14 +1,15 @@
 //! Parity games as flat lists, certificates of their winners, and the solvers by their names.
 //!
-//! A parity game (Zielonka 1998) has finitely many vertices, each owned by player 0 or 1, with a
-//! priority and at least one successor. A token moves along the edges for ever, and player 0 wins a
-//! play exactly where the greatest priority that occurs infinitely often is even. A [`Game`] keeps
+//! A parity game (Zielonka 1998) has finitely many vertices, each owned by a [`Player`], with a
+//! priority and at least one successor. A token moves along the edges for ever, and a player wins a
+//! play exactly where the greatest priority that occurs infinitely often has its parity. A [`Game`] keeps
 //! beside the successors of each vertex its predecessors, which attractors are computed by.
 #![tactic(auto)]
 
 mod adjacency;
 mod certificate;
 mod parts;
+mod player;
 mod predecessors;
 mod solver;
 
@@ -19,6 +20,7 @@ ghost use Rattle.pb_game.specs.Adjacency.{IsFlatGame};
 use adjacency::row_of;
 pub use certificate::{CertificateRule, Flaw, Solution};
 pub use parts::{GameError, Parts};
+pub use player::Player;
 use predecessors::{Predecessors, transpose};
 pub use solver::Solver;
 use std::alloc::Global;
@@ -27,7 +29,7 @@ use std::alloc::Global;
 /// priorities.
 #[derive(Drop)]
 pub struct Game {
-    owners: Vec<u8>,
+    owners: Vec<Player>,
     priorities: Vec<u32>,
     greatest: u32,
     places: Vec<usize>,
@@ -94,12 +96,11 @@ impl Game {
         self.len() == 0
     }
 
-    /// The player, 0 or 1, that moves at `v`.
+    /// The player that moves at `v`.
     #[tactic(auto, unfolding(crate::specs::Games::vertex_count, crate::specs::Games::owner_of))]
-    pub fn owner(&self, v: u32) -> u8
+    pub fn owner(&self, v: u32) -> Player
         requires { v < vertex_count self.now }
-        ensures value { result ≡ owner_of self.now v }
-        ensures player { result < 2 }
+        ensures { result ≡ owner_of self.now v }
     {
         self.owners[v as usize]
     }

@@ -5,15 +5,16 @@ ghost use Rattle.std.specs.List.Sorted.{IsStrictlyIncreasing};
 ghost use Rattle.pb_game.specs.Adjacency.{greatest_of};
 ghost use Rattle.pb_game.specs.declared.parts.GameError.TheVariants.{Memory};
 
+use crate::Player;
 use crate::adjacency::row_of;
 use std::alloc::AllocError;
 use std::fmt;
 
-/// The parts of a game, by vertex: owners (0 or 1), priorities, and where a vertex's successors
+/// The parts of a game, by vertex: owners, priorities, and where a vertex's successors
 /// begin in the list of all successors. Behind the last place stands the number of all successors.
 #[derive(Drop)]
 pub struct Parts {
-    pub owners: Vec<u8>,
+    pub owners: Vec<Player>,
     pub priorities: Vec<u32>,
     pub places: Vec<usize>,
     pub successors: Vec<u32>,
@@ -26,8 +27,6 @@ pub enum GameError {
     Memory(AllocError),
     /// G01: more than 2^24 vertices.
     TooManyVertices,
-    /// G02: an owner is neither 0 nor 1.
-    Owners,
     /// G03: the vertices and the priorities differ in number.
     Priorities,
     /// G04: the places are not one more than the vertices, don't begin at 0, don't rise from vertex
@@ -49,7 +48,6 @@ impl GameError {
         match self {
             GameError::Memory(_) => "M01",
             GameError::TooManyVertices => "G01",
-            GameError::Owners => "G02",
             GameError::Priorities => "G03",
             GameError::Places => "G04",
             GameError::Successors => "G05",
@@ -75,7 +73,6 @@ impl std::error::Error for GameError {}
 #[derive(Debug, Drop)]
 pub(crate) enum PartsFault {
     TooManyVertices,
-    Owners,
     Priorities,
     Places,
     Successors,
@@ -90,7 +87,6 @@ impl From<PartsFault> for GameError {
     fn from(fault: PartsFault) -> Self {
         match fault {
             PartsFault::TooManyVertices => GameError::TooManyVertices,
-            PartsFault::Owners => GameError::Owners,
             PartsFault::Priorities => GameError::Priorities,
             PartsFault::Places => GameError::Places,
             PartsFault::Successors => GameError::Successors,
@@ -117,9 +113,6 @@ impl Parts {
     {
         if self.owners.len() > crate::Game::LIMIT {
             return Err(PartsFault::TooManyVertices);
-        }
-        if !self.owners.iter().all(|&owner| owner < 2) {
-            return Err(PartsFault::Owners);
         }
         if self.priorities.len() != self.owners.len() {
             return Err(PartsFault::Priorities);

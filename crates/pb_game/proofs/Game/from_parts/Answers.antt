@@ -29,7 +29,6 @@ invariant_of-result c =
     record {
       well_formed = record {
         small = g.few;
-        player = λ v h. g.owners v 0 h;
         priority = g.priorities;
         maximum = c.greatest-greatest.ensures;
         few = omega (arith, c.greatest-greatest.ensures, greatest_of-below p.priorities.items 256 (omega arith) (λ k h. g.few_priorities k 0 h));
