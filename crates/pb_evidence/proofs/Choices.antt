@@ -7,6 +7,8 @@ use Rattle.std.proofs.Math.Nat.{ℕ_set}
 use Rattle.std.proofs.Math.Logic.{∥∥₁_elim}
 use Rattle.std.proofs.lemmas.Option.{slice_get_within}
 use Rattle.std.proofs.lemmas.List.Elements.{Contains-append_left, Contains-append_right, Contains-append_cases}
+use Rattle.pb_game.proofs.Players.{parity_exact}
+use Rattle.pb_game.specs.Players.{parity_of}
 use Rattle.pb_game.specs.declared.Game.{Game}
 use Rattle.pb_game.specs.Adjacency.{is_among}
 use Rattle.pb_game.specs.Games.{vertex_count, owner_of, successors_of, priority_count, HasEdge}
@@ -154,7 +156,8 @@ follows g s is signatures trees rows game b =
           (∥∥₁_elim is (Bool-set (is_among (successors_of g v) (choice_of s v)) true)
           (λ certificate. test_of (successors_of g v) (choice_of s v) ((certificate.vertices v below).choice mine)));
       region = λ v w below kept.
-          ∥∥₁_elim is (ℕ_set (winner_of s w) (winner_of s v)) (λ certificate. (certificate.vertices v below).region w kept);
+          parity_exact _ _ (∥∥₁_elim is (ℕ_set (parity_of (winner_of s w)) (parity_of (winner_of s v)))
+          (λ certificate. ap parity_of ((certificate.vertices v below).region w kept)));
       at_false = λ wins. ∥∥₁_elim is (Bool-set b false)
           (λ certificate. false_sink-value signatures trees rows game.reached (winner_of s) (choice_of s) (count_of g s) (priority_count g)
           (certified g s vertices game.vertices certificate) b wins);
@@ -278,7 +281,7 @@ module _ (g : Game) (s : Solution) (signatures : List Signature) (trees : ℕ �
       let x = bracket_vertex at p (choosing b) f (suc v) in
       let there = game.vertices.each v x stands in
       let below = within v x stands in
-      let mine : owner_of g v ≡ winner_of s v = there.owner ∙ (owner-choosing b ∙ sym wins) in
+      let mine : owner_of g v ≡ winner_of s v = parity_exact _ _ (there.owner ∙ (owner-choosing b ∙ sym (ap parity_of wins))) in
       let u = choice_of s v in
       let kept : IsKept g s v u = record { edge = of.chosen v below mine; choice = λ _. refl } in
       let u_won : Won u = of.region v u below kept ∙ wins in
@@ -298,7 +301,7 @@ module _ (g : Game) (s : Solution) (signatures : List Signature) (trees : ℕ �
       let below = within v x stands in
       let kept : (w : ℕ) → Among (targets at f (suc v)) w → IsKept g s v w = λ w among. record {
         edge = subst (λ (ws : List ℕ). Contains ws w) (sym there.successors) (contains_of_among x.successors w (to_targets c f (suc v) w among));
-        choice = λ owned. absurd (owner-other b (sym there.owner ∙ (owned ∙ wins)));
+        choice = λ owned. absurd (owner-other b (sym there.owner ∙ ap parity_of (owned ∙ wins)));
       } in
       supported_as Reached (IsOperandsSupport b c f) (IsOperandsSupport b c f) (ToSome (targets at f (suc v))) (From v) (λ calls h. h)
       (λ m r ends. let found = one_ends g s at (IsInner g rows) (targets at f (suc v)) m ends in

@@ -4,6 +4,7 @@ use Rattle.std.proofs.Common.{◌≡◌, ◌≢◌, ℕ, ◌%◌, ◌≤◌, Boo
 use Rattle.std.specs.Prelude.{Contains, nat_le, ◌==◌}
 use Rattle.std.proofs.lemmas.Bool.{cases_Bool, cases_lt, and_parts, and_from, or_cases, or_right, leb-true, le-leb, eqb-true, eq-eqb, cond-false}
 use Rattle.pb_fixpoint.specs.Solution.{empty}
+use Rattle.pb_game.specs.Players.{parity_of}
 use Rattle.pb_game.specs.Adjacency.{is_among}
 use Rattle.pb_game.proofs.Membership.{among_at, among_place, contains_at, contains_place}
 use Rattle.pb_trees.specs.Tree.{Tree}
@@ -98,7 +99,7 @@ module _ (signatures : List Signature) (trees : ℕ → Tree) (b : Bool) (graph 
       omega arith
 
   -- an instance of the wrong parity doesn't lead back to itself over no greater priorities
-  no_return : (v w : ℕ) → RestsOn graph v w → level v % 2 ≢ player b → counts (level v) w v ≡ true → ⊥
+  no_return : (v w : ℕ) → RestsOn graph v w → level v % 2 ≢ parity_of (player b) → counts (level v) w v ≡ true → ⊥
   no_return v w h odd c =
       let p = level v in
       let path = path_of (edge p) graph.instances v v (before p v w v h (omega arith) c) in
@@ -118,7 +119,7 @@ module _ (signatures : List Signature) (trees : ℕ → Tree) (b : Bool) (graph 
       at_most_one (count (counts p w) graph.instances) (count (counts p v) graph.instances)
       (count_at_most (counts p w) (counts p v) (λ m. counts_before p v w m (won, kept) low) graph.instances)
 
-  down : (v w : ℕ) → Contains graph.instances v → Contains (graph.dependencies v) w → level v % 2 ≢ player b → IsLess (rank w (level v)) (rank v (level v))
+  down : (v w : ℕ) → Contains graph.instances v → Contains (graph.dependencies v) w → level v % 2 ≢ parity_of (player b) → IsLess (rank w (level v)) (rank v (level v))
   down v w won kept odd =
       inl (count_less (counts (level v) w) (counts (level v) v) (λ m. counts_before (level v) v w m (won, kept) (omega arith)) graph.instances v
       (among_of_contains graph.instances v won)

@@ -4,6 +4,8 @@ use Rattle.std.specs.Prelude.{Contains, AllPairs, ◌==◌, IsTrue, ◌↔◌}
 use Rattle.std.proofs.lemmas.Bool.{cases_Bool, false≢true, eqb-true}
 use Rattle.std.proofs.lemmas.List.{get_or-map, length-map}
 use Rattle.std.proofs.lemmas.List.Elements.{Contains-get_or}
+use Rattle.pb_game.proofs.Players.{even_or_odd}
+use Rattle.pb_game.specs.declared.player.Player.TheVariants.{Even}
 use Rattle.pb_game.specs.declared.Game.{Game}
 use Rattle.pb_game.specs.Adjacency.{row}
 use Rattle.pb_game.specs.declared.certificate.Solution.{Solution}
@@ -15,7 +17,6 @@ use Rattle.pb_trees.specs.Game.{vertex_of}
 use Rattle.pb_trees.specs.Rows.{Row, IsReached}
 use Rattle.pb_strategy.specs.Meaning.{IsGameOfRows, IsSolvedAt}
 use Rattle.pb_strategy.proofs.Players.{player}
-use Rattle.pb_strategy.proofs.Winners.{winner_is}
 use Rattle.pb_evidence.specs.ProofGraphs.{Graph, IsProofGraph}
 use Rattle.pb_evidence.specs.Supports.{RestsOnChoices}
 use Rattle.pb_evidence.specs.Strategies.{player_for, IsInner, IsKeptPath, IsStrategyGraph}
@@ -284,9 +285,6 @@ divided g s marks start x explored name instances dependencies e d =
     }
 
 -- a winner in terms of the truth value
-pub wins_of : (s : Solution) (v : ℕ) (b : Bool) → (IsTrue b ↔ (winner_of s v ≡ 0)) → winner_of s v ≡ player_for b
+pub wins_of : (s : Solution) (v : ℕ) (b : Bool) → (IsTrue b ↔ (winner_of s v ≡ Even)) → winner_of s v ≡ player_for b
 wins_of s v true h = h.0 refl
-wins_of s v false h = elim (cases_Bool (winner_of s v == 0)) [
-  | inl yes' ↦ absurd (false≢true (h.1 (eqb-true (winner_of s v) 0 yes')))
-  | inr no' ↦ winner_is s v ∙ ap player no'
-]
+wins_of s v false h = elim (even_or_odd (winner_of s v)) [ inl e ↦ absurd (false≢true (h.1 e)) | inr o ↦ o ]

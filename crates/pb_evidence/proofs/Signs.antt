@@ -2,6 +2,7 @@
 use Rattle.std.proofs.Common.{◌≡◌, ℕ, ◌+◌, ◌%◌, ◌<◌, ◌≤◌, ◌⊎◌, Bool, true, false, List, [], ◌∷◌, refl, sym, ap, ◌∙◌, inl, inr, arith}
 use Rattle.std.specs.Prelude.{Contains, min}
 use Rattle.std.proofs.lemmas.Bool.{cases_lt, lt-ltb, le-ltb}
+use Rattle.pb_game.specs.Players.{parity_of}
 use Rattle.pb_fixpoint.specs.declared.Sign.{Sign}
 use Rattle.pb_fixpoint.specs.declared.Sign.TheVariants.{Mu, Nu}
 use Rattle.pb_trees.specs.Equations.{Signature, total}
@@ -35,7 +36,7 @@ priority_falls first (s ∷ signatures) n m h = elim (cases_lt n (first + s.size
 ]
 
 priority_parity : (first : ℕ) (signatures : List Signature) (n : ℕ) → n < first + total signatures →
-    (priority_from first signatures n % 2 ≡ player (begins (sign_from first signatures n))) ⊎ (n < first)
+    (priority_from first signatures n % 2 ≡ parity_of (player (begins (sign_from first signatures n)))) ⊎ (n < first)
 priority_parity first [] n h = inr (omega arith)
 priority_parity first (s ∷ signatures) n h = elim (cases_lt n (first + s.size)) [
   | inl here ↦ inl (rw (lt-ltb n (first + s.size) here) (first_parity s signatures))
@@ -79,26 +80,26 @@ pub in_graph : (graph : Graph) (n : ℕ) (over : List ℕ) (m : ℕ) → Leads g
 in_graph graph n [] m h = h.0
 in_graph graph n (x ∷ xs) m h = h.0.0
 
-sign_is : (b : Bool) (s : Sign) → player (begins s) ≡ player b → s ≡ supporting b
+sign_is : (b : Bool) (s : Sign) → parity_of (player (begins s)) ≡ parity_of (player b) → s ≡ supporting b
 sign_is true Mu h = cc
 sign_is true Nu h = refl
 sign_is false Mu h = refl
 sign_is false Nu h = cc
 
 module _ (signatures : List Signature) (b : Bool) (n : ℕ) (below : n < total signatures) (over : List ℕ) where
-  least_parity : priority_from 0 signatures (least_of n over) % 2 ≡ player (begins (sign_from 0 signatures (least_of n over)))
+  least_parity : priority_from 0 signatures (least_of n over) % 2 ≡ parity_of (player (begins (sign_from 0 signatures (least_of n over))))
   least_parity =
       let low = least_below n over in
       elim (priority_parity 0 signatures (least_of n over) (omega arith)) [ inl parity ↦ parity | inr none ↦ absurd (omega arith) ]
 
-  pub priority_of_sign : dominating_sign signatures n over ≡ supporting b → dominating_priority signatures (n ∷ over) % 2 ≡ player b
+  pub priority_of_sign : dominating_sign signatures n over ≡ supporting b → dominating_priority signatures (n ∷ over) % 2 ≡ parity_of (player b)
   priority_of_sign h =
-      ap (λ p. p % 2) (dominating_is signatures n over) ∙ (least_parity ∙ (ap (λ s. player (begins s)) h ∙ ap player (supporting_begins b)))
+      ap (λ p. p % 2) (dominating_is signatures n over) ∙ (least_parity ∙ (ap (λ s. parity_of (player (begins s))) h ∙ ap (λ x. parity_of (player x)) (supporting_begins b)))
 
-  pub sign_of_priority : dominating_priority signatures (n ∷ over) % 2 ≡ player b → dominating_sign signatures n over ≡ supporting b
+  pub sign_of_priority : dominating_priority signatures (n ∷ over) % 2 ≡ parity_of (player b) → dominating_sign signatures n over ≡ supporting b
   sign_of_priority h = sign_is b (sign_from 0 signatures (least_of n over)) (sym least_parity ∙ (ap (λ p. p % 2) (sym (dominating_is signatures n over)) ∙ h))
 
 -- the dominating equation's sign is that of the greatest priority
 pub priorities_support : PrioritiesSupport
 priorities_support signatures trees b graph is n over h =
-    priority_of_sign signatures b n (is.below n (in_graph graph n over n h)) over (is.cycles n over h) ∙ sym (player_is b)
+    priority_of_sign signatures b n (is.below n (in_graph graph n over n h)) over (is.cycles n over h) ∙ sym (ap parity_of (player_is b))

@@ -7,6 +7,8 @@ use Rattle.std.proofs.Math.Bool.{Bool-set}
 use Rattle.std.proofs.Math.Nat.{ℕ_set}
 use Rattle.std.proofs.Math.Logic.{∥∥₁_elim}
 use Rattle.std.proofs.lemmas.Option.{slice_get_within}
+use Rattle.pb_game.proofs.Players.{parity_exact}
+use Rattle.pb_game.specs.Players.{parity_of}
 use Rattle.pb_game.specs.declared.Game.{Game}
 use Rattle.pb_game.specs.Adjacency.{is_among}
 use Rattle.pb_game.specs.Games.{vertex_count, priority_of, priority_count}
@@ -64,7 +66,8 @@ module _ (g : Game) (s : Solution) (Inner : ℕ → Type 0) where
 
   -- the winner stays the same along a path
   pub merely_winner : ∥ IsCertificate g s ∥₁ → (v : ℕ) (xs : List ℕ) (u : ℕ) → v < vertex_count g → IsKeptPath g s Inner v xs u → winner_of s u ≡ winner_of s v
-  merely_winner is v xs u below h = ∥∥₁_elim is (ℕ_set (winner_of s u) (winner_of s v)) (λ certificate. path_winner certificate v xs u below h)
+  merely_winner is v xs u below h = parity_exact _ _ (∥∥₁_elim is (ℕ_set (parity_of (winner_of s u)) (parity_of (winner_of s v)))
+      (λ certificate. ap parity_of (path_winner certificate v xs u below h)))
 
 -- ---- counts along paths
 
@@ -81,7 +84,7 @@ module _ (g : Game) (s : Solution) (is : IsCertificate g s) (rows : List Row) (b
   edge_at_most v u q below wins low kept =
       progress-at_most (count_of g s v) (count_of g s u) (player b) (priority_of g v) q (priority_count g) low (progress v u below wins kept)
 
-  edge_less : (v u : ℕ) → v < vertex_count g → winner_of s v ≡ player b → priority_of g v % 2 ≢ player b → IsKept g s v u →
+  edge_less : (v u : ℕ) → v < vertex_count g → winner_of s v ≡ player b → priority_of g v % 2 ≢ parity_of (player b) → IsKept g s v u →
       IsLess (rank u (priority_of g v)) (rank v (priority_of g v))
   edge_less v u below wins odd kept =
       progress-less (count_of g s v) (count_of g s u) (player b) (priority_of g v) (priority_count g) odd (progress v u below wins kept)
@@ -95,7 +98,7 @@ module _ (g : Game) (s : Solution) (is : IsCertificate g s) (rows : List Row) (b
       (path_at_most x xs u q (successors_closed g v x below h.0.edge) ((is.vertices v below).region x h.0 ∙ wins) (omega arith) h.2)
       (edge_at_most v x q below wins low h.0)
 
-  path_less : (v : ℕ) (xs : List ℕ) (u : ℕ) → v < vertex_count g → winner_of s v ≡ player b → priority_of g v % 2 ≢ player b →
+  path_less : (v : ℕ) (xs : List ℕ) (u : ℕ) → v < vertex_count g → winner_of s v ≡ player b → priority_of g v % 2 ≢ parity_of (player b) →
       IsKeptPath g s (IsInner g rows) v xs u → IsLess (rank u (priority_of g v)) (rank v (priority_of g v))
   path_less v [] u below wins odd h = edge_less v u below wins odd h
   path_less v (x ∷ xs) u below wins odd h =
@@ -195,7 +198,7 @@ module _ (g : Game) (s : Solution) (signatures : List Signature) (trees : ℕ �
         let same = at_priority n reached in
         path_at_most g s is rows b (at n) path.0 (at m) q (at_within n reached) (won n h.0) (omega arith) path.1
 
-    step_less : (n m : ℕ) → RestsOn graph n m → level n % 2 ≢ player b → IsLess (rank g s is rows b (at m) (level n)) (rank g s is rows b (at n) (level n))
+    step_less : (n m : ℕ) → RestsOn graph n m → level n % 2 ≢ parity_of (player b) → IsLess (rank g s is rows b (at m) (level n)) (rank g s is rows b (at n) (level n))
     step_less n m h odd =
         let reached = of.reached n h.0 in
         let path = of.some n m h in
@@ -210,7 +213,7 @@ module _ (g : Game) (s : Solution) (signatures : List Signature) (trees : ℕ �
         at_most_trans (rank g s is rows b (at m) q) (rank g s is rows b (at x) q) (rank g s is rows b (at n) q)
         (leads_at_most x xs m q h.1 (omega arith)) (step_at_most n x q h.0 (omega arith))
 
-    leads_less : (n : ℕ) (over : List ℕ) (m q : ℕ) → Leads graph n over m → dominating_priority signatures (n ∷ over) ≡ q → q % 2 ≢ player b →
+    leads_less : (n : ℕ) (over : List ℕ) (m q : ℕ) → Leads graph n over m → dominating_priority signatures (n ∷ over) ≡ q → q % 2 ≢ parity_of (player b) →
         IsLess (rank g s is rows b (at m) q) (rank g s is rows b (at n) q)
     leads_less n [] m q h top odd =
         let same : level n ≡ q = omega arith in
@@ -228,12 +231,12 @@ module _ (g : Game) (s : Solution) (signatures : List Signature) (trees : ℕ �
           (step_less n x h.0 (λ even. odd (ap (λ p. p % 2) (sym same) ∙ even))))
     ]
 
-    pub cycles : (n : ℕ) (over : List ℕ) → Leads graph n over n → dominating_priority signatures (n ∷ over) % 2 ≡ player b
+    pub cycles : (n : ℕ) (over : List ℕ) → Leads graph n over n → dominating_priority signatures (n ∷ over) % 2 ≡ parity_of (player b)
     cycles n over h =
         let q = dominating_priority signatures (n ∷ over) in
-        elim (cases_Bool (q % 2 == player b)) [
-          | inl even ↦ eqb-true (q % 2) (player b) even
-          | inr odd ↦ absurd (not_less (rank g s is rows b (at n) q) (leads_less n over n q h refl (eqb-false (q % 2) (player b) odd)))
+        elim (cases_Bool (q % 2 == parity_of (player b))) [
+          | inl even ↦ eqb-true (q % 2) (parity_of (player b)) even
+          | inr odd ↦ absurd (not_less (rank g s is rows b (at n) q) (leads_less n over n q h refl (eqb-false (q % 2) (parity_of (player b)) odd)))
         ]
 
 -- the same of a certificate of which a struct's ghost field says no more than that there is one
@@ -249,7 +252,7 @@ merely_prove g s is signatures trees rows game b graph of =
       sufficient = λ n contained. ∥∥₁_elim is (Bool-set (tree_truth (exactly b (graph.dependencies n)) (trees n)) b)
           (λ certificate. sufficient g s signatures trees rows game certificate b graph of n contained);
       cycles = λ n over h. sign_of_priority signatures b n (below n (in_graph graph n over n h)) over
-          (∥∥₁_elim is (ℕ_set (dominating_priority signatures (n ∷ over) % 2) (player b))
+          (∥∥₁_elim is (ℕ_set (dominating_priority signatures (n ∷ over) % 2) (parity_of (player b)))
           (λ certificate. cycles g s signatures trees rows game certificate b graph of n over h));
     }
 

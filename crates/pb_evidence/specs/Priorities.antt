@@ -1,5 +1,6 @@
 -- The cycles of a proof graph in the words of games.
 use Rattle.std.specs.Prelude.{◌≡◌, ℕ, ◌%◌, Bool, List, ◌∷◌, map}
+use Rattle.pb_game.specs.Players.{parity_of}
 use Rattle.pb_game.specs.Adjacency.{greatest_of}
 use Rattle.pb_trees.specs.Tree.{Tree}
 use Rattle.pb_trees.specs.Equations.{Signature}
@@ -17,4 +18,4 @@ PrioritiesSupport =
     (signatures : List Signature) (trees : ℕ → Tree) (b : Bool) (graph : Graph) →
     IsProofGraph signatures trees b graph →
     (n : ℕ) (over : List ℕ) → Leads graph n over n
-    → dominating_priority signatures (n ∷ over) % 2 ≡ player_for b
+    → dominating_priority signatures (n ∷ over) % 2 ≡ parity_of (player_for b)

@@ -1,6 +1,8 @@
 -- The graphs that a certificate's strategies give: an instance rests on those whose vertices its
 -- winner's play comes to next, over vertices of brackets alone.
 use Rattle.std.specs.Prelude.{◌≡◌, ◌≢◌, ℕ, Bool, true, false, List, [], ◌∷◌, Contains}
+use Rattle.pb_game.specs.declared.player.Player.TheVariants.{Even, Odd}
+use Rattle.pb_game.specs.declared.player.Player.{Player}
 use Rattle.pb_game.specs.declared.Game.{Game}
 use Rattle.pb_game.specs.Games.{priority_of}
 use Rattle.pb_game.specs.declared.certificate.Solution.{Solution}
@@ -14,10 +16,10 @@ use Rattle.pb_strategy.specs.Meaning.{IsGameOfRows}
 use Rattle.pb_evidence.specs.ProofGraphs.{Graph, RestsOn, IsProofGraph}
 use Rattle.pb_evidence.specs.Supports.{RestsOnChoices}
 
--- the player who wants b: player 0 wants true, and player 1 false
-abbrev pub player_for : Bool → ℕ
-player_for true = 0
-player_for false = 1
+-- the player who wants b: Even wants true, and Odd false
+abbrev pub player_for : Bool → Player
+player_for true = Even
+player_for false = Odd
 
 -- v has priority 0, and is no instance's: a bracket's, or the true sink, which leads to itself
 pub record IsInner (g : Game) (rows : List Row) (v : ℕ) : Type 0 where
@@ -35,8 +37,8 @@ ComesTo g s rows n m =
     (over : List ℕ) × IsKeptPath g s (IsInner g rows) (vertex_of rows n) over (vertex_of rows m)
 
 -- instances whose vertices the player wins, each with those that the play comes to next
-pub record IsStrategyGraph (g : Game) (s : Solution) (rows : List Row) (player : ℕ) (graph : Graph)
-    : Type 0 where
+pub record IsStrategyGraph (g : Game) (s : Solution) (rows : List Row) (player : Player)
+    (graph : Graph) : Type 0 where
   pub reached : (n : ℕ) → Contains graph.instances n → IsReached rows n
   pub won : (n : ℕ) → Contains graph.instances n → winner_of s (vertex_of rows n) ≡ player
   pub closed : (n m : ℕ) → RestsOn graph n m → Contains graph.instances m

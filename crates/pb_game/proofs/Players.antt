@@ -1,8 +1,9 @@
 -- Two players: each is one of them, and told by its parity.
-use Rattle.std.proofs.Common.{◌≡◌, ◌≢◌, ◌<◌, ◌+◌, ◌⊎◌, inl, inr, arith, refl, ap}
+use Rattle.std.proofs.Common.{◌≡◌, ◌≢◌, ◌<◌, ◌+◌, ◌⊎◌, inl, inr, arith, refl, sym, ap, ◌∙◌, Bool, true, false}
+use Rattle.std.specs.Prelude.{IsTrue, ◌↔◌}
 use Rattle.pb_game.specs.declared.player.Player.{Player}
 use Rattle.pb_game.specs.declared.player.Player.TheVariants.{Even, Odd}
-use Rattle.pb_game.specs.Players.{parity_of, opponent_of}
+use Rattle.pb_game.specs.Players.{parity_of, opponent_of, is_same}
 
 -- a player wins with priorities of one parity alone
 pub parity_exact : (p q : Player) → parity_of p ≡ parity_of q → p ≡ q
@@ -32,3 +33,27 @@ other_player Even Even ne = absurd (ne refl)
 other_player Even Odd ne = refl
 other_player Odd Even ne = refl
 other_player Odd Odd ne = absurd (ne refl)
+
+pub even_or_odd : (p : Player) → (p ≡ Even) ⊎ (p ≡ Odd)
+even_or_odd Even = inl refl
+even_or_odd Odd = inr refl
+
+pub even_not_odd : Even ≢ Odd
+even_not_odd e = absurd (omega (arith, ap parity_of e))
+
+-- the test of two players
+pub same_yes : (p q : Player) → p ≡ q → is_same p q ≡ true
+same_yes Even Even e = refl
+same_yes Even Odd e = absurd (even_not_odd e)
+same_yes Odd Even e = absurd (even_not_odd (sym e))
+same_yes Odd Odd e = refl
+
+pub same_no : (p q : Player) → p ≢ q → is_same p q ≡ false
+same_no Even Even ne = absurd (ne refl)
+same_no Even Odd ne = refl
+same_no Odd Even ne = refl
+same_no Odd Odd ne = absurd (ne refl)
+
+pub same_test : (b : Bool) (p q : Player) → (IsTrue b ↔ (p ≡ q)) → b ≡ is_same p q
+same_test true p q h = sym (same_yes p q (h.0 refl))
+same_test false p q h = sym (same_no p q (λ e. absurd (cc (h.1 e))))

@@ -16,3 +16,10 @@ opponent_of Odd = Even
 abbrev pub is_even : Player → Bool
 is_even Even = true
 is_even Odd = false
+
+-- whether they are one player
+abbrev pub is_same : Player → Player → Bool
+is_same Even Even = true
+is_same Even Odd = false
+is_same Odd Even = false
+is_same Odd Odd = true

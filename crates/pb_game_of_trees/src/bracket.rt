@@ -1,7 +1,10 @@
 //! What a bracket of a tree is in the game: whose vertex, and which sink where it is empty.
 ghost use Rattle.std.specs.Prelude.{◌≡◌};
+ghost use Rattle.pb_game.specs.Players.{parity_of};
 ghost use Rattle.pb_trees.specs.Game.{owner_of, sink_of};
 ghost use Rattle.pb_game_of_trees.specs.Builder.{connective};
+
+use pb_game::Player;
 
 /// What joins the operands of a bracket.
 #[derive(Clone, Copy)]
@@ -11,12 +14,12 @@ pub(crate) enum Bracket {
 }
 
 /// The player who chooses among the operands.
-pub(crate) fn owner(bracket: Bracket) -> u8
-    ensures { result ≡ owner_of (connective bracket) }
+pub(crate) fn owner(bracket: Bracket) -> Player
+    ensures { parity_of result ≡ owner_of (connective bracket) }
 {
     match bracket {
-        Bracket::And => 1,
-        Bracket::Or => 0,
+        Bracket::And => Player::Odd,
+        Bracket::Or => Player::Even,
     }
 }
 

@@ -15,6 +15,7 @@ ghost use Rattle.pb_game_of_trees.specs.Builder.{HasFrame, HasFinished, HasTree,
 use crate::bracket::{Bracket, owner, sink};
 use crate::draft::Draft;
 use crate::numbering::Numbering;
+use pb_game::Player;
 use pb_rows::IndexedRows;
 use pb_trees::Token;
 use std::alloc::AllocError;
@@ -158,7 +159,7 @@ impl Builder {
             → vertex ≡ target at l → IsAt at self.old [] behind limit
             → HasTree at self.new priority (Single l) behind limit) }
     {
-        self.draft.put(0, priority, &mut [vertex])?;
+        self.draft.put(Player::Even, priority, &mut [vertex])?;
         self.next -= 1;
         Ok(())
     }

@@ -2,16 +2,17 @@
 //! one. A vertex that is put before them goes to the end of each list, so nothing moves until all
 //! lists are turned round at the end.
 ghost use Rattle.std.specs.Prelude.{◌≡◌, ◌∷◌, ◌-◌, ◌≤◌, All, IfOk, OnOk, List, [], map, reverse};
+ghost use Rattle.pb_game.specs.Players.{parity_of};
 ghost use Rattle.pb_trees.specs.Game.{Vertex, rising};
 ghost use Rattle.pb_game_of_trees.specs.Draft.{IsDraft, ArePartsOf};
 
 use crate::falling::push_falling;
-use pb_game::{Game, Parts};
+use pb_game::{Game, Parts, Player};
 use std::alloc::{AllocError, Global};
 
 #[derive(Drop)]
 pub(crate) struct Draft {
-    pub owners: Vec<u8>,
+    pub owners: Vec<Player>,
     pub priorities: Vec<u32>,
     /// For each vertex how many edges leave it and those behind it, and before these 0.
     pub edges: Vec<usize>,
@@ -35,10 +36,15 @@ impl Draft {
     }
 
     /// Puts a vertex before the others. Its targets come in reverse.
-    pub fn put(&mut self, owner: u8, priority: u32, targets: &mut [u32]) -> Result<(), AllocError>
+    pub fn put(
+        &mut self,
+        owner: Player,
+        priority: u32,
+        targets: &mut [u32],
+    ) -> Result<(), AllocError>
         ensures { OnOk result ((vertices : List Vertex) → IsDraft self.old vertices
             → IsDraft self.new (record {
-              owner = owner;
+              owner = parity_of owner;
               priority = priority;
               successors = rising (reverse targets.old);
             } ∷ vertices)) }

@@ -17,7 +17,6 @@ pub(crate) fn game_of(alloc: Global, parts: Parts) -> Result<Game, AllocError>
         Ok(game) => Ok(game),
         Err(GameError::Memory(error)) => Err(error),
         Err(GameError::TooManyVertices) => unreachable!(),
-        Err(GameError::Owners) => unreachable!(),
         Err(GameError::Priorities) => unreachable!(),
         Err(GameError::Places) => unreachable!(),
         Err(GameError::Successors) => unreachable!(),

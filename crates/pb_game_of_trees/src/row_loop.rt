@@ -13,7 +13,7 @@ use crate::draft::Draft;
 use crate::levels::{Level, priority_at};
 use crate::numbering::Numbering;
 use crate::size::Size;
-use pb_game::Game;
+use pb_game::{Game, Player};
 use pb_rows::IndexedRows;
 use std::alloc::{AllocError, Global};
 
@@ -55,7 +55,7 @@ pub(crate) fn draft_of(
         targets: _,
         starts: _,
     } = builder;
-    draft.put(0, 0, &mut [1])?;
-    draft.put(0, 1, &mut [0])?;
+    draft.put(Player::Even, 0, &mut [1])?;
+    draft.put(Player::Even, 1, &mut [0])?;
     Ok(draft)
 }

@@ -19,6 +19,7 @@ impl Solved {
     ghost use Rattle.pb_trees.specs.Rows.{Row, IsReached};
     ghost use Rattle.pb_game.specs.Games.{vertex_count};
     ghost use Rattle.pb_game.specs.Solutions.{winner_of};
+    ghost use Rattle.pb_game.specs.declared.player.Player.TheVariants.{Even};
     ghost use Rattle.pb_strategy.specs.Meaning.{IsSolvedAt};
     ghost use Rattle.pb_game_of_trees.specs.TreeGame.{IsTreeGame};
 
@@ -34,7 +35,7 @@ impl Solved {
     /// The truth of the instance whose vertex this is.
     fn truth_at(&self, vertex: u32) -> bool
         requires { vertex < vertex_count self.now.built.game }
-        ensures winner { IsTrue result ↔ (winner_of self.now.certified vertex ≡ 0) }
+        ensures winner { IsTrue result ↔ (winner_of self.now.certified vertex ≡ Even) }
         ensures meaning { IsSolvedAt self.now.built.game vertex result }
     {
         Checked {
@@ -44,13 +45,13 @@ impl Solved {
         .truth(vertex)
     }
 
-    /// The truth of the initial instance: whether player 0 wins its vertex.
+    /// The truth of the initial instance: whether Even wins its vertex.
     pub fn truth(&self) -> bool
         requires { (signatures : List Signature) × (trees : ℕ → Tree) × (reached : List Row)
             × (initial : ℕ) × IsTreeGame signatures trees reached initial self.now.built
             × IsReached reached initial }
         ensures winner { IsTrue result
-            ↔ (winner_of self.now.certified self.now.built.start ≡ 0) }
+            ↔ (winner_of self.now.certified self.now.built.start ≡ Even) }
         ensures meaning { (signatures : List Signature) (trees : ℕ → Tree) (reached : List Row)
             (initial : ℕ) → IsTreeGame signatures trees reached initial self.now.built
             → IsReached reached initial → result ≡ solved signatures trees initial }

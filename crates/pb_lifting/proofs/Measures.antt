@@ -1,11 +1,14 @@
 -- The least rank: it is monotone, at most every measure, and where no lift raises a word the words are a measure.
-use Rattle.std.proofs.Common.{◌≡◌, ℕ, zero, suc, ◌+◌, ◌-◌, ◌*◌, ◌/◌, ◌%◌, ◌<◌, ◌≤◌, ◌==◌, if◌then◌else◌, Bool, true, false, min, List, length, replicate, set, length-set, mul_comm, sym, refl, ap, ◌∙◌, inl, inr, ⊎_elim, eq-eqb, ne_eqb, div-mul-le_self, arith}
+use Rattle.std.proofs.Common.{◌≡◌, ◌≢◌, ℕ, zero, suc, ◌+◌, ◌-◌, ◌*◌, ◌/◌, ◌%◌, ◌<◌, ◌≤◌, ◌==◌, if◌then◌else◌, Bool, true, false, min, List, length, replicate, set, length-set, mul_comm, sym, refl, ap, ◌∙◌, inl, inr, ⊎_elim, eq-eqb, ne_eqb, div-mul-le_self, arith}
 use Rattle.std.specs.Prelude.{slice_index, Contains}
 use Rattle.std.proofs.lemmas.Nat.{le-div}
 use Rattle.std.proofs.lemmas.List.{get_or_past, get_or-replicate, get_or_default, get_or-set_same, get_or-set_other, length-replicate}
 use Rattle.std.proofs.lemmas.Bool.{cases_lt}
 use mathlib.Core.Logic.{dite}
 use native.Mathlib.Decide.{ℕ_discrete}
+use Rattle.pb_game.proofs.Players.{cases_player, same_yes, same_no}
+use Rattle.pb_game.specs.Players.{parity_of, is_same}
+use Rattle.pb_game.specs.declared.player.Player.{Player}
 use Rattle.pb_game.specs.declared.Game.{Game}
 use Rattle.pb_game.specs.Games.{vertex_count, owner_of, priority_of, successors_of, priority_count}
 use Rattle.pb_game.proofs.Laws.{is_game}
@@ -66,26 +69,26 @@ factor_within : (t m u : ℕ) → 0 < t → t ≡ m * u → u ≤ t
 factor_within t zero u pos e = absurd (omega arith)
 factor_within t (suc m) u pos e = omega arith
 
-module _ (g : Game) (player : ℕ) where
+module _ (g : Game) (player : Player) where
   pub base_positive : (q : ℕ) → 0 < base_of g player q
   unfolding base_of
-  base_positive q = by_test (q % 2 == player)
+  base_positive q = by_test (q % 2 == parity_of player)
     where
       by_test : (b : Bool) → 0 < (if b then 1 else vertices_upto g q (vertex_count g) + 1)
       by_test true = omega arith
       by_test false = omega arith
 
-  pub base_one : (q : ℕ) → q % 2 ≡ player → base_of g player q ≡ 1
+  pub base_one : (q : ℕ) → q % 2 ≡ parity_of player → base_of g player q ≡ 1
   unfolding base_of
-  base_one q e = ap (λ (b : Bool). if b then 1 else vertices_upto g q (vertex_count g) + 1) (eq-eqb (q % 2) player e)
+  base_one q e = ap (λ (b : Bool). if b then 1 else vertices_upto g q (vertex_count g) + 1) (eq-eqb (q % 2) (parity_of player) e)
 
   -- what the base at a priority is, by how many vertices have it
-  base_is : (q count : ℕ) → count ≡ vertices_upto g q (vertex_count g) → (if q % 2 == player then 1 else count + 1) ≡ base_of g player q
+  base_is : (q count : ℕ) → count ≡ vertices_upto g q (vertex_count g) → (if q % 2 == parity_of player then 1 else count + 1) ≡ base_of g player q
   unfolding base_of
-  base_is q count e = ap (λ x. if q % 2 == player then 1 else x + 1) e
+  base_is q count e = ap (λ x. if q % 2 == parity_of player then 1 else x + 1) e
 
   -- the next place value is the product with the base
-  pub next_place : (k place base count : ℕ) → place ≡ unit (base_of g player) k → count ≡ vertices_upto g k (vertex_count g) → base ≡ (if k % 2 == player then 1 else count + 1)
+  pub next_place : (k place base count : ℕ) → place ≡ unit (base_of g player) k → count ≡ vertices_upto g k (vertex_count g) → base ≡ (if k % 2 == parity_of player then 1 else count + 1)
       → place * base ≡ unit (base_of g player) (k + 1)
   next_place k place base count p c b = (λ i. p i * (b ∙ base_is k count c) i) ∙ (mul_comm (unit (base_of g player) k) (base_of g player k) ∙ sym (next_unit (base_of g player) k))
 
@@ -118,10 +121,10 @@ module _ (g : Game) (player : ℕ) where
   asked_below v m = step_below (unit (base_of g player) (priority_of g v)) (top_of g player) (more_of player (priority_of g v)) m
 
   pub least_grows : (known more : List ℕ) → ((v : ℕ) → slice_index known v ≤ slice_index more v) → (v : ℕ) → least_rank g player known v ≤ least_rank g player more v
-  least_grows known more h v = best_grows (owner_of g v == player) (top_of g player) (asked_by g player known v) (asked_by g player more v) (length (successors_of g v)) (λ j _. asked_grows v _ _ (h _))
+  least_grows known more h v = best_grows (is_same (owner_of g v) player) (top_of g player) (asked_by g player known v) (asked_by g player more v) (length (successors_of g v)) (λ j _. asked_grows v _ _ (h _))
 
   pub least_below : (known : List ℕ) (v : ℕ) → least_rank g player known v ≤ top_of g player
-  least_below known v = best_below (owner_of g v == player) (top_of g player) (asked_by g player known v) (length (successors_of g v)) (λ j _. asked_below v _)
+  least_below known v = best_below (is_same (owner_of g v) player) (top_of g player) (asked_by g player known v) (length (successors_of g v)) (λ j _. asked_below v _)
 
   step_top : (u m s more : ℕ) → 0 < u → m * u ≤ s → m * u ≤ (s / u + more) * u
   step_top u m s more pos b = let d = le-div m s u pos b in mul_grows m (s / u + more) u (omega arith)
@@ -168,18 +171,18 @@ module _ (g : Game) (player : ℕ) where
   pub least_of_measure : (m : List ℕ) → IsMeasure g player m → (v : ℕ) → v < vertex_count g → least_rank g player m v ≤ slice_index m v
   least_of_measure m is v h = ⊎_elim
       (λ (top : slice_index m v ≡ top_of g player). let l = least_below m v in omega arith)
-      (λ (low : (slice_index m v < top_of g player) × Falls g player m v). dite (ℕ_discrete (owner_of g v) player)
+      (λ (low : (slice_index m v < top_of g player) × Falls g player m v). ⊎_elim
       (λ (mine : owner_of g v ≡ player).
       let e = low.1.own mine in let j = place_of (successors_of g v) e.0 e.1 in
       let a = falls_asks m v e.0 h low.0 e.2 in
       let l = least_at (top_of g player) (asked_by g player m v) (length (successors_of g v)) j.0 j.1 in
       let f : asked_by g player m v j.0 ≡ asked g player v (slice_index m e.0) = ap (λ x. asked g player v (slice_index m x)) j.2 in
-      let t : least_rank g player m v ≡ best true (top_of g player) (asked_by g player m v) (length (successors_of g v)) = ap (λ b. best b (top_of g player) (asked_by g player m v) (length (successors_of g v))) (eq-eqb (owner_of g v) player mine) in
+      let t : least_rank g player m v ≡ best true (top_of g player) (asked_by g player m v) (length (successors_of g v)) = ap (λ b. best b (top_of g player) (asked_by g player m v) (length (successors_of g v))) (same_yes (owner_of g v) player mine) in
       omega arith)
-      (λ ne.
-      let t : least_rank g player m v ≡ best false (top_of g player) (asked_by g player m v) (length (successors_of g v)) = ap (λ b. best b (top_of g player) (asked_by g player m v) (length (successors_of g v))) (ne_eqb (owner_of g v) player ne) in
+      (λ (ne : owner_of g v ≢ player).
+      let t : least_rank g player m v ≡ best false (top_of g player) (asked_by g player m v) (length (successors_of g v)) = ap (λ b. best b (top_of g player) (asked_by g player m v) (length (successors_of g v))) (same_no (owner_of g v) player ne) in
       let l = greatest_below (top_of g player) (slice_index m v) (asked_by g player m v) (length (successors_of g v)) (λ j b. falls_asks m v _ h low.0 (low.1.other ne _ (element_in (successors_of g v) j _ b refl))) in
-      omega arith))
+      omega arith) (cases_player (owner_of g v) player))
       (is.ranked v h)
 
   -- a raise from known values stays within every measure
@@ -202,13 +205,13 @@ module _ (g : Game) (player : ℕ) where
           l,
           record {
             own = λ mine.
-                let t : least_rank g player m v ≡ best true (top_of g player) (asked_by g player m v) (length (successors_of g v)) = ap (λ b. best b (top_of g player) (asked_by g player m v) (length (successors_of g v))) (eq-eqb (owner_of g v) player mine) in
+                let t : least_rank g player m v ≡ best true (top_of g player) (asked_by g player m v) (length (successors_of g v)) = ap (λ b. best b (top_of g player) (asked_by g player m v) (length (successors_of g v))) (same_yes (owner_of g v) player mine) in
                 let f = fixed v h in
                 let j = least_from (top_of g player) (asked_by g player m v) (length (successors_of g v)) (omega arith) in
                 let a = j.2 in
                 (slice_index (successors_of g v) j.0, element_in (successors_of g v) j.0 _ j.1 refl, falls_to m v _ h l (omega arith));
             other = λ ne' u edge.
-                let t : least_rank g player m v ≡ best false (top_of g player) (asked_by g player m v) (length (successors_of g v)) = ap (λ b. best b (top_of g player) (asked_by g player m v) (length (successors_of g v))) (ne_eqb (owner_of g v) player ne') in
+                let t : least_rank g player m v ≡ best false (top_of g player) (asked_by g player m v) (length (successors_of g v)) = ap (λ b. best b (top_of g player) (asked_by g player m v) (length (successors_of g v))) (same_no (owner_of g v) player ne') in
                 let f = fixed v h in
                 let j = place_of (successors_of g v) u edge in
                 let a = greatest_at (top_of g player) (asked_by g player m v) (length (successors_of g v)) j.0 j.1 in

@@ -3,6 +3,7 @@ use Rattle.std.proofs.Common.{◌≡◌, ◌≢◌, ℕ, ◌%◌, ◌<◌, ◌�
 use Rattle.std.proofs.Math.Nat.{zero-div, zero-mod}
 use mathlib.Core.Logic.{dite}
 use native.Mathlib.Decide.{ℕ_discrete}
+use Rattle.pb_game.specs.declared.player.Player.{Player}
 use Rattle.pb_game.specs.declared.Game.{Game}
 use Rattle.pb_game.specs.Games.{vertex_count, priority_of, priority_count}
 use Rattle.pb_game.specs.Certificates.{IsProgress}
@@ -11,7 +12,7 @@ use Rattle.pb_lifting.specs.Measures.{base_of, top_of, counts_of, asked}
 use Rattle.pb_lifting.specs.Solutions.{count_by_rank}
 use Rattle.pb_lifting.proofs.Measures.{meets, asks, inside}
 
-module _ (g : Game) (player : ℕ) where
+module _ (g : Game) (player : Player) where
   abbrev pub counted : ℕ → ℕ
   counted rank = if rank == top_of g player then 0 else rank
 

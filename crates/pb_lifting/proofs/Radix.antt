@@ -5,14 +5,16 @@ use Rattle.std.proofs.Math.Nat.{mul-add-div_right}
 use Rattle.std.proofs.lemmas.Bool.{cases_lt}
 use mathlib.Core.Logic.{dite}
 use native.Mathlib.Decide.{ℕ_discrete}
+use Rattle.pb_game.specs.Players.{parity_of}
+use Rattle.pb_game.specs.declared.player.Player.{Player}
 use Rattle.pb_game.specs.Certificates.{Decreases, IsSame, IsProgress}
 use Rattle.pb_lifting.specs.Radix.{unit, count_in, step_up}
 
 -- the counts can't decrease both ways
-one_way : (f t : ℕ → ℕ) (w p limit : ℕ) → Decreases f t w p limit → Decreases t f w p limit → ⊥
+one_way : (f t : ℕ → ℕ) (w : Player) (p limit : ℕ) → Decreases f t w p limit → Decreases t f w p limit → ⊥
 one_way f t w p limit a b = grind (arith, a.same b.place, b.same a.place, a.less, b.less, a.below, b.below, a.losing, b.losing)
 
-not_same : (f t : ℕ → ℕ) (w p limit : ℕ) → Decreases f t w p limit → IsSame t f w p limit → ⊥
+not_same : (f t : ℕ → ℕ) (w : Player) (p limit : ℕ) → Decreases f t w p limit → IsSame t f w p limit → ⊥
 not_same f t w p limit a b = grind (arith, b.same a.place a.above a.below a.losing, a.less)
 
 -- a quotient by a product
@@ -66,7 +68,7 @@ apart : (a b : ℕ) → a ≢ b → (a < b) ⊎ (b < a)
 apart a b ne = ⊎_elim (λ (l : b < a). inr l) (λ (l : a ≤ b). inl (omega arith)) (cases_lt b a)
 
 -- the bases are positive, and 1 where the priority has the player's parity
-module _ (base : ℕ → ℕ) (player width : ℕ) (positive : (q : ℕ) → 0 < base q) (one : (q : ℕ) → q % 2 ≡ player → base q ≡ 1) where
+module _ (base : ℕ → ℕ) (player : Player) (width : ℕ) (positive : (q : ℕ) → 0 < base q) (one : (q : ℕ) → q % 2 ≡ parity_of player → base q ≡ 1) where
   pub unit_pos : (p : ℕ) → 0 < unit base p
   unit_pos zero = omega arith
   unit_pos (suc p) = mul-pos (positive p) (unit_pos p)
@@ -125,14 +127,14 @@ module _ (base : ℕ → ℕ) (player width : ℕ) (positive : (q : ℕ) → 0 <
     gap : (k : ℕ) × (p + k ≡ width)
     gap = (width - p, omega arith)
 
-    pub progress_is : more ≡ (if p % 2 == player then 0 else 1) → s / unit base p + more ≤ r / unit base p → IsProgress (count_in base r) (count_in base s) player p width
-    progress_is is h = dite (ℕ_discrete (p % 2) player)
-        (λ (e : p % 2 ≡ player). dite (ℕ_discrete (s / unit base p) (r / unit base p))
+    pub progress_is : more ≡ (if p % 2 == parity_of player then 0 else 1) → s / unit base p + more ≤ r / unit base p → IsProgress (count_in base r) (count_in base s) player p width
+    progress_is is h = dite (ℕ_discrete (p % 2) (parity_of player))
+        (λ (e : p % 2 ≡ parity_of player). dite (ℕ_discrete (s / unit base p) (r / unit base p))
         (λ same. inr (e, same_counts r s rl sl gap.0 p gap.1 same))
         (λ ne. inl (lower_counts r s rl sl gap.0 p gap.1 (omega arith))))
         (λ ne. let m : more ≡ 1 = grind (arith, is, ne) in inl (lower_counts r s rl sl gap.0 p gap.1 (omega arith)))
 
-    pub is_progress : more ≡ (if p % 2 == player then 0 else 1) → IsProgress (count_in base r) (count_in base s) player p width → s / unit base p + more ≤ r / unit base p
+    pub is_progress : more ≡ (if p % 2 == parity_of player then 0 else 1) → IsProgress (count_in base r) (count_in base s) player p width → s / unit base p + more ≤ r / unit base p
     is_progress is (inl down) = let m : more ≤ 1 = grind (arith, is) in dite (ℕ_discrete (s / unit base p) (r / unit base p))
         (λ same. absurd (not_same _ _ _ _ _ down (same_counts s r sl rl gap.0 p gap.1 (sym same))))
         (λ ne. ⊎_elim (λ (l : s / unit base p < r / unit base p). omega arith) (λ (l : r / unit base p < s / unit base p). absurd (one_way _ _ _ _ _ down (lower_counts s r sl rl gap.0 p gap.1 l))) (apart (s / unit base p) (r / unit base p) ne))

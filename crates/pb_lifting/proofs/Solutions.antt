@@ -1,43 +1,38 @@
 -- One more vertex of a solution.
 use Rattle.std.proofs.Common.{◌≡◌, ℕ, ◌+◌, ◌*◌, ◌==◌, Bool, true, false, if◌then◌else◌, List, [], ◌∷◌, length, length-append, sym, refl, ap, ◌∙◌, subst, add-mul, one-mul, mul_comm, arith}
-use Rattle.std.specs.Prelude.{slice_index}
+use Rattle.std.specs.Prelude.{slice_index, slice_index_or}
 use Rattle.std.proofs.lemmas.Nat.{mul-add-lt}
 use mathlib.Core.Logic.{dite}
 use native.Mathlib.Decide.{ℕ_discrete}
+use Rattle.pb_game.specs.declared.player.Player.TheVariants.{Even}
+use Rattle.pb_game.specs.declared.player.Player.{Player}
 use Rattle.pb_game.specs.declared.Game.{Game}
 use Rattle.pb_game.specs.declared.certificate.Solution.{Solution}
 use Rattle.pb_game.specs.Games.{vertex_count, priority_count}
-use Rattle.pb_game.specs.Solutions.{player_of, winner_of, choice_of, count_of}
+use Rattle.pb_game.specs.Solutions.{winner_of, choice_of, count_of}
 use Rattle.pb_lifting.specs.Measures.{top_of}
 use Rattle.pb_lifting.specs.Solutions.{winner_by, words_of, IsChoice, count_by_rank, IsSolutionTo, IsSolutionOf, AddsVertex}
-use Rattle.pb_lifting.proofs.Lists.{push_front, push_here}
+use Rattle.pb_lifting.proofs.Lists.{push_front, push_here, any_front, any_here}
 
 one_more : (n w : ℕ) → (n + 1) * w ≡ n * w + w
 one_more n w = add-mul n 1 w ∙ ap (λ x. n * w + x) (one-mul w)
 
-same_player : (g : Game) (words : List ℕ) (v : ℕ) → player_of (winner_by g words v) ≡ winner_by g words v
-same_player g words v = by_test (slice_index words v == top_of g 0)
-  where
-    by_test : (b : Bool) → player_of (if b then 1 else 0) ≡ (if b then 1 else 0)
-    by_test true = refl
-    by_test false = refl
-
-module _ (g : Game) (zero_words one_words : List ℕ) where
-  abbrev player : ℕ → ℕ
-  player v = winner_by g zero_words v
+module _ (g : Game) (even_words odd_words : List ℕ) where
+  abbrev player : ℕ → Player
+  player v = winner_by g even_words v
 
   abbrev words : ℕ → List ℕ
-  words v = words_of (player v) zero_words one_words
+  words v = words_of (player v) even_words odd_words
 
-  pub one_vertex_more : (n : ℕ) (s t : Solution) → IsSolutionTo g zero_words one_words s n → AddsVertex g (player n) (words n) n s t → IsSolutionTo g zero_words one_words t (n + 1)
+  pub one_vertex_more : (n : ℕ) (s t : Solution) → IsSolutionTo g even_words odd_words s n → AddsVertex g (player n) (words n) n s t → IsSolutionTo g even_words odd_words t (n + 1)
   unfolding winner_of choice_of count_of
   one_vertex_more n s t h a = let winners = h.winners in let choices = h.choices in let rows = h.rows in record {
     winners = ap length a.winner ∙ omega (arith, length-append s.winner.items (player n ∷ []));
     choices = ap length a.choice.1 ∙ omega (arith, length-append s.choice.items (a.choice.0 ∷ []));
     rows = a.row.sized ∙ (ap (λ x. x + priority_count g) h.rows ∙ sym (one_more n (priority_count g)));
     winner = λ v b. dite (ℕ_discrete v n)
-        (λ e. ap player_of (ap (λ l. slice_index l v) a.winner ∙ push_here s.winner.items (player n) v (omega arith)) ∙ (same_player g zero_words n ∙ sym (ap player e)))
-        (λ ne. ap player_of (ap (λ l. slice_index l v) a.winner ∙ push_front s.winner.items (player n) v (omega arith)) ∙ h.winner v (omega arith));
+        (λ e. ap (λ l. slice_index_or l v Even) a.winner ∙ (any_here s.winner.items (player n) Even v (omega arith) ∙ sym (ap player e)))
+        (λ ne. ap (λ l. slice_index_or l v Even) a.winner ∙ (any_front s.winner.items (player n) Even v (omega arith) ∙ h.winner v (omega arith)));
     choice = λ v b. dite (ℕ_discrete v n)
         (λ e. subst (λ x. IsChoice g (player x) (words x) x (slice_index t.choice.items v)) (sym e)
         (subst (IsChoice g (player n) (words n) n) (sym (ap (λ l. slice_index l v) a.choice.1 ∙ push_here s.choice.items a.choice.0 v (omega arith))) a.choice.2))
@@ -50,7 +45,7 @@ module _ (g : Game) (zero_words one_words : List ℕ) where
         a.row.same (v * priority_count g + q) (omega arith) ∙ h.counts v q (omega arith) c);
   }
 
-  pub whole : (n : ℕ) (s : Solution) → n ≡ vertex_count g → IsSolutionTo g zero_words one_words s n → IsSolutionOf g zero_words one_words s
+  pub whole : (n : ℕ) (s : Solution) → n ≡ vertex_count g → IsSolutionTo g even_words odd_words s n → IsSolutionOf g even_words odd_words s
   whole n s e h = record {
     lengths = record { winner = h.winners ∙ e; choice = h.choices ∙ e; counts = h.rows ∙ ap (λ x. x * priority_count g) e };
     winner = λ v b. h.winner v (omega arith);

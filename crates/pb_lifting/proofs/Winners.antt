@@ -6,6 +6,8 @@ use Rattle.std.specs.Prelude.{slice_index}
 use Rattle.std.proofs.lemmas.Bool.{cases_lt}
 use mathlib.Core.Logic.{dite}
 use native.Mathlib.Decide.{ℕ_discrete}
+use Rattle.pb_game.proofs.Players.{even_or_odd, even_not_odd}
+use Rattle.pb_game.specs.declared.player.Player.TheVariants.{Even, Odd}
 use Rattle.pb_game.specs.declared.Game.{Game}
 use Rattle.pb_game.specs.Games.{vertex_count, owner_of, priority_of, priority_count}
 use Rattle.pb_game.proofs.Laws.{is_game}
@@ -52,11 +54,11 @@ no_descent m (suc n) Bad step v bad = within m n (no_descent m n) Bad step (m v 
 abbrev both : Game → Solution → Solution → ℕ → ℕ → ℕ
 both g s t v q = if q % 2 == 0 then count_of g t v q else count_of g s v q
 
--- player 0 wins v in one certificate and player 1 in the other
+-- Even wins v in one certificate and Odd in the other
 record Disputed (g : Game) (s t : Solution) (v : ℕ) : Type 0 where
   pub vertex : v < vertex_count g
-  pub zero_wins : winner_of s v ≡ 0
-  pub one_wins : winner_of t v ≡ 1
+  pub even_wins : winner_of s v ≡ Even
+  pub odd_wins : winner_of t v ≡ Odd
 
 parity : (n : ℕ) → n % 2 ≢ 0 → n % 2 ≡ 1
 parity n h = let b = mod_below n 2 (omega arith) in omega arith
@@ -80,7 +82,7 @@ module _ (g : Game) (s t : Solution) (v u : ℕ) where
       (λ e. at_even u q e ∙ (even q a b (λ o. absurd (omega arith)) ∙ sym (at_even v q e)))
       (λ ne. at_odd u q ne ∙ (odd q a b ne ∙ sym (at_odd v q ne)))
 
-  falls_at_odd : (p limit : ℕ) (d : Decreases (count_of g s v) (count_of g s u) 0 p limit) → Same1 (d.place + 1) limit → Falls (both g s t v) (both g s t u) limit
+  falls_at_odd : (p limit : ℕ) (d : Decreases (count_of g s v) (count_of g s u) Even p limit) → Same1 (d.place + 1) limit → Falls (both g s t v) (both g s t u) limit
   falls_at_odd p limit d even = record {
     place = d.place;
     below = d.below;
@@ -88,7 +90,7 @@ module _ (g : Game) (s t : Solution) (v u : ℕ) where
     same = λ q a b. all_same (d.place + 1) limit (λ r h k o. d.same r (omega arith) k o) even q (omega arith) b;
   }
 
-  falls_at_even : (p limit : ℕ) (d : Decreases (count_of g t v) (count_of g t u) 1 p limit) → Same0 (d.place + 1) limit → Falls (both g s t v) (both g s t u) limit
+  falls_at_even : (p limit : ℕ) (d : Decreases (count_of g t v) (count_of g t u) Odd p limit) → Same0 (d.place + 1) limit → Falls (both g s t v) (both g s t u) limit
   falls_at_even p limit d odd =
       let is : d.place % 2 ≡ 0 = dite (ℕ_discrete (d.place % 2) 0) (λ e. e) (λ ne. absurd (d.losing (parity d.place ne))) in record {
         place = d.place;
@@ -98,7 +100,7 @@ module _ (g : Game) (s t : Solution) (v u : ℕ) where
       }
 
   -- along an edge on which both measures make progress, both together fall
-  falls : (p limit : ℕ) → IsProgress (count_of g s v) (count_of g s u) 0 p limit → IsProgress (count_of g t v) (count_of g t u) 1 p limit → Falls (both g s t v) (both g s t u) limit
+  falls : (p limit : ℕ) → IsProgress (count_of g s v) (count_of g s u) Even p limit → IsProgress (count_of g t v) (count_of g t u) Odd p limit → Falls (both g s t v) (both g s t u) limit
   falls p limit (inl d) (inl e) = ⊎_elim
       (λ (h : e.place < d.place). falls_at_odd p limit d (λ r k b o. e.same r (omega arith) b o))
       (λ (h : d.place ≤ e.place). falls_at_even p limit e (λ r k b o. d.same r (omega arith) b o))
@@ -114,41 +116,30 @@ module _ (g : Game) (s t : Solution) (first : IsCertificate g s) (second : IsCer
         u,
         record {
           vertex = (is_game g).closed v u d.vertex a.edge;
-          zero_wins = x.region u a ∙ d.zero_wins;
-          one_wins = y.region u b ∙ d.one_wins;
+          even_wins = x.region u a ∙ d.even_wins;
+          odd_wins = y.region u b ∙ d.odd_wins;
         },
         falls g s t v u (priority_of g v) (priority_count g)
-            (subst (λ w. IsProgress (count_of g s v) (count_of g s u) w (priority_of g v) (priority_count g)) d.zero_wins (x.progress u a))
-            (subst (λ w. IsProgress (count_of g t v) (count_of g t u) w (priority_of g v) (priority_count g)) d.one_wins (y.progress u b)),
+            (subst (λ w. IsProgress (count_of g s v) (count_of g s u) w (priority_of g v) (priority_count g)) d.even_wins (x.progress u a))
+            (subst (λ w. IsProgress (count_of g t v) (count_of g t u) w (priority_of g v) (priority_count g)) d.odd_wins (y.progress u b)),
       )
 
   -- both strategies together keep an edge
   step : (v : ℕ) → Disputed g s t v → (u : ℕ) × Disputed g s t u × Falls (both g s t v) (both g s t u) (priority_count g)
-  step v d = let zero_wins = d.zero_wins in let one_wins = d.one_wins in dite (ℕ_discrete (owner_of g v) 0)
-      (λ (e : owner_of g v ≡ 0).
-      let edge = (first.vertices v d.vertex).choice (omega arith) in
-      along v (choice_of s v) d (record { edge = edge; choice = λ _. refl }) (record { edge = edge; choice = λ o. absurd (omega arith) }))
-      (λ ne.
-      let small = (is_game g).owners v d.vertex in
-      let edge = (second.vertices v d.vertex).choice (omega arith) in
-      along v (choice_of t v) d (record { edge = edge; choice = λ o. absurd (omega arith) }) (record { edge = edge; choice = λ _. refl }))
+  step v d = elim (even_or_odd (owner_of g v)) [
+    | inl e ↦
+        let edge = (first.vertices v d.vertex).choice (e ∙ sym d.even_wins) in
+        along v (choice_of s v) d (record { edge = edge; choice = λ _. refl }) (record { edge = edge; choice = λ o. absurd (even_not_odd (sym e ∙ (o ∙ d.odd_wins))) })
+    | inr e ↦
+        let edge = (second.vertices v d.vertex).choice (e ∙ sym d.odd_wins) in
+        along v (choice_of t v) d (record { edge = edge; choice = λ o. absurd (even_not_odd (sym d.even_wins ∙ (sym o ∙ e))) }) (record { edge = edge; choice = λ _. refl })
+  ]
 
   undisputed : (v : ℕ) → Disputed g s t v → ⊥
   undisputed v d = no_descent (both g s t) (priority_count g) (Disputed g s t) step v d
 
-abbrev player_from : Bool → ℕ
-player_from b = if b then 0 else 1
-
-player : (s : Solution) (v : ℕ) → (winner_of s v ≡ 0) ⊎ (winner_of s v ≡ 1)
-unfolding winner_of
-player s v = by_test (slice_index s.winner.items v == 0)
-  where
-    by_test : (b : Bool) → (player_from b ≡ 0) ⊎ (player_from b ≡ 1)
-    by_test true = inl refl
-    by_test false = inr refl
-
 pub same_winner : (g : Game) (s t : Solution) → IsCertificate g s → IsCertificate g t → (v : ℕ) → v < vertex_count g → winner_of s v ≡ winner_of t v
-same_winner g s t first second v h = elim (player s v) [
-  | inl a ↦ elim (player t v) [ inl b ↦ a ∙ sym b | inr b ↦ absurd (undisputed g s t first second v (record { vertex = h; zero_wins = a; one_wins = b })) ]
-  | inr a ↦ elim (player t v) [ inl b ↦ absurd (undisputed g t s second first v (record { vertex = h; zero_wins = b; one_wins = a })) | inr b ↦ a ∙ sym b ]
+same_winner g s t first second v h = elim (even_or_odd (winner_of s v)) [
+  | inl a ↦ elim (even_or_odd (winner_of t v)) [ inl b ↦ a ∙ sym b | inr b ↦ absurd (undisputed g s t first second v (record { vertex = h; even_wins = a; odd_wins = b })) ]
+  | inr a ↦ elim (even_or_odd (winner_of t v)) [ inl b ↦ absurd (undisputed g t s second first v (record { vertex = h; even_wins = b; odd_wins = a })) | inr b ↦ a ∙ sym b ]
 ]

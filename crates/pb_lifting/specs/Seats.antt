@@ -1,6 +1,7 @@
 -- What contracts say of a table and its seats.
 use Rattle.std.specs.Prelude.{◌≡◌, ℕ, ◌+◌, ◌≤◌, List, length, Option, Some, slice_get, slice_index}
 use Rattle.atomic_table.specs.Seated.{TableId}
+use Rattle.pb_game.specs.declared.player.Player.{Player}
 use Rattle.pb_game.specs.declared.Game.{Game}
 use Rattle.pb_game.specs.Games.{successors_of}
 use Rattle.pb_lifting.specs.declared.view.Key.{Key}
@@ -20,15 +21,15 @@ key_at t = t.inner.shared.key
 abbrev pub game_at : Ranks → Game
 game_at t = (key_at t).game.value
 
-abbrev pub player_at : Ranks → ℕ
+abbrev pub player_at : Ranks → Player
 player_at t = t.player
 
 -- the table is laid for this game and this player
-abbrev pub IsTableOf : Game → ℕ → Ranks → Type 0
+abbrev pub IsTableOf : Game → Player → Ranks → Type 0
 IsTableOf g player t = (game_at t ≡ g) × (player_at t ≡ player)
 
 -- the least rank of v over what the seat knows
-abbrev pub least_known : Game → ℕ → LiftSeat → ℕ → ℕ
+abbrev pub least_known : Game → Player → LiftSeat → ℕ → ℕ
 least_known g player s v = least_rank g player (view_of s).known v
 
 -- the rank that the seat knows a word to have reached

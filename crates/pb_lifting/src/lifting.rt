@@ -16,12 +16,12 @@ use crate::solution::solution_of;
 use crate::sweep::sweep;
 use crate::work::{Job, Lifting, work};
 use pb_exploration::Gate;
-use pb_game::{Game, Solution};
+use pb_game::{Game, Player, Solution};
 use std::alloc::{AllocError, Global};
 use std::thread;
 use std::thread::Threads;
 
-/// The solution that the least measures of both players say: player 0 wins where its rank isn't
+/// The solution that the least measures of both players say: Even wins where its rank isn't
 /// top, the counts are the winner's rank, and the choice is the least successor towards which that
 /// rank is enough.
 ///
@@ -48,9 +48,9 @@ pub fn lift<G: Gate + Sync, R: Threads + Sync>(
         workers,
         gate,
     };
-    let zero = lift_player(rt, alloc, &lifting, 0, &scales.zero)?;
-    let one = lift_player(rt, alloc, &lifting, 1, &scales.one)?;
-    Ok(solution_of(alloc, game, &zero, &one)?)
+    let even = lift_player(rt, alloc, &lifting, Player::Even, &scales.even)?;
+    let odd = lift_player(rt, alloc, &lifting, Player::Odd, &scales.odd)?;
+    Ok(solution_of(alloc, game, &even, &odd)?)
 }
 
 /// A player's least measure, lifted by all workers.
@@ -58,7 +58,7 @@ fn lift_player<G: Gate + Sync, R: Threads + Sync>(
     rt: &R,
     alloc: Global,
     lifting: &Lifting<'_, G>,
-    player: u8,
+    player: Player,
     scale: &Scale,
 ) -> Result<Measured, AllocError>
     requires scale { IsScaleOf lifting.now.game.now player scale.now }

@@ -3,13 +3,14 @@
 ghost use Rattle.std.specs.Prelude.{◌≡◌, ℕ, ◌+◌, ◌*◌, ◌<◌, ◌≤◌, ◌==◌, if◌then◌else◌, ◌%◌};
 ghost use Rattle.std.specs.Prelude.{slice_index, MatchOption};
 ghost use Rattle.pb_game.specs.Games.{vertex_count, priority_count};
+ghost use Rattle.pb_game.specs.Players.{parity_of};
 ghost use Rattle.pb_lifting.specs.Radix.{step_up, better};
 ghost use Rattle.pb_lifting.specs.Measures.{top_of, asked, counts_of};
 ghost use Rattle.pb_lifting.specs.Measures.{HasTooManyRanks, SomeHasTooManyRanks};
 ghost use Rattle.pb_lifting.specs.Scales.{AreCountsOf, IsScaleOf, AreScalesOf};
 
 use crate::counts::{PRIORITIES, PriorityCounts};
-use pb_game::Game;
+use pb_game::{Game, Player};
 
 /// For each priority what one more of its count adds to a rank, and behind the greatest one the
 /// top rank.
@@ -21,8 +22,8 @@ pub(crate) struct Scale {
 /// The scales of both players.
 #[derive(Drop)]
 pub(crate) struct Scales {
-    pub zero: Scale,
-    pub one: Scale,
+    pub even: Scale,
+    pub odd: Scale,
 }
 
 /// What an edge asks for, where the top rank is a multiple of the place value.
@@ -61,10 +62,10 @@ pub(crate) fn width(game: &Game) -> usize
 }
 
 /// How many counts there are at a priority that so many vertices have.
-fn base(player: u8, priority: u32, vertices: u32) -> u64
-    ensures { result ≡ (if priority % 2 == player then 1 else vertices + 1) }
+fn base(player: Player, priority: u32, vertices: u32) -> u64
+    ensures { result ≡ (if priority % 2 == parity_of player then 1 else vertices + 1) }
 {
-    if priority % 2 == u32::from(player) {
+    if priority % 2 == player.parity() {
         1
     } else {
         u64::from(vertices) + 1
@@ -73,7 +74,7 @@ fn base(player: u8, priority: u32, vertices: u32) -> u64
 
 impl Scale {
     /// The scale of a player, or nothing where the ranks are more than a word has (K06).
-    pub(crate) fn of(game: &Game, player: u8, counts: &PriorityCounts) -> Option<Scale>
+    pub(crate) fn of(game: &Game, player: Player, counts: &PriorityCounts) -> Option<Scale>
         requires counts { AreCountsOf game.now counts.now }
         ensures { MatchOption result (HasTooManyRanks game.now player) (IsScaleOf game.now player) }
     {
@@ -102,7 +103,7 @@ impl Scale {
     }
 
     /// The rank above all others, of a vertex that the player does not win.
-    pub(crate) fn top(&self, game: &Game, player: u8) -> u64
+    pub(crate) fn top(&self, game: &Game, player: Player) -> u64
         requires scale { IsScaleOf game.now player self.now }
         ensures { result ≡ top_of game.now player }
     {
@@ -110,13 +111,13 @@ impl Scale {
     }
 
     /// The least rank of `v` on an edge to a vertex of this rank.
-    pub(crate) fn asked(&self, game: &Game, player: u8, v: u32, rank: u64) -> u64
+    pub(crate) fn asked(&self, game: &Game, player: Player, v: u32, rank: u64) -> u64
         requires vertex { v < vertex_count game.now }
         requires scale { IsScaleOf game.now player self.now }
         ensures { result ≡ asked game.now player v rank }
     {
         let priority = game.priority(v);
-        let more = if priority % 2 == u32::from(player) {
+        let more = if priority % 2 == player.parity() {
             0
         } else {
             1
@@ -126,7 +127,7 @@ impl Scale {
         step(place, top, more, rank)
     }
 
-    pub(crate) fn count(&self, game: &Game, player: u8, rank: u64, priority: u32) -> u64
+    pub(crate) fn count(&self, game: &Game, player: Player, rank: u64, priority: u32) -> u64
         requires scale { IsScaleOf game.now player self.now }
         requires priority { priority < priority_count game.now }
         ensures { result ≡ counts_of game.now player rank priority }
@@ -143,12 +144,12 @@ impl Scales {
         ensures { MatchOption result (SomeHasTooManyRanks game.now) (AreScalesOf game.now) }
     {
         let counts = PriorityCounts::of(game);
-        let Some(zero) = Scale::of(game, 0, &counts) else {
+        let Some(even) = Scale::of(game, Player::Even, &counts) else {
             return None;
         };
-        let Some(one) = Scale::of(game, 1, &counts) else {
+        let Some(odd) = Scale::of(game, Player::Odd, &counts) else {
             return None;
         };
-        Some(Scales { zero, one })
+        Some(Scales { even, odd })
     }
 }

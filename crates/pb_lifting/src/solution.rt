@@ -3,6 +3,7 @@
 ghost use Rattle.std.specs.Prelude.{◌≡◌, ◌<◌, ◌↔◌, IsTrue, IfOk, OnOk};
 ghost use Rattle.std.specs.Prelude.{Some, ◌==◌, if◌then◌else◌};
 ghost use Rattle.pb_game.specs.Games.{vertex_count, priority_count};
+ghost use Rattle.pb_game.specs.declared.player.Player.TheVariants.{Even, Odd};
 ghost use Rattle.pb_lifting.specs.Scales.{IsScaleOf};
 ghost use Rattle.pb_lifting.specs.Solutions.{Meets, IsMeeting, IsLeastSuccessor, IsChoice};
 ghost use Rattle.pb_lifting.specs.Solutions.{winner_by, count_by_rank, lesser_of, AddsRow};
@@ -10,19 +11,19 @@ ghost use Rattle.pb_lifting.specs.Solutions.{AddsMeasured, AddsWinner, IsSolutio
 
 use crate::measured::Measured;
 use crate::scale::{Scale, width};
-use pb_game::{Game, Solution};
+use pb_game::{Game, Player, Solution};
 use std::alloc::{AllocError, Global};
 
 /// The solution that the final words of both players say.
 pub(crate) fn solution_of(
     alloc: Global,
     game: &Game,
-    zero: &Measured,
-    one: &Measured,
+    even: &Measured,
+    odd: &Measured,
 ) -> Result<Solution, AllocError>
-    requires zero { AreMeasured game.now 0 zero.now }
-    requires one { AreMeasured game.now 1 one.now }
-    ensures { IfOk result (λ s. IsSolutionOf game.now zero.now.words.items one.now.words.items s) }
+    requires even { AreMeasured game.now Even even.now }
+    requires odd { AreMeasured game.now Odd odd.now }
+    ensures { IfOk result (λ s. IsSolutionOf game.now even.now.words.items odd.now.words.items s) }
 {
     let vertices = game.len() as usize;
     let mut solution = Solution {
@@ -31,7 +32,7 @@ pub(crate) fn solution_of(
         counts: Vec::with_capacity(alloc, vertices * width(game))?,
     };
     for v in 0..game.len() {
-        push_at(game, zero, one, v, &mut solution)?;
+        push_at(game, even, odd, v, &mut solution)?;
     }
     Ok(solution)
 }
@@ -39,36 +40,36 @@ pub(crate) fn solution_of(
 /// Puts the entries of `v` behind the others.
 fn push_at(
     game: &Game,
-    zero: &Measured,
-    one: &Measured,
+    even: &Measured,
+    odd: &Measured,
     v: u32,
     solution: &mut Solution,
 ) -> Result<(), AllocError>
-    requires zero { AreMeasured game.now 0 zero.now }
-    requires one { AreMeasured game.now 1 one.now }
+    requires even { AreMeasured game.now Even even.now }
+    requires odd { AreMeasured game.now Odd odd.now }
     requires vertex { v < vertex_count game.now }
-    ensures { OnOk result (AddsWinner game.now zero.now one.now v solution.old solution.new) }
+    ensures { OnOk result (AddsWinner game.now even.now odd.now v solution.old solution.new) }
 {
-    if wins_zero(game, zero, v) {
-        push_vertex(game, 0, zero, v, solution)
+    if wins_even(game, even, v) {
+        push_vertex(game, Player::Even, even, v, solution)
     } else {
-        push_vertex(game, 1, one, v, solution)
+        push_vertex(game, Player::Odd, odd, v, solution)
     }
 }
 
-/// Whether player 0 wins `v`.
-fn wins_zero(game: &Game, zero: &Measured, v: u32) -> bool
-    requires zero { AreMeasured game.now 0 zero.now }
+/// Whether Even wins `v`.
+fn wins_even(game: &Game, even: &Measured, v: u32) -> bool
+    requires even { AreMeasured game.now Even even.now }
     requires vertex { v < vertex_count game.now }
-    ensures { IsTrue result ↔ (winner_by game.now zero.now.words.items v ≡ 0) }
+    ensures { IsTrue result ↔ (winner_by game.now even.now.words.items v ≡ Even) }
 {
-    zero.words[v as usize] != zero.scale.top(game, 0)
+    even.words[v as usize] != even.scale.top(game, Player::Even)
 }
 
 /// Puts the entries of `v`, which this player wins, behind the others.
 fn push_vertex(
     game: &Game,
-    player: u8,
+    player: Player,
     measured: &Measured,
     v: u32,
     solution: &mut Solution,
@@ -87,7 +88,7 @@ fn push_vertex(
 /// Puts a vertex's counts behind the others.
 fn push_counts(
     game: &Game,
-    player: u8,
+    player: Player,
     scale: &Scale,
     rank: u64,
     counts: &mut Vec<u64>,
@@ -102,7 +103,7 @@ fn push_counts(
 }
 
 /// The count of a rank at a priority, and 0 where the rank is top.
-fn count_at(game: &Game, player: u8, scale: &Scale, rank: u64, priority: u32) -> u64
+fn count_at(game: &Game, player: Player, scale: &Scale, rank: u64, priority: u32) -> u64
     requires scale { IsScaleOf game.now player scale.now }
     requires priority { priority < priority_count game.now }
     ensures { result ≡ count_by_rank game.now player rank priority }
@@ -114,7 +115,7 @@ fn count_at(game: &Game, player: u8, scale: &Scale, rank: u64, priority: u32) ->
 }
 
 /// The choice at `v`, which this player wins.
-fn choice_at(game: &Game, player: u8, measured: &Measured, v: u32) -> u32
+fn choice_at(game: &Game, player: Player, measured: &Measured, v: u32) -> u32
     requires measured { AreMeasured game.now player measured.now }
     requires vertex { v < vertex_count game.now }
     ensures { IsChoice game.now player measured.now.words.items v result }
@@ -143,7 +144,7 @@ fn least_successor(game: &Game, v: u32) -> u32
 }
 
 /// The least successor to which an edge from `v` meets the edge condition.
-fn least_meeting(game: &Game, player: u8, measured: &Measured, v: u32) -> Option<u32>
+fn least_meeting(game: &Game, player: Player, measured: &Measured, v: u32) -> Option<u32>
     requires measured { AreMeasured game.now player measured.now }
     requires vertex { v < vertex_count game.now }
     ensures { IsMeeting game.now player measured.now.words.items v result }
@@ -168,7 +169,7 @@ fn lesser(least: Option<u32>, u: u32) -> Option<u32>
 }
 
 /// Whether an edge from `v` to `u` meets the edge condition.
-fn meets(game: &Game, player: u8, measured: &Measured, v: u32, u: u32) -> bool
+fn meets(game: &Game, player: Player, measured: &Measured, v: u32, u: u32) -> bool
     requires measured { AreMeasured game.now player measured.now }
     requires vertex { v < vertex_count game.now }
     requires to { u < vertex_count game.now }

@@ -6,10 +6,10 @@ ghost use Rattle.pb_lifting.specs.Measures.{least_rank, top_of, IsFixed, IsLeast
 ghost use Rattle.pb_lifting.specs.Sweep.{AreWords, IsSweptAt, IsSweptOnce, slack};
 
 use crate::scale::{Scale, better_rank, rank_before_successors};
-use pb_game::Game;
+use pb_game::{Game, Player};
 
 /// The least rank of `v` over the words.
-fn least_of(game: &Game, player: u8, scale: &Scale, words: &[u64], v: u32) -> u64
+fn least_of(game: &Game, player: Player, scale: &Scale, words: &[u64], v: u32) -> u64
     requires scale { IsScaleOf game.now player scale.now }
     requires words { length words.now ≡ vertex_count game.now }
     requires vertex { v < vertex_count game.now }
@@ -25,7 +25,7 @@ fn least_of(game: &Game, player: u8, scale: &Scale, words: &[u64], v: u32) -> u6
 }
 
 /// Lifts one word. True where it was raised.
-fn sweep_vertex(game: &Game, player: u8, scale: &Scale, words: &mut Vec<u64>, v: u32) -> bool
+fn sweep_vertex(game: &Game, player: Player, scale: &Scale, words: &mut Vec<u64>, v: u32) -> bool
     requires scale { IsScaleOf game.now player scale.now }
     requires words { AreWords game.now player words.old.items }
     requires vertex { v < vertex_count game.now }
@@ -42,7 +42,7 @@ fn sweep_vertex(game: &Game, player: u8, scale: &Scale, words: &mut Vec<u64>, v:
 }
 
 /// Lifts each word once. True where one was raised.
-fn sweep_pass(game: &Game, player: u8, scale: &Scale, words: &mut Vec<u64>) -> bool
+fn sweep_pass(game: &Game, player: Player, scale: &Scale, words: &mut Vec<u64>) -> bool
     requires scale { IsScaleOf game.now player scale.now }
     requires words { AreWords game.now player words.old.items }
     ensures words { AreWords game.now player words.new.items }
@@ -59,7 +59,7 @@ fn sweep_pass(game: &Game, player: u8, scale: &Scale, words: &mut Vec<u64>) -> b
 
 /// Lifts each word once, the last of them first, so that ranks go quickly along chains of vertices
 /// whose numbers rise.
-fn sweep_down(game: &Game, player: u8, scale: &Scale, words: &mut Vec<u64>)
+fn sweep_down(game: &Game, player: Player, scale: &Scale, words: &mut Vec<u64>)
     requires scale { IsScaleOf game.now player scale.now }
     requires words { AreWords game.now player words.old.items }
     ensures words { AreWords game.now player words.new.items }
@@ -74,7 +74,7 @@ fn sweep_down(game: &Game, player: u8, scale: &Scale, words: &mut Vec<u64>)
 }
 
 /// Lifts the words until no lift raises one: then they are the least measure.
-pub(crate) fn sweep(game: &Game, player: u8, scale: &Scale, words: &mut Vec<u64>)
+pub(crate) fn sweep(game: &Game, player: Player, scale: &Scale, words: &mut Vec<u64>)
     requires scale { IsScaleOf game.now player scale.now }
     requires words { AreWords game.now player words.old.items }
     ensures fixed { IsFixed game.now player words.new.items }

@@ -7,6 +7,7 @@ use Rattle.pb_rows.specs.Row.{Row}
 use Rattle.pb_bytecode.specs.Contents.{Contents}
 use Rattle.pb_bytecode.specs.Meaning.{AreTrees}
 use Rattle.pb_exploration.specs.Rows.{AreReached, AreExplored}
+use Rattle.pb_game.specs.declared.player.Player.TheVariants.{Even}
 use Rattle.pb_game_of_trees.specs.Explored.{IsModuleGame}
 use Rattle.pb_game.specs.declared.certificate.Solution.{Solution}
 use Rattle.pb_game.specs.Solutions.{winner_of}
@@ -38,7 +39,7 @@ pub record IsLiftedAnswer (m : Contents) (a : Answer) : Type 0 where
   pub game : IsModuleGame m rows built
   pub solution : Solution
   pub lifted : IsLiftedOrNone built.game solution
-  pub truth : IsTrue a.truth ↔ (winner_of solution built.start ≡ 0)
+  pub truth : IsTrue a.truth ↔ (winner_of solution built.start ≡ Even)
 
 -- the game of the reached instances has more than 2^24 vertices
 pub record IsTooLargeUnder (m : Contents) (trees : ℕ → Tree) : Type 0 where

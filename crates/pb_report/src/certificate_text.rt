@@ -66,7 +66,7 @@ fn write_line<S: Sink>(
         result S.taken S.has_failed sink.old sink.new buffer.old buffer.new }
 {
     write_field(buffer, vertex, sink)?;
-    buffer.write_number(u32::from(solution.winner(vertex)), sink)?;
+    buffer.write_number(solution.winner(vertex).parity(), sink)?;
     write_strategy(buffer, strategy_at(game, solution, vertex), sink)
 }
 

@@ -94,7 +94,7 @@ pub(crate) fn write_vertex<S: Sink>(
         buffer,
         vertex,
         game.priority(vertex),
-        u32::from(game.owner(vertex)),
+        game.owner(vertex).parity(),
         sink,
     )?;
     write_numbers(buffer, game.successors(vertex), sink)

@@ -2,6 +2,7 @@
 -- and, where an equation's sign is the other player's, by induction on that player's counts.
 use Rattle.std.proofs.Common.{◌≡◌, ◌≢◌, ℕ, zero, suc, ◌+◌, ◌%◌, ◌<◌, ◌≤◌, Bool, not, List, [], ◌∷◌, length, inl, inr, refl, sym, ap, ◌∙◌, subst, arith}
 use Rattle.std.proofs.lemmas.Bool.{cases_lt}
+use Rattle.pb_game.specs.Players.{parity_of}
 use Rattle.pb_fixpoint.specs.Solution.{Environment, Equation, assign, iterate, start, solution, operator, value_of}
 use Rattle.pb_trees.specs.Tree.{Tree, tree_truth}
 use Rattle.pb_trees.specs.Equations.{Signature, total, equation, numbered}
@@ -26,7 +27,7 @@ pub record Arena (b : Bool) (trees : ℕ → Tree) (level : ℕ → ℕ) : Type 
   pub lengths : (v p : ℕ) → length (rank v p) ≡ width p
   pub at_level : (v n : ℕ) → IsAt v n → priority v ≡ level n
   pub along : (v w p : ℕ) → IsWon v → Kept v w → priority v ≤ p → IsAtMost (rank w p) (rank v p)
-  pub down : (v w : ℕ) → IsWon v → Kept v w → priority v % 2 ≢ player b → IsLess (rank w (priority v)) (rank v (priority v))
+  pub down : (v w : ℕ) → IsWon v → Kept v w → priority v % 2 ≢ parity_of (player b) → IsLess (rank w (priority v)) (rank v (priority v))
   -- an instance's tree has the value where the instances have it to which its kept edges lead, through vertices of priority 0
   pub local : (S : ℕ → Type 0) (t : Environment ℕ) → ((v : ℕ) → S v → IsWon v) →
       ((v w : ℕ) → S v → priority v ≡ 0 → Kept v w → S w) → ((v n : ℕ) → S v → IsAt v n → t n ≡ b) →

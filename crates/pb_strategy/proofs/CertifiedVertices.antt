@@ -7,6 +7,9 @@ use Rattle.pb_trees.specs.Tree.{Tree, Single, Root, TreeCalls, tree_truth}
 use Rattle.pb_trees.specs.Equations.{Signature, solved}
 use Rattle.pb_trees.specs.Game.{Vertex, inner, target, vertex_of, priority_from, tree_vertices, row_vertices, game_vertices, false_sink, true_sink}
 use Rattle.pb_trees.specs.Rows.{Row, IsReached, AreRows}
+use Rattle.pb_game.specs.declared.player.Player.TheVariants.{Even, Odd}
+use Rattle.pb_game.specs.Players.{parity_of}
+use Rattle.pb_game.specs.declared.player.Player.{Player}
 use Rattle.pb_game.specs.Certificates.{IsProgress}
 use Rattle.pb_strategy.proofs.Players.{player}
 use Rattle.pb_trees.proofs.Members.{among_of_contains, contains_of_among}
@@ -17,13 +20,13 @@ use Rattle.pb_strategy.proofs.Local.{KeptEdge, values, leaf-value, bracket-value
 use Rattle.pb_strategy.proofs.Arena.{Arena, claim}
 
 -- What the proof reads of a certificate: a winner, a choice and counts for each vertex, and what holds along kept edges.
-pub record IsCertified (vertices : List Vertex) (winner choice : ℕ → ℕ) (count : ℕ → ℕ → ℕ) (limit : ℕ) : Type 0 where
-  pub chosen : (v : ℕ) (x : Vertex) → slice_get vertices v ≡ Some x → x.owner ≡ winner v → Contains x.successors (choice v)
+pub record IsCertified (vertices : List Vertex) (winner : ℕ → Player) (choice : ℕ → ℕ) (count : ℕ → ℕ → ℕ) (limit : ℕ) : Type 0 where
+  pub chosen : (v : ℕ) (x : Vertex) → slice_get vertices v ≡ Some x → x.owner ≡ parity_of (winner v) → Contains x.successors (choice v)
   pub region : (v w : ℕ) → KeptEdge vertices winner choice v w → winner w ≡ winner v
   pub progress : (v w : ℕ) (k : KeptEdge vertices winner choice v w) → IsProgress (count v) (count w) (winner v) k.vertex.priority limit
 
 module _ (signatures : List Signature) (trees : ℕ → Tree) (rows : List Row) (are : AreRows signatures trees rows)
-    (winner choice : ℕ → ℕ) (count : ℕ → ℕ → ℕ) (limit : ℕ) (is : IsCertified (game_vertices signatures rows) winner choice count limit) where
+    (winner : ℕ → Player) (choice : ℕ → ℕ) (count : ℕ → ℕ → ℕ) (limit : ℕ) (is : IsCertified (game_vertices signatures rows) winner choice count limit) where
   abbrev g : List Vertex
   g = game_vertices signatures rows
 
@@ -36,23 +39,23 @@ module _ (signatures : List Signature) (trees : ℕ → Tree) (rows : List Row) 
   abbrev Kept : ℕ → ℕ → Type 0
   Kept = KeptEdge g winner choice
 
-  -- player 1 wins the false sink: its loop is kept, and would have to decrease player 1's counts
-  false_sink-lost : winner 0 ≡ 0 → ⊥
+  -- Odd wins the false sink: its loop is kept, and would have to decrease Odd's counts
+  false_sink-lost : winner 0 ≡ Even → ⊥
   false_sink-lost wins =
-      let edge : Contains false_sink.successors (choice 0) = is.chosen 0 false_sink refl (sym wins) in
+      let edge : Contains false_sink.successors (choice 0) = is.chosen 0 false_sink refl (sym (ap parity_of wins)) in
       let stays : choice 0 ≡ 0 = elim (among_of_contains false_sink.successors (choice 0) edge) [ inl e ↦ sym e | inr no' ↦ absurd no' ] in
       let kept : Kept 0 0 = record { vertex = false_sink; stands = refl; edge = contains_of_among false_sink.successors 0 (inl refl); chosen = λ _. stays } in
-      no_loop (count 0) (winner 0) 1 limit (λ e. let one : 1 ≡ 0 = e ∙ wins in omega arith) (is.progress 0 0 kept)
+      no_loop (count 0) (winner 0) 1 limit (λ e. let one : 1 ≡ 0 = e ∙ ap parity_of wins in omega arith) (is.progress 0 0 kept)
 
-  true_sink-won : winner 1 ≡ 1 → ⊥
+  true_sink-won : winner 1 ≡ Odd → ⊥
   true_sink-won wins =
       let kept : Kept 1 1 = record {
         vertex = true_sink;
         stands = refl;
         edge = contains_of_among true_sink.successors 1 (inl refl);
-        chosen = λ owned. absurd (let one : 0 ≡ 1 = owned ∙ wins in omega arith);
+        chosen = λ owned. absurd (let one : 0 ≡ 1 = owned ∙ ap parity_of wins in omega arith);
       } in
-      no_loop (count 1) (winner 1) 0 limit (λ e. let one : 0 ≡ 1 = e ∙ wins in omega arith) (is.progress 1 1 kept)
+      no_loop (count 1) (winner 1) 0 limit (λ e. let one : 0 ≡ 1 = e ∙ ap parity_of wins in omega arith) (is.progress 1 1 kept)
 
   pub false_sink-value : (b : Bool) → winner 0 ≡ player b → b ≡ false
   false_sink-value true h = absurd (false_sink-lost h)
@@ -96,7 +99,7 @@ module _ (signatures : List Signature) (trees : ℕ → Tree) (rows : List Row) 
   along : (b : Bool) (v w p : ℕ) → winner v ≡ player b → Kept v w → priority_at v ≤ p → IsAtMost (rank b w p) (rank b v p)
   along b v w p wins kept low = progress-at_most (count v) (count w) (player b) (priority_at v) p limit low (progress_at b v w wins kept)
 
-  down : (b : Bool) (v w : ℕ) → winner v ≡ player b → Kept v w → priority_at v % 2 ≢ player b → IsLess (rank b w (priority_at v)) (rank b v (priority_at v))
+  down : (b : Bool) (v w : ℕ) → winner v ≡ player b → Kept v w → priority_at v % 2 ≢ parity_of (player b) → IsLess (rank b w (priority_at v)) (rank b v (priority_at v))
   down b v w wins kept odd = progress-less (count v) (count w) (player b) (priority_at v) limit odd (progress_at b v w wins kept)
 
   -- S need only be closed under kept edges from inner vertices, among which those of the brackets inside the tree are
@@ -128,7 +131,7 @@ module _ (signatures : List Signature) (trees : ℕ → Tree) (rows : List Row) 
           ((k : ℕ) → v < k → k < suc (v + inner tree) → IsInner k) → tree_truth t tree ≡ b
       go (Single l) reached stands inners' =
           let x : Vertex = record { owner = 0; priority = level n; successors = target at l ∷ [] } in
-          let chosen : 0 ≡ winner v → choice v ≡ target at l = λ owned.
+          let chosen : 0 ≡ parity_of (winner v) → choice v ≡ target at l = λ owned.
           elim (among_of_contains x.successors (choice v) (is.chosen v x stands.0 owned)) [ inl e ↦ sym e | inr no' ↦ absurd no' ] in
           leaf-value b g winner choice is.chosen at (IsReached rows) IsInner S t won closed' calls to_false to_true l reached
           (kept (target at l) (record { vertex = x; stands = stands.0; edge = contains_of_among x.successors (target at l) (inl refl); chosen = chosen }))

@@ -1,5 +1,6 @@
 -- A vertex that meets the rules has no flaw, and the other way round.
 use Rattle.std.proofs.Common.{ℕ, inl, inr, arith}
+use Rattle.pb_game.specs.declared.player.Player.{Player}
 use Rattle.pb_game.specs.declared.Game.{Game}
 use Rattle.pb_game.specs.declared.certificate.Solution.{Solution}
 use Rattle.pb_game.specs.declared.certificate.CertificateRule.{CertificateRule}
@@ -9,10 +10,10 @@ use Rattle.pb_game.specs.Certificates.{Decreases, IsSame, IsCertifiedAt}
 use Rattle.pb_game.specs.Flaws.{Fails}
 
 -- the counts can't decrease both ways
-pub one_way : (f t : ℕ → ℕ) (w p limit : ℕ) → Decreases f t w p limit → Decreases t f w p limit → ⊥
+pub one_way : (f t : ℕ → ℕ) (w : Player) (p limit : ℕ) → Decreases f t w p limit → Decreases t f w p limit → ⊥
 one_way f t w p limit a b = grind (arith, a.same b.place, b.same a.place, a.less, b.less, a.below, b.below, a.losing, b.losing)
 
-pub not_same : (f t : ℕ → ℕ) (w p limit : ℕ) → Decreases f t w p limit → IsSame t f w p limit → ⊥
+pub not_same : (f t : ℕ → ℕ) (w : Player) (p limit : ℕ) → Decreases f t w p limit → IsSame t f w p limit → ⊥
 not_same f t w p limit a b = grind (arith, b.same a.place a.above a.below a.losing, a.less)
 
 -- a vertex that meets the rules fails none

@@ -1,11 +1,15 @@
 -- Lists that pass the test are a certificate of each game with these vertices.
 use Rattle.std.proofs.Common.{◌≡◌, ℕ, zero, suc, ◌+◌, ◌*◌, ◌<◌, Bool, true, List, [], ◌∷◌, length, Some, refl, sym, ap, ap₂, ◌∙◌, subst, arith}
-use Rattle.std.specs.Prelude.{Contains, slice_get, slice_index}
+use Rattle.std.specs.Prelude.{Contains, slice_get, slice_index, slice_index_or}
+use Rattle.pb_game.proofs.Players.{parity_exact}
+use Rattle.pb_game.specs.declared.player.Player.TheVariants.{Even}
+use Rattle.pb_game.specs.Players.{parity_of}
+use Rattle.pb_game.specs.declared.player.Player.{Player}
 use Rattle.pb_game.specs.declared.Game.{Game}
 use Rattle.pb_game.specs.Adjacency.{greatest_of}
 use Rattle.pb_game.specs.Games.{vertex_count, priority_of, greatest_priority, priority_count}
 use Rattle.pb_game.specs.declared.certificate.Solution.{Solution}
-use Rattle.pb_game.specs.Solutions.{player_of, winner_of, choice_of, count_of}
+use Rattle.pb_game.specs.Solutions.{winner_of, choice_of, count_of}
 use Rattle.pb_game.specs.Certificates.{IsCertifiedAt, IsKept, IsProgress}
 use Rattle.pb_trees.specs.Game.{Vertex}
 use Rattle.pb_strategy.specs.Vertices.{HasVertices, IsVertex}
@@ -34,8 +38,8 @@ width_is g vertices has =
     ap (λ (ps : List ℕ). greatest_of ps + 1)
     (same_elements vertices g.priorities.items (g.well_formed.priority ∙ count) (λ k x h. (has.each k x h).priority))
 
-abbrev winners : Lists → ℕ → ℕ
-winners lists v = player_of (slice_index lists.winner v)
+abbrev winners : Lists → ℕ → Player
+winners lists v = slice_index_or lists.winner v Even
 
 abbrev choices : Lists → ℕ → ℕ
 choices lists v = slice_index lists.choice v
@@ -55,7 +59,7 @@ passes lists vertices = vertices_pass (winners lists) (choices lists) (counts li
 module _ (lists : Lists) (vertices : List Vertex) (g : Game) (s : Solution) (has : HasVertices g vertices) (of : HasLists s lists) where
   winner_is : winner_of s ≡ winners lists
   unfolding winner_of
-  winner_is = ap {B = ℕ → ℕ} (λ (ws : List ℕ) (v : ℕ). player_of (slice_index ws v)) of.winner
+  winner_is = ap {B = ℕ → Player} (λ (ws : List Player) (v : ℕ). slice_index_or ws v Even) of.winner
 
   choice_is : choice_of s ≡ choices lists
   unfolding choice_of
@@ -73,14 +77,14 @@ module _ (lists : Lists) (vertices : List Vertex) (g : Game) (s : Solution) (has
       subst (λ n. Meets (winner_of s) (choice_of s) (count_of g s) n v x) (sym (width_is g vertices has))
       (subst (λ (c : ℕ → ℕ → ℕ). Meets (winner_of s) (choice_of s) c (width vertices) v x) (sym count_is)
       (subst (λ (c : ℕ → ℕ). Meets (winner_of s) c (counts lists (width vertices)) (width vertices) v x) (sym choice_is)
-      (subst (λ (w : ℕ → ℕ). Meets w (choices lists) (counts lists (width vertices)) (width vertices) v x) (sym winner_is) m)))
+      (subst (λ (w : ℕ → Player). Meets w (choices lists) (counts lists (width vertices)) (width vertices) v x) (sym winner_is) m)))
 
   certified_at : (v : ℕ) (x : Vertex) → IsVertex g v x → Meets (winner_of s) (choice_of s) (count_of g s) (priority_count g) v x → IsCertifiedAt g s v
   certified_at v x there m =
       let edge_to : (w : ℕ) → IsKept g s v w → Contains x.successors w = λ w k. subst (λ (ws : List ℕ). Contains ws w) there.successors k.edge in
-      let own : (w : ℕ) → IsKept g s v w → x.owner ≡ winner_of s v → choice_of s v ≡ w = λ w k e. k.choice (there.owner ∙ e) in
+      let own : (w : ℕ) → IsKept g s v w → x.owner ≡ parity_of (winner_of s v) → choice_of s v ≡ w = λ w k e. k.choice (parity_exact _ _ (there.owner ∙ e)) in
       record {
-        choice = λ e. subst (λ (ws : List ℕ). Contains ws (choice_of s v)) (sym there.successors) (m.chosen (sym there.owner ∙ e));
+        choice = λ e. subst (λ (ws : List ℕ). Contains ws (choice_of s v)) (sym there.successors) (m.chosen (sym there.owner ∙ ap parity_of e));
         region = λ w k. m.region w (edge_to w k) (own w k);
         progress = λ w k. subst (λ p. IsProgress (count_of g s v) (count_of g s w) (winner_of s v) p (priority_count g)) (sym there.priority)
             (m.progress w (edge_to w k) (own w k));

@@ -1,17 +1,20 @@
--- The two players, each named by the truth value that the player wants instances to have: player 0 wants true, and has
--- the even priorities and the disjunctions; player 1 wants false, and has the odd priorities and the conjunctions.
+-- The two players, each named by the truth value that the player wants instances to have: Even wants true, and has the
+-- disjunctions; Odd wants false, and has the conjunctions.
 use Rattle.std.proofs.Common.{◌≡◌, ◌≢◌, ℕ, Bool, true, false, not, ◌&&◌, ◌||◌, ◌⊎◌, inl, inr, refl, sym, ap}
 use Rattle.std.proofs.lemmas.Bool.{true≢false}
+use Rattle.pb_game.specs.Players.{parity_of}
+use Rattle.pb_game.specs.declared.player.Player.TheVariants.{Even, Odd}
+use Rattle.pb_game.specs.declared.player.Player.{Player}
 use Rattle.pb_fixpoint.specs.declared.Sign.{Sign}
 use Rattle.pb_fixpoint.specs.declared.Sign.TheVariants.{Mu, Nu}
 use Rattle.pb_fixpoint.specs.Solution.{start}
 use Rattle.pb_trees.specs.Tree.{Connective, Conjunction, Disjunction, joined, of_none}
 use Rattle.pb_trees.specs.Game.{owner_of}
 
--- the number of the player who wants b
-abbrev pub player : Bool → ℕ
-player true = 0
-player false = 1
+-- the player who wants b
+abbrev pub player : Bool → Player
+player true = Even
+player false = Odd
 
 -- the connective at which that player chooses
 abbrev pub choosing : Bool → Connective
@@ -44,15 +47,15 @@ pub not_other : (b : Bool) → not b ≡ b → ⊥
 not_other true h = true≢false (sym h)
 not_other false h = true≢false h
 
-pub owner-choosing : (b : Bool) → owner_of (choosing b) ≡ player b
+pub owner-choosing : (b : Bool) → owner_of (choosing b) ≡ parity_of (player b)
 owner-choosing true = refl
 owner-choosing false = refl
 
-pub owner-other : (b : Bool) → owner_of (choosing (not b)) ≡ player b → ⊥
+pub owner-other : (b : Bool) → owner_of (choosing (not b)) ≡ parity_of (player b) → ⊥
 owner-other true h = cc
 owner-other false h = cc
 
-pub player-other : (b : Bool) → player (not b) ≢ player b
+pub player-other : (b : Bool) → parity_of (player (not b)) ≢ parity_of (player b)
 player-other true h = cc
 player-other false h = cc
 

@@ -4,6 +4,9 @@ use Rattle.std.specs.Prelude.{Contains, nat_lt, slice_index, false, ◌==◌}
 use Rattle.std.proofs.lemmas.Bool.{and_parts, ltb-true, true≢false}
 use Rattle.pb_trees.specs.Tree.{Leaf, Yes, No, Cut, Call, Operands, End, LeafThen, BracketThen, Tree, Single, Root, LeafCalls, OperandsCall, TreeCalls}
 use Rattle.pb_trees.specs.Equations.{Signature, total}
+use Rattle.pb_game.specs.declared.player.Player.TheVariants.{Even}
+use Rattle.pb_game.specs.Players.{is_even}
+use Rattle.pb_game.specs.declared.player.Player.{Player}
 use Rattle.pb_game.specs.Solutions.{player_of, winner_of}
 use Rattle.pb_trees.specs.Examples.{mu, tree_at}
 use Rattle.pb_trees.specs.Game.{Vertex, game_vertices, false_sink, true_sink}
@@ -138,9 +141,9 @@ unfolding winner_of
 wrong_winner g s has of is =
     let trees : List Tree = Single (Call 0) ∷ [] in
     let row : Row = record { number = 0; tree = Single (Call 0) } in
-    let solved_at : (winner_of s 2 == 0) ≡ false =
+    let solved_at : is_even (winner_of s 2) ≡ false =
     winners_are_solved g s is 2 (mu 1 ∷ []) (tree_at trees) (rows_from 0 trees)
     (record { reached = rows_are (mu 1 ∷ []) trees refl refl; vertices = has })
     row (contains_of_among (rows_from 0 trees) row (inl refl)) refl in
-    let wins : (winner_of s 2 == 0) ≡ true = ap (λ (ws : List ℕ). player_of (slice_index ws 2) == 0) of.winner in
+    let wins : is_even (winner_of s 2) ≡ true = ap (λ (ws : List Player). is_even (slice_index_or ws 2 Even)) of.winner in
     true≢false (sym wins ∙ solved_at)

@@ -1,10 +1,13 @@
 -- A certificate of a game of rows is one over the list of its vertices, and so its winners are the solution's values.
 use Rattle.std.proofs.Common.{◌≡◌, ℕ, List, Some, refl, sym, ap, ◌∙◌, subst, inl, inr, arith}
-use Rattle.std.specs.Prelude.{Contains, slice_get, slice_index, ◌==◌}
-use Rattle.std.proofs.lemmas.Bool.{cases_Bool}
+use Rattle.std.specs.Prelude.{Contains, slice_get}
 use Rattle.std.proofs.Math.Bool.{Bool-set}
 use Rattle.std.proofs.Math.Logic.{∥∥₁_elim}
 use Rattle.std.proofs.lemmas.Option.{slice_get_within}
+use Rattle.pb_game.proofs.Players.{parity_exact}
+use Rattle.pb_game.specs.declared.player.Player.TheVariants.{Even, Odd}
+use Rattle.pb_game.specs.Players.{parity_of, is_even}
+use Rattle.pb_game.specs.declared.player.Player.{Player}
 use Rattle.pb_game.specs.declared.Game.{Game}
 use Rattle.pb_game.specs.Games.{priority_count}
 use Rattle.pb_game.specs.declared.certificate.Solution.{Solution}
@@ -27,37 +30,34 @@ module _ (g : Game) (s : Solution) (vertices : List Vertex) (has : HasVertices g
       let there = has.each v k.vertex k.stands in
       record {
         edge = subst (λ (ws : List ℕ). Contains ws w) (sym there.successors) k.edge;
-        choice = λ own. k.chosen (sym there.owner ∙ own);
+        choice = λ own. k.chosen (sym there.owner ∙ ap parity_of own);
       }
 
   pub certified : IsCertified vertices (winner_of s) (choice_of s) (count_of g s) (priority_count g)
   certified = record {
     chosen = λ v x h own.
         let there = has.each v x h in
-        subst (λ (ws : List ℕ). Contains ws (choice_of s v)) there.successors ((at_vertex v x h).choice (there.owner ∙ own));
+        subst (λ (ws : List ℕ). Contains ws (choice_of s v)) there.successors ((at_vertex v x h).choice (parity_exact _ _ (there.owner ∙ own)));
     region = λ v w k. (at_vertex v k.vertex k.stands).region w (kept_there v w k);
     progress = λ v w k.
         subst (λ p. IsProgress (count_of g s v) (count_of g s w) (winner_of s v) p (priority_count g)) (has.each v k.vertex k.stands).priority
         ((at_vertex v k.vertex k.stands).progress w (kept_there v w k));
   }
 
--- a winner's number is that of the player whom the test names
-pub winner_is : (s : Solution) (v : ℕ) → winner_of s v ≡ player (winner_of s v == 0)
-unfolding winner_of
-winner_is s v = elim (cases_Bool (slice_index s.winner.items v == 0)) [
-  | inl yes' ↦ rw yes' refl
-  | inr no' ↦ rw no' refl
-]
+-- each player is the one who wants what the test says
+pub player_is : (p : Player) → p ≡ player (is_even p)
+player_is Even = refl
+player_is Odd = refl
 
 pub winners_are_solved : WinnersAreSolved
 winners_are_solved g s is v signatures trees rows game row contained at =
     let vertices = game_vertices signatures rows in
     sym (value_at signatures trees rows game.reached (winner_of s) (choice_of s) (count_of g s) (priority_count g)
-    (certified g s vertices game.vertices is) (winner_of s v == 0) row contained
-    (ap (winner_of s) at ∙ winner_is s v))
+    (certified g s vertices game.vertices is) (is_even (winner_of s v)) row contained
+    (ap (winner_of s) at ∙ player_is (winner_of s v)))
 
 -- the same of a certificate of which a struct's ghost field says no more than that there is one
-pub merely_solved : (g : Game) (s : Solution) → ∥ IsCertificate g s ∥₁ → (v : ℕ) → IsSolvedAt g v (winner_of s v == 0)
+pub merely_solved : (g : Game) (s : Solution) → ∥ IsCertificate g s ∥₁ → (v : ℕ) → IsSolvedAt g v (is_even (winner_of s v))
 merely_solved g s is v signatures trees rows game row contained at =
-    ∥∥₁_elim is (Bool-set (winner_of s v == 0) (solved signatures trees row.number))
+    ∥∥₁_elim is (Bool-set (is_even (winner_of s v)) (solved signatures trees row.number))
     (λ certificate. winners_are_solved g s certificate v signatures trees rows game row contained at)

@@ -1,6 +1,8 @@
 -- Small systems by hand: the game of each, the lists of a certificate, and the values of its
 -- instances.
 use Rattle.std.specs.Prelude.{◌≡◌, ℕ, zero, suc, Bool, true, false, List, [], ◌∷◌}
+use Rattle.pb_game.specs.declared.player.Player.TheVariants.{Even, Odd}
+use Rattle.pb_game.specs.declared.player.Player.{Player}
 use Rattle.pb_game.specs.declared.Game.{Game}
 use Rattle.pb_game.specs.declared.certificate.Solution.{Solution}
 use Rattle.pb_game.specs.Certificates.{IsCertificate}
@@ -27,7 +29,7 @@ vertex owner priority successors =
 
 -- the lists of a solution
 pub record Lists : Type 0 where
-  pub winner : List ℕ
+  pub winner : List Player
   pub choice : List ℕ
   pub counts : List ℕ
 
@@ -60,7 +62,7 @@ abbrev pub GreatestOfItself : Type 0
 GreatestOfItself = IsWorked (nu 1 ∷ []) (Single (Call 0) ∷ [])
     (vertex 0 0 (2 ∷ []) ∷ [])
     (record {
-      winner = 1 ∷ (0 ∷ (0 ∷ []));
+      winner = Odd ∷ (Even ∷ (Even ∷ []));
       choice = 0 ∷ (1 ∷ (2 ∷ []));
       counts = 0 ∷ (0 ∷ (0 ∷ (0 ∷ (0 ∷ (0 ∷ [])))));
     })
@@ -71,7 +73,7 @@ abbrev pub LeastOfItself : Type 0
 LeastOfItself = IsWorked (mu 1 ∷ []) (Single (Call 0) ∷ [])
     (vertex 0 1 (2 ∷ []) ∷ [])
     (record {
-      winner = 1 ∷ (0 ∷ (1 ∷ []));
+      winner = Odd ∷ (Even ∷ (Odd ∷ []));
       choice = 0 ∷ (1 ∷ (2 ∷ []));
       counts = 0 ∷ (0 ∷ (0 ∷ (0 ∷ (0 ∷ (0 ∷ [])))));
     })
@@ -81,7 +83,7 @@ LeastOfItself = IsWorked (mu 1 ∷ []) (Single (Call 0) ∷ [])
 abbrev pub WrongWinner : Type 0
 WrongWinner = DontCertify
     (record {
-      winner = 1 ∷ (0 ∷ (0 ∷ []));
+      winner = Odd ∷ (Even ∷ (Even ∷ []));
       choice = 0 ∷ (1 ∷ (2 ∷ []));
       counts = 0 ∷ (0 ∷ (0 ∷ (0 ∷ (0 ∷ (0 ∷ [])))));
     })
@@ -92,7 +94,7 @@ abbrev pub LeastFirst : Type 0
 LeastFirst = IsWorked (mu 1 ∷ (nu 1 ∷ [])) (Single (Call 1) ∷ (Single (Call 0) ∷ []))
     (vertex 0 1 (3 ∷ []) ∷ (vertex 0 0 (2 ∷ []) ∷ []))
     (record {
-      winner = 1 ∷ (0 ∷ (1 ∷ (1 ∷ [])));
+      winner = Odd ∷ (Even ∷ (Odd ∷ (Odd ∷ [])));
       choice = 0 ∷ (1 ∷ (0 ∷ (0 ∷ [])));
       counts = 0 ∷ (0 ∷ (0 ∷ (0 ∷ (0 ∷ (0 ∷ (1 ∷ (0 ∷ [])))))));
     })
@@ -103,7 +105,7 @@ abbrev pub GreatestFirst : Type 0
 GreatestFirst = IsWorked (nu 1 ∷ (mu 1 ∷ [])) (Single (Call 1) ∷ (Single (Call 0) ∷ []))
     (vertex 0 2 (3 ∷ []) ∷ (vertex 0 1 (2 ∷ []) ∷ []))
     (record {
-      winner = 1 ∷ (0 ∷ (0 ∷ (0 ∷ [])));
+      winner = Odd ∷ (Even ∷ (Even ∷ (Even ∷ [])));
       choice = 0 ∷ (1 ∷ (3 ∷ (2 ∷ [])));
       counts = 0 ∷ (0 ∷ (0 ∷ (0 ∷ (0 ∷ (0 ∷ (0 ∷ (0 ∷ (0 ∷ (0 ∷ (1 ∷ (0 ∷ [])))))))))));
     })
@@ -117,7 +119,7 @@ EachOther = IsWorked (nu 3 ∷ [])
     ∷ (Root Conjunction (LeafThen (Call 0) (LeafThen (Call 1) End)) ∷ [])))
     (vertex 1 0 (3 ∷ (4 ∷ [])) ∷ (vertex 1 0 (2 ∷ (4 ∷ [])) ∷ (vertex 1 0 (2 ∷ (3 ∷ [])) ∷ [])))
     (record {
-      winner = 1 ∷ (0 ∷ (0 ∷ (0 ∷ (0 ∷ []))));
+      winner = Odd ∷ (Even ∷ (Even ∷ (Even ∷ (Even ∷ []))));
       choice = 0 ∷ (1 ∷ (0 ∷ (0 ∷ (0 ∷ []))));
       counts = 0 ∷ (0 ∷ (0 ∷ (0 ∷ (0 ∷ (0 ∷ (0 ∷ (0 ∷ (0 ∷ (0 ∷ [])))))))));
     })
@@ -130,7 +132,7 @@ AlternatingInstances = IsWorked (nu 2 ∷ (mu 2 ∷ []))
     (vertex 0 2 (4 ∷ [])
     ∷ (vertex 0 2 (5 ∷ []) ∷ (vertex 0 1 (3 ∷ []) ∷ (vertex 0 1 (4 ∷ []) ∷ []))))
     (record {
-      winner = 1 ∷ (0 ∷ (0 ∷ (0 ∷ (0 ∷ (0 ∷ [])))));
+      winner = Odd ∷ (Even ∷ (Even ∷ (Even ∷ (Even ∷ (Even ∷ [])))));
       choice = 0 ∷ (1 ∷ (4 ∷ (5 ∷ (3 ∷ (4 ∷ [])))));
       counts =
           0 ∷ (0 ∷
@@ -147,7 +149,7 @@ NestedBracket = IsWorked (nu 1 ∷ (mu 1 ∷ []))
     ∷ (Single (Call 1) ∷ []))
     (vertex 0 2 (3 ∷ (4 ∷ [])) ∷ (vertex 1 0 (2 ∷ (4 ∷ [])) ∷ (vertex 0 1 (4 ∷ []) ∷ [])))
     (record {
-      winner = 1 ∷ (0 ∷ (1 ∷ (1 ∷ (1 ∷ []))));
+      winner = Odd ∷ (Even ∷ (Odd ∷ (Odd ∷ (Odd ∷ []))));
       choice = 0 ∷ (1 ∷ (0 ∷ (4 ∷ (0 ∷ []))));
       counts =
           0 ∷ (0 ∷
@@ -161,7 +163,7 @@ TrueOperand = IsWorked (nu 1 ∷ [])
     (Root Conjunction (BracketThen Disjunction (LeafThen Yes End) (LeafThen (Call 0) End)) ∷ [])
     (vertex 1 0 (2 ∷ (3 ∷ [])) ∷ (vertex 0 0 (1 ∷ []) ∷ []))
     (record {
-      winner = 1 ∷ (0 ∷ (0 ∷ (0 ∷ [])));
+      winner = Odd ∷ (Even ∷ (Even ∷ (Even ∷ [])));
       choice = 0 ∷ (1 ∷ (0 ∷ (1 ∷ [])));
       counts = 0 ∷ (0 ∷ (0 ∷ (0 ∷ (0 ∷ (0 ∷ (0 ∷ (0 ∷ [])))))));
     })

@@ -1,11 +1,12 @@
 -- What the winners of a certificate mean where the game is that of a system's trees: an instance is
--- true in the nested solution exactly where player 0 wins its vertex (Mader 1997, for the games of
+-- true in the nested solution exactly where Even wins its vertex (Mader 1997, for the games of
 -- Boolean equation systems).
 --
 -- A contract that hands out a winner cites `IsSolvedAt`. The call of `winners_are_solved` proves it
 -- of each certificate; `proofs/Winners` has `merely_solved`, the same for a certificate in a ghost
 -- field.
-use Rattle.std.specs.Prelude.{◌≡◌, ℕ, Bool, ◌==◌, List, Contains}
+use Rattle.std.specs.Prelude.{◌≡◌, ℕ, Bool, List, Contains}
+use Rattle.pb_game.specs.Players.{is_even}
 use Rattle.pb_game.specs.declared.Game.{Game}
 use Rattle.pb_game.specs.declared.certificate.Solution.{Solution}
 use Rattle.pb_game.specs.Solutions.{winner_of}
@@ -31,7 +32,7 @@ IsSolvedAt g v answer =
     (row : Row) → Contains rows row → vertex_of rows row.number ≡ v
     → answer ≡ solved signatures trees row.number
 
--- in a certificate, whether player 0 wins is such an answer at each vertex
+-- in a certificate, whether Even wins is such an answer at each vertex
 abbrev pub WinnersAreSolved : Type 0
 WinnersAreSolved =
-    (g : Game) (s : Solution) → IsCertificate g s → (v : ℕ) → IsSolvedAt g v (winner_of s v == 0)
+    (g : Game) (s : Solution) → IsCertificate g s → (v : ℕ) → IsSolvedAt g v (is_even (winner_of s v))

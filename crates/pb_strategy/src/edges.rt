@@ -31,7 +31,7 @@ pub(crate) fn flaw_at(game: &Game, solution: &Solution, v: u32) -> Option<Certif
     if increases(game, solution, v) {
         return Some(CertificateRule::Increases);
     }
-    if game.priority(v) % 2 != u32::from(winner) {
+    if game.priority(v) % 2 != winner.parity() {
         if stays(game, solution, v) {
             return Some(CertificateRule::NoDecrease);
         }
@@ -122,10 +122,10 @@ fn compare(game: &Game, solution: &Solution, v: u32, u: u32) -> Ordering
     requires to { u < vertex_count game.now }
     ensures { Compares game.now solution.now v u result }
 {
-    let winner = u32::from(solution.winner(v));
+    let parity = solution.winner(v).parity();
     let lowest = game.priority(v);
     for place in (lowest..=game.greatest_priority()).rev() {
-        if place % 2 != winner {
+        if place % 2 != parity {
             let from = solution.count(game, v, place);
             let to = solution.count(game, u, place);
             if to != from {

@@ -8,7 +8,7 @@ ghost use Rattle.pb_strategy.specs.Examples.{GreatestOfItself, LeastFirst, Least
 ghost use Rattle.pb_strategy.specs.Examples.{NestedBracket, TrueOperand, WrongWinner};
 ghost use Rattle.pb_strategy.specs.Meaning.{WinnersAreSolved};
 
-/// In the game of a system's reached instances, each certificate gives player 0 exactly the
+/// In the game of a system's reached instances, each certificate gives Even exactly the
 /// vertices of the instances that are true in the system's nested solution (Groote and Willemse
 /// 2005). The rows of reached instances need only be closed under calls.
 pub fn winners_are_solved()

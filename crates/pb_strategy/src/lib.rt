@@ -18,7 +18,7 @@ ghost use Rattle.pb_game.specs.Flaws.{IsFirstFlaw};
 
 pub use certified::{Certified, certify};
 use edges::flaw_at;
-use pb_game::{CertificateRule, Flaw, Game, Solution};
+use pb_game::{CertificateRule, Flaw, Game, Player, Solution};
 
 /// A solution that is a certificate of its game.
 #[derive(Drop)]
@@ -29,16 +29,17 @@ pub struct Checked<'a> {
 }
 
 impl Checked<'_> {
+    ghost use Rattle.pb_game.specs.declared.player.Player.TheVariants.{Even};
     ghost use Rattle.pb_strategy.specs.Meaning.{IsSolvedAt};
 
-    /// Whether player 0 wins `v`. Of whatever Boolean equation system the game was built, this is
+    /// Whether Even wins `v`. Of whatever Boolean equation system the game was built, this is
     /// the truth of the instance whose vertex `v` is (Groote and Willemse 2005).
     pub fn truth(&self, v: u32) -> bool
         requires { v < vertex_count self.now.game.now }
-        ensures winner { IsTrue result ↔ (winner_of self.now.solution.now v ≡ 0) }
+        ensures winner { IsTrue result ↔ (winner_of self.now.solution.now v ≡ Even) }
         ensures meaning { IsSolvedAt self.now.game.now v result }
     {
-        self.solution.winner(v) == 0
+        self.solution.winner(v) == Player::Even
     }
 }
 

@@ -1,7 +1,7 @@
 //! The depth of the solver's recursion, which is that of a game's priorities: the most that a game
 //! can have are solved within the stack of a thread.
 
-use pb_game::{Game, GameError, Parts};
+use pb_game::{Game, GameError, Parts, Player};
 use pb_strategy::check;
 use pb_zielonka::solve;
 use std::alloc::Global;
@@ -19,7 +19,7 @@ fn loops(alloc: Global, priorities: u32) -> Result<Parts, Fail> {
         successors: Vec::new(alloc),
     };
     for v in 0..priorities {
-        parts.owners.push(0)?;
+        parts.owners.push(Player::Even)?;
         parts.priorities.push(v)?;
         parts.successors.push(v)?;
         let place = parts.successors.len();
@@ -28,7 +28,7 @@ fn loops(alloc: Global, priorities: u32) -> Result<Parts, Fail> {
     Ok(parts)
 }
 
-/// How many vertices of the game player 0 wins, where there was memory to solve it.
+/// How many vertices of the game Even wins, where there was memory to solve it.
 fn count_won<R: Threads + Sync>(rt: &R, alloc: Global, game: &Game) -> Option<u32> {
     let solution = solve(rt, alloc, game).ok()?;
     let checked = check(game, &solution).ok()?;
@@ -39,7 +39,7 @@ fn count_won<R: Threads + Sync>(rt: &R, alloc: Global, game: &Game) -> Option<u3
     Some(won)
 }
 
-/// Player 0 wins each vertex of even priority.
+/// Even wins each vertex of even priority.
 #[test]
 fn all_priorities_within_two_megabytes(rt: HostRuntime) -> Result<(), Fail> {
     let alloc = rt.alloc();

@@ -1,5 +1,6 @@
 use pb_evidence::{Evidence, explain};
-use pb_game::{Game, Parts};
+use pb_game::Player::{Even, Odd};
+use pb_game::{Game, Parts, Player};
 use pb_strategy::check;
 use pb_zielonka::solve;
 use std::alloc::Global;
@@ -28,15 +29,15 @@ impl Builder {
             marks: Vec::new(alloc),
             numbers: Vec::new(alloc),
         };
-        builder.push(None, 0, 1, &[0])?;
-        builder.push(None, 0, 0, &[1])?;
+        builder.push(None, Even, 1, &[0])?;
+        builder.push(None, Even, 0, &[1])?;
         Ok(builder)
     }
 
     fn push(
         &mut self,
         instance: Option<u32>,
-        owner: u8,
+        owner: Player,
         priority: u32,
         successors: &[u32],
     ) -> Result<(), Fail> {
@@ -118,11 +119,11 @@ fn assert_evidence<R: Abort>(
 #[test]
 fn safety(rt: HostRuntime) -> Result<(), Fail> {
     let mut builder = Builder::new(rt.alloc())?;
-    builder.push(Some(0), 1, 0, &[3, 4, 5])?;
-    builder.push(Some(1), 1, 0, &[2, 4])?;
-    builder.push(Some(2), 0, 0, &[5])?;
-    builder.push(Some(3), 0, 0, &[6])?;
-    builder.push(Some(4), 0, 0, &[0])?;
+    builder.push(Some(0), Odd, 0, &[3, 4, 5])?;
+    builder.push(Some(1), Odd, 0, &[2, 4])?;
+    builder.push(Some(2), Even, 0, &[5])?;
+    builder.push(Some(3), Even, 0, &[6])?;
+    builder.push(Some(4), Even, 0, &[0])?;
     let evidence = builder.explain(&rt, rt.alloc(), 2)?;
     assert_evidence(&rt, evidence, false, &[0, 3, 4], &[&[3], &[4], &[]]);
     Ok(())
@@ -132,10 +133,10 @@ fn safety(rt: HostRuntime) -> Result<(), Fail> {
 #[test]
 fn liveness(rt: HostRuntime) -> Result<(), Fail> {
     let mut builder = Builder::new(rt.alloc())?;
-    builder.push(Some(0), 1, 1, &[3, 4])?;
-    builder.push(Some(1), 0, 1, &[1])?;
-    builder.push(Some(2), 0, 1, &[5])?;
-    builder.push(Some(3), 0, 1, &[4])?;
+    builder.push(Some(0), Odd, 1, &[3, 4])?;
+    builder.push(Some(1), Even, 1, &[1])?;
+    builder.push(Some(2), Even, 1, &[5])?;
+    builder.push(Some(3), Even, 1, &[4])?;
     let evidence = builder.explain(&rt, rt.alloc(), 2)?;
     assert_evidence(&rt, evidence, false, &[0, 2, 3], &[&[2], &[3], &[2]]);
     Ok(())
@@ -145,10 +146,10 @@ fn liveness(rt: HostRuntime) -> Result<(), Fail> {
 #[test]
 fn brackets(rt: HostRuntime) -> Result<(), Fail> {
     let mut builder = Builder::new(rt.alloc())?;
-    builder.push(Some(7), 0, 2, &[3, 5])?;
-    builder.push(None, 1, 0, &[2, 4])?;
-    builder.push(Some(8), 0, 2, &[2])?;
-    builder.push(Some(9), 0, 1, &[5])?;
+    builder.push(Some(7), Even, 2, &[3, 5])?;
+    builder.push(None, Odd, 0, &[2, 4])?;
+    builder.push(Some(8), Even, 2, &[2])?;
+    builder.push(Some(9), Even, 1, &[5])?;
     let evidence = builder.explain(&rt, rt.alloc(), 2)?;
     assert_evidence(&rt, evidence, true, &[7, 8], &[&[7, 8], &[7]]);
     Ok(())
@@ -158,9 +159,9 @@ fn brackets(rt: HostRuntime) -> Result<(), Fail> {
 #[test]
 fn one_of_two(rt: HostRuntime) -> Result<(), Fail> {
     let mut builder = Builder::new(rt.alloc())?;
-    builder.push(Some(0), 0, 0, &[3, 4])?;
-    builder.push(Some(1), 0, 0, &[3])?;
-    builder.push(Some(2), 0, 0, &[4])?;
+    builder.push(Some(0), Even, 0, &[3, 4])?;
+    builder.push(Some(1), Even, 0, &[3])?;
+    builder.push(Some(2), Even, 0, &[4])?;
     let evidence = builder.explain(&rt, rt.alloc(), 2)?.ok_or("no evidence")?;
     assert!(rt; evidence.truth);
     assert!(rt; evidence.instances.len() == 2);

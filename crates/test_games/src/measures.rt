@@ -1,7 +1,7 @@
-//! A plain solver by small progress measures (Jurdzinski 2000): measures of player 0, lifted until
-//! none changes. It shares nothing with the solver that is tested.
+//! A plain solver by small progress measures (Jurdzinski 2000): measures of Even, lifted until none
+//! changes. It shares nothing with the solver that is tested.
 
-use pb_game::Game;
+use pb_game::{Game, Player};
 use std::alloc::{AllocError, Global};
 
 /// A measure is one number: its digits to this base are the counts of the odd priorities, the
@@ -32,8 +32,8 @@ fn progress(priority: u32, next: u64, top: u64) -> u64 {
     }
 }
 
-/// Whether player 0 wins each vertex of a game of fewer than 16 vertices and priorities below 16.
-pub(crate) fn won_by_player_0(alloc: Global, game: &Game) -> Result<Vec<bool>, AllocError> {
+/// Whether Even wins each vertex of a game of fewer than 16 vertices and priorities below 16.
+pub(crate) fn won_by_even(alloc: Global, game: &Game) -> Result<Vec<bool>, AllocError> {
     let top = weight((game.greatest_priority() / 2 * 2).saturating_add(2));
     let mut measures = vec![in alloc; 0u64; game.len() as usize]?;
     for _ in 0..1_000_000 {
@@ -44,7 +44,7 @@ pub(crate) fn won_by_player_0(alloc: Global, game: &Game) -> Result<Vec<bool>, A
                 let next = measures.get(target as usize).copied().unwrap_or(0);
                 let measure = progress(game.priority(v), next, top);
                 best = Some(match best {
-                    Some(other) if game.owner(v) == 0 => other.min(measure),
+                    Some(other) if game.owner(v) == Player::Even => other.min(measure),
                     Some(other) => other.max(measure),
                     None => measure,
                 });

@@ -1,5 +1,6 @@
-use crate::measures::won_by_player_0;
-use pb_game::{CertificateRule, Flaw, Game, GameError, Parts, Solution};
+use crate::measures::won_by_even;
+use pb_game::Player::{Even, Odd};
+use pb_game::{CertificateRule, Flaw, Game, GameError, Parts, Player, Solution};
 use pb_strategy::check;
 use pb_zielonka::solve;
 use std::alloc::Global;
@@ -29,12 +30,12 @@ impl Builder {
     /// The two sinks that each game of trees begins with.
     fn with_sinks(alloc: Global) -> Result<Builder, Fail> {
         let mut builder = Builder::new(alloc)?;
-        builder.push(0, 1, &[0])?;
-        builder.push(0, 0, &[1])?;
+        builder.push(Even, 1, &[0])?;
+        builder.push(Even, 0, &[1])?;
         Ok(builder)
     }
 
-    fn push(&mut self, owner: u8, priority: u32, successors: &[u32]) -> Result<(), Fail> {
+    fn push(&mut self, owner: Player, priority: u32, successors: &[u32]) -> Result<(), Fail> {
         self.parts.owners.push(owner)?;
         self.parts.priorities.push(priority)?;
         self.parts.successors.extend_from_slice(successors)?;
@@ -49,12 +50,12 @@ impl Builder {
     }
 }
 
-/// Solves the game, checks the certificate, and compares who wins: 0 or 1 for each vertex.
+/// Solves the game, checks the certificate, and compares who wins each vertex.
 fn assert_winners<R: Abort + Threads + Sync>(
     rt: &R,
     alloc: Global,
     game: &Game,
-    winners: &[u8],
+    winners: &[Player],
 ) -> Result<(), Fail> {
     let solution = solve(rt, alloc, game)?;
     assert!(rt; game.len() as usize == winners.len());
@@ -63,7 +64,7 @@ fn assert_winners<R: Abort + Threads + Sync>(
             for v in 0..game.len() {
                 let winner = winners.get(v as usize).copied();
                 assert!(rt;
-                    winner == Some(if checked.truth(v) { 0 } else { 1 }),
+                    winner == Some(if checked.truth(v) { Even } else { Odd }),
                     "vertex {v}"
                 );
             }
@@ -77,64 +78,64 @@ fn assert_winners<R: Abort + Threads + Sync>(
 #[test]
 fn least_first(rt: HostRuntime) -> Result<(), Fail> {
     let mut builder = Builder::with_sinks(rt.alloc())?;
-    builder.push(0, 1, &[3])?;
-    builder.push(0, 0, &[2])?;
+    builder.push(Even, 1, &[3])?;
+    builder.push(Even, 0, &[2])?;
     let game = builder.game(rt.alloc())?;
-    assert_winners(&rt, rt.alloc(), &game, &[1, 0, 1, 1])
+    assert_winners(&rt, rt.alloc(), &game, &[Odd, Even, Odd, Odd])
 }
 
 /// `nu Y = X; mu X = Y`.
 #[test]
 fn greatest_first(rt: HostRuntime) -> Result<(), Fail> {
     let mut builder = Builder::with_sinks(rt.alloc())?;
-    builder.push(0, 2, &[3])?;
-    builder.push(0, 1, &[2])?;
+    builder.push(Even, 2, &[3])?;
+    builder.push(Even, 1, &[2])?;
     let game = builder.game(rt.alloc())?;
-    assert_winners(&rt, rt.alloc(), &game, &[1, 0, 0, 0])
+    assert_winners(&rt, rt.alloc(), &game, &[Odd, Even, Even, Even])
 }
 
 /// `nu X(d) = forall e . val(e != d) => X(e)` over three values.
 #[test]
 fn all_others(rt: HostRuntime) -> Result<(), Fail> {
     let mut builder = Builder::with_sinks(rt.alloc())?;
-    builder.push(1, 0, &[3, 4])?;
-    builder.push(1, 0, &[2, 4])?;
-    builder.push(1, 0, &[2, 3])?;
+    builder.push(Odd, 0, &[3, 4])?;
+    builder.push(Odd, 0, &[2, 4])?;
+    builder.push(Odd, 0, &[2, 3])?;
     let game = builder.game(rt.alloc())?;
-    assert_winners(&rt, rt.alloc(), &game, &[1, 0, 0, 0, 0])
+    assert_winners(&rt, rt.alloc(), &game, &[Odd, Even, Even, Even, Even])
 }
 
 /// A `nu` and a `mu` variable over two values, one calling the other's next value.
 #[test]
 fn alternating_instances(rt: HostRuntime) -> Result<(), Fail> {
     let mut builder = Builder::with_sinks(rt.alloc())?;
-    builder.push(0, 2, &[4])?;
-    builder.push(0, 2, &[5])?;
-    builder.push(0, 1, &[3])?;
-    builder.push(0, 1, &[4])?;
+    builder.push(Even, 2, &[4])?;
+    builder.push(Even, 2, &[5])?;
+    builder.push(Even, 1, &[3])?;
+    builder.push(Even, 1, &[4])?;
     let game = builder.game(rt.alloc())?;
-    assert_winners(&rt, rt.alloc(), &game, &[1, 0, 0, 0, 0, 0])
+    assert_winners(&rt, rt.alloc(), &game, &[Odd, Even, Even, Even, Even, Even])
 }
 
 /// `nu X = (X && Y) || Y; mu Y = Y`.
 #[test]
 fn nested_bracket(rt: HostRuntime) -> Result<(), Fail> {
     let mut builder = Builder::with_sinks(rt.alloc())?;
-    builder.push(0, 2, &[3, 4])?;
-    builder.push(1, 0, &[2, 4])?;
-    builder.push(0, 1, &[4])?;
+    builder.push(Even, 2, &[3, 4])?;
+    builder.push(Odd, 0, &[2, 4])?;
+    builder.push(Even, 1, &[4])?;
     let game = builder.game(rt.alloc())?;
-    assert_winners(&rt, rt.alloc(), &game, &[1, 0, 1, 1, 1])
+    assert_winners(&rt, rt.alloc(), &game, &[Odd, Even, Odd, Odd, Odd])
 }
 
 /// An operand that is true by itself beside a call of the instance itself.
 #[test]
 fn true_operand(rt: HostRuntime) -> Result<(), Fail> {
     let mut builder = Builder::with_sinks(rt.alloc())?;
-    builder.push(0, 1, &[2, 3])?;
-    builder.push(0, 0, &[1])?;
+    builder.push(Even, 1, &[2, 3])?;
+    builder.push(Even, 0, &[1])?;
     let game = builder.game(rt.alloc())?;
-    assert_winners(&rt, rt.alloc(), &game, &[1, 0, 0, 0])
+    assert_winners(&rt, rt.alloc(), &game, &[Odd, Even, Even, Even])
 }
 
 /// `nu A = F && E; mu F = F; mu E = A || E`: the player of the greatest priority loses it to a
@@ -142,22 +143,22 @@ fn true_operand(rt: HostRuntime) -> Result<(), Fail> {
 #[test]
 fn opponent_region(rt: HostRuntime) -> Result<(), Fail> {
     let mut builder = Builder::with_sinks(rt.alloc())?;
-    builder.push(1, 2, &[3, 4])?;
-    builder.push(1, 1, &[3])?;
-    builder.push(0, 1, &[2, 4])?;
+    builder.push(Odd, 2, &[3, 4])?;
+    builder.push(Odd, 1, &[3])?;
+    builder.push(Even, 1, &[2, 4])?;
     let game = builder.game(rt.alloc())?;
-    assert_winners(&rt, rt.alloc(), &game, &[1, 0, 1, 1, 1])
+    assert_winners(&rt, rt.alloc(), &game, &[Odd, Even, Odd, Odd, Odd])
 }
 
-/// `mu X = X` with X given to player 0, and no count falls.
+/// `mu X = X` with X given to Even, and no count falls.
 #[test]
 fn equal_counts_are_a_flaw(rt: HostRuntime) -> Result<(), Fail> {
     let alloc = rt.alloc();
     let mut builder = Builder::with_sinks(alloc)?;
-    builder.push(0, 1, &[2])?;
+    builder.push(Even, 1, &[2])?;
     let game = builder.game(alloc)?;
     let solution = Solution {
-        winner: vec![in alloc; 1, 0, 0]?,
+        winner: vec![in alloc; Odd, Even, Even]?,
         choice: vec![in alloc; 0, 1, 2]?,
         counts: vec![in alloc; 0; 6]?,
     };
@@ -171,8 +172,8 @@ fn equal_counts_are_a_flaw(rt: HostRuntime) -> Result<(), Fail> {
     Ok(())
 }
 
-/// What the checker says where player 0 is given a third vertex, its own and of priority 0, with
-/// this choice; `count` is that of priority 1 at the sink that player 0 wins.
+/// What the checker says where Even is given a third vertex, its own and of priority 0, with
+/// this choice; `count` is that of priority 1 at the sink that Even wins.
 fn flaw_at_third(
     alloc: Global,
     successors: &[u32],
@@ -180,10 +181,10 @@ fn flaw_at_third(
     count: u64,
 ) -> Result<Option<Flaw>, Fail> {
     let mut builder = Builder::with_sinks(alloc)?;
-    builder.push(0, 0, successors)?;
+    builder.push(Even, 0, successors)?;
     let game = builder.game(alloc)?;
     let solution = Solution {
-        winner: vec![in alloc; 1, 0, 0]?,
+        winner: vec![in alloc; Odd, Even, Even]?,
         choice: vec![in alloc; 0, 1, choice]?,
         counts: vec![in alloc; 0, 0, 0, count, 0, 0]?,
     };
@@ -196,7 +197,7 @@ fn edges_are_flaws(rt: HostRuntime) -> Result<(), Fail> {
     let flaw = |rule| Some(Flaw { vertex: 2, rule });
     // K01: the choice is no successor
     assert!(rt; flaw_at_third(alloc, &[1], 0, 0)? == flaw(CertificateRule::NoSuccessor));
-    // K02: the chosen edge leads to what player 1 wins
+    // K02: the chosen edge leads to what Odd wins
     assert!(rt; flaw_at_third(alloc, &[0, 1], 0, 0)? == flaw(CertificateRule::LeavesRegion));
     // K03: along the chosen edge the count rises
     assert!(rt; flaw_at_third(alloc, &[1], 1, 1)? == flaw(CertificateRule::Increases));
@@ -211,7 +212,7 @@ fn short_list_is_a_flaw(rt: HostRuntime) -> Result<(), Fail> {
     let alloc = rt.alloc();
     let game = Builder::with_sinks(alloc)?.game(alloc)?;
     let solution = Solution {
-        winner: vec![in alloc; 1, 0]?,
+        winner: vec![in alloc; Odd, Even]?,
         choice: vec![in alloc; 0, 1]?,
         counts: vec![in alloc; 0; 3]?,
     };
@@ -227,10 +228,6 @@ fn short_list_is_a_flaw(rt: HostRuntime) -> Result<(), Fail> {
 #[test]
 fn faulty_parts(rt: HostRuntime) -> Result<(), Fail> {
     let alloc = rt.alloc();
-    // G02
-    let mut owner = Builder::with_sinks(alloc)?;
-    owner.push(2, 0, &[0])?;
-    assert!(rt; matches!(Game::from_parts(alloc, owner.parts), Err(GameError::Owners)));
     // G03
     let mut priority = Builder::with_sinks(alloc)?;
     priority.parts.priorities.push(0)?;
@@ -242,7 +239,7 @@ fn faulty_parts(rt: HostRuntime) -> Result<(), Fail> {
     );
     // G04
     let mut lonely = Builder::with_sinks(alloc)?;
-    lonely.push(0, 0, &[])?;
+    lonely.push(Even, 0, &[])?;
     assert!(rt;
         matches!(
             Game::from_parts(alloc, lonely.parts),
@@ -251,7 +248,7 @@ fn faulty_parts(rt: HostRuntime) -> Result<(), Fail> {
     );
     // G05
     let mut twice = Builder::with_sinks(alloc)?;
-    twice.push(0, 0, &[1, 1])?;
+    twice.push(Even, 0, &[1, 1])?;
     assert!(rt;
         matches!(
             Game::from_parts(alloc, twice.parts),
@@ -264,8 +261,8 @@ fn faulty_parts(rt: HostRuntime) -> Result<(), Fail> {
 #[test]
 fn predecessors_rise(rt: HostRuntime) -> Result<(), Fail> {
     let mut builder = Builder::with_sinks(rt.alloc())?;
-    builder.push(1, 0, &[1, 3])?;
-    builder.push(0, 0, &[1, 2, 3])?;
+    builder.push(Odd, 0, &[1, 3])?;
+    builder.push(Even, 0, &[1, 2, 3])?;
     let game = builder.game(rt.alloc())?;
     assert!(rt; game.len() == 4);
     assert!(rt; !game.is_empty());
@@ -283,7 +280,7 @@ fn chains(rt: HostRuntime) -> Result<(), Fail> {
     for length in [10_000u32, 1 << 18] {
         let mut builder = Builder::with_sinks(alloc)?;
         for v in 2..length.wrapping_add(2) {
-            builder.push(0, 1, &[v - 1])?;
+            builder.push(Even, 1, &[v - 1])?;
         }
         let game = builder.game(alloc)?;
         let solution = solve(&rt, alloc, &game)?;
@@ -301,14 +298,14 @@ fn count_won(checked: &pb_strategy::Checked) -> u32 {
     won
 }
 
-/// Each vertex has a priority of its own: the recursion is 64 levels deep. Player 0 wins where it
+/// Each vertex has a priority of its own: the recursion is 64 levels deep. Even wins where it
 /// can stay at an even priority that is the greatest on its cycle.
 #[test]
 fn many_priorities(rt: HostRuntime) -> Result<(), Fail> {
     let alloc = rt.alloc();
     let mut builder = Builder::new(alloc)?;
     for v in 0..64u32 {
-        builder.push(0, v, &[v])?;
+        builder.push(Even, v, &[v])?;
     }
     let game = builder.game(alloc)?;
     let solution = solve(&rt, alloc, &game)?;
@@ -325,9 +322,9 @@ fn many_components(rt: HostRuntime) -> Result<(), Fail> {
     let mut builder = Builder::new(alloc)?;
     for component in 0..2_000u32 {
         let first = component * 3;
-        builder.push(0, 1, &[first + 1])?;
-        builder.push(1, component % 2 + 2, &[first + 2])?;
-        builder.push(0, 0, &[first])?;
+        builder.push(Even, 1, &[first + 1])?;
+        builder.push(Odd, component % 2 + 2, &[first + 2])?;
+        builder.push(Even, 0, &[first])?;
     }
     let game = builder.game(alloc)?;
     let solution = solve(&rt, alloc, &game)?;
@@ -336,8 +333,8 @@ fn many_components(rt: HostRuntime) -> Result<(), Fail> {
     Ok(())
 }
 
-/// 600 vertices of player 0, each with 2,000 successors that player 1 wins; every third has a way out
-/// behind them. One round decides them all.
+/// 600 vertices of Even, each with 2,000 successors that Odd wins; every third has a way out behind
+/// them. One round decides them all.
 #[test]
 fn wide_opponents(rt: HostRuntime) -> Result<(), Fail> {
     let alloc = rt.alloc();
@@ -346,18 +343,18 @@ fn wide_opponents(rt: HostRuntime) -> Result<(), Fail> {
     let mut closed = Vec::new(alloc);
     let mut open = Vec::new(alloc);
     for v in 0..2_000u32 {
-        builder.push(0, 1, &[v])?;
-        winners.push(1)?;
+        builder.push(Even, 1, &[v])?;
+        winners.push(Odd)?;
         closed.push(v)?;
         open.push(v)?;
     }
-    builder.push(0, 0, &[2_000])?;
-    winners.push(0)?;
+    builder.push(Even, 0, &[2_000])?;
+    winners.push(Even)?;
     open.push(2_000)?;
     for decider in 0..600u32 {
         let wins = decider % 3 == 0;
-        builder.push(0, 0, if wins { &open } else { &closed })?;
-        winners.push(if wins { 0 } else { 1 })?;
+        builder.push(Even, 0, if wins { &open } else { &closed })?;
+        winners.push(if wins { Even } else { Odd })?;
     }
     let game = builder.game(alloc)?;
     assert_winners(&rt, alloc, &game, &winners)
@@ -382,7 +379,7 @@ fn generated_games(rt: HostRuntime) -> Result<(), Fail> {
         let vertices = 2 + draw(&mut state, 10) % 10;
         let priorities = 1 + draw(&mut state, 6) % 6;
         for _ in 0..vertices {
-            let owner = if draw(&mut state, 2) == 0 { 0 } else { 1 };
+            let owner = Player::of_priority(draw(&mut state, 2));
             let priority = draw(&mut state, priorities);
             let first = draw(&mut state, vertices);
             let second = draw(&mut state, vertices);
@@ -393,7 +390,7 @@ fn generated_games(rt: HostRuntime) -> Result<(), Fail> {
             }
         }
         let game = builder.game(alloc)?;
-        let expected = won_by_player_0(alloc, &game)?;
+        let expected = won_by_even(alloc, &game)?;
         let solution = solve(&rt, alloc, &game)?;
         match check(&game, &solution) {
             Ok(checked) => {

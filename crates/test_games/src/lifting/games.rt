@@ -1,13 +1,13 @@
 //! The games of the tests.
 
-use pb_game::{Game, Parts};
+use pb_game::{Game, Parts, Player};
 use std::alloc::Global;
 use std::test::Fail;
 
 /// The game with these vertices: owners, priorities, and the one successor of each.
 pub(crate) fn game_of(
     alloc: Global,
-    owners: &[u8],
+    owners: &[Player],
     priorities: &[u32],
     successors: &[u32],
 ) -> Result<Game, Fail> {
@@ -30,7 +30,7 @@ pub(crate) fn game_of(
 pub(crate) fn two_equations(alloc: Global) -> Result<Game, Fail> {
     game_of(
         alloc,
-        [0u8, 0, 0, 0].as_slice(),
+        [Player::Even; 4].as_slice(),
         [1u32, 0, 1, 0].as_slice(),
         [0u32, 1, 3, 2].as_slice(),
     )
@@ -42,7 +42,7 @@ pub(crate) fn long_cycle(alloc: Global) -> Result<Game, Fail> {
     let mut priorities = Vec::new(alloc);
     let mut successors = Vec::new(alloc);
     for v in 0..128u32 {
-        owners.push(0u8)?;
+        owners.push(Player::Even)?;
         priorities.push(v)?;
         successors.push((v + 1) % 128)?;
     }

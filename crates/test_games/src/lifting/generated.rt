@@ -1,6 +1,6 @@
 //! Generated games.
 
-use pb_game::{Game, Parts};
+use pb_game::{Game, Parts, Player};
 use std::alloc::Global;
 use std::test::Fail;
 
@@ -33,9 +33,7 @@ pub(crate) fn generated(alloc: Global, seed: u64) -> Result<Game, Fail> {
         successors: Vec::new(alloc),
     };
     for _vertex in 0..vertices {
-        parts
-            .owners
-            .push(if generator.below(2) == 0 { 0 } else { 1 })?;
+        parts.owners.push(Player::of_priority(generator.below(2)))?;
         parts.priorities.push(generator.below(6))?;
         push_successors(&mut generator, vertices, &mut parts.successors)?;
         let place = parts.successors.len();

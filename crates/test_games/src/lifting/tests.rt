@@ -5,7 +5,8 @@ use crate::lifting::games::{game_of, long_cycle, two_equations};
 use crate::lifting::generated::generated;
 use crate::lifting::overlap::Overlap;
 use pb_exploration::{Gate, NoGate};
-use pb_game::{Game, Solver};
+use pb_game::Player::{Even, Odd};
+use pb_game::{Game, Player, Solver};
 use pb_lifting::{LiftError, Ranks, lift};
 use pb_module_solver::{Context, solve};
 use pb_strategy::check;
@@ -19,7 +20,7 @@ fn words_after<R: Abort>(
     rt: &R,
     alloc: Global,
     game: &Game,
-    player: u8,
+    player: Player,
     passes: u32,
 ) -> Result<Vec<u64>, Fail> {
     let Ok((ranks, mut seats)) = Ranks::start(alloc, game, player, 1) else {
@@ -50,7 +51,7 @@ fn assert_two_equations<G: Gate + Sync, R: Abort + Threads + Sync>(
     let Ok(solution) = lift(rt, alloc, &game, workers, gate) else {
         panic!(rt; "no solution");
     };
-    assert!(rt; solution.winner.as_slice() == [1u8, 0, 1, 1].as_slice());
+    assert!(rt; solution.winner.as_slice() == [Odd, Even, Odd, Odd].as_slice());
     assert!(rt; solution.choice.as_slice() == [0u32, 1, 3, 2].as_slice());
     assert!(rt; solution.counts.as_slice() == [0u64, 0, 0, 0, 0, 0, 1, 0].as_slice());
     Ok(())
@@ -61,7 +62,7 @@ fn assert_two_equations<G: Gate + Sync, R: Abort + Threads + Sync>(
 fn opening_words(rt: HostRuntime) -> Result<(), Fail> {
     let alloc = rt.alloc();
     let game = two_equations(alloc)?;
-    for player in 0..2u8 {
+    for player in [Even, Odd] {
         let words = words_after(&rt, alloc, &game, player, 0)?;
         assert!(rt; words.as_slice() == [0u64, 0, 0, 0].as_slice());
     }
@@ -72,10 +73,10 @@ fn opening_words(rt: HostRuntime) -> Result<(), Fail> {
 fn final_words(rt: HostRuntime) -> Result<(), Fail> {
     let alloc = rt.alloc();
     let game = two_equations(alloc)?;
-    let zero = words_after(&rt, alloc, &game, 0, 12)?;
-    let one = words_after(&rt, alloc, &game, 1, 12)?;
-    assert!(rt; zero.as_slice() == [3u64, 0, 3, 3].as_slice());
-    assert!(rt; one.as_slice() == [0u64, 3, 0, 1].as_slice());
+    let even = words_after(&rt, alloc, &game, Even, 12)?;
+    let odd = words_after(&rt, alloc, &game, Odd, 12)?;
+    assert!(rt; even.as_slice() == [3u64, 0, 3, 3].as_slice());
+    assert!(rt; odd.as_slice() == [0u64, 3, 0, 1].as_slice());
     Ok(())
 }
 
@@ -131,7 +132,7 @@ fn too_many_ranks(rt: HostRuntime) -> Result<(), Fail> {
     let certified = solve(&context, &game, Solver::Lift, 2)?;
     let winners = &certified.solution().winner;
     assert!(rt; winners.len() == 128);
-    assert!(rt; winners.iter().all(|&winner| winner == 1));
+    assert!(rt; winners.iter().all(|&winner| winner == Odd));
     Ok(())
 }
 

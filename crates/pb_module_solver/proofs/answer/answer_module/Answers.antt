@@ -1,5 +1,6 @@
 use Rattle.std.proofs.Common.{◌≡◌, ap, ◌∙◌, sym, subst, arith, length}
 use Rattle.std.specs.Prelude.{◌↔◌, IsTrue}
+use Rattle.pb_game.specs.declared.player.Player.TheVariants.{Even}
 use Rattle.pb_game.specs.Games.{vertex_count}
 use Rattle.pb_game.specs.Solutions.{winner_of}
 use Rattle.pb_game_of_trees.specs.Held.{Hold}
@@ -44,5 +45,5 @@ returns-in_ok-solved-in-Ok-clause-lifted g c asked =
       game = e.game;
       solution = solved.certified;
       lifted = subst (λ (b : TreeGame). IsLiftedOrNone b.game solved.certified) kept (c.in_ok-solved-in-Ok.ensures.lifted asked);
-      truth = subst (λ (b : TreeGame). IsTrue c.truth.result ↔ (winner_of solved.certified b.start ≡ 0)) kept c.truth.ensures.winner;
+      truth = subst (λ (b : TreeGame). IsTrue c.truth.result ↔ (winner_of solved.certified b.start ≡ Even)) kept c.truth.ensures.winner;
     }

@@ -1,4 +1,5 @@
 use Rattle.std.proofs.Common.{◌≡◌, ◌≢◌, ℕ, ◌<◌, ◌%◌}
+use Rattle.pb_game.specs.Players.{parity_of}
 use Rattle.pb_game.specs.Games.{priority_count}
 use Rattle.pb_game.specs.Solutions.{winner_of, count_of}
 use Rattle.pb_strategy.proofs.edges.compare.Given as goal
@@ -6,6 +7,6 @@ use Rattle.pb_strategy.proofs.edges.compare.Given as goal
 abbrev pub invariant-loop-place : goal.invariant-loop-place
 invariant-loop-place l = record {
   within : l.place < priority_count l.game;
-  same : (q : ℕ) → l.place < q → q < priority_count l.game → q % 2 ≢ winner_of l.solution l.v →
+  same : (q : ℕ) → l.place < q → q < priority_count l.game → q % 2 ≢ parity_of (winner_of l.solution l.v) →
       count_of l.game l.solution l.u q ≡ count_of l.game l.solution l.v q;
 }

@@ -1,4 +1,5 @@
-use Rattle.std.proofs.Common.{◌≡◌, ℕ, ◌%◌, ◌<◌, inl, inr, refl, sym, subst, arith}
+use Rattle.std.proofs.Common.{◌≡◌, ℕ, ◌%◌, ◌<◌, inl, inr, refl, sym, ap, subst, arith, rules}
+use Rattle.pb_game.specs.Players.{parity_of}
 use Rattle.pb_game.specs.declared.Game.{Game}
 use Rattle.pb_game.specs.Games.{owner_of, priority_of, HasEdge}
 use Rattle.pb_game.specs.declared.certificate.Solution.{Solution}
@@ -9,7 +10,7 @@ use Rattle.pb_game.specs.Flaws.{Fails, rule_order}
 use Rattle.pb_strategy.specs.Comparisons.{DontIncrease, EachKept}
 use Rattle.pb_strategy.proofs.Flaws.{one_way, not_same}
 use Rattle.pb_strategy.proofs.edges.flaw_at.Goals as goal
-use Rattle.pb_strategy.proofs.edges.flaw_at.Goals.{then-owner-winner+else-not-has_edge, else-owner-winner}
+use Rattle.pb_strategy.proofs.edges.flaw_at.Goals.{then-eq+else-not-has_edge, else-eq}
 
 -- the winner's choice is a successor
 abbrev Chooses : Game → Solution → ℕ → Type 0
@@ -56,9 +57,9 @@ before_staying g s v lengths chosen region falls NoDecrease less f = omega (arit
 
 pub returns-then-leaves_region : goal.returns-then-leaves_region
 returns-then-leaves_region c =
-    let chosen : Chooses c.args.game.now c.args.solution.now c.args.v = elim c.if-owner-winner.branch [
-      | then-owner-winner+else-not-has_edge w ↦ λ _. chooses _ _ _ _ w.choice.ensures (w.if-not-has_edge.ensures.0 refl)
-      | else-owner-winner w ↦ λ e. absurd (w.if-owner-winner.false (cc))
+    let chosen : Chooses c.args.game.now c.args.solution.now c.args.v = elim c.if-eq.branch [
+      | then-eq+else-not-has_edge w ↦ λ _. chooses _ _ _ _ w.choice.ensures (w.if-not-has_edge.ensures.0 refl)
+      | else-eq w ↦ search (rules, w.if-eq.ensures, w.owner.ensures, w.winner-winner.ensures)
     ] in
     record {
       fails = c.if-leaves_region.ensures;
@@ -67,9 +68,9 @@ returns-then-leaves_region c =
 
 pub returns-then-increases : goal.returns-then-increases
 returns-then-increases c =
-    let chosen : Chooses c.args.game.now c.args.solution.now c.args.v = elim c.if-owner-winner.branch [
-      | then-owner-winner+else-not-has_edge w ↦ λ _. chooses _ _ _ _ w.choice.ensures (w.if-not-has_edge.ensures.0 refl)
-      | else-owner-winner w ↦ λ e. absurd (w.if-owner-winner.false (cc))
+    let chosen : Chooses c.args.game.now c.args.solution.now c.args.v = elim c.if-eq.branch [
+      | then-eq+else-not-has_edge w ↦ λ _. chooses _ _ _ _ w.choice.ensures (w.if-not-has_edge.ensures.0 refl)
+      | else-eq w ↦ search (rules, w.if-eq.ensures, w.owner.ensures, w.winner-winner.ensures)
     ] in
     record {
       fails = c.if-increases.ensures;
@@ -78,20 +79,20 @@ returns-then-increases c =
 
 pub returns-then-stays : goal.returns-then-stays
 returns-then-stays c =
-    let chosen : Chooses c.args.game.now c.args.solution.now c.args.v = elim c.if-owner-winner.branch [
-      | then-owner-winner+else-not-has_edge w ↦ λ _. chooses _ _ _ _ w.choice.ensures (w.if-not-has_edge.ensures.0 refl)
-      | else-owner-winner w ↦ λ e. absurd (w.if-owner-winner.false (cc))
+    let chosen : Chooses c.args.game.now c.args.solution.now c.args.v = elim c.if-eq.branch [
+      | then-eq+else-not-has_edge w ↦ λ _. chooses _ _ _ _ w.choice.ensures (w.if-not-has_edge.ensures.0 refl)
+      | else-eq w ↦ search (rules, w.if-eq.ensures, w.owner.ensures, w.winner-winner.ensures)
     ] in
     record {
-      fails = record { losing = λ e. c.if-priority-from.true (omega (arith, e, c.priority.ensures.value, c.from.ensures, c.winner-winner.ensures.value)); along = c.if-stays.ensures };
+      fails = record { losing = λ e. c.if-priority-parity.true (omega (arith, e, c.priority.ensures.value, c.parity.ensures, ap parity_of c.winner-winner.ensures)); along = c.if-stays.ensures };
       first_rule = before_staying _ _ _ c.requires.lengths chosen c.if-leaves_region.ensures c.if-increases.ensures;
     }
 
 pub returns-else-stays : goal.returns-else-stays
 returns-else-stays c =
-    let chosen : Chooses c.args.game.now c.args.solution.now c.args.v = elim c.if-owner-winner.branch [
-      | then-owner-winner+else-not-has_edge w ↦ λ _. chooses _ _ _ _ w.choice.ensures (w.if-not-has_edge.ensures.0 refl)
-      | else-owner-winner w ↦ λ e. absurd (w.if-owner-winner.false (cc))
+    let chosen : Chooses c.args.game.now c.args.solution.now c.args.v = elim c.if-eq.branch [
+      | then-eq+else-not-has_edge w ↦ λ _. chooses _ _ _ _ w.choice.ensures (w.if-not-has_edge.ensures.0 refl)
+      | else-eq w ↦ search (rules, w.if-eq.ensures, w.owner.ensures, w.winner-winner.ensures)
     ] in
     record {
       choice = chosen;
@@ -99,13 +100,13 @@ returns-else-stays c =
       progress = λ u kept. inl (c.if-stays.ensures u kept);
     }
 
-pub returns-else-priority-from : goal.returns-else-priority-from
-returns-else-priority-from c =
-    let chosen : Chooses c.args.game.now c.args.solution.now c.args.v = elim c.if-owner-winner.branch [
-      | then-owner-winner+else-not-has_edge w ↦ λ _. chooses _ _ _ _ w.choice.ensures (w.if-not-has_edge.ensures.0 refl)
-      | else-owner-winner w ↦ λ e. absurd (w.if-owner-winner.false (cc))
+pub returns-else-priority-parity : goal.returns-else-priority-parity
+returns-else-priority-parity c =
+    let chosen : Chooses c.args.game.now c.args.solution.now c.args.v = elim c.if-eq.branch [
+      | then-eq+else-not-has_edge w ↦ λ _. chooses _ _ _ _ w.choice.ensures (w.if-not-has_edge.ensures.0 refl)
+      | else-eq w ↦ search (rules, w.if-eq.ensures, w.owner.ensures, w.winner-winner.ensures)
     ] in
-    let same : priority_of c.args.game.now c.args.v % 2 ≡ winner_of c.args.solution.now c.args.v = omega (arith, c.priority.ensures.value, c.from.ensures, c.winner-winner.ensures.value) in
+    let same : priority_of c.args.game.now c.args.v % 2 ≡ parity_of (winner_of c.args.solution.now c.args.v) = omega (arith, c.priority.ensures.value, c.parity.ensures, ap parity_of c.winner-winner.ensures) in
     record {
       choice = chosen;
       region = c.if-leaves_region.ensures;
@@ -114,6 +115,6 @@ returns-else-priority-from c =
 
 pub returns-then-not-has_edge : goal.returns-then-not-has_edge
 returns-then-not-has_edge c = record {
-  fails = record { owner = cc; missing = λ h. absurd (cc (c.if-not-has_edge.ensures.1 (subst (λ (x : ℕ). HasEdge c.args.game.now c.args.v x) (sym c.choice.ensures) h))) };
+  fails = record { owner = search rules; missing = λ h. absurd (cc (c.if-not-has_edge.ensures.1 (subst (λ (x : ℕ). HasEdge c.args.game.now c.args.v x) (sym c.choice.ensures) h))) };
   first_rule = before_choosing _ _ _ c.requires.lengths;
 }

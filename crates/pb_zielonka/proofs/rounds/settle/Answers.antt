@@ -1,7 +1,7 @@
 use Rattle.std.proofs.Common.{◌<◌, ◌≤◌, length, ap, refl, arith}
 use Rattle.pb_game.specs.Games.{successors_of}
 use Rattle.pb_zielonka.proofs.Forcing.{written}
-use Rattle.pb_zielonka.proofs.RoundLemmas.{on_ok3, passed_taken, search_passed, stops_outside}
+use Rattle.pb_zielonka.proofs.RoundLemmas.{on_ok3, grows_write, passed_taken, search_passed, stops_outside}
 use Rattle.pb_zielonka.proofs.rounds.settle.Goals as goal
 
 pub take_in-requires-clause-under_way : goal.take_in-requires-clause-under_way
@@ -46,3 +46,9 @@ returns-then-place-successors-clause-outside c = λ inside z.
 pub returns-clause-outside : goal.returns-clause-outside
 returns-clause-outside c =
     on_ok3 c.take_in.result (λ w x y inside z. absurd (omega (arith, w.there, z))) c.take_in.ensures.written c.take_in.ensures.written c.take_in.ensures.written
+
+pub returns-clause-grows : goal.returns-clause-grows
+returns-clause-grows c =
+    let a = c.args.attractor.now in
+    let w = c.take_in.ensures.written in
+    on_ok3 c.take_in.result (λ wr x y. grows_write a.rank.items c.take_in.new.attractor.rank.items c.args.v a.rounds c.requires.candidate.untaken.free wr) w w w
