@@ -1,6 +1,6 @@
 -- A certificate of a game of rows is one over the list of its vertices, and so its winners are the solution's values.
 use Rattle.std.proofs.Common.{◌≡◌, ℕ, List, Some, refl, sym, ap, ◌∙◌, subst, inl, inr, arith}
-use Rattle.std.specs.Prelude.{Contains, slice_get}
+use Rattle.std.specs.Prelude.{Bool, true, false, IsTrue, ◌↔◌, Contains, slice_get}
 use Rattle.std.proofs.Math.Bool.{Bool-set}
 use Rattle.std.proofs.Math.Logic.{∥∥₁_elim}
 use Rattle.std.proofs.lemmas.Option.{slice_get_within}
@@ -48,6 +48,12 @@ module _ (g : Game) (s : Solution) (vertices : List Vertex) (has : HasVertices g
 pub player_is : (p : Player) → p ≡ player (is_even p)
 player_is Even = refl
 player_is Odd = refl
+
+-- what tells whether a player is Even is that test
+pub even_test : (b : Bool) (p : Player) → (IsTrue b ↔ (p ≡ Even)) → b ≡ is_even p
+even_test true p h = sym (ap is_even (h.0 refl))
+even_test false Even h = absurd (cc (h.1 refl))
+even_test false Odd h = refl
 
 pub winners_are_solved : WinnersAreSolved
 winners_are_solved g s is v signatures trees rows game row contained at =

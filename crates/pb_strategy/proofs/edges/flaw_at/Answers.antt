@@ -59,7 +59,7 @@ pub returns-then-leaves_region : goal.returns-then-leaves_region
 returns-then-leaves_region c =
     let chosen : Chooses c.args.game.now c.args.solution.now c.args.v = elim c.if-eq.branch [
       | then-eq+else-not-has_edge w ↦ λ _. chooses _ _ _ _ w.choice.ensures (w.if-not-has_edge.ensures.0 refl)
-      | else-eq w ↦ search (rules, w.if-eq.ensures, w.owner.ensures, w.winner-winner.ensures)
+      | else-eq w ↦ search (rules, w.if-eq.ensures, c.owner.ensures, c.winner-winner.ensures)
     ] in
     record {
       fails = c.if-leaves_region.ensures;
@@ -70,7 +70,7 @@ pub returns-then-increases : goal.returns-then-increases
 returns-then-increases c =
     let chosen : Chooses c.args.game.now c.args.solution.now c.args.v = elim c.if-eq.branch [
       | then-eq+else-not-has_edge w ↦ λ _. chooses _ _ _ _ w.choice.ensures (w.if-not-has_edge.ensures.0 refl)
-      | else-eq w ↦ search (rules, w.if-eq.ensures, w.owner.ensures, w.winner-winner.ensures)
+      | else-eq w ↦ search (rules, w.if-eq.ensures, c.owner.ensures, c.winner-winner.ensures)
     ] in
     record {
       fails = c.if-increases.ensures;
@@ -81,7 +81,7 @@ pub returns-then-stays : goal.returns-then-stays
 returns-then-stays c =
     let chosen : Chooses c.args.game.now c.args.solution.now c.args.v = elim c.if-eq.branch [
       | then-eq+else-not-has_edge w ↦ λ _. chooses _ _ _ _ w.choice.ensures (w.if-not-has_edge.ensures.0 refl)
-      | else-eq w ↦ search (rules, w.if-eq.ensures, w.owner.ensures, w.winner-winner.ensures)
+      | else-eq w ↦ search (rules, w.if-eq.ensures, c.owner.ensures, c.winner-winner.ensures)
     ] in
     record {
       fails = record { losing = λ e. c.if-priority-parity.true (omega (arith, e, c.priority.ensures.value, c.parity.ensures, ap parity_of c.winner-winner.ensures)); along = c.if-stays.ensures };
@@ -92,7 +92,7 @@ pub returns-else-stays : goal.returns-else-stays
 returns-else-stays c =
     let chosen : Chooses c.args.game.now c.args.solution.now c.args.v = elim c.if-eq.branch [
       | then-eq+else-not-has_edge w ↦ λ _. chooses _ _ _ _ w.choice.ensures (w.if-not-has_edge.ensures.0 refl)
-      | else-eq w ↦ search (rules, w.if-eq.ensures, w.owner.ensures, w.winner-winner.ensures)
+      | else-eq w ↦ search (rules, w.if-eq.ensures, c.owner.ensures, c.winner-winner.ensures)
     ] in
     record {
       choice = chosen;
@@ -104,7 +104,7 @@ pub returns-else-priority-parity : goal.returns-else-priority-parity
 returns-else-priority-parity c =
     let chosen : Chooses c.args.game.now c.args.solution.now c.args.v = elim c.if-eq.branch [
       | then-eq+else-not-has_edge w ↦ λ _. chooses _ _ _ _ w.choice.ensures (w.if-not-has_edge.ensures.0 refl)
-      | else-eq w ↦ search (rules, w.if-eq.ensures, w.owner.ensures, w.winner-winner.ensures)
+      | else-eq w ↦ search (rules, w.if-eq.ensures, c.owner.ensures, c.winner-winner.ensures)
     ] in
     let same : priority_of c.args.game.now c.args.v % 2 ≡ parity_of (winner_of c.args.solution.now c.args.v) = omega (arith, c.priority.ensures.value, c.parity.ensures, ap parity_of c.winner-winner.ensures) in
     record {
