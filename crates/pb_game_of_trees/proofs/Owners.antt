@@ -12,15 +12,6 @@ map-reverse f (x ∷ xs) =
     ∙ (ap (λ (ys : List ℕ). ys ++ f x ∷ []) (map-reverse f xs)
     ∙ sym (reverse-append (f x ∷ []) (map f xs))))
 
--- one owner more
-pub one_owner : (old new : List Player) (owner : Player) (numbers : List ℕ) → new ≡ old ++ owner ∷ [] → map parity_of old ≡ reverse numbers →
-    map parity_of new ≡ reverse (parity_of owner ∷ numbers)
-one_owner old new owner numbers e is =
-    ap (map parity_of) e
-    ∙ (map-append parity_of old (owner ∷ [])
-    ∙ (ap (λ (ys : List ℕ). ys ++ parity_of owner ∷ []) is
-    ∙ sym (reverse-append (parity_of owner ∷ []) numbers)))
-
 -- all owners turned round
 pub owners_turned : (old new : List Player) (numbers : List ℕ) → new ≡ reverse old → map parity_of old ≡ reverse numbers → map parity_of new ≡ numbers
 owners_turned old new numbers e is =
