@@ -1,13 +1,17 @@
-use Rattle.std.proofs.Common.{sym, ◌∙◌}
+use Rattle.std.proofs.Common.{◌≡◌, ◌≢◌, rules}
+use Rattle.pb_game.specs.Games.{owner_of}
+use Rattle.pb_game.specs.Solutions.{winner_of}
 use Rattle.pb_report.proofs.Certificates.{strategy_is, no_strategy}
 use Rattle.pb_report.proofs.certificate_text.strategy_at.Goals as goal
 
-pub returns-then-owner-winner : goal.returns-then-owner-winner
-returns-then-owner-winner c =
-    strategy_is c.args.game.now c.args.solution.now c.args.vertex c.choice.result
-    (sym c.owner.ensures ∙ (c.if-owner-winner.true ∙ c.winner.ensures)) c.choice.ensures
+pub returns-then-eq : goal.returns-then-eq
+returns-then-eq c =
+    let g = c.args.game.now in let s = c.args.solution.now in
+    let moves : owner_of g c.args.vertex ≡ winner_of s c.args.vertex = search (rules, c.if-eq.ensures, c.owner.ensures, c.winner.ensures) in
+    strategy_is g s c.args.vertex c.choice.result moves c.choice.ensures
 
-pub returns-else-owner-winner : goal.returns-else-owner-winner
-returns-else-owner-winner c =
-    no_strategy c.args.game.now c.args.solution.now c.args.vertex
-    (λ moves. c.if-owner-winner.false (c.owner.ensures ∙ (moves ∙ sym c.winner.ensures)))
+pub returns-else-eq : goal.returns-else-eq
+returns-else-eq c =
+    let g = c.args.game.now in let s = c.args.solution.now in
+    let rests : owner_of g c.args.vertex ≢ winner_of s c.args.vertex = search (rules, c.if-eq.ensures, c.owner.ensures, c.winner.ensures) in
+    no_strategy g s c.args.vertex rests
