@@ -1,18 +1,12 @@
 -- From the parts of an equation's check to its acceptance.
 use Rattle.std.proofs.Common.{◌≡◌, Bool, true, false}
-use Rattle.std.specs.Prelude.{Result, Ok, Err, IsTrue}
+use Rattle.std.specs.Prelude.{IsTrue}
 use Rattle.pb_bytecode_program.specs.Machine.{Program}
 use Rattle.pb_verifier_structure.specs.Structure.{IsStructured, IsWithinLimits}
 use Rattle.pb_verifier_structure.specs.Views.{IsProgramOf}
 use Rattle.pb_verifier_structure.specs.declared.equation_code.EquationCode.{EquationCode}
-use Rattle.pb_verifier_structure.specs.Refusals.{OnRefusedBy}
-use Rattle.pb_verifier_structure.specs.declared.position_fault.StructureError.{StructureError}
-use Rattle.pb_verifier_structure.specs.declared.position_fault.StructureError.TheVariants as structure_error
 use Rattle.pb_verifier.specs.Acceptance.{HasTable, StatesCounts}
-use Rattle.pb_verifier.specs.EquationErrors.{OnRuleBroken, WhereRule, error_of}
 use Rattle.pb_verifier.specs.Pass.{code_passes}
-use Rattle.pb_verifier.specs.declared.equation_error.EquationError.{EquationError}
-use Rattle.pb_verifier.specs.declared.equation_error.EquationError.TheVariants as error
 use Rattle.pb_verifier.proofs.Whole.{pass_sound, pass_complete}
 
 -- what is accepted keeps the rules by position
@@ -29,9 +23,8 @@ table_found p s l c e = let t = pass_sound p s l c.enough_steps c.few_steps c.en
 pub no_table : (p : Program) → IsStructured p → IsWithinLimits p → code_passes p ≡ false → HasTable p → ⊥
 no_table p s l e t = pass_complete p t.table s l e t.accepted
 
-pub broken_structure : (p : Program) (code : EquationCode) (e : StructureError) → IsProgramOf p code → OnRefusedBy e ((q : Program) → IsProgramOf q code → IsStructured q → ⊥) → WhereRule (error_of e) (HasTable p → ⊥)
-broken_structure p code (structure_error.Refused fault) o h = λ t. h p o (structured p t)
-broken_structure p code structure_error.Memory o h = tt
+pub broken_structure : (p : Program) (code : EquationCode) → IsProgramOf p code → ((q : Program) → IsProgramOf q code → IsStructured q → ⊥) → HasTable p → ⊥
+broken_structure p code o h t = h p o (structured p t)
 
 -- where the stated counts are not enough, nothing is accepted
 pub not_enough : (p : Program) (b : Bool) → (StatesCounts p p.stated_steps p.stated_tokens → IsTrue b) → b ≡ false → HasTable p → ⊥
@@ -39,8 +32,3 @@ not_enough p b f e t = let yes = f (states_counts p t) in cc
 
 pub enough : (p : Program) (b : Bool) → (IsTrue b → StatesCounts p p.stated_steps p.stated_tokens) → b ≡ true → StatesCounts p p.stated_steps p.stated_tokens
 enough p b f e = f e
-
-pub where_broken : {P Q : Type 0} → (r : Result (Unit {0}) EquationError) → (P → Q) → OnRuleBroken r P → OnRuleBroken r Q
-where_broken (Ok x) f h = h
-where_broken (Err (error.Refused rule place)) f h = f h
-where_broken (Err error.Memory) f h = h

@@ -5,9 +5,6 @@ use Rattle.std.specs.Prelude.{Result, Ok, Err, OnErr, OnOk, slice_get, slice_set
 use Rattle.std.proofs.lemmas.List.{drop_all}
 use Rattle.pb_sorts.proofs.Places.{drop-slice_get}
 use Rattle.pb_bytecode_program.specs.Counts.{loop_effect}
-use Rattle.pb_verifier_states.specs.Refusals.{OnRefusedBy}
-use Rattle.pb_verifier_states.specs.declared.flow_error.FlowError.{FlowError}
-use Rattle.pb_verifier_states.specs.declared.flow_error.FlowError.TheVariants.{Refused, Memory}
 use Rattle.pb_bytecode_program.specs.Machine.{Program}
 use Rattle.pb_bytecode_program.specs.Transfer.{AbstractState, transfer}
 use Rattle.pb_bytecode_program.specs.Accepted.{Table, state_at}
@@ -23,10 +20,6 @@ known_flows p q i o k home homes t u e h r = rw (e, sym h) r
 pub where_ok : {E : Type 0} {P Q : Type 0} → (r : Result (Unit {0}) E) → (P → Q) → OnOk r P → OnOk r Q
 where_ok (Ok x) f h = f h
 where_ok (Err e) f h = h
-
-pub where_refused_by : {P Q : Type 0} → (e : FlowError) → (P → Q) → OnRefusedBy e P → OnRefusedBy e Q
-where_refused_by (Refused rule) f h = f h
-where_refused_by Memory f h = h
 
 pub where_err : {E : Type 0} {P Q : Type 0} → (r : Result (Unit {0}) E) → (P → Q) → OnErr r P → OnErr r Q
 where_err (Ok x) f h = h

@@ -1,6 +1,5 @@
 pub mod Pass
 pub mod Programs
-pub mod EquationErrors
 pub mod Acceptance
 pub mod Refusals
 pub mod Names

@@ -5,17 +5,17 @@ ghost use Rattle.pb_bytecode_program.specs.Machine.{Program};
 ghost use Rattle.pb_verifier_structure.specs.Structure.{IsStructured};
 ghost use Rattle.pb_verifier_structure.specs.Views.{IsProgramOf};
 ghost use Rattle.pb_verifier.specs.Acceptance.{HasTable, StatesCounts};
-ghost use Rattle.pb_verifier.specs.EquationErrors.{OnRuleBroken};
+ghost use Rattle.pb_errors.specs.OrMemory.{OnRefused};
 ghost use Rattle.pb_verifier.specs.Programs.{program_in};
 ghost use Rattle.pb_verifier_structure.specs.Structure.{IsWithinLimits};
 
-use crate::equation_error::EquationError;
 use crate::pass::pass;
 use pb_bytecode::Equation;
+use pb_errors::OrMemory;
 use pb_limits::{MAX_STEPS, MAX_TOKENS};
 use pb_sorts::Carrier;
 use pb_verifier_states::AcceptanceRule;
-use pb_verifier_structure::{EquationCode, check_structure, static_counts};
+use pb_verifier_structure::{EquationCode, PositionFault, check_structure, static_counts};
 use std::alloc::Global;
 
 // Whether the stated counts are at least the static ones and within the limits (V16).
@@ -35,11 +35,11 @@ pub(crate) fn check_equation(
     sorts: &[u8],
     callees: &[Vec<Carrier>],
     equation: &Equation,
-) -> Result<(), EquationError>
+) -> Result<(), OrMemory<PositionFault>>
     requires { IsWithinLimits (program_in sorts.now (map vec_items callees.now) equation.now) }
     ensures accepted { OnOk result (HasTable (program_in sorts.now
         (map vec_items callees.now) equation.now)) }
-    ensures refused { OnRuleBroken result
+    ensures refused { OnRefused result
         (HasTable (program_in sorts.now (map vec_items callees.now) equation.now) → ⊥) }
 {
     let code = EquationCode {
@@ -50,10 +50,10 @@ pub(crate) fn check_equation(
     };
     check_structure(alloc, &code)?;
     if !are_enough(&code, equation.steps, equation.tokens) {
-        return Err(EquationError::Refused {
+        return Err(OrMemory::Refused(PositionFault {
             rule: AcceptanceRule::StatedCounts,
             place: 0,
-        });
+        }));
     }
     pass(alloc, sorts, callees, equation)
 }

@@ -5,7 +5,6 @@
 #![tactic(auto)]
 
 mod equation;
-mod equation_error;
 pub mod laws;
 mod module_tables;
 mod open_loops;

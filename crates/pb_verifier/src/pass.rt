@@ -3,13 +3,12 @@
 
 ghost use Rattle.std.specs.Prelude.{◌≡◌, ◌<◌, ◌≤◌, [], ◌∷◌, IfOk, List, None, OnErr, OnOk, Some, ℕ};
 ghost use Rattle.std.specs.Prelude.{map, replicate, slice_set, true, false, vec_items, vec_len};
-ghost use Rattle.pb_verifier_states.specs.Refusals.{OnRefused};
+ghost use Rattle.pb_errors.specs.OrMemory.{OnRefused, raised};
 ghost use Rattle.pb_bytecode_program.specs.Accepted.{state_at};
 ghost use Rattle.pb_bytecode_program.specs.Counts.{Leaves, loop_effect};
 ghost use Rattle.pb_bytecode_program.specs.Monotone.{HasOrderedRange};
 ghost use Rattle.pb_bytecode_program.specs.Machine.{Program, carrier_of};
 ghost use Rattle.pb_bytecode_program.specs.declared.instruction.Op.TheVariants as op;
-ghost use Rattle.pb_verifier.specs.EquationErrors.{OnRuleBroken};
 ghost use Rattle.pb_verifier.specs.Pass.{code_passes, homes_after, opening, visited};
 ghost use Rattle.pb_verifier.specs.Programs.{program_in};
 ghost use Rattle.pb_verifier.specs.Names.{program_with};
@@ -17,13 +16,14 @@ ghost use Rattle.pb_verifier_structure.specs.Structure.{IsWithinLimits};
 ghost use Rattle.pb_limits.specs.declared.TheConstants.{MAX_INSTRUCTIONS};
 ghost use Rattle.pb_sorts.specs.declared.carrier.Carrier.{Carrier as carrier_type};
 
-use crate::equation_error::EquationError;
 use crate::open_loops::OpenLoops;
 use crate::visit::{Names, visit, visit_loop, visit_next};
 use pb_bytecode::Equation;
 use pb_bytecode_program::Op;
+use pb_errors::OrMemory;
 use pb_sorts::Carrier;
 use pb_verifier_states::{AbstractState, AcceptanceRule, FlowError};
+use pb_verifier_structure::PositionFault;
 use std::alloc::{AllocError, Global};
 
 /// What is known in the midst of a pass: at the places to come, and at the starts of the loops
@@ -170,6 +170,13 @@ impl PassState {
     }
 }
 
+// The refusal of the instruction at a place.
+fn at_place(error: FlowError, place: usize) -> OrMemory<PositionFault>
+    ensures { raised (λ rule fault. fault ≡ record { rule = rule; place = place }) error result }
+{
+    error.map(|rule| PositionFault { rule, place })
+}
+
 /// Passes over the code of an equation. `sorts` has the counts of enumerators, `callees` the
 /// carriers of each equation's parameters.
 ///
@@ -180,11 +187,11 @@ pub(crate) fn pass(
     sorts: &[u8],
     callees: &[Vec<Carrier>],
     equation: &Equation,
-) -> Result<(), EquationError>
+) -> Result<(), OrMemory<PositionFault>>
     requires { IsWithinLimits (program_in sorts.now (map vec_items callees.now) equation.now) }
     ensures passes { OnOk result
         (code_passes (program_in sorts.now (map vec_items callees.now) equation.now) ≡ true) }
-    ensures refused { OnRuleBroken result
+    ensures refused { OnRefused result
         (code_passes (program_in sorts.now (map vec_items callees.now) equation.now) ≡ false) }
 {
     let names = Names { sorts, callees };
@@ -192,8 +199,7 @@ pub(crate) fn pass(
     for (place, instruction) in equation.code.iter().enumerate() {
         match pass.step(&names, equation, place, *instruction) {
             Ok(()) => {}
-            Err(FlowError::Refused(rule)) => return Err(EquationError::Refused { rule, place }),
-            Err(FlowError::Memory) => return Err(EquationError::Memory),
+            Err(error) => return Err(at_place(error, place)),
         }
     }
     Ok(())

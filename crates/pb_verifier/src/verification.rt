@@ -10,11 +10,11 @@ ghost use Rattle.pb_verifier.specs.Refusals.{WhereRefused};
 ghost use Rattle.pb_verifier_structure.specs.Structure.{IsWithinLimits};
 
 use crate::equation::check_equation;
-use crate::equation_error::EquationError;
 use crate::module_tables::{enumerator_counts, layout_of, parameter_carriers};
 use crate::verified::Verified;
 use crate::verify_error::VerifyError;
 use pb_bytecode::{Equation, Module};
+use pb_errors::OrMemory;
 use pb_sorts::{Carrier, Instance, Layout, Tuple};
 use std::alloc::{AllocError, Global};
 
@@ -35,14 +35,14 @@ fn check_equations(
     for (number, equation) in equations.iter().enumerate() {
         match check_equation(alloc, sorts, callees, equation) {
             Ok(()) => {}
-            Err(EquationError::Refused { rule, place }) => {
+            Err(OrMemory::Refused(fault)) => {
                 return Err(VerifyError::Refusal {
-                    rule,
+                    rule: fault.rule,
                     equation: number,
-                    place,
+                    place: fault.place,
                 });
             }
-            Err(EquationError::Memory) => return Err(VerifyError::Memory),
+            Err(OrMemory::Memory) => return Err(VerifyError::Memory),
         }
     }
     Ok(())

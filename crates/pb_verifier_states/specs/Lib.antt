@@ -1,6 +1,5 @@
 pub mod Join
 pub mod Edges
-pub mod Refusals
 pub mod Inhabited
 pub mod Flows
 pub mod RuleNumber

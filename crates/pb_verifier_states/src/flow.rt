@@ -5,7 +5,7 @@ ghost use Rattle.pb_verifier_states.specs.Edges.{edges_of};
 ghost use Rattle.pb_verifier_states.specs.Flows.{GoesOnAlone};
 ghost use Rattle.pb_verifier_states.specs.NamedRule.{named_rule};
 ghost use Rattle.pb_bytecode_program.specs.Monotone.{HasOrderedRange};
-ghost use Rattle.pb_verifier_states.specs.Refusals.{IfRefused, OnRefused};
+ghost use Rattle.pb_errors.specs.OrMemory.{IfRefused, OnRefused};
 ghost use Rattle.pb_bytecode_program.specs.Counts.{Straight, loop_effect};
 ghost use Rattle.pb_bytecode_program.specs.Machine.{Program};
 ghost use Rattle.pb_bytecode_program.specs.Transfer.{AbstractState as Known, to_next_place};

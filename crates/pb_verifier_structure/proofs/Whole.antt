@@ -8,10 +8,10 @@ use Rattle.pb_bytecode_program.specs.Counts.{Leaves, loop_effect, loops_around}
 use Rattle.pb_bytecode_program.specs.Machine.{Program}
 use Rattle.pb_bytecode_program.specs.declared.instruction.Op.{Op}
 use Rattle.pb_bytecode_program.specs.declared.instruction.Op.TheVariants as op
-use Rattle.pb_verifier_structure.specs.declared.position_fault.StructureError.{StructureError}
-use Rattle.pb_verifier_structure.specs.declared.position_fault.StructureError.TheVariants.{Refused, Memory}
+use Rattle.pb_errors.specs.OrMemory.{IfFault, OnRefused}
+use Rattle.pb_errors.specs.declared.or_memory.OrMemory.{OrMemory}
+use Rattle.pb_errors.specs.declared.or_memory.OrMemory.TheVariants.{Refused, Memory}
 use Rattle.pb_verifier_structure.specs.Nesting.{NestsAt, IsNested}
-use Rattle.pb_verifier_structure.specs.Refusals.{OnRefused, OnRefusedBy}
 use Rattle.pb_verifier_structure.specs.Structure.{IsStructured}
 
 -- an instruction that names nothing and has no target
@@ -112,10 +112,10 @@ module _ (p : Program) where
     closes = λ q i at e. closes_by q i e (n.each q i at);
   }
 
-pub refused_same : {A : Type 0} (r : Result A StructureError) (e : StructureError) (P Q : Type 0) → IsErrAnd r (λ x. x ≡ e) → OnRefusedBy e P → (P → Q) → OnRefused r Q
+pub refused_same : {A F : Type 0} (r : Result A (OrMemory F)) (e : OrMemory F) (P Q : Type 0) → IsErrAnd r (λ x. x ≡ e) → IfFault e (λ _. P) → (P → Q) → OnRefused r Q
 refused_same (Ok x) e P Q h b f = absurd h
-refused_same (Err x) e P Q h b f = more x (subst (λ z. OnRefusedBy z P) (sym h) b)
+refused_same {F = F} (Err x) e P Q h b f = more x (subst (λ z. IfFault z (λ _. P)) (sym h) b)
   where
-    more : (x : StructureError) → OnRefusedBy x P → OnRefusedBy x Q
+    more : (x : OrMemory F) → IfFault x (λ _. P) → IfFault x (λ _. Q)
     more (Refused fault) b = f b
     more Memory b = tt

@@ -1,4 +1,3 @@
 pub mod Structure
 pub mod Views
 pub mod Nesting
-pub mod Refusals

@@ -10,7 +10,7 @@ ghost use Rattle.pb_bytecode_program.specs.Counts.{loops_around};
 ghost use Rattle.pb_bytecode_program.specs.declared.instruction.Op.{Op};
 ghost use Rattle.pb_bytecode_program.specs.declared.instruction.Op.TheVariants as op;
 ghost use Rattle.pb_verifier_structure.specs.Nesting.{IsInnermost, IsNested, innermost_of};
-ghost use Rattle.pb_verifier_structure.specs.Refusals.{OnRefused};
+ghost use Rattle.pb_errors.specs.OrMemory.{OnRefused};
 
 use crate::position_fault::{StructureError, broken};
 use pb_bytecode_program::Op;

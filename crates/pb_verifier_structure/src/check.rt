@@ -8,7 +8,7 @@ ghost use Rattle.pb_bytecode_program.specs.Accepted.{HasValidTarget, IsVisible, 
 ghost use Rattle.pb_bytecode_program.specs.Machine.{Program, carrier_of};
 ghost use Rattle.pb_bytecode_program.specs.declared.instruction.Op.TheVariants as op;
 ghost use Rattle.pb_verifier_structure.specs.Nesting.{IsInnermost, IsNested};
-ghost use Rattle.pb_verifier_structure.specs.Refusals.{OnRefused};
+ghost use Rattle.pb_errors.specs.OrMemory.{OnRefused};
 ghost use Rattle.pb_verifier_structure.specs.Structure.{IsStructured};
 ghost use Rattle.pb_verifier_structure.specs.Views.{IsProgramOf};
 

@@ -5,7 +5,7 @@ ghost use Rattle.pb_verifier_states.specs.Flows.{Fails, FlowsTo, GoesOn, IsNamed
 ghost use Rattle.pb_verifier_states.specs.Inhabited.{HasOrderedEnds};
 ghost use Rattle.pb_verifier_states.specs.NamedRule.{named_rule};
 ghost use Rattle.pb_sorts.specs.declared.carrier.Carrier.{Carrier as carrier_type};
-ghost use Rattle.pb_verifier_states.specs.Refusals.{IfRefused, OnRefused};
+ghost use Rattle.pb_errors.specs.OrMemory.{IfRefused, OnRefused};
 ghost use Rattle.pb_bytecode_program.specs.Machine.{Program};
 ghost use Rattle.pb_bytecode_program.specs.Transfer.{AbstractState as Known, abstract_push};
 ghost use Rattle.pb_bytecode_program.specs.Transfer.{to_next_place, transfer};

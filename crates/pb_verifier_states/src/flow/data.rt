@@ -2,7 +2,7 @@
 
 ghost use Rattle.std.specs.Prelude.{◌≡◌, ◌&&◌, IfErr, IfOk, OnErr, int_lt, pos};
 ghost use Rattle.pb_verifier_states.specs.Flows.{Fails, GoesOn, IsNamed};
-ghost use Rattle.pb_verifier_states.specs.Refusals.{IfRefused, OnRefused};
+ghost use Rattle.pb_errors.specs.OrMemory.{IfRefused, OnRefused};
 ghost use Rattle.pb_bytecode_program.specs.Values.{divides};
 ghost use Rattle.pb_bytecode_program.specs.declared.instruction.Op.TheVariants as op;
 

@@ -1,7 +1,7 @@
 //! Loops of abstract states.
 
 ghost use Rattle.std.specs.Prelude.{◌≡◌, Some, None, IfOk, Option, ℕ, OnErr};
-ghost use Rattle.pb_verifier_states.specs.Refusals.{OnRefused};
+ghost use Rattle.pb_errors.specs.OrMemory.{OnRefused};
 ghost use Rattle.pb_bytecode_program.specs.Transfer.{abstract_loop, abstract_next, to_next_place};
 
 use crate::flow_error::FlowError;

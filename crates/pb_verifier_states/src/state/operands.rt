@@ -6,7 +6,7 @@ ghost use Rattle.std.specs.Prelude.{length, true, false, reverse, drop, ◌<◌,
 ghost use Rattle.pb_verifier_states.specs.Inhabited.{HasOrderedEnds};
 ghost use Rattle.pb_verifier_states.specs.Kinds as kinds;
 ghost use Rattle.pb_verifier_states.specs.NamedRule.{named_at_call, named_at_top};
-ghost use Rattle.pb_verifier_states.specs.Refusals.{IfRefused, OnRefused};
+ghost use Rattle.pb_errors.specs.OrMemory.{IfRefused, OnRefused};
 ghost use Rattle.pb_bytecode_program.specs.Transfer.{Flow, abstract_pop_args, abstract_pop_bool};
 ghost use Rattle.pb_bytecode_program.specs.Transfer.{abstract_pop_int};
 ghost use Rattle.pb_bytecode_program.specs.declared.abstract_value.AbstractValue.{AbstractValue as value_type};

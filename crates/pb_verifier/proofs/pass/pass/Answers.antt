@@ -1,6 +1,7 @@
 use Rattle.std.proofs.Common.{map, length, ◌≤◌, ap, arith}
 use Rattle.std.specs.Prelude.{vec_items}
 use Rattle.pb_bytecode_program.specs.declared.instruction.Op.TheVariants as op
+use Rattle.pb_errors.proofs.Faults.{if_raised}
 use Rattle.pb_verifier.specs.Programs.{program_in}
 use Rattle.pb_verifier.proofs.Steps.{op_here, passes_begin, passes_next, passes_not, passes_end}
 use Rattle.pb_verifier.proofs.pass.pass.Goals as goal
@@ -21,11 +22,12 @@ loop-place-preserved c =
     (op_here c.deref-instruction-items.result.now c.args.equation.now.code.items c.loop-place.place op.End c.deref-instruction-items.ensures.value c.loop-place-test.true)
     c.in-Ok.ensures.flows c.in-Ok.ensures.open_loops c.loop-place.invariant
 
-pub returns-in-Err-Refused-clause-refused : goal.returns-in-Err-Refused-clause-refused
-returns-in-Err-Refused-clause-refused c =
-    passes_not (program_in c.args.sorts.now (map vec_items c.args.callees.now) c.args.equation.now) c.args.equation.now.code.items c.loop-place.place _ c.loop-place.pass.open_loops c.loop-place.pass.table.items _
+pub returns-in-Err-clause-refused : goal.returns-in-Err-clause-refused
+returns-in-Err-clause-refused c =
+    let refused = passes_not (program_in c.args.sorts.now (map vec_items c.args.callees.now) c.args.equation.now) c.args.equation.now.code.items c.loop-place.place _ c.loop-place.pass.open_loops c.loop-place.pass.table.items _
     (op_here c.deref-instruction-items.result.now c.args.equation.now.code.items c.loop-place.place op.End c.deref-instruction-items.ensures.value c.loop-place-test.true)
-    (rw c.in-Err-Refused.field-0-is at c.in-Err-Refused.ensures.refused) c.loop-place.invariant
+    in
+    if_raised c.in-Err.error c.at_place.result c.at_place.ensures (λ rule fault made none. refused none c.loop-place.invariant) c.in-Err.ensures.refused
 
 pub returns-clause-passes : goal.returns-clause-passes
 returns-clause-passes c =
