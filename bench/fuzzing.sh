@@ -1,7 +1,7 @@
 #!/bin/sh
-# bench/fuzzing.sh [FIRST [COUNT]]: the tests `fuzzing` of crates/test_program with COUNT generated and changed modules and as many texts in place of the gate's 4,000, of the
+# bench/fuzzing.sh [FIRST [COUNT]]: the tests `fuzzing` of crates/test_program with COUNT generated and changed modules in place of the gate's 4,000, of the
 # seeds from FIRST on, and with all instances of each accepted module run in place of the first 256. Works on a copy, whose constants it sets: proves and builds
-# that crate, over what earlier checks in this or another copy kept, and prints what became of the modules and texts, or the seed that was not as wanted.
+# that crate, over what earlier checks in this or another copy kept, and prints what became of the modules, or the seed that was not as wanted. Texts: bench/fuzzing_texts.py.
 set -e
 cd "$(dirname "$0")/.."
 room=$(mktemp -d)

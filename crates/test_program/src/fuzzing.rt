@@ -1,6 +1,6 @@
-//! Fuzzing of the program: generated and mutated modules and texts, each made from its seed, and
-//! what is asked of them. Accepted code is run beside a tagged machine and its answer compared with
-//! the definition's, both written here.
+//! Fuzzing of modules, generated and mutated, each made from its seed, and what is asked of them.
+//! Accepted code is run beside a tagged machine and its answer compared with the definition's, both
+//! written here. Generated texts are asked of the built program by `bench/fuzzing_texts.py`.
 
 mod code;
 mod definition;
@@ -13,4 +13,3 @@ mod random;
 mod shapes;
 mod tagged;
 mod tests;
-mod texts;

@@ -1,5 +1,5 @@
-//! Tests of the whole program, with readers and writers that fail, on a small stack, and on inputs
-//! that are generated and mutated.
+//! Tests of the whole program, with readers and writers that fail, workers that are watched, and
+//! systems and modules that are generated. What it writes of an input is tested by `rows/`.
 #![tactic(auto)]
 
 #[cfg(test)]

@@ -1,16 +1,13 @@
-//! One run of the program in memory, for the tests below.
-mod answers;
-mod data;
-mod depth;
+//! One run of the program in memory, for the tests below. What the program writes of an input is
+//! tested by `rows/`; here stand readers and writers that fail, workers that are watched, and what
+//! is compared with the plain solver.
 mod evidence;
 mod faults;
 mod generated;
 mod models;
-mod modules;
 mod parts;
 mod plain;
 mod proof_graphs;
-mod rows;
 mod solvers;
 mod workers;
 
@@ -18,7 +15,7 @@ use crate::budget::Budget;
 use pb_exploration::NoGate;
 use pb_sorts::{In, Source};
 use pbsolve::Streams;
-use std::alloc::{AllocError, Global};
+use std::alloc::Global;
 use std::thread::Threads;
 
 // More than the program writes to either writer.
@@ -80,10 +77,4 @@ fn run_over<T: Threads + Sync, R: Source + Drop>(
 fn asked<T: Threads + Sync>(rt: &T, alloc: Global, command: &str, input: &[u8]) -> Outcome {
     let words = ["pbsolve", command];
     run_on(rt, alloc, &words, In::new(input), ROOM)
-}
-
-// The report of an answer with these counts of instances, cuts and vertices.
-fn report(alloc: Global, truth: bool, counts: (u32, u32, u32)) -> Result<String, AllocError> {
-    let (instances, cut, vertices) = counts;
-    format!(in alloc; "answer {truth}\ninstances {instances}\ncut {cut}\nvertices {vertices}\n")
 }

@@ -52,12 +52,6 @@ pub enum Flaw {
     Answer,
     /// The solver refused what the verifier accepts.
     Refused,
-    /// The status is none of those that may be.
-    Status,
-    /// Something stands on standard output beside a refusal, or nothing beside an answer.
-    Output,
-    /// Standard error has no line, more than one, or one beside an answer.
-    Line,
 }
 
 impl From<Fault> for Flaw {

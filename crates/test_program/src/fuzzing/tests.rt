@@ -1,11 +1,10 @@
-//! Each byte of known modules set to each value, and generated and changed modules and texts.
+//! Each byte of known modules set to each value, and generated and changed modules.
 
 use crate::fuzzing::flaw::Flaw;
 use crate::fuzzing::known::{COUNTS_DOWN, OTHERS};
 use crate::fuzzing::made_modules::module_of;
 use crate::fuzzing::modules::{Tally, check};
 use crate::fuzzing::random::Generator;
-use crate::fuzzing::texts::{self, Statuses, text_of};
 use std::alloc::{AllocError, Global};
 use std::test::Fail;
 use std::thread::Threads;
@@ -15,7 +14,7 @@ use std::thread::Threads;
 /// The first seed.
 const FIRST: u64 = 0;
 
-/// How many modules are made, and how many texts.
+/// How many modules are made.
 const COUNT: u64 = 4_000;
 
 /// How many instances of an accepted module are run.
@@ -81,20 +80,6 @@ fn generated_and_changed_modules(rt: HostRuntime) -> Result<(), Fail> {
     assert!(rt; 0 < tally.truths && tally.truths < tally.solved);
     assert!(rt; tally.solved <= tally.accepted && tally.accepted < tally.read);
     assert!(rt; tally.read < tally.modules);
-    Ok(())
-}
-
-#[test]
-fn generated_and_changed_texts(rt: HostRuntime) -> Result<(), Fail> {
-    let mut statuses = Statuses::new();
-    for turn in 0..COUNT {
-        let seed = FIRST.wrapping_add(turn);
-        let text = text_of(rt.alloc(), seed)?;
-        let checked = texts::check(&rt, rt.alloc(), seed, &text, &mut statuses);
-        assert!(rt; checked.is_ok_and(|status| status <= 1), "seed {seed}");
-    }
-    println!(rt; "{statuses:?}")?;
-    assert!(rt; statuses.counts[0] > 0 && statuses.counts[1] > 0);
     Ok(())
 }
 

@@ -1,4 +1,4 @@
-//! Models: verdicts on properties, the text of one, what is refused, and writers that fail.
+//! Models: writers that fail while verdicts or the text of a property are written.
 use super::{ROOM, run_on};
 use pb_sorts::In;
 use std::test::Fail;
@@ -34,9 +34,6 @@ mu X(n: Nat) = val(n == 3) || val(true) && X(n + 1);
 init X(0);
 ";
 
-const UNKNOWN_STEP: &[u8] =
-    b"model state b: Bool; step a: b -> b := !b; init true; property p = [c] b;";
-
 // Words, a model, and what the program writes for it.
 const ANSWERED: [(&[&str], &[u8], &[u8]); 5] = [
     (&["pbsolve", "check"], LOCK, VERDICTS),
@@ -49,53 +46,6 @@ const ANSWERED: [(&[&str], &[u8], &[u8]); 5] = [
     ),
     (&["pbsolve", "translate", "--property", "top"], CUT, TEXT),
 ];
-
-// Words, a model, the status and the line that refuses it.
-const REFUSED: [(&[&str], &[u8], u8, &[u8]); 5] = [
-    (
-        &["pbsolve", "check"],
-        UNKNOWN_STEP,
-        1,
-        b"T01 line 1 column 69\n",
-    ),
-    (
-        &["pbsolve", "translate"],
-        UNKNOWN_STEP,
-        1,
-        b"T01 line 1 column 69\n",
-    ),
-    (
-        &["pbsolve", "translate", "--property", "bottom"],
-        CUT,
-        2,
-        b"U01\n",
-    ),
-    (&["pbsolve", "check", "--property", "top"], CUT, 2, b"U01\n"),
-    (
-        &["pbsolve", "translate", "--workers", "1"],
-        CUT,
-        2,
-        b"U01\n",
-    ),
-];
-
-#[test]
-fn models_are_answered(rt: HostRuntime) -> Result<(), Fail> {
-    for (words, model, wanted) in ANSWERED {
-        let outcome = run_on(&rt, rt.alloc(), words, In::new(model), ROOM);
-        assert!(rt; outcome.is(0, wanted, b""));
-    }
-    Ok(())
-}
-
-#[test]
-fn models_are_refused(rt: HostRuntime) -> Result<(), Fail> {
-    for (words, model, status, line) in REFUSED {
-        let outcome = run_on(&rt, rt.alloc(), words, In::new(model), ROOM);
-        assert!(rt; outcome.is(status, b"", line));
-    }
-    Ok(())
-}
 
 #[test]
 fn a_full_writer_has_a_prefix(rt: HostRuntime) -> Result<(), Fail> {
