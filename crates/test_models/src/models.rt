@@ -1,4 +1,4 @@
-//! Which models are read and refused, and where.
+//! Which models are read.
 
 use pb_model_text::parse_model;
 use pb_model_tree::{Formula, Model};
@@ -75,50 +75,6 @@ fn reads_models(rt: HostRuntime) -> Result<(), Fail> {
         (
             b"model state m: Bool; step s: m -> m := !m; init true; property q = (mu X . m || <s> X) => m;",
             Answer::Read([0, 0, 1, 1, 1]),
-        ),
-    ];
-    for (text, wanted) in texts {
-        assert!(rt; outcome(a, text) == wanted);
-    }
-    Ok(())
-}
-
-#[test]
-fn refuses_at_the_place_of_the_fault(rt: HostRuntime) -> Result<(), Fail> {
-    let a = rt.alloc();
-    let unexpected = TextRule::UnexpectedToken;
-    let texts: [(&[u8], Answer); 9] = [
-        (b"", Answer::Refused(unexpected, 1, 1)),
-        (b"pbes nu X = X; init X;", Answer::Refused(unexpected, 1, 1)),
-        (
-            b"model state step: Nat;",
-            Answer::Refused(unexpected, 1, 13),
-        ),
-        (
-            b"model state n: Nat; step a: n = 0",
-            Answer::Refused(unexpected, 1, 31),
-        ),
-        (
-            b"model state n: Nat; step a: true - > n",
-            Answer::Refused(unexpected, 1, 36),
-        ),
-        (
-            b"model state n: Nat; step a: true -> n = 0",
-            Answer::Refused(unexpected, 1, 39),
-        ),
-        // A formula in brackets is no data.
-        (
-            b"model state n: Nat; step a: true -> n := 0; init 0;\nproperty p = (n + 1) == n;",
-            Answer::Refused(unexpected, 2, 22),
-        ),
-        // A fixpoint stands behind a modality in brackets alone.
-        (
-            b"model state n: Nat; step a: true -> n := 0; init 0;\nproperty p = [a] mu X . X;",
-            Answer::Refused(unexpected, 2, 18),
-        ),
-        (
-            b"model state n: Nat; step a: true -> n := 0; init 0;\nproperty p = # true;",
-            Answer::Refused(TextRule::UnknownByte, 2, 14),
         ),
     ];
     for (text, wanted) in texts {
