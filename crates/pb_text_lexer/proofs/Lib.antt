@@ -12,5 +12,6 @@ pub mod CorrectChained
 pub mod CorrectEither
 pub mod CorrectPlain
 pub mod CorrectLeft
+pub mod CorrectLeftChains
 pub mod LoopLemmas
 pub mod WordLemmas

@@ -9,7 +9,7 @@ use Rattle.pb_text_lexer.specs.Steps.{Step}
 use Rattle.pb_text_lexer.proofs.Correct.{Family, never, Correct}
 use Rattle.pb_text_lexer.proofs.CorrectSeries.{going}
 use Rattle.pb_text_lexer.proofs.CorrectPlain.{Always}
-use Rattle.pb_text_lexer.proofs.CorrectLeft.{AreOperators, left_chain-correct, unmixed_chain-correct, comparison-correct}
+use Rattle.pb_text_lexer.proofs.CorrectLeftChains.{AreOperators, left_chain-correct, unmixed_chain-correct, comparison-correct}
 use Rattle.pb_text_lexer.proofs.CorrectEither.{connects, IsBelow}
 use Rattle.pb_text_terms.specs.Operators.{is_equality, is_order, compared_by, is_additive, is_times, is_division, computed_by}
 use Rattle.pb_text_terms.specs.Grammar.{Product, Sum, Ordered, Equated}
