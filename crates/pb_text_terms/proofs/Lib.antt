@@ -1,6 +1,7 @@
 pub mod VariableLemmas
 pub mod TermLemmas
 pub mod ReadLemmas
+pub mod LevelLemmas
 pub mod CorrectVariable
 pub mod CorrectOperators
 pub mod TermStarts

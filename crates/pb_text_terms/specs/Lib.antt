@@ -1,3 +1,4 @@
 pub mod Operators
 pub mod Grammar
+pub mod Levels
 pub mod Reading

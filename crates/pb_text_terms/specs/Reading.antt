@@ -17,6 +17,8 @@ use Rattle.pb_text_lexer.specs.Steps.{Step, ◌>>=◌, pure, peek, refuse, take_
 use Rattle.pb_text_lexer.specs.Tokens.{Tok}
 use Rattle.pb_text_terms.specs.declared.operator.Operators.{Operators}
 use Rattle.pb_text_terms.specs.declared.operator.Operators.TheVariants.{Additive, Times, Division}
+use Rattle.pb_text_terms.specs.declared.level.Level.{Level}
+use Rattle.pb_text_terms.specs.declared.level.Level.TheVariants as l
 use Rattle.pb_text_terms.specs.Operators.{symbol, connected_by, is_quantifier, is_equality, is_order, compared_by, is_additive, is_times, is_division, arithmetic_of, computed_by}
 use Rattle.pb_text_terms.specs.Grammar.{arguments_of, applied}
 
@@ -141,6 +143,12 @@ is_among Additive = is_additive
 is_among Times = is_times
 is_among Division = is_division
 
+-- which operators may not follow such a chain
+abbrev pub is_mixed : Operators → Kind → Bool
+is_mixed Additive = λ kind. false
+is_mixed Times = is_division
+is_mixed Division = is_times
+
 -- an operator and its operand, and one or more of these
 abbrev pub operation : Operators → Step TermForm → Step (Arithmetic × Place × TermForm)
 operation operators item = do
@@ -158,12 +166,6 @@ product unary = unmixed_chain is_times is_division computed_by unary
 
 unfoldable pub sum : Step TermForm → Step TermForm
 sum unary = left_chain is_additive computed_by (product unary)
-
--- what these operators stand between
-abbrev pub operand_of : Operators → Step TermForm → Step TermForm
-operand_of Additive unary = product unary
-operand_of Times unary = unary
-operand_of Division unary = unary
 
 unfoldable pub ordered : Step TermForm → Step TermForm
 ordered unary = comparison is_order compared_by (sum unary)
@@ -209,6 +211,18 @@ abbrev mutual
 
 abbrev pub term : ℕ → Step TermForm
 term depth = level TermForm.connected Implies (lowest depth)
+
+-- what is read at a level of operators
+abbrev pub at : Level → ℕ → Step TermForm
+at l.Unary depth = unary depth
+at l.Product depth = product (unary depth)
+at l.Sum depth = sum (unary depth)
+at l.Order depth = ordered (unary depth)
+at l.Equality depth = equated (unary depth)
+at l.Quantified depth = lowest depth
+at l.Conjunction depth = level TermForm.connected And (lowest depth)
+at l.Disjunction depth = level TermForm.connected Or (lowest depth)
+at l.Implication depth = term depth
 
 -- what stands a level deeper
 abbrev pub below : {X : Type 0} → (ℕ → Step X) → ℕ → Step X

@@ -116,6 +116,17 @@ pub fn is_among(operators: Operators, kind: Kind) -> bool
     }
 }
 
+/// Whether a token is an operator that may not follow a chain of the operators.
+pub fn is_mixed(operators: Operators, kind: Kind) -> bool
+    ensures { result ≡ reading.is_mixed operators kind }
+{
+    match operators {
+        Operators::Additive => false,
+        Operators::Times => is_among(Operators::Division, kind),
+        Operators::Division => is_among(Operators::Times, kind),
+    }
+}
+
 /// The operator of a token; only of an operator of arithmetic it is asked for.
 pub fn arithmetic(kind: Kind) -> Arithmetic
     ensures { result ≡ spec.arithmetic_of kind }
