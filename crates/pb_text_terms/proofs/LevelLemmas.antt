@@ -1,6 +1,6 @@
 -- Levels of operators: what is read at a level is read at each level above it, where no operator between them stands.
 use Rattle.std.proofs.lemmas.Bool.{and_parts}
-use Rattle.std.proofs.Common.{◌≡◌, ℕ, ◌&&◌, zero, suc, ◌+◌, ◌-◌, ◌<◌, ◌≤◌, Bool, true, false, List, [], length, refl, sym, ap, ◌∙◌, subst, arith, Option, Some, None, Result, Ok, Err}
+use Rattle.std.proofs.Common.{◌≡◌, ℕ, ◌&&◌, zero, suc, ◌+◌, ◌-◌, ◌<◌, ◌≤◌, Bool, true, false, List, [], length, refl, sym, ap, ◌∙◌, subst, arith, Some, Result, Ok, Err}
 use Rattle.pb_text_tree.specs.declared.place.Place.{Place}
 use Rattle.pb_text_tree.specs.declared.operator.Arithmetic.{Arithmetic}
 use Rattle.pb_text_tree.specs.declared.operator.Connective.{Connective}
@@ -28,7 +28,7 @@ use Rattle.pb_text_terms.specs.declared.level.Operator.{Operator}
 use Rattle.pb_text_terms.specs.declared.level.Operator.TheVariants as o
 use Rattle.pb_text_terms.specs.Levels.{operator_of, level_of, operand_level, rank, may_quantify, is_related}
 use Rattle.pb_text_terms.specs.Operators.{symbol, is_times, is_division, is_additive, is_order, is_equality, is_quantifier, compared_by}
-use Rattle.pb_text_terms.specs.Reading.{begun, unary, lowest, product, sum, ordered, equated, operand, level, operations, is_among, is_mixed, at, below, term, quantified_term}
+use Rattle.pb_text_terms.specs.Reading.{begun, unary, lowest, sum, ordered, equated, operand, operations, is_among, is_mixed, at, below, term, quantified_term}
 use Rattle.pb_text_terms.proofs.TermLemmas.{lowest-is}
 use Rattle.pb_text_terms.proofs.ReadLemmas.{left-alone, left-fails, begun-at, lowest-node, sum-first-fails, sum-alone, sum-fails, sum-read, product-first-fails, product-alone, times-fail, times-mixed, times-read, division-fails, division-mixed, division-read, equated-first-fails}
 

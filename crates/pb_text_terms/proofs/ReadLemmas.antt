@@ -3,15 +3,12 @@ use Rattle.std.proofs.Common.{◌≡◌, ◌≢◌, ℕ, zero, suc, ◌-◌, ◌
 use Rattle.std.specs.Str.Parse.{digits_value}
 use Rattle.pb_text_tree.specs.declared.place.Place.{Place}
 use Rattle.pb_text_tree.specs.declared.operator.Arithmetic.{Arithmetic}
-use Rattle.pb_text_tree.specs.declared.operator.Connective.{Connective}
-use Rattle.pb_text_tree.specs.declared.operator.Connective.TheVariants.{And, Or, Implies}
 use Rattle.pb_text_tree.specs.declared.term.Argument.{Argument}
 use Rattle.pb_text_tree.specs.Form.{Named, TermForm, ArgumentForms, InstanceForm, term_form, argument_forms, calculated}
 use Rattle.pb_text_lexer.specs.declared.fault.ReadingRule.TheVariants.{Unexpected}
 use Rattle.pb_text_lexer.specs.declared.fault.Refusal.{Refusal}
 use Rattle.pb_text_lexer.specs.declared.fault.ReadingFault.{ReadingFault}
 use Rattle.pb_text_lexer.proofs.LoopLemmas.{fails-as, resumed-first, resumed-first-fails, resumed-end}
-use Rattle.pb_text_tree.specs.declared.term.Term.{Term}
 use Rattle.pb_text_lexer.specs.declared.kind.Kind.{Kind}
 use Rattle.pb_text_lexer.specs.declared.kind.Kind.TheVariants as k
 use Rattle.pb_text_lexer.specs.Grammar.{State}
@@ -24,7 +21,7 @@ use Rattle.pb_text_terms.specs.declared.operator.Operators.{Operators}
 use Rattle.pb_text_terms.specs.declared.operator.Operators.TheVariants.{Additive, Times, Division}
 use Rattle.pb_text_terms.specs.Operators.{computed_by, arithmetic_of, is_connective, is_times, is_division, is_additive, is_order, is_equality, is_operator, is_quantifier, compared_by}
 use Rattle.pb_text_terms.specs.Grammar.{arguments_of, applied}
-use Rattle.pb_text_terms.specs.Reading.{name, placed, closed, is_open, is_among, operation, operations, product, sum, ordered, unary, begun, lowest, equated, operand, level, term, below, instance, argument_list, argument_pair}
+use Rattle.pb_text_terms.specs.Reading.{name, placed, closed, is_open, is_among, operation, operations, product, sum, ordered, unary, begun, lowest, equated, term, below, instance, argument_list, argument_pair}
 use Rattle.pb_text_terms.proofs.TermLemmas.{unary-is, lowest-is}
 
 -- ---- a comparison
@@ -73,14 +70,6 @@ no-operator k.GreaterOrEqual h = absurd (let no : ⊥ = cc in no)
 no-operator k.Equal h = absurd (let no : ⊥ = cc in no)
 no-operator k.NotEqual h = absurd (let no : ⊥ = cc in no)
 no-operator _ h = (refl, refl, refl, refl, refl)
-
-abbrev NoOrder : Kind → Type 0
-NoOrder kind = (is_times kind ≡ false) × (is_division kind ≡ false) × (is_additive kind ≡ false) × (is_order kind ≡ false)
-
-equality-no-order : (kind : Kind) → is_equality kind ≡ true → NoOrder kind
-equality-no-order k.Equal h = (refl, refl, refl, refl)
-equality-no-order k.NotEqual h = (refl, refl, refl, refl)
-equality-no-order _ h = absurd (let no : ⊥ = cc in no)
 
 -- ---- one operator with its operand
 
@@ -320,42 +309,6 @@ module _ (depth : ℕ) where
       (left-alone is_order compared_by (sum (unary depth)) s s1 x
       (sum-alone (unary depth) s s1 x (product-alone (unary depth) s s1 x reads no.0 no.1) no.2) no.3) no.4
 
-  pub equated-ordered-fails : (s : State) (bad : Refusal) → ordered (unary depth) s ≡ Err bad → equated (unary depth) s ≡ Err bad
-  unfolding equated
-  equated-ordered-fails s bad fails = left-fails is_equality compared_by (ordered (unary depth)) s bad fails
-
-  pub product-alone-or-fails : (s z : State) (r : Result Term ReadingFault) → Gives term_form (unary depth s) r z → is_operator (kind z) ≡ false → Gives term_form (product (unary depth) s) r z
-  product-alone-or-fails s z (Ok x) reads other = let no = no-operator (kind z) other in product-alone (unary depth) s z (term_form x) reads no.0 no.1
-  product-alone-or-fails s z (Err fault) reads other = fails-as (unary depth s) (product (unary depth) s) fault (λ bad e. product-first-fails (unary depth) s bad e) reads
-
-  pub ordered-product-fails : (s : State) (bad : Refusal) → product (unary depth) s ≡ Err bad → ordered (unary depth) s ≡ Err bad
-  unfolding ordered
-  ordered-product-fails s bad fails = left-fails is_order compared_by (sum (unary depth)) s bad (sum-first-fails (unary depth) s bad fails)
-
-  pub ordered-sum-fails : (s : State) (bad : Refusal) → sum (unary depth) s ≡ Err bad → ordered (unary depth) s ≡ Err bad
-  unfolding ordered
-  ordered-sum-fails s bad fails = left-fails is_order compared_by (sum (unary depth)) s bad fails
-
-  pub ordered-first-fails : (s : State) (bad : Refusal) → unary depth s ≡ Err bad → ordered (unary depth) s ≡ Err bad
-  ordered-first-fails s bad fails = ordered-product-fails s bad (product-first-fails (unary depth) s bad fails)
-
-  -- a first operand behind which no operator of arithmetic and no order stands
-  ordered-alone : (s s1 : State) (x : TermForm) → unary depth s ≡ Ok (x, s1) → NoOrder (kind s1) → ordered (unary depth) s ≡ Ok (x, s1)
-  unfolding ordered
-  ordered-alone s s1 x reads other =
-      left-alone is_order compared_by (sum (unary depth)) s s1 x (sum-alone (unary depth) s s1 x (product-alone (unary depth) s s1 x reads other.0 other.1) other.2) other.3
-
-  pub ordered-before-equality : (s s1 : State) (x : TermForm) → unary depth s ≡ Ok (x, s1) → is_equality (kind s1) ≡ true → ordered (unary depth) s ≡ Ok (x, s1)
-  ordered-before-equality s s1 x reads stands = ordered-alone s s1 x reads (equality-no-order (kind s1) stands)
-
-  pub ordered-alone-or-fails : (s z : State) (r : Result Term ReadingFault) → Gives term_form (unary depth s) r z → is_operator (kind z) ≡ false → Gives term_form (ordered (unary depth) s) r z
-  ordered-alone-or-fails s z (Ok x) reads other = let no = no-operator (kind z) other in ordered-alone s z (term_form x) reads (no.0, no.1, no.2, no.3)
-  ordered-alone-or-fails s z (Err fault) reads other = fails-as (unary depth s) (ordered (unary depth) s) fault (λ bad e. ordered-first-fails s bad e) reads
-
-  pub equated-alone-or-fails : (s z : State) (r : Result Term ReadingFault) → Gives term_form (unary depth s) r z → is_operator (kind z) ≡ false → Gives term_form (equated (unary depth) s) r z
-  equated-alone-or-fails s z (Ok x) reads other = equated-alone s z (term_form x) reads other
-  equated-alone-or-fails s z (Err fault) reads other = fails-as (unary depth s) (equated (unary depth) s) fault (λ bad e. equated-first-fails s bad e) reads
-
 -- fewer tokens are left, where no more are left behind the first operand
 pub on-fewer : {X E : Type 0} (r : Result X E) (a b c : ℕ) → OnOk r (a ≤ b) → b < c → OnOk r (a < c)
 on-fewer (Ok x) a b c le lt = omega arith
@@ -375,25 +328,3 @@ no-connective c kind is other = by (same_kind kind c) refl
     by : (v : Bool) → same_kind kind c ≡ v → same_kind kind c ≡ false
     by true same = let no : false ≡ true = sym other ∙ ap is_connective (kind-same kind c same) ∙ is in absurd (let none : ⊥ = cc in none)
     by false same = same
-
-module _ {X : Type 0} (make : Connective → Place → X → X → X) (node : Step X) where
-  pub conjunction-fails : (s : State) (bad : Refusal) → level make And node s ≡ Err bad → level make Implies node s ≡ Err bad
-  conjunction-fails s bad fails =
-      resumed-first-fails k.Implies (make Implies) (operand make Implies node) (length s.tokens) s bad
-      (resumed-first-fails k.Or (make Or) (operand make Or node) (length s.tokens) s bad fails)
-
-  pub disjunction-fails : (s : State) (bad : Refusal) → level make Or node s ≡ Err bad → level make Implies node s ≡ Err bad
-  disjunction-fails s bad fails = resumed-first-fails k.Implies (make Implies) (operand make Implies node) (length s.tokens) s bad fails
-
-  pub connected-fails : (s : State) (bad : Refusal) → node s ≡ Err bad → level make Implies node s ≡ Err bad
-  connected-fails s bad fails = conjunction-fails s bad (resumed-first-fails k.And (make And) node (length s.tokens) s bad fails)
-
-  -- a first part behind which no connective stands
-  pub connected-alone-or-fails : {Y : Type 0} (view : Y → X) (s z : State) (r : Result Y ReadingFault) → Gives view (node s) r z → is_connective (kind z) ≡ false
-      → Gives view (level make Implies node s) r z
-  connected-alone-or-fails view s z r reads other =
-      resumed-alone-or-fails k.Implies (make Implies) (operand make Implies node) view (length s.tokens) s z r
-      (resumed-alone-or-fails k.Or (make Or) (operand make Or node) view (length s.tokens) s z r
-      (resumed-alone-or-fails k.And (make And) node view (length s.tokens) s z r reads (no-connective k.And (kind z) refl other))
-      (no-connective k.Or (kind z) refl other))
-      (no-connective k.Implies (kind z) refl other)

@@ -1,4 +1,4 @@
-use Rattle.std.proofs.Common.{rules, arith, ◌≡◌, ◌<◌, ◌≤◌, ◌+◌, ◌-◌, ◌&&◌, zero, suc, length, map, true, false, vec_len, [], ◌∙◌, ap, sym, subst, refl, Some, Ok}
+use Rattle.std.proofs.Common.{rules, arith, ◌≡◌, ◌<◌, ◌≤◌, ◌-◌, ◌&&◌, suc, length, map, true, false, vec_len, ◌∙◌, ap, sym, subst, refl, Ok}
 use Rattle.std.proofs.lemmas.Result.{err_from_is_err_and}
 use Rattle.std.proofs.lemmas.Bool.{and_parts}
 use Rattle.std.proofs.lemmas.List.{map_push}
@@ -12,9 +12,9 @@ use Rattle.pb_text_terms.specs.declared.level.Level.{Level}
 use Rattle.pb_text_terms.specs.declared.level.Operator.TheVariants.{Arithmetic, Relation, Connective}
 use Rattle.pb_text_terms.specs.Levels.{operator_of, level_of, operand_level, rank, may_quantify, is_related}
 use Rattle.pb_text_terms.specs.Operators.{symbol, is_quantifier, compared_by, arithmetic_of}
-use Rattle.pb_text_terms.specs.Reading.{unary, lowest, term, placed, argument_pair, argument_list, instance, is_comma, is_open, operation, operations, is_among, is_mixed, at, quantified_term}
-use Rattle.pb_text_terms.proofs.ReadLemmas.{sign-fails, right-fails, right-goes-on, both-read, operation-fails, operation-operand-fails, operation-read, arguments-fail, arguments-again, arguments-read, arguments-is, begun-at, inner-fails, name-is, unary-other, placed-fails, placed-read, on-fewer}
-use Rattle.pb_text_terms.proofs.LevelLemmas.{operand-rank, may-above, among-stands, related-stands, skips-to, before-operator, operator-fails, lowest-quantified, quantified-fails, first-fails-as, first-or-fails, connects, calculation-fails, calculation-mixed, calculation-read, relation-is, connection-is}
+use Rattle.pb_text_terms.specs.Reading.{unary, term, placed, argument_pair, argument_list, instance, is_comma, is_open, operation, operations, is_among, is_mixed, at, quantified_term}
+use Rattle.pb_text_terms.proofs.ReadLemmas.{sign-fails, right-fails, right-goes-on, both-read, operation-fails, operation-operand-fails, operation-read, arguments-fail, arguments-again, arguments-read, arguments-is, begun-at, inner-fails, name-is, unary-other, placed-fails, placed-read}
+use Rattle.pb_text_terms.proofs.LevelLemmas.{may-above, skips-to, before-operator, operator-fails, lowest-quantified, quantified-fails, first-fails-as, first-or-fails, connects, calculation-fails, calculation-mixed, calculation-read, relation-is, connection-is}
 use Rattle.pb_text_terms.proofs.+terms.Goals as goal
 
 pub instance::argument_list-returns-in_err-term-clause-reads : goal.instance::argument_list-returns-in_err-term-clause-reads

@@ -1,4 +1,4 @@
-use Rattle.std.proofs.Common.{ℕ, ◌≡◌, ◌+◌, ◌*◌, ◌-◌, ◌≤◌, suc, ◌<◌, true, length, map, vec_len, Ok}
+use Rattle.std.proofs.Common.{◌≡◌, ◌+◌, ◌*◌, ◌-◌, ◌≤◌, suc, ◌<◌, true, length, map, vec_len, Ok}
 use Rattle.pb_text_tree.specs.Form.{TermForm, term_form, term_links, arithmetic_links}
 use Rattle.pb_text_lexer.specs.Grammar.{State}
 use Rattle.pb_text_lexer.specs.Steps.{kind, take_token, nothing_between}
