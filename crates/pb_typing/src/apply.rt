@@ -18,9 +18,10 @@ ghost use Rattle.pb_typing.specs.Functions.{view_of_one, term_of_one};
 ghost use Rattle.pb_typing.specs.View.{unary_operation};
 
 use crate::function::{Extreme, FunctionOfOne};
+use crate::operands::{accepted, boxed_three, boxed_two, paired};
 use crate::operation::{BinaryOperation, UnaryOperation, fault};
 use crate::operator::compare;
-use crate::shape::{are_alike, hull, is_truth};
+use crate::shape::{are_alike, hull, is_truth, is_whole};
 use pb_text_tree::{Comparison, Place};
 use pb_typed_tree::{Argument as TypedTerm, Shape, Term};
 use pb_typing_declarations::{Enumerator, TypeError, TypingFault, TypingRule, require};
@@ -36,8 +37,9 @@ pub(crate) fn negated(
         (unless (may_be_truth (shape_view operand.shape)) TypingRule.WrongKind place)
         model.Truths (tree.Term.Not (term_view operand.term)) result }
 {
-    require(is_truth(&operand.shape), TypingRule::WrongKind, place)?;
-    let operand = Box::new(alloc, operand.term)?;
+    let test = is_truth(&operand.shape);
+    let operand = accepted(operand.term, test, TypingRule::WrongKind, place)?;
+    let operand = Box::new(alloc, operand)?;
     Ok(TypedTerm {
         term: Term::Not(operand),
         shape: Shape::Truths,
@@ -57,9 +59,9 @@ pub(crate) fn compared(
         (tree.Binary (of_comparison comparison) (term_view left.term) (term_view right.term))
         result }
 {
-    let shape = compare(comparison, left.shape, right.shape, place)?;
-    let left = Box::new(alloc, left.term)?;
-    let right = Box::new(alloc, right.term)?;
+    let shape = compare(comparison, left.shape, right.shape, place);
+    let ((left, right), shape) = paired((left.term, right.term), shape)?;
+    let (left, right) = boxed_two(alloc, left, right)?;
     Ok(TypedTerm {
         term: Term::Comparison {
             comparison,
@@ -82,8 +84,9 @@ pub(crate) fn operated(
         place) (unary_shape (unary_operation operation) (shape_view operand.shape))
         (operated operation (term_view operand.term)) result }
 {
-    let shape = operation.check(operand.shape, place)?;
-    let operand = Box::new(alloc, operand.term)?;
+    let shape = operation.check(operand.shape, place);
+    let (operand, shape) = paired(operand.term, shape)?;
+    let operand = Box::new(alloc, operand)?;
     Ok(TypedTerm {
         term: operation_term(operation, operand),
         shape,
@@ -127,11 +130,9 @@ fn convert(x: TypedTerm, place: Place) -> Result<TypedTerm, TypeError>
         (kind_faults functions.Conversion (shape_view x.shape ∷ []) place)
         (functions.kept (shape_view x.shape)) (term_view x.term) result }
 {
-    match x.shape {
-        Shape::Wholes(_) => Ok(x),
-        Shape::Truths => Err(TypeError::At(fault(TypingRule::WrongKind, place))),
-        Shape::Places { .. } => Err(TypeError::At(fault(TypingRule::WrongKind, place))),
-    }
+    let test = is_whole(&x.shape);
+    let x = accepted(x, test, TypingRule::WrongKind, place)?;
+    Ok(x)
 }
 
 /// Whether a value is an enumerator, of whose struct it has to be (T04).
@@ -150,8 +151,9 @@ fn recognise(
         sort: enumerator.sort,
         count: enumerator.count,
     };
-    require(are_alike(&own, &x.shape), TypingRule::WrongKind, place)?;
-    let operand = Box::new(alloc, x.term)?;
+    let test = are_alike(&own, &x.shape);
+    let operand = accepted(x.term, test, TypingRule::WrongKind, place)?;
+    let operand = Box::new(alloc, operand)?;
     Ok(TypedTerm {
         term: Term::Recognised {
             enumerator: pb_typed_tree::Enumerator {
@@ -178,9 +180,9 @@ pub(crate) fn apply_two(
         (binary_shape (extreme_operation extreme) (shape_view x.shape) (shape_view y.shape))
         (extreme_term extreme (term_view x.term) (term_view y.term)) result }
 {
-    let shape = extreme_shape(extreme, x.shape, y.shape, place)?;
-    let x = Box::new(alloc, x.term)?;
-    let y = Box::new(alloc, y.term)?;
+    let shape = extreme_shape(extreme, x.shape, y.shape, place);
+    let ((x, y), shape) = paired((x.term, y.term), shape)?;
+    let (x, y) = boxed_two(alloc, x, y)?;
     Ok(TypedTerm {
         term: extreme_term(extreme, x, y),
         shape,
@@ -228,10 +230,9 @@ pub(crate) fn choose(
         (hull (shape_view x.shape) (shape_view y.shape))
         (tree.Choice (term_view condition.term) (term_view x.term) (term_view y.term)) result }
 {
-    let shape = choice_shape(condition.shape, x.shape, y.shape, place)?;
-    let condition = Box::new(alloc, condition.term)?;
-    let positive = Box::new(alloc, x.term)?;
-    let negative = Box::new(alloc, y.term)?;
+    let shape = choice_shape(condition.shape, x.shape, y.shape, place);
+    let ((condition, x, y), shape) = paired((condition.term, x.term, y.term), shape)?;
+    let (condition, positive, negative) = boxed_three(alloc, condition, x, y)?;
     Ok(TypedTerm {
         term: Term::Choice {
             condition,

@@ -11,6 +11,7 @@ mod initial;
 mod instance;
 mod joined;
 mod name;
+mod operands;
 mod operation;
 mod operator;
 mod polarity;

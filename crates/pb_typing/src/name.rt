@@ -37,24 +37,26 @@ pub(crate) fn check_name(
         (named name.now).text) result }
 {
     if let Some(variable) = find_variable(context.scope, &name.text) {
+        let shape = limited(variable.shape, name.place)?;
         return Ok(TypedTerm {
             term: Term::Slot(variable.slot),
-            shape: limited(variable.shape, name.place)?,
+            shape,
         });
     }
     match context.declarations.enumerator(&name.text) {
         Some(found) => {
-            let shape = Shape::Places {
+            let places = Shape::Places {
                 sort: found.sort,
                 count: found.count,
             };
+            let shape = limited(places, name.place)?;
             let enumerator = Enumerator {
                 sort: found.sort,
                 place: found.place,
             };
             Ok(TypedTerm {
                 term: Term::Enumerator(enumerator),
-                shape: limited(shape, name.place)?,
+                shape,
             })
         }
         None => Err(unknown(context.declarations, name)),
