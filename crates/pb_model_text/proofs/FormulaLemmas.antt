@@ -1,12 +1,14 @@
 -- A level of formulas is a chain, and what begins no formula.
-use Rattle.std.proofs.Common.{Some, None, Ok, true, ◌<◌, ◌-◌, ◌≡◌, ◌≢◌, ℕ, zero, suc, length, List, [], ◌∷◌, ◌++◌, refl, sym, subst, ap, ◌∙◌, false, Result, Err, Bool, cond}
+use Rattle.std.proofs.Common.{Some, None, Ok, OnOk, arith, true, ◌<◌, ◌-◌, ◌≡◌, ◌≢◌, ℕ, zero, suc, length, List, [], ◌∷◌, ◌++◌, refl, sym, subst, ap, ◌∙◌, false, Result, Err, Bool, cond}
 use Rattle.std.proofs.lemmas.List.{map-append}
+use Rattle.std.specs.Result.{result_and}
 use Rattle.pb_fixpoint.specs.declared.Sign.{Sign}
 use Rattle.pb_text_tree.specs.declared.operator.Connective.{Connective}
 use Rattle.pb_text_tree.specs.declared.operator.Connective.TheVariants.{And, Or, Implies}
 use Rattle.pb_model_tree.specs.declared.formula.Link.{Link}
 use Rattle.pb_model_tree.specs.declared.formula.Formula.{Formula}
 use Rattle.pb_model_tree.specs.declared.formula.Modality.{Modality}
+use Rattle.pb_model_tree.specs.declared.formula.Modality.TheVariants as modality
 use Rattle.pb_text_tree.specs.declared.place.Place.{Place}
 use Rattle.pb_text_tree.specs.Form.{TermForm}
 use Rattle.pb_model_tree.specs.Form.{StepSetForm, FormulaForm, formula_form}
@@ -16,16 +18,16 @@ use Rattle.pb_text_lexer.specs.declared.fault.ReadingRule.TheVariants.{Unexpecte
 use Rattle.pb_text_lexer.specs.declared.kind.Kind.{Kind}
 use Rattle.pb_text_lexer.specs.declared.kind.Kind.TheVariants as k
 use Rattle.pb_text_lexer.specs.Grammar.{State}
-use Rattle.pb_text_lexer.specs.Kinds.{same_kind}
+use Rattle.pb_text_lexer.specs.Kinds.{same_kind, is_last}
 use Rattle.pb_text_lexer.specs.Steps.{Step, Outcome, Gives, and_then, ◌>>=◌, pure, peek, refuse, refusal, kind, take_token, expect, unless_next, enter, chain}
 use Rattle.pb_text_lexer.specs.Tokens.{Tok, token_at}
-use Rattle.pb_text_lexer.proofs.LoopLemmas.{placed, resumed-first-fails}
+use Rattle.pb_text_lexer.proofs.LoopLemmas.{placed, resumed-first-fails, fails-as}
 use Rattle.pb_text_terms.specs.Operators.{symbol, is_connective}
 use Rattle.pb_text_terms.specs.Reading.{name, below}
 use Rattle.pb_text_terms.proofs.ReadLemmas.{below-is, resumed-alone-or-fails, no-connective}
 use Rattle.pb_model_text.specs.Grammar.{Scope, within}
 use Rattle.pb_model_text.specs.Links.{link_form, link_forms}
-use Rattle.pb_model_text.specs.Reading.{begun, modal, data_operand, goes_on, binding, step_set, sign_of, is_fixpoint, node, formula, fixpoint, primary, operand, level}
+use Rattle.pb_model_text.specs.Reading.{begun, modal, opening, closing, modal_steps, data_operand, goes_on, binding, step_set, sign_of, is_fixpoint, node, formula, fixpoint, primary, operand, level}
 
 -- a level is a chain of its operands
 pub level-chain : (c : Connective) (scope : Scope) (depth : ℕ) (s : State)
@@ -102,6 +104,35 @@ node-enter-fails scope depth s k.OpenSquare e is bad fails = node-at scope depth
 node-enter-fails scope depth s k.Less e is bad fails = node-at scope depth s k.Less is ∙ rw fails refl
 node-enter-fails scope depth s _ e is bad fails = cc
 
+node-modal : (scope : Scope) (depth : ℕ) (s : State) (m : Modality) → kind s ≡ opening m → node scope depth s ≡ modal m (closing m) (enter depth) (below (node scope) depth) (below step_set depth) s
+node-modal scope depth s modality.Box is = node-at scope depth s k.OpenSquare is
+node-modal scope depth s modality.Diamond is = node-at scope depth s k.Less is
+
+pub modal-enter-fails : (scope : Scope) (depth : ℕ) (s : State) (m : Modality) → kind s ≡ opening m → (bad : Refusal) → enter depth s ≡ Err bad → node scope depth s ≡ Err bad
+modal-enter-fails scope depth s modality.Box is bad fails = node-enter-fails scope depth s k.OpenSquare refl is bad fails
+modal-enter-fails scope depth s modality.Diamond is bad fails = node-enter-fails scope depth s k.Less refl is bad fails
+
+pub closing-goes-on : (m : Modality) → is_last (closing m) ≡ false
+closing-goes-on modality.Box = refl
+closing-goes-on modality.Diamond = refl
+
+-- the steps of a modality and the bracket behind them, as one part
+steps-closed : (m : Modality) (word : Tok) (operand : Step FormulaForm) (o : Outcome StepSetForm)
+    → and_then o (λ steps. expect (closing m) >>= (λ close_bracket. operand >>= (λ x. pure (FormulaForm.modal m word.place steps x))))
+    ≡ and_then (and_then o (λ steps. expect (closing m) >>= (λ close_bracket. pure steps))) (λ steps. operand >>= (λ x. pure (FormulaForm.modal m word.place steps x)))
+steps-closed m word operand (Err bad) = refl
+steps-closed m word operand (Ok r) = by (expect (closing m) r.1)
+  where
+    by : (o : Outcome Tok) → and_then o (λ t. operand >>= (λ x. pure (FormulaForm.modal m word.place r.0 x)))
+        ≡ and_then (and_then o (λ t. pure r.0)) (λ steps. operand >>= (λ x. pure (FormulaForm.modal m word.place steps x)))
+    by (Ok q) = refl
+    by (Err bad) = refl
+
+-- behind a value that is there already
+pub and-fewer : {T U E : Type 0} (r : Result T E) (x : U) (a b c : ℕ) → OnOk r (a < b) → b < c → OnOk (result_and r (Ok x)) (a < c)
+and-fewer (Ok t) x a b c less low = omega arith
+and-fewer (Err e) x a b c less low = tt
+
 -- what a token that opens a level begins
 module _ (scope : Scope) (depth : ℕ) (s s1 : State) (word : Tok) (entered : enter depth s ≡ Ok (word, s1)) (some : 0 < depth) where
   node-below : (u : State) → below (node scope) depth u ≡ node scope (depth - 1) u
@@ -141,21 +172,25 @@ module _ (scope : Scope) (depth : ℕ) (s s1 : State) (word : Tok) (entered : en
     pub bracketed-read : (t : Tok) (z : State) → unless_next goes_on (expect k.Close) s2 ≡ Ok (t, z) → node scope depth s ≡ Ok (x, z)
     bracketed-read t z closes = bracketed-closed ∙ rw closes refl
 
-  -- a modality, whose set of steps ends with this token
-  module _ (m : Modality) (close : Kind) (at : node scope depth s ≡ modal m close (enter depth) (below (node scope) depth) (below step_set depth) s) where
-    pub modal-set-fails : (bad : Refusal) → step_set (depth - 1) s1 ≡ Err bad → node scope depth s ≡ Err bad
-    modal-set-fails bad fails = at ∙ rw entered (rw (sets-below s1, fails) refl)
+  pub bracketed-closes : {T : Type 0} (view : T → Tok) (r : Result T ReadingFault) (f : Formula) (s2 z : State) → kind s ≡ k.Open → formula scope (depth - 1) s1 ≡ Ok (formula_form f, s2)
+      → Gives view (unless_next goes_on (expect k.Close) s2) r z → Gives formula_form (node scope depth s) (result_and r (Ok f)) z
+  bracketed-closes view (Ok t) f s2 z is reads closes = bracketed-read is (formula_form f) s2 reads (view t) z closes
+  bracketed-closes view (Err fault) f s2 z is reads closes = fails-as (unless_next goes_on (expect k.Close) s2) (node scope depth s) fault (λ bad e. bracketed-close-fails is (formula_form f) s2 reads bad e) closes
 
-    module _ (A : StepSetForm) (s2 : State) (sets : step_set (depth - 1) s1 ≡ Ok (A, s2)) where
-      pub modal-close-fails : (bad : Refusal) → expect close s2 ≡ Err bad → node scope depth s ≡ Err bad
-      modal-close-fails bad fails = at ∙ rw entered (rw (sets-below s1, sets) (rw fails refl))
+  -- a modality
+  module _ (m : Modality) (is : kind s ≡ opening m) where
+    modal-at : node scope depth s ≡ and_then (modal_steps m (step_set (depth - 1)) s1) (λ steps. below (node scope) depth >>= (λ x. pure (FormulaForm.modal m word.place steps x)))
+    modal-at = node-modal scope depth s m is ∙ rw entered (rw (sets-below s1) (steps-closed m word (below (node scope) depth) (step_set (depth - 1) s1)))
 
-      module _ (t : Tok) (s3 : State) (closes : expect close s2 ≡ Ok (t, s3)) where
-        pub modal-operand-fails : (bad : Refusal) → node scope (depth - 1) s3 ≡ Err bad → node scope depth s ≡ Err bad
-        modal-operand-fails bad fails = at ∙ rw entered (rw (sets-below s1, sets) (rw closes (rw (node-below s3, fails) refl)))
+    pub modal-steps-fail : (bad : Refusal) → modal_steps m (step_set (depth - 1)) s1 ≡ Err bad → node scope depth s ≡ Err bad
+    modal-steps-fail bad fails = modal-at ∙ rw fails refl
 
-        pub modal-read : (x : FormulaForm) (z : State) → node scope (depth - 1) s3 ≡ Ok (x, z) → node scope depth s ≡ Ok (FormulaForm.modal m word.place A x, z)
-        modal-read x z reads = at ∙ rw entered (rw (sets-below s1, sets) (rw closes (rw (node-below s3, reads) refl)))
+    module _ (A : StepSetForm) (s2 : State) (steps : modal_steps m (step_set (depth - 1)) s1 ≡ Ok (A, s2)) where
+      pub modal-operand-fails : (bad : Refusal) → node scope (depth - 1) s2 ≡ Err bad → node scope depth s ≡ Err bad
+      modal-operand-fails bad fails = modal-at ∙ rw steps (rw (node-below s2, fails) refl)
+
+      pub modal-read : (x : FormulaForm) (z : State) → node scope (depth - 1) s2 ≡ Ok (x, z) → node scope depth s ≡ Ok (FormulaForm.modal m word.place A x, z)
+      modal-read x z reads = modal-at ∙ rw steps (rw (node-below s2, reads) refl)
 
 -- data behind `val` with which more would go on
 pub value-again : (scope : Scope) (depth : ℕ) (s s1 s2 : State) (t : Tok) (x : TermForm) → kind s ≡ k.Val → take_token s ≡ Ok (t, s1) → data_operand depth s1 ≡ Ok (x, s2) → goes_on (kind s2) ≡ true
@@ -178,15 +213,15 @@ module _ (scope : Scope) (depth : ℕ) (s s1 : State) (sign : Sign) (word : Tok)
     unfolding name
     fixpoint-period-fails bad fails = fixpoint-is scope depth s sign is ∙ rw entered (rw named (rw fails refl))
 
-    module _ (s3 : State) (period : Tok) (stands : expect k.Period s2 ≡ Ok (period, s3)) (some : 0 < depth) (names : Scope) (inside : names ≡ within scope text) where
-      body-is : below (formula (within scope text)) depth s3 ≡ formula names (depth - 1) s3
-      body-is = ap (λ p. p s3) (below-is (formula (within scope text)) depth some) ∙ ap (λ v. formula v (depth - 1) s3) (sym inside)
+    module _ (s3 : State) (period : Tok) (stands : expect k.Period s2 ≡ Ok (period, s3)) (some : 0 < depth) where
+      body-is : below (formula (within scope text)) depth s3 ≡ formula (within scope text) (depth - 1) s3
+      body-is = ap (λ p. p s3) (below-is (formula (within scope text)) depth some)
 
-      pub fixpoint-body-fails : (bad : Refusal) → formula names (depth - 1) s3 ≡ Err bad → fixpoint scope depth s ≡ Err bad
+      pub fixpoint-body-fails : (bad : Refusal) → formula (within scope text) (depth - 1) s3 ≡ Err bad → fixpoint scope depth s ≡ Err bad
       unfolding name
       fixpoint-body-fails bad fails = fixpoint-is scope depth s sign is ∙ rw entered (rw named (rw stands (rw (body-is, fails) refl)))
 
-      pub fixpoint-read : (x : FormulaForm) (z : State) → formula names (depth - 1) s3 ≡ Ok (x, z)
+      pub fixpoint-read : (x : FormulaForm) (z : State) → formula (within scope text) (depth - 1) s3 ≡ Ok (x, z)
           → fixpoint scope depth s ≡ Ok (FormulaForm.fixpoint sign word.place (record { place = place; text = text }) x, z)
       unfolding name
       fixpoint-read x z reads = fixpoint-is scope depth s sign is ∙ rw entered (rw named (rw stands (rw (body-is, reads) refl)))

@@ -1,4 +1,5 @@
 pub mod FormLemmas
+pub mod PairLemmas
 pub mod CorrectStepSets
 pub mod CorrectBeginning
 pub mod PlainLemmas

@@ -103,6 +103,21 @@ modal modality close enter below sets = do
   operand ← below
   pure (FormulaForm.modal modality open_bracket.place steps operand)
 
+-- the brackets of a modality, and its steps with the bracket behind them
+abbrev pub opening : Modality → Kind
+opening modality.Box = k.OpenSquare
+opening modality.Diamond = k.Less
+
+abbrev pub closing : Modality → Kind
+closing modality.Box = k.CloseSquare
+closing modality.Diamond = k.Greater
+
+abbrev pub modal_steps : Modality → Step StepSetForm → Step StepSetForm
+modal_steps modality sets = do
+  steps ← sets
+  close_bracket ← expect (closing modality)
+  pure steps
+
 -- What a token begins that is no fixpoint. The first step takes a token that opens a level.
 abbrev pub begun :
     Scope → Step Tok → Step FormulaForm → Step FormulaForm → Step TermForm → Step StepSetForm →

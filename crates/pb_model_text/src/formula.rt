@@ -16,8 +16,10 @@ ghost use Rattle.pb_model_text.specs.Reading as reading;
 ghost use Rattle.pb_model_text.specs.Reading.{names_of};
 
 use crate::atom::{data_atom, data_operand, goes_on, name_atom};
+use crate::fixpoint::{extended, sign};
+use crate::modality::{modal_node, modal_steps};
+use crate::pair::both;
 use crate::scope::Scope;
-use crate::step_set::step_set;
 use pb_fixpoint::Sign;
 use pb_model_tree::{Formula, Link, Modality};
 use pb_text_lexer::fault::{ReadingFault, ReadingRule, Refusal};
@@ -113,19 +115,19 @@ fn bracketed<'a>(
     input.enter(depth)?;
     let depth = depth - 1;
     let inner = formula(input, alloc, Scope { names, depth })?;
-    close(input)?;
-    Ok(inner)
+    close(input).and(Ok(inner))
 }
 
-/// `[A]` and its operand.
+/// `[A]` or `<A>`, and its operand.
 #[cycle(formulas)]
 #[inline(never)]
-fn necessity<'a>(
+fn modal<'a>(
     input: &mut Input<'a>,
     alloc: Global,
     scope: Scope<'_, 'a>,
+    modality: Modality,
 ) -> Result<Formula, ReadingFault>
-    requires { spec.kind input.old ≡ Kind.OpenSquare }
+    requires { spec.kind input.old ≡ reading.opening modality }
     ensures reads { Gives formula_form (reading.node (names_of scope.entry.names.now)
         scope.entry.depth input.old) result input.new }
     ensures fewer { OnOk result (length input.new.tokens < length input.old.tokens) }
@@ -133,44 +135,10 @@ fn necessity<'a>(
     let Scope { names, depth } = scope;
     let place = input.enter(depth)?.place;
     let depth = depth - 1;
-    let steps = step_set(input, alloc, depth)?;
-    input.expect(Kind::CloseSquare)?;
-    let operand = node(input, alloc, Scope { names, depth })?;
-    let operand = Box::new(alloc, operand)?;
-    Ok(Formula::Modal {
-        place,
-        modality: Modality::Box,
-        steps,
-        operand,
-    })
-}
-
-/// `<A>` and its operand.
-#[cycle(formulas)]
-#[inline(never)]
-fn possibility<'a>(
-    input: &mut Input<'a>,
-    alloc: Global,
-    scope: Scope<'_, 'a>,
-) -> Result<Formula, ReadingFault>
-    requires { spec.kind input.old ≡ Kind.Less }
-    ensures reads { Gives formula_form (reading.node (names_of scope.entry.names.now)
-        scope.entry.depth input.old) result input.new }
-    ensures fewer { OnOk result (length input.new.tokens < length input.old.tokens) }
-{
-    let Scope { names, depth } = scope;
-    let place = input.enter(depth)?.place;
-    let depth = depth - 1;
-    let steps = step_set(input, alloc, depth)?;
-    input.expect(Kind::Greater)?;
-    let operand = node(input, alloc, Scope { names, depth })?;
-    let operand = Box::new(alloc, operand)?;
-    Ok(Formula::Modal {
-        place,
-        modality: Modality::Diamond,
-        steps,
-        operand,
-    })
+    let steps = modal_steps(input, alloc, depth, modality)?;
+    let operand = node(input, alloc, Scope { names, depth });
+    let (within, operand) = both(steps, operand)?;
+    Ok(modal_node(alloc, place, modality, within, operand)?)
 }
 
 /// `val` and its operand.
@@ -219,8 +187,8 @@ fn node<'a>(
     match input.kind() {
         Kind::Not => negation(input, alloc, scope),
         Kind::Open => bracketed(input, alloc, scope),
-        Kind::OpenSquare => necessity(input, alloc, scope),
-        Kind::Less => possibility(input, alloc, scope),
+        Kind::OpenSquare => modal(input, alloc, scope, Modality::Box),
+        Kind::Less => modal(input, alloc, scope, Modality::Diamond),
         Kind::True => constant(input, true),
         Kind::False => constant(input, false),
         Kind::Val => value(input, alloc, scope),
@@ -231,25 +199,24 @@ fn node<'a>(
     }
 }
 
-/// The sign of a token, if it begins a fixpoint.
-fn sign(kind: Kind) -> Option<Sign>
-    ensures { result ≡ reading.sign_of kind }
+/// The body of a fixpoint, in which its name is bound.
+#[cycle(formulas)]
+#[inline(never)]
+fn body<'a>(
+    input: &mut Input<'a>,
+    alloc: Global,
+    scope: Scope<'_, 'a>,
+    name: &'a str,
+) -> Result<Formula, ReadingFault>
+    ensures reads { Gives formula_form (reading.formula
+        (grammar.within (names_of scope.entry.names.now) name.now) scope.entry.depth input.old)
+        result input.new }
+    ensures fewer { OnOk result (length input.new.tokens < length input.old.tokens) }
 {
-    match kind {
-        Kind::Mu => Some(Sign::Mu),
-        Kind::Nu => Some(Sign::Nu),
-        _ => None,
-    }
-}
-
-/// The names of a scope, and one more.
-fn extended<'a>(alloc: Global, names: &[&'a str], name: &'a str) -> Result<Vec<&'a str>, AllocError>
-    ensures { IfOk result (λ v. names_of v.items ≡ grammar.within (names_of names.now) name.now) }
-{
-    let mut extended = Vec::with_capacity(alloc, names.len() + 1)?;
-    extended.extend_from_slice(names)?;
-    extended.push(name)?;
-    Ok(extended)
+    let depth = scope.depth;
+    let names = extended(alloc, scope.names, name)?;
+    let names = &names;
+    formula(input, alloc, Scope { names, depth })
 }
 
 /// `mu` or `nu`, a name, a period and a body, in which the name is bound.
@@ -271,16 +238,8 @@ fn fixpoint<'a>(
     let place = input.enter(depth)?.place;
     let (name_place, text) = input.expect_name()?;
     input.expect(Kind::Period)?;
-    let names = extended(alloc, names, text)?;
     let depth = depth - 1;
-    let body = formula(
-        input,
-        alloc,
-        Scope {
-            names: &names,
-            depth,
-        },
-    )?;
+    let body = body(input, alloc, Scope { names, depth }, text)?;
     let body = Box::new(alloc, body)?;
     let variable = Name {
         place: name_place,
@@ -359,8 +318,9 @@ fn chain<'a>(
         scope.entry.depth s) result input.new }
     ensures fewer { OnOk result (length input.new.tokens ≤ length input.old.tokens) }
 {
-    let links = links_behind(input, alloc, connective, scope)?;
-    Ok(joined(alloc, connective, first, links)?)
+    let links = links_behind(input, alloc, connective, scope);
+    let (start, links) = both(first, links)?;
+    Ok(joined(alloc, connective, start, links)?)
 }
 
 /// The chain of the connective that a first operand begins, or that operand alone.

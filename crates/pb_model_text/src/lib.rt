@@ -7,9 +7,12 @@
 #![tactic(auto)]
 
 mod atom;
+mod fixpoint;
 mod formula;
 pub mod laws;
+mod modality;
 mod model;
+mod pair;
 mod scope;
 mod step;
 mod step_set;

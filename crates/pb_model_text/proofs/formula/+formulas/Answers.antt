@@ -1,9 +1,10 @@
 use Rattle.std.specs.Prelude.{string_bytes}
-use Rattle.std.proofs.Common.{rules, arith, ℕ, List, refl, sym, ap, subst, ◌≡◌, ◌<◌, ◌-◌, length, true, false, vec_len, ◌∙◌, Ok}
+use Rattle.std.proofs.Common.{rules, arith, ℕ, List, refl, sym, ap, subst, ◌≡◌, ◌<◌, ◌-◌, length, true, false, vec_len, ◌∙◌, Ok, Vec, Global}
 use Rattle.std.proofs.lemmas.Result.{err_from_is_err_and}
 use Rattle.pb_text_tree.specs.declared.operator.Connective.TheVariants.{And, Or}
-use Rattle.pb_model_tree.specs.declared.formula.Modality.TheVariants as modality
 use Rattle.pb_model_tree.specs.Form.{FormulaForm, formula_form, step_set_form}
+use Rattle.pb_model_tree.specs.declared.formula.Link.{Link}
+use Rattle.pb_text_tree.specs.Form.{chained}
 use Rattle.pb_model_text.specs.Links.{link_forms}
 use Rattle.pb_text_lexer.specs.Kinds.{same_kind}
 use Rattle.pb_text_lexer.specs.declared.kind.Kind.TheVariants as k
@@ -13,8 +14,9 @@ use Rattle.pb_text_lexer.proofs.LoopLemmas.{resumed-first, resumed-first-fails, 
 use Rattle.pb_text_terms.specs.Operators.{symbol, is_connective}
 use Rattle.pb_text_terms.proofs.ReadLemmas.{on-fewer}
 use Rattle.pb_model_text.specs.Grammar.{within}
-use Rattle.pb_model_text.specs.Reading.{fixpoint, node, names_of, primary, formula, operand, level, step_set, goes_on}
-use Rattle.pb_model_text.proofs.FormulaLemmas.{node-at, node-enter-fails, negation-fails, negation-read, bracketed-fails, bracketed-close-fails, bracketed-read, modal-set-fails, modal-close-fails, modal-operand-fails, modal-read, fixpoint-name-fails, fixpoint-period-fails, fixpoint-body-fails, fixpoint-read, level-chain, links-last, node-other, level-alone-or-fails, conjunction-fails, disjunction-fails, primary-fails, primary-alone-or-fails}
+use Rattle.pb_model_text.specs.Reading.{fixpoint, node, names_of, primary, formula, operand, level, step_set, modal_steps, goes_on}
+use Rattle.pb_model_text.proofs.PairLemmas.{fails-where, reads-where, on-ok-where}
+use Rattle.pb_model_text.proofs.FormulaLemmas.{node-at, node-enter-fails, negation-fails, negation-read, bracketed-fails, bracketed-closes, and-fewer, modal-enter-fails, modal-steps-fail, modal-operand-fails, modal-read, fixpoint-name-fails, fixpoint-period-fails, fixpoint-body-fails, fixpoint-read, level-chain, links-last, node-other, level-alone-or-fails, conjunction-fails, disjunction-fails, primary-fails, primary-alone-or-fails}
 use Rattle.pb_model_text.proofs.formula.+formulas.Goals as goal
 
 pub node-returns-in_default : goal.node-returns-in_default
@@ -78,14 +80,18 @@ links_behind-returns-clause-reads t c s x h fewer =
     c.links.invariant.reads s x h fewer ∙ resumed-end (symbol c.args.connective) (FormulaForm.connected c.args.connective) (operand c.args.connective (names_of c.args.scope.names.now) c.args.scope.depth)
     (length s.tokens - vec_len c.links.links) _ (link_forms c.links.links.items) c.links.input other
 
-pub chain-returns-in_err-links-clause-reads : goal.chain-returns-in_err-links-clause-reads
-chain-returns-in_err-links-clause-reads t c s h fewer =
+pub chain-returns-in_err-start-clause-reads : goal.chain-returns-in_err-start-clause-reads
+chain-returns-in_err-start-clause-reads t c s h fewer =
     let p = err_from_is_err_and c.from_residual.result c.from_residual.ensures.1 in
-    rw (p.1, p.2) (fails-as (level c.args.connective (names_of c.args.scope.names.now) c.args.scope.depth s) (level c.args.connective (names_of c.args.scope.names.now) c.args.scope.depth s) c.in_err-links.field-0.0
-    (λ bad e. e) (c.in_err-links.ensures.reads s (formula_form c.args.first) h fewer))
+    rw (p.1, p.2) (fails-where (λ (v : Vec Link Global). chained (FormulaForm.connected c.args.connective) (formula_form c.args.first) (link_forms v.items)) (level c.args.connective (names_of c.args.scope.names.now) c.args.scope.depth s) c.links_behind-links.result c.links_behind-links.new.input c.in_err-start.field-0.0 c.in_err-start.ensures (c.links_behind-links.ensures.reads s (formula_form c.args.first) h fewer))
 
 pub chain-returns-clause-reads : goal.chain-returns-clause-reads
-chain-returns-clause-reads t c s h fewer = rw c.in_ok-joined.ensures (c.in_ok-links.ensures.reads s (formula_form c.args.first) h fewer)
+chain-returns-clause-reads t c s h fewer =
+    let read = reads-where (λ (v : Vec Link Global). chained (FormulaForm.connected c.args.connective) (formula_form c.args.first) (link_forms v.items)) (level c.args.connective (names_of c.args.scope.names.now) c.args.scope.depth s) c.links_behind-links.result c.links_behind-links.new.input c.in_ok-start.links c.in_ok-start.ensures.1 (c.links_behind-links.ensures.reads s (formula_form c.args.first) h fewer) in
+    rw (c.in_ok-joined.ensures, c.in_ok-start.ensures.0) read
+
+pub chain-returns-clause-fewer : goal.chain-returns-clause-fewer
+chain-returns-clause-fewer t c = on-ok-where c.links_behind-links.result c.in_ok-start.links _ c.in_ok-start.ensures.1 c.links_behind-links.ensures.fewer
 
 pub level-returns-clause-reads : goal.level-returns-clause-reads
 level-returns-clause-reads t c = c.chain.ensures.reads c.args.input.now c.in_ok-first.ensures.reads c.in_ok-first.ensures.fewer
@@ -154,69 +160,34 @@ negation-returns-clause-reads t c =
     negation-read (names_of c.args.scope.names.now) c.args.scope.depth c.args.input.now c.enter.new.self (tok c.in_ok-place.field-0) c.in_ok-place.ensures.reads c.in_ok-place.ensures.deeper c.requires (formula_form c.in_ok-operand.operand) c.node.new.input c.in_ok-operand.ensures.reads
     ∙ ap (λ v. Ok (FormulaForm.negation c.in_ok-place.field-0.place (formula_form v), c.node.new.input)) (sym operand)
 
-pub necessity-returns-in_err-place-clause-reads : goal.necessity-returns-in_err-place-clause-reads
-necessity-returns-in_err-place-clause-reads t c =
+pub modal-returns-in_err-place-clause-reads : goal.modal-returns-in_err-place-clause-reads
+modal-returns-in_err-place-clause-reads t c =
     let p = err_from_is_err_and c.from_residual.result c.from_residual.ensures.1 in
-    rw (p.1, p.2) (node-enter-fails (names_of c.args.scope.names.now) c.args.scope.depth c.args.input.now k.OpenSquare refl c.requires c.in_err-place.field-0.0 c.in_err-place.ensures.reads)
+    rw (p.1, p.2) (modal-enter-fails (names_of c.args.scope.names.now) c.args.scope.depth c.args.input.now c.args.modality c.requires c.in_err-place.field-0.0 c.in_err-place.ensures.reads)
 
-pub necessity-returns-in_err-steps-clause-reads : goal.necessity-returns-in_err-steps-clause-reads
-necessity-returns-in_err-steps-clause-reads t c =
+pub modal-returns-in_err-steps-clause-reads : goal.modal-returns-in_err-steps-clause-reads
+modal-returns-in_err-steps-clause-reads t c =
     let p = err_from_is_err_and c.from_residual-in_err-steps.result c.from_residual-in_err-steps.ensures.1 in
-    rw (p.1, p.2) (fails-as (step_set (c.args.scope.depth - 1) c.enter.new.self) (node (names_of c.args.scope.names.now) c.args.scope.depth c.args.input.now) c.in_err-steps.field-0.0
-    (λ bad e. modal-set-fails (names_of c.args.scope.names.now) c.args.scope.depth c.args.input.now c.enter.new.self (tok c.in_ok-place.field-0) c.in_ok-place.ensures.reads c.in_ok-place.ensures.deeper modality.Box k.CloseSquare (node-at (names_of c.args.scope.names.now) c.args.scope.depth c.args.input.now k.OpenSquare c.requires) bad e) c.in_err-steps.ensures.reads)
+    rw (p.1, p.2) (fails-as (modal_steps c.args.modality (step_set (c.args.scope.depth - 1)) c.enter.new.self) (node (names_of c.args.scope.names.now) c.args.scope.depth c.args.input.now) c.in_err-steps.field-0.0
+    (λ bad e. modal-steps-fail (names_of c.args.scope.names.now) c.args.scope.depth c.args.input.now c.enter.new.self (tok c.in_ok-place.field-0) c.in_ok-place.ensures.reads c.in_ok-place.ensures.deeper c.args.modality c.requires bad e) c.in_err-steps.ensures.reads)
 
-pub necessity-returns-in_err-expect-clause-reads : goal.necessity-returns-in_err-expect-clause-reads
-necessity-returns-in_err-expect-clause-reads t c =
-    let p = err_from_is_err_and c.from_residual-in_err-expect.result c.from_residual-in_err-expect.ensures.1 in
-    rw (p.1, p.2) (modal-close-fails (names_of c.args.scope.names.now) c.args.scope.depth c.args.input.now c.enter.new.self (tok c.in_ok-place.field-0) c.in_ok-place.ensures.reads c.in_ok-place.ensures.deeper modality.Box k.CloseSquare (node-at (names_of c.args.scope.names.now) c.args.scope.depth c.args.input.now k.OpenSquare c.requires)
-    (step_set_form c.in_ok-steps.steps) c.step_set.new.input c.in_ok-steps.ensures.reads c.in_err-expect.field-0.0 c.in_err-expect.ensures.reads)
+pub modal-returns-in_err-within-clause-reads : goal.modal-returns-in_err-within-clause-reads
+modal-returns-in_err-within-clause-reads t c =
+    let p = err_from_is_err_and c.from_residual-in_err-within.result c.from_residual-in_err-within.ensures.1 in
+    rw (p.1, p.2) (fails-as (node (names_of c.args.scope.names.now) (c.args.scope.depth - 1) c.modal_steps.new.input) (node (names_of c.args.scope.names.now) c.args.scope.depth c.args.input.now) c.in_err-within.field-0.0
+    (λ bad e. modal-operand-fails (names_of c.args.scope.names.now) c.args.scope.depth c.args.input.now c.enter.new.self (tok c.in_ok-place.field-0) c.in_ok-place.ensures.reads c.in_ok-place.ensures.deeper c.args.modality c.requires (step_set_form c.in_ok-steps.steps) c.modal_steps.new.input c.in_ok-steps.ensures.reads bad e)
+    (fails-where formula_form (node (names_of c.args.scope.names.now) (c.args.scope.depth - 1) c.modal_steps.new.input) c.node-operand.result c.node-operand.new.input c.in_err-within.field-0.0 c.in_err-within.ensures c.node-operand.ensures.reads))
 
-pub necessity-returns-in_err-operand-clause-reads : goal.necessity-returns-in_err-operand-clause-reads
-necessity-returns-in_err-operand-clause-reads t c =
-    let p = err_from_is_err_and c.from_residual-in_err-operand.result c.from_residual-in_err-operand.ensures.1 in
-    rw (p.1, p.2) (fails-as (node (names_of c.args.scope.names.now) (c.args.scope.depth - 1) c.expect.new.self) (node (names_of c.args.scope.names.now) c.args.scope.depth c.args.input.now) c.in_err-operand.field-0.0
-    (λ bad e. modal-operand-fails (names_of c.args.scope.names.now) c.args.scope.depth c.args.input.now c.enter.new.self (tok c.in_ok-place.field-0) c.in_ok-place.ensures.reads c.in_ok-place.ensures.deeper modality.Box k.CloseSquare (node-at (names_of c.args.scope.names.now) c.args.scope.depth c.args.input.now k.OpenSquare c.requires)
-    (step_set_form c.in_ok-steps.steps) c.step_set.new.input c.in_ok-steps.ensures.reads (tok c.in_ok-expect.field-0) c.expect.new.self c.in_ok-expect.ensures.reads bad e) c.in_err-operand.ensures.reads)
+pub modal-returns-clause-reads : goal.modal-returns-clause-reads
+modal-returns-clause-reads t c =
+    let read = reads-where formula_form (node (names_of c.args.scope.names.now) (c.args.scope.depth - 1) c.modal_steps.new.input) c.node-operand.result c.node-operand.new.input c.in_ok-within.operand c.in_ok-within.ensures.1 c.node-operand.ensures.reads in
+    rw (c.in_ok-modal_node.ensures, c.in_ok-within.ensures.0) (modal-read (names_of c.args.scope.names.now) c.args.scope.depth c.args.input.now c.enter.new.self (tok c.in_ok-place.field-0) c.in_ok-place.ensures.reads c.in_ok-place.ensures.deeper c.args.modality c.requires (step_set_form c.in_ok-steps.steps) c.modal_steps.new.input c.in_ok-steps.ensures.reads
+    (formula_form c.in_ok-within.operand) c.node-operand.new.input read)
 
-pub necessity-returns-clause-reads : goal.necessity-returns-clause-reads
-necessity-returns-clause-reads t c =
-    let operand : c.in_ok-operand-2.operand.value ≡ c.in_ok-operand.operand = search rules in
-    modal-read (names_of c.args.scope.names.now) c.args.scope.depth c.args.input.now c.enter.new.self (tok c.in_ok-place.field-0) c.in_ok-place.ensures.reads c.in_ok-place.ensures.deeper modality.Box k.CloseSquare (node-at (names_of c.args.scope.names.now) c.args.scope.depth c.args.input.now k.OpenSquare c.requires)
-    (step_set_form c.in_ok-steps.steps) c.step_set.new.input c.in_ok-steps.ensures.reads (tok c.in_ok-expect.field-0) c.expect.new.self c.in_ok-expect.ensures.reads
-    (formula_form c.in_ok-operand.operand) c.node.new.input c.in_ok-operand.ensures.reads
-    ∙ ap (λ v. Ok (FormulaForm.modal modality.Box c.in_ok-place.field-0.place (step_set_form c.in_ok-steps.steps) (formula_form v), c.node.new.input)) (sym operand)
-
-pub possibility-returns-in_err-place-clause-reads : goal.possibility-returns-in_err-place-clause-reads
-possibility-returns-in_err-place-clause-reads t c =
-    let p = err_from_is_err_and c.from_residual.result c.from_residual.ensures.1 in
-    rw (p.1, p.2) (node-enter-fails (names_of c.args.scope.names.now) c.args.scope.depth c.args.input.now k.Less refl c.requires c.in_err-place.field-0.0 c.in_err-place.ensures.reads)
-
-pub possibility-returns-in_err-steps-clause-reads : goal.possibility-returns-in_err-steps-clause-reads
-possibility-returns-in_err-steps-clause-reads t c =
-    let p = err_from_is_err_and c.from_residual-in_err-steps.result c.from_residual-in_err-steps.ensures.1 in
-    rw (p.1, p.2) (fails-as (step_set (c.args.scope.depth - 1) c.enter.new.self) (node (names_of c.args.scope.names.now) c.args.scope.depth c.args.input.now) c.in_err-steps.field-0.0
-    (λ bad e. modal-set-fails (names_of c.args.scope.names.now) c.args.scope.depth c.args.input.now c.enter.new.self (tok c.in_ok-place.field-0) c.in_ok-place.ensures.reads c.in_ok-place.ensures.deeper modality.Diamond k.Greater (node-at (names_of c.args.scope.names.now) c.args.scope.depth c.args.input.now k.Less c.requires) bad e) c.in_err-steps.ensures.reads)
-
-pub possibility-returns-in_err-expect-clause-reads : goal.possibility-returns-in_err-expect-clause-reads
-possibility-returns-in_err-expect-clause-reads t c =
-    let p = err_from_is_err_and c.from_residual-in_err-expect.result c.from_residual-in_err-expect.ensures.1 in
-    rw (p.1, p.2) (modal-close-fails (names_of c.args.scope.names.now) c.args.scope.depth c.args.input.now c.enter.new.self (tok c.in_ok-place.field-0) c.in_ok-place.ensures.reads c.in_ok-place.ensures.deeper modality.Diamond k.Greater (node-at (names_of c.args.scope.names.now) c.args.scope.depth c.args.input.now k.Less c.requires)
-    (step_set_form c.in_ok-steps.steps) c.step_set.new.input c.in_ok-steps.ensures.reads c.in_err-expect.field-0.0 c.in_err-expect.ensures.reads)
-
-pub possibility-returns-in_err-operand-clause-reads : goal.possibility-returns-in_err-operand-clause-reads
-possibility-returns-in_err-operand-clause-reads t c =
-    let p = err_from_is_err_and c.from_residual-in_err-operand.result c.from_residual-in_err-operand.ensures.1 in
-    rw (p.1, p.2) (fails-as (node (names_of c.args.scope.names.now) (c.args.scope.depth - 1) c.expect.new.self) (node (names_of c.args.scope.names.now) c.args.scope.depth c.args.input.now) c.in_err-operand.field-0.0
-    (λ bad e. modal-operand-fails (names_of c.args.scope.names.now) c.args.scope.depth c.args.input.now c.enter.new.self (tok c.in_ok-place.field-0) c.in_ok-place.ensures.reads c.in_ok-place.ensures.deeper modality.Diamond k.Greater (node-at (names_of c.args.scope.names.now) c.args.scope.depth c.args.input.now k.Less c.requires)
-    (step_set_form c.in_ok-steps.steps) c.step_set.new.input c.in_ok-steps.ensures.reads (tok c.in_ok-expect.field-0) c.expect.new.self c.in_ok-expect.ensures.reads bad e) c.in_err-operand.ensures.reads)
-
-pub possibility-returns-clause-reads : goal.possibility-returns-clause-reads
-possibility-returns-clause-reads t c =
-    let operand : c.in_ok-operand-2.operand.value ≡ c.in_ok-operand.operand = search rules in
-    modal-read (names_of c.args.scope.names.now) c.args.scope.depth c.args.input.now c.enter.new.self (tok c.in_ok-place.field-0) c.in_ok-place.ensures.reads c.in_ok-place.ensures.deeper modality.Diamond k.Greater (node-at (names_of c.args.scope.names.now) c.args.scope.depth c.args.input.now k.Less c.requires)
-    (step_set_form c.in_ok-steps.steps) c.step_set.new.input c.in_ok-steps.ensures.reads (tok c.in_ok-expect.field-0) c.expect.new.self c.in_ok-expect.ensures.reads
-    (formula_form c.in_ok-operand.operand) c.node.new.input c.in_ok-operand.ensures.reads
-    ∙ ap (λ v. Ok (FormulaForm.modal modality.Diamond c.in_ok-place.field-0.place (step_set_form c.in_ok-steps.steps) (formula_form v), c.node.new.input)) (sym operand)
+pub modal-returns-clause-fewer : goal.modal-returns-clause-fewer
+modal-returns-clause-fewer t c =
+    let less = on-ok-where c.node-operand.result c.in_ok-within.operand _ c.in_ok-within.ensures.1 c.node-operand.ensures.fewer in
+    omega (arith, less, c.in_ok-place.ensures.fewer, c.in_ok-steps.ensures.fewer)
 
 pub bracketed-returns-in_err-enter-clause-reads : goal.bracketed-returns-in_err-enter-clause-reads
 bracketed-returns-in_err-enter-clause-reads t c =
@@ -229,16 +200,15 @@ bracketed-returns-in_err-inner-clause-reads t c =
     rw (p.1, p.2) (fails-as (formula (names_of c.args.scope.names.now) (c.args.scope.depth - 1) c.enter.new.self) (node (names_of c.args.scope.names.now) c.args.scope.depth c.args.input.now) c.in_err-inner.field-0.0
     (λ bad e. bracketed-fails (names_of c.args.scope.names.now) c.args.scope.depth c.args.input.now c.enter.new.self (tok c.in_ok-enter.field-0) c.in_ok-enter.ensures.reads c.in_ok-enter.ensures.deeper c.requires bad e) c.in_err-inner.ensures.reads)
 
-pub bracketed-returns-in_err-close-clause-reads : goal.bracketed-returns-in_err-close-clause-reads
-bracketed-returns-in_err-close-clause-reads t c =
-    let p = err_from_is_err_and c.from_residual-in_err-close.result c.from_residual-in_err-close.ensures.1 in
-    rw (p.1, p.2) (fails-as (unless_next goes_on (expect k.Close) c.formula.new.input) (node (names_of c.args.scope.names.now) c.args.scope.depth c.args.input.now) c.in_err-close.field-0.0
-    (λ bad e. bracketed-close-fails (names_of c.args.scope.names.now) c.args.scope.depth c.args.input.now c.enter.new.self (tok c.in_ok-enter.field-0) c.in_ok-enter.ensures.reads c.in_ok-enter.ensures.deeper c.requires (formula_form c.in_ok-inner.inner) c.formula.new.input c.in_ok-inner.ensures.reads bad e) c.in_err-close.ensures.reads)
-
 pub bracketed-returns-clause-reads : goal.bracketed-returns-clause-reads
 bracketed-returns-clause-reads t c =
-    bracketed-read (names_of c.args.scope.names.now) c.args.scope.depth c.args.input.now c.enter.new.self (tok c.in_ok-enter.field-0) c.in_ok-enter.ensures.reads c.in_ok-enter.ensures.deeper c.requires (formula_form c.in_ok-inner.inner) c.formula.new.input c.in_ok-inner.ensures.reads
-    (tok c.in_ok-close.field-0) c.close.new.input c.in_ok-close.ensures.reads
+    rw c.and.ensures (bracketed-closes (names_of c.args.scope.names.now) c.args.scope.depth c.args.input.now c.enter.new.self (tok c.in_ok-enter.field-0) c.in_ok-enter.ensures.reads c.in_ok-enter.ensures.deeper
+    tok c.close.result c.in_ok-inner.inner c.formula.new.input c.close.new.input c.requires c.in_ok-inner.ensures.reads c.close.ensures.reads)
+
+pub bracketed-returns-clause-fewer : goal.bracketed-returns-clause-fewer
+bracketed-returns-clause-fewer t c =
+    let low : length c.formula.new.input.tokens < length c.args.input.now.tokens = omega (arith, c.in_ok-enter.ensures.fewer, c.in_ok-inner.ensures.fewer) in
+    rw c.and.ensures (and-fewer c.close.result c.in_ok-inner.inner _ _ _ c.close.ensures.fewer low)
 
 pub fixpoint-returns-in_err-name_place-clause-reads : goal.fixpoint-returns-in_err-name_place-clause-reads
 fixpoint-returns-in_err-name_place-clause-reads t c =
@@ -255,22 +225,25 @@ fixpoint-returns-in_err-expect-clause-reads t c =
 pub fixpoint-returns-in_err-body-clause-reads : goal.fixpoint-returns-in_err-body-clause-reads
 fixpoint-returns-in_err-body-clause-reads t c =
     let p = err_from_is_err_and c.from_residual-in_err-body.result c.from_residual-in_err-body.ensures.1 in
-    let inside : names_of c.deref.result.now ≡ within (names_of c.args.scope.names.now) c.in_ok-name_place.text.now = search rules in
-    rw (p.1, p.2) (fails-as (formula (names_of c.deref.result.now) (c.args.scope.depth - 1) c.expect.new.self) (fixpoint (names_of c.args.scope.names.now) c.args.scope.depth c.args.input.now) c.in_err-body.field-0.0
+    rw (p.1, p.2) (fails-as (formula (within (names_of c.args.scope.names.now) c.in_ok-name_place.text.now) (c.args.scope.depth - 1) c.expect.new.self) (fixpoint (names_of c.args.scope.names.now) c.args.scope.depth c.args.input.now) c.in_err-body.field-0.0
     (λ bad e. fixpoint-body-fails (names_of c.args.scope.names.now) c.args.scope.depth c.args.input.now c.enter.new.self c.args.sign (tok c.in_ok-place.field-0) c.requires c.in_ok-place.ensures.reads
     c.expect_name.new.self c.in_ok-name_place.name_place c.in_ok-name_place.text.now c.in_ok-name_place.ensures.reads
-    c.expect.new.self (tok c.in_ok-expect.field-0) c.in_ok-expect.ensures.reads c.in_ok-place.ensures.deeper (names_of c.deref.result.now) inside bad e) c.in_err-body.ensures.reads)
+    c.expect.new.self (tok c.in_ok-expect.field-0) c.in_ok-expect.ensures.reads c.in_ok-place.ensures.deeper bad e) c.in_err-body.ensures.reads)
 
 pub fixpoint-returns-clause-reads : goal.fixpoint-returns-clause-reads
 fixpoint-returns-clause-reads t c =
-    let inside : names_of c.deref.result.now ≡ within (names_of c.args.scope.names.now) c.in_ok-name_place.text.now = search rules in
     let text : string_bytes c.in_ok-to_owned.field-0 ≡ c.in_ok-name_place.text.now = search rules in
     let body : c.in_ok-body-2.body.value ≡ c.in_ok-body.body = search rules in
     fixpoint-read (names_of c.args.scope.names.now) c.args.scope.depth c.args.input.now c.enter.new.self c.args.sign (tok c.in_ok-place.field-0) c.requires c.in_ok-place.ensures.reads
     c.expect_name.new.self c.in_ok-name_place.name_place c.in_ok-name_place.text.now c.in_ok-name_place.ensures.reads
-    c.expect.new.self (tok c.in_ok-expect.field-0) c.in_ok-expect.ensures.reads c.in_ok-place.ensures.deeper (names_of c.deref.result.now) inside (formula_form c.in_ok-body.body) c.formula.new.input c.in_ok-body.ensures.reads
-    ∙ ap (λ (v : List ℕ). Ok (FormulaForm.fixpoint c.args.sign c.in_ok-place.field-0.place (record { place = c.in_ok-name_place.name_place; text = v }) (formula_form c.in_ok-body.body), c.formula.new.input)) (sym text)
-    ∙ ap (λ v. Ok (FormulaForm.fixpoint c.args.sign c.in_ok-place.field-0.place (record { place = c.in_ok-name_place.name_place; text = string_bytes c.in_ok-to_owned.field-0 }) (formula_form v), c.formula.new.input)) (sym body)
+    c.expect.new.self (tok c.in_ok-expect.field-0) c.in_ok-expect.ensures.reads c.in_ok-place.ensures.deeper (formula_form c.in_ok-body.body) c.body.new.input c.in_ok-body.ensures.reads
+    ∙ ap (λ (v : List ℕ). Ok (FormulaForm.fixpoint c.args.sign c.in_ok-place.field-0.place (record { place = c.in_ok-name_place.name_place; text = v }) (formula_form c.in_ok-body.body), c.body.new.input)) (sym text)
+    ∙ ap (λ v. Ok (FormulaForm.fixpoint c.args.sign c.in_ok-place.field-0.place (record { place = c.in_ok-name_place.name_place; text = string_bytes c.in_ok-to_owned.field-0 }) (formula_form v), c.body.new.input)) (sym body)
+
+pub body-returns-clause-reads : goal.body-returns-clause-reads
+body-returns-clause-reads t c =
+    let inside : names_of c.deref.result.now ≡ within (names_of c.args.scope.names.now) c.args.name.now = search rules in
+    subst (λ v. Gives formula_form (formula v c.args.scope.depth c.args.input.now) c.formula.result c.formula.new.input) inside c.formula.ensures.reads
 
 pub node-returns-in-True-clause-reads : goal.node-returns-in-True-clause-reads
 node-returns-in-True-clause-reads t c =

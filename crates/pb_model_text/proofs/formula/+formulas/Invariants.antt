@@ -15,43 +15,43 @@ rank Or = 6
 rank Implies = 10
 
 abbrev pub decreases-node : goal.decreases-node
-decreases-node l = l.scope.depth * 16 + 1
+decreases-node l = l.scope.depth * 17 + 1
 
 abbrev pub decreases-negation : goal.decreases-negation
-decreases-negation l = l.scope.depth * 16
+decreases-negation l = l.scope.depth * 17
 
 abbrev pub decreases-bracketed : goal.decreases-bracketed
-decreases-bracketed l = l.scope.depth * 16
+decreases-bracketed l = l.scope.depth * 17
 
-abbrev pub decreases-necessity : goal.decreases-necessity
-decreases-necessity l = l.scope.depth * 16
+abbrev pub decreases-modal : goal.decreases-modal
+decreases-modal l = l.scope.depth * 17
 
-abbrev pub decreases-possibility : goal.decreases-possibility
-decreases-possibility l = l.scope.depth * 16
+abbrev pub decreases-body : goal.decreases-body
+decreases-body l = l.scope.depth * 17 + 16
 
 abbrev pub decreases-fixpoint : goal.decreases-fixpoint
-decreases-fixpoint l = l.scope.depth * 16
+decreases-fixpoint l = l.scope.depth * 17
 
 abbrev pub decreases-operand : goal.decreases-operand
-decreases-operand l = l.scope.depth * 16 + rank l.connective
+decreases-operand l = l.scope.depth * 17 + rank l.connective
 
 abbrev pub decreases-level : goal.decreases-level
-decreases-level l = l.scope.depth * 16 + rank l.connective + 3
+decreases-level l = l.scope.depth * 17 + rank l.connective + 3
 
 abbrev pub decreases-links_behind : goal.decreases-links_behind
-decreases-links_behind l = l.scope.depth * 16 + rank l.connective + 1
+decreases-links_behind l = l.scope.depth * 17 + rank l.connective + 1
 
 abbrev pub decreases-chain : goal.decreases-chain
-decreases-chain l = l.scope.depth * 16 + rank l.connective + 2
+decreases-chain l = l.scope.depth * 17 + rank l.connective + 2
 
 abbrev pub decreases-chain_behind : goal.decreases-chain_behind
-decreases-chain_behind l = l.scope.depth * 16 + rank l.connective + 3
+decreases-chain_behind l = l.scope.depth * 17 + rank l.connective + 3
 
 abbrev pub decreases-connectives_behind : goal.decreases-connectives_behind
-decreases-connectives_behind l = l.scope.depth * 16 + 14
+decreases-connectives_behind l = l.scope.depth * 17 + 14
 
 abbrev pub decreases-formula : goal.decreases-formula
-decreases-formula l = l.scope.depth * 16 + 15
+decreases-formula l = l.scope.depth * 17 + 15
 
 abbrev pub invariant-links_behind-links : goal.invariant-links_behind-links
 invariant-links_behind-links l = record {

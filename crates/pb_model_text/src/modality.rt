@@ -1,0 +1,61 @@
+//! What stands in the brackets of a modality, and its node.
+
+ghost use Rattle.std.specs.Prelude.{◌≡◌, ◌<◌, length, IfOk, OnOk};
+ghost use Rattle.pb_model_tree.specs.Form.{FormulaForm, formula_form, step_set_form};
+ghost use Rattle.pb_text_lexer.specs.Steps.{Gives};
+ghost use Rattle.pb_model_text.specs.Reading as reading;
+
+use crate::step_set::step_set;
+use pb_model_tree::{Formula, Modality, StepSet};
+use pb_text_lexer::fault::ReadingFault;
+use pb_text_lexer::input::Input;
+use pb_text_lexer::kind::Kind;
+use pb_text_tree::Place;
+use std::alloc::{AllocError, Global};
+
+/// The bracket behind the steps of a modality.
+fn closing(modality: Modality) -> Kind
+    ensures { result ≡ reading.closing modality }
+{
+    match modality {
+        Modality::Box => Kind::CloseSquare,
+        Modality::Diamond => Kind::Greater,
+    }
+}
+
+/// The node of a modality.
+pub fn modal_node(
+    alloc: Global,
+    place: Place,
+    modality: Modality,
+    steps: StepSet,
+    operand: Formula,
+) -> Result<Formula, AllocError>
+    ensures { IfOk result (λ f. formula_form f
+        ≡ FormulaForm.modal modality place (step_set_form steps) (formula_form operand)) }
+{
+    let operand = Box::new(alloc, operand)?;
+    Ok(Formula::Modal {
+        place,
+        modality,
+        steps,
+        operand,
+    })
+}
+
+/// The steps of a modality, and the bracket behind them.
+#[inline(never)]
+pub fn modal_steps(
+    input: &mut Input<'_>,
+    alloc: Global,
+    depth: u32,
+    modality: Modality,
+) -> Result<StepSet, ReadingFault>
+    ensures reads { Gives step_set_form
+        (reading.modal_steps modality (reading.step_set depth) input.old) result input.new }
+    ensures fewer { OnOk result (length input.new.tokens < length input.old.tokens) }
+{
+    let steps = step_set(input, alloc, depth)?;
+    input.expect(closing(modality))?;
+    Ok(steps)
+}
