@@ -1,10 +1,11 @@
 -- Directed graphs as flat lists: the successors of vertex v stand from place v to below place v +
 -- 1.
-use Rattle.std.specs.Prelude.{◌≡◌, ℕ, ◌+◌, ◌^◌, ◌<◌, ◌≤◌, Bool, List, length, slice_index, slice_range, max, []}
+use Rattle.std.specs.Prelude.{◌≡◌, ℕ, ◌+◌, ◌<◌, ◌≤◌, Bool, List, length, slice_index, slice_range, max, []}
 use Rattle.std.specs.Prelude.{◌∷◌, ◌==◌}
 use Rattle.std.specs.List.{list_any}
 use Rattle.std.specs.List.Sorted.{IsStrictlyIncreasing}
 use Rattle.pb_game.specs.declared.player.Player.{Player}
+use Rattle.pb_limits.specs.declared.TheConstants.{MAX_VERTICES, MAX_PRIORITIES}
 
 -- the items of vertex v
 abbrev pub row : List ℕ → List ℕ → ℕ → List ℕ
@@ -35,14 +36,14 @@ abbrev pub greatest_of : List ℕ → ℕ
 greatest_of [] = 0
 greatest_of (x ∷ xs) = max x (greatest_of xs)
 
--- a parity game of at most 2 ^ 24 vertices and 256 priorities, each vertex with a successor, and
+-- a parity game with vertices and priorities within the limits, each vertex with a successor, and
 -- with its predecessors
 pub record IsFlatGame (owners : List Player) (priorities : List ℕ) (greatest : ℕ)
     (places successors predecessor_places predecessors : List ℕ) : Type 0 where
-  pub small : length owners ≤ 2 ^ 24
+  pub small : length owners ≤ MAX_VERTICES
   pub priority : length priorities ≡ length owners
   pub maximum : greatest ≡ greatest_of priorities
-  pub few : greatest < 256
+  pub few : greatest < MAX_PRIORITIES
   pub rows : IsRows (length owners) places successors
   pub total : (v : ℕ) → v < length owners → slice_index places v < slice_index places (v + 1)
   pub reverse_rows : IsRows (length owners) predecessor_places predecessors

@@ -1,11 +1,12 @@
 -- Parity games (Zielonka 1998; Jurdzinski 2000): owners, priorities, successors. A player wins an
 -- infinite play exactly where the greatest priority that occurs infinitely often has its parity.
-use Rattle.std.specs.Prelude.{ℕ, ◌+◌, ◌^◌, ◌<◌, ◌≤◌, ◌↔◌, List, length, slice_index, slice_index_or, Contains}
+use Rattle.std.specs.Prelude.{ℕ, ◌+◌, ◌<◌, ◌≤◌, ◌↔◌, List, length, slice_index, slice_index_or, Contains}
 use Rattle.std.specs.List.Sorted.{IsStrictlyIncreasing}
 use Rattle.pb_game.specs.declared.Game.{Game}
 use Rattle.pb_game.specs.declared.player.Player.{Player}
 use Rattle.pb_game.specs.declared.player.Player.TheVariants.{Even}
 use Rattle.pb_game.specs.Adjacency.{row, greatest_of}
+use Rattle.pb_limits.specs.declared.TheConstants.{MAX_VERTICES, MAX_PRIORITIES}
 
 -- how many vertices there are; they are the numbers below
 unfoldable pub vertex_count : Game → ℕ
@@ -40,9 +41,9 @@ HasEdge g v u = Contains (successors_of g v) u
 
 -- What holds of each game. Module `proofs/Laws` proves it for every value of the type.
 pub record IsGame (g : Game) : Type 0 where
-  pub small : vertex_count g ≤ 2 ^ 24
+  pub small : vertex_count g ≤ MAX_VERTICES
   pub greatest : (v : ℕ) → v < vertex_count g → priority_of g v ≤ greatest_priority g
-  pub few_priorities : priority_count g ≤ 256
+  pub few_priorities : priority_count g ≤ MAX_PRIORITIES
   pub successor : (v : ℕ) → v < vertex_count g → (u : ℕ) × HasEdge g v u
   pub closed : (v u : ℕ) → v < vertex_count g → HasEdge g v u → u < vertex_count g
   pub rising : (v : ℕ) → v < vertex_count g → IsStrictlyIncreasing (successors_of g v)

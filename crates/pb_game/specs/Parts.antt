@@ -1,5 +1,5 @@
 -- What parts make a game, and what is wrong with those that don't.
-use Rattle.std.specs.Prelude.{◌≡◌, ℕ, ◌+◌, ◌^◌, ◌<◌, ◌≤◌, length, slice_index, slice_index_or, All, ⊤}
+use Rattle.std.specs.Prelude.{◌≡◌, ℕ, ◌+◌, ◌<◌, ◌≤◌, length, slice_index, slice_index_or, All, ⊤}
 use Rattle.std.specs.List.Sorted.{IsStrictlyIncreasing}
 use Rattle.pb_game.specs.declared.Game.{Game}
 use Rattle.pb_game.specs.declared.player.Player.TheVariants.{Even}
@@ -10,10 +10,11 @@ use Rattle.pb_game.specs.declared.parts.PartsFault.{PartsFault}
 use Rattle.pb_game.specs.declared.parts.PartsFault.TheVariants as fault
 use Rattle.pb_game.specs.Adjacency.{row}
 use Rattle.pb_game.specs.Games.{vertex_count, owner_of, priority_of, successors_of}
+use Rattle.pb_limits.specs.declared.TheConstants.{MAX_VERTICES, MAX_PRIORITIES}
 
--- G01: at most 2 ^ 24 vertices
+-- G01: vertices within their limit
 abbrev pub HasFewVertices : Parts → Type 0
-HasFewVertices p = length p.owners.items ≤ 2 ^ 24
+HasFewVertices p = length p.owners.items ≤ MAX_VERTICES
 
 -- G03: one priority for each vertex
 abbrev pub HasPriorities : Parts → Type 0
@@ -33,9 +34,9 @@ pub record HasSuccessors (p : Parts) : Type 0 where
   pub rising : (v : ℕ) → v < length p.owners.items
       → IsStrictlyIncreasing (row p.places.items p.successors.items v)
 
--- G06: each priority is one of the 256 from 0 on
+-- G06: each priority is one of those from 0 on
 abbrev pub HasFewPriorities : Parts → Type 0
-HasFewPriorities p = All (λ priority. priority < 256) p.priorities.items
+HasFewPriorities p = All (λ priority. priority < MAX_PRIORITIES) p.priorities.items
 
 -- parts that make a game
 pub record AreGame (p : Parts) : Type 0 where
@@ -69,7 +70,8 @@ Refuses p TooManyPriorities =
 pub record IsGameOf (p : Parts) (g : Game) : Type 0 where
   pub parts : AreGame p
   pub vertices : vertex_count g ≡ length p.owners.items
-  pub owner : (v : ℕ) → v < length p.owners.items → owner_of g v ≡ slice_index_or p.owners.items v Even
+  pub owner : (v : ℕ) → v < length p.owners.items
+      → owner_of g v ≡ slice_index_or p.owners.items v Even
   pub priority : (v : ℕ) → v < length p.owners.items
       → priority_of g v ≡ slice_index p.priorities.items v
   pub successors : (v : ℕ) → v < length p.owners.items

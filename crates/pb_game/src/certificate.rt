@@ -13,8 +13,8 @@ ghost use Rattle.pb_game.specs.Solutions.{winner_of, choice_of, count_of, HasLen
 use crate::{Game, Player};
 use std::fmt;
 
-/// For each vertex its winner, the winner's choice, and one count for each priority. Vertex `v`'s counts stand from `v * (d + 1)`, where `d` is the
-/// game's greatest priority.
+/// For each vertex its winner, the winner's choice, and one count for each priority. Vertex `v`'s
+/// counts stand from `v * (d + 1)`, where `d` is the game's greatest priority.
 #[derive(Drop)]
 pub struct Solution {
     pub winner: Vec<Player>,

@@ -2,8 +2,8 @@
 //!
 //! A parity game (Zielonka 1998) has finitely many vertices, each owned by a [`Player`], with a
 //! priority and at least one successor. A token moves along the edges for ever, and a player wins a
-//! play exactly where the greatest priority that occurs infinitely often has its parity. A [`Game`] keeps
-//! beside the successors of each vertex its predecessors, which attractors are computed by.
+//! play exactly where the greatest priority that occurs infinitely often has its parity. A [`Game`]
+//! keeps beside the successors of each vertex its predecessors, which attractors are computed by.
 #![tactic(auto)]
 
 mod adjacency;
@@ -16,6 +16,7 @@ mod solver;
 ghost use Rattle.std.specs.Prelude.{◌≡◌, ℕ, ◌<◌, ◌≤◌, length, slice_index, IfOk, IfErr, IsTrue};
 ghost use Rattle.std.specs.Prelude.{Contains, ◌↔◌};
 ghost use Rattle.pb_game.specs.Adjacency.{IsFlatGame};
+ghost use Rattle.pb_limits.specs.declared.TheConstants.{MAX_VERTICES};
 
 use adjacency::row_of;
 pub use certificate::{CertificateRule, Flaw, Solution};
@@ -25,8 +26,8 @@ use predecessors::{Predecessors, transpose};
 pub use solver::Solver;
 use std::alloc::Global;
 
-/// A parity game of at most 2^24 vertices, which are the numbers below [`Game::len`], and 256
-/// priorities.
+/// A parity game within the limits of vertices and priorities. Its vertices are the numbers below
+/// [`Game::len`].
 #[derive(Drop)]
 pub struct Game {
     owners: Vec<Player>,
@@ -44,12 +45,6 @@ impl Game {
     ghost use Rattle.pb_game.specs.Games.{vertex_count, owner_of, priority_of, greatest_priority};
     ghost use Rattle.pb_game.specs.Games.{successors_of, predecessors_of, HasEdge, IsGame};
     ghost use Rattle.pb_game.specs.Parts.{IsGameOf, Refuses};
-
-    /// The greatest number of vertices, 2^24.
-    pub const LIMIT: usize = 16777216;
-
-    /// The greatest number of priorities, 256: each is below.
-    pub const PRIORITY_LIMIT: u32 = 256;
 
     /// The game of these parts.
     ///
@@ -84,7 +79,7 @@ impl Game {
     #[tactic(auto, unfolding(crate::specs::Games::vertex_count))]
     pub fn len(&self) -> u32
         ensures value { result ≡ vertex_count self.now }
-        ensures small { result ≤ 16777216 }
+        ensures small { result ≤ MAX_VERTICES }
     {
         self.owners.len() as u32
     }

@@ -7,6 +7,7 @@ ghost use Rattle.pb_game.specs.declared.parts.GameError.TheVariants.{Memory};
 
 use crate::Player;
 use crate::adjacency::row_of;
+use pb_limits::{MAX_PRIORITIES, MAX_VERTICES};
 use std::alloc::AllocError;
 use std::fmt;
 
@@ -111,7 +112,7 @@ impl Parts {
         ensures ok { IfOk result (λ _. AreGame self.now) }
         ensures refused { IfErr result (λ fault. Refuses self.now (error_of fault)) }
     {
-        if self.owners.len() > crate::Game::LIMIT {
+        if self.owners.len() > MAX_VERTICES {
             return Err(PartsFault::TooManyVertices);
         }
         if self.priorities.len() != self.owners.len() {
@@ -126,7 +127,7 @@ impl Parts {
         if !self
             .priorities
             .iter()
-            .all(|&priority| priority < crate::Game::PRIORITY_LIMIT)
+            .all(|&priority| (priority as usize) < MAX_PRIORITIES)
         {
             return Err(PartsFault::TooManyPriorities);
         }

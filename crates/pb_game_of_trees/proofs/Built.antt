@@ -8,7 +8,7 @@ use Rattle.pb_trees.specs.Game.{Vertex, vertex_of, priority_from, row_vertices, 
 use Rattle.pb_trees.specs.Laws.{GameIsTotal}
 use Rattle.pb_trees.proofs.Calls.{tree_weaker}
 use Rattle.pb_rows.specs.Row as in_memory
-use Rattle.pb_game.specs.declared.TheConstants.Game.{LIMIT}
+use Rattle.pb_limits.specs.declared.TheConstants.{MAX_VERTICES}
 use Rattle.pb_game_of_trees.specs.Held.{held}
 use Rattle.pb_game_of_trees.specs.declared.levels.Level.{Level}
 use Rattle.pb_game_of_trees.specs.Draft.{MakeGame}
@@ -49,7 +49,7 @@ module _ (signatures : List Signature) (trees : ℕ → Tree) (rows : List in_me
   pub size_is : length (game_vertices signatures reached) ≡ vertex_behind reached 2
   size_is = omega (arith, length-row_vertices (vertex_of reached) (priority_from 0 signatures) reached 2)
 
-  pub makes_game : GameIsTotal → length signatures < 256 → vertex_behind reached 2 ≤ LIMIT → MakeGame (game_vertices signatures reached)
+  pub makes_game : GameIsTotal → length signatures < 256 → vertex_behind reached 2 ≤ MAX_VERTICES → MakeGame (game_vertices signatures reached)
   makes_game total_game few small = record {
     few = omega (arith, size_is);
     each = total_game signatures trees reached are.are;

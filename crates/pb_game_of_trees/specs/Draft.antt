@@ -5,7 +5,7 @@ use Rattle.std.specs.List.{flat_map}
 use Rattle.pb_trees.specs.Game.{Vertex}
 use Rattle.pb_trees.specs.Laws.{IsGameVertex}
 use Rattle.pb_game.specs.Players.{parity_of}
-use Rattle.pb_game.specs.declared.TheConstants.Game.{LIMIT}
+use Rattle.pb_limits.specs.declared.TheConstants.{MAX_VERTICES, MAX_PRIORITIES}
 use Rattle.pb_game.specs.declared.parts.Parts.{Parts}
 use Rattle.pb_game_of_trees.specs.declared.draft.Draft.{Draft}
 
@@ -42,8 +42,8 @@ pub record ArePartsOf (parts : Parts) (vertices : List Vertex) : Type 0 where
   pub place : parts.places.items ≡ places vertices
   pub successor : parts.successors.items ≡ successors vertices
 
--- the vertices are those of a game, with at most 256 priorities
+-- the vertices are those of a game, with priorities within their limit
 pub record MakeGame (vertices : List Vertex) : Type 0 where
-  pub few : length vertices ≤ LIMIT
+  pub few : length vertices ≤ MAX_VERTICES
   pub each : (v : ℕ) (x : Vertex) → slice_get vertices v ≡ Some x → IsGameVertex (length vertices) x
-  pub low : (v : ℕ) (x : Vertex) → slice_get vertices v ≡ Some x → x.priority < 256
+  pub low : (v : ℕ) (x : Vertex) → slice_get vertices v ≡ Some x → x.priority < MAX_PRIORITIES

@@ -6,7 +6,7 @@ use Rattle.pb_trees.specs.Rows as plain
 use Rattle.pb_trees.specs.Game.{vertex_of, game_vertices}
 use Rattle.pb_rows.specs.Row.{Row}
 use Rattle.pb_rows.specs.Reached.{numbers_of, rows_of, AreRowsOf}
-use Rattle.pb_game.specs.declared.TheConstants.Game.{LIMIT}
+use Rattle.pb_limits.specs.declared.TheConstants.{MAX_VERTICES}
 use Rattle.pb_strategy.specs.Meaning.{IsGameOfRows}
 use Rattle.pb_game_of_trees.specs.declared.tree_game.TreeGame.{TreeGame}
 
@@ -37,7 +37,8 @@ IsGameOf signatures rows initial built =
 
 -- G01: the game of the rows has more vertices than a game may have
 abbrev pub IsTooLarge : List Signature → (ℕ → Tree) → List Row → Type 0
-IsTooLarge signatures trees rows = LIMIT < length (game_vertices signatures (rows_of trees rows))
+IsTooLarge signatures trees rows =
+    MAX_VERTICES < length (game_vertices signatures (rows_of trees rows))
 
 -- it is refused exactly where it is too large
 abbrev pub IsRefusedExactly : Type 0 → List Signature → List Row → Type 0

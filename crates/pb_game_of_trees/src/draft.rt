@@ -5,6 +5,7 @@ ghost use Rattle.std.specs.Prelude.{◌≡◌, ◌∷◌, ◌-◌, ◌≤◌, Al
 ghost use Rattle.pb_game.specs.Players.{parity_of};
 ghost use Rattle.pb_trees.specs.Game.{Vertex, rising};
 ghost use Rattle.pb_game_of_trees.specs.Draft.{IsDraft, ArePartsOf};
+ghost use Rattle.pb_limits.specs.declared.TheConstants.{MAX_VERTICES};
 
 use crate::falling::push_falling;
 use pb_game::{Game, Parts, Player};
@@ -22,7 +23,7 @@ pub(crate) struct Draft {
 impl Draft {
     /// No vertices, with room for so many and their edges.
     pub fn with_capacity(alloc: Global, vertices: usize, edges: usize) -> Result<Draft, AllocError>
-        requires { vertices ≤ Game.LIMIT }
+        requires { vertices ≤ MAX_VERTICES }
         ensures { IfOk result (λ draft. IsDraft draft []) }
     {
         let mut sums = Vec::with_capacity(alloc, vertices + 1)?;

@@ -5,6 +5,7 @@ ghost use Rattle.pb_trees.specs.Rows.{Row as plain_row};
 ghost use Rattle.pb_game_of_trees.specs.Held.{Hold};
 ghost use Rattle.pb_game_of_trees.specs.Numbering.{table_of};
 ghost use Rattle.pb_game_of_trees.specs.Places.{vertex_behind, vertices_from, numbers};
+ghost use Rattle.pb_limits.specs.declared.TheConstants.{MAX_VERTICES};
 
 use crate::size::inner_brackets;
 use crate::sorted_vertices::{SortedVertices, numbers_of_rows};
@@ -40,7 +41,7 @@ impl Numbering<'_> {
 /// The vertices of the rows' trees lie side by side, behind the two sinks.
 pub(crate) fn vertices_of_rows(alloc: Global, rows: &IndexedRows) -> Result<Vec<u32>, AllocError>
     requires { (plain : List plain_row) × Hold rows.now plain
-        × (vertex_behind plain 2 ≤ Game.LIMIT) }
+        × (vertex_behind plain 2 ≤ MAX_VERTICES) }
     ensures { IfOk result (λ vertices. (plain : List plain_row) → Hold rows.now plain
         → vertices.items ≡ vertices_from plain 2) }
 {

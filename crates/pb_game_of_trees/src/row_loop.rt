@@ -7,6 +7,7 @@ ghost use Rattle.pb_game_of_trees.specs.Draft.{IsDraft};
 ghost use Rattle.pb_game_of_trees.specs.Levels.{priority_in, AreOrdered};
 ghost use Rattle.pb_game_of_trees.specs.Numbering.{table_of};
 ghost use Rattle.pb_game_of_trees.specs.Places.{vertex_behind, CallBelow};
+ghost use Rattle.pb_limits.specs.declared.TheConstants.{MAX_VERTICES};
 
 use crate::builder::Builder;
 use crate::draft::Draft;
@@ -26,7 +27,7 @@ pub(crate) fn draft_of(
     size: Size,
 ) -> Result<Draft, AllocError>
     requires levels { AreOrdered levels.now }
-    requires small { size.vertices ≤ Game.LIMIT }
+    requires small { size.vertices ≤ MAX_VERTICES }
     requires rows { (plain : List plain_row) × Hold rows.now plain
         × (size.vertices ≡ vertex_behind plain 2)
         × CallBelow (length (table_of vertices.now)) plain }

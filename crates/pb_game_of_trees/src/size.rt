@@ -6,8 +6,10 @@ ghost use Rattle.pb_trees.specs.Tokens.{tree_tokens};
 ghost use Rattle.pb_trees.specs.Game.{inner};
 ghost use Rattle.pb_game_of_trees.specs.Held.{Hold};
 ghost use Rattle.pb_game_of_trees.specs.Places.{vertex_behind, is_closing};
+ghost use Rattle.pb_limits.specs.declared.TheConstants.{MAX_VERTICES};
 
 use pb_game::Game;
+use pb_limits::MAX_VERTICES;
 use pb_rows::IndexedRows;
 use pb_trees::Token;
 
@@ -52,9 +54,9 @@ pub(crate) fn inner_brackets(tokens: &[Token]) -> usize
 /// The size of the game of these rows; none where it has more vertices than a game may have (G01).
 pub(crate) fn size_of(rows: &IndexedRows) -> Option<Size>
     ensures size { (plain : List plain_row) → Hold rows.now plain
-        → MatchOption result (Game.LIMIT < vertex_behind plain 2)
+        → MatchOption result (MAX_VERTICES < vertex_behind plain 2)
         (λ size. size.vertices ≡ vertex_behind plain 2) }
-    ensures small { IfSome result (λ size. size.vertices ≤ Game.LIMIT) }
+    ensures small { IfSome result (λ size. size.vertices ≤ MAX_VERTICES) }
 {
     let mut vertices = 2;
     let mut edges: usize = 2;
@@ -62,7 +64,7 @@ pub(crate) fn size_of(rows: &IndexedRows) -> Option<Size>
         let tokens = rows.tokens(k);
         let inner = inner_brackets(tokens);
         vertices += inner + 1;
-        if vertices > Game::LIMIT {
+        if vertices > MAX_VERTICES {
             return None;
         }
         edges = edges.saturating_add(tokens.len().saturating_sub(inner + 1).max(1));

@@ -1,6 +1,6 @@
 //! The game of a system's reached instances.
 ghost use Rattle.std.specs.Prelude.{◌≡◌, ◌≤◌, vec_len};
-ghost use Rattle.pb_game.specs.declared.TheConstants.Game.{LIMIT};
+ghost use Rattle.pb_limits.specs.declared.TheConstants.{MAX_VERTICES};
 ghost use Rattle.pb_game_of_trees.specs.declared.tree_game.BuildError.TheVariants.{Memory};
 
 use crate::finished::game_of;
@@ -54,7 +54,7 @@ pub struct TreeGame {
     pub vertices: Vec<u32>,
     /// The vertex of the initial instance.
     pub start: u32,
-    pub ghost few: { vec_len vertices ≤ LIMIT },
+    pub ghost few: { vec_len vertices ≤ MAX_VERTICES },
 }
 
 impl TreeGame {
@@ -99,7 +99,7 @@ impl TreeGame {
     ) -> Result<TreeGame, AllocError>
         requires few { length signatures.now < 256 }
         requires numbers { total (equations_of signatures.now) < 2 ^ 32 }
-        requires small { size.vertices ≤ Game.LIMIT }
+        requires small { size.vertices ≤ MAX_VERTICES }
         requires reached { RowsHaveTrees (equations_of signatures.now) rows.now initial }
         requires size { IsSizeOf rows.now size.vertices }
         ensures { IfOk result (IsGameOf (equations_of signatures.now) rows.now initial) }

@@ -14,7 +14,8 @@ use Rattle.pb_lifting.specs.Sweep.{AreWords}
 -- an edge from v makes progress exactly where v's rank is at least what the edge asks for
 abbrev pub EdgesAsk : Type 0
 EdgesAsk =
-    (g : Game) (player : Player) (v r s : ℕ) → v < vertex_count g → r < top_of g player → s < top_of g player
+    (g : Game) (player : Player) (v r s : ℕ) → v < vertex_count g
+    → r < top_of g player → s < top_of g player
     → IsProgress (counts_of g player r) (counts_of g player s) player (priority_of g v)
     (priority_count g)
     ↔ (asked g player v s ≤ r)

@@ -6,14 +6,12 @@
 ghost use Rattle.pb_lifting.specs.Scales.{AreCountsOf};
 
 use pb_game::Game;
-
-/// How many priorities a game has at most.
-pub(crate) const PRIORITIES: usize = Game::PRIORITY_LIMIT as usize;
+use pb_limits::MAX_PRIORITIES;
 
 /// How many vertices have each priority.
 #[derive(Drop)]
 pub(crate) struct PriorityCounts {
-    pub vertices: [u32; PRIORITIES],
+    pub vertices: [u32; MAX_PRIORITIES],
 }
 
 impl PriorityCounts {
@@ -21,7 +19,7 @@ impl PriorityCounts {
     pub(crate) fn of(game: &Game) -> PriorityCounts
         ensures { AreCountsOf game.now result }
     {
-        let mut vertices = [0u32; PRIORITIES];
+        let mut vertices = [0u32; MAX_PRIORITIES];
         for v in 0..game.len() {
             vertices[game.priority(v) as usize] += 1;
         }

@@ -8,15 +8,17 @@ ghost use Rattle.pb_lifting.specs.Radix.{step_up, better};
 ghost use Rattle.pb_lifting.specs.Measures.{top_of, asked, counts_of};
 ghost use Rattle.pb_lifting.specs.Measures.{HasTooManyRanks, SomeHasTooManyRanks};
 ghost use Rattle.pb_lifting.specs.Scales.{AreCountsOf, IsScaleOf, AreScalesOf};
+ghost use Rattle.pb_limits.specs.declared.TheConstants.{MAX_PRIORITIES};
 
-use crate::counts::{PRIORITIES, PriorityCounts};
+use crate::counts::PriorityCounts;
 use pb_game::{Game, Player};
+use pb_limits::MAX_PRIORITIES;
 
 /// For each priority what one more of its count adds to a rank, and behind the greatest one the
 /// top rank.
 #[derive(Clone, Copy)]
 pub(crate) struct Scale {
-    pub places: [u64; PRIORITIES + 1],
+    pub places: [u64; MAX_PRIORITIES + 1],
 }
 
 /// The scales of both players.
@@ -56,7 +58,7 @@ pub(crate) fn better_rank(own: bool, a: u64, b: u64) -> u64
 /// How many priorities there are, from 0 up to the greatest.
 pub(crate) fn width(game: &Game) -> usize
     ensures value { result ≡ priority_count game.now }
-    ensures small { result ≤ 256 }
+    ensures small { result ≤ MAX_PRIORITIES }
 {
     game.greatest_priority() as usize + 1
 }
@@ -78,7 +80,7 @@ impl Scale {
         requires counts { AreCountsOf game.now counts.now }
         ensures { MatchOption result (HasTooManyRanks game.now player) (IsScaleOf game.now player) }
     {
-        let mut places = [1u64; PRIORITIES + 1];
+        let mut places = [1u64; MAX_PRIORITIES + 1];
         let mut top: u64 = 1; // that of the priorities so far
         for priority in 0..width(game) {
             let base = base(player, priority as u32, counts.vertices[priority]);
@@ -96,7 +98,7 @@ impl Scale {
 
     /// The place value of a priority.
     fn at(&self, priority: usize) -> u64
-        requires { priority ≤ 256 }
+        requires { priority ≤ MAX_PRIORITIES }
         ensures { result ≡ slice_index self.now.places priority }
     {
         self.places[priority]

@@ -26,6 +26,12 @@ pub const MAX_PARAMETERS: usize = 8;
 /// How many instances there may be, over all carriers of all equations (T12, B05, L02).
 pub const MAX_INSTANCES: usize = 4_194_304;
 
+/// How many vertices a game may have (G01).
+pub const MAX_VERTICES: usize = 16_777_216;
+
+/// How many priorities a game may have: each is below (G06).
+pub const MAX_PRIORITIES: usize = 256;
+
 /// How many bytes the name of an enumerator or of a predicate variable may have (T12, B05).
 pub const MAX_NAME_BYTES: usize = 64;
 

@@ -19,6 +19,7 @@ use Rattle.pb_report.specs.CutCalls.{cut_count}
 use Rattle.pb_report.proofs.ReachedGames.{same_length}
 use Rattle.pb_module_solver.specs.Answers.{IsAnswerOf}
 use Rattle.pb_module_solver.proofs.Rows.{module_rows}
+use Rattle.pb_limits.specs.declared.TheConstants.{MAX_VERTICES}
 
 -- the game is that of some reached instances, among which is the initial one
 abbrev pub IsSomeGame : TreeGame → Type 0
@@ -49,7 +50,7 @@ module _ (m : Contents) (rows : List Row) (built : TreeGame) (explored : AreExpl
 
   pub answer_is : (truth : Bool) (instances cut vertices : ℕ) → IsTruth built truth → instances ≡ length built.vertices.items
       → ((reached : List plain.Row) → Hold rows reached → cut ≡ cut_count reached)
-      → vertices ≡ vertex_count built.game → vertices ≤ 16777216
+      → vertices ≡ vertex_count built.game → vertices ≤ MAX_VERTICES
       → IsAnswerOf m (record { truth = truth; instances = instances; cut = cut; vertices = vertices })
   answer_is t n c v is_truth is_count is_cut is_size few trees have =
       let reached = rows_of trees rows in

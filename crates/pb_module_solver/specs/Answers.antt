@@ -17,6 +17,7 @@ use Rattle.pb_report.specs.declared.answer.Answer.{Answer}
 use Rattle.pb_report.specs.ModuleTexts.{answer_for}
 use Rattle.pb_module_solver.specs.declared.built_module.BuiltModule.{BuiltModule}
 use Rattle.pb_module_solver.specs.declared.solved_module.SolvedModule.{SolvedModule}
+use Rattle.pb_limits.specs.declared.TheConstants.{MAX_VERTICES}
 
 -- The truth of the initial instance in the solution of the module's equations, and the counts of
 -- its reached instances, of those whose tree has a Cut, and of their game's vertices, which are at
@@ -25,7 +26,7 @@ pub record IsAnswerUnder (m : Contents) (trees : ℕ → Tree) (a : Answer) : Ty
   pub rows : List Row
   pub reached : AreReached m trees rows
   pub exact : a ≡ answer_for m trees rows
-  pub few : a.vertices ≤ 16777216
+  pub few : a.vertices ≤ MAX_VERTICES
 
 abbrev pub IsAnswerOf : Contents → Answer → Type 0
 IsAnswerOf m a = (trees : ℕ → Tree) → AreTrees m trees → IsAnswerUnder m trees a
@@ -45,7 +46,7 @@ pub record IsLiftedAnswer (m : Contents) (a : Answer) : Type 0 where
 pub record IsTooLargeUnder (m : Contents) (trees : ℕ → Tree) : Type 0 where
   pub rows : List Row
   pub reached : AreReached m trees rows
-  pub large : 16777216 < (answer_for m trees rows).vertices
+  pub large : MAX_VERTICES < (answer_for m trees rows).vertices
 
 abbrev pub IsTooLarge : Contents → Type 0
 IsTooLarge m = (trees : ℕ → Tree) → AreTrees m trees → IsTooLargeUnder m trees

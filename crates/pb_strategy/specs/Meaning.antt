@@ -35,4 +35,5 @@ IsSolvedAt g v answer =
 -- in a certificate, whether Even wins is such an answer at each vertex
 abbrev pub WinnersAreSolved : Type 0
 WinnersAreSolved =
-    (g : Game) (s : Solution) → IsCertificate g s → (v : ℕ) → IsSolvedAt g v (is_even (winner_of s v))
+    (g : Game) (s : Solution) → IsCertificate g s
+    → (v : ℕ) → IsSolvedAt g v (is_even (winner_of s v))

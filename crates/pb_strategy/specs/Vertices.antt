@@ -1,5 +1,5 @@
--- When a game is given by a list of vertices: the vertex of each number has the owner, whom the list
--- names by parity, the priority and the successors of the list's element there.
+-- When a game is given by a list of vertices: the vertex of each number has the owner, whom the
+-- list names by parity, the priority and the successors of the list's element there.
 use Rattle.std.specs.Prelude.{◌≡◌, ℕ, List, length, slice_get, Some}
 use Rattle.pb_game.specs.Players.{parity_of}
 use Rattle.pb_game.specs.declared.Game.{Game}

@@ -3,8 +3,8 @@ use Rattle.pb_rows.specs.Row.{nothing}
 use Rattle.pb_game_of_trees.proofs.Rows.{next_row, vertex_behind-more, next_fits}
 use Rattle.pb_game_of_trees.proofs.size.size_of.Goals as goal
 
-pub returns-then-vertices-gt-LIMIT-clause-size : goal.returns-then-vertices-gt-LIMIT-clause-size
-returns-then-vertices-gt-LIMIT-clause-size c = λ plain hold.
+pub returns-then-vertices-gt-MAX_VERTICES-clause-size : goal.returns-then-vertices-gt-MAX_VERTICES-clause-size
+returns-then-vertices-gt-MAX_VERTICES-clause-size c = λ plain hold.
     let l = c.loop-k in
     let row = get_or c.args.rows.now c.loop-k.k nothing in
     let n = next_row c.args.rows.now plain l.k hold (omega arith) in

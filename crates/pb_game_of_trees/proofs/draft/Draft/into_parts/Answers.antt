@@ -25,8 +25,13 @@ returns c = λ vs is.
     c.reverse-3.ensures.items ∙ (ap reverse is.successor ∙ reverse-reverse (successors vs)) in
     let size : c.len.result ≡ length (successors vs) = omega (arith, ap length all, c.len.ensures, c.reverse-3.new.self.ok.0) in
     let back : (with_items c.reverse-4.new.self c.subtract_from.new.numbers).items ≡ c.subtract_from.new.numbers =
-    with_items_is c.reverse-4.new.self c.subtract_from.new.numbers (omega (arith, ap length c.subtract_from.ensures,
-    length-map c.deref_mut.result.now (λ n. c.len.result - n), ap length c.deref_mut.ensures.value, c.reverse-4.new.self.ok.0)) in
+    with_items_is c.reverse-4.new.self c.subtract_from.new.numbers (omega (
+      arith,
+      ap length c.subtract_from.ensures,
+      length-map c.deref_mut.result.now (λ n. c.len.result - n),
+      ap length c.deref_mut.ensures.value,
+      c.reverse-4.new.self.ok.0,
+    )) in
     record {
       owner = owners_turned c.args.self.owners.items c.reverse.new.self.items (owners vs) c.reverse.ensures.items is.owner;
       priority = c.reverse-2.ensures.items ∙ (ap reverse is.priority ∙ reverse-reverse (priorities vs));
