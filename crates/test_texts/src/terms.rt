@@ -220,7 +220,7 @@ const TERMS: [(&[u8], &str); 32] = [
 fn reads_terms(rt: HostRuntime) -> Result<(), Fail> {
     for (text, wanted) in TERMS {
         let found = outcome(&rt, rt.alloc(), text)?;
-        assert!(rt; found.as_str() == wanted, "{wanted}");
+        assert!(rt; found.as_str() == wanted, "{found}");
     }
     Ok(())
 }
