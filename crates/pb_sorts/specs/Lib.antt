@@ -5,4 +5,3 @@ pub mod In
 pub mod Carrier
 pub mod Instance
 pub mod Layout
-pub mod LayoutError

@@ -12,55 +12,30 @@ ghost use Rattle.pb_sorts.specs.Layout.{lists_of};
 use crate::carrier::Carrier;
 use crate::instance::Instance;
 use crate::tuple::{count_tuples, place_of_tuple, tuple_at};
+use pb_errors::{Fault, OrMemory};
 use pb_limits::{MAX_EQUATIONS, MAX_INSTANCES, MAX_PARAMETERS};
-use std::alloc::{AllocError, AllocFailed, Global};
+use std::alloc::Global;
 use std::fmt;
 use std::marker::Model;
 
-/// Why there is no layout.
+/// `L02`: the carriers have more than `MAX_INSTANCES` instances.
 #[derive(Clone, Copy, Debug, PartialEq, Eq)]
-pub enum LayoutError {
-    /// `L02`: the carriers have more than `MAX_INSTANCES` instances.
-    TooManyInstances,
-    /// `M01`: memory was refused.
-    OutOfMemory,
-}
+pub struct TooManyInstances;
 
-impl fmt::Display for LayoutError {
-    ghost use Rattle.std.specs.Prelude.{Some};
-    ghost use Rattle.pb_sorts.specs.LayoutError.{code_of};
+impl Fault for TooManyInstances {}
 
-    ghost output = { λ error. Some (code_of error) };
+impl fmt::Display for TooManyInstances {
+    ghost use Rattle.std.specs.Prelude.{codes};
+
+    ghost output = { λ _. Some (codes "L02") };
 
     fn fmt<W: fmt::Write>(&self, f: &mut fmt::Formatter<W>) -> fmt::Result {
-        match self {
-            LayoutError::TooManyInstances => f.write_str("L02"),
-            LayoutError::OutOfMemory => f.write_str("M01"),
-        }
+        f.write_str("L02")
     }
 }
 
-impl std::error::Error for LayoutError {}
-
-impl From<AllocError> for LayoutError {
-    ghost use Rattle.pb_sorts.specs.declared.layout.LayoutError.TheVariants.{OutOfMemory};
-
-    ghost from_gives = { λ _ error. error ≡ OutOfMemory };
-
-    fn from(_: AllocError) -> LayoutError {
-        LayoutError::OutOfMemory
-    }
-}
-
-impl<T: Drop> From<AllocFailed<T>> for LayoutError {
-    ghost use Rattle.pb_sorts.specs.declared.layout.LayoutError.TheVariants.{OutOfMemory};
-
-    ghost from_gives = { λ _ error. error ≡ OutOfMemory };
-
-    fn from(_: AllocFailed<T>) -> LayoutError {
-        LayoutError::OutOfMemory
-    }
-}
+/// Why there is no layout: the instances are too many, or memory was refused.
+pub type LayoutError = OrMemory<TooManyInstances>;
 
 /// The numbers of the instances of a sequence of equations. Contracts see, for each equation, the
 /// carriers of its parameters.
@@ -100,18 +75,18 @@ impl Layout {
     /// The layout of equations with these parameters.
     ///
     /// # Errors
-    /// `TooManyInstances` exactly where there are more than `MAX_INSTANCES`, and `OutOfMemory`
+    /// `TooManyInstances` exactly where there are more than `MAX_INSTANCES`, and want of memory
     /// where memory is refused.
     pub fn new(alloc: Global, equations: &[Vec<Carrier>]) -> Result<Layout, LayoutError>
         requires equations { length equations.now ≤ MAX_EQUATIONS }
         requires parameters { All (λ parameters. vec_len parameters
             ≤ MAX_PARAMETERS) equations.now }
         ensures ok { IfOk result (λ layout. layout ≡ lists_of equations.now) }
-        ensures too_many { (result ≡ Err LayoutError.TooManyInstances)
+        ensures too_many { (result ≡ Err (OrMemory.Refused (record {})))
             ↔ (MAX_INSTANCES < count_of (lists_of equations.now)) }
     {
         if count_instances(equations).is_none() {
-            return Err(LayoutError::TooManyInstances);
+            return Err(LayoutError::Refused(TooManyInstances));
         }
         let mut carriers = Vec::with_capacity(alloc, equations.len())?;
         let mut firsts = Vec::with_capacity(alloc, equations.len() + 1)?;

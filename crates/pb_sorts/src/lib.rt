@@ -12,7 +12,7 @@ mod tuple;
 
 pub use carrier::{Carrier, Enumeration, L01, Range};
 pub use instance::{Instance, Tuple};
-pub use layout::{Layout, LayoutError};
+pub use layout::{Layout, LayoutError, TooManyInstances};
 pub use sink::{E02, Out, Sink, put};
 pub use source::{E01, In, Source};
 pub use tuple::count_tuples;

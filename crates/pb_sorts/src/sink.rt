@@ -5,12 +5,15 @@ ghost use Rattle.std.specs.Prelude.{OnErr, Option};
 ghost use Rattle.std.specs.Io.KnownBytes.{Appends, WriteAppends};
 ghost use Rattle.pb_sorts.specs.Sink.{AppendsPrefix};
 
+use pb_errors::Fault;
 use std::fmt;
 use std::io::Write;
 
 /// E02: writing failed, or a writer took nothing of a piece that isn't empty.
 #[derive(Clone, Copy, Debug, PartialEq, Eq)]
 pub struct E02;
+
+impl Fault for E02 {}
 
 impl fmt::Display for E02 {
     ghost use Rattle.std.specs.Prelude.{Some, codes};

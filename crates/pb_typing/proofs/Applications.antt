@@ -16,7 +16,7 @@ use Rattle.pb_typing_rules.specs.Scope.{Scope}
 use Rattle.pb_typing_rules.specs.Term.{shape, shapes, applied_shape}
 use Rattle.pb_typing_rules.specs.Faults.{term_faults, terms_faults, function_faults, kind_faults}
 use Rattle.pb_text_meaning.specs.Functions.{named_function}
-use Rattle.pb_typing_declarations.specs.declared.fault.TypeError.{TypeError}
+use Rattle.pb_errors.specs.declared.or_memory.OrMemory.{OrMemory}
 use Rattle.pb_typed_tree.specs.declared.formula.Argument as typed
 use Rattle.pb_typed_tree.specs.Elaboration.{Slotting, slotted, applied_to_one, applied_to_two, applied_to_three}
 use Rattle.pb_typed_tree.specs.Tree as tree
@@ -88,7 +88,7 @@ three_applied S a f xs g x y z s t u is these first second third =
 
 -- ---- with the typed terms
 
-pub one_node : (S : Spec) (a : Scope) (c : Slotting) (f : Named) (u : FunctionOfOne) (xs : List Argument) (x : Argument) (y : typed.Argument) (r : Result typed.Argument TypeError) → IsOfOne S f.text u
+pub one_node : (S : Spec) (a : Scope) (c : Slotting) (f : Named) (u : FunctionOfOne) (xs : List Argument) (x : Argument) (y : typed.Argument) (r : Result typed.Argument (OrMemory TypingFault)) → IsOfOne S f.text u
     → xs ≡ x ∷ [] → IsChecked S a c (term_form x.term) y
     → Elaborates (kind_faults (view_of_one u) (shape_view y.shape ∷ []) f.place) (shape_of_one (view_of_one u) (shape_view y.shape)) (term_of_one u (term_view y.term)) r
     → ChecksTermIn S a c (TermForm.application f (argument_forms xs)) r
@@ -102,7 +102,7 @@ one_node S a c f u xs x y r is these h made =
     (term_of_one u (term_view y.term)) (applied_to_one S f.text (named_function f.text) (slotted S c z)) r
     all.faults (sym all.shape) (is.term (slotted S c z) ∙ ap (term_of_one u) (sym h.1.1)) made)
 
-pub two_node : (S : Spec) (a : Scope) (c : Slotting) (f : Named) (u : Extreme) (xs : List Argument) (x y : Argument) (v w : typed.Argument) (r : Result typed.Argument TypeError) → IsOfTwo S f.text u
+pub two_node : (S : Spec) (a : Scope) (c : Slotting) (f : Named) (u : Extreme) (xs : List Argument) (x y : Argument) (v w : typed.Argument) (r : Result typed.Argument (OrMemory TypingFault)) → IsOfTwo S f.text u
     → xs ≡ x ∷ y ∷ [] → IsChecked S a c (term_form x.term) v → IsChecked S a c (term_form y.term) w
     → Elaborates (kind_faults (OfTwo (extreme_operation u)) (shape_view v.shape ∷ shape_view w.shape ∷ []) f.place) (binary_shape (extreme_operation u) (shape_view v.shape) (shape_view w.shape)) (extreme_term u (term_view v.term) (term_view w.term)) r
     → ChecksTermIn S a c (TermForm.application f (argument_forms xs)) r
@@ -119,7 +119,7 @@ two_node S a c f u xs x y v w r is these h k made =
     all.faults (sym all.shape)
     (is.term X Y ∙ (ap (λ (p : tree.Term). extreme_term u p Y) (sym h.1.1) ∙ ap (extreme_term u (term_view v.term)) (sym k.1.1))) made)
 
-pub choice_node : (S : Spec) (a : Scope) (c : Slotting) (f : Named) (xs : List Argument) (q x y : Argument) (o v w : typed.Argument) (r : Result typed.Argument TypeError) → IsChoice S f.text
+pub choice_node : (S : Spec) (a : Scope) (c : Slotting) (f : Named) (xs : List Argument) (q x y : Argument) (o v w : typed.Argument) (r : Result typed.Argument (OrMemory TypingFault)) → IsChoice S f.text
     → xs ≡ q ∷ x ∷ y ∷ [] → IsChecked S a c (term_form q.term) o → IsChecked S a c (term_form x.term) v → IsChecked S a c (term_form y.term) w
     → Elaborates (kind_faults Choice (shape_view o.shape ∷ shape_view v.shape ∷ shape_view w.shape ∷ []) f.place) (hull (shape_view v.shape) (shape_view w.shape)) (tree.Choice (term_view o.term) (term_view v.term) (term_view w.term)) r
     → ChecksTermIn S a c (TermForm.application f (argument_forms xs)) r

@@ -13,8 +13,8 @@ use Rattle.pb_text_meaning.specs.Formula.{equation_named}
 use Rattle.pb_text_meaning.specs.Erase.{erased_arguments, erased_term}
 use Rattle.pb_typing_declarations.specs.declared.fault.TypingRule.TheVariants as rule
 use Rattle.pb_typing_declarations.specs.declared.fault.TypingFault.{TypingFault}
-use Rattle.pb_typing_declarations.specs.declared.fault.TypeError.{TypeError}
-use Rattle.pb_typing_declarations.specs.declared.fault.TypeError.TheVariants.{At}
+use Rattle.pb_errors.specs.declared.or_memory.OrMemory.{OrMemory}
+use Rattle.pb_errors.specs.declared.or_memory.OrMemory.TheVariants.{Refused}
 use Rattle.pb_typing_declarations.specs.Faults.{unless, IsAmong}
 use Rattle.pb_typing_declarations.specs.Agreement.{equation_place}
 use Rattle.pb_typing_declarations.specs.Entries.{shapes_of}
@@ -94,7 +94,7 @@ called S even a i text cs n is =
     ap (λ (o : Option Equation). called_faults S even a (argument_forms i.arguments.items) o i.name.place) (ap (equation_named S.equations) (sym is) ∙ n.named)
 
 -- another number of arguments
-pub count_instance : (S : Spec) (even : Bool) (a : Scope) (i : declared_instance.Instance) (text : Name) (cs : List Carrier) (e : TypeError) → (n : IsNamed S text cs) → text ≡ (instance_form i).name.text
+pub count_instance : (S : Spec) (even : Bool) (a : Scope) (i : declared_instance.Instance) (text : Name) (cs : List Carrier) (e : OrMemory TypingFault) → (n : IsNamed S text cs) → text ≡ (instance_form i).name.text
     → IsAmong (unless (length i.arguments.items == length cs) rule.WrongCount i.name.place) e → IsAmong (instance_faults S even a (instance_form i)) e
 count_instance S even a i text cs e n is h =
     subst (λ (zs : List TypingFault). IsAmong zs e) (sym (called S even a i text cs n is))
@@ -102,7 +102,7 @@ count_instance S even a i text cs e n is h =
     (among_left _ _ e (subst (λ (b : Bool). IsAmong (unless b rule.WrongCount i.name.place) e) (sym (numbers S text i.arguments.items cs n)) h)))
 
 -- an odd number of negations around
-pub odd_instance : (S : Spec) (even : Bool) (a : Scope) (i : declared_instance.Instance) (text : Name) (cs : List Carrier) (e : TypeError) → (n : IsNamed S text cs) → text ≡ (instance_form i).name.text
+pub odd_instance : (S : Spec) (even : Bool) (a : Scope) (i : declared_instance.Instance) (text : Name) (cs : List Carrier) (e : OrMemory TypingFault) → (n : IsNamed S text cs) → text ≡ (instance_form i).name.text
     → IsAmong (unless even rule.OddNegations i.name.place) e → IsAmong (instance_faults S even a (instance_form i)) e
 odd_instance S even a i text cs e n is h =
     subst (λ (zs : List TypingFault). IsAmong zs e) (sym (called S even a i text cs n is)) (among_left (unless even rule.OddNegations i.name.place) _ e h)
@@ -122,9 +122,9 @@ instance-called S even a i text cs n is same =
 
 -- no equation has the name
 pub unknown_instance : (S : Spec) (even : Bool) (a : Scope) (i : declared_instance.Instance) (text : Name) → text ≡ (instance_form i).name.text → equation_place S text ≡ None
-    → IsAmong (instance_faults S even a (instance_form i)) (At (record { rule = rule.UnknownName; place = i.name.place }))
+    → IsAmong (instance_faults S even a (instance_form i)) (Refused (record { rule = rule.UnknownName; place = i.name.place }))
 unknown_instance S even a i text is place =
-    let e = At (record { rule = rule.UnknownName; place = i.name.place }) in
+    let e = Refused (record { rule = rule.UnknownName; place = i.name.place }) in
     let none = ap (equation_named S.equations) (sym is) ∙ not_found (λ X. same_name X.name text) S.equations place in
     subst (λ (o : Option Equation). IsAmong (called_faults S even a (argument_forms i.arguments.items) o i.name.place) e) (sym none)
     (among_left (unless false rule.UnknownName i.name.place) _ e (0, omega arith, refl))

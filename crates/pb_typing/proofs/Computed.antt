@@ -8,7 +8,7 @@ use Rattle.pb_intervals.specs.Operation.{BinaryOperation, binary_interval}
 use Rattle.pb_text_meaning.specs.Erase.{of_arithmetic}
 use Rattle.pb_typing_declarations.specs.declared.fault.TypingRule.TheVariants as rule
 use Rattle.pb_typing_declarations.specs.Faults.{unless}
-use Rattle.pb_typing_declarations.specs.declared.fault.TypeError.TheVariants.{At}
+use Rattle.pb_errors.specs.declared.or_memory.OrMemory.TheVariants.{Refused}
 use Rattle.pb_typing_declarations.specs.Faults.{IsAmong}
 use Rattle.pb_typing_declarations.specs.Shapes.{Shape, Unknown, Wholes}
 use Rattle.pb_typing_rules.specs.Shapes.{may_divide, binary_shape, binary_is_limited, of_interval, kind_of, Computed}
@@ -47,13 +47,13 @@ computed o l r p i d e =
       ap of_interval e ∙ sym (ap (λ (b : Bool). cond b (of_interval (within literals (binary_interval o l r))) Unknown) d),
     )
 
-fails : (d w : Bool) (p : Place) → d ≡ true → w ≡ false → IsAmong (unless d rule.Divisor p ++ unless (not d || w) rule.LargeInterval p) (At (record { rule = rule.LargeInterval; place = p }))
+fails : (d w : Bool) (p : Place) → d ≡ true → w ≡ false → IsAmong (unless d rule.Divisor p ++ unless (not d || w) rule.LargeInterval p) (Refused (record { rule = rule.LargeInterval; place = p }))
 fails true true p e f = absurd (true≢false f)
 fails true false p e f = (0, omega arith, refl)
 fails false w p e f = absurd (true≢false (sym e))
 
 pub beyond : (o : BinaryOperation) (l r : IntegerInterval) (p : Place) → may_divide o (wholes r) ≡ true → None ≡ within literals (binary_interval o l r)
-    → IsAmong (operator_faults (Computed o) (wholes l) (wholes r) p) (At (record { rule = rule.LargeInterval; place = p }))
+    → IsAmong (operator_faults (Computed o) (wholes l) (wholes r) p) (Refused (record { rule = rule.LargeInterval; place = p }))
 beyond o l r p d e = fails (may_divide o (wholes r)) (is_within (binary_interval o l r) literals) p d (none_within (binary_interval o l r) e)
 
 pub kind_of-arithmetic : (o : Arithmetic) → kind_of (of_arithmetic o) ≡ Computed (operation_of o)

@@ -13,7 +13,8 @@ use Rattle.pb_text_tree.specs.Form.{FormulaForm, formula_form, instance_form, te
 use Rattle.pb_text_meaning.specs.Syntax as syntax
 use Rattle.pb_text_meaning.specs.Syntax.{Spec}
 use Rattle.pb_text_meaning.specs.Erase.{erased_variables}
-use Rattle.pb_typing_declarations.specs.declared.fault.TypeError.{TypeError}
+use Rattle.pb_errors.specs.declared.or_memory.OrMemory.{OrMemory}
+use Rattle.pb_typing_declarations.specs.declared.fault.TypingFault.{TypingFault}
 use Rattle.pb_typing_declarations.specs.Declarations.{variables_faults}
 use Rattle.pb_typing_declarations.specs.Entries.{shapes_of}
 use Rattle.pb_typing_rules.specs.Faults.{formula_faults}
@@ -28,25 +29,25 @@ use Rattle.pb_typing.proofs.ValueNodes.{on_ok}
 
 -- ---- data
 
-pub value_formula : (S : Spec) (a : Scope) (c : Slotting) (even : Bool) (n : ℕ) (f : ast.Formula) (p : Place) (x : Term) (r : Result code.Formula TypeError) → f ≡ ast.Value p x → ChecksTruthIn S a c n (term_form x) p r
+pub value_formula : (S : Spec) (a : Scope) (c : Slotting) (even : Bool) (n : ℕ) (f : ast.Formula) (p : Place) (x : Term) (r : Result code.Formula (OrMemory TypingFault)) → f ≡ ast.Value p x → ChecksTruthIn S a c n (term_form x) p r
     → ChecksFormulaIn S a c even n (formula_form f) r
 value_formula S a c even n f p x r is h = subst (λ (g : ast.Formula). ChecksFormulaIn S a c even n (formula_form g) r) (sym is) h
 
-pub value_loops : (S : Spec) (f : ast.Formula) (p : Place) (x : Term) (old new : List Carrier) (r : Result code.Formula TypeError) → f ≡ ast.Value p x → OnOk r (shapes_of new ≡ shapes_of old ++ loops S (value_of x))
+pub value_loops : (S : Spec) (f : ast.Formula) (p : Place) (x : Term) (old new : List Carrier) (r : Result code.Formula (OrMemory TypingFault)) → f ≡ ast.Value p x → OnOk r (shapes_of new ≡ shapes_of old ++ loops S (value_of x))
     → OnOk r (shapes_of new ≡ shapes_of old ++ loops S (formula_of f))
 value_loops S f p x old new r is h = subst (λ (g : ast.Formula). OnOk r (shapes_of new ≡ shapes_of old ++ loops S (formula_of g))) (sym is) h
 
-pub at_places : (f g : ast.Formula) (r : Result code.Formula TypeError) → f ≡ g → IfOk r (λ (y : code.Formula). call_places y ≡ calls_in (formula_form g)) → IfOk r (λ (y : code.Formula). call_places y ≡ calls_in (formula_form f))
+pub at_places : (f g : ast.Formula) (r : Result code.Formula (OrMemory TypingFault)) → f ≡ g → IfOk r (λ (y : code.Formula). call_places y ≡ calls_in (formula_form g)) → IfOk r (λ (y : code.Formula). call_places y ≡ calls_in (formula_form f))
 at_places f g r is h = subst (λ (z : ast.Formula). IfOk r (λ (y : code.Formula). call_places y ≡ calls_in (formula_form z))) (sym is) h
 
 -- ---- calls
 
-pub call_formula : (S : Spec) (a : Scope) (c : Slotting) (even : Bool) (n : ℕ) (f : ast.Formula) (i : Instance) (r : Result code.Formula TypeError) → f ≡ ast.Instance i → ChecksFormulaIn S a c even n (FormulaForm.instance (instance_form i)) r
+pub call_formula : (S : Spec) (a : Scope) (c : Slotting) (even : Bool) (n : ℕ) (f : ast.Formula) (i : Instance) (r : Result code.Formula (OrMemory TypingFault)) → f ≡ ast.Instance i → ChecksFormulaIn S a c even n (FormulaForm.instance (instance_form i)) r
     → ChecksFormulaIn S a c even n (formula_form f) r
 call_formula S a c even n f i r is h = subst (λ (g : ast.Formula). ChecksFormulaIn S a c even n (formula_form g) r) (sym is) h
 
 -- a call has no quantifier
-pub call_loops : (S : Spec) (f : ast.Formula) (i : Instance) (old : List Carrier) (r : Result code.Formula TypeError) → f ≡ ast.Instance i → OnOk r (shapes_of old ≡ shapes_of old ++ loops S (formula_of f))
+pub call_loops : (S : Spec) (f : ast.Formula) (i : Instance) (old : List Carrier) (r : Result code.Formula (OrMemory TypingFault)) → f ≡ ast.Instance i → OnOk r (shapes_of old ≡ shapes_of old ++ loops S (formula_of f))
 call_loops S f i old r is = on_ok r _ (sym (ap (λ (g : ast.Formula). shapes_of old ++ loops S (formula_of g)) is ∙ append-nil (shapes_of old)))
 
 -- ---- negations

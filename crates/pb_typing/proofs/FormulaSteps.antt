@@ -39,7 +39,7 @@ use Rattle.pb_typing.specs.FormulaLinks.{elaborated_links, link_faults, link_wid
 use Rattle.pb_typing.proofs.ElaboratedChains.{chained-elaborated}
 use Rattle.pb_typing.specs.Arguments.{faults_against, own_faults}
 use Rattle.pb_typing.specs.Elaborated.{ElaboratesFormula}
-use Rattle.pb_typing_declarations.specs.declared.fault.TypeError.{TypeError}
+use Rattle.pb_errors.specs.declared.or_memory.OrMemory.{OrMemory}
 use Rattle.pb_typing_declarations.specs.declared.fault.TypingFault.{TypingFault}
 use Rattle.pb_typing_declarations.specs.Entries.{shape_of}
 use Rattle.pb_typing.proofs.ValueLemmas.{grown, joined-loops}
@@ -180,7 +180,7 @@ chain-node t x o first v links is same are =
     ∙ (ap (λ (y : ast.Formula). form.chained (FormulaForm.connected o) (formula_form y) (link_forms v.items)) (sym same) ∙ ap (λ (ls : List Link). form.chained (FormulaForm.connected o) (formula_form x) (link_forms ls)) (sym are)))
 
 -- what is read as data has no calls
-pub value_places : (S : Spec) (c : Slotting) (a : Scope) (n : ℕ) (x : term.Term) (fs : List TypingFault) (r : Result code.Formula TypeError)
+pub value_places : (S : Spec) (c : Slotting) (a : Scope) (n : ℕ) (x : term.Term) (fs : List TypingFault) (r : Result code.Formula (OrMemory TypingFault))
     → ElaboratesFormula fs (elaborated S c a n (value_of x)) r → IfOk r (λ (f : code.Formula). call_places f ≡ [])
 value_places S c a n x fs (Ok f) h = no_places f (ap calls h.1 ∙ data-calls S (erased_term (term_form x)) c a n)
 value_places S c a n x fs (Err e) h = tt

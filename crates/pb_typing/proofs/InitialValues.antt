@@ -27,9 +27,9 @@ use Rattle.std.proofs.lemmas.List.{length-map}
 use Rattle.pb_text_meaning.specs.Erase.{erased_arguments, erased_term}
 use Rattle.pb_text_meaning.specs.Fits.{AllFit}
 use Rattle.pb_typing_declarations.specs.declared.fault.TypingFault.{TypingFault}
-use Rattle.pb_typing_declarations.specs.declared.fault.TypeError.TheVariants.{Memory, At}
+use Rattle.pb_errors.specs.declared.or_memory.OrMemory.TheVariants.{Refused, Memory}
 use Rattle.pb_typing_declarations.specs.declared.fault.TypingRule.TheVariants.{OutsideCarrier}
-use Rattle.pb_typing_declarations.specs.declared.fault.TypeError.{TypeError}
+use Rattle.pb_errors.specs.declared.or_memory.OrMemory.{OrMemory}
 use Rattle.pb_typing_declarations.specs.Faults.{unless, IsAmong}
 use Rattle.pb_typing_declarations.specs.Agreement.{equation_place}
 use Rattle.pb_typing_declarations.specs.WellDeclared.{HaveEnds}
@@ -74,7 +74,7 @@ tested S c x a v b ec ev eb =
     eb ∙ (ap (contains (values_of c)) ev ∙ (sym (may_have_of_some (values_of c) w (some_values c)) ∙ ap (λ (d : carriers.Carrier). may_have d w) ec))
 
 -- a fault of the first argument
-pub value_fault : (S : Spec) (c : Carrier) (cs : List Carrier) (a : Argument) (es : List Argument) (all : List Argument) (allc : List Carrier) (xs : List Variable) (v : Value) (b : Bool) (e : TypeError)
+pub value_fault : (S : Spec) (c : Carrier) (cs : List Carrier) (a : Argument) (es : List Argument) (all : List Argument) (allc : List Carrier) (xs : List Variable) (v : Value) (b : Bool) (e : OrMemory TypingFault)
     → allc ≡ c ∷ cs → all ≡ a ∷ es → map values_of allc ≡ carriers_of S xs → v ≡ value S [] (erased_term (term_form a.term)) → b ≡ contains (values_of c) v → IsAmong (unless b OutsideCarrier a.place) e
     → IsAmong (value_faults S (argument_forms all) xs) e
 value_fault S c cs a es all allc xs v b e ec ea m ev eb h =
@@ -85,16 +85,16 @@ value_fault S c cs a es all allc xs v b e ec ea m ev eb h =
     subst (λ (zs : List Argument). IsAmong (value_faults S (argument_forms zs) xs) e) (sym ea)
     (subst (λ (ys : List Variable). IsAmong (value_faults S (argument_forms (a ∷ es)) ys) e) (sym p.whole) here)
 
-abbrev pub Tells : Spec → List Argument → List Variable → Result (Unit {0}) TypeError → Type 0
+abbrev pub Tells : Spec → List Argument → List Variable → Result (Unit {0}) (OrMemory TypingFault) → Type 0
 Tells S es xs r = MatchResult r (λ u. value_faults S (argument_forms es) xs ≡ []) (IsAmong (value_faults S (argument_forms es) xs))
 
 -- what is told of the other arguments, where the first one has no fault
-later : (S : Spec) (a : Argument) (es : List Argument) (x : Variable) (xs : List Variable) (r : Result (Unit {0}) TypeError) → unless (may_have (carrier_of S x.sort) (value S [] (erased_term (term_form a.term)))) OutsideCarrier a.place ≡ []
+later : (S : Spec) (a : Argument) (es : List Argument) (x : Variable) (xs : List Variable) (r : Result (Unit {0}) (OrMemory TypingFault)) → unless (may_have (carrier_of S x.sort) (value S [] (erased_term (term_form a.term)))) OutsideCarrier a.place ≡ []
     → Tells S es xs r → Tells S (a ∷ es) (x ∷ xs) r
 later S a es x xs (Ok u) clear told = no_whole _ _ clear told
 later S a es x xs (Err e) clear told = among_right _ _ e told
 
-pub value_clear : (S : Spec) (c : Carrier) (cs : List Carrier) (a : Argument) (es : List Argument) (all : List Argument) (allc : List Carrier) (xs : List Variable) (v : Value) (b : Bool) (r : Result (Unit {0}) TypeError)
+pub value_clear : (S : Spec) (c : Carrier) (cs : List Carrier) (a : Argument) (es : List Argument) (all : List Argument) (allc : List Carrier) (xs : List Variable) (v : Value) (b : Bool) (r : Result (Unit {0}) (OrMemory TypingFault))
     → allc ≡ c ∷ cs → all ≡ a ∷ es → map values_of allc ≡ carriers_of S xs → v ≡ value S [] (erased_term (term_form a.term)) → b ≡ contains (values_of c) v → unless b OutsideCarrier a.place ≡ []
     → ((ys : List Variable) → map values_of cs ≡ carriers_of S ys → Tells S es ys r) → Tells S all xs r
 value_clear S c cs a es all allc xs v b r ec ea m ev eb clear told =
@@ -138,9 +138,9 @@ no_equation S x es e =
 
 -- ---- faults, and where there are none, other faults
 
-pub among_then : (xs ys : List TypingFault) (e : TypeError) → IsAmong xs e → IsAmong (and_then xs ys) e
+pub among_then : (xs ys : List TypingFault) (e : OrMemory TypingFault) → IsAmong xs e → IsAmong (and_then xs ys) e
 among_then [] ys Memory h = tt
-among_then [] ys (At fault) h = absurd (omega (arith, h.1))
+among_then [] ys (Refused fault) h = absurd (omega (arith, h.1))
 among_then (x ∷ xs) ys e h = h
 
 -- each data term of an instance without faults fits, where no variable is in scope

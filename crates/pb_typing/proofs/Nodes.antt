@@ -13,7 +13,7 @@ use Rattle.pb_text_meaning.specs.Erase.{erased_term, of_comparison}
 use Rattle.pb_intervals.specs.Operation as operations
 use Rattle.pb_typing_declarations.specs.declared.fault.TypingRule.TheVariants as rule
 use Rattle.pb_typing_declarations.specs.declared.fault.TypingFault.{TypingFault}
-use Rattle.pb_typing_declarations.specs.declared.fault.TypeError.{TypeError}
+use Rattle.pb_errors.specs.declared.or_memory.OrMemory.{OrMemory}
 use Rattle.pb_typing_declarations.specs.Faults.{unless, IsAmong}
 use Rattle.pb_typing_declarations.specs.Shapes.{Shape, Truths}
 use Rattle.pb_typing_rules.specs.Shapes.{may_be_truth, kind_of, outcome, unary_shape}
@@ -34,26 +34,26 @@ abbrev pub IsChecked : Spec → Scope → Slotting → TermForm → Argument →
 IsChecked S a c x y = (term_faults S false a x ≡ []) × IsTypedAs (shape S a (erased_term x)) (slotted S c (erased_term x)) y
 
 -- what is found of the faults that are left, where those before are none
-pub elaborates_as : (all rest : List TypingFault) (s t : Shape) (x y : Term) (r : Result Argument TypeError) → all ≡ rest → t ≡ s → y ≡ x → Elaborates rest s x r → Elaborates all t y r
+pub elaborates_as : (all rest : List TypingFault) (s t : Shape) (x y : Term) (r : Result Argument (OrMemory TypingFault)) → all ≡ rest → t ≡ s → y ≡ x → Elaborates rest s x r → Elaborates all t y r
 elaborates_as all rest s t x y r e f g h =
     subst (λ (zs : List TypingFault). Elaborates zs t y r) (sym e)
     (subst (λ (u : Shape). Elaborates rest u y r) (sym f)
     (subst (λ (z : Term). Elaborates rest s z r) (sym g) h))
 
-at_node : (S : Spec) (st : Bool) (a : Scope) (t u : ast.Term) (e : TypeError) → t ≡ u → IsAmong (term_faults S st a (term_form u)) e → IsAmong (term_faults S st a (term_form t)) e
+at_node : (S : Spec) (st : Bool) (a : Scope) (t u : ast.Term) (e : OrMemory TypingFault) → t ≡ u → IsAmong (term_faults S st a (term_form u)) e → IsAmong (term_faults S st a (term_form t)) e
 at_node S st a t u e is h = subst (λ (x : ast.Term). IsAmong (term_faults S st a (term_form x)) e) (sym is) h
 
-at_part : (S : Spec) (st : Bool) (a : Scope) (x y : ast.Term) (e : TypeError) → x ≡ y → IsAmong (term_faults S st a (term_form x)) e → IsAmong (term_faults S st a (term_form y)) e
+at_part : (S : Spec) (st : Bool) (a : Scope) (x y : ast.Term) (e : OrMemory TypingFault) → x ≡ y → IsAmong (term_faults S st a (term_form x)) e → IsAmong (term_faults S st a (term_form y)) e
 at_part S st a x y e is h = subst (λ (z : ast.Term). IsAmong (term_faults S st a (term_form z)) e) is h
 
 -- ---- negations
 
-pub not_operand : (S : Spec) (st : Bool) (a : Scope) (t x : ast.Term) (p : Place) (operand : Box ast.Term Global) (e : TypeError) → t ≡ ast.Not p operand → x ≡ box_value operand
+pub not_operand : (S : Spec) (st : Bool) (a : Scope) (t x : ast.Term) (p : Place) (operand : Box ast.Term Global) (e : OrMemory TypingFault) → t ≡ ast.Not p operand → x ≡ box_value operand
     → IsAmong (term_faults S st a (term_form x)) e → IsAmong (term_faults S st a (term_form t)) e
 not_operand S st a t x p operand e is same h =
     at_node S st a t (ast.Not p operand) e is (among_left (term_faults S st a (term_form (box_value operand))) _ e (at_part S st a x (box_value operand) e same h))
 
-pub not_node : (S : Spec) (a : Scope) (c : Slotting) (t x : ast.Term) (p : Place) (operand : Box ast.Term Global) (y : Argument) (r : Result Argument TypeError) → t ≡ ast.Not p operand → x ≡ box_value operand
+pub not_node : (S : Spec) (a : Scope) (c : Slotting) (t x : ast.Term) (p : Place) (operand : Box ast.Term Global) (y : Argument) (r : Result Argument (OrMemory TypingFault)) → t ≡ ast.Not p operand → x ≡ box_value operand
     → IsChecked S a c (term_form x) y → Elaborates (unless (may_be_truth (shape_view y.shape)) rule.WrongKind p) Truths (Term.Not (term_view y.term)) r → ChecksTermIn S a c (term_form t) r
 not_node S a c t x p operand y r is same h made =
     let z = term_form (box_value operand) in
@@ -63,12 +63,12 @@ not_node S a c t x p operand y r is same h made =
     (elaborates_as (term_faults S false a z ++ others) (unless (may_be_truth (shape_view y.shape)) rule.WrongKind p) Truths Truths (Term.Not (term_view y.term)) (Term.Not (slotted S c (erased_term z))) r
     (first_clear _ (term_faults S false a z) others refl part.0 ∙ ap (λ (s : Shape). unless (may_be_truth s) rule.WrongKind p) (sym part.1.0)) refl (ap Term.Not (sym part.1.1)) made)
 
-pub negative_operand : (S : Spec) (st : Bool) (a : Scope) (t x : ast.Term) (p : Place) (operand : Box ast.Term Global) (e : TypeError) → t ≡ ast.Negative p operand → x ≡ box_value operand
+pub negative_operand : (S : Spec) (st : Bool) (a : Scope) (t x : ast.Term) (p : Place) (operand : Box ast.Term Global) (e : OrMemory TypingFault) → t ≡ ast.Negative p operand → x ≡ box_value operand
     → IsAmong (term_faults S false a (term_form x)) e → IsAmong (term_faults S st a (term_form t)) e
 negative_operand S st a t x p operand e is same h =
     at_node S st a t (ast.Negative p operand) e is (among_left (term_faults S false a (term_form (box_value operand))) _ e (at_part S false a x (box_value operand) e same h))
 
-pub negative_node : (S : Spec) (a : Scope) (c : Slotting) (t x : ast.Term) (p : Place) (operand : Box ast.Term Global) (y : Argument) (r : Result Argument TypeError) → t ≡ ast.Negative p operand → x ≡ box_value operand
+pub negative_node : (S : Spec) (a : Scope) (c : Slotting) (t x : ast.Term) (p : Place) (operand : Box ast.Term Global) (y : Argument) (r : Result Argument (OrMemory TypingFault)) → t ≡ ast.Negative p operand → x ≡ box_value operand
     → IsChecked S a c (term_form x) y
     → Elaborates (kind_faults (OfOne operations.Negation) (shape_view y.shape ∷ []) p) (unary_shape operations.Negation (shape_view y.shape)) (Negative (term_view y.term)) r → ChecksTermIn S a c (term_form t) r
 negative_node S a c t x p operand y r is same h made =
@@ -84,12 +84,12 @@ negative_node S a c t x p operand y r is same h made =
 
 -- ---- comparisons
 
-pub comparison_left : (S : Spec) (st : Bool) (a : Scope) (t x : ast.Term) (p : Place) (o : Comparison) (left right : Box ast.Term Global) (e : TypeError) → t ≡ ast.Comparison p o left right → x ≡ box_value left
+pub comparison_left : (S : Spec) (st : Bool) (a : Scope) (t x : ast.Term) (p : Place) (o : Comparison) (left right : Box ast.Term Global) (e : OrMemory TypingFault) → t ≡ ast.Comparison p o left right → x ≡ box_value left
     → IsAmong (term_faults S false a (term_form x)) e → IsAmong (term_faults S st a (term_form t)) e
 comparison_left S st a t x p o left right e is same h =
     at_node S st a t (ast.Comparison p o left right) e is (among_left (term_faults S false a (term_form (box_value left))) _ e (at_part S false a x (box_value left) e same h))
 
-pub comparison_right : (S : Spec) (st : Bool) (a : Scope) (t x : ast.Term) (p : Place) (o : Comparison) (left right : Box ast.Term Global) (e : TypeError) → t ≡ ast.Comparison p o left right → x ≡ box_value right
+pub comparison_right : (S : Spec) (st : Bool) (a : Scope) (t x : ast.Term) (p : Place) (o : Comparison) (left right : Box ast.Term Global) (e : OrMemory TypingFault) → t ≡ ast.Comparison p o left right → x ≡ box_value right
     → IsAmong (term_faults S false a (term_form x)) e → IsAmong (term_faults S st a (term_form t)) e
 comparison_right S st a t x p o left right e is same h =
     at_node S st a t (ast.Comparison p o left right) e is
@@ -104,7 +104,7 @@ compared-shape comparison.LessEqual s t = refl
 compared-shape comparison.Greater s t = refl
 compared-shape comparison.GreaterEqual s t = refl
 
-pub comparison_node : (S : Spec) (a : Scope) (c : Slotting) (t x y : ast.Term) (p : Place) (o : Comparison) (left right : Box ast.Term Global) (u v : Argument) (r : Result Argument TypeError)
+pub comparison_node : (S : Spec) (a : Scope) (c : Slotting) (t x y : ast.Term) (p : Place) (o : Comparison) (left right : Box ast.Term Global) (u v : Argument) (r : Result Argument (OrMemory TypingFault))
     → t ≡ ast.Comparison p o left right → x ≡ box_value left → y ≡ box_value right → IsChecked S a c (term_form x) u → IsChecked S a c (term_form y) v
     → Elaborates (operator_faults (kind_of (of_comparison o)) (shape_view u.shape) (shape_view v.shape) p) Truths (Binary (of_comparison o) (term_view u.term) (term_view v.term)) r
     → ChecksTermIn S a c (term_form t) r
@@ -127,7 +127,7 @@ comparison_node S a c t x y p o left right u v r is same_x same_y h k made =
 
 -- ---- chains without links
 
-pub lone_chain : (S : Spec) (a : Scope) (c : Slotting) (o : Connective) (first : TermForm) (links : List TermLink) (r : Result Argument TypeError) → (length links == 0) ≡ true
+pub lone_chain : (S : Spec) (a : Scope) (c : Slotting) (o : Connective) (first : TermForm) (links : List TermLink) (r : Result Argument (OrMemory TypingFault)) → (length links == 0) ≡ true
     → ChecksTermIn S a c first r → ChecksTermIn S a c (chained (TermForm.connected o) first (term_links links)) r
 lone_chain S a c o first links r none h =
     subst (λ (ls : List TermLink). ChecksTermIn S a c (chained (TermForm.connected o) first (term_links ls)) r) (sym (no_links links none)) h

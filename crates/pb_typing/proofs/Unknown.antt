@@ -8,7 +8,7 @@ use Rattle.pb_text_tree.specs.Form.{Named}
 use Rattle.pb_text_meaning.specs.Syntax.{Name, same_name, Equation, Spec}
 use Rattle.pb_text_meaning.specs.Names.{is_declared}
 use Rattle.pb_typing_declarations.specs.declared.fault.TypingRule.TheVariants as rule
-use Rattle.pb_typing_declarations.specs.declared.fault.TypeError.TheVariants.{At}
+use Rattle.pb_errors.specs.declared.or_memory.OrMemory.TheVariants.{Refused}
 use Rattle.pb_typing_declarations.specs.Faults.{unless, IsAmong}
 use Rattle.pb_typing_declarations.specs.Agreement.{equation_place}
 use Rattle.pb_typing_rules.specs.Faults.{unknown_faults}
@@ -47,19 +47,19 @@ no_position t xs e = by_test (nat_lt (prefix_len (λ x. not (t x)) xs) (length x
 abbrev named_as : Name → Equation → Bool
 named_as x X = same_name X.name x
 
-pub predicate_in_data : (S : Spec) (x : Named) (text : Name) (k : ℕ) → text ≡ x.text → equation_place S text ≡ Some k → IsAmong (unknown_faults S x) (At (record { rule = rule.PredicateInData; place = x.place }))
+pub predicate_in_data : (S : Spec) (x : Named) (text : Name) (k : ℕ) → text ≡ x.text → equation_place S text ≡ Some k → IsAmong (unknown_faults S x) (Refused (record { rule = rule.PredicateInData; place = x.place }))
 predicate_in_data S x text k same e =
     let p = some_position (named_as x.text) S.equations k (sym (ap (equation_place S) same) ∙ e) in
     by_test (is_declared S.equations x.text) (below (named_as x.text) S.equations (omega (arith, p.0, p.1)))
   where
-    by_test : (d : Bool) → d ≡ true → IsAmong (unless (not d) rule.PredicateInData x.place ++ unless d rule.UnknownName x.place) (At (record { rule = rule.PredicateInData; place = x.place }))
+    by_test : (d : Bool) → d ≡ true → IsAmong (unless (not d) rule.PredicateInData x.place ++ unless d rule.UnknownName x.place) (Refused (record { rule = rule.PredicateInData; place = x.place }))
     by_test true f = (0, omega arith, refl)
     by_test false f = absurd (true≢false (sym f))
 
-pub unknown_name : (S : Spec) (x : Named) (text : Name) → text ≡ x.text → equation_place S text ≡ None → IsAmong (unknown_faults S x) (At (record { rule = rule.UnknownName; place = x.place }))
+pub unknown_name : (S : Spec) (x : Named) (text : Name) → text ≡ x.text → equation_place S text ≡ None → IsAmong (unknown_faults S x) (Refused (record { rule = rule.UnknownName; place = x.place }))
 unknown_name S x text same e =
     by_test (is_declared S.equations x.text) (beyond (named_as x.text) S.equations (no_position (named_as x.text) S.equations (sym (ap (equation_place S) same) ∙ e)))
   where
-    by_test : (d : Bool) → d ≡ false → IsAmong (unless (not d) rule.PredicateInData x.place ++ unless d rule.UnknownName x.place) (At (record { rule = rule.UnknownName; place = x.place }))
+    by_test : (d : Bool) → d ≡ false → IsAmong (unless (not d) rule.PredicateInData x.place ++ unless d rule.UnknownName x.place) (Refused (record { rule = rule.UnknownName; place = x.place }))
     by_test true f = absurd (true≢false f)
     by_test false f = (0, omega arith, refl)

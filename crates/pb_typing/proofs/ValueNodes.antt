@@ -21,7 +21,7 @@ use Rattle.pb_text_meaning.specs.Syntax.{Variable, Spec}
 use Rattle.pb_text_meaning.specs.Erase.{erased_term, erased_variables}
 use Rattle.pb_typing_declarations.specs.declared.fault.TypingRule.TheVariants as rule
 use Rattle.pb_typing_declarations.specs.declared.fault.TypingFault.{TypingFault}
-use Rattle.pb_typing_declarations.specs.declared.fault.TypeError.{TypeError}
+use Rattle.pb_errors.specs.declared.or_memory.OrMemory.{OrMemory}
 use Rattle.pb_typing_declarations.specs.Declarations.{variables_faults}
 use Rattle.pb_typing_declarations.specs.Entries.{shapes_of}
 use Rattle.pb_typing_declarations.specs.Faults.{unless, IsAmong}
@@ -60,13 +60,13 @@ abbrev pub IsValue : Spec → Scope → Slotting → ℕ → TermForm → Value 
 IsValue S a c n x v = (term_faults S true a x ≡ []) × (value_shape v ≡ shape S a (erased_term x)) × (value_view v ≡ value_of S c a n (erased_term x))
 
 -- what is found of the faults that are left, where those before are none
-pub value_as : (all rest : List TypingFault) (s t : Shape) (x y : values.Value) (r : Result Value TypeError) → all ≡ rest → t ≡ s → y ≡ x → ElaboratesValue rest s x r → ElaboratesValue all t y r
+pub value_as : (all rest : List TypingFault) (s t : Shape) (x y : values.Value) (r : Result Value (OrMemory TypingFault)) → all ≡ rest → t ≡ s → y ≡ x → ElaboratesValue rest s x r → ElaboratesValue all t y r
 value_as all rest s t x y r e f g h =
     subst (λ (zs : List TypingFault). ElaboratesValue zs t y r) (sym e)
     (subst (λ (u : Shape). ElaboratesValue rest u y r) (sym f)
     (subst (λ (z : values.Value). ElaboratesValue rest s z r) (sym g) h))
 
-pub value_node : (S : Spec) (a : Scope) (c : Slotting) (n : ℕ) (x y : TermForm) (r : Result Value TypeError) → x ≡ y → ChecksValueIn S a c n y r → ChecksValueIn S a c n x r
+pub value_node : (S : Spec) (a : Scope) (c : Slotting) (n : ℕ) (x y : TermForm) (r : Result Value (OrMemory TypingFault)) → x ≡ y → ChecksValueIn S a c n y r → ChecksValueIn S a c n x r
 value_node S a c n x y r is h = subst (λ (z : TermForm). ChecksValueIn S a c n z r) (sym is) h
 
 -- ---- data
@@ -76,7 +76,7 @@ data_value S a c n x y none is =
     ap Data is ∙ sym (ap (λ (b : Bool). chosen b (elaborated S c a n (expanded_term (erased_term x))) (slotted S c (erased_term x))) (no_quantifier S a x none))
 
 -- data below which no quantifier stands has the same faults where one might
-pub data_node : (S : Spec) (a : Scope) (c : Slotting) (n : ℕ) (x : TermForm) (r : Result Value TypeError) → term_faults S true a x ≡ term_faults S false a x
+pub data_node : (S : Spec) (a : Scope) (c : Slotting) (n : ℕ) (x : TermForm) (r : Result Value (OrMemory TypingFault)) → term_faults S true a x ≡ term_faults S false a x
     → ((m : ℕ) → ElaboratesValue (term_faults S false a x) (shape S a (erased_term x)) (value_of S c a m (erased_term x)) r) → ChecksValueIn S a c n x r
 data_node S a c n x r same h = subst (λ (fs : List TypingFault). ElaboratesValue fs (shape S a (erased_term x)) (value_of S c a n (erased_term x)) r) (sym same) (h n)
 
@@ -89,7 +89,7 @@ negated-value S a c n x = by_test (has_quantifier x)
     by_test true = refl
     by_test false = refl
 
-pub not_value : (S : Spec) (a : Scope) (c : Slotting) (n : ℕ) (t x : ast.Term) (p : Place) (operand : Box ast.Term Global) (v : Value) (r : Result Value TypeError) → t ≡ ast.Not p operand → x ≡ box_value operand
+pub not_value : (S : Spec) (a : Scope) (c : Slotting) (n : ℕ) (t x : ast.Term) (p : Place) (operand : Box ast.Term Global) (v : Value) (r : Result Value (OrMemory TypingFault)) → t ≡ ast.Not p operand → x ≡ box_value operand
     → IsValue S a c n (term_form x) v → ElaboratesValue (unless (may_be_truth (value_shape v)) rule.WrongKind p) Truths (values.negated (value_view v)) r → ChecksValueIn S a c n (term_form t) r
 not_value S a c n t x p operand v r is same h made =
     let z = term_form (box_value operand) in
@@ -110,7 +110,7 @@ pub truth_clear : (S : Spec) (a : Scope) (x : TermForm) (p : Place) (s : Shape) 
 truth_clear S a x p s none is clear =
     first_clear _ (term_faults S true a x) _ refl none ∙ (ap (λ (u : Shape). unless (may_be_truth u) rule.WrongKind p) (sym is) ∙ clear)
 
-pub truth_kind : (S : Spec) (a : Scope) (x : TermForm) (p : Place) (s : Shape) (e : TypeError) → s ≡ shape S a (erased_term x) → IsAmong (unless (may_be_truth s) rule.WrongKind p) e → IsAmong (truth_faults S a x p) e
+pub truth_kind : (S : Spec) (a : Scope) (x : TermForm) (p : Place) (s : Shape) (e : OrMemory TypingFault) → s ≡ shape S a (erased_term x) → IsAmong (unless (may_be_truth s) rule.WrongKind p) e → IsAmong (truth_faults S a x p) e
 truth_kind S a x p s e is h =
     among_right (term_faults S true a x) _ e (subst (λ (u : Shape). IsAmong (unless (may_be_truth u) rule.WrongKind p) e) is h)
 
@@ -162,7 +162,7 @@ chain-node t x o first v links is same are =
     ap term_form is ∙ (term-chain o first v
     ∙ (ap (λ (y : ast.Term). chained (TermForm.connected o) (term_form y) (term_links v.items)) (sym same) ∙ ap (λ (ls : List TermLink). chained (TermForm.connected o) (term_form x) (term_links ls)) (sym are)))
 
-pub lone_value : (S : Spec) (a : Scope) (c : Slotting) (n : ℕ) (o : Connective) (first : TermForm) (links : List TermLink) (r : Result Value TypeError) → (length links == 0) ≡ true
+pub lone_value : (S : Spec) (a : Scope) (c : Slotting) (n : ℕ) (o : Connective) (first : TermForm) (links : List TermLink) (r : Result Value (OrMemory TypingFault)) → (length links == 0) ≡ true
     → ChecksValueIn S a c n first r → ChecksValueIn S a c n (chained (TermForm.connected o) first (term_links links)) r
 lone_value S a c n o first links r none h =
     subst (λ (ls : List TermLink). ChecksValueIn S a c n (chained (TermForm.connected o) first (term_links ls)) r) (sym (no_links links none)) h
@@ -289,6 +289,6 @@ pub not_loops : (S : Spec) (t x : ast.Term) (p : Place) (operand : Box ast.Term 
 not_loops S t x p operand is same =
     ap (λ (u : ast.Term). loops S (texts.value_of u)) is ∙ (negated-loops S (erased_term (term_form (box_value operand))) ∙ sym (ap (λ (u : ast.Term). loops S (texts.value_of u)) same))
 
-pub data_grows : (S : Spec) (x : syntax.Term) (old : List Carrier) (r : Result Value TypeError) → IfOk r (λ _. has_quantifier x ≡ false) → OnOk r (shapes_of old ≡ shapes_of old ++ loops S (expanded_term x))
+pub data_grows : (S : Spec) (x : syntax.Term) (old : List Carrier) (r : Result Value (OrMemory TypingFault)) → IfOk r (λ _. has_quantifier x ≡ false) → OnOk r (shapes_of old ≡ shapes_of old ++ loops S (expanded_term x))
 data_grows S x old (Ok v) h = plain_grows S x old h
 data_grows S x old (Err e) h = tt

@@ -5,7 +5,8 @@ use Rattle.pb_text_tree.specs.declared.place.Place.{Place}
 use Rattle.pb_text_tree.specs.Form.{FormulaForm, TermForm}
 use Rattle.pb_text_meaning.specs.Syntax as syntax
 use Rattle.pb_text_meaning.specs.Syntax.{Spec}
-use Rattle.pb_typing_declarations.specs.declared.fault.TypeError.{TypeError}
+use Rattle.pb_errors.specs.declared.or_memory.OrMemory.{OrMemory}
+use Rattle.pb_typing_declarations.specs.declared.fault.TypingFault.{TypingFault}
 use Rattle.pb_typing_declarations.specs.Entries.{shapes_of}
 use Rattle.pb_typing_declarations.specs.View.{spec_of}
 use Rattle.pb_typing_rules.specs.Scope.{Scope}
@@ -28,19 +29,21 @@ scope_in context = scope_view context.scope.now
 abbrev pub slots_in : Context → Slotting
 slots_in context = slotting context.scope.now
 
-abbrev pub ChecksTerm : Context → TermForm → Result Argument TypeError → Type 0
+abbrev pub ChecksTerm : Context → TermForm → Result Argument (OrMemory TypingFault) → Type 0
 ChecksTerm context x result =
     ChecksTermIn (text_in context) (scope_in context) (slots_in context) x result
 
-abbrev pub ChecksValue : Context → ℕ → TermForm → Result Value TypeError → Type 0
+abbrev pub ChecksValue : Context → ℕ → TermForm → Result Value (OrMemory TypingFault) → Type 0
 ChecksValue context n x result =
     ChecksValueIn (text_in context) (scope_in context) (slots_in context) n x result
 
-abbrev pub ChecksTruth : Context → ℕ → TermForm → Place → Result Formula TypeError → Type 0
+abbrev pub ChecksTruth : Context → ℕ → TermForm → Place
+    → Result Formula (OrMemory TypingFault) → Type 0
 ChecksTruth context n x place result =
     ChecksTruthIn (text_in context) (scope_in context) (slots_in context) n x place result
 
-abbrev pub ChecksFormula : Context → Bool → ℕ → FormulaForm → Result Formula TypeError → Type 0
+abbrev pub ChecksFormula : Context → Bool → ℕ → FormulaForm
+    → Result Formula (OrMemory TypingFault) → Type 0
 ChecksFormula context even n f result =
     ChecksFormulaIn (text_in context) (scope_in context) (slots_in context) even n f result
 

@@ -7,7 +7,7 @@ use Rattle.pb_text_meaning.specs.Syntax.{Spec}
 use Rattle.pb_text_meaning.specs.Erase.{erased_arguments, erased_formula, erased_term}
 use Rattle.pb_typing_declarations.specs.declared.fault.TypingRule.TheVariants.{WrongKind}
 use Rattle.pb_typing_declarations.specs.declared.fault.TypingFault.{TypingFault}
-use Rattle.pb_typing_declarations.specs.declared.fault.TypeError.{TypeError}
+use Rattle.pb_errors.specs.declared.or_memory.OrMemory.{OrMemory}
 use Rattle.pb_typing_declarations.specs.Faults.{IsAmong, unless}
 use Rattle.pb_typing_declarations.specs.Shapes.{Shape}
 use Rattle.pb_typing_rules.specs.Faults.{formula_faults, term_faults}
@@ -31,7 +31,8 @@ use Rattle.pb_typing.specs.ValueView.{value_shape, value_view}
 abbrev pub IsTypedAs : Shape → Term → typed.Argument → Type 0
 IsTypedAs s x r = (shape_view r.shape ≡ s) × (term_view r.term ≡ x)
 
-abbrev pub Elaborates : List TypingFault → Shape → Term → Result typed.Argument TypeError → Type 0
+abbrev pub Elaborates : List TypingFault → Shape → Term
+    → Result typed.Argument (OrMemory TypingFault) → Type 0
 Elaborates all s x result = MatchResult result (λ r. (all ≡ []) × IsTypedAs s x r) (IsAmong all)
 
 -- the same where no memory is asked for
@@ -39,29 +40,30 @@ abbrev pub Resolves : List TypingFault → Shape → Term → Result typed.Argum
 Resolves all s x result = MatchResult result (λ r. (all ≡ []) × IsTypedAs s x r) (Contains all)
 
 -- a term where no quantifier may stand
-abbrev pub ChecksTermIn : Spec → Scope → Slotting → TermForm → Result typed.Argument TypeError
-    → Type 0
+abbrev pub ChecksTermIn : Spec → Scope → Slotting → TermForm
+    → Result typed.Argument (OrMemory TypingFault) → Type 0
 ChecksTermIn S a c x result =
     Elaborates (term_faults S false a x) (shape S a (erased_term x)) (slotted S c (erased_term x))
     result
 
 -- ---- data below val
 
-abbrev pub ElaboratesValue : List TypingFault → Shape → Value → Result program.Value TypeError
-    → Type 0
+abbrev pub ElaboratesValue : List TypingFault → Shape → Value
+    → Result program.Value (OrMemory TypingFault) → Type 0
 ElaboratesValue all s v result =
     MatchResult result (λ r. (all ≡ []) × (value_shape r ≡ s) × (value_view r ≡ v)) (IsAmong all)
 
 -- a term where quantifiers may stand, the slots from n on being free
-abbrev pub ChecksValueIn : Spec → Scope → Slotting → ℕ → TermForm → Result program.Value TypeError
-    → Type 0
+abbrev pub ChecksValueIn : Spec → Scope → Slotting → ℕ → TermForm
+    → Result program.Value (OrMemory TypingFault) → Type 0
 ChecksValueIn S a c n x result =
     ElaboratesValue (term_faults S true a x) (shape S a (erased_term x))
     (value_of S c a n (erased_term x)) result
 
 -- ---- formulas
 
-abbrev pub ElaboratesFormula : List TypingFault → Formula → Result code.Formula TypeError → Type 0
+abbrev pub ElaboratesFormula : List TypingFault → Formula
+    → Result code.Formula (OrMemory TypingFault) → Type 0
 ElaboratesFormula all f result =
     MatchResult result (λ r. (all ≡ []) × (formula_view r ≡ f)) (IsAmong all)
 
@@ -71,13 +73,13 @@ truth_faults S a x place =
     term_faults S true a x ++ unless (may_be_truth (shape S a (erased_term x))) WrongKind place
 
 abbrev pub ChecksTruthIn : Spec → Scope → Slotting → ℕ → TermForm → Place
-    → Result code.Formula TypeError → Type 0
+    → Result code.Formula (OrMemory TypingFault) → Type 0
 ChecksTruthIn S a c n x place result =
     ElaboratesFormula (truth_faults S a x place)
     (elaborated S c a n (expanded_term (erased_term x))) result
 
 abbrev pub ChecksFormulaIn : Spec → Scope → Slotting → Bool → ℕ → FormulaForm
-    → Result code.Formula TypeError → Type 0
+    → Result code.Formula (OrMemory TypingFault) → Type 0
 ChecksFormulaIn S a c even n f result =
     ElaboratesFormula (formula_faults S even a f)
     (elaborated S c a n (expanded (erased_formula f))) result

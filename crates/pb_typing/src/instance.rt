@@ -64,7 +64,7 @@ pub(crate) fn check_instance(
                 arguments,
             })
         }
-        None => Err(TypeError::At(fault(TypingRule::UnknownName, place))),
+        None => Err(TypeError::Refused(fault(TypingRule::UnknownName, place))),
     }
 }
 

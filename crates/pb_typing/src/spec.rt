@@ -1,6 +1,7 @@
 //! The check of a whole text.
 
-ghost use Rattle.std.specs.Prelude.{◌≡◌, ◌≢◌, ◌++◌, [], true, MatchResult, OnOk, IfErr};
+ghost use Rattle.std.specs.Prelude.{◌≡◌, ◌++◌, [], true, MatchResult, OnOk, IfErr};
+ghost use Rattle.pb_errors.specs.OrMemory.{IfFault};
 ghost use Rattle.pb_text_tree.specs.Form.{spec_form};
 ghost use Rattle.pb_text_meaning.specs.Erase.{erase};
 ghost use Rattle.pb_typing_declarations.specs.Faults.{IsAmong};
@@ -29,8 +30,8 @@ pub fn check(alloc: Global, spec: Spec) -> Result<Typed, (Spec, TypeError)>
     ensures kept { MatchResult result (λ typed. typed.spec ≡ spec) (λ refused. refused.0 ≡ spec) }
     ensures accepted { OnOk result (IsWellTyped (erase (spec_form spec))) }
     ensures fails { IfErr result (λ refused. IsAmong (faults (spec_form spec)) refused.1) }
-    ensures ill_typed { IfErr result (λ refused. refused.1 ≢ TypeError.Memory
-        → ¬ IsWellTyped (erase (spec_form spec))) }
+    ensures ill_typed { IfErr result (λ refused. IfFault refused.1
+        (λ _. ¬ IsWellTyped (erase (spec_form spec)))) }
 {
     match check_spec(alloc, &spec) {
         Ok(checked) => Ok(Typed {

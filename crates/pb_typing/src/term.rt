@@ -83,7 +83,7 @@ pub(crate) fn check_term(
             arguments,
         } => check_application(context, function, arguments),
         pb_text_tree::Term::Quantified { place, .. } => {
-            Err(TypeError::At(fault(TypingRule::QuantifierInData, *place)))
+            Err(TypeError::Refused(fault(TypingRule::QuantifierInData, *place)))
         }
     }
 }

@@ -6,27 +6,26 @@ use Rattle.std.proofs.lemmas.List.Elements.{Contains-append_left, Contains-appen
 use Rattle.pb_text_tree.specs.declared.place.Place.{Place}
 use Rattle.pb_typing_declarations.specs.declared.fault.TypingRule.{TypingRule}
 use Rattle.pb_typing_declarations.specs.declared.fault.TypingFault.{TypingFault}
-use Rattle.pb_typing_declarations.specs.declared.fault.TypeError.{TypeError}
-use Rattle.pb_typing_declarations.specs.declared.fault.TypeError.TheVariants.{Memory, At}
+use Rattle.pb_errors.specs.declared.or_memory.OrMemory.{OrMemory}
+use Rattle.pb_errors.specs.declared.or_memory.OrMemory.TheVariants.{Refused, Memory}
+use Rattle.pb_errors.proofs.Faults.{if_fault}
 use Rattle.pb_typing_declarations.specs.Faults.{unless, IsAmong}
 
-pub among_left : (xs ys : List TypingFault) (e : TypeError) → IsAmong xs e → IsAmong (xs ++ ys) e
-among_left xs ys Memory h = h
-among_left xs ys (At fault) h = Contains-append_left xs ys fault h
+pub among_left : (xs ys : List TypingFault) (e : OrMemory TypingFault) → IsAmong xs e → IsAmong (xs ++ ys) e
+among_left xs ys e = if_fault e (Contains-append_left xs ys)
 
-pub among_right : (xs ys : List TypingFault) (e : TypeError) → IsAmong ys e → IsAmong (xs ++ ys) e
-among_right xs ys Memory h = h
-among_right xs ys (At fault) h = Contains-append_right xs ys fault h
+pub among_right : (xs ys : List TypingFault) (e : OrMemory TypingFault) → IsAmong ys e → IsAmong (xs ++ ys) e
+among_right xs ys e = if_fault e (Contains-append_right xs ys)
 
 -- what each part is among, the whole is among
-pub among_parts : (xs ys all : List TypingFault) → ((e : TypeError) → IsAmong xs e → IsAmong all e) → ((e : TypeError) → IsAmong ys e → IsAmong all e)
-    → (e : TypeError) → IsAmong (xs ++ ys) e → IsAmong all e
+pub among_parts : (xs ys all : List TypingFault) → ((e : OrMemory TypingFault) → IsAmong xs e → IsAmong all e) → ((e : OrMemory TypingFault) → IsAmong ys e → IsAmong all e)
+    → (e : OrMemory TypingFault) → IsAmong (xs ++ ys) e → IsAmong all e
 among_parts xs ys all f g Memory h = h
-among_parts xs ys all f g (At fault) h = by_part (Contains-append_cases xs ys fault h)
+among_parts xs ys all f g (Refused fault) h = by_part (Contains-append_cases xs ys fault h)
   where
     by_part : Contains xs fault ⊎ Contains ys fault → Contains all fault
-    by_part (inl a) = f (At fault) a
-    by_part (inr b) = g (At fault) b
+    by_part (inl a) = f (Refused fault) a
+    by_part (inr b) = g (Refused fault) b
 
 -- where the whole has no fault, neither part has one
 pub no_parts : (xs ys : List TypingFault) → xs ++ ys ≡ [] → (xs ≡ []) × (ys ≡ [])
@@ -44,7 +43,7 @@ pub unless_holds : (b : Bool) (rule : TypingRule) (place : Place) → b ≡ true
 unless_holds b rule place e = ap (λ c. unless c rule place) e
 
 -- a fault of the first part of what is all is a fault of it all
-pub among_first : (all xs ys : List TypingFault) (e : TypeError) → all ≡ xs ++ ys → IsAmong xs e → IsAmong all e
+pub among_first : (all xs ys : List TypingFault) (e : OrMemory TypingFault) → all ≡ xs ++ ys → IsAmong xs e → IsAmong all e
 among_first all xs ys e is h = subst (λ (zs : List TypingFault). IsAmong zs e) (sym is) (among_left xs ys e h)
 
 -- where the first part has no fault, the second part is all

@@ -1,12 +1,13 @@
 -- The faults that are found as names are gathered, and those that are found by the tables, part by part.
-use Rattle.std.proofs.Common.{◌≡◌, ◌++◌, List, [], map, refl, subst, arith}
+use Rattle.std.proofs.Common.{◌≡◌, ◌++◌, List, [], map, subst, arith}
 use Rattle.std.specs.Prelude.{flat_map, Contains}
 use Rattle.pb_limits.specs.declared.TheConstants.{MAX_EQUATIONS}
 use Rattle.pb_text_tree.specs.Form.{SpecForm}
 use Rattle.pb_text_meaning.specs.Erase.{erase}
 use Rattle.pb_typing_declarations.specs.declared.fault.TypingFault.{TypingFault}
-use Rattle.pb_typing_declarations.specs.declared.fault.TypeError.{TypeError}
-use Rattle.pb_typing_declarations.specs.declared.fault.TypeError.TheVariants.{Memory, At}
+use Rattle.pb_errors.specs.OrMemory.{IfFault}
+use Rattle.pb_errors.specs.declared.or_memory.OrMemory.{OrMemory}
+use Rattle.pb_errors.proofs.Faults.{if_fault}
 use Rattle.pb_typing_declarations.specs.Faults.{repeated, IsAmong}
 use Rattle.pb_typing_declarations.specs.Declarations.{structs_faults, empty_faults, names_of_enumerator, all_enumerator_forms, sort_names, range_name, equation_names, tables_faults, checks_faults, declaration_faults, sort_faults, range_faults, limit_faults, equations_faults_behind}
 use Rattle.pb_typing_declarations.proofs.Parts.{among_left, among_right, among_parts, no_whole, no_parts}
@@ -30,28 +31,28 @@ module _ (t : SpecForm) where
   abbrev pub equations_twice : List TypingFault
   equations_twice = repeated (equation_names t.equations)
 
-  in_structs : (e : TypeError) → IsAmong structs e → IsAmong (tables_faults t) e
+  in_structs : (e : OrMemory TypingFault) → IsAmong structs e → IsAmong (tables_faults t) e
   in_structs e h = among_left structs _ e h
 
-  in_empty : (e : TypeError) → IsAmong empty e → IsAmong (tables_faults t) e
+  in_empty : (e : OrMemory TypingFault) → IsAmong empty e → IsAmong (tables_faults t) e
   in_empty e h = among_right structs _ e (among_left empty _ e h)
 
-  in_data_twice : (e : TypeError) → IsAmong data_twice e → IsAmong (tables_faults t) e
+  in_data_twice : (e : OrMemory TypingFault) → IsAmong data_twice e → IsAmong (tables_faults t) e
   in_data_twice e h = among_right structs _ e (among_right empty _ e (among_left data_twice _ e h))
 
-  in_sorts_twice : (e : TypeError) → IsAmong sorts_twice e → IsAmong (tables_faults t) e
+  in_sorts_twice : (e : OrMemory TypingFault) → IsAmong sorts_twice e → IsAmong (tables_faults t) e
   in_sorts_twice e h = among_right structs _ e (among_right empty _ e (among_right data_twice _ e (among_left sorts_twice _ e h)))
 
-  in_ranges_twice : (e : TypeError) → IsAmong ranges_twice e → IsAmong (tables_faults t) e
+  in_ranges_twice : (e : OrMemory TypingFault) → IsAmong ranges_twice e → IsAmong (tables_faults t) e
   in_ranges_twice e h = among_right structs _ e (among_right empty _ e (among_right data_twice _ e (among_right sorts_twice _ e (among_left ranges_twice _ e h))))
 
-  pub in_definitions : (e : TypeError) → IsAmong (structs ++ (data_twice ++ sorts_twice)) e → IsAmong (tables_faults t) e
+  pub in_definitions : (e : OrMemory TypingFault) → IsAmong (structs ++ (data_twice ++ sorts_twice)) e → IsAmong (tables_faults t) e
   in_definitions = among_parts structs _ _ in_structs (among_parts data_twice sorts_twice _ in_data_twice in_sorts_twice)
 
-  pub in_range_lines : (e : TypeError) → IsAmong (empty ++ ranges_twice) e → IsAmong (tables_faults t) e
+  pub in_range_lines : (e : OrMemory TypingFault) → IsAmong (empty ++ ranges_twice) e → IsAmong (tables_faults t) e
   in_range_lines = among_parts empty ranges_twice _ in_empty in_ranges_twice
 
-  pub in_equations_twice : (e : TypeError) → IsAmong equations_twice e → IsAmong (tables_faults t) e
+  pub in_equations_twice : (e : OrMemory TypingFault) → IsAmong equations_twice e → IsAmong (tables_faults t) e
   in_equations_twice e h = among_right structs _ e (among_right empty _ e (among_right data_twice _ e (among_right sorts_twice _ e (among_right ranges_twice _ e h))))
 
   pub tables_clear : structs ≡ [] → empty ≡ [] → data_twice ≡ [] → sorts_twice ≡ [] → ranges_twice ≡ [] → equations_twice ≡ [] → tables_faults t ≡ []
@@ -71,13 +72,13 @@ module _ (t : SpecForm) where
   abbrev pub equations : List TypingFault
   equations = equations_faults_behind (erase t) 0 t.equations
 
-  pub in_sorts : (e : TypeError) → IsAmong sorts e → IsAmong (checks_faults t) e
+  pub in_sorts : (e : OrMemory TypingFault) → IsAmong sorts e → IsAmong (checks_faults t) e
   in_sorts e h = among_left sorts _ e h
 
-  pub in_ranges : (e : TypeError) → IsAmong ranges e → IsAmong (checks_faults t) e
+  pub in_ranges : (e : OrMemory TypingFault) → IsAmong ranges e → IsAmong (checks_faults t) e
   in_ranges e h = among_right sorts _ e (among_left ranges _ e h)
 
-  pub in_equations : (e : TypeError) → IsAmong equations e → IsAmong (checks_faults t) e
+  pub in_equations : (e : OrMemory TypingFault) → IsAmong equations e → IsAmong (checks_faults t) e
   in_equations e h = among_right sorts _ e (among_right ranges _ e (among_right too_many _ e h))
 
   pub checks_clear : sorts ≡ [] → ranges ≡ [] → too_many ≡ [] → equations ≡ [] → checks_faults t ≡ []
@@ -97,9 +98,6 @@ module _ (t : SpecForm) where
       let behind = (no_parts sorts _ checks).1 in
       (no_parts too_many _ (no_parts ranges _ behind).1).0
 
--- what is among no faults is want of memory
-pub among_none : (all : List TypingFault) (e : TypeError) → all ≡ [] → IsAmong all e → e ≡ Memory
-among_none all Memory none h = refl
-among_none all (At fault) none h =
-    let nothing : Contains [] fault = subst (λ (fs : List TypingFault). Contains fs fault) none h in
-    absurd (omega (arith, nothing.1))
+-- among no faults there is none
+pub none_among : (all : List TypingFault) (e : OrMemory TypingFault) → all ≡ [] → IsAmong all e → IfFault e (λ _. ⊥)
+none_among all e none = if_fault e (λ fault h. let here : Contains [] fault = subst (λ (zs : List TypingFault). Contains zs fault) none h in omega (arith, here.1))

@@ -1,7 +1,8 @@
 -- Faults: rules that fail, each with its place in the text.
 use Rattle.std.specs.Prelude.{Bool, true, false, not, nat_le, List, [], ◌∷◌, ◌++◌, length, Contains}
-use Rattle.std.specs.Prelude.{⊤}
 use Rattle.std.specs.List.{list_any}
+use Rattle.pb_errors.specs.OrMemory.{IfFault}
+use Rattle.pb_errors.specs.declared.or_memory.OrMemory.{OrMemory}
 use Rattle.pb_limits.specs.declared.TheConstants.{MAX_NAME_BYTES}
 use Rattle.pb_text_tree.specs.declared.place.Place.{Place}
 use Rattle.pb_text_tree.specs.Form.{Named}
@@ -9,8 +10,6 @@ use Rattle.pb_text_meaning.specs.Syntax.{Name, same_name}
 use Rattle.pb_typing_declarations.specs.declared.fault.TypingRule.{TypingRule}
 use Rattle.pb_typing_declarations.specs.declared.fault.TypingRule.TheVariants.{NameTwice, Limit}
 use Rattle.pb_typing_declarations.specs.declared.fault.TypingFault.{TypingFault}
-use Rattle.pb_typing_declarations.specs.declared.fault.TypeError.{TypeError}
-use Rattle.pb_typing_declarations.specs.declared.fault.TypeError.TheVariants.{Memory, At}
 
 -- the rule fails at the place unless the test holds
 abbrev pub unless : Bool → TypingRule → Place → List TypingFault
@@ -18,9 +17,8 @@ unless true rule place = []
 unless false rule place = record { rule = rule; place = place } ∷ []
 
 -- an error that isn't want of memory is one of the faults
-abbrev pub IsAmong : List TypingFault → TypeError → Type 0
-IsAmong all Memory = ⊤
-IsAmong all (At fault) = Contains all fault
+abbrev pub IsAmong : List TypingFault → OrMemory TypingFault → Type 0
+IsAmong all error = IfFault error (Contains all)
 
 -- ---- names
 

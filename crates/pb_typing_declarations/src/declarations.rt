@@ -1,6 +1,6 @@
 //! What a text declares: the check of its declarations, and look-ups by name.
 
-ghost use Rattle.std.specs.Prelude.{◌≡◌, [], MatchOption, MatchResult, IfOk, IfErr, map};
+ghost use Rattle.std.specs.Prelude.{◌≡◌, [], MatchOption, MatchResult, IfOk, map};
 ghost use Rattle.std.specs.Option.{option_map};
 ghost use Rattle.pb_sorts.specs.Carrier.{values_of};
 ghost use Rattle.pb_sorts.specs.Layout as layouts;
@@ -20,9 +20,9 @@ use crate::fault::TypeError;
 use crate::sorts::Enumerator;
 use crate::tables::Tables;
 use crate::variables::variable_entries;
-use pb_sorts::{Carrier, Layout, LayoutError};
+use pb_sorts::{Carrier, Layout};
 use pb_text_tree::{Spec, Variables};
-use std::alloc::Global;
+use std::alloc::{AllocError, Global};
 
 /// What a text declares, where each declaration is as it must be. Its look-ups take no memory.
 #[derive(Drop)]
@@ -98,21 +98,22 @@ impl<'a> Declarations<'a> {
     }
 
     /// The layout of the equations' instances, each parameter with its sort's carrier: the
-    /// Booleans, a struct by its number, or a range. The only error is want of memory.
-    pub fn layout(&self, alloc: Global) -> Result<Layout, TypeError>
+    /// Booleans, a struct by its number, or a range.
+    pub fn layout(&self, alloc: Global) -> Result<Layout, AllocError>
         ensures carriers { IfOk result (λ layout. layouts.carriers_of layout
             ≡ map (λ (X : Equation). carriers_of (spec_of self.now) X.parameters)
             (spec_of self.now).equations) }
         ensures shapes { IfOk result (λ layout. map shapes_of layout
             ≡ map (λ (X : Equation). variable_shapes (spec_of self.now) X.parameters)
             (spec_of self.now).equations) }
-        ensures memory { IfErr result (λ error. error ≡ TypeError.Memory) }
     {
-        let carriers = self.tables.carriers(alloc, &self.tables.spec.equations)?;
+        let carriers = match self.tables.carriers(alloc, &self.tables.spec.equations) {
+            Ok(carriers) => carriers,
+            Err(error) => return Err(error.only_memory()),
+        };
         match Layout::new(alloc, &carriers) {
             Ok(layout) => Ok(layout),
-            Err(LayoutError::OutOfMemory) => Err(TypeError::Memory),
-            Err(LayoutError::TooManyInstances) => unreachable!(),
+            Err(error) => Err(error.only_memory()),
         }
     }
 }

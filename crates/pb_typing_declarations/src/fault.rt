@@ -3,8 +3,8 @@
 ghost use Rattle.std.specs.Prelude.{◌≡◌, [], Contains, MatchResult};
 ghost use Rattle.pb_typing_declarations.specs.Faults.{unless};
 
+use pb_errors::{Fault, OrMemory};
 use pb_text_tree::Place;
-use std::alloc::{AllocError, AllocFailed};
 use std::fmt;
 
 /// A rule that a text can break.
@@ -91,44 +91,10 @@ pub struct TypingFault {
     pub place: Place,
 }
 
-/// Why a text isn't accepted.
-#[derive(Clone, Copy, Debug, PartialEq, Eq)]
-pub enum TypeError {
-    /// Memory was refused.
-    Memory,
-    /// A rule fails at a place of the text.
-    At(TypingFault),
-}
+impl Fault for TypingFault {}
 
-impl From<AllocError> for TypeError {
-    ghost use Rattle.pb_typing_declarations.specs.declared.fault.TypeError.TheVariants.{Memory};
-
-    ghost from_gives = { λ _ result. result ≡ Memory };
-
-    fn from(_: AllocError) -> Self {
-        TypeError::Memory
-    }
-}
-
-impl<T: Drop> From<AllocFailed<T>> for TypeError {
-    ghost use Rattle.pb_typing_declarations.specs.declared.fault.TypeError.TheVariants.{Memory};
-
-    ghost from_gives = { λ _ result. result ≡ Memory };
-
-    fn from(_: AllocFailed<T>) -> Self {
-        TypeError::Memory
-    }
-}
-
-impl From<TypingFault> for TypeError {
-    ghost use Rattle.pb_typing_declarations.specs.declared.fault.TypeError.TheVariants.{At};
-
-    ghost from_gives = { λ fault result. result ≡ At fault };
-
-    fn from(fault: TypingFault) -> Self {
-        TypeError::At(fault)
-    }
-}
+/// Why a text isn't accepted: a rule fails at a place of the text, or memory is refused.
+pub type TypeError = OrMemory<TypingFault>;
 
 /// The rule fails at the place unless the test holds.
 pub fn require(test: bool, rule: TypingRule, place: Place) -> Result<(), TypingFault>

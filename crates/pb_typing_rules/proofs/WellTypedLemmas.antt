@@ -1,5 +1,5 @@
 -- Whole texts: no fault exactly where what the text says is well typed.
-use Rattle.std.proofs.Common.{◌≡◌, ◌≢◌, ◌≤◌, Bool, true, false, ◌&&◌, cond, List, [], ◌∷◌, map, length, refl, sym, ◌∙◌, ap, subst, arith, Option, Some, None, true≢false}
+use Rattle.std.proofs.Common.{◌≡◌, ◌≤◌, Bool, true, false, ◌&&◌, cond, List, [], ◌∷◌, map, length, refl, sym, ◌∙◌, ap, subst, arith, Option, Some, None, true≢false}
 use Rattle.std.specs.Prelude.{All}
 use Rattle.std.specs.List.{Contains}
 use Rattle.std.specs.Option.{IfSome}
@@ -13,8 +13,9 @@ use Rattle.pb_text_meaning.specs.Value.{value, values}
 use Rattle.pb_text_meaning.specs.Formula.{carriers_of, equation_named, fits}
 use Rattle.pb_text_meaning.specs.Erase.{erase, erased_equation, erased_term, erased_arguments, erased_variables}
 use Rattle.pb_typing_declarations.specs.declared.fault.TypingFault.{TypingFault}
-use Rattle.pb_typing_declarations.specs.declared.fault.TypeError.{TypeError}
-use Rattle.pb_typing_declarations.specs.declared.fault.TypeError.TheVariants.{Memory, At}
+use Rattle.pb_errors.specs.OrMemory.{IfFault}
+use Rattle.pb_errors.specs.declared.or_memory.OrMemory.{OrMemory}
+use Rattle.pb_errors.specs.declared.or_memory.OrMemory.TheVariants.{Refused, Memory}
 use Rattle.pb_typing_declarations.specs.Faults.{IsAmong}
 use Rattle.pb_typing_declarations.specs.Declarations.{declaration_faults}
 use Rattle.pb_typing_declarations.specs.WellDeclared.{HaveEnds, IsDeclared}
@@ -133,8 +134,8 @@ faultless text h =
     (instance_values_clear spec i.arguments (equation_named spec.equations i.name.text) h.values)))
 
 -- a fault refutes it
-pub ill_typed : (text : SpecForm) (e : TypeError) → IsAmong (faults text) e → e ≢ Memory → IsWellTyped (erase text) → ⊥
-ill_typed text Memory h not_memory typed = not_memory refl
-ill_typed text (At fault) h not_memory typed =
+pub ill_typed : (text : SpecForm) (e : OrMemory TypingFault) → IsAmong (faults text) e → IfFault e (λ _. ¬ IsWellTyped (erase text))
+ill_typed text Memory h = tt
+ill_typed text (Refused fault) h = λ typed.
     let none : Contains [] fault = subst (λ (all : List TypingFault). Contains all fault) (faultless text typed) h in
     omega (arith, none.1)

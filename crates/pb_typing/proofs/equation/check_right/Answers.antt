@@ -5,7 +5,8 @@ use Rattle.pb_text_tree.specs.declared.formula.Formula as ast
 use Rattle.pb_text_tree.specs.declared.spec.Equation as declared
 use Rattle.pb_text_tree.specs.Form.{equation_form, formula_form}
 use Rattle.pb_text_meaning.specs.Syntax.{Spec}
-use Rattle.pb_typing_declarations.specs.declared.fault.TypeError.{TypeError}
+use Rattle.pb_errors.specs.declared.or_memory.OrMemory.{OrMemory}
+use Rattle.pb_typing_declarations.specs.declared.fault.TypingFault.{TypingFault}
 use Rattle.pb_typing_declarations.specs.Entries.{shapes_of}
 use Rattle.pb_typing_declarations.specs.Faults.{IsAmong}
 use Rattle.pb_typing_declarations.specs.View.{spec_of}
@@ -20,11 +21,11 @@ use Rattle.pb_typing.proofs.SlotLemmas.{inner_scope, inner_slotting, length_behi
 use Rattle.pb_typing.proofs.equation.check_right.Goals as goal
 
 -- what is found of a right side in a scope
-abbrev Found : Spec → ast.Formula → Result Equation TypeError → Scope → Slotting → ℕ → Type 0
+abbrev Found : Spec → ast.Formula → Result Equation (OrMemory TypingFault) → Scope → Slotting → ℕ → Type 0
 Found S f r a c n = MatchResult r (λ X. (formula_faults S true a (formula_form f) ≡ []) × IsRightIn S a c n f X) (IsAmong (formula_faults S true a (formula_form f)))
 
 -- under an equation's parameters it is the equation's
-made : (S : Spec) (X : declared.Equation) (r : Result Equation TypeError)
+made : (S : Spec) (X : declared.Equation) (r : Result Equation (OrMemory TypingFault))
     → Found S X.right r (bound S (variables_of X.parameters.items) outermost) (with_slots (variables_of X.parameters.items) 0 unslotted) (length (variables_of X.parameters.items))
     → MatchResult r (λ Y. (own_faults S (equation_form X) ≡ []) × IsRight S (equation_form X) Y) (IsAmong (own_faults S (equation_form X)))
 made S X (Ok Y) h = (h.0, record { right = h.1.right; loops = h.1.loops; calls = h.1.calls })

@@ -17,8 +17,9 @@ use Rattle.pb_typed_tree.specs.View.{argument_view, term_view}
 use Rattle.pb_typed_tree.proofs.Fits.{slotted-fits}
 use Rattle.pb_typed_tree.proofs.Slotted.{slotted-value, neither-left}
 use Rattle.pb_evaluation.specs.Slots.{slots_of}
-use Rattle.pb_typing_declarations.specs.declared.fault.TypeError.{TypeError}
-use Rattle.pb_typing_declarations.specs.declared.fault.TypeError.TheVariants.{At}
+use Rattle.pb_errors.specs.declared.or_memory.OrMemory.{OrMemory}
+use Rattle.pb_typing_declarations.specs.declared.fault.TypingFault.{TypingFault}
+use Rattle.pb_errors.specs.declared.or_memory.OrMemory.TheVariants.{Refused}
 use Rattle.pb_typing_declarations.specs.Faults.{IsAmong}
 use Rattle.pb_typing_declarations.specs.View.{spec_of}
 use Rattle.pb_typing_rules.specs.Faults.{value_faults}
@@ -53,7 +54,7 @@ initial_fits : (S : Spec) (x : Argument) (t : tree.Term) → has_quantifier (for
 initial_fits S x t plain fit is = subst (Fits 0 (slots_of [])) (sym is) (slotted-fits S unslotted 0 (slots_of []) [] (λ y s none. cc) (λ y. refl) (form x) plain fit)
 
 -- the values of all arguments, where that of the first is added to others
-values_then : (S : Spec) (r : Result (Unit {0}) TypeError) (old mid new : List ℤ) (v : ℤ) (all : List Argument) (x : Argument) (xs : List Argument) → all ≡ x ∷ xs → mid ≡ old ++ v ∷ [] → v ≡ value S [] (form x)
+values_then : (S : Spec) (r : Result (Unit {0}) (OrMemory TypingFault)) (old mid new : List ℤ) (v : ℤ) (all : List Argument) (x : Argument) (xs : List Argument) → all ≡ x ∷ xs → mid ≡ old ++ v ∷ [] → v ≡ value S [] (form x)
     → OnOk r (new ≡ mid ++ values S [] (forms xs)) → OnOk r (new ≡ old ++ values S [] (forms all))
 values_then S (Ok u) old mid new v all x xs here pushed is h =
     h
@@ -83,7 +84,7 @@ returns-in_err-require-clause-faults t c = λ xs m.
     let is = first_over S c.args.arguments.now a.argument.now a.arguments.now c.args.typed.now f.first.now f.typed.now a.ensures.cases.0 f.ensures.cases.0 c.requires.typed in
     let plain = plain_first c.args.arguments.now a.argument.now a.arguments.now a.ensures.cases.0 c.requires.plain in
     let same = to_z-of_z fits ∙ (c.value-value.ensures ∙ initial_value S a.argument.now _ plain is) in
-    let e = At c.in_err-require.field-0.0 in
+    let e = Refused c.in_err-require.field-0.0 in
     let h : IsAmong (value_faults S (argument_forms c.args.arguments.now) xs) e =
     value_fault S s.carrier.now s.carriers.now a.argument.now a.arguments.now c.args.arguments.now c.args.carriers.now xs (to_z w64 (of_z w64 v)) c.contains.result e
     s.ensures.cases.0 a.ensures.cases.0 m same c.contains.ensures c.in_err-require.ensures in

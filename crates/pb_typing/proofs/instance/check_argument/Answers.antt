@@ -1,7 +1,7 @@
 use Rattle.std.proofs.Common.{◌∙◌, ap, refl, sym, subst, rules, Bool, false}
 use Rattle.pb_text_tree.specs.Form.{term_form}
 use Rattle.pb_typing_declarations.specs.declared.fault.TypingRule.TheVariants as rule
-use Rattle.pb_typing_declarations.specs.declared.fault.TypeError.TheVariants.{At}
+use Rattle.pb_errors.specs.declared.or_memory.OrMemory.TheVariants.{Refused}
 use Rattle.pb_typing_declarations.specs.Entries.{shape_of}
 use Rattle.pb_typing_declarations.specs.Faults.{unless, IsAmong}
 use Rattle.pb_typing_declarations.specs.Shapes.{Shape}
@@ -26,7 +26,7 @@ returns-in_err-require c =
     let S = text_in c.args.context.now in
     let a = scope_in c.args.context.now in
     let x = c.args.argument.now in
-    let e = At c.in_err-require.field-0.0 in
+    let e = Refused c.in_err-require.field-0.0 in
     let p = shape_of c.args.parameter in
     let same = c.are_alike-accepted.ensures ∙ (ap (may_be_alike (shape_view c.in_ok-typed.typed.shape)) c.carrier_shape.ensures ∙ ap (λ (s : Shape). may_be_alike s p) c.in_ok-typed.ensures.1.0) in
     let h : IsAmong (own_faults S a x p) e =

@@ -5,7 +5,7 @@ use Rattle.pb_text_tree.specs.declared.term.Argument.{Argument}
 use Rattle.pb_text_tree.specs.Form.{instance_form}
 use Rattle.pb_typing_rules.specs.Faults.{instance_faults}
 use Rattle.pb_typing_declarations.specs.declared.fault.TypingFault.{TypingFault}
-use Rattle.pb_typing_declarations.specs.declared.fault.TypeError.TheVariants.{At}
+use Rattle.pb_errors.specs.declared.or_memory.OrMemory.TheVariants.{Refused}
 use Rattle.pb_typing_declarations.specs.declared.fault.TypingRule.TheVariants as rule
 use Rattle.pb_typing_declarations.specs.Agreement.{equation_place}
 use Rattle.pb_typing_declarations.specs.Entries.{shapes_of}
@@ -27,7 +27,7 @@ returns-in_err-require-in-Some c =
     let text = c.deref.result.now in
     let cs = c.carriers-carriers.result.now in
     let n = named_there S c.args.context.now.layout.now text c.in-Some.equation cs c.requires (sym c.equation.ensures ∙ c.in-Some.is) c.carriers-carriers.ensures.list in
-    let e = At c.in_err-require-in-Some.field-0.0 in
+    let e = Refused c.in_err-require-in-Some.field-0.0 in
     let here = subst (λ (b : Bool). IsAmong (unless b rule.OddNegations i.name.place) e) c.is_positive.ensures c.in_err-require-in-Some.ensures in
     let h : IsAmong (instance_faults S even a (instance_form i)) e = odd_instance S even a i text cs e n c.deref.ensures here in
     search rules
@@ -41,7 +41,7 @@ returns-in_err-require-in-Some-2 c =
     let text = c.deref.result.now in
     let cs = c.carriers-carriers.result.now in
     let n = named_there S c.args.context.now.layout.now text c.in-Some.equation cs c.requires (sym c.equation.ensures ∙ c.in-Some.is) c.carriers-carriers.ensures.list in
-    let e = At (c.in_err-require-in-Some-2).field-0.0 in
+    let e = Refused (c.in_err-require-in-Some-2).field-0.0 in
     let long : c.len.result ≡ length i.arguments.items = omega (arith, c.len.ensures, i.arguments.ok.0) in
     let here = subst (λ (m : ℕ). IsAmong (unless (m == length cs) rule.WrongCount i.name.place) e) long (c.in_err-require-in-Some-2).ensures in
     let h : IsAmong (instance_faults S even a (instance_form i)) e = count_instance S even a i text cs e n c.deref.ensures here in
@@ -102,5 +102,5 @@ pub returns-in-None : goal.returns-in-None
 returns-in-None c =
     let S = text_in c.args.context.now in
     let a = scope_in c.args.context.now in
-    subst (λ (e : TypingFault). IsAmong (instance_faults S (is_positive c.args.polarity) a (instance_form c.args.instance.now)) (At e)) (sym c.fault.ensures)
+    subst (λ (e : TypingFault). IsAmong (instance_faults S (is_positive c.args.polarity) a (instance_form c.args.instance.now)) (Refused e)) (sym c.fault.ensures)
     (unknown_instance S (is_positive c.args.polarity) a c.args.instance.now c.deref.result.now c.deref.ensures (sym c.equation.ensures ∙ c.in-None.is))

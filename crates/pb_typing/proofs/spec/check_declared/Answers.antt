@@ -1,7 +1,8 @@
 use Rattle.std.proofs.Common.{◌≡◌, ◌∙◌, ◌++◌, ap, sym, subst, rules}
 use Rattle.pb_text_tree.specs.Form.{SpecForm, spec_form}
 use Rattle.pb_text_meaning.specs.Erase.{erase}
-use Rattle.pb_typing_declarations.specs.declared.fault.TypeError.{TypeError}
+use Rattle.pb_errors.specs.declared.or_memory.OrMemory.{OrMemory}
+use Rattle.pb_typing_declarations.specs.declared.fault.TypingFault.{TypingFault}
 use Rattle.pb_typing_declarations.specs.Faults.{IsAmong}
 use Rattle.pb_typing_rules.specs.Faults.{initial_faults, right_faults}
 use Rattle.pb_typing_declarations.proofs.Parts.{among_left, among_right, no_whole}
@@ -11,14 +12,14 @@ use Rattle.pb_typing.specs.Typed.{IsLayout}
 use Rattle.pb_typing.proofs.spec.check_declared.Goals as goal
 
 -- a text that another one equals has the same faults of right sides and of the initial instance
-abbrev Told : SpecForm → TypeError → Type 0
+abbrev Told : SpecForm → OrMemory TypingFault → Type 0
 Told t = IsAmong (right_faults (erase t) t.equations ++ initial_faults (erase t) t.initial)
 
-rights_of : (u t : SpecForm) (e : TypeError) → u ≡ t → IsAmong (right_faults (erase u) t.equations) e → Told t e
+rights_of : (u t : SpecForm) (e : OrMemory TypingFault) → u ≡ t → IsAmong (right_faults (erase u) t.equations) e → Told t e
 rights_of u t e same h =
     among_left _ (initial_faults (erase t) t.initial) e (subst (λ (v : SpecForm). IsAmong (right_faults (erase v) t.equations) e) same h)
 
-initial_of : (u t : SpecForm) (e : TypeError) → u ≡ t → IsAmong (initial_faults (erase u) t.initial) e → Told t e
+initial_of : (u t : SpecForm) (e : OrMemory TypingFault) → u ≡ t → IsAmong (initial_faults (erase u) t.initial) e → Told t e
 initial_of u t e same h =
     among_right (right_faults (erase t) t.equations) _ e (subst (λ (v : SpecForm). IsAmong (initial_faults (erase v) t.initial) e) same h)
 

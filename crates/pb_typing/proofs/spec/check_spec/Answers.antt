@@ -1,7 +1,7 @@
 use Rattle.std.proofs.Common.{◌≡◌, ◌++◌, List, [], rules, Result, Ok, Err}
 use Rattle.std.specs.Prelude.{MatchResult}
 use Rattle.pb_text_tree.specs.Form.{spec_form}
-use Rattle.pb_typing_declarations.specs.declared.fault.TypeError.{TypeError}
+use Rattle.pb_errors.specs.declared.or_memory.OrMemory.{OrMemory}
 use Rattle.pb_typing_declarations.specs.declared.fault.TypingFault.{TypingFault}
 use Rattle.pb_typing_declarations.specs.Declarations.{declaration_faults}
 use Rattle.pb_typing_declarations.specs.Faults.{IsAmong}
@@ -11,7 +11,7 @@ use Rattle.pb_typing.specs.Checked.{IsChecked}
 use Rattle.pb_typing.proofs.spec.check_spec.Goals as goal
 
 -- behind a first part without faults, what is found of the rest is found of the whole
-found_behind : {T : Type 0} (first rest : List TypingFault) (P : T → Type 0) (r : Result T TypeError) → first ≡ []
+found_behind : {T : Type 0} (first rest : List TypingFault) (P : T → Type 0) (r : Result T (OrMemory TypingFault)) → first ≡ []
     → MatchResult r (λ x. (rest ≡ []) × P x) (IsAmong rest) → MatchResult r (λ x. (first ++ rest ≡ []) × P x) (IsAmong (first ++ rest))
 found_behind first rest P (Ok x) none h = (no_whole first rest none h.0, h.1)
 found_behind first rest P (Err e) none h = among_right first rest e h

@@ -15,7 +15,7 @@ use Rattle.pb_typing_rules.specs.Shapes.{Computed, may_be_truth}
 use Rattle.pb_typing_rules.specs.Term.{shapes}
 use Rattle.pb_typing_declarations.specs.declared.fault.TypingRule.TheVariants as rule
 use Rattle.pb_typing_declarations.specs.declared.fault.TypingFault.{TypingFault}
-use Rattle.pb_typing_declarations.specs.declared.fault.TypeError.TheVariants.{At}
+use Rattle.pb_errors.specs.declared.or_memory.OrMemory.TheVariants.{Refused}
 use Rattle.pb_typing_declarations.specs.Faults.{unless, IsAmong}
 use Rattle.pb_typing_declarations.specs.Shapes as model
 use Rattle.pb_typing_declarations.proofs.Parts.{among_left, among_right, among_first, first_clear, holds_unless}
@@ -45,8 +45,8 @@ check_application-returns-in_err-function t c =
     let S = text_in c.args.context.now in
     let a = scope_in c.args.context.now in
     let xs = c.args.arguments.now in
-    let h : IsAmong (application_faults S a (named c.args.name.now) xs) (At c.in_err-function.field-0.0) =
-    among_right _ _ (At c.in_err-function.field-0.0) (c.in_err-function.ensures (shapes S a (erased_arguments (argument_forms xs)))) in
+    let h : IsAmong (application_faults S a (named c.args.name.now) xs) (Refused c.in_err-function.field-0.0) =
+    among_right _ _ (Refused c.in_err-function.field-0.0) (c.in_err-function.ensures (shapes S a (erased_arguments (argument_forms xs)))) in
     search rules
 
 pub check_application-returns-in_err-require : goal.check_application-returns-in_err-require
@@ -55,7 +55,7 @@ check_application-returns-in_err-require t c =
     let a = scope_in c.args.context.now in
     let f = named c.args.name.now in
     let xs = c.args.arguments.now in
-    let e = At c.in_err-require.field-0.0 in
+    let e = Refused c.in_err-require.field-0.0 in
     let here = subst (λ (n : ℕ). IsAmong (unless (length xs == n) rule.WrongCount f.place) e) c.arity.ensures c.in_err-require.ensures in
     let h : IsAmong (application_faults S a f xs) e = count_fault S a f c.in_ok-function.function xs e c.in_ok-function.ensures here in
     search rules

@@ -10,7 +10,7 @@ use Rattle.pb_typing_rules.specs.Shapes.{may_be_truth}
 use Rattle.pb_typing_rules.specs.Term.{shape}
 use Rattle.pb_typing_declarations.specs.declared.fault.TypingRule.TheVariants as rule
 use Rattle.pb_typing_declarations.specs.declared.fault.TypingFault.{TypingFault}
-use Rattle.pb_typing_declarations.specs.declared.fault.TypeError.TheVariants.{At}
+use Rattle.pb_errors.specs.declared.or_memory.OrMemory.TheVariants.{Refused}
 use Rattle.pb_typing_declarations.specs.Declarations.{variables_faults}
 use Rattle.pb_typing_declarations.specs.Entries.{shapes_of}
 use Rattle.pb_typing_declarations.specs.Faults.{unless, IsAmong}
@@ -48,7 +48,7 @@ check_truth-returns-in_err-require-clause-checked t c =
     let S = text_in c.args.context.now in
     let a = scope_in c.args.context.now in
     let x = term_form c.args.term.now in
-    let e = At c.in_err-require.field-0.0 in
+    let e = Refused c.in_err-require.field-0.0 in
     let v = c.in_ok-value.value in
     let here = subst (λ (b : Bool). IsAmong (unless b rule.WrongKind c.args.place) e) (c.is_truth.ensures ∙ ap may_be_truth c.shape.ensures) c.in_err-require.ensures in
     let h : IsAmong (truth_faults S a x c.args.place) e = truth_kind S a x c.args.place (value_shape v) e c.in_ok-value.ensures.checked.1 here in

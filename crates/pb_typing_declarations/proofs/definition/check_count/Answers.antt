@@ -1,7 +1,7 @@
 use Rattle.std.proofs.Common.{refl, arith, length, false}
 use Rattle.pb_limits.specs.declared.TheConstants.{MAX_ENUMERATORS}
 use Rattle.pb_typing_declarations.specs.declared.fault.TypingRule.TheVariants.{Limit}
-use Rattle.pb_typing_declarations.specs.declared.fault.TypeError.TheVariants.{At}
+use Rattle.pb_errors.specs.declared.or_memory.OrMemory.TheVariants.{Refused}
 use Rattle.pb_typing_declarations.specs.Faults.{unless}
 use Rattle.pb_typing_declarations.proofs.Loops.{among_same}
 use Rattle.pb_typing_declarations.proofs.Structs.{count_at, count_clear, count_faults}
@@ -18,5 +18,5 @@ pub returns-in-Some : goal.returns-in-Some
 returns-in-Some c =
     let es = c.args.enumerators.now in
     let e = c.in-Some.enumerator.now in
-    among_same (count_faults es) (unless false Limit e.name.place) (At (record { rule = Limit; place = e.name.place }))
+    among_same (count_faults es) (unless false Limit e.name.place) (Refused (record { rule = Limit; place = e.name.place }))
     (count_at es MAX_ENUMERATORS e (below_length MAX_ENUMERATORS (length es) c.in-Some.ensures.lookup.0) c.in-Some.ensures.lookup.1) (0, omega arith, refl)

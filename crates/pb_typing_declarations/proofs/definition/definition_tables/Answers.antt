@@ -4,7 +4,8 @@ use Rattle.std.specs.Option.{option_map}
 use Rattle.pb_text_tree.specs.Form.{Named, SortDeclarationForm, sort_declaration_form}
 use Rattle.pb_text_meaning.specs.Syntax.{Name}
 use Rattle.pb_text_meaning.specs.Erase.{erased_declaration}
-use Rattle.pb_typing_declarations.specs.declared.fault.TypeError.{TypeError}
+use Rattle.pb_errors.specs.declared.or_memory.OrMemory.{OrMemory}
+use Rattle.pb_typing_declarations.specs.declared.fault.TypingFault.{TypingFault}
 use Rattle.pb_typing_declarations.specs.Faults.{repeated, IsAmong}
 use Rattle.pb_typing_declarations.specs.Shapes as shapes
 use Rattle.pb_typing_declarations.specs.Shapes.{first}
@@ -20,7 +21,7 @@ module _ (ds : List SortDeclarationForm) where
   abbrev in_data : List Named
   in_data = flat_map names_of_enumerator (all_enumerator_forms ds)
 
-  abbrev Told : TypeError → Type 0
+  abbrev Told : OrMemory TypingFault → Type 0
   Told = IsAmong (structs_faults 0 ds ++ (repeated in_data ++ repeated (sort_names ds)))
 
 pub returns-in_err-definitions : goal.returns-in_err-definitions

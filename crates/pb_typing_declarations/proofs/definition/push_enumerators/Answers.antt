@@ -2,7 +2,7 @@ use Rattle.std.proofs.Common.{Bool, rules, subst, map}
 use Rattle.std.specs.Prelude.{flat_map}
 use Rattle.pb_text_tree.specs.Form.{enumerator_form, recogniser_form, named}
 use Rattle.pb_typing_declarations.specs.declared.fault.TypingRule.TheVariants.{Limit}
-use Rattle.pb_typing_declarations.specs.declared.fault.TypeError.TheVariants.{At}
+use Rattle.pb_errors.specs.declared.or_memory.OrMemory.TheVariants.{Refused}
 use Rattle.pb_typing_declarations.specs.Faults.{unless, length_faults, IsAmong}
 use Rattle.pb_typing_declarations.specs.Declarations.{enumerator_faults, recogniser_faults}
 use Rattle.pb_typing_declarations.proofs.Parts.{among_left, among_right}
@@ -13,7 +13,7 @@ pub returns-in_err-require : goal.returns-in_err-require
 returns-in_err-require c =
     let E = c.args.enumerators.now in
     let x = c.index-enumerators-index.result in
-    let e = At c.in_err-require.field-0.0 in
+    let e = Refused c.in_err-require.field-0.0 in
     let h : IsAmong (flat_map enumerator_faults (map enumerator_form E)) e =
     among_item enumerator_faults enumerator_form E c.loop-index.index x e c.loop-index-test.true c.index-enumerators-index.is c.loop-index.invariant.left
     (among_left (length_faults (named x.name)) (recogniser_faults (recogniser_form x.recogniser)) e

@@ -4,7 +4,7 @@ use Rattle.pb_limits.specs.declared.TheConstants.{MAX_STRUCTS}
 use Rattle.pb_text_tree.specs.Form.{enumerator_form, sort_form}
 use Rattle.pb_text_tree.specs.declared.sort.Enumerator.{Enumerator}
 use Rattle.pb_typing_declarations.specs.declared.fault.TypingRule.TheVariants.{Limit}
-use Rattle.pb_typing_declarations.specs.declared.fault.TypeError.TheVariants.{At}
+use Rattle.pb_errors.specs.declared.or_memory.OrMemory.TheVariants.{Refused}
 use Rattle.pb_typing_declarations.specs.Faults.{unless, IsAmong}
 use Rattle.pb_typing_declarations.specs.Declarations.{struct_faults, enumerator_faults}
 use Rattle.pb_typing_declarations.proofs.Parts.{among_left, among_right}
@@ -18,7 +18,7 @@ returns-in_err-require-in-Struct-2 c =
     let place = c.args.declaration.now.name.place in
     let count = c.len-count.result in
     let E = c.in-Struct.enumerators in
-    let e = At c.in_err-require-in-Struct-2.field-0.0 in
+    let e = Refused c.in_err-require-in-Struct-2.field-0.0 in
     let whole = struct_faults n place (sort_form c.args.declaration.now.sort) in
     let h : IsAmong whole e =
     among_same whole (struct_parts n place count (count_faults E.items) (flat_map enumerator_faults (map enumerator_form E.items))) e
@@ -32,7 +32,7 @@ returns-in_err-check_count-in-Struct c =
     let place = c.args.declaration.now.name.place in
     let count = c.len-count.result in
     let E = c.in-Struct.enumerators in
-    let e = At c.in_err-check_count-in-Struct.field-0.0 in
+    let e = Refused c.in_err-check_count-in-Struct.field-0.0 in
     let whole = struct_faults n place (sort_form c.args.declaration.now.sort) in
     let h : IsAmong whole e =
     among_same whole (struct_parts n place count (count_faults E.items) (flat_map enumerator_faults (map enumerator_form E.items))) e

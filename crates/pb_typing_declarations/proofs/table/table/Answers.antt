@@ -3,7 +3,7 @@ use Rattle.std.specs.Prelude.{Option}
 use Rattle.std.proofs.lemmas.List.{drop_all}
 use Rattle.pb_text_meaning.specs.Syntax.{Name}
 use Rattle.pb_typing_declarations.specs.declared.fault.TypingRule.TheVariants.{NameTwice}
-use Rattle.pb_typing_declarations.specs.declared.fault.TypeError.TheVariants.{At}
+use Rattle.pb_errors.specs.declared.or_memory.OrMemory.TheVariants.{Refused}
 use Rattle.pb_typing_declarations.specs.Faults.{unless, repeated, IsAmong}
 use Rattle.pb_typing_declarations.specs.Shapes.{first}
 use Rattle.pb_typing_declarations.specs.Tables.{entry_names, entry_values, looked_up}
@@ -26,8 +26,8 @@ returns-in_err-require g c =
     let e = c.entry-item.result in
     let whole = repeated (entry_names E) in
     let rest = seen_repeated (seen_too e.name.now (has old)) (entry_names (drop (c.loop-entry.entry-index + 1) E)) in
-    let h : IsAmong whole (At c.in_err-require.field-0.0) =
-    among_first whole _ rest (At c.in_err-require.field-0.0)
+    let h : IsAmong whole (Refused c.in_err-require.field-0.0) =
+    among_first whole _ rest (Refused c.in_err-require.field-0.0)
     (c.loop-entry.invariant.left ∙ (ap (seen_repeated (has old)) (names-drop E c.loop-entry.entry-index e c.loop-entry-test.true c.entry-item.is)
     ∙ ap (λ (b : Bool). unless b NameTwice e.place ++ rest) (sym (is_new c.is_none.result c.in_ok-earlier.earlier (looked_up old e.name.now) c.is_none.ensures c.in_ok-earlier.ensures.old))))
     c.in_err-require.ensures in

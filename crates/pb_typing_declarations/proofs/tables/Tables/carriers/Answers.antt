@@ -11,7 +11,7 @@ use Rattle.pb_text_meaning.specs.Syntax.{Equation}
 use Rattle.pb_text_meaning.specs.Erase.{erase, erased_equation}
 use Rattle.pb_text_meaning.specs.Formula.{carriers_of}
 use Rattle.pb_typing_declarations.specs.declared.fault.TypingRule.TheVariants.{Limit}
-use Rattle.pb_typing_declarations.specs.declared.fault.TypeError.TheVariants.{At}
+use Rattle.pb_errors.specs.declared.or_memory.OrMemory.TheVariants.{Refused}
 use Rattle.pb_typing_declarations.specs.Faults.{unless, IsAmong}
 use Rattle.pb_typing_declarations.specs.Shapes.{Shape, variable_shapes}
 use Rattle.pb_typing_declarations.specs.Entries.{shapes_of}
@@ -44,7 +44,7 @@ returns-in_err-count c =
     let k = c.loop-equation.equation-index in
     let n = c.loop-equation.count in
     let X = c.equation-item.result in
-    let e = At c.in_err-count.field-0.0 in
+    let e = Refused c.in_err-count.field-0.0 in
     let inv = c.loop-equation.invariant in
     let has = c.in_ok-parameters.ensures in
     let size = carriers_of S (erased_equation (equation_form X)).parameters in

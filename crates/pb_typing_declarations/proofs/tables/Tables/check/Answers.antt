@@ -5,7 +5,7 @@ use Rattle.pb_text_tree.specs.declared.sort.Range.{Range}
 use Rattle.pb_text_tree.specs.declared.spec.Equation.{Equation}
 use Rattle.pb_text_tree.specs.Form.{spec_form, sort_declaration_form, range_form, equation_form}
 use Rattle.pb_text_meaning.specs.Erase.{erase}
-use Rattle.pb_typing_declarations.specs.declared.fault.TypeError.TheVariants.{At}
+use Rattle.pb_errors.specs.declared.or_memory.OrMemory.TheVariants.{Refused}
 use Rattle.pb_typing_declarations.specs.Faults.{IsAmong}
 use Rattle.pb_typing_declarations.specs.Declarations.{sort_faults, range_faults, equations_faults_behind, checks_faults}
 use Rattle.pb_typing_declarations.proofs.DeclaredEnds.{sorts_have_ends}
@@ -15,7 +15,7 @@ use Rattle.pb_typing_declarations.proofs.tables.Tables.check.Goals as goal
 pub returns-in_err-check_sorts : goal.returns-in_err-check_sorts
 returns-in_err-check_sorts c =
     let text = spec_form c.args.self.now.spec.now in
-    let e = At c.in_err-check_sorts.field-0.0 in
+    let e = Refused c.in_err-check_sorts.field-0.0 in
     let h : IsAmong (checks_faults text) e =
     in_sorts text e (subst (λ (xs : List SortDeclaration). IsAmong (flat_map (sort_faults (erase text)) (map sort_declaration_form xs)) e) c.deref.ensures.value c.in_err-check_sorts.ensures) in
     search rules
@@ -23,7 +23,7 @@ returns-in_err-check_sorts c =
 pub returns-in_err-check_ranges : goal.returns-in_err-check_ranges
 returns-in_err-check_ranges c =
     let text = spec_form c.args.self.now.spec.now in
-    let e = At c.in_err-check_ranges.field-0.0 in
+    let e = Refused c.in_err-check_ranges.field-0.0 in
     let h : IsAmong (checks_faults text) e =
     in_ranges text e (subst (λ (xs : List Range). IsAmong (flat_map (range_faults (erase text)) (map range_form xs)) e) (c.deref-2).ensures.value c.in_err-check_ranges.ensures) in
     search rules

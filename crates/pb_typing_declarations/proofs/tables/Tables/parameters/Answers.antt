@@ -3,7 +3,7 @@ use Rattle.pb_limits.specs.declared.TheConstants.{MAX_PARAMETERS}
 use Rattle.pb_text_tree.specs.Form.{Named, spec_form, equation_form, variable_forms}
 use Rattle.pb_text_meaning.specs.Erase.{erase}
 use Rattle.pb_typing_declarations.specs.declared.fault.TypingRule.TheVariants.{Limit}
-use Rattle.pb_typing_declarations.specs.declared.fault.TypeError.TheVariants.{At}
+use Rattle.pb_errors.specs.declared.or_memory.OrMemory.TheVariants.{Refused}
 use Rattle.pb_typing_declarations.specs.Faults.{unless, length_faults, IsAmong}
 use Rattle.pb_typing_declarations.specs.Tables.{entry_names}
 use Rattle.pb_typing_declarations.specs.Variables.{variables_of}
@@ -17,7 +17,7 @@ pub returns-in_err-check_limit : goal.returns-in_err-check_limit
 returns-in_err-check_limit c =
     let S = erase (spec_form c.args.self.now.spec.now) in
     let X = equation_form c.args.equation.now in
-    let e = At c.in_err-check_limit.field-0.0 in
+    let e = Refused c.in_err-check_limit.field-0.0 in
     let names : entry_names (c.deref-2).result.now ≡ variable_names X.parameters =
     ap entry_names (c.deref-2).ensures.value ∙ (names-variables_of c.in_ok-variables.variables.items
     ∙ ap variable_names (c.in_ok-variables.ensures ∙ ap variable_forms c.deref.ensures.value)) in

@@ -7,7 +7,7 @@ use Rattle.pb_text_tree.specs.Form.{Named, spec_form}
 use Rattle.pb_text_meaning.specs.Erase.{erase, erased_variables}
 use Rattle.pb_text_meaning.specs.Formula.{carriers_of}
 use Rattle.pb_typing_declarations.specs.declared.entry.Entry.{Entry}
-use Rattle.pb_typing_declarations.specs.declared.fault.TypeError.TheVariants.{At}
+use Rattle.pb_errors.specs.declared.or_memory.OrMemory.TheVariants.{Refused}
 use Rattle.pb_typing_declarations.specs.Faults.{repeated, IsAmong}
 use Rattle.pb_typing_declarations.specs.Entries.{shapes_of}
 use Rattle.pb_typing_declarations.specs.Shapes.{variable_shapes}
@@ -32,7 +32,7 @@ pub returns-in_err-carrier : goal.returns-in_err-carrier
 returns-in_err-carrier c =
     let S = erase (spec_form c.args.self.now.spec.now) in
     let es = c.args.variables.now in
-    let e = At c.in_err-carrier.field-0.0 in
+    let e = Refused c.in_err-carrier.field-0.0 in
     let h : IsAmong (variables_faults S (variables_of es)) e =
     among_right (repeated (variable_names (variables_of es))) _ e
     (among_item (variable_faults S) variable_of es c.loop-variable.variable-index c.variable-item.result e c.loop-variable-test.true c.variable-item.is c.loop-variable.invariant.left c.in_err-carrier.ensures) in
