@@ -7,7 +7,7 @@ use Rattle.pb_text_tree.specs.declared.formula.Link.{Link}
 use Rattle.pb_text_tree.specs.declared.formula.Formula.{Formula}
 use Rattle.pb_text_tree.specs.Form.{FormulaForm, TermForm, InstanceForm, formula_form, link_form, link_forms}
 use Rattle.pb_text_lexer.specs.declared.fault.Refusal.{Refusal}
-use Rattle.pb_text_lexer.specs.declared.fault.ReadingFault.{ReadingFault}
+use Rattle.pb_errors.specs.declared.or_memory.OrMemory.{OrMemory}
 use Rattle.pb_text_lexer.specs.declared.fault.ReadingRule.TheVariants.{Unexpected, Limit}
 use Rattle.pb_text_lexer.specs.declared.kind.Kind.{Kind}
 use Rattle.pb_text_lexer.specs.declared.kind.Kind.TheVariants as k
@@ -66,14 +66,14 @@ pub primary-fails : (depth : ℕ) (s : State) (bad : Refusal) → primary depth 
 primary-fails depth s bad fails = conjunction-fails depth s bad (level-fails And depth s bad fails)
 
 -- an operand behind which the connective doesn't stand
-pub level-alone-or-fails : (c : Connective) (depth : ℕ) (s z : State) (r : Result Formula ReadingFault) → Gives formula_form (operand c depth s) r z → same_kind (kind z) (symbol c) ≡ false
+pub level-alone-or-fails : (c : Connective) (depth : ℕ) (s z : State) (r : Result Formula (OrMemory Refusal)) → Gives formula_form (operand c depth s) r z → same_kind (kind z) (symbol c) ≡ false
     → Gives formula_form (level c depth s) r z
 level-alone-or-fails c depth s z r reads other =
     subst (λ (o : Outcome FormulaForm). Gives formula_form o r z) (sym (level-chain c depth s))
     (resumed-alone-or-fails (symbol c) (FormulaForm.connected c) (operand c depth) formula_form (length s.tokens) s z r reads other)
 
 -- a first part behind which no connective stands
-pub primary-alone-or-fails : (depth : ℕ) (s z : State) (r : Result Formula ReadingFault) → Gives formula_form (primary depth s) r z → is_connective (kind z) ≡ false
+pub primary-alone-or-fails : (depth : ℕ) (s z : State) (r : Result Formula (OrMemory Refusal)) → Gives formula_form (primary depth s) r z → is_connective (kind z) ≡ false
     → Gives formula_form (formula depth s) r z
 primary-alone-or-fails depth s z r reads other =
     level-alone-or-fails Implies depth s z r

@@ -3,4 +3,5 @@ pub mod FormulaLemmas
 pub mod CorrectFormula
 pub mod CorrectSorts
 pub mod CorrectText
+pub mod Raised
 pub mod ParseLemmas

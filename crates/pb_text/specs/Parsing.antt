@@ -4,8 +4,7 @@ use Rattle.pb_text_tree.specs.declared.place.Place.{Place}
 use Rattle.pb_text_tree.specs.Form.{RangeForm, SpecForm}
 use Rattle.pb_text_lexer.specs.declared.fault.ReadingRule.TheVariants as refused
 use Rattle.pb_text_lexer.specs.declared.fault.ReadingRule as token_rule
-use Rattle.pb_text_lexer.specs.declared.fault.ReadingFault.{ReadingFault}
-use Rattle.pb_text_lexer.specs.declared.fault.ReadingFault.TheVariants as fault
+use Rattle.pb_text_lexer.specs.declared.fault.Refusal.{Refusal}
 use Rattle.pb_text_lexer.specs.declared.kind.Kind.{Kind}
 use Rattle.pb_text_lexer.specs.declared.kind.Kind.TheVariants as k
 use Rattle.pb_text_lexer.specs.Grammar.{Within, going_on}
@@ -14,8 +13,7 @@ use Rattle.pb_text_lexer.specs.Lexing.{IsCut, IsDefect, Begins}
 use Rattle.pb_text_lexer.specs.Tokens.{Tok}
 use Rattle.pb_text.specs.declared.error.TextRule.{TextRule}
 use Rattle.pb_text.specs.declared.error.TextRule.TheVariants as rule
-use Rattle.pb_text.specs.declared.error.TextError.{TextError}
-use Rattle.pb_text.specs.declared.error.TextError.TheVariants as error
+use Rattle.pb_text.specs.declared.error.TextFault.{TextFault}
 use Rattle.pb_limits.specs.declared.TheConstants.{MAX_DEPTH, MAX_OPERATORS}
 use Rattle.pb_text.specs.Grammar.{IsText}
 
@@ -108,14 +106,12 @@ rule_of broken k.RangeLine = rule.RangeLine
 rule_of refused.Unexpected kind = rule.UnexpectedToken
 rule_of refused.Limit kind = rule.LimitExceeded
 
-abbrev pub error_of : ReadingFault → TextError
-error_of fault.Memory = error.Memory
-error_of (fault.At refusal) = error.Refused (rule_of refusal.rule refusal.kind) refusal.place
+abbrev pub fault_of : Refusal → TextFault
+fault_of refusal = record { rule = rule_of refusal.rule refusal.kind; place = refusal.place }
 
-abbrev pub IsFirstFault : List ℕ → TextError → Type 0
-IsFirstFault bytes error.Memory = Unit {0}
-IsFirstFault bytes (error.Refused rule place) = IsFirstFaultBy rule bytes place
+abbrev pub IsFirstFault : List ℕ → TextFault → Type 0
+IsFirstFault bytes fault = IsFirstFaultBy fault.rule bytes fault.place
 
-abbrev pub NoReading : List ℕ → TextError → Type 0
-NoReading bytes error.Memory = Unit {0}
-NoReading bytes (error.Refused rule place) = (x : SpecForm) → IsReading bytes x → ⊥
+-- the bytes say nothing within the limits
+abbrev pub NoReading : List ℕ → Type 0
+NoReading bytes = (x : SpecForm) → IsReading bytes x → ⊥

@@ -3,10 +3,10 @@
 ghost use Rattle.std.specs.Prelude.{◌≡◌};
 ghost use Rattle.pb_text.specs.Parsing as spec;
 
-use pb_text_lexer::fault::{ReadingFault, ReadingRule};
+use pb_errors::{Fault, OrMemory};
+use pb_text_lexer::fault::{ReadingRule, Refusal};
 use pb_text_lexer::kind::Kind;
 use pb_text_tree::Place;
-use std::alloc::AllocError;
 
 /// Which rule a text breaks, with the number that a user sees.
 #[derive(Clone, Copy, Debug, PartialEq, Eq)]
@@ -24,12 +24,17 @@ pub enum TextRule {
     RangeLine,
 }
 
-/// Why no text was read: it breaks a rule at a place, or memory ran out.
-#[derive(Clone, Copy, Debug)]
-pub enum TextError {
-    Memory,
-    Refused { rule: TextRule, place: Place },
+/// A rule that a text breaks, and the place.
+#[derive(Clone, Copy, Debug, PartialEq, Eq)]
+pub struct TextFault {
+    pub rule: TextRule,
+    pub place: Place,
 }
+
+impl Fault for TextFault {}
+
+/// Why no text was read: it breaks a rule at a place, or memory ran out.
+pub type TextError = OrMemory<TextFault>;
 
 /// The rule that a refused token breaks: its own, where it is no token.
 fn rule_of(broken: ReadingRule, kind: Kind) -> TextRule
@@ -44,30 +49,16 @@ fn rule_of(broken: ReadingRule, kind: Kind) -> TextRule
     }
 }
 
-impl From<ReadingFault> for TextError {
+impl From<Refusal> for TextFault {
     ghost use Rattle.std.specs.Prelude.{◌≡◌};
-    ghost use Rattle.pb_text.specs.Parsing.{error_of};
+    ghost use Rattle.pb_text.specs.Parsing.{fault_of};
 
-    ghost from_gives = { λ fault error. error ≡ error_of fault };
+    ghost from_gives = { λ refusal fault. fault ≡ fault_of refusal };
 
-    fn from(fault: ReadingFault) -> TextError {
-        match fault {
-            ReadingFault::Memory => TextError::Memory,
-            ReadingFault::At(refusal) => TextError::Refused {
-                rule: rule_of(refusal.rule, refusal.kind),
-                place: refusal.place,
-            },
+    fn from(refusal: Refusal) -> TextFault {
+        TextFault {
+            rule: rule_of(refusal.rule, refusal.kind),
+            place: refusal.place,
         }
-    }
-}
-
-impl From<AllocError> for TextError {
-    ghost use Rattle.std.specs.Prelude.{◌≡◌};
-    ghost use Rattle.pb_text.specs.declared.error.TextError.TheVariants.{Memory};
-
-    ghost from_gives = { λ _ e. e ≡ Memory };
-
-    fn from(_error: AllocError) -> TextError {
-        TextError::Memory
     }
 }

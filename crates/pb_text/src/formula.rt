@@ -12,7 +12,7 @@ ghost use Rattle.pb_text_terms.specs.Reading as expressions;
 ghost use Rattle.pb_text.specs.Reading as reading;
 
 use crate::next::{open, unless};
-use pb_text_lexer::fault::{ReadingFault, ReadingRule};
+use pb_text_lexer::fault::{ReadingError, ReadingRule};
 use pb_text_lexer::input::Input;
 use pb_text_lexer::kind::{Kind, same_kind};
 use pb_text_terms::operator::{is_connective, quantifier, symbol};
@@ -45,7 +45,7 @@ fn joined(
 
 /// The data term behind `val`, in which so many levels may open.
 #[tactic(auto, unfolding(crate::specs::Reading::data_term))]
-fn data_term(input: &mut Input<'_>, alloc: Global, depth: u32) -> Result<Term, ReadingFault>
+fn data_term(input: &mut Input<'_>, alloc: Global, depth: u32) -> Result<Term, ReadingError>
     ensures reads { Gives term_form (reading.data_term depth input.old) result input.new }
     ensures fewer { OnOk result (length input.new.tokens < length input.old.tokens) }
 {
@@ -56,7 +56,7 @@ fn data_term(input: &mut Input<'_>, alloc: Global, depth: u32) -> Result<Term, R
 #[cycle(formulas)]
 #[inline(never)]
 #[tactic(auto, unfolding(crate::specs::Reading::node))]
-fn negation(input: &mut Input<'_>, alloc: Global, depth: u32) -> Result<Formula, ReadingFault>
+fn negation(input: &mut Input<'_>, alloc: Global, depth: u32) -> Result<Formula, ReadingError>
     requires { spec.kind input.old ≡ Kind.Not }
     ensures reads { Gives formula_form (reading.node depth input.old) result input.new }
     ensures fewer { OnOk result (length input.new.tokens < length input.old.tokens) }
@@ -71,7 +71,7 @@ fn negation(input: &mut Input<'_>, alloc: Global, depth: u32) -> Result<Formula,
 #[cycle(formulas)]
 #[inline(never)]
 #[tactic(auto, unfolding(crate::specs::Reading::node))]
-fn bracketed(input: &mut Input<'_>, alloc: Global, depth: u32) -> Result<Formula, ReadingFault>
+fn bracketed(input: &mut Input<'_>, alloc: Global, depth: u32) -> Result<Formula, ReadingError>
     requires { spec.kind input.old ≡ Kind.Open }
     ensures reads { Gives formula_form (reading.node depth input.old) result input.new }
     ensures fewer { OnOk result (length input.new.tokens < length input.old.tokens) }
@@ -86,7 +86,7 @@ fn bracketed(input: &mut Input<'_>, alloc: Global, depth: u32) -> Result<Formula
 /// `val` and its data term.
 #[inline(never)]
 #[tactic(auto, unfolding(crate::specs::Reading::node))]
-fn value(input: &mut Input<'_>, alloc: Global, depth: u32) -> Result<Formula, ReadingFault>
+fn value(input: &mut Input<'_>, alloc: Global, depth: u32) -> Result<Formula, ReadingError>
     requires { spec.kind input.old ≡ Kind.Val }
     ensures reads { Gives formula_form (reading.node depth input.old) result input.new }
     ensures fewer { OnOk result (length input.new.tokens < length input.old.tokens) }
@@ -103,7 +103,7 @@ fn value(input: &mut Input<'_>, alloc: Global, depth: u32) -> Result<Formula, Re
 /// levels may open.
 #[cycle(formulas)]
 #[tactic(auto, unfolding(crate::specs::Reading::node))]
-fn node(input: &mut Input<'_>, alloc: Global, depth: u32) -> Result<Formula, ReadingFault>
+fn node(input: &mut Input<'_>, alloc: Global, depth: u32) -> Result<Formula, ReadingError>
     ensures reads { Gives formula_form (reading.node depth input.old) result input.new }
     ensures fewer { OnOk result (length input.new.tokens < length input.old.tokens) }
 {
@@ -125,7 +125,7 @@ fn node(input: &mut Input<'_>, alloc: Global, depth: u32) -> Result<Formula, Rea
         }
         Kind::Val => value(input, alloc, depth),
         Kind::Name => Ok(Formula::Instance(instance(input, alloc, depth)?)),
-        _ => Err(ReadingFault::At(input.refuse(ReadingRule::Unexpected))),
+        _ => Err(ReadingError::Refused(input.refuse(ReadingRule::Unexpected))),
     }
 }
 
@@ -138,7 +138,7 @@ fn quantified(
     alloc: Global,
     quantifier: Quantifier,
     depth: u32,
-) -> Result<Formula, ReadingFault>
+) -> Result<Formula, ReadingError>
     requires { expressions.quantifier_of (spec.kind input.old) ≡ Some quantifier }
     ensures reads { Gives formula_form (reading.quantification depth input.old) result input.new }
     ensures fewer { OnOk result (length input.new.tokens < length input.old.tokens) }
@@ -163,7 +163,7 @@ fn operand(
     alloc: Global,
     connective: Connective,
     depth: u32,
-) -> Result<Formula, ReadingFault>
+) -> Result<Formula, ReadingError>
     ensures reads { Gives formula_form
         (reading.operand connective depth input.old) result input.new }
     ensures fewer { OnOk result (length input.new.tokens < length input.old.tokens) }
@@ -187,7 +187,7 @@ fn chain(
     connective: Connective,
     depth: u32,
     first: Formula,
-) -> Result<Formula, ReadingFault>
+) -> Result<Formula, ReadingError>
     ensures reads { (s : State) → reading.operand connective depth s
         ≡ Ok (formula_form first, input.old) → length input.old.tokens < length s.tokens
         → Gives formula_form (reading.level connective depth s) result input.new }
@@ -211,7 +211,7 @@ fn chain_behind(
     connective: Connective,
     depth: u32,
     first: Formula,
-) -> Result<Formula, ReadingFault>
+) -> Result<Formula, ReadingError>
     ensures reads { (s : State) → reading.operand connective depth s
         ≡ Ok (formula_form first, input.old) → length input.old.tokens < length s.tokens
         → Gives formula_form (reading.level connective depth s) result input.new }
@@ -230,7 +230,7 @@ fn level(
     alloc: Global,
     connective: Connective,
     depth: u32,
-) -> Result<Formula, ReadingFault>
+) -> Result<Formula, ReadingError>
     ensures reads { Gives formula_form (reading.level connective depth input.old) result input.new }
     ensures fewer { OnOk result (length input.new.tokens < length input.old.tokens) }
 {
@@ -249,7 +249,7 @@ fn connectives_behind(
     alloc: Global,
     depth: u32,
     first: Formula,
-) -> Result<Formula, ReadingFault>
+) -> Result<Formula, ReadingError>
     ensures reads { (s : State) → reading.primary depth s ≡ Ok (formula_form first, input.old)
         → length input.old.tokens < length s.tokens
         → Gives formula_form (reading.formula depth s) result input.new }
@@ -263,7 +263,7 @@ fn connectives_behind(
 /// A formula, in which so many levels may open. Most often no connective follows its first part at
 /// all.
 #[cycle(formulas)]
-pub fn formula(input: &mut Input<'_>, alloc: Global, depth: u32) -> Result<Formula, ReadingFault>
+pub fn formula(input: &mut Input<'_>, alloc: Global, depth: u32) -> Result<Formula, ReadingError>
     ensures reads { Gives formula_form (reading.formula depth input.old) result input.new }
     ensures fewer { OnOk result (length input.new.tokens < length input.old.tokens) }
 {

@@ -13,5 +13,5 @@ pub mod sort;
 pub mod system;
 pub mod text;
 
-pub use error::{TextError, TextRule};
+pub use error::{TextError, TextFault, TextRule};
 pub use text::parse;

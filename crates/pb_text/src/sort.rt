@@ -6,7 +6,7 @@ ghost use Rattle.pb_text_lexer.specs.Steps.{Gives};
 ghost use Rattle.pb_text.specs.Reading as reading;
 
 use crate::next::unless;
-use pb_text_lexer::fault::{ReadingFault, ReadingRule};
+use pb_text_lexer::fault::{ReadingError, ReadingRule};
 use pb_text_lexer::input::Input;
 use pb_text_lexer::kind::{Kind, same_kind};
 use pb_text_terms::variable::name;
@@ -15,7 +15,7 @@ use std::alloc::Global;
 
 /// A name, and perhaps a recogniser behind it.
 #[tactic(auto, unfolding(crate::specs::Reading::enumerator))]
-fn enumerator(input: &mut Input<'_>, alloc: Global) -> Result<Enumerator, ReadingFault>
+fn enumerator(input: &mut Input<'_>, alloc: Global) -> Result<Enumerator, ReadingError>
     ensures reads { Gives enumerator_form (reading.enumerator input.old) result input.new }
     ensures fewer { OnOk result (length input.new.tokens < length input.old.tokens) }
 {
@@ -36,7 +36,7 @@ fn enumerator(input: &mut Input<'_>, alloc: Global) -> Result<Enumerator, Readin
 }
 
 /// Enumerators with `|` between them.
-fn enumerators(input: &mut Input<'_>, alloc: Global) -> Result<Vec<Enumerator>, ReadingFault>
+fn enumerators(input: &mut Input<'_>, alloc: Global) -> Result<Vec<Enumerator>, ReadingError>
     ensures reads { Gives (λ v. map enumerator_form v.items)
         (reading.enumerators input.old) result input.new }
     ensures fewer { OnOk result (length input.new.tokens < length input.old.tokens) }
@@ -54,7 +54,7 @@ fn enumerators(input: &mut Input<'_>, alloc: Global) -> Result<Vec<Enumerator>, 
 
 /// What a sort is declared to be, a struct or another name, and `;`.
 #[tactic(auto, unfolding(crate::specs::Reading::sort))]
-fn sort(input: &mut Input<'_>, alloc: Global) -> Result<Sort, ReadingFault>
+fn sort(input: &mut Input<'_>, alloc: Global) -> Result<Sort, ReadingError>
     ensures reads { Gives sort_form (reading.sort input.old) result input.new }
     ensures fewer { OnOk result (length input.new.tokens < length input.old.tokens) }
 {
@@ -70,13 +70,13 @@ fn sort(input: &mut Input<'_>, alloc: Global) -> Result<Sort, ReadingFault>
             input.expect(Kind::Semicolon)?;
             Ok(Sort::Alias(target))
         }
-        _ => Err(ReadingFault::At(input.refuse(ReadingRule::Unexpected))),
+        _ => Err(ReadingError::Refused(input.refuse(ReadingRule::Unexpected))),
     }
 }
 
 /// A name, `=`, and what the sort is declared to be.
 #[tactic(auto, unfolding(crate::specs::Reading::declaration))]
-fn declaration(input: &mut Input<'_>, alloc: Global) -> Result<SortDeclaration, ReadingFault>
+fn declaration(input: &mut Input<'_>, alloc: Global) -> Result<SortDeclaration, ReadingError>
     ensures reads { Gives sort_declaration_form (reading.declaration input.old) result input.new }
     ensures fewer { OnOk result (length input.new.tokens < length input.old.tokens) }
 {
@@ -87,7 +87,7 @@ fn declaration(input: &mut Input<'_>, alloc: Global) -> Result<SortDeclaration, 
 }
 
 /// One declaration or more.
-fn declarations(input: &mut Input<'_>, alloc: Global) -> Result<Vec<SortDeclaration>, ReadingFault>
+fn declarations(input: &mut Input<'_>, alloc: Global) -> Result<Vec<SortDeclaration>, ReadingError>
     ensures reads { Gives (λ v. map sort_declaration_form v.items)
         (reading.declarations input.old) result input.new }
     ensures fewer { OnOk result (length input.new.tokens < length input.old.tokens) }
@@ -104,7 +104,7 @@ fn declarations(input: &mut Input<'_>, alloc: Global) -> Result<Vec<SortDeclarat
 
 /// `sort` and its declarations.
 #[tactic(auto, unfolding(crate::specs::Reading::sort_part))]
-fn sort_part(input: &mut Input<'_>, alloc: Global) -> Result<Vec<SortDeclaration>, ReadingFault>
+fn sort_part(input: &mut Input<'_>, alloc: Global) -> Result<Vec<SortDeclaration>, ReadingError>
     ensures reads { Gives (λ v. map sort_declaration_form v.items)
         (reading.sort_part input.old) result input.new }
     ensures fewer { OnOk result (length input.new.tokens < length input.old.tokens) }
@@ -117,7 +117,7 @@ fn sort_part(input: &mut Input<'_>, alloc: Global) -> Result<Vec<SortDeclaration
 pub fn sort_parts(
     input: &mut Input<'_>,
     alloc: Global,
-) -> Result<Vec<SortDeclaration>, ReadingFault>
+) -> Result<Vec<SortDeclaration>, ReadingError>
     ensures { Gives (λ v. map sort_declaration_form v.items)
         (reading.sort_parts input.old) result input.new }
 {

@@ -12,7 +12,7 @@ use crate::next::unless;
 use crate::sort::sort_parts;
 use pb_fixpoint::Sign;
 use pb_limits::MAX_DEPTH;
-use pb_text_lexer::fault::{ReadingFault, ReadingRule, Refusal};
+use pb_text_lexer::fault::{ReadingError, ReadingRule, Refusal};
 use pb_text_lexer::input::Input;
 use pb_text_lexer::kind::{Kind, same_kind};
 use pb_text_terms::term::instance;
@@ -48,7 +48,7 @@ pub fn sign(input: &mut Input<'_>) -> Result<Sign, Refusal>
 
 /// The parameters of an equation, in brackets, if it has any.
 #[tactic(auto, unfolding(crate::specs::Reading::parameters))]
-pub fn parameters(input: &mut Input<'_>, alloc: Global) -> Result<Vec<Variables>, ReadingFault>
+pub fn parameters(input: &mut Input<'_>, alloc: Global) -> Result<Vec<Variables>, ReadingError>
     ensures reads { Gives (λ v. variable_forms v.items)
         (reading.parameters depth_limit input.old) result input.new }
     ensures fewer { OnOk result (length input.new.tokens ≤ length input.old.tokens) }
@@ -65,7 +65,7 @@ pub fn parameters(input: &mut Input<'_>, alloc: Global) -> Result<Vec<Variables>
 
 /// The right side of an equation, with all the levels and operators that one may have (P04).
 #[tactic(auto, unfolding(crate::specs::Reading::right_side))]
-fn right_side(input: &mut Input<'_>, alloc: Global) -> Result<Formula, ReadingFault>
+fn right_side(input: &mut Input<'_>, alloc: Global) -> Result<Formula, ReadingError>
     ensures reads { Gives formula_form (reading.right_side depth_limit input.old) result input.new }
     ensures fewer { OnOk result (length input.new.tokens < length input.old.tokens) }
 {
@@ -77,7 +77,7 @@ fn right_side(input: &mut Input<'_>, alloc: Global) -> Result<Formula, ReadingFa
 
 /// A sign, a name with its parameters, `=`, a formula and `;`.
 #[tactic(auto, unfolding(crate::specs::Reading::equation))]
-fn equation(input: &mut Input<'_>, alloc: Global) -> Result<Equation, ReadingFault>
+fn equation(input: &mut Input<'_>, alloc: Global) -> Result<Equation, ReadingError>
     ensures reads { Gives equation_form (reading.equation depth_limit input.old) result input.new }
     ensures fewer { OnOk result (length input.new.tokens < length input.old.tokens) }
 {
@@ -96,7 +96,7 @@ fn equation(input: &mut Input<'_>, alloc: Global) -> Result<Equation, ReadingFau
 }
 
 /// One equation or more.
-fn equations(input: &mut Input<'_>, alloc: Global) -> Result<Vec<Equation>, ReadingFault>
+fn equations(input: &mut Input<'_>, alloc: Global) -> Result<Vec<Equation>, ReadingError>
     ensures { Gives (λ v. map equation_form v.items)
         (reading.equations depth_limit input.old) result input.new }
 {
@@ -112,7 +112,7 @@ fn equations(input: &mut Input<'_>, alloc: Global) -> Result<Vec<Equation>, Read
 
 /// The instance that is asked for, with all the operators that its arguments may have.
 #[tactic(auto, unfolding(crate::specs::Reading::initial_instance))]
-fn initial_instance(input: &mut Input<'_>, alloc: Global) -> Result<Instance, ReadingFault>
+fn initial_instance(input: &mut Input<'_>, alloc: Global) -> Result<Instance, ReadingError>
     ensures { Gives instance_form
         (reading.initial_instance depth_limit input.old) result input.new }
 {
@@ -124,7 +124,7 @@ fn initial_instance(input: &mut Input<'_>, alloc: Global) -> Result<Instance, Re
 
 /// Sorts, `pbes`, equations, `init`, an instance and `;`, without ranges.
 #[tactic(auto, unfolding(crate::specs::Reading::text))]
-fn text(input: &mut Input<'_>, alloc: Global) -> Result<Spec, ReadingFault>
+fn text(input: &mut Input<'_>, alloc: Global) -> Result<Spec, ReadingError>
     ensures { Gives spec_form (reading.text [] depth_limit input.old) result input.new }
 {
     let sorts = sort_parts(input, alloc)?;
@@ -143,13 +143,13 @@ fn text(input: &mut Input<'_>, alloc: Global) -> Result<Spec, ReadingFault>
 
 /// The text that all tokens are, without ranges.
 #[tactic(auto, unfolding(crate::specs::Reading::whole_text))]
-pub fn whole(input: &mut Input<'_>, alloc: Global) -> Result<Spec, ReadingFault>
+pub fn whole(input: &mut Input<'_>, alloc: Global) -> Result<Spec, ReadingError>
     ensures { Gives spec_form (reading.whole_text [] depth_limit input.old) result input.new }
 {
     let text = text(input, alloc)?;
     if same_kind(input.kind(), Kind::End) {
         Ok(text)
     } else {
-        Err(ReadingFault::At(input.refuse(ReadingRule::Unexpected)))
+        Err(ReadingError::Refused(input.refuse(ReadingRule::Unexpected)))
     }
 }

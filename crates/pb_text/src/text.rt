@@ -1,12 +1,14 @@
 //! From bytes to a syntax tree.
 
 ghost use Rattle.pb_limits.specs.declared.TheConstants.{MAX_INPUT_BYTES};
-ghost use Rattle.std.specs.Prelude.{◌≡◌, ◌≤◌, ℕ, length, IfOk, IfErr};
+ghost use Rattle.std.specs.Prelude.{◌≡◌, ◌≤◌, ℕ, length, IfOk};
+ghost use Rattle.pb_errors.specs.OrMemory.{IfRefused, OnRefused};
 ghost use Rattle.pb_text_tree.specs.Form.{SpecForm, spec_form};
 ghost use Rattle.pb_text.specs.Parsing.{IsReading, IsReadingWithin, NoReading, IsFirstFault};
 
 use crate::error::TextError;
 use crate::system::whole;
+use pb_errors::OrMemory;
 use pb_limits::MAX_OPERATORS;
 use pb_text_lexer::input::Input;
 use pb_text_lexer::language::Language;
@@ -31,15 +33,15 @@ pub fn parse(alloc: Global, bytes: &[u8]) -> Result<Spec, TextError>
     ensures only { IfOk result (λ s. (d n : ℕ) (x : SpecForm) → IsReadingWithin d n bytes.now x
         → x ≡ spec_form s) }
     // Only where they say nothing within the limits, or memory runs out, is there no text.
-    ensures refused { IfErr result (λ e. NoReading bytes.now e) }
+    ensures refused { OnRefused result (NoReading bytes.now) }
     // The fault stands at its place, and nothing that is no token stands before it. Some text
     // begins with the tokens before it, so P02 stands at the first with which none goes on; and no
     // token before it is past a limit. At P04 no text within the limits begins with that token too,
     // so it is the first past a limit; with one level and one operator more some text does.
-    ensures stands { IfErr result (λ e. IsFirstFault bytes.now e) }
+    ensures stands { IfRefused result (IsFirstFault bytes.now) }
 {
     let mut input = Input::new(Language::Text, bytes, MAX_OPERATORS as u32);
-    let mut text = whole(&mut input, alloc)?;
+    let mut text = whole(&mut input, alloc).map_err(OrMemory::raise)?;
     text.ranges = ranges(alloc, Language::Text, bytes)?;
     Ok(text)
 }

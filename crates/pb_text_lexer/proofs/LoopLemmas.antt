@@ -3,18 +3,11 @@ use Rattle.std.proofs.Common.{◌≡◌, ℕ, suc, ◌-◌, ◌<◌, Bool, true,
 use Rattle.pb_text_tree.specs.declared.place.Place.{Place}
 use Rattle.pb_text_tree.specs.Form.{chained}
 use Rattle.pb_text_lexer.specs.declared.kind.Kind.{Kind}
-use Rattle.pb_text_lexer.specs.declared.fault.ReadingFault.{ReadingFault}
-use Rattle.pb_text_lexer.specs.declared.fault.ReadingFault.TheVariants.{Memory, At}
 use Rattle.pb_text_lexer.specs.declared.fault.Refusal.{Refusal}
 use Rattle.pb_text_lexer.specs.Grammar.{State}
 use Rattle.pb_text_lexer.specs.Kinds.{same_kind}
-use Rattle.pb_text_lexer.specs.Steps.{Step, Outcome, and_then, ◌>>=◌, pure, peek, kind, take_operator, series, chain, listed, Fails}
+use Rattle.pb_text_lexer.specs.Steps.{Step, Outcome, and_then, ◌>>=◌, pure, peek, kind, take_operator, series, chain, listed}
 use Rattle.pb_text_lexer.specs.Tokens.{Tok}
-
--- what fails where another does
-pub fails-as : {X Y : Type 0} (o : Outcome X) (p : Outcome Y) (fault : ReadingFault) → ((bad : Refusal) → o ≡ Err bad → p ≡ Err bad) → Fails o fault → Fails p fault
-fails-as o p Memory same h = tt
-fails-as o p (At bad) same h = same bad h
 
 -- ---- lists
 

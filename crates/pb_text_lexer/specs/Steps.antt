@@ -1,13 +1,13 @@
 -- The words of a grammar as functions, which compute what is read or the token that is refused.
 use Rattle.std.specs.Prelude.{◌≡◌, ℕ, zero, suc, ◌-◌, Bool, false, if◌then◌else◌, ◌==◌, ◌||◌, List, [], ◌∷◌, length, Result, Ok, Err}
+use Rattle.pb_errors.specs.OrMemory.{IfFault}
+use Rattle.pb_errors.specs.declared.or_memory.OrMemory.{OrMemory}
 use Rattle.pb_text_tree.specs.declared.place.Place.{Place}
 use Rattle.pb_text_lexer.specs.declared.kind.Kind.{Kind}
 use Rattle.pb_text_lexer.specs.declared.kind.Kind.TheVariants.{End, And, Or, Implies}
 use Rattle.pb_text_lexer.specs.declared.fault.ReadingRule.{ReadingRule}
 use Rattle.pb_text_lexer.specs.declared.fault.ReadingRule.TheVariants.{Unexpected, Limit}
 use Rattle.pb_text_lexer.specs.declared.fault.Refusal.{Refusal}
-use Rattle.pb_text_lexer.specs.declared.fault.ReadingFault.{ReadingFault}
-use Rattle.pb_text_lexer.specs.declared.fault.ReadingFault.TheVariants.{Memory, At}
 use Rattle.pb_text_lexer.specs.Kinds.{same_kind, is_last}
 use Rattle.pb_text_lexer.specs.Lexing.{start}
 use Rattle.pb_text_lexer.specs.Tokens.{Tok}
@@ -210,10 +210,7 @@ GivesExactly view read (Ok x) new = read ≡ Ok (view x, new)
 GivesExactly view read (Err refused) new = read ≡ Err refused
 
 -- where it asks for memory: the same, unless memory ran out
-abbrev pub Fails : {Y : Type 0} → Outcome Y → ReadingFault → Type 0
-Fails read Memory = Unit {0}
-Fails read (At refused) = read ≡ Err refused
-
-abbrev pub Gives : {X Y : Type 0} → (X → Y) → Outcome Y → Result X ReadingFault → State → Type 0
+abbrev pub Gives : {X Y : Type 0} → (X → Y) → Outcome Y → Result X (OrMemory Refusal) → State
+    → Type 0
 Gives view read (Ok x) new = read ≡ Ok (view x, new)
-Gives view read (Err e) new = Fails read e
+Gives view read (Err error) new = IfFault error (λ refused. read ≡ Err refused)

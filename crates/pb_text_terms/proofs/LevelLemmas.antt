@@ -8,7 +8,8 @@ use Rattle.pb_text_tree.specs.declared.operator.Connective.TheVariants.{And, Or,
 use Rattle.pb_text_tree.specs.declared.term.Term.{Term}
 use Rattle.pb_text_tree.specs.Form.{TermForm, term_form, calculated}
 use Rattle.pb_text_lexer.specs.declared.fault.ReadingRule.TheVariants.{Unexpected}
-use Rattle.pb_text_lexer.specs.declared.fault.ReadingFault.{ReadingFault}
+use Rattle.pb_errors.specs.declared.or_memory.OrMemory.{OrMemory}
+use Rattle.pb_errors.proofs.Faults.{if_fault}
 use Rattle.pb_text_lexer.specs.declared.fault.Refusal.{Refusal}
 use Rattle.pb_text_lexer.specs.declared.kind.Kind.{Kind}
 use Rattle.pb_text_lexer.specs.declared.kind.Kind.TheVariants as k
@@ -16,7 +17,7 @@ use Rattle.pb_text_lexer.specs.Grammar.{State}
 use Rattle.pb_text_lexer.specs.Kinds.{same_kind}
 use Rattle.pb_text_lexer.specs.Steps.{Step, enter, kind, refuse, refusal, comparison, chain, Gives}
 use Rattle.pb_text_lexer.specs.Tokens.{Tok}
-use Rattle.pb_text_lexer.proofs.LoopLemmas.{fails-as, resumed-first, resumed-first-fails, resumed-end}
+use Rattle.pb_text_lexer.proofs.LoopLemmas.{resumed-first, resumed-first-fails, resumed-end}
 use Rattle.pb_text_lexer.proofs.TokenLemmas.{kind-same}
 use Rattle.pb_text_terms.specs.declared.operator.Operators.{Operators}
 use Rattle.pb_text_terms.specs.declared.operator.Operators.TheVariants.{Additive, Times, Division}
@@ -304,11 +305,11 @@ module _ (depth : ℕ) where
   pub first-fails-as : (high : Level) (s : State) (bad : Refusal) → (may_quantify high && is_quantifier (kind s)) ≡ false → unary depth s ≡ Err bad → at high depth s ≡ Err bad
   first-fails-as high s bad other reads = fails-up (rank high) l.Unary high s bad (let g : rank high ≡ rank high + 0 = omega arith in g) (λ a b. plain-first high s other b) reads
 
-  pub first-or-fails : (high : Level) (s z : State) (r : Result Term ReadingFault) → (may_quantify high && is_quantifier (kind s)) ≡ false
+  pub first-or-fails : (high : Level) (s z : State) (r : Result Term (OrMemory Refusal)) → (may_quantify high && is_quantifier (kind s)) ≡ false
       → ((q : Operator) → operator_of (kind z) ≡ Some q → 0 < rank (level_of q) → rank high < rank (level_of q))
       → Gives term_form (unary depth s) r z → Gives term_form (at high depth s) r z
   first-or-fails high s z (Ok x) other none reads = skips-to l.Unary high s z (term_form x) (let g : 0 ≤ rank high = omega arith in g) none reads
-  first-or-fails high s z (Err fault) other none reads = fails-as (unary depth s) (at high depth s) fault (λ bad e. first-fails-as high s bad other e) reads
+  first-or-fails high s z (Err fault) other none reads = if_fault fault (λ bad e. first-fails-as high s bad other e) reads
 
 -- ---- chains of arithmetic
 

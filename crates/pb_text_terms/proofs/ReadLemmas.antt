@@ -7,8 +7,9 @@ use Rattle.pb_text_tree.specs.declared.term.Argument.{Argument}
 use Rattle.pb_text_tree.specs.Form.{Named, TermForm, ArgumentForms, InstanceForm, term_form, argument_forms, calculated}
 use Rattle.pb_text_lexer.specs.declared.fault.ReadingRule.TheVariants.{Unexpected}
 use Rattle.pb_text_lexer.specs.declared.fault.Refusal.{Refusal}
-use Rattle.pb_text_lexer.specs.declared.fault.ReadingFault.{ReadingFault}
-use Rattle.pb_text_lexer.proofs.LoopLemmas.{fails-as, resumed-first, resumed-first-fails, resumed-end}
+use Rattle.pb_errors.specs.declared.or_memory.OrMemory.{OrMemory}
+use Rattle.pb_errors.proofs.Faults.{if_fault}
+use Rattle.pb_text_lexer.proofs.LoopLemmas.{resumed-first, resumed-first-fails, resumed-end}
 use Rattle.pb_text_lexer.specs.declared.kind.Kind.{Kind}
 use Rattle.pb_text_lexer.specs.declared.kind.Kind.TheVariants as k
 use Rattle.pb_text_lexer.specs.Grammar.{State}
@@ -315,10 +316,10 @@ on-fewer (Ok x) a b c le lt = omega arith
 on-fewer (Err e) a b c le lt = tt
 
 -- a first operand behind which the connective doesn't stand
-pub resumed-alone-or-fails : {X Y : Type 0} (c : Kind) (join : Place → X → X → X) (op : Step X) (view : Y → X) (n : ℕ) (s z : State) (r : Result Y ReadingFault)
+pub resumed-alone-or-fails : {X Y : Type 0} (c : Kind) (join : Place → X → X → X) (op : Step X) (view : Y → X) (n : ℕ) (s z : State) (r : Result Y (OrMemory Refusal))
     → Gives view (op s) r z → same_kind (kind z) c ≡ false → Gives view (chain c (λ x t y. join t.place x y) op (suc n) s) r z
 resumed-alone-or-fails c join op view n s z (Ok x) reads other = resumed-first c join op n s z (view x) reads ∙ resumed-end c join op (n - 0) (view x) [] z other
-resumed-alone-or-fails c join op view n s z (Err fault) reads other = fails-as (op s) (chain c (λ x t y. join t.place x y) op (suc n) s) fault (λ bad e. resumed-first-fails c join op n s bad e) reads
+resumed-alone-or-fails c join op view n s z (Err fault) reads other = if_fault fault (λ bad e. resumed-first-fails c join op n s bad e) reads
 
 -- ---- connectives
 

@@ -13,7 +13,7 @@ use crate::level::{Operator, Relation, is_related, operand_level};
 use crate::node::{calculated, compared, joined};
 use crate::operator::{Operators, arithmetic, is_among, is_mixed, symbol};
 use crate::term::term_at;
-use pb_text_lexer::fault::{ReadingFault, ReadingRule};
+use pb_text_lexer::fault::{ReadingError, ReadingRule};
 use pb_text_lexer::input::Input;
 use pb_text_lexer::kind::same_kind;
 use pb_text_tree::{ArithmeticLink, Connective, Term, TermLink};
@@ -27,7 +27,7 @@ pub(crate) fn joined_by(
     depth: u32,
     operator: Operator,
     first: Term,
-) -> Result<Term, ReadingFault>
+) -> Result<Term, ReadingError>
     requires { levels.operator_of (steps.kind input.old) ≡ Some operator }
     ensures reads { (s : State) → reading.at (levels.operand_level operator) depth s
         ≡ Ok (term_form first, input.old)
@@ -52,7 +52,7 @@ fn calculated_by(
     depth: u32,
     operators: Operators,
     first: Term,
-) -> Result<Term, ReadingFault>
+) -> Result<Term, ReadingError>
     requires { IsTrue (reading.is_among operators (steps.kind input.old)) }
     ensures reads { (s : State)
         → reading.at (levels.operand_level (Operator.Arithmetic operators)) depth s
@@ -62,7 +62,7 @@ fn calculated_by(
 {
     let links = operations(input, alloc, depth, operators)?;
     if is_mixed(operators, input.kind()) {
-        return Err(ReadingFault::At(input.refuse(ReadingRule::Unexpected)));
+        return Err(ReadingError::Refused(input.refuse(ReadingRule::Unexpected)));
     }
     Ok(calculated(alloc, first, links)?)
 }
@@ -74,7 +74,7 @@ fn operations(
     alloc: Global,
     depth: u32,
     operators: Operators,
-) -> Result<Vec<ArithmeticLink>, ReadingFault>
+) -> Result<Vec<ArithmeticLink>, ReadingError>
     requires { IsTrue (reading.is_among operators (steps.kind input.old)) }
     ensures reads { Gives (λ v. arithmetic_links v.items)
         (reading.operations operators
@@ -107,7 +107,7 @@ fn related_by(
     depth: u32,
     relation: Relation,
     left: Term,
-) -> Result<Term, ReadingFault>
+) -> Result<Term, ReadingError>
     requires { levels.is_related relation (steps.kind input.old) ≡ true }
     ensures reads { (s : State)
         → reading.at (levels.operand_level (Operator.Relation relation)) depth s
@@ -119,7 +119,7 @@ fn related_by(
     let level = operand_level(Operator::Relation(relation));
     let right = term_at(input, alloc, depth, level)?;
     if is_related(relation, input.kind()) {
-        return Err(ReadingFault::At(input.refuse(ReadingRule::Unexpected)));
+        return Err(ReadingError::Refused(input.refuse(ReadingRule::Unexpected)));
     }
     Ok(compared(alloc, sign, left, right)?)
 }
@@ -133,7 +133,7 @@ fn connected_by(
     depth: u32,
     connective: Connective,
     first: Term,
-) -> Result<Term, ReadingFault>
+) -> Result<Term, ReadingError>
     ensures reads { (s : State)
         → reading.at (levels.operand_level (Operator.Connective connective)) depth s
         ≡ Ok (term_form first, input.old)

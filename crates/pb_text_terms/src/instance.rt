@@ -9,7 +9,7 @@ ghost use Rattle.pb_text_terms.specs.Reading.{argument_pair};
 use crate::level::Level;
 use crate::term::term_at;
 use crate::variable::name;
-use pb_text_lexer::fault::{ReadingFault, ReadingRule};
+use pb_text_lexer::fault::{ReadingError, ReadingRule};
 use pb_text_lexer::input::Input;
 use pb_text_lexer::kind::{Kind, same_kind};
 use pb_text_tree::{Argument, Instance};
@@ -22,7 +22,7 @@ pub fn argument_list(
     input: &mut Input<'_>,
     alloc: Global,
     depth: u32,
-) -> Result<Vec<Argument>, ReadingFault>
+) -> Result<Vec<Argument>, ReadingError>
     ensures reads { Gives (λ v. map argument_pair v.items)
         (reading.argument_list (reading.term depth) input.old) result input.new }
     ensures fewer { OnOk result (length input.new.tokens < length input.old.tokens) }
@@ -42,7 +42,7 @@ pub fn argument_list(
 /// A name, alone or with arguments, in which so many levels may open. Behind the arguments no
 /// bracket may open.
 #[cycle(terms)]
-pub fn instance(input: &mut Input<'_>, alloc: Global, depth: u32) -> Result<Instance, ReadingFault>
+pub fn instance(input: &mut Input<'_>, alloc: Global, depth: u32) -> Result<Instance, ReadingError>
     ensures reads { Gives instance_form (reading.instance depth input.old) result input.new }
     ensures fewer { OnOk result (length input.new.tokens < length input.old.tokens) }
 {
@@ -55,7 +55,7 @@ pub fn instance(input: &mut Input<'_>, alloc: Global, depth: u32) -> Result<Inst
     let arguments = argument_list(input, alloc, depth - 1)?;
     input.expect(Kind::Close)?;
     if same_kind(input.kind(), Kind::Open) {
-        return Err(ReadingFault::At(input.refuse(ReadingRule::Unexpected)));
+        return Err(ReadingError::Refused(input.refuse(ReadingRule::Unexpected)));
     }
     Ok(Instance { name, arguments })
 }

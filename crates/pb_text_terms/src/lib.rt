@@ -6,11 +6,11 @@
 //! texts cites them. `proofs/` shows that the functions meet the relations.
 #![tactic(auto)]
 
-pub mod chain;
-pub mod instance;
-pub mod level;
+mod chain;
+mod instance;
+mod level;
 pub mod node;
 pub mod operator;
-pub mod primary;
+mod primary;
 pub mod term;
 pub mod variable;

@@ -13,7 +13,7 @@ use crate::node::{applied, closed, constant, number};
 use crate::operator::quantifier;
 use crate::term::term_at;
 use crate::variable::variables;
-use pb_text_lexer::fault::{ReadingFault, ReadingRule};
+use pb_text_lexer::fault::{ReadingError, ReadingRule};
 use pb_text_lexer::input::Input;
 use pb_text_lexer::kind::Kind;
 use pb_text_tree::Term;
@@ -21,7 +21,7 @@ use std::alloc::Global;
 
 /// A sign, a bracket, a number, a constant or a name, in which so many levels may open.
 #[cycle(terms)]
-pub fn unary(input: &mut Input<'_>, alloc: Global, depth: u32) -> Result<Term, ReadingFault>
+pub fn unary(input: &mut Input<'_>, alloc: Global, depth: u32) -> Result<Term, ReadingError>
     ensures reads { Gives term_form (reading.unary depth input.old) result input.new }
     ensures fewer { OnOk result (length input.new.tokens < length input.old.tokens) }
 {
@@ -36,14 +36,14 @@ pub fn unary(input: &mut Input<'_>, alloc: Global, depth: u32) -> Result<Term, R
             let instance = instance(input, alloc, depth)?;
             Ok(applied(instance))
         }
-        _ => Err(ReadingFault::At(input.refuse(ReadingRule::Unexpected))),
+        _ => Err(ReadingError::Refused(input.refuse(ReadingRule::Unexpected))),
     }
 }
 
 /// `!` and its operand.
 #[cycle(terms)]
 #[inline(never)]
-fn negation(input: &mut Input<'_>, alloc: Global, depth: u32) -> Result<Term, ReadingFault>
+fn negation(input: &mut Input<'_>, alloc: Global, depth: u32) -> Result<Term, ReadingError>
     requires { steps.kind input.old ≡ Kind.Not }
     ensures reads { Gives term_form (reading.unary depth input.old) result input.new }
     ensures fewer { OnOk result (length input.new.tokens < length input.old.tokens) }
@@ -57,7 +57,7 @@ fn negation(input: &mut Input<'_>, alloc: Global, depth: u32) -> Result<Term, Re
 /// `-` and its operand.
 #[cycle(terms)]
 #[inline(never)]
-fn negative(input: &mut Input<'_>, alloc: Global, depth: u32) -> Result<Term, ReadingFault>
+fn negative(input: &mut Input<'_>, alloc: Global, depth: u32) -> Result<Term, ReadingError>
     requires { steps.kind input.old ≡ Kind.Minus }
     ensures reads { Gives term_form (reading.unary depth input.old) result input.new }
     ensures fewer { OnOk result (length input.new.tokens < length input.old.tokens) }
@@ -71,7 +71,7 @@ fn negative(input: &mut Input<'_>, alloc: Global, depth: u32) -> Result<Term, Re
 /// A term in brackets.
 #[cycle(terms)]
 #[inline(never)]
-fn bracketed(input: &mut Input<'_>, alloc: Global, depth: u32) -> Result<Term, ReadingFault>
+fn bracketed(input: &mut Input<'_>, alloc: Global, depth: u32) -> Result<Term, ReadingError>
     requires { steps.kind input.old ≡ Kind.Open }
     ensures reads { Gives term_form (reading.unary depth input.old) result input.new }
     ensures fewer { OnOk result (length input.new.tokens < length input.old.tokens) }
@@ -89,12 +89,12 @@ pub(crate) fn quantified(
     input: &mut Input<'_>,
     alloc: Global,
     depth: u32,
-) -> Result<Term, ReadingFault>
+) -> Result<Term, ReadingError>
     ensures reads { Gives term_form (reading.quantified_term depth input.old) result input.new }
     ensures fewer { OnOk result (length input.new.tokens < length input.old.tokens) }
 {
     let Some(quantifier) = quantifier(input.kind()) else {
-        return Err(ReadingFault::At(input.refuse(ReadingRule::Unexpected)));
+        return Err(ReadingError::Refused(input.refuse(ReadingRule::Unexpected)));
     };
     let place = input.enter(depth)?.place;
     let variables = variables(input, alloc)?;

@@ -13,7 +13,7 @@ pub use crate::instance::{argument_list, instance};
 use crate::level::{Level, Levels, begins_quantified, level_of, next_operator};
 use crate::primary::quantified;
 pub use crate::primary::unary;
-use pb_text_lexer::fault::ReadingFault;
+use pb_text_lexer::fault::ReadingError;
 use pb_text_lexer::input::Input;
 use pb_text_tree::Term;
 use std::alloc::Global;
@@ -25,7 +25,7 @@ pub fn term_at(
     alloc: Global,
     depth: u32,
     limit: Level,
-) -> Result<Term, ReadingFault>
+) -> Result<Term, ReadingError>
     ensures reads { Gives term_form (reading.at limit depth input.old) result input.new }
     ensures fewer { OnOk result (length input.new.tokens < length input.old.tokens) }
 {
@@ -51,7 +51,7 @@ fn operated(
     depth: u32,
     levels: Levels,
     first: Term,
-) -> Result<Term, ReadingFault>
+) -> Result<Term, ReadingError>
     requires { rank levels.above ≤ rank levels.limit }
     ensures reads { (s : State) → reading.at levels.above depth s ≡ Ok (term_form first, input.old)
         → (may_quantify levels.limit ≡ true → length input.old.tokens < length s.tokens)
@@ -74,7 +74,7 @@ pub fn operators_behind(
     alloc: Global,
     depth: u32,
     first: Term,
-) -> Result<Term, ReadingFault>
+) -> Result<Term, ReadingError>
     ensures reads { (s : State) → reading.unary depth s ≡ Ok (term_form first, input.old)
         → Gives term_form (reading.equated (reading.unary depth) s) result input.new }
     ensures fewer { OnOk result (length input.new.tokens ≤ length input.old.tokens) }
@@ -87,7 +87,7 @@ pub fn operators_behind(
 }
 
 /// One term without connectives, or two that are compared for equality.
-pub fn equated(input: &mut Input<'_>, alloc: Global, depth: u32) -> Result<Term, ReadingFault>
+pub fn equated(input: &mut Input<'_>, alloc: Global, depth: u32) -> Result<Term, ReadingError>
     ensures reads { Gives term_form (reading.equated
         (reading.unary depth) input.old) result input.new }
     ensures fewer { OnOk result (length input.new.tokens < length input.old.tokens) }
@@ -96,7 +96,7 @@ pub fn equated(input: &mut Input<'_>, alloc: Global, depth: u32) -> Result<Term,
 }
 
 /// A data term, in which so many levels may open.
-pub fn term(input: &mut Input<'_>, alloc: Global, depth: u32) -> Result<Term, ReadingFault>
+pub fn term(input: &mut Input<'_>, alloc: Global, depth: u32) -> Result<Term, ReadingError>
     ensures reads { Gives term_form (reading.term depth input.old) result input.new }
     ensures fewer { OnOk result (length input.new.tokens < length input.old.tokens) }
 {

@@ -5,7 +5,7 @@ ghost use Rattle.pb_text_tree.specs.Form.{named, variables_form, variable_forms}
 ghost use Rattle.pb_text_lexer.specs.Steps.{Gives};
 ghost use Rattle.pb_text_terms.specs.Reading as reading;
 
-use pb_text_lexer::fault::ReadingFault;
+use pb_text_lexer::fault::ReadingError;
 use pb_text_lexer::input::Input;
 use pb_text_lexer::kind::{Kind, same_kind};
 use pb_text_tree::{Name, Variables};
@@ -13,7 +13,7 @@ use std::alloc::Global;
 
 /// A name, where one must stand.
 #[tactic(auto, unfolding(crate::specs::Reading::name))]
-pub fn name(input: &mut Input<'_>, alloc: Global) -> Result<Name, ReadingFault>
+pub fn name(input: &mut Input<'_>, alloc: Global) -> Result<Name, ReadingError>
     ensures reads { Gives named (reading.name input.old) result input.new }
     ensures fewer { OnOk result (length input.new.tokens < length input.old.tokens) }
 {
@@ -23,7 +23,7 @@ pub fn name(input: &mut Input<'_>, alloc: Global) -> Result<Name, ReadingFault>
 }
 
 /// Names with commas between them.
-fn names(input: &mut Input<'_>, alloc: Global) -> Result<Vec<Name>, ReadingFault>
+fn names(input: &mut Input<'_>, alloc: Global) -> Result<Vec<Name>, ReadingError>
     ensures reads { Gives (λ v. map named v.items) (reading.names input.old) result input.new }
     ensures fewer { OnOk result (length input.new.tokens < length input.old.tokens) }
 {
@@ -40,7 +40,7 @@ fn names(input: &mut Input<'_>, alloc: Global) -> Result<Vec<Name>, ReadingFault
 
 /// Names with commas between them, a colon and their sort.
 #[tactic(auto, unfolding(crate::specs::Reading::group))]
-fn group(input: &mut Input<'_>, alloc: Global) -> Result<Variables, ReadingFault>
+fn group(input: &mut Input<'_>, alloc: Global) -> Result<Variables, ReadingError>
     ensures reads { Gives variables_form (reading.group input.old) result input.new }
     ensures fewer { OnOk result (length input.new.tokens < length input.old.tokens) }
 {
@@ -51,7 +51,7 @@ fn group(input: &mut Input<'_>, alloc: Global) -> Result<Variables, ReadingFault
 }
 
 /// Data variables with their sorts, of one sort or of several.
-pub fn variables(input: &mut Input<'_>, alloc: Global) -> Result<Vec<Variables>, ReadingFault>
+pub fn variables(input: &mut Input<'_>, alloc: Global) -> Result<Vec<Variables>, ReadingError>
     ensures reads { Gives (λ v. variable_forms v.items)
         (reading.variables input.old) result input.new }
     ensures fewer { OnOk result (length input.new.tokens < length input.old.tokens) }

@@ -2,17 +2,18 @@ use Rattle.std.proofs.Common.{rules, arith, ◌≡◌, ◌<◌, ◌≤◌, ◌-�
 use Rattle.std.proofs.lemmas.Result.{err_from_is_err_and}
 use Rattle.std.proofs.lemmas.Bool.{and_parts}
 use Rattle.std.proofs.lemmas.List.{map_push}
+use Rattle.pb_errors.proofs.Faults.{if_fault}
 use Rattle.pb_text_tree.specs.Form.{TermForm, instance_form, named, term_form, term_links, arithmetic_links}
 use Rattle.pb_text_lexer.specs.declared.kind.Kind.TheVariants as k
 use Rattle.pb_text_lexer.specs.Kinds.{same_kind}
 use Rattle.pb_text_lexer.specs.Steps.{kind, take_token, nothing_between}
 use Rattle.pb_text_lexer.specs.Tokens.{tok}
-use Rattle.pb_text_lexer.proofs.LoopLemmas.{fails-as, gathered-more, gathered-end, gathered-item-fails, resumed-first, resumed-more, resumed-end, resumed-operator-fails, resumed-operand-fails}
+use Rattle.pb_text_lexer.proofs.LoopLemmas.{gathered-more, gathered-end, gathered-item-fails, resumed-first, resumed-more, resumed-end, resumed-operator-fails, resumed-operand-fails}
 use Rattle.pb_text_terms.specs.declared.level.Level.{Level}
 use Rattle.pb_text_terms.specs.declared.level.Operator.TheVariants.{Arithmetic, Relation, Connective}
 use Rattle.pb_text_terms.specs.Levels.{operator_of, level_of, operand_level, rank, may_quantify, is_related}
 use Rattle.pb_text_terms.specs.Operators.{symbol, is_quantifier, compared_by, arithmetic_of}
-use Rattle.pb_text_terms.specs.Reading.{unary, term, placed, argument_pair, argument_list, instance, is_comma, is_open, operation, operations, is_among, is_mixed, at, quantified_term}
+use Rattle.pb_text_terms.specs.Reading.{term, placed, argument_pair, is_comma, is_open, operation, operations, is_among, is_mixed, at}
 use Rattle.pb_text_terms.proofs.ReadLemmas.{sign-fails, right-fails, right-goes-on, both-read, operation-fails, operation-operand-fails, operation-read, arguments-fail, arguments-again, arguments-read, arguments-is, begun-at, inner-fails, name-is, unary-other, placed-fails, placed-read}
 use Rattle.pb_text_terms.proofs.LevelLemmas.{may-above, skips-to, before-operator, operator-fails, lowest-quantified, quantified-fails, first-fails-as, first-or-fails, connects, calculation-fails, calculation-mixed, calculation-read, relation-is, connection-is}
 use Rattle.pb_text_terms.proofs.+terms.Goals as goal
@@ -20,7 +21,7 @@ use Rattle.pb_text_terms.proofs.+terms.Goals as goal
 pub instance::argument_list-returns-in_err-term-clause-reads : goal.instance::argument_list-returns-in_err-term-clause-reads
 instance::argument_list-returns-in_err-term-clause-reads t c =
     let p = err_from_is_err_and c.from_residual-in_err-term.result c.from_residual-in_err-term.ensures.1 in
-    rw (p.1, p.2) (fails-as (term c.args.depth c.arguments.input) (argument_list (term c.args.depth) c.args.input.now) c.in_err-term.field-0.0 (λ bad e. c.arguments.invariant.reads ∙ gathered-item-fails (placed (term c.args.depth)) is_comma take_token (map argument_pair c.arguments.arguments.items) (suc (length c.args.input.now.tokens) - vec_len c.arguments.arguments) (length c.args.input.now.tokens - vec_len c.arguments.arguments) c.arguments.input bad (omega arith) (placed-fails (term c.args.depth) c.arguments.input bad e)) c.in_err-term.ensures.reads)
+    rw (p.1, p.2) (if_fault c.in_err-term.field-0.0 (λ bad e. c.arguments.invariant.reads ∙ gathered-item-fails (placed (term c.args.depth)) is_comma take_token (map argument_pair c.arguments.arguments.items) (suc (length c.args.input.now.tokens) - vec_len c.arguments.arguments) (length c.args.input.now.tokens - vec_len c.arguments.arguments) c.arguments.input bad (omega arith) (placed-fails (term c.args.depth) c.arguments.input bad e)) c.in_err-term.ensures.reads)
 
 pub instance::argument_list-returns-then-not-same_kind-clause-reads : goal.instance::argument_list-returns-then-not-same_kind-clause-reads
 instance::argument_list-returns-then-not-same_kind-clause-reads t c =
@@ -42,7 +43,7 @@ pub instance::instance-returns-in_err-arguments-clause-reads : goal.instance::in
 instance::instance-returns-in_err-arguments-clause-reads t c =
     let opens : is_open (kind c.name.new.input) ≡ true = search rules in
     let p = err_from_is_err_and c.from_residual-in_err-arguments.result c.from_residual-in_err-arguments.ensures.1 in
-    rw (p.1, p.2) (fails-as (argument_list (term (c.args.depth - 1)) c.enter.new.self) (instance c.args.depth c.args.input.now) c.in_err-arguments.field-0.0 (λ bad e. arguments-fail c.args.depth c.in_ok-enter.ensures.deeper c.args.input.now c.name.new.input c.enter.new.self (named c.in_ok-name.name) (tok c.in_ok-enter.field-0) c.in_ok-name.ensures.reads opens c.in_ok-enter.ensures.reads bad e) c.in_err-arguments.ensures.reads)
+    rw (p.1, p.2) (if_fault c.in_err-arguments.field-0.0 (λ bad e. arguments-fail c.args.depth c.in_ok-enter.ensures.deeper c.args.input.now c.name.new.input c.enter.new.self (named c.in_ok-name.name) (tok c.in_ok-enter.field-0) c.in_ok-name.ensures.reads opens c.in_ok-enter.ensures.reads bad e) c.in_err-arguments.ensures.reads)
 
 pub instance::instance-returns-then-same_kind-clause-reads : goal.instance::instance-returns-then-same_kind-clause-reads
 instance::instance-returns-then-same_kind-clause-reads t c =
@@ -70,7 +71,7 @@ pub chain::operations-returns-in_err-operand-clause-reads : goal.chain::operatio
 chain::operations-returns-in_err-operand-clause-reads t c =
     let same = ap (λ (v : Level). operations c.args.operators (at v c.args.depth) c.args.input.now) (sym c.operand_level-level.ensures) in
     let p = err_from_is_err_and c.from_residual-in_err-operand.result c.from_residual-in_err-operand.ensures.1 in
-    rw (p.1, p.2) (fails-as (at c.operand_level-level.result c.args.depth c.take_operator.new.self) (operations c.args.operators (at (operand_level (Arithmetic c.args.operators)) c.args.depth) c.args.input.now) c.in_err-operand.field-0.0 (λ bad e. same ∙ c.operations.invariant.reads ∙ gathered-item-fails (operation c.args.operators (at c.operand_level-level.result c.args.depth)) (is_among c.args.operators) nothing_between (arithmetic_links c.operations.links.items) (suc (length c.args.input.now.tokens) - vec_len c.operations.links) (length c.args.input.now.tokens - vec_len c.operations.links) c.operations.input bad (omega arith) (operation-operand-fails c.args.operators (at c.operand_level-level.result c.args.depth) c.operations.input c.take_operator.new.self (tok c.in_ok-sign.sign) bad c.operations.invariant.stands c.in_ok-sign.ensures.reads e)) c.in_err-operand.ensures.reads)
+    rw (p.1, p.2) (if_fault c.in_err-operand.field-0.0 (λ bad e. same ∙ c.operations.invariant.reads ∙ gathered-item-fails (operation c.args.operators (at c.operand_level-level.result c.args.depth)) (is_among c.args.operators) nothing_between (arithmetic_links c.operations.links.items) (suc (length c.args.input.now.tokens) - vec_len c.operations.links) (length c.args.input.now.tokens - vec_len c.operations.links) c.operations.input bad (omega arith) (operation-operand-fails c.args.operators (at c.operand_level-level.result c.args.depth) c.operations.input c.take_operator.new.self (tok c.in_ok-sign.sign) bad c.operations.invariant.stands c.in_ok-sign.ensures.reads e)) c.in_err-operand.ensures.reads)
 
 pub chain::operations-returns-then-not-is_among-clause-reads : goal.chain::operations-returns-then-not-is_among-clause-reads
 chain::operations-returns-then-not-is_among-clause-reads t c =
@@ -106,7 +107,7 @@ primary::unary-returns-in_default t c =
 pub primary::bracketed-returns-in_err-inner-clause-reads : goal.primary::bracketed-returns-in_err-inner-clause-reads
 primary::bracketed-returns-in_err-inner-clause-reads t c =
     let p = err_from_is_err_and c.from_residual-in_err-inner.result c.from_residual-in_err-inner.ensures.1 in
-    rw (p.1, p.2) (fails-as (term (c.args.depth - 1) c.enter.new.self) (unary c.args.depth c.args.input.now) c.in_err-inner.field-0.0 (λ bad e. inner-fails c.args.depth c.args.input.now c.enter.new.self (tok c.in_ok-enter.field-0) bad c.in_ok-enter.ensures.deeper c.requires c.in_ok-enter.ensures.reads e) c.in_err-inner.ensures.reads)
+    rw (p.1, p.2) (if_fault c.in_err-inner.field-0.0 (λ bad e. inner-fails c.args.depth c.args.input.now c.enter.new.self (tok c.in_ok-enter.field-0) bad c.in_ok-enter.ensures.deeper c.requires c.in_ok-enter.ensures.reads e) c.in_err-inner.ensures.reads)
 
 pub primary::unary-returns-in_ok-number-in-Number-clause-reads : goal.primary::unary-returns-in_ok-number-in-Number-clause-reads
 primary::unary-returns-in_ok-number-in-Number-clause-reads t c = c.in_ok-number-in-Number.ensures.reads c.args.depth
@@ -142,7 +143,7 @@ pub chain::calculated_by-returns-in_err-links-clause-reads : goal.chain::calcula
 chain::calculated_by-returns-in_err-links-clause-reads t c s h =
     let item = at (operand_level (Arithmetic c.args.operators)) c.args.depth in
     let p = err_from_is_err_and c.from_residual.result c.from_residual.ensures.1 in
-    rw (p.1, p.2) (fails-as (operations c.args.operators item c.args.input.now) (at (level_of (Arithmetic c.args.operators)) c.args.depth s) c.in_err-links.field-0.0
+    rw (p.1, p.2) (if_fault c.in_err-links.field-0.0
     (λ bad e. calculation-fails c.args.depth s c.args.input.now (term_form c.args.first) c.args.operators bad h c.requires e) c.in_err-links.ensures.reads)
 
 pub chain::calculated_by-returns-then-is_mixed-clause-reads : goal.chain::calculated_by-returns-then-is_mixed-clause-reads
@@ -166,7 +167,7 @@ chain::related_by-returns-in_err-right-clause-reads t c s h =
     let same = ap (λ (v : Level). at v c.args.depth c.take_operator.new.self) (sym c.operand_level-level.ensures) in
     let item = at (operand_level (Relation c.args.relation)) c.args.depth in
     let p = err_from_is_err_and c.from_residual-in_err-right.result c.from_residual-in_err-right.ensures.1 in
-    rw (p.1, p.2) (fails-as (at c.operand_level-level.result c.args.depth c.take_operator.new.self) (at (level_of (Relation c.args.relation)) c.args.depth s) c.in_err-right.field-0.0
+    rw (p.1, p.2) (if_fault c.in_err-right.field-0.0
     (λ bad e. relation-is c.args.relation c.args.depth s ∙ right-fails (is_related c.args.relation) compared_by item s c.args.input.now c.take_operator.new.self (term_form c.args.left) (tok c.in_ok-sign.sign) bad h c.requires c.in_ok-sign.ensures.reads (same ∙ e)) c.in_err-right.ensures.reads)
 
 pub chain::related_by-returns-then-is_related-clause-reads : goal.chain::related_by-returns-then-is_related-clause-reads
@@ -205,7 +206,7 @@ chain::connected_by-returns-in_err-operand-clause-reads t c s h fewer =
     let same : same_kind (kind c.links.input) (symbol c.args.connective) ≡ true = search rules in
     let some : 0 < length s.tokens - vec_len c.links.links = omega arith in
     let p = err_from_is_err_and c.from_residual-in_err-operand.result c.from_residual-in_err-operand.ensures.1 in
-    rw (p.1, p.2) (fails-as (at c.operand_level-level.result c.args.depth c.take_operator.new.self) (at (level_of (Connective c.args.connective)) c.args.depth s) c.in_err-operand.field-0.0 (λ bad e. c.links.invariant.reads s h fewer ∙ resumed-operand-fails (symbol c.args.connective) (TermForm.connected c.args.connective) item (length s.tokens - vec_len c.links.links) _ (term_links c.links.links.items) c.links.input c.take_operator.new.self (tok c.in_ok-place.field-0) bad some same c.in_ok-place.ensures.reads (found ∙ e)) c.in_err-operand.ensures.reads)
+    rw (p.1, p.2) (if_fault c.in_err-operand.field-0.0 (λ bad e. c.links.invariant.reads s h fewer ∙ resumed-operand-fails (symbol c.args.connective) (TermForm.connected c.args.connective) item (length s.tokens - vec_len c.links.links) _ (term_links c.links.links.items) c.links.input c.take_operator.new.self (tok c.in_ok-place.field-0) bad some same c.in_ok-place.ensures.reads (found ∙ e)) c.in_err-operand.ensures.reads)
 
 pub chain::connected_by-links-preserved : goal.chain::connected_by-links-preserved
 chain::connected_by-links-preserved t c =
@@ -237,7 +238,7 @@ pub term::term_at-returns-in_err-whole-clause-reads : goal.term::term_at-returns
 term::term_at-returns-in_err-whole-clause-reads t c =
     let begins : (may_quantify c.args.limit && is_quantifier (kind c.args.input.now)) ≡ true = search rules in
     let p = err_from_is_err_and c.from_residual.result c.from_residual.ensures.1 in
-    rw (p.1, p.2) (fails-as (quantified_term c.args.depth c.args.input.now) (at c.args.limit c.args.depth c.args.input.now) c.in_err-whole.field-0.0
+    rw (p.1, p.2) (if_fault c.in_err-whole.field-0.0
     (λ bad e. quantified-fails c.args.depth c.args.limit c.args.input.now bad begins e) c.in_err-whole.ensures.reads)
 
 pub term::term_at-returns-then-begins_quantified-clause-reads : goal.term::term_at-returns-then-begins_quantified-clause-reads
@@ -255,7 +256,7 @@ pub term::term_at-returns-in_err-first-in-Some-clause-reads : goal.term::term_at
 term::term_at-returns-in_err-first-in-Some-clause-reads t c =
     let begins : (may_quantify c.args.limit && is_quantifier (kind c.args.input.now)) ≡ false = search rules in
     let p = err_from_is_err_and c.from_residual-in_err-first-in-Some.result c.from_residual-in_err-first-in-Some.ensures.1 in
-    rw (p.1, p.2) (fails-as (unary c.args.depth c.args.input.now) (at c.args.limit c.args.depth c.args.input.now) c.in_err-first-in-Some.field-0.0
+    rw (p.1, p.2) (if_fault c.in_err-first-in-Some.field-0.0
     (λ bad e. first-fails-as c.args.depth c.args.limit c.args.input.now bad begins e) c.in_err-first-in-Some.ensures.reads)
 
 pub term::term_at-returns-in_ok-first-in-Some-clause-reads : goal.term::term_at-returns-in_ok-first-in-Some-clause-reads
@@ -274,7 +275,7 @@ term::operated-returns-in_err-left-clause-reads t c s h fewer =
     let q = c.in-Some.operator in
     let reads = c.operators.invariant.reads s h fewer in
     let p = err_from_is_err_and c.from_residual.result c.from_residual.ensures.1 in
-    rw (p.1, p.2) (fails-as (at (level_of q) c.args.depth s) (at c.args.levels.limit c.args.depth s) c.in_err-left.field-0.0
+    rw (p.1, p.2) (if_fault c.in_err-left.field-0.0
     (λ bad e. operator-fails c.args.depth c.operators.above c.args.levels.limit q s c.operators.input (term_form c.operators.left) bad reads c.in-Some.ensures.above c.in-Some.ensures.within e)
     (c.in_err-left.ensures.reads s (before-operator c.args.depth c.operators.above q s c.operators.input (term_form c.operators.left) (ap operator_of (sym c.kind.ensures) ∙ c.in-Some.ensures.stands) c.in-Some.ensures.above reads)
     (λ may. let less = fewer (may-above (level_of q) c.args.levels.limit c.in-Some.ensures.within may) in omega (arith, c.operators.invariant.room))))

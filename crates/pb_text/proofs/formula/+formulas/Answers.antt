@@ -1,14 +1,14 @@
 use Rattle.std.proofs.Common.{rules, arith, ◌≡◌, ◌<◌, ◌-◌, length, true, false, vec_len, ◌∙◌, Ok}
 use Rattle.std.proofs.lemmas.Result.{err_from_is_err_and}
-use Rattle.pb_text_tree.specs.declared.operator.Connective.TheVariants.{And, Or}
+use Rattle.pb_errors.proofs.Faults.{if_fault}
 use Rattle.pb_text_tree.specs.Form.{FormulaForm, formula_form, link_forms}
 use Rattle.pb_text_lexer.specs.Kinds.{same_kind}
 use Rattle.pb_text_lexer.specs.Steps.{kind}
 use Rattle.pb_text_lexer.specs.Tokens.{tok}
-use Rattle.pb_text_lexer.proofs.LoopLemmas.{resumed-first, resumed-first-fails, resumed-end, resumed-more, resumed-operator-fails, resumed-operand-fails, fails-as}
+use Rattle.pb_text_lexer.proofs.LoopLemmas.{resumed-first, resumed-first-fails, resumed-end, resumed-more, resumed-operator-fails, resumed-operand-fails}
 use Rattle.pb_text_terms.specs.Operators.{symbol, is_connective}
 use Rattle.pb_text_terms.proofs.ReadLemmas.{on-fewer}
-use Rattle.pb_text.specs.Reading.{primary, formula, operand, level}
+use Rattle.pb_text.specs.Reading.{operand}
 use Rattle.pb_text.proofs.FormulaLemmas.{level-chain, links-last, node-other, level-alone-or-fails, conjunction-fails, disjunction-fails, primary-fails, primary-alone-or-fails}
 use Rattle.pb_text.proofs.formula.+formulas.Goals as goal
 
@@ -22,7 +22,7 @@ node-returns-in_default t c = rw c.refuse.ensures (record {
 pub level-returns-in_err-first-clause-reads : goal.level-returns-in_err-first-clause-reads
 level-returns-in_err-first-clause-reads t c =
     let p = err_from_is_err_and c.from_residual.result c.from_residual.ensures.1 in
-    rw (p.1, p.2) (fails-as (operand c.args.connective c.args.depth c.args.input.now) (level c.args.connective c.args.depth c.args.input.now) c.in_err-first.field-0.0
+    rw (p.1, p.2) (if_fault c.in_err-first.field-0.0
     (λ bad e. level-chain c.args.connective c.args.depth c.args.input.now
     ∙ resumed-first-fails (symbol c.args.connective) (FormulaForm.connected c.args.connective) (operand c.args.connective c.args.depth) (length c.args.input.now.tokens) c.args.input.now bad e) c.in_err-first.ensures.reads)
 
@@ -50,7 +50,7 @@ chain-returns-in_err-operand-clause-reads t c s h fewer =
     let p = err_from_is_err_and c.from_residual-in_err-operand.result c.from_residual-in_err-operand.ensures.1 in
     let same : same_kind (kind c.links.input) (symbol c.args.connective) ≡ true = search rules in
     let some : 0 < length s.tokens - vec_len c.links.links = omega arith in
-    rw (p.1, p.2) (fails-as (operand c.args.connective c.args.depth c.take_operator.new.self) (level c.args.connective c.args.depth s) c.in_err-operand.field-0.0
+    rw (p.1, p.2) (if_fault c.in_err-operand.field-0.0
     (λ bad e. c.links.invariant.reads s h fewer ∙ resumed-operand-fails (symbol c.args.connective) (FormulaForm.connected c.args.connective) (operand c.args.connective c.args.depth)
     (length s.tokens - vec_len c.links.links) _ (link_forms c.links.links.items)
     c.links.input c.take_operator.new.self (tok c.in_ok-place.field-0) bad some same c.in_ok-place.ensures.reads e) c.in_err-operand.ensures.reads)
@@ -89,14 +89,14 @@ chain_behind-returns-clause-reads t c s h fewer = c.chain.ensures.reads s h fewe
 pub connectives_behind-returns-in_err-conjunction-clause-reads : goal.connectives_behind-returns-in_err-conjunction-clause-reads
 connectives_behind-returns-in_err-conjunction-clause-reads t c s h fewer =
     let p = err_from_is_err_and c.from_residual.result c.from_residual.ensures.1 in
-    rw (p.1, p.2) (fails-as (level And c.args.depth s) (formula c.args.depth s) c.in_err-conjunction.field-0.0
+    rw (p.1, p.2) (if_fault c.in_err-conjunction.field-0.0
     (λ bad e. conjunction-fails c.args.depth s bad e) (c.in_err-conjunction.ensures.reads s h fewer))
 
 pub connectives_behind-returns-in_err-disjunction-clause-reads : goal.connectives_behind-returns-in_err-disjunction-clause-reads
 connectives_behind-returns-in_err-disjunction-clause-reads t c s h fewer =
     let p = err_from_is_err_and c.from_residual-in_err-disjunction.result c.from_residual-in_err-disjunction.ensures.1 in
     let less : length c.chain_behind.new.input.tokens < length s.tokens = omega (arith, c.in_ok-conjunction.ensures.fewer, fewer) in
-    rw (p.1, p.2) (fails-as (level Or c.args.depth s) (formula c.args.depth s) c.in_err-disjunction.field-0.0
+    rw (p.1, p.2) (if_fault c.in_err-disjunction.field-0.0
     (λ bad e. disjunction-fails c.args.depth s bad e) (c.in_err-disjunction.ensures.reads s (c.in_ok-conjunction.ensures.reads s h fewer) less))
 
 pub connectives_behind-returns-clause-reads : goal.connectives_behind-returns-clause-reads
@@ -108,7 +108,7 @@ connectives_behind-returns-clause-reads t c s h fewer =
 pub formula-returns-in_err-first-clause-reads : goal.formula-returns-in_err-first-clause-reads
 formula-returns-in_err-first-clause-reads t c =
     let p = err_from_is_err_and c.from_residual.result c.from_residual.ensures.1 in
-    rw (p.1, p.2) (fails-as (primary c.args.depth c.args.input.now) (formula c.args.depth c.args.input.now) c.in_err-first.field-0.0
+    rw (p.1, p.2) (if_fault c.in_err-first.field-0.0
     (λ bad e. primary-fails c.args.depth c.args.input.now bad e) c.in_err-first.ensures.reads)
 
 pub formula-returns-then-not-is_connective-clause-reads : goal.formula-returns-then-not-is_connective-clause-reads

@@ -1,10 +1,11 @@
 use Rattle.std.proofs.Common.{rules, arith, ◌≡◌, ◌∙◌, ◌-◌, ◌∷◌, [], suc, true, false, length, vec_len, map, refl}
 use Rattle.std.proofs.lemmas.Result.{err_from_is_err_and}
 use Rattle.std.proofs.lemmas.List.{map-append}
+use Rattle.pb_errors.proofs.Faults.{if_fault}
 use Rattle.pb_text_tree.specs.Form.{sort_declaration_form}
 use Rattle.pb_text_lexer.specs.Steps.{kind, nothing_between}
-use Rattle.pb_text_lexer.proofs.LoopLemmas.{gathered-none, gathered-more, gathered-end, gathered-item-fails, fails-as}
-use Rattle.pb_text.specs.Reading.{declaration, declarations, is_name}
+use Rattle.pb_text_lexer.proofs.LoopLemmas.{gathered-none, gathered-more, gathered-end, gathered-item-fails}
+use Rattle.pb_text.specs.Reading.{declaration, is_name}
 use Rattle.pb_text.proofs.sort.declarations.Goals as goal
 
 pub declarations-init : goal.declarations-init
@@ -16,7 +17,7 @@ declarations-init c = record {
 pub returns-in_err-declaration-clause-reads : goal.returns-in_err-declaration-clause-reads
 returns-in_err-declaration-clause-reads c =
     let p = err_from_is_err_and c.from_residual.result c.from_residual.ensures.1 in
-    rw (p.1, p.2) (fails-as (declaration c.declarations.input) (declarations c.args.input.now) c.in_err-declaration.field-0.0
+    rw (p.1, p.2) (if_fault c.in_err-declaration.field-0.0
     (λ bad e. c.declarations.invariant.reads ∙ gathered-item-fails declaration is_name nothing_between (map sort_declaration_form c.declarations.declarations.items) (suc (length c.args.input.now.tokens) - vec_len c.declarations.declarations)
     (length c.args.input.now.tokens - vec_len c.declarations.declarations) c.declarations.input bad (omega arith) e) c.in_err-declaration.ensures.reads)
 

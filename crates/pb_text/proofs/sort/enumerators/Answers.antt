@@ -1,11 +1,12 @@
 use Rattle.std.proofs.Common.{rules, arith, ◌≡◌, ◌∙◌, ◌-◌, ◌∷◌, [], suc, true, false, length, vec_len, map}
 use Rattle.std.proofs.lemmas.Result.{err_from_is_err_and}
 use Rattle.std.proofs.lemmas.List.{map-append}
+use Rattle.pb_errors.proofs.Faults.{if_fault}
 use Rattle.pb_text_tree.specs.Form.{enumerator_form}
 use Rattle.pb_text_lexer.specs.Steps.{kind, take_token}
 use Rattle.pb_text_lexer.specs.Tokens.{tok}
-use Rattle.pb_text_lexer.proofs.LoopLemmas.{gathered-none, gathered-more, gathered-end, gathered-item-fails, fails-as}
-use Rattle.pb_text.specs.Reading.{enumerator, enumerators, is_bar}
+use Rattle.pb_text_lexer.proofs.LoopLemmas.{gathered-none, gathered-more, gathered-end, gathered-item-fails}
+use Rattle.pb_text.specs.Reading.{enumerator, is_bar}
 use Rattle.pb_text.proofs.sort.enumerators.Goals as goal
 
 pub enumerators-init : goal.enumerators-init
@@ -17,7 +18,7 @@ enumerators-init c = record {
 pub returns-in_err-enumerator-clause-reads : goal.returns-in_err-enumerator-clause-reads
 returns-in_err-enumerator-clause-reads c =
     let p = err_from_is_err_and c.from_residual.result c.from_residual.ensures.1 in
-    rw (p.1, p.2) (fails-as (enumerator c.enumerators.input) (enumerators c.args.input.now) c.in_err-enumerator.field-0.0
+    rw (p.1, p.2) (if_fault c.in_err-enumerator.field-0.0
     (λ bad e. c.enumerators.invariant.reads ∙ gathered-item-fails enumerator is_bar take_token (map enumerator_form c.enumerators.enumerators.items) (suc (length c.args.input.now.tokens) - vec_len c.enumerators.enumerators)
     (length c.args.input.now.tokens - vec_len c.enumerators.enumerators) c.enumerators.input bad (omega arith) e) c.in_err-enumerator.ensures.reads)
 

@@ -1,9 +1,9 @@
 use Rattle.std.proofs.Common.{rules, arith, ℕ, ◌≡◌, ◌∙◌, ◌<◌, suc, ◌-◌, true, false, length, map, ap}
 use Rattle.std.proofs.lemmas.Result.{err_from_is_err_and}
+use Rattle.pb_errors.proofs.Faults.{if_fault}
 use Rattle.pb_text_tree.specs.Form.{sort_declaration_form}
 use Rattle.pb_text_lexer.specs.Steps.{kind}
-use Rattle.pb_text_lexer.proofs.LoopLemmas.{fails-as}
-use Rattle.pb_text.specs.Reading.{is_name, is_sort, sort_part, sort_parts}
+use Rattle.pb_text.specs.Reading.{is_name, is_sort}
 use Rattle.pb_text.proofs.PartsLemmas.{kept, kept-none, parts-refused, kept-end, kept-more, kept-fails, declarations-append}
 use Rattle.pb_text.proofs.sort.sort_parts.Goals as goal
 
@@ -26,7 +26,7 @@ returns-in_err-part c =
     let p = err_from_is_err_and c.from_residual-in_err-part.result c.from_residual-in_err-part.ensures.1 in
     let same : is_sort (kind c.parts.input) ≡ true = search rules in
     let n = c.parts.invariant.0 in
-    rw (p.1, p.2) (fails-as (sort_part c.parts.input) (sort_parts c.args.input.now) c.in_err-part.field-0.0
+    rw (p.1, p.2) (if_fault c.in_err-part.field-0.0
     (λ bad e. c.parts.invariant.2 ∙ ap (λ k. kept (map sort_declaration_form c.parts.sorts.items) k c.parts.input) (fuel n (length c.parts.input.tokens) c.parts.invariant.1)
     ∙ kept-fails (map sort_declaration_form c.parts.sorts.items) (n - 1) c.parts.input bad same e) c.in_err-part.ensures.reads)
 

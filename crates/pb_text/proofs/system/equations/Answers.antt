@@ -1,10 +1,11 @@
 use Rattle.std.proofs.Common.{rules, arith, ◌≡◌, ◌∙◌, ◌-◌, ◌∷◌, [], suc, true, false, length, vec_len, map, refl}
 use Rattle.std.proofs.lemmas.Result.{err_from_is_err_and}
 use Rattle.std.proofs.lemmas.List.{map-append}
+use Rattle.pb_errors.proofs.Faults.{if_fault}
 use Rattle.pb_text_tree.specs.Form.{equation_form}
 use Rattle.pb_text_lexer.specs.Steps.{kind, nothing_between}
-use Rattle.pb_text_lexer.proofs.LoopLemmas.{gathered-none, gathered-more, gathered-end, gathered-item-fails, fails-as}
-use Rattle.pb_text.specs.Reading.{equation, equations, begins_equation}
+use Rattle.pb_text_lexer.proofs.LoopLemmas.{gathered-none, gathered-more, gathered-end, gathered-item-fails}
+use Rattle.pb_text.specs.Reading.{equation, begins_equation}
 use Rattle.pb_text.proofs.system.equations.Goals as goal
 
 pub equations-init : goal.equations-init
@@ -16,7 +17,7 @@ equations-init c = record {
 pub returns-in_err-equation : goal.returns-in_err-equation
 returns-in_err-equation c =
     let p = err_from_is_err_and c.from_residual.result c.from_residual.ensures.1 in
-    rw (p.1, p.2) (fails-as (equation 64 c.equations.input) (equations 64 c.args.input.now) c.in_err-equation.field-0.0
+    rw (p.1, p.2) (if_fault c.in_err-equation.field-0.0
     (λ bad e. c.equations.invariant.reads ∙ gathered-item-fails (equation 64) begins_equation nothing_between (map equation_form c.equations.equations.items) (suc (length c.args.input.now.tokens) - vec_len c.equations.equations)
     (length c.args.input.now.tokens - vec_len c.equations.equations) c.equations.input bad (omega arith) e) c.in_err-equation.ensures.reads)
 

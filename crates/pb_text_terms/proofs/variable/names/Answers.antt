@@ -1,17 +1,18 @@
 use Rattle.std.proofs.Common.{rules, arith, ◌≡◌, ◌∙◌, ◌-◌, suc, true, false, length, map, vec_len}
 use Rattle.std.proofs.lemmas.Result.{err_from_is_err_and}
 use Rattle.std.proofs.lemmas.List.{map_push}
+use Rattle.pb_errors.proofs.Faults.{if_fault}
 use Rattle.pb_text_tree.specs.Form.{named}
 use Rattle.pb_text_lexer.specs.Steps.{kind, take_token}
 use Rattle.pb_text_lexer.specs.Tokens.{tok}
-use Rattle.pb_text_lexer.proofs.LoopLemmas.{fails-as, gathered-more, gathered-end, gathered-item-fails}
-use Rattle.pb_text_terms.specs.Reading.{name, names, is_comma}
+use Rattle.pb_text_lexer.proofs.LoopLemmas.{gathered-more, gathered-end, gathered-item-fails}
+use Rattle.pb_text_terms.specs.Reading.{name, is_comma}
 use Rattle.pb_text_terms.proofs.variable.names.Goals as goal
 
 pub returns-in_err-name-clause-reads : goal.returns-in_err-name-clause-reads
 returns-in_err-name-clause-reads c =
     let p = err_from_is_err_and c.from_residual-in_err-name.result c.from_residual-in_err-name.ensures.1 in
-    rw (p.1, p.2) (fails-as (name c.names.input) (names c.args.input.now) c.in_err-name.field-0.0
+    rw (p.1, p.2) (if_fault c.in_err-name.field-0.0
     (λ bad e. c.names.invariant.reads ∙ gathered-item-fails name is_comma take_token (map named c.names.names.items) (suc (length c.args.input.now.tokens) - vec_len c.names.names)
     (length c.args.input.now.tokens - vec_len c.names.names) c.names.input bad (omega arith) e) c.in_err-name.ensures.reads)
 

@@ -1,18 +1,19 @@
 use Rattle.std.proofs.Common.{rules, arith, ◌≡◌, ◌∙◌, ◌-◌, suc, true, false, length, map, vec_len}
 use Rattle.std.proofs.lemmas.Result.{err_from_is_err_and}
 use Rattle.std.proofs.lemmas.List.{map_push}
+use Rattle.pb_errors.proofs.Faults.{if_fault}
 use Rattle.pb_text_tree.specs.Form.{variables_form}
 use Rattle.pb_text_lexer.specs.Steps.{kind, take_token}
 use Rattle.pb_text_lexer.specs.Tokens.{tok}
-use Rattle.pb_text_lexer.proofs.LoopLemmas.{fails-as, gathered-more, gathered-end, gathered-item-fails}
-use Rattle.pb_text_terms.specs.Reading.{group, variables, is_comma}
+use Rattle.pb_text_lexer.proofs.LoopLemmas.{gathered-more, gathered-end, gathered-item-fails}
+use Rattle.pb_text_terms.specs.Reading.{group, is_comma}
 use Rattle.pb_text_terms.proofs.VariableLemmas.{variables-read, variables-fail}
 use Rattle.pb_text_terms.proofs.variable.variables.Goals as goal
 
 pub returns-in_err-group-clause-reads : goal.returns-in_err-group-clause-reads
 returns-in_err-group-clause-reads c =
     let p = err_from_is_err_and c.from_residual-in_err-group.result c.from_residual-in_err-group.ensures.1 in
-    rw (p.1, p.2) (fails-as (group c.groups.input) (variables c.args.input.now) c.in_err-group.field-0.0
+    rw (p.1, p.2) (if_fault c.in_err-group.field-0.0
     (λ bad e. variables-fail c.args.input.now bad (c.groups.invariant.reads
     ∙ gathered-item-fails group is_comma take_token (map variables_form c.groups.variables.items) (suc (length c.args.input.now.tokens) - vec_len c.groups.variables)
     (length c.args.input.now.tokens - vec_len c.groups.variables) c.groups.input bad (omega arith) e)) c.in_err-group.ensures.reads)
