@@ -1,6 +1,5 @@
 -- What the text of a property at a place says.
 use Rattle.std.proofs.Common.{◌≡◌, ℕ, Some, map, sym, subst}
-use Rattle.std.specs.Prelude.{All}
 use Rattle.std.specs.List.{slice_get}
 use Rattle.std.proofs.lemmas.List.Elements.{All-contains, All-tail}
 use Rattle.pb_text_tree.specs.Form.{SpecForm}
@@ -10,7 +9,7 @@ use Rattle.pb_typing_rules.specs.WellTyped.{IsWellTyped}
 use Rattle.pb_model_tree.specs.Form.{PropertyForm, ModelForm}
 use Rattle.pb_model_meaning.specs.Erase.{erase, erased_formula, erased_property}
 use Rattle.pb_model_meaning.specs.Satisfaction as meaning
-use Rattle.pb_model_meaning.specs.Syntax.{Formula, Property}
+use Rattle.pb_model_meaning.specs.Syntax.{Property}
 use Rattle.pb_model_translation.specs.Names.{translation}
 use Rattle.pb_model_typing.specs.Texts.{IsTypedModel, HasTypedText, every_step}
 use Rattle.pb_model_properties.specs.Said.{IsTextOf}

@@ -1,30 +1,24 @@
--- What an error says of the bytes of a model.
-use Rattle.std.specs.Prelude.{ℕ, List, Option, ⊤}
-use Rattle.pb_text.specs.declared.error.TextError.{TextError}
-use Rattle.pb_text.specs.declared.error.TextError.TheVariants as text_error
-use Rattle.pb_typing_declarations.specs.declared.fault.TypeError.{TypeError}
-use Rattle.pb_typing_declarations.specs.declared.fault.TypeError.TheVariants as type_error
+-- What a fault says of the bytes of a model.
+use Rattle.std.specs.Prelude.{ℕ, List, Option}
+use Rattle.pb_text.specs.declared.error.TextFault.{TextFault}
+use Rattle.pb_typing_declarations.specs.declared.fault.TypingFault.{TypingFault}
 use Rattle.pb_model_tree.specs.Form.{ModelForm}
 use Rattle.pb_model_text.specs.Parsing.{IsFirstFault, NoReading}
-use Rattle.pb_model_typing.specs.Texts.{IsModelError, IsTypedModel}
-use Rattle.pb_model_properties.specs.declared.error.ModelError.{ModelError}
-use Rattle.pb_model_properties.specs.declared.error.ModelError.TheVariants as error
+use Rattle.pb_model_typing.specs.Texts.{IsModelFault, IsTypedModel}
+use Rattle.pb_model_properties.specs.declared.error.ModelFault.{ModelFault}
+use Rattle.pb_model_properties.specs.declared.error.ModelFault.TheVariants as model_fault
 use Rattle.pb_model_properties.specs.Asked.{NoneIsAskedFor}
 use Rattle.pb_model_properties.specs.Said.{IsTheReading, IsModelOf}
 
 -- the bytes say no model within the limits, and the rule is broken at its place
-abbrev pub IsRefusedText : List ℕ → TextError → Type 0
-IsRefusedText bytes text_error.Memory = ⊥
-IsRefusedText bytes (text_error.Refused rule place) =
-    NoReading bytes (text_error.Refused rule place)
-    × IsFirstFault bytes (text_error.Refused rule place)
+abbrev pub IsRefusedText : List ℕ → TextFault → Type 0
+IsRefusedText bytes fault = NoReading bytes × IsFirstFault bytes fault
 
 -- the model that the bytes say is not well typed, and breaks the rule at its place
-abbrev pub IsRefusedType : List ℕ → TypeError → Type 0
-IsRefusedType bytes type_error.Memory = ⊥
-IsRefusedType bytes (type_error.At fault) =
+abbrev pub IsRefusedType : List ℕ → TypingFault → Type 0
+IsRefusedType bytes fault =
     (model : ModelForm) × IsTheReading bytes model × (¬ IsTypedModel model)
-    × IsModelError model (type_error.At fault)
+    × IsModelFault model fault
 
 -- the model that the bytes say has no property of the name
 abbrev pub LacksProperty : Option (List ℕ) → List ℕ → Type 0
@@ -32,13 +26,12 @@ LacksProperty name bytes =
     (model : ModelForm) × IsModelOf bytes model × NoneIsAskedFor name model.properties
 
 -- the bytes say no model that is well typed
-abbrev pub IsRefusedModel : List ℕ → ModelError → Type 0
-IsRefusedModel bytes (error.Text e) = IsRefusedText bytes e
-IsRefusedModel bytes (error.Typing e) = IsRefusedType bytes e
-IsRefusedModel bytes error.NoProperty = ⊥
-IsRefusedModel bytes (error.Memory e) = ⊤
+abbrev pub IsRefusedModel : List ℕ → ModelFault → Type 0
+IsRefusedModel bytes (model_fault.Text fault) = IsRefusedText bytes fault
+IsRefusedModel bytes (model_fault.Typing fault) = IsRefusedType bytes fault
+IsRefusedModel bytes model_fault.NoProperty = ⊥
 
 -- or it has no property of the name
-abbrev pub IsUntranslated : Option (List ℕ) → List ℕ → ModelError → Type 0
-IsUntranslated name bytes error.NoProperty = LacksProperty name bytes
-IsUntranslated name bytes e = IsRefusedModel bytes e
+abbrev pub IsUntranslated : Option (List ℕ) → List ℕ → ModelFault → Type 0
+IsUntranslated name bytes model_fault.NoProperty = LacksProperty name bytes
+IsUntranslated name bytes fault = IsRefusedModel bytes fault

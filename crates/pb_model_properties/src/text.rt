@@ -1,18 +1,20 @@
 //! The texts of a model's properties.
 
 ghost use Rattle.pb_limits.specs.declared.TheConstants.{MAX_INPUT_BYTES};
-ghost use Rattle.std.specs.Prelude.{◌≡◌, ◌<◌, ◌≤◌, ℕ, List, length, IfErr, IfOk, IsSome};
+ghost use Rattle.std.specs.Prelude.{◌≡◌, ◌<◌, ◌≤◌, ℕ, List, length, IfOk, IsSome};
 ghost use Rattle.std.specs.Prelude.{Err, Some, option_copied};
 ghost use Rattle.std.specs.List.{slice_get};
+ghost use Rattle.pb_errors.specs.declared.or_memory.OrMemory.TheVariants.{Refused};
+ghost use Rattle.pb_model_properties.specs.declared.error.ModelFault.TheVariants.{NoProperty};
+ghost use Rattle.pb_errors.specs.OrMemory.{IfRefused};
 ghost use Rattle.pb_text_tree.specs.Form.{spec_form};
-ghost use Rattle.pb_typing_declarations.specs.declared.fault.TypeError.TheVariants.{Memory};
 ghost use Rattle.pb_model_tree.specs.Form.{PropertyForm, model_form};
 ghost use Rattle.pb_model_properties.specs.Printed.{IsTranslation};
 ghost use Rattle.pb_model_properties.specs.Refusals.{IsUntranslated};
 ghost use Rattle.pb_model_properties.specs.Said.{IsModelOf, IsTextOf};
 
 use crate::asked::place_of;
-use crate::error::ModelError;
+use crate::error::{ModelError, ModelFault};
 use crate::read::read_model;
 use pb_model_spelling::{models_have_properties, translations_can_be_said};
 use pb_model_typing::{TypedModel, property_text};
@@ -21,9 +23,6 @@ use pb_typing::Typed;
 use std::alloc::{AllocError, Global};
 
 /// The text of the property at a place of a model that was read.
-///
-/// # Errors
-/// Memory was refused.
 pub fn text_at(alloc: Global, model: &TypedModel, place: usize) -> Result<Typed, AllocError>
     requires read { (bytes : List ℕ) × IsModelOf bytes (model_form model.now.model) }
     requires within { place < length model.now.model.properties.items }
@@ -31,10 +30,7 @@ pub fn text_at(alloc: Global, model: &TypedModel, place: usize) -> Result<Typed,
         → slice_get (model_form model.now.model).properties place ≡ Some p
         → IsTextOf (model_form model.now.model) p.formula (spec_form text.spec)) }
 {
-    match property_text(alloc, model, place) {
-        Ok(text) => Ok(text),
-        Err(_memory) => Err(AllocError),
-    }
+    property_text(alloc, model, place)
 }
 
 /// The text of a property of the model that bytes say, as it is printed: of the first property
@@ -51,16 +47,16 @@ pub fn translation_of(
     requires { length bytes.now ≤ MAX_INPUT_BYTES }
     ensures text { IfOk result
         (λ text. IsTranslation (option_copied name.entry) bytes.now text.items) }
-    ensures refused { IfErr result (IsUntranslated (option_copied name.entry) bytes.now) }
+    ensures refused { IfRefused result (IsUntranslated (option_copied name.entry) bytes.now) }
     // There is a first one.
-    ensures named { result ≡ Err ModelError.NoProperty → IsSome name.entry }
+    ensures named { result ≡ Err (Refused NoProperty) → IsSome name.entry }
 {
     models_have_properties();
     translations_can_be_said();
     sayable_text_is_read_back();
     let model = read_model(alloc, bytes)?;
     let Some(place) = place_of(&model.model.properties, name) else {
-        return Err(ModelError::NoProperty);
+        return Err(ModelFault::NoProperty.into());
     };
     let text = text_at(alloc, &model, place)?;
     Ok(print(alloc, &text.spec)?)

@@ -13,7 +13,8 @@ use Rattle.pb_text_tree.specs.declared.place.Place.{Place}
 use Rattle.pb_text_tree.specs.Form.{TermForm}
 use Rattle.pb_model_tree.specs.Form.{StepSetForm, FormulaForm, formula_form}
 use Rattle.pb_text_lexer.specs.declared.fault.Refusal.{Refusal}
-use Rattle.pb_text_lexer.specs.declared.fault.ReadingFault.{ReadingFault}
+use Rattle.pb_errors.specs.declared.or_memory.OrMemory.{OrMemory}
+use Rattle.pb_errors.proofs.Faults.{if_fault}
 use Rattle.pb_text_lexer.specs.declared.fault.ReadingRule.TheVariants.{Unexpected, Limit}
 use Rattle.pb_text_lexer.specs.declared.kind.Kind.{Kind}
 use Rattle.pb_text_lexer.specs.declared.kind.Kind.TheVariants as k
@@ -21,7 +22,7 @@ use Rattle.pb_text_lexer.specs.Grammar.{State}
 use Rattle.pb_text_lexer.specs.Kinds.{same_kind, is_last}
 use Rattle.pb_text_lexer.specs.Steps.{Step, Outcome, Gives, and_then, ◌>>=◌, pure, peek, refuse, refusal, kind, take_token, expect, unless_next, enter, chain}
 use Rattle.pb_text_lexer.specs.Tokens.{Tok, token_at}
-use Rattle.pb_text_lexer.proofs.LoopLemmas.{placed, resumed-first-fails, fails-as}
+use Rattle.pb_text_lexer.proofs.LoopLemmas.{placed, resumed-first-fails}
 use Rattle.pb_text_terms.specs.Operators.{symbol, is_connective}
 use Rattle.pb_text_terms.specs.Reading.{name, below}
 use Rattle.pb_text_terms.proofs.ReadLemmas.{below-is, resumed-alone-or-fails, no-connective}
@@ -172,10 +173,10 @@ module _ (scope : Scope) (depth : ℕ) (s s1 : State) (word : Tok) (entered : en
     pub bracketed-read : (t : Tok) (z : State) → unless_next goes_on (expect k.Close) s2 ≡ Ok (t, z) → node scope depth s ≡ Ok (x, z)
     bracketed-read t z closes = bracketed-closed ∙ rw closes refl
 
-  pub bracketed-closes : {T : Type 0} (view : T → Tok) (r : Result T ReadingFault) (f : Formula) (s2 z : State) → kind s ≡ k.Open → formula scope (depth - 1) s1 ≡ Ok (formula_form f, s2)
+  pub bracketed-closes : {T : Type 0} (view : T → Tok) (r : Result T (OrMemory Refusal)) (f : Formula) (s2 z : State) → kind s ≡ k.Open → formula scope (depth - 1) s1 ≡ Ok (formula_form f, s2)
       → Gives view (unless_next goes_on (expect k.Close) s2) r z → Gives formula_form (node scope depth s) (result_and r (Ok f)) z
   bracketed-closes view (Ok t) f s2 z is reads closes = bracketed-read is (formula_form f) s2 reads (view t) z closes
-  bracketed-closes view (Err fault) f s2 z is reads closes = fails-as (unless_next goes_on (expect k.Close) s2) (node scope depth s) fault (λ bad e. bracketed-close-fails is (formula_form f) s2 reads bad e) closes
+  bracketed-closes view (Err fault) f s2 z is reads closes = if_fault fault (λ bad e. bracketed-close-fails is (formula_form f) s2 reads bad e) closes
 
   -- a modality
   module _ (m : Modality) (is : kind s ≡ opening m) where
@@ -242,14 +243,14 @@ pub primary-fails : (scope : Scope) (depth : ℕ) (s : State) (bad : Refusal) �
 primary-fails scope depth s bad fails = conjunction-fails scope depth s bad (level-fails And scope depth s bad fails)
 
 -- an operand behind which the connective doesn't stand
-pub level-alone-or-fails : (c : Connective) (scope : Scope) (depth : ℕ) (s z : State) (r : Result Formula ReadingFault) → Gives formula_form (operand c scope depth s) r z → same_kind (kind z) (symbol c) ≡ false
+pub level-alone-or-fails : (c : Connective) (scope : Scope) (depth : ℕ) (s z : State) (r : Result Formula (OrMemory Refusal)) → Gives formula_form (operand c scope depth s) r z → same_kind (kind z) (symbol c) ≡ false
     → Gives formula_form (level c scope depth s) r z
 level-alone-or-fails c scope depth s z r reads other =
     subst (λ (o : Outcome FormulaForm). Gives formula_form o r z) (sym (level-chain c scope depth s))
     (resumed-alone-or-fails (symbol c) (FormulaForm.connected c) (operand c scope depth) formula_form (length s.tokens) s z r reads other)
 
 -- a first part behind which no connective stands
-pub primary-alone-or-fails : (scope : Scope) (depth : ℕ) (s z : State) (r : Result Formula ReadingFault) → Gives formula_form (primary scope depth s) r z → is_connective (kind z) ≡ false
+pub primary-alone-or-fails : (scope : Scope) (depth : ℕ) (s z : State) (r : Result Formula (OrMemory Refusal)) → Gives formula_form (primary scope depth s) r z → is_connective (kind z) ≡ false
     → Gives formula_form (formula scope depth s) r z
 primary-alone-or-fails scope depth s z r reads other =
     level-alone-or-fails Implies scope depth s z r

@@ -1,15 +1,17 @@
 -- What a reader gives, where its result is known.
 use Rattle.std.proofs.Common.{◌≡◌, Result, Ok, Err, OnOk, subst}
-use Rattle.pb_text_lexer.specs.declared.fault.ReadingFault.{ReadingFault}
+use Rattle.pb_errors.specs.OrMemory.{IfFault}
+use Rattle.pb_errors.specs.declared.or_memory.OrMemory.{OrMemory}
+use Rattle.pb_text_lexer.specs.declared.fault.Refusal.{Refusal}
 use Rattle.pb_text_lexer.specs.Grammar.{State}
-use Rattle.pb_text_lexer.specs.Steps.{Outcome, Gives, Fails}
+use Rattle.pb_text_lexer.specs.Steps.{Outcome, Gives}
 
-module _ {X Y : Type 0} (view : X → Y) (read : Outcome Y) (r : Result X ReadingFault) (new : State) where
-  pub fails-where : (fault : ReadingFault) → r ≡ Err fault → Gives view read r new → Fails read fault
-  fails-where fault is gives = subst (λ (v : Result X ReadingFault). Gives view read v new) is gives
+module _ {X Y : Type 0} (view : X → Y) (read : Outcome Y) (r : Result X (OrMemory Refusal)) (new : State) where
+  pub fails-where : (fault : OrMemory Refusal) → r ≡ Err fault → Gives view read r new → IfFault fault (λ refused. read ≡ Err refused)
+  fails-where fault is gives = subst (λ (v : Result X (OrMemory Refusal)). Gives view read v new) is gives
 
   pub reads-where : (x : X) → r ≡ Ok x → Gives view read r new → read ≡ Ok (view x, new)
-  reads-where x is gives = subst (λ (v : Result X ReadingFault). Gives view read v new) is gives
+  reads-where x is gives = subst (λ (v : Result X (OrMemory Refusal)). Gives view read v new) is gives
 
 pub on-ok-where : {X E : Type 0} (r : Result X E) (x : X) (P : Type 0) → r ≡ Ok x → OnOk r P → P
 on-ok-where {X} {E} r x P is h = subst (λ (v : Result X E). OnOk v P) is h

@@ -8,8 +8,9 @@ use Rattle.pb_model_tree.specs.Form.{ModelForm, model_form}
 use Rattle.pb_text_lexer.specs.declared.fault.ReadingRule.{ReadingRule}
 use Rattle.pb_text_lexer.specs.declared.fault.ReadingRule.TheVariants.{Unexpected, Limit}
 use Rattle.pb_text_lexer.specs.declared.fault.Refusal.{Refusal}
-use Rattle.pb_text_lexer.specs.declared.fault.ReadingFault.{ReadingFault}
-use Rattle.pb_text_lexer.specs.declared.fault.ReadingFault.TheVariants.{Memory, At}
+use Rattle.pb_errors.specs.OrMemory.{IfFault}
+use Rattle.pb_errors.specs.declared.or_memory.OrMemory.{OrMemory}
+use Rattle.pb_errors.proofs.Faults.{if_fault}
 use Rattle.pb_text_lexer.specs.declared.kind.Kind.{Kind}
 use Rattle.pb_text_lexer.specs.declared.kind.Kind.TheVariants.{Unknown, LargeNumber, RangeLine}
 use Rattle.pb_text_lexer.specs.declared.language.Language.TheVariants as language
@@ -23,9 +24,11 @@ use Rattle.pb_text_lexer.proofs.Correct.{st}
 use Rattle.pb_text_lexer.proofs.CutLemmas.{same-cut, stands, whole-cut}
 use Rattle.pb_text_lexer.proofs.RemainingLemmas.{tokens-end}
 use Rattle.pb_model_text.specs.Grammar.{IsModelText}
-use Rattle.pb_text.specs.Parsing.{depth_limit, operator_limit, rule_of, error_of}
+use Rattle.pb_text.specs.declared.error.TextFault.{TextFault}
+use Rattle.pb_text.specs.Parsing.{depth_limit, operator_limit, rule_of, fault_of}
 use Rattle.pb_model_text.specs.Parsing.{IsReading, IsReadingWithin, AtMostOneReading, BeginsNextModel, IsRefusal, IsBroken, IsFirstFaultBy, NoReading, IsFirstFault}
 use Rattle.pb_model_text.specs.Reading.{whole_model}
+use Rattle.pb_text.proofs.Raised.{Answers, Raised, ok-raised, err-raised}
 use Rattle.pb_model_text.proofs.CorrectModel.{IsFault, IsRead, Reading, whole-reads, with-ranges}
 
 abbrev pub all_tokens : List ℕ → List Tok
@@ -113,33 +116,44 @@ stands-by bytes bad f =
 
 -- ---- what reading the tokens of a text answers
 
-abbrev pub Answered : List ℕ → Result Model ReadingFault → Type 0
-Answered bytes (Ok s) = IsRead depth_limit operator_limit (all_tokens bytes) [] (model_form s)
-Answered bytes (Err Memory) = Unit {0}
-Answered bytes (Err (At bad)) = IsFault depth_limit operator_limit (all_tokens bytes) bad
+abbrev GivesFault : Refusal → TextFault → Type 0
+GivesFault bad fault = fault ≡ fault_of bad
 
-answered-by : (bytes : List ℕ) (o : Outcome ModelForm) (result : Result Model ReadingFault) (z : State) → Gives model_form o result z → Reading [] depth_limit (st (all_tokens bytes) operator_limit) o → Answered bytes result
+abbrev IsSaid : List ℕ → Model → Type 0
+IsSaid bytes s = IsRead depth_limit operator_limit (all_tokens bytes) [] (model_form s)
+
+abbrev IsFaultOf : List ℕ → Refusal → Type 0
+IsFaultOf bytes bad = IsFault depth_limit operator_limit (all_tokens bytes) bad
+
+abbrev pub Answered : List ℕ → Result Model (OrMemory Refusal) → Type 0
+Answered bytes result = Answers (IsSaid bytes) (IsFaultOf bytes) result
+
+answered-by : (bytes : List ℕ) (o : Outcome ModelForm) (result : Result Model (OrMemory Refusal)) (z : State) → Gives model_form o result z → Reading [] depth_limit (st (all_tokens bytes) operator_limit) o → Answered bytes result
 answered-by bytes o (Ok s) z is h = subst (λ (v : Outcome ModelForm). Reading [] depth_limit (st (all_tokens bytes) operator_limit) v) is h
-answered-by bytes o (Err Memory) z is h = tt
-answered-by bytes o (Err (At bad)) z is h = subst (λ (v : Outcome ModelForm). Reading [] depth_limit (st (all_tokens bytes) operator_limit) v) is h
+answered-by bytes o (Err error) z is h = if_fault error (λ bad is. subst (λ (v : Outcome ModelForm). Reading [] depth_limit (st (all_tokens bytes) operator_limit) v) is h) is
 
-pub answered : (bytes : List ℕ) (s : State) (result : Result Model ReadingFault) (z : State) → s ≡ st (all_tokens bytes) operator_limit → Gives model_form (whole_model [] depth_limit s) result z → Answered bytes result
+pub answered : (bytes : List ℕ) (s : State) (result : Result Model (OrMemory Refusal)) (z : State) → s ≡ st (all_tokens bytes) operator_limit → Gives model_form (whole_model [] depth_limit s) result z → Answered bytes result
 answered bytes s result z is h =
     answered-by bytes (whole_model [] depth_limit (st (all_tokens bytes) operator_limit)) result z
     (subst (λ (v : State). Gives model_form (whole_model [] depth_limit v) result z) is h)
     (whole-reads [] depth_limit (st (all_tokens bytes) operator_limit) (tokens-end language.Model start bytes))
 
 -- what a tree says whose ranges are put in is what the bytes say
-pub ranged : (bytes : List ℕ) (s t : Model) → Answered bytes (Ok s) → model_form t ≡ record (model_form s) { ranges = map range_form t.ranges.items }
+pub ranged : (bytes : List ℕ) (s t : Model) → IsSaid bytes s → model_form t ≡ record (model_form s) { ranges = map range_form t.ranges.items }
     → map range_form t.ranges.items ≡ all_ranges bytes → IsRead depth_limit operator_limit (all_tokens bytes) (all_ranges bytes) (model_form t)
 ranged bytes s t a is same =
     let e : record (model_form s) { ranges = all_ranges bytes } ≡ model_form t = ap (λ (v : List RangeForm). record (model_form s) { ranges = v }) (sym same) ∙ sym is in
     subst (λ (v : ModelForm). IsRead depth_limit operator_limit (all_tokens bytes) (all_ranges bytes) v) e (with-ranges (all_ranges bytes) depth_limit operator_limit (all_tokens bytes) (model_form s) a)
 
-pub refused-is : (bytes : List ℕ) (fault : ReadingFault) → Answered bytes (Err fault) → NoReading bytes (error_of fault)
-refused-is bytes Memory h = tt
-refused-is bytes (At bad) h = no-reading bytes bad h
+-- of a tree that is read, and of a fault, where the error is that of the layer above
+module _ (bytes : List ℕ) (below : Result Model (OrMemory Refusal)) (h : Answered bytes below) where
+  pub said : (s : Model) → Raised GivesFault below (Ok s) → IsSaid bytes s
+  said s is = ok-raised GivesFault (IsSaid bytes) (IsFaultOf bytes) below s is h
 
-pub stands-is : (bytes : List ℕ) (fault : ReadingFault) → Answered bytes (Err fault) → IsFirstFault bytes (error_of fault)
-stands-is bytes Memory h = tt
-stands-is bytes (At bad) h = stands-by bytes bad h
+  module _ (error : OrMemory TextFault) (is : Raised GivesFault below (Err error)) where
+    pub refused-is : IfFault error (λ fault. NoReading bytes)
+    refused-is = err-raised GivesFault (IsSaid bytes) (IsFaultOf bytes) (λ fault. NoReading bytes) below error is (λ bad fault made f. no-reading bytes bad f) h
+
+    pub stands-is : IfFault error (IsFirstFault bytes)
+    stands-is = err-raised GivesFault (IsSaid bytes) (IsFaultOf bytes) (IsFirstFault bytes) below error is
+        (λ bad fault made f. subst (λ (v : TextFault). IsFirstFault bytes v) (sym made) (stands-by bytes bad f)) h

@@ -14,8 +14,7 @@ use Rattle.pb_text_lexer.specs.Lexing.{IsCutIn, IsDefectIn, BeginsIn}
 use Rattle.pb_text_lexer.specs.Tokens.{Tok}
 use Rattle.pb_text.specs.declared.error.TextRule.{TextRule}
 use Rattle.pb_text.specs.declared.error.TextRule.TheVariants as rule
-use Rattle.pb_text.specs.declared.error.TextError.{TextError}
-use Rattle.pb_text.specs.declared.error.TextError.TheVariants as error
+use Rattle.pb_text.specs.declared.error.TextFault.{TextFault}
 use Rattle.pb_text.specs.Parsing.{depth_limit, operator_limit}
 use Rattle.pb_model_text.specs.Grammar.{IsModelText}
 
@@ -91,10 +90,9 @@ IsFirstFaultBy rule.LargeNumber bytes place = IsBroken bytes k.LargeNumber place
 IsFirstFaultBy rule.LimitExceeded bytes place = IsRefusal bytes refused.Limit place
 IsFirstFaultBy rule.RangeLine bytes place = IsBroken bytes k.RangeLine place
 
-abbrev pub IsFirstFault : List ℕ → TextError → Type 0
-IsFirstFault bytes error.Memory = Unit {0}
-IsFirstFault bytes (error.Refused rule place) = IsFirstFaultBy rule bytes place
+abbrev pub IsFirstFault : List ℕ → TextFault → Type 0
+IsFirstFault bytes fault = IsFirstFaultBy fault.rule bytes fault.place
 
-abbrev pub NoReading : List ℕ → TextError → Type 0
-NoReading bytes error.Memory = Unit {0}
-NoReading bytes (error.Refused rule place) = (x : ModelForm) → IsReading bytes x → ⊥
+-- the bytes say no model within the limits
+abbrev pub NoReading : List ℕ → Type 0
+NoReading bytes = (x : ModelForm) → IsReading bytes x → ⊥

@@ -12,7 +12,7 @@ ghost use Rattle.pb_model_text.specs.Reading.{names_of};
 
 use crate::scope::{Scope, is_bound};
 use pb_model_tree::Formula;
-use pb_text_lexer::fault::ReadingFault;
+use pb_text_lexer::fault::ReadingError;
 use pb_text_lexer::input::Input;
 use pb_text_lexer::kind::{Kind, same_kind};
 use pb_text_terms::node::applied;
@@ -34,7 +34,7 @@ pub fn goes_on(kind: Kind) -> bool
 
 /// An operand of data, in which so many levels may open.
 #[tactic(auto, unfolding(crate::specs::Reading::data_operand))]
-pub fn data_operand(input: &mut Input<'_>, alloc: Global, depth: u32) -> Result<Term, ReadingFault>
+pub fn data_operand(input: &mut Input<'_>, alloc: Global, depth: u32) -> Result<Term, ReadingError>
     ensures reads { Gives term_form (reading.data_operand depth input.old) result input.new }
     ensures fewer { OnOk result (length input.new.tokens < length input.old.tokens) }
 {
@@ -61,7 +61,7 @@ pub fn name_atom<'a>(
     input: &mut Input<'a>,
     alloc: Global,
     scope: Scope<'_, 'a>,
-) -> Result<Formula, ReadingFault>
+) -> Result<Formula, ReadingError>
     requires { spec.kind input.old ≡ Kind.Name }
     ensures reads { Gives formula_form (reading.atom
         (grammar.atom_of (names_of scope.entry.names.now))
@@ -80,7 +80,7 @@ pub fn name_atom<'a>(
 /// Data that begins with a number or with `-`.
 #[inline(never)]
 #[tactic(auto, unfolding(crate::specs::Reading::data_operand))]
-pub fn data_atom(input: &mut Input<'_>, alloc: Global, depth: u32) -> Result<Formula, ReadingFault>
+pub fn data_atom(input: &mut Input<'_>, alloc: Global, depth: u32) -> Result<Formula, ReadingError>
     ensures reads { Gives formula_form (reading.atom FormulaForm.«data»
         (reading.data_operand depth) input.old) result input.new }
     ensures fewer { OnOk result (length input.new.tokens < length input.old.tokens) }

@@ -22,7 +22,7 @@ use crate::pair::both;
 use crate::scope::Scope;
 use pb_fixpoint::Sign;
 use pb_model_tree::{Formula, Link, Modality};
-use pb_text_lexer::fault::{ReadingFault, ReadingRule, Refusal};
+use pb_text_lexer::fault::{ReadingError, ReadingRule, Refusal};
 use pb_text_lexer::input::Input;
 use pb_text_lexer::kind::{Kind, same_kind};
 use pb_text_lexer::token::Token;
@@ -67,7 +67,7 @@ fn unless_going_on(input: &Input<'_>) -> Result<(), Refusal>
 
 /// `)`, behind which data doesn't go on.
 #[inline(never)]
-fn close<'a>(input: &mut Input<'a>) -> Result<Token<'a>, ReadingFault>
+fn close<'a>(input: &mut Input<'a>) -> Result<Token<'a>, ReadingError>
     ensures reads { Gives tok (spec.unless_next reading.goes_on (spec.expect Kind.Close) input.old)
         result input.new }
     ensures fewer { OnOk result (length input.new.tokens < length input.old.tokens) }
@@ -84,7 +84,7 @@ fn negation<'a>(
     input: &mut Input<'a>,
     alloc: Global,
     scope: Scope<'_, 'a>,
-) -> Result<Formula, ReadingFault>
+) -> Result<Formula, ReadingError>
     requires { spec.kind input.old ≡ Kind.Not }
     ensures reads { Gives formula_form (reading.node (names_of scope.entry.names.now)
         scope.entry.depth input.old) result input.new }
@@ -105,7 +105,7 @@ fn bracketed<'a>(
     input: &mut Input<'a>,
     alloc: Global,
     scope: Scope<'_, 'a>,
-) -> Result<Formula, ReadingFault>
+) -> Result<Formula, ReadingError>
     requires { spec.kind input.old ≡ Kind.Open }
     ensures reads { Gives formula_form (reading.node (names_of scope.entry.names.now)
         scope.entry.depth input.old) result input.new }
@@ -126,7 +126,7 @@ fn modal<'a>(
     alloc: Global,
     scope: Scope<'_, 'a>,
     modality: Modality,
-) -> Result<Formula, ReadingFault>
+) -> Result<Formula, ReadingError>
     requires { spec.kind input.old ≡ reading.opening modality }
     ensures reads { Gives formula_form (reading.node (names_of scope.entry.names.now)
         scope.entry.depth input.old) result input.new }
@@ -148,7 +148,7 @@ fn value<'a>(
     input: &mut Input<'a>,
     alloc: Global,
     scope: Scope<'_, 'a>,
-) -> Result<Formula, ReadingFault>
+) -> Result<Formula, ReadingError>
     requires { spec.kind input.old ≡ Kind.Val }
     ensures reads { Gives formula_form (reading.node (names_of scope.entry.names.now)
         scope.entry.depth input.old) result input.new }
@@ -162,7 +162,7 @@ fn value<'a>(
 
 /// `true` or `false`.
 #[inline(never)]
-fn constant(input: &mut Input<'_>, value: bool) -> Result<Formula, ReadingFault>
+fn constant(input: &mut Input<'_>, value: bool) -> Result<Formula, ReadingError>
     requires { is_last (spec.kind input.old) ≡ false }
     ensures reads { Gives formula_form (reading.truth value input.old) result input.new }
     ensures fewer { OnOk result (length input.new.tokens < length input.old.tokens) }
@@ -179,7 +179,7 @@ fn node<'a>(
     input: &mut Input<'a>,
     alloc: Global,
     scope: Scope<'_, 'a>,
-) -> Result<Formula, ReadingFault>
+) -> Result<Formula, ReadingError>
     ensures reads { Gives formula_form (reading.node (names_of scope.entry.names.now)
         scope.entry.depth input.old) result input.new }
     ensures fewer { OnOk result (length input.new.tokens < length input.old.tokens) }
@@ -195,7 +195,7 @@ fn node<'a>(
         Kind::Name => name_atom(input, alloc, scope),
         Kind::Number => data_atom(input, alloc, scope.depth),
         Kind::Minus => data_atom(input, alloc, scope.depth),
-        _ => Err(ReadingFault::At(input.refuse(ReadingRule::Unexpected))),
+        _ => Err(ReadingError::Refused(input.refuse(ReadingRule::Unexpected))),
     }
 }
 
@@ -207,7 +207,7 @@ fn body<'a>(
     alloc: Global,
     scope: Scope<'_, 'a>,
     name: &'a str,
-) -> Result<Formula, ReadingFault>
+) -> Result<Formula, ReadingError>
     ensures reads { Gives formula_form (reading.formula
         (grammar.within (names_of scope.entry.names.now) name.now) scope.entry.depth input.old)
         result input.new }
@@ -228,7 +228,7 @@ fn fixpoint<'a>(
     alloc: Global,
     scope: Scope<'_, 'a>,
     sign: Sign,
-) -> Result<Formula, ReadingFault>
+) -> Result<Formula, ReadingError>
     requires { reading.sign_of (spec.kind input.old) ≡ Some sign }
     ensures reads { Gives formula_form (reading.fixpoint (names_of scope.entry.names.now)
         scope.entry.depth input.old) result input.new }
@@ -260,7 +260,7 @@ fn operand<'a>(
     alloc: Global,
     connective: Connective,
     scope: Scope<'_, 'a>,
-) -> Result<Formula, ReadingFault>
+) -> Result<Formula, ReadingError>
     ensures reads { Gives formula_form (reading.operand connective (names_of scope.entry.names.now)
         scope.entry.depth input.old) result input.new }
     ensures fewer { OnOk result (length input.new.tokens < length input.old.tokens) }
@@ -283,7 +283,7 @@ fn links_behind<'a>(
     alloc: Global,
     connective: Connective,
     scope: Scope<'_, 'a>,
-) -> Result<Vec<Link>, ReadingFault>
+) -> Result<Vec<Link>, ReadingError>
     ensures reads { (s : State) (x : FormulaForm) → reading.operand connective
         (names_of scope.entry.names.now) scope.entry.depth s ≡ Ok (x, input.old)
         → length input.old.tokens < length s.tokens
@@ -310,7 +310,7 @@ fn chain<'a>(
     connective: Connective,
     scope: Scope<'_, 'a>,
     first: Formula,
-) -> Result<Formula, ReadingFault>
+) -> Result<Formula, ReadingError>
     ensures reads { (s : State) → reading.operand connective (names_of scope.entry.names.now)
         scope.entry.depth s ≡ Ok (formula_form first, input.old)
         → length input.old.tokens < length s.tokens
@@ -332,7 +332,7 @@ fn chain_behind<'a>(
     connective: Connective,
     scope: Scope<'_, 'a>,
     first: Formula,
-) -> Result<Formula, ReadingFault>
+) -> Result<Formula, ReadingError>
     ensures reads { (s : State) → reading.operand connective (names_of scope.entry.names.now)
         scope.entry.depth s ≡ Ok (formula_form first, input.old)
         → length input.old.tokens < length s.tokens
@@ -353,7 +353,7 @@ fn level<'a>(
     alloc: Global,
     connective: Connective,
     scope: Scope<'_, 'a>,
-) -> Result<Formula, ReadingFault>
+) -> Result<Formula, ReadingError>
     ensures reads { Gives formula_form (reading.level connective (names_of scope.entry.names.now)
         scope.entry.depth input.old) result input.new }
     ensures fewer { OnOk result (length input.new.tokens < length input.old.tokens) }
@@ -373,7 +373,7 @@ fn connectives_behind<'a>(
     alloc: Global,
     scope: Scope<'_, 'a>,
     first: Formula,
-) -> Result<Formula, ReadingFault>
+) -> Result<Formula, ReadingError>
     ensures reads { (s : State) → reading.primary (names_of scope.entry.names.now)
         scope.entry.depth s ≡ Ok (formula_form first, input.old)
         → length input.old.tokens < length s.tokens
@@ -392,7 +392,7 @@ pub fn formula<'a>(
     input: &mut Input<'a>,
     alloc: Global,
     scope: Scope<'_, 'a>,
-) -> Result<Formula, ReadingFault>
+) -> Result<Formula, ReadingError>
     ensures reads { Gives formula_form (reading.formula (names_of scope.entry.names.now)
         scope.entry.depth input.old) result input.new }
     ensures fewer { OnOk result (length input.new.tokens < length input.old.tokens) }

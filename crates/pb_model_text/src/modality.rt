@@ -7,7 +7,7 @@ ghost use Rattle.pb_model_text.specs.Reading as reading;
 
 use crate::step_set::step_set;
 use pb_model_tree::{Formula, Modality, StepSet};
-use pb_text_lexer::fault::ReadingFault;
+use pb_text_lexer::fault::ReadingError;
 use pb_text_lexer::input::Input;
 use pb_text_lexer::kind::Kind;
 use pb_text_tree::Place;
@@ -50,7 +50,7 @@ pub fn modal_steps(
     alloc: Global,
     depth: u32,
     modality: Modality,
-) -> Result<StepSet, ReadingFault>
+) -> Result<StepSet, ReadingError>
     ensures reads { Gives step_set_form
         (reading.modal_steps modality (reading.step_set depth) input.old) result input.new }
     ensures fewer { OnOk result (length input.new.tokens < length input.old.tokens) }

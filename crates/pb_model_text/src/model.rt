@@ -12,7 +12,7 @@ use crate::step::steps;
 use pb_limits::MAX_DEPTH;
 use pb_model_tree::{InitialState, Model, Property};
 use pb_text::sort::sort_parts;
-use pb_text_lexer::fault::{ReadingFault, ReadingRule};
+use pb_text_lexer::fault::{ReadingError, ReadingRule};
 use pb_text_lexer::input::Input;
 use pb_text_lexer::kind::{Kind, same_kind};
 use pb_text_terms::term::argument_list;
@@ -21,7 +21,7 @@ use std::alloc::Global;
 
 /// `init`, the values of the state variables and `;`.
 #[tactic(auto, unfolding(crate::specs::Reading::initial_parts))]
-fn initial_parts(input: &mut Input<'_>, alloc: Global) -> Result<InitialState, ReadingFault>
+fn initial_parts(input: &mut Input<'_>, alloc: Global) -> Result<InitialState, ReadingError>
     ensures { Gives initial_form (reading.initial_parts depth_limit input.old) result input.new }
 {
     let place = input.expect(Kind::Init)?.place;
@@ -32,7 +32,7 @@ fn initial_parts(input: &mut Input<'_>, alloc: Global) -> Result<InitialState, R
 
 /// The initial state, with all the operators that it may have.
 #[tactic(auto, unfolding(crate::specs::Reading::initial))]
-fn initial(input: &mut Input<'_>, alloc: Global) -> Result<InitialState, ReadingFault>
+fn initial(input: &mut Input<'_>, alloc: Global) -> Result<InitialState, ReadingError>
     ensures { Gives initial_form (reading.initial depth_limit input.old) result input.new }
 {
     let allowed = input.operators();
@@ -43,7 +43,7 @@ fn initial(input: &mut Input<'_>, alloc: Global) -> Result<InitialState, Reading
 
 /// `property`, a name, `=`, a formula and `;`.
 #[tactic(auto, unfolding(crate::specs::Reading::property_parts))]
-fn property_parts(input: &mut Input<'_>, alloc: Global) -> Result<Property, ReadingFault>
+fn property_parts(input: &mut Input<'_>, alloc: Global) -> Result<Property, ReadingError>
     ensures reads { Gives property_form
         (reading.property_parts depth_limit input.old) result input.new }
     ensures fewer { OnOk result (length input.new.tokens < length input.old.tokens) }
@@ -62,7 +62,7 @@ fn property_parts(input: &mut Input<'_>, alloc: Global) -> Result<Property, Read
 
 /// A property, with all the operators that one may have.
 #[tactic(auto, unfolding(crate::specs::Reading::property))]
-fn property(input: &mut Input<'_>, alloc: Global) -> Result<Property, ReadingFault>
+fn property(input: &mut Input<'_>, alloc: Global) -> Result<Property, ReadingError>
     ensures reads { Gives property_form (reading.property depth_limit input.old) result input.new }
     ensures fewer { OnOk result (length input.new.tokens < length input.old.tokens) }
 {
@@ -73,7 +73,7 @@ fn property(input: &mut Input<'_>, alloc: Global) -> Result<Property, ReadingFau
 }
 
 /// One property or more.
-fn properties(input: &mut Input<'_>, alloc: Global) -> Result<Vec<Property>, ReadingFault>
+fn properties(input: &mut Input<'_>, alloc: Global) -> Result<Vec<Property>, ReadingError>
     ensures { Gives (λ v. map property_form v.items)
         (reading.properties depth_limit input.old) result input.new }
 {
@@ -89,7 +89,7 @@ fn properties(input: &mut Input<'_>, alloc: Global) -> Result<Vec<Property>, Rea
 
 /// Sorts, `model`, the state, steps, the initial state and properties, without ranges.
 #[tactic(auto, unfolding(crate::specs::Reading::model))]
-fn model(input: &mut Input<'_>, alloc: Global) -> Result<Model, ReadingFault>
+fn model(input: &mut Input<'_>, alloc: Global) -> Result<Model, ReadingError>
     ensures { Gives model_form (reading.model [] depth_limit input.old) result input.new }
 {
     let sorts = sort_parts(input, alloc)?;
@@ -113,13 +113,13 @@ fn model(input: &mut Input<'_>, alloc: Global) -> Result<Model, ReadingFault>
 
 /// The model that all tokens are, without ranges.
 #[tactic(auto, unfolding(crate::specs::Reading::whole_model))]
-pub fn whole(input: &mut Input<'_>, alloc: Global) -> Result<Model, ReadingFault>
+pub fn whole(input: &mut Input<'_>, alloc: Global) -> Result<Model, ReadingError>
     ensures { Gives model_form (reading.whole_model [] depth_limit input.old) result input.new }
 {
     let model = model(input, alloc)?;
     if same_kind(input.kind(), Kind::End) {
         Ok(model)
     } else {
-        Err(ReadingFault::At(input.refuse(ReadingRule::Unexpected)))
+        Err(ReadingError::Refused(input.refuse(ReadingRule::Unexpected)))
     }
 }

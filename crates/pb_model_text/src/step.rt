@@ -9,7 +9,7 @@ ghost use Rattle.pb_model_text.specs.Reading as reading;
 use pb_limits::MAX_DEPTH;
 use pb_model_tree::{Assignment, Step};
 use pb_text::system::parameters;
-use pb_text_lexer::fault::ReadingFault;
+use pb_text_lexer::fault::ReadingError;
 use pb_text_lexer::input::Input;
 use pb_text_lexer::kind::{Kind, same_kind};
 use pb_text_terms::term::term;
@@ -19,7 +19,7 @@ use std::alloc::Global;
 
 /// A state variable, `:=` and the term whose value it gets.
 #[tactic(auto, unfolding(crate::specs::Reading::assignment))]
-fn assignment(input: &mut Input<'_>, alloc: Global) -> Result<Assignment, ReadingFault>
+fn assignment(input: &mut Input<'_>, alloc: Global) -> Result<Assignment, ReadingError>
     ensures reads { Gives assignment_form
         (reading.assignment depth_limit input.old) result input.new }
     ensures fewer { OnOk result (length input.new.tokens < length input.old.tokens) }
@@ -33,7 +33,7 @@ fn assignment(input: &mut Input<'_>, alloc: Global) -> Result<Assignment, Readin
 }
 
 /// Assignments with commas between them.
-fn assignments(input: &mut Input<'_>, alloc: Global) -> Result<Vec<Assignment>, ReadingFault>
+fn assignments(input: &mut Input<'_>, alloc: Global) -> Result<Vec<Assignment>, ReadingError>
     ensures reads { Gives (λ v. map assignment_form v.items)
         (reading.assignments depth_limit input.old) result input.new }
     ensures fewer { OnOk result (length input.new.tokens < length input.old.tokens) }
@@ -51,7 +51,7 @@ fn assignments(input: &mut Input<'_>, alloc: Global) -> Result<Vec<Assignment>, 
 
 /// A name with its variables, `:`, a guard, `->`, assignments and `;`.
 #[tactic(auto, unfolding(crate::specs::Reading::step_parts))]
-fn step_parts(input: &mut Input<'_>, alloc: Global) -> Result<Step, ReadingFault>
+fn step_parts(input: &mut Input<'_>, alloc: Global) -> Result<Step, ReadingError>
     ensures reads { Gives step_form (reading.step_parts depth_limit input.old) result input.new }
     ensures fewer { OnOk result (length input.new.tokens < length input.old.tokens) }
 {
@@ -72,7 +72,7 @@ fn step_parts(input: &mut Input<'_>, alloc: Global) -> Result<Step, ReadingFault
 
 /// A step, with all the operators that one may have.
 #[tactic(auto, unfolding(crate::specs::Reading::step))]
-fn step(input: &mut Input<'_>, alloc: Global) -> Result<Step, ReadingFault>
+fn step(input: &mut Input<'_>, alloc: Global) -> Result<Step, ReadingError>
     ensures reads { Gives step_form (reading.step depth_limit input.old) result input.new }
     ensures fewer { OnOk result (length input.new.tokens < length input.old.tokens) }
 {
@@ -83,7 +83,7 @@ fn step(input: &mut Input<'_>, alloc: Global) -> Result<Step, ReadingFault>
 }
 
 /// One step or more.
-pub fn steps(input: &mut Input<'_>, alloc: Global) -> Result<Vec<Step>, ReadingFault>
+pub fn steps(input: &mut Input<'_>, alloc: Global) -> Result<Vec<Step>, ReadingError>
     ensures { Gives (λ v. map step_form v.items)
         (reading.steps depth_limit input.old) result input.new }
 {

@@ -10,7 +10,7 @@ ghost use Rattle.pb_model_text.specs.Links.{step_set_links};
 ghost use Rattle.pb_model_text.specs.Reading as reading;
 
 use pb_model_tree::{StepSet, StepSetLink};
-use pb_text_lexer::fault::{ReadingFault, ReadingRule};
+use pb_text_lexer::fault::{ReadingError, ReadingRule};
 use pb_text_lexer::input::Input;
 use pb_text_lexer::kind::{Kind, same_kind};
 use pb_text_terms::variable::name;
@@ -32,7 +32,7 @@ fn joined(alloc: Global, first: StepSet, links: Vec<StepSetLink>) -> Result<Step
 #[cycle(step_sets)]
 #[inline(never)]
 #[tactic(auto, unfolding(crate::specs::Reading::set))]
-fn complement(input: &mut Input<'_>, alloc: Global, depth: u32) -> Result<StepSet, ReadingFault>
+fn complement(input: &mut Input<'_>, alloc: Global, depth: u32) -> Result<StepSet, ReadingError>
     requires { spec.kind input.old ≡ Kind.Not }
     ensures reads { Gives step_set_form (reading.set depth input.old) result input.new }
     ensures fewer { OnOk result (length input.new.tokens < length input.old.tokens) }
@@ -47,7 +47,7 @@ fn complement(input: &mut Input<'_>, alloc: Global, depth: u32) -> Result<StepSe
 #[cycle(step_sets)]
 #[inline(never)]
 #[tactic(auto, unfolding(crate::specs::Reading::set))]
-fn bracketed(input: &mut Input<'_>, alloc: Global, depth: u32) -> Result<StepSet, ReadingFault>
+fn bracketed(input: &mut Input<'_>, alloc: Global, depth: u32) -> Result<StepSet, ReadingError>
     requires { spec.kind input.old ≡ Kind.Open }
     ensures reads { Gives step_set_form (reading.set depth input.old) result input.new }
     ensures fewer { OnOk result (length input.new.tokens < length input.old.tokens) }
@@ -62,7 +62,7 @@ fn bracketed(input: &mut Input<'_>, alloc: Global, depth: u32) -> Result<StepSet
 /// open.
 #[cycle(step_sets)]
 #[tactic(auto, unfolding(crate::specs::Reading::set))]
-fn set(input: &mut Input<'_>, alloc: Global, depth: u32) -> Result<StepSet, ReadingFault>
+fn set(input: &mut Input<'_>, alloc: Global, depth: u32) -> Result<StepSet, ReadingError>
     ensures reads { Gives step_set_form (reading.set depth input.old) result input.new }
     ensures fewer { OnOk result (length input.new.tokens < length input.old.tokens) }
 {
@@ -74,13 +74,13 @@ fn set(input: &mut Input<'_>, alloc: Global, depth: u32) -> Result<StepSet, Read
         Kind::Name => Ok(StepSet::Step(name(input, alloc)?)),
         Kind::Not => complement(input, alloc, depth),
         Kind::Open => bracketed(input, alloc, depth),
-        _ => Err(ReadingFault::At(input.refuse(ReadingRule::Unexpected))),
+        _ => Err(ReadingError::Refused(input.refuse(ReadingRule::Unexpected))),
     }
 }
 
 /// Sets of steps with `||` between them, in which so many levels may open.
 #[cycle(step_sets)]
-pub fn step_set(input: &mut Input<'_>, alloc: Global, depth: u32) -> Result<StepSet, ReadingFault>
+pub fn step_set(input: &mut Input<'_>, alloc: Global, depth: u32) -> Result<StepSet, ReadingError>
     ensures reads { Gives step_set_form (reading.step_set depth input.old) result input.new }
     ensures fewer { OnOk result (length input.new.tokens < length input.old.tokens) }
 {

@@ -1,11 +1,13 @@
 //! From bytes to a syntax tree.
 
 ghost use Rattle.pb_limits.specs.declared.TheConstants.{MAX_INPUT_BYTES};
-ghost use Rattle.std.specs.Prelude.{◌≡◌, ◌≤◌, ℕ, length, IfOk, IfErr};
+ghost use Rattle.std.specs.Prelude.{◌≡◌, ◌≤◌, ℕ, length, IfOk};
+ghost use Rattle.pb_errors.specs.OrMemory.{IfRefused, OnRefused};
 ghost use Rattle.pb_model_tree.specs.Form.{ModelForm, model_form};
 ghost use Rattle.pb_model_text.specs.Parsing.{IsReading, IsReadingWithin, NoReading, IsFirstFault};
 
 use crate::model::whole;
+use pb_errors::OrMemory;
 use pb_limits::MAX_OPERATORS;
 use pb_model_tree::Model;
 use pb_text::error::TextError;
@@ -32,15 +34,15 @@ pub fn parse_model(alloc: Global, bytes: &[u8]) -> Result<Model, TextError>
     ensures only { IfOk result (λ m. (d n : ℕ) (x : ModelForm) → IsReadingWithin d n bytes.now x
         → x ≡ model_form m) }
     // Only where they say nothing within the limits, or memory runs out, is there no model.
-    ensures refused { IfErr result (λ e. NoReading bytes.now e) }
+    ensures refused { OnRefused result (NoReading bytes.now) }
     // The fault stands at its place, and nothing that is no token stands before it. Some model
     // begins with the tokens before it, so P02 stands at the first with which none goes on; and no
     // token before it is past a limit. At P04 no model within the limits begins with that token
     // too, so it is the first past a limit; with one level and one operator more some model does.
-    ensures stands { IfErr result (λ e. IsFirstFault bytes.now e) }
+    ensures stands { IfRefused result (IsFirstFault bytes.now) }
 {
     let mut input = Input::new(Language::Model, bytes, MAX_OPERATORS as u32);
-    let mut model = whole(&mut input, alloc)?;
+    let mut model = whole(&mut input, alloc).map_err(OrMemory::raise)?;
     model.ranges = ranges(alloc, Language::Model, bytes)?;
     Ok(model)
 }

@@ -23,11 +23,12 @@ use Rattle.pb_model_meaning.specs.Erase.{erase, erased_property, model_of}
 use Rattle.pb_model_names.specs.View.{formula_of}
 use Rattle.pb_model_translation.proofs.Answer.{translations_have_the_answer}
 use Rattle.pb_typing_declarations.specs.declared.fault.TypingFault.{TypingFault}
-use Rattle.pb_typing_declarations.specs.declared.fault.TypeError.{TypeError}
-use Rattle.pb_typing_declarations.specs.declared.fault.TypeError.TheVariants.{Memory, At}
+use Rattle.pb_errors.specs.OrMemory.{IfFault}
+use Rattle.pb_errors.specs.declared.or_memory.OrMemory.{OrMemory}
+use Rattle.pb_errors.proofs.Faults.{if_fault}
 use Rattle.pb_model_typing.specs.Faults.{model_faults}
 use Rattle.pb_model_typing.specs.Laws.{FormulasAreDecided}
-use Rattle.pb_model_typing.specs.Texts.{every_step, checked_formulas, HasTypedText, IsTypedModel, IsTextError, IsErrorOfTexts, IsModelError}
+use Rattle.pb_model_typing.specs.Texts.{every_step, checked_formulas, HasTypedText, IsTypedModel, IsTextFault, IsFaultOfTexts, IsModelFault}
 use Rattle.pb_model_typing.proofs.Apart.{names_are_apart}
 
 pub formulas_are_decided : FormulasAreDecided
@@ -50,10 +51,9 @@ pub formula-within : (ps : List tree.Property) (k : ℕ) → k < length ps → s
 formula-within ps k below = omega (arith, formulas-length ps)
 
 module _ (m : Model) where
-  -- the error of one formula's text is one of all
-  pub error-of : (fs : List Formula) (f : Formula) (e : TypeError) → Contains fs f → IsTextError m f e → IsErrorOfTexts m fs e
-  error-of fs f Memory among h = tt
-  error-of fs f (At fault) among h = (f, among, h)
+  -- the fault of one formula's text is one of all
+  pub fault-of : (fs : List Formula) (f : Formula) (e : OrMemory TypingFault) → Contains fs f → IfFault e (IsTextFault m f) → IfFault e (IsFaultOfTexts m fs)
+  fault-of fs f e among = if_fault e (λ fault h. (f, among, h))
 
   pub among-formulas : (ps : List tree.Property) (k : ℕ) (x : tree.Property) → k < length ps → x ≡ get_or ps k x → Contains (every_step ∷ formulas_in ps) (formula_of x.formula)
   among-formulas ps k x below at = (suc k, formula-within ps k below, formula-at ps k x below at (formula_of x.formula))
@@ -77,32 +77,22 @@ module _ (m : Model) where
       not (subst (λ (f : Formula). HasTypedText m f) (formula-at ps k x below at (formula_of x.formula)) (all (suc k) (formula_of x.formula) (formula-within ps k below)))
 
   -- a fault of the text that was made
-  pub text-error : (f : Formula) (t : SpecForm) (e : TypeError) → text.erase t ≡ translation m f → IsAmong (faults t) e → IsTextError m f e
-  text-error f t Memory is h = tt
-  text-error f t (At fault) is h = (t, is, h)
+  pub text-fault : (f : Formula) (t : SpecForm) (e : OrMemory TypingFault) → text.erase t ≡ translation m f → IsAmong (faults t) e → IfFault e (IsTextFault m f)
+  text-fault f t e is = if_fault e (λ fault h. (t, is, h))
 
 -- ---- models
 
-none-there : (e : TypeError) → IsAmong [] e → (e ≡ Memory → ⊥) → ⊥
-none-there Memory h other = other refl
-none-there (At fault) h other = absurd (omega (arith, h.1))
-
 module _ (model : ModelForm) where
   -- a fault of its own rules
-  pub rule-error : (e : TypeError) → IsAmong (model_faults model) e → IsModelError model e
-  rule-error Memory h = tt
-  rule-error (At fault) h = inl h
+  pub rule-fault : (e : OrMemory TypingFault) → IsAmong (model_faults model) e → IfFault e (IsModelFault model)
+  rule-fault e = if_fault e (λ fault h. inl h)
 
-  pub rule-broken : (e : TypeError) → IsAmong (model_faults model) e → (e ≡ Memory → ⊥) → IsTypedModel model → ⊥
-  rule-broken e h other typed = none-there e (subst (λ (zs : List TypingFault). IsAmong zs e) typed.rules h) other
+  pub rule-broken : (e : OrMemory TypingFault) → IsAmong (model_faults model) e → IfFault e (λ _. ¬ IsTypedModel model)
+  rule-broken e = if_fault e (λ fault h typed. let none : Contains [] fault = subst (λ (zs : List TypingFault). Contains zs fault) typed.rules h in omega (arith, none.1))
 
   -- or of its texts
-  pub texts-error : (e : TypeError) → IsErrorOfTexts (erase model) (checked_formulas (erase model)) e → IsModelError model e
-  texts-error Memory h = tt
-  texts-error (At fault) h = inr h
-
-pub not-memory : (e : TypeError) (fault : TypingFault) → e ≡ At fault → e ≡ Memory → ⊥
-not-memory e fault is other = cc
+  pub texts-fault : (e : OrMemory TypingFault) → IfFault e (IsFaultOfTexts (erase model) (checked_formulas (erase model))) → IfFault e (IsModelFault model)
+  texts-fault e = if_fault e (λ fault h. inr h)
 
 -- ---- the text of a property
 

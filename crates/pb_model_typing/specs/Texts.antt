@@ -1,6 +1,6 @@
 -- Which models are well typed: their own rules hold, and so do those of the texts of their
 -- properties, and of one text in which each step stands.
-use Rattle.std.specs.Prelude.{◌≡◌, List, [], ◌∷◌, map, codes, All, Contains, ⊤, ◌⊎◌}
+use Rattle.std.specs.Prelude.{◌≡◌, List, [], ◌∷◌, map, codes, All, Contains, ◌⊎◌}
 use Rattle.pb_fixpoint.specs.declared.Sign.TheVariants.{Nu}
 use Rattle.pb_text_tree.specs.Form.{SpecForm}
 use Rattle.pb_text_meaning.specs.Erase as text
@@ -9,8 +9,6 @@ use Rattle.pb_model_meaning.specs.Syntax.{StepSet, Formula, Property, Model}
 use Rattle.pb_model_meaning.specs.Erase.{erase}
 use Rattle.pb_model_translation.specs.Names.{translation}
 use Rattle.pb_typing_declarations.specs.declared.fault.TypingFault.{TypingFault}
-use Rattle.pb_typing_declarations.specs.declared.fault.TypeError.{TypeError}
-use Rattle.pb_typing_declarations.specs.declared.fault.TypeError.TheVariants.{Memory, At}
 use Rattle.pb_typing_rules.specs.Faults.{faults}
 use Rattle.pb_typing_rules.specs.WellTyped.{IsWellTyped}
 use Rattle.pb_model_typing.specs.Faults.{model_faults}
@@ -43,18 +41,8 @@ IsTextFault m f fault =
 abbrev pub IsFaultOfTexts : Model → List Formula → TypingFault → Type 0
 IsFaultOfTexts m fs fault = (f : Formula) × (Contains fs f) × IsTextFault m f fault
 
--- an error that isn't want of memory is such a fault
-abbrev pub IsTextError : Model → Formula → TypeError → Type 0
-IsTextError m f Memory = ⊤
-IsTextError m f (At fault) = IsTextFault m f fault
-
-abbrev pub IsErrorOfTexts : Model → List Formula → TypeError → Type 0
-IsErrorOfTexts m fs Memory = ⊤
-IsErrorOfTexts m fs (At fault) = IsFaultOfTexts m fs fault
-
--- an error that isn't want of memory is a fault of the model's own rules or of one of its texts
-abbrev pub IsModelError : ModelForm → TypeError → Type 0
-IsModelError model Memory = ⊤
-IsModelError model (At fault) =
+-- of the model's own rules or of one of its texts
+abbrev pub IsModelFault : ModelForm → TypingFault → Type 0
+IsModelFault model fault =
     Contains (model_faults model) fault
     ⊎ IsFaultOfTexts (erase model) (checked_formulas (erase model)) fault

@@ -1,10 +1,11 @@
 //! The rules of the texts to which properties are translated.
 
-ghost use Rattle.std.specs.Prelude.{◌≡◌, ◌≢◌, All, IfOk, IfErr, OnOk};
+ghost use Rattle.std.specs.Prelude.{◌≡◌, All, IfOk, OnOk};
+ghost use Rattle.pb_errors.specs.OrMemory.{IfRefused, OnRefused};
 ghost use Rattle.pb_model_meaning.specs.Erase.{model_of};
 ghost use Rattle.pb_model_names.specs.View.{formula_of};
 ghost use Rattle.pb_model_typing.specs.Texts as typed;
-ghost use Rattle.pb_model_typing.specs.Texts.{HasTypedText, IsErrorOfTexts, IsTextError};
+ghost use Rattle.pb_model_typing.specs.Texts.{HasTypedText, IsFaultOfTexts, IsTextFault};
 ghost use Rattle.pb_model_typing.specs.Texts.{checked_formulas};
 
 use pb_fixpoint::Sign;
@@ -17,10 +18,10 @@ use std::alloc::{AllocError, Global};
 
 fn check_text(alloc: Global, model: &Model, formula: &Formula) -> Result<(), TypeError>
     ensures accepted { OnOk result (HasTypedText (model_of model.now) (formula_of formula.now)) }
-    ensures fails { IfErr result
-        (IsTextError (model_of model.now) (formula_of formula.now)) }
-    ensures ill_typed { IfErr result (λ error. error ≢ TypeError.Memory
-        → ¬ HasTypedText (model_of model.now) (formula_of formula.now)) }
+    ensures fails { IfRefused result
+        (IsTextFault (model_of model.now) (formula_of formula.now)) }
+    ensures ill_typed { OnRefused result
+        (¬ HasTypedText (model_of model.now) (formula_of formula.now)) }
 {
     let text = translate_formula(alloc, model, formula)?;
     match check(alloc, text) {
@@ -55,10 +56,10 @@ fn every_step(alloc: Global, place: Place) -> Result<Formula, AllocError>
 pub(crate) fn check_texts(alloc: Global, model: &Model) -> Result<(), TypeError>
     ensures accepted { OnOk result
         (All (HasTypedText (model_of model.now)) (checked_formulas (model_of model.now))) }
-    ensures fails { IfErr result
-        (IsErrorOfTexts (model_of model.now) (checked_formulas (model_of model.now))) }
-    ensures ill_typed { IfErr result (λ error. error ≢ TypeError.Memory
-        → ¬ All (HasTypedText (model_of model.now)) (checked_formulas (model_of model.now))) }
+    ensures fails { IfRefused result
+        (IsFaultOfTexts (model_of model.now) (checked_formulas (model_of model.now))) }
+    ensures ill_typed { OnRefused result
+        (¬ All (HasTypedText (model_of model.now)) (checked_formulas (model_of model.now))) }
 {
     let steps = every_step(alloc, model.initial.place)?;
     check_text(alloc, model, &steps)?;

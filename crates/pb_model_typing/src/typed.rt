@@ -1,7 +1,8 @@
 //! Models that are accepted, and the texts of their properties.
 
-ghost use Rattle.std.specs.Prelude.{◌≡◌, ◌≢◌, ◌<◌, length, IfErr, IfOk, OnOk, Some};
+ghost use Rattle.std.specs.Prelude.{◌≡◌, ◌<◌, length, IfOk, OnOk, Some};
 ghost use Rattle.std.specs.List.{slice_get};
+ghost use Rattle.pb_errors.specs.OrMemory.{IfRefused, OnRefused};
 ghost use Rattle.pb_text_tree.specs.Form.{spec_form};
 ghost use Rattle.pb_text_meaning.specs.Erase.{erase};
 ghost use Rattle.pb_text_meaning.specs.Meaning.{answer};
@@ -10,7 +11,7 @@ ghost use Rattle.pb_model_meaning.specs.Erase.{model_of};
 ghost use Rattle.pb_model_meaning.specs.Satisfaction.{satisfies};
 ghost use Rattle.pb_model_meaning.specs.Syntax as syntax;
 ghost use Rattle.pb_model_translation.specs.Names.{translation};
-ghost use Rattle.pb_model_typing.specs.Texts.{IsModelError, IsTypedModel};
+ghost use Rattle.pb_model_typing.specs.Texts.{IsModelFault, IsTypedModel};
 
 use crate::rules::check_rules;
 use crate::texts::check_texts;
@@ -18,7 +19,7 @@ use pb_model_translator::translate;
 use pb_model_tree::Model;
 use pb_typing::{Typed, check};
 use pb_typing_declarations::TypeError;
-use std::alloc::Global;
+use std::alloc::{AllocError, Global};
 
 /// A model that is well typed, and so are the texts of its properties.
 #[derive(Drop)]
@@ -39,9 +40,8 @@ pub struct TypedModel {
 pub fn check_model(alloc: Global, model: Model) -> Result<TypedModel, TypeError>
     ensures kept { IfOk result (λ typed. typed.model ≡ model) }
     ensures accepted { OnOk result (IsTypedModel (model_form model)) }
-    ensures fails { IfErr result (IsModelError (model_form model)) }
-    ensures ill_typed { IfErr result (λ error. error ≢ TypeError.Memory
-        → ¬ IsTypedModel (model_form model)) }
+    ensures fails { IfRefused result (IsModelFault (model_form model)) }
+    ensures ill_typed { OnRefused result (¬ IsTypedModel (model_form model)) }
 {
     check_rules(alloc, &model)?;
     check_texts(alloc, &model)?;
@@ -50,10 +50,11 @@ pub fn check_model(alloc: Global, model: Model) -> Result<TypedModel, TypeError>
 
 /// The text of the property at a place, which is well typed. Its answer is true exactly where the
 /// model satisfies the property.
-///
-/// # Errors
-/// `TypeError::Memory` alone: memory was refused.
-pub fn property_text(alloc: Global, typed: &TypedModel, property: usize) -> Result<Typed, TypeError>
+pub fn property_text(
+    alloc: Global,
+    typed: &TypedModel,
+    property: usize,
+) -> Result<Typed, AllocError>
     requires { property < length typed.now.model.properties.items }
     ensures text { IfOk result (λ text. (p : syntax.Property)
         → slice_get (model_of typed.now.model).properties property ≡ Some p
@@ -61,12 +62,10 @@ pub fn property_text(alloc: Global, typed: &TypedModel, property: usize) -> Resu
     ensures answer { IfOk result (λ text. (p : syntax.Property)
         → slice_get (model_of typed.now.model).properties property ≡ Some p
         → answer (erase (spec_form text.spec)) ≡ satisfies (model_of typed.now.model) p.formula) }
-    ensures memory { IfErr result (λ error. error ≡ TypeError.Memory) }
 {
     let text = translate(alloc, &typed.model, property)?;
     match check(alloc, text) {
         Ok(text) => Ok(text),
-        Err((_text, TypeError::Memory)) => Err(TypeError::Memory),
-        Err((_text, TypeError::At(_))) => unreachable!(),
+        Err((_text, error)) => Err(error.only_memory()),
     }
 }

@@ -1,20 +1,20 @@
 use Rattle.std.proofs.Common.{rules, ◌≡◌, true, false, Ok}
 use Rattle.std.proofs.lemmas.Result.{err_from_is_err_and}
+use Rattle.pb_errors.proofs.Faults.{if_fault}
 use Rattle.pb_text_tree.specs.Form.{term_form, instance_form}
 use Rattle.pb_text_lexer.specs.Steps.{kind}
-use Rattle.pb_text_lexer.proofs.LoopLemmas.{fails-as}
 use Rattle.pb_text_terms.specs.Operators.{is_operator}
-use Rattle.pb_text_terms.specs.Reading.{equated, unary, instance}
+use Rattle.pb_text_terms.specs.Reading.{unary}
 use Rattle.pb_text_terms.proofs.ReadLemmas.{name-is}
 use Rattle.pb_model_text.specs.Grammar.{atom_of}
-use Rattle.pb_model_text.specs.Reading.{names_of, atom, data_operand}
+use Rattle.pb_model_text.specs.Reading.{names_of}
 use Rattle.pb_model_text.proofs.AtomLemmas.{atom-fails, named-fails, named-alone, named-operated}
 use Rattle.pb_model_text.proofs.atom.name_atom.Goals as goal
 
 pub returns-in_err-instance-clause-reads : goal.returns-in_err-instance-clause-reads
 returns-in_err-instance-clause-reads c =
     let p = err_from_is_err_and c.from_residual.result c.from_residual.ensures.1 in
-    rw (p.1, p.2) (fails-as (instance c.args.scope.depth c.args.input.now) (atom (atom_of (names_of c.args.scope.names.now)) (data_operand c.args.scope.depth) c.args.input.now) c.in_err-instance.field-0.0
+    rw (p.1, p.2) (if_fault c.in_err-instance.field-0.0
     (λ bad e. named-fails (names_of c.args.scope.names.now) c.args.scope.depth c.args.input.now c.requires bad e) c.in_err-instance.ensures.reads)
 
 pub returns-then-not-is_operator-clause-reads : goal.returns-then-not-is_operator-clause-reads
@@ -28,7 +28,7 @@ returns-in_err-term-clause-reads c =
     let p = err_from_is_err_and c.from_residual-in_err-term.result c.from_residual-in_err-term.ensures.1 in
     let first : unary c.args.scope.depth c.args.input.now ≡ Ok (term_form c.applied.result, c.instance.new.input) =
     rw c.applied.ensures (name-is c.args.scope.depth c.args.input.now c.instance.new.input (instance_form c.in_ok-instance.instance) c.requires c.in_ok-instance.ensures.reads) in
-    rw (p.1, p.2) (fails-as (equated (unary c.args.scope.depth) c.args.input.now) (atom (atom_of (names_of c.args.scope.names.now)) (data_operand c.args.scope.depth) c.args.input.now) c.in_err-term.field-0.0
+    rw (p.1, p.2) (if_fault c.in_err-term.field-0.0
     (λ bad e. atom-fails (atom_of (names_of c.args.scope.names.now)) c.args.scope.depth c.args.input.now bad e) (c.in_err-term.ensures.reads c.args.input.now first))
 
 pub returns-clause-reads : goal.returns-clause-reads

@@ -1,20 +1,20 @@
 use Rattle.std.specs.Prelude.{string_bytes}
 use Rattle.std.proofs.Common.{rules, arith, ℕ, List, refl, sym, ap, subst, ◌≡◌, ◌<◌, ◌-◌, length, true, false, vec_len, ◌∙◌, Ok, Vec, Global}
 use Rattle.std.proofs.lemmas.Result.{err_from_is_err_and}
-use Rattle.pb_text_tree.specs.declared.operator.Connective.TheVariants.{And, Or}
+use Rattle.pb_errors.proofs.Faults.{if_fault}
 use Rattle.pb_model_tree.specs.Form.{FormulaForm, formula_form, step_set_form}
 use Rattle.pb_model_tree.specs.declared.formula.Link.{Link}
 use Rattle.pb_text_tree.specs.Form.{chained}
 use Rattle.pb_model_text.specs.Links.{link_forms}
 use Rattle.pb_text_lexer.specs.Kinds.{same_kind}
 use Rattle.pb_text_lexer.specs.declared.kind.Kind.TheVariants as k
-use Rattle.pb_text_lexer.specs.Steps.{Outcome, Gives, kind, expect, unless_next}
+use Rattle.pb_text_lexer.specs.Steps.{Outcome, Gives, kind}
 use Rattle.pb_text_lexer.specs.Tokens.{tok}
-use Rattle.pb_text_lexer.proofs.LoopLemmas.{resumed-first, resumed-first-fails, resumed-end, resumed-more, resumed-operator-fails, resumed-operand-fails, fails-as}
+use Rattle.pb_text_lexer.proofs.LoopLemmas.{resumed-first, resumed-first-fails, resumed-end, resumed-more, resumed-operator-fails, resumed-operand-fails}
 use Rattle.pb_text_terms.specs.Operators.{symbol, is_connective}
 use Rattle.pb_text_terms.proofs.ReadLemmas.{on-fewer}
 use Rattle.pb_model_text.specs.Grammar.{within}
-use Rattle.pb_model_text.specs.Reading.{fixpoint, node, names_of, primary, formula, operand, level, step_set, modal_steps, goes_on}
+use Rattle.pb_model_text.specs.Reading.{node, names_of, formula, operand, level}
 use Rattle.pb_model_text.proofs.PairLemmas.{fails-where, reads-where, on-ok-where}
 use Rattle.pb_model_text.proofs.FormulaLemmas.{node-at, node-enter-fails, negation-fails, negation-read, bracketed-fails, bracketed-closes, and-fewer, modal-enter-fails, modal-steps-fail, modal-operand-fails, modal-read, fixpoint-name-fails, fixpoint-period-fails, fixpoint-body-fails, fixpoint-read, level-chain, links-last, node-other, level-alone-or-fails, conjunction-fails, disjunction-fails, primary-fails, primary-alone-or-fails}
 use Rattle.pb_model_text.proofs.formula.+formulas.Goals as goal
@@ -31,7 +31,7 @@ node-returns-in_default t c = rw c.refuse.ensures (record {
 pub level-returns-in_err-first-clause-reads : goal.level-returns-in_err-first-clause-reads
 level-returns-in_err-first-clause-reads t c =
     let p = err_from_is_err_and c.from_residual.result c.from_residual.ensures.1 in
-    rw (p.1, p.2) (fails-as (operand c.args.connective (names_of c.args.scope.names.now) c.args.scope.depth c.args.input.now) (level c.args.connective (names_of c.args.scope.names.now) c.args.scope.depth c.args.input.now) c.in_err-first.field-0.0
+    rw (p.1, p.2) (if_fault c.in_err-first.field-0.0
     (λ bad e. level-chain c.args.connective (names_of c.args.scope.names.now) c.args.scope.depth c.args.input.now
     ∙ resumed-first-fails (symbol c.args.connective) (FormulaForm.connected c.args.connective) (operand c.args.connective (names_of c.args.scope.names.now) c.args.scope.depth) (length c.args.input.now.tokens) c.args.input.now bad e) c.in_err-first.ensures.reads)
 
@@ -59,7 +59,7 @@ links_behind-returns-in_err-operand-clause-reads t c s x h fewer =
     let p = err_from_is_err_and c.from_residual-in_err-operand.result c.from_residual-in_err-operand.ensures.1 in
     let same : same_kind (kind c.links.input) (symbol c.args.connective) ≡ true = search rules in
     let some : 0 < length s.tokens - vec_len c.links.links = omega arith in
-    rw (p.1, p.2) (fails-as (operand c.args.connective (names_of c.args.scope.names.now) c.args.scope.depth c.take_operator.new.self) (level c.args.connective (names_of c.args.scope.names.now) c.args.scope.depth s) c.in_err-operand.field-0.0
+    rw (p.1, p.2) (if_fault c.in_err-operand.field-0.0
     (λ bad e. c.links.invariant.reads s x h fewer ∙ resumed-operand-fails (symbol c.args.connective) (FormulaForm.connected c.args.connective) (operand c.args.connective (names_of c.args.scope.names.now) c.args.scope.depth)
     (length s.tokens - vec_len c.links.links) _ (link_forms c.links.links.items)
     c.links.input c.take_operator.new.self (tok c.in_ok-place.field-0) bad some same c.in_ok-place.ensures.reads e) c.in_err-operand.ensures.reads)
@@ -110,14 +110,14 @@ chain_behind-returns-clause-reads t c s h fewer = c.chain.ensures.reads s h fewe
 pub connectives_behind-returns-in_err-conjunction-clause-reads : goal.connectives_behind-returns-in_err-conjunction-clause-reads
 connectives_behind-returns-in_err-conjunction-clause-reads t c s h fewer =
     let p = err_from_is_err_and c.from_residual.result c.from_residual.ensures.1 in
-    rw (p.1, p.2) (fails-as (level And (names_of c.args.scope.names.now) c.args.scope.depth s) (formula (names_of c.args.scope.names.now) c.args.scope.depth s) c.in_err-conjunction.field-0.0
+    rw (p.1, p.2) (if_fault c.in_err-conjunction.field-0.0
     (λ bad e. conjunction-fails (names_of c.args.scope.names.now) c.args.scope.depth s bad e) (c.in_err-conjunction.ensures.reads s h fewer))
 
 pub connectives_behind-returns-in_err-disjunction-clause-reads : goal.connectives_behind-returns-in_err-disjunction-clause-reads
 connectives_behind-returns-in_err-disjunction-clause-reads t c s h fewer =
     let p = err_from_is_err_and c.from_residual-in_err-disjunction.result c.from_residual-in_err-disjunction.ensures.1 in
     let less : length c.chain_behind.new.input.tokens < length s.tokens = omega (arith, c.in_ok-conjunction.ensures.fewer, fewer) in
-    rw (p.1, p.2) (fails-as (level Or (names_of c.args.scope.names.now) c.args.scope.depth s) (formula (names_of c.args.scope.names.now) c.args.scope.depth s) c.in_err-disjunction.field-0.0
+    rw (p.1, p.2) (if_fault c.in_err-disjunction.field-0.0
     (λ bad e. disjunction-fails (names_of c.args.scope.names.now) c.args.scope.depth s bad e) (c.in_err-disjunction.ensures.reads s (c.in_ok-conjunction.ensures.reads s h fewer) less))
 
 pub connectives_behind-returns-clause-reads : goal.connectives_behind-returns-clause-reads
@@ -129,7 +129,7 @@ connectives_behind-returns-clause-reads t c s h fewer =
 pub formula-returns-in_err-first-clause-reads : goal.formula-returns-in_err-first-clause-reads
 formula-returns-in_err-first-clause-reads t c =
     let p = err_from_is_err_and c.from_residual.result c.from_residual.ensures.1 in
-    rw (p.1, p.2) (fails-as (primary (names_of c.args.scope.names.now) c.args.scope.depth c.args.input.now) (formula (names_of c.args.scope.names.now) c.args.scope.depth c.args.input.now) c.in_err-first.field-0.0
+    rw (p.1, p.2) (if_fault c.in_err-first.field-0.0
     (λ bad e. primary-fails (names_of c.args.scope.names.now) c.args.scope.depth c.args.input.now bad e) c.in_err-first.ensures.reads)
 
 pub formula-returns-then-not-is_connective-clause-reads : goal.formula-returns-then-not-is_connective-clause-reads
@@ -151,7 +151,7 @@ negation-returns-in_err-place-clause-reads t c =
 pub negation-returns-in_err-operand-clause-reads : goal.negation-returns-in_err-operand-clause-reads
 negation-returns-in_err-operand-clause-reads t c =
     let p = err_from_is_err_and c.from_residual-in_err-operand.result c.from_residual-in_err-operand.ensures.1 in
-    rw (p.1, p.2) (fails-as (node (names_of c.args.scope.names.now) (c.args.scope.depth - 1) c.enter.new.self) (node (names_of c.args.scope.names.now) c.args.scope.depth c.args.input.now) c.in_err-operand.field-0.0
+    rw (p.1, p.2) (if_fault c.in_err-operand.field-0.0
     (λ bad e. negation-fails (names_of c.args.scope.names.now) c.args.scope.depth c.args.input.now c.enter.new.self (tok c.in_ok-place.field-0) c.in_ok-place.ensures.reads c.in_ok-place.ensures.deeper c.requires bad e) c.in_err-operand.ensures.reads)
 
 pub negation-returns-clause-reads : goal.negation-returns-clause-reads
@@ -168,13 +168,13 @@ modal-returns-in_err-place-clause-reads t c =
 pub modal-returns-in_err-steps-clause-reads : goal.modal-returns-in_err-steps-clause-reads
 modal-returns-in_err-steps-clause-reads t c =
     let p = err_from_is_err_and c.from_residual-in_err-steps.result c.from_residual-in_err-steps.ensures.1 in
-    rw (p.1, p.2) (fails-as (modal_steps c.args.modality (step_set (c.args.scope.depth - 1)) c.enter.new.self) (node (names_of c.args.scope.names.now) c.args.scope.depth c.args.input.now) c.in_err-steps.field-0.0
+    rw (p.1, p.2) (if_fault c.in_err-steps.field-0.0
     (λ bad e. modal-steps-fail (names_of c.args.scope.names.now) c.args.scope.depth c.args.input.now c.enter.new.self (tok c.in_ok-place.field-0) c.in_ok-place.ensures.reads c.in_ok-place.ensures.deeper c.args.modality c.requires bad e) c.in_err-steps.ensures.reads)
 
 pub modal-returns-in_err-within-clause-reads : goal.modal-returns-in_err-within-clause-reads
 modal-returns-in_err-within-clause-reads t c =
     let p = err_from_is_err_and c.from_residual-in_err-within.result c.from_residual-in_err-within.ensures.1 in
-    rw (p.1, p.2) (fails-as (node (names_of c.args.scope.names.now) (c.args.scope.depth - 1) c.modal_steps.new.input) (node (names_of c.args.scope.names.now) c.args.scope.depth c.args.input.now) c.in_err-within.field-0.0
+    rw (p.1, p.2) (if_fault c.in_err-within.field-0.0
     (λ bad e. modal-operand-fails (names_of c.args.scope.names.now) c.args.scope.depth c.args.input.now c.enter.new.self (tok c.in_ok-place.field-0) c.in_ok-place.ensures.reads c.in_ok-place.ensures.deeper c.args.modality c.requires (step_set_form c.in_ok-steps.steps) c.modal_steps.new.input c.in_ok-steps.ensures.reads bad e)
     (fails-where formula_form (node (names_of c.args.scope.names.now) (c.args.scope.depth - 1) c.modal_steps.new.input) c.node-operand.result c.node-operand.new.input c.in_err-within.field-0.0 c.in_err-within.ensures c.node-operand.ensures.reads))
 
@@ -197,7 +197,7 @@ bracketed-returns-in_err-enter-clause-reads t c =
 pub bracketed-returns-in_err-inner-clause-reads : goal.bracketed-returns-in_err-inner-clause-reads
 bracketed-returns-in_err-inner-clause-reads t c =
     let p = err_from_is_err_and c.from_residual-in_err-inner.result c.from_residual-in_err-inner.ensures.1 in
-    rw (p.1, p.2) (fails-as (formula (names_of c.args.scope.names.now) (c.args.scope.depth - 1) c.enter.new.self) (node (names_of c.args.scope.names.now) c.args.scope.depth c.args.input.now) c.in_err-inner.field-0.0
+    rw (p.1, p.2) (if_fault c.in_err-inner.field-0.0
     (λ bad e. bracketed-fails (names_of c.args.scope.names.now) c.args.scope.depth c.args.input.now c.enter.new.self (tok c.in_ok-enter.field-0) c.in_ok-enter.ensures.reads c.in_ok-enter.ensures.deeper c.requires bad e) c.in_err-inner.ensures.reads)
 
 pub bracketed-returns-clause-reads : goal.bracketed-returns-clause-reads
@@ -225,7 +225,7 @@ fixpoint-returns-in_err-expect-clause-reads t c =
 pub fixpoint-returns-in_err-body-clause-reads : goal.fixpoint-returns-in_err-body-clause-reads
 fixpoint-returns-in_err-body-clause-reads t c =
     let p = err_from_is_err_and c.from_residual-in_err-body.result c.from_residual-in_err-body.ensures.1 in
-    rw (p.1, p.2) (fails-as (formula (within (names_of c.args.scope.names.now) c.in_ok-name_place.text.now) (c.args.scope.depth - 1) c.expect.new.self) (fixpoint (names_of c.args.scope.names.now) c.args.scope.depth c.args.input.now) c.in_err-body.field-0.0
+    rw (p.1, p.2) (if_fault c.in_err-body.field-0.0
     (λ bad e. fixpoint-body-fails (names_of c.args.scope.names.now) c.args.scope.depth c.args.input.now c.enter.new.self c.args.sign (tok c.in_ok-place.field-0) c.requires c.in_ok-place.ensures.reads
     c.expect_name.new.self c.in_ok-name_place.name_place c.in_ok-name_place.text.now c.in_ok-name_place.ensures.reads
     c.expect.new.self (tok c.in_ok-expect.field-0) c.in_ok-expect.ensures.reads c.in_ok-place.ensures.deeper bad e) c.in_err-body.ensures.reads)

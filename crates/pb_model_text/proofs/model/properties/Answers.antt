@@ -1,10 +1,11 @@
 use Rattle.std.proofs.Common.{rules, arith, ◌≡◌, ◌∙◌, ◌-◌, ◌∷◌, [], suc, true, false, length, vec_len, map, refl}
 use Rattle.std.proofs.lemmas.Result.{err_from_is_err_and}
 use Rattle.std.proofs.lemmas.List.{map-append}
+use Rattle.pb_errors.proofs.Faults.{if_fault}
 use Rattle.pb_model_tree.specs.Form.{property_form}
 use Rattle.pb_text_lexer.specs.Steps.{kind, nothing_between}
-use Rattle.pb_text_lexer.proofs.LoopLemmas.{gathered-none, gathered-more, gathered-end, gathered-item-fails, fails-as}
-use Rattle.pb_model_text.specs.Reading.{is_property, properties, property}
+use Rattle.pb_text_lexer.proofs.LoopLemmas.{gathered-none, gathered-more, gathered-end, gathered-item-fails}
+use Rattle.pb_model_text.specs.Reading.{is_property, property}
 use Rattle.pb_model_text.proofs.model.properties.Goals as goal
 
 pub properties-init : goal.properties-init
@@ -16,7 +17,7 @@ properties-init c = record {
 pub returns-in_err-property : goal.returns-in_err-property
 returns-in_err-property c =
     let p = err_from_is_err_and c.from_residual.result c.from_residual.ensures.1 in
-    rw (p.1, p.2) (fails-as (property 64 c.properties.input) (properties 64 c.args.input.now) c.in_err-property.field-0.0
+    rw (p.1, p.2) (if_fault c.in_err-property.field-0.0
     (λ bad e. c.properties.invariant.reads ∙ gathered-item-fails (property 64) is_property nothing_between (map property_form c.properties.properties.items) (suc (length c.args.input.now.tokens) - vec_len c.properties.properties)
     (length c.args.input.now.tokens - vec_len c.properties.properties) c.properties.input bad (omega arith) e) c.in_err-property.ensures.reads)
 

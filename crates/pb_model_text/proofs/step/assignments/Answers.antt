@@ -1,18 +1,19 @@
 use Rattle.std.proofs.Common.{rules, arith, ◌≡◌, ◌∙◌, ◌-◌, suc, true, false, length, map, vec_len}
 use Rattle.std.proofs.lemmas.Result.{err_from_is_err_and}
 use Rattle.std.proofs.lemmas.List.{map_push}
+use Rattle.pb_errors.proofs.Faults.{if_fault}
 use Rattle.pb_model_tree.specs.Form.{assignment_form}
 use Rattle.pb_text_lexer.specs.Steps.{kind, take_token}
 use Rattle.pb_text_lexer.specs.Tokens.{tok}
-use Rattle.pb_text_lexer.proofs.LoopLemmas.{fails-as, gathered-more, gathered-end, gathered-item-fails}
+use Rattle.pb_text_lexer.proofs.LoopLemmas.{gathered-more, gathered-end, gathered-item-fails}
 use Rattle.pb_text_terms.specs.Reading.{is_comma}
-use Rattle.pb_model_text.specs.Reading.{assignment, assignments}
+use Rattle.pb_model_text.specs.Reading.{assignment}
 use Rattle.pb_model_text.proofs.step.assignments.Goals as goal
 
 pub returns-in_err-assignment-clause-reads : goal.returns-in_err-assignment-clause-reads
 returns-in_err-assignment-clause-reads c =
     let p = err_from_is_err_and c.from_residual-in_err-assignment.result c.from_residual-in_err-assignment.ensures.1 in
-    rw (p.1, p.2) (fails-as ((assignment 64) c.assignments.input) ((assignments 64) c.args.input.now) c.in_err-assignment.field-0.0
+    rw (p.1, p.2) (if_fault c.in_err-assignment.field-0.0
     (λ bad e. c.assignments.invariant.reads ∙ gathered-item-fails (assignment 64) is_comma take_token (map assignment_form c.assignments.assignments.items) (suc (length c.args.input.now.tokens) - vec_len c.assignments.assignments)
     (length c.args.input.now.tokens - vec_len c.assignments.assignments) c.assignments.input bad (omega arith) e) c.in_err-assignment.ensures.reads)
 

@@ -1,10 +1,11 @@
 use Rattle.std.proofs.Common.{rules, arith, ◌≡◌, ◌∙◌, ◌-◌, ◌∷◌, [], suc, true, false, length, vec_len, map, refl}
 use Rattle.std.proofs.lemmas.Result.{err_from_is_err_and}
 use Rattle.std.proofs.lemmas.List.{map-append}
+use Rattle.pb_errors.proofs.Faults.{if_fault}
 use Rattle.pb_model_tree.specs.Form.{step_form}
 use Rattle.pb_text_lexer.specs.Steps.{kind, nothing_between}
-use Rattle.pb_text_lexer.proofs.LoopLemmas.{gathered-none, gathered-more, gathered-end, gathered-item-fails, fails-as}
-use Rattle.pb_model_text.specs.Reading.{step, steps}
+use Rattle.pb_text_lexer.proofs.LoopLemmas.{gathered-none, gathered-more, gathered-end, gathered-item-fails}
+use Rattle.pb_model_text.specs.Reading.{step}
 use Rattle.pb_text.specs.Reading.{is_name}
 use Rattle.pb_model_text.proofs.step.steps.Goals as goal
 
@@ -17,7 +18,7 @@ steps-init c = record {
 pub returns-in_err-step : goal.returns-in_err-step
 returns-in_err-step c =
     let p = err_from_is_err_and c.from_residual.result c.from_residual.ensures.1 in
-    rw (p.1, p.2) (fails-as (step 64 c.steps.input) (steps 64 c.args.input.now) c.in_err-step.field-0.0
+    rw (p.1, p.2) (if_fault c.in_err-step.field-0.0
     (λ bad e. c.steps.invariant.reads ∙ gathered-item-fails (step 64) is_name nothing_between (map step_form c.steps.steps.items) (suc (length c.args.input.now.tokens) - vec_len c.steps.steps)
     (length c.args.input.now.tokens - vec_len c.steps.steps) c.steps.input bad (omega arith) e) c.in_err-step.ensures.reads)
 

@@ -1,13 +1,14 @@
 use Rattle.std.proofs.Common.{rules, arith, ◌≡◌, ◌<◌, ◌-◌, length, true, false, vec_len, ◌∙◌}
 use Rattle.std.proofs.lemmas.Result.{err_from_is_err_and}
+use Rattle.pb_errors.proofs.Faults.{if_fault}
 use Rattle.pb_model_tree.specs.Form.{StepSetForm, step_set_form}
 use Rattle.pb_text_lexer.specs.declared.kind.Kind.TheVariants.{Or}
 use Rattle.pb_text_lexer.specs.Kinds.{same_kind}
 use Rattle.pb_text_lexer.specs.Steps.{kind}
 use Rattle.pb_text_lexer.specs.Tokens.{tok}
-use Rattle.pb_text_lexer.proofs.LoopLemmas.{resumed-first, resumed-first-fails, resumed-end, resumed-more, resumed-operator-fails, resumed-operand-fails, fails-as}
+use Rattle.pb_text_lexer.proofs.LoopLemmas.{resumed-first, resumed-first-fails, resumed-end, resumed-more, resumed-operator-fails, resumed-operand-fails}
 use Rattle.pb_model_text.specs.Links.{step_set_links}
-use Rattle.pb_model_text.specs.Reading.{set, step_set}
+use Rattle.pb_model_text.specs.Reading.{set}
 use Rattle.pb_model_text.proofs.StepSetLemmas.{sets-chain, set-links-last, set-other}
 use Rattle.pb_model_text.proofs.step_set.+step_sets.Goals as goal
 
@@ -21,7 +22,7 @@ set-returns-in_default t c = rw c.refuse.ensures (record {
 pub step_set-returns-in_err-first-clause-reads : goal.step_set-returns-in_err-first-clause-reads
 step_set-returns-in_err-first-clause-reads t c =
     let p = err_from_is_err_and c.from_residual.result c.from_residual.ensures.1 in
-    rw (p.1, p.2) (fails-as (set c.args.depth c.args.input.now) (step_set c.args.depth c.args.input.now) c.in_err-first.field-0.0
+    rw (p.1, p.2) (if_fault c.in_err-first.field-0.0
     (λ bad e. sets-chain c.args.depth c.args.input.now ∙ resumed-first-fails Or StepSetForm.union (set c.args.depth) (length c.args.input.now.tokens) c.args.input.now bad e) c.in_err-first.ensures.reads)
 
 pub step_set-links-init : goal.step_set-links-init
@@ -43,7 +44,7 @@ step_set-returns-in_err-operand-clause-reads t c =
     let p = err_from_is_err_and c.from_residual-in_err-operand.result c.from_residual-in_err-operand.ensures.1 in
     let same : same_kind (kind c.links.input) Or ≡ true = search rules in
     let some : 0 < length c.args.input.now.tokens - vec_len c.links.links = omega (arith, c.links.invariant.room) in
-    rw (p.1, p.2) (fails-as (set c.args.depth c.take_operator.new.self) (step_set c.args.depth c.args.input.now) c.in_err-operand.field-0.0
+    rw (p.1, p.2) (if_fault c.in_err-operand.field-0.0
     (λ bad e. c.links.invariant.reads ∙ resumed-operand-fails Or StepSetForm.union (set c.args.depth)
     (length c.args.input.now.tokens - vec_len c.links.links) _ (step_set_links c.links.links.items)
     c.links.input c.take_operator.new.self (tok c.in_ok-place.field-0) bad some same c.in_ok-place.ensures.reads e) c.in_err-operand.ensures.reads)

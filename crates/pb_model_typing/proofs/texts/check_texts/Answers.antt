@@ -1,27 +1,29 @@
 use Rattle.std.proofs.Common.{◌≡◌, ◌<◌, ◌≤◌, ◌∙◌, List, length, get_or, refl, rules, sym, ap, subst, arith}
-use Rattle.std.specs.Prelude.{All, ◌≢◌}
-use Rattle.pb_typing_declarations.specs.declared.fault.TypeError.TheVariants.{Memory}
+use Rattle.std.specs.Prelude.{All}
+use Rattle.pb_errors.specs.OrMemory.{IfFault}
+use Rattle.pb_errors.proofs.Faults.{if_fault}
 use Rattle.pb_model_tree.specs.declared.model.Property.{Property}
 use Rattle.pb_model_meaning.specs.Syntax.{Formula}
 use Rattle.pb_model_meaning.specs.Erase.{model_of}
 use Rattle.pb_model_names.specs.View.{formula_of}
-use Rattle.pb_model_typing.specs.Texts.{every_step, checked_formulas, HasTypedText, IsTextError, IsErrorOfTexts}
-use Rattle.pb_model_typing.proofs.Decided.{all-typed, among-formulas, error-of, not-all, typed-more}
+use Rattle.pb_model_typing.specs.Texts.{every_step, checked_formulas, HasTypedText, IsTextFault, IsFaultOfTexts}
+use Rattle.pb_model_typing.proofs.Decided.{all-typed, among-formulas, fault-of, not-all, typed-more}
 use Rattle.pb_model_typing.proofs.texts.check_texts.Goals as goal
 
 pub returns-in_err-check_text-clause-fails : goal.returns-in_err-check_text-clause-fails
 returns-in_err-check_text-clause-fails c =
     let m = model_of c.args.model.now in
     let e = c.in_err-check_text.field-0.0 in
-    let h : IsErrorOfTexts m (checked_formulas m) e =
-    error-of m (checked_formulas m) every_step e (0, omega arith, refl) (subst (λ (f : Formula). IsTextError m f e) c.in_ok-steps.ensures c.in_err-check_text.ensures.fails) in
+    let h : IfFault e (IsFaultOfTexts m (checked_formulas m)) =
+    fault-of m (checked_formulas m) every_step e (0, omega arith, refl) (subst (λ (f : Formula). IfFault e (IsTextFault m f)) c.in_ok-steps.ensures c.in_err-check_text.ensures.fails) in
     search rules
 
 pub returns-in_err-check_text-clause-ill_typed : goal.returns-in_err-check_text-clause-ill_typed
 returns-in_err-check_text-clause-ill_typed c =
     let m = model_of c.args.model.now in
-    let h : c.in_err-check_text.field-0.0 ≢ Memory → ¬ All (HasTypedText m) (checked_formulas m) =
-    λ other all. c.in_err-check_text.ensures.ill_typed other (subst (λ (f : Formula). HasTypedText m f) (sym c.in_ok-steps.ensures) (all 0 every_step (omega arith))) in
+    let e = c.in_err-check_text.field-0.0 in
+    let h : IfFault e (λ _. ¬ All (HasTypedText m) (checked_formulas m)) =
+    if_fault e (λ _ not all. not (subst (λ (f : Formula). HasTypedText m f) (sym c.in_ok-steps.ensures) (all 0 every_step (omega arith)))) c.in_err-check_text.ensures.ill_typed in
     search rules
 
 pub returns-in_err-check_text-2-clause-fails : goal.returns-in_err-check_text-2-clause-fails
@@ -35,8 +37,8 @@ returns-in_err-check_text-2-clause-fails c =
     let size : length c.deref-property-items.result.now ≡ length ps = ap (λ (xs : List Property). length xs) same in
     let below : k < length ps = omega arith in
     let at : x ≡ get_or ps k x = c.property-item.is ∙ ap (λ (xs : List Property). get_or xs k x) same in
-    let h : IsErrorOfTexts m (checked_formulas m) e =
-    error-of m (checked_formulas m) (formula_of x.formula) e (among-formulas m ps k x below at) (c.in_err-check_text-2).ensures.fails in
+    let h : IfFault e (IsFaultOfTexts m (checked_formulas m)) =
+    fault-of m (checked_formulas m) (formula_of x.formula) e (among-formulas m ps k x below at) (c.in_err-check_text-2).ensures.fails in
     search rules
 
 pub returns-in_err-check_text-2-clause-ill_typed : goal.returns-in_err-check_text-2-clause-ill_typed
@@ -49,8 +51,9 @@ returns-in_err-check_text-2-clause-ill_typed c =
     let size : length c.deref-property-items.result.now ≡ length ps = ap (λ (xs : List Property). length xs) same in
     let below : k < length ps = omega arith in
     let at : x ≡ get_or ps k x = c.property-item.is ∙ ap (λ (xs : List Property). get_or xs k x) same in
-    let h : (c.in_err-check_text-2).field-0.0 ≢ Memory → ¬ All (HasTypedText m) (checked_formulas m) =
-    λ other all. not-all m ps k x below at ((c.in_err-check_text-2).ensures.ill_typed other) all in
+    let e = (c.in_err-check_text-2).field-0.0 in
+    let h : IfFault e (λ _. ¬ All (HasTypedText m) (checked_formulas m)) =
+    if_fault e (λ _ not. not-all m ps k x below at not) (c.in_err-check_text-2).ensures.ill_typed in
     search rules
 
 pub loop-property-preserved : goal.loop-property-preserved
