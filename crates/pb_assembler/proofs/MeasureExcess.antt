@@ -100,7 +100,7 @@ module _ (spec : Spec) (cs : List (List Carrier)) (es : List Equation) (forms : 
       let below : k < length es = slice_get_within es k form.0 form.1 in
       keep_text n h k X (omega arith) at
 
-  pub first_found : (k : ℕ) (e : Equation) (l : Limit) → slice_get es k ≡ Some e → Exceeds cs e l → KeepTo cs es k → IsFirstExcess spec l k
+  pub first_found : (k : ℕ) (e : Equation) (l : Limit) → slice_get es k ≡ Some e → Exceeds cs e l → KeepTo cs es k → IsFirstExcess spec (record { limit = l; equation = k })
   first_found k e l at over h =
       let text = text_at spec spec.equations es forms.rights forms.loops k e at in
       let X = text.0 in

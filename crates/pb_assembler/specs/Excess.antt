@@ -10,6 +10,7 @@ use Rattle.pb_normal.specs.Normal.{Formula}
 use Rattle.pb_normal.specs.Equations.{normal_equation}
 use Rattle.pb_assembler_accepted.specs.Limits.{exceeds, KeepsLimits}
 use Rattle.pb_assembler_accepted.specs.Made.{IsMadeOf}
+use Rattle.pb_assembler.specs.declared.compile_error.Excess.{Excess}
 
 -- the limits in order, the first one `C01`
 abbrev pub order : Limit → ℕ
@@ -25,13 +26,14 @@ pub record ExceedsFirst (p : Program) (f : Formula) (l : Limit) : Type 0 where
   pub exceeded : exceeds p f l ≡ true
   pub earlier : (k : Limit) → order k < order l → exceeds p f k ≡ false
 
--- the equation at this place is the first whose program exceeds a limit, which is this one
-pub record IsFirstExcess (spec : Spec) (l : Limit) (k : ℕ) : Type 0 where
+-- this equation is the first whose program exceeds a limit, and the limit is the first that it
+-- exceeds
+pub record IsFirstExcess (spec : Spec) (excess : Excess) : Type 0 where
   pub equation : Equation
-  pub there : slice_get spec.equations k ≡ Some equation
+  pub there : slice_get spec.equations excess.equation ≡ Some equation
   pub program : Program
   pub made : IsMadeOf spec equation program
-  pub exceeds : ExceedsFirst program (normal_equation spec equation) l
+  pub exceeds : ExceedsFirst program (normal_equation spec equation) excess.limit
   pub earlier :
-      (j : ℕ) (X : Equation) → j < k → slice_get spec.equations j ≡ Some X
+      (j : ℕ) (X : Equation) → j < excess.equation → slice_get spec.equations j ≡ Some X
       → (p : Program) → IsMadeOf spec X p → KeepsLimits p (normal_equation spec X)

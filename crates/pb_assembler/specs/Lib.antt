@@ -7,6 +7,5 @@ pub mod MeasureEquations
 pub mod MeasureFormulas
 pub mod Operands
 pub mod Reached
-pub mod Refusal
 pub mod Tests
 pub mod Compiled

@@ -1,6 +1,6 @@
 //! From normal forms to modules.
 
-ghost use Rattle.std.specs.Prelude.{IfOk, IfErr};
+ghost use Rattle.std.specs.Prelude.{IfOk};
 ghost use Rattle.pb_text_tree.specs.Form.{spec_form};
 ghost use Rattle.pb_text_meaning.specs.Erase.{erase};
 ghost use Rattle.pb_bytecode.specs.Decoded.{module_contents};
@@ -9,7 +9,8 @@ ghost use Rattle.pb_verifier.specs.Acceptance.{IsAccepted};
 ghost use Rattle.pb_assembler_modules.specs.Answers.{HasMeaningOf};
 ghost use Rattle.pb_assembler_modules.specs.Module.{IsCompiledModule, KeepsAllLimits};
 ghost use Rattle.pb_assembler.specs.MeasureEquations.{AreMeasuresOfAll, EachKeepsLimits};
-ghost use Rattle.pb_assembler.specs.Refusal.{IsRefusal};
+ghost use Rattle.pb_assembler.specs.Excess.{IsFirstExcess};
+ghost use Rattle.pb_errors.specs.OrMemory.{IfRefused};
 
 use crate::compile_error::CompileError;
 use crate::equation::compile_equations;
@@ -59,7 +60,7 @@ fn module_of(
 /// the text's meaning.
 ///
 /// # Errors
-/// `Limit` exactly where the code of an equation exceeds a limit of the machine: the first such
+/// An excess exactly where the code of an equation exceeds a limit of the machine: the first such
 /// equation, with the least of its limits in the order of their numbers. `Memory` only where memory
 /// was refused.
 pub fn compile(alloc: Global, normal: &Normal<'_>) -> Result<Module, CompileError>
@@ -75,14 +76,11 @@ pub fn compile(alloc: Global, normal: &Normal<'_>) -> Result<Module, CompileErro
     ensures meaning { IfOk result (λ m. HasMeaningOf (erase (spec_form normal.now.typed.now.spec))
         (module_contents m)) }
     // The first equation that exceeds a limit, with its least limit.
-    ensures refused { IfErr result
-        (λ e. IsRefusal (erase (spec_form normal.now.typed.now.spec)) e) }
+    ensures refused { IfRefused result
+        (IsFirstExcess (erase (spec_form normal.now.typed.now.spec))) }
 {
     compiled_modules_are_accepted();
     compiled_modules_have_the_answer();
     let measures = measures_within_limits(alloc, normal)?;
-    match module_of(alloc, normal, &measures) {
-        Ok(module) => Ok(module),
-        Err(error) => Err(CompileError::Memory(error)),
-    }
+    Ok(module_of(alloc, normal, &measures)?)
 }

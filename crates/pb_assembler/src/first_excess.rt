@@ -1,12 +1,13 @@
 //! How much the code of a text's equations takes, and the first equation whose code exceeds a limit
 //! of the machine.
 
-ghost use Rattle.std.specs.Prelude.{◌≡◌, ◌++◌, ◌∷◌, [], IfOk, IfErr, OnOk};
+ghost use Rattle.std.specs.Prelude.{◌≡◌, ◌++◌, ◌∷◌, [], IfOk, OnOk};
 ghost use Rattle.pb_normal.specs.Text.{said};
 ghost use Rattle.pb_assembler.specs.MeasureEquations.{AreMeasuresOfAll, EachKeepsLimits};
-ghost use Rattle.pb_assembler.specs.Refusal.{IsRefusal};
+ghost use Rattle.pb_assembler.specs.Excess.{IsFirstExcess};
+ghost use Rattle.pb_errors.specs.OrMemory.{IfRefused};
 
-use crate::compile_error::CompileError;
+use crate::compile_error::{CompileError, Excess};
 use crate::measure_equation::measure;
 use crate::measures::{Measures, first_excess};
 use pb_normal::Normal;
@@ -23,7 +24,7 @@ fn push_measures(all: &mut Vec<Measures>, measures: Measures) -> Result<(), Allo
 /// How much the code of each equation of a text takes.
 ///
 /// # Errors
-/// `Limit` where the code of an equation exceeds a limit: the first such equation, with the least
+/// An excess where the code of an equation exceeds a limit: the first such equation, with the least
 /// of its limits. `Memory` only where memory was refused.
 pub(crate) fn measures_within_limits(
     alloc: Global,
@@ -32,7 +33,7 @@ pub(crate) fn measures_within_limits(
     ensures measured { IfOk result (λ all. AreMeasuresOfAll normal.now.typed.now.layout
         normal.now.equations.items all.items) }
     ensures kept { IfOk result (λ all. EachKeepsLimits (said normal.now.typed.now)) }
-    ensures refused { IfErr result (IsRefusal (said normal.now.typed.now)) }
+    ensures refused { IfRefused result (IsFirstExcess (said normal.now.typed.now)) }
 {
     let layout = &normal.typed.layout;
     let mut all = Vec::with_capacity(alloc, normal.equations.len())?;
@@ -40,7 +41,7 @@ pub(crate) fn measures_within_limits(
         let measures = measure(layout, equation);
         if let Some(limit) = first_excess(&measures) {
             let equation = all.len();
-            return Err(CompileError::Limit { limit, equation });
+            return Err(Excess { limit, equation }.into());
         }
         push_measures(&mut all, measures)?;
     }

@@ -31,5 +31,5 @@ mod term;
 mod test;
 
 pub use builder::{Builder, Label};
-pub use compile_error::CompileError;
+pub use compile_error::{CompileError, Excess};
 pub use compiler::compile;

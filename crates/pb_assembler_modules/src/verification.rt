@@ -5,7 +5,7 @@ ghost use Rattle.pb_bytecode.specs.Decoded.{module_contents};
 ghost use Rattle.pb_verifier.specs.Acceptance.{IsAccepted};
 
 use pb_bytecode::Module;
-use pb_verifier::{Verified, VerifyError, verify};
+use pb_verifier::{Verified, verify};
 use std::alloc::{AllocError, Global};
 
 /// Verifies a module whose code is accepted, as is that of each compiled one. It is never refused.
@@ -19,7 +19,6 @@ pub fn verify_compiled(alloc: Global, module: Module) -> Result<Verified, (Modul
 {
     match verify(alloc, module) {
         Ok(verified) => Ok(verified),
-        Err((module, VerifyError::Memory)) => Err((module, AllocError)),
-        Err((_, VerifyError::Refusal { .. })) => unreachable!(),
+        Err((module, error)) => Err((module, error.only_memory())),
     }
 }

@@ -8,10 +8,11 @@ use Rattle.std.proofs.Common.{Ok, Err}
 use Rattle.std.proofs.lemmas.List.{append-nil}
 use Rattle.std.proofs.Math.ListN.{drop_of_length-le}
 use Rattle.pb_bytecode.specs.declared.fault.ModuleRule.TheVariants as rule
-use Rattle.pb_bytecode.specs.declared.fault.ModuleFault.{ModuleFault}
-use Rattle.pb_bytecode.specs.declared.fault.ReadError.{ReadError}
-use Rattle.pb_bytecode.specs.declared.fault.ReadError.TheVariants as errors
-use Rattle.pb_bytecode.specs.Reading.{◌>>=◌, Fails, Field, parameters_at, byte_at, value_at, values_at, initial_at}
+use Rattle.pb_bytecode.specs.declared.fault.FieldFault.{FieldFault}
+use Rattle.pb_errors.specs.OrMemory.{IfFault}
+use Rattle.pb_errors.specs.declared.or_memory.OrMemory.{OrMemory}
+use Rattle.pb_errors.specs.declared.or_memory.OrMemory.TheVariants as errors
+use Rattle.pb_bytecode.specs.Reading.{◌>>=◌, Field, parameters_at, byte_at, value_at, values_at, initial_at}
 use Rattle.pb_bytecode.proofs.Loop.{with_front, regroup}
 use Rattle.pb_bytecode.specs.declared.equation.Equation.{Equation}
 use Rattle.pb_bytecode.specs.Limits.{instance_count}
@@ -40,7 +41,7 @@ value_read front cs c i bytes rest z total h same r so_far =
     ap (with_front front) (values_fold cs c i bytes h) ∙ rw r' (regroup front z (values_at (drop (i + 1) cs) rest)) in
     sym one ∙ so_far
 
-pub value_fails : (e : ModuleFault) (front : List ℤ) (cs : List Carrier) (c : Carrier) (i : ℕ) (bytes : List ℕ) (total : Field (List ℤ)) → i < length cs → c ≡ get_or cs i c → value_at c bytes ≡ Err e → with_front front (values_at (drop i cs) bytes) ≡ total → total ≡ Err e
+pub value_fails : (e : FieldFault) (front : List ℤ) (cs : List Carrier) (c : Carrier) (i : ℕ) (bytes : List ℕ) (total : Field (List ℤ)) → i < length cs → c ≡ get_or cs i c → value_at c bytes ≡ Err e → with_front front (values_at (drop i cs) bytes) ≡ total → total ≡ Err e
 value_fails e front cs c i bytes total h same f so_far =
     let f' : value_at (get_or cs i c) bytes ≡ Err e = ap (λ x. value_at x bytes) (sym same) ∙ f in
     sym so_far ∙ ap (with_front front) (values_fold cs c i bytes h) ∙ rw f' refl
@@ -58,10 +59,10 @@ initial_read es d bytes rest after e parameters values p lt same q =
     let q' : values_at (parameters_at (map equation_contents es) e) rest ≡ Ok (values, after) = rw (parameters_here es e d lt, sym same) q in
     rw (p, there, q') refl
 
-pub initial_fails : (error : ReadError) (es : List Equation) (d : Equation) (bytes rest : List ℕ) (e : ℕ) (parameters : List Carrier) → byte_at bytes ≡ Ok (e, rest) → e < length es → parameters ≡ (get_or es e d).parameters.items → Fails error (values_at parameters rest) → Fails error (initial_at (map equation_contents es) bytes)
+pub initial_fails : (error : OrMemory FieldFault) (es : List Equation) (d : Equation) (bytes rest : List ℕ) (e : ℕ) (parameters : List Carrier) → byte_at bytes ≡ Ok (e, rest) → e < length es → parameters ≡ (get_or es e d).parameters.items → IfFault error (λ f. values_at parameters rest ≡ Err f) → IfFault error (λ f. initial_at (map equation_contents es) bytes ≡ Err f)
 unfolding initial_at
 initial_fails errors.Memory es d bytes rest e parameters p lt same q = tt
-initial_fails (errors.ModuleFault f) es d bytes rest e parameters p lt same q =
+initial_fails (errors.Refused f) es d bytes rest e parameters p lt same q =
     let there : nat_lt e (length (map equation_contents es)) ≡ true = lt-ltb _ _ (rw length-map lt) in
     let q' : values_at (parameters_at (map equation_contents es) e) rest ≡ Err f = rw (parameters_here es e d lt, sym same) q in
     rw (p, there, q') refl

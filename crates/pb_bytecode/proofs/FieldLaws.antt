@@ -8,7 +8,7 @@ use Rattle.std.proofs.Math.Facts.{sfits_to_z, Fits-of_lt}
 use Rattle.std.proofs.lemmas.List.{take_at, drop_at, take-append-drop, length-take, get_or-drop, get_or-take, get_or_past}
 use Rattle.std.proofs.lemmas.Nat.{le_bytes_2, le_bytes_4, le_bytes_8, from_le_bytes-to_le_bytes_2, from_le_bytes-to_le_bytes_4, from_le_bytes-to_le_bytes_8}
 use Rattle.pb_bytecode_program.proofs.Ints.{from_le, le_true}
-use Rattle.pb_bytecode.specs.declared.fault.ModuleFault.{ModuleFault}
+use Rattle.pb_bytecode.specs.declared.fault.FieldFault.{FieldFault}
 use Rattle.pb_bytecode.specs.Limits.{is_byte, is_i32, is_i64}
 use Rattle.pb_bytecode.specs.Spelling
 use Rattle.pb_bytecode.specs.Reading.{truncated, byte_at, number_at, signed_at}
@@ -24,8 +24,8 @@ IsBytes-take n bytes h i =
       | inr le ↦ rw (get_or_past (take n bytes) i 0 (omega (arith, length-take n bytes))) (omega arith)
     ]
 
-pub truncated_within : (e : ModuleFault) (bytes : List ℕ) → truncated ≡ e → e.left ≤ length bytes
-truncated_within e bytes h = let z = ap (λ (f : ModuleFault). f.left) h in omega arith
+pub truncated_within : (e : FieldFault) (bytes : List ℕ) → truncated ≡ e → e.left ≤ length bytes
+truncated_within e bytes h = let z = ap (λ (f : FieldFault). f.left) h in omega arith
 
 -- ---- bytes
 
@@ -42,7 +42,7 @@ byte_reads = record {
         subst (λ (y : ℕ × List ℕ). Took (Spelling.byte y.0) (is_byte y.0) (b ∷ bytes) y.1) (ok_is (b, bytes) x e)
         (record { parts = refl; left = λ i. fits (suc i); fits = lt-ltb b 256 (fits 0) })
 
-    byte_within : (bytes : List ℕ) (e : ModuleFault) → IsBytes bytes → byte_at bytes ≡ Err e → e.left ≤ length bytes
+    byte_within : (bytes : List ℕ) (e : FieldFault) → IsBytes bytes → byte_at bytes ≡ Err e → e.left ≤ length bytes
     byte_within [] e fits h = truncated_within e [] (cc)
     byte_within (b ∷ bytes) e fits h = absurd cc
 
@@ -78,11 +78,11 @@ wide64 = record {
   below = λ bytes fits. omega (arith, fits 0, fits 1, fits 2, fits 3, fits 4, fits 5, fits 6, fits 7);
 }
 
-guard_ok : {A : Type 0} (b : Bool) (d : ModuleFault) (x y : A) → cond b (Err d) (Ok x) ≡ Ok y → (b ≡ false) × (x ≡ y)
+guard_ok : {A : Type 0} (b : Bool) (d : FieldFault) (x y : A) → cond b (Err d) (Ok x) ≡ Ok y → (b ≡ false) × (x ≡ y)
 guard_ok true d x y e = absurd cc
 guard_ok false d x y e = (refl, cc)
 
-guard_err : {A : Type 0} (b : Bool) (d : ModuleFault) (x : A) (e : ModuleFault) → cond b (Err d) (Ok x) ≡ Err e → d ≡ e
+guard_err : {A : Type 0} (b : Bool) (d : FieldFault) (x : A) (e : FieldFault) → cond b (Err d) (Ok x) ≡ Err e → d ≡ e
 guard_err true d x e h = cc
 guard_err false d x e h = absurd cc
 

@@ -1,10 +1,11 @@
 -- Reading items one after the other, as a loop does.
 use Rattle.std.proofs.Common.{◌≡◌, ℕ, suc, ◌-◌, ◌+◌, ◌≤◌, ◌<◌, List, [], ◌∷◌, ◌++◌, Ok, Err, refl, sym, ap, ◌∙◌, append_assoc, arith}
 use Rattle.std.proofs.lemmas.List.{append-nil}
-use Rattle.pb_bytecode.specs.declared.fault.ModuleFault.{ModuleFault}
-use Rattle.pb_bytecode.specs.declared.fault.ReadError.{ReadError}
-use Rattle.pb_bytecode.specs.declared.fault.ReadError.TheVariants as errors
-use Rattle.pb_bytecode.specs.Reading.{◌>>=◌, Fails, Field, items_at}
+use Rattle.pb_bytecode.specs.declared.fault.FieldFault.{FieldFault}
+use Rattle.pb_errors.specs.OrMemory.{IfFault}
+use Rattle.pb_errors.specs.declared.or_memory.OrMemory.{OrMemory}
+use Rattle.pb_errors.specs.declared.or_memory.OrMemory.TheVariants as errors
+use Rattle.pb_bytecode.specs.Reading.{◌>>=◌, Field, items_at}
 
 -- what was read before, and what is still read
 abbrev pub with_front : {A : Type 0} → List A → Field (List A) → Field (List A)
@@ -22,17 +23,17 @@ module _ {A : Type 0} (item : List ℕ → Field A) where
       let one : with_front front (items_at item (count - i) bytes) ≡ with_front (front ++ a ∷ []) (items_at item (count - (i + 1)) after) = rw (k, h) (regroup front a (items_at item (count - (i + 1)) after)) in
       sym one ∙ so_far
 
-  pub stops : (f : ModuleFault) (front : List A) (count i : ℕ) (bytes : List ℕ) (total : Field (List A)) → i < count → item bytes ≡ Err f
+  pub stops : (f : FieldFault) (front : List A) (count i : ℕ) (bytes : List ℕ) (total : Field (List A)) → i < count → item bytes ≡ Err f
       → with_front front (items_at item (count - i) bytes) ≡ total → total ≡ Err f
   stops f front count i bytes total lt h so_far =
       let k : count - i ≡ suc (count - (i + 1)) = omega arith in
       let one : with_front front (items_at item (count - i) bytes) ≡ Err f = rw (k, h) refl in
       sym so_far ∙ one
 
-  pub ends : (e : ReadError) (front : List A) (count i : ℕ) (bytes : List ℕ) (total : Field (List A)) → i < count → Fails e (item bytes)
-      → with_front front (items_at item (count - i) bytes) ≡ total → Fails e total
+  pub ends : (e : OrMemory FieldFault) (front : List A) (count i : ℕ) (bytes : List ℕ) (total : Field (List A)) → i < count → IfFault e (λ f. item bytes ≡ Err f)
+      → with_front front (items_at item (count - i) bytes) ≡ total → IfFault e (λ f. total ≡ Err f)
   ends errors.Memory front count i bytes total lt h so_far = tt
-  ends (errors.ModuleFault f) front count i bytes total lt h so_far = stops f front count i bytes total lt h so_far
+  ends (errors.Refused f) front count i bytes total lt h so_far = stops f front count i bytes total lt h so_far
 
   pub is_done : (front : List A) (count i : ℕ) (bytes : List ℕ) (total : Field (List A)) → count ≤ i → with_front front (items_at item (count - i) bytes) ≡ total → total ≡ Ok (front, bytes)
   is_done front count i bytes total le so_far =

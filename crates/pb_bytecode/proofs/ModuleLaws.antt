@@ -6,7 +6,7 @@ use Rattle.std.specs.List.{flat_map, list_all}
 use Rattle.std.proofs.lemmas.Bool.{and_parts, and_from, le-ltb, ltb-true, lt-ltb, eqb-true}
 use Rattle.pb_limits.specs.declared.TheConstants.{MAX_STRUCTS, MAX_EQUATIONS, MAX_PARAMETERS, MAX_INSTANCES, MAX_LOOP_SLOTS, MAX_INSTRUCTIONS}
 use Rattle.pb_sorts.specs.declared.carrier.Carrier.{Carrier}
-use Rattle.pb_bytecode.specs.declared.fault.ModuleFault.{ModuleFault}
+use Rattle.pb_bytecode.specs.declared.fault.FieldFault.{FieldFault}
 use Rattle.pb_bytecode.specs.declared.fault.ModuleRule.TheVariants as rule
 use Rattle.pb_bytecode.specs.Contents.{SortContents}
 use Rattle.pb_bytecode.specs.Names.{is_name}
@@ -127,14 +127,14 @@ expect_takes (m ∷ ms) (b ∷ bytes) x h = by (b == m) refl h (λ g. expect_tak
     by true e g k = ap (λ (n : ℕ). n ∷ bytes) (eqb-true _ _ e) ∙ ap (λ (r : List ℕ). m ∷ r) (k g)
     by false e g k = absurd cc
 
-expect_within : (ms bytes : List ℕ) (e : ModuleFault) → expect ms bytes ≡ Err e → e.left ≤ length bytes
+expect_within : (ms bytes : List ℕ) (e : FieldFault) → expect ms bytes ≡ Err e → e.left ≤ length bytes
 expect_within [] bytes e h = absurd cc
 expect_within (m ∷ ms) [] e h = truncated_within e [] (cc)
 expect_within (m ∷ ms) (b ∷ bytes) e h = by (b == m) h (λ g. expect_within ms bytes e g)
   where
     by : (t : Bool) → cond t (expect ms bytes) (Err (record { rule = rule.Mark; left = length (b ∷ bytes) })) ≡ Err e → (expect ms bytes ≡ Err e → e.left ≤ length bytes) → e.left ≤ length (b ∷ bytes)
     by true g k = let w = k g in omega arith
-    by false g k = let same : record { rule = rule.Mark; left = length (b ∷ bytes) } ≡ e = cc in let z = ap (λ (f : ModuleFault). f.left) same in omega arith
+    by false g k = let same : record { rule = rule.Mark; left = length (b ∷ bytes) } ≡ e = cc in let z = ap (λ (f : FieldFault). f.left) same in omega arith
 
 long_ok : (bytes : List ℕ) (x : Unit {0} × List ℕ) → mark_at bytes ≡ Ok x → expect Spelling.mark bytes ≡ Ok x
 unfolding mark_at
@@ -144,7 +144,7 @@ long_ok bytes x h = by (nat_lt (length bytes) 4) h
     by true g = absurd cc
     by false g = g
 
-long_err : (bytes : List ℕ) (e : ModuleFault) → mark_at bytes ≡ Err e → e.left ≤ length bytes
+long_err : (bytes : List ℕ) (e : FieldFault) → mark_at bytes ≡ Err e → e.left ≤ length bytes
 unfolding mark_at
 long_err bytes e h = by (nat_lt (length bytes) 4) h
   where
@@ -203,7 +203,7 @@ values_again (c ∷ cs) (z ∷ zs) rest h =
     let regrouped : flat_map Spelling.i64 (z ∷ zs) ++ rest ≡ Spelling.i64 z ++ (flat_map Spelling.i64 zs ++ rest) = ap (λ (r : List ℕ). r ++ rest) (flat_map-cons Spelling.i64 z zs) ∙ append_assoc (Spelling.i64 z) (flat_map Spelling.i64 zs) rest in
     ap (values_at (c ∷ cs)) regrouped ∙ rw ((value_reads c).again z (flat_map Spelling.i64 zs ++ rest) two.0, values_again cs zs rest two.1) refl
 
-values_within : (cs : List Carrier) (bytes : List ℕ) (e : ModuleFault) → IsBytes bytes → values_at cs bytes ≡ Err e → e.left ≤ length bytes
+values_within : (cs : List Carrier) (bytes : List ℕ) (e : FieldFault) → IsBytes bytes → values_at cs bytes ≡ Err e → e.left ≤ length bytes
 values_within [] bytes e fits h = absurd cc
 values_within (c ∷ cs) bytes e fits h =
     bind_err (value_at c bytes) (λ z. values_at cs z.1 >>= λ zs. Ok (z.0 ∷ zs.0, zs.1)) e _ h
@@ -271,7 +271,7 @@ contents_reads =
     (λ c. record { version = c.0.0.0.1; sorts = c.0.0.1; equations = c.0.1; initial = c.1 }) (λ m. ((((tt, tt), m.version), m.sorts), m.equations)) (λ m. m.initial) (λ m. refl) (λ c. refl) (λ c. initial_reads c.1)))))))
 
 -- all of the bytes
-abbrev ended : Bool → Contents × List ℕ → Result Contents ModuleFault
+abbrev ended : Bool → Contents × List ℕ → Result Contents FieldFault
 ended t m = cond t (Ok m.0) (Err (record { rule = rule.Trailing; left = length m.1 }))
 
 all_ended : (m : Contents × List ℕ) (n : Contents) → ended (length m.1 == 0) m ≡ Ok n → (length m.1 ≡ 0) × (m.0 ≡ n)
@@ -297,14 +297,14 @@ all_again n h =
     let read : contents_at (Spelling.spelling n) ≡ Ok (n, []) = ap contents_at (sym (append-nil (Spelling.spelling n))) ∙ contents_reads.again n [] h in
     rw read refl
 
-all_left : (m : Contents × List ℕ) (e : ModuleFault) → ended (length m.1 == 0) m ≡ Err e → e.left ≤ length m.1
+all_left : (m : Contents × List ℕ) (e : FieldFault) → ended (length m.1 == 0) m ≡ Err e → e.left ≤ length m.1
 all_left m e h = by (length m.1 == 0) h
   where
     by : (t : Bool) → ended t m ≡ Err e → e.left ≤ length m.1
     by true g = absurd cc
-    by false g = let same : record { rule = rule.Trailing; left = length m.1 } ≡ e = cc in let z = ap (λ (f : ModuleFault). f.left) same in omega arith
+    by false g = let same : record { rule = rule.Trailing; left = length m.1 } ≡ e = cc in let z = ap (λ (f : FieldFault). f.left) same in omega arith
 
-pub all_within : (bytes : List ℕ) (e : ModuleFault) → IsBytes bytes → all_of bytes ≡ Err e → e.left ≤ length bytes
+pub all_within : (bytes : List ℕ) (e : FieldFault) → IsBytes bytes → all_of bytes ≡ Err e → e.left ≤ length bytes
 unfolding all_of
 all_within bytes e ok h =
     bind_err (contents_at bytes) (λ m. ended (length m.1 == 0) m) e _ h
@@ -320,5 +320,5 @@ one_spelling m n x y p q h =
 pub read_one : (bytes : List ℕ) (n m : Contents) → fits m ≡ true → bytes ≡ Spelling.spelling m → all_of bytes ≡ Ok n → n ≡ m
 read_one bytes n m h e read = ok_is n m (sym read ∙ ap all_of e ∙ all_again m h)
 
-pub read_none : (bytes : List ℕ) (f : ModuleFault) (m : Contents) → fits m ≡ true → bytes ≡ Spelling.spelling m → all_of bytes ≡ Err f → ⊥
+pub read_none : (bytes : List ℕ) (f : FieldFault) (m : Contents) → fits m ≡ true → bytes ≡ Spelling.spelling m → all_of bytes ≡ Err f → ⊥
 read_none bytes f m h e read = let again : all_of bytes ≡ Ok m = ap all_of e ∙ all_again m h in cc

@@ -12,7 +12,7 @@ use Rattle.pb_sorts.specs.declared.carrier.Enumeration.{Enumeration}
 use Rattle.pb_sorts.specs.declared.carrier.Range.{Range}
 use Rattle.pb_sorts.specs.declared.carrier.Carrier.TheVariants as carrier
 use Rattle.pb_bytecode_program.proofs.Ints.{from_le}
-use Rattle.pb_bytecode.specs.declared.fault.ModuleFault.{ModuleFault}
+use Rattle.pb_bytecode.specs.declared.fault.FieldFault.{FieldFault}
 use Rattle.pb_bytecode.specs.declared.fault.ModuleRule.TheVariants as rule
 use Rattle.pb_bytecode.specs.Names.{is_name}
 use Rattle.pb_bytecode.specs.Limits.{is_byte, is_i32, is_between, are_bounds, fits_sort, count_of, fits_carrier}
@@ -66,13 +66,13 @@ text_ok field bytes n x e = by (ltb (length bytes) n) (is_name (take n bytes)) r
     by false false p q h = absurd cc
     by false true p q h = (ltb-false _ _ p, sym (ok_is (take n bytes, drop n bytes) x h), q)
 
-text_err : (field bytes : List ℕ) (n : ℕ) (e : ModuleFault) → text_at field n bytes ≡ Err e → length bytes ≤ length field → e.left ≤ length field
+text_err : (field bytes : List ℕ) (n : ℕ) (e : FieldFault) → text_at field n bytes ≡ Err e → length bytes ≤ length field → e.left ≤ length field
 text_err field bytes n e h le = by (ltb (length bytes) n) (is_name (take n bytes)) h
   where
     by : (a b : Bool) → cond a (Err truncated) (known (cond b (Some (take n bytes)) None) rule.Limit field (drop n bytes)) ≡ Err e → e.left ≤ length field
     by true b h = truncated_within e field (cc)
     by false true h = absurd cc
-    by false false h = let same : record { rule = rule.Limit; left = length field } ≡ e = cc in let z = ap (λ (f : ModuleFault). f.left) same in omega arith
+    by false false h = let same : record { rule = rule.Limit; left = length field } ≡ e = cc in let z = ap (λ (f : FieldFault). f.left) same in omega arith
 
 pub name_reads : Reads name_at Spelling.name_bytes is_name
 unfolding name_at
@@ -145,11 +145,11 @@ range_reads bytes x fits h =
     let whole' : bytes ≡ Spelling.bounds p.0.low p.0.high ++ x.1 = whole ∙ ap (λ (z : ℤ). Spelling.bounds z b.0.0 ++ b.0.1) (sym p.2) ∙ ap (λ (z : ℤ). Spelling.bounds p.0.low z ++ b.0.1) (sym p.3) ∙ ap (λ (r : List ℕ). Spelling.bounds p.0.low p.0.high ++ r) (sym k.1) in
     (p.0, p.1, record { parts = whole'; left = subst IsBytes (sym k.1) u.left; fits = and_from _ _ (and_from _ _ (ap is_i32 p.2 ∙ t.fits) (ap is_i32 p.3 ∙ u.fits)) order })
 
-enum_within : (sizes bytes : List ℕ) (e : ModuleFault) → IsBytes bytes → enum_at sizes bytes ≡ Err e → e.left ≤ length bytes
+enum_within : (sizes bytes : List ℕ) (e : FieldFault) → IsBytes bytes → enum_at sizes bytes ≡ Err e → e.left ≤ length bytes
 unfolding enum_at
 enum_within sizes bytes e fits h = bind_err (byte_at bytes) _ e _ h (λ f. byte_reads.within bytes e fits f) (λ x ok f. let z = known_err _ rule.Limit bytes x.1 e f in omega arith)
 
-range_within : (bytes : List ℕ) (e : ModuleFault) → IsBytes bytes → range_at bytes ≡ Err e → e.left ≤ length bytes
+range_within : (bytes : List ℕ) (e : FieldFault) → IsBytes bytes → range_at bytes ≡ Err e → e.left ≤ length bytes
 unfolding range_at
 range_within bytes e fits h =
     bind_err (signed_at w32 bytes) _ e _ h (λ f. i32_reads.within bytes e fits f) (λ x ok f.
@@ -186,7 +186,7 @@ carrier_again sizes (carrier.Enum e) rest h =
 carrier_again sizes (carrier.Range r) rest h =
     let t : between_at 0 3 (2 ∷ (Spelling.bounds r.low r.high ++ rest)) ≡ Ok (2, Spelling.bounds r.low r.high ++ rest) = (between_reads 0 3).again 2 (Spelling.bounds r.low r.high ++ rest) refl in rw t (range_at_again r rest h)
 
-tagged_within : (sizes : List ℕ) (tag : ℕ) (bytes : List ℕ) (e : ModuleFault) → IsBytes bytes → tagged_at sizes tag bytes ≡ Err e → e.left ≤ length bytes
+tagged_within : (sizes : List ℕ) (tag : ℕ) (bytes : List ℕ) (e : FieldFault) → IsBytes bytes → tagged_at sizes tag bytes ≡ Err e → e.left ≤ length bytes
 tagged_within sizes zero bytes e fits h = absurd cc
 tagged_within sizes (suc zero) bytes e fits h = enum_within sizes bytes e fits h
 tagged_within sizes (suc (suc n)) bytes e fits h = range_within bytes e fits h

@@ -4,7 +4,7 @@ use Rattle.std.specs.Prelude.{ℤ, nat_le, nat_lt, ◌==◌}
 use Rattle.std.specs.Int.{w16, w64}
 use Rattle.std.specs.List.{flat_map, list_all}
 use Rattle.std.proofs.lemmas.Bool.{and_parts, and_from, ltb-true, le-leb, eqb-true}
-use Rattle.pb_bytecode.specs.declared.fault.ModuleFault.{ModuleFault}
+use Rattle.pb_bytecode.specs.declared.fault.FieldFault.{FieldFault}
 use Rattle.pb_bytecode.specs.declared.fault.ModuleRule.TheVariants as rule
 use Rattle.pb_bytecode.specs.Limits.{is_byte, is_u16, is_i64, is_between, are_bounds, count_of}
 use Rattle.pb_bytecode.specs.Spelling
@@ -214,7 +214,7 @@ made_takes {A} v sizes f mk read spell test reads for_mk spelled bytes x fits h 
     subst (λ (y : Op × List ℕ). Operands v sizes f bytes y) (ok_is (mk a.0.0, a.0.1) x a.2)
     (record { format = for_mk a.0.0; took = record { parts = t.parts ∙ ap (λ (z : List ℕ). z ++ a.0.1) s.0; left = t.left; fits = s.1 } })
 
-made_within : {A : Type 0} (mk : A → Op) (read : List ℕ → Field A) (spell : A → List ℕ) (test : A → Bool) → Reads read spell test → (bytes : List ℕ) (e : ModuleFault) → IsBytes bytes → made mk (read bytes) ≡ Err e → e.left ≤ length bytes
+made_within : {A : Type 0} (mk : A → Op) (read : List ℕ → Field A) (spell : A → List ℕ) (test : A → Bool) → Reads read spell test → (bytes : List ℕ) (e : FieldFault) → IsBytes bytes → made mk (read bytes) ≡ Err e → e.left ≤ length bytes
 made_within mk read spell test reads bytes e fits h = bind_err (read bytes) (λ y. Ok (mk y.0, y.1)) e _ h (λ f. reads.within bytes e fits f) (λ x ok f. absurd cc)
 
 truth_spelled : (b : ℕ) → (is_byte b && is_between 0 2 b) ≡ true → Spelling.byte b ≡ Spelling.truth (b == 1)
@@ -276,7 +276,7 @@ operands_take v sizes format.Loop bytes x g fits h = made_takes v sizes format.L
 operands_take v sizes format.Call bytes x g fits h = made_takes v sizes format.Call (λ e. op.Call e) byte_at Spelling.byte is_byte byte_reads (λ a. refl) (λ a t. (refl, t)) bytes x fits h
 operands_take v sizes format.SlotInRange bytes x g fits h = made_takes v sizes format.SlotInRange (λ t. op.SlotInRange t.0 t.1.0.0 t.1.0.1 t.1.1) slot_test_at _ _ slot_test_reads (λ a. refl) (λ a t. (refl, and_from _ _ g t)) bytes x fits h
 
-operands_within : (sizes : List ℕ) (f : Format) (bytes : List ℕ) (e : ModuleFault) → IsBytes bytes → operands_at sizes f bytes ≡ Err e → e.left ≤ length bytes
+operands_within : (sizes : List ℕ) (f : Format) (bytes : List ℕ) (e : FieldFault) → IsBytes bytes → operands_at sizes f bytes ≡ Err e → e.left ≤ length bytes
 operands_within sizes (format.Plain i) bytes e fits h = absurd cc
 operands_within sizes format.Int bytes e fits h = made_within (λ k. op.PushInt k) (signed_at w64) Spelling.i64 is_i64 i64_reads bytes e fits h
 operands_within sizes format.Bool bytes e fits h = made_within (λ b. op.PushBool (b == 1)) (between_at 0 2) Spelling.byte _ (between_reads 0 2) bytes e fits h

@@ -4,7 +4,7 @@ use Rattle.std.specs.List.{flat_map, list_all}
 use Rattle.std.proofs.lemmas.Bool.{and_parts, and_from}
 use Rattle.std.proofs.lemmas.List.Concat.{flat_map-cons}
 use Rattle.std.proofs.Math.Bool.{and-true}
-use Rattle.pb_bytecode.specs.declared.fault.ModuleFault.{ModuleFault}
+use Rattle.pb_bytecode.specs.declared.fault.FieldFault.{FieldFault}
 use Rattle.pb_bytecode.specs.declared.fault.ModuleRule.{ModuleRule}
 use Rattle.pb_bytecode.specs.Reading.{◌>>=◌, Field, known, checked, kept, items_at}
 
@@ -16,15 +16,15 @@ IsBytes-append [] ys h = h
 IsBytes-append (x ∷ xs) ys h = IsBytes-append xs ys (λ i. h (suc i))
 
 -- the value of a step that did not fail, and the fault of one that did or of the next
-pub bind_ok : {A B : Type 0} (r : Result A ModuleFault) (f : A → Result B ModuleFault) (y : B) → (r >>= f) ≡ Ok y → (x : A) × (r ≡ Ok x) × (f x ≡ Ok y)
+pub bind_ok : {A B : Type 0} (r : Result A FieldFault) (f : A → Result B FieldFault) (y : B) → (r >>= f) ≡ Ok y → (x : A) × (r ≡ Ok x) × (f x ≡ Ok y)
 bind_ok (Ok x) f y e = (x, refl, e)
 bind_ok (Err d) f y e = absurd cc
 
-pub bind_err : {A B : Type 0} (r : Result A ModuleFault) (f : A → Result B ModuleFault) (e : ModuleFault) (P : Type 0) → (r >>= f) ≡ Err e → (r ≡ Err e → P) → ((x : A) → r ≡ Ok x → f x ≡ Err e → P) → P
+pub bind_err : {A B : Type 0} (r : Result A FieldFault) (f : A → Result B FieldFault) (e : FieldFault) (P : Type 0) → (r >>= f) ≡ Err e → (r ≡ Err e → P) → ((x : A) → r ≡ Ok x → f x ≡ Err e → P) → P
 bind_err (Ok x) f e P h p q = q x refl h
 bind_err (Err d) f e P h p q = p (let same : d ≡ e = cc in ap (λ k. Err k) same)
 
-abbrev done : {A : Type 0} → A → Result A ModuleFault
+abbrev done : {A : Type 0} → A → Result A FieldFault
 done x = Ok x
 
 pub ok_is : {A : Type 0} (x y : A) → done x ≡ done y → x ≡ y
@@ -43,13 +43,13 @@ shorter text test bytes rest t = omega (arith, ap length t.parts, length-append 
 pub record Reads {A : Type 0} (read : List ℕ → Field A) (spell : A → List ℕ) (test : A → Bool) : Type 0 where
   pub takes : (bytes : List ℕ) (x : A × List ℕ) → IsBytes bytes → read bytes ≡ Ok x → Took (spell x.0) (test x.0) bytes x.1
   pub again : (a : A) (rest : List ℕ) → test a ≡ true → read (spell a ++ rest) ≡ Ok (a, rest)
-  pub within : (bytes : List ℕ) (e : ModuleFault) → IsBytes bytes → read bytes ≡ Err e → e.left ≤ length bytes
+  pub within : (bytes : List ℕ) (e : FieldFault) → IsBytes bytes → read bytes ≡ Err e → e.left ≤ length bytes
 
 -- the same for the rest of a value, a part of which is known
 pub record ReadsIn {B C : Type 0} (read : C → List ℕ → Field B) (part : B → C) (spell : B → List ℕ) (test : B → Bool) : Type 0 where
   pub takes : (c : C) (bytes : List ℕ) (x : B × List ℕ) → IsBytes bytes → read c bytes ≡ Ok x → (part x.0 ≡ c) × Took (spell x.0) (test x.0) bytes x.1
   pub again : (b : B) (rest : List ℕ) → test b ≡ true → read (part b) (spell b ++ rest) ≡ Ok (b, rest)
-  pub within : (c : C) (bytes : List ℕ) (e : ModuleFault) → IsBytes bytes → read c bytes ≡ Err e → e.left ≤ length bytes
+  pub within : (c : C) (bytes : List ℕ) (e : FieldFault) → IsBytes bytes → read c bytes ≡ Err e → e.left ≤ length bytes
 
 -- nothing is left to read
 pub finish : {B C : Type 0} (make : C → B) (part : B → C) → ((b : B) → make (part b) ≡ b) → ((c : C) → part (make c) ≡ c) → ReadsIn (λ c bytes. Ok (make c, bytes)) part (λ b. []) (λ b. true)
@@ -111,9 +111,9 @@ known_ok None r field rest x e = absurd cc
 known_ok {A} (Some a) r field rest x e =
     let s = ok_is (a, rest) x e in (ap (λ (y : A × List ℕ). Some y.0) s, sym (ap (λ (y : A × List ℕ). y.1) s))
 
-pub known_err : {A : Type 0} (o : Option A) (r : ModuleRule) (field rest : List ℕ) (e : ModuleFault) → known o r field rest ≡ Err e → e.left ≡ length field
+pub known_err : {A : Type 0} (o : Option A) (r : ModuleRule) (field rest : List ℕ) (e : FieldFault) → known o r field rest ≡ Err e → e.left ≡ length field
 known_err None r field rest e h =
-    let s : record { rule = r; left = length field } ≡ e = cc in sym (ap (λ (f : ModuleFault). f.left) s)
+    let s : record { rule = r; left = length field } ≡ e = cc in sym (ap (λ (f : FieldFault). f.left) s)
 known_err (Some a) r field rest e h = absurd cc
 
 pub check : {A B : Type 0} (read : List ℕ → Field A) (spell : A → List ℕ) (test : A → Bool) (f : A → Option B) (r : ModuleRule) (back : B → A) (test' : B → Bool)
@@ -171,7 +171,7 @@ items {A} item spell test reads = record { takes = item_takes; again = item_agai
         let regrouped : flat_map spell (x ∷ xs) ++ rest ≡ spell x ++ (flat_map spell xs ++ rest) = ap (λ (r : List ℕ). r ++ rest) (flat_map-cons spell x xs) ∙ append_assoc (spell x) (flat_map spell xs) rest in
         ap (items_at item (suc (length xs))) regrouped ∙ rw (reads.again x (flat_map spell xs ++ rest) two.0, item_again xs rest two.1) refl
 
-    item_within : (n : ℕ) (bytes : List ℕ) (e : ModuleFault) → IsBytes bytes → items_at item n bytes ≡ Err e → e.left ≤ length bytes
+    item_within : (n : ℕ) (bytes : List ℕ) (e : FieldFault) → IsBytes bytes → items_at item n bytes ≡ Err e → e.left ≤ length bytes
     item_within zero bytes e fits h = absurd cc
     item_within (suc n) bytes e fits h =
         bind_err (item bytes) (λ first. items_at item n first.1 >>= λ others. Ok (first.0 ∷ others.0, others.1)) e _ h

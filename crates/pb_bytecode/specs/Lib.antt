@@ -13,4 +13,4 @@ pub mod Solved
 pub mod Examples
 pub mod RuleNumber
 pub mod LimitNumber
-pub mod ErrorText
+pub mod FaultText

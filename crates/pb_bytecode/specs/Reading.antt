@@ -5,6 +5,8 @@ use Rattle.std.proofs.Common.{refl}
 use Rattle.std.proofs.lemmas.Bool.{ltb-true}
 use Rattle.std.specs.Int.{Width, w16, w32, w64, byte_len, from_le_bytes, cast_signed}
 use Rattle.pb_carriers.specs.Carrier.{Tuple, contains}
+use Rattle.pb_errors.specs.OrMemory.{IfFault}
+use Rattle.pb_errors.specs.declared.or_memory.OrMemory.{OrMemory}
 use Rattle.pb_fixpoint.specs.declared.Sign.{Sign}
 use Rattle.pb_fixpoint.specs.declared.Sign.TheVariants.{Mu, Nu}
 use Rattle.pb_limits.specs.declared.TheConstants.{MAX_STRUCTS, MAX_ENUMERATORS, MAX_EQUATIONS, MAX_PARAMETERS, MAX_INSTANCES, MAX_LOOP_SLOTS}
@@ -20,9 +22,7 @@ use Rattle.pb_bytecode.specs.declared.format.Format.{Format}
 use Rattle.pb_bytecode.specs.declared.format.Format.TheVariants as format
 use Rattle.pb_bytecode.specs.declared.fault.ModuleRule.{ModuleRule}
 use Rattle.pb_bytecode.specs.declared.fault.ModuleRule.TheVariants as rule
-use Rattle.pb_bytecode.specs.declared.fault.ModuleFault.{ModuleFault}
-use Rattle.pb_bytecode.specs.declared.fault.ReadError.{ReadError}
-use Rattle.pb_bytecode.specs.declared.fault.ReadError.TheVariants as errors
+use Rattle.pb_bytecode.specs.declared.fault.FieldFault.{FieldFault}
 use Rattle.pb_bytecode.specs.Contents.{Text, SortContents, EquationContents, InitialContents, Contents, counts}
 use Rattle.pb_bytecode.specs.Names.{is_name}
 use Rattle.pb_bytecode.specs.Formats.{format_of}
@@ -30,31 +30,28 @@ use Rattle.pb_bytecode.specs.Limits.{is_between, count_of, parameters_of, instan
 use Rattle.pb_bytecode.specs.Spelling.{mark}
 
 infixl 10 ◌>>=◌
-abbrev pub ◌>>=◌ : {A B : Type 0} → Result A ModuleFault → (A → Result B ModuleFault)
-    → Result B ModuleFault
+abbrev pub ◌>>=◌ : {A B : Type 0} → Result A FieldFault → (A → Result B FieldFault)
+    → Result B FieldFault
 (Ok x) >>= f = f x
 (Err e) >>= f = Err e
 
 -- what a function returned, seen by view, is what reading gives
-abbrev pub IsRead : {X Y : Type 0} → (X → Y) → Result X ModuleFault → Result Y ModuleFault → Type 0
+abbrev pub IsRead : {X Y : Type 0} → (X → Y) → Result X FieldFault → Result Y FieldFault → Type 0
 IsRead view (Ok x) read = read ≡ Ok (view x)
 IsRead view (Err f) read = read ≡ Err f
 
 -- the same of a function that takes memory, unless memory ran out
-abbrev pub Fails : {Y : Type 0} → ReadError → Result Y ModuleFault → Type 0
-Fails errors.Memory read = Unit {0}
-Fails (errors.ModuleFault f) read = read ≡ Err f
-
-abbrev pub Gives : {X Y : Type 0} → (X → Y) → Result X ReadError → Result Y ModuleFault → Type 0
+abbrev pub Gives : {X Y : Type 0} → (X → Y) → Result X (OrMemory FieldFault) → Result Y FieldFault
+    → Type 0
 Gives view (Ok x) read = read ≡ Ok (view x)
-Gives view (Err e) read = Fails e read
+Gives view (Err error) read = IfFault error (λ fault. read ≡ Err fault)
 
 -- a value and the bytes behind it
 abbrev pub Field : Type 0 → Type 0
-Field A = Result (A × List ℕ) ModuleFault
+Field A = Result (A × List ℕ) FieldFault
 
 -- B03: the input ends in a field, so that no byte is left
-abbrev pub truncated : ModuleFault
+abbrev pub truncated : FieldFault
 truncated = record { rule = rule.Truncated; left = 0 }
 
 -- the value, where there is one; else the fault stands where the field begins
@@ -303,7 +300,7 @@ contents_at bytes = do
   )
 
 -- all of the bytes; where some stand behind the module, B06
-unfoldable pub all_of : List ℕ → Result Contents ModuleFault
+unfoldable pub all_of : List ℕ → Result Contents FieldFault
 all_of bytes = do
   m ← contents_at bytes
   if length m.1 == 0 then Ok m.0 else Err (record { rule = rule.Trailing; left = length m.1 })

@@ -1,5 +1,6 @@
 //! Reading modules.
-ghost use Rattle.std.specs.Prelude.{◌≡◌, ◌+◌, length, true, Ok, Err, IfOk, IfErr, MatchResult};
+ghost use Rattle.std.specs.Prelude.{◌≡◌, ◌+◌, length, true, Ok, Err, IfOk, MatchResult};
+ghost use Rattle.pb_errors.specs.OrMemory.{IfRefused};
 ghost use Rattle.pb_bytecode.specs.Contents.{Contents};
 ghost use Rattle.pb_bytecode.specs.Decoded.{IsFirstFault, IsModuleOf, module_contents};
 ghost use Rattle.pb_bytecode.specs.Limits.{fits};
@@ -8,7 +9,7 @@ ghost use Rattle.pb_bytecode.specs.Spelling.{spelling};
 ghost use Rattle.pb_bytecode.specs.Views.{contents_of};
 
 use crate::equation::Equation;
-use crate::fault::{ModuleError, ModuleFault, ModuleRule, ReadError};
+use crate::fault::{FieldFault, ModuleError, ModuleFault, ModuleRule, ReadError};
 use crate::initial::Initial;
 use crate::module::Module;
 use crate::reading::{equations_at, fault, initial_at, sizes_of, sorts_at, truncated, u8_at};
@@ -21,7 +22,7 @@ pub(crate) const MARK: [u8; 4] = *b"PBES";
 
 /// The bytes behind the mark; B01 at the first byte that differs from it.
 #[tactic(auto, unfolding(crate::specs::Reading::mark_at))]
-fn mark_at(bytes: &[u8]) -> Result<&[u8], ModuleFault>
+fn mark_at(bytes: &[u8]) -> Result<&[u8], FieldFault>
     ensures { IsRead (λ x. (tt, x.now)) result (mark_at bytes.now) }
 {
     match bytes {
@@ -36,7 +37,7 @@ fn mark_at(bytes: &[u8]) -> Result<&[u8], ModuleFault>
 
 /// Version 1 or 2; else B02.
 #[tactic(auto, unfolding(crate::specs::Reading::version_at))]
-fn version_at(bytes: &[u8]) -> Result<(Version, &[u8]), ModuleFault>
+fn version_at(bytes: &[u8]) -> Result<(Version, &[u8]), FieldFault>
     ensures { IsRead (λ x. (x.0, x.1.now)) result (version_at bytes.now) }
 {
     let (number, rest) = u8_at(bytes)?;
@@ -64,7 +65,7 @@ fn fields(
     if rest.is_empty() {
         Ok((version, sorts, equations, initial))
     } else {
-        Err(ReadError::ModuleFault(fault(ModuleRule::Trailing, rest)))
+        Err(ReadError::Refused(fault(ModuleRule::Trailing, rest)))
     }
 }
 
@@ -78,7 +79,7 @@ pub fn decode(alloc: Global, bytes: &[u8]) -> Result<Module, ModuleError>
     // What is spelled so is read, unless memory runs out.
     ensures read { (m : Contents) → fits m ≡ true → bytes.now ≡ spelling m → IsModuleOf m result }
     // Which fault it is, and where it stands.
-    ensures fault { IfErr result (IsFirstFault bytes.now) }
+    ensures fault { IfRefused result (IsFirstFault bytes.now) }
 {
     match fields(alloc, bytes) {
         Ok((version, sorts, equations, initial)) => Ok(Module {
@@ -88,11 +89,11 @@ pub fn decode(alloc: Global, bytes: &[u8]) -> Result<Module, ModuleError>
             initial,
         }),
         Err(ReadError::Memory) => Err(ModuleError::Memory),
-        Err(ReadError::ModuleFault(fault)) => {
-            Err(ModuleError::ModuleFault {
+        Err(ReadError::Refused(fault)) => {
+            Err(ModuleError::Refused(ModuleFault {
                 rule: fault.rule,
                 byte: bytes.len() - fault.left,
-            })
+            }))
         }
     }
 }

@@ -1,8 +1,7 @@
 //! Why bytes are no module.
 ghost use Rattle.std.specs.Prelude.{◌≡◌};
-ghost use Rattle.pb_bytecode.specs.declared.fault.ReadError.TheVariants as errors;
 
-use std::alloc::{AllocError, AllocFailed};
+use pb_errors::{Fault, OrMemory};
 use std::fmt;
 
 /// What is wrong with the bytes.
@@ -54,65 +53,40 @@ impl fmt::Display for ModuleRule {
     }
 }
 
-/// A fault, and how many bytes are left from the beginning of its field on.
+/// A rule that is broken, and how many bytes are left from the beginning of its field on.
 #[derive(Clone, Copy, Debug, PartialEq, Eq)]
-pub(crate) struct ModuleFault {
+pub(crate) struct FieldFault {
     pub(crate) rule: ModuleRule,
     pub(crate) left: usize,
 }
 
+impl Fault for FieldFault {}
+
 /// Why a field whose reading takes memory could not be read.
-#[derive(Debug, Drop)]
-pub(crate) enum ReadError {
-    Memory,
-    ModuleFault(ModuleFault),
-}
+pub(crate) type ReadError = OrMemory<FieldFault>;
 
-impl From<ModuleFault> for ReadError {
-    ghost from_gives = { λ fault e. e ≡ errors.ModuleFault fault };
-
-    fn from(fault: ModuleFault) -> ReadError {
-        ReadError::ModuleFault(fault)
-    }
-}
-
-impl From<AllocError> for ReadError {
-    ghost from_gives = { λ _ e. e ≡ errors.Memory };
-
-    fn from(_e: AllocError) -> ReadError {
-        ReadError::Memory
-    }
-}
-
-impl<T: Drop> From<AllocFailed<T>> for ReadError {
-    ghost from_gives = { λ _ e. e ≡ errors.Memory };
-
-    fn from(_e: AllocFailed<T>) -> ReadError {
-        ReadError::Memory
-    }
-}
-
-/// Why bytes could not be read as a module. It shows as `B05 byte 17`, or `M01`.
+/// The first fault from the left, and the byte at which its field begins, counted from 0. Where the
+/// input ends inside a field it is the input's length, and where the mark is wrong the first byte
+/// that differs. It shows as `B05 byte 17`.
 #[derive(Clone, Copy, Debug, PartialEq, Eq)]
-pub enum ModuleError {
-    /// Memory ran out.
-    Memory,
-    /// The first fault from the left, and the byte at which its field begins, counted from 0. Where
-    /// the input ends inside a field it is the input's length, and where the mark is wrong the
-    /// first byte that differs.
-    ModuleFault { rule: ModuleRule, byte: usize },
+pub struct ModuleFault {
+    pub rule: ModuleRule,
+    pub byte: usize,
 }
 
-impl fmt::Display for ModuleError {
-    ghost use Rattle.std.specs.Prelude.{Some};
-    ghost use Rattle.pb_bytecode.specs.ErrorText.{error_text};
+impl Fault for ModuleFault {}
 
-    ghost output = { λ error. Some (error_text error) };
+/// Why bytes could not be read as a module: a fault, or memory was refused.
+pub type ModuleError = OrMemory<ModuleFault>;
+
+impl fmt::Display for ModuleFault {
+    ghost use Rattle.std.specs.Prelude.{Some};
+    ghost use Rattle.pb_bytecode.specs.FaultText.{fault_text};
+
+    ghost output = { λ fault. Some (fault_text fault) };
 
     fn fmt<W: fmt::Write>(&self, f: &mut fmt::Formatter<W>) -> fmt::Result {
-        match self {
-            ModuleError::Memory => f.write_str("M01"),
-            ModuleError::ModuleFault { rule, byte } => write!(f, "{rule} byte {byte}"),
-        }
+        let ModuleFault { rule, byte } = self;
+        write!(f, "{rule} byte {byte}")
     }
 }

@@ -21,7 +21,7 @@ pub mod sort;
 pub mod version;
 
 pub use equation::Equation;
-pub use fault::{ModuleError, ModuleRule};
+pub use fault::{ModuleError, ModuleFault, ModuleRule};
 pub use initial::Initial;
 pub use limit::Limit;
 pub use module::Module;

@@ -13,9 +13,6 @@ use Rattle.pb_bytecode.specs.Meaning.{parameters, program_of}
 use Rattle.pb_bytecode.specs.Views.{equation_contents, sort_contents}
 use Rattle.pb_verifier.specs.Acceptance.{HasTable, IsAccepted, IsVerified}
 use Rattle.pb_verifier.specs.Programs.{HaveTables, parameters_of, program_in}
-use Rattle.pb_verifier.specs.Refusals.{WhereRefused}
-use Rattle.pb_verifier.specs.declared.verify_error.VerifyError.{VerifyError}
-use Rattle.pb_verifier.specs.declared.verify_error.VerifyError.TheVariants as error
 use Rattle.pb_bytecode.specs.declared.sort.Sort.{Sort}
 use Rattle.std.proofs.lemmas.List.{length-map}
 use Rattle.pb_verifier_structure.specs.Structure.{IsWithinLimits}
@@ -88,7 +85,3 @@ few_lists vs h = simp length-map at h
 
 pub verified_by : (m : Module) (sizes : List ℕ) (callees layout : List (List Carrier)) (es : List Equation) → IsOf m sizes callees es → HaveTables sizes callees es → layout ≡ callees → IsVerified (module_contents m) layout
 verified_by m sizes callees layout es o h e = record { accepted = accepted_by_tables m sizes callees es o h; laid_out = e ∙ parameters_are m sizes callees es o }
-
-pub where_refused : {P Q : Type 0} → (e : VerifyError) → (P → Q) → WhereRefused e P → WhereRefused e Q
-where_refused (error.Refusal rule equation place) f h = f h
-where_refused error.Memory f h = h

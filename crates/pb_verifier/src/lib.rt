@@ -17,4 +17,4 @@ mod visit;
 
 pub use verification::verify;
 pub use verified::Verified;
-pub use verify_error::VerifyError;
+pub use verify_error::{CodeFault, VerifyError};

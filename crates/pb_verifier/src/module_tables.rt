@@ -10,7 +10,8 @@ ghost use Rattle.pb_limits.specs.declared.TheConstants.{MAX_EQUATIONS, MAX_PARAM
 ghost use Rattle.pb_limits.specs.declared.TheConstants.{MAX_INSTANCES};
 
 use pb_bytecode::{Equation, Sort};
-use pb_sorts::{Carrier, Layout, LayoutError};
+use pb_errors::OrMemory;
+use pb_sorts::{Carrier, Layout};
 use std::alloc::{AllocError, Global};
 
 /// How many enumerators each sort has.
@@ -46,9 +47,5 @@ pub(crate) fn layout_of(alloc: Global, carriers: &[Vec<Carrier>]) -> Result<Layo
     requires instances { count_of (lists_of carriers.now) ≤ MAX_INSTANCES }
     ensures { IfOk result (λ layout. layout ≡ lists_of carriers.now) }
 {
-    match Layout::new(alloc, carriers) {
-        Ok(layout) => Ok(layout),
-        Err(LayoutError::OutOfMemory) => Err(AllocError),
-        Err(LayoutError::TooManyInstances) => unreachable!(),
-    }
+    Layout::new(alloc, carriers).map_err(OrMemory::only_memory)
 }

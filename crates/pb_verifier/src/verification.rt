@@ -6,17 +6,30 @@ ghost use Rattle.pb_bytecode.specs.Meaning.{parameters};
 ghost use Rattle.pb_bytecode.specs.declared.equation.Equation.{Equation as equation_type};
 ghost use Rattle.pb_verifier.specs.Acceptance.{IsAccepted, IsInitial, IsVerified};
 ghost use Rattle.pb_verifier.specs.Programs.{program_in, HaveTables};
-ghost use Rattle.pb_verifier.specs.Refusals.{WhereRefused};
+ghost use Rattle.pb_errors.specs.OrMemory.{IfFault, OnRefused, raised};
 ghost use Rattle.pb_verifier_structure.specs.Structure.{IsWithinLimits};
 
 use crate::equation::check_equation;
 use crate::module_tables::{enumerator_counts, layout_of, parameter_carriers};
 use crate::verified::Verified;
-use crate::verify_error::VerifyError;
+use crate::verify_error::{CodeFault, VerifyError};
 use pb_bytecode::{Equation, Module};
 use pb_errors::OrMemory;
 use pb_sorts::{Carrier, Instance, Layout, Tuple};
+use pb_verifier_structure::PositionFault;
 use std::alloc::{AllocError, Global};
+
+// The refusal of the code of the equation of a number.
+fn in_equation(error: OrMemory<PositionFault>, number: usize) -> VerifyError
+    ensures { raised (λ fault above.
+        above ≡ record { rule = fault.rule; equation = number; place = fault.place }) error result }
+{
+    error.map(|fault| CodeFault {
+        rule: fault.rule,
+        equation: number,
+        place: fault.place,
+    })
+}
 
 // Checks the code of each equation, in order.
 fn check_equations(
@@ -29,20 +42,13 @@ fn check_equations(
         → IsWithinLimits (program_in sorts.now (map vec_items callees.now) e) }
     ensures accepted { OnOk result (HaveTables sorts.now
         (map vec_items callees.now) equations.now) }
-    ensures refused { IfErr result (λ error. WhereRefused error
-        (HaveTables sorts.now (map vec_items callees.now) equations.now → ⊥)) }
+    ensures refused { OnRefused result
+        (HaveTables sorts.now (map vec_items callees.now) equations.now → ⊥) }
 {
     for (number, equation) in equations.iter().enumerate() {
         match check_equation(alloc, sorts, callees, equation) {
             Ok(()) => {}
-            Err(OrMemory::Refused(fault)) => {
-                return Err(VerifyError::Refusal {
-                    rule: fault.rule,
-                    equation: number,
-                    place: fault.place,
-                });
-            }
-            Err(OrMemory::Memory) => return Err(VerifyError::Memory),
+            Err(error) => return Err(in_equation(error, number)),
         }
     }
     Ok(())
@@ -67,8 +73,7 @@ fn initial_number(alloc: Global, module: &Module, layout: &Layout) -> Result<u32
 fn check(alloc: Global, module: &Module) -> Result<(Layout, u32), VerifyError>
     ensures verified { IfOk result (λ found. IsVerified (module_contents «module».now) found.0) }
     ensures initial { IfOk result (λ found. IsInitial (module_contents «module».now) found.1) }
-    ensures refused { IfErr result (λ error. WhereRefused error
-        (IsAccepted (module_contents «module».now) → ⊥)) }
+    ensures refused { OnRefused result (IsAccepted (module_contents «module».now) → ⊥) }
 {
     let sorts = enumerator_counts(alloc, &module.sorts)?;
     let callees = parameter_carriers(alloc, &module.equations)?;
@@ -84,7 +89,7 @@ fn check(alloc: Global, module: &Module) -> Result<(Layout, u32), VerifyError>
 /// Lindholm and Yellin 1996).
 ///
 /// # Errors
-/// The module is handed back with the reason. `Refusal` names a rule that is broken, and where:
+/// The module is handed back with the reason. `Refused` names a rule that is broken, and where:
 /// equations are checked in order, and of each one first how its loops nest, then names and
 /// targets, then the stated counts, and then the instructions that are reached, from the first
 /// place to the last. No module that is accepted is refused. `Memory` where memory is refused.
@@ -96,8 +101,8 @@ pub fn verify(alloc: Global, module: Module) -> Result<Verified, (Module, Verify
     // A refused module is handed back as it was.
     ensures handed_back { IfErr result (λ refusal. refusal.0 ≡ «module») }
     // What is accepted is refused for want of memory alone.
-    ensures refused { IfErr result (λ refusal. WhereRefused refusal.1
-        (IsAccepted (module_contents «module») → ⊥)) }
+    ensures refused { IfErr result (λ refusal. IfFault refusal.1
+        (λ _. IsAccepted (module_contents «module») → ⊥)) }
 {
     match check(alloc, &module) {
         Ok((layout, initial)) => Ok(Verified::new(module, layout, initial)),

@@ -5,13 +5,13 @@ ghost use Rattle.pb_bytecode.specs.Reading.{Gives, IsRead, carrier_at, counted_a
 ghost use Rattle.pb_bytecode.specs.Reading.{items_at, range_at};
 
 use super::numbers::{between_at, fault, i32_at, u8_at};
-use crate::fault::{ModuleFault, ModuleRule, ReadError};
+use crate::fault::{FieldFault, ModuleRule, ReadError};
 use pb_sorts::{Carrier, Enumeration, Range};
 use std::alloc::Global;
 
 /// A sort, `sizes` giving how many enumerators each has; B05 where there is no such sort.
 #[tactic(auto, unfolding(crate::specs::Reading::enum_at))]
-fn enum_at<'a>(sizes: &[u8], bytes: &'a [u8]) -> Result<(Carrier, &'a [u8]), ModuleFault>
+fn enum_at<'a>(sizes: &[u8], bytes: &'a [u8]) -> Result<(Carrier, &'a [u8]), FieldFault>
     ensures { IsRead (λ x. (x.0, x.1.now)) result (enum_at sizes.now bytes.now) }
 {
     let (sort, rest) = u8_at(bytes)?;
@@ -32,7 +32,7 @@ fn range_of(low: i32, high: i32) -> Carrier
 }
 
 #[tactic(auto, using(crate::proofs::Carriers::range_read), unfolding(crate::specs::Reading::range_at))]
-fn range_at(bytes: &[u8]) -> Result<(Carrier, &[u8]), ModuleFault>
+fn range_at(bytes: &[u8]) -> Result<(Carrier, &[u8]), FieldFault>
     ensures { IsRead (λ x. (x.0, x.1.now)) result (range_at bytes.now) }
 {
     let (low, second) = i32_at(bytes)?;
@@ -45,7 +45,7 @@ fn range_at(bytes: &[u8]) -> Result<(Carrier, &[u8]), ModuleFault>
 }
 
 #[tactic(auto, unfolding(crate::specs::Reading::carrier_at))]
-fn carrier_at<'a>(sizes: &[u8], bytes: &'a [u8]) -> Result<(Carrier, &'a [u8]), ModuleFault>
+fn carrier_at<'a>(sizes: &[u8], bytes: &'a [u8]) -> Result<(Carrier, &'a [u8]), FieldFault>
     ensures { IsRead (λ x. (x.0, x.1.now)) result (carrier_at sizes.now bytes.now) }
 {
     let (tag, rest) = between_at(0, 3, bytes)?;

@@ -11,7 +11,7 @@ use super::instructions::code_at;
 use super::names::name_at;
 use super::numbers::{between_at, fault, i64_at, u8_at, u32_at};
 use crate::equation::Equation;
-use crate::fault::{ModuleFault, ModuleRule, ReadError};
+use crate::fault::{FieldFault, ModuleRule, ReadError};
 use crate::initial::Initial;
 use crate::instances::has_few_instances;
 use crate::version::Version;
@@ -22,7 +22,7 @@ use std::alloc::Global;
 
 /// 0 or 1; else B05.
 #[tactic(auto, unfolding(crate::specs::Reading::sign_at))]
-fn sign_at(bytes: &[u8]) -> Result<(Sign, &[u8]), ModuleFault>
+fn sign_at(bytes: &[u8]) -> Result<(Sign, &[u8]), FieldFault>
     ensures { IsRead (λ x. (x.0, x.1.now)) result (sign_at bytes.now) }
 {
     let (code, rest) = u8_at(bytes)?;
@@ -100,13 +100,13 @@ pub(crate) fn equations_at<'a>(
     if has_few_instances(&equations) {
         Ok((equations, rest))
     } else {
-        Err(ReadError::ModuleFault(fault(ModuleRule::Limit, rest)))
+        Err(ReadError::Refused(fault(ModuleRule::Limit, rest)))
     }
 }
 
 /// A value of the carrier; else B07.
 #[tactic(auto, unfolding(crate::specs::Reading::value_at))]
-fn value_at<'a>(carrier: &Carrier, bytes: &'a [u8]) -> Result<(i64, &'a [u8]), ModuleFault>
+fn value_at<'a>(carrier: &Carrier, bytes: &'a [u8]) -> Result<(i64, &'a [u8]), FieldFault>
     ensures { IsRead (λ x. (x.0, x.1.now)) result (value_at carrier.now bytes.now) }
 {
     let (value, rest) = i64_at(bytes)?;
@@ -147,7 +147,7 @@ pub(crate) fn initial_at<'a>(
 {
     let (equation, rest) = u8_at(bytes)?;
     if equation as usize >= equations.len() {
-        return Err(ReadError::ModuleFault(fault(ModuleRule::Initial, bytes)));
+        return Err(ReadError::Refused(fault(ModuleRule::Initial, bytes)));
     }
     let (values, rest) = values_at(alloc, &equations[equation as usize].parameters, rest)?;
     Ok((Initial { equation, values }, rest))

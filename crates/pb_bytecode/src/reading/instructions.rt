@@ -4,7 +4,7 @@ ghost use Rattle.pb_bytecode.specs.Reading.{Gives, IsRead, code_at, enumerator_a
 ghost use Rattle.pb_bytecode.specs.Reading.{op_at, operands_at, slot_test_at, test_at};
 
 use super::numbers::{between_at, bounds_at, fault, i64_at, u8_at, u16_at};
-use crate::fault::{ModuleFault, ModuleRule, ReadError};
+use crate::fault::{FieldFault, ModuleRule, ReadError};
 use crate::format::{Format, format_of};
 use crate::version::Version;
 use pb_bytecode_program::Op;
@@ -12,7 +12,7 @@ use std::alloc::Global;
 
 /// A sort and the place of one of its enumerators.
 #[tactic(auto, unfolding(crate::specs::Reading::enumerator_at))]
-fn enumerator_at<'a>(sizes: &[u8], bytes: &'a [u8]) -> Result<((u8, u8), &'a [u8]), ModuleFault>
+fn enumerator_at<'a>(sizes: &[u8], bytes: &'a [u8]) -> Result<((u8, u8), &'a [u8]), FieldFault>
     ensures { IsRead (λ x. ((x.0.0, x.0.1), x.1.now)) result (enumerator_at sizes.now bytes.now) }
 {
     let (sort, rest) = between_at(0, sizes.len(), bytes)?;
@@ -27,7 +27,7 @@ fn enumerator_at<'a>(sizes: &[u8], bytes: &'a [u8]) -> Result<((u8, u8), &'a [u8
 
 /// Two bounds and a target.
 #[tactic(auto, unfolding(crate::specs::Reading::test_at))]
-fn test_at(bytes: &[u8]) -> Result<((i32, i32, u16), &[u8]), ModuleFault>
+fn test_at(bytes: &[u8]) -> Result<((i32, i32, u16), &[u8]), FieldFault>
     ensures { IsRead (λ x. (((x.0.0, x.0.1), x.0.2), x.1.now)) result (test_at bytes.now) }
 {
     let ((low, high), rest) = bounds_at(bytes)?;
@@ -41,7 +41,7 @@ fn operands_at<'a>(
     sizes: &[u8],
     format: Format,
     bytes: &'a [u8],
-) -> Result<(Op, &'a [u8]), ModuleFault>
+) -> Result<(Op, &'a [u8]), FieldFault>
     ensures { IsRead (λ x. (x.0, x.1.now)) result (operands_at sizes.now format bytes.now) }
 {
     match format {
@@ -100,7 +100,7 @@ fn operands_at<'a>(
 
 /// An instruction whose code the version has; else B04.
 #[tactic(auto, unfolding(crate::specs::Reading::op_at))]
-fn op_at<'a>(version: Version, sizes: &[u8], bytes: &'a [u8]) -> Result<(Op, &'a [u8]), ModuleFault>
+fn op_at<'a>(version: Version, sizes: &[u8], bytes: &'a [u8]) -> Result<(Op, &'a [u8]), FieldFault>
     ensures { IsRead (λ x. (x.0, x.1.now)) result (op_at version sizes.now bytes.now) }
 {
     let (code, rest) = u8_at(bytes)?;
@@ -143,7 +143,7 @@ pub(crate) fn code_at<'a>(
 {
     let (count, rest) = u16_at(bytes)?;
     if count == 0 {
-        return Err(ReadError::ModuleFault(fault(ModuleRule::Limit, bytes)));
+        return Err(ReadError::Refused(fault(ModuleRule::Limit, bytes)));
     }
     ops_at(alloc, version, sizes, count, rest)
 }

@@ -18,11 +18,11 @@ pub(crate) fn name_at(alloc: Global, bytes: &[u8]) -> Result<(Name, &[u8]), Read
 {
     let (len, rest) = u8_at(bytes)?;
     if rest.len() < len as usize {
-        return Err(ReadError::ModuleFault(truncated()));
+        return Err(ReadError::Refused(truncated()));
     }
     let (text, rest) = rest.split_at(len as usize);
     if !is_name(text) {
-        return Err(ReadError::ModuleFault(fault(ModuleRule::Limit, bytes)));
+        return Err(ReadError::Refused(fault(ModuleRule::Limit, bytes)));
     }
     match std::str::from_utf8(text) {
         Ok(text) => Ok((

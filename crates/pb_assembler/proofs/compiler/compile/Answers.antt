@@ -10,14 +10,14 @@ module_of-requires-clause-measured c =
     let normal = c.args.normal.now in
     subst (λ (ms : List Measures). AreMeasuresOfAll normal.typed.now.layout normal.equations.items ms) (sym c.deref.ensures.value) c.in_ok-measures.ensures.measured
 
-pub returns-in-Ok-clause-accepted : goal.returns-in-Ok-clause-accepted
-returns-in-Ok-clause-accepted c =
+pub returns-clause-accepted : goal.returns-clause-accepted
+returns-clause-accepted c =
     let typed = c.args.normal.now.typed.now in
     c.compiled_modules_are_accepted.ensures.accepted (spec_form typed.spec) typed.faultless
-    (module_contents c.in-Ok.«module») c.in-Ok.ensures.«module» c.in-Ok.ensures.kept
+    (module_contents c.in_ok-module_of.field-0) c.in_ok-module_of.ensures.«module» c.in_ok-module_of.ensures.kept
 
-pub returns-in-Ok-clause-meaning : goal.returns-in-Ok-clause-meaning
-returns-in-Ok-clause-meaning c =
+pub returns-clause-meaning : goal.returns-clause-meaning
+returns-clause-meaning c =
     let typed = c.args.normal.now.typed.now in
     c.compiled_modules_have_the_answer.ensures.accepted (spec_form typed.spec) typed.faultless
-    (module_contents c.in-Ok.«module») c.in-Ok.ensures.«module»
+    (module_contents c.in_ok-module_of.field-0) c.in_ok-module_of.ensures.«module»

@@ -3,6 +3,7 @@ use Rattle.std.proofs.lemmas.Option.{slice_get_read}
 use Rattle.pb_normal.specs.Text.{said}
 use Rattle.pb_normal.specs.declared.normal.Equation.{Equation}
 use Rattle.pb_normal.specs.declared.normal.Normal.{Normal}
+use Rattle.pb_errors.specs.OrMemory.{IfFault}
 use Rattle.pb_assembler.specs.Excess.{IsFirstExcess}
 use Rattle.pb_assembler.specs.MeasureEquations.{AreMeasuresOfAll}
 use Rattle.pb_assembler.proofs.MeasureExcess.{all_keep, all_measured, exceeds, first_found, keeps, measured_more}
@@ -24,11 +25,12 @@ returns-in-Some-clause-refused c =
     let h = c.loop-equation.invariant in
     let long = h.long in
     let place : k ≡ c.len-equation.result = omega (arith, c.len-equation.ensures, c.loop-equation.all.ok.0, long) in
-    subst (λ (n : ℕ). IsFirstExcess (said normal.typed.now) c.in-Some.limit n) place
+    subst (λ e. IfFault e (IsFirstExcess (said normal.typed.now))) (sym c.into.ensures)
+    (subst (λ (n : ℕ). IsFirstExcess (said normal.typed.now) (record { limit = c.in-Some.limit; equation = n })) place
     (first_found (said normal.typed.now) layout es (forms normal es c.deref-equation-items.ensures.value) k e c.in-Some.limit
     (slice_get_read es (length es) k e refl c.loop-equation-test.true c.equation-item.is)
     (exceeds layout e c.measure-measures.result c.first_excess.result c.in-Some.limit c.measure-measures.ensures c.first_excess.ensures c.in-Some.is)
-    h.keep)
+    h.keep))
 
 pub loop-equation-preserved : goal.loop-equation-preserved
 loop-equation-preserved c =

@@ -1,5 +1,6 @@
 use Rattle.std.proofs.Common.{◌≡◌, subst, Err, arith}
-use Rattle.pb_bytecode.specs.Reading.{Fails, all_of}
+use Rattle.pb_errors.specs.OrMemory.{IfFault}
+use Rattle.pb_bytecode.specs.Reading.{all_of}
 use Rattle.pb_bytecode.specs.Views.{contents_of}
 use Rattle.pb_bytecode.proofs.ModuleLaws.{all_takes, all_within, read_one, read_none}
 use Rattle.pb_bytecode.proofs.decode.decode.Goals as goal
@@ -9,8 +10,8 @@ invariant_of-result c = record { within_limits = (all_takes c.args.bytes.now (co
 
 pub overflow_sub-result : goal.overflow_sub-result
 overflow_sub-result c =
-    let met : all_of c.args.bytes.now ≡ Err c.in-Err-ModuleFault.fault = subst (λ e. Fails e (all_of c.args.bytes.now)) c.in-Err-ModuleFault.field-0-is c.in-Err-ModuleFault.ensures in
-    all_within c.args.bytes.now c.in-Err-ModuleFault.fault (λ i. omega (arith, c.type_inv.bytes i)) met
+    let met : all_of c.args.bytes.now ≡ Err c.in-Err-Refused.fault = subst (λ e. IfFault e (λ f. all_of c.args.bytes.now ≡ Err f)) c.in-Err-Refused.field-0-is c.in-Err-Refused.ensures in
+    all_within c.args.bytes.now c.in-Err-Refused.fault (λ i. omega (arith, c.type_inv.bytes i)) met
 
 pub returns-in-Ok-clause-spelled : goal.returns-in-Ok-clause-spelled
 returns-in-Ok-clause-spelled c = (all_takes c.args.bytes.now (contents_of c.in-Ok.version c.in-Ok.sorts.items c.in-Ok.equations.items c.in-Ok.initial) (λ i. omega (arith, c.type_inv.bytes i)) c.in-Ok.ensures).0
@@ -18,13 +19,13 @@ returns-in-Ok-clause-spelled c = (all_takes c.args.bytes.now (contents_of c.in-O
 pub returns-in-Ok-clause-read : goal.returns-in-Ok-clause-read
 returns-in-Ok-clause-read c = λ m h e. read_one c.args.bytes.now (contents_of c.in-Ok.version c.in-Ok.sorts.items c.in-Ok.equations.items c.in-Ok.initial) m h e c.in-Ok.ensures
 
-pub returns-in-Err-ModuleFault-clause-read : goal.returns-in-Err-ModuleFault-clause-read
-returns-in-Err-ModuleFault-clause-read c =
-    let met : all_of c.args.bytes.now ≡ Err c.in-Err-ModuleFault.fault = subst (λ e. Fails e (all_of c.args.bytes.now)) c.in-Err-ModuleFault.field-0-is c.in-Err-ModuleFault.ensures in
-    λ m h e. read_none c.args.bytes.now c.in-Err-ModuleFault.fault m h e met
+pub returns-in-Err-Refused-clause-read : goal.returns-in-Err-Refused-clause-read
+returns-in-Err-Refused-clause-read c =
+    let met : all_of c.args.bytes.now ≡ Err c.in-Err-Refused.fault = subst (λ e. IfFault e (λ f. all_of c.args.bytes.now ≡ Err f)) c.in-Err-Refused.field-0-is c.in-Err-Refused.ensures in
+    λ m h e. read_none c.args.bytes.now c.in-Err-Refused.fault m h e met
 
-pub returns-in-Err-ModuleFault-clause-fault : goal.returns-in-Err-ModuleFault-clause-fault
-returns-in-Err-ModuleFault-clause-fault c =
-    let met : all_of c.args.bytes.now ≡ Err c.in-Err-ModuleFault.fault = subst (λ e. Fails e (all_of c.args.bytes.now)) c.in-Err-ModuleFault.field-0-is c.in-Err-ModuleFault.ensures in
-    let within = all_within c.args.bytes.now c.in-Err-ModuleFault.fault (λ i. omega (arith, c.type_inv.bytes i)) met in
-    record { left = c.in-Err-ModuleFault.fault.left; first = met; place = omega arith }
+pub returns-in-Err-Refused-clause-fault : goal.returns-in-Err-Refused-clause-fault
+returns-in-Err-Refused-clause-fault c =
+    let met : all_of c.args.bytes.now ≡ Err c.in-Err-Refused.fault = subst (λ e. IfFault e (λ f. all_of c.args.bytes.now ≡ Err f)) c.in-Err-Refused.field-0-is c.in-Err-Refused.ensures in
+    let within = all_within c.args.bytes.now c.in-Err-Refused.fault (λ i. omega (arith, c.type_inv.bytes i)) met in
+    record { left = c.in-Err-Refused.fault.left; first = met; place = omega arith }

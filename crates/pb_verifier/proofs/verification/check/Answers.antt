@@ -1,7 +1,8 @@
 use Rattle.std.proofs.Common.{map, sym, ap, ◌∙◌}
 use Rattle.std.specs.Prelude.{vec_items}
 use Rattle.std.proofs.lemmas.Result.{err_from_is_err_and}
-use Rattle.pb_verifier.proofs.Modules.{is_of, each_within_limits, layout_fits, few_each, few_lists, tables_of_accepted, verified_by, where_refused}
+use Rattle.pb_errors.proofs.Faults.{if_fault}
+use Rattle.pb_verifier.proofs.Modules.{is_of, each_within_limits, layout_fits, few_each, few_lists, tables_of_accepted, verified_by}
 use Rattle.pb_verifier.proofs.verification.check.Goals as goal
 
 pub check_equations-requires : goal.check_equations-requires
@@ -15,8 +16,8 @@ returns-in_err-check_equations-clause-refused c =
     let o = is_of c.args.module.now c.deref.result.now c.deref-2.result.now c.deref-5.result.now c.in_ok-sorts.sorts.items c.deref-3.result.now c.in_ok-callees.callees.items c.deref-4.result.now c.deref.ensures.value c.deref-2.ensures.value c.in_ok-sorts.ensures c.in_ok-callees.ensures c.deref-3.ensures.value c.deref-4.ensures.value c.deref-5.ensures.value in
     let p = err_from_is_err_and c.from_residual-in_err-check_equations.result c.from_residual-in_err-check_equations.ensures.1 in
     rw (p.1, p.2)
-    (where_refused c.in_err-check_equations.field-0.0
-    (λ none accepted. none (tables_of_accepted c.args.module.now c.deref-3.result.now (map vec_items c.deref-4.result.now) c.deref-5.result.now o accepted))
+    (if_fault c.in_err-check_equations.field-0.0
+    (λ fault none accepted. none (tables_of_accepted c.args.module.now c.deref-3.result.now (map vec_items c.deref-4.result.now) c.deref-5.result.now o accepted))
     c.in_err-check_equations.ensures.refused)
 
 pub layout_of-requires-clause-equations : goal.layout_of-requires-clause-equations
