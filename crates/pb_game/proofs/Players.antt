@@ -1,5 +1,5 @@
 -- Two players: each is one of them, and told by its parity.
-use Rattle.std.proofs.Common.{◌≡◌, ◌≢◌, ◌<◌, ◌+◌, ◌⊎◌, inl, inr, arith, refl, sym, ap, ◌∙◌, Bool, true, false}
+use Rattle.std.proofs.Common.{◌≡◌, ◌≢◌, ◌<◌, ◌⊎◌, inl, inr, arith, refl, sym, ap, Bool, true, false}
 use Rattle.std.specs.Prelude.{IsTrue, ◌↔◌}
 use Rattle.pb_game.specs.declared.player.Player.{Player}
 use Rattle.pb_game.specs.declared.player.Player.TheVariants.{Even, Odd}

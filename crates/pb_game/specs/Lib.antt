@@ -3,7 +3,7 @@ pub mod Players
 pub mod Games
 pub mod Parts
 pub mod Transpose
-pub mod ErrorNumber
+pub mod FaultNumber
 pub mod SolverNames
 pub mod Solutions
 pub mod Certificates

@@ -1,13 +1,11 @@
 -- What parts make a game, and what is wrong with those that don't.
-use Rattle.std.specs.Prelude.{◌≡◌, ℕ, ◌+◌, ◌<◌, ◌≤◌, length, slice_index, slice_index_or, All, ⊤}
+use Rattle.std.specs.Prelude.{◌≡◌, ℕ, ◌+◌, ◌<◌, ◌≤◌, length, slice_index, slice_index_or, All}
 use Rattle.std.specs.List.Sorted.{IsStrictlyIncreasing}
 use Rattle.pb_game.specs.declared.Game.{Game}
 use Rattle.pb_game.specs.declared.player.Player.TheVariants.{Even}
 use Rattle.pb_game.specs.declared.parts.Parts.{Parts}
-use Rattle.pb_game.specs.declared.parts.GameError.{GameError}
-use Rattle.pb_game.specs.declared.parts.GameError.TheVariants.{Memory, TooManyVertices, Priorities, Places, Successors, TooManyPriorities}
-use Rattle.pb_game.specs.declared.parts.PartsFault.{PartsFault}
-use Rattle.pb_game.specs.declared.parts.PartsFault.TheVariants as fault
+use Rattle.pb_game.specs.declared.parts.GameFault.{GameFault}
+use Rattle.pb_game.specs.declared.parts.GameFault.TheVariants.{TooManyVertices, Priorities, Places, Successors, TooManyPriorities}
 use Rattle.pb_game.specs.Adjacency.{row}
 use Rattle.pb_game.specs.Games.{vertex_count, owner_of, priority_of, successors_of}
 use Rattle.pb_limits.specs.declared.TheConstants.{MAX_VERTICES, MAX_PRIORITIES}
@@ -46,17 +44,8 @@ pub record AreGame (p : Parts) : Type 0 where
   pub successors : HasSuccessors p
   pub few_priorities : HasFewPriorities p
 
--- the error that names a fault of parts
-abbrev pub error_of : PartsFault → GameError
-error_of fault.TooManyVertices = TooManyVertices
-error_of fault.Priorities = Priorities
-error_of fault.Places = Places
-error_of fault.Successors = Successors
-error_of fault.TooManyPriorities = TooManyPriorities
-
 -- the first of the five that fails, in this order
-abbrev pub Refuses : Parts → GameError → Type 0
-Refuses p (Memory _) = ⊤
+abbrev pub Refuses : Parts → GameFault → Type 0
 Refuses p TooManyVertices = ¬ HasFewVertices p
 Refuses p Priorities = HasFewVertices p × ¬ HasPriorities p
 Refuses p Places = HasFewVertices p × HasPriorities p × ¬ HasPlaces p

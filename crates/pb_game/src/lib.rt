@@ -13,14 +13,15 @@ mod player;
 mod predecessors;
 mod solver;
 
-ghost use Rattle.std.specs.Prelude.{◌≡◌, ℕ, ◌<◌, ◌≤◌, length, slice_index, IfOk, IfErr, IsTrue};
+ghost use Rattle.std.specs.Prelude.{◌≡◌, ℕ, ◌<◌, ◌≤◌, length, slice_index, IfOk, IsTrue};
 ghost use Rattle.std.specs.Prelude.{Contains, ◌↔◌};
+ghost use Rattle.pb_errors.specs.OrMemory.{IfRefused};
 ghost use Rattle.pb_game.specs.Adjacency.{IsFlatGame};
 ghost use Rattle.pb_limits.specs.declared.TheConstants.{MAX_VERTICES};
 
 use adjacency::row_of;
 pub use certificate::{CertificateRule, Flaw, Solution};
-pub use parts::{GameError, Parts};
+pub use parts::{GameError, GameFault, Parts};
 pub use player::Player;
 use predecessors::{Predecessors, transpose};
 pub use solver::Solver;
@@ -50,11 +51,11 @@ impl Game {
     ///
     /// # Errors
     ///
-    /// The first fault of the parts, in the order of [`GameError`]'s variants; or memory.
+    /// The first fault of the parts, in the order of [`GameFault`]'s variants; or memory.
     pub fn from_parts(alloc: Global, parts: Parts) -> Result<Game, GameError>
         ensures game { IfOk result (λ game. IsGameOf parts game) }
         ensures well_formed { IfOk result (λ game. IsGame game) }
-        ensures refused { IfErr result (λ error. Refuses parts error) }
+        ensures refused { IfRefused result (Refuses parts) }
     {
         parts.check()?;
         let greatest = parts.greatest();

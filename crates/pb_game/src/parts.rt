@@ -3,12 +3,11 @@
 ghost use Rattle.std.specs.Prelude.{◌≡◌, ℕ, ◌<◌, ◌↔◌, length, IsTrue, IfErr, IfOk};
 ghost use Rattle.std.specs.List.Sorted.{IsStrictlyIncreasing};
 ghost use Rattle.pb_game.specs.Adjacency.{greatest_of};
-ghost use Rattle.pb_game.specs.declared.parts.GameError.TheVariants.{Memory};
 
 use crate::Player;
 use crate::adjacency::row_of;
+use pb_errors::{Fault, OrMemory};
 use pb_limits::{MAX_PRIORITIES, MAX_VERTICES};
-use std::alloc::AllocError;
 use std::fmt;
 
 /// The parts of a game, by vertex: owners, priorities, and where a vertex's successors
@@ -21,11 +20,9 @@ pub struct Parts {
     pub successors: Vec<u32>,
 }
 
-/// Why parts make no game. Each error shows as its number.
-#[derive(Debug, Drop)]
-pub enum GameError {
-    /// M01: memory was refused.
-    Memory(AllocError),
+/// What is wrong with parts that make no game. Each fault shows as its number.
+#[derive(Clone, Copy, Debug, PartialEq, Eq)]
+pub enum GameFault {
     /// G01: more than 2^24 vertices.
     TooManyVertices,
     /// G03: the vertices and the priorities differ in number.
@@ -39,97 +36,69 @@ pub enum GameError {
     TooManyPriorities,
 }
 
-impl GameError {
-    ghost use Rattle.pb_game.specs.ErrorNumber.{error_number};
+impl Fault for GameFault {}
 
-    /// The error's number, as `G01`.
-    pub fn number(&self) -> &'static str
-        ensures { result.now ≡ error_number self.now }
+/// Why there is no game: its parts make none, or memory was refused.
+pub type GameError = OrMemory<GameFault>;
+
+impl GameFault {
+    ghost use Rattle.pb_game.specs.FaultNumber.{fault_number};
+
+    /// The fault's number, as `G01`.
+    pub fn number(self) -> &'static str
+        ensures { result.now ≡ fault_number self }
     {
         match self {
-            GameError::Memory(_) => "M01",
-            GameError::TooManyVertices => "G01",
-            GameError::Priorities => "G03",
-            GameError::Places => "G04",
-            GameError::Successors => "G05",
-            GameError::TooManyPriorities => "G06",
+            GameFault::TooManyVertices => "G01",
+            GameFault::Priorities => "G03",
+            GameFault::Places => "G04",
+            GameFault::Successors => "G05",
+            GameFault::TooManyPriorities => "G06",
         }
     }
 }
 
-impl fmt::Display for GameError {
+impl fmt::Display for GameFault {
     ghost use Rattle.std.specs.Prelude.{Some};
-    ghost use Rattle.pb_game.specs.ErrorNumber.{error_number};
+    ghost use Rattle.pb_game.specs.FaultNumber.{fault_number};
 
-    ghost output = { λ error. Some (error_number error) };
+    ghost output = { λ fault. Some (fault_number fault) };
 
     fn fmt<W: fmt::Write>(&self, f: &mut fmt::Formatter<W>) -> fmt::Result {
         f.write_str(self.number())
     }
 }
 
-impl std::error::Error for GameError {}
-
-/// What is wrong with parts, which is found without memory.
-#[derive(Debug, Drop)]
-pub(crate) enum PartsFault {
-    TooManyVertices,
-    Priorities,
-    Places,
-    Successors,
-    TooManyPriorities,
-}
-
-impl From<PartsFault> for GameError {
-    ghost use Rattle.pb_game.specs.Parts.{error_of};
-
-    ghost from_gives = { λ fault made. made ≡ error_of fault };
-
-    fn from(fault: PartsFault) -> Self {
-        match fault {
-            PartsFault::TooManyVertices => GameError::TooManyVertices,
-            PartsFault::Priorities => GameError::Priorities,
-            PartsFault::Places => GameError::Places,
-            PartsFault::Successors => GameError::Successors,
-            PartsFault::TooManyPriorities => GameError::TooManyPriorities,
-        }
-    }
-}
-
-impl From<AllocError> for GameError {
-    ghost from_gives = { λ error made. made ≡ Memory error };
-
-    fn from(error: AllocError) -> Self {
-        GameError::Memory(error)
-    }
-}
-
 impl Parts {
-    ghost use Rattle.pb_game.specs.Parts.{AreGame, HasPlaces, HasSuccessors, Refuses, error_of};
+    ghost use Rattle.pb_game.specs.Parts.{AreGame, HasPlaces, HasSuccessors, Refuses};
 
     /// Tests that the parts make a game.
-    pub(crate) fn check(&self) -> Result<(), PartsFault>
+    ///
+    /// # Errors
+    ///
+    /// The first fault, in the order of [`GameFault`]'s variants.
+    pub(crate) fn check(&self) -> Result<(), GameFault>
         ensures ok { IfOk result (λ _. AreGame self.now) }
-        ensures refused { IfErr result (λ fault. Refuses self.now (error_of fault)) }
+        ensures refused { IfErr result (Refuses self.now) }
     {
         if self.owners.len() > MAX_VERTICES {
-            return Err(PartsFault::TooManyVertices);
+            return Err(GameFault::TooManyVertices);
         }
         if self.priorities.len() != self.owners.len() {
-            return Err(PartsFault::Priorities);
+            return Err(GameFault::Priorities);
         }
         if !self.has_places() {
-            return Err(PartsFault::Places);
+            return Err(GameFault::Places);
         }
         if !self.has_successors() {
-            return Err(PartsFault::Successors);
+            return Err(GameFault::Successors);
         }
         if !self
             .priorities
             .iter()
             .all(|&priority| (priority as usize) < MAX_PRIORITIES)
         {
-            return Err(PartsFault::TooManyPriorities);
+            return Err(GameFault::TooManyPriorities);
         }
         Ok(())
     }

@@ -15,3 +15,4 @@ pub mod Built
 pub mod Searched
 pub mod Sizes
 pub mod Placed
+pub mod Refused

@@ -7,5 +7,4 @@ pub mod Held
 pub mod Places
 pub mod Numbering
 pub mod TreeGame
-pub mod ErrorNumber
 pub mod Explored

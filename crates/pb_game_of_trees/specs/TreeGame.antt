@@ -1,5 +1,7 @@
 -- The game of reached instances, with the vertices of instances.
-use Rattle.std.specs.Prelude.{◌≡◌, ℕ, ◌<◌, ◌↔◌, List, Contains, length, map}
+use Rattle.std.specs.Prelude.{◌≡◌, ℕ, ◌<◌, ◌↔◌, List, Contains, Result, Err, length, map}
+use Rattle.pb_errors.specs.declared.or_memory.OrMemory.{OrMemory}
+use Rattle.pb_errors.specs.declared.or_memory.OrMemory.TheVariants.{Refused}
 use Rattle.pb_trees.specs.Tree.{Tree}
 use Rattle.pb_trees.specs.Equations.{Signature}
 use Rattle.pb_trees.specs.Rows as plain
@@ -8,6 +10,7 @@ use Rattle.pb_rows.specs.Row.{Row}
 use Rattle.pb_rows.specs.Reached.{numbers_of, rows_of, AreRowsOf}
 use Rattle.pb_limits.specs.declared.TheConstants.{MAX_VERTICES}
 use Rattle.pb_strategy.specs.Meaning.{IsGameOfRows}
+use Rattle.pb_game_of_trees.specs.declared.tree_game.TooManyVertices.{TooManyVertices}
 use Rattle.pb_game_of_trees.specs.declared.tree_game.TreeGame.{TreeGame}
 
 -- the game of reached instances, with the vertex of each and that of the initial one
@@ -41,7 +44,8 @@ IsTooLarge signatures trees rows =
     MAX_VERTICES < length (game_vertices signatures (rows_of trees rows))
 
 -- it is refused exactly where it is too large
-abbrev pub IsRefusedExactly : Type 0 → List Signature → List Row → Type 0
-IsRefusedExactly refused signatures rows =
+abbrev pub IsRefusedExactly : Result TreeGame (OrMemory TooManyVertices) → List Signature
+    → List Row → Type 0
+IsRefusedExactly result signatures rows =
     (trees : ℕ → Tree) → AreRowsOf signatures trees rows
-    → refused ↔ IsTooLarge signatures trees rows
+    → (result ≡ Err (Refused (record {}))) ↔ IsTooLarge signatures trees rows

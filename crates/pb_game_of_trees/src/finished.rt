@@ -4,7 +4,7 @@ ghost use Rattle.pb_trees.specs.Game.{Vertex};
 ghost use Rattle.pb_strategy.specs.Vertices.{HasVertices};
 ghost use Rattle.pb_game_of_trees.specs.Draft.{ArePartsOf, MakeGame};
 
-use pb_game::{Game, GameError, Parts};
+use pb_game::{Game, Parts};
 use std::alloc::{AllocError, Global};
 
 /// The game of parts that stand for the vertices of a game.
@@ -15,11 +15,6 @@ pub(crate) fn game_of(alloc: Global, parts: Parts) -> Result<Game, AllocError>
 {
     match Game::from_parts(alloc, parts) {
         Ok(game) => Ok(game),
-        Err(GameError::Memory(error)) => Err(error),
-        Err(GameError::TooManyVertices) => unreachable!(),
-        Err(GameError::Priorities) => unreachable!(),
-        Err(GameError::Places) => unreachable!(),
-        Err(GameError::Successors) => unreachable!(),
-        Err(GameError::TooManyPriorities) => unreachable!(),
+        Err(error) => Err(error.only_memory()),
     }
 }

@@ -1,11 +1,11 @@
 //! From the reached instances of a module to their game.
-ghost use Rattle.std.specs.Prelude.{◌≡◌, ℕ, IfOk, Err, map};
+ghost use Rattle.std.specs.Prelude.{ℕ, IfOk, map};
+ghost use Rattle.pb_errors.specs.OrMemory.{OnRefused};
 ghost use Rattle.pb_trees.specs.Tree.{Tree};
 ghost use Rattle.pb_rows.specs.Reached.{AreRowsOf};
 ghost use Rattle.pb_bytecode.specs.Meaning.{signature_of, initial_of};
 ghost use Rattle.pb_game_of_trees.specs.TreeGame.{RowsHaveTrees, IsGameOf};
 ghost use Rattle.pb_game_of_trees.specs.TreeGame.{IsTooLarge};
-ghost use Rattle.pb_game_of_trees.specs.declared.tree_game.BuildError.TheVariants.{TooManyVertices};
 ghost use Rattle.pb_game_of_trees.specs.Explored.{ModuleHasTrees, AreModuleRows, IsModuleGame};
 ghost use Rattle.pb_game_of_trees.specs.Explored.{IsModuleTooLarge};
 
@@ -29,9 +29,9 @@ pub fn build_rows(
         (initial_of verified.now) }
     ensures game { IfOk result (IsGameOf (map signature_of verified.now.equations) rows.now
         (initial_of verified.now)) }
-    ensures too_many { result ≡ Err TooManyVertices → (trees : ℕ → Tree)
+    ensures too_many { OnRefused result ((trees : ℕ → Tree)
         → AreRowsOf (map signature_of verified.now.equations) trees rows.now
-        → IsTooLarge (map signature_of verified.now.equations) trees rows.now }
+        → IsTooLarge (map signature_of verified.now.equations) trees rows.now) }
 {
     let signatures = signatures_of(alloc, verified)?;
     TreeGame::build(alloc, &signatures, rows, verified.initial())
@@ -45,7 +45,7 @@ pub fn build(alloc: Global, verified: &Verified, rows: &IndexedRows) -> Result<T
     requires trees { ModuleHasTrees verified.now }
     requires rows { AreModuleRows verified.now rows.now }
     ensures game { IfOk result (IsModuleGame verified.now rows.now) }
-    ensures too_many { result ≡ Err TooManyVertices → IsModuleTooLarge verified.now rows.now }
+    ensures too_many { OnRefused result (IsModuleTooLarge verified.now rows.now) }
 {
     build_rows(alloc, verified, rows)
 }

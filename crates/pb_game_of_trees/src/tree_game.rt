@@ -1,7 +1,6 @@
 //! The game of a system's reached instances.
 ghost use Rattle.std.specs.Prelude.{◌≡◌, ◌≤◌, vec_len};
 ghost use Rattle.pb_limits.specs.declared.TheConstants.{MAX_VERTICES};
-ghost use Rattle.pb_game_of_trees.specs.declared.tree_game.BuildError.TheVariants.{Memory};
 
 use crate::finished::game_of;
 use crate::levels::{count_instances, levels};
@@ -9,40 +8,28 @@ use crate::numbering::{number_vertices, vertices_of_rows};
 use crate::row_loop::draft_of;
 use crate::signature::Signature;
 use crate::size::{Size, size_of};
+use pb_errors::{Fault, OrMemory};
 use pb_game::Game;
 use pb_rows::IndexedRows;
 use std::alloc::{AllocError, Global};
 use std::fmt;
-use thiserror::Error;
 
-/// Why no game was built. Each error shows as its number.
-#[derive(Debug, Drop, Error)]
-pub enum BuildError {
-    /// `M01`: memory was refused.
-    Memory(AllocError),
-    /// `G01`: the game would have more than 2^24 vertices.
-    TooManyVertices,
-}
+/// The game would have more than 2^24 vertices. It shows as `G01`.
+#[derive(Clone, Copy, Debug, PartialEq, Eq)]
+pub struct TooManyVertices;
 
-impl From<AllocError> for BuildError {
-    ghost from_gives = { λ error made. made ≡ Memory error };
+impl Fault for TooManyVertices {}
 
-    fn from(error: AllocError) -> Self {
-        BuildError::Memory(error)
-    }
-}
+/// Why no game was built: it would have too many vertices, or memory was refused.
+pub type BuildError = OrMemory<TooManyVertices>;
 
-impl fmt::Display for BuildError {
-    ghost use Rattle.std.specs.Prelude.{Some};
-    ghost use Rattle.pb_game_of_trees.specs.ErrorNumber.{error_number};
+impl fmt::Display for TooManyVertices {
+    ghost use Rattle.std.specs.Prelude.{Some, codes};
 
-    ghost output = { λ error. Some (error_number error) };
+    ghost output = { λ _. Some (codes "G01") };
 
     fn fmt<W: fmt::Write>(&self, f: &mut fmt::Formatter<W>) -> fmt::Result {
-        match self {
-            BuildError::Memory(_) => f.write_str("M01"),
-            BuildError::TooManyVertices => f.write_str("G01"),
-        }
+        f.write_str("G01")
     }
 }
 
@@ -58,7 +45,7 @@ pub struct TreeGame {
 }
 
 impl TreeGame {
-    ghost use Rattle.std.specs.Prelude.{◌≤◌, ◌<◌, ◌^◌, IfOk, Err, length, slice_index};
+    ghost use Rattle.std.specs.Prelude.{◌≤◌, ◌<◌, ◌^◌, IfOk, length, slice_index};
     ghost use Rattle.pb_trees.specs.Equations.{total};
     ghost use Rattle.pb_game.specs.Games.{vertex_count};
     ghost use Rattle.pb_game_of_trees.specs.Equations.{equations_of};
@@ -80,11 +67,10 @@ impl TreeGame {
         requires numbers { total (equations_of signatures.now) < 2 ^ 32 }
         requires reached { RowsHaveTrees (equations_of signatures.now) rows.now initial }
         ensures game { IfOk result (IsGameOf (equations_of signatures.now) rows.now initial) }
-        ensures too_many { IsRefusedExactly (result ≡ Err BuildError.TooManyVertices)
-            (equations_of signatures.now) rows.now }
+        ensures too_many { IsRefusedExactly result (equations_of signatures.now) rows.now }
     {
         match size_of(rows) {
-            None => Err(BuildError::TooManyVertices),
+            None => Err(BuildError::Refused(TooManyVertices)),
             Some(size) => Ok(TreeGame::of_size(alloc, signatures, rows, initial, size)?),
         }
     }

@@ -1,6 +1,6 @@
 //! Answers of modules, where nothing else is asked for.
-ghost use Rattle.std.specs.Prelude.{◌≡◌, IfOk, Err};
-ghost use Rattle.pb_game_of_trees.specs.declared.tree_game.BuildError.TheVariants.{TooManyVertices};
+ghost use Rattle.std.specs.Prelude.{◌≡◌, IfOk};
+ghost use Rattle.pb_errors.specs.OrMemory.{OnRefused};
 ghost use Rattle.pb_game.specs.declared.solver.Solver.TheVariants.{Lift};
 ghost use Rattle.pb_module_solver.specs.Answers.{IsAnswerOf, IsLiftedAnswer, IsTooLarge};
 
@@ -29,7 +29,7 @@ pub fn answer_module<R: Threads + Sync, G: Gate + Sync>(
 ) -> Result<Answer, BuildError>
     ensures answer { IfOk result (IsAnswerOf verified.now) }
     ensures lifted { options.solver ≡ Lift → IfOk result (IsLiftedAnswer verified.now) }
-    ensures too_many { result ≡ Err TooManyVertices → IsTooLarge verified.now }
+    ensures too_many { OnRefused result (IsTooLarge verified.now) }
 {
     instances_have_trees(verified);
     match build_module(context, verified, options.workers) {

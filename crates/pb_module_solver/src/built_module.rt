@@ -1,7 +1,7 @@
 //! Modules whose game is built: what is solved, whether its rows are kept behind it or not, and
 //! what can be written of it before anybody solves it.
-ghost use Rattle.std.specs.Prelude.{◌≡◌, ◌<◌, ◌≤◌, IfOk, Err};
-ghost use Rattle.pb_game_of_trees.specs.declared.tree_game.BuildError.TheVariants.{TooManyVertices};
+ghost use Rattle.std.specs.Prelude.{◌≡◌, ◌<◌, ◌≤◌, IfOk};
+ghost use Rattle.pb_errors.specs.OrMemory.{OnRefused};
 ghost use Rattle.pb_game.specs.Certificates.{IsCertificate};
 ghost use Rattle.pb_module_solver.specs.Lifting.{IsLiftedOrNone};
 ghost use Rattle.pb_report.specs.Delivery.{Delivers, is_failed};
@@ -41,7 +41,7 @@ pub fn build_module<R: Threads + Sync, G: Gate + Sync>(
 ) -> Result<BuiltModule, BuildError>
     requires { (0 < workers) × (workers ≤ 16) }
     ensures built { IfOk result (IsBuiltModule verified.now) }
-    ensures too_many { result ≡ Err TooManyVertices → IsTooLarge verified.now }
+    ensures too_many { OnRefused result (IsTooLarge verified.now) }
 {
     instances_have_trees(verified);
     let explored = explore(context.rt, context.alloc, verified, workers, context.gate)?;

@@ -1,10 +1,10 @@
 //! Why a module's initial instance is true or false. Evidence names few instances, and holds
 //! whatever trees the others have; so parts of the instances are tried first, each larger than the
 //! one before, and everything is explored only where none of them is enough.
-ghost use Rattle.std.specs.Prelude.{◌≡◌, ℕ, Option, IfOk, IfSome, Err};
+ghost use Rattle.std.specs.Prelude.{◌≡◌, ℕ, Option, IfOk, IfSome};
 ghost use Rattle.pb_text_tree.specs.declared.place.Place.{Place};
 ghost use Rattle.pb_bytecode.specs.Contents.{Contents};
-ghost use Rattle.pb_game_of_trees.specs.declared.tree_game.BuildError.TheVariants.{TooManyVertices};
+ghost use Rattle.pb_errors.specs.OrMemory.{OnRefused};
 ghost use Rattle.pb_report.specs.CallPlaces.{AreCallPlaces};
 ghost use Rattle.pb_report.specs.ModuleEvidence.{ForEvidenceText, IsExplanation};
 ghost use Rattle.pb_report.specs.Delivery.{Delivers, is_failed};
@@ -77,8 +77,8 @@ fn shown_by<R: Threads + Sync, G: Gate + Sync>(
     pb_evidence::assumed_is_shown();
     let built = match build_rows(context.alloc, verified, &part.rows) {
         Ok(built) => built,
-        Err(BuildError::TooManyVertices) => return Ok(None),
-        Err(BuildError::Memory(error)) => return Err(error),
+        Err(BuildError::Refused(_)) => return Ok(None),
+        Err(BuildError::Memory) => return Err(AllocError),
     };
     let solved = solve_game(context, built, options)?;
     if solved.truth() != part.truth && !part.is_whole {
@@ -135,7 +135,7 @@ fn explain_whole<R: Threads + Sync, G: Gate + Sync>(
     options: SolveOptions,
 ) -> Result<Explanation, BuildError>
     ensures evidence { IfOk result (IsExplanation verified.now) }
-    ensures too_many { result ≡ Err TooManyVertices → IsTooLarge verified.now }
+    ensures too_many { OnRefused result (IsTooLarge verified.now) }
 {
     instances_have_trees(verified);
     match solve_module(context, verified, options) {
@@ -157,7 +157,7 @@ pub fn explain_module<R: Threads + Sync, G: Gate + Sync>(
     options: SolveOptions,
 ) -> Result<Explanation, BuildError>
     ensures evidence { IfOk result (IsExplanation verified.now) }
-    ensures too_many { result ≡ Err TooManyVertices → IsTooLarge verified.now }
+    ensures too_many { OnRefused result (IsTooLarge verified.now) }
 {
     if let Some(explanation) = explain_early(context, verified, options)? {
         return Ok(explanation);

@@ -1,6 +1,6 @@
 //! Verified modules that are solved.
-ghost use Rattle.std.specs.Prelude.{◌≡◌, IfOk, Err};
-ghost use Rattle.pb_game_of_trees.specs.declared.tree_game.BuildError.TheVariants.{TooManyVertices};
+ghost use Rattle.std.specs.Prelude.{◌≡◌, IfOk};
+ghost use Rattle.pb_errors.specs.OrMemory.{OnRefused};
 ghost use Rattle.pb_game.specs.Certificates.{IsCertificate};
 ghost use Rattle.pb_module_solver.specs.Lifting.{IsLiftedOrNone};
 ghost use Rattle.pb_report.specs.Delivery.{Delivers, is_failed};
@@ -45,7 +45,7 @@ pub fn solve_module<R: Threads + Sync, G: Gate + Sync>(
         (λ s. IsCertificate s.solved.built.game s.solved.certified) }
     ensures lifted { options.solver ≡ Lift → IfOk result
         (λ s. IsLiftedOrNone s.solved.built.game s.solved.certified) }
-    ensures too_many { result ≡ Err TooManyVertices → IsTooLarge verified.now }
+    ensures too_many { OnRefused result (IsTooLarge verified.now) }
 {
     match build_module(context, verified, options.workers) {
         Ok(BuiltModule { explored, built }) => {

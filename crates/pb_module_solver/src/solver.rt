@@ -74,7 +74,7 @@ fn lift_or_solve<G: Gate + Sync, R: Threads + Sync>(
             Ok(certified) => Ok(certified),
             Err(_) => solve_by_regions(context.rt, context.alloc, game),
         },
-        Err(LiftError::TooManyRanks) => solve_by_regions(context.rt, context.alloc, game),
+        Err(LiftError::Refused(_)) => solve_by_regions(context.rt, context.alloc, game),
         Err(LiftError::Memory) => Err(AllocError),
     }
 }

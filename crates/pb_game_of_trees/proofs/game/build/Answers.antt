@@ -1,4 +1,5 @@
 use Rattle.std.proofs.lemmas.Result.{IfOk-weaker}
+use Rattle.pb_errors.proofs.Faults.{if_refused}
 use Rattle.pb_game_of_trees.proofs.game.build.Goals as goal
 
 pub build_rows-requires : goal.build_rows-requires
@@ -8,4 +9,7 @@ pub returns-clause-game : goal.returns-clause-game
 returns-clause-game c = IfOk-weaker c.build_rows.result _ _ (λ built is trees have. is trees (c.requires.rows trees have)) c.build_rows.ensures.game
 
 pub returns-clause-too_many : goal.returns-clause-too_many
-returns-clause-too_many c is trees have = c.build_rows.ensures.too_many is trees (c.requires.rows trees have).are
+returns-clause-too_many c =
+    if_refused c.build_rows.result
+    (λ _ large trees have. large trees (c.requires.rows trees have).are)
+    c.build_rows.ensures.too_many
