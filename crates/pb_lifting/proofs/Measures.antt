@@ -1,5 +1,5 @@
 -- The least rank: it is monotone, at most every measure, and where no lift raises a word the words are a measure.
-use Rattle.std.proofs.Common.{◌≡◌, ◌≢◌, ℕ, zero, suc, ◌+◌, ◌-◌, ◌*◌, ◌/◌, ◌%◌, ◌<◌, ◌≤◌, ◌==◌, if◌then◌else◌, Bool, true, false, min, List, length, replicate, set, length-set, mul_comm, sym, refl, ap, ◌∙◌, inl, inr, ⊎_elim, eq-eqb, ne_eqb, div-mul-le_self, arith}
+use Rattle.std.proofs.Common.{◌≡◌, ◌≢◌, ℕ, zero, suc, ◌+◌, ◌-◌, ◌*◌, ◌/◌, ◌%◌, ◌<◌, ◌≤◌, ◌==◌, if◌then◌else◌, Bool, true, false, min, List, length, replicate, set, length-set, mul_comm, sym, refl, ap, ◌∙◌, inl, inr, ⊎_elim, eq-eqb, div-mul-le_self, arith}
 use Rattle.std.specs.Prelude.{slice_index, Contains}
 use Rattle.std.proofs.lemmas.Nat.{le-div}
 use Rattle.std.proofs.lemmas.List.{get_or_past, get_or-replicate, get_or_default, get_or-set_same, get_or-set_other, length-replicate}

@@ -1,5 +1,5 @@
 -- One more vertex of a solution.
-use Rattle.std.proofs.Common.{◌≡◌, ℕ, ◌+◌, ◌*◌, ◌==◌, Bool, true, false, if◌then◌else◌, List, [], ◌∷◌, length, length-append, sym, refl, ap, ◌∙◌, subst, add-mul, one-mul, mul_comm, arith}
+use Rattle.std.proofs.Common.{◌≡◌, ℕ, ◌+◌, ◌*◌, List, [], ◌∷◌, length, length-append, sym, ap, ◌∙◌, subst, add-mul, one-mul, mul_comm, arith}
 use Rattle.std.specs.Prelude.{slice_index, slice_index_or}
 use Rattle.std.proofs.lemmas.Nat.{mul-add-lt}
 use mathlib.Core.Logic.{dite}
@@ -10,7 +10,6 @@ use Rattle.pb_game.specs.declared.Game.{Game}
 use Rattle.pb_game.specs.declared.certificate.Solution.{Solution}
 use Rattle.pb_game.specs.Games.{vertex_count, priority_count}
 use Rattle.pb_game.specs.Solutions.{winner_of, choice_of, count_of}
-use Rattle.pb_lifting.specs.Measures.{top_of}
 use Rattle.pb_lifting.specs.Solutions.{winner_by, words_of, IsChoice, count_by_rank, IsSolutionTo, IsSolutionOf, AddsVertex}
 use Rattle.pb_lifting.proofs.Lists.{push_front, push_here, any_front, any_here}
 

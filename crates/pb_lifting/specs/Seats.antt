@@ -4,19 +4,24 @@ use Rattle.atomic_table.specs.Seated.{TableId}
 use Rattle.pb_game.specs.declared.player.Player.{Player}
 use Rattle.pb_game.specs.declared.Game.{Game}
 use Rattle.pb_game.specs.Games.{successors_of}
+use Rattle.pb_shared_words.specs.declared.seat.Seat.{Seat}
+use Rattle.pb_shared_words.specs.Seats as seats
 use Rattle.pb_lifting.specs.declared.view.Key.{Key}
 use Rattle.pb_lifting.specs.declared.view.View.{View}
 use Rattle.pb_lifting.specs.declared.ranks.Ranks.{Ranks}
-use Rattle.pb_lifting.specs.declared.ranks.LiftSeat.{LiftSeat}
 use Rattle.pb_lifting.specs.Measures.{least_rank}
 use Rattle.pb_lifting.specs.Rule.{known_of, first_view}
 
+-- a seat whose view has a rank for each word
+abbrev pub LiftSeat : Type 0
+LiftSeat = Seat View (record { marks = λ v. v.known })
+
 abbrev pub view_of : LiftSeat → View
-view_of s = s.inner.me.0
+view_of s = seats.view_of s
 
 -- what the table was told when it was made
 abbrev pub key_at : Ranks → Key
-key_at t = t.inner.shared.key
+key_at t = t.words.inner.shared.key
 
 abbrev pub game_at : Ranks → Game
 game_at t = (key_at t).game.value
@@ -42,11 +47,11 @@ IsBelow s words = (n : ℕ) → known_by s n ≤ slice_index words n
 
 -- the table that made the seat, and what that was told
 abbrev pub origin_of : LiftSeat → TableId × Option Key
-origin_of s = (s.inner.table_id, (view_of s).key)
+origin_of s = (seats.table_of s, (view_of s).key)
 
 -- the seat was made by this table
 abbrev pub IsSeatOf : Ranks → LiftSeat → Type 0
-IsSeatOf t s = origin_of s ≡ (t.inner.shared.table_id, Some (key_at t))
+IsSeatOf t s = origin_of s ≡ (t.words.inner.shared.table_id, Some (key_at t))
 
 abbrev pub IsSameSeat : LiftSeat → LiftSeat → Type 0
 IsSameSeat old new = origin_of new ≡ origin_of old

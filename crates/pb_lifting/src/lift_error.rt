@@ -1,40 +1,23 @@
 //! Why there is no lifting.
 
-use std::alloc::AllocError;
+use pb_errors::{Fault, OrMemory};
 use std::fmt;
 
-/// Why there is no lifting. Each error shows as its number.
-#[derive(Clone, Copy, Debug, Drop, PartialEq, Eq)]
-pub enum LiftError {
-    /// `K06`: a player has more ranks, top counted, than 2^64 - 1, so that a word is too small.
-    TooManyRanks,
-    /// `M01`: memory was refused.
-    Memory,
-}
+/// `K06`: a player has more ranks, top counted, than 2^64 - 1, so that a word is too small.
+#[derive(Clone, Copy, Debug, PartialEq, Eq)]
+pub struct TooManyRanks;
 
-impl From<AllocError> for LiftError {
-    ghost use Rattle.std.specs.Prelude.{◌≡◌};
-    ghost use Rattle.pb_lifting.specs.declared.lift_error.LiftError.TheVariants.{Memory};
+impl Fault for TooManyRanks {}
 
-    ghost from_gives = { λ _ error. error ≡ Memory };
+impl fmt::Display for TooManyRanks {
+    ghost use Rattle.std.specs.Prelude.{Some, codes};
 
-    fn from(_refused: AllocError) -> LiftError {
-        LiftError::Memory
-    }
-}
-
-impl fmt::Display for LiftError {
-    ghost use Rattle.std.specs.Prelude.{Some};
-    ghost use Rattle.pb_lifting.specs.Errors.{error_number};
-
-    ghost output = { λ error. Some (error_number error) };
+    ghost output = { λ _. Some (codes "K06") };
 
     fn fmt<W: fmt::Write>(&self, f: &mut fmt::Formatter<W>) -> fmt::Result {
-        match self {
-            LiftError::TooManyRanks => f.write_str("K06"),
-            LiftError::Memory => f.write_str("M01"),
-        }
+        f.write_str("K06")
     }
 }
 
-impl std::error::Error for LiftError {}
+/// Why there is no lifting: there are too many ranks, or memory was refused.
+pub type LiftError = OrMemory<TooManyRanks>;

@@ -8,7 +8,7 @@ ghost use Rattle.pb_lifting.specs.Errors.{IsTooMany};
 ghost use Rattle.pb_lifting.specs.Solutions.{AreMeasured, IsLiftedSolution};
 ghost use Rattle.pb_lifting.specs.Jobs.{AreJobs};
 
-use crate::lift_error::LiftError;
+use crate::lift_error::{LiftError, TooManyRanks};
 use crate::measured::Measured;
 use crate::ranks::{LiftSeat, Ranks};
 use crate::scale::{Scale, Scales};
@@ -41,7 +41,7 @@ pub fn lift<G: Gate + Sync, R: Threads + Sync>(
     ensures solution { IfOk result (λ s. IsLiftedSolution game.now s) }
 {
     let Some(scales) = Scales::of(game) else {
-        return Err(LiftError::TooManyRanks);
+        return Err(TooManyRanks.into());
     };
     let lifting = Lifting {
         game,
