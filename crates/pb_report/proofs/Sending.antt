@@ -1,14 +1,16 @@
 -- One piece of text after another.
-use Rattle.std.proofs.Common.{◌≡◌, ℕ, ◌+◌, Bool, true, List, [], ◌++◌, length, take, Option, Result, Ok, Err, sym, ap, ◌∙◌, subst, append_assoc, append-nil, length-append, arith}
+use Rattle.std.proofs.Common.{◌≡◌, ℕ, ◌+◌, Bool, true, List, [], ◌++◌, length, take, Option, Result, Ok, Err, refl, sym, ap, ◌∙◌, subst, append_assoc, append-nil, length-append, arith}
 use Rattle.std.specs.Prelude.{OnOk, OnErr, IsErr}
 use Rattle.std.specs.Io.KnownBytes.{Appends}
-use Rattle.std.proofs.KnownBytes.{Appends-trans}
+use Rattle.std.proofs.KnownBytes.{Appends-nil, Appends-trans}
 use Rattle.std.proofs.lemmas.List.{take-append-le}
 use Rattle.std.proofs.Math.Seq.{take-append-add}
 use Rattle.pb_sorts.specs.Sink.{AppendsPrefix}
 use Rattle.pb_sorts.specs.declared.sink.E02.{E02}
+use Rattle.pb_sorts.specs.declared.sink.Sink.{Ghosts}
 use Rattle.pb_report.specs.Delivery.{Delivers}
-use Rattle.pb_report.specs.Sending.{IsSent, ForBuffered, is_failed_put}
+use Rattle.pb_report.specs.Sending.{IsSent, ForBuffered, Sends, is_failed_put}
+use Rattle.pb_report.specs.declared.buffer.TextWriter.{TextWriter}
 
 -- a part that begins a text begins each longer one
 pub prefix_more : (a b : Option (List ℕ)) (xs ys : List ℕ) → AppendsPrefix a b xs → AppendsPrefix a b (xs ++ ys)
@@ -42,31 +44,28 @@ sent_after a b c p q s A B x y = record {
   rest = append_assoc x.sent y.sent s ∙ (ap (λ (zs : List ℕ). x.sent ++ zs) y.rest ∙ regrouped x.sent q p A B x.rest);
 }
 
-pub sent_as : (P : List ℕ → Type 0) (p s t u : List ℕ) → t ≡ u → IsSent P p s t → IsSent P p s u
-sent_as P p s t u e h = subst (λ (x : List ℕ). IsSent P p s x) e h
-
 module _ {S T : Type 0} (taken : S → Option (List ℕ)) (has_failed : S → Bool) where
-  -- what a call sends of a text through a buffer that held `before` and holds `after`
-  abbrev pub SendsText : Result T E02 → S → S → List ℕ → List ℕ → List ℕ → Type 0
-  SendsText r a b before after text = Delivers is_failed_put (ForBuffered r before after text) r taken has_failed a b
+  -- what a call delivers of a text through a buffer that held `before` and holds `after`
+  abbrev pub DeliversText : Result T E02 → S → S → List ℕ → List ℕ → List ℕ → Type 0
+  DeliversText r a b before after text = Delivers is_failed_put (ForBuffered r before after text) r taken has_failed a b
 
   -- one piece was sent, and then another one is
-  pub sends_then : (r : Result T E02) (a b c : S) (p q s A B : List ℕ) → IsSent (Appends (taken a) (taken b)) p q A × (has_failed b ≡ has_failed a)
-      → SendsText r b c q s B → SendsText r a c p s (A ++ B)
-  sends_then (Ok x) a b c p q s A B first second = (sent_after (taken a) (taken b) (taken c) p q s A B first.0 second.0, second.1 ∙ first.1)
-  sends_then (Err x) a b c p q s A B first second = (prefix_after (taken a) (taken b) (taken c) p q A B first.0 second.0, second.1)
+  pub delivers_then : (r : Result T E02) (a b c : S) (p q s A B : List ℕ) → IsSent (Appends (taken a) (taken b)) p q A × (has_failed b ≡ has_failed a)
+      → DeliversText r b c q s B → DeliversText r a c p s (A ++ B)
+  delivers_then (Ok x) a b c p q s A B first second = (sent_after (taken a) (taken b) (taken c) p q s A B first.0 second.0, second.1 ∙ first.1)
+  delivers_then (Err x) a b c p q s A B first second = (prefix_after (taken a) (taken b) (taken c) p q A B first.0 second.0, second.1)
 
   -- a piece is not sent, so neither is what follows it
-  pub sends_err : (r : Result T E02) (a b : S) (p s A B : List ℕ) → IsErr r → AppendsPrefix (taken a) (taken b) (p ++ A) × (has_failed b ≡ true)
-      → SendsText r a b p s (A ++ B)
-  sends_err (Ok x) a b p s A B is h = cc
-  sends_err (Err x) a b p s A B is h =
+  pub delivers_err : (r : Result T E02) (a b : S) (p s A B : List ℕ) → IsErr r → AppendsPrefix (taken a) (taken b) (p ++ A) × (has_failed b ≡ true)
+      → DeliversText r a b p s (A ++ B)
+  delivers_err (Ok x) a b p s A B is h = cc
+  delivers_err (Err x) a b p s A B is h =
       (subst (AppendsPrefix (taken a) (taken b)) (append_assoc p A B) (prefix_more (taken a) (taken b) (p ++ A) B h.0), h.1)
 
   -- what was in the buffer, and then the text
   pub put_both : (r : Result T E02) (a b c : S) (p after text : List ℕ) → Appends (taken a) (taken b) p → has_failed b ≡ has_failed a
       → OnOk r (Appends (taken b) (taken c) text) → OnOk r (has_failed c ≡ has_failed b) → OnErr r (AppendsPrefix (taken b) (taken c) text) → OnErr r (has_failed c ≡ true)
-      → after ≡ [] → SendsText r a c p after text
+      → after ≡ [] → DeliversText r a c p after text
   put_both (Ok x) a b c p after text out same all ok part failed none = (
     record {
       sent = p ++ text;
@@ -77,15 +76,37 @@ module _ {S T : Type 0} (taken : S → Option (List ℕ)) (has_failed : S → Bo
   )
   put_both (Err x) a b c p after text out same all ok part failed none = (after_sent (taken a) (taken b) (taken c) p text out part, failed)
 
-  -- a text is put only in part
-  pub put_part : (r : Result T E02) (a b : S) (text : List ℕ) → IsErr r → AppendsPrefix (taken a) (taken b) text → has_failed b ≡ true
-      → Delivers is_failed_put (λ (P : List ℕ → Type 0). P text) r taken has_failed a b
-  put_part (Ok x) a b text is part failed = cc
-  put_part (Err x) a b text is part failed = (part, failed)
+module _ {S : Type 0} {members : Ghosts S} where
+  -- nothing is sent
+  pub sends_nothing : {T : Type 0} (t : T) (a : TextWriter S) → Sends [] (Ok t) members a a
+  sends_nothing t a = record {
+    same_sink = refl;
+    delivers = (record { sent = []; went_out = Appends-nil (members.taken a.sink.now); rest = sym (append-nil a.buffer.now.bytes.items) }, refl);
+  }
+
+  -- one text was sent, and then another one is
+  pub sends_then : {T U : Type 0} {u : U} {r : Result T E02} {a b c : TextWriter S} (A B : List ℕ) → Sends A (Ok u) members a b → Sends B r members b c
+      → Sends (A ++ B) r members a c
+  sends_then {T} {U} {u} {r} {a} {b} {c} A B first second = record {
+    same_sink = second.same_sink ∙ first.same_sink;
+    delivers = delivers_then members.taken members.has_failed r a.sink.now b.sink.now c.sink.now _ _ _ A B first.delivers second.delivers;
+  }
+
+  -- a text is not sent, so neither is what follows it
+  pub sends_err : {T U : Type 0} {e : E02} {r : Result T E02} {a b : TextWriter S} (A B : List ℕ) → IsErr r → Sends {T = U} A (Err e) members a b
+      → Sends (A ++ B) r members a b
+  sends_err {T} {U} {e} {r} {a} {b} A B is h = record {
+    same_sink = h.same_sink;
+    delivers = delivers_err members.taken members.has_failed r a.sink.now b.sink.now _ _ A B is h.delivers;
+  }
 
   -- the same text, otherwise written
-  pub sends_as : (r : Result T E02) (a b : S) (p s t u : List ℕ) → t ≡ u → SendsText r a b p s t → SendsText r a b p s u
-  sends_as r a b p s t u e h = subst (λ (x : List ℕ). SendsText r a b p s x) e h
+  pub sends_as : {T : Type 0} {r : Result T E02} {a b : TextWriter S} {t u : List ℕ} → t ≡ u → Sends t r members a b → Sends u r members a b
+  sends_as {T} {r} {a} {b} {t} {u} e h = subst (λ (x : List ℕ). Sends x r members a b) e h
+
+  -- whatever the call answers
+  pub sends_ok : {T U : Type 0} {t : T} {u : U} {a b : TextWriter S} {A : List ℕ} → Sends A (Ok u) members a b → Sends A (Ok t) members a b
+  sends_ok h = record { same_sink = h.same_sink; delivers = h.delivers }
 
 -- all that was sent through the buffer went out
 pub all_out : (a b c : Option (List ℕ)) (before after text : List ℕ) → before ≡ [] → IsSent (Appends a b) before after text → Appends b c after → Appends a c text

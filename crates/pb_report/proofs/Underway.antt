@@ -1,38 +1,37 @@
 -- Texts that are sent piece by piece: of the whole one a part was sent, and the rest is to come.
-use Rattle.std.proofs.Common.{◌≡◌, ℕ, Bool, true, List, [], ◌++◌, Option, Result, refl, sym, ap, ◌∙◌, append_assoc, append-nil}
+use Rattle.std.proofs.Common.{◌≡◌, ℕ, List, [], ◌++◌, Result, Ok, Err, refl, sym, ap, ◌∙◌, append_assoc, append-nil}
 use Rattle.std.specs.Prelude.{IsErr}
-use Rattle.std.specs.Io.KnownBytes.{Appends}
-use Rattle.pb_sorts.specs.Sink.{AppendsPrefix}
 use Rattle.pb_sorts.specs.declared.sink.E02.{E02}
-use Rattle.pb_report.specs.Sending.{IsSent}
-use Rattle.pb_report.proofs.Sending.{SendsText, sends_then, sends_err, sends_as, sent_after, sent_as}
+use Rattle.pb_sorts.specs.declared.sink.Sink.{Ghosts}
+use Rattle.pb_report.specs.declared.buffer.TextWriter.{TextWriter}
+use Rattle.pb_report.specs.Sending.{Sends}
+use Rattle.pb_report.proofs.Sending.{sends_nothing, sends_ok, sends_then, sends_err, sends_as}
 
-pub record IsUnderway (old new : Option (List ℕ)) (before after whole rest : List ℕ) : Type 0 where
+pub record IsUnderway {S : Type 0} (members : Ghosts S) (old new : TextWriter S) (whole rest : List ℕ) : Type 0 where
   pub done : List ℕ
-  pub sent : IsSent (Appends old new) before after done
+  pub sent : Sends {T = ℕ} done (Ok 0) members old new
   pub split : done ++ rest ≡ whole
 
-pub begun : (a : Option (List ℕ)) (p whole : List ℕ) → Appends a a [] → IsUnderway a a p p whole whole
-begun a p whole none = record { done = []; sent = record { sent = []; went_out = none; rest = sym (append-nil p) }; split = refl }
+module _ {S : Type 0} {members : Ghosts S} where
+  pub begun : (a : TextWriter S) (whole : List ℕ) → IsUnderway members a a whole whole
+  begun a whole = record { done = []; sent = sends_nothing 0 a; split = refl }
 
--- a piece of the rest was sent
-pub went_on : (a b c : Option (List ℕ)) (p q s whole rest A more : List ℕ) → rest ≡ A ++ more →
-    IsUnderway a b p q whole rest → IsSent (Appends b c) q s A → IsUnderway a c p s whole more
-went_on a b c p q s whole rest A more e u is = record {
-  done = u.done ++ A;
-  sent = sent_after a b c p q s u.done A u.sent is;
-  split = append_assoc u.done A more ∙ (ap (λ (xs : List ℕ). u.done ++ xs) (sym e) ∙ u.split);
-}
+  -- a piece of the rest was sent
+  pub went_on : {U : Type 0} {u : U} {a b c : TextWriter S} {whole rest A more : List ℕ} → rest ≡ A ++ more → IsUnderway members a b whole rest
+      → Sends A (Ok u) members b c → IsUnderway members a c whole more
+  went_on {U} {u} {a} {b} {c} {whole} {rest} {A} {more} e way h = record {
+    done = way.done ++ A;
+    sent = sends_ok (sends_then way.done A way.sent h);
+    split = append_assoc way.done A more ∙ (ap (λ (xs : List ℕ). way.done ++ xs) (sym e) ∙ way.split);
+  }
 
--- a piece of the rest was not sent
-pub gave_up : {S T : Type 0} (taken : S → Option (List ℕ)) (has_failed : S → Bool) (r : Result T E02) (a b c : S) (p q s whole rest A more : List ℕ) → rest ≡ A ++ more
-    → IsUnderway (taken a) (taken b) p q whole rest → has_failed b ≡ has_failed a → IsErr r → AppendsPrefix (taken b) (taken c) (q ++ A) × (has_failed c ≡ true)
-    → SendsText taken has_failed r a c p s whole
-gave_up taken has_failed r a b c p q s whole rest A more e u same err part =
-    sends_as taken has_failed r a c p s (u.done ++ (A ++ more)) whole (ap (λ (xs : List ℕ). u.done ++ xs) (sym e) ∙ u.split)
-    (sends_then taken has_failed r a b c p q s u.done (A ++ more) (u.sent, same) (sends_err taken has_failed r b c q s A more err part))
+  -- a piece of the rest was not sent
+  pub gave_up : {T U : Type 0} {e : E02} {r : Result T E02} {a b c : TextWriter S} {whole rest : List ℕ} (A more : List ℕ) → rest ≡ A ++ more → IsUnderway members a b whole rest
+      → IsErr r → Sends {T = U} A (Err e) members b c → Sends whole r members a c
+  gave_up {T} {U} {e} {r} {a} {b} {c} {whole} {rest} A more step way err h =
+      sends_as (ap (λ (xs : List ℕ). way.done ++ xs) (sym step) ∙ way.split) (sends_then way.done (A ++ more) way.sent (sends_err A more err h))
 
--- nothing is to come
-pub ended : (a b : Option (List ℕ)) (p q whole rest : List ℕ) → rest ≡ [] → IsUnderway a b p q whole rest → IsSent (Appends a b) p q whole
-ended a b p q whole rest e u =
-    sent_as (Appends a b) p q u.done whole (sym (append-nil u.done) ∙ (ap (λ (xs : List ℕ). u.done ++ xs) (sym e) ∙ u.split)) u.sent
+  -- nothing is to come
+  pub ended : {U : Type 0} {u : U} {a b : TextWriter S} {whole rest : List ℕ} → rest ≡ [] → IsUnderway members a b whole rest → Sends whole (Ok u) members a b
+  ended {U} {u} {a} {b} {whole} {rest} e way =
+      sends_as (sym (append-nil way.done) ∙ (ap (λ (xs : List ℕ). way.done ++ xs) (sym e) ∙ way.split)) (sends_ok way.sent)

@@ -2,8 +2,9 @@
 use Rattle.std.specs.Prelude.{◌≡◌, ℕ, Bool, true, false, List, Option, Result, Ok, Err}
 use Rattle.std.specs.Io.KnownBytes.{Appends}
 use Rattle.pb_sorts.specs.Sink.{AppendsPrefix}
-use Rattle.pb_report.specs.declared.buffer.WriteError.{WriteError}
-use Rattle.pb_report.specs.declared.buffer.WriteError.TheVariants.{Memory, Failed}
+use Rattle.pb_sorts.specs.declared.sink.E02.{E02}
+use Rattle.pb_errors.specs.declared.or_memory.OrMemory.{OrMemory}
+use Rattle.pb_errors.specs.declared.or_memory.OrMemory.TheVariants.{Memory, Refused}
 
 -- what an error leaves: a failed write a part that begins the text, any other error nothing at all
 abbrev pub Leaves : {S : Type 0} → Bool → ((List ℕ → Type 0) → Type 0)
@@ -22,6 +23,6 @@ Delivers is_failed_write For (Err error) taken has_failed old new =
     Leaves (is_failed_write error) For taken has_failed old new
 
 -- whether a text was not written since a write failed
-abbrev pub is_failed : WriteError → Bool
-is_failed (Memory _) = false
-is_failed (Failed _) = true
+abbrev pub is_failed : OrMemory E02 → Bool
+is_failed Memory = false
+is_failed (Refused _) = true

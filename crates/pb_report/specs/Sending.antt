@@ -1,7 +1,8 @@
 -- How a text goes to a sink through a buffer.
-use Rattle.std.specs.Prelude.{◌≡◌, ℕ, Bool, true, List, ◌++◌, Option, Result, Ok, Err}
+use Rattle.std.specs.Prelude.{◌≡◌, ℕ, Bool, true, List, ◌++◌, Result, Ok, Err}
 use Rattle.pb_sorts.specs.declared.sink.E02.{E02}
-use Rattle.pb_report.specs.declared.buffer.TextBuffer.{TextBuffer}
+use Rattle.pb_sorts.specs.declared.sink.Sink.{Ghosts}
+use Rattle.pb_report.specs.declared.buffer.TextWriter.{TextWriter}
 use Rattle.pb_report.specs.Delivery.{Delivers}
 
 -- A part of which P holds went out, and the buffer holds what is left: `before` was in it, and
@@ -22,9 +23,11 @@ ForBuffered (Err _) before after text P = P (before ++ text)
 abbrev pub is_failed_put : E02 → Bool
 is_failed_put _ = true
 
--- a text is delivered through a buffer
-abbrev pub Sends : {S T : Type 0} → List ℕ → Result T E02 → (S → Option (List ℕ)) → (S → Bool)
-    → (old new : S) → (before after : TextBuffer) → Type 0
-Sends text result taken has_failed old new before after =
-    Delivers is_failed_put (ForBuffered result before.bytes.items after.bytes.items text) result
-    taken has_failed old new
+-- A text is delivered through a writer's buffer, and its sink stays the same one. What is known of
+-- the sink's type tells what was taken, and whether a write failed.
+pub record Sends {S T : Type 0} (text : List ℕ) (result : Result T E02) (members : Ghosts S)
+    (old new : TextWriter S) : Type 0 where
+  pub same_sink : new.sink.ghost_name ≡ old.sink.ghost_name
+  pub delivers : Delivers is_failed_put
+      (ForBuffered result old.buffer.now.bytes.items new.buffer.now.bytes.items text) result
+      members.taken members.has_failed old.sink.now new.sink.now

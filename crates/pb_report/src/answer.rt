@@ -3,7 +3,7 @@ ghost use Rattle.pb_report.specs.Delivery.{Delivers, is_failed};
 ghost use Rattle.pb_report.specs.Sending.{Sends};
 ghost use Rattle.pb_report.specs.Report.{truth_line, count_line, counts_text, report_text};
 
-use crate::buffer::{TextBuffer, WriteError};
+use crate::buffer::{TextBuffer, TextWriter, WriteError};
 use crate::cut_calls::count_cut;
 use pb_game_of_trees::Solved;
 use pb_rows::IndexedRows;
@@ -41,59 +41,55 @@ impl Answer {
     }
 }
 
-fn write_truth<S: Sink>(buffer: &mut TextBuffer, truth: bool, sink: &mut S) -> Result<(), E02>
-    ensures { Sends (truth_line truth)
-        result S.taken S.has_failed sink.old sink.new buffer.old buffer.new }
+/// The line that says whether the initial instance is true.
+pub(crate) fn write_answer<S: Sink>(writer: &mut TextWriter<'_, S>, truth: bool) -> Result<(), E02>
+    ensures { Sends (truth_line truth) result S.Sink writer.old writer.new }
 {
     if truth {
-        buffer.write(b"answer true\n", sink)
+        writer.write(b"answer true\n")
     } else {
-        buffer.write(b"answer false\n", sink)
+        writer.write(b"answer false\n")
     }
 }
 
-fn write_count<S: Sink>(
-    buffer: &mut TextBuffer,
-    label: &[u8],
-    count: u32,
-    sink: &mut S,
-) -> Result<(), E02>
-    ensures { Sends (count_line label.now count)
-        result S.taken S.has_failed sink.old sink.new buffer.old buffer.new }
+fn write_count<S: Sink>(writer: &mut TextWriter<'_, S>, label: &[u8], count: u32) -> Result<(), E02>
+    ensures { Sends (count_line label.now count) result S.Sink writer.old writer.new }
 {
-    buffer.write(label, sink)?;
-    buffer.write_number(count, sink)?;
-    buffer.write(b"\n", sink)
+    writer.write(label)?;
+    writer.write_number(count)?;
+    writer.write(b"\n")
 }
 
-fn write_counts<S: Sink>(buffer: &mut TextBuffer, answer: &Answer, sink: &mut S) -> Result<(), E02>
-    ensures { Sends (counts_text answer.now)
-        result S.taken S.has_failed sink.old sink.new buffer.old buffer.new }
+fn write_counts<S: Sink>(writer: &mut TextWriter<'_, S>, answer: &Answer) -> Result<(), E02>
+    ensures { Sends (counts_text answer.now) result S.Sink writer.old writer.new }
 {
-    write_count(buffer, b"instances ", answer.instances, sink)?;
-    write_count(buffer, b"cut ", answer.cut, sink)?;
-    write_count(buffer, b"vertices ", answer.vertices, sink)
+    write_count(writer, b"instances ", answer.instances)?;
+    write_count(writer, b"cut ", answer.cut)?;
+    write_count(writer, b"vertices ", answer.vertices)
 }
 
-fn write_report<S: Sink>(buffer: &mut TextBuffer, answer: &Answer, sink: &mut S) -> Result<(), E02>
-    ensures { Sends (report_text answer.now)
-        result S.taken S.has_failed sink.old sink.new buffer.old buffer.new }
+fn write_report<S: Sink>(writer: &mut TextWriter<'_, S>, answer: &Answer) -> Result<(), E02>
+    ensures { Sends (report_text answer.now) result S.Sink writer.old writer.new }
 {
-    write_truth(buffer, answer.truth, sink)?;
-    write_counts(buffer, answer, sink)
+    write_answer(writer, answer.truth)?;
+    write_counts(writer, answer)
 }
 
 /// Appends the report of an answer.
 ///
 /// # Errors
-/// `Memory` before the first byte. After `Failed` a part that begins the report, and not the whole
-/// of it, went out.
+/// `Memory` before the first byte. After `E02` a part that begins the report, and not the whole of
+/// it, went out.
 pub fn report<S: Sink>(alloc: Global, answer: &Answer, sink: &mut S) -> Result<(), WriteError>
     ensures { Delivers is_failed (λ P. P (report_text answer.now)) result
         S.taken S.has_failed sink.old sink.new }
 {
     let mut buffer = TextBuffer::new(alloc)?;
-    write_report(&mut buffer, answer, sink)?;
-    buffer.finish(sink)?;
+    let mut writer = TextWriter {
+        buffer: &mut buffer,
+        sink,
+    };
+    write_report(&mut writer, answer)?;
+    writer.finish()?;
     Ok(())
 }

@@ -1,40 +1,17 @@
-//! A buffer between a text and a sink. Its memory is taken once, before the first byte goes out.
+//! A writer of texts to a sink, through a buffer whose memory is taken once, before the first byte
+//! goes out.
 ghost use Rattle.std.specs.Prelude.{◌≡◌, ◌≤◌, ◌+◌, ◌++◌, IfOk, OnOk, [], decimal};
 ghost use Rattle.std.specs.Prelude.{length, vec_len, vec_capacity};
 ghost use Rattle.pb_report.specs.declared.buffer.TheConstants.{CAPACITY};
-ghost use Rattle.pb_report.specs.declared.buffer.WriteError.TheVariants.{Memory, Failed};
 
 use itoa::Buffer;
+use pb_errors::OrMemory;
 use pb_sorts::{E02, Sink, put};
 use std::alloc::{AllocError, Global};
-use thiserror::Error;
 
-/// Why a text was not written.
-#[derive(Debug, Drop, Error)]
-pub enum WriteError {
-    /// No memory. Nothing went out.
-    #[error("M01")]
-    Memory(AllocError),
-    /// Writing failed. A part that begins the text went out.
-    #[error("E02")]
-    Failed(E02),
-}
-
-impl From<AllocError> for WriteError {
-    ghost from_gives = { λ error made. made ≡ Memory error };
-
-    fn from(error: AllocError) -> Self {
-        WriteError::Memory(error)
-    }
-}
-
-impl From<E02> for WriteError {
-    ghost from_gives = { λ error made. made ≡ Failed error };
-
-    fn from(error: E02) -> Self {
-        WriteError::Failed(error)
-    }
-}
+/// Why a text was not written: a write failed, and a part that begins the text went out; or memory
+/// was wanting, and nothing did.
+pub type WriteError = OrMemory<E02>;
 
 /// How many bytes a buffer holds.
 pub const CAPACITY: usize = 65_536;
@@ -60,10 +37,6 @@ fn append(bytes: &mut Vec<u8>, text: &[u8])
 }
 
 impl TextBuffer {
-    ghost use Rattle.std.specs.Fmt.{signed_decimal};
-    ghost use Rattle.pb_report.specs.Delivery.{Delivers};
-    ghost use Rattle.pb_report.specs.Sending.{Sends, is_failed_put};
-
     /// An empty buffer.
     pub fn new(alloc: Global) -> Result<TextBuffer, AllocError>
         ensures { IfOk result (λ buffer. buffer.bytes.items ≡ []) }
@@ -72,48 +45,62 @@ impl TextBuffer {
             bytes: Vec::with_capacity(alloc, CAPACITY)?,
         })
     }
+}
+
+/// A sink, with the bytes that are on their way there.
+#[derive(Drop)]
+pub struct TextWriter<'a, S> {
+    pub buffer: &'a mut TextBuffer,
+    pub sink: &'a mut S,
+}
+
+impl<S: Sink> TextWriter<'_, S> {
+    ghost use Rattle.std.specs.Fmt.{signed_decimal};
+    ghost use Rattle.pb_report.specs.Delivery.{Delivers};
+    ghost use Rattle.pb_report.specs.Sending.{Sends, is_failed_put};
 
     /// Sends text after that which is in the buffer.
-    pub fn write<S: Sink>(&mut self, text: &[u8], sink: &mut S) -> Result<(), E02>
-        ensures { Sends text.now result S.taken S.has_failed sink.old sink.new self.old self.new }
+    pub fn write(&mut self, text: &[u8]) -> Result<(), E02>
+        ensures { Sends text.now result S.Sink self.old self.new }
     {
-        if text.len() > CAPACITY - self.bytes.len() {
-            put(&self.bytes, sink)?;
-            self.bytes.clear();
+        let buffer = &mut *self.buffer;
+        if text.len() > CAPACITY - buffer.bytes.len() {
+            put(&buffer.bytes, self.sink)?;
+            buffer.bytes.clear();
             if text.len() > CAPACITY {
-                return put(text, sink);
+                return put(text, self.sink);
             }
         }
-        append(&mut self.bytes, text);
+        append(&mut buffer.bytes, text);
         Ok(())
     }
 
     /// Sends a number in decimal.
-    pub fn write_number<S: Sink>(&mut self, number: u32, sink: &mut S) -> Result<(), E02>
-        ensures { Sends (decimal number)
-            result S.taken S.has_failed sink.old sink.new self.old self.new }
+    pub fn write_number(&mut self, number: u32) -> Result<(), E02>
+        ensures { Sends (decimal number) result S.Sink self.old self.new }
     {
         let mut digits = Buffer::new();
-        self.write(digits.format(number).as_bytes(), sink)
+        self.write(digits.format(number).as_bytes())
     }
 
     /// Sends a number in decimal, which may be below 0.
-    pub fn write_signed<S: Sink>(&mut self, number: i64, sink: &mut S) -> Result<(), E02>
-        ensures { Sends (signed_decimal number)
-            result S.taken S.has_failed sink.old sink.new self.old self.new }
+    pub fn write_signed(&mut self, number: i64) -> Result<(), E02>
+        ensures { Sends (signed_decimal number) result S.Sink self.old self.new }
     {
         let mut digits = Buffer::new();
-        self.write(digits.format(number).as_bytes(), sink)
+        self.write(digits.format(number).as_bytes())
     }
 
     /// Sends what is in the buffer.
-    pub fn finish<S: Sink>(&mut self, sink: &mut S) -> Result<(), E02>
-        ensures written { Delivers is_failed_put (λ P. P self.old.bytes.items) result
-            S.taken S.has_failed sink.old sink.new }
-        ensures empty { OnOk result (self.new.bytes.items ≡ []) }
+    pub fn finish(&mut self) -> Result<(), E02>
+        ensures same_sink { self.new.sink.ghost_name ≡ self.old.sink.ghost_name }
+        ensures written { Delivers is_failed_put (λ P. P self.old.buffer.now.bytes.items) result
+            S.taken S.has_failed self.old.sink.now self.new.sink.now }
+        ensures empty { OnOk result (self.new.buffer.now.bytes.items ≡ []) }
     {
-        put(&self.bytes, sink)?;
-        self.bytes.clear();
+        let buffer = &mut *self.buffer;
+        put(&buffer.bytes, self.sink)?;
+        buffer.bytes.clear();
         Ok(())
     }
 }

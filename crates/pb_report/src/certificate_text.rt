@@ -9,7 +9,7 @@ ghost use Rattle.pb_report.specs.CertificateText.{strategy_at, strategy_part, wi
 ghost use Rattle.pb_report.specs.CertificateText.{winner_lines, certificate_head};
 ghost use Rattle.pb_report.specs.CertificateText.{certificate_text};
 
-use crate::buffer::{TextBuffer, WriteError};
+use crate::buffer::{TextBuffer, TextWriter, WriteError};
 use crate::vertex_line::write_field;
 use pb_game::{Game, Solution};
 use pb_sorts::{E02, Sink};
@@ -29,93 +29,81 @@ fn strategy_at(game: &Game, solution: &Solution, vertex: u32) -> Option<u32>
 }
 
 /// What stands behind a vertex's winner.
-fn write_strategy<S: Sink>(
-    buffer: &mut TextBuffer,
-    strategy: Option<u32>,
-    sink: &mut S,
-) -> Result<(), E02>
-    ensures { Sends (strategy_part strategy)
-        result S.taken S.has_failed sink.old sink.new buffer.old buffer.new }
+fn write_strategy<S: Sink>(writer: &mut TextWriter<'_, S>, strategy: Option<u32>) -> Result<(), E02>
+    ensures { Sends (strategy_part strategy) result S.Sink writer.old writer.new }
 {
     match strategy {
-        None => buffer.write(b";\n", sink),
-        Some(choice) => write_choice(buffer, choice, sink),
+        None => writer.write(b";\n"),
+        Some(choice) => write_choice(writer, choice),
     }
 }
 
 /// The successor that a strategy names, and the line's end.
-fn write_choice<S: Sink>(buffer: &mut TextBuffer, choice: u32, sink: &mut S) -> Result<(), E02>
-    ensures { Sends (strategy_part (Some choice))
-        result S.taken S.has_failed sink.old sink.new buffer.old buffer.new }
+fn write_choice<S: Sink>(writer: &mut TextWriter<'_, S>, choice: u32) -> Result<(), E02>
+    ensures { Sends (strategy_part (Some choice)) result S.Sink writer.old writer.new }
 {
-    buffer.write(b" ", sink)?;
-    buffer.write_number(choice, sink)?;
-    buffer.write(b";\n", sink)
+    writer.write(b" ")?;
+    writer.write_number(choice)?;
+    writer.write(b";\n")
 }
 
 fn write_line<S: Sink>(
-    buffer: &mut TextBuffer,
+    writer: &mut TextWriter<'_, S>,
     game: &Game,
     solution: &Solution,
     vertex: u32,
-    sink: &mut S,
 ) -> Result<(), E02>
     requires lengths { HasLengths game.now solution.now }
     requires vertex { vertex < vertex_count game.now }
-    ensures { Sends (winner_line game.now solution.now vertex)
-        result S.taken S.has_failed sink.old sink.new buffer.old buffer.new }
+    ensures { Sends (winner_line game.now solution.now vertex) result S.Sink writer.old writer.new }
 {
-    write_field(buffer, vertex, sink)?;
-    buffer.write_number(solution.winner(vertex).parity(), sink)?;
-    write_strategy(buffer, strategy_at(game, solution, vertex), sink)
+    write_field(writer, vertex)?;
+    writer.write_number(solution.winner(vertex).parity())?;
+    write_strategy(writer, strategy_at(game, solution, vertex))
 }
 
 /// The lines of all vertices.
 fn write_lines<S: Sink>(
-    buffer: &mut TextBuffer,
+    writer: &mut TextWriter<'_, S>,
     game: &Game,
     solution: &Solution,
-    sink: &mut S,
 ) -> Result<(), E02>
     requires lengths { HasLengths game.now solution.now }
     ensures { Sends (winner_lines game.now solution.now 0 (vertex_count game.now))
-        result S.taken S.has_failed sink.old sink.new buffer.old buffer.new }
+        result S.Sink writer.old writer.new }
 {
     for vertex in 0..game.len() {
-        write_line(buffer, game, solution, vertex, sink)?;
+        write_line(writer, game, solution, vertex)?;
     }
     Ok(())
 }
 
-fn write_head<S: Sink>(buffer: &mut TextBuffer, greatest: u32, sink: &mut S) -> Result<(), E02>
-    ensures { Sends (certificate_head greatest)
-        result S.taken S.has_failed sink.old sink.new buffer.old buffer.new }
+fn write_head<S: Sink>(writer: &mut TextWriter<'_, S>, greatest: u32) -> Result<(), E02>
+    ensures { Sends (certificate_head greatest) result S.Sink writer.old writer.new }
 {
-    buffer.write(b"paritysol ", sink)?;
-    buffer.write_number(greatest, sink)?;
-    buffer.write(b";\n", sink)
+    writer.write(b"paritysol ")?;
+    writer.write_number(greatest)?;
+    writer.write(b";\n")
 }
 
 /// All lines.
 fn write_certificate<S: Sink>(
-    buffer: &mut TextBuffer,
+    writer: &mut TextWriter<'_, S>,
     game: &Game,
     solution: &Solution,
-    sink: &mut S,
 ) -> Result<(), E02>
     requires lengths { HasLengths game.now solution.now }
-    ensures { Sends (certificate_text game.now solution.now)
-        result S.taken S.has_failed sink.old sink.new buffer.old buffer.new }
+    ensures { Sends (certificate_text game.now solution.now) result S.Sink writer.old writer.new }
 {
-    write_head(buffer, game.len().saturating_sub(1), sink)?;
-    write_lines(buffer, game, solution, sink)
+    write_head(writer, game.len().saturating_sub(1))?;
+    write_lines(writer, game, solution)
 }
 
 /// Appends a solution of a game in the form that PGSolver reads and writes: a line for each vertex,
 /// with its winner, and with the winner's choice where the winner moves.
 ///
 /// # Errors
-/// `Memory` before the first byte. After `Failed` a part that begins the text, and not the whole of
+/// `Memory` before the first byte. After `E02` a part that begins the text, and not the whole of
 /// it, went out.
 pub fn certificate_text<S: Sink>(
     alloc: Global,
@@ -128,7 +116,11 @@ pub fn certificate_text<S: Sink>(
         S.taken S.has_failed sink.old sink.new }
 {
     let mut buffer = TextBuffer::new(alloc)?;
-    write_certificate(&mut buffer, game, solution, sink)?;
-    buffer.finish(sink)?;
+    let mut writer = TextWriter {
+        buffer: &mut buffer,
+        sink,
+    };
+    write_certificate(&mut writer, game, solution)?;
+    writer.finish()?;
     Ok(())
 }

@@ -7,7 +7,6 @@ ghost use Rattle.pb_sorts.specs.Layout.{count_of};
 ghost use Rattle.pb_trees.specs.Tree.{Tree};
 ghost use Rattle.pb_bytecode.specs.Meaning.{AreTrees, parameters};
 ghost use Rattle.pb_game_of_trees.specs.Explored.{ModuleHasTrees};
-ghost use Rattle.pb_report.specs.Report.{truth_line};
 ghost use Rattle.pb_report.specs.InstanceName.{instance_name};
 ghost use Rattle.pb_report.specs.Delivery.{Delivers, is_failed};
 ghost use Rattle.pb_report.specs.Sending.{Sends};
@@ -18,9 +17,10 @@ ghost use Rattle.pb_report.specs.ModuleLines.{line_at, lines_of};
 ghost use Rattle.pb_report.specs.ModuleEvidence.{IsExplanation, module_evidence_text};
 ghost use Rattle.pb_report.specs.ModuleTexts.{ForTrees};
 
+use crate::answer::write_answer;
 use crate::instance_name::write_instance_name;
 use crate::module_evidence::Explanation;
-use crate::{TextBuffer, WriteError};
+use crate::{TextBuffer, TextWriter, WriteError};
 use pb_sorts::{E02, Sink};
 use pb_text_tree::Place;
 use pb_verifier::Verified;
@@ -61,123 +61,96 @@ fn place_at(call_places: &[Option<Place>], k: usize) -> Option<Place>
     }
 }
 
-fn write_answer<S: Sink>(buffer: &mut TextBuffer, truth: bool, sink: &mut S) -> Result<(), E02>
-    ensures { Sends (truth_line truth)
-        result S.taken S.has_failed sink.old sink.new buffer.old buffer.new }
+fn write_truth<S: Sink>(writer: &mut TextWriter<'_, S>, truth: bool) -> Result<(), E02>
+    ensures { Sends (truth_mark truth) result S.Sink writer.old writer.new }
 {
     if truth {
-        buffer.write(b"answer true\n", sink)
+        writer.write(b" true:")
     } else {
-        buffer.write(b"answer false\n", sink)
-    }
-}
-
-fn write_truth<S: Sink>(buffer: &mut TextBuffer, truth: bool, sink: &mut S) -> Result<(), E02>
-    ensures { Sends (truth_mark truth)
-        result S.taken S.has_failed sink.old sink.new buffer.old buffer.new }
-{
-    if truth {
-        buffer.write(b" true:", sink)
-    } else {
-        buffer.write(b" false:", sink)
+        writer.write(b" false:")
     }
 }
 
 /// The word for a cut call, where there is one.
-fn write_cut<S: Sink>(buffer: &mut TextBuffer, cut: bool, sink: &mut S) -> Result<(), E02>
-    ensures { Sends (cut_mark cut)
-        result S.taken S.has_failed sink.old sink.new buffer.old buffer.new }
+fn write_cut<S: Sink>(writer: &mut TextWriter<'_, S>, cut: bool) -> Result<(), E02>
+    ensures { Sends (cut_mark cut) result S.Sink writer.old writer.new }
 {
-    if cut {
-        buffer.write(b" cut", sink)
-    } else {
-        Ok(())
-    }
+    if cut { writer.write(b" cut") } else { Ok(()) }
 }
 
 /// The place of a call, where there is one.
-fn write_place<S: Sink>(
-    buffer: &mut TextBuffer,
-    place: Option<Place>,
-    sink: &mut S,
-) -> Result<(), E02>
-    ensures { Sends (place_mark place)
-        result S.taken S.has_failed sink.old sink.new buffer.old buffer.new }
+fn write_place<S: Sink>(writer: &mut TextWriter<'_, S>, place: Option<Place>) -> Result<(), E02>
+    ensures { Sends (place_mark place) result S.Sink writer.old writer.new }
 {
     let Some(place) = place else {
         return Ok(());
     };
-    buffer.write(b"@", sink)?;
-    buffer.write_number(place.line, sink)?;
-    buffer.write(b":", sink)?;
-    buffer.write_number(place.column, sink)
+    writer.write(b"@")?;
+    writer.write_number(place.line)?;
+    writer.write(b":")?;
+    writer.write_number(place.column)
 }
 
 /// The name of an instance, after a space, and the place of its call.
 fn write_dependency<S: Sink>(
-    buffer: &mut TextBuffer,
+    writer: &mut TextWriter<'_, S>,
     verified: &Verified,
     number: u32,
     place: Option<Place>,
-    sink: &mut S,
 ) -> Result<(), E02>
     requires { number < count_of (parameters verified.now) }
     ensures { Sends (dependency_text (instance_name verified.now) number place)
-        result S.taken S.has_failed sink.old sink.new buffer.old buffer.new }
+        result S.Sink writer.old writer.new }
 {
-    buffer.write(b" ", sink)?;
-    write_instance_name(buffer, verified, number, sink)?;
-    write_place(buffer, place, sink)
+    writer.write(b" ")?;
+    write_instance_name(writer, verified, number)?;
+    write_place(writer, place)
 }
 
 /// The names of instances, each after a space.
 fn write_dependencies<S: Sink>(
-    buffer: &mut TextBuffer,
+    writer: &mut TextWriter<'_, S>,
     verified: &Verified,
     basis: &Basis<'_>,
-    sink: &mut S,
 ) -> Result<(), E02>
     requires { (k : ℕ) → k < length basis.now.dependencies.now
         → slice_index basis.now.dependencies.now k < count_of (parameters verified.now) }
     ensures { Sends (placed_names (instance_name verified.now) basis.now.dependencies.now
-        basis.now.call_places.now)
-        result S.taken S.has_failed sink.old sink.new buffer.old buffer.new }
+        basis.now.call_places.now) result S.Sink writer.old writer.new }
 {
     let numbers = basis.dependencies;
     let call_places = basis.call_places;
     for k in 0..numbers.len() {
-        write_dependency(buffer, verified, numbers[k], place_at(call_places, k), sink)?;
+        write_dependency(writer, verified, numbers[k], place_at(call_places, k))?;
     }
     Ok(())
 }
 
 /// What stands behind an instance's name.
 fn write_line_end<S: Sink>(
-    buffer: &mut TextBuffer,
+    writer: &mut TextWriter<'_, S>,
     verified: &Verified,
     truth: bool,
     basis: &Basis<'_>,
-    sink: &mut S,
 ) -> Result<(), E02>
     requires { (k : ℕ) → k < length basis.now.dependencies.now
         → slice_index basis.now.dependencies.now k < count_of (parameters verified.now) }
     ensures { Sends (line_end truth (placed_names (instance_name verified.now)
         basis.now.dependencies.now basis.now.call_places.now) basis.now.cut)
-        result S.taken S.has_failed sink.old sink.new buffer.old buffer.new }
+        result S.Sink writer.old writer.new }
 {
-    write_truth(buffer, truth, sink)?;
-    write_dependencies(buffer, verified, basis, sink)?;
-    write_cut(buffer, basis.cut, sink)?;
-    buffer.write(b"\n", sink)
+    write_truth(writer, truth)?;
+    write_dependencies(writer, verified, basis)?;
+    write_cut(writer, basis.cut)?;
+    writer.write(b"\n")
 }
 
 /// The line of the instance at this place.
 fn write_line<S: Sink>(
-    buffer: &mut TextBuffer,
+    writer: &mut TextWriter<'_, S>,
     verified: &Verified,
     placed: &PlacedExplanation<'_>,
     k: usize,
-    sink: &mut S,
 ) -> Result<(), E02>
     requires place { k < length placed.now.explanation.now.evidence.instances.items }
     requires trees { ModuleHasTrees verified.now }
@@ -185,24 +158,23 @@ fn write_line<S: Sink>(
     ensures { (trees : ℕ → Tree) → AreTrees verified.now trees → (place : ℕ → ℕ → Option Place)
         → AreCallPlaces place placed.now.explanation.now.evidence placed.now.call_places.now
         → Sends (line_at verified.now trees place placed.now.explanation.now.evidence k)
-        result S.taken S.has_failed sink.old sink.new buffer.old buffer.new }
+        result S.Sink writer.old writer.new }
 {
     let evidence = &placed.explanation.evidence;
-    write_instance_name(buffer, verified, evidence.instances[k], sink)?;
+    write_instance_name(writer, verified, evidence.instances[k])?;
     let basis = Basis {
         dependencies: evidence.dependencies(k),
         call_places: behind(placed.call_places, evidence.places[k]),
         cut: placed.explanation.cuts[k],
     };
-    write_line_end(buffer, verified, evidence.truth, &basis, sink)
+    write_line_end(writer, verified, evidence.truth, &basis)
 }
 
 /// The lines of all instances.
 fn write_lines<S: Sink>(
-    buffer: &mut TextBuffer,
+    writer: &mut TextWriter<'_, S>,
     verified: &Verified,
     placed: &PlacedExplanation<'_>,
-    sink: &mut S,
 ) -> Result<(), E02>
     requires trees { ModuleHasTrees verified.now }
     requires explanation { IsExplanation verified.now placed.now.explanation.now }
@@ -211,20 +183,18 @@ fn write_lines<S: Sink>(
     ensures { (trees : ℕ → Tree) → AreTrees verified.now trees → (place : ℕ → ℕ → Option Place)
         → AreCallPlaces place placed.now.explanation.now.evidence placed.now.call_places.now
         → Sends (lines_of verified.now trees place placed.now.explanation.now.evidence
-        placed.now.explanation.now.evidence.instances.items)
-        result S.taken S.has_failed sink.old sink.new buffer.old buffer.new }
+        placed.now.explanation.now.evidence.instances.items) result S.Sink writer.old writer.new }
 {
     for k in 0..placed.explanation.evidence.instances.len() {
-        write_line(buffer, verified, placed, k, sink)?;
+        write_line(writer, verified, placed, k)?;
     }
     Ok(())
 }
 
 fn write_evidence<S: Sink>(
-    buffer: &mut TextBuffer,
+    writer: &mut TextWriter<'_, S>,
     verified: &Verified,
     placed: &PlacedExplanation<'_>,
-    sink: &mut S,
 ) -> Result<(), E02>
     requires trees { ModuleHasTrees verified.now }
     requires explanation { IsExplanation verified.now placed.now.explanation.now }
@@ -233,10 +203,10 @@ fn write_evidence<S: Sink>(
     ensures { (trees : ℕ → Tree) → AreTrees verified.now trees → (place : ℕ → ℕ → Option Place)
         → AreCallPlaces place placed.now.explanation.now.evidence placed.now.call_places.now
         → Sends (module_evidence_text verified.now trees place placed.now.explanation.now.evidence)
-        result S.taken S.has_failed sink.old sink.new buffer.old buffer.new }
+        result S.Sink writer.old writer.new }
 {
-    write_answer(buffer, placed.explanation.evidence.truth, sink)?;
-    write_lines(buffer, verified, placed, sink)
+    write_answer(writer, placed.explanation.evidence.truth)?;
+    write_lines(writer, verified, placed)
 }
 
 /// Appends evidence for the truth of a module's initial instance: the answer, and then a line for
@@ -245,7 +215,7 @@ fn write_evidence<S: Sink>(
 /// whose instance rests on a cut call too.
 ///
 /// # Errors
-/// `Memory` before the first byte. After `Failed` a part that begins the text, and not the whole of
+/// `Memory` before the first byte. After `E02` a part that begins the text, and not the whole of
 /// it, went out.
 pub fn evidence_text<S: Sink>(
     alloc: Global,
@@ -264,7 +234,11 @@ pub fn evidence_text<S: Sink>(
         S.taken S.has_failed sink.old sink.new }
 {
     let mut buffer = TextBuffer::new(alloc)?;
-    write_evidence(&mut buffer, verified, placed, sink)?;
-    buffer.finish(sink)?;
+    let mut writer = TextWriter {
+        buffer: &mut buffer,
+        sink,
+    };
+    write_evidence(&mut writer, verified, placed)?;
+    writer.finish()?;
     Ok(())
 }

@@ -13,7 +13,7 @@ ghost use Rattle.pb_report.specs.GameText.{name_part, vertex_at, vertex_line};
 ghost use Rattle.pb_report.specs.VertexNames.{name_by, number_in, IsAtRow, AreRising};
 ghost use Rattle.pb_report.specs.VertexNames.{lines_text, first_line, memory_text};
 
-use crate::buffer::{TextBuffer, WriteError};
+use crate::buffer::{TextBuffer, TextWriter, WriteError};
 use crate::instance_name::write_instance_name;
 use crate::vertex_line::{write_name, write_vertex};
 use pb_game::Game;
@@ -39,61 +39,58 @@ struct NamedVertex {
 
 /// An instance's name in its quotes, and the line's end.
 fn write_quoted<S: Sink>(
-    buffer: &mut TextBuffer,
+    writer: &mut TextWriter<'_, S>,
     verified: &Verified,
     number: u32,
-    sink: &mut S,
 ) -> Result<(), E02>
     requires { number < count_of (parameters verified.now) }
     ensures { Sends (name_part (Some (instance_name verified.now number)))
-        result S.taken S.has_failed sink.old sink.new buffer.old buffer.new }
+        result S.Sink writer.old writer.new }
 {
-    buffer.write(b" \"", sink)?;
-    write_instance_name(buffer, verified, number, sink)?;
-    buffer.write(b"\";\n", sink)
+    writer.write(b" \"")?;
+    write_instance_name(writer, verified, number)?;
+    writer.write(b"\";\n")
 }
 
 /// What stands behind a vertex's successors. `number` is the instance's, if the vertex is one's.
 fn write_line_end<S: Sink>(
-    buffer: &mut TextBuffer,
+    writer: &mut TextWriter<'_, S>,
     verified: &Verified,
     vertex: u32,
     number: Option<u32>,
-    sink: &mut S,
 ) -> Result<(), E02>
     requires { IfSome number (λ n. n < count_of (parameters verified.now)) }
     ensures { Sends (name_part (name_by verified.now vertex number))
-        result S.taken S.has_failed sink.old sink.new buffer.old buffer.new }
+        result S.Sink writer.old writer.new }
 {
     if vertex == 0 {
-        return write_name(buffer, b"false", sink);
+        return write_name(writer, b"false");
     }
     if vertex == 1 {
-        return write_name(buffer, b"true", sink);
+        return write_name(writer, b"true");
     }
     match number {
-        None => buffer.write(b";\n", sink),
-        Some(number) => write_quoted(buffer, verified, number, sink),
+        None => writer.write(b";\n"),
+        Some(number) => write_quoted(writer, verified, number),
     }
 }
 
 /// The line of a vertex.
 fn write_line<S: Sink>(
-    buffer: &mut TextBuffer,
+    writer: &mut TextWriter<'_, S>,
     verified: &Verified,
     game: &Game,
     named: NamedVertex,
-    sink: &mut S,
 ) -> Result<(), E02>
     requires vertex { named.vertex < vertex_count game.now }
     requires edges { 0 < length (successors_of game.now named.vertex) }
     requires number { IfSome named.instance (λ n. n < count_of (parameters verified.now)) }
     ensures { Sends (vertex_line named.vertex (vertex_at game.now named.vertex) (name_by
         verified.now named.vertex named.instance))
-        result S.taken S.has_failed sink.old sink.new buffer.old buffer.new }
+        result S.Sink writer.old writer.new }
 {
-    write_vertex(buffer, game, named.vertex, sink)?;
-    write_line_end(buffer, verified, named.vertex, named.instance, sink)
+    write_vertex(writer, game, named.vertex)?;
+    write_line_end(writer, verified, named.vertex, named.instance)
 }
 
 /// The number of the row whose vertex this is, if it is one's; `k` is the first row whose vertex is
@@ -115,11 +112,10 @@ fn row_number(vertices: &[u32], rows: &IndexedRows, k: usize, vertex: u32) -> Op
 
 /// The lines of all vertices.
 fn write_lines<S: Sink>(
-    buffer: &mut TextBuffer,
+    writer: &mut TextWriter<'_, S>,
     verified: &Verified,
     game: &Game,
     placed: &PlacedRows<'_>,
-    sink: &mut S,
 ) -> Result<(), E02>
     requires lengths { length placed.now.vertices.now ≡ length placed.now.rows.now }
     requires rising { AreRising placed.now.vertices.now }
@@ -127,43 +123,33 @@ fn write_lines<S: Sink>(
     requires numbers { (v : ℕ) → IfSome (number_in placed.now.vertices.now placed.now.rows.now v)
         (λ n. n < count_of (parameters verified.now)) }
     ensures { Sends (lines_text verified.now game.now placed.now.vertices.now placed.now.rows.now)
-        result S.taken S.has_failed sink.old sink.new buffer.old buffer.new }
+        result S.Sink writer.old writer.new }
 {
     let mut k = 0;
     for vertex in 0..game.len() {
-        let number = row_number(placed.vertices, placed.rows, k, vertex);
-        let named = NamedVertex {
-            vertex,
-            instance: number,
-        };
-        write_line(buffer, verified, game, named, sink)?;
-        if number.is_some() {
+        let instance = row_number(placed.vertices, placed.rows, k, vertex);
+        write_line(writer, verified, game, NamedVertex { vertex, instance })?;
+        if instance.is_some() {
             k += 1;
         }
     }
     Ok(())
 }
 
-fn write_first_line<S: Sink>(
-    buffer: &mut TextBuffer,
-    greatest: u32,
-    sink: &mut S,
-) -> Result<(), E02>
-    ensures { Sends (first_line greatest)
-        result S.taken S.has_failed sink.old sink.new buffer.old buffer.new }
+fn write_first_line<S: Sink>(writer: &mut TextWriter<'_, S>, greatest: u32) -> Result<(), E02>
+    ensures { Sends (first_line greatest) result S.Sink writer.old writer.new }
 {
-    buffer.write(b"parity ", sink)?;
-    buffer.write_number(greatest, sink)?;
-    buffer.write(b";\n", sink)
+    writer.write(b"parity ")?;
+    writer.write_number(greatest)?;
+    writer.write(b";\n")
 }
 
 /// All lines.
 fn write_game<S: Sink>(
-    buffer: &mut TextBuffer,
+    writer: &mut TextWriter<'_, S>,
     verified: &Verified,
     game: &Game,
     placed: &PlacedRows<'_>,
-    sink: &mut S,
 ) -> Result<(), E02>
     requires some { 0 < vertex_count game.now }
     requires lengths { length placed.now.vertices.now ≡ length placed.now.rows.now }
@@ -172,10 +158,10 @@ fn write_game<S: Sink>(
     requires numbers { (v : ℕ) → IfSome (number_in placed.now.vertices.now placed.now.rows.now v)
         (λ n. n < count_of (parameters verified.now)) }
     ensures { Sends (memory_text verified.now game.now placed.now.vertices.now placed.now.rows.now)
-        result S.taken S.has_failed sink.old sink.new buffer.old buffer.new }
+        result S.Sink writer.old writer.new }
 {
-    write_first_line(buffer, game.len() - 1, sink)?;
-    write_lines(buffer, verified, game, placed, sink)
+    write_first_line(writer, game.len() - 1)?;
+    write_lines(writer, verified, game, placed)
 }
 
 fn write_text<S: Sink>(
@@ -196,8 +182,12 @@ fn write_text<S: Sink>(
         result S.taken S.has_failed sink.old sink.new }
 {
     let mut buffer = TextBuffer::new(alloc)?;
-    write_game(&mut buffer, verified, game, placed, sink)?;
-    buffer.finish(sink)?;
+    let mut writer = TextWriter {
+        buffer: &mut buffer,
+        sink,
+    };
+    write_game(&mut writer, verified, game, placed)?;
+    writer.finish()?;
     Ok(())
 }
 
@@ -205,7 +195,7 @@ fn write_text<S: Sink>(
 /// instances by name.
 ///
 /// # Errors
-/// `Memory` before the first byte. After `Failed` a part that begins the text, and not the whole of
+/// `Memory` before the first byte. After `E02` a part that begins the text, and not the whole of
 /// it, went out.
 pub fn game_text<S: Sink>(
     alloc: Global,

@@ -8,7 +8,7 @@ ghost use Rattle.pb_report.specs.InstanceName.{bool_name, enumerator_name, value
 ghost use Rattle.pb_report.specs.InstanceName.{next_value, more_values, values_text};
 ghost use Rattle.pb_report.specs.InstanceName.{arguments, instance_name};
 
-use crate::buffer::TextBuffer;
+use crate::buffer::TextWriter;
 use pb_bytecode::Sort;
 use pb_sorts::{Carrier, E02, Sink};
 use pb_verifier::Verified;
@@ -38,116 +38,107 @@ fn enumerator_name(sorts: &[Sort], sort: u8, value: i64) -> &[u8]
 
 /// The name of a value.
 fn write_value<S: Sink>(
-    buffer: &mut TextBuffer,
+    writer: &mut TextWriter<'_, S>,
     sorts: &[Sort],
     carrier: &Carrier,
     value: &i64,
-    sink: &mut S,
 ) -> Result<(), E02>
     ensures { Sends (value_name (map sort_contents sorts.now) carrier.now value.now)
-        result S.taken S.has_failed sink.old sink.new buffer.old buffer.new }
+        result S.Sink writer.old writer.new }
 {
     match carrier {
-        Carrier::Bool => buffer.write(bool_name(*value), sink),
+        Carrier::Bool => writer.write(bool_name(*value)),
         Carrier::Enum(enumeration) => {
-            buffer.write(enumerator_name(sorts, enumeration.sort, *value), sink)
+            writer.write(enumerator_name(sorts, enumeration.sort, *value))
         }
-        Carrier::Range(_) => buffer.write_signed(*value, sink),
+        Carrier::Range(_) => writer.write_signed(*value),
     }
 }
 
 /// The name of a value, after a comma.
 fn write_next_value<S: Sink>(
-    buffer: &mut TextBuffer,
+    writer: &mut TextWriter<'_, S>,
     sorts: &[Sort],
     carrier: &Carrier,
     value: &i64,
-    sink: &mut S,
 ) -> Result<(), E02>
     ensures { Sends (next_value (map sort_contents sorts.now) carrier.now value.now)
-        result S.taken S.has_failed sink.old sink.new buffer.old buffer.new }
+        result S.Sink writer.old writer.new }
 {
-    buffer.write(b",", sink)?;
-    write_value(buffer, sorts, carrier, value, sink)
+    writer.write(b",")?;
+    write_value(writer, sorts, carrier, value)
 }
 
 /// The names of the values behind the first one, each after a comma.
 fn write_more_values<S: Sink>(
-    buffer: &mut TextBuffer,
+    writer: &mut TextWriter<'_, S>,
     sorts: &[Sort],
     carriers: &[Carrier],
     values: &[i64],
-    sink: &mut S,
 ) -> Result<(), E02>
     requires some { 0 < length carriers.now }
     requires lengths { length values.now ≡ length carriers.now }
     ensures { Sends (more_values (map sort_contents sorts.now) (drop 1 carriers.now) (drop 1
-        values.now))
-        result S.taken S.has_failed sink.old sink.new buffer.old buffer.new }
+        values.now)) result S.Sink writer.old writer.new }
 {
     for k in 1..carriers.len() {
-        write_next_value(buffer, sorts, &carriers[k], &values[k], sink)?;
+        write_next_value(writer, sorts, &carriers[k], &values[k])?;
     }
     Ok(())
 }
 
 /// The names of values with commas between them.
 fn write_values<S: Sink>(
-    buffer: &mut TextBuffer,
+    writer: &mut TextWriter<'_, S>,
     sorts: &[Sort],
     carriers: &[Carrier],
     values: &[i64],
-    sink: &mut S,
 ) -> Result<(), E02>
     requires some { 0 < length carriers.now }
     requires lengths { length values.now ≡ length carriers.now }
     ensures { Sends (values_text (map sort_contents sorts.now) carriers.now values.now)
-        result S.taken S.has_failed sink.old sink.new buffer.old buffer.new }
+        result S.Sink writer.old writer.new }
 {
-    write_value(buffer, sorts, &carriers[0], &values[0], sink)?;
-    write_more_values(buffer, sorts, carriers, values, sink)
+    write_value(writer, sorts, &carriers[0], &values[0])?;
+    write_more_values(writer, sorts, carriers, values)
 }
 
 /// The names of values in parentheses, and no byte where there are none.
 fn write_arguments<S: Sink>(
-    buffer: &mut TextBuffer,
+    writer: &mut TextWriter<'_, S>,
     sorts: &[Sort],
     carriers: &[Carrier],
     values: &[i64],
-    sink: &mut S,
 ) -> Result<(), E02>
     requires { length values.now ≡ length carriers.now }
     ensures { Sends (arguments (map sort_contents sorts.now) carriers.now values.now)
-        result S.taken S.has_failed sink.old sink.new buffer.old buffer.new }
+        result S.Sink writer.old writer.new }
 {
     if carriers.is_empty() {
-        return buffer.write(b"", sink);
+        return writer.write(b"");
     }
-    buffer.write(b"(", sink)?;
-    write_values(buffer, sorts, carriers, values, sink)?;
-    buffer.write(b")", sink)
+    writer.write(b"(")?;
+    write_values(writer, sorts, carriers, values)?;
+    writer.write(b")")
 }
 
 /// The name of the instance with this number.
 pub fn write_instance_name<S: Sink>(
-    buffer: &mut TextBuffer,
+    writer: &mut TextWriter<'_, S>,
     verified: &Verified,
     number: u32,
-    sink: &mut S,
 ) -> Result<(), E02>
     requires { number < count_of (parameters verified.now) }
-    ensures { Sends (instance_name verified.now number)
-        result S.taken S.has_failed sink.old sink.new buffer.old buffer.new }
+    ensures { Sends (instance_name verified.now number) result S.Sink writer.old writer.new }
 {
     let module = verified.module();
     let instance = verified.layout().instance(number);
     let equation = &module.equations[instance.equation as usize];
-    buffer.write(equation.name.text.as_bytes(), sink)?;
+    writer.write(equation.name.text.as_bytes())?;
     write_arguments(
-        buffer,
+        writer,
         &module.sorts,
         &equation.parameters,
         &instance.values,
-        sink,
     )
 }

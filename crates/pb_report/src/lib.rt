@@ -17,6 +17,6 @@ mod tree_truth;
 pub mod vertex_line;
 
 pub use answer::{Answer, report};
-pub use buffer::{TextBuffer, WriteError};
+pub use buffer::{TextBuffer, TextWriter, WriteError};
 pub use evidence_text::PlacedExplanation;
 pub use module_evidence::{Explanation, evidence_of, evidence_of_rows};

@@ -10,7 +10,7 @@ ghost use Rattle.pb_report.specs.InstanceName.{instance_name};
 ghost use Rattle.pb_report.specs.SolutionText.{truth_end, solution_line};
 ghost use Rattle.pb_report.specs.ModuleTexts.{module_solution_text, ForTrees};
 
-use crate::buffer::{TextBuffer, WriteError};
+use crate::buffer::{TextBuffer, TextWriter, WriteError};
 use crate::instance_name::write_instance_name;
 use pb_game_of_trees::Solved;
 use pb_rows::IndexedRows;
@@ -18,49 +18,46 @@ use pb_sorts::{E02, Sink};
 use pb_verifier::Verified;
 use std::alloc::Global;
 
-fn write_truth<S: Sink>(buffer: &mut TextBuffer, truth: bool, sink: &mut S) -> Result<(), E02>
-    ensures { Sends (truth_end truth)
-        result S.taken S.has_failed sink.old sink.new buffer.old buffer.new }
+fn write_truth<S: Sink>(writer: &mut TextWriter<'_, S>, truth: bool) -> Result<(), E02>
+    ensures { Sends (truth_end truth) result S.Sink writer.old writer.new }
 {
     if truth {
-        buffer.write(b" true\n", sink)
+        writer.write(b" true\n")
     } else {
-        buffer.write(b" false\n", sink)
+        writer.write(b" false\n")
     }
 }
 
 fn write_line<S: Sink>(
-    buffer: &mut TextBuffer,
+    writer: &mut TextWriter<'_, S>,
     verified: &Verified,
     number: u32,
     truth: bool,
-    sink: &mut S,
 ) -> Result<(), E02>
     requires { number < count_of (parameters verified.now) }
     ensures { Sends (solution_line (instance_name verified.now number) truth)
-        result S.taken S.has_failed sink.old sink.new buffer.old buffer.new }
+        result S.Sink writer.old writer.new }
 {
-    write_instance_name(buffer, verified, number, sink)?;
-    write_truth(buffer, truth, sink)
+    write_instance_name(writer, verified, number)?;
+    write_truth(writer, truth)
 }
 
 fn write_lines<S: Sink>(
-    buffer: &mut TextBuffer,
+    writer: &mut TextWriter<'_, S>,
     verified: &Verified,
     solved: &Solved,
     rows: &IndexedRows,
-    sink: &mut S,
 ) -> Result<(), E02>
     requires trees { ModuleHasTrees verified.now }
     requires rows { AreModuleRows verified.now rows.now }
     requires game { IsModuleGame verified.now rows.now solved.now.built }
     ensures { (trees : ℕ → Tree) → AreTrees verified.now trees
         → Sends (module_solution_text verified.now trees rows.now)
-        result S.taken S.has_failed sink.old sink.new buffer.old buffer.new }
+        result S.Sink writer.old writer.new }
 {
     for k in 0..rows.len() {
         let truth = solved.row_truth(k);
-        write_line(buffer, verified, rows.number(k), truth, sink)?;
+        write_line(writer, verified, rows.number(k), truth)?;
     }
     Ok(())
 }
@@ -69,7 +66,7 @@ fn write_lines<S: Sink>(
 /// and its truth.
 ///
 /// # Errors
-/// `Memory` before the first byte. After `Failed` a part that begins the text, and not the whole of
+/// `Memory` before the first byte. After `E02` a part that begins the text, and not the whole of
 /// it, went out.
 pub fn solution_text<S: Sink>(
     alloc: Global,
@@ -86,7 +83,11 @@ pub fn solution_text<S: Sink>(
         S.taken S.has_failed sink.old sink.new }
 {
     let mut buffer = TextBuffer::new(alloc)?;
-    write_lines(&mut buffer, verified, solved, rows, sink)?;
-    buffer.finish(sink)?;
+    let mut writer = TextWriter {
+        buffer: &mut buffer,
+        sink,
+    };
+    write_lines(&mut writer, verified, solved, rows)?;
+    writer.finish()?;
     Ok(())
 }

@@ -5,97 +5,80 @@ ghost use Rattle.pb_report.specs.Sending.{Sends};
 ghost use Rattle.pb_report.specs.GameText.{field, head, item, more_numbers, numbers_text};
 ghost use Rattle.pb_report.specs.GameText.{name_part, vertex_at, vertex_text};
 
-use crate::buffer::TextBuffer;
+use crate::buffer::TextWriter;
 use pb_game::Game;
 use pb_sorts::{E02, Sink};
 
 /// A number, and a space behind it.
-pub(crate) fn write_field<S: Sink>(
-    buffer: &mut TextBuffer,
-    number: u32,
-    sink: &mut S,
-) -> Result<(), E02>
-    ensures { Sends (field number)
-        result S.taken S.has_failed sink.old sink.new buffer.old buffer.new }
+pub(crate) fn write_field<S: Sink>(writer: &mut TextWriter<'_, S>, number: u32) -> Result<(), E02>
+    ensures { Sends (field number) result S.Sink writer.old writer.new }
 {
-    buffer.write_number(number, sink)?;
-    buffer.write(b" ", sink)
+    writer.write_number(number)?;
+    writer.write(b" ")
 }
 
 fn write_head<S: Sink>(
-    buffer: &mut TextBuffer,
+    writer: &mut TextWriter<'_, S>,
     vertex: u32,
     priority: u32,
     owner: u32,
-    sink: &mut S,
 ) -> Result<(), E02>
-    ensures { Sends (head vertex priority owner)
-        result S.taken S.has_failed sink.old sink.new buffer.old buffer.new }
+    ensures { Sends (head vertex priority owner) result S.Sink writer.old writer.new }
 {
-    write_field(buffer, vertex, sink)?;
-    write_field(buffer, priority, sink)?;
-    write_field(buffer, owner, sink)
+    write_field(writer, vertex)?;
+    write_field(writer, priority)?;
+    write_field(writer, owner)
 }
 
-fn write_item<S: Sink>(buffer: &mut TextBuffer, number: u32, sink: &mut S) -> Result<(), E02>
-    ensures { Sends (item number)
-        result S.taken S.has_failed sink.old sink.new buffer.old buffer.new }
+fn write_item<S: Sink>(writer: &mut TextWriter<'_, S>, number: u32) -> Result<(), E02>
+    ensures { Sends (item number) result S.Sink writer.old writer.new }
 {
-    buffer.write(b",", sink)?;
-    buffer.write_number(number, sink)
+    writer.write(b",")?;
+    writer.write_number(number)
 }
 
-fn write_more<S: Sink>(buffer: &mut TextBuffer, numbers: &[u32], sink: &mut S) -> Result<(), E02>
-    ensures { Sends (more_numbers numbers.now)
-        result S.taken S.has_failed sink.old sink.new buffer.old buffer.new }
+fn write_more<S: Sink>(writer: &mut TextWriter<'_, S>, numbers: &[u32]) -> Result<(), E02>
+    ensures { Sends (more_numbers numbers.now) result S.Sink writer.old writer.new }
 {
     for k in 0..numbers.len() {
-        write_item(buffer, numbers[k], sink)?;
+        write_item(writer, numbers[k])?;
     }
     Ok(())
 }
 
-fn write_numbers<S: Sink>(buffer: &mut TextBuffer, numbers: &[u32], sink: &mut S) -> Result<(), E02>
+fn write_numbers<S: Sink>(writer: &mut TextWriter<'_, S>, numbers: &[u32]) -> Result<(), E02>
     requires { 0 < length numbers.now }
-    ensures { Sends (numbers_text numbers.now)
-        result S.taken S.has_failed sink.old sink.new buffer.old buffer.new }
+    ensures { Sends (numbers_text numbers.now) result S.Sink writer.old writer.new }
 {
-    buffer.write_number(numbers[0], sink)?;
-    write_more(buffer, &numbers[1..], sink)
+    writer.write_number(numbers[0])?;
+    write_more(writer, &numbers[1..])
 }
 
 /// A name in its quotes, and the line's end.
-pub(crate) fn write_name<S: Sink>(
-    buffer: &mut TextBuffer,
-    name: &[u8],
-    sink: &mut S,
-) -> Result<(), E02>
-    ensures { Sends (name_part (Some name.now))
-        result S.taken S.has_failed sink.old sink.new buffer.old buffer.new }
+pub(crate) fn write_name<S: Sink>(writer: &mut TextWriter<'_, S>, name: &[u8]) -> Result<(), E02>
+    ensures { Sends (name_part (Some name.now)) result S.Sink writer.old writer.new }
 {
-    buffer.write(b" \"", sink)?;
-    buffer.write(name, sink)?;
-    buffer.write(b"\";\n", sink)
+    writer.write(b" \"")?;
+    writer.write(name)?;
+    writer.write(b"\";\n")
 }
 
 /// A vertex's number, priority, owner and successors.
 pub(crate) fn write_vertex<S: Sink>(
-    buffer: &mut TextBuffer,
+    writer: &mut TextWriter<'_, S>,
     game: &Game,
     vertex: u32,
-    sink: &mut S,
 ) -> Result<(), E02>
     requires vertex { vertex < vertex_count game.now }
     requires edges { 0 < length (successors_of game.now vertex) }
     ensures { Sends (vertex_text vertex (vertex_at game.now vertex))
-        result S.taken S.has_failed sink.old sink.new buffer.old buffer.new }
+        result S.Sink writer.old writer.new }
 {
     write_head(
-        buffer,
+        writer,
         vertex,
         game.priority(vertex),
         game.owner(vertex).parity(),
-        sink,
     )?;
-    write_numbers(buffer, game.successors(vertex), sink)
+    write_numbers(writer, game.successors(vertex))
 }

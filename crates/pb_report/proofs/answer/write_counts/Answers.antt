@@ -17,16 +17,16 @@ vertices a = count_line (codes "vertices ") a.vertices
 pub returns-in_err-write_count : goal.returns-in_err-write_count
 returns-in_err-write_count g c =
     let a = c.args.answer.now in
-    sends_err g.S.Sink.taken g.S.Sink.has_failed _ _ _ _ _ (instances a) (cut a ++ vertices a) c.from_residual.ensures.0 c.in_err-write_count.ensures
+    sends_err (instances a) (cut a ++ vertices a) c.from_residual.ensures.0 c.in_err-write_count.ensures
 
 pub returns-in_err-write_count-2 : goal.returns-in_err-write_count-2
 returns-in_err-write_count-2 g c =
     let a = c.args.answer.now in
-    sends_then g.S.Sink.taken g.S.Sink.has_failed _ _ _ _ _ _ _ (instances a) (cut a ++ vertices a) c.in_ok-write_count.ensures
-    (sends_err g.S.Sink.taken g.S.Sink.has_failed _ _ _ _ _ (cut a) (vertices a) c.from_residual-in_err-write_count-2.ensures.0 c.in_err-write_count-2.ensures)
+    sends_then (instances a) (cut a ++ vertices a) c.in_ok-write_count.ensures
+    (sends_err (cut a) (vertices a) c.from_residual-in_err-write_count-2.ensures.0 c.in_err-write_count-2.ensures)
 
 pub returns : goal.returns
 returns g c =
     let a = c.args.answer.now in
-    sends_then g.S.Sink.taken g.S.Sink.has_failed _ _ _ _ _ _ _ (instances a) (cut a ++ vertices a) c.in_ok-write_count.ensures
-    (sends_then g.S.Sink.taken g.S.Sink.has_failed _ _ _ _ _ _ _ (cut a) (vertices a) c.in_ok-write_count-2.ensures c.write_count-3.ensures)
+    sends_then (instances a) (cut a ++ vertices a) c.in_ok-write_count.ensures
+    (sends_then (cut a) (vertices a) c.in_ok-write_count-2.ensures c.write_count-3.ensures)

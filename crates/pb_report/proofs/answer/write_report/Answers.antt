@@ -5,4 +5,4 @@ use Rattle.pb_report.proofs.answer.write_report.Goals as goal
 pub returns : goal.returns
 returns g c =
     let a = c.args.answer.now in
-    sends_then g.S.Sink.taken g.S.Sink.has_failed _ _ _ _ _ _ _ (truth_line a.truth) (counts_text a) c.in_ok-write_truth.ensures c.write_counts.ensures
+    sends_then (truth_line a.truth) (counts_text a) c.in_ok-write_answer.ensures c.write_counts.ensures

@@ -5,14 +5,14 @@ use Rattle.pb_report.proofs.certificate_text.write_head.Goals as goal
 
 pub returns-in_err-write : goal.returns-in_err-write
 returns-in_err-write g c =
-    sends_err g.S.Sink.taken g.S.Sink.has_failed _ _ _ _ _ (codes "paritysol ") (decimal c.args.greatest ++ codes ";\n") c.from_residual.ensures.0 c.in_err-write.ensures
+    sends_err (codes "paritysol ") (decimal c.args.greatest ++ codes ";\n") c.from_residual.ensures.0 c.in_err-write.ensures
 
 pub returns-in_err-write_number : goal.returns-in_err-write_number
 returns-in_err-write_number g c =
-    sends_then g.S.Sink.taken g.S.Sink.has_failed _ _ _ _ _ _ _ (codes "paritysol ") (decimal c.args.greatest ++ codes ";\n") c.in_ok-write.ensures
-    (sends_err g.S.Sink.taken g.S.Sink.has_failed _ _ _ _ _ (decimal c.args.greatest) (codes ";\n") c.from_residual-in_err-write_number.ensures.0 c.in_err-write_number.ensures)
+    sends_then (codes "paritysol ") (decimal c.args.greatest ++ codes ";\n") c.in_ok-write.ensures
+    (sends_err (decimal c.args.greatest) (codes ";\n") c.from_residual-in_err-write_number.ensures.0 c.in_err-write_number.ensures)
 
 pub returns : goal.returns
 returns g c =
-    sends_then g.S.Sink.taken g.S.Sink.has_failed _ _ _ _ _ _ _ (codes "paritysol ") (decimal c.args.greatest ++ codes ";\n") c.in_ok-write.ensures
-    (sends_then g.S.Sink.taken g.S.Sink.has_failed _ _ _ _ _ _ _ (decimal c.args.greatest) (codes ";\n") c.in_ok-write_number.ensures c.write-2.ensures)
+    sends_then (codes "paritysol ") (decimal c.args.greatest ++ codes ";\n") c.in_ok-write.ensures
+    (sends_then (decimal c.args.greatest) (codes ";\n") c.in_ok-write_number.ensures c.write-2.ensures)

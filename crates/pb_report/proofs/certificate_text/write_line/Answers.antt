@@ -9,7 +9,7 @@ use Rattle.pb_report.proofs.certificate_text.write_line.Goals as goal
 pub returns-in_err-write_field : goal.returns-in_err-write_field
 returns-in_err-write_field g c =
     let a = c.args in
-    sends_err g.S.Sink.taken g.S.Sink.has_failed _ _ _ _ _ (field a.vertex)
+    sends_err (field a.vertex)
     (decimal (parity_of (winner_of a.solution.now a.vertex)) ++ strategy_part (strategy_at a.game.now a.solution.now a.vertex))
     c.from_residual.ensures.0 c.in_err-write_field.ensures
 
@@ -19,9 +19,9 @@ returns-in_err-write_number g c =
     let last = strategy_part (strategy_at a.game.now a.solution.now a.vertex) in
     let text : field a.vertex ++ (decimal c.parity.result ++ last) ≡ winner_line a.game.now a.solution.now a.vertex =
     ap (λ (n : ℕ). field a.vertex ++ (decimal n ++ last)) (c.parity.ensures ∙ ap parity_of c.winner.ensures) in
-    sends_as g.S.Sink.taken g.S.Sink.has_failed _ _ _ _ _ _ _ text
-    (sends_then g.S.Sink.taken g.S.Sink.has_failed _ _ _ _ _ _ _ (field a.vertex) (decimal c.parity.result ++ last) c.in_ok-write_field.ensures
-    (sends_err g.S.Sink.taken g.S.Sink.has_failed _ _ _ _ _ (decimal c.parity.result) last c.from_residual-in_err-write_number.ensures.0 c.in_err-write_number.ensures))
+    sends_as text
+    (sends_then (field a.vertex) (decimal c.parity.result ++ last) c.in_ok-write_field.ensures
+    (sends_err (decimal c.parity.result) last c.from_residual-in_err-write_number.ensures.0 c.in_err-write_number.ensures))
 
 pub returns : goal.returns
 returns g c =
@@ -30,6 +30,6 @@ returns g c =
     let text : field a.vertex ++ (decimal c.parity.result ++ last) ≡ winner_line a.game.now a.solution.now a.vertex =
     ap (λ (n : ℕ). field a.vertex ++ (decimal n ++ last)) (c.parity.ensures ∙ ap parity_of c.winner.ensures)
     ∙ ap (λ (o : Option ℕ). field a.vertex ++ (decimal (parity_of (winner_of a.solution.now a.vertex)) ++ strategy_part o)) c.strategy_at.ensures in
-    sends_as g.S.Sink.taken g.S.Sink.has_failed _ _ _ _ _ _ _ text
-    (sends_then g.S.Sink.taken g.S.Sink.has_failed _ _ _ _ _ _ _ (field a.vertex) (decimal c.parity.result ++ last) c.in_ok-write_field.ensures
-    (sends_then g.S.Sink.taken g.S.Sink.has_failed _ _ _ _ _ _ _ (decimal c.parity.result) last c.in_ok-write_number.ensures c.write_strategy.ensures))
+    sends_as text
+    (sends_then (field a.vertex) (decimal c.parity.result ++ last) c.in_ok-write_field.ensures
+    (sends_then (decimal c.parity.result) last c.in_ok-write_number.ensures c.write_strategy.ensures))

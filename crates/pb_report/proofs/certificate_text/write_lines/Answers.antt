@@ -1,8 +1,14 @@
-use Rattle.std.proofs.Common.{◌<◌, ◌∙◌, arith}
+use Rattle.std.proofs.Common.{◌≡◌, ◌-◌, ◌<◌, ap, arith}
 use Rattle.pb_game.specs.Games.{vertex_count}
-use Rattle.pb_report.proofs.Underway.{went_on, gave_up}
+use Rattle.pb_report.specs.CertificateText.{winner_lines}
+use Rattle.pb_report.proofs.Underway.{begun, went_on, gave_up, ended}
 use Rattle.pb_report.proofs.Certificates.{next_winner}
 use Rattle.pb_report.proofs.certificate_text.write_lines.Goals as goal
+
+pub loop-vertex-init : goal.loop-vertex-init
+loop-vertex-init g c =
+    let all : vertex_count c.args.game.now - 0 ≡ vertex_count c.args.game.now = omega arith in
+    rw all (begun _ _)
 
 pub returns-in_err-write_line : goal.returns-in_err-write_line
 returns-in_err-write_line g c =
@@ -10,7 +16,7 @@ returns-in_err-write_line g c =
     let v = c.loop-vertex.vertex in
     let below : v < vertex_count game = omega (arith, c.loop-vertex-test.true, c.len-vertex-end.ensures.value) in
     let step = next_winner game c.args.solution.now v (vertex_count game) below in
-    gave_up g.S.Sink.taken g.S.Sink.has_failed _ _ _ _ _ _ _ _ _ _ _ step c.loop-vertex.invariant.sent c.loop-vertex.invariant.same_failed c.from_residual.ensures.0 c.in_err-write_line.ensures
+    gave_up _ _ step c.loop-vertex.invariant c.from_residual.ensures.0 c.in_err-write_line.ensures
 
 pub loop-vertex-preserved : goal.loop-vertex-preserved
 loop-vertex-preserved g c =
@@ -18,8 +24,10 @@ loop-vertex-preserved g c =
     let v = c.loop-vertex.vertex in
     let below : v < vertex_count game = omega (arith, c.loop-vertex-test.true, c.len-vertex-end.ensures.value) in
     let step = next_winner game c.args.solution.now v (vertex_count game) below in
-    let h = c.in_ok-write_line.ensures in
-    record {
-      sent = went_on _ _ _ _ _ _ _ _ _ _ step c.loop-vertex.invariant.sent h.0;
-      same_failed = h.1 ∙ c.loop-vertex.invariant.same_failed;
-    }
+    went_on step c.loop-vertex.invariant c.in_ok-write_line.ensures
+
+pub returns : goal.returns
+returns g c =
+    let v = c.loop-vertex.vertex in
+    let none : vertex_count c.args.game.now - v ≡ 0 = omega (arith, c.len-vertex-end.ensures.value) in
+    ended (ap (winner_lines c.args.game.now c.args.solution.now v) none) c.loop-vertex.invariant

@@ -1,12 +1,10 @@
-use Rattle.std.proofs.Common.{◌≡◌, ◌-◌}
+use Rattle.std.proofs.Common.{◌-◌}
 use Rattle.pb_game.specs.Games.{vertex_count}
 use Rattle.pb_report.specs.CertificateText.{winner_lines}
 use Rattle.pb_report.proofs.Underway.{IsUnderway}
 use Rattle.pb_report.proofs.certificate_text.write_lines.Given as goal
 
 abbrev pub invariant-loop-vertex : goal.invariant-loop-vertex
-invariant-loop-vertex g l = record {
-  sent : IsUnderway (g.S.Sink.taken l.fn.sink) (g.S.Sink.taken l.sink) l.fn.buffer.bytes.items l.buffer.bytes.items
-      (winner_lines l.game l.solution 0 (vertex_count l.game)) (winner_lines l.game l.solution l.vertex (vertex_count l.game - l.vertex));
-  same_failed : g.S.Sink.has_failed l.sink ≡ g.S.Sink.has_failed l.fn.sink;
-}
+invariant-loop-vertex g l =
+    IsUnderway g.S.Sink l.fn.writer l.writer
+    (winner_lines l.game l.solution 0 (vertex_count l.game)) (winner_lines l.game l.solution l.vertex (vertex_count l.game - l.vertex))

@@ -1,13 +1,11 @@
-use Rattle.std.proofs.Common.{◌≡◌, drop}
+use Rattle.std.proofs.Common.{drop}
 use Rattle.pb_report.specs.InstanceName.{instance_name}
 use Rattle.pb_report.proofs.Underway.{IsUnderway}
 use Rattle.pb_report.specs.CallPlaces.{placed_names}
 use Rattle.pb_report.proofs.evidence_text.write_dependencies.Given as goal
 
 abbrev pub invariant-loop-k : goal.invariant-loop-k
-invariant-loop-k g l = record {
-  sent : IsUnderway (g.S.Sink.taken l.fn.sink) (g.S.Sink.taken l.sink) l.fn.buffer.bytes.items l.buffer.bytes.items
-      (placed_names (instance_name l.verified) l.numbers l.call_places)
-      (placed_names (instance_name l.verified) (drop l.k l.numbers) (drop l.k l.call_places));
-  same_failed : g.S.Sink.has_failed l.sink ≡ g.S.Sink.has_failed l.fn.sink;
-}
+invariant-loop-k g l =
+    IsUnderway g.S.Sink l.fn.writer l.writer
+    (placed_names (instance_name l.verified) l.numbers l.call_places)
+    (placed_names (instance_name l.verified) (drop l.k l.numbers) (drop l.k l.call_places))

@@ -9,12 +9,12 @@ pub returns-in_err-write_instance_name : goal.returns-in_err-write_instance_name
 returns-in_err-write_instance_name g c =
     let name = instance_name c.args.verified.now c.args.number in
     let mark = place_mark c.args.place in
-    sends_then g.S.Sink.taken g.S.Sink.has_failed _ _ _ _ _ _ _ (codes " ") (name ++ mark) c.in_ok-write.ensures
-    (sends_err g.S.Sink.taken g.S.Sink.has_failed _ _ _ _ _ name mark c.from_residual-in_err-write_instance_name.ensures.0 c.in_err-write_instance_name.ensures)
+    sends_then (codes " ") (name ++ mark) c.in_ok-write.ensures
+    (sends_err name mark c.from_residual-in_err-write_instance_name.ensures.0 c.in_err-write_instance_name.ensures)
 
 pub returns : goal.returns
 returns g c =
     let name = instance_name c.args.verified.now c.args.number in
     let mark = place_mark c.args.place in
-    sends_then g.S.Sink.taken g.S.Sink.has_failed _ _ _ _ _ _ _ (codes " ") (name ++ mark) c.in_ok-write.ensures
-    (sends_then g.S.Sink.taken g.S.Sink.has_failed _ _ _ _ _ _ _ name mark c.in_ok-write_instance_name.ensures c.write_place.ensures)
+    sends_then (codes " ") (name ++ mark) c.in_ok-write.ensures
+    (sends_then name mark c.in_ok-write_instance_name.ensures c.write_place.ensures)

@@ -37,8 +37,8 @@ returns-in_err-write_instance_name g c = λ trees have place are.
     let n = get_or e.instances.items c.args.k 0 in
     let read = get_or_read e.instances.items c.args.k c.index.result.now c.requires.place c.index.ensures 0 in
     let rest = line_end e.truth (dependencies_text name (place n) ((graph_of e).dependencies n)) (is_cut trees e n) in
-    sends_as g.S.Sink.taken g.S.Sink.has_failed _ _ _ _ _ _ _ (ap (λ (m : ℕ). name m ++ rest) read)
-    (sends_err g.S.Sink.taken g.S.Sink.has_failed _ _ _ _ _ (name c.index.result.now) rest c.from_residual.ensures.0 c.in_err-write_instance_name.ensures)
+    sends_as (ap (λ (m : ℕ). name m ++ rest) read)
+    (sends_err (name c.index.result.now) rest c.from_residual.ensures.0 c.in_err-write_instance_name.ensures)
 
 pub returns : goal.returns
 returns g c = λ trees have place are.
@@ -60,6 +60,6 @@ returns g c = λ trees have place are.
     let same = ap (λ (i : ℕ). name i ++ line_end e.truth written c.index-3.result.now) read
     ∙ (ap (λ (text : List ℕ). name n ++ line_end e.truth text c.index-3.result.now) placed
     ∙ ap (λ (b : Bool). name n ++ line_end e.truth names b) cut) in
-    sends_as g.S.Sink.taken g.S.Sink.has_failed _ _ _ _ _ _ _ same
-    (sends_then g.S.Sink.taken g.S.Sink.has_failed _ _ _ _ _ _ _ (name c.index.result.now) (line_end e.truth written c.index-3.result.now)
+    sends_as same
+    (sends_then (name c.index.result.now) (line_end e.truth written c.index-3.result.now)
     c.in_ok-write_instance_name.ensures c.write_line_end.ensures)

@@ -1,4 +1,4 @@
-use Rattle.std.proofs.Common.{◌≡◌, ℕ, Option, drop}
+use Rattle.std.proofs.Common.{ℕ, Option, drop}
 use Rattle.pb_text_tree.specs.declared.place.Place.{Place}
 use Rattle.pb_trees.specs.Tree.{Tree}
 use Rattle.pb_bytecode.specs.Meaning.{AreTrees}
@@ -8,10 +8,8 @@ use Rattle.pb_report.specs.ModuleLines.{lines_of}
 use Rattle.pb_report.proofs.evidence_text.write_lines.Given as goal
 
 abbrev pub invariant-loop-k : goal.invariant-loop-k
-invariant-loop-k g l = record {
-  sent : (trees : ℕ → Tree) → AreTrees l.verified trees → (place : ℕ → ℕ → Option Place) → AreCallPlaces place l.placed.explanation.now.evidence l.placed.call_places.now →
-      IsUnderway (g.S.Sink.taken l.fn.sink) (g.S.Sink.taken l.sink) l.fn.buffer.bytes.items l.buffer.bytes.items
-      (lines_of l.verified trees place l.placed.explanation.now.evidence l.placed.explanation.now.evidence.instances.items)
-      (lines_of l.verified trees place l.placed.explanation.now.evidence (drop l.k l.placed.explanation.now.evidence.instances.items));
-  same_failed : g.S.Sink.has_failed l.sink ≡ g.S.Sink.has_failed l.fn.sink;
-}
+invariant-loop-k g l =
+    (trees : ℕ → Tree) → AreTrees l.verified trees → (place : ℕ → ℕ → Option Place) → AreCallPlaces place l.placed.explanation.now.evidence l.placed.call_places.now →
+    IsUnderway g.S.Sink l.fn.writer l.writer
+    (lines_of l.verified trees place l.placed.explanation.now.evidence l.placed.explanation.now.evidence.instances.items)
+    (lines_of l.verified trees place l.placed.explanation.now.evidence (drop l.k l.placed.explanation.now.evidence.instances.items))

@@ -8,31 +8,31 @@ pub returns-in_err-write : goal.returns-in_err-write
 returns-in_err-write g c =
     let line = decimal c.in-Some.place.line in
     let column = decimal c.in-Some.place.column in
-    sends_as g.S.Sink.taken g.S.Sink.has_failed _ _ _ _ _ _ _ (ap place_mark (sym c.in-Some.is))
-    (sends_err g.S.Sink.taken g.S.Sink.has_failed _ _ _ _ _ (codes "@") (line ++ (codes ":" ++ column)) c.from_residual.ensures.0 c.in_err-write.ensures)
+    sends_as (ap place_mark (sym c.in-Some.is))
+    (sends_err (codes "@") (line ++ (codes ":" ++ column)) c.from_residual.ensures.0 c.in_err-write.ensures)
 
 pub returns-in_err-write_number : goal.returns-in_err-write_number
 returns-in_err-write_number g c =
     let line = decimal c.in-Some.place.line in
     let column = decimal c.in-Some.place.column in
-    sends_as g.S.Sink.taken g.S.Sink.has_failed _ _ _ _ _ _ _ (ap place_mark (sym c.in-Some.is))
-    (sends_then g.S.Sink.taken g.S.Sink.has_failed _ _ _ _ _ _ _ (codes "@") (line ++ (codes ":" ++ column)) c.in_ok-write.ensures
-    (sends_err g.S.Sink.taken g.S.Sink.has_failed _ _ _ _ _ line (codes ":" ++ column) c.from_residual-in_err-write_number.ensures.0 c.in_err-write_number.ensures))
+    sends_as (ap place_mark (sym c.in-Some.is))
+    (sends_then (codes "@") (line ++ (codes ":" ++ column)) c.in_ok-write.ensures
+    (sends_err line (codes ":" ++ column) c.from_residual-in_err-write_number.ensures.0 c.in_err-write_number.ensures))
 
 pub returns-in_err-write-2 : goal.returns-in_err-write-2
 returns-in_err-write-2 g c =
     let line = decimal c.in-Some.place.line in
     let column = decimal c.in-Some.place.column in
-    sends_as g.S.Sink.taken g.S.Sink.has_failed _ _ _ _ _ _ _ (ap place_mark (sym c.in-Some.is))
-    (sends_then g.S.Sink.taken g.S.Sink.has_failed _ _ _ _ _ _ _ (codes "@") (line ++ (codes ":" ++ column)) c.in_ok-write.ensures
-    (sends_then g.S.Sink.taken g.S.Sink.has_failed _ _ _ _ _ _ _ line (codes ":" ++ column) c.in_ok-write_number.ensures
-    (sends_err g.S.Sink.taken g.S.Sink.has_failed _ _ _ _ _ (codes ":") column c.from_residual-in_err-write-2.ensures.0 c.in_err-write-2.ensures)))
+    sends_as (ap place_mark (sym c.in-Some.is))
+    (sends_then (codes "@") (line ++ (codes ":" ++ column)) c.in_ok-write.ensures
+    (sends_then line (codes ":" ++ column) c.in_ok-write_number.ensures
+    (sends_err (codes ":") column c.from_residual-in_err-write-2.ensures.0 c.in_err-write-2.ensures)))
 
 pub returns : goal.returns
 returns g c =
     let line = decimal c.in-Some.place.line in
     let column = decimal c.in-Some.place.column in
-    sends_as g.S.Sink.taken g.S.Sink.has_failed _ _ _ _ _ _ _ (ap place_mark (sym c.in-Some.is))
-    (sends_then g.S.Sink.taken g.S.Sink.has_failed _ _ _ _ _ _ _ (codes "@") (line ++ (codes ":" ++ column)) c.in_ok-write.ensures
-    (sends_then g.S.Sink.taken g.S.Sink.has_failed _ _ _ _ _ _ _ line (codes ":" ++ column) c.in_ok-write_number.ensures
-    (sends_then g.S.Sink.taken g.S.Sink.has_failed _ _ _ _ _ _ _ (codes ":") column c.in_ok-write-2.ensures c.write_number-2.ensures)))
+    sends_as (ap place_mark (sym c.in-Some.is))
+    (sends_then (codes "@") (line ++ (codes ":" ++ column)) c.in_ok-write.ensures
+    (sends_then line (codes ":" ++ column) c.in_ok-write_number.ensures
+    (sends_then (codes ":") column c.in_ok-write-2.ensures c.write_number-2.ensures)))

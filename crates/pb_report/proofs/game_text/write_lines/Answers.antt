@@ -1,11 +1,19 @@
-use Rattle.std.proofs.Common.{ℕ, ◌+◌, ◌-◌, ◌<◌, ◌++◌, Option, sym, ap, ◌∙◌, subst, arith}
+use Rattle.std.proofs.Common.{◌≡◌, ℕ, ◌+◌, ◌-◌, ◌<◌, ◌++◌, Option, sym, ap, ◌∙◌, subst, arith}
 use Rattle.pb_game.specs.Games.{vertex_count}
 use Rattle.pb_report.specs.GameText.{vertex_at, vertex_line}
 use Rattle.pb_report.specs.VertexNames.{name_by, name_in, lines_of, IsAtRow}
-use Rattle.pb_report.proofs.Underway.{went_on, gave_up}
+use Rattle.pb_report.proofs.Underway.{begun, went_on, gave_up, ended}
 use Rattle.pb_report.proofs.VertexLines.{next_line, next_row, same_row, is_there, is_absent}
 use Rattle.pb_report.proofs.game_text.write_lines.Goals as goal
 use Rattle.pb_report.proofs.game_text.write_lines.Goals.{then-is_some, else-is_some}
+
+pub loop-vertex-init : goal.loop-vertex-init
+loop-vertex-init g c =
+    let all : vertex_count c.args.game.now - 0 ≡ vertex_count c.args.game.now = omega arith in
+    record {
+      sent = rw all (begun _ _);
+      place = record { before = λ j below. omega arith; behind = λ j from below. omega arith };
+    }
 
 pub returns-in_err-write_line : goal.returns-in_err-write_line
 returns-in_err-write_line g c =
@@ -16,8 +24,8 @@ returns-in_err-write_line g c =
     let names = name_in m c.args.placed.now.vertices.now c.args.placed.now.rows.now in
     let below : v < n = omega (arith, c.loop-vertex-test.true, c.len-vertex-end.ensures.value) in
     let step = next_line names game n v below
-    ∙ ap (λ (o : Option ℕ). vertex_line v (vertex_at game v) (name_by m v o) ++ lines_of names game (v + 1) (n - (v + 1))) (sym c.row_number-number.ensures.number) in
-    gave_up g.S.Sink.taken g.S.Sink.has_failed _ _ _ _ _ _ _ _ _ _ _ step c.loop-vertex.invariant.sent c.loop-vertex.invariant.same_failed c.from_residual.ensures.0 c.in_err-write_line.ensures
+    ∙ ap (λ (o : Option ℕ). vertex_line v (vertex_at game v) (name_by m v o) ++ lines_of names game (v + 1) (n - (v + 1))) (sym c.row_number-instance.ensures.number) in
+    gave_up _ _ step c.loop-vertex.invariant.sent c.from_residual.ensures.0 c.in_err-write_line.ensures
 
 pub loop-vertex-preserved : goal.loop-vertex-preserved
 loop-vertex-preserved g c =
@@ -30,18 +38,24 @@ loop-vertex-preserved g c =
     let names = name_in m c.args.placed.now.vertices.now c.args.placed.now.rows.now in
     let below : v < n = omega (arith, c.loop-vertex-test.true, c.len-vertex-end.ensures.value) in
     let step = next_line names game n v below
-    ∙ ap (λ (o : Option ℕ). vertex_line v (vertex_at game v) (name_by m v o) ++ lines_of names game (v + 1) (n - (v + 1))) (sym c.row_number-number.ensures.number) in
+    ∙ ap (λ (o : Option ℕ). vertex_line v (vertex_at game v) (name_by m v o) ++ lines_of names game (v + 1) (n - (v + 1))) (sym c.row_number-instance.ensures.number) in
     let h = c.in_ok-write_line.ensures in
-    let some = c.row_number-number.ensures.some in
+    let some = c.row_number-instance.ensures.some in
     record {
-      sent = went_on _ _ _ _ _ _ _ _ _ _ step c.loop-vertex.invariant.sent h.0;
-      same_failed = h.1 ∙ c.loop-vertex.invariant.same_failed;
+      sent = went_on step c.loop-vertex.invariant.sent h;
       place = elim c.if-is_some.branch [
         | then-is_some w ↦
-            let there = some.0 (is_there c.row_number-number.result (sym c.is_some.ensures ∙ w.if-is_some.true)) in
+            let there = some.0 (is_there c.row_number-instance.result (sym c.is_some.ensures ∙ w.if-is_some.true)) in
             subst (λ (j : ℕ). IsAtRow vs j (v + 1)) (sym w.k-is) (next_row vs c.requires.rising k v c.loop-vertex.invariant.place there.0 there.1)
         | else-is_some w ↦
             subst (λ (j : ℕ). IsAtRow vs j (v + 1)) (sym w.k-is)
-            (same_row vs c.requires.rising k v c.loop-vertex.invariant.place (λ l e. is_absent c.row_number-number.result (sym c.is_some.ensures ∙ w.if-is_some.false) (some.1 (l, e))))
+            (same_row vs c.requires.rising k v c.loop-vertex.invariant.place (λ l e. is_absent c.row_number-instance.result (sym c.is_some.ensures ∙ w.if-is_some.false) (some.1 (l, e))))
       ];
     }
+
+pub returns : goal.returns
+returns g c =
+    let game = c.args.game.now in
+    let v = c.loop-vertex.vertex in
+    let none : vertex_count game - v ≡ 0 = omega (arith, c.len-vertex-end.ensures.value) in
+    ended (ap (lines_of (name_in c.args.verified.now c.args.placed.now.vertices.now c.args.placed.now.rows.now) game v) none) c.loop-vertex.invariant.sent

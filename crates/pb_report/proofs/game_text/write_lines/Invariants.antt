@@ -1,4 +1,4 @@
-use Rattle.std.proofs.Common.{◌≡◌, ◌-◌}
+use Rattle.std.proofs.Common.{◌-◌}
 use Rattle.pb_game.specs.Games.{vertex_count}
 use Rattle.pb_report.specs.VertexNames.{name_in, lines_of, lines_text, IsAtRow}
 use Rattle.pb_report.proofs.Underway.{IsUnderway}
@@ -6,8 +6,7 @@ use Rattle.pb_report.proofs.game_text.write_lines.Given as goal
 
 abbrev pub invariant-loop-vertex : goal.invariant-loop-vertex
 invariant-loop-vertex g l = record {
-  sent : IsUnderway (g.S.Sink.taken l.fn.sink) (g.S.Sink.taken l.sink) l.fn.buffer.bytes.items l.buffer.bytes.items
+  sent : IsUnderway g.S.Sink l.fn.writer l.writer
       (lines_text l.verified l.game l.placed.vertices.now l.placed.rows.now) (lines_of (name_in l.verified l.placed.vertices.now l.placed.rows.now) l.game l.vertex (vertex_count l.game - l.vertex));
-  same_failed : g.S.Sink.has_failed l.sink ≡ g.S.Sink.has_failed l.fn.sink;
   place : IsAtRow l.placed.vertices.now l.k l.vertex;
 }

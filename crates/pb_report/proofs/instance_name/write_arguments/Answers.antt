@@ -12,9 +12,9 @@ returns-in_err-write_values g c =
     let cs = c.args.carriers.now in
     let vs = c.args.values.now in
     let some : 0 < length cs = search rules in
-    sends_as g.S.Sink.taken g.S.Sink.has_failed _ _ _ _ _ _ _ (in_parentheses sorts cs vs some)
-    (sends_then g.S.Sink.taken g.S.Sink.has_failed _ _ _ _ _ _ _ (codes "(") (values_text sorts cs vs ++ codes ")") c.in_ok-write.ensures
-    (sends_err g.S.Sink.taken g.S.Sink.has_failed _ _ _ _ _ (values_text sorts cs vs) (codes ")") c.from_residual-in_err-write_values.ensures.0 c.in_err-write_values.ensures))
+    sends_as (in_parentheses sorts cs vs some)
+    (sends_then (codes "(") (values_text sorts cs vs ++ codes ")") c.in_ok-write.ensures
+    (sends_err (values_text sorts cs vs) (codes ")") c.from_residual-in_err-write_values.ensures.0 c.in_err-write_values.ensures))
 
 pub returns : goal.returns
 returns g c =
@@ -22,6 +22,6 @@ returns g c =
     let cs = c.args.carriers.now in
     let vs = c.args.values.now in
     let some : 0 < length cs = search rules in
-    sends_as g.S.Sink.taken g.S.Sink.has_failed _ _ _ _ _ _ _ (in_parentheses sorts cs vs some)
-    (sends_then g.S.Sink.taken g.S.Sink.has_failed _ _ _ _ _ _ _ (codes "(") (values_text sorts cs vs ++ codes ")") c.in_ok-write.ensures
-    (sends_then g.S.Sink.taken g.S.Sink.has_failed _ _ _ _ _ _ _ (values_text sorts cs vs) (codes ")") c.in_ok-write_values.ensures c.write-3.ensures))
+    sends_as (in_parentheses sorts cs vs some)
+    (sends_then (codes "(") (values_text sorts cs vs ++ codes ")") c.in_ok-write.ensures
+    (sends_then (values_text sorts cs vs) (codes ")") c.in_ok-write_values.ensures c.write-3.ensures))

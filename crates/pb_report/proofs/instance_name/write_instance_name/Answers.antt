@@ -25,8 +25,8 @@ returns-in_err-write g c =
     let held = c.module-module.result.now in
     let rest = arguments (map sort_contents held.sorts.items) e.parameters.items i.values in
     let name : c.as_bytes.result.now ++ rest ≡ text_of e.name ++ rest = ap (λ xs. xs ++ rest) c.as_bytes.ensures.value in
-    sends_as g.S.Sink.taken g.S.Sink.has_failed _ _ _ _ _ _ _ (name ∙ name_is c.args.verified.now held c.module-module.ensures c.args.number i at e c.index-equation.ensures)
-    (sends_err g.S.Sink.taken g.S.Sink.has_failed _ _ _ _ _ c.as_bytes.result.now rest c.from_residual.ensures.0 c.in_err-write.ensures)
+    sends_as (name ∙ name_is c.args.verified.now held c.module-module.ensures c.args.number i at e c.index-equation.ensures)
+    (sends_err c.as_bytes.result.now rest c.from_residual.ensures.0 c.in_err-write.ensures)
 
 pub write_arguments-requires : goal.write_arguments-requires
 write_arguments-requires g c =
@@ -50,5 +50,5 @@ returns g c =
     ∙ (ap (λ (sorts : List Sort). text_of e.name ++ arguments (map sort_contents sorts) c.deref-2.result.now c.deref-3.result.now) c.deref.ensures.value
     ∙ (ap (λ (cs : List Carrier). text_of e.name ++ arguments (map sort_contents held.sorts.items) cs c.deref-3.result.now) c.deref-2.ensures.value
     ∙ ap (λ (vs : Tuple). text_of e.name ++ arguments (map sort_contents held.sorts.items) e.parameters.items vs) c.deref-3.ensures)) in
-    sends_as g.S.Sink.taken g.S.Sink.has_failed _ _ _ _ _ _ _ (name ∙ name_is c.args.verified.now held c.module-module.ensures c.args.number i at e c.index-equation.ensures)
-    (sends_then g.S.Sink.taken g.S.Sink.has_failed _ _ _ _ _ _ _ front rest c.in_ok-write.ensures c.write_arguments.ensures)
+    sends_as (name ∙ name_is c.args.verified.now held c.module-module.ensures c.args.number i at e c.index-equation.ensures)
+    (sends_then front rest c.in_ok-write.ensures c.write_arguments.ensures)

@@ -1,12 +1,10 @@
-use Rattle.std.proofs.Common.{◌≡◌, map, drop}
+use Rattle.std.proofs.Common.{map, drop}
 use Rattle.pb_bytecode.specs.Views.{sort_contents}
 use Rattle.pb_report.specs.InstanceName.{more_values}
 use Rattle.pb_report.proofs.Underway.{IsUnderway}
 use Rattle.pb_report.proofs.instance_name.write_more_values.Given as goal
 
 abbrev pub invariant-loop-k : goal.invariant-loop-k
-invariant-loop-k g l = record {
-  sent : IsUnderway (g.S.Sink.taken l.fn.sink) (g.S.Sink.taken l.sink) l.fn.buffer.bytes.items l.buffer.bytes.items
-      (more_values (map sort_contents l.sorts) (drop 1 l.carriers) (drop 1 l.values)) (more_values (map sort_contents l.sorts) (drop l.k l.carriers) (drop l.k l.values));
-  same_failed : g.S.Sink.has_failed l.sink ≡ g.S.Sink.has_failed l.fn.sink;
-}
+invariant-loop-k g l =
+    IsUnderway g.S.Sink l.fn.writer l.writer
+    (more_values (map sort_contents l.sorts) (drop 1 l.carriers) (drop 1 l.values)) (more_values (map sort_contents l.sorts) (drop l.k l.carriers) (drop l.k l.values))

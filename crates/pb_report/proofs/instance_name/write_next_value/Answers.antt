@@ -7,4 +7,4 @@ use Rattle.pb_report.proofs.instance_name.write_next_value.Goals as goal
 
 pub returns : goal.returns
 returns g c =
-    sends_then g.S.Sink.taken g.S.Sink.has_failed _ _ _ _ _ _ _ (codes ",") (value_name (map sort_contents c.args.sorts.now) c.args.carrier.now c.args.value.now) c.in_ok-write.ensures c.write_value.ensures
+    sends_then (codes ",") (value_name (map sort_contents c.args.sorts.now) c.args.carrier.now c.args.value.now) c.in_ok-write.ensures c.write_value.ensures

@@ -11,8 +11,8 @@ returns-in_err-write_value g c =
     let cs = c.args.carriers.now in
     let vs = c.args.values.now in
     let x = c.index-carriers-0.result in
-    sends_as g.S.Sink.taken g.S.Sink.has_failed _ _ _ _ _ _ _ (first_value sorts cs vs x (pos 0) c.requires.some c.requires.lengths c.index-carriers-0.is)
-    (sends_err g.S.Sink.taken g.S.Sink.has_failed _ _ _ _ _ (value_name sorts x (get_or vs 0 (pos 0))) (more_values sorts (drop 1 cs) (drop 1 vs)) c.from_residual.ensures.0 c.in_err-write_value.ensures)
+    sends_as (first_value sorts cs vs x (pos 0) c.requires.some c.requires.lengths c.index-carriers-0.is)
+    (sends_err (value_name sorts x (get_or vs 0 (pos 0))) (more_values sorts (drop 1 cs) (drop 1 vs)) c.from_residual.ensures.0 c.in_err-write_value.ensures)
 
 pub returns : goal.returns
 returns g c =
@@ -20,5 +20,5 @@ returns g c =
     let cs = c.args.carriers.now in
     let vs = c.args.values.now in
     let x = c.index-carriers-0.result in
-    sends_as g.S.Sink.taken g.S.Sink.has_failed _ _ _ _ _ _ _ (first_value sorts cs vs x (pos 0) c.requires.some c.requires.lengths c.index-carriers-0.is)
-    (sends_then g.S.Sink.taken g.S.Sink.has_failed _ _ _ _ _ _ _ (value_name sorts x (get_or vs 0 (pos 0))) (more_values sorts (drop 1 cs) (drop 1 vs)) c.in_ok-write_value.ensures c.write_more_values.ensures)
+    sends_as (first_value sorts cs vs x (pos 0) c.requires.some c.requires.lengths c.index-carriers-0.is)
+    (sends_then (value_name sorts x (get_or vs 0 (pos 0))) (more_values sorts (drop 1 cs) (drop 1 vs)) c.in_ok-write_value.ensures c.write_more_values.ensures)

@@ -1,4 +1,4 @@
-use Rattle.std.proofs.Common.{◌≡◌, ℕ, drop, map}
+use Rattle.std.proofs.Common.{ℕ, drop, map}
 use Rattle.pb_trees.specs.Tree.{Tree}
 use Rattle.pb_trees.specs.Equations.{solved}
 use Rattle.pb_rows.specs.Reached.{rows_of}
@@ -10,9 +10,7 @@ use Rattle.pb_report.proofs.Underway.{IsUnderway}
 use Rattle.pb_report.proofs.solution_text.write_lines.Given as goal
 
 abbrev pub invariant-loop-k : goal.invariant-loop-k
-invariant-loop-k g l = record {
-  sent : (trees : ℕ → Tree) → AreTrees l.verified trees →
-      IsUnderway (g.S.Sink.taken l.fn.sink) (g.S.Sink.taken l.sink) l.fn.buffer.bytes.items l.buffer.bytes.items (module_solution_text l.verified trees l.rows)
-      (solution_text (instance_name l.verified) (solved (map signature_of l.verified.equations) trees) (drop l.k (rows_of trees l.rows)));
-  same_failed : g.S.Sink.has_failed l.sink ≡ g.S.Sink.has_failed l.fn.sink;
-}
+invariant-loop-k g l =
+    (trees : ℕ → Tree) → AreTrees l.verified trees →
+    IsUnderway g.S.Sink l.fn.writer l.writer (module_solution_text l.verified trees l.rows)
+    (solution_text (instance_name l.verified) (solved (map signature_of l.verified.equations) trees) (drop l.k (rows_of trees l.rows)))

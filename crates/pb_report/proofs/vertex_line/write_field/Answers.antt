@@ -4,4 +4,4 @@ use Rattle.pb_report.proofs.Sending.{sends_then}
 use Rattle.pb_report.proofs.vertex_line.write_field.Goals as goal
 
 pub returns : goal.returns
-returns g c = sends_then g.S.Sink.taken g.S.Sink.has_failed _ _ _ _ _ _ _ (decimal c.args.number) (codes " ") c.in_ok-write_number.ensures c.write.ensures
+returns g c = sends_then (decimal c.args.number) (codes " ") c.in_ok-write_number.ensures c.write.ensures

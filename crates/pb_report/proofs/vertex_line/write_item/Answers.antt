@@ -4,4 +4,4 @@ use Rattle.pb_report.proofs.Sending.{sends_then}
 use Rattle.pb_report.proofs.vertex_line.write_item.Goals as goal
 
 pub returns : goal.returns
-returns g c = sends_then g.S.Sink.taken g.S.Sink.has_failed _ _ _ _ _ _ _ (codes ",") (decimal c.args.number) c.in_ok-write.ensures c.write_number.ensures
+returns g c = sends_then (codes ",") (decimal c.args.number) c.in_ok-write.ensures c.write_number.ensures

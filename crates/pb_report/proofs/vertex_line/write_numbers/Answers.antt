@@ -7,5 +7,5 @@ use Rattle.pb_report.proofs.vertex_line.write_numbers.Goals as goal
 pub returns : goal.returns
 returns g c =
     let ns = c.args.numbers.now in
-    sends_as g.S.Sink.taken g.S.Sink.has_failed _ _ _ _ _ _ _ (first_number ns c.requires)
-    (sends_then g.S.Sink.taken g.S.Sink.has_failed _ _ _ _ _ _ _ (decimal (get_or ns 0 0)) (more_numbers (take (length ns - 1) (drop 1 ns))) c.in_ok-write_number.ensures c.write_more.ensures)
+    sends_as (first_number ns c.requires)
+    (sends_then (decimal (get_or ns 0 0)) (more_numbers (take (length ns - 1) (drop 1 ns))) c.in_ok-write_number.ensures c.write_more.ensures)

@@ -13,8 +13,8 @@ returns g c =
     ap (λ (n : ℕ). head v n c.parity.result ++ numbers_text c.successors.result.now) c.priority.ensures.value
     ∙ (ap (λ (n : ℕ). head v (priority_of game v) n ++ numbers_text c.successors.result.now) (c.parity.ensures ∙ ap parity_of c.owner.ensures)
     ∙ ap (λ (ns : List ℕ). head v (priority_of game v) (parity_of (owner_of game v)) ++ numbers_text ns) c.successors.ensures.list) in
-    sends_as g.S.Sink.taken g.S.Sink.has_failed _ _ _ _ _ _ _ text
-    (sends_then g.S.Sink.taken g.S.Sink.has_failed _ _ _ _ _ _ _ (head v c.priority.result c.parity.result) (numbers_text c.successors.result.now) c.in_ok-write_head.ensures c.write_numbers.ensures)
+    sends_as text
+    (sends_then (head v c.priority.result c.parity.result) (numbers_text c.successors.result.now) c.in_ok-write_head.ensures c.write_numbers.ensures)
 
 pub returns-in_err-write_head : goal.returns-in_err-write_head
 returns-in_err-write_head g c =
@@ -24,5 +24,5 @@ returns-in_err-write_head g c =
     let text : head v c.priority.result c.parity.result ++ numbers_text x.successors ≡ vertex_text v x =
     ap (λ (n : ℕ). head v n c.parity.result ++ numbers_text x.successors) c.priority.ensures.value
     ∙ ap (λ (n : ℕ). head v (priority_of game v) n ++ numbers_text x.successors) (c.parity.ensures ∙ ap parity_of c.owner.ensures) in
-    sends_as g.S.Sink.taken g.S.Sink.has_failed _ _ _ _ _ _ _ text
-    (sends_err g.S.Sink.taken g.S.Sink.has_failed _ _ _ _ _ (head v c.priority.result c.parity.result) (numbers_text x.successors) c.from_residual.ensures.0 c.in_err-write_head.ensures)
+    sends_as text
+    (sends_err (head v c.priority.result c.parity.result) (numbers_text x.successors) c.from_residual.ensures.0 c.in_err-write_head.ensures)
