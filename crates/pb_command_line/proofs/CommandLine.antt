@@ -1,7 +1,6 @@
 -- What clap makes of words: the request that it reads, or the fault that it finds.
 use Rattle.std.proofs.Common.{◌≡◌, ◌∙◌, ℕ, true, false, List, [], ◌∷◌, Option, Some, None, option_map, codes, refl, sym, ap, ap₂, subst, inl, inr, arith}
-use Rattle.std.specs.Prelude.{Result, Ok, Err, IfOk, IfErr, string_bytes}
-use Rattle.std.specs.Result.{IsErrAnd}
+use Rattle.std.specs.Prelude.{Result, Ok, Err, IfOk, string_bytes}
 use Rattle.std.specs.Global.{Box}
 use Rattle.std.specs.Box.{box_value}
 use Rattle.clap.specs.Faults.{fault_of, is_simple_and_free}
@@ -21,8 +20,10 @@ use Rattle.pb_game.specs.declared.solver.Solver.TheVariants.{Zielonka}
 use Rattle.pb_command_line.specs.declared.command.Command.{Command}
 use Rattle.pb_command_line.specs.declared.command.Command.TheVariants.{Solve, Game, Solution, Certificate, Explain, Compile, Verify, List as ListModule, SolveCode, Translate, Check}
 use Rattle.pb_command_line.specs.declared.request.Request.{Request}
-use Rattle.pb_command_line.specs.declared.words.WordsError.{WordsError}
-use Rattle.pb_command_line.specs.declared.words.WordsError.TheVariants.{Usage, Memory}
+use Rattle.pb_command_line.specs.declared.words.Usage.{Usage}
+use Rattle.pb_errors.specs.OrMemory.{IfFault, OnRefused}
+use Rattle.pb_errors.specs.declared.or_memory.OrMemory.{OrMemory}
+use Rattle.pb_errors.specs.declared.or_memory.OrMemory.TheVariants.{Refused, Memory}
 use Rattle.pb_command_line.specs.Words.{command_line, command_name, words_error_of, ArePlacesToldBy, AskFor, AskForSomething, AskPlainly, HaveFault, IsRequestOf, option_word}
 
 line_is_simple : is_simple command_line ≡ true
@@ -130,11 +131,11 @@ plain_results_name_none words plain (Ok request) asked = plain_names_none words 
 plain_results_name_none words plain (Err e) asked = tt
 
 -- words that ask for something are refused for want of memory alone
-pub memory_alone : {T : Type 0} (words : List (List ℕ)) (r : Result T WordsError) → (r ≡ Err Usage → HaveFault words)
-    → AskForSomething words → IfErr r (λ e. e ≡ Memory)
+pub memory_alone : {T : Type 0} (words : List (List ℕ)) (r : Result T (OrMemory Usage)) → OnRefused r (HaveFault words)
+    → AskForSomething words → OnRefused r ⊥
 memory_alone words (Ok x) faulty asked = tt
-memory_alone words (Err Memory) faulty asked = refl
-memory_alone words (Err Usage) faulty asked = absurd (faulty refl asked)
+memory_alone words (Err Memory) faulty asked = tt
+memory_alone words (Err (Refused usage)) faulty asked = faulty asked
 
 -- ---- what clap reads
 
@@ -165,15 +166,14 @@ pub clap_takes : (a : App) (words : List (List ℕ)) → a ≡ command_line → 
     → fault_of command_line words ≡ []
 clap_takes a words app_is none = ap (λ b. fault_of b words) (sym app_is) ∙ none (ap is_simple_and_free app_is ∙ line_is_free)
 
-pub clap_refuses : (a : App) (words : List (List ℕ)) (error : Error) → a ≡ command_line → (is_simple_and_free a ≡ true → HasKind (fault_of a words) error)
-    → words_error_of (kind_of error) ≡ Usage → HaveFault words
-clap_refuses a words error app_is fails usage asked = elim (fails (ap is_simple_and_free app_is ∙ line_is_free)) [
-  | inl memory ↦ let wrong : Memory ≡ Usage = ap words_error_of (sym memory) ∙ usage in absurd (cc wrong)
-  | inr among ↦ subst (IsAmong (kind_of error)) (ap (λ b. fault_of b words) app_is ∙ asked.1.faultless) among
-]
+on_fault : {F : Type 0} (e : OrMemory F) {P : Type 0} → P → IfFault e (λ _. P)
+on_fault (Refused fault) p = p
+on_fault Memory p = tt
 
--- the error of the words that clap's error makes
-pub error_is : {T : Type 0} (r : Result T WordsError) (error : Error) → IsErrAnd r (λ e. e ≡ words_error_of (kind_of error)) → r ≡ Err Usage
-    → words_error_of (kind_of error) ≡ Usage
-error_is (Ok x) error made is = absurd made
-error_is (Err e) error made is = let same : e ≡ Usage = cc is in sym made ∙ same
+pub clap_refuses : (a : App) (words : List (List ℕ)) (error : Error) → a ≡ command_line → (is_simple_and_free a ≡ true → HasKind (fault_of a words) error)
+    → IfFault (words_error_of (kind_of error)) (λ _. HaveFault words)
+clap_refuses a words error app_is fails = elim (fails (ap is_simple_and_free app_is ∙ line_is_free)) [
+  | inl memory ↦ subst (λ e. IfFault e (λ _. HaveFault words)) (ap words_error_of (sym memory)) tt
+  | inr among ↦ on_fault (words_error_of (kind_of error)) (λ asked.
+      subst (IsAmong (kind_of error)) (ap (λ b. fault_of b words) app_is ∙ asked.1.faultless) among)
+]

@@ -12,7 +12,6 @@ use Rattle.clap.proofs.SimpleLemmas.{label_first}
 use Rattle.clap.proofs.OnLiterals.{clap_on_literals}
 use Rattle.pb_command_line.specs.declared.command.Command.{Command}
 use Rattle.pb_command_line.specs.declared.request.Request.{Request}
-use Rattle.pb_command_line.specs.declared.words.WordsError.{WordsError}
 use Rattle.pb_command_line.specs.Words.{command_line, command_name, AskFor, AskNothing}
 
 -- clap reads this command in the words, the first of which is the program's name
@@ -127,6 +126,6 @@ nothing_is_asked (name ∷ word ∷ []) command nothing asks = nothing command (
 nothing_is_asked (name ∷ word ∷ other ∷ more) command nothing asks = nothing
 
 -- and are no request
-pub no_request : (words : List Text) → AskNothing words → (r : Result Request WordsError) → IfOk r (AskFor words) → IfOk r (λ request. ⊥)
+pub no_request : {E : Type 0} (words : List Text) → AskNothing words → (r : Result Request E) → IfOk r (AskFor words) → IfOk r (λ request. ⊥)
 no_request words nothing (Ok request) asked = nothing_is_asked words request.command nothing asked.read.command
 no_request words nothing (Err e) asked = tt

@@ -13,13 +13,14 @@ use Rattle.pb_game.specs.SolverNames.{solver_name}
 use Rattle.pb_command_line.specs.declared.command.Command.{Command}
 use Rattle.pb_command_line.specs.declared.command.Command.TheVariants.{Solve, Game, Solution, Certificate, Explain, Compile, Verify, List as ListModule, SolveCode, Translate, Check}
 use Rattle.pb_command_line.specs.declared.request.Request.{Request}
-use Rattle.pb_command_line.specs.declared.words.WordsError.{WordsError}
-use Rattle.pb_command_line.specs.declared.words.WordsError.TheVariants.{Usage, Memory}
+use Rattle.pb_command_line.specs.declared.words.Usage.{Usage}
+use Rattle.pb_errors.specs.declared.or_memory.OrMemory.{OrMemory}
+use Rattle.pb_errors.specs.declared.or_memory.OrMemory.TheVariants.{Refused, Memory}
 
 -- every error of the words but want of memory is one of usage
-abbrev pub words_error_of : ErrorKind → WordsError
+abbrev pub words_error_of : ErrorKind → OrMemory Usage
 words_error_of OutOfMemory = Memory
-words_error_of _ = Usage
+words_error_of _ = Refused (record {})
 
 -- the word that asks for a command
 abbrev pub command_name : Command → List ℕ

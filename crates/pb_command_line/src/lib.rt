@@ -7,4 +7,4 @@ mod words;
 
 pub use command::Command;
 pub use request::Request;
-pub use words::{WordsError, request_of};
+pub use words::{Usage, WordsError, request_of};

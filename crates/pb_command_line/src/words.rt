@@ -1,6 +1,6 @@
 //! The words of the command line.
-ghost use Rattle.std.specs.Prelude.{◌≡◌, ◌<◌, ◌≤◌, ℕ, false, map, codes, None, Some, Err, IfOk};
-ghost use Rattle.std.specs.Prelude.{IfErr, IfSome, IfNone, option_map, string_bytes};
+ghost use Rattle.std.specs.Prelude.{◌≡◌, ◌<◌, ◌≤◌, ℕ, false, map, codes, None, Some, IfOk};
+ghost use Rattle.std.specs.Prelude.{IfSome, IfNone, option_map, string_bytes};
 ghost use Rattle.clap.specs.Simple.{App, Shape, app_of, shape_of, new_shape, with_subcommand};
 ghost use Rattle.clap.specs.declared.builder.command.Command.TheViews.{out-Command};
 ghost use Rattle.clap.specs.Matches.{found_of, first_value};
@@ -12,47 +12,36 @@ ghost use Rattle.pb_command_line.specs.Words.{solving_shape, translating_shape, 
 ghost use Rattle.pb_command_line.specs.Words.{places_rule, property_rule, solver_rule};
 ghost use Rattle.pb_command_line.specs.Words.{ArePlacesToldBy, IsChosenBy, IsWorkersOf};
 ghost use Rattle.pb_command_line.specs.Words.{IsRequestOf, AskFor, HaveFault, AskNothing};
-ghost use Rattle.pb_command_line.specs.Words.{AskPlainly};
+ghost use Rattle.pb_command_line.specs.Words.{AskPlainly, words_error_of};
+ghost use Rattle.clap.specs.Words.{kind_of};
+ghost use Rattle.pb_errors.specs.OrMemory.{OnRefused};
 
 use crate::command::Command;
 use crate::request::Request;
 use clap::error::ErrorKind;
 use clap::{Arg, ArgAction, ArgMatches, Error};
+use pb_errors::{Fault, OrMemory};
 use pb_game::Solver;
 use std::alloc::{AllocError, Global};
 use std::convert::AsStr;
 
-/// Why the words ask nothing.
+/// `U01`: no command, an unknown one, a word too many, a wrong number of workers, an unknown
+/// solver, or a call for help.
 #[derive(Clone, Copy, Debug, PartialEq, Eq)]
-pub enum WordsError {
-    /// `U01`: no command, an unknown one, a word too many, a wrong number of workers, an unknown
-    /// solver, or a call for help.
-    Usage,
-    /// A request for memory was refused.
-    Memory,
-}
+pub struct Usage;
 
-impl From<AllocError> for WordsError {
-    ghost use Rattle.pb_command_line.specs.declared.words.WordsError.TheVariants.{Memory};
+impl Fault for Usage {}
 
-    ghost from_gives = { λ _ e. e ≡ Memory };
+/// Why the words ask nothing.
+pub type WordsError = OrMemory<Usage>;
 
-    fn from(_error: AllocError) -> WordsError {
-        WordsError::Memory
-    }
-}
-
-impl From<Error> for WordsError {
-    ghost use Rattle.pb_command_line.specs.Words.{words_error_of};
-    ghost use Rattle.clap.specs.Words.{kind_of};
-
-    ghost from_gives = { λ error e. e ≡ words_error_of (kind_of error) };
-
-    fn from(error: Error) -> WordsError {
-        match error.kind() {
-            ErrorKind::OutOfMemory => WordsError::Memory,
-            _ => WordsError::Usage,
-        }
+// What clap refuses is one of usage, unless memory was refused to it.
+fn words_error(error: Error) -> WordsError
+    ensures { result ≡ words_error_of (kind_of error) }
+{
+    match error.kind() {
+        ErrorKind::OutOfMemory => WordsError::Memory,
+        _ => WordsError::Refused(Usage),
     }
 }
 
@@ -236,16 +225,19 @@ fn request_with(name: &str, options: &ArgMatches, property: Option<String>) -> O
 // What the words ask, by what `clap` makes of them.
 fn request_in<S: AsStr>(alloc: Global, words: &[S]) -> Result<Request, WordsError>
     ensures asked { IfOk result (AskFor (map S.text words.now)) }
-    ensures faulty { result ≡ Err WordsError.Usage → HaveFault (map S.text words.now) }
+    ensures faulty { OnRefused result (HaveFault (map S.text words.now)) }
 {
-    let matches = command_line(alloc)?.try_get_matches_from(words)?;
+    let matches = match command_line(alloc)?.try_get_matches_from(words) {
+        Ok(matches) => matches,
+        Err(error) => return Err(words_error(error)),
+    };
     let Some((name, options)) = matches.subcommand() else {
-        return Err(WordsError::Usage);
+        return Err(Usage.into());
     };
     let property = property_of(alloc, options)?;
     match request_with(name, options, property) {
         Some(request) => Ok(request),
-        None => Err(WordsError::Usage),
+        None => Err(Usage.into()),
     }
 }
 
@@ -257,11 +249,10 @@ fn request_in<S: AsStr>(alloc: Global, words: &[S]) -> Result<Request, WordsErro
 /// refuses them, or an option names no such number or no solver.
 pub fn request_of<S: AsStr>(alloc: Global, words: &[S]) -> Result<Request, WordsError>
     ensures asked { IfOk result (AskFor (map S.text words.now)) }
-    ensures faulty { result ≡ Err WordsError.Usage → HaveFault (map S.text words.now) }
+    ensures faulty { OnRefused result (HaveFault (map S.text words.now)) }
 
     // The word of each command asks for that alone; no word, or one that is none's, has a fault.
-    ensures understood { AskPlainly (map S.text words.now)
-        → IfErr result (λ e. e ≡ WordsError.Memory) }
+    ensures understood { AskPlainly (map S.text words.now) → OnRefused result ⊥ }
     ensures nameless { AskPlainly (map S.text words.now)
         → IfOk result (λ request. request.property ≡ None) }
     ensures refused { AskNothing (map S.text words.now) → IfOk result (λ request. ⊥) }

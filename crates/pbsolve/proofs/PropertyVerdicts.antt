@@ -1,7 +1,6 @@
 -- The verdict on a property of a model, and what is refused of the model by what is refused of the property's text.
-use Rattle.std.proofs.Common.{◌≡◌, ◌∙◌, ℕ, zero, suc, ◌<◌, List, [], ◌∷◌, Some, length, map, refl, sym, ap, subst, arith}
-use Rattle.std.specs.Prelude.{Contains, Result, Ok, Err, IfErr}
-use Rattle.std.specs.Result.{IsErrAnd}
+use Rattle.std.proofs.Common.{◌≡◌, ◌∙◌, ℕ, zero, suc, ◌<◌, List, [], ◌∷◌, Option, Some, length, map, refl, ap, arith}
+use Rattle.std.specs.Prelude.{Contains}
 use Rattle.std.specs.List.{slice_get}
 use Rattle.std.proofs.lemmas.List.{length-map}
 use Rattle.std.proofs.lemmas.Option.{slice_get_within, get_or_from_slice_get}
@@ -9,15 +8,17 @@ use Rattle.pb_text_tree.specs.Form.{SpecForm}
 use Rattle.pb_model_tree.specs.Form.{PropertyForm, ModelForm}
 use Rattle.pb_model_properties.specs.Said.{IsModelOf, IsTextOf}
 use Rattle.pb_bytecode.specs.Contents.{Contents}
-use Rattle.pb_game_of_trees.specs.declared.tree_game.BuildError.{BuildError}
-use Rattle.pb_game_of_trees.specs.declared.tree_game.BuildError.TheVariants as build_error
 use Rattle.pb_report.specs.declared.answer.Answer.{Answer}
 use Rattle.pb_module_solver.specs.Answers.{IsAnswerOf, IsTooLarge}
-use Rattle.pbsolve.specs.declared.solve_error.SolveError.{SolveError}
-use Rattle.pbsolve.specs.declared.solve_error.SolveError.TheVariants as solve_error
+use Rattle.pbsolve.specs.declared.solve_fault.SolveFault.{SolveFault}
+use Rattle.pbsolve.specs.declared.solve_fault.SolveFault.TheVariants as solve_fault
 use Rattle.pbsolve.specs.Answers.{IsModuleOfForm}
-use Rattle.pbsolve.specs.Errors.{build_refusal}
-use Rattle.pbsolve.specs.Models.{IsUnchecked, IsVerdict}
+use Rattle.pb_model_properties.specs.declared.error.ModelFault.{ModelFault}
+use Rattle.pb_model_properties.specs.declared.error.ModelFault.TheVariants as model_fault
+use Rattle.pb_model_properties.specs.Refusals as untranslated
+use Rattle.pb_model_properties.specs.Refusals.{IsRefusedModel}
+use Rattle.pbsolve.specs.Errors.{fault_of_model}
+use Rattle.pbsolve.specs.Models.{IsUnchecked, IsUntranslated, IsVerdict}
 use Rattle.pbsolve.specs.Refusals.{IsUncompiledForm}
 use Rattle.pbsolve.proofs.Texts.{HasTrees}
 
@@ -43,11 +44,11 @@ pub text_at_place : (model : ModelForm) (k : ℕ) (x : SpecForm) → (p : Proper
     → ((p : PropertyForm) → slice_get model.properties k ≡ Some p → IsTextOf model p.formula x) → IsTextAt model k x
 text_at_place model k x some text = record { property = some.0; stands = some.1; of_property = text some.0 some.1 }
 
-abbrev pub WhereUnchecked : ModelForm → SolveError → Type 0
-WhereUnchecked model e = (bytes : List ℕ) → IsModelOf bytes model → IsUnchecked bytes e
+abbrev pub WhereUnchecked : ModelForm → SolveFault → Type 0
+WhereUnchecked model fault = (bytes : List ℕ) → IsModelOf bytes model → IsUnchecked bytes fault
 
-pub uncompiled_property : (model : ModelForm) (k : ℕ) (x : SpecForm) → IsTextAt model k x → (e : SolveError) → IsUncompiledForm x e → WhereUnchecked model e
-uncompiled_property model k x at (solve_error.Limit limit equation) h = λ bytes said. record {
+pub uncompiled_property : (model : ModelForm) (k : ℕ) (x : SpecForm) → IsTextAt model k x → (f : SolveFault) → IsUncompiledForm x f → WhereUnchecked model f
+uncompiled_property model k x at (solve_fault.Limit excess) h = λ bytes said. record {
   model = model;
   said = said;
   property = at.property;
@@ -56,19 +57,16 @@ uncompiled_property model k x at (solve_error.Limit limit equation) h = λ bytes
   of_property = at.of_property;
   exceeds = h;
 }
-uncompiled_property model k x at (solve_error.Memory error) h = λ bytes said. tt
-uncompiled_property model k x at (solve_error.Write error) h = λ bytes said. tt
-uncompiled_property model k x at solve_error.TooManyVertices h = absurd h
-uncompiled_property model k x at solve_error.NoProperty h = absurd h
-uncompiled_property model k x at (solve_error.Text error) h = absurd h
-uncompiled_property model k x at (solve_error.Typing error) h = absurd h
-uncompiled_property model k x at (solve_error.Module error) h = absurd h
-uncompiled_property model k x at (solve_error.Acceptance error) h = absurd h
+uncompiled_property model k x at solve_fault.TooManyVertices h = absurd h
+uncompiled_property model k x at solve_fault.NoProperty h = absurd h
+uncompiled_property model k x at (solve_fault.Text fault) h = absurd h
+uncompiled_property model k x at (solve_fault.Typing fault) h = absurd h
+uncompiled_property model k x at (solve_fault.Module fault) h = absurd h
+uncompiled_property model k x at (solve_fault.Acceptance fault) h = absurd h
 
 pub unbuilt_property : (model : ModelForm) (k : ℕ) (x : SpecForm) → IsTextAt model k x → (m : Contents) → IsModuleOfForm x m
-    → (e : BuildError) → (e ≡ build_error.TooManyVertices → IsTooLarge m) → WhereUnchecked model (build_refusal e)
-unbuilt_property model k x at m of_text (build_error.Memory error) large = λ bytes said. tt
-unbuilt_property model k x at m of_text build_error.TooManyVertices large = λ bytes said. record {
+    → IsTooLarge m → WhereUnchecked model solve_fault.TooManyVertices
+unbuilt_property model k x at m of_text large = λ bytes said. record {
   model = model;
   said = said;
   property = at.property;
@@ -77,14 +75,8 @@ unbuilt_property model k x at m of_text build_error.TooManyVertices large = λ b
   of_property = at.of_property;
   contents = m;
   of_text = of_text;
-  large = large refl;
+  large = large;
 }
-
--- `?` hands an error up as it is
-pub unchecked_up : {T : Type 0} (model : ModelForm) (r : Result T SolveError) (e : SolveError) → IsErrAnd r (λ x. x ≡ e) → WhereUnchecked model e
-    → IfErr r (WhereUnchecked model)
-unchecked_up model (Ok x) e made h = tt
-unchecked_up model (Err x) e made h = subst (WhereUnchecked model) (sym made) h
 
 -- the answer to the property's text is the verdict on the property
 pub property_verdict : (model : ModelForm) (p : PropertyForm) (x : SpecForm) → IsTextOf model p.formula x → (m : Contents) → HasTrees m → IsModuleOfForm x m
@@ -97,3 +89,15 @@ property_verdict model p x text m some of_text a answered = record {
   of_text = of_text;
   counted = answered;
 }
+
+-- what is wrong with a model, by any command on it
+pub model_unchecked : (bytes : List ℕ) (f : ModelFault) → IsRefusedModel bytes f → IsUnchecked bytes (fault_of_model f)
+model_unchecked bytes (model_fault.Text fault) h = h
+model_unchecked bytes (model_fault.Typing fault) h = h
+model_unchecked bytes model_fault.NoProperty h = absurd h
+
+pub model_untranslated : (name : Option (List ℕ)) (bytes : List ℕ) (f : ModelFault) → untranslated.IsUntranslated name bytes f
+    → IsUntranslated name bytes (fault_of_model f)
+model_untranslated name bytes (model_fault.Text fault) h = h
+model_untranslated name bytes (model_fault.Typing fault) h = h
+model_untranslated name bytes model_fault.NoProperty h = h

@@ -7,7 +7,12 @@ use Rattle.pb_bytecode.specs.Meaning.{AreTrees}
 use Rattle.pb_report.specs.declared.answer.Answer.{Answer}
 use Rattle.pb_module_solver.specs.Answers.{IsAnswerOf}
 use Rattle.pbsolve.specs.declared.solve_error.SolveError.{SolveError}
-use Rattle.pbsolve.specs.Answers.{IsAnswer, IsModuleOfText}
+use Rattle.pb_text_tree.specs.Form.{SpecForm}
+use Rattle.pbsolve.specs.Answers.{IsAnswer, IsModuleOfForm, IsModuleOfText, IsTheReading}
+
+-- the module of what a text says is that of its bytes
+pub of_bytes : (bytes : List ℕ) (text : SpecForm) (m : Contents) → IsTheReading bytes text → IsModuleOfForm text m → IsModuleOfText bytes m
+of_bytes bytes text m read made = record { text = text; read = read; of_text = made }
 
 abbrev pub HasTrees : Contents → Type 0
 HasTrees m = (trees : ℕ → Tree) × AreTrees m trees

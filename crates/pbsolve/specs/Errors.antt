@@ -1,91 +1,74 @@
 -- How the errors of the layers become those of a call, and then those of a run.
-use Rattle.std.specs.Prelude.{ℕ, List, codes}
-use Rattle.pb_text.specs.declared.error.TextError.{TextError}
-use Rattle.pb_text.specs.declared.error.TextError.TheVariants as text_error
-use Rattle.pb_typing_declarations.specs.declared.fault.TypeError.{TypeError}
-use Rattle.pb_typing_declarations.specs.declared.fault.TypeError.TheVariants as type_error
-use Rattle.pb_model_properties.specs.declared.error.ModelError.{ModelError}
-use Rattle.pb_model_properties.specs.declared.error.ModelError.TheVariants as model_error
-use Rattle.pb_bytecode.specs.declared.fault.ModuleError.{ModuleError}
-use Rattle.pb_bytecode.specs.declared.fault.ModuleError.TheVariants as module_error
-use Rattle.pb_verifier.specs.declared.verify_error.VerifyError.{VerifyError}
-use Rattle.pb_verifier.specs.declared.verify_error.VerifyError.TheVariants as verify_error
-use Rattle.pb_game_of_trees.specs.declared.tree_game.BuildError.{BuildError}
-use Rattle.pb_game_of_trees.specs.declared.tree_game.BuildError.TheVariants as build_error
-use Rattle.pb_report.specs.declared.buffer.WriteError.{WriteError}
-use Rattle.pb_report.specs.declared.buffer.WriteError.TheVariants as write_error
+use Rattle.std.specs.Prelude.{ℕ, List, codes, Result, Ok, Err}
+use Rattle.pb_errors.specs.declared.or_memory.OrMemory.{OrMemory}
+use Rattle.pb_errors.specs.declared.or_memory.OrMemory.TheVariants as or_memory
+use Rattle.pb_sorts.specs.declared.sink.E02 as sink
+use Rattle.pb_model_properties.specs.declared.error.ModelFault.{ModelFault}
+use Rattle.pb_model_properties.specs.declared.error.ModelFault.TheVariants as model_fault
+use Rattle.pb_command_line.specs.declared.words.Usage.{Usage}
 use Rattle.pbsolve.specs.Lines as lines
 use Rattle.pbsolve.specs.declared.fault.ProgramFault.TheVariants.{U01, U02, E01, E02, M01}
-use Rattle.pb_command_line.specs.declared.words.WordsError.{WordsError}
-use Rattle.pb_command_line.specs.declared.words.WordsError.TheVariants as words_error
-use Rattle.pbsolve.specs.declared.input.InputError.{InputError}
-use Rattle.pbsolve.specs.declared.input.InputError.TheVariants as input_error
+use Rattle.pbsolve.specs.declared.input.InputFault.{InputFault}
+use Rattle.pbsolve.specs.declared.input.InputFault.TheVariants.{Failed, TooLong}
+use Rattle.pbsolve.specs.declared.solve_fault.SolveFault.{SolveFault}
+use Rattle.pbsolve.specs.declared.solve_fault.SolveFault.TheVariants as solve_fault
 use Rattle.pbsolve.specs.declared.solve_error.SolveError.{SolveError}
 use Rattle.pbsolve.specs.declared.solve_error.SolveError.TheVariants as solve_error
 use Rattle.pbsolve.specs.declared.run_error.RunError.{RunError}
 use Rattle.pbsolve.specs.declared.run_error.RunError.TheVariants.{ProgramFault, Refused}
 
--- want of memory is one case, whichever layer met it
-abbrev pub text_refusal : TextError → SolveError
-text_refusal text_error.Memory = solve_error.Memory (record {})
-text_refusal (text_error.Refused rule place) = solve_error.Text (text_error.Refused rule place)
+-- what is wrong with a model is wrong with the input
+abbrev pub fault_of_model : ModelFault → SolveFault
+fault_of_model (model_fault.Text fault) = solve_fault.Text fault
+fault_of_model (model_fault.Typing fault) = solve_fault.Typing fault
+fault_of_model model_fault.NoProperty = solve_fault.NoProperty
 
-abbrev pub type_refusal : TypeError → SolveError
-type_refusal type_error.Memory = solve_error.Memory (record {})
-type_refusal (type_error.At fault) = solve_error.Typing (type_error.At fault)
+-- want of memory stays what it is, whichever layer met it, and of a fault there is the one above
+abbrev pub joined : {F : Type 0} → (F → SolveFault → Type 0) → OrMemory F → SolveError → Type 0
+joined gives (or_memory.Refused fault) (solve_error.Refused above) = gives fault above
+joined gives or_memory.Memory solve_error.Memory = Unit {0}
+joined gives error made = ⊥
 
-abbrev pub model_refusal : ModelError → SolveError
-model_refusal (model_error.Text error) = solve_error.Text error
-model_refusal (model_error.Typing error) = solve_error.Typing error
-model_refusal model_error.NoProperty = solve_error.NoProperty
-model_refusal (model_error.Memory error) = solve_error.Memory error
+abbrev pub write_failure : OrMemory sink.E02 → SolveError
+write_failure (or_memory.Refused failed) = solve_error.Write failed
+write_failure or_memory.Memory = solve_error.Memory
 
-abbrev pub module_refusal : ModuleError → SolveError
-module_refusal module_error.Memory = solve_error.Memory (record {})
-module_refusal (module_error.ModuleFault rule byte) =
-    solve_error.Module (module_error.ModuleFault rule byte)
+-- P holds of what is wrong with the input, if it is refused
+abbrev pub IfInputFault : SolveError → (SolveFault → Type 0) → Type 0
+IfInputFault (solve_error.Refused fault) P = P fault
+IfInputFault error P = Unit {0}
 
-abbrev pub verify_refusal : VerifyError → SolveError
-verify_refusal verify_error.Memory = solve_error.Memory (record {})
-verify_refusal (verify_error.Refusal rule equation place) =
-    solve_error.Acceptance (verify_error.Refusal rule equation place)
+abbrev pub IfInputRefused : {T : Type 0} → Result T SolveError → (SolveFault → Type 0) → Type 0
+IfInputRefused (Ok answer) P = Unit {0}
+IfInputRefused (Err error) P = IfInputFault error P
 
-abbrev pub build_refusal : BuildError → SolveError
-build_refusal (build_error.Memory error) = solve_error.Memory error
-build_refusal build_error.TooManyVertices = solve_error.TooManyVertices
+-- ---- errors of a run
 
-abbrev pub write_failure : WriteError → SolveError
-write_failure (write_error.Memory error) = solve_error.Memory error
-write_failure (write_error.Failed error) = solve_error.Write error
+abbrev pub run_error_of_words : OrMemory Usage → RunError
+run_error_of_words (or_memory.Refused usage) = ProgramFault U01
+run_error_of_words or_memory.Memory = ProgramFault M01
 
-abbrev pub words_fault : WordsError → RunError
-words_fault words_error.Usage = ProgramFault U01
-words_fault words_error.Memory = ProgramFault M01
+abbrev pub run_error_of_input : OrMemory InputFault → RunError
+run_error_of_input (or_memory.Refused Failed) = ProgramFault E01
+run_error_of_input (or_memory.Refused TooLong) = ProgramFault U02
+run_error_of_input or_memory.Memory = ProgramFault M01
 
-abbrev pub input_fault : InputError → RunError
-input_fault input_error.Failed = ProgramFault E01
-input_fault input_error.TooLong = ProgramFault U02
-input_fault input_error.Memory = ProgramFault M01
+-- a property that isn't there is a fault of the words
+abbrev pub run_error_of_fault : SolveFault → RunError
+run_error_of_fault solve_fault.NoProperty = ProgramFault U01
+run_error_of_fault fault = Refused fault
 
-abbrev pub solve_fault : SolveError → RunError
-solve_fault (solve_error.Memory error) = ProgramFault M01
-solve_fault (solve_error.Write error) = ProgramFault E02
-solve_fault solve_error.NoProperty = ProgramFault U01
-solve_fault (solve_error.Text error) = Refused (solve_error.Text error)
-solve_fault (solve_error.Typing error) = Refused (solve_error.Typing error)
-solve_fault (solve_error.Limit limit equation) = Refused (solve_error.Limit limit equation)
-solve_fault (solve_error.Module error) = Refused (solve_error.Module error)
-solve_fault (solve_error.Acceptance error) = Refused (solve_error.Acceptance error)
-solve_fault solve_error.TooManyVertices = Refused solve_error.TooManyVertices
+abbrev pub run_error_of_solving : SolveError → RunError
+run_error_of_solving (solve_error.Refused fault) = run_error_of_fault fault
+run_error_of_solving solve_error.Memory = ProgramFault M01
+run_error_of_solving (solve_error.Write failed) = ProgramFault E02
 
--- the line that tells of an error
-abbrev pub solve_line : SolveError → List ℕ
-solve_line (solve_error.Text error) = lines.text_line error
-solve_line (solve_error.Typing error) = lines.type_line error
-solve_line (solve_error.Limit limit equation) = lines.limit_line limit equation
-solve_line (solve_error.Module error) = lines.module_line error
-solve_line (solve_error.Acceptance error) = lines.verify_line error
-solve_line solve_error.TooManyVertices = codes "G01\n"
-solve_line solve_error.NoProperty = lines.line_of U01
-solve_line (solve_error.Memory error) = lines.line_of M01
-solve_line (solve_error.Write error) = lines.line_of E02
+-- the line that tells of what is wrong with the input
+abbrev pub fault_line : SolveFault → List ℕ
+fault_line (solve_fault.Text fault) = lines.text_line fault
+fault_line (solve_fault.Typing fault) = lines.typing_line fault
+fault_line (solve_fault.Limit excess) = lines.limit_line excess
+fault_line (solve_fault.Module fault) = lines.module_line fault
+fault_line (solve_fault.Acceptance fault) = lines.code_line fault
+fault_line solve_fault.TooManyVertices = codes "G01\n"
+fault_line solve_fault.NoProperty = lines.line_of U01

@@ -1,9 +1,9 @@
--- The verdicts on the properties of a model, and what an error says of the model that bytes say.
+-- The verdicts on the properties of a model, and what a fault says of the model that bytes say.
 use Rattle.std.specs.Prelude.{◌≡◌, ℕ, List, [], ◌∷◌, ◌++◌, Option, Contains}
 use Rattle.pb_text_tree.specs.Form.{SpecForm}
 use Rattle.pb_text_meaning.specs.Erase.{erase}
-use Rattle.pb_bytecode.specs.declared.limit.Limit.{Limit}
 use Rattle.pb_assembler.specs.Excess.{IsFirstExcess}
+use Rattle.pb_assembler.specs.declared.compile_error.Excess.{Excess}
 use Rattle.pb_bytecode.specs.Contents.{Contents}
 use Rattle.pb_model_tree.specs.Form.{ModelForm, PropertyForm}
 use Rattle.pb_model_properties.specs.Refusals.{IsRefusedText, IsRefusedType, LacksProperty}
@@ -11,8 +11,8 @@ use Rattle.pb_model_properties.specs.Said.{satisfies, IsModelOf, IsTextOf}
 use Rattle.pb_model_properties.specs.Verdicts.{verdict_text}
 use Rattle.pb_report.specs.declared.answer.Answer.{Answer}
 use Rattle.pb_module_solver.specs.Answers.{IsAnswerOf, IsTooLarge}
-use Rattle.pbsolve.specs.declared.solve_error.SolveError.{SolveError}
-use Rattle.pbsolve.specs.declared.solve_error.SolveError.TheVariants as solve_error
+use Rattle.pbsolve.specs.declared.solve_fault.SolveFault.{SolveFault}
+use Rattle.pbsolve.specs.declared.solve_fault.SolveFault.TheVariants as solve_fault
 use Rattle.pbsolve.specs.Answers.{IsModuleOfForm}
 
 -- The verdict on a property is true exactly where the model satisfies it. The counts are those of
@@ -36,14 +36,14 @@ AreVerdicts model (p ∷ ps) lines =
 
 -- the text of a property of the model has an equation whose code exceeds a limit, and the first
 -- such one is this, with this as its first
-pub record IsModelOverLimit (bytes : List ℕ) (limit : Limit) (equation : ℕ) : Type 0 where
+pub record IsModelOverLimit (bytes : List ℕ) (excess : Excess) : Type 0 where
   pub model : ModelForm
   pub said : IsModelOf bytes model
   pub property : PropertyForm
   pub asked : Contains model.properties property
   pub text : SpecForm
   pub of_property : IsTextOf model property.formula text
-  pub exceeds : IsFirstExcess (erase text) limit equation
+  pub exceeds : IsFirstExcess (erase text) excess
 
 -- the module of the text of a property of the model has too large a game
 pub record IsModelTooLarge (bytes : List ℕ) : Type 0 where
@@ -58,26 +58,17 @@ pub record IsModelTooLarge (bytes : List ℕ) : Type 0 where
   pub large : IsTooLarge contents
 
 -- `translate`: the bytes say no model that is well typed, or one that has no property of the name
-abbrev pub IsUntranslated : Option (List ℕ) → List ℕ → SolveError → Type 0
-IsUntranslated name bytes (solve_error.Text error) = IsRefusedText bytes error
-IsUntranslated name bytes (solve_error.Typing error) = IsRefusedType bytes error
-IsUntranslated name bytes solve_error.NoProperty = LacksProperty name bytes
-IsUntranslated name bytes (solve_error.Memory error) = Unit {0}
-IsUntranslated name bytes (solve_error.Write error) = Unit {0}
-IsUntranslated name bytes (solve_error.Limit limit equation) = ⊥
-IsUntranslated name bytes solve_error.TooManyVertices = ⊥
-IsUntranslated name bytes (solve_error.Module error) = ⊥
-IsUntranslated name bytes (solve_error.Acceptance error) = ⊥
+abbrev pub IsUntranslated : Option (List ℕ) → List ℕ → SolveFault → Type 0
+IsUntranslated name bytes (solve_fault.Text fault) = IsRefusedText bytes fault
+IsUntranslated name bytes (solve_fault.Typing fault) = IsRefusedType bytes fault
+IsUntranslated name bytes solve_fault.NoProperty = LacksProperty name bytes
+IsUntranslated name bytes fault = ⊥
 
 -- `check`: they say none, or one with a property whose text isn't compiled, or whose module has too
 -- large a game
-abbrev pub IsUnchecked : List ℕ → SolveError → Type 0
-IsUnchecked bytes (solve_error.Text error) = IsRefusedText bytes error
-IsUnchecked bytes (solve_error.Typing error) = IsRefusedType bytes error
-IsUnchecked bytes (solve_error.Limit limit equation) = IsModelOverLimit bytes limit equation
-IsUnchecked bytes solve_error.TooManyVertices = IsModelTooLarge bytes
-IsUnchecked bytes (solve_error.Memory error) = Unit {0}
-IsUnchecked bytes (solve_error.Write error) = Unit {0}
-IsUnchecked bytes solve_error.NoProperty = ⊥
-IsUnchecked bytes (solve_error.Module error) = ⊥
-IsUnchecked bytes (solve_error.Acceptance error) = ⊥
+abbrev pub IsUnchecked : List ℕ → SolveFault → Type 0
+IsUnchecked bytes (solve_fault.Text fault) = IsRefusedText bytes fault
+IsUnchecked bytes (solve_fault.Typing fault) = IsRefusedType bytes fault
+IsUnchecked bytes (solve_fault.Limit excess) = IsModelOverLimit bytes excess
+IsUnchecked bytes solve_fault.TooManyVertices = IsModelTooLarge bytes
+IsUnchecked bytes fault = ⊥

@@ -19,7 +19,7 @@ use Rattle.pb_module_solver.specs.Texts.{ForCertificateText, ForGameText, ForSol
 use Rattle.pb_command_line.specs.declared.command.Command.{Command}
 use Rattle.pb_command_line.specs.declared.command.Command.TheVariants as command
 use Rattle.pb_command_line.specs.declared.request.Request.{Request}
-use Rattle.pbsolve.specs.declared.solve_error.SolveError.{SolveError}
+use Rattle.pbsolve.specs.declared.solve_fault.SolveFault.{SolveFault}
 use Rattle.pbsolve.specs.CallPlaces.{told_place}
 use Rattle.pbsolve.specs.Answers.{IsAnswer, IsAnswerOfCode, IsEvidence, IsModuleOfText, IsModuleOfCode, Spell}
 use Rattle.pbsolve.specs.Models.{AreVerdicts, IsUnchecked, IsUntranslated}
@@ -88,9 +88,9 @@ property_name request = option_map string_bytes request.property
 abbrev pub OutputsFor : Request → List ℕ → (List ℕ → Type 0) → Type 0
 OutputsFor request = OutputsWith request.command request.places (property_name request)
 
--- what an error says of the bytes for which the command was to write, where a property is named, or
+-- what a fault says of the bytes for which the command was to write, where a property is named, or
 -- none
-abbrev pub IsRefusedWith : Command → Option (List ℕ) → List ℕ → SolveError → Type 0
+abbrev pub IsRefusedWith : Command → Option (List ℕ) → List ℕ → SolveFault → Type 0
 IsRefusedWith command.Solve property = IsRefused
 IsRefusedWith command.Game property = IsRefused
 IsRefusedWith command.Solution property = IsRefused
@@ -103,5 +103,5 @@ IsRefusedWith command.SolveCode property = IsRefusedBytes
 IsRefusedWith command.Translate property = IsUntranslated property
 IsRefusedWith command.Check property = IsUnchecked
 
-abbrev pub IsRefusedFor : Request → List ℕ → SolveError → Type 0
+abbrev pub IsRefusedFor : Request → List ℕ → SolveFault → Type 0
 IsRefusedFor request = IsRefusedWith request.command (property_name request)

@@ -1,27 +1,27 @@
 -- How a run of the program ends: its exit status, and what went to both writers.
-use Rattle.std.specs.Prelude.{◌≡◌, ◌≤◌, ℕ, List, ◌⊎◌, Bool, true, length, Option}
+use Rattle.std.specs.Prelude.{◌≡◌, ◌≢◌, ◌≤◌, ℕ, List, ◌⊎◌, Bool, true, length, Option}
 use Rattle.std.specs.Io.KnownBytes.{Appends, Consumes}
 use Rattle.pb_sorts.specs.Sink.{AppendsPrefix}
 use Rattle.pb_sorts.specs.Source.{IsWhole, IsLongerThan}
 use Rattle.pbsolve.specs.Lines as lines
-use Rattle.pbsolve.specs.declared.fault.ProgramFault as fault
+use Rattle.pbsolve.specs.declared.fault.ProgramFault.{ProgramFault}
 use Rattle.pbsolve.specs.declared.fault.ProgramFault.TheVariants.{U01, U02, E01, E02, M01}
 use Rattle.pb_command_line.specs.declared.request.Request.{Request}
 use Rattle.pb_command_line.specs.Words.{AskFor, AskForSomething, HaveFault}
 use Rattle.pb_command_line.specs.declared.command.Command.TheVariants.{Translate}
 use Rattle.pb_model_properties.specs.Refusals.{LacksProperty}
 use Rattle.pb_limits.specs.declared.TheConstants.{MAX_INPUT_BYTES}
-use Rattle.pbsolve.specs.declared.solve_error.SolveError.{SolveError}
-use Rattle.pbsolve.specs.declared.solve_error.SolveError.TheVariants as solve_error
+use Rattle.pbsolve.specs.declared.solve_fault.SolveFault.{SolveFault}
+use Rattle.pbsolve.specs.declared.solve_fault.SolveFault.TheVariants.{NoProperty}
 use Rattle.pbsolve.specs.declared.run_error.RunError.{RunError}
 use Rattle.pbsolve.specs.declared.run_error.RunError.TheVariants as run_error
 use Rattle.pbsolve.specs.declared.status.Status.{Status}
 use Rattle.pbsolve.specs.declared.status.Status.TheVariants.{Refused, Usage, OutOfMemory, Failed}
-use Rattle.pbsolve.specs.Errors.{solve_line}
+use Rattle.pbsolve.specs.Errors.{fault_line}
 use Rattle.pbsolve.specs.Outputs.{OutputsFor, IsRefusedFor, property_name}
 
 -- how a run ends that has a fault, or an error
-abbrev pub fault_status : fault.ProgramFault → Status
+abbrev pub fault_status : ProgramFault → Status
 fault_status U01 = Usage
 fault_status U02 = Refused
 fault_status E01 = Failed
@@ -30,18 +30,18 @@ fault_status M01 = OutOfMemory
 
 abbrev pub status_of : RunError → Status
 status_of (run_error.ProgramFault f) = fault_status f
-status_of (run_error.Refused error) = Refused
+status_of (run_error.Refused fault) = Refused
 
 -- the line on standard error
 abbrev pub error_line_of : RunError → List ℕ
 error_line_of (run_error.ProgramFault f) = lines.line_of f
-error_line_of (run_error.Refused error) = solve_line error
+error_line_of (run_error.Refused fault) = fault_line fault
 
 -- a refusal is told by its own line, or by M01 where there is no memory for it
 abbrev pub IsToldAs : RunError → RunError → Type 0
 IsToldAs (run_error.ProgramFault f) told = told ≡ run_error.ProgramFault f
-IsToldAs (run_error.Refused error) told =
-    (told ≡ run_error.Refused error) ⊎ (told ≡ run_error.ProgramFault M01)
+IsToldAs (run_error.Refused fault) told =
+    (told ≡ run_error.Refused fault) ⊎ (told ≡ run_error.ProgramFault M01)
 
 -- the line went out, or a part that begins it and then writing failed
 abbrev pub Tells : Option (List ℕ) → Option (List ℕ) → Bool → List ℕ → Type 0
@@ -62,25 +62,13 @@ Answers words known P =
     (request : Request) × AskFor words request
     × ForInput known (λ bytes. OutputsFor request bytes P)
 
--- the input is not what the command takes, which is neither want of memory nor a failed write, nor
--- a property that isn't there
-abbrev pub IsRefusal : SolveError → Type 0
-IsRefusal (solve_error.Text error) = Unit {0}
-IsRefusal (solve_error.Typing error) = Unit {0}
-IsRefusal (solve_error.Limit limit equation) = Unit {0}
-IsRefusal (solve_error.Module error) = Unit {0}
-IsRefusal (solve_error.Acceptance error) = Unit {0}
-IsRefusal solve_error.TooManyVertices = Unit {0}
-IsRefusal solve_error.NoProperty = ⊥
-IsRefusal (solve_error.Memory error) = ⊥
-IsRefusal (solve_error.Write error) = ⊥
-
--- the command for which the words ask refuses the input by this error
-abbrev pub RefusesBy : List (List ℕ) → Option (List ℕ) → SolveError → Type 0
-RefusesBy words known error =
-    IsRefusal error ×
-    ((request : Request) × AskFor words request
-    × ForInput known (λ bytes. IsRefusedFor request bytes error))
+-- the command for which the words ask refuses the input by this fault, which is not that a property
+-- isn't there
+abbrev pub RefusesBy : List (List ℕ) → Option (List ℕ) → SolveFault → Type 0
+RefusesBy words known fault =
+    (fault ≢ NoProperty)
+    × ((request : Request) × AskFor words request
+    × ForInput known (λ bytes. IsRefusedFor request bytes fault))
 
 -- the words ask for a property, and the input is a model that has none of the name
 abbrev pub LackProperty : List (List ℕ) → Option (List ℕ) → Type 0
@@ -96,14 +84,14 @@ IsRefusedBy words known (run_error.ProgramFault U01) = HaveFault words ⊎ LackP
 IsRefusedBy words known (run_error.ProgramFault E01) = Unit {0}
 IsRefusedBy words known (run_error.ProgramFault E02) = Unit {0}
 IsRefusedBy words known (run_error.ProgramFault M01) = Unit {0}
-IsRefusedBy words known (run_error.Refused error) = RefusesBy words known error
+IsRefusedBy words known (run_error.Refused fault) = RefusesBy words known fault
 
 -- the input is refused, and this is the line that says so: it is too long, whatever is asked, or
 -- the command refuses it
 abbrev pub IsRefusalLine : List (List ℕ) → Option (List ℕ) → List ℕ → Type 0
 IsRefusalLine words known line =
     (AskForSomething words × IsLongerThan MAX_INPUT_BYTES known × (line ≡ lines.line_of U02))
-    ⊎ ((error : SolveError) × RefusesBy words known error × (line ≡ solve_line error))
+    ⊎ ((fault : SolveFault) × RefusesBy words known fault × (line ≡ fault_line fault))
 
 -- the line of a refused input went out
 abbrev pub Refuses : List (List ℕ) → Option (List ℕ) → Option (List ℕ) → Option (List ℕ) → Bool

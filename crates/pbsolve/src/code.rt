@@ -1,19 +1,24 @@
 //! Modules that bytes spell: whether they are accepted, what they say, and their answers.
-ghost use Rattle.std.specs.Prelude.{◌≢◌, IfOk, IfErr};
+ghost use Rattle.std.specs.Prelude.{IfOk};
+ghost use Rattle.pb_errors.specs.OrMemory.{IfRefused};
+ghost use Rattle.pbsolve.specs.Errors.{IfInputRefused};
 ghost use Rattle.std.specs.Io.KnownBytes.{Appends};
 ghost use Rattle.pb_command_line.specs.declared.command.Command.TheVariants.{Verify, List};
 ghost use Rattle.pb_command_line.specs.declared.command.Command.TheVariants.{SolveCode};
 ghost use Rattle.pb_report.specs.Report.{report_text};
-ghost use Rattle.pbsolve.specs.Answers.{IsAnswerOfCode, IsModuleOfCode};
+ghost use Rattle.pb_bytecode.specs.Decoded.{module_contents};
+ghost use Rattle.pbsolve.specs.Answers.{IsAnswerOfCode, IsModuleOfCode, Spell};
 ghost use Rattle.pbsolve.specs.Delivery.{Delivers};
 ghost use Rattle.pbsolve.specs.Refusals.{IsRefusedBytes, IsUnlisted, IsUnverified};
 ghost use Rattle.pbsolve.specs.Outputs.{Outputs};
 
 use crate::delivery::deliver;
 use crate::module::write_report;
-use crate::solve_error::SolveError;
+use crate::{SolveError, SolveFault};
+use pb_bytecode::Module;
 use pb_bytecode::decode::decode;
 use pb_bytecode::list::list;
+use pb_errors::OrMemory;
 use pb_exploration::Gate;
 use pb_module_solver::{Context, SolveOptions};
 use pb_report::Answer;
@@ -22,16 +27,26 @@ use pb_verifier::{Verified, verify};
 use std::alloc::Global;
 use std::thread::Threads;
 
-// The module that bytes spell, verified.
-fn verified_code(alloc: Global, bytes: &[u8]) -> Result<Verified, SolveError>
-    ensures module { IfOk result (IsModuleOfCode bytes.now) }
-    ensures refused { IfErr result (IsUnverified bytes.now) }
-    ensures unwritten { IfErr result (λ e. e ≢ SolveError.Write (record {})) }
+// The module that bytes spell.
+fn decoded(alloc: Global, bytes: &[u8]) -> Result<Module, OrMemory<SolveFault>>
+    ensures module { IfOk result (λ m. Spell bytes.now (module_contents m)) }
+    ensures refused { IfRefused result (IsUnlisted bytes.now) }
 {
-    let module = decode(alloc, bytes)?;
+    match decode(alloc, bytes) {
+        Ok(module) => Ok(module),
+        Err(error) => Err(error.raise()),
+    }
+}
+
+// The module that bytes spell, verified.
+fn verified_code(alloc: Global, bytes: &[u8]) -> Result<Verified, OrMemory<SolveFault>>
+    ensures module { IfOk result (IsModuleOfCode bytes.now) }
+    ensures refused { IfRefused result (IsUnverified bytes.now) }
+{
+    let module = decoded(alloc, bytes)?;
     match verify(alloc, module) {
         Ok(verified) => Ok(verified),
-        Err((_module, error)) => Err(SolveError::from(error)),
+        Err((_module, error)) => Err(error.raise()),
     }
 }
 
@@ -54,7 +69,7 @@ pub fn solve_code<R: Threads + Sync, G: Gate + Sync, S: Sink>(
         (λ answer. Appends (S.taken writer.old) (S.taken writer.new) (report_text answer)) }
     ensures written { Delivers (Outputs SolveCode bytes.now) result
         S.taken S.has_failed writer.old writer.new }
-    ensures refused { IfErr result (IsRefusedBytes bytes.now) }
+    ensures refused { IfInputRefused result (IsRefusedBytes bytes.now) }
 {
     let verified = verified_code(context.alloc, bytes)?;
     write_report(context, &verified, options, writer)
@@ -69,7 +84,7 @@ pub fn solve_code<R: Threads + Sync, G: Gate + Sync, S: Sink>(
 pub fn verify_code<S: Sink>(alloc: Global, bytes: &[u8], writer: &mut S) -> Result<(), SolveError>
     ensures accepted { Delivers (Outputs Verify bytes.now) result
         S.taken S.has_failed writer.old writer.new }
-    ensures refused { IfErr result (IsUnverified bytes.now) }
+    ensures refused { IfInputRefused result (IsUnverified bytes.now) }
 {
     let _verified = verified_code(alloc, bytes)?;
     deliver(b"accepted\n", writer)
@@ -83,9 +98,9 @@ pub fn verify_code<S: Sink>(alloc: Global, bytes: &[u8], writer: &mut S) -> Resu
 pub fn list_code<S: Sink>(alloc: Global, bytes: &[u8], writer: &mut S) -> Result<(), SolveError>
     ensures listed { Delivers (Outputs List bytes.now) result
         S.taken S.has_failed writer.old writer.new }
-    ensures refused { IfErr result (IsUnlisted bytes.now) }
+    ensures refused { IfInputRefused result (IsUnlisted bytes.now) }
 {
-    let module = decode(alloc, bytes)?;
+    let module = decoded(alloc, bytes)?;
     let listing = list(alloc, &module)?;
     deliver(listing.as_slice(), writer)
 }

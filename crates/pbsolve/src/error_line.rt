@@ -1,13 +1,13 @@
 //! Errors that have a line of their own: which rule was broken, and where.
 ghost use Rattle.std.specs.Prelude.{◌≡◌, ℕ, List, IfOk, string_bytes};
-ghost use Rattle.pbsolve.specs.Lines.{line_at, byte_line, code_line, text_rule_number};
+ghost use Rattle.pbsolve.specs.Lines.{line_at, text_rule_number};
 
-use crate::fault::ProgramFault;
-use pb_bytecode::ModuleError;
-use pb_text::TextError;
+use pb_assembler::Excess;
+use pb_bytecode::ModuleFault;
+use pb_text::{TextFault, TextRule};
 use pb_text_tree::Place;
-use pb_typing_declarations::TypeError;
-use pb_verifier::VerifyError;
+use pb_typing_declarations::TypingFault;
+use pb_verifier::CodeFault;
 use std::alloc::{AllocError, Global};
 
 /// An error that the program tells of by a line.
@@ -16,8 +16,7 @@ pub trait ErrorLine {
     ghost line: { Self → List ℕ };
 
     /// The line of this error, with its line feed: the rule's number and its place, as `P02 line 1
-    /// column 22`, or `M01` where the error is want of memory. The one error of this call is want
-    /// of memory for the line.
+    /// column 22`. The one error of this call is want of memory for the line.
     fn error_line(&self, alloc: Global) -> Result<String, AllocError>
         ensures { IfOk result (λ s. string_bytes s ≡ line self.now) };
 }
@@ -31,88 +30,71 @@ fn placed_line(alloc: Global, rule: &str, place: Place) -> Result<String, AllocE
     format!(in alloc; "{rule} line {line} column {column}\n")
 }
 
-// The number of a rule of module bytes and a byte.
-fn byte_line(alloc: Global, rule: &str, byte: usize) -> Result<String, AllocError>
-    ensures { IfOk result (λ s. string_bytes s ≡ byte_line rule.now byte) }
-{
-    format!(in alloc; "{rule} byte {byte}\n")
-}
-
-// The number of a rule of code, and the place of an equation and of an instruction in its code.
-fn code_line(alloc: Global, rule: &str, equation: usize, place: usize) -> Result<String, AllocError>
-    ensures { IfOk result (λ s. string_bytes s ≡ code_line rule.now equation place) }
-{
-    format!(in alloc; "{rule} equation {equation} place {place}\n")
-}
-
-fn text_rule_number(rule: pb_text::TextRule) -> &'static str
+fn text_rule_number(rule: TextRule) -> &'static str
     ensures { result.now ≡ text_rule_number rule }
 {
     match rule {
-        pb_text::TextRule::UnknownByte => "P01",
-        pb_text::TextRule::UnexpectedToken => "P02",
-        pb_text::TextRule::LargeNumber => "P03",
-        pb_text::TextRule::LimitExceeded => "P04",
-        pb_text::TextRule::RangeLine => "P05",
+        TextRule::UnknownByte => "P01",
+        TextRule::UnexpectedToken => "P02",
+        TextRule::LargeNumber => "P03",
+        TextRule::LimitExceeded => "P04",
+        TextRule::RangeLine => "P05",
     }
 }
 
-impl ErrorLine for TextError {
+impl ErrorLine for TextFault {
     ghost use Rattle.pbsolve.specs.Lines.{text_line};
 
     ghost line = { text_line };
 
     fn error_line(&self, alloc: Global) -> Result<String, AllocError> {
-        match self {
-            TextError::Refused { rule, place } => placed_line(
-                alloc,
-                text_rule_number(*rule),
-                *place,
-            ),
-            TextError::Memory => String::from_str(alloc, ProgramFault::M01.line()),
-        }
+        placed_line(alloc, text_rule_number(self.rule), self.place)
     }
 }
 
-impl ErrorLine for TypeError {
-    ghost use Rattle.pbsolve.specs.Lines.{type_line};
+impl ErrorLine for TypingFault {
+    ghost use Rattle.pbsolve.specs.Lines.{typing_line};
 
-    ghost line = { type_line };
+    ghost line = { typing_line };
 
     fn error_line(&self, alloc: Global) -> Result<String, AllocError> {
-        match self {
-            TypeError::At(fault) => placed_line(alloc, fault.rule.number(), fault.place),
-            TypeError::Memory => String::from_str(alloc, ProgramFault::M01.line()),
-        }
+        placed_line(alloc, self.rule.number(), self.place)
     }
 }
 
-impl ErrorLine for ModuleError {
+impl ErrorLine for Excess {
+    ghost use Rattle.pbsolve.specs.Lines.{limit_line};
+
+    ghost line = { limit_line };
+
+    fn error_line(&self, alloc: Global) -> Result<String, AllocError> {
+        let number = self.limit.number();
+        let equation = self.equation;
+        format!(in alloc; "{number} equation {equation}\n")
+    }
+}
+
+impl ErrorLine for ModuleFault {
     ghost use Rattle.pbsolve.specs.Lines.{module_line};
 
     ghost line = { module_line };
 
     fn error_line(&self, alloc: Global) -> Result<String, AllocError> {
-        match self {
-            ModuleError::ModuleFault { rule, byte } => byte_line(alloc, rule.number(), *byte),
-            ModuleError::Memory => String::from_str(alloc, ProgramFault::M01.line()),
-        }
+        let number = self.rule.number();
+        let byte = self.byte;
+        format!(in alloc; "{number} byte {byte}\n")
     }
 }
 
-impl ErrorLine for VerifyError {
-    ghost use Rattle.pbsolve.specs.Lines.{verify_line};
+impl ErrorLine for CodeFault {
+    ghost use Rattle.pbsolve.specs.Lines.{code_line};
 
-    ghost line = { verify_line };
+    ghost line = { code_line };
 
     fn error_line(&self, alloc: Global) -> Result<String, AllocError> {
-        match self {
-            VerifyError::Refusal {
-                rule,
-                equation,
-                place,
-            } => code_line(alloc, rule.number(), *equation, *place),
-            VerifyError::Memory => String::from_str(alloc, ProgramFault::M01.line()),
-        }
+        let number = self.rule.number();
+        let equation = self.equation;
+        let place = self.place;
+        format!(in alloc; "{number} equation {equation} place {place}\n")
     }
 }

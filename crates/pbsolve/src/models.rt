@@ -1,5 +1,8 @@
 //! From models to the texts of their properties, and to the verdicts on them.
-ghost use Rattle.std.specs.Prelude.{◌≡◌, ◌≢◌, ◌≤◌, ◌<◌, ℕ, List, Some, length, IfOk, IfErr};
+ghost use Rattle.std.specs.Prelude.{◌≡◌, ◌≤◌, ◌<◌, ℕ, List, Some, length, IfOk};
+ghost use Rattle.pb_errors.specs.OrMemory.{IfRefused};
+ghost use Rattle.pbsolve.specs.Errors.{IfInputRefused};
+ghost use Rattle.pbsolve.specs.declared.solve_fault.SolveFault.TheVariants.{NoProperty};
 ghost use Rattle.std.specs.Prelude.{Err, IsSome, option_copied, string_bytes};
 ghost use Rattle.std.specs.List.{slice_get};
 ghost use Rattle.pb_model_tree.specs.Form.{PropertyForm, model_form};
@@ -10,7 +13,8 @@ ghost use Rattle.pbsolve.specs.Outputs.{OutputsTranslation, OutputsVerdicts};
 
 use crate::compile::verified;
 use crate::delivery::deliver;
-use crate::solve_error::SolveError;
+use crate::{SolveError, SolveFault};
+use pb_errors::OrMemory;
 use pb_exploration::Gate;
 use pb_limits::MAX_INPUT_BYTES;
 use pb_machine::instances_have_trees;
@@ -41,8 +45,9 @@ pub fn translate_text<S: Sink>(
     requires input { length bytes.now ≤ MAX_INPUT_BYTES }
     ensures text { Delivers (OutputsTranslation (option_copied property.entry) bytes.now) result
         S.taken S.has_failed writer.old writer.new }
-    ensures refused { IfErr result (IsUntranslated (option_copied property.entry) bytes.now) }
-    ensures named { result ≡ Err SolveError.NoProperty → IsSome property.entry }
+    ensures refused { IfInputRefused result
+        (IsUntranslated (option_copied property.entry) bytes.now) }
+    ensures named { result ≡ Err (SolveError.Refused NoProperty) → IsSome property.entry }
 {
     let text = translation_of(alloc, bytes, property)?;
     deliver(text.as_slice(), writer)
@@ -53,20 +58,22 @@ fn verdict_at<R: Threads + Sync, G: Gate + Sync>(
     model: &TypedModel,
     place: usize,
     options: SolveOptions,
-) -> Result<Answer, SolveError>
+) -> Result<Answer, OrMemory<SolveFault>>
     requires read { (bytes : List ℕ) × IsModelOf bytes (model_form model.now.model) }
     requires within { place < length model.now.model.properties.items }
     ensures verdict { IfOk result (λ answer. (p : PropertyForm)
         → slice_get (model_form model.now.model).properties place ≡ Some p
         → IsVerdict (model_form model.now.model) p answer) }
-    ensures refused { IfErr result (λ e. (bytes : List ℕ)
-        → IsModelOf bytes (model_form model.now.model) → IsUnchecked bytes e) }
-    ensures unwritten { IfErr result (λ e. e ≢ SolveError.Write (record {})) }
+    ensures refused { IfRefused result (λ fault. (bytes : List ℕ)
+        → IsModelOf bytes (model_form model.now.model) → IsUnchecked bytes fault) }
 {
     let text = text_at(context.alloc, model, place)?;
     let verified = verified(context.alloc, &text)?;
     instances_have_trees(&verified);
-    Ok(answer_module(context, &verified, options)?)
+    match answer_module(context, &verified, options) {
+        Ok(answer) => Ok(answer),
+        Err(error) => Err(error.raise()),
+    }
 }
 
 // The lines of the verdicts on a model's properties.
@@ -74,13 +81,12 @@ fn verdicts_on<R: Threads + Sync, G: Gate + Sync>(
     context: &Context<'_, R, G>,
     model: &TypedModel,
     options: SolveOptions,
-) -> Result<String, SolveError>
+) -> Result<String, OrMemory<SolveFault>>
     requires read { (bytes : List ℕ) × IsModelOf bytes (model_form model.now.model) }
     ensures lines { IfOk result (λ lines. AreVerdicts (model_form model.now.model)
         (model_form model.now.model).properties (string_bytes lines)) }
-    ensures refused { IfErr result (λ e. (bytes : List ℕ)
-        → IsModelOf bytes (model_form model.now.model) → IsUnchecked bytes e) }
-    ensures unwritten { IfErr result (λ e. e ≢ SolveError.Write (record {})) }
+    ensures refused { IfRefused result (λ fault. (bytes : List ℕ)
+        → IsModelOf bytes (model_form model.now.model) → IsUnchecked bytes fault) }
 {
     let mut lines = String::new(context.alloc);
     for place in 0..model.model.properties.len() {
@@ -110,7 +116,7 @@ pub fn check_text<R: Threads + Sync, G: Gate + Sync, S: Sink>(
     requires input { length bytes.now ≤ MAX_INPUT_BYTES }
     ensures verdicts { Delivers (OutputsVerdicts bytes.now) result
         S.taken S.has_failed writer.old writer.new }
-    ensures refused { IfErr result (IsUnchecked bytes.now) }
+    ensures refused { IfInputRefused result (IsUnchecked bytes.now) }
 {
     let model = read_model(context.alloc, bytes)?;
     let lines = verdicts_on(context, &model, options)?;

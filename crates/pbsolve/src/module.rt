@@ -1,6 +1,8 @@
 //! The texts of a verified module: its report, its game, its solution, a certificate and its
 //! evidence.
-ghost use Rattle.std.specs.Prelude.{◌≢◌, ◌≤◌, ◌<◌, ℕ, Option, IfOk, IfErr};
+ghost use Rattle.std.specs.Prelude.{◌≤◌, ◌<◌, ℕ, Option, IfOk};
+ghost use Rattle.pb_errors.specs.OrMemory.{IfRefused};
+ghost use Rattle.pbsolve.specs.Errors.{IfInputRefused};
 ghost use Rattle.std.specs.Io.KnownBytes.{Appends};
 ghost use Rattle.pb_text_tree.specs.declared.place.Place.{Place};
 ghost use Rattle.pb_report.specs.Report.{report_text};
@@ -12,7 +14,8 @@ ghost use Rattle.pbsolve.specs.Delivery.{Delivers};
 ghost use Rattle.pbsolve.specs.Refusals.{IsRefusedModule};
 ghost use Rattle.pbsolve.specs.Outputs.{ForReport};
 
-use crate::solve_error::SolveError;
+use crate::{SolveError, SolveFault};
+use pb_errors::OrMemory;
 use pb_exploration::Gate;
 use pb_game::Solver;
 use pb_module_solver::{
@@ -36,7 +39,7 @@ pub(crate) fn write_report<R: Threads + Sync, G: Gate + Sync, S: Sink>(
         (λ answer. Appends (S.taken writer.old) (S.taken writer.new) (report_text answer)) }
     ensures written { Delivers (ForReport verified.now) result
         S.taken S.has_failed writer.old writer.new }
-    ensures refused { IfErr result (IsRefusedModule verified.now) }
+    ensures refused { IfInputRefused result (IsRefusedModule verified.now) }
 {
     let answer = answer_module(context, verified, options)?;
     report(context.alloc, &answer, writer)?;
@@ -53,7 +56,7 @@ pub(crate) fn write_game<R: Threads + Sync, G: Gate + Sync, S: Sink>(
     requires { (0 < workers) × (workers ≤ 16) }
     ensures game { Delivers (ForGameText verified.now) result
         S.taken S.has_failed writer.old writer.new }
-    ensures refused { IfErr result (IsRefusedModule verified.now) }
+    ensures refused { IfInputRefused result (IsRefusedModule verified.now) }
 {
     let built = build_module(context, verified, workers)?;
     built.write_game(context.alloc, verified, writer)?;
@@ -68,7 +71,7 @@ pub(crate) fn write_solution<R: Threads + Sync, G: Gate + Sync, S: Sink>(
 ) -> Result<(), SolveError>
     ensures solution { Delivers (ForSolutionText verified.now) result
         S.taken S.has_failed writer.old writer.new }
-    ensures refused { IfErr result (IsRefusedModule verified.now) }
+    ensures refused { IfInputRefused result (IsRefusedModule verified.now) }
 {
     let solved = solve_module(context, verified, options)?;
     solved.write_solution(context.alloc, verified, writer)?;
@@ -83,7 +86,7 @@ pub(crate) fn write_certificate<R: Threads + Sync, G: Gate + Sync, S: Sink>(
 ) -> Result<(), SolveError>
     ensures certificate { Delivers (ForCertificateText verified.now) result
         S.taken S.has_failed writer.old writer.new }
-    ensures refused { IfErr result (IsRefusedModule verified.now) }
+    ensures refused { IfInputRefused result (IsRefusedModule verified.now) }
 {
     let solved = solve_module(context, verified, options)?;
     solved.write_certificate(context.alloc, verified, writer)?;
@@ -95,15 +98,17 @@ pub(crate) fn explained<R: Threads + Sync, G: Gate + Sync>(
     context: &Context<'_, R, G>,
     verified: &Verified,
     workers: u32,
-) -> Result<Explanation, SolveError>
+) -> Result<Explanation, OrMemory<SolveFault>>
     requires { (0 < workers) × (workers ≤ 16) }
     ensures explanation { IfOk result (IsExplanation verified.now) }
-    ensures refused { IfErr result (IsRefusedModule verified.now) }
-    ensures unwritten { IfErr result (λ e. e ≢ SolveError.Write (record {})) }
+    ensures refused { IfRefused result (IsRefusedModule verified.now) }
 {
     let solver = Solver::Zielonka;
     let options = SolveOptions { workers, solver };
-    Ok(explain_module(context, verified, options)?)
+    match explain_module(context, verified, options) {
+        Ok(explanation) => Ok(explanation),
+        Err(error) => Err(error.raise()),
+    }
 }
 
 // Writes the evidence of a module, with the places that are given of its calls.
@@ -120,7 +125,7 @@ pub(crate) fn write_evidence<S: Sink>(
         → AreCallPlaces place placed.now.explanation.now.evidence placed.now.call_places.now
         → Delivers (ForEvidenceText verified.now place) result
         S.taken S.has_failed writer.old writer.new }
-    ensures refused { IfErr result (IsRefusedModule verified.now) }
+    ensures refused { IfInputRefused result (IsRefusedModule verified.now) }
 {
     write_explanation(alloc, verified, placed, writer)?;
     Ok(())

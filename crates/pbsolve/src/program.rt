@@ -4,6 +4,8 @@ ghost use Rattle.std.specs.Prelude.{IsSome};
 ghost use Rattle.std.specs.Io.KnownBytes.{Appends};
 ghost use Rattle.pb_sorts.specs.Sink.{AppendsPrefix};
 ghost use Rattle.pbsolve.specs.declared.fault.ProgramFault.TheVariants as fault;
+ghost use Rattle.pbsolve.specs.declared.solve_fault.SolveFault.TheVariants.{NoProperty};
+ghost use Rattle.pbsolve.specs.Errors.{IfInputRefused};
 ghost use Rattle.pbsolve.specs.Lines.{line_of};
 ghost use Rattle.pb_command_line.specs.declared.command.Command.TheVariants.{Translate};
 ghost use Rattle.pb_command_line.specs.Words.{AskForSomething, HaveFault, AskNothing, AskPlainly};
@@ -20,10 +22,9 @@ use crate::models::{check_text, translate_text};
 use crate::options::ExplainOptions;
 use crate::run_error::RunError;
 use crate::solve::{certificate_of, explain_text, game_of, solution_of, solve_text};
-use crate::solve_error::SolveError;
 use crate::status::Status;
 use crate::streams::Streams;
-use crate::{ErrorLine, ProgramFault};
+use crate::{ErrorLine, ProgramFault, SolveError};
 use pb_command_line::{Command, Request, request_of};
 use pb_exploration::Gate;
 use pb_limits::MAX_INPUT_BYTES;
@@ -43,9 +44,9 @@ fn answer<R: Threads + Sync, G: Gate + Sync, O: Sink>(
     requires { length bytes.now ≤ MAX_INPUT_BYTES }
     ensures written { Delivers (OutputsFor request bytes.now) result
         O.taken O.has_failed out.old out.new }
-    ensures refused { IfErr result (IsRefusedFor request bytes.now) }
-    ensures named { result ≡ Err SolveError.NoProperty → IsSome request.property }
-    ensures asked { result ≡ Err SolveError.NoProperty → request.command ≡ Translate }
+    ensures refused { IfInputRefused result (IsRefusedFor request bytes.now) }
+    ensures named { result ≡ Err (SolveError.Refused NoProperty) → IsSome request.property }
+    ensures asked { result ≡ Err (SolveError.Refused NoProperty) → request.command ≡ Translate }
 {
     let options = SolveOptions {
         workers: request.workers,

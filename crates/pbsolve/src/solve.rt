@@ -1,5 +1,6 @@
 //! From texts to answers.
-ghost use Rattle.std.specs.Prelude.{◌≤◌, ◌<◌, length, IfOk, IfErr};
+ghost use Rattle.std.specs.Prelude.{◌≤◌, ◌<◌, length, IfOk};
+ghost use Rattle.pbsolve.specs.Errors.{IfInputRefused};
 ghost use Rattle.std.specs.Io.KnownBytes.{Appends};
 ghost use Rattle.pb_command_line.specs.declared.command.Command.TheVariants.{Solve, Game, Solution};
 ghost use Rattle.pb_command_line.specs.declared.command.Command.TheVariants.{Certificate};
@@ -9,13 +10,13 @@ ghost use Rattle.pbsolve.specs.Delivery.{Delivers};
 ghost use Rattle.pbsolve.specs.Refusals.{IsRefused};
 ghost use Rattle.pbsolve.specs.Outputs.{Outputs, OutputsEvidence};
 
+use crate::SolveError;
 use crate::call_places::call_places_of;
 use crate::compile::{typed, verified, verified_text};
 use crate::module::{
     explained, write_certificate, write_evidence, write_game, write_report, write_solution,
 };
 use crate::options::ExplainOptions;
-use crate::solve_error::SolveError;
 use pb_exploration::Gate;
 use pb_limits::MAX_INPUT_BYTES;
 use pb_machine::instances_have_trees;
@@ -56,7 +57,7 @@ pub fn solve_text<R: Threads + Sync, G: Gate + Sync, S: Sink>(
         S.taken S.has_failed writer.old writer.new }
 
     // What a refusal says of the text.
-    ensures refused { IfErr result (IsRefused bytes.now) }
+    ensures refused { IfInputRefused result (IsRefused bytes.now) }
 {
     let verified = verified_text(context.alloc, bytes)?;
     instances_have_trees(&verified);
@@ -77,7 +78,7 @@ pub fn game_of<R: Threads + Sync, G: Gate + Sync, S: Sink>(
     requires workers { (0 < workers) × (workers ≤ 16) }
     ensures game { Delivers (Outputs Game bytes.now) result
         S.taken S.has_failed writer.old writer.new }
-    ensures refused { IfErr result (IsRefused bytes.now) }
+    ensures refused { IfInputRefused result (IsRefused bytes.now) }
 {
     let verified = verified_text(context.alloc, bytes)?;
     write_game(context, &verified, workers, writer)
@@ -98,7 +99,7 @@ pub fn solution_of<R: Threads + Sync, G: Gate + Sync, S: Sink>(
     requires input { length bytes.now ≤ MAX_INPUT_BYTES }
     ensures solution { Delivers (Outputs Solution bytes.now) result
         S.taken S.has_failed writer.old writer.new }
-    ensures refused { IfErr result (IsRefused bytes.now) }
+    ensures refused { IfInputRefused result (IsRefused bytes.now) }
 {
     let verified = verified_text(context.alloc, bytes)?;
     write_solution(context, &verified, options, writer)
@@ -122,7 +123,7 @@ pub fn certificate_of<R: Threads + Sync, G: Gate + Sync, S: Sink>(
     requires input { length bytes.now ≤ MAX_INPUT_BYTES }
     ensures certificate { Delivers (Outputs Certificate bytes.now) result
         S.taken S.has_failed writer.old writer.new }
-    ensures refused { IfErr result (IsRefused bytes.now) }
+    ensures refused { IfInputRefused result (IsRefused bytes.now) }
 {
     let verified = verified_text(context.alloc, bytes)?;
     write_certificate(context, &verified, options, writer)
@@ -148,7 +149,7 @@ pub fn explain_text<R: Threads + Sync, G: Gate + Sync, S: Sink>(
     requires input { length bytes.now ≤ MAX_INPUT_BYTES }
     ensures evidence { Delivers (OutputsEvidence options.places bytes.now) result
         S.taken S.has_failed writer.old writer.new }
-    ensures refused { IfErr result (IsRefused bytes.now) }
+    ensures refused { IfInputRefused result (IsRefused bytes.now) }
 {
     let typed = typed(context.alloc, bytes)?;
     let verified = verified(context.alloc, &typed)?;

@@ -4,12 +4,13 @@ use Rattle.pb_command_line.specs.declared.command.Command.TheVariants.{Verify}
 use Rattle.pbsolve.specs.Outputs.{Outputs}
 use Rattle.pbsolve.specs.Refusals.{IsUnverified}
 use Rattle.pbsolve.proofs.Deliveries.{less_delivered, nothing_written, only_write}
+use Rattle.pbsolve.proofs.Refusals.{handed_up}
 use Rattle.pbsolve.proofs.code.verify_code.Goals as goal
 
 pub returns-in_err-_verified-clause-accepted : goal.returns-in_err-_verified-clause-accepted
 returns-in_err-_verified-clause-accepted g c =
-    nothing_written g.S.Sink.taken g.S.Sink.has_failed (Outputs Verify c.args.bytes.now) c.args.writer.now
-    c.from_residual.result c.in_err-_verified.field-0.0 c.from_residual.ensures.1 c.in_err-_verified.ensures.unwritten
+    nothing_written g.S.Sink.taken g.S.Sink.has_failed _ (Outputs Verify c.args.bytes.now) c.args.writer.now
+    c.in_err-_verified.field-0.0 c.from_residual.result c.from_residual.ensures.1
 
 pub returns-clause-accepted : goal.returns-clause-accepted
 returns-clause-accepted g c =
@@ -18,4 +19,9 @@ returns-clause-accepted g c =
     c.args.writer.now c.deliver.new.writer c.deliver.result c.deliver.ensures.text
 
 pub returns-clause-refused : goal.returns-clause-refused
-returns-clause-refused g c = only_write (IsUnverified c.args.bytes.now) tt c.deliver.result c.deliver.ensures.failed
+returns-clause-refused g c = only_write (IsUnverified c.args.bytes.now) c.deliver.result c.deliver.ensures.failed
+
+pub returns-in_err-_verified-clause-refused : goal.returns-in_err-_verified-clause-refused
+returns-in_err-_verified-clause-refused g c =
+    let P = IsUnverified c.args.bytes.now in
+    handed_up P P (λ f h. h) c.in_err-_verified.field-0.0 c.from_residual.result c.in_err-_verified.ensures.refused c.from_residual.ensures.1

@@ -1,5 +1,5 @@
 -- The module of the text says what the text says.
-use Rattle.std.proofs.Common.{◌≡◌, subst}
+use Rattle.std.proofs.Common.{◌≡◌, sym, subst}
 use Rattle.pb_text_tree.specs.Form.{spec_form}
 use Rattle.pb_text_meaning.specs.Erase.{erase}
 use Rattle.pb_typing_rules.specs.WellTyped.{IsWellTyped}
@@ -9,7 +9,10 @@ use Rattle.pb_bytecode.specs.Decoded.{module_contents}
 use Rattle.pb_verifier.specs.Acceptance.{IsAccepted}
 use Rattle.pb_assembler_modules.specs.Answers.{HasMeaningOf}
 use Rattle.pb_assembler_modules.specs.Module.{IsCompiledModule, KeepsAllLimits}
+use Rattle.pb_assembler.specs.Excess.{IsFirstExcess}
+use Rattle.pb_errors.proofs.Faults.{if_raised}
 use Rattle.pbsolve.specs.Answers.{IsModuleOfForm}
+use Rattle.pbsolve.specs.Refusals.{IsUncompiledForm}
 use Rattle.pbsolve.proofs.compile.compiled.Goals as goal
 
 module_of : (typed normal : Typed) (m : Contents) → IsWellTyped (erase (spec_form typed.spec)) → normal ≡ typed
@@ -29,3 +32,11 @@ returns-in-Ok-clause-module c =
     module_of c.args.typed.now c.in_ok-normal.normal.typed.now (module_contents c.in-Ok.module)
     c.requires.well_typed c.in_ok-normal.ensures.text c.in-Ok.ensures.«module» c.in-Ok.ensures.kept
     c.in-Ok.ensures.accepted c.in-Ok.ensures.meaning
+
+pub returns-clause-refused : goal.returns-clause-refused
+returns-clause-refused c =
+    let text = spec_form c.args.typed.now.spec in
+    if_raised c.in-Err.error c.raise.result c.raise.ensures
+    (λ fault above same excess. subst (IsUncompiledForm text) (sym same)
+    (subst (λ (t : Typed). IsFirstExcess (erase (spec_form t.spec)) fault) c.in_ok-normal.ensures.text excess))
+    c.in-Err.ensures.refused

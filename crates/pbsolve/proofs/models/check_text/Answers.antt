@@ -1,33 +1,30 @@
 -- An error on one of its properties is an error on the model.
-use Rattle.std.proofs.Common.{◌≡◌, ℕ, List, IfErr, IsErrAnd, Result, Ok, Err, sym, string_bytes, subst}
+use Rattle.std.proofs.Common.{◌≡◌, ℕ, List, string_bytes, sym, subst}
 use Rattle.pb_model_tree.specs.Form.{model_form}
-use Rattle.pbsolve.specs.declared.solve_error.SolveError.{SolveError}
 use Rattle.pbsolve.specs.Models.{IsUnchecked}
-use Rattle.pbsolve.specs.Errors.{model_refusal}
 use Rattle.pbsolve.specs.Outputs.{OutputsVerdicts}
-use Rattle.pbsolve.proofs.Deliveries.{less_delivered, model_unwritten, nothing_written, only_write}
+use Rattle.pbsolve.proofs.Deliveries.{less_delivered, nothing_written, only_write}
+use Rattle.pbsolve.proofs.PropertyVerdicts.{WhereUnchecked, model_unchecked}
+use Rattle.pbsolve.proofs.Refusals.{handed_up, refused_up}
+use Rattle.pb_model_properties.specs.Refusals.{IsRefusedModel}
+use Rattle.pbsolve.specs.Errors.{fault_of_model}
 use Rattle.pbsolve.proofs.models.check_text.Goals as goal
-
--- `?` hands an error up as it is
-refused_up : {T : Type 0} (bytes : List ℕ) (r : Result T SolveError) (e : SolveError) → IsErrAnd r (λ x. x ≡ e) → IsUnchecked bytes e → IfErr r (IsUnchecked bytes)
-refused_up bytes (Ok x) e made h = tt
-refused_up bytes (Err x) e made h = subst (IsUnchecked bytes) (sym made) h
 
 pub returns-in_err-lines-clause-refused : goal.returns-in_err-lines-clause-refused
 returns-in_err-lines-clause-refused g c =
-    refused_up c.args.bytes.now c.from_residual-in_err-lines.result c.in_err-lines.field-0.0 c.from_residual-in_err-lines.ensures.1
-    (c.in_err-lines.ensures.refused c.args.bytes.now c.in_ok-model.ensures.model)
+    handed_up (WhereUnchecked (model_form c.in_ok-model.model.model)) (IsUnchecked c.args.bytes.now)
+    (λ f h. h c.args.bytes.now c.in_ok-model.ensures.model)
+    c.in_err-lines.field-0.0 c.from_residual-in_err-lines.result c.in_err-lines.ensures.refused c.from_residual-in_err-lines.ensures.1
 
 pub returns-in_err-model-clause-verdicts : goal.returns-in_err-model-clause-verdicts
 returns-in_err-model-clause-verdicts g c =
-    let error = c.in_err-model.field-0.0 in
-    nothing_written g.S.Sink.taken g.S.Sink.has_failed (OutputsVerdicts c.args.bytes.now) c.args.writer.now
-    c.from_residual.result (model_refusal error) c.from_residual.ensures.1 (model_unwritten error)
+    nothing_written g.S.Sink.taken g.S.Sink.has_failed _ (OutputsVerdicts c.args.bytes.now) c.args.writer.now
+    c.in_err-model.field-0.0 c.from_residual.result c.from_residual.ensures.1
 
 pub returns-in_err-lines-clause-verdicts : goal.returns-in_err-lines-clause-verdicts
 returns-in_err-lines-clause-verdicts g c =
-    nothing_written g.S.Sink.taken g.S.Sink.has_failed (OutputsVerdicts c.args.bytes.now) c.args.writer.now
-    c.from_residual-in_err-lines.result c.in_err-lines.field-0.0 c.from_residual-in_err-lines.ensures.1 c.in_err-lines.ensures.unwritten
+    nothing_written g.S.Sink.taken g.S.Sink.has_failed _ (OutputsVerdicts c.args.bytes.now) c.args.writer.now
+    c.in_err-lines.field-0.0 c.from_residual-in_err-lines.result c.from_residual-in_err-lines.ensures.1
 
 pub returns-clause-verdicts : goal.returns-clause-verdicts
 returns-clause-verdicts g c =
@@ -42,4 +39,11 @@ returns-clause-verdicts g c =
     )) c.args.writer.now c.deliver.new.writer c.deliver.result c.deliver.ensures.text
 
 pub returns-clause-refused : goal.returns-clause-refused
-returns-clause-refused g c = only_write (IsUnchecked c.args.bytes.now) tt c.deliver.result c.deliver.ensures.failed
+returns-clause-refused g c = only_write (IsUnchecked c.args.bytes.now) c.deliver.result c.deliver.ensures.failed
+
+pub returns-in_err-model-clause-refused : goal.returns-in_err-model-clause-refused
+returns-in_err-model-clause-refused g c =
+    let bytes = c.args.bytes.now in
+    refused_up (λ f above. above ≡ fault_of_model f) (IsRefusedModel bytes) (IsUnchecked bytes)
+    (λ f above same h. subst (IsUnchecked bytes) (sym same) (model_unchecked bytes f h))
+    c.in_err-model.field-0.0 c.from_residual.result c.in_err-model.ensures.refused c.from_residual.ensures.1

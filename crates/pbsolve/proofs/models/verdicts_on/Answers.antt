@@ -5,6 +5,8 @@ use Rattle.pb_model_tree.specs.Form.{PropertyForm, model_form, property_form}
 use Rattle.pb_model_properties.specs.Verdicts.{verdict_text}
 use Rattle.pbsolve.specs.Models.{AreVerdicts}
 use Rattle.pbsolve.proofs.Verdicts.{at_mapped, next_verdict}
+use Rattle.pbsolve.proofs.Refusals.{handed_on}
+use Rattle.pbsolve.proofs.PropertyVerdicts.{WhereUnchecked}
 use Rattle.pbsolve.proofs.models.verdicts_on.Goals as goal
 
 pub loop-place-init : goal.loop-place-init
@@ -31,3 +33,8 @@ returns-clause-lines g c =
     let long : length properties ≤ c.loop-place.place =
     omega (arith, length-map model.properties.items property_form, c.len-place-end.ensures, c.loop-place-test.false, model.properties.ok.0) in
     subst (λ (ps : List PropertyForm). AreVerdicts (model_form model) ps (string_bytes c.loop-place.lines)) (take_all c.loop-place.place properties long) c.loop-place.invariant
+
+pub returns-in_err-answer-clause-refused : goal.returns-in_err-answer-clause-refused
+returns-in_err-answer-clause-refused g c =
+    let P = WhereUnchecked (model_form c.args.model.now.model) in
+    handed_on P P (λ f h. h) c.in_err-answer.field-0.0 c.from_residual.result c.in_err-answer.ensures.refused c.from_residual.ensures.1

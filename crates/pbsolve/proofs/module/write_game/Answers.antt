@@ -1,13 +1,13 @@
 use Rattle.pb_module_solver.specs.Texts.{ForGameText}
-use Rattle.pbsolve.specs.Errors.{build_refusal}
-use Rattle.pbsolve.proofs.Deliveries.{build_unwritten, nothing_written, sent_up, sent_whole}
+use Rattle.pbsolve.proofs.Deliveries.{nothing_written, sent_up, sent_whole}
+use Rattle.pbsolve.proofs.Refusals.{failed_up, too_large_up}
+use Rattle.pbsolve.specs.Refusals.{IsRefusedModule}
 use Rattle.pbsolve.proofs.module.write_game.Goals as goal
 
 pub returns-in_err-built-clause-game : goal.returns-in_err-built-clause-game
 returns-in_err-built-clause-game g c =
-    let error = c.in_err-built.field-0.0 in
-    nothing_written g.S.Sink.taken g.S.Sink.has_failed (ForGameText c.args.verified.now) c.args.writer.now
-    c.from_residual.result (build_refusal error) c.from_residual.ensures.1 (build_unwritten error)
+    nothing_written g.S.Sink.taken g.S.Sink.has_failed _ (ForGameText c.args.verified.now) c.args.writer.now
+    c.in_err-built.field-0.0 c.from_residual.result c.from_residual.ensures.1
 
 pub returns-in_err-write_game-clause-game : goal.returns-in_err-write_game-clause-game
 returns-in_err-write_game-clause-game g c =
@@ -19,3 +19,11 @@ pub returns-clause-game : goal.returns-clause-game
 returns-clause-game g c =
     sent_whole g.S.Sink.taken g.S.Sink.has_failed (ForGameText c.args.verified.now) c.args.writer.now c.write_game.new.sink
     c.write_game.result c.in_ok-write_game.field-0 c.write_game.ensures c.in_ok-write_game.was
+
+pub returns-in_err-built-clause-refused : goal.returns-in_err-built-clause-refused
+returns-in_err-built-clause-refused g c =
+    too_large_up c.args.verified.now c.in_err-built.field-0.0 c.from_residual.result c.in_err-built.ensures.too_many c.from_residual.ensures.1
+
+pub returns-in_err-write_game-clause-refused : goal.returns-in_err-write_game-clause-refused
+returns-in_err-write_game-clause-refused g c =
+    failed_up (IsRefusedModule c.args.verified.now) c.in_err-write_game.field-0.0 c.from_residual-in_err-write_game.result c.from_residual-in_err-write_game.ensures.1

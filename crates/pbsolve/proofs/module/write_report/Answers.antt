@@ -1,17 +1,17 @@
 use Rattle.std.proofs.Common.{ℕ, List}
 use Rattle.pb_report.specs.Report.{report_text}
-use Rattle.pbsolve.specs.Errors.{build_refusal}
 use Rattle.pbsolve.specs.Outputs.{ForReport}
 use Rattle.pb_report.specs.Delivery.{is_failed}
 use Rattle.pb_report.proofs.Delivery as known
-use Rattle.pbsolve.proofs.Deliveries.{build_unwritten, nothing_written, sent_up, sent_whole}
+use Rattle.pbsolve.proofs.Deliveries.{nothing_written, sent_up, sent_whole}
+use Rattle.pbsolve.proofs.Refusals.{failed_up, too_large_up}
+use Rattle.pbsolve.specs.Refusals.{IsRefusedModule}
 use Rattle.pbsolve.proofs.module.write_report.Goals as goal
 
 pub returns-in_err-answer-clause-written : goal.returns-in_err-answer-clause-written
 returns-in_err-answer-clause-written g c =
-    let error = c.in_err-answer.field-0.0 in
-    nothing_written g.S.Sink.taken g.S.Sink.has_failed (ForReport c.args.verified.now) c.args.writer.now
-    c.from_residual.result (build_refusal error) c.from_residual.ensures.1 (build_unwritten error)
+    nothing_written g.S.Sink.taken g.S.Sink.has_failed _ (ForReport c.args.verified.now) c.args.writer.now
+    c.in_err-answer.field-0.0 c.from_residual.result c.from_residual.ensures.1
 
 pub returns-in_err-report-clause-written : goal.returns-in_err-report-clause-written
 returns-in_err-report-clause-written g c =
@@ -34,3 +34,11 @@ returns-clause-written g c =
     sent_whole taken has_failed For c.args.writer.now c.report.new.sink c.report.result c.in_ok-report.field-0
     (known.less_delivered is_failed taken has_failed (λ (P : List ℕ → Type 0). P (report_text answer)) For knows c.args.writer.now c.report.new.sink c.report.result c.report.ensures)
     c.in_ok-report.was
+
+pub returns-in_err-answer-clause-refused : goal.returns-in_err-answer-clause-refused
+returns-in_err-answer-clause-refused g c =
+    too_large_up c.args.verified.now c.in_err-answer.field-0.0 c.from_residual.result c.in_err-answer.ensures.too_many c.from_residual.ensures.1
+
+pub returns-in_err-report-clause-refused : goal.returns-in_err-report-clause-refused
+returns-in_err-report-clause-refused g c =
+    failed_up (IsRefusedModule c.args.verified.now) c.in_err-report.field-0.0 c.from_residual-in_err-report.result c.from_residual-in_err-report.ensures.1
