@@ -7,7 +7,7 @@ use crate::alone::work_alone;
 use crate::modules::all_others;
 use crate::overlap::Overlap;
 use crate::steps::{close, finish, give_back, mark, status, take, three_statuses};
-use pb_exploration::{Core, Event, Explored, NoGate, StepError, explore};
+use pb_exploration::{Core, Event, Explored, NoGate, NotAllowed, StepError, explore};
 use pb_instances::{Marked, Seat, Status, Step, Table};
 use pb_machine::Machine;
 use pb_rows::IndexedRows;
@@ -47,7 +47,7 @@ fn reference_steps(rt: HostRuntime) -> Result<(), Fail> {
     let module = all_others(alloc)?;
     let mut core = Core::start(alloc, &module, 2)?;
     assert!(rt; core.status(module.initial()) == Status::Pending);
-    let refused = Err(StepError::NotAllowed);
+    let refused = Err(StepError::Refused(NotAllowed));
     assert!(rt; core.apply(event(0, Step::Take(0))) == Ok(()));
     assert!(rt; core.apply(event(1, Step::Take(0))) == refused);
     assert!(rt; core.apply(event(1, Step::Mark(1))) == refused);
@@ -76,7 +76,7 @@ fn events_are_shown(rt: HostRuntime) -> Result<(), Fail> {
     let alloc = rt.alloc();
     let shown = format!(in alloc; "{}", event(1, Step::GiveBack(2)))?;
     assert!(rt; shown.as_str() == "worker 1: give back 2");
-    let refused = format!(in alloc; "{} {}", StepError::NotAllowed, StepError::OutOfMemory)?;
+    let refused = format!(in alloc; "{} {}", StepError::Refused(NotAllowed), StepError::Memory)?;
     assert!(rt; refused.as_str() == "I01 M01");
     Ok(())
 }

@@ -1,7 +1,7 @@
 //! The depth of the solver's recursion, which is that of a game's priorities: the most that a game
 //! can have are solved within the stack of a thread.
 
-use pb_game::{Game, GameError, Parts, Player};
+use pb_game::{Game, GameError, GameFault, Parts, Player};
 use pb_strategy::check;
 use pb_zielonka::solve;
 use std::alloc::Global;
@@ -56,6 +56,11 @@ fn all_priorities_within_two_megabytes(rt: HostRuntime) -> Result<(), Fail> {
 fn one_priority_more_is_refused(rt: HostRuntime) -> Result<(), Fail> {
     let alloc = rt.alloc();
     let refused = Game::from_parts(alloc, loops(alloc, 257)?);
-    assert!(rt; matches!(refused, Err(GameError::TooManyPriorities)));
+    assert!(rt;
+        matches!(
+            refused,
+            Err(GameError::Refused(GameFault::TooManyPriorities))
+        )
+    );
     Ok(())
 }

@@ -1,6 +1,6 @@
 use crate::measures::won_by_even;
 use pb_game::Player::{Even, Odd};
-use pb_game::{CertificateRule, Flaw, Game, GameError, Parts, Player, Solution};
+use pb_game::{CertificateRule, Flaw, Game, GameError, GameFault, Parts, Player, Solution};
 use pb_strategy::check;
 use pb_zielonka::solve;
 use std::alloc::Global;
@@ -234,7 +234,7 @@ fn faulty_parts(rt: HostRuntime) -> Result<(), Fail> {
     assert!(rt;
         matches!(
             Game::from_parts(alloc, priority.parts),
-            Err(GameError::Priorities)
+            Err(GameError::Refused(GameFault::Priorities))
         )
     );
     // G04
@@ -243,7 +243,7 @@ fn faulty_parts(rt: HostRuntime) -> Result<(), Fail> {
     assert!(rt;
         matches!(
             Game::from_parts(alloc, lonely.parts),
-            Err(GameError::Places)
+            Err(GameError::Refused(GameFault::Places))
         )
     );
     // G05
@@ -252,7 +252,7 @@ fn faulty_parts(rt: HostRuntime) -> Result<(), Fail> {
     assert!(rt;
         matches!(
             Game::from_parts(alloc, twice.parts),
-            Err(GameError::Successors)
+            Err(GameError::Refused(GameFault::Successors))
         )
     );
     Ok(())

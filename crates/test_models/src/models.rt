@@ -2,7 +2,7 @@
 
 use pb_model_text::parse_model;
 use pb_model_tree::{Formula, Model};
-use pb_text::{TextError, TextRule};
+use pb_text::{TextError, TextFault, TextRule};
 use std::alloc::Global;
 use std::test::Fail;
 
@@ -29,7 +29,7 @@ fn outcome(alloc: Global, text: &[u8]) -> Answer {
             model.properties.len(),
         ]),
         Err(TextError::Memory) => Answer::Memory,
-        Err(TextError::Refused { rule, place }) => {
+        Err(TextError::Refused(TextFault { rule, place })) => {
             Answer::Refused(rule, place.line, place.column)
         }
     }

@@ -2,7 +2,7 @@
 
 use pb_bytecode::decode::decode;
 use pb_bytecode::encode::encode;
-use pb_bytecode::fault::{ModuleError, ModuleRule};
+use pb_bytecode::fault::{ModuleError, ModuleFault, ModuleRule};
 use pb_bytecode::list::list;
 use pb_bytecode::version::Version;
 use pb_bytecode_program::{Arithmetic, Leaf, Op};
@@ -44,7 +44,7 @@ const DIVIDES: [u8; 55] = [
 fn assert_fault(rt: &impl Abort, alloc: Global, bytes: &[u8], rule: ModuleRule, byte: usize) {
     match decode(alloc, bytes) {
         Ok(_) => assert!(rt; false, "read"),
-        Err(error) => assert!(rt; error == ModuleError::ModuleFault { rule, byte }),
+        Err(error) => assert!(rt; error == ModuleError::Refused(ModuleFault { rule, byte })),
     }
 }
 
@@ -192,7 +192,7 @@ fn every_changed_byte_is_read_exactly_or_refused(rt: HostRuntime) -> Result<(), 
                     assert!(rt; written.as_slice() == bytes.as_slice());
                 }
                 Err(ModuleError::Memory) => assert!(rt; false, "memory"),
-                Err(ModuleError::ModuleFault { rule: _, byte }) => assert!(rt; byte <= bytes.len()),
+                Err(ModuleError::Refused(fault)) => assert!(rt; fault.byte <= bytes.len()),
             }
         }
     }

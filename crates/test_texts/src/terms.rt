@@ -1,6 +1,6 @@
 //! Which terms are read, how they group, and where others are refused.
 
-use pb_text_lexer::fault::{ReadingFault, ReadingRule, Refusal};
+use pb_text_lexer::fault::{ReadingError, ReadingRule, Refusal};
 use pb_text_lexer::input::Input;
 use pb_text_lexer::kind::Kind;
 use pb_text_lexer::language::Language;
@@ -151,8 +151,8 @@ fn outcome(rt: &impl Abort, alloc: Global, text: &[u8]) -> Result<String, Fail> 
             show(&mut shown, &found)?;
             Ok(shown)
         }
-        Err(ReadingFault::Memory) => Ok(format!(in alloc; "memory")?),
-        Err(ReadingFault::At(Refusal { rule, place, .. })) => {
+        Err(ReadingError::Memory) => Ok(format!(in alloc; "memory")?),
+        Err(ReadingError::Refused(Refusal { rule, place, .. })) => {
             let number = match rule {
                 ReadingRule::Unexpected => "P02",
                 ReadingRule::Limit => "P04",

@@ -129,7 +129,7 @@ fn full_sinks_have_a_prefix_of_a_certificate(rt: HostRuntime) -> Result<(), Fail
         let mut bytes = [0u8; ROOM];
         let mut sink = Out::new(Cursor::new(&mut bytes[..room]));
         let written = print_certificate(&rt, alloc, &module, &mut sink)?;
-        assert!(&rt; matches!(written, Err(WriteError::Failed(_))));
+        assert!(&rt; matches!(written, Err(WriteError::Refused(_))));
         drop(sink);
         assert!(&rt; bytes.get(..room) == text.get(..room));
     }
@@ -147,7 +147,7 @@ fn full_sinks_have_a_prefix(rt: HostRuntime) -> Result<(), Fail> {
         let mut bytes = [0u8; ROOM];
         let mut sink = Out::new(Cursor::new(&mut bytes[..room]));
         let written = print_game(&rt, alloc, &module, &mut sink)?;
-        assert!(&rt; matches!(written, Err(WriteError::Failed(_))));
+        assert!(&rt; matches!(written, Err(WriteError::Refused(_))));
         assert!(&rt; sink.failed());
         drop(sink);
         assert!(&rt; bytes.get(..room) == text.get(..room));

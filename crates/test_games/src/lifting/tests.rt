@@ -7,7 +7,7 @@ use crate::lifting::overlap::Overlap;
 use pb_exploration::{Gate, NoGate};
 use pb_game::Player::{Even, Odd};
 use pb_game::{Game, Player, Solver};
-use pb_lifting::{LiftError, Ranks, lift};
+use pb_lifting::{LiftError, Ranks, TooManyRanks, lift};
 use pb_module_solver::{Context, solve};
 use pb_strategy::check;
 use std::alloc::Global;
@@ -111,7 +111,10 @@ fn empty_game(rt: HostRuntime) -> Result<(), Fail> {
 #[test]
 fn numbers_of_errors(rt: HostRuntime) -> Result<(), Fail> {
     let alloc = rt.alloc();
-    for (error, number) in [(LiftError::TooManyRanks, "K06"), (LiftError::Memory, "M01")] {
+    for (error, number) in [
+        (LiftError::Refused(TooManyRanks), "K06"),
+        (LiftError::Memory, "M01"),
+    ] {
         assert!(rt; format!(in alloc; "{error}")?.as_str() == number);
     }
     Ok(())
@@ -123,7 +126,7 @@ fn too_many_ranks(rt: HostRuntime) -> Result<(), Fail> {
     let alloc = rt.alloc();
     let game = long_cycle(alloc)?;
     let refused = lift(&rt, alloc, &game, 2, &NoGate);
-    assert!(rt; matches!(refused, Err(LiftError::TooManyRanks)));
+    assert!(rt; matches!(refused, Err(LiftError::Refused(TooManyRanks))));
     let context = Context {
         rt: &rt,
         alloc,

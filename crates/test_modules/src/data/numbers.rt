@@ -2,7 +2,7 @@
 
 ghost use Rattle.std.specs.Prelude.{◌<◌};
 
-use pb_sorts::{Carrier, Enumeration, Instance, Layout, LayoutError, Tuple};
+use pb_sorts::{Carrier, Enumeration, Instance, Layout, LayoutError, TooManyInstances, Tuple};
 use std::alloc::{AllocError, Global};
 use std::test::Fail;
 
@@ -64,12 +64,12 @@ fn instances_are_limited(rt: HostRuntime) -> Result<(), Fail> {
     let alloc = rt.alloc();
     let wide = Carrier::range(0, 1023)?;
     let cube = [vec![in alloc; wide, wide, wide]?];
-    assert!(rt; Layout::new(alloc, &cube).err() == Some(LayoutError::TooManyInstances));
+    assert!(rt; Layout::new(alloc, &cube).err() == Some(LayoutError::Refused(TooManyInstances)));
     let most = [vec![in alloc; Carrier::range(0, 4_194_303)?]?];
     let layout = Layout::new(alloc, &most)?;
     assert!(rt; layout.count() == 4_194_304);
     let more = [vec![in alloc; Carrier::range(0, 4_194_304)?]?];
-    assert!(rt; Layout::new(alloc, &more).err() == Some(LayoutError::TooManyInstances));
+    assert!(rt; Layout::new(alloc, &more).err() == Some(LayoutError::Refused(TooManyInstances)));
     Ok(())
 }
 

@@ -1,7 +1,7 @@
 //! Modules of one equation, and what the verifier says of them.
 
 use pb_bytecode::decode::decode;
-use pb_verifier::{VerifyError, verify};
+use pb_verifier::{CodeFault, VerifyError, verify};
 use pb_verifier_states::AcceptanceRule;
 use std::alloc::{AllocError, Global};
 use std::process::Abort;
@@ -138,9 +138,9 @@ pub fn assert_cases<R: Abort>(rt: &R, alloc: Global, cases: &[Case]) -> Result<(
 
 /// The refusal by a rule at a place of equation 0.
 pub fn at(rule: AcceptanceRule, place: usize) -> Option<VerifyError> {
-    Some(VerifyError::Refusal {
+    Some(VerifyError::Refused(CodeFault {
         rule,
         equation: 0,
         place,
-    })
+    }))
 }

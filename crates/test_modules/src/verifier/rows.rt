@@ -3,7 +3,7 @@
 use crate::verifier::modules::{at, refusal};
 use pb_bytecode::decode::decode;
 use pb_bytecode::encode::encode;
-use pb_verifier::{VerifyError, verify};
+use pb_verifier::{CodeFault, VerifyError, verify};
 use pb_verifier_states::AcceptanceRule;
 use std::alloc::Global;
 use std::test::Fail;
@@ -82,11 +82,11 @@ fn a_test_of_a_slot_narrows_it(rt: HostRuntime) -> Result<(), Fail> {
 #[test]
 fn errors_are_printed_with_their_place(rt: HostRuntime) -> Result<(), Fail> {
     let alloc = rt.alloc();
-    let refused = VerifyError::Refusal {
+    let refused = VerifyError::Refused(CodeFault {
         rule: AcceptanceRule::StatedCounts,
         equation: 12,
         place: 65_534,
-    };
+    });
     let line = format!(in alloc; "{refused}")?;
     assert!(rt; line.as_str() == "V16 equation 12 place 65534");
     let memory = format!(in alloc; "{}", VerifyError::Memory)?;

@@ -2,7 +2,7 @@
 
 use crate::verifier::modules::{Case, Slots, Stated, assert_cases, at, module_of, refusal};
 use crate::verifier::ops::*;
-use pb_verifier::VerifyError;
+use pb_verifier::{CodeFault, VerifyError};
 use pb_verifier_states::AcceptanceRule;
 use std::test::Fail;
 
@@ -296,11 +296,11 @@ const SECOND_POPS: [u8; 42] =
 
 #[test]
 fn a_later_equation_is_named(rt: HostRuntime) -> Result<(), Fail> {
-    let expected = VerifyError::Refusal {
+    let expected = VerifyError::Refused(CodeFault {
         rule: AcceptanceRule::MissingOperand,
         equation: 1,
         place: 0,
-    };
+    });
     assert!(rt; refusal(rt.alloc(), &SECOND_POPS)? == Some(expected));
     Ok(())
 }

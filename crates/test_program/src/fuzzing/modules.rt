@@ -62,7 +62,7 @@ fn read(alloc: Global, bytes: &[u8]) -> Result<Option<Module>, Flaw> {
             }
             Ok(Some(module))
         }
-        Err(ModuleError::ModuleFault { .. }) => Ok(None),
+        Err(ModuleError::Refused(_)) => Ok(None),
         Err(ModuleError::Memory) => Err(Flaw::Memory),
     }
 }
@@ -71,7 +71,7 @@ fn read(alloc: Global, bytes: &[u8]) -> Result<Option<Module>, Flaw> {
 fn accepted(alloc: Global, module: Module) -> Result<Option<Verified>, Flaw> {
     match verify(alloc, module) {
         Ok(verified) => Ok(Some(verified)),
-        Err((_, VerifyError::Refusal { .. })) => Ok(None),
+        Err((_, VerifyError::Refused(_))) => Ok(None),
         Err((_, VerifyError::Memory)) => Err(Flaw::Memory),
     }
 }

@@ -20,7 +20,7 @@ fn accepts_and_refuses(rt: HostRuntime) -> Result<(), Fail> {
         line: 1,
         column: 14,
     };
-    let wanted = TypeError::At(TypingFault {
+    let wanted = TypeError::Refused(TypingFault {
         rule: TypingRule::OddNegations,
         place,
     });

@@ -73,7 +73,7 @@ fn variables_have_names_of_their_own(rt: HostRuntime) -> Result<(), Fail> {
     let one = quantified(&spec, 0).ok_or("no quantifier")?;
     assert!(rt; declarations.check_variables(alloc, one) == Ok(()));
     let two = quantified(&spec, 1).ok_or("no quantifier")?;
-    let twice = TypeError::At(TypingFault {
+    let twice = TypeError::Refused(TypingFault {
         rule: TypingRule::NameTwice,
         place: Place {
             line: 3,
@@ -91,7 +91,7 @@ fn faulty_declarations_are_refused(rt: HostRuntime) -> Result<(), Fail> {
     let spec = text_of(alloc, text).ok_or("no text")?;
     let place = Place { line: 1, column: 6 };
     let rule = TypingRule::NameTwice;
-    let wanted = TypeError::At(TypingFault { rule, place });
+    let wanted = TypeError::Refused(TypingFault { rule, place });
     assert!(rt; Declarations::read(alloc, &spec).err() == Some(wanted));
     Ok(())
 }
