@@ -71,7 +71,7 @@ LONGEST = 20
 SHORT = "name ( ) ! && => == < - * div val forall : . ,".split()
 BEGINNINGS = ("pbes nu name =".split(), "pbes nu name = val (".split())
 ENDING = "; init name ;".split()
-SPELLINGS = {"name": "X", "number": "10", "END": ""}
+SPELLINGS = {"name": "X", "number": "10"}
 DEFECTS = (("# ", "P01"), ("4611686018427387905 ", "P03"), ("\n%range X 1\n", "P05"))
 
 
@@ -151,7 +151,8 @@ def written(tokens, defect=None):
         columns.append(len(text) + 1)
         if defect and index == defect[0]:
             text += defect[1]
-        text += SPELLINGS.get(token, token) + " "
+        if token != "END":
+            text += SPELLINGS.get(token, token) + " "
     return text, columns
 
 
