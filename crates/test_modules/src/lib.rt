@@ -1,18 +1,10 @@
-//! Tests of the verifier and of the crates round it: carriers, numbers of instances and intervals,
-//! modules of known bytes, abstract states, the rules by position with the static counts, a module
-//! for each reason of each rule, and the trees of instances. The expected values were worked out by
-//! hand.
+//! Tests of what no command of the program shows of modules: ranges, the numbers of instances in a
+//! layout, the trees of instances, and the module that comes back where it is refused. The expected values
+//! were worked out by hand. Bytes, codes and listings are tested by `rows/` (`modules.toml`,
+//! `code.toml`), and generated modules by `bench/fuzzing_modules.py`.
 #![tactic(auto)]
 
 #[cfg(test)]
-mod bytes;
-#[cfg(test)]
-mod data;
-#[cfg(test)]
-mod states;
-#[cfg(test)]
-mod structure;
+mod numbers;
 #[cfg(test)]
 mod trees;
-#[cfg(test)]
-mod verifier;

@@ -1,13 +1,10 @@
 //! One run of the program in memory, for the tests below. What the program writes of an input is
 //! tested by `rows/`; here stand readers and writers that fail, workers that are watched, and what
 //! is compared with the plain solver.
-mod evidence;
 mod faults;
-mod generated;
 mod models;
 mod parts;
 mod plain;
-mod proof_graphs;
 mod solvers;
 mod workers;
 

@@ -23,7 +23,7 @@ const LONGEST: usize = 10_000;
 
 // The first line of the report, by the plain solver; none where the text is refused, or longer than
 // those of these tests.
-pub(super) fn plain_line(alloc: Global, text: &str) -> Option<&'static [u8]> {
+fn plain_line(alloc: Global, text: &str) -> Option<&'static [u8]> {
     let bytes = text.as_bytes();
     if bytes.len() > LONGEST {
         return None;

@@ -1,8 +1,10 @@
-//! The numbers of instances in small layouts, and layouts at the limit.
+//! Ranges, and the numbers of instances in small layouts and in layouts at the limit.
 
 ghost use Rattle.std.specs.Prelude.{◌<◌};
 
-use pb_sorts::{Carrier, Enumeration, Instance, Layout, LayoutError, TooManyInstances, Tuple};
+use pb_sorts::{
+    Carrier, Enumeration, Instance, L01, Layout, LayoutError, Range, TooManyInstances, Tuple,
+};
 use std::alloc::{AllocError, Global};
 use std::test::Fail;
 
@@ -20,24 +22,6 @@ fn instance(alloc: Global, equation: u8, values: &[i64]) -> Result<Instance, All
 }
 
 #[test]
-fn two_equations_over_one_enumeration(rt: HostRuntime) -> Result<(), Fail> {
-    let alloc = rt.alloc();
-    let equations = [
-        vec![in alloc; enumeration(2)]?,
-        vec![in alloc; enumeration(2)]?,
-    ];
-    let layout = Layout::new(alloc, &equations)?;
-    assert!(rt; layout.count() == 4);
-    assert!(rt; layout.equation_count() == 2);
-    assert!(rt; layout.number(&instance(alloc, 0, &[0])?) == Some(0));
-    assert!(rt; layout.number(&instance(alloc, 0, &[1])?) == Some(1));
-    assert!(rt; layout.number(&instance(alloc, 1, &[0])?) == Some(2));
-    assert!(rt; layout.number(&instance(alloc, 1, &[1])?) == Some(3));
-    assert!(rt; layout.number(&instance(alloc, 2, &[0])?) == None);
-    Ok(())
-}
-
-#[test]
 fn the_last_parameter_runs_fastest(rt: HostRuntime) -> Result<(), Fail> {
     let alloc = rt.alloc();
     let equations = [vec![in alloc; enumeration(3), Carrier::Bool]?];
@@ -46,6 +30,7 @@ fn the_last_parameter_runs_fastest(rt: HostRuntime) -> Result<(), Fail> {
     assert!(rt; layout.number(&instance(alloc, 0, &[2, 1])?) == Some(5));
     assert!(rt; layout.number(&instance(alloc, 0, &[3, 0])?) == None);
     assert!(rt; layout.number(&instance(alloc, 0, &[1])?) == None);
+    assert!(rt; layout.number(&instance(alloc, 1, &[1, 0])?) == None);
     assert!(rt; layout.equation_count() == 1);
     assert!(rt; layout.first(0) == 0);
     assert!(rt; layout.size(0) == 6);
@@ -78,4 +63,12 @@ fn no_equation_has_no_instance(rt: HostRuntime) -> Result<(), Fail> {
     let layout = Layout::new(rt.alloc(), &[])?;
     assert!(rt; layout.count() == 0);
     Ok(())
+}
+
+/// L01.
+#[test]
+fn ranges_are_not_empty_and_within_32_bits(rt: HostRuntime) {
+    assert!(rt; Carrier::range(3, 2) == Err(L01));
+    assert!(rt; Carrier::range(0, 2_147_483_648) == Err(L01));
+    assert!(rt; Carrier::range(3, 3) == Ok(Carrier::Range(Range { low: 3, high: 3 })));
 }
