@@ -1,9 +1,10 @@
 -- The code of whole equations, as the builder's calls make it.
-use Rattle.std.proofs.Common.{◌≡◌, ◌≤◌, Bool, List, [], length, subst, arith}
+use Rattle.std.proofs.Common.{◌≡◌, ◌≤◌, List, [], length, subst, arith}
 use Rattle.pb_limits.specs.declared.TheConstants.{MAX_INSTRUCTIONS}
 use Rattle.pb_sorts.specs.declared.carrier.Carrier.{Carrier}
 use Rattle.pb_bytecode_program.specs.declared.instruction.Connective.{Connective}
 use Rattle.pb_bytecode_program.specs.declared.instruction.Op.TheVariants as op
+use Rattle.pb_normal.specs.declared.formula.Junction.{Junction}
 use Rattle.pb_normal.specs.Normal.{Formula}
 use Rattle.pb_assembler_scheme.proofs.Flat.{long}
 use Rattle.pb_assembler_scheme.specs.Pieces.{Plain, Then}
@@ -15,7 +16,7 @@ use Rattle.pb_assembler.proofs.Emitting.{emits_then, emitted_long}
 abbrev pub empty : Draft
 empty = record { ops = []; places = [] }
 
-pub equation_emitted : (callees : List (List Carrier)) (f : Formula) (m : Bool) (k : Connective) (d0 d1 d2 d3 d4 : Draft) → m ≡ head f → k ≡ connective_of m → d0 ≡ empty
+pub equation_emitted : (callees : List (List Carrier)) (f : Formula) (m : Junction) (k : Connective) (d0 d1 d2 d3 d4 : Draft) → m ≡ head f → k ≡ connective_of m → d0 ≡ empty
     → Emits (Plain (op.Open k)) nowhere d0 d1 → Emits (formula_piece callees m f) nowhere d1 d2 → Emits (Plain op.Close) nowhere d2 d3 → Emits (Plain op.End) nowhere d3 d4
     → Emits (equation_piece callees f) nowhere empty d4
 equation_emitted callees f m k d0 d1 d2 d3 d4 is kind new opened inner closed ended =
@@ -24,7 +25,7 @@ equation_emitted callees f m k d0 d1 d2 d3 d4 is kind new opened inner closed en
     let body = emits_then (Plain (op.Open (connective_of m))) (Then x (Plain op.Close)) nowhere d0 d1 d3 first (emits_then x (Plain op.Close) nowhere d1 d2 d3 inner closed) in
     let whole = emits_then (bracketed m x) (Plain op.End) nowhere d0 d3 d4 body ended in
     subst (λ (d : Draft). Emits (equation_piece callees f) nowhere d d4) new
-    (subst (λ (h : Bool). Emits (Then (bracketed h (formula_piece callees h f)) (Plain op.End)) nowhere d0 d4) is whole)
+    (subst (λ (h : Junction). Emits (Then (bracketed h (formula_piece callees h f)) (Plain op.End)) nowhere d0 d4) is whole)
 
 pub code_short : (callees : List (List Carrier)) (f : Formula) (d : Draft) → length (equation_code callees f) ≤ MAX_INSTRUCTIONS → Emits (equation_piece callees f) nowhere empty d → length d.ops ≤ MAX_INSTRUCTIONS
 code_short callees f d few h =

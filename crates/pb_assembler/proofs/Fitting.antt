@@ -20,11 +20,13 @@ use Rattle.pb_bytecode_program.specs.declared.instruction.Leaf.TheVariants as le
 use Rattle.pb_bytecode_program.specs.declared.instruction.Op.{Op}
 use Rattle.pb_bytecode_program.specs.declared.instruction.Op.TheVariants as op
 use Rattle.pb_normal.specs.Bounds.{Bounds, is_bounded, are_bounded, is_bounded_formula}
+use Rattle.pb_normal.specs.declared.formula.Junction.{Junction}
+use Rattle.pb_normal.specs.declared.formula.Junction.TheVariants.{And, Or}
 use Rattle.pb_normal.specs.Normal.{Term, Number, Slot, Negative, Absolute, Successor, Predecessor, Binary, Maximum, Minimum, Choice, Recognised, Argument, Formula, Test, Join, Each, Call}
 use Rattle.pb_normal.specs.Structs.{has_enumerator, AreFew}
 use Rattle.pb_assembler_scheme.proofs.Flat.{long}
 use Rattle.pb_assembler_scheme.specs.Pieces.{Piece, Empty, Plain, Then, Unless, Choose, Repeat, Block, Leave, Guard, end, flat}
-use Rattle.pb_assembler_scheme.specs.Scheme.{data_piece, binary_piece, tested_piece, test_of, join_piece, under, tested_range, any_tested, guarded, arguments_piece, call_piece, parameters, formula_piece, equation_piece, equation_code, head}
+use Rattle.pb_assembler_scheme.specs.Scheme.{junction_of, data_piece, binary_piece, tested_piece, test_of, join_piece, under, tested_range, any_tested, guarded, arguments_piece, call_piece, parameters, formula_piece, equation_piece, equation_code, head}
 use Rattle.pb_normal.specs.Small.{is_small, are_small, is_small_formula}
 
 -- ---- pieces
@@ -194,22 +196,22 @@ module _ (sizes : List ℕ) where
       test_fits : (f : Formula) → is_small_formula f ≡ true → is_bounded_formula b f ≡ true → TestFits (test_of f)
       test_fits (Test t) h k = term_fits t h k
       test_fits (Join m f g) h k = tt
-      test_fits (Each m s shape f) h k = tt
+      test_fits (Each q s shape f) h k = tt
       test_fits (Call X xs) h k = tt
 
-      tested_fits : (m around : Bool) (t : Term) (x : Piece) → FitsPiece (data_piece t) → FitsPiece x → FitsPiece (tested_piece m around t x)
-      tested_fits true true t x h k = (h, (refl, k))
-      tested_fits false false t x h k = (h, (refl, k))
-      tested_fits true false t x h k = (h, k)
-      tested_fits false true t x h k = (h, k)
+      tested_fits : (m around : Junction) (t : Term) (x : Piece) → FitsPiece (data_piece t) → FitsPiece x → FitsPiece (tested_piece m around t x)
+      tested_fits And And t x h k = (h, (refl, k))
+      tested_fits Or Or t x h k = (h, (refl, k))
+      tested_fits And Or t x h k = (h, k)
+      tested_fits Or And t x h k = (h, k)
 
-      under_fits : (m around : Bool) (x : Piece) → FitsPiece x → FitsPiece (under m around x)
-      under_fits true true x h = h
-      under_fits false false x h = h
-      under_fits true false x h = (refl, (h, refl))
-      under_fits false true x h = (refl, (h, refl))
+      under_fits : (m around : Junction) (x : Piece) → FitsPiece x → FitsPiece (under m around x)
+      under_fits And And x h = h
+      under_fits Or Or x h = h
+      under_fits And Or x h = (refl, (h, refl))
+      under_fits Or And x h = (refl, (h, refl))
 
-      join_fits : (m around : Bool) (u v : Option Term) (fa ga fo go : Piece) → TestFits u → TestFits v → FitsPiece fa → FitsPiece ga → FitsPiece fo → FitsPiece go → FitsPiece (join_piece m around u v fa ga fo go)
+      join_fits : (m around : Junction) (u v : Option Term) (fa ga fo go : Piece) → TestFits u → TestFits v → FitsPiece fa → FitsPiece ga → FitsPiece fo → FitsPiece go → FitsPiece (join_piece m around u v fa ga fo go)
       join_fits m around (Some t) v fa ga fo go h k a c d e = tested_fits m around t ga h c
       join_fits m around None (Some t) fa ga fo go h k a c d e = tested_fits m around t fa k a
       join_fits m around None None fa ga fo go h k a c d e = under_fits m around (Then fo go) (d, e)
@@ -222,7 +224,7 @@ module _ (sizes : List ℕ) where
             by None e = refl
             by (Some cs) e = fit k cs e
 
-        formula_fits : (f : Formula) (around : Bool) → is_small_formula f ≡ true → is_bounded_formula b f ≡ true → FitsPiece (formula_piece callees around f)
+        formula_fits : (f : Formula) (around : Junction) → is_small_formula f ≡ true → is_bounded_formula b f ≡ true → FitsPiece (formula_piece callees around f)
         formula_fits (Test t) around h k = (term_fits t h k, refl)
         formula_fits (Join m f g) around h k =
             let p = and_parts (is_small_formula f) (is_small_formula g) h in
@@ -230,10 +232,10 @@ module _ (sizes : List ℕ) where
             join_fits m around (test_of f) (test_of g) (formula_piece callees around f) (formula_piece callees around g) (formula_piece callees m f) (formula_piece callees m g)
             (test_fits f p.0 q.0) (test_fits g p.1 q.1)
             (formula_fits f around p.0 q.0) (formula_fits g around p.1 q.1) (formula_fits f m p.0 q.0) (formula_fits g m p.1 q.1)
-        formula_fits (Each m s shape f) around h k =
+        formula_fits (Each r s shape f) around h k =
             let p = and_parts (nat_lt s 256) (is_small_formula f) h in
             let q = and_parts (nat_lt s b.slots) (is_bounded_formula b f) k in
-            under_fits m around (Repeat s (formula_piece callees m f)) (p.0, formula_fits f m p.1 q.1)
+            under_fits (junction_of r) around (Repeat s (formula_piece callees (junction_of r) f)) (p.0, formula_fits f (junction_of r) p.1 q.1)
         formula_fits (Call equation xs) around h k =
             let p = and_parts (nat_lt equation 256) (are_small xs) h in
             let q = and_parts (nat_lt equation b.equations) (are_bounded b xs) k in

@@ -1,10 +1,11 @@
 -- Chains of formulas, operand by operand, and quantifiers, slot by slot.
-use Rattle.std.proofs.Common.{◌≡◌, ℕ, zero, suc, ◌+◌, ◌<◌, Bool, true, false, not, List, [], ◌∷◌, ◌++◌, length, get_or, take, drop, ◌-◌, ◌≤◌, Option, Some, None, IfSome, refl, sym, ap, ◌∙◌, subst, arith, true≢false, Vec, Global, Box, inl, inr}
+use Rattle.std.proofs.Common.{◌≡◌, ℕ, zero, suc, ◌+◌, ◌<◌, Bool, true, false, List, [], ◌∷◌, ◌++◌, length, get_or, take, drop, ◌-◌, ◌≤◌, Option, Some, None, IfSome, refl, sym, ap, ◌∙◌, subst, arith, true≢false, Vec, Global, Box, inl, inr}
 use Rattle.std.proofs.lemmas.Bool.{and_parts, ltb-true}
 use Rattle.std.specs.Prelude.{nat_lt, box_value}
 use Rattle.std.proofs.lemmas.List.{nil_from_length, take_rest}
 use denote.Enum.Bare.{sameb}
 use Rattle.pb_sorts.specs.declared.carrier.Carrier.{Carrier}
+use Rattle.pb_text_tree.specs.declared.operator.Quantifier.{Quantifier}
 use Rattle.pb_normal.specs.Normal as normal
 use Rattle.pb_normal.specs.Normal.{Term, Test, Join, Each, Call}
 use Rattle.pb_normal.specs.contracts.formula.Junction.{the_type}
@@ -12,10 +13,11 @@ use Rattle.pb_normal.specs.declared.formula.Junction.{Junction}
 use Rattle.pb_normal.specs.declared.formula.Junction.TheVariants.{And, Or}
 use Rattle.pb_normal.specs.declared.formula.Formula as formula
 use Rattle.pb_normal.specs.declared.formula.Formula.{Formula}
-use Rattle.pb_normal.specs.View.{chained, nested, formula_view, formula_views, is_and}
+use Rattle.pb_normal.specs.Normalisation.{dual}
+use Rattle.pb_normal.specs.View.{chained, nested, formula_view, formula_views}
 use Rattle.pb_bytecode_program.specs.declared.instruction.Op.TheVariants as op
 use Rattle.pb_assembler_scheme.specs.Pieces.{Piece, Plain, Then, Unless, Choose, Repeat}
-use Rattle.pb_assembler_scheme.specs.Scheme.{data_piece, test_of, tested_piece, join_piece, under, bracketed, deciding, connective_of, formula_piece}
+use Rattle.pb_assembler_scheme.specs.Scheme.{data_piece, neutral, junction_of, test_of, tested_piece, join_piece, under, bracketed, deciding, connective_of, formula_piece}
 use Rattle.pb_assembler.specs.Draft.{Draft, Labelled}
 use Rattle.pb_assembler.specs.Emitted.{Emits, nowhere}
 use Rattle.pb_assembler.specs.Operands.{Guarded, early_test, guarded_by, IsLeft, other_of}
@@ -28,10 +30,10 @@ use Rattle.pb_assembler.proofs.FormulaWeight.{weight, formulas_weight, positive,
 
 module _ (callees : List (List Carrier)) where
   -- the code of a chain is that of its test, which guards the chain that is left
-  abbrev pub IsDecided : (m a : Bool) → normal.Formula → Guarded → Type 0
+  abbrev pub IsDecided : (m a : Junction) → normal.Formula → Guarded → Type 0
   IsDecided m a f r = formula_piece callees a f ≡ tested_piece m a r.0 (formula_piece callees a (chained (Join m) r.1.0 r.1.1))
 
-  pub decided : (m a : Bool) (f : normal.Formula) (gs : List normal.Formula) → IfSome (early_test f gs) (IsDecided m a (chained (Join m) f gs))
+  pub decided : (m a : Junction) (f : normal.Formula) (gs : List normal.Formula) → IfSome (early_test f gs) (IsDecided m a (chained (Join m) f gs))
   decided m a f [] = tt
   decided m a f (g ∷ gs) = by (test_of f) (test_of g) refl refl gs
     where
@@ -46,7 +48,7 @@ module _ (callees : List (List Carrier)) where
       by None None e k gs = tt
 
   -- where no test comes first, the operands stand one behind the other
-  pub undecided : (m a : Bool) (f g : normal.Formula) (gs : List normal.Formula) → early_test f (g ∷ gs) ≡ None
+  pub undecided : (m a : Junction) (f g : normal.Formula) (gs : List normal.Formula) → early_test f (g ∷ gs) ≡ None
       → formula_piece callees a (chained (Join m) f (g ∷ gs)) ≡ under m a (Then (formula_piece callees m f) (formula_piece callees m (chained (Join m) g gs)))
   undecided m a f g gs n = by (test_of f) (test_of g) refl refl gs n
     where
@@ -64,21 +66,21 @@ module _ (callees : List (List Carrier)) where
           let R = chained (Join m) g (h ∷ hs) in
           ap (λ o. join_piece m a o None (formula_piece callees a f) (formula_piece callees a R) (formula_piece callees m f) (formula_piece callees m R)) (sym e)
 
-under_own : (m : Bool) (x : Piece) → under m m x ≡ x
-under_own true x = refl
-under_own false x = refl
+under_own : (m : Junction) (x : Piece) → under m m x ≡ x
+under_own And x = refl
+under_own Or x = refl
 
-under_other : (a : Bool) (x : Piece) → under (not a) a x ≡ bracketed (not a) x
-under_other true x = refl
-under_other false x = refl
+under_other : (a : Junction) (x : Piece) → under (dual a) a x ≡ bracketed (dual a) x
+under_other And x = refl
+under_other Or x = refl
 
-pub tested_own : (m : Bool) (t : Term) (x : Piece) → tested_piece m m t x ≡ Then (data_piece t) (Choose m (Plain (op.Emit (deciding m))) x)
-tested_own true t x = refl
-tested_own false t x = refl
+pub tested_own : (m : Junction) (t : Term) (x : Piece) → tested_piece m m t x ≡ Then (data_piece t) (Choose (neutral m) (Plain (op.Emit (deciding m))) x)
+tested_own And t x = refl
+tested_own Or t x = refl
 
-pub tested_other : (a : Bool) (t : Term) (x : Piece) → tested_piece (not a) a t x ≡ Then (data_piece t) (Unless a x)
-tested_other true t x = refl
-tested_other false t x = refl
+pub tested_other : (a : Junction) (t : Term) (x : Piece) → tested_piece (dual a) a t x ≡ Then (data_piece t) (Unless (neutral a) x)
+tested_other And t x = refl
+tested_other Or t x = refl
 
 -- a chain of one operand, and one of several
 pub alone : (t x : Formula) (c : Junction) (first : Box Formula Global) (v : Vec Formula Global) → t ≡ formula.Join c first v → x ≡ box_value first → length v.items ≡ 0 → formula_view x ≡ formula_view t
@@ -87,26 +89,26 @@ alone t x c first v is same none = join_is t x c first v [] is same (sym (nil_fr
 pub several : (t : Formula) (c : Junction) (first : Box Formula Global) (v : Vec Formula Global) → t ≡ formula.Join c first v → 0 < length v.items → None ≡ test_of (formula_view t)
 several t c first v is some = by v.items some ∙ ap test_of (join_is t (box_value first) c first v v.items is refl refl)
   where
-    by : (fs : List Formula) → 0 < length fs → None ≡ test_of (chained (Join (is_and c)) (formula_view (box_value first)) (formula_views fs))
+    by : (fs : List Formula) → 0 < length fs → None ≡ test_of (chained (Join c) (formula_view (box_value first)) (formula_views fs))
     by [] l = absurd (omega arith)
     by (f ∷ fs) l = refl
 
-pub no_test : (m : Bool) (s : ℕ) (cs : List Carrier) (f : normal.Formula) → 0 < length cs → None ≡ test_of (nested m s cs f)
-no_test m s [] f l = absurd (omega arith)
-no_test m s (c ∷ cs) f l = refl
+pub no_test : (q : Quantifier) (s : ℕ) (cs : List Carrier) (f : normal.Formula) → 0 < length cs → None ≡ test_of (nested q s cs f)
+no_test q s [] f l = absurd (omega arith)
+no_test q s (c ∷ cs) f l = refl
 
 -- ---- numbers stay small, and work less
 
 small_test : (f : normal.Formula) → is_small_formula f ≡ true → IfSome (test_of f) (λ t. is_small t ≡ true)
 small_test (Test t) h = h
 small_test (Join m f g) h = tt
-small_test (Each m s shape f) h = tt
+small_test (Each q s shape f) h = tt
 small_test (Call X xs) h = tt
 
-abbrev pub AreSmall : Bool → Guarded → Type 0
+abbrev pub AreSmall : Junction → Guarded → Type 0
 AreSmall m r = (is_small r.0 ≡ true) × (is_small_formula (chained (Join m) r.1.0 r.1.1) ≡ true)
 
-small_parts : (m : Bool) (f : normal.Formula) (gs : List normal.Formula) → is_small_formula (chained (Join m) f gs) ≡ true → IfSome (early_test f gs) (AreSmall m)
+small_parts : (m : Junction) (f : normal.Formula) (gs : List normal.Formula) → is_small_formula (chained (Join m) f gs) ≡ true → IfSome (early_test f gs) (AreSmall m)
 small_parts m f [] h = tt
 small_parts m f (g ∷ gs) h =
     let both = and_parts (is_small_formula f) (is_small_formula (chained (Join m) g gs)) h in
@@ -118,7 +120,7 @@ small_parts m f (g ∷ gs) h =
     by None (Some t) e k (x ∷ xs) h i = tt
     by None None e k gs h i = tt
 
-pub small_rest : (m : Bool) (f g : normal.Formula) (gs : List normal.Formula) → is_small_formula (chained (Join m) f (g ∷ gs)) ≡ true → is_small_formula (chained (Join m) g gs) ≡ true
+pub small_rest : (m : Junction) (f g : normal.Formula) (gs : List normal.Formula) → is_small_formula (chained (Join m) f (g ∷ gs)) ≡ true → is_small_formula (chained (Join m) g gs) ≡ true
 small_rest m f g gs h = (and_parts (is_small_formula f) (is_small_formula (chained (Join m) g gs)) h).1
 
 pub left_weighs : (first : Formula) (rest : List Formula) (f : Formula) (gs : List Formula) → IsLeft first rest f gs → (length gs < length rest) × (weight f + formulas_weight gs < weight first + formulas_weight rest)
@@ -133,26 +135,26 @@ left_weighs first rest f gs (inr (same, none, some)) =
 
 -- ---- one step along a chain, in the code's words
 
-pub test_step : (callees : List (List Carrier)) (m a : Bool) (f : normal.Formula) (gs : List normal.Formula) (o : Option Guarded) (r : Guarded) → o ≡ Some r → o ≡ early_test f gs → IsDecided callees m a (chained (Join m) f gs) r
+pub test_step : (callees : List (List Carrier)) (m a : Junction) (f : normal.Formula) (gs : List normal.Formula) (o : Option Guarded) (r : Guarded) → o ≡ Some r → o ≡ early_test f gs → IsDecided callees m a (chained (Join m) f gs) r
 test_step callees m a f gs o r is told = subst (λ q. IfSome q (IsDecided callees m a (chained (Join m) f gs))) (sym told ∙ is) (decided callees m a f gs)
 
-pub test_small : (m : Bool) (f : normal.Formula) (gs : List normal.Formula) (o : Option Guarded) (r : Guarded) → o ≡ Some r → o ≡ early_test f gs → is_small_formula (chained (Join m) f gs) ≡ true
+pub test_small : (m : Junction) (f : normal.Formula) (gs : List normal.Formula) (o : Option Guarded) (r : Guarded) → o ≡ Some r → o ≡ early_test f gs → is_small_formula (chained (Join m) f gs) ≡ true
     → (is_small r.0 ≡ true) × (is_small_formula (chained (Join m) r.1.0 r.1.1) ≡ true)
 test_small m f gs o r is told h = subst (λ q. IfSome q (AreSmall m)) (sym told ∙ is) (small_parts m f gs h)
 
-pub next_own : (callees : List (List Carrier)) (m : Bool) (f : Formula) (gs : List Formula) (g : Formula) (hs : List Formula) → gs ≡ g ∷ hs → early_test (formula_view f) (formula_views gs) ≡ None
+pub next_own : (callees : List (List Carrier)) (m : Junction) (f : Formula) (gs : List Formula) (g : Formula) (hs : List Formula) → gs ≡ g ∷ hs → early_test (formula_view f) (formula_views gs) ≡ None
     → formula_piece callees m (chained (Join m) (formula_view f) (formula_views gs)) ≡ Then (formula_piece callees m (formula_view f)) (formula_piece callees m (chained (Join m) (formula_view g) (formula_views hs)))
 next_own callees m f gs g hs e n =
     ap (λ (zs : List Formula). formula_piece callees m (chained (Join m) (formula_view f) (formula_views zs))) e
     ∙ undecided callees m m (formula_view f) (formula_view g) (formula_views hs) (sym (ap (λ (zs : List Formula). early_test (formula_view f) (formula_views zs)) e) ∙ n)
     ∙ under_own m _
 
-pub all_other : (callees : List (List Carrier)) (a : Bool) (f : normal.Formula) (gs : List normal.Formula) → 0 < length gs → early_test f gs ≡ None
-    → formula_piece callees a (chained (Join (not a)) f gs) ≡ bracketed (not a) (formula_piece callees (not a) (chained (Join (not a)) f gs))
+pub all_other : (callees : List (List Carrier)) (a : Junction) (f : normal.Formula) (gs : List normal.Formula) → 0 < length gs → early_test f gs ≡ None
+    → formula_piece callees a (chained (Join (dual a)) f gs) ≡ bracketed (dual a) (formula_piece callees (dual a) (chained (Join (dual a)) f gs))
 all_other callees a f [] l n = absurd (omega arith)
 all_other callees a f (g ∷ gs) l n =
-    undecided callees (not a) a f g gs n ∙ under_other a _
-    ∙ ap (bracketed (not a)) (sym (undecided callees (not a) (not a) f g gs n ∙ under_own (not a) _))
+    undecided callees (dual a) a f g gs n ∙ under_other a _
+    ∙ ap (bracketed (dual a)) (sym (undecided callees (dual a) (dual a) f g gs n ∙ under_own (dual a) _))
 
 -- ---- quantifiers
 
@@ -165,31 +167,33 @@ repeated_front : (s k : ℕ) (y : Piece) → Repeat s (repeated (suc s) k y) ≡
 repeated_front s zero y = ap (λ i. Repeat i y) (omega arith)
 repeated_front s (suc k) y = repeated_front s k (Repeat (suc s + k) y) ∙ ap (λ i. repeated s (suc k) (Repeat i y)) (omega arith)
 
-pub each_repeated : (callees : List (List Carrier)) (m : Bool) (s : ℕ) (cs : List Carrier) (f : normal.Formula) → formula_piece callees m (nested m s cs f) ≡ repeated s (length cs) (formula_piece callees m f)
-each_repeated callees m s [] f = refl
-each_repeated callees m s (c ∷ cs) f =
-    under_own m (Repeat s (formula_piece callees m (nested m (suc s) cs f)))
-    ∙ ap (Repeat s) (each_repeated callees m (suc s) cs f)
-    ∙ repeated_front s (length cs) (formula_piece callees m f)
+pub each_repeated : (callees : List (List Carrier)) (q : Quantifier) (s : ℕ) (cs : List Carrier) (f : normal.Formula)
+    → formula_piece callees (junction_of q) (nested q s cs f) ≡ repeated s (length cs) (formula_piece callees (junction_of q) f)
+each_repeated callees q s [] f = refl
+each_repeated callees q s (c ∷ cs) f =
+    under_own (junction_of q) (Repeat s (formula_piece callees (junction_of q) (nested q (suc s) cs f)))
+    ∙ ap (Repeat s) (each_repeated callees q (suc s) cs f)
+    ∙ repeated_front s (length cs) (formula_piece callees (junction_of q) f)
 
-differ : (m a : Bool) (x : Piece) → m ≡ not a → under m a x ≡ bracketed m x
-differ m a x n = subst (λ (k : Bool). under k a x ≡ bracketed k x) (sym n) (under_other a x)
+differ : (m a : Junction) (x : Piece) → m ≡ dual a → under m a x ≡ bracketed m x
+differ m a x n = subst (λ (k : Junction). under k a x ≡ bracketed k x) (sym n) (under_other a x)
 
-pub each_other : (callees : List (List Carrier)) (m a : Bool) (s : ℕ) (cs : List Carrier) (f : normal.Formula) → m ≡ not a → 0 < length cs
-    → formula_piece callees a (nested m s cs f) ≡ bracketed m (formula_piece callees m (nested m s cs f))
-each_other callees m a s [] f n l = absurd (omega arith)
-each_other callees m a s (c ∷ cs) f n l =
-    differ m a (Repeat s (formula_piece callees m (nested m (suc s) cs f))) n
-    ∙ ap (bracketed m) (sym (under_own m (Repeat s (formula_piece callees m (nested m (suc s) cs f)))))
+pub each_other : (callees : List (List Carrier)) (q : Quantifier) (a : Junction) (s : ℕ) (cs : List Carrier) (f : normal.Formula) → junction_of q ≡ dual a → 0 < length cs
+    → formula_piece callees a (nested q s cs f) ≡ bracketed (junction_of q) (formula_piece callees (junction_of q) (nested q s cs f))
+each_other callees q a s [] f n l = absurd (omega arith)
+each_other callees q a s (c ∷ cs) f n l =
+    let m = junction_of q in
+    differ m a (Repeat s (formula_piece callees m (nested q (suc s) cs f))) n
+    ∙ ap (bracketed m) (sym (under_own m (Repeat s (formula_piece callees m (nested q (suc s) cs f)))))
 
-pub small_body : (m : Bool) (s : ℕ) (cs : List Carrier) (f : normal.Formula) → is_small_formula (nested m s cs f) ≡ true → is_small_formula f ≡ true
-small_body m s [] f h = h
-small_body m s (c ∷ cs) f h = small_body m (suc s) cs f (and_parts (nat_lt s 256) (is_small_formula (nested m (suc s) cs f)) h).1
+pub small_body : (q : Quantifier) (s : ℕ) (cs : List Carrier) (f : normal.Formula) → is_small_formula (nested q s cs f) ≡ true → is_small_formula f ≡ true
+small_body q s [] f h = h
+small_body q s (c ∷ cs) f h = small_body q (suc s) cs f (and_parts (nat_lt s 256) (is_small_formula (nested q (suc s) cs f)) h).1
 
-pub small_slot : (m : Bool) (s : ℕ) (cs : List Carrier) (f : normal.Formula) (k : ℕ) → k < length cs → is_small_formula (nested m s cs f) ≡ true → s + k < 256
-small_slot m s [] f k l h = absurd (omega arith)
-small_slot m s (c ∷ cs) f zero l h = let a = ltb-true s 256 (and_parts (nat_lt s 256) (is_small_formula (nested m (suc s) cs f)) h).0 in omega (arith, a)
-small_slot m s (c ∷ cs) f (suc k) l h = let a = small_slot m (suc s) cs f k (omega arith) (and_parts (nat_lt s 256) (is_small_formula (nested m (suc s) cs f)) h).1 in omega (arith, a)
+pub small_slot : (q : Quantifier) (s : ℕ) (cs : List Carrier) (f : normal.Formula) (k : ℕ) → k < length cs → is_small_formula (nested q s cs f) ≡ true → s + k < 256
+small_slot q s [] f k l h = absurd (omega arith)
+small_slot q s (c ∷ cs) f zero l h = let a = ltb-true s 256 (and_parts (nat_lt s 256) (is_small_formula (nested q (suc s) cs f)) h).0 in omega (arith, a)
+small_slot q s (c ∷ cs) f (suc k) l h = let a = small_slot q (suc s) cs f k (omega arith) (and_parts (nat_lt s 256) (is_small_formula (nested q (suc s) cs f)) h).1 in omega (arith, a)
 
 -- one more instruction
 abbrev pub plus : Draft → Labelled → Draft
@@ -214,22 +218,22 @@ begins_more s k d0 d d' b e = λ y d1 d2 h c.
     (emits_repeat (s + k) y nowhere d d' d1 (plus d1 (op.Next, None)) (adds_from d d' (op.Loop (s + k), None) e) h (adds_from d1 (plus d1 (op.Next, None)) (op.Next, None) refl)) c
 
 -- an opened bracket, its content, and its end
-pub bracket_emitted : (m : Bool) (x : Piece) (d d1 d2 d3 : Draft) → Emits (Plain (op.Open (connective_of m))) nowhere d d1 → Emits x nowhere d1 d2 → Emits (Plain op.Close) nowhere d2 d3 → Emits (bracketed m x) nowhere d d3
+pub bracket_emitted : (m : Junction) (x : Piece) (d d1 d2 d3 : Draft) → Emits (Plain (op.Open (connective_of m))) nowhere d d1 → Emits x nowhere d1 d2 → Emits (Plain op.Close) nowhere d2 d3 → Emits (bracketed m x) nowhere d d3
 bracket_emitted m x d d1 d2 d3 h hx k =
     emits_then (Plain (op.Open (connective_of m))) (Then x (Plain op.Close)) nowhere d d1 d3 h (emits_then x (Plain op.Close) nowhere d1 d2 d3 hx k)
 
-pub other_kind : (m a : Junction) (b : Bool) → b ≡ sameb the_type m a → b ≡ false → is_and m ≡ not (is_and a)
+pub other_kind : (m a : Junction) (b : Bool) → b ≡ sameb the_type m a → b ≡ false → m ≡ dual a
 other_kind And And b e n = absurd (true≢false (sym e ∙ n))
 other_kind And Or b e n = refl
 other_kind Or And b e n = refl
 other_kind Or Or b e n = absurd (true≢false (sym e ∙ n))
 
-pub untested : (callees : List (List Carrier)) (a : Bool) (f : normal.Formula) (gs : List Formula) → 0 < length gs → early_test f (formula_views gs) ≡ None
-    → formula_piece callees a (chained (Join (not a)) f (formula_views gs)) ≡ bracketed (not a) (formula_piece callees (not a) (chained (Join (not a)) f (formula_views gs)))
+pub untested : (callees : List (List Carrier)) (a : Junction) (f : normal.Formula) (gs : List Formula) → 0 < length gs → early_test f (formula_views gs) ≡ None
+    → formula_piece callees a (chained (Join (dual a)) f (formula_views gs)) ≡ bracketed (dual a) (formula_piece callees (dual a) (chained (Join (dual a)) f (formula_views gs)))
 untested callees a f [] l n = absurd (omega arith)
 untested callees a f (g ∷ gs) l n = all_other callees a f (formula_view g ∷ formula_views gs) (omega arith) n
 
-pub same_kind : (m a : Junction) (b : Bool) → b ≡ sameb the_type m a → b ≡ true → is_and m ≡ is_and a
+pub same_kind : (m a : Junction) (b : Bool) → b ≡ sameb the_type m a → b ≡ true → m ≡ a
 same_kind And And b e is = refl
 same_kind And Or b e is = absurd (true≢false (sym is ∙ e))
 same_kind Or And b e is = absurd (true≢false (sym is ∙ e))
@@ -238,13 +242,13 @@ same_kind Or Or b e is = refl
 -- ---- the operands that are left
 
 -- the whole chain of first and rest awaits the code of these operands, which keep what is asked of them
-pub record AreLeft (callees : List (List Carrier)) (m a : Bool) (first : Formula) (rest : List Formula) (l : ℕ) (d0 d : Draft) (f : Formula) (fs : List Formula) : Type 0 where
+pub record AreLeft (callees : List (List Carrier)) (m a : Junction) (first : Formula) (rest : List Formula) (l : ℕ) (d0 d : Draft) (f : Formula) (fs : List Formula) : Type 0 where
   pub awaits : Awaits (formula_piece callees a (chained (Join m) (formula_view first) (formula_views rest))) (formula_piece callees a (chained (Join m) (formula_view f) (formula_views fs))) l d0 d
   pub small : is_small_formula (chained (Join m) (formula_view f) (formula_views fs)) ≡ true
   pub lighter : weight f + formulas_weight fs ≤ weight first + formulas_weight rest
 
 -- in the code's words
-pub are_left : (callees : List (List Carrier)) (m a : Bool) (first : Formula) (rest : List Formula) (l : ℕ) (d0 d : Draft) (f g : Formula) (fs : List Formula) → g ≡ f
+pub are_left : (callees : List (List Carrier)) (m a : Junction) (first : Formula) (rest : List Formula) (l : ℕ) (d0 d : Draft) (f g : Formula) (fs : List Formula) → g ≡ f
     → AreLeft callees m a first rest l d0 d f (drop 1 fs) → AreLeft callees m a first rest l d0 d g (take (length fs - 1) (drop 1 fs))
 are_left callees m a first rest l d0 d f g fs same h =
     subst (λ (x : Formula). AreLeft callees m a first rest l d0 d x (take (length fs - 1) (drop 1 fs))) (sym same)

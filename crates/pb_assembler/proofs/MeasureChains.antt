@@ -6,12 +6,15 @@ use Rattle.std.proofs.lemmas.List.{take_all}
 use Rattle.pb_sorts.specs.Carrier.{values_of}
 use Rattle.pb_sorts.specs.declared.carrier.Carrier.{Carrier}
 use Rattle.pb_sorts.specs.declared.carrier.Carrier.TheVariants as carriers
+use Rattle.pb_text_tree.specs.declared.operator.Quantifier.{Quantifier}
 use Rattle.pb_typing_declarations.specs.Entries.{carrier_shape}
 use Rattle.pb_normal.specs.Normal as normal
 use Rattle.pb_normal.specs.Normal.{Join}
+use Rattle.pb_normal.specs.declared.formula.Junction.{Junction}
+use Rattle.pb_normal.specs.declared.formula.Junction.TheVariants.{And, Or}
 use Rattle.pb_normal.specs.declared.formula.Formula.{Formula}
 use Rattle.pb_normal.specs.View.{formula_view, nested}
-use Rattle.pb_assembler_scheme.specs.Scheme.{test_of}
+use Rattle.pb_assembler_scheme.specs.Scheme.{junction_of, test_of}
 use Rattle.pb_assembler.specs.declared.measure_load.Load.{Load}
 use Rattle.pb_assembler.specs.declared.measure_tally.Tally.{Tally}
 use Rattle.pb_assembler.specs.MeasureTerms.{capped_load, term_load}
@@ -20,27 +23,31 @@ use Rattle.pb_assembler.proofs.MeasureTallies.{tested_by, under_by, after_by}
 
 -- ---- loops
 
-under_same : (u : Bool) (x : Tally) → under_tally u u x ≡ x
-under_same true x = refl
-under_same false x = refl
+under_same : (m : Junction) (x : Tally) → under_tally m m x ≡ x
+under_same And x = refl
+under_same Or x = refl
 
 pub carrier_count : (c : Carrier) → shape_size (carrier_shape (Some c)) ≡ length (values_of c)
 carrier_count carriers.Bool = refl
 carrier_count (carriers.Enum e) = refl
 carrier_count (carriers.Range r) = refl
 
-nested_own : (callees : List (List Carrier)) (u : Bool) (s : ℕ) (cs : List Carrier) (f : normal.Formula) → formula_tally callees u (nested u s cs f) ≡ loops_tally cs (formula_tally callees u f)
-nested_own callees u s [] f = refl
-nested_own callees u s (c ∷ cs) f =
-    under_same u (looped (shape_size (carrier_shape (Some c))) (formula_tally callees u (nested u (suc s) cs f)))
-    ∙ ap (λ n. looped n (formula_tally callees u (nested u (suc s) cs f))) (carrier_count c)
-    ∙ ap (looped (length (values_of c))) (nested_own callees u (suc s) cs f)
+nested_own : (callees : List (List Carrier)) (q : Quantifier) (s : ℕ) (cs : List Carrier) (f : normal.Formula)
+    → formula_tally callees (junction_of q) (nested q s cs f) ≡ loops_tally cs (formula_tally callees (junction_of q) f)
+nested_own callees q s [] f = refl
+nested_own callees q s (c ∷ cs) f =
+    let m = junction_of q in
+    under_same m (looped (shape_size (carrier_shape (Some c))) (formula_tally callees m (nested q (suc s) cs f)))
+    ∙ ap (λ n. looped n (formula_tally callees m (nested q (suc s) cs f))) (carrier_count c)
+    ∙ ap (looped (length (values_of c))) (nested_own callees q (suc s) cs f)
 
-pub nested_tally : (callees : List (List Carrier)) (u around : Bool) (s : ℕ) (cs : List Carrier) (f : normal.Formula) → 0 < length cs → formula_tally callees around (nested u s cs f) ≡ under_tally u around (loops_tally cs (formula_tally callees u f))
-nested_tally callees u around s [] f l = absurd (omega arith)
-nested_tally callees u around s (c ∷ cs) f l =
-    ap (λ n. under_tally u around (looped n (formula_tally callees u (nested u (suc s) cs f)))) (carrier_count c)
-    ∙ ap (λ (x : Tally). under_tally u around (looped (length (values_of c)) x)) (nested_own callees u (suc s) cs f)
+pub nested_tally : (callees : List (List Carrier)) (q : Quantifier) (around : Junction) (s : ℕ) (cs : List Carrier) (f : normal.Formula) → 0 < length cs
+    → formula_tally callees around (nested q s cs f) ≡ under_tally (junction_of q) around (loops_tally cs (formula_tally callees (junction_of q) f))
+nested_tally callees q around s [] f l = absurd (omega arith)
+nested_tally callees q around s (c ∷ cs) f l =
+    let m = junction_of q in
+    ap (λ n. under_tally m around (looped n (formula_tally callees m (nested q (suc s) cs f)))) (carrier_count c)
+    ∙ ap (λ (x : Tally). under_tally m around (looped (length (values_of c)) x)) (nested_own callees q (suc s) cs f)
 
 pub loops_step : (cs : List Carrier) (k : ℕ) (c : Carrier) (x : Tally) → k < length cs → c ≡ get_or cs k c → loops_tally (drop k cs) x ≡ looped (length (values_of c)) (loops_tally (drop (suc k) cs) x)
 loops_step [] k c x l e = absurd (omega arith)
@@ -73,7 +80,7 @@ le_none k = by (nat_le (suc k) 0) refl
     by false e = refl
     by true e = let l = leb-true (suc k) 0 e in absurd (omega (arith, l))
 
-pub kind_step : (m kind : Bool) (fs : List Formula) (k : ℕ) (f : Formula) → k < length fs → f ≡ get_or fs k f → kind_at m kind (leading_tests fs) (suc k) ≡ kind_by (test_of (formula_view f)) m (kind_at m kind (leading_tests fs) k)
+pub kind_step : (m kind : Junction) (fs : List Formula) (k : ℕ) (f : Formula) → k < length fs → f ≡ get_or fs k f → kind_at m kind (leading_tests fs) (suc k) ≡ kind_by (test_of (formula_view f)) m (kind_at m kind (leading_tests fs) k)
 kind_step m kind [] k f l e = absurd (omega arith)
 kind_step m kind (g ∷ gs) zero f l e = by (test_of (formula_view g)) ∙ ap (λ (y : Formula). kind_by (test_of (formula_view y)) m (kind_at m kind (leading_tests (g ∷ gs)) 0)) (sym e)
   where
@@ -93,25 +100,25 @@ kind_step m kind (g ∷ gs) (suc k) f l e = by (test_of (formula_view g)) (kind_
     by (Some t) rest = same (suc k) (leading_tests gs) ∙ rest ∙ ap (kind_by (test_of (formula_view f)) m) (sym (same k (leading_tests gs)))
     by None rest = ap (λ b. cond b kind m) (le_none (suc k)) ∙ own (test_of (formula_view f)) ∙ ap (λ b. kind_by (test_of (formula_view f)) m (cond b kind m)) (sym (le_none k))
 
-pub link_step : (m : Bool) (fs : List Formula) (k : ℕ) (f : Formula) → suc k < length fs → f ≡ get_or fs k f → Join m (formula_view f) (form_chain m (drop (suc k) fs)) ≡ form_chain m (drop k fs)
+pub link_step : (m : Junction) (fs : List Formula) (k : ℕ) (f : Formula) → suc k < length fs → f ≡ get_or fs k f → Join m (formula_view f) (form_chain m (drop (suc k) fs)) ≡ form_chain m (drop k fs)
 link_step m [] k f l e = absurd (omega arith)
 link_step m (g ∷ []) k f l e = absurd (omega arith)
 link_step m (g ∷ h ∷ hs) zero f l e = ap (λ (y : Formula). Join m (formula_view y) (form_chain m (h ∷ hs))) e
 link_step m (g ∷ h ∷ hs) (suc k) f l e = link_step m (h ∷ hs) k f (omega arith) e
 
-pub link_last : (m : Bool) (fs : List Formula) (k : ℕ) (f : Formula) → suc k ≡ length fs → f ≡ get_or fs k f → form_chain m (drop k fs) ≡ formula_view f
+pub link_last : (m : Junction) (fs : List Formula) (k : ℕ) (f : Formula) → suc k ≡ length fs → f ≡ get_or fs k f → form_chain m (drop k fs) ≡ formula_view f
 link_last m [] k f l e = absurd (omega arith)
 link_last m (g ∷ []) zero f l e = ap formula_view (sym e)
 link_last m (g ∷ []) (suc k) f l e = absurd (omega arith)
 link_last m (g ∷ h ∷ hs) zero f l e = absurd (omega arith)
 link_last m (g ∷ h ∷ hs) (suc k) f l e = link_last m (h ∷ hs) k f (omega arith) e
 
-pub many_no_test : (m : Bool) (fs : List Formula) → 1 < length fs → None ≡ load_by (test_of (form_chain m fs))
+pub many_no_test : (m : Junction) (fs : List Formula) → 1 < length fs → None ≡ load_by (test_of (form_chain m fs))
 many_no_test m [] l = absurd (omega arith)
 many_no_test m (f ∷ []) l = absurd (omega arith)
 many_no_test m (f ∷ g ∷ gs) l = refl
 
-pub only_load : (m : Bool) (fs : List Formula) (f : Formula) → length fs ≡ 1 → f ≡ get_or fs 0 f → load_by (test_of (formula_view f)) ≡ load_by (test_of (form_chain m fs))
+pub only_load : (m : Junction) (fs : List Formula) (f : Formula) → length fs ≡ 1 → f ≡ get_or fs 0 f → load_by (test_of (formula_view f)) ≡ load_by (test_of (form_chain m fs))
 only_load m [] f l e = absurd (omega arith)
 only_load m (g ∷ []) f l e = ap (λ (x : Formula). load_by (test_of (formula_view x))) e
 only_load m (g ∷ h ∷ hs) f l e = absurd (omega arith)
@@ -124,7 +131,7 @@ none_load : (o : Option normal.Term) → None ≡ load_by o → o ≡ None
 none_load (Some t) e = cc
 none_load None e = refl
 
-module _ (callees : List (List Carrier)) (m around : Bool) (f g : normal.Formula) where
+module _ (callees : List (List Carrier)) (m around : Junction) (f g : normal.Formula) where
   joined_by : (o p : Option normal.Term) → test_of f ≡ o → test_of g ≡ p → formula_tally callees around (Join m f g) ≡ join_tally m around o p (formula_tally callees around f) (formula_tally callees around g) (formula_tally callees m f) (formula_tally callees m g)
   joined_by o p e h =
       ap (λ o. join_tally m around o (test_of g) (formula_tally callees around f) (formula_tally callees around g) (formula_tally callees m f) (formula_tally callees m g)) e

@@ -13,9 +13,11 @@ use Rattle.pb_bytecode_program.specs.Values.{tagged}
 use Rattle.pb_bytecode_program.specs.declared.instruction.Leaf.TheVariants as leaf
 use Rattle.pb_bytecode_program.specs.declared.instruction.Op.{Op}
 use Rattle.pb_bytecode_program.specs.declared.instruction.Op.TheVariants as op
+use Rattle.pb_normal.specs.declared.formula.Junction.{Junction}
+use Rattle.pb_normal.specs.declared.formula.Junction.TheVariants.{And, Or}
 use Rattle.pb_normal.specs.Normal.{Term, Number, Slot, Negative, Absolute, Successor, Predecessor, Binary, Maximum, Minimum, Choice, Recognised, Argument, Formula, Test, Join, Each, Call}
 use Rattle.pb_assembler_scheme.specs.Pieces.{Piece, Plain, Then, Unless, Choose, Repeat, Block, Leave, Guard, end}
-use Rattle.pb_assembler_scheme.specs.Scheme.{data_piece, binary_piece, in_order, swapped, bracketed, under, test_piece, tested_piece, test_of, join_piece, tested_range, any_tested, guarded, arguments_piece, call_piece, parameters, formula_piece, head, equation_piece}
+use Rattle.pb_assembler_scheme.specs.Scheme.{neutral, junction_of, data_piece, binary_piece, in_order, swapped, bracketed, under, test_piece, tested_piece, test_of, join_piece, tested_range, any_tested, guarded, arguments_piece, call_piece, parameters, formula_piece, head, equation_piece}
 use Rattle.pb_assembler_scheme.proofs.Numbered.{HasSlots}
 use Rattle.pb_assembler_accepted.specs.Weights.{weight}
 use Rattle.pb_assembler.specs.declared.measure_tally.Tally.{Tally}
@@ -158,11 +160,11 @@ module _ (p : Program) where
   abbrev pub Tallied : Piece → Tally → Type 0
   Tallied x t = Costs p x t.instructions t.steps t.tokens
 
-  test_costs : (around : Bool) (t : Term) → Tallied (test_piece around t) (test_tally (term_load t))
+  test_costs : (around : Junction) (t : Term) → Tallied (test_piece around t) (test_tally (term_load t))
   test_costs around t =
       let n = term_length t in
       let e : n + 2 ≡ 2 + n = omega arith in
-      then_costs (data_piece t) _ n n 0 2 2 1 (2 + n) (2 + n) 1 (data_costs t) (unless_costs around _ 1 1 1 (plain_costs _ 1 refl)) e e refl
+      then_costs (data_piece t) _ n n 0 2 2 1 (2 + n) (2 + n) 1 (data_costs t) (unless_costs (neutral around) _ 1 1 1 (plain_costs _ 1 refl)) e e refl
 
   -- the leaf in place of what follows, and what follows passed over
   decided : (on : Bool) (i : Op) (t : Term) (x : Piece) (n s k : ℕ) → tokens_of i ≡ 1 → Costs p x n s k
@@ -175,11 +177,11 @@ module _ (p : Program) where
   passed on t x n s k h =
       then_costs (data_piece t) (Unless on x) (term_length t) (term_length t) 0 (1 + n) (1 + s) k _ _ _ (data_costs t) (unless_costs on x n s k h) (omega arith) (omega arith) (omega arith)
 
-  tested_costs : (m around : Bool) (t : Term) (x : Piece) (y : Tally) → Tallied x y → Tallied (tested_piece m around t x) (tested_tally m around (term_load t) y)
-  tested_costs true true t x y h = decided true _ t x y.instructions y.steps y.tokens refl h
-  tested_costs false false t x y h = decided false _ t x y.instructions y.steps y.tokens refl h
-  tested_costs true false t x y h = passed false t x y.instructions y.steps y.tokens h
-  tested_costs false true t x y h = passed true t x y.instructions y.steps y.tokens h
+  tested_costs : (m around : Junction) (t : Term) (x : Piece) (y : Tally) → Tallied x y → Tallied (tested_piece m around t x) (tested_tally m around (term_load t) y)
+  tested_costs And And t x y h = decided true _ t x y.instructions y.steps y.tokens refl h
+  tested_costs Or Or t x y h = decided false _ t x y.instructions y.steps y.tokens refl h
+  tested_costs And Or t x y h = passed false t x y.instructions y.steps y.tokens h
+  tested_costs Or And t x y h = passed true t x y.instructions y.steps y.tokens h
 
   in_bracket : (i : Op) (x : Piece) (n s k : ℕ) → tokens_of i ≡ 1 → Costs p x n s k → Costs p (Then (Plain i) (Then x (Plain op.Close))) (2 + n) (2 + s) (2 + k)
   in_bracket i x n s k e h =
@@ -187,19 +189,19 @@ module _ (p : Program) where
       (then_costs x (Plain op.Close) n s k 1 1 1 (1 + n) (1 + s) (1 + k) h (plain_costs op.Close 1 refl) (omega arith) (omega arith) (omega arith))
       (omega arith) (omega arith) (omega arith)
 
-  bracketed_costs : (m : Bool) (x : Piece) (y : Tally) → Tallied x y → Tallied (bracketed m x) (bracketed_tally y)
+  bracketed_costs : (m : Junction) (x : Piece) (y : Tally) → Tallied x y → Tallied (bracketed m x) (bracketed_tally y)
   bracketed_costs m x y h = in_bracket _ x y.instructions y.steps y.tokens refl h
 
-  under_costs : (m around : Bool) (x : Piece) (y : Tally) → Tallied x y → Tallied (under m around x) (under_tally m around y)
-  under_costs true true x y h = h
-  under_costs false false x y h = h
-  under_costs true false x y h = bracketed_costs true x y h
-  under_costs false true x y h = bracketed_costs false x y h
+  under_costs : (m around : Junction) (x : Piece) (y : Tally) → Tallied x y → Tallied (under m around x) (under_tally m around y)
+  under_costs And And x y h = h
+  under_costs Or Or x y h = h
+  under_costs And Or x y h = bracketed_costs And x y h
+  under_costs Or And x y h = bracketed_costs Or x y h
 
   after_costs : (a b : Piece) (x y : Tally) → Tallied a x → Tallied b y → Tallied (Then a b) (after x y)
   after_costs a b x y h i = then_costs a b x.instructions x.steps x.tokens y.instructions y.steps y.tokens _ _ _ h i refl refl refl
 
-  join_costs : (m around : Bool) (s t : Option Term) (fa ga fo go : Piece) (x y z w : Tally) → Tallied fa x → Tallied ga y → Tallied fo z → Tallied go w → Tallied (join_piece m around s t fa ga fo go) (join_tally m around s t x y z w)
+  join_costs : (m around : Junction) (s t : Option Term) (fa ga fo go : Piece) (x y z w : Tally) → Tallied fa x → Tallied ga y → Tallied fo z → Tallied go w → Tallied (join_piece m around s t fa ga fo go) (join_tally m around s t x y z w)
   join_costs m around (Some s) t fa ga fo go x y z w a b c d = tested_costs m around s ga y b
   join_costs m around None (Some t) fa ga fo go x y z w a b c d = tested_costs m around t fa x a
   join_costs m around None None fa ga fo go x y z w a b c d = under_costs m around (Then fo go) (after z w) (after_costs fo go z w c d)
@@ -253,13 +255,13 @@ module _ (p : Program) where
   each_costs : (s : ℕ) (shape : Shape) (x : Piece) (y : Tally) → carrier_shape (carrier_of p s) ≡ shape → Tallied x y → Tallied (Repeat s x) (looped (shape_size shape) y)
   each_costs s shape x y e h = repeat_costs s (shape_size shape) x y.instructions y.steps y.tokens (sized (carrier_of p s) ∙ ap shape_size e) h
 
-  pub formula_costs : (callees : List (List Carrier)) (f : Formula) (around : Bool) → HasSlots p f → Tallied (formula_piece callees around f) (formula_tally callees around f)
+  pub formula_costs : (callees : List (List Carrier)) (f : Formula) (around : Junction) → HasSlots p f → Tallied (formula_piece callees around f) (formula_tally callees around f)
   formula_costs callees (Test t) around slots = test_costs around t
   formula_costs callees (Join m f g) around slots =
       join_costs m around (test_of f) (test_of g) _ _ _ _ _ _ _ _
       (formula_costs callees f around slots.0) (formula_costs callees g around slots.1) (formula_costs callees f m slots.0) (formula_costs callees g m slots.1)
-  formula_costs callees (Each m s shape f) around slots =
-      under_costs m around _ _ (each_costs s shape (formula_piece callees m f) (formula_tally callees m f) slots.0 (formula_costs callees f m slots.1))
+  formula_costs callees (Each q s shape f) around slots =
+      under_costs (junction_of q) around _ _ (each_costs s shape (formula_piece callees (junction_of q) f) (formula_tally callees (junction_of q) f) slots.0 (formula_costs callees f (junction_of q) slots.1))
   formula_costs callees (Call equation xs) around slots = call_costs equation (parameters (slice_get callees equation)) xs
 
   -- an equation's, in its outermost bracket and with END behind it

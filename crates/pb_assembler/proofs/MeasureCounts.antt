@@ -2,8 +2,10 @@
 use Rattle.std.proofs.Common.{◌≡◌, ℕ, suc, Bool, true, false, List, [], ◌∷◌, Option, Some, None, refl, ap, ◌∙◌, arith}
 use Rattle.std.specs.Prelude.{max, slice_get}
 use Rattle.pb_sorts.specs.declared.carrier.Carrier.{Carrier}
+use Rattle.pb_normal.specs.declared.formula.Junction.{Junction}
+use Rattle.pb_normal.specs.declared.formula.Junction.TheVariants.{And, Or}
 use Rattle.pb_normal.specs.Normal.{Term, Argument, Formula, Test, Join, Each, Call}
-use Rattle.pb_assembler_scheme.specs.Scheme.{any_tested, parameters, test_of}
+use Rattle.pb_assembler_scheme.specs.Scheme.{junction_of, any_tested, parameters, test_of}
 use Rattle.pb_assembler_accepted.specs.Limits.{one_kept, term_operands, argument_operands, formula_operands, brackets_under, join_brackets, formula_brackets, formula_loops}
 use Rattle.pb_assembler.specs.declared.measure_load.Load.{Load}
 use Rattle.pb_assembler.specs.declared.measure_tally.Tally.{Tally}
@@ -24,23 +26,23 @@ IsTestOf (Some t) n l = (n ≡ term_operands t) × (l ≡ 0)
 test_counts : (f : Formula) → IsTestOf (test_of f) (formula_operands f) (formula_loops f)
 test_counts (Test t) = (refl, refl)
 test_counts (Join m f g) = tt
-test_counts (Each m s shape f) = tt
+test_counts (Each q s shape f) = tt
 test_counts (Call equation xs) = tt
 
 counts_as : (t : Tally) (n b l m c k : ℕ) → n ≡ m → b ≡ c → l ≡ k → Counts t n b l → Counts t m c k
 counts_as t n b l m c k e f g h = record { operands = h.operands ∙ e; brackets = h.brackets ∙ f; loops = h.loops ∙ g }
 
-tested_counts : (m around : Bool) (t : Term) (x : Tally) (n b l : ℕ) → Counts x n b l → Counts (tested_tally m around (term_load t) x) (max (term_operands t) n) b l
-tested_counts true true t x n b l h = record { operands = ap (max (term_operands t)) h.operands; brackets = h.brackets; loops = h.loops }
-tested_counts false false t x n b l h = record { operands = ap (max (term_operands t)) h.operands; brackets = h.brackets; loops = h.loops }
-tested_counts true false t x n b l h = record { operands = ap (max (term_operands t)) h.operands; brackets = h.brackets; loops = h.loops }
-tested_counts false true t x n b l h = record { operands = ap (max (term_operands t)) h.operands; brackets = h.brackets; loops = h.loops }
+tested_counts : (m around : Junction) (t : Term) (x : Tally) (n b l : ℕ) → Counts x n b l → Counts (tested_tally m around (term_load t) x) (max (term_operands t) n) b l
+tested_counts And And t x n b l h = record { operands = ap (max (term_operands t)) h.operands; brackets = h.brackets; loops = h.loops }
+tested_counts Or Or t x n b l h = record { operands = ap (max (term_operands t)) h.operands; brackets = h.brackets; loops = h.loops }
+tested_counts And Or t x n b l h = record { operands = ap (max (term_operands t)) h.operands; brackets = h.brackets; loops = h.loops }
+tested_counts Or And t x n b l h = record { operands = ap (max (term_operands t)) h.operands; brackets = h.brackets; loops = h.loops }
 
-under_counts : (m around : Bool) (x : Tally) (n b l : ℕ) → Counts x n b l → Counts (under_tally m around x) n (brackets_under m around b) l
-under_counts true true x n b l h = h
-under_counts false false x n b l h = h
-under_counts true false x n b l h = record { operands = h.operands; brackets = let e = h.brackets in omega (arith, e); loops = h.loops }
-under_counts false true x n b l h = record { operands = h.operands; brackets = let e = h.brackets in omega (arith, e); loops = h.loops }
+under_counts : (m around : Junction) (x : Tally) (n b l : ℕ) → Counts x n b l → Counts (under_tally m around x) n (brackets_under m around b) l
+under_counts And And x n b l h = h
+under_counts Or Or x n b l h = h
+under_counts And Or x n b l h = record { operands = h.operands; brackets = let e = h.brackets in omega (arith, e); loops = h.loops }
+under_counts Or And x n b l h = record { operands = h.operands; brackets = let e = h.brackets in omega (arith, e); loops = h.loops }
 
 after_counts : (x y : Tally) (n b l m c k : ℕ) → Counts x n b l → Counts y m c k → Counts (after x y) (max n m) (max b c) (max l k)
 after_counts x y n b l m c k h i = record {
@@ -49,7 +51,7 @@ after_counts x y n b l m c k h i = record {
   loops = ap (λ a. max a y.nesting) h.loops ∙ ap (max l) i.loops;
 }
 
-join_counts : (m around : Bool) (s t : Option Term) (fa ga fo go : Tally) (n l o k a b c d : ℕ) → IsTestOf s n l → IsTestOf t o k
+join_counts : (m around : Junction) (s t : Option Term) (fa ga fo go : Tally) (n l o k a b c d : ℕ) → IsTestOf s n l → IsTestOf t o k
     → Counts fa n a l → Counts ga o b k → Counts fo n c l → Counts go o d k
     → Counts (join_tally m around s t fa ga fo go) (max n o) (join_brackets m around s t a b c d) (max l k)
 join_counts m around (Some s) t fa ga fo go n l o k a b c d p q w x y z =
@@ -76,13 +78,13 @@ ended_counts : (any : Bool) (l : Load) (n : ℕ) → l.operands ≡ n → Counts
 ended_counts true l n e = record { operands = e; brackets = refl; loops = refl }
 ended_counts false l n e = record { operands = e; brackets = refl; loops = refl }
 
-pub formula_counts : (callees : List (List Carrier)) (f : Formula) (around : Bool) → Counts (formula_tally callees around f) (formula_operands f) (formula_brackets around f) (formula_loops f)
+pub formula_counts : (callees : List (List Carrier)) (f : Formula) (around : Junction) → Counts (formula_tally callees around f) (formula_operands f) (formula_brackets around f) (formula_loops f)
 formula_counts callees (Test t) around = record { operands = refl; brackets = refl; loops = refl }
 formula_counts callees (Join m f g) around =
     join_counts m around (test_of f) (test_of g) _ _ _ _ (formula_operands f) (formula_loops f) (formula_operands g) (formula_loops g) _ _ _ _ (test_counts f) (test_counts g)
     (formula_counts callees f around) (formula_counts callees g around) (formula_counts callees f m) (formula_counts callees g m)
-formula_counts callees (Each m s shape f) around =
-    under_counts m around (looped (shape_size shape) (formula_tally callees m f)) (formula_operands f) (formula_brackets m f) (suc (formula_loops f)) (looped_counts (shape_size shape) (formula_tally callees m f) (formula_operands f) (formula_brackets m f) (formula_loops f) (formula_counts callees f m))
+formula_counts callees (Each q s shape f) around =
+    under_counts (junction_of q) around (looped (shape_size shape) (formula_tally callees (junction_of q) f)) (formula_operands f) (formula_brackets (junction_of q) f) (suc (formula_loops f)) (looped_counts (shape_size shape) (formula_tally callees (junction_of q) f) (formula_operands f) (formula_brackets (junction_of q) f) (formula_loops f) (formula_counts callees f (junction_of q)))
 formula_counts callees (Call equation xs) around =
     let cs = parameters (slice_get callees equation) in
     ended_counts (any_tested cs xs) (arguments_load cs xs) (argument_operands xs) (arguments_counts cs xs)

@@ -7,9 +7,10 @@ use Rattle.pb_sorts.specs.declared.carrier.Carrier.TheVariants as carriers
 use Rattle.pb_typing_declarations.specs.Shapes.{Shape, Unknown, Truths, Places, Wholes}
 use Rattle.pb_typing_declarations.specs.Entries.{carrier_shape}
 use Rattle.pb_typing_rules.specs.Shapes.{interval}
+use Rattle.pb_normal.specs.declared.formula.Junction.{Junction}
 use Rattle.pb_normal.specs.Normal.{Argument, Formula, Test, Join, Each, Call}
 use Rattle.pb_normal.specs.View.{shapes_of}
-use Rattle.pb_assembler_scheme.specs.Scheme.{tested_range, any_tested, parameters, test_of}
+use Rattle.pb_assembler_scheme.specs.Scheme.{junction_of, tested_range, any_tested, parameters, test_of}
 use Rattle.pb_assembler.specs.declared.measure_load.Load.{Load}
 use Rattle.pb_assembler.specs.declared.measure_tally.Tally.{Tally}
 use Rattle.pb_assembler.specs.MeasureTerms.{term_load}
@@ -62,18 +63,18 @@ parameters_same (c ∷ cs) [] k e = cc
 parameters_same (c ∷ cs) (d ∷ ds) zero e = cc
 parameters_same (c ∷ cs) (d ∷ ds) (suc k) e = let rest : map shapes_of cs ≡ map shapes_of ds = cc in parameters_same cs ds k rest
 
-join_same : (m around : Bool) (f g : Formula) (a b c d p q r s : Tally) → a ≡ p → b ≡ q → c ≡ r → d ≡ s → join_tally m around (test_of f) (test_of g) a b c d ≡ join_tally m around (test_of f) (test_of g) p q r s
+join_same : (m around : Junction) (f g : Formula) (a b c d p q r s : Tally) → a ≡ p → b ≡ q → c ≡ r → d ≡ s → join_tally m around (test_of f) (test_of g) a b c d ≡ join_tally m around (test_of f) (test_of g) p q r s
 join_same m around f g a b c d p q r s e h i j =
     ap (λ (x : Tally). join_tally m around (test_of f) (test_of g) x b c d) e
     ∙ ap (λ (x : Tally). join_tally m around (test_of f) (test_of g) p x c d) h
     ∙ ap (λ (x : Tally). join_tally m around (test_of f) (test_of g) p q x d) i
     ∙ ap (λ (x : Tally). join_tally m around (test_of f) (test_of g) p q r x) j
 
-pub tally_same : (cs ds : List (List Carrier)) → map shapes_of cs ≡ map shapes_of ds → (f : Formula) (around : Bool) → formula_tally cs around f ≡ formula_tally ds around f
+pub tally_same : (cs ds : List (List Carrier)) → map shapes_of cs ≡ map shapes_of ds → (f : Formula) (around : Junction) → formula_tally cs around f ≡ formula_tally ds around f
 tally_same cs ds e (Test t) around = refl
 tally_same cs ds e (Join m f g) around =
     join_same m around f g _ _ _ _ _ _ _ _ (tally_same cs ds e f around) (tally_same cs ds e g around) (tally_same cs ds e f m) (tally_same cs ds e g m)
-tally_same cs ds e (Each m s shape f) around = ap (λ (x : Tally). under_tally m around (looped (shape_size shape) x)) (tally_same cs ds e f m)
+tally_same cs ds e (Each q s shape f) around = ap (λ (x : Tally). under_tally (junction_of q) around (looped (shape_size shape) x)) (tally_same cs ds e f (junction_of q))
 tally_same cs ds e (Call equation xs) around =
     let a = parameters (slice_get cs equation) in
     let b = parameters (slice_get ds equation) in

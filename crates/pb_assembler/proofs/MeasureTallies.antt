@@ -1,6 +1,8 @@
 -- Tallies that stop just above a million, put together.
-use Rattle.std.proofs.Common.{◌≡◌, ℕ, zero, suc, ◌+◌, ◌*◌, ◌<◌, Bool, true, false, ap, ◌∙◌, arith, ⊎_elim}
+use Rattle.std.proofs.Common.{◌≡◌, ℕ, zero, suc, ◌+◌, ◌*◌, ◌<◌, Bool, ap, ◌∙◌, arith, ⊎_elim}
 use Rattle.std.proofs.lemmas.Bool.{cases_lt}
+use Rattle.pb_normal.specs.declared.formula.Junction.{Junction}
+use Rattle.pb_normal.specs.declared.formula.Junction.TheVariants.{And, Or}
 use Rattle.pb_assembler.specs.declared.measure_load.Load.{Load}
 use Rattle.pb_assembler.specs.declared.measure_tally.Tally.{Tally}
 use Rattle.pb_assembler.specs.MeasureTerms.{capped, capped_load}
@@ -42,11 +44,11 @@ deciding_capped l x = tally_of _ _ _ _ _ _ _ _ _ _ _ _ (omega arith) (omega arit
 passing_capped : (l : Load) (x : Tally) → capped_tally (passing (capped_load l) (capped_tally x)) ≡ capped_tally (passing l x)
 passing_capped l x = tally_of _ _ _ _ _ _ _ _ _ _ _ _ (omega arith) (omega arith) (omega arith) (omega arith) (omega arith) (omega arith)
 
-tested_capped : (m around : Bool) (l : Load) (x : Tally) → capped_tally (tested_tally m around (capped_load l) (capped_tally x)) ≡ capped_tally (tested_tally m around l x)
-tested_capped true true l x = deciding_capped l x
-tested_capped false false l x = deciding_capped l x
-tested_capped true false l x = passing_capped l x
-tested_capped false true l x = passing_capped l x
+tested_capped : (m around : Junction) (l : Load) (x : Tally) → capped_tally (tested_tally m around (capped_load l) (capped_tally x)) ≡ capped_tally (tested_tally m around l x)
+tested_capped And And l x = deciding_capped l x
+tested_capped Or Or l x = deciding_capped l x
+tested_capped And Or l x = passing_capped l x
+tested_capped Or And l x = passing_capped l x
 
 same_capped : (x : Tally) → capped_tally (capped_tally x) ≡ capped_tally x
 same_capped x = tally_of _ _ _ _ _ _ _ _ _ _ _ _ (omega arith) (omega arith) (omega arith) (omega arith) (omega arith) (omega arith)
@@ -54,11 +56,11 @@ same_capped x = tally_of _ _ _ _ _ _ _ _ _ _ _ _ (omega arith) (omega arith) (om
 bracketed_capped : (x : Tally) → capped_tally (bracketed_tally (capped_tally x)) ≡ capped_tally (bracketed_tally x)
 bracketed_capped x = tally_of _ _ _ _ _ _ _ _ _ _ _ _ (omega arith) (omega arith) (omega arith) (omega arith) (omega arith) (omega arith)
 
-under_capped : (m around : Bool) (x : Tally) → capped_tally (under_tally m around (capped_tally x)) ≡ capped_tally (under_tally m around x)
-under_capped true true x = same_capped x
-under_capped false false x = same_capped x
-under_capped true false x = bracketed_capped x
-under_capped false true x = bracketed_capped x
+under_capped : (m around : Junction) (x : Tally) → capped_tally (under_tally m around (capped_tally x)) ≡ capped_tally (under_tally m around x)
+under_capped And And x = same_capped x
+under_capped Or Or x = same_capped x
+under_capped And Or x = bracketed_capped x
+under_capped Or And x = bracketed_capped x
 
 after_capped : (x y : Tally) → capped_tally (after (capped_tally x) (capped_tally y)) ≡ capped_tally (after x y)
 after_capped x y = tally_of _ _ _ _ _ _ _ _ _ _ _ _ (omega arith) (omega arith) (omega arith) (omega arith) (omega arith) (omega arith)
@@ -81,10 +83,10 @@ test_capped l = tally_of _ _ _ _ _ _ _ _ _ _ _ _ (omega arith) (omega arith) (om
 pub test_by : (r l : Load) → r ≡ capped_load l → capped_tally (test_tally r) ≡ capped_tally (test_tally l)
 test_by r l e = ap (λ (k : Load). capped_tally (test_tally k)) e ∙ test_capped l
 
-pub tested_by : (m around : Bool) (r l : Load) (y x : Tally) → r ≡ capped_load l → y ≡ capped_tally x → capped_tally (tested_tally m around r y) ≡ capped_tally (tested_tally m around l x)
+pub tested_by : (m around : Junction) (r l : Load) (y x : Tally) → r ≡ capped_load l → y ≡ capped_tally x → capped_tally (tested_tally m around r y) ≡ capped_tally (tested_tally m around l x)
 tested_by m around r l y x e f = ap (λ (k : Load). capped_tally (tested_tally m around k y)) e ∙ ap (λ (k : Tally). capped_tally (tested_tally m around (capped_load l) k)) f ∙ tested_capped m around l x
 
-pub under_by : (m around : Bool) (y x : Tally) → y ≡ capped_tally x → capped_tally (under_tally m around y) ≡ capped_tally (under_tally m around x)
+pub under_by : (m around : Junction) (y x : Tally) → y ≡ capped_tally x → capped_tally (under_tally m around y) ≡ capped_tally (under_tally m around x)
 under_by m around y x e = ap (λ (k : Tally). capped_tally (under_tally m around k)) e ∙ under_capped m around x
 
 pub after_by : (z w x y : Tally) → z ≡ capped_tally x → w ≡ capped_tally y → capped_tally (after z w) ≡ capped_tally (after x y)

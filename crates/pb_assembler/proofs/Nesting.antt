@@ -9,10 +9,12 @@ use Rattle.pb_bytecode_program.specs.Counts.{LoopEffect, Enters, Leaves, Straigh
 use Rattle.pb_bytecode_program.specs.declared.instruction.Leaf.TheVariants as leaf
 use Rattle.pb_bytecode_program.specs.declared.instruction.Op.{Op}
 use Rattle.pb_bytecode_program.specs.declared.instruction.Op.TheVariants as op
+use Rattle.pb_normal.specs.declared.formula.Junction.{Junction}
+use Rattle.pb_normal.specs.declared.formula.Junction.TheVariants.{And, Or}
 use Rattle.pb_normal.specs.Normal.{Term, Number, Slot, Negative, Absolute, Successor, Predecessor, Binary, Maximum, Minimum, Choice, Recognised, Argument, Formula, Test, Join, Each, Call}
 use Rattle.pb_assembler_scheme.specs.Correct.{IsCompiled}
 use Rattle.pb_assembler_scheme.specs.Pieces.{Piece, Empty, Plain, Then, Unless, Choose, Repeat, Block, Leave, Guard, end, flat}
-use Rattle.pb_assembler_scheme.specs.Scheme.{data_piece, binary_piece, bracketed, under, tested_piece, test_of, join_piece, tested_range, any_tested, guarded, arguments_piece, call_piece, parameters, formula_piece, head, equation_piece}
+use Rattle.pb_assembler_scheme.specs.Scheme.{junction_of, data_piece, binary_piece, bracketed, under, tested_piece, test_of, join_piece, tested_range, any_tested, guarded, arguments_piece, call_piece, parameters, formula_piece, head, equation_piece}
 use Rattle.pb_assembler_accepted.specs.Limits.{formula_loops}
 use Rattle.pb_assembler_accepted.proofs.Tables.{IsStraight}
 use Rattle.pb_assembler_accepted.proofs.Weights.{equation_straight}
@@ -225,17 +227,17 @@ data_loops (Minimum x y) = let e = data_loops x in let f = data_loops y in omega
 data_loops (Choice c x y) = let d = data_loops c in let e = data_loops x in let f = data_loops y in omega (arith, d, e, f)
 data_loops (Recognised s i x) = let e = data_loops x in omega (arith, e)
 
-tested_loops : (m around : Bool) (t : Term) (x : Piece) → piece_loops (tested_piece m around t x) ≡ piece_loops x
-tested_loops true true t x = let e = data_loops t in omega (arith, e)
-tested_loops false false t x = let e = data_loops t in omega (arith, e)
-tested_loops true false t x = let e = data_loops t in omega (arith, e)
-tested_loops false true t x = let e = data_loops t in omega (arith, e)
+tested_loops : (m around : Junction) (t : Term) (x : Piece) → piece_loops (tested_piece m around t x) ≡ piece_loops x
+tested_loops And And t x = let e = data_loops t in omega (arith, e)
+tested_loops Or Or t x = let e = data_loops t in omega (arith, e)
+tested_loops And Or t x = let e = data_loops t in omega (arith, e)
+tested_loops Or And t x = let e = data_loops t in omega (arith, e)
 
-under_loops : (m around : Bool) (x : Piece) → piece_loops (under m around x) ≡ piece_loops x
-under_loops true true x = refl
-under_loops false false x = refl
-under_loops true false x = omega arith
-under_loops false true x = omega arith
+under_loops : (m around : Junction) (x : Piece) → piece_loops (under m around x) ≡ piece_loops x
+under_loops And And x = refl
+under_loops Or Or x = refl
+under_loops And Or x = omega arith
+under_loops Or And x = omega arith
 
 -- a test has no loops
 abbrev HasNoLoop : Option Term → ℕ → Type 0
@@ -245,10 +247,10 @@ HasNoLoop (Some t) n = n ≡ 0
 test_has_none : (f : Formula) → HasNoLoop (test_of f) (formula_loops f)
 test_has_none (Test t) = refl
 test_has_none (Join m f g) = tt
-test_has_none (Each m s shape f) = tt
+test_has_none (Each q s shape f) = tt
 test_has_none (Call equation xs) = tt
 
-join_loops : (m around : Bool) (s t : Option Term) (fa ga fo go : Piece) (a b : ℕ) → HasNoLoop s a → HasNoLoop t b → piece_loops fa ≡ a → piece_loops ga ≡ b → piece_loops fo ≡ a → piece_loops go ≡ b
+join_loops : (m around : Junction) (s t : Option Term) (fa ga fo go : Piece) (a b : ℕ) → HasNoLoop s a → HasNoLoop t b → piece_loops fa ≡ a → piece_loops ga ≡ b → piece_loops fo ≡ a → piece_loops go ≡ b
     → piece_loops (join_piece m around s t fa ga fo go) ≡ max a b
 join_loops m around (Some s) t fa ga fo go a b n k e f g h = let x = tested_loops m around s ga in omega (arith, x, n, f)
 join_loops m around None (Some t) fa ga fo go a b n k e f g h = let x = tested_loops m around t fa in omega (arith, x, k, e)
@@ -276,12 +278,12 @@ call_loops equation cs xs = by (any_tested cs xs)
     by true = let e = arguments_loops cs xs (Then (Plain (op.Call equation)) Leave) refl in omega (arith, e)
     by false = arguments_loops cs xs (Plain (op.Call equation)) refl
 
-formula_nested : (callees : List (List Carrier)) (f : Formula) (around : Bool) → piece_loops (formula_piece callees around f) ≡ formula_loops f
+formula_nested : (callees : List (List Carrier)) (f : Formula) (around : Junction) → piece_loops (formula_piece callees around f) ≡ formula_loops f
 formula_nested callees (Test t) around = let e = data_loops t in omega (arith, e)
 formula_nested callees (Join m f g) around =
     join_loops m around (test_of f) (test_of g) _ _ _ _ (formula_loops f) (formula_loops g) (test_has_none f) (test_has_none g)
     (formula_nested callees f around) (formula_nested callees g around) (formula_nested callees f m) (formula_nested callees g m)
-formula_nested callees (Each m s shape f) around = under_loops m around (Repeat s (formula_piece callees m f)) ∙ ap suc (formula_nested callees f m)
+formula_nested callees (Each q s shape f) around = under_loops (junction_of q) around (Repeat s (formula_piece callees (junction_of q) f)) ∙ ap suc (formula_nested callees f (junction_of q))
 formula_nested callees (Call equation xs) around = call_loops equation (parameters (slice_get callees equation)) xs
 
 equation_nested : (callees : List (List Carrier)) (f : Formula) → piece_loops (equation_piece callees f) ≡ formula_loops f

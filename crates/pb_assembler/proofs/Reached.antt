@@ -8,9 +8,11 @@ use Rattle.pb_bytecode_program.specs.Machine.{Program}
 use Rattle.pb_bytecode_program.specs.declared.instruction.Leaf.TheVariants as leaf
 use Rattle.pb_bytecode_program.specs.declared.instruction.Op.{Op}
 use Rattle.pb_bytecode_program.specs.declared.instruction.Op.TheVariants as op
+use Rattle.pb_normal.specs.declared.formula.Junction.{Junction}
+use Rattle.pb_normal.specs.declared.formula.Junction.TheVariants.{And, Or}
 use Rattle.pb_normal.specs.Normal.{Term, Number, Slot, Negative, Absolute, Successor, Predecessor, Binary, Maximum, Minimum, Choice, Recognised, Argument, Formula, Test, Join, Each, Call}
 use Rattle.pb_assembler_scheme.specs.Pieces.{Piece, Plain, Then, Unless, Choose, Repeat, Block, Leave, end, HasPieceAt}
-use Rattle.pb_assembler_scheme.specs.Scheme.{data_piece, binary_piece, in_order, swapped, bracketed, under, test_piece, tested_piece, test_of, join_piece, tested_range, any_tested, guarded, arguments_piece, call_piece, parameters, formula_piece, head}
+use Rattle.pb_assembler_scheme.specs.Scheme.{neutral, junction_of, data_piece, binary_piece, in_order, swapped, bracketed, under, test_piece, tested_piece, test_of, join_piece, tested_range, any_tested, guarded, arguments_piece, call_piece, parameters, formula_piece, head}
 use Rattle.pb_assembler_scheme.specs.Correct.{HasFullCalls, IsCompiled, IsFullCall}
 use Rattle.pb_assembler_scheme.proofs.Calls.{full_length}
 use Rattle.pb_assembler_scheme.proofs.Whole.{equation_stands}
@@ -181,11 +183,11 @@ module _ (p : Program) where
   tested_off : (on : Bool) (q b to : ℕ) → slice_get p.code q ≡ Some (op.JumpIf on to) → At q (0 + 1) b → At to 0 b
   tested_off on q b to s h = step (op.JumpIf on to) q (0 + 1) b to 0 b 0 s (inr refl) refl refl refl h
 
-  test_passes : (around : Bool) (t : Term) → Passes (test_piece around t) (term_operands t) 0
+  test_passes : (around : Junction) (t : Term) → Passes (test_piece around t) (term_operands t) 0
   test_passes around t q e b s h =
       let k = term_pushed t q e 0 b s.0 h in
       let r = end q (data_piece t) in
-      let on = tested_on around r b _ s.1.0 k.0 in
+      let on = tested_on (neutral around) r b _ s.1.0 k.0 in
       (going _ 0 0 (r + 1) 0 0 b 0 (written _) refl refl s.1.1 on, operands_as (0 + term_operands t) (term_operands t) (omega arith) k.1, brackets_here q 0 b (b + 0) h (omega arith))
 
   decided_passes : (on : Bool) (i : Op) (t : Term) (x : Piece) (o k : ℕ) → Passes x o k → Passes (Then (data_piece t) (Choose on (Plain i) x)) (max (term_operands t) o) k
@@ -202,24 +204,24 @@ module _ (p : Program) where
       let rest = f (r + 1) e b s.1.1 (tested_on on r b _ s.1.0 d.0) in
       (rest.0, operands_max (0 + term_operands t) o (max (term_operands t) o) (omega arith) d.1 rest.1, rest.2)
 
-  tested_passes : (m around : Bool) (t : Term) (x : Piece) (o k : ℕ) → Passes x o k → Passes (tested_piece m around t x) (max (term_operands t) o) k
-  tested_passes true true t x o k f = decided_passes true _ t x o k f
-  tested_passes false false t x o k f = decided_passes false _ t x o k f
-  tested_passes true false t x o k f = passed_passes false t x o k f
-  tested_passes false true t x o k f = passed_passes true t x o k f
+  tested_passes : (m around : Junction) (t : Term) (x : Piece) (o k : ℕ) → Passes x o k → Passes (tested_piece m around t x) (max (term_operands t) o) k
+  tested_passes And And t x o k f = decided_passes true _ t x o k f
+  tested_passes Or Or t x o k f = decided_passes false _ t x o k f
+  tested_passes And Or t x o k f = passed_passes false t x o k f
+  tested_passes Or And t x o k f = passed_passes true t x o k f
 
-  bracketed_passes : (m : Bool) (x : Piece) (o k : ℕ) → Passes x o k → Passes (bracketed m x) o (suc k)
+  bracketed_passes : (m : Junction) (x : Piece) (o k : ℕ) → Passes x o k → Passes (bracketed m x) o (suc k)
   bracketed_passes m x o k f q e b s h =
       let open_one : At (q + 1) 0 (b + 1) = step _ q 0 b (q + 1) 0 (b + 1) 0 s.0 refl refl refl (omega arith) h in
       let inner = f (q + 1) e (b + 1) s.1.0 open_one in
       let close_one : At (end (q + 1) x + 1) 0 b = step op.Close (end (q + 1) x) 0 (b + 1) (end (q + 1) x + 1) 0 b 0 s.1.1 refl refl refl (omega arith) inner.0 in
       (close_one, inner.1, brackets_as ((b + 1) + k) (b + suc k) (omega arith) inner.2)
 
-  under_passes : (m around : Bool) (x : Piece) (o k : ℕ) → Passes x o k → Passes (under m around x) o (brackets_under m around k)
-  under_passes true true x o k f = f
-  under_passes false false x o k f = f
-  under_passes true false x o k f = bracketed_passes true x o k f
-  under_passes false true x o k f = bracketed_passes false x o k f
+  under_passes : (m around : Junction) (x : Piece) (o k : ℕ) → Passes x o k → Passes (under m around x) o (brackets_under m around k)
+  under_passes And And x o k f = f
+  under_passes Or Or x o k f = f
+  under_passes And Or x o k f = bracketed_passes And x o k f
+  under_passes Or And x o k f = bracketed_passes Or x o k f
 
   both_pass : (x y : Piece) (o k u l : ℕ) → Passes x o k → Passes y u l → Passes (Then x y) (max o u) (max k l)
   both_pass x y o k u l f g q e b s h =
@@ -235,13 +237,13 @@ module _ (p : Program) where
   test_counts : (f : Formula) → IsTestOf (test_of f) (formula_operands f)
   test_counts (Test t) = refl
   test_counts (Join m f g) = tt
-  test_counts (Each m s shape f) = tt
+  test_counts (Each q s shape f) = tt
   test_counts (Call equation xs) = tt
 
   passes_as : (x : Piece) (o u k : ℕ) → o ≡ u → Passes x o k → Passes x u k
   passes_as x o u k e f q d b s h = let r = f q d b s h in (r.0, operands_as o u e r.1, r.2)
 
-  join_passes : (m around : Bool) (s t : Option Term) (fa ga fo go : Piece) (o u a b c d : ℕ) → IsTestOf s o → IsTestOf t u
+  join_passes : (m around : Junction) (s t : Option Term) (fa ga fo go : Piece) (o u a b c d : ℕ) → IsTestOf s o → IsTestOf t u
       → Passes fa o a → Passes ga u b → Passes fo o c → Passes go u d → Passes (join_piece m around s t fa ga fo go) (max o u) (join_brackets m around s t a b c d)
   join_passes m around (Some s) t fa ga fo go o u a b c d x y f g h i = passes_as (tested_piece m around s ga) (max (term_operands s) u) (max o u) b (omega (arith, x)) (tested_passes m around s ga u b g)
   join_passes m around None (Some t) fa ga fo go o u a b c d x y f g h i = passes_as (tested_piece m around t fa) (max (term_operands t) o) (max o u) a (omega (arith, y)) (tested_passes m around t fa o a f)
@@ -338,15 +340,15 @@ module _ (p : Program) where
 
   -- ---- formulas
 
-  formula_passes : (f : Formula) (around : Bool) → HasFullCalls p.callees f → Passes (formula_piece p.callees around f) (formula_operands f) (formula_brackets around f)
+  formula_passes : (f : Formula) (around : Junction) → HasFullCalls p.callees f → Passes (formula_piece p.callees around f) (formula_operands f) (formula_brackets around f)
   formula_passes (Test t) around full = test_passes around t
   formula_passes (Join m f g) around full =
       join_passes m around (test_of f) (test_of g)
       (formula_piece p.callees around f) (formula_piece p.callees around g) (formula_piece p.callees m f) (formula_piece p.callees m g)
       (formula_operands f) (formula_operands g) (formula_brackets around f) (formula_brackets around g) (formula_brackets m f) (formula_brackets m g) (test_counts f) (test_counts g)
       (formula_passes f around full.0) (formula_passes g around full.1) (formula_passes f m full.0) (formula_passes g m full.1)
-  formula_passes (Each m s shape f) around full =
-      under_passes m around (Repeat s (formula_piece p.callees m f)) (formula_operands f) (formula_brackets m f) (repeat_passes s (formula_piece p.callees m f) (formula_operands f) (formula_brackets m f) (formula_passes f m full))
+  formula_passes (Each q s shape f) around full =
+      under_passes (junction_of q) around (Repeat s (formula_piece p.callees (junction_of q) f)) (formula_operands f) (formula_brackets (junction_of q) f) (repeat_passes s (formula_piece p.callees (junction_of q) f) (formula_operands f) (formula_brackets (junction_of q) f) (formula_passes f (junction_of q) full))
   formula_passes (Call equation xs) around full = call_passes equation xs full
 
 -- ---- equations

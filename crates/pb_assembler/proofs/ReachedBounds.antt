@@ -8,9 +8,11 @@ use Rattle.pb_bytecode_program.specs.Machine.{Program}
 use Rattle.pb_bytecode_program.specs.declared.instruction.Leaf.TheVariants as leaf
 use Rattle.pb_bytecode_program.specs.declared.instruction.Op.{Op}
 use Rattle.pb_bytecode_program.specs.declared.instruction.Op.TheVariants as op
+use Rattle.pb_normal.specs.declared.formula.Junction.{Junction}
+use Rattle.pb_normal.specs.declared.formula.Junction.TheVariants.{And, Or}
 use Rattle.pb_normal.specs.Normal.{Term, Number, Slot, Negative, Absolute, Successor, Predecessor, Binary, Maximum, Minimum, Choice, Recognised, Argument, Formula, Test, Join, Each, Call}
 use Rattle.pb_assembler_scheme.specs.Pieces.{Piece, Plain, Then, Unless, Choose, Repeat, Block, Leave, end, HasPieceAt}
-use Rattle.pb_assembler_scheme.specs.Scheme.{data_piece, binary_piece, in_order, swapped, bracketed, under, test_piece, tested_piece, test_of, join_piece, tested_range, any_tested, guarded, arguments_piece, call_piece, parameters, formula_piece, head}
+use Rattle.pb_assembler_scheme.specs.Scheme.{neutral, junction_of, data_piece, binary_piece, in_order, swapped, bracketed, under, test_piece, tested_piece, test_of, join_piece, tested_range, any_tested, guarded, arguments_piece, call_piece, parameters, formula_piece, head}
 use Rattle.pb_assembler_scheme.specs.Correct.{HasFullCalls, IsCompiled, IsFullCall}
 use Rattle.pb_assembler_scheme.proofs.Calls.{full_length}
 use Rattle.pb_assembler_scheme.proofs.Whole.{equation_stands}
@@ -233,11 +235,11 @@ module _ (p : Program) where
         let one : 0 + 1 ≤ most_operands = omega (arith, some, few) in
         term_pushed t q e 0 b s (omega arith) shallow (both_ways on (end q (data_piece t)) 0 b to there one shallow h i)
 
-    test_passes : (around : Bool) (t : Term) → Passes (test_piece around t) (term_operands t) 0
+    test_passes : (around : Junction) (t : Term) → Passes (test_piece around t) (term_operands t) 0
     test_passes around t q e b s few shallow h =
         let r = end q (data_piece t) in
         let low : b ≤ most_brackets = omega arith in
-        tested_by around t q e b _ s.0 s.1.0 few low (going _ 0 0 (r + 1) 0 0 b 0 (written _) refl refl (omega arith) low s.1.1 h) h
+        tested_by (neutral around) t q e b _ s.0 s.1.0 few low (going _ 0 0 (r + 1) 0 0 b 0 (written _) refl refl (omega arith) low s.1.1 h) h
 
     decided_passes : (on : Bool) (l : _) (t : Term) (x : Piece) (o k : ℕ) → Passes x o k → Passes (Then (data_piece t) (Choose on (Plain (op.Emit l)) x)) (max (term_operands t) o) k
     decided_passes on l t x o k f q e b s few shallow h =
@@ -253,23 +255,23 @@ module _ (p : Program) where
         let r = end q (data_piece t) in
         tested_by on t q e b (end (r + 1) x) s.0 s.1.0 (omega arith) (omega arith) (f (r + 1) e b s.1.1 (omega arith) shallow h) h
 
-    tested_passes : (m around : Bool) (t : Term) (x : Piece) (o k : ℕ) → Passes x o k → Passes (tested_piece m around t x) (max (term_operands t) o) k
-    tested_passes true true t x o k f = decided_passes true leaf.No t x o k f
-    tested_passes false false t x o k f = decided_passes false leaf.Yes t x o k f
-    tested_passes true false t x o k f = passed_passes false t x o k f
-    tested_passes false true t x o k f = passed_passes true t x o k f
+    tested_passes : (m around : Junction) (t : Term) (x : Piece) (o k : ℕ) → Passes x o k → Passes (tested_piece m around t x) (max (term_operands t) o) k
+    tested_passes And And t x o k f = decided_passes true leaf.No t x o k f
+    tested_passes Or Or t x o k f = decided_passes false leaf.Yes t x o k f
+    tested_passes And Or t x o k f = passed_passes false t x o k f
+    tested_passes Or And t x o k f = passed_passes true t x o k f
 
-    bracketed_passes : (m : Bool) (x : Piece) (o k : ℕ) → Passes x o k → Passes (bracketed m x) o (suc k)
+    bracketed_passes : (m : Junction) (x : Piece) (o k : ℕ) → Passes x o k → Passes (bracketed m x) o (suc k)
     bracketed_passes m x o k f q e b s few shallow h =
         let close_one : Safe (end (q + 1) x) 0 (b + 1) = step op.Close (end (q + 1) x) 0 (b + 1) 0 b 0 s.1.1 refl refl (omega arith) (omega arith) (omega arith) (λ r to. subst (λ y. Safe y 0 b) (sym to) h) in
         let inner : Safe (q + 1) 0 (b + 1) = f (q + 1) e (b + 1) s.1.0 few (omega arith) close_one in
         step _ q 0 b 0 (b + 1) 0 s.0 refl refl (omega arith) (omega arith) (omega arith) (λ r to. subst (λ y. Safe y 0 (b + 1)) (sym to) inner)
 
-    under_passes : (m around : Bool) (x : Piece) (o k : ℕ) → Passes x o k → Passes (under m around x) o (brackets_under m around k)
-    under_passes true true x o k f = f
-    under_passes false false x o k f = f
-    under_passes true false x o k f = bracketed_passes true x o k f
-    under_passes false true x o k f = bracketed_passes false x o k f
+    under_passes : (m around : Junction) (x : Piece) (o k : ℕ) → Passes x o k → Passes (under m around x) o (brackets_under m around k)
+    under_passes And And x o k f = f
+    under_passes Or Or x o k f = f
+    under_passes And Or x o k f = bracketed_passes And x o k f
+    under_passes Or And x o k f = bracketed_passes Or x o k f
 
     both_pass : (x y : Piece) (o k u l : ℕ) → Passes x o k → Passes y u l → Passes (Then x y) (max o u) (max k l)
     both_pass x y o k u l f g q e b s few shallow h =
@@ -283,13 +285,13 @@ module _ (p : Program) where
     test_counts : (f : Formula) → IsTestOf (test_of f) (formula_operands f)
     test_counts (Test t) = refl
     test_counts (Join m f g) = tt
-    test_counts (Each m s shape f) = tt
+    test_counts (Each q s shape f) = tt
     test_counts (Call equation xs) = tt
 
     passes_as : (x : Piece) (o u k : ℕ) → o ≡ u → Passes x o k → Passes x u k
     passes_as x o u k d f q e b s few shallow h = f q e b s (omega arith) shallow h
 
-    join_passes : (m around : Bool) (s t : Option Term) (fa ga fo go : Piece) (o u a b c d : ℕ) → IsTestOf s o → IsTestOf t u
+    join_passes : (m around : Junction) (s t : Option Term) (fa ga fo go : Piece) (o u a b c d : ℕ) → IsTestOf s o → IsTestOf t u
         → Passes fa o a → Passes ga u b → Passes fo o c → Passes go u d → Passes (join_piece m around s t fa ga fo go) (max o u) (join_brackets m around s t a b c d)
     join_passes m around (Some s) t fa ga fo go o u a b c d x y f g h i = passes_as (tested_piece m around s ga) (max (term_operands s) u) (max o u) b (omega (arith, x)) (tested_passes m around s ga u b g)
     join_passes m around None (Some t) fa ga fo go o u a b c d x y f g h i = passes_as (tested_piece m around t fa) (max (term_operands t) o) (max o u) a (omega (arith, y)) (tested_passes m around t fa o a f)
@@ -379,15 +381,15 @@ module _ (p : Program) where
 
     -- ---- formulas
 
-    formula_passes : (f : Formula) (around : Bool) → HasFullCalls p.callees f → Passes (formula_piece p.callees around f) (formula_operands f) (formula_brackets around f)
+    formula_passes : (f : Formula) (around : Junction) → HasFullCalls p.callees f → Passes (formula_piece p.callees around f) (formula_operands f) (formula_brackets around f)
     formula_passes (Test t) around h = test_passes around t
     formula_passes (Join m f g) around h =
         join_passes m around (test_of f) (test_of g)
         (formula_piece p.callees around f) (formula_piece p.callees around g) (formula_piece p.callees m f) (formula_piece p.callees m g)
         (formula_operands f) (formula_operands g) (formula_brackets around f) (formula_brackets around g) (formula_brackets m f) (formula_brackets m g) (test_counts f) (test_counts g)
         (formula_passes f around h.0) (formula_passes g around h.1) (formula_passes f m h.0) (formula_passes g m h.1)
-    formula_passes (Each m s shape f) around h =
-        under_passes m around (Repeat s (formula_piece p.callees m f)) (formula_operands f) (formula_brackets m f) (repeat_passes s (formula_piece p.callees m f) (formula_operands f) (formula_brackets m f) (formula_passes f m h))
+    formula_passes (Each q s shape f) around h =
+        under_passes (junction_of q) around (Repeat s (formula_piece p.callees (junction_of q) f)) (formula_operands f) (formula_brackets (junction_of q) f) (repeat_passes s (formula_piece p.callees (junction_of q) f) (formula_operands f) (formula_brackets (junction_of q) f) (formula_passes f (junction_of q) h))
     formula_passes (Call equation xs) around h = call_passes equation xs h
 
 -- ---- equations

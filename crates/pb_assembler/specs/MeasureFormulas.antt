@@ -5,10 +5,12 @@ use Rattle.std.specs.Option.{option_map}
 use Rattle.pb_sorts.specs.Carrier.{values_of}
 use Rattle.pb_sorts.specs.declared.carrier.Carrier.{Carrier}
 use Rattle.pb_typing_declarations.specs.Shapes.{Shape, shape_carrier}
+use Rattle.pb_normal.specs.declared.formula.Junction.{Junction}
+use Rattle.pb_normal.specs.declared.formula.Junction.TheVariants.{And, Or}
 use Rattle.pb_normal.specs.Normal.{Term, Argument, Formula, Test, Join, Each, Call}
 use Rattle.pb_normal.specs.declared.formula.Formula as formula
 use Rattle.pb_normal.specs.View.{chained, formula_view, formula_views}
-use Rattle.pb_assembler_scheme.specs.Scheme.{test_of, tested_range, any_tested, parameters}
+use Rattle.pb_assembler_scheme.specs.Scheme.{junction_of, test_of, tested_range, any_tested, parameters}
 use Rattle.pb_assembler_accepted.specs.Limits.{one_kept}
 use Rattle.pb_assembler.specs.declared.measure_load.Load.{Load}
 use Rattle.pb_assembler.specs.declared.measure_tally.Tally.{Tally}
@@ -53,11 +55,11 @@ deciding l x = record x {
 }
 
 -- a test joined by m with what follows under the bracket that is open
-abbrev pub tested_tally : (m around : Bool) → Load → Tally → Tally
-tested_tally true true l x = deciding l x
-tested_tally false false l x = deciding l x
-tested_tally true false l x = passing l x
-tested_tally false true l x = passing l x
+abbrev pub tested_tally : (m around : Junction) → Load → Tally → Tally
+tested_tally And And l x = deciding l x
+tested_tally Or Or l x = deciding l x
+tested_tally And Or l x = passing l x
+tested_tally Or And l x = passing l x
 
 abbrev pub bracketed_tally : Tally → Tally
 bracketed_tally x = record x {
@@ -67,11 +69,11 @@ bracketed_tally x = record x {
   tokens = 2 + x.tokens;
 }
 
-abbrev pub under_tally : (m around : Bool) → Tally → Tally
-under_tally true true x = x
-under_tally false false x = x
-under_tally true false x = bracketed_tally x
-under_tally false true x = bracketed_tally x
+abbrev pub under_tally : (m around : Junction) → Tally → Tally
+under_tally And And x = x
+under_tally Or Or x = x
+under_tally And Or x = bracketed_tally x
+under_tally Or And x = bracketed_tally x
 
 -- one behind the other
 abbrev pub after : Tally → Tally → Tally
@@ -94,7 +96,7 @@ looped n x = record x {
 }
 
 abbrev pub join_tally :
-    (m around : Bool) → (f g : Option Term) → (f_around g_around f_own g_own : Tally) → Tally
+    (m around : Junction) → (f g : Option Term) → (f_around g_around f_own g_own : Tally) → Tally
 join_tally m around (Some t) g f_around g_around f_own g_own =
     tested_tally m around (term_load t) g_around
 join_tally m around None (Some t) f_around g_around f_own g_own =
@@ -158,30 +160,31 @@ call_tally cs xs = ended_call (any_tested cs xs) (arguments_load cs xs)
 abbrev pub shape_size : Shape → ℕ
 shape_size s = length (shape_carrier s)
 
-abbrev pub formula_tally : List (List Carrier) → (around : Bool) → Formula → Tally
+abbrev pub formula_tally : List (List Carrier) → (around : Junction) → Formula → Tally
 formula_tally callees around (Test t) = test_tally (term_load t)
 formula_tally callees around (Join m f g) =
     join_tally m around (test_of f) (test_of g)
     (formula_tally callees around f) (formula_tally callees around g)
     (formula_tally callees m f) (formula_tally callees m g)
-formula_tally callees around (Each m s shape f) =
-    under_tally m around (looped (shape_size shape) (formula_tally callees m f))
+formula_tally callees around (Each q s shape f) =
+    under_tally (junction_of q) around
+    (looped (shape_size shape) (formula_tally callees (junction_of q) f))
 formula_tally callees around (Call equation xs) =
     call_tally (parameters (slice_get callees equation)) xs
 
 -- ---- chains of one connective
 
 -- the operands from one of them on
-abbrev pub form_chain : Bool → List formula.Formula → Formula
+abbrev pub form_chain : Junction → List formula.Formula → Formula
 form_chain m [] = Test (Term.Truth true)
 form_chain m (f ∷ fs) = chained (Join m) (formula_view f) (formula_views fs)
 
 -- the kind of the bracket that is open behind an operand of a chain
-abbrev pub kind_by : Option Term → (m around : Bool) → Bool
+abbrev pub kind_by : Option Term → (m around : Junction) → Junction
 kind_by (Some t) m around = around
 kind_by None m around = m
 
-abbrev pub kind_behind : (m around : Bool) → Formula → Bool
+abbrev pub kind_behind : (m around : Junction) → Formula → Junction
 kind_behind m around f = kind_by (test_of f) m around
 
 -- how many operands are tests, up to the first that is none
@@ -198,7 +201,7 @@ load_by o = option_map (λ t. capped_load (term_load t)) o
 
 -- the kind of the bracket that is open in front of an operand behind the first, given the kind
 -- behind the first one and how many tests lead
-abbrev pub kind_at : (m kind : Bool) → (leading place : ℕ) → Bool
+abbrev pub kind_at : (m kind : Junction) → (leading place : ℕ) → Junction
 kind_at m kind leading place = if nat_le place leading then kind else m
 
 -- loops in one another, the first one outermost

@@ -1,13 +1,13 @@
 //! Code of formulas.
 
-ghost use Rattle.std.specs.Prelude.{◌≡◌, not, true, drop, option_map, Option, None, IfSome};
+ghost use Rattle.std.specs.Prelude.{◌≡◌, true, drop, option_map, Option, None, IfSome};
 ghost use Rattle.std.specs.Prelude.{OnOk};
 ghost use Rattle.pb_typed_tree.specs.View.{chained};
 ghost use Rattle.pb_normal.specs.Normal.{Join};
-ghost use Rattle.pb_normal.specs.View.{formula_view, formula_views, is_and, is_forall};
-ghost use Rattle.pb_normal.specs.View.{nested};
+ghost use Rattle.pb_normal.specs.Normalisation.{dual};
+ghost use Rattle.pb_normal.specs.View.{formula_view, formula_views, nested};
 ghost use Rattle.pb_assembler_scheme.specs.Scheme.{connective_of, deciding, formula_piece};
-ghost use Rattle.pb_assembler_scheme.specs.Scheme.{test_piece};
+ghost use Rattle.pb_assembler_scheme.specs.Scheme.{junction_of, neutral, test_piece};
 ghost use Rattle.pb_assembler.specs.Emitted.{Emits, nowhere};
 ghost use Rattle.pb_assembler.specs.Operands.{early_test, other_of, IsLeft};
 ghost use Rattle.pb_assembler.specs.Tests.{tested_term};
@@ -26,7 +26,7 @@ use std::alloc::AllocError;
 
 /// The leaf that decides a bracket of this kind.
 fn deciding(kind: Junction) -> Leaf
-    ensures { result ≡ deciding (is_and kind) }
+    ensures { result ≡ deciding kind }
 {
     match kind {
         Junction::And => Leaf::No,
@@ -36,7 +36,7 @@ fn deciding(kind: Junction) -> Leaf
 
 /// The truth value that decides nothing in a bracket of this kind.
 fn neutral(kind: Junction) -> bool
-    ensures { result ≡ is_and kind }
+    ensures { result ≡ neutral kind }
 {
     match kind {
         Junction::And => true,
@@ -46,7 +46,7 @@ fn neutral(kind: Junction) -> bool
 
 /// The connective of a bracket of this kind.
 pub(crate) fn connective_of(kind: Junction) -> Connective
-    ensures { result ≡ connective_of (is_and kind) }
+    ensures { result ≡ connective_of kind }
 {
     match kind {
         Junction::And => Connective::And,
@@ -56,7 +56,7 @@ pub(crate) fn connective_of(kind: Junction) -> Connective
 
 /// The kind of the bracket that a quantifier's instances stand in.
 pub(crate) fn junction_of(quantifier: Quantifier) -> Junction
-    ensures { is_and result ≡ is_forall quantifier }
+    ensures { result ≡ junction_of quantifier }
 {
     match quantifier {
         Quantifier::Forall => Junction::And,
@@ -114,8 +114,8 @@ pub(crate) fn emit_formula(
     formula: &Formula<'_>,
 ) -> Result<(), AllocError>
     requires { is_small_formula (formula_view formula.now) ≡ true }
-    ensures { OnOk result (Emits (formula_piece layout.now (is_and around)
-        (formula_view formula.now)) nowhere builder.old builder.new) }
+    ensures { OnOk result (Emits (formula_piece layout.now around (formula_view formula.now))
+        nowhere builder.old builder.new) }
 {
     match formula {
         Formula::Test { polarity, term } => {
@@ -159,8 +159,8 @@ pub(crate) fn emit_formula(
 /// A test alone.
 fn emit_test(builder: &mut Builder, around: Junction, test: Test<'_>) -> Result<(), AllocError>
     requires { is_small (tested_term test) ≡ true }
-    ensures { OnOk result (Emits (test_piece (is_and around)
-        (tested_term test.entry)) nowhere builder.old builder.new) }
+    ensures { OnOk result (Emits (test_piece around (tested_term test.entry))
+        nowhere builder.old builder.new) }
 {
     emit_tested(builder, test)?;
     let passed = builder.label()?;
@@ -191,10 +191,10 @@ fn emit_each(
     loops: Loops<'_>,
     body: &Formula<'_>,
 ) -> Result<(), AllocError>
-    requires { is_small_formula (nested (is_forall loops.quantifier) loops.first
-        loops.carriers.now (formula_view body.now)) ≡ true }
-    ensures { OnOk result (Emits (formula_piece layout.now (is_and around)
-        (nested (is_forall loops.entry.quantifier) loops.entry.first loops.entry.carriers.now
+    requires { is_small_formula (nested loops.quantifier loops.first loops.carriers.now
+        (formula_view body.now)) ≡ true }
+    ensures { OnOk result (Emits (formula_piece layout.now around
+        (nested loops.entry.quantifier loops.entry.first loops.entry.carriers.now
         (formula_view body.now))) nowhere builder.old builder.new) }
 {
     if loops.carriers.is_empty() {
@@ -217,10 +217,10 @@ fn emit_loops(
     loops: Loops<'_>,
     body: &Formula<'_>,
 ) -> Result<(), AllocError>
-    requires { is_small_formula (nested (is_forall loops.quantifier) loops.first
-        loops.carriers.now (formula_view body.now)) ≡ true }
-    ensures { OnOk result (Emits (formula_piece layout.now (is_forall loops.entry.quantifier)
-        (nested (is_forall loops.entry.quantifier) loops.entry.first loops.entry.carriers.now
+    requires { is_small_formula (nested loops.quantifier loops.first loops.carriers.now
+        (formula_view body.now)) ≡ true }
+    ensures { OnOk result (Emits (formula_piece layout.now (junction_of loops.entry.quantifier)
+        (nested loops.entry.quantifier loops.entry.first loops.entry.carriers.now
         (formula_view body.now))) nowhere builder.old builder.new) }
 {
     let count = loops.carriers.len();
@@ -248,11 +248,11 @@ fn emit_inside<'t>(
     first: &Formula<'t>,
     rest: &[Formula<'t>],
 ) -> Result<(), AllocError>
-    requires { is_small_formula (chained (Join (is_and kind)) (formula_view first.now)
+    requires { is_small_formula (chained (Join kind) (formula_view first.now)
         (formula_views rest.now)) ≡ true }
-    ensures { OnOk result (Emits (formula_piece layout.now (is_and kind)
-        (chained (Join (is_and kind)) (formula_view first.now)
-        (formula_views rest.now))) nowhere builder.old builder.new) }
+    ensures { OnOk result (Emits (formula_piece layout.now kind
+        (chained (Join kind) (formula_view first.now) (formula_views rest.now)))
+        nowhere builder.old builder.new) }
 {
     let last = builder.label()?;
     let mut left = first;
@@ -294,11 +294,11 @@ fn emit_outside<'t>(
     first: &Formula<'t>,
     rest: &[Formula<'t>],
 ) -> Result<(), AllocError>
-    requires { is_small_formula (chained (Join (not (is_and around))) (formula_view first.now)
+    requires { is_small_formula (chained (Join (dual around)) (formula_view first.now)
         (formula_views rest.now)) ≡ true }
-    ensures { OnOk result (Emits (formula_piece layout.now (is_and around)
-        (chained (Join (not (is_and around))) (formula_view first.now)
-        (formula_views rest.now))) nowhere builder.old builder.new) }
+    ensures { OnOk result (Emits (formula_piece layout.now around
+        (chained (Join (dual around)) (formula_view first.now) (formula_views rest.now)))
+        nowhere builder.old builder.new) }
 {
     let last = builder.label()?;
     let mut left = first;
@@ -329,12 +329,12 @@ fn emit_untested<'t>(
     first: &Formula<'t>,
     rest: &[Formula<'t>],
 ) -> Result<(), AllocError>
-    requires small { is_small_formula (chained (Join (not (is_and around))) (formula_view first.now)
+    requires small { is_small_formula (chained (Join (dual around)) (formula_view first.now)
         (formula_views rest.now)) ≡ true }
     requires untested { early_test (formula_view first.now) (formula_views rest.now) ≡ None }
-    ensures { OnOk result (Emits (formula_piece layout.now (is_and around)
-        (chained (Join (not (is_and around))) (formula_view first.now)
-        (formula_views rest.now))) nowhere builder.old builder.new) }
+    ensures { OnOk result (Emits (formula_piece layout.now around
+        (chained (Join (dual around)) (formula_view first.now) (formula_views rest.now)))
+        nowhere builder.old builder.new) }
 {
     if rest.is_empty() {
         return emit_formula(builder, layout, around, first);

@@ -1,7 +1,7 @@
 //! How much the code of an equation takes of what the machine limits.
 
 ghost use Rattle.std.specs.Prelude.{◌≡◌};
-ghost use Rattle.pb_normal.specs.View.{formula_view, is_and};
+ghost use Rattle.pb_normal.specs.View.{formula_view};
 ghost use Rattle.pb_assembler_scheme.specs.Scheme.{head};
 ghost use Rattle.pb_assembler.specs.MeasureEquations.{AreMeasuresOf, equation_measures};
 
@@ -35,7 +35,7 @@ fn bounded(tally: Tally, slots: usize) -> Measures
 /// The kind of the outermost bracket of a formula's code.
 #[cycle(heads)]
 pub(crate) fn outermost(formula: &Formula<'_>) -> Junction
-    ensures { is_and result ≡ head (formula_view formula.now) }
+    ensures { result ≡ head (formula_view formula.now) }
 {
     match formula {
         Formula::Test { .. } | Formula::Call { .. } => Junction::Or,

@@ -1,10 +1,11 @@
 //! How much the code of formulas takes.
 
-ghost use Rattle.std.specs.Prelude.{◌≡◌, ◌<◌, ◌||◌, ℕ, Bool, None, length, map};
+ghost use Rattle.std.specs.Prelude.{◌≡◌, ◌<◌, ◌||◌, ℕ, None, length, map};
 ghost use Rattle.std.specs.List.{slice_get};
 ghost use Rattle.pb_typed_tree.specs.View.{argument_view, chained};
+ghost use Rattle.pb_normal.specs.declared.formula.Junction.{Junction};
 ghost use Rattle.pb_normal.specs.Normal.{Call, Join};
-ghost use Rattle.pb_normal.specs.View.{formula_view, formula_views, is_and, is_forall, nested};
+ghost use Rattle.pb_normal.specs.View.{formula_view, formula_views, nested};
 ghost use Rattle.pb_assembler_scheme.specs.Scheme.{any_tested, parameters, test_of};
 ghost use Rattle.pb_assembler.specs.MeasureTerms.{capped_load};
 ghost use Rattle.pb_assembler.specs.MeasureFormulas.{arguments_load, call_tally};
@@ -73,8 +74,7 @@ fn test_load(formula: &Formula<'_>) -> Option<Load>
 
 /// The kind of the bracket that is open behind an operand of a chain.
 fn kind_behind(junction: Junction, around: Junction, operand: &Formula<'_>) -> Junction
-    ensures { is_and result ≡ kind_behind (is_and junction) (is_and around)
-        (formula_view operand.now) }
+    ensures { result ≡ kind_behind junction around (formula_view operand.now) }
 {
     match as_test(operand) {
         Some(_) => around,
@@ -99,7 +99,7 @@ fn leading_tests(operands: &[Formula<'_>]) -> usize
 
 /// The kind of the bracket that is open in front of an operand at a place.
 fn kind_at(junction: Junction, kind: Junction, leading: usize, place: usize) -> Junction
-    ensures { is_and result ≡ kind_at (is_and junction) (is_and kind) leading place }
+    ensures { result ≡ kind_at junction kind leading place }
 {
     if place <= leading { kind } else { junction }
 }
@@ -107,7 +107,7 @@ fn kind_at(junction: Junction, kind: Junction, leading: usize, place: usize) -> 
 /// How much the code of a formula takes, in a bracket of this kind.
 #[cycle(formulas)]
 pub(crate) fn measure_formula(layout: &Layout, around: Junction, formula: &Formula<'_>) -> Tally
-    ensures { result ≡ capped_tally (formula_tally layout.now (is_and around)
+    ensures { result ≡ capped_tally (formula_tally layout.now around
         (formula_view formula.now)) }
 {
     match formula {
@@ -142,9 +142,8 @@ fn measure_each(
     carriers: &[Carrier],
     body: &Formula<'_>,
 ) -> Tally
-    ensures { (slot : ℕ) → result ≡ capped_tally
-        (formula_tally layout.now (is_and around)
-        (nested (is_forall quantifier) slot carriers.now (formula_view body.now))) }
+    ensures { (slot : ℕ) → result ≡ capped_tally (formula_tally layout.now around
+        (nested quantifier slot carriers.now (formula_view body.now))) }
 {
     if carriers.is_empty() {
         return measure_formula(layout, around, body);
@@ -179,11 +178,11 @@ fn measure_link(
 ) -> Tally
     requires some { 0 < length behind.now }
     requires rest { rest ≡ capped_tally (formula_tally layout.now
-        (kind_behind (is_and chain.junction) (is_and chain.around) (formula_view operand.now))
-        (form_chain (is_and chain.junction) behind.now)) }
-    ensures { result ≡ capped_tally (formula_tally layout.now (is_and chain.around)
-        (Join (is_and chain.junction) (formula_view operand.now)
-        (form_chain (is_and chain.junction) behind.now))) }
+        (kind_behind chain.junction chain.around (formula_view operand.now))
+        (form_chain chain.junction behind.now)) }
+    ensures { result ≡ capped_tally (formula_tally layout.now chain.around
+        (Join chain.junction (formula_view operand.now)
+        (form_chain chain.junction behind.now))) }
 {
     match test_load(operand) {
         Some(load) => tested_tally(chain.junction, chain.around, load, rest),
@@ -203,11 +202,11 @@ fn measure_untested(
     requires some { 0 < length behind.now }
     requires untested { None ≡ load_by (test_of (formula_view operand.now)) }
     requires rest { rest ≡ capped_tally (formula_tally layout.now
-        (kind_behind (is_and chain.junction) (is_and chain.around) (formula_view operand.now))
-        (form_chain (is_and chain.junction) behind.now)) }
-    ensures { result ≡ capped_tally (formula_tally layout.now (is_and chain.around)
-        (Join (is_and chain.junction) (formula_view operand.now)
-        (form_chain (is_and chain.junction) behind.now))) }
+        (kind_behind chain.junction chain.around (formula_view operand.now))
+        (form_chain chain.junction behind.now)) }
+    ensures { result ≡ capped_tally (formula_tally layout.now chain.around
+        (Join chain.junction (formula_view operand.now)
+        (form_chain chain.junction behind.now))) }
 {
     match only_test(behind) {
         Some(load) => {
@@ -231,8 +230,8 @@ fn measure_join(
     first: &Formula<'_>,
     rest: &[Formula<'_>],
 ) -> Tally
-    ensures { result ≡ capped_tally (formula_tally layout.now (is_and around)
-        (chained (Join (is_and junction)) (formula_view first.now) (formula_views rest.now))) }
+    ensures { result ≡ capped_tally (formula_tally layout.now around
+        (chained (Join junction) (formula_view first.now) (formula_views rest.now))) }
 {
     if rest.is_empty() {
         return measure_formula(layout, around, first);
@@ -259,7 +258,7 @@ fn measure_join(
 /// The load of the only operand, where it is a test.
 fn only_test(operands: &[Formula<'_>]) -> Option<Load>
     requires { 0 < length operands.now }
-    ensures { (joined : Bool) → result ≡ load_by (test_of (form_chain joined operands.now)) }
+    ensures { (joined : Junction) → result ≡ load_by (test_of (form_chain joined operands.now)) }
 {
     if operands.len() > 1 {
         None

@@ -1,7 +1,6 @@
 //! How much the code of formulas takes, counted no further than just above a million.
 
 ghost use Rattle.std.specs.Prelude.{◌≡◌, ◌*◌};
-ghost use Rattle.pb_normal.specs.View.{is_and};
 ghost use Rattle.pb_assembler.specs.MeasureTerms.{capped, capped_load};
 ghost use Rattle.pb_assembler.specs.MeasureFormulas.{after, argument_load, bracketed_tally};
 ghost use Rattle.pb_assembler.specs.MeasureFormulas.{capped_tally, deciding, ended_call, looped};
@@ -75,7 +74,7 @@ fn deciding(load: Load, rest: Tally) -> Tally
 
 /// A test joined with what follows under the bracket that is open.
 pub(crate) fn tested_tally(junction: Junction, around: Junction, load: Load, rest: Tally) -> Tally
-    ensures { result ≡ capped_tally (tested_tally (is_and junction) (is_and around) load rest) }
+    ensures { result ≡ capped_tally (tested_tally junction around load rest) }
 {
     if junction == around {
         deciding(load, rest)
@@ -112,7 +111,7 @@ fn same(tally: Tally) -> Tally
 
 /// What joins, in a bracket of its own unless one of its kind is open already.
 pub(crate) fn under_tally(junction: Junction, around: Junction, tally: Tally) -> Tally
-    ensures { result ≡ capped_tally (under_tally (is_and junction) (is_and around) tally) }
+    ensures { result ≡ capped_tally (under_tally junction around tally) }
 {
     if junction == around {
         same(tally)

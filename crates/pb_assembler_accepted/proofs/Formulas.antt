@@ -17,9 +17,11 @@ use Rattle.pb_bytecode_program.specs.declared.instruction.Leaf.{Leaf}
 use Rattle.pb_bytecode_program.specs.declared.instruction.Leaf.TheVariants as leaf
 use Rattle.pb_bytecode_program.specs.declared.instruction.Op.TheVariants as op
 use Rattle.pb_bytecode_program.proofs.Monotone.{self_covers}
+use Rattle.pb_normal.specs.declared.formula.Junction.{Junction}
+use Rattle.pb_normal.specs.declared.formula.Junction.TheVariants.{And, Or}
 use Rattle.pb_normal.specs.Normal.{Term, Argument, Formula, Test, Join, Each, Call}
 use Rattle.pb_assembler_scheme.specs.Pieces.{Piece, Plain, Then, Unless, Choose, Repeat}
-use Rattle.pb_assembler_scheme.specs.Scheme.{data_piece, deciding, bracketed, under, test_piece, tested_piece, test_of, join_piece, call_piece, parameters, formula_piece}
+use Rattle.pb_assembler_scheme.specs.Scheme.{data_piece, deciding, neutral, junction_of, bracketed, under, test_piece, tested_piece, test_of, join_piece, call_piece, parameters, formula_piece}
 use Rattle.pb_assembler_accepted.specs.Limits.{term_operands, argument_operands, formula_operands, brackets_under, join_brackets, formula_brackets, formula_loops}
 use Rattle.pb_assembler_accepted.proofs.Tables.{Flows, inside}
 use Rattle.pb_assembler_accepted.proofs.Typing.{Typed, topped, yields}
@@ -54,7 +56,7 @@ TypedCall sorts ls ps (Some cs) xs = TypedArguments sorts ls ps cs xs
 abbrev pub TypedFormula : Program → List (ℕ × AbstractValue) → List AbstractValue → Formula → Type 0
 TypedFormula p ls ps (Test t) = Typed p.sorts ls ps t abstract.Bool
 TypedFormula p ls ps (Join m f g) = TypedFormula p ls ps f × TypedFormula p ls ps g
-TypedFormula p ls ps (Each m s shape f) =
+TypedFormula p ls ps (Each q s shape f) =
     (c : Carrier) × (carrier_of p s ≡ Some c) × (among ls s ≡ false) × (is_inhabited c ≡ true) × TypedFormula p ((s, abstraction_of c) ∷ ls) ps f
 TypedFormula p ls ps (Call equation xs) = TypedCall p.sorts ls ps (slice_get p.callees equation) xs
 
@@ -88,14 +90,14 @@ module _ (p : Program) where
     choose_flows : (on : Bool) (x y : Piece) → Flows p x out k k → Flows p y out k k → Flows p (Then (data_piece t) (Choose on x y)) out k k
     choose_flows on x y g h = (topped p k s.self (abstract.Bool ∷ k.operands), value_flows, record { others = k.operands; operands = refl; rest = ((k, k, s.self, g, s.self), (k, s.self, h)) })
 
-    pub tested_flows : (m around : Bool) (x : Piece) → Flows p x out k k → Flows p (tested_piece m around t x) out k k
-    tested_flows true true x g = choose_flows true (Plain (op.Emit leaf.No)) x (emit_flows leaf.No out k s) g
-    tested_flows false false x g = choose_flows false (Plain (op.Emit leaf.Yes)) x (emit_flows leaf.Yes out k s) g
-    tested_flows true false x g = unless_flows false x g
-    tested_flows false true x g = unless_flows true x g
+    pub tested_flows : (m around : Junction) (x : Piece) → Flows p x out k k → Flows p (tested_piece m around t x) out k k
+    tested_flows And And x g = choose_flows true (Plain (op.Emit leaf.No)) x (emit_flows leaf.No out k s) g
+    tested_flows Or Or x g = choose_flows false (Plain (op.Emit leaf.Yes)) x (emit_flows leaf.Yes out k s) g
+    tested_flows And Or x g = unless_flows false x g
+    tested_flows Or And x g = unless_flows true x g
 
-    pub test_flows : (around : Bool) → Flows p (test_piece around t) out k k
-    test_flows around = unless_flows around (Plain (op.Emit (deciding around))) (emit_flows (deciding around) out k s)
+    pub test_flows : (around : Junction) → Flows p (test_piece around t) out k k
+    test_flows around = unless_flows (neutral around) (Plain (op.Emit (deciding around))) (emit_flows (deciding around) out k s)
 
   -- ---- brackets
 
@@ -113,7 +115,7 @@ module _ (p : Program) where
   pub closing : (b brackets_below n : ℕ) (go : ℕ → Flow) → b ≡ suc n → brackets_below ≤ n → Transfer.abstract_close brackets_below b go ≡ go n
   closing b brackets_below n go e l = ap (λ m. Transfer.abstract_close brackets_below m go) e ∙ ap (λ c. cond c (go n) None) (le-leb brackets_below n l)
 
-  bracketed_flows : (m : Bool) (x : Piece) (out k : AbstractState) → Settled k → k.brackets + 1 ≤ 32 → Flows p x out (opened k) (opened k) → Flows p (bracketed m x) out k k
+  bracketed_flows : (m : Junction) (x : Piece) (out k : AbstractState) → Settled k → k.brackets + 1 ≤ 32 → Flows p x out (opened k) (opened k) → Flows p (bracketed m x) out k k
   bracketed_flows m x out k s low g =
       let o = opened_settled k s in (
         opened k,
@@ -132,11 +134,11 @@ module _ (p : Program) where
   abbrev Holds : Piece → AbstractState → AbstractState → ℕ → Type 0
   Holds x out k n = (b : ℕ) → Settled (bracketed_by k b) → b + n ≤ 32 → Flows p x out (bracketed_by k b) (bracketed_by k b)
 
-  under_flows : (m around : Bool) (x : Piece) (out k : AbstractState) (n : ℕ) → Holds x out k n → Holds (under m around x) out k (brackets_under m around n)
-  under_flows true true x out k n h b s low = h b s low
-  under_flows false false x out k n h b s low = h b s low
-  under_flows true false x out k n h b s low = bracketed_flows true x out (bracketed_by k b) s (omega arith) (h (b + 1) (opened_settled (bracketed_by k b) s) (omega arith))
-  under_flows false true x out k n h b s low = bracketed_flows false x out (bracketed_by k b) s (omega arith) (h (b + 1) (opened_settled (bracketed_by k b) s) (omega arith))
+  under_flows : (m around : Junction) (x : Piece) (out k : AbstractState) (n : ℕ) → Holds x out k n → Holds (under m around x) out k (brackets_under m around n)
+  under_flows And And x out k n h b s low = h b s low
+  under_flows Or Or x out k n h b s low = h b s low
+  under_flows And Or x out k n h b s low = bracketed_flows And x out (bracketed_by k b) s (omega arith) (h (b + 1) (opened_settled (bracketed_by k b) s) (omega arith))
+  under_flows Or And x out k n h b s low = bracketed_flows Or x out (bracketed_by k b) s (omega arith) (h (b + 1) (opened_settled (bracketed_by k b) s) (omega arith))
 
   -- ---- loops
 
@@ -173,7 +175,7 @@ module _ (p : Program) where
   FitsTest k None = Unit {0}
   FitsTest k (Some t) = Typed p.sorts k.loops k.parameters t abstract.Bool × (term_operands t + (length k.operands + k.operands_below) ≤ 32)
 
-  join_flows : (m around : Bool) (s t : Option Term) (fa ga fo go : Piece) (out k : AbstractState) (na nb nc nd : ℕ) → FitsTest k s → FitsTest k t
+  join_flows : (m around : Junction) (s t : Option Term) (fa ga fo go : Piece) (out k : AbstractState) (na nb nc nd : ℕ) → FitsTest k s → FitsTest k t
       → Holds fa out k na → Holds ga out k nb → Holds fo out k nc → Holds go out k nd → Holds (join_piece m around s t fa ga fo go) out k (join_brackets m around s t na nb nc nd)
   join_flows m around (Some s) t fa ga fo go out k na nb nc nd es et hfa hga hfo hgo b st low = tested_flows s out (bracketed_by k b) st es.0 es.1 m around ga (hga b st low)
   join_flows m around None (Some t) fa ga fo go out k na nb nc nd es et hfa hga hfo hgo b st low = tested_flows t out (bracketed_by k b) st et.0 et.1 m around fa (hfa b st low)
@@ -183,7 +185,7 @@ module _ (p : Program) where
   fits_test : (k : AbstractState) (f : Formula) → TypedFormula p k.loops k.parameters f → formula_operands f + (length k.operands + k.operands_below) ≤ 32 → FitsTest k (test_of f)
   fits_test k (Test t) ty low = (ty, low)
   fits_test k (Join m f g) ty low = tt
-  fits_test k (Each m s shape f) ty low = tt
+  fits_test k (Each q s shape f) ty low = tt
   fits_test k (Call equation xs) ty low = tt
 
   -- ---- all formulas
@@ -194,7 +196,7 @@ module _ (p : Program) where
       → Flows p (call_piece equation (parameters (slice_get p.callees equation)) xs) out k k
 
   module _ (calls : CallsFlow) where
-    pub formula_flows : (f : Formula) (around : Bool) (out k : AbstractState) → TypedFormula p k.loops k.parameters f → formula_operands f + (length k.operands + k.operands_below) ≤ 32 → length k.loops + formula_loops f ≤ 8
+    pub formula_flows : (f : Formula) (around : Junction) (out k : AbstractState) → TypedFormula p k.loops k.parameters f → formula_operands f + (length k.operands + k.operands_below) ≤ 32 → length k.loops + formula_loops f ≤ 8
         → Holds (formula_piece p.callees around f) out k (formula_brackets around f)
     formula_flows (Test t) around out k ty ops loops b s low = test_flows t out (bracketed_by k b) s ty ops around
     formula_flows (Join m f g) around out k ty ops loops b s low =
@@ -203,8 +205,8 @@ module _ (p : Program) where
         (fits_test k f ty.0 (omega arith)) (fits_test k g ty.1 (omega arith))
         (formula_flows f around out k ty.0 (omega arith) (omega arith)) (formula_flows g around out k ty.1 (omega arith) (omega arith))
         (formula_flows f m out k ty.0 (omega arith) (omega arith)) (formula_flows g m out k ty.1 (omega arith) (omega arith)) b s low
-    formula_flows (Each m s shape f) around out k ty ops loops b0 st0 low0 =
-        under_flows m around _ out k (formula_brackets m f)
-        (λ b st low. repeat_flows s ty.0 (formula_piece p.callees m f) out (bracketed_by k b) st ty.1 ty.2 ty.3 (omega arith)
-        (formula_flows f m out (inside p (bracketed_by k b) s ty.0) ty.4 (omega arith) (omega arith) b (inside_settled (bracketed_by k b) s ty.0 st ty.3) low)) b0 st0 low0
+    formula_flows (Each q s shape f) around out k ty ops loops b0 st0 low0 =
+        under_flows (junction_of q) around _ out k (formula_brackets (junction_of q) f)
+        (λ b st low. repeat_flows s ty.0 (formula_piece p.callees (junction_of q) f) out (bracketed_by k b) st ty.1 ty.2 ty.3 (omega arith)
+        (formula_flows f (junction_of q) out (inside p (bracketed_by k b) s ty.0) ty.4 (omega arith) (omega arith) b (inside_settled (bracketed_by k b) s ty.0 st ty.3) low)) b0 st0 low0
     formula_flows (Call equation xs) around out k ty ops loops b s low = calls equation xs out (bracketed_by k b) s ty ops

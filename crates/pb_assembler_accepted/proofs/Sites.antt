@@ -10,9 +10,11 @@ use Rattle.pb_bytecode_program.specs.Machine.{Program, carrier_of}
 use Rattle.pb_bytecode_program.specs.Transfer.{abstract_slot, among}
 use Rattle.pb_bytecode_program.specs.declared.instruction.Leaf.TheVariants as leaf
 use Rattle.pb_bytecode_program.specs.declared.instruction.Op.TheVariants as op
+use Rattle.pb_normal.specs.declared.formula.Junction.{Junction}
+use Rattle.pb_normal.specs.declared.formula.Junction.TheVariants.{And, Or}
 use Rattle.pb_normal.specs.Normal.{Term, Number, Slot, Negative, Absolute, Successor, Predecessor, Binary, Maximum, Minimum, Choice, Recognised, Argument, Formula, Test, Join, Each, Call}
 use Rattle.pb_assembler_scheme.specs.Pieces.{Piece, Plain, Then, Block, Leave}
-use Rattle.pb_assembler_scheme.specs.Scheme.{data_piece, binary_piece, under, tested_piece, test_of, join_piece, tested_range, any_tested, guarded, arguments_piece, call_piece, parameters, formula_piece}
+use Rattle.pb_assembler_scheme.specs.Scheme.{data_piece, binary_piece, junction_of, under, tested_piece, test_of, join_piece, tested_range, any_tested, guarded, arguments_piece, call_piece, parameters, formula_piece}
 use Rattle.pb_assembler_accepted.specs.Limits.{formula_loops}
 use Rattle.pb_assembler_accepted.proofs.Typing.{Typed}
 use Rattle.pb_assembler_accepted.proofs.Formulas.{TypedArguments, TypedCall, TypedFormula}
@@ -52,19 +54,19 @@ data_stays (Minimum x y) = (data_stays x, (data_stays y, tt))
 data_stays (Choice c x y) = (data_stays c, (data_stays x, data_stays y))
 data_stays (Recognised s i x) = (data_stays x, (tt, tt))
 
-under_stays : (m around : Bool) (x : Piece) → HasNoLeave x → HasNoLeave (under m around x)
-under_stays true true x h = h
-under_stays false false x h = h
-under_stays true false x h = (tt, (h, tt))
-under_stays false true x h = (tt, (h, tt))
+under_stays : (m around : Junction) (x : Piece) → HasNoLeave x → HasNoLeave (under m around x)
+under_stays And And x h = h
+under_stays Or Or x h = h
+under_stays And Or x h = (tt, (h, tt))
+under_stays Or And x h = (tt, (h, tt))
 
-tested_stays : (m around : Bool) (t : Term) (x : Piece) → HasNoLeave x → HasNoLeave (tested_piece m around t x)
-tested_stays true true t x h = (data_stays t, (tt, h))
-tested_stays false false t x h = (data_stays t, (tt, h))
-tested_stays true false t x h = (data_stays t, h)
-tested_stays false true t x h = (data_stays t, h)
+tested_stays : (m around : Junction) (t : Term) (x : Piece) → HasNoLeave x → HasNoLeave (tested_piece m around t x)
+tested_stays And And t x h = (data_stays t, (tt, h))
+tested_stays Or Or t x h = (data_stays t, (tt, h))
+tested_stays And Or t x h = (data_stays t, h)
+tested_stays Or And t x h = (data_stays t, h)
 
-join_stays : (m around : Bool) (s t : Option Term) (fa ga fo go : Piece) → HasNoLeave fa → HasNoLeave ga → HasNoLeave fo → HasNoLeave go → HasNoLeave (join_piece m around s t fa ga fo go)
+join_stays : (m around : Junction) (s t : Option Term) (fa ga fo go : Piece) → HasNoLeave fa → HasNoLeave ga → HasNoLeave fo → HasNoLeave go → HasNoLeave (join_piece m around s t fa ga fo go)
 join_stays m around (Some s) t fa ga fo go a b c d = tested_stays m around s ga b
 join_stays m around None (Some t) fa ga fo go a b c d = tested_stays m around t fa a
 join_stays m around None None fa ga fo go a b c d = under_stays m around (Then fo go) (c, d)
@@ -87,11 +89,11 @@ call_stays equation cs xs = by (any_tested cs xs)
     by true = tt
     by false = arguments_stay cs xs (Plain (op.Call equation)) tt
 
-pub formula_stays : (callees : List (List Carrier)) (f : Formula) (around : Bool) → HasNoLeave (formula_piece callees around f)
+pub formula_stays : (callees : List (List Carrier)) (f : Formula) (around : Junction) → HasNoLeave (formula_piece callees around f)
 formula_stays callees (Test t) around = (data_stays t, tt)
 formula_stays callees (Join m f g) around =
     join_stays m around (test_of f) (test_of g) _ _ _ _ (formula_stays callees f around) (formula_stays callees g around) (formula_stays callees f m) (formula_stays callees g m)
-formula_stays callees (Each m s shape f) around = under_stays m around _ (formula_stays callees f m)
+formula_stays callees (Each q s shape f) around = under_stays (junction_of q) around _ (formula_stays callees f (junction_of q))
 formula_stays callees (Call equation xs) around = call_stays equation (parameters (slice_get callees equation)) xs
 
 -- ---- names
@@ -141,24 +143,24 @@ module _ (p : Program) (ps : List AbstractValue) (long : length ps ≡ length p.
     data_scope (Choice c x y) v t = (data_scope c _ t.0, (data_scope x _ t.1.1, data_scope y _ t.2.1))
     data_scope (Recognised s i x) v t = (data_scope x _ t.2, (tt, tt))
 
-    under_scope : (m around : Bool) (x : Piece) → IsInScope p ls x → IsInScope p ls (under m around x)
-    under_scope true true x h = h
-    under_scope false false x h = h
-    under_scope true false x h = (tt, (h, tt))
-    under_scope false true x h = (tt, (h, tt))
+    under_scope : (m around : Junction) (x : Piece) → IsInScope p ls x → IsInScope p ls (under m around x)
+    under_scope And And x h = h
+    under_scope Or Or x h = h
+    under_scope And Or x h = (tt, (h, tt))
+    under_scope Or And x h = (tt, (h, tt))
 
-    tested_scope : (m around : Bool) (t : Term) (x : Piece) → IsInScope p ls (data_piece t) → IsInScope p ls x → IsInScope p ls (tested_piece m around t x)
-    tested_scope true true t x d h = (d, (tt, h))
-    tested_scope false false t x d h = (d, (tt, h))
-    tested_scope true false t x d h = (d, h)
-    tested_scope false true t x d h = (d, h)
+    tested_scope : (m around : Junction) (t : Term) (x : Piece) → IsInScope p ls (data_piece t) → IsInScope p ls x → IsInScope p ls (tested_piece m around t x)
+    tested_scope And And t x d h = (d, (tt, h))
+    tested_scope Or Or t x d h = (d, (tt, h))
+    tested_scope And Or t x d h = (d, h)
+    tested_scope Or And t x d h = (d, h)
 
     -- the code of a test, where there is one
     abbrev TestScope : Option Term → Type 0
     TestScope None = Unit {0}
     TestScope (Some t) = IsInScope p ls (data_piece t)
 
-    join_scope : (m around : Bool) (s t : Option Term) (fa ga fo go : Piece) → TestScope s → TestScope t → IsInScope p ls fa → IsInScope p ls ga → IsInScope p ls fo → IsInScope p ls go → IsInScope p ls (join_piece m around s t fa ga fo go)
+    join_scope : (m around : Junction) (s t : Option Term) (fa ga fo go : Piece) → TestScope s → TestScope t → IsInScope p ls fa → IsInScope p ls ga → IsInScope p ls fo → IsInScope p ls go → IsInScope p ls (join_piece m around s t fa ga fo go)
     join_scope m around (Some s) t fa ga fo go ds dt a b c d = tested_scope m around s ga ds b
     join_scope m around None (Some t) fa ga fo go ds dt a b c d = tested_scope m around t fa dt a
     join_scope m around None None fa ga fo go ds dt a b c d = under_scope m around (Then fo go) (c, d)
@@ -166,7 +168,7 @@ module _ (p : Program) (ps : List AbstractValue) (long : length ps ≡ length p.
     test_scope : (f : Formula) → TypedFormula p ls ps f → TestScope (test_of f)
     test_scope (Test t) ty = data_scope t _ ty
     test_scope (Join m f g) ty = tt
-    test_scope (Each m s shape f) ty = tt
+    test_scope (Each q s shape f) ty = tt
     test_scope (Call equation xs) ty = tt
 
     guarded_scope : (o : Option (ℤ × ℤ)) (later : Bool) (x : Piece) → IsInScope p ls x → IsInScope p ls (guarded o later x)
@@ -195,12 +197,12 @@ module _ (p : Program) (ps : List AbstractValue) (long : length ps ≡ length p.
   some_carrier : (o : Option Carrier) (c : Carrier) → o ≡ Some c → IsSome o
   some_carrier o c e = subst (λ (x : Option Carrier). IsSome x) (sym e) refl
 
-  pub formula_scope : (f : Formula) (ls : Loops) (around : Bool) → TypedFormula p ls ps f → length ls + formula_loops f ≤ 8 → IsInScope p ls (formula_piece p.callees around f)
+  pub formula_scope : (f : Formula) (ls : Loops) (around : Junction) → TypedFormula p ls ps f → length ls + formula_loops f ≤ 8 → IsInScope p ls (formula_piece p.callees around f)
   formula_scope (Test t) ls around ty low = (data_scope ls t _ ty, tt)
   formula_scope (Join m f g) ls around ty low =
       join_scope ls m around (test_of f) (test_of g) _ _ _ _ (test_scope ls f ty.0) (test_scope ls g ty.1)
       (formula_scope f ls around ty.0 (omega arith)) (formula_scope g ls around ty.1 (omega arith)) (formula_scope f ls m ty.0 (omega arith)) (formula_scope g ls m ty.1 (omega arith))
-  formula_scope (Each m s shape f) ls around ty low =
-      under_scope ls m around _
-      (abstraction_of ty.0, some_carrier (carrier_of p s) ty.0 ty.1, ty.2, omega arith, formula_stays p.callees f m, formula_scope f ((s, abstraction_of ty.0) ∷ ls) m ty.4 (omega arith))
+  formula_scope (Each q s shape f) ls around ty low =
+      under_scope ls (junction_of q) around _
+      (abstraction_of ty.0, some_carrier (carrier_of p s) ty.0 ty.1, ty.2, omega arith, formula_stays p.callees f (junction_of q), formula_scope f ((s, abstraction_of ty.0) ∷ ls) (junction_of q) ty.4 (omega arith))
   formula_scope (Call equation xs) ls around ty low = call_scope ls equation xs (slice_get p.callees equation) refl ty

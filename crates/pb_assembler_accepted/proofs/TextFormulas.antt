@@ -4,6 +4,7 @@ use Rattle.std.specs.Prelude.{slice_get, ◌==◌, All}
 use Rattle.std.proofs.lemmas.Bool.{and_parts, eqb-true, eq-eqb, ne_eqb}
 use Rattle.pb_sorts.specs.declared.carrier.Carrier.{Carrier}
 use Rattle.pb_sorts.specs.declared.carrier.Carrier.TheVariants as carrier
+use Rattle.pb_text_tree.specs.declared.operator.Quantifier.{Quantifier}
 use Rattle.pb_text_meaning.specs.Syntax as syntax
 use Rattle.pb_text_meaning.specs.Syntax.{Name, same_name, Variable, Operator, Terms, Equation, Spec}
 use Rattle.pb_text_meaning.specs.Formula.{equation_named}
@@ -26,7 +27,7 @@ use Rattle.pb_normal.specs.Expansion.{has_quantifier, connected, expanded_term, 
 use Rattle.pb_normal.specs.Loops.{variable_shapes}
 use Rattle.pb_normal.specs.View.{shapes_of}
 use Rattle.pb_normal.specs.Normal.{Term, Formula}
-use Rattle.pb_normal.specs.Normalisation.{Slotting, with_slot, slotted, width, signed_test, is_universal, each, arguments, place_of, call, normal}
+use Rattle.pb_normal.specs.Normalisation.{Slotting, with_slot, slotted, width, signed_test, signed_quantifier, each, arguments, place_of, call, normal}
 use Rattle.pb_assembler_scheme.proofs.Numbered.{HasSlots}
 use Rattle.pb_assembler_accepted.specs.Made.{struct_counts, parameter_shapes}
 use Rattle.pb_assembler_accepted.proofs.Typing.{Typed}
@@ -116,7 +117,7 @@ module _ (spec : Spec) (declared : IsDeclared spec) (p : Program) (same : p.sort
   abbrev FormulaTypes : Scope → syntax.Formula → Type 0
   FormulaTypes scope f = (even : Bool) → Types scope (λ c n. normal spec even c scope n f)
 
-  each_types : (m : Bool) (xs : List Variable) (scope : Scope) (body : Slotting → ℕ → Formula) → All (λ (x : Variable). has_shape (end_of spec x.sort) ≡ true) xs → Types (bound spec xs scope) body → Types scope (λ c n. each spec m xs c n body)
+  each_types : (m : Quantifier) (xs : List Variable) (scope : Scope) (body : Slotting → ℕ → Formula) → All (λ (x : Variable). has_shape (end_of spec x.sort) ≡ true) xs → Types (bound spec xs scope) body → Types scope (λ c n. each spec m xs c n body)
   each_types m [] scope body shaped t ls c n a h = t ls c n a h
   each_types m (x ∷ xs) scope body shaped t ls c n a h =
       let shape = sort_shape spec x.sort in
@@ -171,7 +172,7 @@ module _ (spec : Spec) (declared : IsDeclared spec) (p : Program) (same : p.sort
       (data_types stands scope (syntax.Term.Binary o x y) h e)
   text_types stands scope (syntax.Term.Apply f xs) h e = data_types stands scope (syntax.Term.Apply f xs) h e
   text_types stands scope (syntax.Term.Quantified q xs x) h e = λ even.
-      each_types (is_universal q even) xs scope (λ d m. normal spec even d (bound spec xs scope) m (expanded_term x)) h.1.shaped (text_types stands (bound spec xs scope) x h.2 h.3 even)
+      each_types (signed_quantifier q even) xs scope (λ d m. normal spec even d (bound spec xs scope) m (expanded_term x)) h.1.shaped (text_types stands (bound spec xs scope) x h.2 h.3 even)
 
   -- ---- calls
 
@@ -250,6 +251,6 @@ module _ (spec : Spec) (declared : IsDeclared spec) (p : Program) (same : p.sort
         let m = n + width (expanded f) in
         (formula_types (not even) scope f h.0 ls c n a slots.0, formula_types even scope g h.1 ls c m (more ls scope c n m (omega arith) a) slots.1)
     formula_types even scope (syntax.Formula.Quantified q xs f) h ls c n a slots =
-        each_types (is_universal q even) xs scope (λ d m. normal spec even d (bound spec xs scope) m (expanded f)) h.0.shaped (formula_types even (bound spec xs scope) f h.1) ls c n a slots
+        each_types (signed_quantifier q even) xs scope (λ d m. normal spec even d (bound spec xs scope) m (expanded f)) h.0.shaped (formula_types even (bound spec xs scope) f h.1) ls c n a slots
     formula_types even scope (syntax.Formula.Call x es) h ls c n a slots =
         call_typed ls scope c n a es (place_of 0 spec.equations x) (finds ls scope c n a es p.callees spec.equations 0 x callees declared.parameters h.1)

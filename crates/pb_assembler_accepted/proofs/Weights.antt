@@ -9,9 +9,11 @@ use Rattle.pb_bytecode_program.specs.Counts.{LoopEffect, Straight, loop_effect, 
 use Rattle.pb_bytecode_program.specs.declared.instruction.Leaf.TheVariants as leaf
 use Rattle.pb_bytecode_program.specs.declared.instruction.Op.{Op}
 use Rattle.pb_bytecode_program.specs.declared.instruction.Op.TheVariants as op
+use Rattle.pb_normal.specs.declared.formula.Junction.{Junction}
+use Rattle.pb_normal.specs.declared.formula.Junction.TheVariants.{And, Or}
 use Rattle.pb_normal.specs.Normal.{Term, Number, Slot, Negative, Absolute, Successor, Predecessor, Binary, Maximum, Minimum, Choice, Recognised, Argument, Formula, Test, Join, Each, Call}
 use Rattle.pb_assembler_scheme.specs.Pieces.{Piece, Empty, Plain, Then, Unless, Choose, Repeat, Block, Leave, Guard, end, flat}
-use Rattle.pb_assembler_scheme.specs.Scheme.{data_piece, binary_piece, under, tested_piece, test_of, join_piece, tested_range, any_tested, guarded, arguments_piece, call_piece, parameters, formula_piece, head, equation_piece}
+use Rattle.pb_assembler_scheme.specs.Scheme.{data_piece, binary_piece, junction_of, under, tested_piece, test_of, join_piece, tested_range, any_tested, guarded, arguments_piece, call_piece, parameters, formula_piece, head, equation_piece}
 use Rattle.pb_assembler_scheme.specs.Correct.{IsCompiled}
 use Rattle.pb_assembler_accepted.specs.Weights.{weight}
 use Rattle.pb_assembler_accepted.proofs.Tables.{IsStraight}
@@ -98,19 +100,19 @@ module _ (p : Program) where
   data_straight (Choice c x y) = (data_straight c, (data_straight x, data_straight y))
   data_straight (Recognised s i x) = (data_straight x, (refl, refl))
 
-  under_straight : (m around : Bool) (x : Piece) → IsStraight p x → IsStraight p (under m around x)
-  under_straight true true x h = h
-  under_straight false false x h = h
-  under_straight true false x h = (refl, (h, refl))
-  under_straight false true x h = (refl, (h, refl))
+  under_straight : (m around : Junction) (x : Piece) → IsStraight p x → IsStraight p (under m around x)
+  under_straight And And x h = h
+  under_straight Or Or x h = h
+  under_straight And Or x h = (refl, (h, refl))
+  under_straight Or And x h = (refl, (h, refl))
 
-  tested_straight : (m around : Bool) (t : Term) (x : Piece) → IsStraight p x → IsStraight p (tested_piece m around t x)
-  tested_straight true true t x h = (data_straight t, (refl, h))
-  tested_straight false false t x h = (data_straight t, (refl, h))
-  tested_straight true false t x h = (data_straight t, h)
-  tested_straight false true t x h = (data_straight t, h)
+  tested_straight : (m around : Junction) (t : Term) (x : Piece) → IsStraight p x → IsStraight p (tested_piece m around t x)
+  tested_straight And And t x h = (data_straight t, (refl, h))
+  tested_straight Or Or t x h = (data_straight t, (refl, h))
+  tested_straight And Or t x h = (data_straight t, h)
+  tested_straight Or And t x h = (data_straight t, h)
 
-  join_straight : (m around : Bool) (s t : Option Term) (fa ga fo go : Piece) → IsStraight p fa → IsStraight p ga → IsStraight p fo → IsStraight p go → IsStraight p (join_piece m around s t fa ga fo go)
+  join_straight : (m around : Junction) (s t : Option Term) (fa ga fo go : Piece) → IsStraight p fa → IsStraight p ga → IsStraight p fo → IsStraight p go → IsStraight p (join_piece m around s t fa ga fo go)
   join_straight m around (Some s) t fa ga fo go a b c d = tested_straight m around s ga b
   join_straight m around None (Some t) fa ga fo go a b c d = tested_straight m around t fa a
   join_straight m around None None fa ga fo go a b c d = under_straight m around (Then fo go) (c, d)
@@ -133,11 +135,11 @@ module _ (p : Program) where
       by true = (arguments_straight cs xs (Then (Plain (op.Call equation)) Leave) (refl, tt), refl)
       by false = arguments_straight cs xs (Plain (op.Call equation)) refl
 
-  pub formula_straight : (callees : List (List Carrier)) (f : Formula) (around : Bool) → IsStraight p (formula_piece callees around f)
+  pub formula_straight : (callees : List (List Carrier)) (f : Formula) (around : Junction) → IsStraight p (formula_piece callees around f)
   formula_straight callees (Test t) around = (data_straight t, refl)
   formula_straight callees (Join m f g) around =
       join_straight m around (test_of f) (test_of g) _ _ _ _ (formula_straight callees f around) (formula_straight callees g around) (formula_straight callees f m) (formula_straight callees g m)
-  formula_straight callees (Each m s shape f) around = under_straight m around _ (formula_straight callees f m)
+  formula_straight callees (Each q s shape f) around = under_straight (junction_of q) around _ (formula_straight callees f (junction_of q))
   formula_straight callees (Call equation xs) around = call_straight equation (parameters (slice_get callees equation)) xs
 
   pub equation_straight : (callees : List (List Carrier)) (f : Formula) → IsStraight p (equation_piece callees f)

@@ -1,7 +1,7 @@
 -- The limits of the machine, of an equation's program and the right side that it is made of. How
 -- many operands, brackets and loops are open at once is counted on the right side, as if every test
 -- of a truth value or of a range could go both ways.
-use Rattle.std.specs.Prelude.{◌≡◌, ℕ, suc, nat_lt, max, Bool, true, false, ◌||◌, List, [], ◌∷◌, length, Option, Some, None}
+use Rattle.std.specs.Prelude.{◌≡◌, ℕ, suc, nat_lt, max, Bool, false, ◌||◌, List, [], ◌∷◌, length, Option, Some, None}
 use Rattle.pb_limits.specs.declared.TheConstants.{MAX_LOOP_SLOTS, MAX_INSTRUCTIONS}
 use Rattle.pb_text_meaning.specs.Syntax.{Operator}
 use Rattle.pb_limits.specs.declared.TheConstants.{MAX_OPERANDS, MAX_BRACKETS, MAX_LOOPS, MAX_STEPS, MAX_TOKENS}
@@ -9,8 +9,10 @@ use Rattle.pb_bytecode_program.specs.Machine.{Program}
 use Rattle.pb_bytecode_program.specs.Counts.{static_steps, static_tokens}
 use Rattle.pb_bytecode.specs.declared.limit.Limit.{Limit}
 use Rattle.pb_bytecode.specs.declared.limit.Limit.TheVariants as limit
+use Rattle.pb_normal.specs.declared.formula.Junction.{Junction}
+use Rattle.pb_normal.specs.declared.formula.Junction.TheVariants.{And, Or}
 use Rattle.pb_normal.specs.Normal.{Term, Number, Slot, Negative, Absolute, Successor, Predecessor, Binary, Maximum, Minimum, Choice, Recognised, Argument, Formula, Test, Join, Each, Call}
-use Rattle.pb_assembler_scheme.specs.Scheme.{test_of, head}
+use Rattle.pb_assembler_scheme.specs.Scheme.{test_of, junction_of, head}
 
 -- ---- operands
 
@@ -50,35 +52,36 @@ argument_operands (x ∷ xs) = one_kept (term_operands x.term) (argument_operand
 abbrev pub formula_operands : Formula → ℕ
 formula_operands (Test t) = term_operands t
 formula_operands (Join m f g) = max (formula_operands f) (formula_operands g)
-formula_operands (Each m s shape f) = formula_operands f
+formula_operands (Each q s shape f) = formula_operands f
 formula_operands (Call equation xs) = argument_operands xs
 
 -- ---- brackets
 
 -- with a bracket of kind m, unless one of its kind is open already
-abbrev pub brackets_under : (m around : Bool) → ℕ → ℕ
-brackets_under true true n = n
-brackets_under false false n = n
-brackets_under true false n = suc n
-brackets_under false true n = suc n
+abbrev pub brackets_under : (m around : Junction) → ℕ → ℕ
+brackets_under And And n = n
+brackets_under Or Or n = n
+brackets_under And Or n = suc n
+brackets_under Or And n = suc n
 
 -- those of two operands joined by m, given each one's under the bracket that is open and under one
 -- of kind m
 abbrev pub join_brackets :
-    (m around : Bool) → (f g : Option Term) → (f_around g_around f_own g_own : ℕ) → ℕ
+    (m around : Junction) → (f g : Option Term) → (f_around g_around f_own g_own : ℕ) → ℕ
 join_brackets m around (Some t) g f_around g_around f_own g_own = g_around
 join_brackets m around None (Some t) f_around g_around f_own g_own = f_around
 join_brackets m around None None f_around g_around f_own g_own =
     brackets_under m around (max f_own g_own)
 
 -- C03: how many brackets a formula's code opens within the one that is open
-abbrev pub formula_brackets : (around : Bool) → Formula → ℕ
+abbrev pub formula_brackets : (around : Junction) → Formula → ℕ
 formula_brackets around (Test t) = 0
 formula_brackets around (Join m f g) =
     join_brackets m around (test_of f) (test_of g)
     (formula_brackets around f) (formula_brackets around g)
     (formula_brackets m f) (formula_brackets m g)
-formula_brackets around (Each m s shape f) = brackets_under m around (formula_brackets m f)
+formula_brackets around (Each q s shape f) =
+    brackets_under (junction_of q) around (formula_brackets (junction_of q) f)
 formula_brackets around (Call equation xs) = 0
 
 -- ---- loops
@@ -87,7 +90,7 @@ formula_brackets around (Call equation xs) = 0
 abbrev pub formula_loops : Formula → ℕ
 formula_loops (Test t) = 0
 formula_loops (Join m f g) = max (formula_loops f) (formula_loops g)
-formula_loops (Each m s shape f) = suc (formula_loops f)
+formula_loops (Each q s shape f) = suc (formula_loops f)
 formula_loops (Call equation xs) = 0
 
 -- ---- all limits

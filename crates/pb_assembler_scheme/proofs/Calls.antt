@@ -21,6 +21,7 @@ use Rattle.pb_bytecode_program.specs.declared.instruction.Leaf.TheVariants as le
 use Rattle.pb_bytecode_program.specs.declared.instruction.Op.TheVariants as op
 use Rattle.pb_bytecode_program.proofs.Ints.{from_le}
 use Rattle.pb_bytecode_program.proofs.CarrierValues.{tagged_within, untagged_contained}
+use Rattle.pb_normal.specs.declared.formula.Junction.{Junction}
 use Rattle.pb_normal.specs.Normal.{Argument, Call, Slots, value}
 use Rattle.pb_assembler_scheme.specs.Pieces.{Piece, Plain, Then, Block, Leave, end, HasPieceAt}
 use Rattle.pb_assembler_scheme.specs.Scheme.{tested_range, any_tested, guarded, arguments_piece, call_piece, parameters}
@@ -164,7 +165,7 @@ module _ (p : Program) (Q : List Token → Type 0) where
       pops cs vs [] st.operands _ l (λ w. rooted p Q st.brackets st.roots n _ br
       (subst (λ (us : List Value). Wins p Q (record st { place = q + 1; output = st.output ++ token.Call (Machine.number p eq us) ∷ [] })) (sym (append-nil vs)) (go w)))
 
-  module _ (k : Bool) (eq : ℕ) (xs : List Argument) (full : IsFullCall (slice_get p.callees eq) xs) where
+  module _ (k : Junction) (eq : ℕ) (xs : List Argument) (full : IsFullCall (slice_get p.callees eq) xs) where
     abbrev cs : List Carrier
     cs = parameters (slice_get p.callees eq)
 

@@ -13,9 +13,11 @@ use Rattle.pb_bytecode_program.specs.Machine.{Program, State, Frame, Outcome, Co
 use Rattle.pb_bytecode_program.specs.declared.instruction.Leaf.{Leaf}
 use Rattle.pb_bytecode_program.specs.declared.instruction.Leaf.TheVariants as leaf
 use Rattle.pb_bytecode_program.specs.declared.instruction.Op.TheVariants as op
+use Rattle.pb_normal.specs.declared.formula.Junction.{Junction}
+use Rattle.pb_normal.specs.declared.formula.Junction.TheVariants.{And, Or}
 use Rattle.pb_normal.specs.Normal.{Term, Argument, Formula, Test, Join, Each, Call, Slots, set, value, joined}
 use Rattle.pb_assembler_scheme.specs.Pieces.{Piece, Plain, Then, Repeat, end, HasPieceAt}
-use Rattle.pb_assembler_scheme.specs.Scheme.{connective_of, bracketed, test_piece, tested_piece, under, test_of, join_piece, call_piece, parameters, formula_piece}
+use Rattle.pb_assembler_scheme.specs.Scheme.{connective_of, neutral, junction_of, bracketed, test_piece, tested_piece, under, test_of, join_piece, call_piece, parameters, formula_piece}
 use Rattle.pb_assembler_scheme.specs.Correct.{IsFullCall, HasFullCalls}
 use Rattle.pb_assembler_scheme.proofs.Wins.{Wins, After, one, passes_test, rooted}
 use Rattle.pb_assembler_scheme.proofs.Joins.{Joins, joined_comm, joined_unit, joins_none, joins_append, joins_leaf, joins_bracket, joins_same}
@@ -27,14 +29,14 @@ Meaning = Slots → Environment ℕ → Bool
 
 module _ (p : Program) (Q : List Token → Type 0) where
   -- after tokens that join as this
-  abbrev pub Writes : Bool → State → ℕ → (Environment ℕ → Bool) → Type 0
+  abbrev pub Writes : Junction → State → ℕ → (Environment ℕ → Bool) → Type 0
   Writes k st q φ = (xs : List Token) → Joins k xs φ → Wins p Q (record st { place = q; output = st.output ++ xs })
 
   -- under an open bracket of kind k the piece writes tokens that join as this
-  abbrev pub Compiles : Bool → Piece → Meaning → Type 0
+  abbrev pub Compiles : Junction → Piece → Meaning → Type 0
   Compiles k x φ = (st : State) (e : ℕ) (a : Slots) (n : ℕ) → HasPieceAt p.code st.place e x → Agrees st a → st.brackets ≡ suc n → Writes k st (end st.place x) (φ a) → Wins p Q st
 
-  pub writes_none : (k : Bool) (st : State) (q : ℕ) (φ : Environment ℕ → Bool) → ((t : Environment ℕ) → k ≡ φ t) → Writes k st q φ → Wins p Q (record st { place = q })
+  pub writes_none : (k : Junction) (st : State) (q : ℕ) (φ : Environment ℕ → Bool) → ((t : Environment ℕ) → neutral k ≡ φ t) → Writes k st q φ → Wins p Q (record st { place = q })
   writes_none k st q φ e go = subst (λ (o : List Token). Wins p Q (record st { place = q; output = o })) (append-nil st.output) (go [] (joins_same k [] _ _ e (joins_none k)))
 
   pub at_emit : (l : Leaf) (st : State) (n : ℕ) → slice_get p.code st.place ≡ Some (op.Emit l) → st.brackets ≡ suc n → Wins p Q (record st { place = st.place + 1; output = st.output ++ Machine.leaf l ∷ [] }) → Wins p Q st
@@ -42,35 +44,35 @@ module _ (p : Program) (Q : List Token → Type 0) where
 
   -- ---- tests
 
-  test_runs : (k : Bool) (t : Term) → Compiles k (test_piece k t) (λ a env. is_true (value a t))
-  test_runs true t st e a n h ag br go =
+  test_runs : (k : Junction) (t : Term) → Compiles k (test_piece k t) (λ a env. is_true (value a t))
+  test_runs And t st e a n h ag br go =
       gives p Q t st e a h.0 ag (λ v kv. jumps p Q (put p Q st _ (v ∷ st.operands)) true _ v st.operands refl h.1.0
-      (λ b. writes_none true st _ _ (λ env. sym (ap is_true (sym kv) ∙ b)) go)
-      (λ b. at_emit leaf.No (put p Q st _ st.operands) n h.1.1 br (go (token.No ∷ []) (joins_same true _ _ _ (λ env. sym (ap is_true (sym kv) ∙ b)) (joins_leaf true leaf.No)))))
-  test_runs false t st e a n h ag br go =
+      (λ b. writes_none And st _ _ (λ env. sym (ap is_true (sym kv) ∙ b)) go)
+      (λ b. at_emit leaf.No (put p Q st _ st.operands) n h.1.1 br (go (token.No ∷ []) (joins_same And _ _ _ (λ env. sym (ap is_true (sym kv) ∙ b)) (joins_leaf And leaf.No)))))
+  test_runs Or t st e a n h ag br go =
       gives p Q t st e a h.0 ag (λ v kv. jumps p Q (put p Q st _ (v ∷ st.operands)) false _ v st.operands refl h.1.0
-      (λ b. writes_none false st _ _ (λ env. sym (ap is_true (sym kv) ∙ b)) go)
-      (λ b. at_emit leaf.Yes (put p Q st _ st.operands) n h.1.1 br (go (token.Yes ∷ []) (joins_same false _ _ _ (λ env. sym (ap is_true (sym kv) ∙ b)) (joins_leaf false leaf.Yes)))))
+      (λ b. writes_none Or st _ _ (λ env. sym (ap is_true (sym kv) ∙ b)) go)
+      (λ b. at_emit leaf.Yes (put p Q st _ st.operands) n h.1.1 br (go (token.Yes ∷ []) (joins_same Or _ _ _ (λ env. sym (ap is_true (sym kv) ∙ b)) (joins_leaf Or leaf.Yes)))))
 
-  tested_runs : (m k : Bool) (t : Term) (x : Piece) (φ : Meaning) → Compiles k x φ → Compiles k (tested_piece m k t x) (λ a env. joined m (is_true (value a t)) (φ a env))
-  tested_runs true true t x φ hx st e a n h ag br go =
+  tested_runs : (m k : Junction) (t : Term) (x : Piece) (φ : Meaning) → Compiles k x φ → Compiles k (tested_piece m k t x) (λ a env. joined m (is_true (value a t)) (φ a env))
+  tested_runs And And t x φ hx st e a n h ag br go =
       gives p Q t st e a h.0 ag (λ v kv. jumps p Q (put p Q st _ (v ∷ st.operands)) true _ v st.operands refl h.1.0
-      (λ b. hx (put p Q st _ st.operands) e a n h.1.3 ag br (λ xs j. go xs (joins_same true xs _ _ (λ env. ap (λ c. joined true c (φ a env)) (sym (ap is_true (sym kv) ∙ b))) j)))
+      (λ b. hx (put p Q st _ st.operands) e a n h.1.3 ag br (λ xs j. go xs (joins_same And xs _ _ (λ env. ap (λ c. joined And c (φ a env)) (sym (ap is_true (sym kv) ∙ b))) j)))
       (λ b. at_emit leaf.No (put p Q st _ st.operands) n h.1.1 br (one p Q (record st { place = _; output = st.output ++ token.No ∷ [] }) (op.Jump _) h.1.2
-      (go (token.No ∷ []) (joins_same true _ _ _ (λ env. ap (λ c. joined true c (φ a env)) (sym (ap is_true (sym kv) ∙ b))) (joins_leaf true leaf.No))))))
-  tested_runs false false t x φ hx st e a n h ag br go =
+      (go (token.No ∷ []) (joins_same And _ _ _ (λ env. ap (λ c. joined And c (φ a env)) (sym (ap is_true (sym kv) ∙ b))) (joins_leaf And leaf.No))))))
+  tested_runs Or Or t x φ hx st e a n h ag br go =
       gives p Q t st e a h.0 ag (λ v kv. jumps p Q (put p Q st _ (v ∷ st.operands)) false _ v st.operands refl h.1.0
-      (λ b. hx (put p Q st _ st.operands) e a n h.1.3 ag br (λ xs j. go xs (joins_same false xs _ _ (λ env. ap (λ c. joined false c (φ a env)) (sym (ap is_true (sym kv) ∙ b))) j)))
+      (λ b. hx (put p Q st _ st.operands) e a n h.1.3 ag br (λ xs j. go xs (joins_same Or xs _ _ (λ env. ap (λ c. joined Or c (φ a env)) (sym (ap is_true (sym kv) ∙ b))) j)))
       (λ b. at_emit leaf.Yes (put p Q st _ st.operands) n h.1.1 br (one p Q (record st { place = _; output = st.output ++ token.Yes ∷ [] }) (op.Jump _) h.1.2
-      (go (token.Yes ∷ []) (joins_same false _ _ _ (λ env. ap (λ c. joined false c (φ a env)) (sym (ap is_true (sym kv) ∙ b))) (joins_leaf false leaf.Yes))))))
-  tested_runs true false t x φ hx st e a n h ag br go =
+      (go (token.Yes ∷ []) (joins_same Or _ _ _ (λ env. ap (λ c. joined Or c (φ a env)) (sym (ap is_true (sym kv) ∙ b))) (joins_leaf Or leaf.Yes))))))
+  tested_runs And Or t x φ hx st e a n h ag br go =
       gives p Q t st e a h.0 ag (λ v kv. jumps p Q (put p Q st _ (v ∷ st.operands)) false _ v st.operands refl h.1.0
-      (λ b. writes_none false st _ _ (λ env. ap (λ c. joined true c (φ a env)) (sym (ap is_true (sym kv) ∙ b))) go)
-      (λ b. hx (put p Q st _ st.operands) e a n h.1.1 ag br (λ xs j. go xs (joins_same false xs _ _ (λ env. ap (λ c. joined true c (φ a env)) (sym (ap is_true (sym kv) ∙ b))) j))))
-  tested_runs false true t x φ hx st e a n h ag br go =
+      (λ b. writes_none Or st _ _ (λ env. ap (λ c. joined And c (φ a env)) (sym (ap is_true (sym kv) ∙ b))) go)
+      (λ b. hx (put p Q st _ st.operands) e a n h.1.1 ag br (λ xs j. go xs (joins_same Or xs _ _ (λ env. ap (λ c. joined And c (φ a env)) (sym (ap is_true (sym kv) ∙ b))) j))))
+  tested_runs Or And t x φ hx st e a n h ag br go =
       gives p Q t st e a h.0 ag (λ v kv. jumps p Q (put p Q st _ (v ∷ st.operands)) true _ v st.operands refl h.1.0
-      (λ b. writes_none true st _ _ (λ env. ap (λ c. joined false c (φ a env)) (sym (ap is_true (sym kv) ∙ b))) go)
-      (λ b. hx (put p Q st _ st.operands) e a n h.1.1 ag br (λ xs j. go xs (joins_same true xs _ _ (λ env. ap (λ c. joined false c (φ a env)) (sym (ap is_true (sym kv) ∙ b))) j))))
+      (λ b. writes_none And st _ _ (λ env. ap (λ c. joined Or c (φ a env)) (sym (ap is_true (sym kv) ∙ b))) go)
+      (λ b. hx (put p Q st _ st.operands) e a n h.1.1 ag br (λ xs j. go xs (joins_same And xs _ _ (λ env. ap (λ c. joined Or c (φ a env)) (sym (ap is_true (sym kv) ∙ b))) j))))
 
   -- ---- brackets
 
@@ -78,7 +80,7 @@ module _ (p : Program) (Q : List Token → Type 0) where
   closed b n go e h = subst (λ (m : ℕ). After p Q (Machine.close_bracket m go)) (sym e) h
 
   -- from behind the opening on
-  pub enclosed : (m : Bool) (x : Piece) (φ : Meaning) → Compiles m x φ → (st : State) (e : ℕ) (a : Slots) (n : ℕ) (o : List Token) → HasPieceAt p.code st.place e (Then x (Plain op.Close)) → Agrees st a → st.brackets ≡ suc n → st.output ≡ o ++ Machine.opening (connective_of m) ∷ []
+  pub enclosed : (m : Junction) (x : Piece) (φ : Meaning) → Compiles m x φ → (st : State) (e : ℕ) (a : Slots) (n : ℕ) (o : List Token) → HasPieceAt p.code st.place e (Then x (Plain op.Close)) → Agrees st a → st.brackets ≡ suc n → st.output ≡ o ++ Machine.opening (connective_of m) ∷ []
       → ((xs : List Token) → Joins m xs (φ a) → Wins p Q (record st { place = end st.place x + 1; brackets = n; output = o ++ Machine.opening (connective_of m) ∷ (xs ++ token.Close ∷ []) })) → Wins p Q st
   enclosed m x φ hx st e a n o h ag br eo go =
       hx st e a n h.0 ag br (λ xs j.
@@ -87,19 +89,19 @@ module _ (p : Program) (Q : List Token → Type 0) where
       (sym (append_assoc o (Machine.opening (connective_of m) ∷ []) (xs ++ token.Close ∷ [])) ∙ ap (λ (l : List Token). l ++ (xs ++ token.Close ∷ [])) (sym eo) ∙ sym (append_assoc st.output xs (token.Close ∷ [])))
       (go xs j))))
 
-  bracketed_runs : (k m : Bool) (x : Piece) (φ : Meaning) → Compiles m x φ → Compiles k (bracketed m x) φ
+  bracketed_runs : (k m : Junction) (x : Piece) (φ : Meaning) → Compiles m x φ → Compiles k (bracketed m x) φ
   bracketed_runs k m x φ hx st e a n h ag br go =
       one p Q st (op.Open (connective_of m)) h.0 (passes_test p Q (nat_lt st.brackets 32) _ _ (rooted p Q st.brackets st.roots n _ br
       (enclosed m x φ hx (record st { place = st.place + 1; brackets = st.brackets + 1; output = st.output ++ Machine.opening (connective_of m) ∷ [] }) e a st.brackets st.output h.1 ag (add-one st.brackets) refl
       (λ xs j. go (Machine.opening (connective_of m) ∷ (xs ++ token.Close ∷ [])) (joins_bracket k m xs (φ a) j)))))
 
-  under_runs : (m k : Bool) (x : Piece) (φ : Meaning) → Compiles m x φ → Compiles k (under m k x) φ
-  under_runs true true x φ hx = hx
-  under_runs false false x φ hx = hx
-  under_runs true false x φ hx = bracketed_runs false true x φ hx
-  under_runs false true x φ hx = bracketed_runs true false x φ hx
+  under_runs : (m k : Junction) (x : Piece) (φ : Meaning) → Compiles m x φ → Compiles k (under m k x) φ
+  under_runs And And x φ hx = hx
+  under_runs Or Or x φ hx = hx
+  under_runs And Or x φ hx = bracketed_runs Or And x φ hx
+  under_runs Or And x φ hx = bracketed_runs And Or x φ hx
 
-  then_runs : (m : Bool) (x y : Piece) (φ ψ : Meaning) → Compiles m x φ → Compiles m y ψ → Compiles m (Then x y) (λ a env. joined m (φ a env) (ψ a env))
+  then_runs : (m : Junction) (x y : Piece) (φ ψ : Meaning) → Compiles m x φ → Compiles m y ψ → Compiles m (Then x y) (λ a env. joined m (φ a env) (ψ a env))
   then_runs m x y φ ψ hx hy st e a n h ag br go =
       hx st e a n h.0 ag br (λ xs j. hy (record st { place = end st.place x; output = st.output ++ xs }) e a n h.1 ag br (λ ys k.
       subst (λ (l : List Token). Wins p Q (record st { place = end (end st.place x) y; output = l })) (sym (append_assoc st.output xs ys))
@@ -107,7 +109,7 @@ module _ (p : Program) (Q : List Token → Type 0) where
 
   -- ---- loops
 
-  abbrev over : Bool → Meaning → Slots → ℕ → List ℤ → Environment ℕ → Bool
+  abbrev over : Junction → Meaning → Slots → ℕ → List ℤ → Environment ℕ → Bool
   over m φ a s zs env = all_joined m (map (λ z. φ (set a s z) env) zs)
 
   agrees_in : (st : State) (a : Slots) (f : Frame) → Agrees st a → Agrees (record st { loops = f ∷ st.loops }) (set a f.slot (untagged f.value))
@@ -117,7 +119,7 @@ module _ (p : Program) (Q : List Token → Type 0) where
       by true h = let e : f.value ≡ v = cc in ap untagged (sym e)
       by false h = ag i v h
 
-  module _ (m : Bool) (x : Piece) (φ : Meaning) (hx : Compiles m x φ) (s : ℕ) (st : State) (e : ℕ) (a : Slots) (n : ℕ) (h : HasPieceAt p.code st.place e (Repeat s x)) (ag : Agrees st a) (br : st.brackets ≡ suc n) where
+  module _ (m : Junction) (x : Piece) (φ : Meaning) (hx : Compiles m x φ) (s : ℕ) (st : State) (e : ℕ) (a : Slots) (n : ℕ) (h : HasPieceAt p.code st.place e (Repeat s x)) (ag : Agrees st a) (br : st.brackets ≡ suc n) where
     abbrev turning : Value → List Value → List Token → State
     turning v left o = record st { place = st.place + 1; loops = record { loop_place = st.place; slot = s; value = v; remaining = left } ∷ st.loops; output = o }
 
@@ -139,7 +141,7 @@ module _ (p : Program) (Q : List Token → Type 0) where
     begun None go = tt
     begun (Some c) go = passes_test p Q (nat_lt (length st.loops) 8 && not (Machine.is_running st.loops s)) _ _ (entered (tagged_values c) go)
 
-  repeat_runs : (m : Bool) (s : ℕ) (x : Piece) (φ : Meaning) → Compiles m x φ → Compiles m (Repeat s x) (λ a env. over m φ a s (loop_values (carrier_of p s)) env)
+  repeat_runs : (m : Junction) (s : ℕ) (x : Piece) (φ : Meaning) → Compiles m x φ → Compiles m (Repeat s x) (λ a env. over m φ a s (loop_values (carrier_of p s)) env)
   repeat_runs m s x φ hx st e a n h ag br go = one p Q st (op.Loop s) h.0 (begun m x φ hx s st e a n h ag br (carrier_of p s) go)
 
   -- ---- all
@@ -147,24 +149,24 @@ module _ (p : Program) (Q : List Token → Type 0) where
   is_test : (f : Formula) (t : Term) → test_of f ≡ Some t → (env : Environment ℕ) (a : Slots) → numbered_truth p a env f ≡ is_true (value a t)
   is_test (Test x) t e env a = let k : x ≡ t = cc in ap (λ (y : Term). is_true (value a y)) k
   is_test (Join m f g) t e env a = cc
-  is_test (Each m s shape f) t e env a = cc
+  is_test (Each q s shape f) t e env a = cc
   is_test (Call eq xs) t e env a = cc
 
-  pub same_meaning : (k : Bool) (x : Piece) (φ ψ : Meaning) → ((a : Slots) (env : Environment ℕ) → φ a env ≡ ψ a env) → Compiles k x φ → Compiles k x ψ
+  pub same_meaning : (k : Junction) (x : Piece) (φ ψ : Meaning) → ((a : Slots) (env : Environment ℕ) → φ a env ≡ ψ a env) → Compiles k x φ → Compiles k x ψ
   same_meaning k x φ ψ e hx st end' a n h ag br go = hx st end' a n h ag br (λ xs j. go xs (joins_same k xs _ _ (e a) j))
 
   abbrev pub of : Formula → Meaning
   of f a env = numbered_truth p a env f
 
-  join_runs : (m k : Bool) (f g : Formula) (s t : Option Term) (fk gk fm gm : Piece) → test_of f ≡ s → test_of g ≡ t → Compiles k fk (of f) → Compiles k gk (of g) → Compiles m fm (of f) → Compiles m gm (of g) → Compiles k (join_piece m k s t fk gk fm gm) (of (Join m f g))
+  join_runs : (m k : Junction) (f g : Formula) (s t : Option Term) (fk gk fm gm : Piece) → test_of f ≡ s → test_of g ≡ t → Compiles k fk (of f) → Compiles k gk (of g) → Compiles m fm (of f) → Compiles m gm (of g) → Compiles k (join_piece m k s t fk gk fm gm) (of (Join m f g))
   join_runs m k f g (Some s) t fk gk fm gm es et hfk hgk hfm hgm = same_meaning k (tested_piece m k s gk) _ _ (λ a env. ap (λ c. joined m c (numbered_truth p a env g)) (sym (is_test f s es env a))) (tested_runs m k s gk (of g) hgk)
   join_runs m k f g None (Some t) fk gk fm gm es et hfk hgk hfm hgm =
       same_meaning k (tested_piece m k t fk) _ _ (λ a env. joined_comm m (is_true (value a t)) (numbered_truth p a env f) ∙ ap (joined m (numbered_truth p a env f)) (sym (is_test g t et env a))) (tested_runs m k t fk (of f) hfk)
   join_runs m k f g None None fk gk fm gm es et hfk hgk hfm hgm = under_runs m k (Then fm gm) _ (then_runs m fm gm (of f) (of g) hfm hgm)
 
-  module _ (call : (k : Bool) (eq : ℕ) (xs : List Argument) → IsFullCall (slice_get p.callees eq) xs → Compiles k (call_piece eq (parameters (slice_get p.callees eq)) xs) (of (Call eq xs))) where
-    pub formula_runs : (f : Formula) (k : Bool) → HasFullCalls p.callees f → Compiles k (formula_piece p.callees k f) (of f)
+  module _ (call : (k : Junction) (eq : ℕ) (xs : List Argument) → IsFullCall (slice_get p.callees eq) xs → Compiles k (call_piece eq (parameters (slice_get p.callees eq)) xs) (of (Call eq xs))) where
+    pub formula_runs : (f : Formula) (k : Junction) → HasFullCalls p.callees f → Compiles k (formula_piece p.callees k f) (of f)
     formula_runs (Test t) k full = test_runs k t
     formula_runs (Join m f g) k full = join_runs m k f g (test_of f) (test_of g) _ _ _ _ refl refl (formula_runs f k full.0) (formula_runs g k full.1) (formula_runs f m full.0) (formula_runs g m full.1)
-    formula_runs (Each m s shape f) k full = under_runs m k _ _ (repeat_runs m s (formula_piece p.callees m f) (of f) (formula_runs f m full))
+    formula_runs (Each q s shape f) k full = under_runs (junction_of q) k _ _ (repeat_runs (junction_of q) s (formula_piece p.callees (junction_of q) f) (of f) (formula_runs f (junction_of q) full))
     formula_runs (Call eq xs) k full = call k eq xs full

@@ -5,6 +5,7 @@ use Rattle.std.proofs.lemmas.List.{length-map}
 use Rattle.pb_sorts.specs.declared.carrier.Carrier.{Carrier}
 use Rattle.pb_sorts.specs.Carrier.{values_of}
 use Rattle.pb_sorts.specs.Layout as layout
+use Rattle.pb_text_tree.specs.declared.operator.Quantifier.{Quantifier}
 use Rattle.pb_text_meaning.specs.Syntax as syntax
 use Rattle.pb_text_meaning.specs.Syntax.{Name, same_name, Variable, Operator, Terms, Equation, Spec}
 use Rattle.pb_text_meaning.specs.Sorts.{carrier_of}
@@ -15,7 +16,7 @@ use Rattle.pb_typing_rules.specs.Formula.{count, IsCalled, IsProper}
 use Rattle.pb_typing_rules.specs.WellTyped.{parameters_of}
 use Rattle.pb_normal.specs.Expansion.{has_quantifier, connected, expanded_term, expanded}
 use Rattle.pb_normal.specs.Normal.{Term, Argument, Formula}
-use Rattle.pb_normal.specs.Normalisation.{Slotting, unslotted, with_slot, with_slots, slotted, width, signed_test, is_universal, each, arguments, place_of, call, normal}
+use Rattle.pb_normal.specs.Normalisation.{Slotting, unslotted, with_slot, with_slots, slotted, width, signed_test, signed_quantifier, each, arguments, place_of, call, normal}
 use Rattle.pb_normal.specs.Equations.{normal_equation}
 use Rattle.pb_assembler_scheme.specs.Correct.{IsFullCall, HasFullCalls}
 
@@ -27,7 +28,7 @@ module _ (spec : Spec) (callees : List (List Carrier)) (same : layout.carriers_o
   abbrev Full : Formula → Type 0
   Full f = HasFullCalls callees f
 
-  each-full : (m : Bool) (xs : List Variable) (c : Slotting) (n : ℕ) (body : Slotting → ℕ → Formula) → ((d : Slotting) (k : ℕ) → Full (body d k)) → Full (each spec m xs c n body)
+  each-full : (m : Quantifier) (xs : List Variable) (c : Slotting) (n : ℕ) (body : Slotting → ℕ → Formula) → ((d : Slotting) (k : ℕ) → Full (body d k)) → Full (each spec m xs c n body)
   each-full m [] c n body h = h c n
   each-full m (x ∷ xs) c n body h = each-full m xs (with_slot x.name n c) (suc n) body h
 
@@ -66,7 +67,7 @@ module _ (spec : Spec) (callees : List (List Carrier)) (same : layout.carriers_o
       (connected-full o (expanded_term x) (expanded_term y) (syntax.Term.Binary o x y) (term-full x) (term-full y)) (data-full (syntax.Term.Binary o x y))
   term-full (syntax.Term.Apply f xs) = data-full (syntax.Term.Apply f xs)
   term-full (syntax.Term.Quantified q xs x) = λ even scope c n.
-      each-full (is_universal q even) xs c n (λ d m. normal spec even d (bound spec xs scope) m (expanded_term x)) (λ d m. term-full x even (bound spec xs scope) d m)
+      each-full (signed_quantifier q even) xs c n (λ d m. normal spec even d (bound spec xs scope) m (expanded_term x)) (λ d m. term-full x even (bound spec xs scope) d m)
 
   -- ---- calls
 
@@ -115,7 +116,7 @@ module _ (spec : Spec) (callees : List (List Carrier)) (same : layout.carriers_o
   formula-full even scope (syntax.Formula.Or f g) h c n = (formula-full even scope f h.0 c n, formula-full even scope g h.1 c (n + width (expanded f)))
   formula-full even scope (syntax.Formula.Implies f g) h c n = (formula-full (not even) scope f h.0 c n, formula-full even scope g h.1 c (n + width (expanded f)))
   formula-full even scope (syntax.Formula.Quantified q xs f) h c n =
-      each-full (is_universal q even) xs c n (λ d m. normal spec even d (bound spec xs scope) m (expanded f)) (λ d m. formula-full even (bound spec xs scope) f h.1 d m)
+      each-full (signed_quantifier q even) xs c n (λ d m. normal spec even d (bound spec xs scope) m (expanded f)) (λ d m. formula-full even (bound spec xs scope) f h.1 d m)
   formula-full even scope (syntax.Formula.Call x es) h c n =
       call-full (count es) (arguments spec c scope es) (place_of 0 spec.equations x) (length-arguments spec c scope es) (finds-full scope es callees spec.equations 0 x same h.1)
 

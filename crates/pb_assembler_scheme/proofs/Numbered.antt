@@ -15,6 +15,8 @@ use Rattle.pb_sorts.specs.declared.carrier.Carrier.TheVariants as carrier
 use Rattle.pb_sorts.specs.Carrier.{values_of}
 use Rattle.pb_sorts.specs.Instance.{number_of}
 use Rattle.pb_sorts.specs.Layout as layout
+use Rattle.pb_text_tree.specs.declared.operator.Quantifier.{Quantifier}
+use Rattle.pb_text_tree.specs.declared.operator.Quantifier.TheVariants.{Forall, Exists}
 use Rattle.pb_text_meaning.specs.Syntax.{Name, same_name, Equation, Spec}
 use Rattle.pb_text_meaning.specs.Value.{is_true, of_values}
 use Rattle.pb_text_meaning.specs.Formula.{Instance, carriers_of, equation_named, fits, is_instance}
@@ -24,8 +26,10 @@ use Rattle.pb_typing_declarations.specs.WellDeclared.{AreApart}
 use Rattle.pb_evaluation.specs.Environment.{all_carriers}
 use Rattle.pb_bytecode_program.specs.Values.{tagged, untagged, tagged_values}
 use Rattle.pb_bytecode_program.specs.Machine.{Program, carrier_of}
-use Rattle.pb_normal.specs.Normal.{Argument, Formula, Test, Join, Each, Call, Slots, set, value, joined, quantifier, name_of, called, truth}
-use Rattle.pb_assembler_scheme.specs.Scheme.{parameters}
+use Rattle.pb_normal.specs.declared.formula.Junction.{Junction}
+use Rattle.pb_normal.specs.declared.formula.Junction.TheVariants.{Or}
+use Rattle.pb_normal.specs.Normal.{Argument, Formula, Test, Join, Each, Call, Slots, set, value, joined, name_of, called, truth}
+use Rattle.pb_assembler_scheme.specs.Scheme.{neutral, junction_of, parameters}
 use Rattle.pb_assembler_scheme.specs.Correct.{IsFullCall, HasFullCalls, Declares, number_in}
 
 -- ---- truth over numbers
@@ -36,8 +40,8 @@ loop_values None = []
 loop_values (Some c) = map untagged (tagged_values c)
 
 -- of these, all or some
-abbrev pub all_joined : Bool → List Bool → Bool
-all_joined m [] = m
+abbrev pub all_joined : Junction → List Bool → Bool
+all_joined m [] = neutral m
 all_joined m (b ∷ bs) = joined m b (all_joined m bs)
 
 abbrev pub argument_values : Slots → List Argument → List ℤ
@@ -49,7 +53,7 @@ call_number p equation vs = number_of (layout.carriers_of p.callees) (record { e
 abbrev pub numbered_truth : Program → Slots → Environment ℕ → Formula → Bool
 numbered_truth p a t (Test x) = is_true (value a x)
 numbered_truth p a t (Join m f g) = joined m (numbered_truth p a t f) (numbered_truth p a t g)
-numbered_truth p a t (Each m s shape f) = all_joined m (map (λ v. numbered_truth p (set a s v) t f) (loop_values (carrier_of p s)))
+numbered_truth p a t (Each q s shape f) = all_joined (junction_of q) (map (λ v. numbered_truth p (set a s v) t f) (loop_values (carrier_of p s)))
 numbered_truth p a t (Call equation xs) =
     is_within (map values_of (parameters (slice_get p.callees equation))) (argument_values a xs) && t (call_number p equation (argument_values a xs))
 
@@ -57,7 +61,7 @@ numbered_truth p a t (Call equation xs) =
 abbrev pub HasSlots : Program → Formula → Type 0
 HasSlots p (Test x) = Unit {0}
 HasSlots p (Join m f g) = HasSlots p f × HasSlots p g
-HasSlots p (Each m s shape f) = (carrier_shape (carrier_of p s) ≡ shape) × HasSlots p f
+HasSlots p (Each q s shape f) = (carrier_shape (carrier_of p s) ≡ shape) × HasSlots p f
 HasSlots p (Call equation xs) = Unit {0}
 
 -- ---- values of loop slots
@@ -79,11 +83,11 @@ loop-values (Some carrier.Bool) = untagged-bools
 loop-values (Some (carrier.Enum e)) = untagged-places e 0 e.count
 loop-values (Some (carrier.Range r)) = untagged-numbers r _
 
-of-values : (m : Bool) (φ : ℤ → Bool) (zs : List ℤ) → all_joined m (map φ zs) ≡ of_values (quantifier m) φ zs
-of-values true φ [] = refl
-of-values true φ (z ∷ zs) = ap (λ b. φ z && b) (of-values true φ zs)
-of-values false φ [] = refl
-of-values false φ (z ∷ zs) = ap (joined false (φ z)) (of-values false φ zs)
+of-values : (q : Quantifier) (φ : ℤ → Bool) (zs : List ℤ) → all_joined (junction_of q) (map φ zs) ≡ of_values q φ zs
+of-values Forall φ [] = refl
+of-values Forall φ (z ∷ zs) = ap (λ b. φ z && b) (of-values Forall φ zs)
+of-values Exists φ [] = refl
+of-values Exists φ (z ∷ zs) = ap (joined Or (φ z)) (of-values Exists φ zs)
 
 same-map : (φ ψ : ℤ → Bool) → ((z : ℤ) → φ z ≡ ψ z) → (zs : List ℤ) → map φ zs ≡ map ψ zs
 same-map φ ψ e [] = refl
@@ -158,8 +162,8 @@ module _ (spec : Spec) (p : Program) (declares : Declares spec p.callees) (numbe
   same-truth (Test x) a slots full = refl
   same-truth (Join m f g) a slots full =
       ap (λ b. joined m b (numbered_truth p a numbers g)) (same-truth f a slots.0 full.0) ∙ ap (joined m (truth spec a t f)) (same-truth g a slots.1 full.1)
-  same-truth (Each m s shape f) a slots full =
-      ap (all_joined m) (same-map _ _ (λ z. same-truth f (set a s z) slots.1 full) (loop_values (carrier_of p s)))
-      ∙ of-values m (λ z. truth spec (set a s z) t f) (loop_values (carrier_of p s))
-      ∙ ap (of_values (quantifier m) (λ z. truth spec (set a s z) t f)) (loop-values (carrier_of p s) ∙ ap shape_carrier slots.0)
+  same-truth (Each q s shape f) a slots full =
+      ap (all_joined (junction_of q)) (same-map _ _ (λ z. same-truth f (set a s z) slots.1 full) (loop_values (carrier_of p s)))
+      ∙ of-values q (λ z. truth spec (set a s z) t f) (loop_values (carrier_of p s))
+      ∙ ap (of_values q (λ z. truth spec (set a s z) t f)) (loop-values (carrier_of p s) ∙ ap shape_carrier slots.0)
   same-truth (Call k xs) a slots full = same-call k xs a (slice_get p.callees k) refl full

@@ -51,7 +51,7 @@ module _ (p : Program) where
   has-slots (Test x) h = tt
   has-slots (Join m f g) h =
       (has-slots f (have-front (quantifiers f) (quantifiers g) h), has-slots g (have-back (quantifiers f) (quantifiers g) h))
-  has-slots (Each m s shape f) h = (h.0, has-slots f h.1)
+  has-slots (Each q s shape f) h = (h.0, has-slots f h.1)
   has-slots (Call k xs) h = tt
 
   behind : (xs : List Carrier) (c : Carrier) (cs : List Carrier) → slice_get (xs ++ c ∷ cs) (length xs) ≡ Some c

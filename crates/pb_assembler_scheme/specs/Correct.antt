@@ -49,7 +49,7 @@ IsFullCall (Some cs) xs = length xs ≡ length cs
 abbrev pub HasFullCalls : List (List Carrier) → Formula → Type 0
 HasFullCalls callees (Test t) = ⊤
 HasFullCalls callees (Join m f g) = HasFullCalls callees f × HasFullCalls callees g
-HasFullCalls callees (Each m s shape f) = HasFullCalls callees f
+HasFullCalls callees (Each q s shape f) = HasFullCalls callees f
 HasFullCalls callees (Call equation xs) = IsFullCall (slice_get callees equation) xs
 
 -- the equations of a specification have these parameters, and their names are apart

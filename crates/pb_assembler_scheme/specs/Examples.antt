@@ -20,6 +20,7 @@ use Rattle.pb_bytecode_program.specs.declared.instruction.Leaf.TheVariants as le
 use Rattle.pb_bytecode_program.specs.declared.instruction.Op.{Op}
 use Rattle.pb_bytecode_program.specs.declared.instruction.Op.TheVariants as op
 use Rattle.pb_normal.specs.Equations.{normal_equation}
+use Rattle.pb_normal.specs.declared.formula.Junction.TheVariants.{Or}
 use Rattle.pb_normal.specs.Normal.{Term, Formula, Number, Slot, Binary, Test, Join, Each, Call}
 use Rattle.pb_assembler_scheme.specs.Equations.{IsProgramOf}
 
@@ -57,8 +58,8 @@ others_spec = record {
 
 abbrev pub others_form : Formula
 others_form =
-    Each true 1 (Places 0 3)
-    (Join false (Test (Term.Not (Binary Operator.NotEqual (Slot 1) (Slot 0))))
+    Each Forall 1 (Places 0 3)
+    (Join Or (Test (Term.Not (Binary Operator.NotEqual (Slot 1) (Slot 0))))
     (Call 0 (record { term = Slot 1; shape = Places 0 3 } ∷ [])))
 
 abbrev pub others_code : List Op
@@ -124,7 +125,7 @@ countdown_spec = record {
 
 abbrev pub countdown_form : Formula
 countdown_form =
-    Join false (Test (Binary Operator.Equal (Slot 0) (Number 0)))
+    Join Or (Test (Binary Operator.Equal (Slot 0) (Number 0)))
     (Call 0
     (record {
       term = Binary Operator.Minus (Slot 0) (Number 1);

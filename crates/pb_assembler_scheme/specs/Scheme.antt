@@ -4,6 +4,8 @@ use Rattle.std.specs.List.{slice_get}
 use Rattle.pb_intervals.specs.Interval.{is_within}
 use Rattle.pb_sorts.specs.declared.carrier.Carrier.{Carrier}
 use Rattle.pb_sorts.specs.declared.carrier.Carrier.TheVariants as carrier
+use Rattle.pb_text_tree.specs.declared.operator.Quantifier.{Quantifier}
+use Rattle.pb_text_tree.specs.declared.operator.Quantifier.TheVariants.{Forall, Exists}
 use Rattle.pb_text_meaning.specs.Syntax.{Operator}
 use Rattle.pb_typing_declarations.specs.Shapes.{Shape, Wholes}
 use Rattle.pb_typing_rules.specs.Shapes.{interval}
@@ -16,6 +18,8 @@ use Rattle.pb_bytecode_program.specs.declared.instruction.Leaf.{Leaf}
 use Rattle.pb_bytecode_program.specs.declared.instruction.Leaf.TheVariants as leaf
 use Rattle.pb_bytecode_program.specs.declared.instruction.Op.{Op}
 use Rattle.pb_bytecode_program.specs.declared.instruction.Op.TheVariants as op
+use Rattle.pb_normal.specs.declared.formula.Junction.{Junction}
+use Rattle.pb_normal.specs.declared.formula.Junction.TheVariants.{And, Or}
 use Rattle.pb_normal.specs.Normal.{Term, Number, Slot, Negative, Absolute, Successor, Predecessor, Binary, Maximum, Minimum, Choice, Recognised, Argument, Formula, Test, Join, Each, Call}
 use Rattle.pb_assembler_scheme.specs.Pieces.{Piece, Plain, Then, Unless, Choose, Repeat, Block, Leave, Guard, flat}
 
@@ -65,39 +69,50 @@ data_piece (Choice c x y) = Then (data_piece c) (Choose false (data_piece x) (da
 data_piece (Recognised s i x) =
     in_order (op.Equality equality.Equal) (data_piece x) (Plain (op.PushEnum s i))
 
--- ---- brackets. A kind is true for a conjunction and false for a disjunction, as in formulas.
+-- ---- brackets, each of a kind
 
-abbrev pub connective_of : Bool → Connective
-connective_of true = connective.And
-connective_of false = connective.Or
+abbrev pub connective_of : Junction → Connective
+connective_of And = connective.And
+connective_of Or = connective.Or
 
 -- the leaf that decides a bracket of this kind
-abbrev pub deciding : Bool → Leaf
-deciding true = leaf.No
-deciding false = leaf.Yes
+abbrev pub deciding : Junction → Leaf
+deciding And = leaf.No
+deciding Or = leaf.Yes
 
-abbrev pub bracketed : Bool → Piece → Piece
+-- the truth value that decides nothing in it
+abbrev pub neutral : Junction → Bool
+neutral And = true
+neutral Or = false
+
+-- the kind of the bracket that a quantifier's instances stand in
+abbrev pub junction_of : Quantifier → Junction
+junction_of Forall = And
+junction_of Exists = Or
+
+abbrev pub bracketed : Junction → Piece → Piece
 bracketed m x = Then (Plain (op.Open (connective_of m))) (Then x (Plain op.Close))
 
 -- what joins by m stands in a bracket of its own, unless one of its kind is open already
-abbrev pub under : (m around : Bool) → Piece → Piece
-under true true x = x
-under false false x = x
-under true false x = bracketed true x
-under false true x = bracketed false x
+abbrev pub under : (m around : Junction) → Piece → Piece
+under And And x = x
+under Or Or x = x
+under And Or x = bracketed And x
+under Or And x = bracketed Or x
 
 -- ---- tests
 
 -- a test alone: the deciding leaf, unless the test is what doesn't decide
-abbrev pub test_piece : (around : Bool) → Term → Piece
-test_piece around t = Then (data_piece t) (Unless around (Plain (op.Emit (deciding around))))
+abbrev pub test_piece : (around : Junction) → Term → Piece
+test_piece around t =
+    Then (data_piece t) (Unless (neutral around) (Plain (op.Emit (deciding around))))
 
 -- a test joined by m with an operand, whose code stands under the bracket that is open
-abbrev pub tested_piece : (m around : Bool) → Term → Piece → Piece
-tested_piece true true t x = Then (data_piece t) (Choose true (Plain (op.Emit leaf.No)) x)
-tested_piece false false t x = Then (data_piece t) (Choose false (Plain (op.Emit leaf.Yes)) x)
-tested_piece true false t x = Then (data_piece t) (Unless false x)
-tested_piece false true t x = Then (data_piece t) (Unless true x)
+abbrev pub tested_piece : (m around : Junction) → Term → Piece → Piece
+tested_piece And And t x = Then (data_piece t) (Choose true (Plain (op.Emit leaf.No)) x)
+tested_piece Or Or t x = Then (data_piece t) (Choose false (Plain (op.Emit leaf.Yes)) x)
+tested_piece And Or t x = Then (data_piece t) (Unless false x)
+tested_piece Or And t x = Then (data_piece t) (Unless true x)
 
 abbrev pub test_of : Formula → Option Term
 test_of (Test t) = Some t
@@ -106,7 +121,7 @@ test_of _ = None
 -- Two operands f and g joined by m: the first that is a test decides whether the other one runs.
 -- The code of each operand under the bracket that is open, and under one of kind m, is given.
 abbrev pub join_piece :
-    (m around : Bool) → (f g : Option Term) → (f_around g_around f_own g_own : Piece) → Piece
+    (m around : Junction) → (f g : Option Term) → (f_around g_around f_own g_own : Piece) → Piece
 join_piece m around (Some t) g f_around g_around f_own g_own = tested_piece m around t g_around
 join_piece m around None (Some t) f_around g_around f_own g_own = tested_piece m around t f_around
 join_piece m around None None f_around g_around f_own g_own = under m around (Then f_own g_own)
@@ -154,22 +169,22 @@ parameters (Some cs) = cs
 
 -- ---- formulas and equations, which call equations with these parameters
 
-abbrev pub formula_piece : List (List Carrier) → (around : Bool) → Formula → Piece
+abbrev pub formula_piece : List (List Carrier) → (around : Junction) → Formula → Piece
 formula_piece callees around (Test t) = test_piece around t
 formula_piece callees around (Join m f g) =
     join_piece m around (test_of f) (test_of g)
     (formula_piece callees around f) (formula_piece callees around g)
     (formula_piece callees m f) (formula_piece callees m g)
-formula_piece callees around (Each m s shape f) =
-    under m around (Repeat s (formula_piece callees m f))
+formula_piece callees around (Each q s shape f) =
+    under (junction_of q) around (Repeat s (formula_piece callees (junction_of q) f))
 formula_piece callees around (Call equation xs) =
     call_piece equation (parameters (slice_get callees equation)) xs
 
 -- the kind of the outermost bracket
-abbrev pub head : Formula → Bool
+abbrev pub head : Formula → Junction
 head (Join m f g) = m
-head (Each m s shape f) = m
-head _ = false
+head (Each q s shape f) = junction_of q
+head _ = Or
 
 abbrev pub equation_piece : List (List Carrier) → Formula → Piece
 equation_piece callees f =

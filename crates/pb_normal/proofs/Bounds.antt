@@ -6,6 +6,7 @@ use Rattle.std.proofs.lemmas.Int.{ints}
 use Rattle.std.proofs.lemmas.Bool.{and_from, and_parts, le-leb, lt-ltb}
 use Rattle.pb_intervals.specs.Interval.{is_within, singleton, literals}
 use Rattle.pb_intervals.proofs.Ends.{le_true}
+use Rattle.pb_text_tree.specs.declared.operator.Quantifier.{Quantifier}
 use Rattle.pb_text_meaning.specs.Syntax as syntax
 use Rattle.pb_text_meaning.specs.Syntax.{Name, same_name, Variable, Operator, Terms, Equation, Spec}
 use Rattle.pb_text_meaning.specs.declared.function.NamedFunction.{NamedFunction}
@@ -22,7 +23,7 @@ use Rattle.pb_typing_rules.proofs.Contained.{called_typed}
 use Rattle.pb_normal.specs.Expansion.{has_quantifier, connected, expanded_term, expanded}
 use Rattle.pb_normal.specs.Normal.{Term, Argument, Formula}
 use Rattle.pb_normal.specs.Normalisation as made
-use Rattle.pb_normal.specs.Normalisation.{Slotting, unslotted, with_slot, with_slots, applied_to_one, applied_to_two, applied_to_three, applied, slotted, slotted_all, width, signed_test, is_universal, each, arguments, place_of, call, normal}
+use Rattle.pb_normal.specs.Normalisation.{Slotting, unslotted, with_slot, with_slots, applied_to_one, applied_to_two, applied_to_three, applied, slotted, slotted_all, width, signed_test, signed_quantifier, each, arguments, place_of, call, normal}
 use Rattle.pb_normal.specs.Loops.{equation_loops}
 use Rattle.pb_normal.specs.Plain.{AreFree}
 use Rattle.pb_normal.specs.Structs.{has_enumerator, struct_counts}
@@ -157,7 +158,7 @@ module _ (spec : Spec) (slots : ℕ) where
   test-fits true x h = h
   test-fits false x h = h
 
-  each-fits : (m : Bool) (xs : List Variable) (w : ℕ) (body : Slotting → ℕ → Formula) → Takes w body → Takes (length xs + w) (λ c n. each spec m xs c n body)
+  each-fits : (m : Quantifier) (xs : List Variable) (w : ℕ) (body : Slotting → ℕ → Formula) → Takes w body → Takes (length xs + w) (λ c n. each spec m xs c n body)
   each-fits m [] w body h c n free room = h c n free (omega (arith, room))
   each-fits m (x ∷ xs) w body h c n free room =
       and_from (nat_lt n slots) (is_bounded_formula bounds (each spec m xs (with_slot x.name n c) (suc n) body)) (lt-ltb n slots (omega (arith, room)))
@@ -201,7 +202,7 @@ module _ (spec : Spec) (slots : ℕ) where
       (data-fits stands typed (syntax.Term.Binary o x y) h)
   term-fits stands typed (syntax.Term.Apply f xs) h = data-fits stands typed (syntax.Term.Apply f xs) h
   term-fits stands typed (syntax.Term.Quantified q xs x) h = λ even scope.
-      each-fits (is_universal q even) xs (width (expanded_term x)) (λ d m. normal spec even d (bound spec xs scope) m (expanded_term x)) (term-fits stands (bound spec xs typed) x h.2 even (bound spec xs scope))
+      each-fits (signed_quantifier q even) xs (width (expanded_term x)) (λ d m. normal spec even d (bound spec xs scope) m (expanded_term x)) (term-fits stands (bound spec xs typed) x h.2 even (bound spec xs scope))
 
   -- ---- calls
 
@@ -230,7 +231,7 @@ module _ (spec : Spec) (slots : ℕ) where
       join-fits (width (expanded f)) (width (expanded g)) (λ d m. normal spec (not even) d scope m (expanded f)) (λ d m. normal spec even d scope m (expanded g)) c n
       (formula-fits f (not proper) typed h.0 (not even) scope) (formula-fits g proper typed h.1 even scope) free room
   formula-fits (syntax.Formula.Quantified q xs f) proper typed h even scope c n free room =
-      each-fits (is_universal q even) xs (width (expanded f)) (λ d m. normal spec even d (bound spec xs scope) m (expanded f))
+      each-fits (signed_quantifier q even) xs (width (expanded f)) (λ d m. normal spec even d (bound spec xs scope) m (expanded f))
       (formula-fits f proper (bound spec xs typed) h.1 even (bound spec xs scope)) c n free room
   formula-fits (syntax.Formula.Call x es) proper typed h even scope c n free room =
       call-fits x (place_of 0 spec.equations x) (arguments spec c scope es) refl

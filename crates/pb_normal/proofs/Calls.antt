@@ -1,6 +1,7 @@
 -- In a well-typed specification each call of a normal form has the arguments that its equation takes.
 use Rattle.std.proofs.Common.{◌≡◌, ℕ, zero, suc, ◌+◌, Bool, true, false, not, ◌||◌, if◌then◌else◌, List, [], ◌∷◌, length, Option, Some, None, refl, sym, ◌∙◌, ap, subst, arith}
 use Rattle.std.specs.List.{All, slice_get}
+use Rattle.pb_text_tree.specs.declared.operator.Quantifier.{Quantifier}
 use Rattle.pb_text_meaning.specs.Syntax as syntax
 use Rattle.pb_text_meaning.specs.Syntax.{Name, same_name, Variable, Operator, Terms, Equation, Spec}
 use Rattle.pb_text_meaning.specs.Formula.{equation_named}
@@ -12,7 +13,7 @@ use Rattle.pb_normal.specs.Expansion.{has_quantifier, connected, expanded_term, 
 use Rattle.pb_normal.specs.Equations.{normal_equation}
 use Rattle.pb_normal.specs.Loops.{variable_shapes}
 use Rattle.pb_normal.specs.Normal.{Term, Formula}
-use Rattle.pb_normal.specs.Normalisation.{Slotting, unslotted, with_slot, with_slots, slotted, width, signed_test, is_universal, each, arguments, place_of, call, normal}
+use Rattle.pb_normal.specs.Normalisation.{Slotting, unslotted, with_slot, with_slots, slotted, width, signed_test, signed_quantifier, each, arguments, place_of, call, normal}
 
 module _ (spec : Spec) where
   -- ---- arguments
@@ -53,7 +54,7 @@ module _ (spec : Spec) where
   test-full true x = tt
   test-full false x = tt
 
-  each-full : (m : Bool) (xs : List Variable) (body : Slotting → ℕ → Formula) → IsFull body → IsFull (λ c n. each spec m xs c n body)
+  each-full : (m : Quantifier) (xs : List Variable) (body : Slotting → ℕ → Formula) → IsFull body → IsFull (λ c n. each spec m xs c n body)
   each-full m [] body h c n = h c n
   each-full m (x ∷ xs) body h c n = each-full m xs body h (with_slot x.name n c) (suc n)
 
@@ -82,7 +83,7 @@ module _ (spec : Spec) where
       (connected-full scope o (expanded_term x) (expanded_term y) (syntax.Term.Binary o x y) (term-full scope x) (term-full scope y)) (data-full scope (syntax.Term.Binary o x y))
   term-full scope (syntax.Term.Apply f xs) = data-full scope (syntax.Term.Apply f xs)
   term-full scope (syntax.Term.Quantified q xs x) = λ even.
-      each-full (is_universal q even) xs (λ d m. normal spec even d (bound spec xs scope) m (expanded_term x)) (term-full (bound spec xs scope) x even)
+      each-full (signed_quantifier q even) xs (λ d m. normal spec even d (bound spec xs scope) m (expanded_term x)) (term-full (bound spec xs scope) x even)
 
   call-full : (c : Slotting) (scope : Scope) (es : Terms) (x : Name) (o : Option ℕ) → IsAt spec.equations x 0 o → IsCalled spec scope es (equation_named spec.equations x) → HasCalls spec (call o (arguments spec c scope es))
   call-full c scope es x None h called = tt
@@ -104,7 +105,7 @@ module _ (spec : Spec) where
   formula-full even scope (syntax.Formula.Or f g) h c n = (formula-full even scope f h.0 c n, formula-full even scope g h.1 c (n + width (expanded f)))
   formula-full even scope (syntax.Formula.Implies f g) h c n = (formula-full (not even) scope f h.0 c n, formula-full even scope g h.1 c (n + width (expanded f)))
   formula-full even scope (syntax.Formula.Quantified q xs f) h c n =
-      each-full (is_universal q even) xs (λ d m. normal spec even d (bound spec xs scope) m (expanded f)) (formula-full even (bound spec xs scope) f h.1) c n
+      each-full (signed_quantifier q even) xs (λ d m. normal spec even d (bound spec xs scope) m (expanded f)) (formula-full even (bound spec xs scope) f h.1) c n
   formula-full even scope (syntax.Formula.Call x es) h c n = call-full c scope es x (place_of 0 spec.equations x) (found-at spec.equations x 0) h.1
 
   rights-full : (E : List Equation) → AreProper spec E → All (λ (X : Equation). HasCalls spec (normal_equation spec X)) E

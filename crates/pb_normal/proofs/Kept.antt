@@ -3,6 +3,7 @@ use Rattle.std.proofs.Common.{◌≡◌, ℕ, zero, suc, ◌+◌, Bool, true, fa
 use Rattle.std.specs.List.{All}
 use Rattle.std.proofs.lemmas.Bool.{and_parts}
 use Rattle.pb_carriers.specs.Carrier.{Value, Carrier, is_within, contains}
+use Rattle.pb_text_tree.specs.declared.operator.Quantifier.{Quantifier}
 use Rattle.pb_text_meaning.specs.Syntax as syntax
 use Rattle.pb_text_meaning.specs.Syntax.{same_name, Variable, Operator, Terms, Equation, Spec}
 use Rattle.pb_text_meaning.specs.Sorts.{carrier_of}
@@ -21,7 +22,7 @@ use Rattle.pb_typing_rules.proofs.Contained.{contained, called_typed}
 use Rattle.pb_typing_rules.proofs.Fitting.{assigned_within}
 use Rattle.pb_normal.specs.Expansion.{has_quantifier, connected, expanded_term, expanded}
 use Rattle.pb_normal.specs.Normal.{Term, Argument, Formula, Slots, set, value}
-use Rattle.pb_normal.specs.Normalisation.{Slotting, unslotted, with_slot, with_slots, slotted, width, signed_test, is_universal, each, arguments, place_of, call, normal}
+use Rattle.pb_normal.specs.Normalisation.{Slotting, unslotted, with_slot, with_slots, slotted, width, signed_test, signed_quantifier, each, arguments, place_of, call, normal}
 use Rattle.pb_normal.specs.Plain.{AreFree, Agree}
 use Rattle.pb_normal.specs.Kept.{ArgumentsFit, KeepsShapes}
 use Rattle.pb_typed_tree.proofs.Slotted.{slotted-value}
@@ -36,7 +37,7 @@ use Rattle.pb_normal.proofs.Answer.{within-count}
 abbrev Fits : Scope → (Slotting → ℕ → Formula) → Type 0
 Fits scope body = (c : Slotting) (n : ℕ) (a : Slots) (g : Assignment) → AreFree c n → Agree c a g → Within g scope → ArgumentsFit a (body c n)
 
-each-fits : (spec : Spec) (m : Bool) (xs : List Variable) (scope : Scope) (body : Slotting → ℕ → Formula) → Fits (bound spec xs scope) body → Fits scope (λ c n. each spec m xs c n body)
+each-fits : (spec : Spec) (m : Quantifier) (xs : List Variable) (scope : Scope) (body : Slotting → ℕ → Formula) → Fits (bound spec xs scope) body → Fits scope (λ c n. each spec m xs c n body)
 each-fits spec m [] scope body fits c n a g free agree within = fits c n a g free agree within
 each-fits spec m (x ∷ xs) scope body fits c n a g free agree within = λ v inside.
     let of_sort : contains (carrier_of spec x.sort) v ≡ true = subst (λ (vs : Carrier). contains vs v ≡ true) (shape_carrier-sort_shape spec x.sort) inside in
@@ -84,7 +85,7 @@ term-fits spec scope (syntax.Term.Binary o x y) =
     (data-fits spec scope (syntax.Term.Binary o x y))
 term-fits spec scope (syntax.Term.Apply f xs) = data-fits spec scope (syntax.Term.Apply f xs)
 term-fits spec scope (syntax.Term.Quantified q xs x) = λ even.
-    each-fits spec (is_universal q even) xs scope (λ d m. normal spec even d (bound spec xs scope) m (expanded_term x)) (term-fits spec (bound spec xs scope) x even)
+    each-fits spec (signed_quantifier q even) xs scope (λ d m. normal spec even d (bound spec xs scope) m (expanded_term x)) (term-fits spec (bound spec xs scope) x even)
 
 -- ---- arguments
 
@@ -117,7 +118,7 @@ formula-fits spec even scope (syntax.Formula.Implies f k) h c n a g free agree w
     let m = n + width (expanded f) in
     (formula-fits spec (not even) scope f h.0 c n a g free agree within, formula-fits spec even scope k h.1 c m a g (more-free c n m (omega arith) free) agree within)
 formula-fits spec even scope (syntax.Formula.Quantified q xs f) h c n a g free agree within =
-    each-fits spec (is_universal q even) xs scope (λ d m. normal spec even d (bound spec xs scope) m (expanded f)) (formula-fits spec even (bound spec xs scope) f h.1) c n a g free agree within
+    each-fits spec (signed_quantifier q even) xs scope (λ d m. normal spec even d (bound spec xs scope) m (expanded f)) (formula-fits spec even (bound spec xs scope) f h.1) c n a g free agree within
 formula-fits spec even scope (syntax.Formula.Call X es) h c n a g free agree within =
     call-fits a (place_of 0 spec.equations X) (arguments spec c scope es)
     (arguments-fit spec c scope a g agree within es (called_typed spec scope es (equation_named spec.equations X) h.1))

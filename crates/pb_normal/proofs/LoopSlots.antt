@@ -1,5 +1,6 @@
 -- The quantifiers of a normal form, each with its slot and the shape of its values.
 use Rattle.std.proofs.Common.{◌≡◌, ℕ, suc, ◌+◌, Bool, true, false, not, List, [], ◌∷◌, ◌++◌, length, Option, Some, None, refl, sym, ◌∙◌, ap, arith}
+use Rattle.pb_text_tree.specs.declared.operator.Quantifier.{Quantifier}
 use Rattle.pb_text_meaning.specs.Syntax as syntax
 use Rattle.pb_text_meaning.specs.Syntax.{Variable, Equation, Spec}
 use Rattle.pb_typing_declarations.specs.Shapes.{Shape, sort_shape}
@@ -9,7 +10,7 @@ use Rattle.pb_normal.specs.Expansion.{expanded}
 use Rattle.pb_normal.specs.Equations.{normal_equation}
 use Rattle.pb_normal.specs.Loops.{loops, equation_loops, variable_shapes}
 use Rattle.pb_normal.specs.Normal.{Term, Argument, Formula}
-use Rattle.pb_normal.specs.Normalisation.{Slotting, unslotted, with_slot, with_slots, slotted, width, signed_test, is_universal, each, arguments, place_of, call, normal}
+use Rattle.pb_normal.specs.Normalisation.{Slotting, unslotted, with_slot, with_slots, slotted, width, signed_test, signed_quantifier, each, arguments, place_of, call, normal}
 use Rattle.pb_normal.specs.SlotOrder.{quantifiers, numbered}
 use Rattle.pb_typing.proofs.LoopCount.{length-loops}
 
@@ -32,7 +33,7 @@ join-quantifiers n w xs ys ss ts count h k =
     ap (λ (qs : List (ℕ × Shape)). qs ++ ys) h
     ∙ (ap (λ (qs : List (ℕ × Shape)). numbered n ss ++ qs) (k ∙ ap (λ (a : ℕ). numbered (n + a) ts) (sym count)) ∙ sym (numbered-append n ss ts))
 
-each-quantifiers : (spec : Spec) (m : Bool) (xs : List Variable) (body : Slotting → ℕ → Formula) (ss : List Shape) → ((c : Slotting) (n : ℕ) → quantifiers (body c n) ≡ numbered n ss)
+each-quantifiers : (spec : Spec) (m : Quantifier) (xs : List Variable) (body : Slotting → ℕ → Formula) (ss : List Shape) → ((c : Slotting) (n : ℕ) → quantifiers (body c n) ≡ numbered n ss)
     → (c : Slotting) (n : ℕ) → quantifiers (each spec m xs c n body) ≡ numbered n (variable_shapes spec xs ++ ss)
 each-quantifiers spec m [] body ss says c n = says c n
 each-quantifiers spec m (x ∷ xs) body ss says c n =
@@ -49,7 +50,7 @@ normal-quantifiers spec (syntax.Formula.Or f g) even scope c n =
 normal-quantifiers spec (syntax.Formula.Implies f g) even scope c n =
     join-quantifiers n (width f) _ _ (loops spec f) (loops spec g) (length-loops spec f) (normal-quantifiers spec f (not even) scope c n) (normal-quantifiers spec g even scope c (n + width f))
 normal-quantifiers spec (syntax.Formula.Quantified q xs f) even scope c n =
-    each-quantifiers spec (is_universal q even) xs (λ d m. normal spec even d (bound spec xs scope) m f) (loops spec f) (normal-quantifiers spec f even (bound spec xs scope)) c n
+    each-quantifiers spec (signed_quantifier q even) xs (λ d m. normal spec even d (bound spec xs scope) m f) (loops spec f) (normal-quantifiers spec f even (bound spec xs scope)) c n
 normal-quantifiers spec (syntax.Formula.Call X es) even scope c n = call-quantifiers (place_of 0 spec.equations X) (arguments spec c scope es)
 
 pub equation-quantifiers : (spec : Spec) (X : Equation) → quantifiers (normal_equation spec X) ≡ numbered (length X.parameters) (equation_loops spec X)

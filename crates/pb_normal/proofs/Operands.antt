@@ -13,9 +13,10 @@ use Rattle.pb_typed_tree.specs.Tree.{Connected}
 use Rattle.pb_typed_tree.specs.View as typed
 use Rattle.pb_typed_tree.specs.declared.formula.Formula as declared
 use Rattle.pb_normal.specs.declared.formula.Formula as code
+use Rattle.pb_normal.specs.declared.formula.Junction.{Junction}
 use Rattle.pb_normal.specs.Chains.{joins}
 use Rattle.pb_normal.specs.Normal.{Formula, Join, Each}
-use Rattle.pb_normal.specs.Normalisation.{is_universal}
+use Rattle.pb_normal.specs.Normalisation.{signed_quantifier}
 use Rattle.pb_normal.specs.SignedForm.{signed_form, signed_operands}
 use Rattle.pb_normal.specs.View.{chained, nested, formula_view, formula_views}
 
@@ -26,15 +27,15 @@ chained-signed o even first [] = refl
 chained-signed o even first (f ∷ fs) = ap (Join (joins o even) (signed_form (left_parity o even) first)) (chained-signed o even f fs)
 
 -- one quantifier for each carrier
-pub nested-signed : (q : Quantifier) (even : Bool) (s : ℕ) (cs : List Carrier) (f : tree.Formula) → signed_form even (typed.nested q s cs f) ≡ nested (is_universal q even) s cs (signed_form even f)
+pub nested-signed : (q : Quantifier) (even : Bool) (s : ℕ) (cs : List Carrier) (f : tree.Formula) → signed_form even (typed.nested q s cs f) ≡ nested (signed_quantifier q even) s cs (signed_form even f)
 nested-signed q even s [] f = refl
-nested-signed q even s (c ∷ cs) f = ap (Each (is_universal q even) s (shape_of c)) (nested-signed q even (suc s) cs f)
+nested-signed q even s (c ∷ cs) f = ap (Each (signed_quantifier q even) s (shape_of c)) (nested-signed q even (suc s) cs f)
 
-pub quantified-signed : (even m : Bool) (t x : declared.Formula) (q : Quantifier) (slot : ℕ) (v : Vec Carrier Global) (body : Box declared.Formula Global) (cs : List Carrier) (f : Formula)
-    → t ≡ declared.Quantified q slot v body → x ≡ box_value body → cs ≡ v.items → m ≡ is_universal q even → f ≡ signed_form even (typed.formula_view x) → nested m slot cs f ≡ signed_form even (typed.formula_view t)
+pub quantified-signed : (even : Bool) (m : Quantifier) (t x : declared.Formula) (q : Quantifier) (slot : ℕ) (v : Vec Carrier Global) (body : Box declared.Formula Global) (cs : List Carrier) (f : Formula)
+    → t ≡ declared.Quantified q slot v body → x ≡ box_value body → cs ≡ v.items → m ≡ signed_quantifier q even → f ≡ signed_form even (typed.formula_view x) → nested m slot cs f ≡ signed_form even (typed.formula_view t)
 quantified-signed even m t x q slot v body cs f is same are sign form =
-    ap (λ (b : Bool). nested b slot cs f) sign
-    ∙ (ap (nested (is_universal q even) slot cs) form
+    ap (λ (r : Quantifier). nested r slot cs f) sign
+    ∙ (ap (nested (signed_quantifier q even) slot cs) form
     ∙ (sym (nested-signed q even slot cs (typed.formula_view x))
     ∙ ap (signed_form even)
     (ap (λ (ds : List Carrier). typed.nested q slot ds (typed.formula_view x)) are
@@ -69,11 +70,11 @@ signed_ended o even links k done end h =
     sym (h ∙ (ap (λ (ls : List declared.Formula). formula_views done ++ signed_links o even ls) (drop_all k links end) ∙ append-nil (formula_views done)))
 
 -- the first operand, and those behind it
-pub chain-signed : (o : Connective) (even m : Bool) (first : tree.Formula) (links : List declared.Formula) (f : Formula) (fs : List Formula)
+pub chain-signed : (o : Connective) (even : Bool) (m : Junction) (first : tree.Formula) (links : List declared.Formula) (f : Formula) (fs : List Formula)
     → m ≡ joins o even → f ≡ signed_form (operand_parity o even (length links)) first → fs ≡ signed_links o even links → chained (Join m) f fs ≡ signed_form even (chained (Connected o) first (typed.formula_views links))
 chain-signed o even m first links f fs joined head behind =
     let others = typed.formula_views links in
-    ap (λ (b : Bool). chained (Join b) f fs) joined
+    ap (λ (n : Junction). chained (Join n) f fs) joined
     ∙ (ap (λ (g : Formula). chained (Join (joins o even)) g fs) (head ∙ ap (λ (n : ℕ). signed_form (operand_parity o even n) first) (sym (length-map links typed.formula_view)))
     ∙ (ap (chained (Join (joins o even)) (signed_form (operand_parity o even (length others)) first)) behind
     ∙ sym (chained-signed o even first others)))

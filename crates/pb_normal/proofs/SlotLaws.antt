@@ -3,6 +3,7 @@ use Rattle.std.proofs.Common.{◌≡◌, ℕ, zero, suc, ◌+◌, ◌≤◌, ◌
 use Rattle.std.specs.List.{All, range_with_len}
 use Rattle.std.specs.Prelude.{nat_lt, unwrap_or}
 use Rattle.std.proofs.lemmas.Bool.{or_from, and_from, lt-ltb, eq-eqb, le-ltb}
+use Rattle.pb_text_tree.specs.declared.operator.Quantifier.{Quantifier}
 use Rattle.pb_text_meaning.specs.Syntax as syntax
 use Rattle.pb_text_meaning.specs.Syntax.{Name, same_name, Variable, Terms, Equation, Spec}
 use Rattle.pb_text_meaning.specs.declared.function.NamedFunction.{NamedFunction}
@@ -14,7 +15,7 @@ use Rattle.pb_typing_rules.specs.WellTyped.{parameters_of}
 use Rattle.pb_normal.specs.Expansion.{expanded}
 use Rattle.pb_normal.specs.Normal.{Term, Argument, Formula}
 use Rattle.pb_normal.specs.Normalisation as made
-use Rattle.pb_normal.specs.Normalisation.{Slotting, unslotted, with_slot, with_slots, applied_to_one, applied_to_two, applied_to_three, applied, slotted, slotted_all, width, signed_test, is_universal, each, arguments, place_of, call, normal}
+use Rattle.pb_normal.specs.Normalisation.{Slotting, unslotted, with_slot, with_slots, applied_to_one, applied_to_two, applied_to_three, applied, slotted, slotted_all, width, signed_test, signed_quantifier, each, arguments, place_of, call, normal}
 use Rattle.pb_normal.specs.Equations.{normal_equation}
 use Rattle.pb_normal.specs.SlotOrder.{quantified_slots, reads_only, IsClosed}
 use Rattle.pb_typed_tree.proofs.Parameters.{free-parameters}
@@ -43,7 +44,7 @@ call-slots : (o : Option ℕ) (es : List Argument) → quantified_slots (call o 
 call-slots None es = refl
 call-slots (Some X) es = refl
 
-each-slots : (spec : Spec) (m : Bool) (xs : List Variable) (body : Slotting → ℕ → Formula) (k : ℕ) → ((c : Slotting) (n : ℕ) → quantified_slots (body c n) ≡ range_with_len n k)
+each-slots : (spec : Spec) (m : Quantifier) (xs : List Variable) (body : Slotting → ℕ → Formula) (k : ℕ) → ((c : Slotting) (n : ℕ) → quantified_slots (body c n) ≡ range_with_len n k)
     → (c : Slotting) (n : ℕ) → quantified_slots (each spec m xs c n body) ≡ range_with_len n (length xs + k)
 each-slots spec m [] body k says c n = let none : k ≡ 0 + k = omega arith in says c n ∙ ap (range_with_len n) none
 each-slots spec m (x ∷ xs) body k says c n =
@@ -63,7 +64,7 @@ normal-slots spec (syntax.Formula.Or f g) even scope c n =
 normal-slots spec (syntax.Formula.Implies f g) even scope c n =
     join-slots n (width f) (width g) _ _ (normal-slots spec f (not even) scope c n) (normal-slots spec g even scope c (n + width f))
 normal-slots spec (syntax.Formula.Quantified q xs f) even scope c n =
-    each-slots spec (is_universal q even) xs (λ d m. normal spec even d (bound spec xs scope) m f) (width f) (normal-slots spec f even (bound spec xs scope)) c n
+    each-slots spec (signed_quantifier q even) xs (λ d m. normal spec even d (bound spec xs scope) m f) (width f) (normal-slots spec f even (bound spec xs scope)) c n
 normal-slots spec (syntax.Formula.Call X es) even scope c n = call-slots (place_of 0 spec.equations X) (arguments spec c scope es)
 
 pub equation-slots : (spec : Spec) (X : Equation) → quantified_slots (normal_equation spec X) ≡ range_with_len (length X.parameters) (width (expanded X.right))
@@ -192,7 +193,7 @@ none-next known n none s le = or_from (s == n) (known s) (above s n le) (none s 
 abbrev Closes : (Slotting → ℕ → Formula) → Type 0
 Closes body = (c : Slotting) (n : ℕ) (known : ℕ → Bool) → InScope c known → NoneFrom n known → IsClosed known (body c n)
 
-each-closed : (spec : Spec) (m : Bool) (xs : List Variable) (body : Slotting → ℕ → Formula) → Closes body → Closes (λ c n. each spec m xs c n body)
+each-closed : (spec : Spec) (m : Quantifier) (xs : List Variable) (body : Slotting → ℕ → Formula) → Closes body → Closes (λ c n. each spec m xs c n body)
 each-closed spec m [] body closes c n known inside none = closes c n known inside none
 each-closed spec m (x ∷ xs) body closes c n known inside none = (
   none n (omega arith),
@@ -213,7 +214,7 @@ normal-closed spec (syntax.Formula.Or f g) even scope c n known inside none =
 normal-closed spec (syntax.Formula.Implies f g) even scope c n known inside none =
     (normal-closed spec f (not even) scope c n known inside none, normal-closed spec g even scope c (n + width f) known inside (none-later known n (n + width f) (omega arith) none))
 normal-closed spec (syntax.Formula.Quantified q xs f) even scope c n known inside none =
-    each-closed spec (is_universal q even) xs (λ d m. normal spec even d (bound spec xs scope) m f) (normal-closed spec f even (bound spec xs scope)) c n known inside none
+    each-closed spec (signed_quantifier q even) xs (λ d m. normal spec even d (bound spec xs scope) m f) (normal-closed spec f even (bound spec xs scope)) c n known inside none
 normal-closed spec (syntax.Formula.Call X es) even scope c n known inside none =
     call-closed known (place_of 0 spec.equations X) (arguments spec c scope es) (arguments-closed spec c scope known inside es)
 

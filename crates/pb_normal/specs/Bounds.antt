@@ -40,7 +40,7 @@ are_bounded b es = list_all (λ (e : Argument). is_bounded b e.term) es
 abbrev pub is_bounded_formula : Bounds → Formula → Bool
 is_bounded_formula b (Test x) = is_bounded b x
 is_bounded_formula b (Join m f g) = is_bounded_formula b f && is_bounded_formula b g
-is_bounded_formula b (Each m s shape f) = nat_lt s b.slots && is_bounded_formula b f
+is_bounded_formula b (Each q s shape f) = nat_lt s b.slots && is_bounded_formula b f
 is_bounded_formula b (Call equation es) = nat_lt equation b.equations && are_bounded b es
 
 -- numbers up to 2^62, so many slots, and the equations and structs of a specification

@@ -25,7 +25,7 @@ AreArgumentsOf spec (Some X) es = AreAlike es (variable_shapes spec X.parameters
 abbrev pub HasCalls : Spec → Formula → Type 0
 HasCalls spec (Test x) = ⊤
 HasCalls spec (Join m f g) = HasCalls spec f × HasCalls spec g
-HasCalls spec (Each m s shape f) = HasCalls spec f
+HasCalls spec (Each q s shape f) = HasCalls spec f
 HasCalls spec (Call equation es) = AreArgumentsOf spec (slice_get spec.equations equation) es
 
 -- in the normal form of each equation

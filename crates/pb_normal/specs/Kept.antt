@@ -14,7 +14,7 @@ use Rattle.pb_normal.specs.Equations.{normal_equation, Hold}
 abbrev pub ArgumentsFit : Slots → Formula → Type 0
 ArgumentsFit slots (Test x) = ⊤
 ArgumentsFit slots (Join m f g) = ArgumentsFit slots f × ArgumentsFit slots g
-ArgumentsFit slots (Each m s shape f) =
+ArgumentsFit slots (Each q s shape f) =
     (v : Value) → contains (shape_carrier shape) v ≡ true → ArgumentsFit (set slots s v) f
 ArgumentsFit slots (Call X es) = All (λ (e : Argument). IsValueOf e.shape (value slots e.term)) es
 

@@ -7,6 +7,8 @@ use Rattle.pb_text_meaning.specs.Syntax as syntax
 use Rattle.pb_text_meaning.specs.Syntax.{Variable, Spec}
 use Rattle.pb_typing_declarations.specs.Shapes.{sort_shape}
 use Rattle.pb_typing_rules.specs.Scope.{Scope, bound}
+use Rattle.pb_normal.specs.declared.formula.Junction.{Junction}
+use Rattle.pb_normal.specs.declared.formula.Junction.TheVariants.{And, Or}
 use Rattle.pb_normal.specs.Normal.{Term, Argument, Formula, Test, Join, Each, Call}
 pub use Rattle.pb_typed_tree.specs.Elaboration.{Slotting, unslotted, with_slot, with_slots}
 pub use Rattle.pb_typed_tree.specs.Elaboration.{enumerator, named, recognised, named_to_one}
@@ -19,16 +21,31 @@ abbrev pub signed_test : Bool → Term → Formula
 signed_test true x = Test x
 signed_test false x = Test (Term.Not x)
 
--- whether a quantifier is for all values, with so many negations around it
-abbrev pub is_universal : Quantifier → Bool → Bool
-is_universal Forall even = even
-is_universal Exists even = not even
+-- what a negation around turns a connective into (De Morgan)
+abbrev pub dual : Junction → Junction
+dual And = Or
+dual Or = And
+
+-- the same of a quantifier
+abbrev pub dual_quantifier : Quantifier → Quantifier
+dual_quantifier Forall = Exists
+dual_quantifier Exists = Forall
+
+-- a connective, and a quantifier, turned round where the negations around are odd in number
+abbrev pub signed_junction : Junction → Bool → Junction
+signed_junction m true = m
+signed_junction m false = dual m
+
+abbrev pub signed_quantifier : Quantifier → Bool → Quantifier
+signed_quantifier q true = q
+signed_quantifier q false = dual_quantifier q
 
 -- one quantifier for each variable, the next slots being theirs
-abbrev pub each : Spec → Bool → List Variable → Slotting → ℕ → (Slotting → ℕ → Formula) → Formula
-each spec m [] c n body = body c n
-each spec m (x ∷ xs) c n body =
-    Each m n (sort_shape spec x.sort) (each spec m xs (with_slot x.name n c) (suc n) body)
+abbrev pub each :
+    Spec → Quantifier → List Variable → Slotting → ℕ → (Slotting → ℕ → Formula) → Formula
+each spec q [] c n body = body c n
+each spec q (x ∷ xs) c n body =
+    Each q n (sort_shape spec x.sort) (each spec q xs (with_slot x.name n c) (suc n) body)
 
 abbrev pub call : Option ℕ → List Argument → Formula
 call None es = Test (Term.Truth false)
@@ -41,12 +58,16 @@ normal spec even c scope n (syntax.Formula.Truth b) = signed_test even (Term.Tru
 normal spec even c scope n (syntax.Formula.Val x) = signed_test even (slotted spec c x)
 normal spec even c scope n (syntax.Formula.Not f) = normal spec (not even) c scope n f
 normal spec even c scope n (syntax.Formula.And f g) =
-    Join even (normal spec even c scope n f) (normal spec even c scope (n + width f) g)
+    Join (signed_junction And even) (normal spec even c scope n f)
+    (normal spec even c scope (n + width f) g)
 normal spec even c scope n (syntax.Formula.Or f g) =
-    Join (not even) (normal spec even c scope n f) (normal spec even c scope (n + width f) g)
+    Join (signed_junction Or even) (normal spec even c scope n f)
+    (normal spec even c scope (n + width f) g)
 normal spec even c scope n (syntax.Formula.Implies f g) =
-    Join (not even) (normal spec (not even) c scope n f) (normal spec even c scope (n + width f) g)
+    Join (signed_junction Or even) (normal spec (not even) c scope n f)
+    (normal spec even c scope (n + width f) g)
 normal spec even c scope n (syntax.Formula.Quantified q xs f) =
-    each spec (is_universal q even) xs c n (λ d m. normal spec even d (bound spec xs scope) m f)
+    each spec (signed_quantifier q even) xs c n
+    (λ d m. normal spec even d (bound spec xs scope) m f)
 normal spec even c scope n (syntax.Formula.Call X es) =
     call (place_of 0 spec.equations X) (arguments spec c scope es)

@@ -5,7 +5,7 @@ use Rattle.pb_typing_rules.specs.Faults.{left_parity, operand_parity}
 use Rattle.pb_typed_tree.specs.Tree as typed
 use Rattle.pb_normal.specs.Chains.{joins}
 use Rattle.pb_normal.specs.Normal.{Formula, Join, Each, Call}
-use Rattle.pb_normal.specs.Normalisation.{signed_test, is_universal}
+use Rattle.pb_normal.specs.Normalisation.{signed_test, signed_quantifier}
 
 -- the normal form of a typed tree, where `even` says whether the negations around are even in
 -- number
@@ -15,7 +15,7 @@ signed_form even (typed.Negation f) = signed_form (not even) f
 signed_form even (typed.Connected c f g) =
     Join (joins c even) (signed_form (left_parity c even) f) (signed_form even g)
 signed_form even (typed.Quantified q s shape f) =
-    Each (is_universal q even) s shape (signed_form even f)
+    Each (signed_quantifier q even) s shape (signed_form even f)
 signed_form even (typed.Call X es) = Call X es
 
 -- the normal forms of the operands behind the first of a connective

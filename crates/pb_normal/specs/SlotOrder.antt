@@ -8,14 +8,14 @@ use Rattle.pb_normal.specs.Normal.{Term, Number, Slot, Negative, Absolute, Succe
 abbrev pub quantified_slots : Formula → List ℕ
 quantified_slots (Test x) = []
 quantified_slots (Join m f g) = quantified_slots f ++ quantified_slots g
-quantified_slots (Each m s shape f) = s ∷ quantified_slots f
+quantified_slots (Each q s shape f) = s ∷ quantified_slots f
 quantified_slots (Call X es) = []
 
 -- those slots, each with the shape of its values
 abbrev pub quantifiers : Formula → List (ℕ × Shape)
 quantifiers (Test x) = []
 quantifiers (Join m f g) = quantifiers f ++ quantifiers g
-quantifiers (Each m s shape f) = (s, shape) ∷ quantifiers f
+quantifiers (Each q s shape f) = (s, shape) ∷ quantifiers f
 quantifiers (Call X es) = []
 
 -- shapes with the slots from n on
@@ -46,6 +46,6 @@ reads_only has_value (Recognised s i x) = reads_only has_value x
 abbrev pub IsClosed : (ℕ → Bool) → Formula → Type 0
 IsClosed has_value (Test x) = reads_only has_value x ≡ true
 IsClosed has_value (Join m f g) = IsClosed has_value f × IsClosed has_value g
-IsClosed has_value (Each m s shape f) =
+IsClosed has_value (Each q s shape f) =
     (has_value s ≡ false) × IsClosed (λ k. k == s || has_value k) f
 IsClosed has_value (Call X es) = All (λ (e : Argument). reads_only has_value e.term ≡ true) es

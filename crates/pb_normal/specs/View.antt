@@ -1,9 +1,8 @@
 -- What a normal form of the code says, without boxes and vectors: a chain is folded to nested
 -- binary nodes, and a quantifier stands for one variable.
-use Rattle.std.specs.Prelude.{ℕ, suc, Bool, true, false, List, [], ◌∷◌, map}
+use Rattle.std.specs.Prelude.{ℕ, suc, List, [], ◌∷◌, map}
 use Rattle.pb_sorts.specs.declared.carrier.Carrier.{Carrier}
 use Rattle.pb_text_tree.specs.declared.operator.Quantifier.{Quantifier}
-use Rattle.pb_text_tree.specs.declared.operator.Quantifier.TheVariants.{Forall, Exists}
 use Rattle.pb_typing_declarations.specs.Shapes.{Shape}
 use Rattle.pb_typing_declarations.specs.Entries.{shape_of}
 use Rattle.pb_typing.specs.View.{is_positive}
@@ -14,36 +13,23 @@ use Rattle.pb_normal.specs.Normal as normal
 use Rattle.pb_normal.specs.Normal.{Each, Join, Call}
 use Rattle.pb_normal.specs.Normalisation.{signed_test}
 use Rattle.pb_normal.specs.declared.normal.Equation as declared_equation
-use Rattle.pb_normal.specs.declared.formula.Junction.{Junction}
-use Rattle.pb_normal.specs.declared.formula.Junction.TheVariants.{And, Or}
 use Rattle.pb_normal.specs.declared.formula.Formula as formula
 use Rattle.pb_normal.specs.declared.formula.Formula.{Formula, Row_of-Formula, end_of-Formula, more_of-Formula}
 
 -- one quantifier for each carrier, the next slots being theirs
-abbrev pub nested : Bool → ℕ → List Carrier → normal.Formula → normal.Formula
-nested universal slot [] f = f
-nested universal slot (c ∷ cs) f =
-    Each universal slot (shape_of c) (nested universal (suc slot) cs f)
+abbrev pub nested : Quantifier → ℕ → List Carrier → normal.Formula → normal.Formula
+nested q slot [] f = f
+nested q slot (c ∷ cs) f = Each q slot (shape_of c) (nested q (suc slot) cs f)
 
 -- ---- formulas
-
--- whether operands are a conjunction
-abbrev pub is_and : Junction → Bool
-is_and And = true
-is_and Or = false
-
--- whether a quantifier is for all values
-abbrev pub is_forall : Quantifier → Bool
-is_forall Forall = true
-is_forall Exists = false
 
 abbrev mutual
   pub formula_view : Formula → normal.Formula
   formula_view (formula.Test polarity x) = signed_test (is_positive polarity) (term_view x.now)
   formula_view (formula.Join' junction p first shape row) =
-      chained (Join (is_and junction)) (formula_view first) (formulas_in row)
+      chained (Join junction) (formula_view first) (formulas_in row)
   formula_view (formula.Each' quantifier slot carriers p body) =
-      nested (is_forall quantifier) slot carriers.now (formula_view body)
+      nested quantifier slot carriers.now (formula_view body)
   formula_view (formula.Call equation arguments) = Call equation (map argument_view arguments.now)
 
   pub formulas_in : {m : _} → Row_of-Formula m → List normal.Formula

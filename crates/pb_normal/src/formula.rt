@@ -1,7 +1,7 @@
 //! Formulas in positive normal form.
 
-ghost use Rattle.std.specs.Prelude.{◌≡◌, not};
-ghost use Rattle.pb_normal.specs.View.{is_and};
+ghost use Rattle.std.specs.Prelude.{◌≡◌};
+ghost use Rattle.pb_normal.specs.Normalisation.{dual};
 
 use pb_sorts::Carrier;
 use pb_text_tree::Quantifier;
@@ -18,7 +18,7 @@ pub enum Junction {
 impl Junction {
     /// What a negation around turns it into (De Morgan).
     pub fn dual(self) -> Junction
-        ensures { is_and result ≡ not (is_and self) }
+        ensures { result ≡ dual self }
     {
         match self {
             Junction::And => Junction::Or,

@@ -25,9 +25,11 @@ pub struct Normal<'t> {
     /// The equations in the order of the text.
     pub equations: Vec<Equation<'t>>,
     // Each right side is the positive normal form of the text's.
-    pub ghost rights: { right_views equations.items ≡ normal_equations (said typed.now) } by { formulas-prop _ _ },
+    pub ghost rights: { right_views equations.items
+        ≡ normal_equations (said typed.now) } by { formulas-prop _ _ },
     // The slots behind the parameters are those of the quantified variables, in order.
-    pub ghost loops: { loop_shapes equations.items ≡ all_loops (said typed.now) } by { shapes-prop _ _ },
+    pub ghost loops: { loop_shapes equations.items
+        ≡ all_loops (said typed.now) } by { shapes-prop _ _ },
 }
 
 /// The right side of an equation over slots: its parameters have the first slots, and the variables

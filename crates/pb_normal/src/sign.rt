@@ -2,9 +2,8 @@
 
 ghost use Rattle.std.specs.Prelude.{◌≡◌};
 ghost use Rattle.pb_typing.specs.View.{is_positive};
-ghost use Rattle.pb_normal.specs.Normalisation.{is_universal};
 ghost use Rattle.pb_normal.specs.Chains.{joins};
-ghost use Rattle.pb_normal.specs.View.{is_and, is_forall};
+ghost use Rattle.pb_normal.specs.Normalisation.{signed_quantifier};
 
 use crate::formula::Junction;
 use pb_text_tree::{Connective, Quantifier};
@@ -12,7 +11,7 @@ use pb_typing::Polarity;
 
 /// What becomes of a quantifier under a polarity.
 pub(crate) fn signed_quantifier(quantifier: Quantifier, polarity: Polarity) -> Quantifier
-    ensures { is_forall result ≡ is_universal quantifier (is_positive polarity) }
+    ensures { result ≡ signed_quantifier quantifier (is_positive polarity) }
 {
     match (quantifier, polarity) {
         (Quantifier::Forall, Polarity::Positive) | (Quantifier::Exists, Polarity::Negative) => {
@@ -27,7 +26,7 @@ pub(crate) fn signed_quantifier(quantifier: Quantifier, polarity: Polarity) -> Q
 /// What joins the operands of a connective under a polarity. The left side of `=>` counts as
 /// negated.
 pub(crate) fn signed_junction(connective: Connective, polarity: Polarity) -> Junction
-    ensures { is_and result ≡ joins connective (is_positive polarity) }
+    ensures { result ≡ joins connective (is_positive polarity) }
 {
     let junction = match connective {
         Connective::And => Junction::And,

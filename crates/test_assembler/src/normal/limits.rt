@@ -66,11 +66,11 @@ fn nested(alloc: Global, negations: usize) -> Result<String, AllocError> {
     Ok(text)
 }
 
-const ODD: &str =
-    "Equation { right: Each { quantifier: Forall, slot: 0, carriers: [Bool], body: Test { polarity: Negative, term: Slot(0) } }, loops: [Bool] }";
+const ODD: &str = "Equation { right: Each { quantifier: Forall, slot: 0, carriers: [Bool], body: \
+    Test { polarity: Negative, term: Slot(0) } }, loops: [Bool] }";
 
-const EVEN: &str =
-    "Equation { right: Each { quantifier: Exists, slot: 0, carriers: [Bool], body: Test { polarity: Positive, term: Slot(0) } }, loops: [Bool] }";
+const EVEN: &str = "Equation { right: Each { quantifier: Exists, slot: 0, carriers: [Bool], \
+    body: Test { polarity: Positive, term: Slot(0) } }, loops: [Bool] }";
 
 #[test]
 fn deep_nesting(rt: HostRuntime) -> Result<(), Fail> {

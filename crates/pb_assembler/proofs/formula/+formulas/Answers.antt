@@ -1,4 +1,4 @@
-use Rattle.std.proofs.Common.{◌≡◌, ◌∙◌, ◌<◌, ℕ, refl, sym, ap, subst, arith, add-one, true, not, Bool, List, length, drop, Some, OnOk}
+use Rattle.std.proofs.Common.{◌≡◌, ◌∙◌, ◌<◌, ℕ, refl, sym, ap, subst, arith, add-one, true, List, length, drop, Some, OnOk}
 use Rattle.std.proofs.lemmas.List.{nil_from_length}
 use Rattle.pb_bytecode_program.specs.declared.instruction.Connective.{Connective}
 use Rattle.pb_bytecode_program.specs.declared.instruction.Leaf.{Leaf}
@@ -6,10 +6,12 @@ use Rattle.pb_bytecode_program.specs.declared.instruction.Op.TheVariants as op
 use Rattle.pb_typing.specs.View.{is_positive}
 use Rattle.pb_normal.specs.Normal as normal
 use Rattle.pb_normal.specs.Normal.{Join}
+use Rattle.pb_normal.specs.declared.formula.Junction.{Junction}
 use Rattle.pb_normal.specs.declared.formula.Formula.{Formula}
-use Rattle.pb_normal.specs.View.{chained, formula_view, formula_views, is_and, is_forall, nested, term_view}
+use Rattle.pb_normal.specs.Normalisation.{dual}
+use Rattle.pb_normal.specs.View.{chained, formula_view, formula_views, nested, term_view}
 use Rattle.pb_assembler_scheme.specs.Pieces.{Piece, Plain, Unless, Choose}
-use Rattle.pb_assembler_scheme.specs.Scheme.{connective_of, data_piece, deciding, formula_piece}
+use Rattle.pb_assembler_scheme.specs.Scheme.{connective_of, data_piece, deciding, formula_piece, junction_of, neutral}
 use Rattle.pb_assembler.specs.Emitted.{Emits, nowhere}
 use Rattle.pb_assembler.specs.Operands.{Guarded, other_of}
 use Rattle.pb_assembler.specs.Tests.{tested_term}
@@ -25,25 +27,26 @@ use Rattle.pb_assembler.proofs.formula.+formulas.Goals.{emit_inside-then-early, 
 pub emit_each-returns-then-eq : goal.emit_each-returns-then-eq
 emit_each-returns-then-eq t c =
     let kind = c.junction_of-kind in
-    let m = is_forall c.args.loops.quantifier in
-    let X = nested m c.args.loops.first c.args.loops.carriers.now (formula_view c.args.body.now) in
-    let same : m ≡ is_and c.args.around = sym kind.ensures ∙ same_kind kind.result c.args.around c.eq.result c.eq.ensures c.if-eq.true in
-    subst (λ (k : Bool). OnOk c.emit_loops.result (Emits (formula_piece c.args.layout.now k X) nowhere c.args.builder.now c.emit_loops.new.builder)) same c.emit_loops.ensures
+    let q = c.args.loops.quantifier in
+    let X = nested q c.args.loops.first c.args.loops.carriers.now (formula_view c.args.body.now) in
+    let same : junction_of q ≡ c.args.around = sym kind.ensures ∙ same_kind kind.result c.args.around c.eq.result c.eq.ensures c.if-eq.true in
+    subst (λ (k : Junction). OnOk c.emit_loops.result (Emits (formula_piece c.args.layout.now k X) nowhere c.args.builder.now c.emit_loops.new.builder)) same c.emit_loops.ensures
 
 pub emit_each-returns : goal.emit_each-returns
 emit_each-returns t c =
-    let m = is_forall c.args.loops.quantifier in
+    let q = c.args.loops.quantifier in
+    let m = junction_of q in
     let kind = c.junction_of-kind in
     let cs = c.args.layout.now in
     let e = c.is_empty.ensures in
     let f = c.if-is_empty.false in
-    let other : m ≡ not (is_and c.args.around) = sym kind.ensures ∙ other_kind kind.result c.args.around c.eq.result c.eq.ensures c.if-eq.false in
+    let other : m ≡ dual c.args.around = sym kind.ensures ∙ other_kind kind.result c.args.around c.eq.result c.eq.ensures c.if-eq.false in
     let some : 0 < length c.args.loops.carriers.now = grind (arith, e, f) in
     let d = c.args.builder.now in
     let d1 = c.emit_plain.new.builder in
-    let X = nested m c.args.loops.first c.args.loops.carriers.now (formula_view c.args.body.now) in
+    let X = nested q c.args.loops.first c.args.loops.carriers.now (formula_view c.args.body.now) in
     on_ok (c.emit_plain-2).result _ _ (c.emit_plain-2).ensures (λ h.
-    subst (λ (q : Piece). Emits q nowhere d (c.emit_plain-2).new.builder) (sym (each_other cs m (is_and c.args.around) c.args.loops.first c.args.loops.carriers.now (formula_view c.args.body.now) other some))
+    subst (λ (y : Piece). Emits y nowhere d (c.emit_plain-2).new.builder) (sym (each_other cs q c.args.around c.args.loops.first c.args.loops.carriers.now (formula_view c.args.body.now) other some))
     (bracket_emitted m (formula_piece cs m X) d d1 (c.emit_loops-2).new.builder (c.emit_plain-2).new.builder
     (subst (λ (k : Connective). Emits (Plain (op.Open k)) nowhere d d1) (c.connective_of.ensures ∙ ap connective_of kind.ensures) c.in_ok-emit_plain.ensures) c.in_ok-emit_loops.ensures h))
 
@@ -53,7 +56,7 @@ emit_formula-emit_test-requires t c =
 
 pub emit_formula-returns-in-Test : goal.emit_formula-returns-in-Test
 emit_formula-returns-in-Test t c =
-    subst (λ (y : normal.Formula). OnOk c.emit_test.result (Emits (formula_piece c.args.layout.now (is_and c.args.around) y) nowhere c.args.builder.now c.emit_test.new.builder))
+    subst (λ (y : normal.Formula). OnOk c.emit_test.result (Emits (formula_piece c.args.layout.now c.args.around y) nowhere c.args.builder.now c.emit_test.new.builder))
     (sym (ap formula_view c.in-Test.is ∙ signed (is_positive c.in-Test.polarity) (term_view c.in-Test.term.now))) c.emit_test.ensures
 
 pub emit_formula-emit_inside-requires : goal.emit_formula-emit_inside-requires
@@ -61,9 +64,9 @@ emit_formula-emit_inside-requires t c =
     let x = c.deref.result.now in
     let rest = (c.deref-then-eq).result.now in
     let j = c.in-Join in
-    let same : is_and j.junction ≡ is_and c.args.around = same_kind j.junction c.args.around c.eq.result c.eq.ensures c.if-eq.true in (
+    let same : j.junction ≡ c.args.around = same_kind j.junction c.args.around c.eq.result c.eq.ensures c.if-eq.true in (
       omega (arith, c.decreases, join_weighs c.args.formula.now x j.junction j.first j.rest rest j.is c.deref.ensures (c.deref-then-eq).ensures.value),
-      subst (λ (m : Bool). is_small_formula (chained (Join m) (formula_view x) (formula_views rest)) ≡ true) same
+      subst (λ (m : Junction). is_small_formula (chained (Join m) (formula_view x) (formula_views rest)) ≡ true) same
           (ap is_small_formula (join_is c.args.formula.now x j.junction j.first j.rest rest j.is c.deref.ensures (c.deref-then-eq).ensures.value) ∙ c.requires),
     )
 
@@ -72,9 +75,9 @@ emit_formula-emit_outside-requires t c =
     let x = (c.deref-else-eq).result.now in
     let rest = (c.deref-else-eq-2).result.now in
     let j = c.in-Join in
-    let same : is_and j.junction ≡ not (is_and c.args.around) = other_kind j.junction c.args.around c.eq.result c.eq.ensures c.if-eq.false in (
+    let same : j.junction ≡ dual c.args.around = other_kind j.junction c.args.around c.eq.result c.eq.ensures c.if-eq.false in (
       omega (arith, c.decreases, join_weighs c.args.formula.now x j.junction j.first j.rest rest j.is (c.deref-else-eq).ensures (c.deref-else-eq-2).ensures.value),
-      subst (λ (m : Bool). is_small_formula (chained (Join m) (formula_view x) (formula_views rest)) ≡ true) same
+      subst (λ (m : Junction). is_small_formula (chained (Join m) (formula_view x) (formula_views rest)) ≡ true) same
           (ap is_small_formula (join_is c.args.formula.now x j.junction j.first j.rest rest j.is (c.deref-else-eq).ensures (c.deref-else-eq-2).ensures.value) ∙ c.requires),
     )
 
@@ -83,9 +86,9 @@ emit_formula-returns-then-eq t c =
     let x = c.deref.result.now in
     let rest = (c.deref-then-eq).result.now in
     let j = c.in-Join in
-    let same : is_and j.junction ≡ is_and c.args.around = same_kind j.junction c.args.around c.eq.result c.eq.ensures c.if-eq.true in
-    subst (λ (y : normal.Formula). OnOk c.emit_inside.result (Emits (formula_piece c.args.layout.now (is_and c.args.around) y) nowhere c.args.builder.now c.emit_inside.new.builder))
-    (ap (λ (m : Bool). chained (Join m) (formula_view x) (formula_views rest)) (sym same) ∙ join_is c.args.formula.now x j.junction j.first j.rest rest j.is c.deref.ensures (c.deref-then-eq).ensures.value)
+    let same : j.junction ≡ c.args.around = same_kind j.junction c.args.around c.eq.result c.eq.ensures c.if-eq.true in
+    subst (λ (y : normal.Formula). OnOk c.emit_inside.result (Emits (formula_piece c.args.layout.now c.args.around y) nowhere c.args.builder.now c.emit_inside.new.builder))
+    (ap (λ (m : Junction). chained (Join m) (formula_view x) (formula_views rest)) (sym same) ∙ join_is c.args.formula.now x j.junction j.first j.rest rest j.is c.deref.ensures (c.deref-then-eq).ensures.value)
     c.emit_inside.ensures
 
 pub emit_formula-returns-else-eq : goal.emit_formula-returns-else-eq
@@ -93,14 +96,14 @@ emit_formula-returns-else-eq t c =
     let x = (c.deref-else-eq).result.now in
     let rest = (c.deref-else-eq-2).result.now in
     let j = c.in-Join in
-    let same : is_and j.junction ≡ not (is_and c.args.around) = other_kind j.junction c.args.around c.eq.result c.eq.ensures c.if-eq.false in
-    subst (λ (y : normal.Formula). OnOk c.emit_outside.result (Emits (formula_piece c.args.layout.now (is_and c.args.around) y) nowhere c.args.builder.now c.emit_outside.new.builder))
-    (ap (λ (m : Bool). chained (Join m) (formula_view x) (formula_views rest)) (sym same) ∙ join_is c.args.formula.now x j.junction j.first j.rest rest j.is (c.deref-else-eq).ensures (c.deref-else-eq-2).ensures.value)
+    let same : j.junction ≡ dual c.args.around = other_kind j.junction c.args.around c.eq.result c.eq.ensures c.if-eq.false in
+    subst (λ (y : normal.Formula). OnOk c.emit_outside.result (Emits (formula_piece c.args.layout.now c.args.around y) nowhere c.args.builder.now c.emit_outside.new.builder))
+    (ap (λ (m : Junction). chained (Join m) (formula_view x) (formula_views rest)) (sym same) ∙ join_is c.args.formula.now x j.junction j.first j.rest rest j.is (c.deref-else-eq).ensures (c.deref-else-eq-2).ensures.value)
     c.emit_outside.ensures
 
 pub emit_inside-loop-behind-preserved-in-Some : goal.emit_inside-loop-behind-preserved-in-Some
 emit_inside-loop-behind-preserved-in-Some t c =
-    let m = is_and c.args.kind in
+    let m = c.args.kind in
     let cs = c.args.layout.now in
     let s = c.in-Some in
     let i = c.loop-behind.invariant in
@@ -117,7 +120,7 @@ emit_inside-loop-behind-preserved-in-Some t c =
     let jumps = rw c.neutral.ensures at c.in_ok-emit.ensures.ok in
     let same = test_step cs m m (formula_view left) (formula_views behind) (Some r) r refl s.ensures.views ∙ tested_own m (tested_term s.early.test) rest in
     let a1 = subst (λ (q : Piece). Awaits whole q l d0 c.loop-behind.builder) same i.awaits in
-    let a2 = awaits_then whole (data_piece (tested_term s.early.test)) (Choose m leaf rest) l d0 c.loop-behind.builder c.emit_tested.new.builder a1 c.in_ok-emit_tested.ensures in
+    let a2 = awaits_then whole (data_piece (tested_term s.early.test)) (Choose (neutral m) leaf rest) l d0 c.loop-behind.builder c.emit_tested.new.builder a1 c.in_ok-emit_tested.ensures in
     let w = left_weighs left behind other more s.ensures.left in
     let w0 = w.0 in
     let w1 = w.1 in
@@ -128,7 +131,7 @@ emit_inside-loop-behind-preserved-in-Some t c =
       | emit_inside-else-early w ↦ rw w.left-is (first_left s.early.is_first left behind w.if-early.false)
     ] in
     are_left cs m m c.args.first.now c.args.rest.now l d0 c.place.new.self other c.if-early.left.now behind moved (record {
-      awaits = awaits_choose whole m leaf rest 0 0 l c.in_ok-passed.passed.number d0 c.emit_tested.new.builder c.label-in-Some.new.self c.emit.new.self c.emit_plain.new.builder c.emit-in-Some.new.self c.place.new.self a2
+      awaits = awaits_choose whole (neutral m) leaf rest 0 0 l c.in_ok-passed.passed.number d0 c.emit_tested.new.builder c.label-in-Some.new.self c.emit.new.self c.emit_plain.new.builder c.emit-in-Some.new.self c.place.new.self a2
           c.in_ok-passed.ensures.label c.in_ok-passed.ensures.ok jumps
           (subst (λ (z : Leaf). Emits (Plain (op.Emit z)) nowhere c.emit.new.self c.emit_plain.new.builder) c.deciding.ensures c.in_ok-emit_plain.ensures)
           (c.in_ok-emit-2).ensures.ok c.place.ensures;
@@ -138,7 +141,7 @@ emit_inside-loop-behind-preserved-in-Some t c =
 
 pub emit_inside-loop-behind-preserved : goal.emit_inside-loop-behind-preserved
 emit_inside-loop-behind-preserved t c =
-    let m = is_and c.args.kind in
+    let m = c.args.kind in
     let cs = c.args.layout.now in
     let i = c.loop-behind.invariant in
     let left = c.loop-behind.left.now in
@@ -164,12 +167,12 @@ emit_inside-loop-behind-preserved t c =
 pub emit_loops-overflow_add-slot : goal.emit_loops-overflow_add-slot
 emit_loops-overflow_add-slot t c =
     let b = c.loop-begun-test.true in
-    let h = small_slot (is_forall c.args.loops.quantifier) c.args.loops.first c.args.loops.carriers.now (formula_view c.args.body.now) c.loop-begun.begun (omega (arith, b)) c.requires in omega (arith, h)
+    let h = small_slot c.args.loops.quantifier c.args.loops.first c.args.loops.carriers.now (formula_view c.args.body.now) c.loop-begun.begun (omega (arith, b)) c.requires in omega (arith, h)
 
 pub emit_loops-overflow_cast-slot : goal.emit_loops-overflow_cast-slot
 emit_loops-overflow_cast-slot t c =
     let b = c.loop-begun-test.true in
-    let h = small_slot (is_forall c.args.loops.quantifier) c.args.loops.first c.args.loops.carriers.now (formula_view c.args.body.now) c.loop-begun.begun (omega (arith, b)) c.requires in omega (arith, h)
+    let h = small_slot c.args.loops.quantifier c.args.loops.first c.args.loops.carriers.now (formula_view c.args.body.now) c.loop-begun.begun (omega (arith, b)) c.requires in omega (arith, h)
 
 pub emit_loops-loop-begun-preserved : goal.emit_loops-loop-begun-preserved
 emit_loops-loop-begun-preserved t c =
@@ -181,7 +184,7 @@ emit_loops-loop-begun-preserved t c =
     }
 
 pub emit_loops-emit_formula-requires : goal.emit_loops-emit_formula-requires
-emit_loops-emit_formula-requires t c = (omega (arith, c.decreases), small_body (is_forall c.args.loops.quantifier) c.args.loops.first c.args.loops.carriers.now (formula_view c.args.body.now) c.requires)
+emit_loops-emit_formula-requires t c = (omega (arith, c.decreases), small_body c.args.loops.quantifier c.args.loops.first c.args.loops.carriers.now (formula_view c.args.body.now) c.requires)
 
 pub emit_loops-loop-ended-preserved : goal.emit_loops-loop-ended-preserved
 emit_loops-loop-ended-preserved t c =
@@ -195,7 +198,8 @@ emit_loops-loop-ended-preserved t c =
 pub emit_loops-returns : goal.emit_loops-returns
 emit_loops-returns t c =
     let cs = c.args.layout.now in
-    let m = is_forall c.args.loops.quantifier in
+    let r = c.args.loops.quantifier in
+    let m = junction_of r in
     let body = formula_piece cs m (formula_view c.args.body.now) in
     let b1 = c.loop-begun-test.false in
     let b2 = c.loop-begun.invariant.below in
@@ -204,15 +208,15 @@ emit_loops-returns t c =
     let begun : c.loop-begun.begun ≡ length c.args.loops.carriers.now = omega (arith, b1, b2) in
     let ended : c.loop-ended.ended ≡ c.loop-begun.begun = omega (arith, b1, b2, e1, e2) in
     let inner : Emits body nowhere c.loop-begun.builder c.emit_formula.new.builder =
-    subst (λ (k : Bool). Emits (formula_piece cs k (formula_view c.args.body.now)) nowhere c.loop-begun.builder c.emit_formula.new.builder) c.junction_of.ensures c.in_ok-emit_formula.ensures in
+    subst (λ (k : Junction). Emits (formula_piece cs k (formula_view c.args.body.now)) nowhere c.loop-begun.builder c.emit_formula.new.builder) c.junction_of.ensures c.in_ok-emit_formula.ensures in
     let all = c.loop-begun.invariant.begins body c.emit_formula.new.builder c.loop-ended.builder inner
     (subst (λ (k : ℕ). Closes k c.emit_formula.new.builder c.loop-ended.builder) ended c.loop-ended.invariant.closes) in
-    subst (λ (q : Piece). Emits q nowhere c.args.builder.now c.loop-ended.builder) (ap (λ (k : ℕ). repeated c.args.loops.first k body) begun ∙ sym (each_repeated cs m c.args.loops.first c.args.loops.carriers.now (formula_view c.args.body.now))) all
+    subst (λ (q : Piece). Emits q nowhere c.args.builder.now c.loop-ended.builder) (ap (λ (k : ℕ). repeated c.args.loops.first k body) begun ∙ sym (each_repeated cs r c.args.loops.first c.args.loops.carriers.now (formula_view c.args.body.now))) all
 
 pub emit_outside-loop-early-preserved : goal.emit_outside-loop-early-preserved
 emit_outside-loop-early-preserved t c =
-    let a = is_and c.args.around in
-    let m = not a in
+    let a = c.args.around in
+    let m = dual a in
     let cs = c.args.layout.now in
     let s = c.in-Some in
     let i = c.loop-early.invariant in
@@ -227,7 +231,7 @@ emit_outside-loop-early-preserved t c =
     let d0 = c.args.builder.now in
     let same = test_step cs m a (formula_view left) (formula_views behind) (Some r) r refl s.ensures.views ∙ tested_other a (tested_term s.early.test) rest in
     let a1 = subst (λ (q : Piece). Awaits whole q l d0 c.loop-early.builder) same i.awaits in
-    let a2 = awaits_then whole (data_piece (tested_term s.early.test)) (Unless a rest) l d0 c.loop-early.builder c.emit_tested.new.builder a1 c.in_ok-emit_tested.ensures in
+    let a2 = awaits_then whole (data_piece (tested_term s.early.test)) (Unless (neutral a) rest) l d0 c.loop-early.builder c.emit_tested.new.builder a1 c.in_ok-emit_tested.ensures in
     let w = left_weighs left behind other more s.ensures.left in
     let w0 = w.0 in
     let w1 = w.1 in
@@ -238,25 +242,25 @@ emit_outside-loop-early-preserved t c =
       | emit_outside-else-early w ↦ rw w.left-is (first_left s.early.is_first left behind w.if-early.false)
     ] in
     are_left cs m a c.args.first.now c.args.rest.now l d0 c.emit.new.self other c.if-early.left.now behind moved (record {
-      awaits = awaits_unless whole a rest 0 l d0 c.emit_tested.new.builder c.emit.new.self a2 (rw c.neutral.ensures at c.in_ok-emit.ensures.ok);
+      awaits = awaits_unless whole (neutral a) rest 0 l d0 c.emit_tested.new.builder c.emit.new.self a2 (rw c.neutral.ensures at c.in_ok-emit.ensures.ok);
       small = (test_small m (formula_view left) (formula_views behind) (Some r) r refl s.ensures.views i.small).1;
       lighter = omega (arith, w1, w2);
     })
 
 pub emit_untested-returns : goal.emit_untested-returns
 emit_untested-returns t c =
-    let a = is_and c.args.around in
+    let a = c.args.around in
     let cs = c.args.layout.now in
     let e = c.is_empty.ensures in
     let f = c.if-is_empty.false in
     let some : 0 < length c.args.rest.now = grind (arith, e, f) in
     let d = c.args.builder.now in
     let d1 = c.emit_plain.new.builder in
-    let piece : Bool → Piece = λ m. formula_piece cs m (chained (Join m) (formula_view c.args.first.now) (formula_views c.args.rest.now)) in
-    let inner = subst (λ (m : Bool). Emits (piece m) nowhere d1 c.emit_inside.new.builder) c.dual-kind.ensures c.in_ok-emit_inside.ensures in
+    let piece : Junction → Piece = λ m. formula_piece cs m (chained (Join m) (formula_view c.args.first.now) (formula_views c.args.rest.now)) in
+    let inner = subst (λ (m : Junction). Emits (piece m) nowhere d1 c.emit_inside.new.builder) c.dual-kind.ensures c.in_ok-emit_inside.ensures in
     on_ok (c.emit_plain-2).result _ _ (c.emit_plain-2).ensures (λ h.
     subst (λ (q : Piece). Emits q nowhere d (c.emit_plain-2).new.builder) (sym (untested cs a (formula_view c.args.first.now) c.args.rest.now some c.requires.untested))
-    (bracket_emitted (not a) (piece (not a)) d d1 c.emit_inside.new.builder (c.emit_plain-2).new.builder
+    (bracket_emitted (dual a) (piece (dual a)) d d1 c.emit_inside.new.builder (c.emit_plain-2).new.builder
     (subst (λ (k : Connective). Emits (Plain (op.Open k)) nowhere d d1) (c.connective_of.ensures ∙ ap connective_of c.dual-kind.ensures) c.in_ok-emit_plain.ensures) inner h))
 
 pub emit_outside-returns : goal.emit_outside-returns
@@ -265,7 +269,7 @@ emit_outside-returns t c =
 
 pub emit_inside-returns : goal.emit_inside-returns
 emit_inside-returns t c =
-    let m = is_and c.args.kind in
+    let m = c.args.kind in
     let cs = c.args.layout.now in
     let left = c.loop-behind.left.now in
     let whole = formula_piece cs m (chained (Join m) (formula_view c.args.first.now) (formula_views c.args.rest.now)) in
@@ -280,7 +284,7 @@ emit_inside-returns t c =
 
 pub emit_inside-loop-behind-init : goal.emit_inside-loop-behind-init
 emit_inside-loop-behind-init t c =
-    let m = is_and c.args.kind in
+    let m = c.args.kind in
     let whole = formula_piece c.args.layout.now m (chained (Join m) (formula_view c.args.first.now) (formula_views c.args.rest.now)) in record {
       awaits = awaits_all whole c.in_ok-last.last.number c.args.builder.now c.label.new.self c.in_ok-last.ensures.label c.in_ok-last.ensures.ok;
       small = c.requires;
@@ -289,8 +293,8 @@ emit_inside-loop-behind-init t c =
 
 pub emit_outside-loop-early-init : goal.emit_outside-loop-early-init
 emit_outside-loop-early-init t c =
-    let a = is_and c.args.around in
-    let whole = formula_piece c.args.layout.now a (chained (Join (not a)) (formula_view c.args.first.now) (formula_views c.args.rest.now)) in record {
+    let a = c.args.around in
+    let whole = formula_piece c.args.layout.now a (chained (Join (dual a)) (formula_view c.args.first.now) (formula_views c.args.rest.now)) in record {
       awaits = awaits_all whole c.in_ok-last.last.number c.args.builder.now c.label.new.self c.in_ok-last.ensures.label c.in_ok-last.ensures.ok;
       small = c.requires;
       lighter = omega arith;

@@ -1,5 +1,5 @@
-use Rattle.std.proofs.Common.{◌+◌, ◌-◌, ◌≤◌, not, length}
-use Rattle.pb_normal.specs.View.{is_and}
+use Rattle.std.proofs.Common.{◌+◌, ◌-◌, ◌≤◌, length}
+use Rattle.pb_normal.specs.Normalisation.{dual}
 use Rattle.pb_assembler.proofs.FormulaWeight.{weight, formulas_weight}
 use Rattle.pb_assembler.proofs.Joins.{AreLeft, Begins, Closes}
 use Rattle.pb_assembler.proofs.formula.+formulas.Given as goal
@@ -51,7 +51,7 @@ invariant-emit_loops-loop-ended l =
 
 -- the operands that are left complete the chain
 abbrev pub invariant-emit_inside-loop-behind : goal.invariant-emit_inside-loop-behind
-invariant-emit_inside-loop-behind l = AreLeft l.layout (is_and l.kind) (is_and l.kind) l.first l.rest l.last.number l.fn.builder l.builder l.left l.behind
+invariant-emit_inside-loop-behind l = AreLeft l.layout l.kind l.kind l.first l.rest l.last.number l.fn.builder l.builder l.left l.behind
 
 abbrev pub invariant-emit_outside-loop-early : goal.invariant-emit_outside-loop-early
-invariant-emit_outside-loop-early l = AreLeft l.layout (not (is_and l.around)) (is_and l.around) l.first l.rest l.last.number l.fn.builder l.builder l.left l.behind
+invariant-emit_outside-loop-early l = AreLeft l.layout (dual l.around) l.around l.first l.rest l.last.number l.fn.builder l.builder l.left l.behind

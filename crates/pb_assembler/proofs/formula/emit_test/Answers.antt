@@ -1,9 +1,8 @@
 use Rattle.std.proofs.Common.{subst}
 use Rattle.pb_bytecode_program.specs.declared.instruction.Leaf.{Leaf}
 use Rattle.pb_bytecode_program.specs.declared.instruction.Op.TheVariants as op
-use Rattle.pb_normal.specs.View.{is_and}
 use Rattle.pb_assembler_scheme.specs.Pieces.{Plain, Unless}
-use Rattle.pb_assembler_scheme.specs.Scheme.{data_piece, deciding}
+use Rattle.pb_assembler_scheme.specs.Scheme.{data_piece, deciding, neutral}
 use Rattle.pb_assembler.specs.Emitted.{Emits, nowhere}
 use Rattle.pb_assembler.specs.Tests.{tested_term}
 use Rattle.pb_assembler.proofs.Emitting.{emits_then, unless_emitted}
@@ -11,10 +10,10 @@ use Rattle.pb_assembler.proofs.formula.emit_test.Goals as goal
 
 pub returns : goal.returns
 returns c =
-    let m = is_and c.args.around in
+    let m = c.args.around in
     let leaf = Plain (op.Emit (deciding m)) in
-    emits_then (data_piece (tested_term c.args.test)) (Unless m leaf) nowhere c.args.builder.now c.emit_tested.new.builder c.place.new.self c.in_ok-emit_tested.ensures
-    (unless_emitted m leaf nowhere 0 c.emit_tested.new.builder c.label.new.self c.emit.new.self c.emit_plain.new.builder c.place.new.self c.in_ok-passed.passed.number
+    emits_then (data_piece (tested_term c.args.test)) (Unless (neutral m) leaf) nowhere c.args.builder.now c.emit_tested.new.builder c.place.new.self c.in_ok-emit_tested.ensures
+    (unless_emitted (neutral m) leaf nowhere 0 c.emit_tested.new.builder c.label.new.self c.emit.new.self c.emit_plain.new.builder c.place.new.self c.in_ok-passed.passed.number
     c.in_ok-passed.ensures.label c.in_ok-passed.ensures.ok (rw c.neutral.ensures at c.in_ok-emit.ensures.ok)
     (subst (λ (f : Leaf). Emits (Plain (op.Emit f)) nowhere c.emit.new.self c.emit_plain.new.builder) c.deciding.ensures c.in_ok-emit_plain.ensures)
     c.place.ensures)

@@ -1,6 +1,6 @@
 use Rattle.std.proofs.Common.{◌≡◌, ◌<◌, length, sym, ap, ◌∙◌, arith}
 use Rattle.pb_normal.specs.declared.formula.Formula.{Formula}
-use Rattle.pb_normal.specs.View.{formula_view, is_forall}
+use Rattle.pb_normal.specs.View.{formula_view}
 use Rattle.pb_assembler_scheme.specs.Scheme.{head}
 use Rattle.pb_assembler.proofs.MeasureHeads.{join_head, nested_head}
 use Rattle.pb_assembler.proofs.measure_equation.+heads.Goals as goal
@@ -25,4 +25,4 @@ returns-else-is_empty-2 t c =
     let e = (c.is_empty-in-Each).ensures in
     let f = c.if-is_empty-2.false in
     let some : 0 < length c.in-Each.carriers.now = grind (arith, e, f) in
-    c.junction_of.ensures ∙ sym (ap (λ (f : Formula). head (formula_view f)) c.in-Each.is ∙ nested_head (is_forall c.in-Each.quantifier) c.in-Each.slot c.in-Each.carriers.now _ some)
+    c.junction_of.ensures ∙ sym (ap (λ (f : Formula). head (formula_view f)) c.in-Each.is ∙ nested_head c.in-Each.quantifier c.in-Each.slot c.in-Each.carriers.now _ some)

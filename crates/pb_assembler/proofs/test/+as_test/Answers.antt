@@ -1,7 +1,7 @@
 use Rattle.std.proofs.Common.{◌≡◌, ◌<◌, ◌∙◌, sym, ap, arith, length}
 use Rattle.pb_typing.specs.View.{is_positive}
 use Rattle.pb_normal.specs.declared.formula.Formula.{Formula}
-use Rattle.pb_normal.specs.View.{formula_view, is_forall, term_view}
+use Rattle.pb_normal.specs.View.{formula_view, term_view}
 use Rattle.pb_assembler_scheme.specs.Scheme.{test_of}
 use Rattle.pb_assembler.proofs.Joins.{alone, several, no_test}
 use Rattle.pb_assembler.proofs.Tests.{signed}
@@ -29,4 +29,4 @@ returns-else-is_empty-2 t c =
     let e = (c.is_empty-in-Each).ensures in
     let f = (c.if-is_empty-2).false in
     let some : 0 < length c.in-Each.carriers.now = grind (arith, e, f) in
-    no_test (is_forall c.in-Each.quantifier) c.in-Each.slot c.in-Each.carriers.now _ some ∙ sym (ap (λ (f : Formula). test_of (formula_view f)) c.in-Each.is)
+    no_test c.in-Each.quantifier c.in-Each.slot c.in-Each.carriers.now _ some ∙ sym (ap (λ (f : Formula). test_of (formula_view f)) c.in-Each.is)

@@ -5,7 +5,7 @@ use Rattle.pb_typed_tree.specs.View as typed
 use Rattle.pb_typing.specs.View.{is_positive}
 use Rattle.pb_normal.specs.declared.formula.Formula as code
 use Rattle.pb_normal.specs.SignedForm.{signed_form}
-use Rattle.pb_normal.specs.View.{nested, is_and, is_forall, formula_view, formula_views}
+use Rattle.pb_normal.specs.View.{nested, formula_view, formula_views}
 use Rattle.pb_normal.proofs.Operands.{chain-signed, quantified-signed, signed_next, signed_ended}
 use Rattle.pb_normal.proofs.Views.{formula-join}
 use Rattle.pb_typed_tree.proofs.FormulaWeight.{weight, links_weight, weight-chain, operand_lighter, chain_is}
@@ -26,7 +26,7 @@ pub signed_chain-returns : goal.signed_chain-returns
 signed_chain-returns t c =
     let first = typed.formula_view c.args.first.now in
     formula-join c.signed_junction.result c.in_ok-first.first c.in_ok-rest.rest
-    ∙ chain-signed c.args.connective (is_positive c.args.polarity) (is_and c.signed_junction.result) first c.args.links.now (formula_view (box_value c.in_ok-first.first)) (formula_views c.in_ok-rest.rest.items) c.signed_junction.ensures
+    ∙ chain-signed c.args.connective (is_positive c.args.polarity) c.signed_junction.result first c.args.links.now (formula_view (box_value c.in_ok-first.first)) (formula_views c.in_ok-rest.rest.items) c.signed_junction.ensures
     (ap formula_view c.in_ok-first.ensures.ok ∙ (c.in_ok-head.ensures ∙ ap (λ (q : Bool). signed_form q first) c.operand_polarity-of_first.ensures))
     c.in_ok-rest.ensures
 
@@ -47,7 +47,7 @@ signed_links-returns t c =
 
 pub signed_form-returns-in_ok-new-in-Quantified : goal.signed_form-returns-in_ok-new-in-Quantified
 signed_form-returns-in_ok-new-in-Quantified t c =
-    let m = is_forall c.signed_quantifier.result in
+    let m = c.signed_quantifier.result in
     let cs = (c.deref-in-Quantified-2).result.now in
     ap (λ (f : code.Formula). nested m c.in-Quantified.slot cs (formula_view f)) (c.in_ok-new-in-Quantified).ensures.ok
     ∙ quantified-signed (is_positive c.args.polarity) m c.args.formula.now c.deref-in-Quantified.result.now c.in-Quantified.quantifier c.in-Quantified.slot c.in-Quantified.carriers c.in-Quantified.body cs (formula_view (c.in_ok-body-in-Quantified).body)
