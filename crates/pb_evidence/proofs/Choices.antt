@@ -7,8 +7,9 @@ use Rattle.std.proofs.Math.Nat.{ℕ_set}
 use Rattle.std.proofs.Math.Logic.{∥∥₁_elim}
 use Rattle.std.proofs.lemmas.Option.{slice_get_within}
 use Rattle.std.proofs.lemmas.List.Elements.{Contains-append_left, Contains-append_right, Contains-append_cases}
-use Rattle.pb_game.proofs.Players.{parity_exact}
-use Rattle.pb_game.specs.Players.{parity_of}
+use Rattle.pb_trees.proofs.Players.{parity_exact}
+use Rattle.pb_trees.specs.Players.{parity_of}
+use Rattle.pb_trees.specs.declared.player.Player.TheVariants.{Even}
 use Rattle.pb_game.specs.declared.Game.{Game}
 use Rattle.pb_game.specs.Adjacency.{is_among}
 use Rattle.pb_game.specs.Games.{vertex_count, owner_of, successors_of, priority_count, HasEdge}
@@ -281,7 +282,7 @@ module _ (g : Game) (s : Solution) (signatures : List Signature) (trees : ℕ �
       let x = bracket_vertex at p (choosing b) f (suc v) in
       let there = game.vertices.each v x stands in
       let below = within v x stands in
-      let mine : owner_of g v ≡ winner_of s v = parity_exact _ _ (there.owner ∙ (owner-choosing b ∙ sym (ap parity_of wins))) in
+      let mine : owner_of g v ≡ winner_of s v = there.owner ∙ (owner-choosing b ∙ sym wins) in
       let u = choice_of s v in
       let kept : IsKept g s v u = record { edge = of.chosen v below mine; choice = λ _. refl } in
       let u_won : Won u = of.region v u below kept ∙ wins in
@@ -301,7 +302,7 @@ module _ (g : Game) (s : Solution) (signatures : List Signature) (trees : ℕ �
       let below = within v x stands in
       let kept : (w : ℕ) → Among (targets at f (suc v)) w → IsKept g s v w = λ w among. record {
         edge = subst (λ (ws : List ℕ). Contains ws w) (sym there.successors) (contains_of_among x.successors w (to_targets c f (suc v) w among));
-        choice = λ owned. absurd (owner-other b (sym there.owner ∙ ap parity_of (owned ∙ wins)));
+        choice = λ owned. absurd (owner-other b (sym there.owner ∙ (owned ∙ wins)));
       } in
       supported_as Reached (IsOperandsSupport b c f) (IsOperandsSupport b c f) (ToSome (targets at f (suc v))) (From v) (λ calls h. h)
       (λ m r ends. let found = one_ends g s at (IsInner g rows) (targets at f (suc v)) m ends in
@@ -356,7 +357,7 @@ module _ (g : Game) (s : Solution) (signatures : List Signature) (trees : ℕ �
   tree_supported : (tree : Tree) (v p : ℕ) → TreeCalls Reached tree → ((k : ℕ) → v < k → k < suc (v + inner tree) → (m : ℕ) → Reached m → at m ≢ k) →
       StandAt vertices v (tree_vertices at p tree v) → Won v → Supported Reached (IsTreeSupport b tree) (From v)
   tree_supported (Single l) v p calls far stand wins =
-      let x : Vertex = record { owner = 0; priority = p; successors = target at l ∷ [] } in
+      let x : Vertex = record { owner = Even; priority = p; successors = target at l ∷ [] } in
       let there = game.vertices.each v x stand.0 in
       let below = within v x stand.0 in
       let only = only_of v (target at l) there.successors in

@@ -4,8 +4,8 @@ use Rattle.std.specs.Prelude.{Contains, AllPairs, ◌==◌, IsTrue, ◌↔◌}
 use Rattle.std.proofs.lemmas.Bool.{cases_Bool, false≢true, eqb-true}
 use Rattle.std.proofs.lemmas.List.{get_or-map, length-map}
 use Rattle.std.proofs.lemmas.List.Elements.{Contains-get_or}
-use Rattle.pb_game.proofs.Players.{even_or_odd}
-use Rattle.pb_game.specs.declared.player.Player.TheVariants.{Even}
+use Rattle.pb_trees.proofs.Players.{even_or_odd}
+use Rattle.pb_trees.specs.declared.player.Player.TheVariants.{Even}
 use Rattle.pb_game.specs.declared.Game.{Game}
 use Rattle.pb_game.specs.Adjacency.{row}
 use Rattle.pb_game.specs.declared.certificate.Solution.{Solution}

@@ -7,8 +7,8 @@ use Rattle.std.proofs.Math.Bool.{Bool-set}
 use Rattle.std.proofs.Math.Nat.{ℕ_set}
 use Rattle.std.proofs.Math.Logic.{∥∥₁_elim}
 use Rattle.std.proofs.lemmas.Option.{slice_get_within}
-use Rattle.pb_game.proofs.Players.{parity_exact}
-use Rattle.pb_game.specs.Players.{parity_of}
+use Rattle.pb_trees.proofs.Players.{parity_exact}
+use Rattle.pb_trees.specs.Players.{parity_of}
 use Rattle.pb_game.specs.declared.Game.{Game}
 use Rattle.pb_game.specs.Adjacency.{is_among}
 use Rattle.pb_game.specs.Games.{vertex_count, priority_of, priority_count}

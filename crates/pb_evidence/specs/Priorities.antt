@@ -1,6 +1,6 @@
 -- The cycles of a proof graph in the words of games.
 use Rattle.std.specs.Prelude.{◌≡◌, ℕ, ◌%◌, Bool, List, ◌∷◌, map}
-use Rattle.pb_game.specs.Players.{parity_of}
+use Rattle.pb_trees.specs.Players.{parity_of}
 use Rattle.pb_game.specs.Adjacency.{greatest_of}
 use Rattle.pb_trees.specs.Tree.{Tree}
 use Rattle.pb_trees.specs.Equations.{Signature}

@@ -6,4 +6,3 @@ pub mod Membership
 pub mod Placing
 pub mod Checking
 pub mod Laws
-pub mod Players

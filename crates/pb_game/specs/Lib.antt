@@ -1,5 +1,4 @@
 pub mod Adjacency
-pub mod Players
 pub mod Games
 pub mod Parts
 pub mod Transpose

@@ -2,7 +2,7 @@
 use Rattle.std.specs.Prelude.{◌≡◌, ℕ, ◌+◌, ◌<◌, ◌≤◌, length, slice_index, slice_index_or, All}
 use Rattle.std.specs.List.Sorted.{IsStrictlyIncreasing}
 use Rattle.pb_game.specs.declared.Game.{Game}
-use Rattle.pb_game.specs.declared.player.Player.TheVariants.{Even}
+use Rattle.pb_trees.specs.declared.player.Player.TheVariants.{Even}
 use Rattle.pb_game.specs.declared.parts.Parts.{Parts}
 use Rattle.pb_game.specs.declared.parts.GameFault.{GameFault}
 use Rattle.pb_game.specs.declared.parts.GameFault.TheVariants.{TooManyVertices, Priorities, Places, Successors, TooManyPriorities}

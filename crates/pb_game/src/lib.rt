@@ -9,7 +9,6 @@
 mod adjacency;
 mod certificate;
 mod parts;
-mod player;
 mod predecessors;
 mod solver;
 
@@ -22,7 +21,7 @@ ghost use Rattle.pb_limits.specs.declared.TheConstants.{MAX_VERTICES};
 use adjacency::row_of;
 pub use certificate::{CertificateRule, Flaw, Solution};
 pub use parts::{GameError, GameFault, Parts};
-pub use player::Player;
+pub use pb_trees::Player;
 use predecessors::{Predecessors, transpose};
 pub use solver::Solver;
 use std::alloc::Global;

@@ -8,7 +8,6 @@ pub mod Closing
 pub mod EquationLevels
 pub mod LowPriorities
 pub mod Sums
-mod Owners
 pub mod PartsOf
 pub mod Vertices
 pub mod Built

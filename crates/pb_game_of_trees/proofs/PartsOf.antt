@@ -7,8 +7,8 @@ use Rattle.std.proofs.lemmas.List.Elements.{All-append}
 use Rattle.std.proofs.lemmas.List.Concat.{flat_map-append}
 use Rattle.std.proofs.lemmas.Option.{slice_get_within, get_or_from_slice_get, slice_get-get_or}
 use Rattle.pb_trees.specs.Game.{Vertex}
-use Rattle.pb_game.specs.Players.{parity_of}
-use Rattle.pb_game.specs.declared.player.Player.TheVariants.{Even}
+use Rattle.pb_trees.specs.declared.player.Player.{Player}
+use Rattle.pb_trees.specs.declared.player.Player.TheVariants.{Even}
 use Rattle.pb_game.specs.declared.Game.{Game}
 use Rattle.pb_game.specs.declared.parts.Parts.{Parts}
 use Rattle.pb_game.specs.Adjacency.{row}
@@ -76,7 +76,7 @@ row_is vs v x e =
     ∙ cut (successors (take v vs)) x.successors (successors (drop (v + 1) vs)) (get_or (places vs) v 0) (get_or (places vs) (v + 1) 0) from to
 
 abbrev none : Vertex
-none = record { owner = 0; priority = 0; successors = [] }
+none = record { owner = Even; priority = 0; successors = [] }
 
 -- the vertex at a place
 vertex_at : (vs : List Vertex) (v : ℕ) → v < length vs → slice_get vs v ≡ Some (get_or vs v none)
@@ -99,7 +99,7 @@ ruled_out p game fault.TooManyPriorities h = h.4 game.few_priorities
 
 pub parts_are_game : (vs : List Vertex) → MakeGame vs → (p : Parts) → ArePartsOf p vs → AreGame p
 parts_are_game vs make p is =
-    let count : length p.owners.items ≡ length vs = sym (length-map p.owners.items parity_of) ∙ (ap length is.owner ∙ length-map vs (λ (x : Vertex). x.owner)) in
+    let count : length p.owners.items ≡ length vs = ap length is.owner ∙ length-map vs (λ (x : Vertex). x.owner) in
     let of_priorities : length p.priorities.items ≡ length vs = ap length is.priority ∙ length-map vs (λ (x : Vertex). x.priority) in
     let of_places : length p.places.items ≡ length vs + 1 = ap length is.place ∙ length-places vs in
     let of_successors = ap length is.successor in
@@ -140,15 +140,14 @@ parts_are_game vs make p is =
 
 pub has_vertices : (vs : List Vertex) (p : Parts) (g : Game) → ArePartsOf p vs → IsGameOf p g → HasVertices g vs
 has_vertices vs p g is game =
-    let count : length p.owners.items ≡ length vs = sym (length-map p.owners.items parity_of) ∙ (ap length is.owner ∙ length-map vs (λ (x : Vertex). x.owner)) in
+    let count : length p.owners.items ≡ length vs = ap length is.owner ∙ length-map vs (λ (x : Vertex). x.owner) in
     record {
       count = game.vertices ∙ count;
       each = λ v x e.
           let l = slice_get_within vs v x e in
           let at : get_or vs v none ≡ x = get_or_from_slice_get vs v x none e in
           record {
-            owner = ap parity_of (game.owner v (omega arith)) ∙ (sym (get_or-map parity_of p.owners.items v Even 0 (omega arith))
-                ∙ (ap (λ (xs : List ℕ). get_or xs v 0) is.owner ∙ (get_or-map (λ (y : Vertex). y.owner) vs v none 0 l ∙ ap (λ (y : Vertex). y.owner) at)));
+            owner = game.owner v (omega arith) ∙ (ap (λ (xs : List Player). get_or xs v Even) is.owner ∙ (get_or-map (λ (y : Vertex). y.owner) vs v none Even l ∙ ap (λ (y : Vertex). y.owner) at));
             priority = game.priority v (omega arith) ∙ (ap (λ (xs : List ℕ). get_or xs v 0) is.priority ∙ (get_or-map (λ (y : Vertex). y.priority) vs v none 0 l ∙ ap (λ (y : Vertex). y.priority) at));
             successors = game.successors v (omega arith)
                 ∙ (ap (λ (xs : List ℕ). row xs p.successors.items v) is.place ∙ (ap (λ (xs : List ℕ). row (places vs) xs v) is.successor ∙ row_is vs v x e));

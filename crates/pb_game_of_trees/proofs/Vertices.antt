@@ -5,6 +5,7 @@ use Rattle.std.specs.List.Sorted.{IsStrictlyIncreasing}
 use Rattle.std.proofs.lemmas.Bool.{cases_Bool, eqb-true, eqb-false, cond-true, cond-false}
 use Rattle.std.proofs.lemmas.List.{get_or-map, length-map, get_or_default, same_lists}
 use Rattle.pb_game.proofs.Rising.{rising_lt}
+use Rattle.pb_trees.specs.declared.player.Player.TheVariants.{Even}
 use Rattle.pb_trees.specs.Tree.{Connective, Leaf, Yes, No, Cut, Call, Operands, End, LeafThen, BracketThen, Tree, Single, Root, LeafCalls, OperandsCall, TreeCalls}
 use Rattle.pb_trees.specs.Rows.{Row, IsReached}
 use Rattle.pb_trees.specs.Game.{Vertex, brackets, inner, vertex_from, vertex_of, target, targets, rising_or, sink_of, owner_of, bracket_vertex, inner_vertices, tree_vertices, row_vertices}
@@ -101,7 +102,7 @@ module _ (at at' : ℕ → ℕ) (R : ℕ → Type 0) (same : (n : ℕ) → R n �
 
   tree_same : (p : ℕ) (tree : Tree) (next : ℕ) → TreeCalls R tree → tree_vertices at p tree next ≡ tree_vertices at' p tree next
   tree_same p (Single l) next h =
-      ap (λ (u : ℕ). let x : Vertex = record { owner = 0; priority = p; successors = u ∷ [] } in x ∷ []) (target_same l h)
+      ap (λ (u : ℕ). let x : Vertex = record { owner = Even; priority = p; successors = u ∷ [] } in x ∷ []) (target_same l h)
   tree_same p (Root c f) next h =
       ap (λ (x : Vertex). x ∷ inner_vertices at f (suc next)) (bracket_same p c f (suc next) h)
       ∙ ap (λ (xs : List Vertex). bracket_vertex at' p c f (suc next) ∷ xs) (inner_same f (suc next) h)

@@ -4,12 +4,12 @@ use Rattle.std.specs.Prelude.{Some}
 use Rattle.std.specs.List.{flat_map}
 use Rattle.pb_trees.specs.Game.{Vertex}
 use Rattle.pb_trees.specs.Laws.{IsGameVertex}
-use Rattle.pb_game.specs.Players.{parity_of}
+use Rattle.pb_trees.specs.declared.player.Player.{Player}
 use Rattle.pb_limits.specs.declared.TheConstants.{MAX_VERTICES, MAX_PRIORITIES}
 use Rattle.pb_game.specs.declared.parts.Parts.{Parts}
 use Rattle.pb_game_of_trees.specs.declared.draft.Draft.{Draft}
 
-abbrev pub owners : List Vertex → List ℕ
+abbrev pub owners : List Vertex → List Player
 owners vertices = map (λ (x : Vertex). x.owner) vertices
 
 abbrev pub priorities : List Vertex → List ℕ
@@ -26,7 +26,7 @@ edge_sums (x ∷ vertices) = length (successors (x ∷ vertices)) ∷ edge_sums 
 
 -- the draft holds these vertices, the last first
 pub record IsDraft (draft : Draft) (vertices : List Vertex) : Type 0 where
-  pub owner : map parity_of draft.owners.items ≡ reverse (owners vertices)
+  pub owner : draft.owners.items ≡ reverse (owners vertices)
   pub priority : draft.priorities.items ≡ reverse (priorities vertices)
   pub edges : draft.edges.items ≡ reverse (edge_sums vertices)
   pub successor : draft.successors.items ≡ reverse (successors vertices)
@@ -37,7 +37,7 @@ places vertices = map (λ n. length (successors vertices) - n) (edge_sums vertic
 
 -- the parts stand for these vertices
 pub record ArePartsOf (parts : Parts) (vertices : List Vertex) : Type 0 where
-  pub owner : map parity_of parts.owners.items ≡ owners vertices
+  pub owner : parts.owners.items ≡ owners vertices
   pub priority : parts.priorities.items ≡ priorities vertices
   pub place : parts.places.items ≡ places vertices
   pub successor : parts.successors.items ≡ successors vertices

@@ -1,6 +1,5 @@
 //! What a bracket of a tree is in the game: whose vertex, and which sink where it is empty.
 ghost use Rattle.std.specs.Prelude.{◌≡◌};
-ghost use Rattle.pb_game.specs.Players.{parity_of};
 ghost use Rattle.pb_trees.specs.Game.{owner_of, sink_of};
 ghost use Rattle.pb_game_of_trees.specs.Builder.{connective};
 
@@ -15,7 +14,7 @@ pub(crate) enum Bracket {
 
 /// The player who chooses among the operands.
 pub(crate) fn owner(bracket: Bracket) -> Player
-    ensures { parity_of result ≡ owner_of (connective bracket) }
+    ensures { result ≡ owner_of (connective bracket) }
 {
     match bracket {
         Bracket::And => Player::Odd,

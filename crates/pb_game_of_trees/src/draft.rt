@@ -2,7 +2,6 @@
 //! one. A vertex that is put before them goes to the end of each list, so nothing moves until all
 //! lists are turned round at the end.
 ghost use Rattle.std.specs.Prelude.{◌≡◌, ◌∷◌, ◌-◌, ◌≤◌, All, IfOk, OnOk, List, [], map, reverse};
-ghost use Rattle.pb_game.specs.Players.{parity_of};
 ghost use Rattle.pb_trees.specs.Game.{Vertex, rising};
 ghost use Rattle.pb_game_of_trees.specs.Draft.{IsDraft, ArePartsOf};
 ghost use Rattle.pb_limits.specs.declared.TheConstants.{MAX_VERTICES};
@@ -45,7 +44,7 @@ impl Draft {
     ) -> Result<(), AllocError>
         ensures { OnOk result ((vertices : List Vertex) → IsDraft self.old vertices
             → IsDraft self.new (record {
-              owner = parity_of owner;
+              owner = owner;
               priority = priority;
               successors = rising (reverse targets.old);
             } ∷ vertices)) }

@@ -19,7 +19,7 @@ impl Solved {
     ghost use Rattle.pb_trees.specs.Rows.{Row, IsReached};
     ghost use Rattle.pb_game.specs.Games.{vertex_count};
     ghost use Rattle.pb_game.specs.Solutions.{winner_of};
-    ghost use Rattle.pb_game.specs.declared.player.Player.TheVariants.{Even};
+    ghost use Rattle.pb_trees.specs.declared.player.Player.TheVariants.{Even};
     ghost use Rattle.pb_strategy.specs.Meaning.{IsSolvedAt};
     ghost use Rattle.pb_game_of_trees.specs.TreeGame.{IsTreeGame};
 

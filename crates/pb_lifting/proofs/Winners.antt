@@ -5,8 +5,8 @@ use Rattle.std.proofs.lemmas.Nat.{mod_below}
 use Rattle.std.proofs.lemmas.Bool.{cases_lt}
 use mathlib.Core.Logic.{dite}
 use native.Mathlib.Decide.{ℕ_discrete}
-use Rattle.pb_game.proofs.Players.{even_or_odd, even_not_odd}
-use Rattle.pb_game.specs.declared.player.Player.TheVariants.{Even, Odd}
+use Rattle.pb_trees.proofs.Players.{even_or_odd, even_not_odd}
+use Rattle.pb_trees.specs.declared.player.Player.TheVariants.{Even, Odd}
 use Rattle.pb_game.specs.declared.Game.{Game}
 use Rattle.pb_game.specs.Games.{vertex_count, owner_of, priority_of, priority_count}
 use Rattle.pb_game.proofs.Laws.{is_game}

@@ -1,7 +1,7 @@
 -- What contracts say of a table and its seats.
 use Rattle.std.specs.Prelude.{◌≡◌, ℕ, ◌+◌, ◌≤◌, List, length, Option, Some, slice_get, slice_index}
 use Rattle.atomic_table.specs.Seated.{TableId}
-use Rattle.pb_game.specs.declared.player.Player.{Player}
+use Rattle.pb_trees.specs.declared.player.Player.{Player}
 use Rattle.pb_game.specs.declared.Game.{Game}
 use Rattle.pb_game.specs.Games.{successors_of}
 use Rattle.pb_shared_words.specs.declared.seat.Seat.{Seat}

@@ -1,12 +1,11 @@
 //! Lifting by many workers.
 
-ghost use Rattle.std.specs.Prelude.{◌≡◌, ◌<◌, ◌^◌, ◌↔◌, IfOk, vec_len};
+ghost use Rattle.std.specs.Prelude.{◌≡◌, ◌<◌, ◌↔◌, IfOk};
 ghost use Rattle.pb_lifting.specs.Scales.{IsScaleOf};
 ghost use Rattle.pb_lifting.specs.Measures.{SomeHasTooManyRanks, IsLeastMeasure};
 ghost use Rattle.pb_lifting.specs.Seats.{game_at, IsSeatOf, IsSameSeat, AreSeatsOf};
 ghost use Rattle.pb_lifting.specs.Errors.{IsTooMany};
 ghost use Rattle.pb_lifting.specs.Solutions.{AreMeasured, IsLiftedSolution};
-ghost use Rattle.pb_lifting.specs.Jobs.{AreJobs};
 
 use crate::lift_error::{LiftError, TooManyRanks};
 use crate::measured::Measured;
@@ -14,7 +13,7 @@ use crate::ranks::{LiftSeat, Ranks};
 use crate::scale::{Scale, Scales};
 use crate::solution::solution_of;
 use crate::sweep::sweep;
-use crate::work::{Job, Lifting, work};
+use crate::work::{Lifting, work};
 use pb_exploration::Gate;
 use pb_game::{Game, Player, Solution};
 use std::alloc::{AllocError, Global};
@@ -68,9 +67,8 @@ fn lift_player<G: Gate + Sync, R: Threads + Sync>(
 {
     let game = lifting.game;
     let (ranks, seats) = Ranks::lay(alloc, game, player, scale, lifting.workers)?;
-    let jobs = jobs_of(alloc, &ranks, seats)?;
-    let done = run_jobs(rt, lifting, &ranks, jobs)?;
-    let mut words = ranks.close(alloc, done)?;
+    let seats = work_together(rt, lifting, &ranks, seats)?;
+    let mut words = ranks.close(alloc, seats)?;
     sweep(game, player, scale, &mut words);
     Ok(Measured {
         scale: *scale,
@@ -78,49 +76,35 @@ fn lift_player<G: Gate + Sync, R: Threads + Sync>(
     })
 }
 
-fn jobs_of(alloc: Global, ranks: &Ranks, mut seats: Vec<LiftSeat>) -> Result<Vec<Job>, AllocError>
-    requires seats { AreSeatsOf ranks.now seats.items }
-    requires few { vec_len seats < 2 ^ 32 }
-    ensures { IfOk result (λ v. AreJobs ranks.now v.items) }
-{
-    let mut jobs = Vec::with_capacity(alloc, seats.len())?;
-    while let Some(seat) = seats.pop() {
-        let worker = seats.len() as u32;
-        jobs.push(Job { worker, seat })?;
-    }
-    Ok(jobs)
-}
-
-/// Runs the jobs, each in a thread of its own where one can be made.
-fn run_jobs<G: Gate + Sync, R: Threads + Sync>(
+/// Does each worker's part, each in a thread of its own where one can be made.
+fn work_together<G: Gate + Sync, R: Threads + Sync>(
     rt: &R,
     lifting: &Lifting<'_, G>,
     ranks: &Ranks,
-    jobs: Vec<Job>,
+    seats: Vec<LiftSeat>,
 ) -> Result<Vec<LiftSeat>, AllocError>
     requires same_game { lifting.now.game.now ≡ game_at ranks.now }
-    requires jobs { AreJobs ranks.now jobs.items }
+    requires seats { AreSeatsOf ranks.now seats.items }
     ensures { IfOk result (λ v. AreSeatsOf ranks.now v.items) }
 {
     let done = thread::map_vec(
         rt,
-        jobs,
-        &|job: Job| -> LiftSeat
-            requires { IsSeatOf ranks.now job.seat
+        seats,
+        &|seat: LiftSeat| -> LiftSeat
+            requires { IsSeatOf ranks.now seat
                 × (lifting.now.game.now ≡ game_at ranks.now) }
-            ensures { IsSameSeat job.seat result }
-        { do_job(lifting, ranks, job) },
+            ensures { IsSameSeat seat result }
+        { work_with(lifting, ranks, seat) },
     )?;
     Ok(done)
 }
 
-/// Lifts a worker's vertices, and gives back its seat.
-fn do_job<G: Gate>(lifting: &Lifting<'_, G>, ranks: &Ranks, mut job: Job) -> LiftSeat
+/// Lifts the vertices of a seat's worker, and gives the seat back.
+fn work_with<G: Gate>(lifting: &Lifting<'_, G>, ranks: &Ranks, mut seat: LiftSeat) -> LiftSeat
     requires same_game { lifting.now.game.now ≡ game_at ranks.now }
-    requires seat { IsSeatOf ranks.now job.seat }
-    ensures { IsSameSeat job.seat result }
+    requires seat { IsSeatOf ranks.now seat }
+    ensures { IsSameSeat seat result }
 {
-    work(lifting, ranks, &mut job);
-    let Job { worker: _, seat } = job;
+    work(lifting, ranks, &mut seat);
     seat
 }

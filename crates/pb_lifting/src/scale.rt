@@ -3,7 +3,7 @@
 ghost use Rattle.std.specs.Prelude.{◌≡◌, ℕ, ◌+◌, ◌*◌, ◌<◌, ◌≤◌, ◌==◌, if◌then◌else◌, ◌%◌};
 ghost use Rattle.std.specs.Prelude.{slice_index, MatchOption};
 ghost use Rattle.pb_game.specs.Games.{vertex_count, priority_count};
-ghost use Rattle.pb_game.specs.Players.{parity_of};
+ghost use Rattle.pb_trees.specs.Players.{parity_of};
 ghost use Rattle.pb_lifting.specs.Radix.{step_up, better};
 ghost use Rattle.pb_lifting.specs.Measures.{top_of, asked, counts_of};
 ghost use Rattle.pb_lifting.specs.Measures.{HasTooManyRanks, SomeHasTooManyRanks};

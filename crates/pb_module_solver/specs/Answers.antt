@@ -7,7 +7,7 @@ use Rattle.pb_rows.specs.Row.{Row}
 use Rattle.pb_bytecode.specs.Contents.{Contents}
 use Rattle.pb_bytecode.specs.Meaning.{AreTrees}
 use Rattle.pb_exploration.specs.Rows.{AreReached, AreExplored}
-use Rattle.pb_game.specs.declared.player.Player.TheVariants.{Even}
+use Rattle.pb_trees.specs.declared.player.Player.TheVariants.{Even}
 use Rattle.pb_game_of_trees.specs.Explored.{IsModuleGame}
 use Rattle.pb_game.specs.declared.certificate.Solution.{Solution}
 use Rattle.pb_game.specs.Solutions.{winner_of}

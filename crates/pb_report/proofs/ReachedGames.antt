@@ -3,6 +3,7 @@ use Rattle.std.proofs.Common.{◌≡◌, ℕ, zero, suc, ◌+◌, ◌-◌, ◌<�
 use Rattle.std.specs.Prelude.{◌==◌, codes, IfSome, slice_get, if◌then◌else◌}
 use Rattle.std.proofs.lemmas.Bool.{cases_Bool, cond-true, cond-false}
 use Rattle.std.proofs.lemmas.List.{length-map}
+use Rattle.pb_trees.specs.declared.player.Player.{Player}
 use Rattle.pb_trees.specs.Tree.{Tree}
 use Rattle.pb_trees.specs.Equations.{total}
 use Rattle.pb_trees.specs.Rows.{Row}
@@ -52,7 +53,7 @@ numbers_within (row ∷ rows) next v count all = elim (cases_Bool (v == next)) [
 
 vertex_is : (g : Game) (v : ℕ) (x : Vertex) → IsVertex g v x → vertex_at g v ≡ x
 vertex_is g v x is =
-    ap (λ (n : ℕ). let y : Vertex = record { owner = n; priority = priority_of g v; successors = successors_of g v } in y) is.owner
+    ap (λ (p : Player). let y : Vertex = record { owner = p; priority = priority_of g v; successors = successors_of g v } in y) is.owner
     ∙ (ap (λ (n : ℕ). let y : Vertex = record { owner = x.owner; priority = n; successors = successors_of g v } in y) is.priority
     ∙ ap (λ (ns : List ℕ). let y : Vertex = record { owner = x.owner; priority = x.priority; successors = ns } in y) is.successors)
 

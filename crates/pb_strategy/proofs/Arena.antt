@@ -2,7 +2,7 @@
 -- and, where an equation's sign is the other player's, by induction on that player's counts.
 use Rattle.std.proofs.Common.{◌≡◌, ◌≢◌, ℕ, zero, suc, ◌+◌, ◌%◌, ◌<◌, ◌≤◌, Bool, not, List, [], ◌∷◌, length, inl, inr, refl, sym, ap, ◌∙◌, subst, arith}
 use Rattle.std.proofs.lemmas.Bool.{cases_lt}
-use Rattle.pb_game.specs.Players.{parity_of}
+use Rattle.pb_trees.specs.Players.{parity_of}
 use Rattle.pb_fixpoint.specs.Solution.{Environment, Equation, assign, iterate, start, solution, operator, value_of}
 use Rattle.pb_trees.specs.Tree.{Tree, tree_truth}
 use Rattle.pb_trees.specs.Equations.{Signature, total, equation, numbered}

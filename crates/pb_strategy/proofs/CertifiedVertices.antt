@@ -7,9 +7,10 @@ use Rattle.pb_trees.specs.Tree.{Tree, Single, Root, TreeCalls, tree_truth}
 use Rattle.pb_trees.specs.Equations.{Signature, solved}
 use Rattle.pb_trees.specs.Game.{Vertex, inner, target, vertex_of, priority_from, tree_vertices, row_vertices, game_vertices, false_sink, true_sink}
 use Rattle.pb_trees.specs.Rows.{Row, IsReached, AreRows}
-use Rattle.pb_game.specs.declared.player.Player.TheVariants.{Even, Odd}
-use Rattle.pb_game.specs.Players.{parity_of}
-use Rattle.pb_game.specs.declared.player.Player.{Player}
+use Rattle.pb_trees.specs.declared.player.Player.TheVariants.{Even, Odd}
+use Rattle.pb_trees.specs.Players.{parity_of}
+use Rattle.pb_trees.proofs.Players.{even_not_odd}
+use Rattle.pb_trees.specs.declared.player.Player.{Player}
 use Rattle.pb_game.specs.Certificates.{IsProgress}
 use Rattle.pb_strategy.proofs.Players.{player}
 use Rattle.pb_trees.proofs.Members.{among_of_contains, contains_of_among}
@@ -21,7 +22,7 @@ use Rattle.pb_strategy.proofs.Arena.{Arena, claim}
 
 -- What the proof reads of a certificate: a winner, a choice and counts for each vertex, and what holds along kept edges.
 pub record IsCertified (vertices : List Vertex) (winner : ℕ → Player) (choice : ℕ → ℕ) (count : ℕ → ℕ → ℕ) (limit : ℕ) : Type 0 where
-  pub chosen : (v : ℕ) (x : Vertex) → slice_get vertices v ≡ Some x → x.owner ≡ parity_of (winner v) → Contains x.successors (choice v)
+  pub chosen : (v : ℕ) (x : Vertex) → slice_get vertices v ≡ Some x → x.owner ≡ winner v → Contains x.successors (choice v)
   pub region : (v w : ℕ) → KeptEdge vertices winner choice v w → winner w ≡ winner v
   pub progress : (v w : ℕ) (k : KeptEdge vertices winner choice v w) → IsProgress (count v) (count w) (winner v) k.vertex.priority limit
 
@@ -42,7 +43,7 @@ module _ (signatures : List Signature) (trees : ℕ → Tree) (rows : List Row) 
   -- Odd wins the false sink: its loop is kept, and would have to decrease Odd's counts
   false_sink-lost : winner 0 ≡ Even → ⊥
   false_sink-lost wins =
-      let edge : Contains false_sink.successors (choice 0) = is.chosen 0 false_sink refl (sym (ap parity_of wins)) in
+      let edge : Contains false_sink.successors (choice 0) = is.chosen 0 false_sink refl (sym wins) in
       let stays : choice 0 ≡ 0 = elim (among_of_contains false_sink.successors (choice 0) edge) [ inl e ↦ sym e | inr no' ↦ absurd no' ] in
       let kept : Kept 0 0 = record { vertex = false_sink; stands = refl; edge = contains_of_among false_sink.successors 0 (inl refl); chosen = λ _. stays } in
       no_loop (count 0) (winner 0) 1 limit (λ e. let one : 1 ≡ 0 = e ∙ ap parity_of wins in omega arith) (is.progress 0 0 kept)
@@ -53,7 +54,7 @@ module _ (signatures : List Signature) (trees : ℕ → Tree) (rows : List Row) 
         vertex = true_sink;
         stands = refl;
         edge = contains_of_among true_sink.successors 1 (inl refl);
-        chosen = λ owned. absurd (let one : 0 ≡ 1 = owned ∙ ap parity_of wins in omega arith);
+        chosen = λ owned. absurd (even_not_odd (owned ∙ wins));
       } in
       no_loop (count 1) (winner 1) 0 limit (λ e. let one : 0 ≡ 1 = e ∙ ap parity_of wins in omega arith) (is.progress 1 1 kept)
 
@@ -130,8 +131,8 @@ module _ (signatures : List Signature) (trees : ℕ → Tree) (rows : List Row) 
       go : (tree : Tree) → TreeCalls (IsReached rows) tree → StandAt g v (tree_vertices at (level n) tree v) →
           ((k : ℕ) → v < k → k < suc (v + inner tree) → IsInner k) → tree_truth t tree ≡ b
       go (Single l) reached stands inners' =
-          let x : Vertex = record { owner = 0; priority = level n; successors = target at l ∷ [] } in
-          let chosen : 0 ≡ parity_of (winner v) → choice v ≡ target at l = λ owned.
+          let x : Vertex = record { owner = Even; priority = level n; successors = target at l ∷ [] } in
+          let chosen : Even ≡ winner v → choice v ≡ target at l = λ owned.
           elim (among_of_contains x.successors (choice v) (is.chosen v x stands.0 owned)) [ inl e ↦ sym e | inr no' ↦ absurd no' ] in
           leaf-value b g winner choice is.chosen at (IsReached rows) IsInner S t won closed' calls to_false to_true l reached
           (kept (target at l) (record { vertex = x; stands = stands.0; edge = contains_of_among x.successors (target at l) (inl refl); chosen = chosen }))

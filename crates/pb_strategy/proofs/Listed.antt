@@ -1,10 +1,8 @@
 -- Lists that pass the test are a certificate of each game with these vertices.
 use Rattle.std.proofs.Common.{◌≡◌, ℕ, zero, suc, ◌+◌, ◌*◌, ◌<◌, Bool, true, List, [], ◌∷◌, length, Some, refl, sym, ap, ap₂, ◌∙◌, subst, arith}
 use Rattle.std.specs.Prelude.{Contains, slice_get, slice_index, slice_index_or}
-use Rattle.pb_game.proofs.Players.{parity_exact}
-use Rattle.pb_game.specs.declared.player.Player.TheVariants.{Even}
-use Rattle.pb_game.specs.Players.{parity_of}
-use Rattle.pb_game.specs.declared.player.Player.{Player}
+use Rattle.pb_trees.specs.declared.player.Player.TheVariants.{Even}
+use Rattle.pb_trees.specs.declared.player.Player.{Player}
 use Rattle.pb_game.specs.declared.Game.{Game}
 use Rattle.pb_game.specs.Adjacency.{greatest_of}
 use Rattle.pb_game.specs.Games.{vertex_count, priority_of, greatest_priority, priority_count}
@@ -82,9 +80,9 @@ module _ (lists : Lists) (vertices : List Vertex) (g : Game) (s : Solution) (has
   certified_at : (v : ℕ) (x : Vertex) → IsVertex g v x → Meets (winner_of s) (choice_of s) (count_of g s) (priority_count g) v x → IsCertifiedAt g s v
   certified_at v x there m =
       let edge_to : (w : ℕ) → IsKept g s v w → Contains x.successors w = λ w k. subst (λ (ws : List ℕ). Contains ws w) there.successors k.edge in
-      let own : (w : ℕ) → IsKept g s v w → x.owner ≡ parity_of (winner_of s v) → choice_of s v ≡ w = λ w k e. k.choice (parity_exact _ _ (there.owner ∙ e)) in
+      let own : (w : ℕ) → IsKept g s v w → x.owner ≡ winner_of s v → choice_of s v ≡ w = λ w k e. k.choice (there.owner ∙ e) in
       record {
-        choice = λ e. subst (λ (ws : List ℕ). Contains ws (choice_of s v)) (sym there.successors) (m.chosen (sym there.owner ∙ ap parity_of e));
+        choice = λ e. subst (λ (ws : List ℕ). Contains ws (choice_of s v)) (sym there.successors) (m.chosen (sym there.owner ∙ e));
         region = λ w k. m.region w (edge_to w k) (own w k);
         progress = λ w k. subst (λ p. IsProgress (count_of g s v) (count_of g s w) (winner_of s v) p (priority_count g)) (sym there.priority)
             (m.progress w (edge_to w k) (own w k));

@@ -2,8 +2,7 @@
 use Rattle.std.proofs.Common.{◌≡◌, ℕ, suc, ◌+◌, ◌<◌, ◌≤◌, Bool, true, false, not, List, Some, refl, sym, ap, ◌∙◌, subst, inl, inr, arith}
 use Rattle.std.specs.Prelude.{Contains, slice_get}
 use Rattle.std.proofs.Math.Bool.{not-not}
-use Rattle.pb_game.specs.Players.{parity_of}
-use Rattle.pb_game.specs.declared.player.Player.{Player}
+use Rattle.pb_trees.specs.declared.player.Player.{Player}
 use Rattle.pb_fixpoint.specs.Solution.{Environment}
 use Rattle.pb_trees.specs.Tree.{Connective, Conjunction, Disjunction, Leaf, Yes, No, Cut, Call, Operands, End, LeafThen, BracketThen, LeafCalls, OperandsCall, of_none, leaf_truth, operands_truth}
 use Rattle.pb_trees.specs.Game.{Vertex, brackets, target, targets, owner_of, bracket_successors, bracket_vertex, inner_vertices}
@@ -16,12 +15,12 @@ pub record KeptEdge (vertices : List Vertex) (winner : ℕ → Player) (choice :
   pub vertex : Vertex
   pub stands : slice_get vertices v ≡ Some vertex
   pub edge : Contains vertex.successors w
-  pub chosen : vertex.owner ≡ parity_of (winner v) → choice v ≡ w
+  pub chosen : vertex.owner ≡ winner v → choice v ≡ w
 
 -- S has vertices that the player who wants b wins, closed under kept edges from inner vertices, which the brackets inside
 -- trees are; where it has an instance's vertex, t has b
 module _ (b : Bool) (vertices : List Vertex) (winner : ℕ → Player) (choice : ℕ → ℕ)
-    (chosen : (v : ℕ) (x : Vertex) → slice_get vertices v ≡ Some x → x.owner ≡ parity_of (winner v) → Contains x.successors (choice v))
+    (chosen : (v : ℕ) (x : Vertex) → slice_get vertices v ≡ Some x → x.owner ≡ winner v → Contains x.successors (choice v))
     (at : ℕ → ℕ) (Reached : ℕ → Type 0) (IsInner : ℕ → Type 0) (S : ℕ → Type 0) (t : Environment ℕ)
     (won : (v : ℕ) → S v → winner v ≡ player b)
     (closed : (v w : ℕ) (x : Vertex) → S v → IsInner v → slice_get vertices v ≡ Some x → x.priority ≡ 0 → KeptEdge vertices winner choice v w → S w)
@@ -67,7 +66,7 @@ module _ (b : Bool) (vertices : List Vertex) (winner : ℕ → Player) (choice :
     where
       by_choice : c ≡ choosing b → operands_truth t c f ≡ b
       by_choice mine =
-          let edge : Contains (bracket_successors at c f (suc v)) (choice v) = chosen v (bracket_vertex at p c f (suc v)) stands (ap owner_of mine ∙ (owner-choosing b ∙ sym (ap parity_of wins))) in
+          let edge : Contains (bracket_successors at c f (suc v)) (choice v) = chosen v (bracket_vertex at p c f (suc v)) stands (ap owner_of mine ∙ (owner-choosing b ∙ sym wins)) in
           let s : S (choice v) = kept (choice v) (record { vertex = bracket_vertex at p c f (suc v); stands = stands; edge = edge; chosen = λ _. refl }) in
           let among : Among (bracket_successors at c f (suc v)) (choice v) = among_of_contains (bracket_successors at c f (suc v)) (choice v) edge in
           subst (λ j. operands_truth t j f ≡ b) (sym mine)
@@ -80,7 +79,7 @@ module _ (b : Bool) (vertices : List Vertex) (winner : ℕ → Player) (choice :
             vertex = bracket_vertex at p c f (suc v);
             stands = stands;
             edge = contains_of_among (bracket_successors at c f (suc v)) w among;
-            chosen = λ owned. absurd (owner-other b (sym (ap owner_of theirs) ∙ (owned ∙ ap parity_of wins)));
+            chosen = λ owned. absurd (owner-other b (sym (ap owner_of theirs) ∙ (owned ∙ wins)));
           }) in
           subst (λ j. operands_truth t j f ≡ b) (sym theirs)
           (others f (suc v) values (subst (λ j. (w : ℕ) → Among (bracket_successors at j f (suc v)) w → S w) theirs all))

@@ -2,9 +2,9 @@
 -- disjunctions; Odd wants false, and has the conjunctions.
 use Rattle.std.proofs.Common.{◌≡◌, ◌≢◌, ℕ, Bool, true, false, not, ◌&&◌, ◌||◌, ◌⊎◌, inl, inr, refl, sym, ap}
 use Rattle.std.proofs.lemmas.Bool.{true≢false}
-use Rattle.pb_game.specs.Players.{parity_of}
-use Rattle.pb_game.specs.declared.player.Player.TheVariants.{Even, Odd}
-use Rattle.pb_game.specs.declared.player.Player.{Player}
+use Rattle.pb_trees.specs.Players.{parity_of}
+use Rattle.pb_trees.specs.declared.player.Player.TheVariants.{Even, Odd}
+use Rattle.pb_trees.specs.declared.player.Player.{Player}
 use Rattle.pb_fixpoint.specs.declared.Sign.{Sign}
 use Rattle.pb_fixpoint.specs.declared.Sign.TheVariants.{Mu, Nu}
 use Rattle.pb_fixpoint.specs.Solution.{start}
@@ -47,11 +47,11 @@ pub not_other : (b : Bool) → not b ≡ b → ⊥
 not_other true h = true≢false (sym h)
 not_other false h = true≢false h
 
-pub owner-choosing : (b : Bool) → owner_of (choosing b) ≡ parity_of (player b)
+pub owner-choosing : (b : Bool) → owner_of (choosing b) ≡ player b
 owner-choosing true = refl
 owner-choosing false = refl
 
-pub owner-other : (b : Bool) → owner_of (choosing (not b)) ≡ parity_of (player b) → ⊥
+pub owner-other : (b : Bool) → owner_of (choosing (not b)) ≡ player b → ⊥
 owner-other true h = cc
 owner-other false h = cc
 

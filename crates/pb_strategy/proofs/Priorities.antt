@@ -1,7 +1,7 @@
 -- Priorities of equations: they don't rise from one equation to the next, and have the parity of the sign.
 use Rattle.std.proofs.Common.{◌≡◌, ◌≢◌, ℕ, suc, ◌+◌, ◌%◌, ◌<◌, ◌≤◌, Bool, not, List, [], ◌∷◌, refl, sym, ap, ◌∙◌, arith}
 use Rattle.std.proofs.lemmas.Bool.{lt-ltb, le-ltb}
-use Rattle.pb_game.specs.Players.{parity_of}
+use Rattle.pb_trees.specs.Players.{parity_of}
 use Rattle.pb_fixpoint.specs.declared.Sign.{Sign}
 use Rattle.pb_fixpoint.specs.declared.Sign.TheVariants.{Mu, Nu}
 use Rattle.pb_trees.specs.Equations.{Signature}

@@ -4,9 +4,9 @@ use Rattle.std.specs.Prelude.{Contains, nat_lt, slice_index_or, false, ◌==◌}
 use Rattle.std.proofs.lemmas.Bool.{and_parts, ltb-true, true≢false}
 use Rattle.pb_trees.specs.Tree.{Leaf, Yes, No, Cut, Call, Operands, End, LeafThen, BracketThen, Tree, Single, Root, LeafCalls, OperandsCall, TreeCalls}
 use Rattle.pb_trees.specs.Equations.{Signature, total}
-use Rattle.pb_game.specs.declared.player.Player.TheVariants.{Even}
-use Rattle.pb_game.specs.Players.{is_even}
-use Rattle.pb_game.specs.declared.player.Player.{Player}
+use Rattle.pb_trees.specs.declared.player.Player.TheVariants.{Even}
+use Rattle.pb_trees.specs.Players.{is_even}
+use Rattle.pb_trees.specs.declared.player.Player.{Player}
 use Rattle.pb_game.specs.Solutions.{winner_of}
 use Rattle.pb_trees.specs.Examples.{mu, tree_at}
 use Rattle.pb_trees.specs.Game.{Vertex, game_vertices, false_sink, true_sink}

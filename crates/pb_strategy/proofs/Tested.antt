@@ -3,9 +3,9 @@ use Rattle.std.proofs.Common.{◌≡◌, ◌≢◌, ℕ, zero, suc, ◌+◌, ◌
 use Rattle.std.specs.Prelude.{Contains, slice_get, nat_lt, ◌==◌, if◌then◌else◌}
 use Rattle.std.proofs.lemmas.Bool.{false≢true, and_parts, or_cases, cases_Bool, cases_lt, lt-ltb, le-ltb, ltb-true, eqb-true, eqb-false, eq-eqb, cond-true}
 use Rattle.pb_trees.specs.Game.{Vertex}
-use Rattle.pb_game.proofs.Players.{parity_exact}
-use Rattle.pb_game.specs.Players.{parity_of}
-use Rattle.pb_game.specs.declared.player.Player.{Player}
+use Rattle.pb_trees.proofs.Players.{same_is, same_yes}
+use Rattle.pb_trees.specs.Players.{parity_of, is_same}
+use Rattle.pb_trees.specs.declared.player.Player.{Player}
 use Rattle.pb_game.specs.Certificates.{Decreases, IsSame, IsProgress}
 use Rattle.pb_trees.proofs.Members.{Among, among_of_contains, contains_of_among}
 use Rattle.pb_strategy.proofs.Counts.{losing_counts}
@@ -111,15 +111,15 @@ among_of_test (x ∷ xs) w h = elim (or_cases (x == w) (is_among xs w) h) [ inl 
 module _ (winner : ℕ → Player) (choice : ℕ → ℕ) (count : ℕ → ℕ → ℕ) (limit : ℕ) where
   abbrev edge_passes : ℕ → Vertex → ℕ → Bool
   edge_passes v x w =
-      if x.owner == parity_of (winner v) && not (choice v == w) then true
-      else (parity_of (winner w) == parity_of (winner v) && progresses (count v) (count w) (winner v) x.priority limit)
+      if is_same x.owner (winner v) && not (choice v == w) then true
+      else (is_same (winner w) (winner v) && progresses (count v) (count w) (winner v) x.priority limit)
 
   abbrev edges_pass : ℕ → Vertex → List ℕ → Bool
   edges_pass v x [] = true
   edges_pass v x (w ∷ ws) = edge_passes v x w && edges_pass v x ws
 
   abbrev vertex_passes : ℕ → Vertex → Bool
-  vertex_passes v x = (if x.owner == parity_of (winner v) then is_among x.successors (choice v) else true) && edges_pass v x x.successors
+  vertex_passes v x = (if is_same x.owner (winner v) then is_among x.successors (choice v) else true) && edges_pass v x x.successors
 
   -- the vertices from v on
   abbrev pub vertices_pass : ℕ → List Vertex → Bool
@@ -128,32 +128,32 @@ module _ (winner : ℕ → Player) (choice : ℕ → ℕ) (count : ℕ → ℕ �
 
   -- what a vertex that passes meets
   pub record Meets (v : ℕ) (x : Vertex) : Type 0 where
-    pub chosen : x.owner ≡ parity_of (winner v) → Contains x.successors (choice v)
-    pub region : (w : ℕ) → Contains x.successors w → (x.owner ≡ parity_of (winner v) → choice v ≡ w) → winner w ≡ winner v
-    pub progress : (w : ℕ) → Contains x.successors w → (x.owner ≡ parity_of (winner v) → choice v ≡ w) → IsProgress (count v) (count w) (winner v) x.priority limit
+    pub chosen : x.owner ≡ winner v → Contains x.successors (choice v)
+    pub region : (w : ℕ) → Contains x.successors w → (x.owner ≡ winner v → choice v ≡ w) → winner w ≡ winner v
+    pub progress : (w : ℕ) → Contains x.successors w → (x.owner ≡ winner v → choice v ≡ w) → IsProgress (count v) (count w) (winner v) x.priority limit
 
   edges_of_test : (v w : ℕ) (x : Vertex) (ws : List ℕ) → edges_pass v x ws ≡ true → Among ws w → edge_passes v x w ≡ true
   edges_of_test v w x [] h among = absurd among
   edges_of_test v w x (u ∷ us) h (inl e) = subst (λ y. edge_passes v x y ≡ true) e (and_parts (edge_passes v x u) (edges_pass v x us) h).0
   edges_of_test v w x (u ∷ us) h (inr later) = edges_of_test v w x us (and_parts (edge_passes v x u) (edges_pass v x us) h).1 later
 
-  kept_of_test : (v w : ℕ) (x : Vertex) → edge_passes v x w ≡ true → (x.owner ≡ parity_of (winner v) → choice v ≡ w) →
-      (parity_of (winner w) == parity_of (winner v) && progresses (count v) (count w) (winner v) x.priority limit) ≡ true
-  kept_of_test v w x h chosen = elim (cases_Bool (x.owner == parity_of (winner v))) [
-    | inl own ↦ rw (own, eq-eqb (choice v) w (chosen (eqb-true x.owner (parity_of (winner v)) own))) at h
+  kept_of_test : (v w : ℕ) (x : Vertex) → edge_passes v x w ≡ true → (x.owner ≡ winner v → choice v ≡ w) →
+      (is_same (winner w) (winner v) && progresses (count v) (count w) (winner v) x.priority limit) ≡ true
+  kept_of_test v w x h chosen = elim (cases_Bool (is_same x.owner (winner v))) [
+    | inl own ↦ rw (own, eq-eqb (choice v) w (chosen (same_is x.owner (winner v) own))) at h
     | inr other ↦ rw other at h
   ]
 
   meets_of_test : (v : ℕ) (x : Vertex) → vertex_passes v x ≡ true → Meets v x
   meets_of_test v x h =
-      let both = and_parts (if x.owner == parity_of (winner v) then is_among x.successors (choice v) else true) (edges_pass v x x.successors) h in
-      let kept = λ (w : ℕ) (edge : Contains x.successors w) (chosen : x.owner ≡ parity_of (winner v) → choice v ≡ w).
-      and_parts (parity_of (winner w) == parity_of (winner v)) (progresses (count v) (count w) (winner v) x.priority limit)
+      let both = and_parts (if is_same x.owner (winner v) then is_among x.successors (choice v) else true) (edges_pass v x x.successors) h in
+      let kept = λ (w : ℕ) (edge : Contains x.successors w) (chosen : x.owner ≡ winner v → choice v ≡ w).
+      and_parts (is_same (winner w) (winner v)) (progresses (count v) (count w) (winner v) x.priority limit)
       (kept_of_test v w x (edges_of_test v w x x.successors both.1 (among_of_contains x.successors w edge)) chosen) in
       record {
         chosen = λ own. contains_of_among x.successors (choice v) (among_of_test x.successors (choice v)
-            (sym (cond-true (x.owner == parity_of (winner v)) (is_among x.successors (choice v)) true (eq-eqb x.owner (parity_of (winner v)) own)) ∙ both.0));
-        region = λ w edge chosen. parity_exact (winner w) (winner v) (eqb-true (parity_of (winner w)) (parity_of (winner v)) (kept w edge chosen).0);
+            (sym (cond-true (is_same x.owner (winner v)) (is_among x.successors (choice v)) true (same_yes x.owner (winner v) own)) ∙ both.0));
+        region = λ w edge chosen. same_is (winner w) (winner v) (kept w edge chosen).0;
         progress = λ w edge chosen. progress_of_test (count v) (count w) (winner v) x.priority limit (kept w edge chosen).1;
       }
 

@@ -4,10 +4,9 @@ use Rattle.std.specs.Prelude.{Bool, true, false, IsTrue, ◌↔◌, Contains, sl
 use Rattle.std.proofs.Math.Bool.{Bool-set}
 use Rattle.std.proofs.Math.Logic.{∥∥₁_elim}
 use Rattle.std.proofs.lemmas.Option.{slice_get_within}
-use Rattle.pb_game.proofs.Players.{parity_exact}
-use Rattle.pb_game.specs.declared.player.Player.TheVariants.{Even, Odd}
-use Rattle.pb_game.specs.Players.{parity_of, is_even}
-use Rattle.pb_game.specs.declared.player.Player.{Player}
+use Rattle.pb_trees.specs.declared.player.Player.TheVariants.{Even, Odd}
+use Rattle.pb_trees.specs.Players.{is_even}
+use Rattle.pb_trees.specs.declared.player.Player.{Player}
 use Rattle.pb_game.specs.declared.Game.{Game}
 use Rattle.pb_game.specs.Games.{priority_count}
 use Rattle.pb_game.specs.declared.certificate.Solution.{Solution}
@@ -30,14 +29,14 @@ module _ (g : Game) (s : Solution) (vertices : List Vertex) (has : HasVertices g
       let there = has.each v k.vertex k.stands in
       record {
         edge = subst (λ (ws : List ℕ). Contains ws w) (sym there.successors) k.edge;
-        choice = λ own. k.chosen (sym there.owner ∙ ap parity_of own);
+        choice = λ own. k.chosen (sym there.owner ∙ own);
       }
 
   pub certified : IsCertified vertices (winner_of s) (choice_of s) (count_of g s) (priority_count g)
   certified = record {
     chosen = λ v x h own.
         let there = has.each v x h in
-        subst (λ (ws : List ℕ). Contains ws (choice_of s v)) there.successors ((at_vertex v x h).choice (parity_exact _ _ (there.owner ∙ own)));
+        subst (λ (ws : List ℕ). Contains ws (choice_of s v)) there.successors ((at_vertex v x h).choice (there.owner ∙ own));
     region = λ v w k. (at_vertex v k.vertex k.stands).region w (kept_there v w k);
     progress = λ v w k.
         subst (λ p. IsProgress (count_of g s v) (count_of g s w) (winner_of s v) p (priority_count g)) (has.each v k.vertex k.stands).priority

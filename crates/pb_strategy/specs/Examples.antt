@@ -1,8 +1,8 @@
 -- Small systems by hand: the game of each, the lists of a certificate, and the values of its
 -- instances.
 use Rattle.std.specs.Prelude.{◌≡◌, ℕ, zero, suc, Bool, true, false, List, [], ◌∷◌}
-use Rattle.pb_game.specs.declared.player.Player.TheVariants.{Even, Odd}
-use Rattle.pb_game.specs.declared.player.Player.{Player}
+use Rattle.pb_trees.specs.declared.player.Player.TheVariants.{Even, Odd}
+use Rattle.pb_trees.specs.declared.player.Player.{Player}
 use Rattle.pb_game.specs.declared.Game.{Game}
 use Rattle.pb_game.specs.declared.certificate.Solution.{Solution}
 use Rattle.pb_game.specs.Certificates.{IsCertificate}
@@ -23,7 +23,7 @@ values_from signatures trees n zero = []
 values_from signatures trees n (suc count) =
     solved signatures (tree_at trees) n ∷ values_from signatures trees (suc n) count
 
-abbrev pub vertex : ℕ → ℕ → List ℕ → Vertex
+abbrev pub vertex : Player → ℕ → List ℕ → Vertex
 vertex owner priority successors =
     record { owner = owner; priority = priority; successors = successors }
 
@@ -60,7 +60,7 @@ pub record IsWorked (signatures : List Signature) (trees : List Tree) (behind : 
 -- nu X = X
 abbrev pub GreatestOfItself : Type 0
 GreatestOfItself = IsWorked (nu 1 ∷ []) (Single (Call 0) ∷ [])
-    (vertex 0 0 (2 ∷ []) ∷ [])
+    (vertex Even 0 (2 ∷ []) ∷ [])
     (record {
       winner = Odd ∷ (Even ∷ (Even ∷ []));
       choice = 0 ∷ (1 ∷ (2 ∷ []));
@@ -71,7 +71,7 @@ GreatestOfItself = IsWorked (nu 1 ∷ []) (Single (Call 0) ∷ [])
 -- mu X = X
 abbrev pub LeastOfItself : Type 0
 LeastOfItself = IsWorked (mu 1 ∷ []) (Single (Call 0) ∷ [])
-    (vertex 0 1 (2 ∷ []) ∷ [])
+    (vertex Even 1 (2 ∷ []) ∷ [])
     (record {
       winner = Odd ∷ (Even ∷ (Odd ∷ []));
       choice = 0 ∷ (1 ∷ (2 ∷ []));
@@ -92,7 +92,7 @@ WrongWinner = DontCertify
 -- mu X = Y; nu Y = X
 abbrev pub LeastFirst : Type 0
 LeastFirst = IsWorked (mu 1 ∷ (nu 1 ∷ [])) (Single (Call 1) ∷ (Single (Call 0) ∷ []))
-    (vertex 0 1 (3 ∷ []) ∷ (vertex 0 0 (2 ∷ []) ∷ []))
+    (vertex Even 1 (3 ∷ []) ∷ (vertex Even 0 (2 ∷ []) ∷ []))
     (record {
       winner = Odd ∷ (Even ∷ (Odd ∷ (Odd ∷ [])));
       choice = 0 ∷ (1 ∷ (0 ∷ (0 ∷ [])));
@@ -103,7 +103,7 @@ LeastFirst = IsWorked (mu 1 ∷ (nu 1 ∷ [])) (Single (Call 1) ∷ (Single (Cal
 -- nu Y = X; mu X = Y
 abbrev pub GreatestFirst : Type 0
 GreatestFirst = IsWorked (nu 1 ∷ (mu 1 ∷ [])) (Single (Call 1) ∷ (Single (Call 0) ∷ []))
-    (vertex 0 2 (3 ∷ []) ∷ (vertex 0 1 (2 ∷ []) ∷ []))
+    (vertex Even 2 (3 ∷ []) ∷ (vertex Even 1 (2 ∷ []) ∷ []))
     (record {
       winner = Odd ∷ (Even ∷ (Even ∷ (Even ∷ [])));
       choice = 0 ∷ (1 ∷ (3 ∷ (2 ∷ [])));
@@ -117,7 +117,8 @@ EachOther = IsWorked (nu 3 ∷ [])
     (Root Conjunction (LeafThen (Call 1) (LeafThen (Call 2) End))
     ∷ (Root Conjunction (LeafThen (Call 0) (LeafThen (Call 2) End))
     ∷ (Root Conjunction (LeafThen (Call 0) (LeafThen (Call 1) End)) ∷ [])))
-    (vertex 1 0 (3 ∷ (4 ∷ [])) ∷ (vertex 1 0 (2 ∷ (4 ∷ [])) ∷ (vertex 1 0 (2 ∷ (3 ∷ [])) ∷ [])))
+    (vertex Odd 0 (3 ∷ (4 ∷ []))
+    ∷ (vertex Odd 0 (2 ∷ (4 ∷ [])) ∷ (vertex Odd 0 (2 ∷ (3 ∷ [])) ∷ [])))
     (record {
       winner = Odd ∷ (Even ∷ (Even ∷ (Even ∷ (Even ∷ []))));
       choice = 0 ∷ (1 ∷ (0 ∷ (0 ∷ (0 ∷ []))));
@@ -129,8 +130,8 @@ EachOther = IsWorked (nu 3 ∷ [])
 abbrev pub AlternatingInstances : Type 0
 AlternatingInstances = IsWorked (nu 2 ∷ (mu 2 ∷ []))
     (Single (Call 2) ∷ (Single (Call 3) ∷ (Single (Call 1) ∷ (Single (Call 2) ∷ []))))
-    (vertex 0 2 (4 ∷ [])
-    ∷ (vertex 0 2 (5 ∷ []) ∷ (vertex 0 1 (3 ∷ []) ∷ (vertex 0 1 (4 ∷ []) ∷ []))))
+    (vertex Even 2 (4 ∷ [])
+    ∷ (vertex Even 2 (5 ∷ []) ∷ (vertex Even 1 (3 ∷ []) ∷ (vertex Even 1 (4 ∷ []) ∷ []))))
     (record {
       winner = Odd ∷ (Even ∷ (Even ∷ (Even ∷ (Even ∷ (Even ∷ [])))));
       choice = 0 ∷ (1 ∷ (4 ∷ (5 ∷ (3 ∷ (4 ∷ [])))));
@@ -147,7 +148,7 @@ NestedBracket = IsWorked (nu 1 ∷ (mu 1 ∷ []))
     (Root Disjunction
     (BracketThen Conjunction (LeafThen (Call 0) (LeafThen (Call 1) End)) (LeafThen (Call 1) End))
     ∷ (Single (Call 1) ∷ []))
-    (vertex 0 2 (3 ∷ (4 ∷ [])) ∷ (vertex 1 0 (2 ∷ (4 ∷ [])) ∷ (vertex 0 1 (4 ∷ []) ∷ [])))
+    (vertex Even 2 (3 ∷ (4 ∷ [])) ∷ (vertex Odd 0 (2 ∷ (4 ∷ [])) ∷ (vertex Even 1 (4 ∷ []) ∷ [])))
     (record {
       winner = Odd ∷ (Even ∷ (Odd ∷ (Odd ∷ (Odd ∷ []))));
       choice = 0 ∷ (1 ∷ (0 ∷ (4 ∷ (0 ∷ []))));
@@ -161,7 +162,7 @@ NestedBracket = IsWorked (nu 1 ∷ (mu 1 ∷ []))
 abbrev pub TrueOperand : Type 0
 TrueOperand = IsWorked (nu 1 ∷ [])
     (Root Conjunction (BracketThen Disjunction (LeafThen Yes End) (LeafThen (Call 0) End)) ∷ [])
-    (vertex 1 0 (2 ∷ (3 ∷ [])) ∷ (vertex 0 0 (1 ∷ []) ∷ []))
+    (vertex Odd 0 (2 ∷ (3 ∷ [])) ∷ (vertex Even 0 (1 ∷ []) ∷ []))
     (record {
       winner = Odd ∷ (Even ∷ (Even ∷ (Even ∷ [])));
       choice = 0 ∷ (1 ∷ (0 ∷ (1 ∷ [])));

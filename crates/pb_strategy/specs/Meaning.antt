@@ -6,7 +6,7 @@
 -- of each certificate; `proofs/Winners` has `merely_solved`, the same for a certificate in a ghost
 -- field.
 use Rattle.std.specs.Prelude.{◌≡◌, ℕ, Bool, List, Contains}
-use Rattle.pb_game.specs.Players.{is_even}
+use Rattle.pb_trees.specs.Players.{is_even}
 use Rattle.pb_game.specs.declared.Game.{Game}
 use Rattle.pb_game.specs.declared.certificate.Solution.{Solution}
 use Rattle.pb_game.specs.Solutions.{winner_of}

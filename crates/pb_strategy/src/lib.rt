@@ -29,7 +29,7 @@ pub struct Checked<'a> {
 }
 
 impl Checked<'_> {
-    ghost use Rattle.pb_game.specs.declared.player.Player.TheVariants.{Even};
+    ghost use Rattle.pb_trees.specs.declared.player.Player.TheVariants.{Even};
     ghost use Rattle.pb_strategy.specs.Meaning.{IsSolvedAt};
 
     /// Whether Even wins `v`. Of whatever Boolean equation system the game was built, this is

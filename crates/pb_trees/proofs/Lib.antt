@@ -5,4 +5,5 @@ pub mod Members
 pub mod Rising
 pub mod Lengths
 pub mod Calls
+pub mod Players
 mod Total

@@ -1,11 +1,12 @@
--- The game of rows is a game: each vertex is a player's and has a successor, and no edge leads out of the game.
+-- The game of rows is a game: each vertex has a successor, and no edge leads out of the game.
 use Rattle.std.proofs.Common.{◌≡◌, ℕ, zero, suc, ◌+◌, ◌<◌, ◌≤◌, List, [], ◌∷◌, ◌++◌, length, Some, refl, ap, ◌∙◌, subst, inl, inr, arith, length-append}
 use Rattle.std.specs.Prelude.{slice_get, ◌==◌}
 use Rattle.std.proofs.lemmas.Bool.{cases_Bool, eqb-false, cond-true, cond-false}
+use Rattle.pb_trees.specs.declared.player.Player.TheVariants.{Even}
 use Rattle.pb_trees.specs.Tree.{Connective, Conjunction, Disjunction, Leaf, Yes, No, Cut, Call, Operands, End, LeafThen, BracketThen, Tree, Single, Root, LeafCalls, OperandsCall, TreeCalls}
 use Rattle.pb_trees.specs.Equations.{Signature}
 use Rattle.pb_trees.specs.Rows.{Row, IsReached, AreRows}
-use Rattle.pb_trees.specs.Game.{Vertex, brackets, inner, vertex_from, vertex_of, priority_from, target, targets, sink_of, rising_or, owner_of, bracket_vertex, inner_vertices, tree_vertices, row_vertices, game_vertices}
+use Rattle.pb_trees.specs.Game.{Vertex, brackets, inner, vertex_from, vertex_of, priority_from, target, targets, sink_of, rising_or, bracket_vertex, inner_vertices, tree_vertices, row_vertices, game_vertices}
 use Rattle.pb_trees.specs.Laws.{IsGameVertex, GameIsTotal, RowsHaveVertices}
 use Rattle.pb_trees.proofs.Members.{Among, among_of_contains, contains_of_among, among_from_rising}
 use Rattle.pb_trees.proofs.Rising.{rising_or-increasing, rising_or-some}
@@ -28,10 +29,6 @@ each-at : {A : Type 0} (P : A → Type 0) (xs : List A) → Each P xs → (k : �
 each-at P [] h k x e = cc
 each-at P (y ∷ ys) h zero x e = let is : y ≡ x = cc in subst P is h.0
 each-at P (y ∷ ys) h (suc k) x e = each-at P ys h.1 k x e
-
-owner_small : (c : Connective) → owner_of c < 2
-owner_small Conjunction = omega arith
-owner_small Disjunction = omega arith
 
 -- a game of `count` vertices, of which the sinks are the first two, where each instance of the rows has a vertex
 module _ (count : ℕ) (sinks : 2 ≤ count) (at : ℕ → ℕ) (Reached : ℕ → Type 0) (placed : (n : ℕ) → Reached n → at n < count) where
@@ -57,7 +54,6 @@ module _ (count : ℕ) (sinks : 2 ≤ count) (at : ℕ → ℕ) (Reached : ℕ �
 
   bracket_is : (p : ℕ) (c : Connective) (f : Operands) (next : ℕ) → OperandsCall Reached f → next + brackets f ≤ count → IsGameVertex count (bracket_vertex at p c f next)
   bracket_is p c f next h fits = record {
-    owner = owner_small c;
     some = rising_or-some (sink_of c) (targets at f next);
     rising = rising_or-increasing (sink_of c) (targets at f next);
     closed = λ w edge. rising_or_below (sink_of c) (targets at f next) (sink_below c) (targets_below f next h fits) w
@@ -65,9 +61,8 @@ module _ (count : ℕ) (sinks : 2 ≤ count) (at : ℕ → ℕ) (Reached : ℕ �
   }
 
   -- a vertex with one successor
-  single_is : (p w : ℕ) → w < count → IsGameVertex count (record { owner = 0; priority = p; successors = w ∷ [] })
+  single_is : (p w : ℕ) → w < count → IsGameVertex count (record { owner = Even; priority = p; successors = w ∷ [] })
   single_is p w h = record {
-    owner = omega arith;
     some = omega arith;
     rising = λ k l. absurd (omega arith);
     closed = λ u edge. elim (among_of_contains (w ∷ []) u edge) [ inl e ↦ omega arith | inr no' ↦ absurd no' ];

@@ -1,6 +1,6 @@
--- The max-parity game of an equation system's trees: player 0 wins an infinite play exactly where
--- the greatest priority that occurs infinitely often is even (Zielonka 1998; Mader 1997 for the
--- games of Boolean equation systems).
+-- The max-parity game of an equation system's trees: Even wins an infinite play exactly where the
+-- greatest priority that occurs infinitely often is even (Zielonka 1998; Mader 1997 for the games
+-- of Boolean equation systems).
 --
 -- Vertex 0 is the false sink, of priority 1, and vertex 1 the true sink, of priority 0. Then comes
 -- each reached instance in the order of its rows, followed by the brackets inside its tree in the
@@ -8,14 +8,15 @@
 use Rattle.std.specs.Prelude.{ℕ, suc, ◌+◌, ◌==◌, nat_lt, List, [], ◌∷◌, ◌++◌, if◌then◌else◌}
 use Rattle.pb_fixpoint.specs.declared.Sign.{Sign}
 use Rattle.pb_fixpoint.specs.declared.Sign.TheVariants.{Mu, Nu}
+use Rattle.pb_trees.specs.declared.player.Player.{Player}
+use Rattle.pb_trees.specs.declared.player.Player.TheVariants.{Even, Odd}
 use Rattle.pb_trees.specs.Tree.{Connective, Conjunction, Disjunction, Leaf, Yes, No, Cut, Call, Operands, End, LeafThen, BracketThen, Tree, Single, Root}
 use Rattle.pb_trees.specs.Equations.{Signature}
 use Rattle.pb_trees.specs.Rows.{Row}
 
--- the player who moves at a vertex, 0 or 1, its priority, and the vertices to which that player can
--- move
+-- the player who moves at a vertex, its priority, and the vertices to which that player can move
 pub record Vertex : Type 0 where
-  pub owner : ℕ
+  pub owner : Player
   pub priority : ℕ
   pub successors : List ℕ
 
@@ -115,10 +116,10 @@ bracket_successors at c operands next = rising_or (sink_of c) (targets at operan
 
 -- ---- vertices
 
--- player 0 chooses among the operands of a disjunction, player 1 among those of a conjunction
-abbrev pub owner_of : Connective → ℕ
-owner_of Conjunction = 1
-owner_of Disjunction = 0
+-- Even chooses among the operands of a disjunction, Odd among those of a conjunction
+abbrev pub owner_of : Connective → Player
+owner_of Conjunction = Odd
+owner_of Disjunction = Even
 
 abbrev pub bracket_vertex : (ℕ → ℕ) → ℕ → Connective → Operands → ℕ → Vertex
 bracket_vertex at priority c operands next =
@@ -138,10 +139,10 @@ inner_vertices at (BracketThen c inside after) next =
     ++ inner_vertices at after (suc (next + brackets inside)))
 
 -- an instance's vertex, which stands at next, and those of the brackets inside its tree; a tree of
--- one leaf is player 0's
+-- one leaf is Even's
 abbrev pub tree_vertices : (ℕ → ℕ) → ℕ → Tree → ℕ → List Vertex
 tree_vertices at priority (Single leaf) next =
-    record { owner = 0; priority = priority; successors = target at leaf ∷ [] } ∷ []
+    record { owner = Even; priority = priority; successors = target at leaf ∷ [] } ∷ []
 tree_vertices at priority (Root c operands) next =
     bracket_vertex at priority c operands (suc next) ∷ inner_vertices at operands (suc next)
 
@@ -152,10 +153,10 @@ row_vertices at priority (row ∷ rows) next =
     ++ row_vertices at priority rows (suc (next + inner row.tree))
 
 abbrev pub false_sink : Vertex
-false_sink = record { owner = 0; priority = 1; successors = 0 ∷ [] }
+false_sink = record { owner = Even; priority = 1; successors = 0 ∷ [] }
 
 abbrev pub true_sink : Vertex
-true_sink = record { owner = 0; priority = 0; successors = 1 ∷ [] }
+true_sink = record { owner = Even; priority = 0; successors = 1 ∷ [] }
 
 -- the vertices of the game of a system's rows, by number
 abbrev pub game_vertices : List Signature → List Row → List Vertex

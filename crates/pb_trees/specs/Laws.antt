@@ -28,10 +28,8 @@ EquationsAreSolved =
     (first : ℕ) (s : Signature) (rest : List Signature) (trees : ℕ → Tree) (t : Environment ℕ) →
     IsSolved (equation first s trees) (numbered (first + s.size) rest trees) t
 
--- a vertex in a game of `count` vertices: it is a player's, and it has successors, which rise and
--- are vertices
+-- a vertex in a game of `count` vertices: it has successors, which rise and are vertices
 pub record IsGameVertex (count : ℕ) (x : Vertex) : Type 0 where
-  pub owner : x.owner < 2
   pub some : 0 < length x.successors
   pub rising : IsStrictlyIncreasing x.successors
   pub closed : (u : ℕ) → Contains x.successors u → u < count

@@ -1,14 +1,19 @@
 //! The and/or trees that the instances of an equation system evaluate to, and what a system of such
 //! trees means: tokens, trees, their truth, the equations as the solution of `pb_fixpoint` reads
-//! them, and the parity game of the trees. Definitions and laws alone, so that modules, machines
-//! and games can speak of trees without knowing one another. The definitions stand in `specs/`;
-//! each law is the contract of a function that does nothing when it runs.
+//! them, and the parity game of the trees with its players. Little else than definitions and laws,
+//! so that modules, machines and games can speak of trees without knowing one another. The
+//! definitions stand in `specs/`; each law is the contract of a function that does nothing when it
+//! runs.
 #![tactic(auto)]
+
+mod player;
 
 ghost use Rattle.pb_trees.specs.Laws.{EquationsAreSolved, GameIsTotal, RowsHaveVertices};
 ghost use Rattle.pb_trees.specs.Laws.{TokensAreOneTree, TruthIsMonotone};
 ghost use Rattle.pb_trees.specs.Examples.{EmptyBrackets, LeastWithinGreatest, NestedBrackets};
 ghost use Rattle.pb_trees.specs.Examples.{SelfReference};
+
+pub use player::Player;
 
 /// A token of a tree. The tree of an instance, with all data evaluated, is a list of these: a leaf,
 /// or an opening token, the tokens of the operands in order, and `Close`.
@@ -46,8 +51,8 @@ pub fn equations_are_solved()
     ensures { EquationsAreSolved }
 {}
 
-/// The game of rows that are closed under calls is a parity game: each vertex is a player's, and
-/// has successors, which rise and are vertices. Each row has its vertex in it.
+/// The game of rows that are closed under calls is a parity game: each vertex has successors, which
+/// rise and are vertices. Each row has its vertex in it.
 pub fn games_of_rows_are_total()
     ensures total { GameIsTotal }
     ensures rows { RowsHaveVertices }

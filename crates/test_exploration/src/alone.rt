@@ -29,7 +29,7 @@ fn work_branded<B: Limit>(
     let Some(hints) = hints.pop() else {
         return Err(AllocError);
     };
-    let mut worker = Worker { id: 0, seat, hints };
+    let mut worker = Worker { seat, hints };
     let site = Site {
         verified,
         table: &table,

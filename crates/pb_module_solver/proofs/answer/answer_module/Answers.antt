@@ -1,6 +1,6 @@
 use Rattle.std.proofs.Common.{◌≡◌, ap, ◌∙◌, sym, subst, arith, length}
 use Rattle.std.specs.Prelude.{◌↔◌, IsTrue}
-use Rattle.pb_game.specs.declared.player.Player.TheVariants.{Even}
+use Rattle.pb_trees.specs.declared.player.Player.TheVariants.{Even}
 use Rattle.pb_game.specs.Games.{vertex_count}
 use Rattle.pb_game.specs.Solutions.{winner_of}
 use Rattle.pb_game_of_trees.specs.Held.{Hold}

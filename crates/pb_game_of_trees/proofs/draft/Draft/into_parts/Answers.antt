@@ -3,7 +3,6 @@ use Rattle.std.specs.Vec.{with_items}
 use Rattle.std.proofs.lemmas.List.{length-map, reverse-reverse, with_items_is}
 use Rattle.pb_game_of_trees.specs.Draft.{owners, priorities, successors, edge_sums}
 use Rattle.pb_game_of_trees.proofs.Sums.{edge_sums-le}
-use Rattle.pb_game_of_trees.proofs.Owners.{owners_turned}
 use Rattle.pb_game_of_trees.proofs.draft.Draft.into_parts.Goals as goal
 
 pub subtract_from-requires : goal.subtract_from-requires
@@ -33,7 +32,7 @@ returns c = λ vs is.
       c.reverse-4.new.self.ok.0,
     )) in
     record {
-      owner = owners_turned c.args.self.owners.items c.reverse.new.self.items (owners vs) c.reverse.ensures.items is.owner;
+      owner = c.reverse.ensures.items ∙ (ap reverse is.owner ∙ reverse-reverse (owners vs));
       priority = c.reverse-2.ensures.items ∙ (ap reverse is.priority ∙ reverse-reverse (priorities vs));
       place = back ∙ (c.subtract_from.ensures ∙ (ap (map (λ n. c.len.result - n)) numbers ∙ ap (λ (t : ℕ). map (λ n. t - n) (edge_sums vs)) size));
       successor = all;

@@ -1,7 +1,7 @@
 //! The two players of a parity game.
 
 ghost use Rattle.std.specs.Prelude.{◌≡◌, ◌%◌};
-ghost use Rattle.pb_game.specs.Players.{parity_of, opponent_of};
+ghost use Rattle.pb_trees.specs.Players.{parity_of, opponent_of};
 
 /// A player, by the parity of the priorities that it wins with (Zielonka 1998).
 #[derive(Clone, Copy, Debug, PartialEq, Eq)]

@@ -1,9 +1,9 @@
 -- Two players: each is one of them, and told by its parity.
 use Rattle.std.proofs.Common.{◌≡◌, ◌≢◌, ◌<◌, ◌⊎◌, inl, inr, arith, refl, sym, ap, Bool, true, false}
 use Rattle.std.specs.Prelude.{IsTrue, ◌↔◌}
-use Rattle.pb_game.specs.declared.player.Player.{Player}
-use Rattle.pb_game.specs.declared.player.Player.TheVariants.{Even, Odd}
-use Rattle.pb_game.specs.Players.{parity_of, opponent_of, is_same}
+use Rattle.pb_trees.specs.declared.player.Player.{Player}
+use Rattle.pb_trees.specs.declared.player.Player.TheVariants.{Even, Odd}
+use Rattle.pb_trees.specs.Players.{parity_of, opponent_of, is_same}
 
 -- a player wins with priorities of one parity alone
 pub parity_exact : (p q : Player) → parity_of p ≡ parity_of q → p ≡ q
@@ -53,6 +53,12 @@ same_no Even Even ne = absurd (ne refl)
 same_no Even Odd ne = refl
 same_no Odd Even ne = refl
 same_no Odd Odd ne = absurd (ne refl)
+
+pub same_is : (p q : Player) → is_same p q ≡ true → p ≡ q
+same_is Even Even e = refl
+same_is Even Odd e = absurd (cc)
+same_is Odd Even e = absurd (cc)
+same_is Odd Odd e = refl
 
 pub same_test : (b : Bool) (p q : Player) → (IsTrue b ↔ (p ≡ q)) → b ≡ is_same p q
 same_test true p q h = sym (same_yes p q (h.0 refl))

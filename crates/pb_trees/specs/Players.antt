@@ -1,8 +1,8 @@
 -- The two players of a parity game, by the parity of the priorities that they win with (Zielonka
 -- 1998).
 use Rattle.std.specs.Prelude.{ℕ, Bool, true, false}
-use Rattle.pb_game.specs.declared.player.Player.{Player}
-use Rattle.pb_game.specs.declared.player.Player.TheVariants.{Even, Odd}
+use Rattle.pb_trees.specs.declared.player.Player.{Player}
+use Rattle.pb_trees.specs.declared.player.Player.TheVariants.{Even, Odd}
 
 -- the parity of the priorities that a player wins with; in print it stands for the player
 abbrev pub parity_of : Player → ℕ
