@@ -9,12 +9,9 @@ use Rattle.pb_text.specs.declared.error.TextFault.{TextFault}
 use Rattle.pb_typing_declarations.specs.declared.fault.TypingFault.{TypingFault}
 use Rattle.pb_typing_rules.specs.Faults.{faults}
 use Rattle.pb_typing_rules.specs.WellTyped.{IsWellTyped}
-use Rattle.pbsolve.specs.declared.fault.ProgramFault as fault
 use Rattle.pbsolve.specs.declared.fault.ProgramFault.TheVariants.{U01, U02, E01, E02, M01}
 use Rattle.pbsolve.specs.declared.run_error.RunError.{RunError}
 use Rattle.pbsolve.specs.declared.run_error.RunError.TheVariants as run_error
-use Rattle.pbsolve.specs.declared.status.Status.{Status}
-use Rattle.pbsolve.specs.declared.status.Status.TheVariants.{Answered, Refused, Usage, OutOfMemory, Failed}
 use Rattle.pbsolve.specs.Status.{code_of}
 use Rattle.pb_errors.specs.OrMemory.{IfFault, IfRefused, raised}
 use Rattle.pb_errors.specs.declared.or_memory.OrMemory.{OrMemory}
@@ -31,78 +28,35 @@ use Rattle.pb_module_solver.specs.Answers.{IsTooLarge}
 use Rattle.pb_sorts.specs.declared.sink.E02 as sink
 use Rattle.pbsolve.specs.Answers.{IsModuleOfCode, IsModuleOfText, IsTheReading}
 use Rattle.pbsolve.specs.Refusals.{IsUncompiled, IsUncompiledForm, IsRefused, IsRefusedModule, IsUnlisted, IsUnverified, IsRefusedBytes}
-use Rattle.pbsolve.specs.Program.{status_of, error_line_of, IsRefusedBy, IsRefusalLine, IsToldAs}
+use Rattle.pbsolve.specs.Program.{status_of, error_line_of, IsRefusedBy, IsRefusalLine}
 
-pub refused_code : (s : Status) → code_of s ≡ 1 → s ≡ Refused
-refused_code Answered e = absurd (cc e)
-refused_code Refused e = refl
-refused_code Usage e = absurd (cc e)
-refused_code OutOfMemory e = absurd (cc e)
-refused_code Failed e = absurd (cc e)
+-- ---- from the status of an error to its line, and to the error
 
-fault_line : (words : List (List ℕ)) (known : Option (List ℕ)) (f : fault.ProgramFault) → IsRefusedBy words known (run_error.ProgramFault f)
-    → status_of (run_error.ProgramFault f) ≡ Refused → IsRefusalLine words known (error_line_of (run_error.ProgramFault f))
-fault_line words known U01 refused s = absurd (cc s)
-fault_line words known U02 refused s = inl (refused.0, refused.1, refl)
-fault_line words known E01 refused s = absurd (cc s)
-fault_line words known E02 refused s = absurd (cc s)
-fault_line words known M01 refused s = absurd (cc s)
+pub refusal_line : (words : List (List ℕ)) (known : Option (List ℕ)) (error : RunError) → IsRefusedBy words known error → code_of (status_of error) ≡ 1
+    → IsRefusalLine words known (error_line_of error)
+refusal_line words known (run_error.ProgramFault U01) refused s = absurd (cc s)
+refusal_line words known (run_error.ProgramFault U02) refused s = inl (refused.0, refused.1, refl)
+refusal_line words known (run_error.ProgramFault E01) refused s = absurd (cc s)
+refusal_line words known (run_error.ProgramFault E02) refused s = absurd (cc s)
+refusal_line words known (run_error.ProgramFault M01) refused s = absurd (cc s)
+refusal_line words known (run_error.Refused fault) refused s = inr (fault, refused, refl)
 
--- the line under which an error was told, carried back to the error
-told_line : (words : List (List ℕ)) (known : Option (List ℕ)) (error told : RunError) → told ≡ error
-    → (status_of error ≡ Refused → IsRefusalLine words known (error_line_of error)) → status_of told ≡ Refused
-    → IsRefusalLine words known (error_line_of told)
-told_line words known error told e line s =
-    subst (λ r. IsRefusalLine words known (error_line_of r)) (sym e) (line (subst (λ r. status_of r ≡ Refused) e s))
+pub usage_error : (error : RunError) → code_of (status_of error) ≡ 2 → error ≡ run_error.ProgramFault U01
+usage_error (run_error.ProgramFault U01) s = refl
+usage_error (run_error.ProgramFault U02) s = absurd (cc s)
+usage_error (run_error.ProgramFault E01) s = absurd (cc s)
+usage_error (run_error.ProgramFault E02) s = absurd (cc s)
+usage_error (run_error.ProgramFault M01) s = absurd (cc s)
+usage_error (run_error.Refused fault) s = absurd (cc s)
 
-pub refusal_line : (words : List (List ℕ)) (known : Option (List ℕ)) (error told : RunError) → IsRefusedBy words known error → IsToldAs error told
-    → status_of told ≡ Refused → IsRefusalLine words known (error_line_of told)
-refusal_line words known (run_error.ProgramFault f) told refused t s = told_line words known (run_error.ProgramFault f) told t (fault_line words known f refused) s
-refusal_line words known (run_error.Refused error) told refused t s = elim t [
-  | inl e ↦ told_line words known (run_error.Refused error) told e (λ _. inr (error, refused, refl)) s
-  | inr e ↦ told_line words known (run_error.ProgramFault M01) told e (fault_line words known M01 tt) s
-]
-
--- ---- from the status to the error
-
-pub usage_code : (s : Status) → code_of s ≡ 2 → s ≡ Usage
-usage_code Answered e = absurd (cc e)
-usage_code Refused e = absurd (cc e)
-usage_code Usage e = refl
-usage_code OutOfMemory e = absurd (cc e)
-usage_code Failed e = absurd (cc e)
-
-pub failed_code : (s : Status) → code_of s ≡ 4 → s ≡ Failed
-failed_code Answered e = absurd (cc e)
-failed_code Refused e = absurd (cc e)
-failed_code Usage e = absurd (cc e)
-failed_code OutOfMemory e = absurd (cc e)
-failed_code Failed e = refl
-
-pub told_usage : (told : RunError) → status_of told ≡ Usage → told ≡ run_error.ProgramFault U01
-told_usage (run_error.ProgramFault U01) s = refl
-told_usage (run_error.ProgramFault U02) s = absurd (cc s)
-told_usage (run_error.ProgramFault E01) s = absurd (cc s)
-told_usage (run_error.ProgramFault E02) s = absurd (cc s)
-told_usage (run_error.ProgramFault M01) s = absurd (cc s)
-told_usage (run_error.Refused error) s = absurd (cc s)
-
-pub told_failed : (told : RunError) → status_of told ≡ Failed
-    → (told ≡ run_error.ProgramFault E01) ⊎ (told ≡ run_error.ProgramFault E02)
-told_failed (run_error.ProgramFault U01) s = absurd (cc s)
-told_failed (run_error.ProgramFault U02) s = absurd (cc s)
-told_failed (run_error.ProgramFault E01) s = inl refl
-told_failed (run_error.ProgramFault E02) s = inr refl
-told_failed (run_error.ProgramFault M01) s = absurd (cc s)
-told_failed (run_error.Refused error) s = absurd (cc s)
-
--- what is told neither as a refusal nor as want of memory is told as itself
-pub told_itself : (error told : RunError) → IsToldAs error told → (status_of told ≡ Refused → ⊥) → (status_of told ≡ OutOfMemory → ⊥) → error ≡ told
-told_itself (run_error.ProgramFault f) told t refused memory = sym t
-told_itself (run_error.Refused error) told t refused memory = elim t [
-  | inl e ↦ absurd (refused (subst (λ r. status_of r ≡ Refused) (sym e) refl))
-  | inr e ↦ absurd (memory (subst (λ r. status_of r ≡ OutOfMemory) (sym e) refl))
-]
+pub failed_error : (error : RunError) → code_of (status_of error) ≡ 4
+    → (error ≡ run_error.ProgramFault E01) ⊎ (error ≡ run_error.ProgramFault E02)
+failed_error (run_error.ProgramFault U01) s = absurd (cc s)
+failed_error (run_error.ProgramFault U02) s = absurd (cc s)
+failed_error (run_error.ProgramFault E01) s = inl refl
+failed_error (run_error.ProgramFault E02) s = inr refl
+failed_error (run_error.ProgramFault M01) s = absurd (cc s)
+failed_error (run_error.Refused fault) s = absurd (cc s)
 
 -- ---- from a command to those that do more
 

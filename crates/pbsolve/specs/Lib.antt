@@ -7,7 +7,4 @@ pub mod Delivery
 pub mod Outputs
 pub mod Program
 pub mod Status
-pub use Rattle.pb_sorts.specs.Sink
-pub use Rattle.pb_sorts.specs.Source
-pub use Rattle.pbsolve.specs.Lines
 pub mod Lines

@@ -3,17 +3,17 @@ use Rattle.std.specs.Prelude.{ℕ, List, ◌++◌, codes, decimal}
 use Rattle.pb_text_tree.specs.declared.place.Place.{Place}
 use Rattle.pb_text.specs.declared.error.TextRule as text_rule
 use Rattle.pb_text.specs.declared.error.TextRule.TheVariants.{UnknownByte, UnexpectedToken, LargeNumber, LimitExceeded, RangeLine}
-use Rattle.pb_typing_declarations.specs.TypingRule.{rule_number}
-use Rattle.pb_bytecode.specs.LimitNumber.{limit_number}
-use Rattle.pb_bytecode.specs.RuleNumber as module_rule
-use Rattle.pb_verifier_states.specs.RuleNumber as acceptance_rule
-use Rattle.pbsolve.specs.declared.fault.ProgramFault.{ProgramFault}
-use Rattle.pbsolve.specs.declared.fault.ProgramFault.TheVariants.{U01, U02, E01, E02, M01}
 use Rattle.pb_text.specs.declared.error.TextFault.{TextFault}
+use Rattle.pb_typing_declarations.specs.TypingRule.{rule_number}
 use Rattle.pb_typing_declarations.specs.declared.fault.TypingFault.{TypingFault}
 use Rattle.pb_assembler.specs.declared.compile_error.Excess.{Excess}
+use Rattle.pb_bytecode.specs.FaultText as module_fault
+use Rattle.pb_bytecode.specs.LimitNumber.{limit_number}
 use Rattle.pb_bytecode.specs.declared.fault.ModuleFault.{ModuleFault}
+use Rattle.pb_verifier.specs.FaultText as code_fault
 use Rattle.pb_verifier.specs.declared.verify_error.CodeFault.{CodeFault}
+use Rattle.pbsolve.specs.declared.fault.ProgramFault.{ProgramFault}
+use Rattle.pbsolve.specs.declared.fault.ProgramFault.TheVariants.{U01, U02, E01, E02, M01}
 
 -- a fault of the whole run: its number
 abbrev pub line_of : ProgramFault → List ℕ
@@ -26,8 +26,8 @@ line_of M01 = codes "M01\n"
 -- a rule, by its number, and where it is broken
 abbrev pub line_at : List ℕ → Place → List ℕ
 line_at rule place =
-    rule ++ (codes " line "
-    ++ (decimal place.line ++ (codes " column " ++ (decimal place.column ++ codes "\n"))))
+    rule ++ (codes " line " ++ decimal place.line) ++ (codes " column " ++ decimal place.column)
+    ++ codes "\n"
 
 abbrev pub text_rule_number : text_rule.TextRule → List ℕ
 text_rule_number UnknownByte = codes "P01"
@@ -49,15 +49,12 @@ typing_line fault = line_at (rule_number fault.rule) fault.place
 -- a limit, and the equation whose code exceeds it
 abbrev pub limit_line : Excess → List ℕ
 limit_line excess =
-    limit_number excess.limit ++ (codes " equation " ++ (decimal excess.equation ++ codes "\n"))
+    limit_number excess.limit ++ (codes " equation " ++ decimal excess.equation) ++ codes "\n"
 
--- why bytes are no module: a rule, and the byte at which a field breaks it
+-- why bytes are no module
 abbrev pub module_line : ModuleFault → List ℕ
-module_line fault =
-    module_rule.rule_number fault.rule ++ (codes " byte " ++ (decimal fault.byte ++ codes "\n"))
+module_line fault = module_fault.fault_text fault ++ codes "\n"
 
--- why a module is not accepted: a rule, and the equation and the place of its code that break it
+-- why a module is not accepted
 abbrev pub code_line : CodeFault → List ℕ
-code_line fault =
-    acceptance_rule.rule_number fault.rule ++ (codes " equation "
-    ++ (decimal fault.equation ++ (codes " place " ++ (decimal fault.place ++ codes "\n"))))
+code_line fault = code_fault.fault_text fault ++ codes "\n"

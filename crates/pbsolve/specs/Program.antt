@@ -37,12 +37,6 @@ abbrev pub error_line_of : RunError → List ℕ
 error_line_of (run_error.ProgramFault f) = lines.line_of f
 error_line_of (run_error.Refused fault) = fault_line fault
 
--- a refusal is told by its own line, or by M01 where there is no memory for it
-abbrev pub IsToldAs : RunError → RunError → Type 0
-IsToldAs (run_error.ProgramFault f) told = told ≡ run_error.ProgramFault f
-IsToldAs (run_error.Refused fault) told =
-    (told ≡ run_error.Refused fault) ⊎ (told ≡ run_error.ProgramFault M01)
-
 -- the line went out, or a part that begins it and then writing failed
 abbrev pub Tells : Option (List ℕ) → Option (List ℕ) → Bool → List ℕ → Type 0
 Tells old new failed line = Appends old new line ⊎ ((failed ≡ true) × AppendsPrefix old new line)

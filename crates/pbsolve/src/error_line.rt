@@ -1,14 +1,14 @@
 //! Errors that have a line of their own: which rule was broken, and where.
-ghost use Rattle.std.specs.Prelude.{◌≡◌, ℕ, List, IfOk, string_bytes};
+ghost use Rattle.std.specs.Prelude.{◌≡◌, ◌≤◌, ℕ, List, length};
 ghost use Rattle.pbsolve.specs.Lines.{line_at, text_rule_number};
 
+use crate::Line;
 use pb_assembler::Excess;
 use pb_bytecode::ModuleFault;
 use pb_text::{TextFault, TextRule};
 use pb_text_tree::Place;
 use pb_typing_declarations::TypingFault;
 use pb_verifier::CodeFault;
-use std::alloc::{AllocError, Global};
 
 /// An error that the program tells of by a line.
 pub trait ErrorLine {
@@ -16,18 +16,20 @@ pub trait ErrorLine {
     ghost line: { Self → List ℕ };
 
     /// The line of this error, with its line feed: the rule's number and its place, as `P02 line 1
-    /// column 22`. The one error of this call is want of memory for the line.
-    fn error_line(&self, alloc: Global) -> Result<String, AllocError>
-        ensures { IfOk result (λ s. string_bytes s ≡ line self.now) };
+    /// column 22`.
+    fn error_line(&self) -> Line
+        ensures { result ≡ line self.now };
 }
 
 // The number of a rule and a place.
-fn placed_line(alloc: Global, rule: &str, place: Place) -> Result<String, AllocError>
-    ensures { IfOk result (λ s. string_bytes s ≡ line_at rule.now place) }
+fn placed_line(number: &str, place: Place) -> Line
+    requires { length number.now ≤ 3 }
+    ensures { result ≡ line_at number.now place }
 {
-    let line = place.line;
-    let column = place.column;
-    format!(in alloc; "{rule} line {line} column {column}\n")
+    Line::of(number)
+        .and(" line ", place.line as usize)
+        .and(" column ", place.column as usize)
+        .end()
 }
 
 fn text_rule_number(rule: TextRule) -> &'static str
@@ -47,8 +49,8 @@ impl ErrorLine for TextFault {
 
     ghost line = { text_line };
 
-    fn error_line(&self, alloc: Global) -> Result<String, AllocError> {
-        placed_line(alloc, text_rule_number(self.rule), self.place)
+    fn error_line(&self) -> Line {
+        placed_line(text_rule_number(self.rule), self.place)
     }
 }
 
@@ -57,8 +59,8 @@ impl ErrorLine for TypingFault {
 
     ghost line = { typing_line };
 
-    fn error_line(&self, alloc: Global) -> Result<String, AllocError> {
-        placed_line(alloc, self.rule.number(), self.place)
+    fn error_line(&self) -> Line {
+        placed_line(self.rule.number(), self.place)
     }
 }
 
@@ -67,10 +69,10 @@ impl ErrorLine for Excess {
 
     ghost line = { limit_line };
 
-    fn error_line(&self, alloc: Global) -> Result<String, AllocError> {
-        let number = self.limit.number();
-        let equation = self.equation;
-        format!(in alloc; "{number} equation {equation}\n")
+    fn error_line(&self) -> Line {
+        Line::of(self.limit.number())
+            .and(" equation ", self.equation)
+            .end()
     }
 }
 
@@ -79,10 +81,8 @@ impl ErrorLine for ModuleFault {
 
     ghost line = { module_line };
 
-    fn error_line(&self, alloc: Global) -> Result<String, AllocError> {
-        let number = self.rule.number();
-        let byte = self.byte;
-        format!(in alloc; "{number} byte {byte}\n")
+    fn error_line(&self) -> Line {
+        Line::of(self.rule.number()).and(" byte ", self.byte).end()
     }
 }
 
@@ -91,10 +91,10 @@ impl ErrorLine for CodeFault {
 
     ghost line = { code_line };
 
-    fn error_line(&self, alloc: Global) -> Result<String, AllocError> {
-        let number = self.rule.number();
-        let equation = self.equation;
-        let place = self.place;
-        format!(in alloc; "{number} equation {equation} place {place}\n")
+    fn error_line(&self) -> Line {
+        Line::of(self.rule.number())
+            .and(" equation ", self.equation)
+            .and(" place ", self.place)
+            .end()
     }
 }

@@ -1,4 +1,4 @@
-//! Faults that stand at no place of the input: each has a line that takes no memory.
+//! Faults that stand at no place of the input.
 ghost use Rattle.std.specs.Prelude.{◌≡◌};
 ghost use Rattle.pbsolve.specs.Lines.{line_of};
 

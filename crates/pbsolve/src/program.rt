@@ -12,7 +12,7 @@ ghost use Rattle.pb_command_line.specs.Words.{AskForSomething, HaveFault, AskNot
 ghost use Rattle.pbsolve.specs.Delivery.{Delivers};
 ghost use Rattle.pbsolve.specs.Outputs.{OutputsFor, IsRefusedFor};
 ghost use Rattle.pbsolve.specs.Program.{fault_status, status_of, error_line_of, Answers};
-ghost use Rattle.pbsolve.specs.Program.{IsRefusedBy, IsToldAs, LackProperty, Tells, ReadsAtMost};
+ghost use Rattle.pbsolve.specs.Program.{IsRefusedBy, LackProperty, Tells, ReadsAtMost};
 ghost use Rattle.pbsolve.specs.Program.{Refuses};
 
 use crate::code::{list_code, solve_code, verify_code};
@@ -134,7 +134,7 @@ fn say<E: Sink>(line: &str, err: &mut E)
     }
 }
 
-/// Tells of a fault that stands at no place, which takes no memory, and answers how the run ended.
+/// Tells of a fault that stands at no place, and answers how the run ended.
 ///
 /// It is what the program does where it can't even have its words: `U01` where they are no text.
 pub fn tell_fault<E: Sink>(fault: ProgramFault, err: &mut E) -> Status
@@ -151,30 +151,18 @@ pub fn tell_fault<E: Sink>(fault: ProgramFault, err: &mut E) -> Status
     }
 }
 
-// The line of a refusal, or of want of memory where there is none for the line.
-fn tell_refusal<L: ErrorLine, E: Sink>(alloc: Global, error: &L, err: &mut E) -> Status
-    ensures { ((result ≡ Status.Refused)
-        × Tells (E.taken err.old) (E.taken err.new) (E.has_failed err.new) (L.line error.now))
-        ⊎ ((result ≡ Status.OutOfMemory)
-        × Tells (E.taken err.old) (E.taken err.new) (E.has_failed err.new) (codes "M01\n")) }
-{
-    match error.error_line(alloc) {
-        Ok(line) => {
-            say(line.as_str(), err);
-            Status::Refused
-        }
-        Err(_) => tell_fault(ProgramFault::M01, err),
-    }
-}
-
-fn tell<E: Sink>(alloc: Global, error: &RunError, err: &mut E) -> Status
-    ensures { (told : RunError) × IsToldAs error.now told
-        × (result ≡ status_of told)
-        × Tells (E.taken err.old) (E.taken err.new) (E.has_failed err.new) (error_line_of told) }
+// An error is told whatever memory there is.
+fn tell<E: Sink>(error: &RunError, err: &mut E) -> Status
+    ensures status { result ≡ status_of error.now }
+    ensures line { Tells (E.taken err.old) (E.taken err.new) (E.has_failed err.new)
+        (error_line_of error.now) }
 {
     match error {
         RunError::ProgramFault(fault) => tell_fault(*fault, err),
-        RunError::Refused(error) => tell_refusal(alloc, error, err),
+        RunError::Refused(fault) => {
+            say(fault.error_line().as_str(), err);
+            Status::Refused
+        }
     }
 }
 
@@ -245,6 +233,6 @@ pub fn run<T: Threads + Sync, S: AsStr, G: Gate + Sync, R: Source, O: Sink, E: S
     let context = Context { rt, alloc, gate };
     match attempt(&context, words, &mut streams.input, &mut streams.output) {
         Ok(()) => u8::from(Status::Answered),
-        Err(error) => u8::from(tell(alloc, &error, &mut streams.error)),
+        Err(error) => u8::from(tell(&error, &mut streams.error)),
     }
 }

@@ -4,7 +4,7 @@ ghost use Rattle.pbsolve.specs.declared.solve_fault.SolveFault.TheVariants.{Acce
 ghost use Rattle.pbsolve.specs.declared.solve_fault.SolveFault.TheVariants.{Module, Text, Typing};
 ghost use Rattle.pbsolve.specs.declared.solve_fault.SolveFault.TheVariants as solve_fault;
 
-use crate::{ErrorLine, ProgramFault};
+use crate::{ErrorLine, Line, ProgramFault};
 use pb_assembler::Excess;
 use pb_bytecode::ModuleFault;
 use pb_errors::Fault;
@@ -13,7 +13,6 @@ use pb_model_properties::ModelFault;
 use pb_text::TextFault;
 use pb_typing_declarations::TypingFault;
 use pb_verifier::CodeFault;
-use std::alloc::{AllocError, Global};
 use thiserror::Error;
 
 /// Why a command refuses its input.
@@ -111,15 +110,15 @@ impl ErrorLine for SolveFault {
 
     ghost line = { fault_line };
 
-    fn error_line(&self, alloc: Global) -> Result<String, AllocError> {
+    fn error_line(&self) -> Line {
         match self {
-            SolveFault::Text(fault) => fault.error_line(alloc),
-            SolveFault::Typing(fault) => fault.error_line(alloc),
-            SolveFault::Limit(excess) => excess.error_line(alloc),
-            SolveFault::Module(fault) => fault.error_line(alloc),
-            SolveFault::Acceptance(fault) => fault.error_line(alloc),
-            SolveFault::TooManyVertices => String::from_str(alloc, "G01\n"),
-            SolveFault::NoProperty => String::from_str(alloc, ProgramFault::U01.line()),
+            SolveFault::Text(fault) => fault.error_line(),
+            SolveFault::Typing(fault) => fault.error_line(),
+            SolveFault::Limit(excess) => excess.error_line(),
+            SolveFault::Module(fault) => fault.error_line(),
+            SolveFault::Acceptance(fault) => fault.error_line(),
+            SolveFault::TooManyVertices => Line::of("G01\n"),
+            SolveFault::NoProperty => Line::of(ProgramFault::U01.line()),
         }
     }
 }
