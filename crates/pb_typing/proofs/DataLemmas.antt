@@ -10,11 +10,12 @@ use Rattle.pb_text_tree.specs.Form as form
 use Rattle.pb_text_tree.specs.Form.{TermForm, arithmetic_links, term_form, term_links}
 use Rattle.pb_text_meaning.specs.Syntax.{Spec}
 use Rattle.pb_text_meaning.specs.Erase.{erased_term, of_connective}
+use Rattle.pb_typed_tree.specs.declared.term.Link as code
 use Rattle.pb_typed_tree.specs.declared.term.Term as made
 use Rattle.pb_typed_tree.specs.Tree as tree
 use Rattle.pb_typed_tree.specs.Tree.{Binary}
 use Rattle.pb_typed_tree.specs.Elaboration.{Slotting, slotted}
-use Rattle.pb_typed_tree.specs.View.{chained, calculated, term_view, term_views}
+use Rattle.pb_typed_tree.specs.View.{chained, calculated, link_view, link_views, term_view, term_views}
 use Rattle.pb_typing.specs.Slots.{over_slots, link_terms, arithmetic_terms}
 
 pub chained-slotted : (S : Spec) (c : Slotting) (o : Connective) (first : TermForm) (links : List TermLink)
@@ -47,3 +48,16 @@ terms_next S c links k link x old new below at pushed is h =
     ∙ (sym (append_assoc (term_views old) (term_view x ∷ []) rest)
     ∙ (ap (λ (vs : List tree.Term). vs ++ rest) (sym (map-append term_view old (x ∷ [])))
     ∙ ap (λ (xs : List made.Term). term_views xs ++ rest) (sym pushed)))))
+
+pub operands_next : (S : Spec) (c : Slotting) (links : List ArithmeticLink) (k : ℕ) (link : ArithmeticLink) (x : made.Term) (old new : List code.Link) → k < length links → link ≡ get_or links k link
+    → new ≡ old ++ record { operator = link.operator; operand = x } ∷ [] → term_view x ≡ over_slots S c link.operand → arithmetic_terms S c links ≡ link_views old ++ arithmetic_terms S c (drop k links)
+    → arithmetic_terms S c links ≡ link_views new ++ arithmetic_terms S c (drop (k + 1) links)
+operands_next S c links k link x old new below at pushed is h =
+    let rest = arithmetic_terms S c (drop (k + 1) links) in
+    let y : code.Link = record { operator = link.operator; operand = x } in
+    h
+    ∙ (ap (λ (ls : List ArithmeticLink). link_views old ++ arithmetic_terms S c ls) (drop-at links k link below at)
+    ∙ (ap (λ (v : tree.Term). link_views old ++ (link.operator, v) ∷ rest) (sym is)
+    ∙ (sym (append_assoc (link_views old) (link_view y ∷ []) rest)
+    ∙ (ap (λ (vs : List (Arithmetic × tree.Term)). vs ++ rest) (sym (map-append link_view old (y ∷ [])))
+    ∙ ap (λ (xs : List code.Link). link_views xs ++ rest) (sym pushed)))))

@@ -22,7 +22,7 @@ use Rattle.pb_typing_rules.specs.Term.{shape}
 use Rattle.pb_typing_rules.specs.Faults.{operator_faults, term_faults}
 use Rattle.pb_typing.specs.View.{operation_of}
 use Rattle.pb_typing.proofs.Computed.{kind_of-arithmetic}
-use Rattle.pb_typing.specs.Chains.{is_some_link, operand_shape, own_faults, link_faults}
+use Rattle.pb_typing.specs.Chains.{is_some_link, operand_shape, own_faults, link_faults, arithmetic_shape, arithmetic_faults, calculated_shape}
 
 -- ---- connectives
 
@@ -80,22 +80,6 @@ links_next S st a s links k link below at =
 abbrev is_no_link : List ArithmeticLink → Bool
 is_no_link [] = true
 is_no_link (link ∷ links) = false
-
-abbrev pub arithmetic_shape : Spec → Scope → ArithmeticLink → Shape
-arithmetic_shape spec scope link = shape spec scope (erased_term (term_form link.operand))
-
--- the faults behind an operand of this shape
-abbrev pub arithmetic_faults : Spec → Scope → Shape → List ArithmeticLink → List TypingFault
-arithmetic_faults spec scope s [] = []
-arithmetic_faults spec scope s (link ∷ links) =
-    term_faults spec false scope (term_form link.operand)
-    ++ (operator_faults (Computed (operation_of link.operator)) s (arithmetic_shape spec scope link) link.place
-    ++ arithmetic_faults spec scope (binary_shape (operation_of link.operator) s (arithmetic_shape spec scope link)) links)
-
--- the shape of the whole
-abbrev pub calculated_shape : Spec → Scope → Shape → List ArithmeticLink → Shape
-calculated_shape spec scope s [] = s
-calculated_shape spec scope s (link ∷ links) = calculated_shape spec scope (binary_shape (operation_of link.operator) s (arithmetic_shape spec scope link)) links
 
 computed-shape : (spec : Spec) (scope : Scope) (first : TermForm) (l : ArithmeticLink)
     → shape spec scope (erased_term (TermForm.computed l.operator l.place first (term_form l.operand))) ≡ binary_shape (operation_of l.operator) (shape spec scope (erased_term first)) (arithmetic_shape spec scope l)

@@ -73,14 +73,14 @@ added-formulas s v x fs l f all none is-s is-v made is-none o xs =
     ∙ (sym (ap (λ (t : Joined). folded o (pieces t ++ (Whole (formula_view f) ∷ xs))) is-s)
     ∙ sym (ap (λ (w : declared_value.Value). folded o (pieces s ++ (value_view w ∷ xs))) is-v)))))
 
-pub tests-ended : (fs all before : List formula.Formula) (rest terms : List term.Term) (f : formula.Formula)
-    → all ≡ fs ++ (f ∷ []) → length rest ≡ 0 → formula_views fs ++ map Test (term_views rest) ≡ formula_views before ++ map Test (term_views terms)
-    → formula_views all ≡ formula_views before ++ (map Test (term_views terms) ++ (formula_view f ∷ []))
-tests-ended fs all before [] terms f made none h =
-    ap formula_views made ∙ (map-append formula_view fs (f ∷ [])
-    ∙ (ap (λ gs. gs ++ (formula_view f ∷ [])) (sym (append-nil (formula_views fs)) ∙ h)
-    ∙ append_assoc (formula_views before) (map Test (term_views terms)) (formula_view f ∷ [])))
-tests-ended fs all before (x ∷ rest) terms f made none h = absurd (omega arith)
+pub tests-ended : (fs before : List tree.Formula) (rest terms : List term.Term) → length rest ≡ 0 → fs ++ map Test (term_views rest) ≡ before ++ map Test (term_views terms) → fs ≡ before ++ map Test (term_views terms)
+tests-ended fs before [] terms none h = sym (append-nil fs) ∙ h
+tests-ended fs before (x ∷ rest) terms none h = absurd (omega arith)
 
-pub with-last : (before : List tree.Formula) (ts : List tree.Formula) (all : List formula.Formula) (f g : formula.Formula) → f ≡ g → formula_views all ≡ before ++ (ts ++ (formula_view f ∷ [])) → formula_views all ≡ before ++ (ts ++ (formula_view g ∷ []))
-with-last before ts all f g same h = h ∙ ap (λ (x : formula.Formula). before ++ (ts ++ (formula_view x ∷ []))) same
+pub with-last : (before ts : List tree.Formula) (fs all : List formula.Formula) (f g : formula.Formula) → f ≡ g → formula_views fs ≡ before ++ ts → all ≡ fs ++ (f ∷ [])
+    → formula_views all ≡ before ++ (ts ++ (formula_view g ∷ []))
+with-last before ts fs all f g same tests made =
+    ap formula_views made ∙ (map-append formula_view fs (f ∷ [])
+    ∙ (ap (λ gs. gs ++ (formula_view f ∷ [])) tests
+    ∙ (append_assoc before ts (formula_view f ∷ [])
+    ∙ ap (λ (x : formula.Formula). before ++ (ts ++ (formula_view x ∷ []))) same)))

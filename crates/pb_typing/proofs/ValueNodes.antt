@@ -38,7 +38,7 @@ use Rattle.pb_typed_tree.specs.Expansion.{has_quantifier, expanded_term}
 use Rattle.pb_typed_tree.specs.Loops.{loops, variable_shapes}
 use Rattle.pb_typed_tree.specs.Tree as tree
 use Rattle.pb_typed_tree.specs.View as view
-use Rattle.pb_typed_tree.specs.View.{nested, formula_view, shape_view, term_view}
+use Rattle.pb_typed_tree.specs.View.{nested, formula_view, term_view}
 use Rattle.pb_typing.specs.declared.joined.Value.{Value}
 use Rattle.pb_typing.specs.declared.joined.Value.TheVariants as declared
 use Rattle.pb_typing.specs.Chains.{link_faults, operand_shape}
@@ -46,7 +46,7 @@ use Rattle.pb_typing.specs.Elaborated.{ChecksValueIn, ElaboratesValue, truth_fau
 use Rattle.pb_typing.specs.Tree as texts
 use Rattle.pb_typing.specs.Tree.{operand_terms}
 use Rattle.pb_typing.specs.Value as values
-use Rattle.pb_typing.specs.Value.{Data, Whole, as_formula, chosen, value_of, values_of}
+use Rattle.pb_typing.specs.Value.{Data, as_formula, chosen, value_of, values_of}
 use Rattle.pb_typing.specs.ValueLinks.{operand, value_loops}
 use Rattle.pb_typing.specs.ValueView.{value_shape, value_view, value_views}
 use Rattle.pb_typing.proofs.ElaboratedChains.{each-nested}

@@ -17,6 +17,7 @@ ghost use Rattle.pb_typing.specs.View.{is_positive};
 
 use crate::context::Context;
 use crate::instance::check_instance;
+use crate::operands::paired;
 use crate::polarity::{Polarity, operand_polarity};
 use crate::scope::{Scope, Variable};
 use crate::value::check_truth;
@@ -61,8 +62,9 @@ pub(crate) fn check_formula<'t>(
         } => {
             let of_first = operand_polarity(*connective, polarity, links.len());
             let head = check_formula(context, carriers, of_first, first)?;
-            let links = check_links(context, carriers, polarity, *connective, links)?;
-            let first = Box::new(context.alloc, head)?;
+            let operands = check_links(context, carriers, polarity, *connective, links);
+            let (left, links) = paired(head, operands)?;
+            let first = Box::new(context.alloc, left)?;
             Ok(Formula::Chain {
                 connective: *connective,
                 first,

@@ -17,7 +17,7 @@ use pb_text_tree::Name;
 use pb_typing_declarations::{Declarations, Enumerator, TypingFault};
 
 /// A function of data.
-#[derive(Clone, Copy, Debug, PartialEq, Eq)]
+#[derive(Clone, Copy)]
 pub(crate) enum Function {
     OfOne(FunctionOfOne),
     OfTwo(Extreme),
@@ -26,7 +26,7 @@ pub(crate) enum Function {
 }
 
 /// A function of one argument.
-#[derive(Clone, Copy, Debug, PartialEq, Eq)]
+#[derive(Clone, Copy)]
 pub(crate) enum FunctionOfOne {
     /// A number as it is: `Pos2Nat` and the like.
     Conversion,
@@ -37,7 +37,7 @@ pub(crate) enum FunctionOfOne {
 }
 
 /// The greater or the lesser of two numbers.
-#[derive(Clone, Copy, Debug, PartialEq, Eq)]
+#[derive(Clone, Copy)]
 pub(crate) enum Extreme {
     Maximum,
     Minimum,

@@ -18,6 +18,7 @@ ghost use Rattle.pb_typing.specs.Typed.{IsLayout};
 ghost use Rattle.pb_typing.specs.View.{is_positive};
 
 use crate::context::Context;
+use crate::operands::accepted;
 use crate::operation::fault;
 use crate::polarity::Polarity;
 use crate::shape::{are_alike, carrier_shape};
@@ -108,8 +109,8 @@ fn check_argument(
         (erased_term (term_form argument.now.term)))
         (over_slots (text_in context.now) (slots_in context.now) argument.now.term) result }
 {
-    let typed = check_term(context, &argument.term)?;
-    let accepted = are_alike(&typed.shape, &carrier_shape(parameter));
-    require(accepted, TypingRule::WrongKind, argument.place)?;
+    let found = check_term(context, &argument.term)?;
+    let test = are_alike(&found.shape, &carrier_shape(parameter));
+    let typed = accepted(found, test, TypingRule::WrongKind, argument.place)?;
     Ok(typed)
 }

@@ -11,12 +11,13 @@ ghost use Rattle.pb_typing.specs.Value as values;
 ghost use Rattle.pb_typing.specs.Value.{as_formula, folded, joined};
 ghost use Rattle.pb_typing.specs.ValueView.{pieces, value_shape, value_view, value_views};
 
+use crate::operands::{paired, with_last};
 use pb_text_tree::Connective;
 use pb_typed_tree::{Argument as TypedTerm, Formula, Shape, Term};
 use std::alloc::{AllocError, Global};
 
 /// What stands below `val`: data without quantifiers, or the formula as which data is read.
-#[derive(Debug, Drop)]
+#[derive(Drop)]
 pub(crate) enum Value {
     Data(TypedTerm),
     Formula(Formula),
@@ -45,7 +46,7 @@ impl Value {
 }
 
 /// Operands of one connective, as far as they are read.
-#[derive(Debug, Drop)]
+#[derive(Drop)]
 enum Joined {
     /// No operand is a formula.
     Terms {
@@ -103,12 +104,13 @@ fn added(alloc: Global, state: Joined, value: Value) -> Result<Joined, AllocErro
         → folded o (pieces after ++ xs) ≡ folded o (pieces state ++ (value_view value ∷ xs))) }
 {
     match (state, value) {
-        (Joined::Terms { first, mut links }, Value::Data(data)) => {
-            links.push(data.term)?;
+        (Joined::Terms { first, links }, Value::Data(data)) => {
+            let (first, links) = paired(first, with_last(links, data.term))?;
             Ok(Joined::Terms { first, links })
         }
         (Joined::Terms { first, links }, Value::Formula(formula)) => {
-            let links = with_tests(Vec::new(alloc), links, formula)?;
+            let tests = with_tests(Vec::new(alloc), links, formula);
+            let (first, links) = paired(first, tests)?;
             Ok(Joined::Formulas {
                 first: Formula::Test(first),
                 links,
@@ -119,11 +121,11 @@ fn added(alloc: Global, state: Joined, value: Value) -> Result<Joined, AllocErro
             Joined::Formulas {
                 first,
                 links,
-                mut behind,
+                behind,
             },
             Value::Data(data),
         ) => {
-            behind.push(data.term)?;
+            let (first, behind) = paired(first, with_last(behind, data.term))?;
             Ok(Joined::Formulas {
                 first,
                 links,
@@ -138,7 +140,8 @@ fn added(alloc: Global, state: Joined, value: Value) -> Result<Joined, AllocErro
             },
             Value::Formula(formula),
         ) => {
-            let links = with_tests(links, behind, formula)?;
+            let operands = with_tests(links, behind, formula);
+            let (first, links) = paired(first, operands)?;
             Ok(Joined::Formulas {
                 first,
                 links,
@@ -150,17 +153,27 @@ fn added(alloc: Global, state: Joined, value: Value) -> Result<Joined, AllocErro
 
 /// Data as tests, and a formula behind it.
 fn with_tests(
-    mut formulas: Vec<Formula>,
+    formulas: Vec<Formula>,
     terms: Vec<Term>,
     last: Formula,
 ) -> Result<Vec<Formula>, AllocError>
     ensures { IfOk result (λ all. formula_views all.items ≡ formula_views formulas.items
         ++ (map Test (term_views terms.items) ++ formula_views (last ∷ []))) }
 {
+    let tests = add_tests(formulas, terms);
+    let (formula, mut all) = paired(last, tests)?;
+    all.push(formula)?;
+    Ok(all)
+}
+
+/// Data as tests behind formulas.
+fn add_tests(mut formulas: Vec<Formula>, terms: Vec<Term>) -> Result<Vec<Formula>, AllocError>
+    ensures { IfOk result (λ all. formula_views all.items
+        ≡ formula_views formulas.items ++ map Test (term_views terms.items)) }
+{
     for term in terms {
         formulas.push(Formula::Test(term))?;
     }
-    formulas.push(last)?;
     Ok(formulas)
 }
 
@@ -186,8 +199,9 @@ fn finished(alloc: Global, connective: Connective, state: Joined) -> Result<Valu
             links,
             behind,
         } => {
-            let links = with_tail(alloc, connective, links, behind)?;
-            let first = Box::new(alloc, first)?;
+            let operands = with_tail(alloc, connective, links, behind);
+            let (head, links) = paired(first, operands)?;
+            let first = Box::new(alloc, head)?;
             Ok(Value::Formula(Formula::Chain {
                 connective,
                 first,

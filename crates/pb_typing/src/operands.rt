@@ -1,7 +1,8 @@
 //! Operands that are held while more is checked or memory is asked for. What is generic in them
 //! releases them in one place, whatever they are.
 
-ghost use Rattle.std.specs.Prelude.{◌≡◌, [], Contains, Err, IfOk, MatchResult, Ok, box_value};
+ghost use Rattle.std.specs.Prelude.{◌≡◌, ◌++◌, ◌∷◌, [], Contains, Err, IfOk, MatchResult, Ok};
+ghost use Rattle.std.specs.Prelude.{box_value};
 ghost use Rattle.pb_typing_declarations.specs.Faults.{unless};
 
 use pb_text_tree::Place;
@@ -31,6 +32,17 @@ pub(crate) fn paired<T: Drop, U, E>(value: T, other: Result<U, E>) -> Result<(T,
         Ok(other) => Ok((value, other)),
         Err(error) => Err(error),
     }
+}
+
+/// A list with one operand more.
+///
+/// # Errors
+/// Memory was refused.
+pub(crate) fn with_last<T: Drop>(mut operands: Vec<T>, last: T) -> Result<Vec<T>, AllocError>
+    ensures { IfOk result (λ more. more.items ≡ operands.items ++ last ∷ []) }
+{
+    operands.push(last)?;
+    Ok(operands)
 }
 
 /// Two operands, each in memory of its own.

@@ -25,7 +25,7 @@ pub(crate) fn fault(rule: TypingRule, place: Place) -> TypingFault
 }
 
 /// An operation on one whole number.
-#[derive(Clone, Copy, Debug, PartialEq, Eq)]
+#[derive(Clone, Copy)]
 pub(crate) enum UnaryOperation {
     Negation,
     Successor,
@@ -66,7 +66,7 @@ impl UnaryOperation {
 }
 
 /// An operation on two whole numbers.
-#[derive(Clone, Copy, Debug, PartialEq, Eq)]
+#[derive(Clone, Copy)]
 pub(crate) enum BinaryOperation {
     Sum,
     Difference,

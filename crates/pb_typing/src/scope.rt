@@ -9,7 +9,7 @@ use pb_typed_tree::Shape;
 use std::collections::HashMap;
 
 /// A variable: its slot, and what is known of its values.
-#[derive(Clone, Copy, Debug, PartialEq, Eq)]
+#[derive(Clone, Copy)]
 pub(crate) struct Variable {
     pub slot: usize,
     pub shape: Shape,

@@ -7,17 +7,19 @@ ghost use Rattle.pb_intervals.specs.Interval.{is_within, literals, singleton};
 ghost use Rattle.pb_typing_rules.specs.Shapes.{literal_shape};
 ghost use Rattle.pb_typing_declarations.specs.Faults.{IsAmong, unless};
 ghost use Rattle.pb_typed_tree.specs.Tree as tree;
-ghost use Rattle.pb_typed_tree.specs.View.{shape_view, term_views};
-ghost use Rattle.pb_typing.specs.Chains.{link_faults, operand_shape, own_faults};
+ghost use Rattle.pb_typed_tree.specs.View.{link_views, shape_view, term_views};
+ghost use Rattle.pb_typing.specs.Chains.{arithmetic_faults, calculated_shape, link_faults};
+ghost use Rattle.pb_typing.specs.Chains.{operand_shape, own_faults};
 ghost use Rattle.pb_typing.specs.Contexts.{ChecksTerm, scope_in, slots_in, text_in};
 ghost use Rattle.pb_typing.specs.Elaborated.{Elaborates, Resolves};
 ghost use Rattle.pb_typing.specs.Functions.{IsChoice, IsOfOne, IsOfTwo};
-ghost use Rattle.pb_typing.specs.Slots.{link_terms, over_slots};
+ghost use Rattle.pb_typing.specs.Slots.{arithmetic_terms, link_terms, over_slots};
 
 use crate::apply::{apply_one, apply_two, choose, compared, negated, operated};
 use crate::context::Context;
 use crate::function::{Extreme, Function, FunctionOfOne, find_function};
 use crate::name::check_name;
+use crate::operands::{accepted, paired};
 use crate::operation::{UnaryOperation, fault};
 use crate::operator::compute;
 use crate::shape::{is_truth, literal_interval};
@@ -73,8 +75,9 @@ pub(crate) fn check_term(
             left,
             right,
         } => {
-            let left = check_term(context, left)?;
-            let right = check_term(context, right)?;
+            let first = check_term(context, left)?;
+            let second = check_term(context, right);
+            let (left, right) = paired(first, second)?;
             compared(context.alloc, *comparison, left, right, *place)
         }
         pb_text_tree::Term::Arithmetic { first, links } => check_arithmetic(context, first, links),
@@ -103,11 +106,12 @@ fn check_chain(
     if links.is_empty() {
         return Ok(head);
     }
-    let links = check_links(context, head.shape, links)?;
+    let operands = check_links(context, head.shape, links);
+    let (first, links) = paired(head.term, operands)?;
     Ok(TypedTerm {
         term: Term::Chain {
             connective,
-            first: Box::new(context.alloc, head.term)?,
+            first: Box::new(context.alloc, first)?,
             links,
         },
         shape: Shape::Truths,
@@ -157,7 +161,12 @@ fn check_link(
     require(is_truth(&left), TypingRule::WrongKind, link.place)?;
     let operand = check_term(context, &link.operand)?;
     let is_accepted = is_truth(&operand.shape);
-    require(more || is_accepted, TypingRule::WrongKind, link.place)?;
+    let operand = accepted(
+        operand,
+        more || is_accepted,
+        TypingRule::WrongKind,
+        link.place,
+    )?;
     Ok(operand)
 }
 
@@ -172,23 +181,46 @@ pub(crate) fn check_arithmetic(
         (arithmetic_links links.now)) result }
 {
     let head = check_term(context, first)?;
-    let mut shape = head.shape;
-    let mut operands = Vec::with_capacity(context.alloc, links.len())?;
-    for link in links {
-        let right = check_term(context, &link.operand)?;
-        shape = compute(link.operator, shape, right.shape, link.place)?;
-        operands.push(Link {
-            operator: link.operator,
-            operand: right.term,
-        })?;
-    }
+    let operands = check_operands(context, head.shape, links);
+    let (first, (links, shape)) = paired(head.term, operands)?;
     Ok(TypedTerm {
         term: Term::Arithmetic {
-            first: Box::new(context.alloc, head.term)?,
-            links: operands,
+            first: Box::new(context.alloc, first)?,
+            links,
         },
         shape,
     })
+}
+
+/// Checks the operands of arithmetic behind the first, which has this shape, and finds the shape of
+/// the whole.
+#[cycle(terms)]
+fn check_operands(
+    context: &Context<'_, '_, '_>,
+    first: Shape,
+    links: &[ArithmeticLink],
+) -> Result<(Vec<Link>, Shape), TypeError>
+    ensures { MatchResult result
+        (λ found. (arithmetic_faults (text_in context.now) (scope_in context.now)
+        (shape_view first) links.now ≡ [])
+        × (link_views found.0.items ≡ arithmetic_terms (text_in context.now) (slots_in context.now)
+        links.now)
+        × (shape_view found.1 ≡ calculated_shape (text_in context.now) (scope_in context.now)
+        (shape_view first) links.now))
+        (IsAmong (arithmetic_faults (text_in context.now) (scope_in context.now)
+        (shape_view first) links.now)) }
+{
+    let mut shape = first;
+    let mut operands = Vec::with_capacity(context.alloc, links.len())?;
+    for link in links {
+        let right = check_term(context, &link.operand)?;
+        let whole = compute(link.operator, shape, right.shape, link.place);
+        let (operand, whole) = paired(right.term, whole)?;
+        shape = whole;
+        let operator = link.operator;
+        operands.push(Link { operator, operand })?;
+    }
+    Ok((operands, shape))
 }
 
 /// Checks a function or a recogniser with its arguments: first its name and their number (T08).
@@ -241,8 +273,9 @@ fn check_two(
     ensures { ChecksTerm context.now (TermForm.application (named name.now)
         (argument_forms arguments.now)) result }
 {
-    let x = check_term(context, &arguments[0].term)?;
-    let y = check_term(context, &arguments[1].term)?;
+    let first = check_term(context, &arguments[0].term)?;
+    let second = check_term(context, &arguments[1].term);
+    let (x, y) = paired(first, second)?;
     apply_two(context.alloc, extreme, x, y, name.place)
 }
 
@@ -259,7 +292,9 @@ fn check_choice(
         (argument_forms arguments.now)) result }
 {
     let condition = check_term(context, &arguments[0].term)?;
-    let x = check_term(context, &arguments[1].term)?;
-    let y = check_term(context, &arguments[2].term)?;
+    let first = check_term(context, &arguments[1].term);
+    let (condition, x) = paired(condition, first)?;
+    let second = check_term(context, &arguments[2].term);
+    let ((condition, x), y) = paired((condition, x), second)?;
     choose(context.alloc, condition, x, y, name.place)
 }

@@ -28,6 +28,7 @@ ghost use Rattle.pb_typed_tree.specs.Expansion.{expanded_term};
 use crate::apply::negated;
 use crate::context::Context;
 use crate::joined::{Value, joined_values};
+use crate::operands::{accepted, paired};
 use crate::scope::{Scope, Variable};
 use crate::shape::is_truth;
 use crate::term::check_term;
@@ -53,8 +54,9 @@ pub(crate) fn check_truth<'t>(
     ensures carriers { OnOk result (AddsLoops context.now carriers.old.items carriers.new.items
         (value_of term.now)) }
 {
-    let value = check_value(context, carriers, term)?;
-    require(is_truth(&value.shape()), TypingRule::WrongKind, place)?;
+    let found = check_value(context, carriers, term)?;
+    let test = is_truth(&found.shape());
+    let value = accepted(found, test, TypingRule::WrongKind, place)?;
     Ok(value.into_formula())
 }
 
@@ -182,8 +184,9 @@ fn check_chain<'t>(
     if links.is_empty() {
         return Ok(head);
     }
-    let rest = check_links(context, carriers, head.shape(), links)?;
-    let value = joined_values(context.alloc, connective, head, rest)?;
+    let operands = check_links(context, carriers, head.shape(), links);
+    let (left, rest) = paired(head, operands)?;
+    let value = joined_values(context.alloc, connective, left, rest)?;
     Ok(value)
 }
 
@@ -236,6 +239,11 @@ fn check_link<'t>(
     require(is_truth(&left), TypingRule::WrongKind, link.place)?;
     let operand = check_value(context, carriers, &link.operand)?;
     let is_accepted = is_truth(&operand.shape());
-    require(more || is_accepted, TypingRule::WrongKind, link.place)?;
+    let operand = accepted(
+        operand,
+        more || is_accepted,
+        TypingRule::WrongKind,
+        link.place,
+    )?;
     Ok(operand)
 }

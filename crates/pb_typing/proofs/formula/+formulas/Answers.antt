@@ -1,12 +1,15 @@
-use Rattle.std.proofs.Common.{◌≡◌, ◌∙◌, ◌++◌, length, refl, sym, ap, subst, rules, arith, List, []}
-use Rattle.std.specs.Prelude.{box_value}
+use Rattle.std.proofs.Common.{◌≡◌, ◌∙◌, ◌++◌, length, refl, sym, ap, subst, rules, arith, List, [], ℕ, Bool, Result, Vec, Global}
+use Rattle.std.specs.Prelude.{box_value, IfOk, MatchResult, OnOk}
 use Rattle.pb_text_tree.specs.declared.formula.Formula as ast
 use Rattle.pb_text_tree.specs.declared.formula.Link.{Link}
 use Rattle.pb_text_tree.specs.Form.{FormulaForm, formula_form, variable_forms}
+use Rattle.pb_text_tree.specs.declared.operator.Connective.{Connective}
 use Rattle.pb_text_meaning.specs.Syntax as syntax
+use Rattle.pb_text_meaning.specs.Syntax.{Spec}
 use Rattle.pb_text_meaning.specs.Erase.{erased_formula}
 use Rattle.pb_typing_rules.specs.Faults.{formula_faults}
 use Rattle.pb_typing_rules.specs.Scope.{Scope}
+use Rattle.pb_errors.specs.declared.or_memory.OrMemory.{OrMemory}
 use Rattle.pb_typing_declarations.specs.declared.fault.TypingFault.{TypingFault}
 use Rattle.pb_typing_declarations.specs.Declarations.{variables_faults}
 use Rattle.pb_typing_declarations.specs.Entries.{shapes_of}
@@ -14,7 +17,7 @@ use Rattle.pb_typing_declarations.specs.Faults.{IsAmong}
 use Rattle.pb_typing_declarations.proofs.Parts.{among_first, first_clear}
 use Rattle.pb_typed_tree.specs.declared.formula.Formula.{Formula}
 use Rattle.pb_typed_tree.specs.Calls.{call_places, calls_in, places_of}
-use Rattle.pb_typed_tree.specs.Elaboration.{elaborated}
+use Rattle.pb_typed_tree.specs.Elaboration.{Slotting, elaborated}
 use Rattle.pb_typed_tree.specs.Expansion.{expanded}
 use Rattle.pb_typed_tree.specs.Loops.{loops}
 use Rattle.pb_typed_tree.specs.Tree.{Negation}
@@ -22,7 +25,7 @@ use Rattle.pb_typed_tree.specs.View.{formula_view, formula_views}
 use Rattle.pb_typed_tree.proofs.Calls.{chain-places}
 use Rattle.pb_typed_tree.proofs.Views.{formula-chain}
 use Rattle.pb_typing.specs.Contexts.{scope_in, slots_in, text_in}
-use Rattle.pb_typing.specs.FormulaLinks.{link_faults}
+use Rattle.pb_typing.specs.FormulaLinks.{elaborated_links, link_faults, links_calls, links_loops}
 use Rattle.pb_typing.specs.Scopes.{inner_slots}
 use Rattle.pb_typing.specs.Tree.{formula_of}
 use Rattle.pb_typing.specs.View.{is_positive}
@@ -191,8 +194,8 @@ pub check_formula-check_formula-requires-in-Chain : goal.check_formula-check_for
 check_formula-check_formula-requires-in-Chain t c =
     (omega (arith, c.decreases, ap weight c.in-Chain.is ∙ weight-chain c.in-Chain.connective c.in-Chain.first c.in-Chain.links, ap weight c.deref-in-Chain.ensures), c.requires)
 
-pub check_formula-check_links-requires : goal.check_formula-check_links-requires
-check_formula-check_links-requires t c =
+pub check_formula-check_links-operands-requires : goal.check_formula-check_links-operands-requires
+check_formula-check_links-operands-requires t c =
     (omega (arith, c.decreases, ap weight c.in-Chain.is ∙ weight-chain c.in-Chain.connective c.in-Chain.first c.in-Chain.links, ap links_weight c.deref-in-Chain-2.ensures.value), c.requires)
 
 pub check_formula-returns-in_err-head-in-Chain-clause-checked : goal.check_formula-returns-in_err-head-in-Chain-clause-checked
@@ -207,17 +210,25 @@ check_formula-returns-in_err-head-in-Chain-clause-checked t c =
     let h : IsAmong whole c.in_err-head-in-Chain.field-0.0 = among_first whole _ _ c.in_err-head-in-Chain.field-0.0 all c.in_err-head-in-Chain.ensures.checked in
     search rules
 
-pub check_formula-returns-in_err-links-in-Chain-clause-checked : goal.check_formula-returns-in_err-links-in-Chain-clause-checked
-check_formula-returns-in_err-links-in-Chain-clause-checked t c =
+-- what is found of the operands behind the first
+abbrev ChecksLinks : Spec → Scope → Slotting → Connective → Bool → ℕ → List Link → Result (Vec Formula Global) (OrMemory TypingFault) → Type 0
+ChecksLinks S a s o even n links r =
+    MatchResult r (λ fs. (link_faults S a o even links ≡ []) × (formula_views fs.items ≡ elaborated_links S s a n links))
+    (IsAmong (link_faults S a o even links))
+
+pub check_formula-returns-in_err-left-in-Chain-clause-checked : goal.check_formula-returns-in_err-left-in-Chain-clause-checked
+check_formula-returns-in_err-left-in-Chain-clause-checked t c =
     let S = text_in c.args.context.now in
     let a = scope_in c.args.context.now in
+    let s = slots_in c.args.context.now in
     let even = is_positive c.args.polarity in
     let q = c.in-Chain in
     let all = chain_first S a even c.args.formula.now c.deref-in-Chain.result.now q.connective q.first q.links c.len.result (is_positive c.operand_polarity-of_first.result)
     q.is c.deref-in-Chain.ensures (omega (arith, c.len.ensures, q.links.ok.0)) c.operand_polarity-of_first.ensures in
     let whole = formula_faults S even a (formula_form c.args.formula.now) in
-    let e = c.in_err-links-in-Chain.field-0.0 in
-    let here = subst (λ (ls : List Link). IsAmong (link_faults S a q.connective even ls) e) c.deref-in-Chain-2.ensures.value c.in_err-links-in-Chain.ensures.checked in
+    let e = c.in_err-left-in-Chain.field-0.0 in
+    let others = subst (ChecksLinks S a s q.connective even (length c.check_formula-in-Chain.new.carriers.items) c.deref-in-Chain-2.result.now) c.in_err-left-in-Chain.ensures c.check_links-operands.ensures.checked in
+    let here = subst (λ (ls : List Link). IsAmong (link_faults S a q.connective even ls) e) c.deref-in-Chain-2.ensures.value others in
     let h : IsAmong whole e = subst (λ (zs : List TypingFault). IsAmong zs e) (sym (first_clear _ _ _ all c.in_ok-head-in-Chain.ensures.checked.0)) here in
     search rules
 
@@ -236,12 +247,13 @@ check_formula-returns-in_ok-first-in-Chain-clause-checked t c =
     let links = c.deref-in-Chain-2.result.now in
     let node = chain-node c.args.formula.now first q.connective q.first q.links links q.is c.deref-in-Chain.ensures c.deref-in-Chain-2.ensures.value in
     let head = c.in_ok-head-in-Chain.ensures in
-    let others = c.in_ok-links-in-Chain.ensures in
+    let kept = c.in_ok-left-in-Chain.ensures in
+    let others = subst (ChecksLinks S a s q.connective even (length c.check_formula-in-Chain.new.carriers.items) links) kept.1 c.check_links-operands.ensures.checked in
     let whole_is = first_clear _ _ _ all head.checked.0 in (
-      whole_is ∙ (ap (λ (ls : List Link). link_faults S a q.connective even ls) (sym c.deref-in-Chain-2.ensures.value) ∙ others.checked.0),
-      formula-chain q.connective c.in_ok-first-in-Chain.first c.in_ok-links-in-Chain.links
+      whole_is ∙ (ap (λ (ls : List Link). link_faults S a q.connective even ls) (sym c.deref-in-Chain-2.ensures.value) ∙ others.0),
+      formula-chain q.connective c.in_ok-first-in-Chain.first c.in_ok-left-in-Chain.links
           ∙ (chain-view S q.connective first links c.args.carriers.now.items c.check_formula-in-Chain.new.carriers.items head.carriers s a
-          (formula_view (box_value c.in_ok-first-in-Chain.first)) (formula_views c.in_ok-links-in-Chain.links.items) (ap formula_view c.in_ok-first-in-Chain.ensures.ok ∙ head.checked.1) others.checked.1
+          (formula_view (box_value c.in_ok-first-in-Chain.first)) (formula_views c.in_ok-left-in-Chain.links.items) (ap formula_view (c.in_ok-first-in-Chain.ensures.ok ∙ kept.0) ∙ head.checked.1) others.1
           ∙ sym (ap (λ (f : FormulaForm). elaborated S s a n (expanded (erased_formula f))) node)),
     )
 
@@ -255,8 +267,8 @@ check_formula-returns-in_ok-first-in-Chain-clause-carriers t c =
     let links = c.deref-in-Chain-2.result.now in
     let node = chain-node c.args.formula.now first q.connective q.first q.links links q.is c.deref-in-Chain.ensures c.deref-in-Chain-2.ensures.value in
     let head = c.in_ok-head-in-Chain.ensures in
-    let others = c.in_ok-links-in-Chain.ensures in
-    chain-shapes S q.connective first links c.args.carriers.now.items c.check_formula-in-Chain.new.carriers.items head.carriers c.check_links.new.carriers.items others.carriers
+    let grown = subst (λ (r : Result (Vec Formula Global) (OrMemory TypingFault)). OnOk r (shapes_of c.check_links-operands.new.carriers.items ≡ shapes_of c.check_formula-in-Chain.new.carriers.items ++ links_loops S links)) c.in_ok-left-in-Chain.ensures.1 c.check_links-operands.ensures.carriers in
+    chain-shapes S q.connective first links c.args.carriers.now.items c.check_formula-in-Chain.new.carriers.items head.carriers c.check_links-operands.new.carriers.items grown
     ∙ sym (ap (λ (f : FormulaForm). shapes_of c.args.carriers.now.items ++ loops S (expanded (erased_formula f))) node)
 
 pub check_formula-returns-in_ok-first-in-Chain-clause-places : goal.check_formula-returns-in_ok-first-in-Chain-clause-places
@@ -266,9 +278,10 @@ check_formula-returns-in_ok-first-in-Chain-clause-places t c =
     let links = c.deref-in-Chain-2.result.now in
     let node = chain-node c.args.formula.now first q.connective q.first q.links links q.is c.deref-in-Chain.ensures c.deref-in-Chain-2.ensures.value in
     let head = c.in_ok-head-in-Chain.ensures in
-    let others = c.in_ok-links-in-Chain.ensures in
-    chain-places q.connective c.in_ok-first-in-Chain.first c.in_ok-links-in-Chain.links
-    ∙ (chain_calls q.connective first links (call_places (box_value c.in_ok-first-in-Chain.first)) (places_of c.in_ok-links-in-Chain.links.items) (ap call_places c.in_ok-first-in-Chain.ensures.ok ∙ head.places) others.places
+    let kept = c.in_ok-left-in-Chain.ensures in
+    let others = subst (λ (r : Result (Vec Formula Global) (OrMemory TypingFault)). IfOk r (λ fs. places_of fs.items ≡ links_calls links)) kept.1 c.check_links-operands.ensures.places in
+    chain-places q.connective c.in_ok-first-in-Chain.first c.in_ok-left-in-Chain.links
+    ∙ (chain_calls q.connective first links (call_places (box_value c.in_ok-first-in-Chain.first)) (places_of c.in_ok-left-in-Chain.links.items) (ap call_places (c.in_ok-first-in-Chain.ensures.ok ∙ kept.0) ∙ head.places) others
     ∙ sym (ap calls_in node))
 
 -- ---- quantifiers

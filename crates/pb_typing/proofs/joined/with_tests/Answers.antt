@@ -1,10 +1,16 @@
-use Rattle.std.proofs.Common.{rules}
-use Rattle.std.specs.Vec.Iter.{into_iter_items}
-use Rattle.pb_typing.proofs.ValueMade.{tests-ended, with-last}
+use Rattle.std.proofs.Common.{◌≡◌, ◌++◌, map, subst, Result, Vec, Global}
+use Rattle.std.specs.Prelude.{IfOk}
+use Rattle.std.specs.declared.alloc.AllocError.{AllocError}
+use Rattle.pb_typed_tree.specs.declared.formula.Formula.{Formula}
+use Rattle.pb_typed_tree.specs.Tree.{Test}
+use Rattle.pb_typed_tree.specs.View.{formula_views, term_views}
+use Rattle.pb_typing.proofs.ValueMade.{with-last}
 use Rattle.pb_typing.proofs.joined.with_tests.Goals as goal
 
 pub returns : goal.returns
 returns c =
-    with-last _ _ _ _ c.args.last c.loop-term.invariant.last
-    (tests-ended c.loop-term.formulas.items c.push-2.new.self.items c.args.formulas.items (into_iter_items c.loop-term.term-iterator) c.args.terms.items _
-    c.in_ok-push-2.ensures.items (search rules) c.loop-term.invariant.done)
+    let kept = c.in_ok-formula.ensures in
+    let before = formula_views c.args.formulas.items in
+    let tests = map Test (term_views c.args.terms.items) in
+    let made = subst (λ (r : Result (Vec Formula Global) AllocError). IfOk r (λ all. formula_views all.items ≡ before ++ tests)) kept.1 c.add_tests-tests.ensures in
+    with-last before tests c.in_ok-formula.all.items c.push.new.self.items c.in_ok-formula.formula c.args.last kept.0 made c.in_ok-push.ensures.items

@@ -1,5 +1,5 @@
-use Rattle.std.proofs.Common.{◌≡◌, ◌∙◌, ◌+◌, ◌≤◌, ◌++◌, drop, get_or, length, Ok, refl, sym, ap, subst, rules, arith, false, List, [], ℕ}
-use Rattle.std.specs.Prelude.{◌==◌}
+use Rattle.std.proofs.Common.{◌≡◌, ◌∙◌, ◌+◌, ◌≤◌, ◌++◌, drop, get_or, length, Ok, refl, sym, ap, subst, rules, arith, false, List, [], ℕ, Result, Vec, Global}
+use Rattle.std.specs.Prelude.{◌==◌, MatchResult}
 use Rattle.std.proofs.lemmas.Bool.{eqb-true}
 use Rattle.std.proofs.lemmas.List.{drop_all}
 use Rattle.pb_sorts.proofs.Places.{drop-at}
@@ -9,34 +9,54 @@ use Rattle.pb_text_tree.specs.declared.term.ArithmeticLink.{ArithmeticLink}
 use Rattle.pb_text_tree.specs.declared.term.Argument.{Argument}
 use Rattle.pb_text_tree.specs.Form.{TermForm, named, argument_forms, arithmetic_links, calculated, chained, term_form, term_links}
 use Rattle.pb_text_tree.proofs.FormLemmas.{term-chain, term-arithmetic, term-application}
+use Rattle.pb_text_meaning.specs.Syntax.{Spec}
 use Rattle.pb_text_meaning.specs.Erase.{erased_arguments, of_connective}
 use Rattle.pb_typing_rules.specs.Faults.{term_faults, operator_faults}
-use Rattle.pb_typing_rules.specs.Shapes.{Computed, may_be_truth}
+use Rattle.pb_typing_rules.specs.Scope.{Scope}
+use Rattle.pb_typing_rules.specs.Shapes.{Computed, binary_shape, may_be_truth}
 use Rattle.pb_typing_rules.specs.Term.{shapes}
 use Rattle.pb_typing_declarations.specs.declared.fault.TypingRule.TheVariants as rule
 use Rattle.pb_typing_declarations.specs.declared.fault.TypingFault.{TypingFault}
+use Rattle.pb_errors.specs.declared.or_memory.OrMemory.{OrMemory}
 use Rattle.pb_errors.specs.declared.or_memory.OrMemory.TheVariants.{Refused}
 use Rattle.pb_typing_declarations.specs.Faults.{unless, IsAmong}
 use Rattle.pb_typing_declarations.specs.Shapes as model
 use Rattle.pb_typing_declarations.proofs.Parts.{among_left, among_right, among_first, first_clear, holds_unless}
+use Rattle.pb_typed_tree.specs.declared.shape.Shape.{Shape}
+use Rattle.pb_typed_tree.specs.declared.term.Link as made_link
+use Rattle.pb_typed_tree.specs.declared.term.Term as made_term
+use Rattle.pb_typed_tree.specs.Elaboration.{Slotting}
 use Rattle.pb_typed_tree.specs.Tree as tree
 use Rattle.pb_typed_tree.specs.Tree.{Binary}
 use Rattle.pb_typed_tree.specs.View as view
 use Rattle.pb_typed_tree.specs.View.{shape_view, term_view, term_views, link_views}
 use Rattle.pb_typed_tree.proofs.Views as made
-use Rattle.pb_typing.specs.Chains.{link_faults, own_faults}
+use Rattle.pb_typing.specs.Chains.{arithmetic_faults, calculated_shape, link_faults, own_faults}
 use Rattle.pb_typing.specs.Contexts.{scope_in, slots_in, text_in}
 use Rattle.pb_typing.specs.Elaborated.{ChecksTermIn}
+use Rattle.pb_typing.specs.Found.{Judges}
 use Rattle.pb_typing.specs.Functions.{IsFunction, arity_of}
 use Rattle.pb_typing.specs.Slots.{over_slots, link_terms, arithmetic_terms}
 use Rattle.pb_typing.specs.View.{operation_of}
 use Rattle.pb_typing.proofs.Applications.{one_node, two_node, choice_node}
-use Rattle.pb_typing.proofs.DataLemmas.{chained-slotted, calculated-slotted, links_done, arithmetic_done, terms_next}
+use Rattle.pb_typing.proofs.DataLemmas.{chained-slotted, calculated-slotted, links_done, arithmetic_done, operands_next, terms_next}
 use Rattle.pb_typing.proofs.FunctionArguments.{application_faults, argument_fault, count_fault, one_argument, two_arguments, three_arguments}
-use Rattle.pb_typing.proofs.Links.{chained-faults, some-shape, links_next, arithmetic_faults, calculated-faults, calculated-shape, calculated_shape}
-use Rattle.pb_typing.proofs.Nodes.{not_operand, not_node, negative_operand, negative_node, comparison_left, comparison_right, comparison_node, lone_chain}
+use Rattle.pb_typing.proofs.Links.{chained-faults, some-shape, links_next, calculated-faults, calculated-shape}
+use Rattle.pb_typing.proofs.Nodes.{IsChecked, not_operand, not_node, negative_operand, negative_node, comparison_left, comparison_right, comparison_node, lone_chain}
 use Rattle.pb_typing.proofs.Weight.{weight, weight-chain, weight-arithmetic, weight-application, links_weight, arithmetic_weight, arguments_weight, link_lighter, operand_lighter, argument_lighter}
 use Rattle.pb_typing.proofs.term.+terms.Goals as goal
+
+-- ---- what is found of the operands behind the first
+
+abbrev ChecksLinks : Spec → Scope → Slotting → model.Shape → List TermLink → Result (Vec made_term.Term Global) (OrMemory TypingFault) → Type 0
+ChecksLinks S a c s links r =
+    MatchResult r (λ xs. (link_faults S false a s links ≡ []) × (term_views xs.items ≡ link_terms S c links))
+    (IsAmong (link_faults S false a s links))
+
+abbrev ChecksOperands : {T : Type 0} → (T → List made_link.Link) → (T → Shape) → Spec → Scope → Slotting → model.Shape → List ArithmeticLink → Result T (OrMemory TypingFault) → Type 0
+ChecksOperands links_of shape_of S a c s links r =
+    MatchResult r (λ found. (arithmetic_faults S a s links ≡ []) × (link_views (links_of found) ≡ arithmetic_terms S c links) × (shape_view (shape_of found) ≡ calculated_shape S a s links))
+    (IsAmong (arithmetic_faults S a s links))
 
 -- ---- functions
 
@@ -117,28 +137,31 @@ check_two-check_term-requires t c =
     let i = c.index-arguments-0 in
     omega (arith, c.decreases, argument_lighter xs 0 (get_or xs 0 i.result) (omega (arith, c.requires.count)) (ap (get_or xs 0) i.is))
 
-pub check_two-check_term-requires-2 : goal.check_two-check_term-requires-2
-check_two-check_term-requires-2 t c =
+pub check_two-check_term-second-requires : goal.check_two-check_term-second-requires
+check_two-check_term-second-requires t c =
     let xs = c.args.arguments.now in
     let i = c.index-arguments-1 in
     omega (arith, c.decreases, argument_lighter xs 1 (get_or xs 1 i.result) (omega (arith, c.requires.count)) (ap (get_or xs 1) i.is))
+
+pub check_two-returns-in_err-first : goal.check_two-returns-in_err-first
+check_two-returns-in_err-first t c =
+    let S = text_in c.args.context.now in
+    let a = scope_in c.args.context.now in
+    let xs = c.args.arguments.now in
+    let e = c.in_err-first.field-0.0 in
+    let h : IsAmong (application_faults S a (named c.args.name.now) xs) e = argument_fault S a (named c.args.name.now) xs 0 (get_or xs 0 c.index-arguments-0.result) e (omega (arith, c.requires.count)) (ap (get_or xs 0) c.index-arguments-0.is) c.in_err-first.ensures in
+    search rules
 
 pub check_two-returns-in_err-x : goal.check_two-returns-in_err-x
 check_two-returns-in_err-x t c =
     let S = text_in c.args.context.now in
     let a = scope_in c.args.context.now in
+    let s = slots_in c.args.context.now in
     let xs = c.args.arguments.now in
+    let y = get_or xs 1 c.index-arguments-1.result in
     let e = c.in_err-x.field-0.0 in
-    let h : IsAmong (application_faults S a (named c.args.name.now) xs) e = argument_fault S a (named c.args.name.now) xs 0 (get_or xs 0 c.index-arguments-0.result) e (omega (arith, c.requires.count)) (ap (get_or xs 0) c.index-arguments-0.is) c.in_err-x.ensures in
-    search rules
-
-pub check_two-returns-in_err-y : goal.check_two-returns-in_err-y
-check_two-returns-in_err-y t c =
-    let S = text_in c.args.context.now in
-    let a = scope_in c.args.context.now in
-    let xs = c.args.arguments.now in
-    let e = c.in_err-y.field-0.0 in
-    let h : IsAmong (application_faults S a (named c.args.name.now) xs) e = argument_fault S a (named c.args.name.now) xs 1 (get_or xs 1 c.index-arguments-1.result) e (omega (arith, c.requires.count)) (ap (get_or xs 1) c.index-arguments-1.is) c.in_err-y.ensures in
+    let here : IsAmong (term_faults S false a (term_form y.term)) e = subst (ChecksTermIn S a s (term_form y.term)) c.in_err-x.ensures c.check_term-second.ensures in
+    let h : IsAmong (application_faults S a (named c.args.name.now) xs) e = argument_fault S a (named c.args.name.now) xs 1 y e (omega (arith, c.requires.count)) (ap (get_or xs 1) c.index-arguments-1.is) here in
     search rules
 
 pub check_two-returns : goal.check_two-returns
@@ -147,8 +170,12 @@ check_two-returns t c =
     let a = scope_in c.args.context.now in
     let s = slots_in c.args.context.now in
     let xs = c.args.arguments.now in
-    two_node S a s (named c.args.name.now) c.args.extreme xs (get_or xs 0 c.index-arguments-0.result) (get_or xs 1 c.index-arguments-1.result) c.in_ok-x.x c.in_ok-y.y c.apply_two.result c.requires.function
-    (two_arguments xs (get_or xs 0 c.index-arguments-0.result) (get_or xs 1 c.index-arguments-1.result) (omega (arith, c.requires.count)) (omega (arith, c.requires.count)) (ap (get_or xs 0) c.index-arguments-0.is) (ap (get_or xs 1) c.index-arguments-1.is)) c.in_ok-x.ensures c.in_ok-y.ensures c.apply_two.ensures
+    let x = get_or xs 0 c.index-arguments-0.result in
+    let y = get_or xs 1 c.index-arguments-1.result in
+    let first : IsChecked S a s (term_form x.term) c.in_ok-x.x = subst (IsChecked S a s (term_form x.term)) (sym c.in_ok-x.ensures.0) c.in_ok-first.ensures in
+    let second : IsChecked S a s (term_form y.term) c.in_ok-x.y = subst (ChecksTermIn S a s (term_form y.term)) c.in_ok-x.ensures.1 c.check_term-second.ensures in
+    two_node S a s (named c.args.name.now) c.args.extreme xs x y c.in_ok-x.x c.in_ok-x.y c.apply_two.result c.requires.function
+    (two_arguments xs x y (omega (arith, c.requires.count)) (omega (arith, c.requires.count)) (ap (get_or xs 0) c.index-arguments-0.is) (ap (get_or xs 1) c.index-arguments-1.is)) first second c.apply_two.ensures
 
 pub check_choice-check_term-requires : goal.check_choice-check_term-requires
 check_choice-check_term-requires t c =
@@ -156,14 +183,14 @@ check_choice-check_term-requires t c =
     let i = c.index-arguments-0 in
     omega (arith, c.decreases, argument_lighter xs 0 (get_or xs 0 i.result) (omega (arith, c.requires.count)) (ap (get_or xs 0) i.is))
 
-pub check_choice-check_term-requires-2 : goal.check_choice-check_term-requires-2
-check_choice-check_term-requires-2 t c =
+pub check_choice-check_term-first-requires : goal.check_choice-check_term-first-requires
+check_choice-check_term-first-requires t c =
     let xs = c.args.arguments.now in
     let i = c.index-arguments-1 in
     omega (arith, c.decreases, argument_lighter xs 1 (get_or xs 1 i.result) (omega (arith, c.requires.count)) (ap (get_or xs 1) i.is))
 
-pub check_choice-check_term-requires-3 : goal.check_choice-check_term-requires-3
-check_choice-check_term-requires-3 t c =
+pub check_choice-check_term-second-requires : goal.check_choice-check_term-second-requires
+check_choice-check_term-second-requires t c =
     let xs = c.args.arguments.now in
     let i = c.index-arguments-2 in
     omega (arith, c.decreases, argument_lighter xs 2 (get_or xs 2 i.result) (omega (arith, c.requires.count)) (ap (get_or xs 2) i.is))
@@ -177,22 +204,28 @@ check_choice-returns-in_err-condition t c =
     let h : IsAmong (application_faults S a (named c.args.name.now) xs) e = argument_fault S a (named c.args.name.now) xs 0 (get_or xs 0 c.index-arguments-0.result) e (omega (arith, c.requires.count)) (ap (get_or xs 0) c.index-arguments-0.is) c.in_err-condition.ensures in
     search rules
 
-pub check_choice-returns-in_err-x : goal.check_choice-returns-in_err-x
-check_choice-returns-in_err-x t c =
+pub check_choice-returns-in_err-condition-2 : goal.check_choice-returns-in_err-condition-2
+check_choice-returns-in_err-condition-2 t c =
     let S = text_in c.args.context.now in
     let a = scope_in c.args.context.now in
+    let s = slots_in c.args.context.now in
     let xs = c.args.arguments.now in
-    let e = c.in_err-x.field-0.0 in
-    let h : IsAmong (application_faults S a (named c.args.name.now) xs) e = argument_fault S a (named c.args.name.now) xs 1 (get_or xs 1 c.index-arguments-1.result) e (omega (arith, c.requires.count)) (ap (get_or xs 1) c.index-arguments-1.is) c.in_err-x.ensures in
+    let x = get_or xs 1 c.index-arguments-1.result in
+    let e = c.in_err-condition-2.field-0.0 in
+    let here : IsAmong (term_faults S false a (term_form x.term)) e = subst (ChecksTermIn S a s (term_form x.term)) c.in_err-condition-2.ensures c.check_term-first.ensures in
+    let h : IsAmong (application_faults S a (named c.args.name.now) xs) e = argument_fault S a (named c.args.name.now) xs 1 x e (omega (arith, c.requires.count)) (ap (get_or xs 1) c.index-arguments-1.is) here in
     search rules
 
-pub check_choice-returns-in_err-y : goal.check_choice-returns-in_err-y
-check_choice-returns-in_err-y t c =
+pub check_choice-returns-in_err-condition-3 : goal.check_choice-returns-in_err-condition-3
+check_choice-returns-in_err-condition-3 t c =
     let S = text_in c.args.context.now in
     let a = scope_in c.args.context.now in
+    let s = slots_in c.args.context.now in
     let xs = c.args.arguments.now in
-    let e = c.in_err-y.field-0.0 in
-    let h : IsAmong (application_faults S a (named c.args.name.now) xs) e = argument_fault S a (named c.args.name.now) xs 2 (get_or xs 2 c.index-arguments-2.result) e (omega (arith, c.requires.count)) (ap (get_or xs 2) c.index-arguments-2.is) c.in_err-y.ensures in
+    let y = get_or xs 2 c.index-arguments-2.result in
+    let e = c.in_err-condition-3.field-0.0 in
+    let here : IsAmong (term_faults S false a (term_form y.term)) e = subst (ChecksTermIn S a s (term_form y.term)) c.in_err-condition-3.ensures c.check_term-second.ensures in
+    let h : IsAmong (application_faults S a (named c.args.name.now) xs) e = argument_fault S a (named c.args.name.now) xs 2 y e (omega (arith, c.requires.count)) (ap (get_or xs 2) c.index-arguments-2.is) here in
     search rules
 
 pub check_choice-returns : goal.check_choice-returns
@@ -201,8 +234,17 @@ check_choice-returns t c =
     let a = scope_in c.args.context.now in
     let s = slots_in c.args.context.now in
     let xs = c.args.arguments.now in
-    choice_node S a s (named c.args.name.now) xs (get_or xs 0 c.index-arguments-0.result) (get_or xs 1 c.index-arguments-1.result) (get_or xs 2 c.index-arguments-2.result) c.in_ok-condition.condition c.in_ok-x.x c.in_ok-y.y c.choose.result c.requires.function
-    (three_arguments xs (get_or xs 0 c.index-arguments-0.result) (get_or xs 1 c.index-arguments-1.result) (get_or xs 2 c.index-arguments-2.result) (omega (arith, c.requires.count)) (omega (arith, c.requires.count)) (ap (get_or xs 0) c.index-arguments-0.is) (ap (get_or xs 1) c.index-arguments-1.is) (ap (get_or xs 2) c.index-arguments-2.is)) c.in_ok-condition.ensures c.in_ok-x.ensures c.in_ok-y.ensures c.choose.ensures
+    let q = get_or xs 0 c.index-arguments-0.result in
+    let x = get_or xs 1 c.index-arguments-1.result in
+    let y = get_or xs 2 c.index-arguments-2.result in
+    let kept = c.in_ok-condition-3.ensures.0 in
+    let test : IsChecked S a s (term_form q.term) c.in_ok-condition-3.condition =
+    subst (IsChecked S a s (term_form q.term)) (sym (ap (λ p. p.0) kept ∙ c.in_ok-condition-2.ensures.0)) c.in_ok-condition.ensures in
+    let first : IsChecked S a s (term_form x.term) c.in_ok-condition-3.x =
+    subst (IsChecked S a s (term_form x.term)) (sym (ap (λ p. p.1) kept)) (subst (ChecksTermIn S a s (term_form x.term)) c.in_ok-condition-2.ensures.1 c.check_term-first.ensures) in
+    let second : IsChecked S a s (term_form y.term) c.in_ok-condition-3.y = subst (ChecksTermIn S a s (term_form y.term)) c.in_ok-condition-3.ensures.1 c.check_term-second.ensures in
+    choice_node S a s (named c.args.name.now) xs q x y c.in_ok-condition-3.condition c.in_ok-condition-3.x c.in_ok-condition-3.y c.choose.result c.requires.function
+    (three_arguments xs q x y (omega (arith, c.requires.count)) (omega (arith, c.requires.count)) (ap (get_or xs 0) c.index-arguments-0.is) (ap (get_or xs 1) c.index-arguments-1.is) (ap (get_or xs 2) c.index-arguments-2.is)) test first second c.choose.ensures
 
 -- ---- arithmetic
 
@@ -214,48 +256,18 @@ check_arithmetic-returns-in_err-head t c =
     let h : IsAmong whole c.in_err-head.field-0.0 = among_first whole _ _ c.in_err-head.field-0.0 (calculated-faults S false a (term_form c.args.first.now) c.args.links.now) c.in_err-head.ensures in
     search rules
 
-pub check_arithmetic-loop-link-init : goal.check_arithmetic-loop-link-init
-check_arithmetic-loop-link-init t c =
+pub check_arithmetic-returns-in_err-first : goal.check_arithmetic-returns-in_err-first
+check_arithmetic-returns-in_err-first t c =
     let S = text_in c.args.context.now in
     let a = scope_in c.args.context.now in
     let s = slots_in c.args.context.now in
     let links = c.args.links.now in
     let first = term_form c.args.first.now in
+    let whole = term_faults S false a (calculated first (arithmetic_links links)) in
     let checked = c.in_ok-head.ensures in
-    record {
-      left =
-          first_clear _ _ _ (calculated-faults S false a first links) checked.0
-          ∙ ap (λ (s : model.Shape). arithmetic_faults S a s links) (sym checked.1.0);
-      whole = calculated-shape S a first links ∙ ap (λ (s : model.Shape). calculated_shape S a s links) (sym checked.1.0);
-      head = checked.1.1;
-      operands = ap (λ zs. link_views zs ++ arithmetic_terms S s links) (sym c.in_ok-operands.ensures.items);
-    }
-
-pub check_arithmetic-check_term-requires-in-loop-link : goal.check_arithmetic-check_term-requires-in-loop-link
-check_arithmetic-check_term-requires-in-loop-link t c =
-    omega (arith, c.decreases, operand_lighter c.args.links.now c.loop-link.link-index c.link-item.result c.loop-link-test.true c.link-item.is)
-
-pub check_arithmetic-returns-in_err-right : goal.check_arithmetic-returns-in_err-right
-check_arithmetic-returns-in_err-right t c =
-    let S = text_in c.args.context.now in
-    let a = scope_in c.args.context.now in
-    let whole = term_faults S false a (calculated (term_form c.args.first.now) (arithmetic_links c.args.links.now)) in
-    let next = ap (arithmetic_faults S a (shape_view c.loop-link.shape)) (drop-at c.args.links.now c.loop-link.link-index c.link-item.result c.loop-link-test.true c.link-item.is) in
-    let h : IsAmong whole c.in_err-right.field-0.0 =
-    among_first whole _ _ c.in_err-right.field-0.0 (c.loop-link.invariant.left ∙ next) c.in_err-right.ensures in
-    search rules
-
-pub check_arithmetic-returns-in_err-shape : goal.check_arithmetic-returns-in_err-shape
-check_arithmetic-returns-in_err-shape t c =
-    let S = text_in c.args.context.now in
-    let a = scope_in c.args.context.now in
-    let whole = term_faults S false a (calculated (term_form c.args.first.now) (arithmetic_links c.args.links.now)) in
-    let link = c.link-item.result in
-    let next = ap (arithmetic_faults S a (shape_view c.loop-link.shape)) (drop-at c.args.links.now c.loop-link.link-index link c.loop-link-test.true c.link-item.is) in
-    let checked = c.in_ok-right.ensures in
-    let rest = first_clear whole _ _ (c.loop-link.invariant.left ∙ next) checked.0 in
-    let here = subst (λ (s : model.Shape). IsAmong (operator_faults (Computed (operation_of link.operator)) (shape_view c.loop-link.shape) s link.place) c.in_err-shape.field-0.0) checked.1.0 c.in_err-shape.ensures in
-    let h : IsAmong whole c.in_err-shape.field-0.0 = among_first whole _ _ c.in_err-shape.field-0.0 rest here in
+    let e = c.in_err-first.field-0.0 in
+    let here = subst (λ (u : model.Shape). IsAmong (arithmetic_faults S a u links) e) checked.1.0 (subst (ChecksOperands (λ found. found.0.items) (λ found. found.1) S a s (shape_view c.in_ok-head.head.shape) links) c.in_err-first.ensures c.check_operands-operands.ensures) in
+    let h : IsAmong whole e = subst (λ (zs : List TypingFault). IsAmong zs e) (sym (first_clear _ _ _ (calculated-faults S false a first links) checked.0)) here in
     search rules
 
 pub check_arithmetic-returns : goal.check_arithmetic-returns
@@ -264,16 +276,99 @@ check_arithmetic-returns t c =
     let a = scope_in c.args.context.now in
     let s = slots_in c.args.context.now in
     let links = c.args.links.now in
-    let over = c.loop-link.invariant in
-    let none = drop_all c.loop-link.link-index links (omega (arith, c.loop-link-test.false)) in (
-      over.left ∙ ap (arithmetic_faults S a (shape_view c.loop-link.shape)) none,
+    let first = term_form c.args.first.now in
+    let checked = c.in_ok-head.ensures in
+    let found = subst (ChecksOperands (λ found. found.0.items) (λ found. found.1) S a s (shape_view c.in_ok-head.head.shape) links) c.in_ok-first.ensures.1 c.check_operands-operands.ensures in (
+      first_clear _ _ _ (calculated-faults S false a first links) checked.0
+          ∙ (ap (λ (u : model.Shape). arithmetic_faults S a u links) (sym checked.1.0) ∙ found.0),
       (
-        sym (over.whole ∙ ap (calculated_shape S a (shape_view c.loop-link.shape)) none),
-        made.term-arithmetic c.in_ok-new.field-0 c.loop-link.operands
-            ∙ (ap (λ (x : tree.Term). view.calculated x (link_views c.loop-link.operands.items)) (ap term_view c.in_ok-new.ensures.ok ∙ over.head)
-            ∙ (ap (view.calculated (over_slots S s c.args.first.now)) (sym (arithmetic_done S s links c.loop-link.link-index _ _ (omega (arith, c.loop-link-test.false)) over.operands))
-            ∙ sym (calculated-slotted S s (term_form c.args.first.now) links))),
+        found.2 ∙ (ap (λ (u : model.Shape). calculated_shape S a u links) checked.1.0 ∙ sym (calculated-shape S a first links)),
+        made.term-arithmetic c.in_ok-new.field-0 c.in_ok-first.links
+            ∙ (ap (λ (x : tree.Term). view.calculated x (link_views c.in_ok-first.links.items)) (ap term_view (c.in_ok-new.ensures.ok ∙ c.in_ok-first.ensures.0) ∙ checked.1.1)
+            ∙ (ap (view.calculated (over_slots S s c.args.first.now)) found.1
+            ∙ sym (calculated-slotted S s first links))),
       ),
+    )
+
+pub check_operands-loop-link-init : goal.check_operands-loop-link-init
+check_operands-loop-link-init t c =
+    let S = text_in c.args.context.now in
+    let s = slots_in c.args.context.now in
+    record {
+      left = refl;
+      whole = refl;
+      operands = ap (λ zs. link_views zs ++ arithmetic_terms S s c.args.links.now) (sym c.in_ok-operands.ensures.items);
+    }
+
+pub check_operands-check_term-requires : goal.check_operands-check_term-requires
+check_operands-check_term-requires t c =
+    omega (arith, c.decreases, operand_lighter c.args.links.now c.loop-link.link-index c.link-item.result c.loop-link-test.true c.link-item.is)
+
+pub check_operands-returns-in_err-right : goal.check_operands-returns-in_err-right
+check_operands-returns-in_err-right t c =
+    let S = text_in c.args.context.now in
+    let a = scope_in c.args.context.now in
+    let whole = arithmetic_faults S a (shape_view c.args.first) c.args.links.now in
+    let next = ap (arithmetic_faults S a (shape_view c.loop-link.shape)) (drop-at c.args.links.now c.loop-link.link-index c.link-item.result c.loop-link-test.true c.link-item.is) in
+    let h : IsAmong whole c.in_err-right.field-0.0 =
+    among_first whole _ _ c.in_err-right.field-0.0 (c.loop-link.invariant.left ∙ next) c.in_err-right.ensures in
+    search rules
+
+pub check_operands-returns-in_err-operand : goal.check_operands-returns-in_err-operand
+check_operands-returns-in_err-operand t c =
+    let S = text_in c.args.context.now in
+    let a = scope_in c.args.context.now in
+    let whole = arithmetic_faults S a (shape_view c.args.first) c.args.links.now in
+    let link = c.link-item.result in
+    let o = operation_of link.operator in
+    let old = shape_view c.loop-link.shape in
+    let next = ap (arithmetic_faults S a old) (drop-at c.args.links.now c.loop-link.link-index link c.loop-link-test.true c.link-item.is) in
+    let checked = c.in_ok-right.ensures in
+    let e = c.in_err-operand.field-0.0 in
+    let rest = first_clear whole _ _ (c.loop-link.invariant.left ∙ next) checked.0 in
+    let found : IsAmong (operator_faults (Computed o) old (shape_view c.in_ok-right.right.shape) link.place) e =
+    subst (Judges (operator_faults (Computed o) old (shape_view c.in_ok-right.right.shape) link.place) (binary_shape o old (shape_view c.in_ok-right.right.shape))) c.in_err-operand.ensures c.compute-whole.ensures in
+    let here = subst (λ (u : model.Shape). IsAmong (operator_faults (Computed o) old u link.place) e) checked.1.0 found in
+    let h : IsAmong whole e = among_first whole _ _ e rest here in
+    search rules
+
+pub check_operands-loop-link-preserved : goal.check_operands-loop-link-preserved
+check_operands-loop-link-preserved t c =
+    let S = text_in c.args.context.now in
+    let a = scope_in c.args.context.now in
+    let s = slots_in c.args.context.now in
+    let links = c.args.links.now in
+    let k = c.loop-link.link-index in
+    let link = c.link-item.result in
+    let o = operation_of link.operator in
+    let old = shape_view c.loop-link.shape in
+    let over = c.loop-link.invariant in
+    let next = drop-at links k link c.loop-link-test.true c.link-item.is in
+    let checked = c.in_ok-right.ensures in
+    let found : (operator_faults (Computed o) old (shape_view c.in_ok-right.right.shape) link.place ≡ []) × (shape_view c.in_ok-operand.whole ≡ binary_shape o old (shape_view c.in_ok-right.right.shape)) =
+    subst (Judges (operator_faults (Computed o) old (shape_view c.in_ok-right.right.shape) link.place) (binary_shape o old (shape_view c.in_ok-right.right.shape))) c.in_ok-operand.ensures.1 c.compute-whole.ensures in
+    let passed = ap (λ (u : model.Shape). operator_faults (Computed o) old u link.place) (sym checked.1.0) ∙ found.0 in
+    let grown = sym (found.1 ∙ ap (binary_shape o old) checked.1.0) in
+    record {
+      left =
+          first_clear _ _ _ (first_clear _ _ _ (over.left ∙ ap (arithmetic_faults S a old) next) checked.0) passed
+          ∙ ap (λ (u : model.Shape). arithmetic_faults S a u (drop (k + 1) links)) grown;
+      whole = over.whole ∙ (ap (calculated_shape S a old) next ∙ ap (λ (u : model.Shape). calculated_shape S a u (drop (k + 1) links)) grown);
+      operands = operands_next S s links k link c.in_ok-operand.operand c.loop-link.operands.items c.push.new.self.items c.loop-link-test.true c.link-item.is c.in_ok-push.ensures.items (ap term_view c.in_ok-operand.ensures.0 ∙ checked.1.1) over.operands;
+    }
+
+pub check_operands-returns : goal.check_operands-returns
+check_operands-returns t c =
+    let S = text_in c.args.context.now in
+    let a = scope_in c.args.context.now in
+    let s = slots_in c.args.context.now in
+    let links = c.args.links.now in
+    let over = c.loop-link.invariant in
+    let end : length links ≤ c.loop-link.link-index = omega (arith, c.loop-link-test.false) in
+    let none = drop_all c.loop-link.link-index links end in (
+      over.left ∙ ap (arithmetic_faults S a (shape_view c.loop-link.shape)) none,
+      sym (arithmetic_done S s links c.loop-link.link-index _ _ end over.operands),
+      sym (over.whole ∙ ap (calculated_shape S a (shape_view c.loop-link.shape)) none),
     )
 
 -- ---- chains
@@ -360,17 +455,18 @@ check_chain-returns-then-is_empty t c =
     let s = slots_in c.args.context.now in
     lone_chain S a s c.args.connective (term_form c.args.first.now) c.args.links.now (Ok c.in_ok-head.head) (sym c.is_empty.ensures ∙ c.if-is_empty.true) c.in_ok-head.ensures
 
-pub check_chain-returns-in_err-links : goal.check_chain-returns-in_err-links
-check_chain-returns-in_err-links t c =
+pub check_chain-returns-in_err-first : goal.check_chain-returns-in_err-first
+check_chain-returns-in_err-first t c =
     let S = text_in c.args.context.now in
     let a = scope_in c.args.context.now in
+    let s = slots_in c.args.context.now in
     let first = term_form c.args.first.now in
     let links = c.args.links.now in
     let all = chained-faults S false a c.args.connective first links in
     let whole = term_faults S false a (chained (TermForm.connected c.args.connective) first (term_links links)) in
     let checked = c.in_ok-head.ensures in
-    let e = c.in_err-links.field-0.0 in
-    let here = subst (λ (u : model.Shape). IsAmong (link_faults S false a u links) e) checked.1.0 c.in_err-links.ensures in
+    let e = c.in_err-first.field-0.0 in
+    let here = subst (λ (u : model.Shape). IsAmong (link_faults S false a u links) e) checked.1.0 (subst (ChecksLinks S a s (shape_view c.in_ok-head.head.shape) links) c.in_err-first.ensures c.check_links-operands.ensures) in
     let h : IsAmong whole e = subst (λ (zs : List TypingFault). IsAmong zs e) (sym (first_clear _ _ _ all checked.0)) here in
     search rules
 
@@ -384,12 +480,12 @@ check_chain-returns t c =
     let all = chained-faults S false a c.args.connective first links in
     let o = Binary (of_connective c.args.connective) in
     let checked = c.in_ok-head.ensures in
-    let others = c.in_ok-links.ensures in (
+    let others = subst (ChecksLinks S a s (shape_view c.in_ok-head.head.shape) links) c.in_ok-first.ensures.1 c.check_links-operands.ensures in (
       first_clear _ _ _ all checked.0 ∙ (ap (λ (u : model.Shape). link_faults S false a u links) (sym checked.1.0) ∙ others.0),
       (
         sym (some-shape S a c.args.connective first links (sym c.is_empty.ensures ∙ c.if-is_empty.false)),
-        made.term-chain c.args.connective c.in_ok-new.field-0 c.in_ok-links.links
-            ∙ (ap (λ (x : tree.Term). view.chained o x (term_views c.in_ok-links.links.items)) (ap term_view c.in_ok-new.ensures.ok ∙ checked.1.1)
+        made.term-chain c.args.connective c.in_ok-new.field-0 c.in_ok-first.links
+            ∙ (ap (λ (x : tree.Term). view.chained o x (term_views c.in_ok-first.links.items)) (ap term_view (c.in_ok-new.ensures.ok ∙ c.in_ok-first.ensures.0) ∙ checked.1.1)
             ∙ (ap (view.chained o (over_slots S s c.args.first.now)) others.1
             ∙ sym (chained-slotted S s c.args.connective first links))),
       ),
@@ -471,26 +567,35 @@ check_term-returns-in_ok-operand-in-Negative t c =
     let s = slots_in c.args.context.now in
     negative_node S a s c.args.term.now c.deref-in-Negative.result.now c.in-Negative.place c.in-Negative.operand c.in_ok-operand-in-Negative.operand c.operated.result c.in-Negative.is c.deref-in-Negative.ensures c.in_ok-operand-in-Negative.ensures c.operated.ensures
 
+pub check_term-returns-in_err-first-in-Comparison : goal.check_term-returns-in_err-first-in-Comparison
+check_term-returns-in_err-first-in-Comparison t c =
+    let S = text_in c.args.context.now in
+    let a = scope_in c.args.context.now in
+    let h : IsAmong (term_faults S false a (term_form c.args.term.now)) c.in_err-first-in-Comparison.field-0.0 =
+    comparison_left S false a c.args.term.now c.deref-in-Comparison.result.now c.in-Comparison.place c.in-Comparison.comparison c.in-Comparison.left c.in-Comparison.right _ c.in-Comparison.is c.deref-in-Comparison.ensures c.in_err-first-in-Comparison.ensures in
+    search rules
+
 pub check_term-returns-in_err-left-in-Comparison : goal.check_term-returns-in_err-left-in-Comparison
 check_term-returns-in_err-left-in-Comparison t c =
     let S = text_in c.args.context.now in
     let a = scope_in c.args.context.now in
-    let h : IsAmong (term_faults S false a (term_form c.args.term.now)) c.in_err-left-in-Comparison.field-0.0 =
-    comparison_left S false a c.args.term.now c.deref-in-Comparison.result.now c.in-Comparison.place c.in-Comparison.comparison c.in-Comparison.left c.in-Comparison.right _ c.in-Comparison.is c.deref-in-Comparison.ensures c.in_err-left-in-Comparison.ensures in
+    let s = slots_in c.args.context.now in
+    let e = c.in_err-left-in-Comparison.field-0.0 in
+    let y = term_form c.deref-in-Comparison-2.result.now in
+    let here : IsAmong (term_faults S false a y) e = subst (ChecksTermIn S a s y) c.in_err-left-in-Comparison.ensures c.check_term-second.ensures in
+    let h : IsAmong (term_faults S false a (term_form c.args.term.now)) e =
+    comparison_right S false a c.args.term.now c.deref-in-Comparison-2.result.now c.in-Comparison.place c.in-Comparison.comparison c.in-Comparison.left c.in-Comparison.right _ c.in-Comparison.is c.deref-in-Comparison-2.ensures here in
     search rules
 
-pub check_term-returns-in_err-right-in-Comparison : goal.check_term-returns-in_err-right-in-Comparison
-check_term-returns-in_err-right-in-Comparison t c =
-    let S = text_in c.args.context.now in
-    let a = scope_in c.args.context.now in
-    let h : IsAmong (term_faults S false a (term_form c.args.term.now)) c.in_err-right-in-Comparison.field-0.0 =
-    comparison_right S false a c.args.term.now c.deref-in-Comparison-2.result.now c.in-Comparison.place c.in-Comparison.comparison c.in-Comparison.left c.in-Comparison.right _ c.in-Comparison.is c.deref-in-Comparison-2.ensures c.in_err-right-in-Comparison.ensures in
-    search rules
-
-pub check_term-returns-in_ok-right-in-Comparison : goal.check_term-returns-in_ok-right-in-Comparison
-check_term-returns-in_ok-right-in-Comparison t c =
+pub check_term-returns-in_ok-left-in-Comparison : goal.check_term-returns-in_ok-left-in-Comparison
+check_term-returns-in_ok-left-in-Comparison t c =
     let S = text_in c.args.context.now in
     let a = scope_in c.args.context.now in
     let s = slots_in c.args.context.now in
+    let x = term_form c.deref-in-Comparison.result.now in
+    let y = term_form c.deref-in-Comparison-2.result.now in
+    let both = c.in_ok-left-in-Comparison in
+    let first : IsChecked S a s x both.left = subst (IsChecked S a s x) (sym both.ensures.0) c.in_ok-first-in-Comparison.ensures in
+    let second : IsChecked S a s y both.right = subst (ChecksTermIn S a s y) both.ensures.1 c.check_term-second.ensures in
     comparison_node S a s c.args.term.now c.deref-in-Comparison.result.now c.deref-in-Comparison-2.result.now c.in-Comparison.place c.in-Comparison.comparison c.in-Comparison.left c.in-Comparison.right
-    c.in_ok-left-in-Comparison.left c.in_ok-right-in-Comparison.right c.compared.result c.in-Comparison.is c.deref-in-Comparison.ensures c.deref-in-Comparison-2.ensures c.in_ok-left-in-Comparison.ensures c.in_ok-right-in-Comparison.ensures c.compared.ensures
+    both.left both.right c.compared.result c.in-Comparison.is c.deref-in-Comparison.ensures c.deref-in-Comparison-2.ensures first second c.compared.ensures

@@ -1,14 +1,9 @@
 use Rattle.std.proofs.Common.{◌≡◌, ◌+◌, ◌*◌, ◌++◌, drop, false}
-use Rattle.pb_text_tree.specs.Form.{arithmetic_links, calculated, term_form}
-use Rattle.pb_text_meaning.specs.Erase.{erased_term}
-use Rattle.pb_typing_rules.specs.Faults.{term_faults}
-use Rattle.pb_typing_rules.specs.Term.{shape}
 use Rattle.pb_typing_declarations.specs.View.{spec_of}
-use Rattle.pb_typed_tree.specs.View.{shape_view, term_view, term_views, link_views}
-use Rattle.pb_typing.specs.Chains.{link_faults}
+use Rattle.pb_typed_tree.specs.View.{shape_view, term_views, link_views}
+use Rattle.pb_typing.specs.Chains.{arithmetic_faults, calculated_shape, link_faults}
 use Rattle.pb_typing.specs.Scopes.{scope_view, slotting}
-use Rattle.pb_typing.specs.Slots.{over_slots, link_terms, arithmetic_terms}
-use Rattle.pb_typing.proofs.Links.{arithmetic_faults, calculated_shape}
+use Rattle.pb_typing.specs.Slots.{link_terms, arithmetic_terms}
 use Rattle.pb_typing.proofs.Weight.{weight, links_weight, arithmetic_weight, arguments_weight}
 use Rattle.pb_typing.proofs.term.+terms.Given as goal
 
@@ -25,7 +20,10 @@ abbrev pub decreases-check_link : goal.decreases-check_link
 decreases-check_link l = 3 * weight l.link.now.operand + 1
 
 abbrev pub decreases-check_arithmetic : goal.decreases-check_arithmetic
-decreases-check_arithmetic l = 3 * (weight l.first.now + arithmetic_weight l.links.now) + 1
+decreases-check_arithmetic l = 3 * (weight l.first.now + arithmetic_weight l.links.now) + 3
+
+abbrev pub decreases-check_operands : goal.decreases-check_operands
+decreases-check_operands l = 3 * arithmetic_weight l.links.now + 2
 
 abbrev pub decreases-check_application : goal.decreases-check_application
 decreases-check_application l = 3 * arguments_weight l.arguments.now + 2
@@ -51,14 +49,13 @@ invariant-check_links-loop-index l =
     }
 
 -- the same of arithmetic, whose links that are left make the shape of the whole of that so far
-abbrev pub invariant-check_arithmetic-loop-link : goal.invariant-check_arithmetic-loop-link
-invariant-check_arithmetic-loop-link l =
+abbrev pub invariant-check_operands-loop-link : goal.invariant-check_operands-loop-link
+invariant-check_operands-loop-link l =
     let S = spec_of l.context.declarations.now in
     let a = scope_view l.context.scope.now in
     let c = slotting l.context.scope.now in
     record {
-      left : term_faults S false a (calculated (term_form l.first) (arithmetic_links l.links)) ≡ arithmetic_faults S a (shape_view l.shape) (drop l.link-index l.links);
-      whole : shape S a (erased_term (calculated (term_form l.first) (arithmetic_links l.links))) ≡ calculated_shape S a (shape_view l.shape) (drop l.link-index l.links);
-      head : term_view l.head.term ≡ over_slots S c l.first;
+      left : arithmetic_faults S a (shape_view l.fn.first) l.links ≡ arithmetic_faults S a (shape_view l.shape) (drop l.link-index l.links);
+      whole : calculated_shape S a (shape_view l.fn.first) l.links ≡ calculated_shape S a (shape_view l.shape) (drop l.link-index l.links);
       operands : arithmetic_terms S c l.links ≡ link_views l.operands.items ++ arithmetic_terms S c (drop l.link-index l.links);
     }

@@ -1,8 +1,10 @@
-use Rattle.std.proofs.Common.{◌≡◌, ◌∙◌, ◌++◌, length, Ok, refl, sym, ap, subst, rules, arith, Bool, true, List, [], ℕ, OnOk, vec_len, true≢false}
-use Rattle.std.specs.Prelude.{◌==◌}
+use Rattle.std.proofs.Common.{◌≡◌, ◌∙◌, ◌++◌, length, Ok, refl, sym, ap, subst, rules, arith, Bool, true, List, [], ℕ, OnOk, vec_len, true≢false, Result, Vec, Global}
+use Rattle.std.specs.Prelude.{◌==◌, MatchResult}
 use Rattle.std.proofs.lemmas.Bool.{eqb-true}
 use Rattle.pb_text_tree.specs.Form.{TermForm, chained, term_form, term_links, variable_forms}
+use Rattle.pb_text_tree.specs.declared.term.TermLink.{TermLink}
 use Rattle.pb_text_meaning.specs.Syntax as syntax
+use Rattle.pb_text_meaning.specs.Syntax.{Spec}
 use Rattle.pb_text_meaning.specs.Erase.{erased_term}
 use Rattle.pb_typing_rules.specs.Faults.{term_faults}
 use Rattle.pb_typing_rules.specs.Scope.{Scope}
@@ -10,13 +12,14 @@ use Rattle.pb_typing_rules.specs.Shapes.{may_be_truth}
 use Rattle.pb_typing_rules.specs.Term.{shape}
 use Rattle.pb_typing_declarations.specs.declared.fault.TypingRule.TheVariants as rule
 use Rattle.pb_typing_declarations.specs.declared.fault.TypingFault.{TypingFault}
+use Rattle.pb_errors.specs.declared.or_memory.OrMemory.{OrMemory}
 use Rattle.pb_errors.specs.declared.or_memory.OrMemory.TheVariants.{Refused}
 use Rattle.pb_typing_declarations.specs.Declarations.{variables_faults}
 use Rattle.pb_typing_declarations.specs.Entries.{shapes_of}
 use Rattle.pb_typing_declarations.specs.Faults.{unless, IsAmong}
 use Rattle.pb_typing_declarations.specs.Shapes as model
 use Rattle.pb_typing_declarations.proofs.Parts.{among_left, among_right, among_first, first_clear}
-use Rattle.pb_typed_tree.specs.Elaboration.{elaborated}
+use Rattle.pb_typed_tree.specs.Elaboration.{Slotting, elaborated}
 use Rattle.pb_typed_tree.specs.Expansion.{expanded_term}
 use Rattle.pb_typed_tree.specs.Loops.{loops}
 use Rattle.pb_typed_tree.specs.View.{shape_view}
@@ -24,8 +27,11 @@ use Rattle.pb_typing.specs.Chains.{link_faults, own_faults}
 use Rattle.pb_typing.specs.Contexts.{scope_in, slots_in, text_in}
 use Rattle.pb_typing.specs.Elaborated.{truth_faults}
 use Rattle.pb_typing.specs.Scopes.{inner_slots}
-use Rattle.pb_typing.specs.Value.{Whole, value_of}
-use Rattle.pb_typing.specs.ValueView.{value_shape}
+use Rattle.pb_typing.specs.Tree.{operand_terms}
+use Rattle.pb_typing.specs.Value.{Whole, value_of, values_of}
+use Rattle.pb_typing.specs.ValueLinks.{value_loops}
+use Rattle.pb_typing.specs.declared.joined.Value.{Value}
+use Rattle.pb_typing.specs.ValueView.{value_shape, value_view, value_views}
 use Rattle.pb_typing.proofs.Links.{chained-faults, links_next, some-shape}
 use Rattle.pb_typing.proofs.Nodes.{not_operand}
 use Rattle.pb_typing.proofs.SlotLemmas.{inner_scope, inner_slotting, variables_of}
@@ -35,23 +41,23 @@ use Rattle.pb_typing.proofs.value.+values.Goals as goal
 
 -- ---- Booleans
 
+pub check_truth-returns-in_err-found-clause-checked : goal.check_truth-returns-in_err-found-clause-checked
+check_truth-returns-in_err-found-clause-checked t c =
+    let S = text_in c.args.context.now in
+    let a = scope_in c.args.context.now in
+    let x = term_form c.args.term.now in
+    let h : IsAmong (truth_faults S a x c.args.place) c.in_err-found.field-0.0 = among_left (term_faults S true a x) _ c.in_err-found.field-0.0 c.in_err-found.ensures.checked in
+    search rules
+
 pub check_truth-returns-in_err-value-clause-checked : goal.check_truth-returns-in_err-value-clause-checked
 check_truth-returns-in_err-value-clause-checked t c =
     let S = text_in c.args.context.now in
     let a = scope_in c.args.context.now in
     let x = term_form c.args.term.now in
-    let h : IsAmong (truth_faults S a x c.args.place) c.in_err-value.field-0.0 = among_left (term_faults S true a x) _ c.in_err-value.field-0.0 c.in_err-value.ensures.checked in
-    search rules
-
-pub check_truth-returns-in_err-require-clause-checked : goal.check_truth-returns-in_err-require-clause-checked
-check_truth-returns-in_err-require-clause-checked t c =
-    let S = text_in c.args.context.now in
-    let a = scope_in c.args.context.now in
-    let x = term_form c.args.term.now in
-    let e = Refused c.in_err-require.field-0.0 in
-    let v = c.in_ok-value.value in
-    let here = subst (λ (b : Bool). IsAmong (unless b rule.WrongKind c.args.place) e) (c.is_truth.ensures ∙ ap may_be_truth c.shape.ensures) c.in_err-require.ensures in
-    let h : IsAmong (truth_faults S a x c.args.place) e = truth_kind S a x c.args.place (value_shape v) e c.in_ok-value.ensures.checked.1 here in
+    let e = Refused c.in_err-value.field-0.0 in
+    let v = c.in_ok-found.found in
+    let here = subst (λ (b : Bool). IsAmong (unless b rule.WrongKind c.args.place) e) (c.is_truth-test.ensures ∙ ap may_be_truth c.shape.ensures) c.in_err-value.ensures in
+    let h : IsAmong (truth_faults S a x c.args.place) e = truth_kind S a x c.args.place (value_shape v) e c.in_ok-found.ensures.checked.1 here in
     search rules
 
 pub check_truth-returns-clause-checked : goal.check_truth-returns-clause-checked
@@ -61,10 +67,11 @@ check_truth-returns-clause-checked t c =
     let s = slots_in c.args.context.now in
     let n = length c.args.carriers.now.items in
     let x = term_form c.args.term.now in
-    let v = c.in_ok-value.value in
-    let h = c.in_ok-value.ensures.checked in (
-      truth_clear S a x c.args.place (value_shape v) h.0 h.1 (sym (ap (λ (b : Bool). unless b rule.WrongKind c.args.place) (c.is_truth.ensures ∙ ap may_be_truth c.shape.ensures)) ∙ c.in_ok-require.ensures),
-      truth_formula S a s n x v c.into_formula.result h.2 c.into_formula.ensures,
+    let v = c.in_ok-found.found in
+    let kept = c.in_ok-value.ensures in
+    let h = c.in_ok-found.ensures.checked in (
+      truth_clear S a x c.args.place (value_shape v) h.0 h.1 (sym (ap (λ (b : Bool). unless b rule.WrongKind c.args.place) (c.is_truth-test.ensures ∙ ap may_be_truth c.shape.ensures)) ∙ kept.1),
+      truth_formula S a s n x c.in_ok-value.value c.into_formula.result (ap value_view kept.0 ∙ h.2) c.into_formula.ensures,
     )
 
 -- ---- chains
@@ -96,17 +103,25 @@ check_chain-returns-then-is_empty-clause-carriers t c =
     let n = length c.args.carriers.now.items in
     c.in_ok-head.ensures.carriers ∙ ap (λ (ss : List model.Shape). shapes_of c.args.carriers.now.items ++ ss) (sym (lone_loops S c.args.connective c.args.first.now c.args.links.now (sym c.is_empty.ensures ∙ c.if-is_empty.true)))
 
-pub check_chain-returns-in_err-rest-clause-checked : goal.check_chain-returns-in_err-rest-clause-checked
-check_chain-returns-in_err-rest-clause-checked t c =
+-- what is found of the operands behind the first
+abbrev ChecksLinks : Spec → Scope → Slotting → ℕ → model.Shape → List TermLink → Result (Vec Value Global) (OrMemory TypingFault) → Type 0
+ChecksLinks S a s n u links r =
+    MatchResult r (λ vs. (link_faults S true a u links ≡ []) × (value_views vs.items ≡ values_of S s a n (operand_terms links)))
+    (IsAmong (link_faults S true a u links))
+
+pub check_chain-returns-in_err-left-clause-checked : goal.check_chain-returns-in_err-left-clause-checked
+check_chain-returns-in_err-left-clause-checked t c =
     let S = text_in c.args.context.now in
     let a = scope_in c.args.context.now in
+    let s = slots_in c.args.context.now in
     let first = term_form c.args.first.now in
     let links = c.args.links.now in
     let all = chained-faults S true a c.args.connective first links in
     let whole = term_faults S true a (chained (TermForm.connected c.args.connective) first (term_links links)) in
     let checked = c.in_ok-head.ensures.checked in
-    let e = c.in_err-rest.field-0.0 in
-    let here = subst (λ (u : model.Shape). IsAmong (link_faults S true a u links) e) (c.shape.ensures ∙ checked.1) c.in_err-rest.ensures.checked in
+    let e = c.in_err-left.field-0.0 in
+    let others = subst (ChecksLinks S a s (length c.check_value.new.carriers.items) (shape_view c.shape.result) links) c.in_err-left.ensures c.check_links-operands.ensures.checked in
+    let here = subst (λ (u : model.Shape). IsAmong (link_faults S true a u links) e) (c.shape.ensures ∙ checked.1) others in
     let h : IsAmong whole e = subst (λ (zs : List TypingFault). IsAmong zs e) (sym (first_clear _ _ _ all checked.0)) here in
     search rules
 
@@ -115,21 +130,22 @@ check_chain-returns-clause-checked t c =
     let S = text_in c.args.context.now in
     let a = scope_in c.args.context.now in
     let s = slots_in c.args.context.now in
-    let n = length c.args.carriers.now.items in
     let first = term_form c.args.first.now in
     let links = c.args.links.now in
     let all = chained-faults S true a c.args.connective first links in
-    let whole = term_faults S true a (chained (TermForm.connected c.args.connective) first (term_links links)) in
     let checked = c.in_ok-head.ensures.checked in
-    let others = c.in_ok-rest.ensures.checked in (
+    let kept = c.in_ok-left.ensures in
+    let others = subst (ChecksLinks S a s (length c.check_value.new.carriers.items) (shape_view c.shape.result) links) kept.1 c.check_links-operands.ensures.checked in (
       first_clear _ _ _ all checked.0 ∙ (ap (λ (u : model.Shape). link_faults S true a u links) (sym (c.shape.ensures ∙ checked.1)) ∙ others.0),
       c.in_ok-value.ensures.shape ∙ sym (some-shape S a c.args.connective first links (sym c.is_empty.ensures ∙ c.if-is_empty.false)),
-      chain-value S a s c.args.connective c.args.first.now links c.args.carriers.now.items c.check_value.new.carriers.items c.in_ok-head.head c.in_ok-rest.rest.items _ c.in_ok-head.ensures.carriers checked.2 others.1 c.in_ok-value.ensures.value,
+      chain-value S a s c.args.connective c.args.first.now links c.args.carriers.now.items c.check_value.new.carriers.items c.in_ok-left.left c.in_ok-left.rest.items _ c.in_ok-head.ensures.carriers (ap value_view kept.0 ∙ checked.2) others.1 c.in_ok-value.ensures.value,
     )
 
 pub check_chain-returns-clause-carriers : goal.check_chain-returns-clause-carriers
 check_chain-returns-clause-carriers t c =
-    chain-loops (text_in c.args.context.now) c.args.connective c.args.first.now c.args.links.now c.args.carriers.now.items c.check_value.new.carriers.items c.check_links.new.carriers.items c.in_ok-head.ensures.carriers c.in_ok-rest.ensures.carriers
+    let S = text_in c.args.context.now in
+    let grown = subst (λ (r : Result (Vec Value Global) (OrMemory TypingFault)). OnOk r (shapes_of c.check_links-operands.new.carriers.items ≡ shapes_of c.check_value.new.carriers.items ++ value_loops S c.args.links.now)) c.in_ok-left.ensures.1 c.check_links-operands.ensures.carriers in
+    chain-loops S c.args.connective c.args.first.now c.args.links.now c.args.carriers.now.items c.check_value.new.carriers.items c.check_links-operands.new.carriers.items c.in_ok-head.ensures.carriers grown
 
 pub check_links-loop-index-init : goal.check_links-loop-index-init
 check_links-loop-index-init t c =
