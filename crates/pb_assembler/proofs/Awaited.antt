@@ -7,20 +7,20 @@ use Rattle.pb_assembler_scheme.proofs.Flat.{long}
 use Rattle.pb_bytecode_program.specs.declared.instruction.Op.{Op}
 use Rattle.pb_bytecode_program.specs.declared.instruction.Op.TheVariants as op
 use Rattle.pb_assembler_scheme.specs.Pieces.{Piece, Then, Unless, Choose, end, flat}
-use Rattle.pb_assembler.specs.Draft.{Draft, Labelled, Places, open_labels, place_of, resolved, resolved_op}
+use Rattle.pb_assembler.specs.Draft.{Draft, Labelled, Places, open_labels, label_place, resolved, resolved_op}
 use Rattle.pb_assembler.specs.Emitted.{Keeps, Emits, nowhere}
 use Rattle.pb_assembler.proofs.Emitting.{Adds, Makes, Sets, Follows, beyond, earlier, emits_follows, adds_follows, makes_follows, then_follows, set_follows, set_keeps, none_some, emitted_long, added_long, added_code, place_at, makes_from, adds_from, sets_from, unplaced, new_place}
 
 -- a label that is there, and has no place
 pub record IsOpen (l : ℕ) (d : Draft) : Type 0 where
   pub there : l < length d.places
-  pub open_yet : place_of d.places l ≡ None
+  pub open_yet : label_place d.places l ≡ None
 
 -- the piece was emitted, and the label's place is its end
 pub record Ends (x : Piece) (l : ℕ) (d d' : Draft) : Type 0 where
   pub grown : length d.places ≤ length d'.places
-  pub kept : (i : ℕ) → i < length d.places → (i ≡ l → ⊥) → place_of d'.places i ≡ place_of d.places i
-  pub placed : place_of d'.places l ≡ Some (length d'.ops)
+  pub kept : (i : ℕ) → i < length d.places → (i ≡ l → ⊥) → label_place d'.places i ≡ label_place d.places i
+  pub placed : label_place d'.places l ≡ Some (length d'.ops)
   pub settled : suc (open_labels d'.places) ≡ open_labels d.places
   pub code : (M : Places) → Keeps d' M → resolved M d'.ops ≡ resolved M d.ops ++ flat (length d.ops) 0 x
 
@@ -28,11 +28,11 @@ still_open : (l : ℕ) (d d' : Draft) → IsOpen l d → Follows d d' → IsOpen
 still_open l d d' w f = record { there = let a = w.there in let b = f.grown in omega arith; open_yet = f.kept l w.there ∙ w.open_yet }
 
 ends_keeps : (x : Piece) (l : ℕ) (d d' : Draft) (M : Places) → IsOpen l d → Ends x l d d' → Keeps d' M → Keeps d M
-ends_keeps x l d d' M w h k i q e = k i q (h.kept i (beyond d.places i q e) (λ same. none_some q (sym w.open_yet ∙ ap (place_of d.places) (sym same) ∙ e)) ∙ e)
+ends_keeps x l d d' M w h k i q e = k i q (h.kept i (beyond d.places i q e) (λ same. none_some q (sym w.open_yet ∙ ap (label_place d.places) (sym same) ∙ e)) ∙ e)
 
 ended_long : (x : Piece) (l : ℕ) (d d' : Draft) → Ends x l d d' → length d'.ops ≡ end (length d.ops) x
 ended_long x l d d' h =
-    let M : Places = place_of d'.places in
+    let M : Places = label_place d'.places in
     let f = flat (length d.ops) 0 x in
     sym (length-map d'.ops (resolved_op M)) ∙ ap length (h.code M (λ i q e. e)) ∙ length-append (resolved M d.ops) f ∙ ap (λ n. n + length f) (length-map d.ops (resolved_op M)) ∙ sym (long (length d.ops) 0 x)
 

@@ -9,7 +9,7 @@ use Rattle.pb_normal.specs.Normal.{Formula}
 use Rattle.pb_assembler_scheme.proofs.Flat.{long}
 use Rattle.pb_assembler_scheme.specs.Pieces.{Plain, Then}
 use Rattle.pb_assembler_scheme.specs.Scheme.{bracketed, connective_of, equation_code, equation_piece, formula_piece, head}
-use Rattle.pb_assembler.specs.Draft.{Draft, place_of}
+use Rattle.pb_assembler.specs.Draft.{Draft, label_place}
 use Rattle.pb_assembler.specs.Emitted.{Emits, nowhere}
 use Rattle.pb_assembler.proofs.Emitting.{emits_then, emitted_long}
 
@@ -29,4 +29,4 @@ equation_emitted callees f m k d0 d1 d2 d3 d4 is kind new opened inner closed en
 
 pub code_short : (callees : List (List Carrier)) (f : Formula) (d : Draft) → length (equation_code callees f) ≤ MAX_INSTRUCTIONS → Emits (equation_piece callees f) nowhere empty d → length d.ops ≤ MAX_INSTRUCTIONS
 code_short callees f d few h =
-    omega (arith, emitted_long (equation_piece callees f) nowhere empty d (place_of d.places) h (λ l q at. at), long 0 0 (equation_piece callees f), few)
+    omega (arith, emitted_long (equation_piece callees f) nowhere empty d (label_place d.places) h (λ l q at. at), long 0 0 (equation_piece callees f), few)

@@ -9,7 +9,7 @@ use Rattle.pb_bytecode_program.specs.declared.instruction.Op.TheVariants as op
 use Rattle.pb_assembler_scheme.specs.Pieces.{Piece, Empty, Plain, Then, Unless, Choose, Repeat, Block, Leave, Guard, end, flat}
 use Rattle.pb_assembler_scheme.proofs.Flat.{long}
 use Rattle.pb_assembler_accepted.proofs.Positions.{HasNoLeave}
-use Rattle.pb_assembler.specs.Draft.{Draft, Labelled, Places, are_placed, joined, open_labels, place_of, resolved, resolved_op}
+use Rattle.pb_assembler.specs.Draft.{Draft, Labelled, Places, are_placed, known_place, open_labels, label_place, resolved, resolved_op}
 use Rattle.pb_assembler.specs.Emitted.{Keeps, Emits}
 
 -- ---- the builder's steps
@@ -23,24 +23,24 @@ pub record Makes (d d' : Draft) (l : ℕ) : Type 0 where
   pub number : l ≡ length d.places
   pub ops : d'.ops ≡ d.ops
   pub long : length d'.places ≡ suc (length d.places)
-  pub others : (i : ℕ) → i < length d.places → place_of d'.places i ≡ place_of d.places i
+  pub others : (i : ℕ) → i < length d.places → label_place d'.places i ≡ label_place d.places i
   pub more : open_labels d'.places ≡ suc (open_labels d.places)
 
 -- one label gets its place
 pub record Sets (d d' : Draft) (l : ℕ) : Type 0 where
-  pub unplaced : place_of d.places l ≡ None
-  pub placed : place_of d'.places l ≡ Some (length d.ops)
+  pub unplaced : label_place d.places l ≡ None
+  pub placed : label_place d'.places l ≡ Some (length d.ops)
   pub ops : d'.ops ≡ d.ops
   pub long : length d'.places ≡ length d.places
-  pub others : (i : ℕ) → (i ≡ l → ⊥) → place_of d'.places i ≡ place_of d.places i
+  pub others : (i : ℕ) → (i ≡ l → ⊥) → label_place d'.places i ≡ label_place d.places i
   pub less : suc (open_labels d'.places) ≡ open_labels d.places
 
 -- what comes between two drafts: labels keep their places, and what has one is kept
 pub record Follows (d d' : Draft) : Type 0 where
   pub grown : length d.places ≤ length d'.places
-  pub kept : (l : ℕ) → l < length d.places → place_of d'.places l ≡ place_of d.places l
+  pub kept : (l : ℕ) → l < length d.places → label_place d'.places l ≡ label_place d.places l
 
-pub beyond : (places : List (Option ℕ)) (l q : ℕ) → place_of places l ≡ Some q → l < length places
+pub beyond : (places : List (Option ℕ)) (l q : ℕ) → label_place places l ≡ Some q → l < length places
 beyond [] l q e = cc
 beyond (x ∷ xs) zero q e = omega arith
 beyond (x ∷ xs) (suc l) q e = let h = beyond xs l q e in omega arith
@@ -52,7 +52,7 @@ pub emits_follows : (x : Piece) (e : Places → ℕ) (d d' : Draft) → Emits x 
 emits_follows x e d d' h = record { grown = h.grown; kept = h.kept }
 
 pub adds_follows : (d d' : Draft) (o : Labelled) → Adds d d' o → Follows d d'
-adds_follows d d' o a = record { grown = let l = ap (λ (ps : List (Option ℕ)). length ps) a.places in omega arith; kept = λ l b. ap (λ ps. place_of ps l) a.places }
+adds_follows d d' o a = record { grown = let l = ap (λ (ps : List (Option ℕ)). length ps) a.places in omega arith; kept = λ l b. ap (λ ps. label_place ps l) a.places }
 
 pub makes_follows : (d d' : Draft) (l : ℕ) → Makes d d' l → Follows d d'
 makes_follows d d' l m = record { grown = let e = m.long in omega arith; kept = m.others }
@@ -61,7 +61,7 @@ pub none_some : (q : ℕ) → (None ≡ Some q) → ⊥
 none_some q e = cc
 
 pub set_keeps : (d d' : Draft) (l : ℕ) (M : Places) → Sets d d' l → Keeps d' M → Keeps d M
-set_keeps d d' l M s k i q e = k i q (s.others i (λ same. none_some q (sym s.unplaced ∙ ap (place_of d.places) (sym same) ∙ e)) ∙ e)
+set_keeps d d' l M s k i q e = k i q (s.others i (λ same. none_some q (sym s.unplaced ∙ ap (label_place d.places) (sym same) ∙ e)) ∙ e)
 
 pub then_follows : (d e f : Draft) → Follows d e → Follows e f → Follows d f
 then_follows d e f a b = record {
@@ -231,8 +231,8 @@ emits_guard low high x e to d d1 d2 d3 d4 d5 l m a h s b =
 -- ---- at the end of all
 
 -- where each label has its place, the draft of a whole piece finishes as its code
-pub finished : (x : Piece) (e : Places → ℕ) (d : Draft) → Emits x e (record { ops = []; places = [] }) d → resolved (place_of d.places) d.ops ≡ flat 0 (e (place_of d.places)) x
-finished x e d h = h.code (place_of d.places) (λ l q at. at)
+pub finished : (x : Piece) (e : Places → ℕ) (d : Draft) → Emits x e (record { ops = []; places = [] }) d → resolved (label_place d.places) d.ops ≡ flat 0 (e (label_place d.places)) x
+finished x e d h = h.code (label_place d.places) (λ l q at. at)
 
 -- and each label has its place
 pub all_settled : (x : Piece) (e : Places → ℕ) (d : Draft) → Emits x e (record { ops = []; places = [] }) d → are_placed d.places ≡ true
@@ -248,7 +248,7 @@ all_settled x e d h = none_open d.places h.settled
 pub adds_from : (d d' : Draft) (o : Labelled) → d' ≡ record d { ops = d.ops ++ o ∷ [] } → Adds d d' o
 adds_from d d' o e = record { ops = ap (λ (x : Draft). x.ops) e; places = ap (λ (x : Draft). x.places) e }
 
-more_place : (places : List (Option ℕ)) (l : ℕ) → l < length places → place_of (places ++ None ∷ []) l ≡ place_of places l
+more_place : (places : List (Option ℕ)) (l : ℕ) → l < length places → label_place (places ++ None ∷ []) l ≡ label_place places l
 more_place [] l b = absurd (omega arith)
 more_place (x ∷ xs) zero b = refl
 more_place (x ∷ xs) (suc l) b = more_place xs l (omega arith)
@@ -263,16 +263,16 @@ makes_from d d' l n e = record {
   number = n;
   ops = ap (λ (x : Draft). x.ops) e;
   long = let f = ap (λ (x : Draft). length x.places) e in omega (arith, f, length-append d.places (None ∷ []));
-  others = λ i b. ap (λ (x : Draft). place_of x.places i) e ∙ more_place d.places i b;
+  others = λ i b. ap (λ (x : Draft). label_place x.places i) e ∙ more_place d.places i b;
   more = ap (λ (x : Draft). open_labels x.places) e ∙ more_open d.places;
 }
 
-set_place : (places : List (Option ℕ)) (l q : ℕ) → l < length places → place_of (slice_set places l (Some q)) l ≡ Some q
+set_place : (places : List (Option ℕ)) (l q : ℕ) → l < length places → label_place (slice_set places l (Some q)) l ≡ Some q
 set_place [] l q b = absurd (omega arith)
 set_place (x ∷ xs) zero q b = refl
 set_place (x ∷ xs) (suc l) q b = set_place xs l q (omega arith)
 
-other_place : (places : List (Option ℕ)) (l q i : ℕ) → (i ≡ l → ⊥) → place_of (slice_set places l (Some q)) i ≡ place_of places i
+other_place : (places : List (Option ℕ)) (l q i : ℕ) → (i ≡ l → ⊥) → label_place (slice_set places l (Some q)) i ≡ label_place places i
 other_place [] l q i n = refl
 other_place (x ∷ xs) zero q zero n = absurd (n refl)
 other_place (x ∷ xs) zero q (suc i) n = refl
@@ -293,24 +293,24 @@ set_long (x ∷ xs) (suc l) q = ap suc (set_long xs l q)
 
 pub sets_from : (d d' : Draft) (l : ℕ) → slice_get d.places l ≡ Some None → d' ≡ record d { places = slice_set d.places l (Some (length d.ops)) } → Sets d d' l
 sets_from d d' l u e = record {
-  unplaced = ap joined u;
-  placed = ap (λ (x : Draft). place_of x.places l) e ∙ set_place d.places l (length d.ops) (slice_get_within d.places l None u);
+  unplaced = ap known_place u;
+  placed = ap (λ (x : Draft). label_place x.places l) e ∙ set_place d.places l (length d.ops) (slice_get_within d.places l None u);
   ops = ap (λ (x : Draft). x.ops) e;
   long = ap (λ (x : Draft). length x.places) e ∙ set_long d.places l (length d.ops);
-  others = λ i n. ap (λ (x : Draft). place_of x.places i) e ∙ other_place d.places l (length d.ops) i n;
+  others = λ i n. ap (λ (x : Draft). label_place x.places i) e ∙ other_place d.places l (length d.ops) i n;
   less = ap (λ (x : Draft). suc (open_labels x.places)) e ∙ set_open d.places l (length d.ops) u;
 }
 
 -- a label that has no place yet
-pub unplaced : (places : List (Option ℕ)) (l : ℕ) → l < length places → place_of places l ≡ None → slice_get places l ≡ Some None
+pub unplaced : (places : List (Option ℕ)) (l : ℕ) → l < length places → label_place places l ≡ None → slice_get places l ≡ Some None
 unplaced [] l b e = absurd (omega arith)
 unplaced (x ∷ xs) zero b e = ap Some e
 unplaced (x ∷ xs) (suc l) b e = unplaced xs l (omega arith) e
 
-pub new_place : (d d' : Draft) (l : ℕ) → l ≡ length d.places → d' ≡ record d { places = d.places ++ None ∷ [] } → place_of d'.places l ≡ None
-new_place d d' l n e = ap (λ (x : Draft). place_of x.places l) e ∙ ap (place_of (d.places ++ None ∷ [])) n ∙ at_end d.places
+pub new_place : (d d' : Draft) (l : ℕ) → l ≡ length d.places → d' ≡ record d { places = d.places ++ None ∷ [] } → label_place d'.places l ≡ None
+new_place d d' l n e = ap (λ (x : Draft). label_place x.places l) e ∙ ap (label_place (d.places ++ None ∷ [])) n ∙ at_end d.places
   where
-    at_end : (places : List (Option ℕ)) → place_of (places ++ None ∷ []) (length places) ≡ None
+    at_end : (places : List (Option ℕ)) → label_place (places ++ None ∷ []) (length places) ≡ None
     at_end [] = refl
     at_end (x ∷ xs) = at_end xs
 

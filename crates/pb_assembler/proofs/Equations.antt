@@ -16,7 +16,7 @@ use Rattle.pb_normal.specs.View.{formula_view}
 use Rattle.pb_normal.specs.declared.normal.Equation.{Equation}
 use Rattle.pb_assembler_scheme.specs.Scheme.{equation_code}
 use Rattle.pb_assembler_accepted.proofs.Limits.{within_limits}
-use Rattle.pb_assembler.specs.Compiled.{bare_program, compiled_contents, all_compiled, has_fitting_carriers, IsReady, AreReady}
+use Rattle.pb_assembler.specs.Compiled.{bare_program, compiled_contents, all_compiled, has_fitting_carriers, IsReadyToCompile, AreReady}
 use Rattle.pb_assembler.specs.Measures.{AreMeasures}
 use Rattle.pb_assembler.specs.MeasureEquations.{IsProgram}
 use Rattle.pb_assembler.specs.declared.measures.Measures.{Measures}
@@ -25,7 +25,7 @@ use Rattle.pb_assembler_modules.proofs.StatedCounts.{cost_same}
 
 -- ---- stated counts
 
-module _ (callees : List (List Carrier)) (parameters : List Carrier) (text : EquationForm) (X : Equation) (ready : IsReady callees parameters text X) (m : Measures)
+module _ (callees : List (List Carrier)) (parameters : List Carrier) (text : EquationForm) (X : Equation) (ready : IsReadyToCompile callees parameters text X) (m : Measures)
     (measured : (p : Program) → IsProgram callees X p → AreMeasures m p (formula_view X.right)) where
   abbrev bare : Program
   bare = bare_program callees parameters X
@@ -90,7 +90,7 @@ module _ (callees : List (List Carrier)) (texts : List tree.Equation) (normals :
         subst (λ (vs : List (List Carrier)). AreReady callees vs (equation_form t ∷ map equation_form (drop (k + 1) texts)) (X ∷ drop (k + 1) normals)) split
         (subst (λ (ts : List tree.Equation). AreReady callees (drop k callees) (map equation_form ts) (X ∷ drop (k + 1) normals)) (drop-at texts k t text_there t_at) here)
 
-    pub ready_next : IsReady callees v (equation_form t) X
+    pub ready_next : IsReadyToCompile callees v (equation_form t) X
     ready_next = whole.0
 
     pub made_more : (e : bytecode.Equation) (more : List bytecode.Equation) → more ≡ done ++ e ∷ [] → equation_contents e ≡ compiled_contents callees v (equation_form t) X

@@ -21,8 +21,8 @@ use Rattle.pb_typing_declarations.specs.Instances.{all_instances}
 use Rattle.pb_typing_declarations.specs.Shapes.{Shape, sort_shape}
 use Rattle.pb_typing_declarations.specs.WellDeclared.{enumerators}
 use Rattle.pb_bytecode.specs.Contents.{EquationContents}
-use Rattle.pb_bytecode.specs.Limits.{is_between, count_of, fits_sort, fits_carrier, fits_equation, instance_count}
-use Rattle.pb_bytecode.specs.Names.{is_name}
+use Rattle.pb_bytecode.specs.Limits.{is_between, enumerator_count, fits_sort, fits_carrier, fits_equation, instance_count}
+use Rattle.pb_bytecode.specs.Names.{is_module_name}
 use Rattle.pb_bytecode.specs.declared.version.Version.TheVariants as version
 use Rattle.pb_bytecode_program.specs.Counts.{static_steps, static_tokens}
 use Rattle.pb_normal.specs.Bounds.{HasBounds, bounds_of, is_bounded_formula}
@@ -36,7 +36,7 @@ use Rattle.pb_assembler_scheme.specs.Scheme.{equation_code}
 use Rattle.pb_assembler_accepted.proofs.Limits.{within_limits}
 use Rattle.pb_assembler_accepted.proofs.TextEquations.{all_values}
 use Rattle.pb_assembler_modules.specs.Module.{with_names, struct_names}
-use Rattle.pb_assembler.specs.Compiled.{bare_program, compiled_contents, all_compiled, has_fitting_fields, has_fitting_carriers, IsReady, AreReady}
+use Rattle.pb_assembler.specs.Compiled.{bare_program, compiled_contents, all_compiled, has_fitting_fields, has_fitting_carriers, IsReadyToCompile, AreReady}
 use Rattle.pb_assembler.proofs.Names.{has_enumerator_names}
 use Rattle.pb_assembler.proofs.Fitting.{code_fits, code_some}
 use Rattle.pb_assembler.proofs.Ready.{AreFormsOf}
@@ -49,18 +49,18 @@ between low end n l h = and_from _ _ (le-leb low n l) (lt-ltb n end h)
 abbrev Few : List ℕ → Type 0
 Few ns = All (λ (n : ℕ). (0 < n) × (n ≤ MAX_ENUMERATORS)) ns
 
-pub names_fit : (es : List Enumerator) → (0 < length es) × (length es ≤ MAX_ENUMERATORS) → list_all (λ (e : Enumerator). is_name e.name) es ≡ true → fits_sort (map (λ (e : Enumerator). e.name) es) ≡ true
+pub names_fit : (es : List Enumerator) → (0 < length es) × (length es ≤ MAX_ENUMERATORS) → list_all (λ (e : Enumerator). is_module_name e.name) es ≡ true → fits_sort (map (λ (e : Enumerator). e.name) es) ≡ true
 names_fit es few named =
     let count = length-map es (λ (e : Enumerator). e.name) in
     let some = few.0 in
     let most = few.1 in
-    and_from _ _ (between 1 (MAX_ENUMERATORS + 1) (length (map (λ (e : Enumerator). e.name) es)) (omega arith) (omega arith)) (list_all-map is_name (λ (e : Enumerator). e.name) es ∙ named)
+    and_from _ _ (between 1 (MAX_ENUMERATORS + 1) (length (map (λ (e : Enumerator). e.name) es)) (omega arith) (omega arith)) (list_all-map is_module_name (λ (e : Enumerator). e.name) es ∙ named)
 
 pub sorts_fit : (ds : List SortDeclaration) → Few (struct_counts ds) → list_all has_enumerator_names ds ≡ true → list_all fits_sort (struct_names ds) ≡ true
 sorts_fit [] few named = refl
 sorts_fit (d ∷ ds) few named = let two = and_parts (has_enumerator_names d) (list_all has_enumerator_names ds) named in by d.sort few two.0 (λ f. sorts_fit ds f two.1)
   where
-    by : (s : Sort) → Few (with_count s (struct_counts ds)) → list_all (λ (e : Enumerator). is_name e.name) (enumerators s) ≡ true
+    by : (s : Sort) → Few (with_count s (struct_counts ds)) → list_all (λ (e : Enumerator). is_module_name e.name) (enumerators s) ≡ true
         → (Few (struct_counts ds) → list_all fits_sort (struct_names ds) ≡ true) → list_all fits_sort (with_names s (struct_names ds)) ≡ true
     by (Struct es) few named go = and_from _ _ (names_fit es (few 0 (length es) (omega arith)) named) (go (λ i n b. few (suc i) n (omega arith)))
     by (Alias t) few named go = go few
@@ -69,7 +69,7 @@ sorts_fit (d ∷ ds) few named = let two = and_parts (has_enumerator_names d) (l
 
 carrier_fits : (sizes : List ℕ) (c : Carrier) → IsDeclaredShape sizes (carrier_shape (Some c)) → has_fitting_fields c ≡ true → fits_carrier sizes c ≡ true
 carrier_fits sizes carrier.Bool h f = refl
-carrier_fits sizes (carrier.Enum e) h f = let n = ap (λ o. unwrap_or o 0) h.0 in and_from _ _ f (eq-eqb e.count (count_of sizes e.sort) (sym n))
+carrier_fits sizes (carrier.Enum e) h f = let n = ap (λ o. unwrap_or o 0) h.0 in and_from _ _ f (eq-eqb e.count (enumerator_count sizes e.sort) (sym n))
 carrier_fits sizes (carrier.Range r) h f = and_from _ _ f (from_le r.low r.high h)
 
 carriers_fit : (sizes : List ℕ) (cs : List Carrier) (ss : List Shape) → shapes_of cs ≡ ss → All (IsDeclaredShape sizes) ss → list_all has_fitting_fields cs ≡ true → list_all (fits_carrier sizes) cs ≡ true
@@ -119,7 +119,7 @@ module _ (spec : Spec) (sizes : List ℕ) (same : struct_counts spec.sorts ≡ s
 
   module _ (callees_are : (k : ℕ) (ds : List Carrier) → slice_get callees k ≡ Some ds → list_all (fits_carrier sizes) ds ≡ true) where
     equation_fits : (t : EquationForm) (cs : List Carrier) (e : Equation) → formula_view e.right ≡ normal_equation spec (erased_equation t) → shapes_of e.loops.now ≡ equation_loops spec (erased_equation t)
-        → shapes_of cs ≡ variable_shapes spec (erased_equation t).parameters → IsReady callees cs t e → HasDeclaredShapes spec (erased_equation t) → HasBounds spec (erased_equation t) → length (erased_equation t).parameters ≤ 8
+        → shapes_of cs ≡ variable_shapes spec (erased_equation t).parameters → IsReadyToCompile callees cs t e → HasDeclaredShapes spec (erased_equation t) → HasBounds spec (erased_equation t) → length (erased_equation t).parameters ≤ 8
         → has_fitting_carriers (compiled_contents callees cs t e) ≡ true → fits_equation version.One sizes (compiled_contents callees cs t e) ≡ true
     equation_fits t cs e right loops parameters r shapes bounds eight fields =
         let X = erased_equation t in

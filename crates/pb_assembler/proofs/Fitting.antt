@@ -7,19 +7,19 @@ use Rattle.std.proofs.lemmas.List.Folds.{list_all-append}
 use Rattle.std.proofs.lemmas.Int.{ints}
 use Rattle.std.proofs.lemmas.Option.{slice_get_within}
 use Rattle.pb_intervals.proofs.Ends.{from_le}
-use Rattle.pb_intervals.specs.Interval.{is_within}
+use Rattle.pb_intervals.specs.Interval.{is_included}
 use Rattle.pb_limits.specs.declared.TheConstants.{MAX_ENUMERATORS, MAX_INSTRUCTIONS}
 use Rattle.pb_sorts.specs.declared.carrier.Carrier.{Carrier}
 use Rattle.pb_sorts.specs.declared.carrier.Carrier.TheVariants as carrier
 use Rattle.pb_text_meaning.specs.Syntax.{Operator}
 use Rattle.pb_typing_declarations.specs.Shapes.{Shape, Unknown, Truths, Places, Wholes}
 use Rattle.pb_typing_rules.specs.Shapes.{interval}
-use Rattle.pb_bytecode.specs.Limits.{is_byte, is_u16, count_of, are_bounds, fits_op, fits_carrier}
+use Rattle.pb_bytecode.specs.Limits.{is_byte, is_u16, enumerator_count, are_bounds, fits_op, fits_carrier}
 use Rattle.pb_bytecode.specs.declared.version.Version.TheVariants as version
 use Rattle.pb_bytecode_program.specs.declared.instruction.Leaf.TheVariants as leaf
 use Rattle.pb_bytecode_program.specs.declared.instruction.Op.{Op}
 use Rattle.pb_bytecode_program.specs.declared.instruction.Op.TheVariants as op
-use Rattle.pb_normal.specs.Bounds.{Bounds, is_bounded, are_bounded, is_bounded_formula}
+use Rattle.pb_normal.specs.Bounds.{FormulaBounds, is_bounded, are_bounded, is_bounded_formula}
 use Rattle.pb_normal.specs.declared.formula.Junction.{Junction}
 use Rattle.pb_normal.specs.declared.formula.Junction.TheVariants.{And, Or}
 use Rattle.pb_normal.specs.Normal.{Term, Number, Slot, Negative, Absolute, Successor, Predecessor, Binary, Maximum, Minimum, Choice, Recognised, Argument, Formula, Test, Join, Each, Call}
@@ -81,9 +81,9 @@ module _ (sizes : List ℕ) where
 
   module _ (few : AreFew sizes) where
     enumerator_fits : (s i : ℕ) → has_enumerator sizes s i ≡ true → fits_op version.One sizes (op.PushEnum s i) ≡ true
-    enumerator_fits s i h = by (slice_get sizes s) refl (ltb-true i (count_of sizes s) h)
+    enumerator_fits s i h = by (slice_get sizes s) refl (ltb-true i (enumerator_count sizes s) h)
       where
-        by : (o : Option ℕ) → slice_get sizes s ≡ o → i < count_of sizes s → fits_op version.One sizes (op.PushEnum s i) ≡ true
+        by : (o : Option ℕ) → slice_get sizes s ≡ o → i < enumerator_count sizes s → fits_op version.One sizes (op.PushEnum s i) ≡ true
         by None at below = absurd (omega (arith, below, ap (λ o. unwrap_or o 0) at))
         by (Some n) at below =
             let there = slice_get_within sizes s n at in
@@ -97,7 +97,7 @@ module _ (sizes : List ℕ) where
             among (m ∷ ns) zero n at all = let same : m ≡ n = cc in let w = (all 0 m (omega arith)).1 in omega arith
             among (m ∷ ns) (suc k) n at all = among ns k n at (λ j d l. all (suc j) d (omega arith))
 
-    module _ (b : Bounds) (same : b.counts ≡ sizes) where
+    module _ (b : FormulaBounds) (same : b.counts ≡ sizes) where
       enumerated : (s i : ℕ) → has_enumerator b.counts s i ≡ true → fits_op version.One sizes (op.PushEnum s i) ≡ true
       enumerated s i h = enumerator_fits s i (subst (λ (ns : List ℕ). has_enumerator ns s i ≡ true) same h)
 
@@ -156,7 +156,7 @@ module _ (sizes : List ℕ) where
       range_fits (carrier.Range r) Unknown h = tt
       range_fits (carrier.Range r) Truths h = tt
       range_fits (carrier.Range r) (Places s n) h = tt
-      range_fits (carrier.Range r) (Wholes l g) h = by (is_within (interval l g) (interval r.low r.high))
+      range_fits (carrier.Range r) (Wholes l g) h = by (is_included (interval l g) (interval r.low r.high))
         where
           by : (c : Bool) → RangeFits (if c then None else Some (r.low, r.high))
           by true = tt

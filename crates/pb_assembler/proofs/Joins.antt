@@ -17,7 +17,7 @@ use Rattle.pb_normal.specs.Normalisation.{dual}
 use Rattle.pb_normal.specs.View.{chained, nested, formula_view, formula_views}
 use Rattle.pb_bytecode_program.specs.declared.instruction.Op.TheVariants as op
 use Rattle.pb_assembler_scheme.specs.Pieces.{Piece, Plain, Then, Unless, Choose, Repeat}
-use Rattle.pb_assembler_scheme.specs.Scheme.{data_piece, neutral, junction_of, test_of, tested_piece, join_piece, under, bracketed, deciding, connective_of, formula_piece}
+use Rattle.pb_assembler_scheme.specs.Scheme.{data_piece, neutral, junction_of, test_of, tested_piece, join_piece, under, bracketed, deciding_leaf, connective_of, formula_piece}
 use Rattle.pb_assembler.specs.Draft.{Draft, Labelled}
 use Rattle.pb_assembler.specs.Emitted.{Emits, nowhere}
 use Rattle.pb_assembler.specs.Operands.{Guarded, early_test, guarded_by, IsLeft, other_of}
@@ -74,7 +74,7 @@ under_other : (a : Junction) (x : Piece) → under (dual a) a x ≡ bracketed (d
 under_other And x = refl
 under_other Or x = refl
 
-pub tested_own : (m : Junction) (t : Term) (x : Piece) → tested_piece m m t x ≡ Then (data_piece t) (Choose (neutral m) (Plain (op.Emit (deciding m))) x)
+pub tested_own : (m : Junction) (t : Term) (x : Piece) → tested_piece m m t x ≡ Then (data_piece t) (Choose (neutral m) (Plain (op.Emit (deciding_leaf m))) x)
 tested_own And t x = refl
 tested_own Or t x = refl
 

@@ -8,7 +8,7 @@ use Rattle.pb_text_meaning.specs.Syntax.{Operator}
 use Rattle.pb_typing_declarations.specs.Shapes.{Shape}
 use Rattle.pb_typing_declarations.specs.Entries.{carrier_shape}
 use Rattle.pb_bytecode_program.specs.Machine.{Program, carrier_of}
-use Rattle.pb_bytecode_program.specs.Counts.{one_step, size_of, tokens_of}
+use Rattle.pb_bytecode_program.specs.Counts.{one_step, carrier_size, tokens_of}
 use Rattle.pb_bytecode_program.specs.Values.{tagged}
 use Rattle.pb_bytecode_program.specs.declared.instruction.Leaf.TheVariants as leaf
 use Rattle.pb_bytecode_program.specs.declared.instruction.Op.{Op}
@@ -32,7 +32,7 @@ pub record Costs (p : Program) (x : Piece) (n s k : ℕ) : Type 0 where
   pub tokens : weight p tokens_of 0 x ≡ k
 
 -- how many values a slot has
-sized : (o : Option Carrier) → size_of o ≡ shape_size (carrier_shape o)
+sized : (o : Option Carrier) → carrier_size o ≡ shape_size (carrier_shape o)
 sized None = refl
 sized (Some c) = length-map (values_of c) (tagged c) ∙ sym (carrier_count c)
 
@@ -70,13 +70,13 @@ module _ (p : Program) where
     tokens = let c = x.tokens in let d = y.tokens in omega (arith, c, d);
   }
 
-  repeat_costs : (s v : ℕ) (a : Piece) (n t k : ℕ) → size_of (carrier_of p s) ≡ v → Costs p a n t k → Costs p (Repeat s a) (2 + n) (1 + v * (1 + t)) (v * k)
+  repeat_costs : (s v : ℕ) (a : Piece) (n t k : ℕ) → carrier_size (carrier_of p s) ≡ v → Costs p a n t k → Costs p (Repeat s a) (2 + n) (1 + v * (1 + t)) (v * k)
   repeat_costs s v a n t k e x =
       let w = weight p one_step 1 a in
       let z = weight p tokens_of 0 a in
       let f : w + 1 ≡ 1 + t = let c = x.steps in omega (arith, c) in
       let g : z + 0 ≡ k = let c = x.tokens in omega (arith, c) in
-      let h : size_of (carrier_of p s) * (z + 0) ≡ v * k = ap (λ u. u * (z + 0)) e ∙ ap (λ u. v * u) g in
+      let h : carrier_size (carrier_of p s) * (z + 0) ≡ v * k = ap (λ u. u * (z + 0)) e ∙ ap (λ u. v * u) g in
       record {
         places = λ q. let c = x.places (q + 1) in omega (arith, c);
         steps = ap (λ u. 1 + u * (w + 1)) e ∙ ap (λ u. 1 + v * u) f;

@@ -1,7 +1,7 @@
 -- What is measured depends on the shapes of parameters alone.
 use Rattle.std.proofs.Common.{◌≡◌, ℕ, zero, suc, Bool, cond, ◌||◌, List, [], ◌∷◌, map, Some, None, refl, ap, ◌∙◌}
 use Rattle.std.specs.Prelude.{is_some, slice_get, ℤ}
-use Rattle.pb_intervals.specs.Interval.{is_within}
+use Rattle.pb_intervals.specs.Interval.{is_included}
 use Rattle.pb_sorts.specs.declared.carrier.Carrier.{Carrier}
 use Rattle.pb_sorts.specs.declared.carrier.Carrier.TheVariants as carriers
 use Rattle.pb_typing_declarations.specs.Shapes.{Shape, Unknown, Truths, Places, Wholes}
@@ -31,8 +31,8 @@ tested_same (carriers.Range q) (carriers.Range r) (Places n k) e = refl
 tested_same (carriers.Range q) (carriers.Range r) (Wholes l h) e =
     let low : q.low ≡ r.low = cc in
     let high : q.high ≡ r.high = cc in
-    ap (λ (z : ℤ). is_some {T = ℤ × ℤ} (cond (is_within (interval l h) (interval z q.high)) None (Some (z, q.high)))) low
-    ∙ ap (λ (z : ℤ). is_some {T = ℤ × ℤ} (cond (is_within (interval l h) (interval r.low z)) None (Some (r.low, z)))) high
+    ap (λ (z : ℤ). is_some {T = ℤ × ℤ} (cond (is_included (interval l h) (interval z q.high)) None (Some (z, q.high)))) low
+    ∙ ap (λ (z : ℤ). is_some {T = ℤ × ℤ} (cond (is_included (interval l h) (interval r.low z)) None (Some (r.low, z)))) high
 
 any_same : (cs ds : List Carrier) (xs : List Argument) → shapes_of cs ≡ shapes_of ds → any_tested cs xs ≡ any_tested ds xs
 any_same [] [] xs e = refl

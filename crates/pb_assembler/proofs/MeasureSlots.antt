@@ -4,7 +4,7 @@ use Rattle.pb_sorts.specs.declared.carrier.Carrier.{Carrier}
 use Rattle.pb_text_meaning.specs.Syntax.{Equation, Spec}
 use Rattle.pb_typing_declarations.specs.Shapes.{Shape}
 use Rattle.pb_typing_declarations.specs.Entries.{carrier_shape}
-use Rattle.pb_typing_rules.specs.WellTyped.{parameters_of}
+use Rattle.pb_typing_rules.specs.WellTyped.{parameter_scope}
 use Rattle.pb_normal.specs.Equations.{normal_equation}
 use Rattle.pb_normal.specs.Expansion.{expanded}
 use Rattle.pb_normal.specs.Loops.{equation_loops}
@@ -24,7 +24,7 @@ slots_numbered n (c ∷ cs) = ap (λ (qs : List (ℕ × Shape)). (n, carrier_sha
 
 pub equation_quantifiers : (spec : Spec) (X : Equation) (cs : List Carrier) → shapes_of cs ≡ equation_loops spec X → quantifiers (normal_equation spec X) ≡ slots_from (length X.parameters) cs
 equation_quantifiers spec X cs e =
-    normal-quantifiers spec (expanded X.right) true (parameters_of spec X) (with_slots X.parameters 0 unslotted) (length X.parameters)
+    normal-quantifiers spec (expanded X.right) true (parameter_scope spec X) (with_slots X.parameters 0 unslotted) (length X.parameters)
     ∙ ap (numbered (length X.parameters)) (sym e)
     ∙ slots_numbered (length X.parameters) cs
 

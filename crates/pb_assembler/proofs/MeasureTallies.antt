@@ -7,7 +7,7 @@ use Rattle.pb_assembler.specs.declared.measure_load.Load.{Load}
 use Rattle.pb_assembler.specs.declared.measure_tally.Tally.{Tally}
 use Rattle.pb_assembler.specs.MeasureTerms.{capped, capped_load}
 use Rattle.pb_assembler.proofs.MeasureLoads.{load_of}
-use Rattle.pb_assembler.specs.MeasureFormulas.{capped_tally, test_tally, passing, deciding, tested_tally, bracketed_tally, under_tally, after, looped, argument_load}
+use Rattle.pb_assembler.specs.MeasureFormulas.{capped_tally, test_tally, passing, deciding_tally, tested_tally, bracketed_tally, under_tally, after, looped, argument_load}
 
 -- ---- products
 
@@ -38,7 +38,7 @@ tally_of : (i o b n s t i' o' b' n' s' t' : ℕ) → i ≡ i' → o ≡ o' → b
 tally_of i o b n s t i' o' b' n' s' t' ei eo eb en es et =
     ap (λ k. tally k o b n s t) ei ∙ ap (λ k. tally i' k b n s t) eo ∙ ap (λ k. tally i' o' k n s t) eb ∙ ap (λ k. tally i' o' b' k s t) en ∙ ap (λ k. tally i' o' b' n' k t) es ∙ ap (tally i' o' b' n' s') et
 
-deciding_capped : (l : Load) (x : Tally) → capped_tally (deciding (capped_load l) (capped_tally x)) ≡ capped_tally (deciding l x)
+deciding_capped : (l : Load) (x : Tally) → capped_tally (deciding_tally (capped_load l) (capped_tally x)) ≡ capped_tally (deciding_tally l x)
 deciding_capped l x = tally_of _ _ _ _ _ _ _ _ _ _ _ _ (omega arith) (omega arith) (omega arith) (omega arith) (omega arith) (omega arith)
 
 passing_capped : (l : Load) (x : Tally) → capped_tally (passing (capped_load l) (capped_tally x)) ≡ capped_tally (passing l x)

@@ -19,23 +19,23 @@ use Rattle.pb_text_tree.specs.Form.{EnumeratorForm, enumerator_form, equation_fo
 use Rattle.pb_text_meaning.specs.Erase.{erase, erased_declaration, erased_enumerator, erased_equation, erased_sort}
 use Rattle.pb_text_meaning.specs.Syntax.{Enumerator, SortDeclaration, Equation, Spec}
 use Rattle.pb_typing_declarations.specs.WellDeclared.{enumerators, every_enumerator, IsDeclared}
-use Rattle.pb_bytecode.specs.Names.{is_name}
+use Rattle.pb_bytecode.specs.Names.{is_module_name}
 
 -- a module may have the names of a sort's enumerators
 abbrev pub has_enumerator_names : SortDeclaration → Bool
-has_enumerator_names d = list_all (λ (e : Enumerator). is_name e.name) (enumerators d.sort)
+has_enumerator_names d = list_all (λ (e : Enumerator). is_module_name e.name) (enumerators d.sort)
 
 -- a module may have the names of enumerators and of predicate variables
 abbrev pub has_names : Spec → Bool
-has_names spec = list_all has_enumerator_names spec.sorts && list_all (λ (X : Equation). is_name X.name) spec.equations
+has_names spec = list_all has_enumerator_names spec.sorts && list_all (λ (X : Equation). is_module_name X.name) spec.equations
 
-pub enumerators_named : (es : List tree.Enumerator) → list_all (λ (e : Enumerator). is_name e.name) (map erased_enumerator (map enumerator_form es)) ≡ list_all (λ (e : tree.Enumerator). is_name (string_bytes e.name.text)) es
+pub enumerators_named : (es : List tree.Enumerator) → list_all (λ (e : Enumerator). is_module_name e.name) (map erased_enumerator (map enumerator_form es)) ≡ list_all (λ (e : tree.Enumerator). is_module_name (string_bytes e.name.text)) es
 enumerators_named es =
-    list_all-map (λ (e : Enumerator). is_name e.name) erased_enumerator (map enumerator_form es)
-    ∙ list_all-map (λ (e : EnumeratorForm). is_name e.name.text) enumerator_form es
+    list_all-map (λ (e : Enumerator). is_module_name e.name) erased_enumerator (map enumerator_form es)
+    ∙ list_all-map (λ (e : EnumeratorForm). is_module_name e.name.text) enumerator_form es
 
 -- what is spelled as a name, and short, is a module's name
-module_name : (bs : List ℕ) → is_spelled bs ≡ true → length bs ≤ MAX_NAME_BYTES → is_name bs ≡ true
+module_name : (bs : List ℕ) → is_spelled bs ≡ true → length bs ≤ MAX_NAME_BYTES → is_module_name bs ≡ true
 module_name [] h short = cc
 module_name (b ∷ bs) h short =
     let first = (and_parts (is_letter b) _ h).0 in
@@ -63,14 +63,14 @@ declarations_in ds = map erased_declaration (map sort_declaration_form ds)
 abbrev equations_in : List equation.Equation → List Equation
 equations_in es = map erased_equation (map equation_form es)
 
-short_enumerators : (es : List tree.Enumerator) → All IsShort (enumerators_in es) → list_all (λ (e : Enumerator). is_name e.name) (enumerators_in es) ≡ true
+short_enumerators : (es : List tree.Enumerator) → All IsShort (enumerators_in es) → list_all (λ (e : Enumerator). is_module_name e.name) (enumerators_in es) ≡ true
 short_enumerators [] short = refl
 short_enumerators (e ∷ es) short =
-    and_from (is_name (string_bytes e.name.text)) _
+    and_from (is_module_name (string_bytes e.name.text)) _
     (module_name (string_bytes e.name.text) e.name.spelled (All-head IsShort (erased_enumerator (enumerator_form e)) (enumerators_in es) short))
     (short_enumerators es (All-tail IsShort (erased_enumerator (enumerator_form e)) (enumerators_in es) short))
 
-short_sort : (s : declared_sort.Sort) → All IsShort (enumerators (erased_sort (sort_form s))) → list_all (λ (e : Enumerator). is_name e.name) (enumerators (erased_sort (sort_form s))) ≡ true
+short_sort : (s : declared_sort.Sort) → All IsShort (enumerators (erased_sort (sort_form s))) → list_all (λ (e : Enumerator). is_module_name e.name) (enumerators (erased_sort (sort_form s))) ≡ true
 short_sort (sort.Struct es) short = short_enumerators es.items short
 short_sort (sort.Alias t) short = refl
 
@@ -84,10 +84,10 @@ short_declarations (d ∷ ds) short =
     let both = parts IsShort own others (subst (All IsShort) is short) in
     and_from (has_enumerator_names (erased_declaration (sort_declaration_form d))) _ (short_sort d.sort both.0) (short_declarations ds both.1)
 
-short_equations : (es : List equation.Equation) → All IsShortEquation (equations_in es) → list_all (λ (X : Equation). is_name X.name) (equations_in es) ≡ true
+short_equations : (es : List equation.Equation) → All IsShortEquation (equations_in es) → list_all (λ (X : Equation). is_module_name X.name) (equations_in es) ≡ true
 short_equations [] short = refl
 short_equations (X ∷ es) short =
-    and_from (is_name (string_bytes X.name.text)) _
+    and_from (is_module_name (string_bytes X.name.text)) _
     (module_name (string_bytes X.name.text) X.name.spelled (All-head IsShortEquation (erased_equation (equation_form X)) (equations_in es) short))
     (short_equations es (All-tail IsShortEquation (erased_equation (equation_form X)) (equations_in es) short))
 

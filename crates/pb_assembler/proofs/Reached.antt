@@ -17,7 +17,7 @@ use Rattle.pb_assembler_scheme.specs.Correct.{HasFullCalls, IsCompiled, IsFullCa
 use Rattle.pb_assembler_scheme.proofs.Calls.{full_length}
 use Rattle.pb_assembler_scheme.proofs.Whole.{equation_stands}
 use Rattle.pb_assembler_accepted.specs.Limits.{one_kept, binary_operands, term_operands, argument_operands, formula_operands, brackets_under, join_brackets, formula_brackets}
-use Rattle.pb_assembler.specs.Reached.{Height, taken, given, opened, closed, LeadsTo, IsReached, HoldsOperands, HoldsBrackets}
+use Rattle.pb_assembler.specs.Reached.{Height, taken, pushed_by, opened, closed, LeadsTo, IsReached, HoldsOperands, HoldsBrackets}
 
 module _ (p : Program) where
   abbrev height : (q n b : ℕ) → Height
@@ -28,7 +28,7 @@ module _ (p : Program) where
 
   -- ---- one instruction
 
-  step : (i : Op) (q n b r m c l : ℕ) → slice_get p.code q ≡ Some i → LeadsTo i q r → n ≡ l + taken p i → m ≡ l + given i → c + closed i ≡ b + opened i → At q n b → At r m c
+  step : (i : Op) (q n b r m c l : ℕ) → slice_get p.code q ≡ Some i → LeadsTo i q r → n ≡ l + taken p i → m ≡ l + pushed_by i → c + closed i ≡ b + opened i → At q n b → At r m c
   step i q n b r m c l there to before after brackets h =
       (suc h.0, (height q n b, h.1, record { instruction = i; there = there; place = to; left = l; before = before; after = after; brackets = brackets }))
 
@@ -36,7 +36,7 @@ module _ (p : Program) where
   pub record Does (i : Op) (t g : ℕ) : Type 0 where
     pub goes : (q : ℕ) → LeadsTo i q (q + 1)
     pub takes : taken p i ≡ t
-    pub gives : given i ≡ g
+    pub gives : pushed_by i ≡ g
     pub opens : opened i ≡ 0
     pub closes : closed i ≡ 0
 

@@ -17,7 +17,7 @@ use Rattle.pb_assembler_scheme.specs.Correct.{HasFullCalls, IsCompiled, IsFullCa
 use Rattle.pb_assembler_scheme.proofs.Calls.{full_length}
 use Rattle.pb_assembler_scheme.proofs.Whole.{equation_stands}
 use Rattle.pb_assembler_accepted.specs.Limits.{one_kept, binary_operands, term_operands, argument_operands, formula_operands, brackets_under, join_brackets, formula_brackets}
-use Rattle.pb_assembler.specs.Reached.{Height, taken, given, opened, closed, LeadsTo, Leads, IsReachedIn, IsReached}
+use Rattle.pb_assembler.specs.Reached.{Height, taken, pushed_by, opened, closed, LeadsTo, LeadsToHeight, IsReachedIn, IsReached}
 
 -- ---- each term's code holds an operand
 
@@ -61,10 +61,10 @@ module _ (p : Program) where
 
   abbrev Runs : ℕ → Height → Height → Type 0
   Runs zero c d = c ≡ d
-  Runs (suc n) c d = (e : Height) × Leads p c e × Runs n e d
+  Runs (suc n) c d = (e : Height) × LeadsToHeight p c e × Runs n e d
 
-  one_more : (n : ℕ) (c d e : Height) → Runs n c d → Leads p d e → Runs (suc n) c e
-  one_more zero c d e r l = (e, subst (λ (x : Height). Leads p x e) (sym r) l, refl)
+  one_more : (n : ℕ) (c d e : Height) → Runs n c d → LeadsToHeight p d e → Runs (suc n) c e
+  one_more zero c d e r l = (e, subst (λ (x : Height). LeadsToHeight p x e) (sym r) l, refl)
   one_more (suc n) c d e r l = (r.0, r.1, one_more n r.0 d e r.2 l)
 
   start_same : (h : Height) → h.place ≡ 0 → h.operands ≡ 0 → h.brackets ≡ 0 → height 0 0 0 ≡ h
@@ -84,7 +84,7 @@ module _ (p : Program) where
     abbrev SafeFrom : Height → Type 0
     SafeFrom h = (n : ℕ) (k : Height) → Runs n h k → Bounded k
 
-    safe_from : (h : Height) → Bounded h → ((k : Height) → Leads p h k → SafeFrom k) → SafeFrom h
+    safe_from : (h : Height) → Bounded h → ((k : Height) → LeadsToHeight p h k → SafeFrom k) → SafeFrom h
     safe_from h b go zero k r = subst Bounded r b
     safe_from h b go (suc n) k r = go r.0 r.1 n k r.2
 
@@ -94,15 +94,15 @@ module _ (p : Program) where
     same_height : (k : Height) (r m c : ℕ) → k.place ≡ r → k.operands ≡ m → k.brackets ≡ c → height r m c ≡ k
     same_height k r m c e f g = sym (ap (λ x. height x k.operands k.brackets) e ∙ ap (λ x. height r x k.brackets) f ∙ ap (λ x. height r m x) g)
 
-    -- one instruction, of which the places behind it are given
-    step : (i : Op) (q n b m c l : ℕ) → slice_get p.code q ≡ Some i → n ≡ l + taken p i → m ≡ l + given i → c + closed i ≡ b + opened i → n ≤ most_operands → b ≤ most_brackets
+    -- one instruction, of which the places behind it are pushed_by
+    step : (i : Op) (q n b m c l : ℕ) → slice_get p.code q ≡ Some i → n ≡ l + taken p i → m ≡ l + pushed_by i → c + closed i ≡ b + opened i → n ≤ most_operands → b ≤ most_brackets
         → ((r : ℕ) → LeadsTo i q r → Safe r m c) → Safe q n b
     step i q n b m c l there before after brackets few shallow go =
         safe_from (height q n b) (record { operands = few; brackets = shallow }) (λ k lead.
         let found : Some lead.instruction ≡ Some i = sym lead.there ∙ there in
         let same : lead.instruction ≡ i = cc in
         let x : n ≡ lead.left + taken p i = lead.before ∙ ap (λ (j : Op). lead.left + taken p j) same in
-        let y : k.operands ≡ lead.left + given i = lead.after ∙ ap (λ (j : Op). lead.left + given j) same in
+        let y : k.operands ≡ lead.left + pushed_by i = lead.after ∙ ap (λ (j : Op). lead.left + pushed_by j) same in
         let z : k.brackets + closed i ≡ b + opened i =
         ap (λ (j : Op). k.brackets + closed j) (sym same) ∙ lead.brackets ∙ ap (λ (j : Op). b + opened j) same in
         let operands : k.operands ≡ m = omega (arith, x, y, before, after) in
@@ -113,7 +113,7 @@ module _ (p : Program) where
     pub record Does (i : Op) (t g : ℕ) : Type 0 where
       pub goes : (q r : ℕ) → LeadsTo i q r → r ≡ q + 1
       pub takes : taken p i ≡ t
-      pub gives : given i ≡ g
+      pub gives : pushed_by i ≡ g
       pub opens : opened i ≡ 0
       pub closes : closed i ≡ 0
 

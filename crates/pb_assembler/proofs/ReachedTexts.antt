@@ -3,7 +3,7 @@ use Rattle.std.proofs.Common.{zero, suc, true, List, [], ◌∷◌, arith}
 use Rattle.std.specs.List.{All}
 use Rattle.pb_text_meaning.specs.Syntax.{Equation, Spec}
 use Rattle.pb_typing_rules.specs.Formula.{IsProper}
-use Rattle.pb_typing_rules.specs.WellTyped.{parameters_of, AreProper, IsWellTyped}
+use Rattle.pb_typing_rules.specs.WellTyped.{parameter_scope, AreProper, IsWellTyped}
 use Rattle.pb_bytecode_program.specs.Machine.{Program}
 use Rattle.pb_normal.specs.Equations.{normal_equation}
 use Rattle.pb_normal.specs.Normal.{Formula}
@@ -24,13 +24,13 @@ pub most_brackets : (p : Program) (f : Formula) → IsFullProgram p f → AreMos
 most_brackets p f h = record { held = brackets_reached p f h.compiled h.calls; most = brackets_bounded p f h.compiled h.calls }
 
 module _ (spec : Spec) where
-  made_full : (X : Equation) (p : Program) → IsProper spec true (parameters_of spec X) X.right → IsMadeOf spec X p → IsFullProgram p (normal_equation spec X)
+  made_full : (X : Equation) (p : Program) → IsProper spec true (parameter_scope spec X) X.right → IsMadeOf spec X p → IsFullProgram p (normal_equation spec X)
   made_full X p proper made = record {
     compiled = made.compiled;
     calls = equation-full spec p.callees (program_made spec X p made).callees X proper;
   }
 
-  holds : (X : Equation) (p : Program) → IsProper spec true (parameters_of spec X) X.right → IsMadeOf spec X p → HoldsWhatIsCounted p (normal_equation spec X)
+  holds : (X : Equation) (p : Program) → IsProper spec true (parameter_scope spec X) X.right → IsMadeOf spec X p → HoldsWhatIsCounted p (normal_equation spec X)
   holds X p proper made =
       let full = made_full X p proper made in record {
         operands = most_operands p (normal_equation spec X) full;

@@ -12,7 +12,7 @@ use Rattle.pb_text_meaning.specs.Syntax.{Spec}
 use Rattle.pb_typing_declarations.specs.Entries.{carrier_shape}
 use Rattle.pb_bytecode.specs.Contents.{EquationContents, Contents}
 use Rattle.pb_bytecode.specs.Meaning.{parameters, program_of}
-use Rattle.pb_bytecode.specs.Names.{is_name}
+use Rattle.pb_bytecode.specs.Names.{is_module_name}
 use Rattle.pb_bytecode_program.specs.Counts.{one_step, tokens_of}
 use Rattle.pb_bytecode_program.specs.Machine.{Program}
 use Rattle.pb_normal.specs.Equations.{normal_equation}
@@ -26,7 +26,7 @@ use Rattle.pb_assembler_accepted.specs.Limits.{KeepsLimits}
 use Rattle.pb_assembler_accepted.proofs.Limits.{within_limits, keeps_limits}
 use Rattle.pb_assembler_accepted.specs.Made.{IsMadeOf, parameter_shapes}
 use Rattle.pb_assembler_modules.specs.Module.{AreEquationsOf}
-use Rattle.pb_assembler.specs.Compiled.{bare_program, compiled_contents, all_compiled, IsReady, AreReady}
+use Rattle.pb_assembler.specs.Compiled.{bare_program, compiled_contents, all_compiled, IsReadyToCompile, AreReady}
 use Rattle.pb_normal.specs.Small.{is_small_formula}
 use Rattle.pb_assembler_modules.proofs.StatedCounts.{cost_same}
 use Rattle.pb_assembler.proofs.MeasureMade.{program, program_made}
@@ -35,13 +35,13 @@ use Rattle.pb_assembler.proofs.MeasureMade.{program, program_made}
 pub record AreSound (spec : Spec) (E : List syntax.Equation) : Type 0 where
   pub kept : (k : ℕ) (X : syntax.Equation) → slice_get E k ≡ Some X → (p : Program) → IsMadeOf spec X p → KeepsLimits p (normal_equation spec X)
   pub small : (k : ℕ) (X : syntax.Equation) → slice_get E k ≡ Some X → length (equation_loops spec X) ≤ MAX_LOOP_SLOTS → is_small_formula (normal_equation spec X) ≡ true
-  pub named : list_all (λ (X : syntax.Equation). is_name X.name) E ≡ true
+  pub named : list_all (λ (X : syntax.Equation). is_module_name X.name) E ≡ true
 
 later : (spec : Spec) (X : syntax.Equation) (E : List syntax.Equation) → AreSound spec (X ∷ E) → AreSound spec E
 later spec X E h = record {
   kept = λ k Y at. h.kept (suc k) Y at;
   small = λ k Y at. h.small (suc k) Y at;
-  named = (and_parts (is_name X.name) (list_all (λ (Y : syntax.Equation). is_name Y.name) E) h.named).1;
+  named = (and_parts (is_module_name X.name) (list_all (λ (Y : syntax.Equation). is_module_name Y.name) E) h.named).1;
 }
 
 -- the equations of a normal form, and the carriers of their parameters
@@ -95,7 +95,7 @@ module _ (spec : Spec) (callees : List (List Carrier)) (calls : map shapes_of ca
       let count = ap length loops in
       let rest : AreFormsOf spec (map erased_equation E) css es = record { rights = cc; loops = cc; parameters = cc } in (
         record {
-          named = (and_parts (is_name X.name) (list_all (λ (Y : syntax.Equation). is_name Y.name) (map erased_equation E)) s.named).0;
+          named = (and_parts (is_module_name X.name) (list_all (λ (Y : syntax.Equation). is_module_name Y.name) (map erased_equation E)) s.named).0;
           small = subst (λ (g : Formula). is_small_formula g ≡ true) (sym right) (s.small 0 X refl (omega (arith, few, count, length-map e.loops.now (λ (c : Carrier). carrier_shape (Some c)))));
           slots = ap quantifiers right ∙ made.compiled.slots;
           kept = kept_bare X cs e right loops kept;
@@ -116,7 +116,7 @@ module _ (spec : Spec) (callees : List (List Carrier)) (calls : map shapes_of ca
   compiled_parameters (t ∷ E) (cs ∷ css) (e ∷ es) r = ap (λ (ds : List (List Carrier)). cs ∷ ds) (compiled_parameters E css es r.1)
 
   module _ (m : Contents) (all : parameters m ≡ callees) where
-    compiled_one : (t : EquationForm) (cs : List Carrier) (e : Equation) → formula_view e.right ≡ normal_equation spec (erased_equation t) → IsReady callees cs t e
+    compiled_one : (t : EquationForm) (cs : List Carrier) (e : Equation) → formula_view e.right ≡ normal_equation spec (erased_equation t) → IsReadyToCompile callees cs t e
         → IsCompiled (program_of m (compiled_contents callees cs t e)) (normal_equation spec (erased_equation t))
     compiled_one t cs e right r =
         let c = compiled_contents callees cs t e in

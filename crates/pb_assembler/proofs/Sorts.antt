@@ -10,7 +10,7 @@ use Rattle.pb_text_tree.specs.Form.{enumerator_form, sort_declaration_form, sort
 use Rattle.pb_text_meaning.specs.Erase.{erased_declaration, erased_enumerator, erased_sort}
 use Rattle.pb_text_meaning.specs.Syntax as syntax
 use Rattle.pb_bytecode.specs.Contents.{SortContents}
-use Rattle.pb_bytecode.specs.Names.{is_name}
+use Rattle.pb_bytecode.specs.Names.{is_module_name}
 use Rattle.pb_bytecode.specs.Views.{sort_contents}
 use Rattle.pb_bytecode.specs.declared.sort.Sort as bytecode
 use Rattle.pb_assembler_modules.specs.Module.{with_names, struct_names}
@@ -40,7 +40,7 @@ module _ (all : List SortDeclaration) (k : ℕ) (d : SortDeclaration) (below : k
   fits_next done h = (subst (λ (ds : List SortDeclaration). AreSorts (erased_all ds)) split h.fit).0
 
   -- a struct's enumerators have names, and are few
-  pub struct_fits : (done : List bytecode.Sort) (es : List tree.Enumerator) → IsSort (syntax.Sort.Struct (map erased_enumerator (map enumerator_form es))) → (length es ≤ MAX_ENUMERATORS) × (list_all (λ (e : tree.Enumerator). is_name (string_bytes e.name.text)) es ≡ true)
+  pub struct_fits : (done : List bytecode.Sort) (es : List tree.Enumerator) → IsSort (syntax.Sort.Struct (map erased_enumerator (map enumerator_form es))) → (length es ≤ MAX_ENUMERATORS) × (list_all (λ (e : tree.Enumerator). is_module_name (string_bytes e.name.text)) es ≡ true)
   struct_fits done es h =
       let few = h.0 in
       (omega (arith, few, length-map (map enumerator_form es) erased_enumerator, length-map es enumerator_form), sym (enumerators_named es) ∙ h.1)

@@ -19,7 +19,7 @@ sorts_ready spec (d ∷ ds) all named =
     let two = and_parts (has_enumerator_names d) (list_all has_enumerator_names ds) named in
     (by d.sort (all zero d (omega arith)) two.0, sorts_ready spec ds (λ k x b. all (suc k) x (omega arith)) two.1)
   where
-    by : (s : Sort) → IsDefined spec d.name s → list_all (λ e. Rattle.pb_bytecode.specs.Names.is_name e.name) (Rattle.pb_typing_declarations.specs.WellDeclared.enumerators s) ≡ true → IsSort s
+    by : (s : Sort) → IsDefined spec d.name s → list_all (λ e. Rattle.pb_bytecode.specs.Names.is_module_name e.name) (Rattle.pb_typing_declarations.specs.WellDeclared.enumerators s) ≡ true → IsSort s
     by (Struct es) h n = (h.1, n)
     by (Alias t) h n = tt
 

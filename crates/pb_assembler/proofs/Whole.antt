@@ -16,9 +16,9 @@ use Rattle.pb_text_meaning.specs.Formula.{carriers_of}
 use Rattle.pb_text_meaning.specs.Syntax as syntax
 use Rattle.pb_typing.specs.Typed.{is_faultless}
 use Rattle.pb_bytecode.specs.Contents.{SortContents, EquationContents, InitialContents, Contents, counts}
-use Rattle.pb_bytecode.specs.Limits.{is_byte, is_i64, fits_sort, fits_equation, instance_count, parameters_of, is_tuple, fits_initial, fits}
+use Rattle.pb_bytecode.specs.Limits.{is_byte, is_i64, fits_sort, fits_equation, instance_count, parameters_if_any, is_tuple, fits_initial, fits}
 use Rattle.pb_bytecode.specs.Meaning.{parameters}
-use Rattle.pb_bytecode.specs.Names.{is_name}
+use Rattle.pb_bytecode.specs.Names.{is_module_name}
 use Rattle.pb_bytecode.specs.declared.version.Version.TheVariants as version
 use Rattle.pb_normal.specs.Answer.{normal_equations}
 use Rattle.pb_normal.specs.Bounds.{HasBounds, IsSmallWhereLoopsAreFew}
@@ -47,8 +47,8 @@ module _ (text : SpecForm) (faultless : is_faultless text ≡ true) (callees : L
     (declared : map shapes_of callees ≡ parameter_shapes (erase text) (erase text).equations)
     (kept : EachKeepsLimits (erase text)) (named : has_names (erase text) ≡ true)
     (small : All (IsSmallWhereLoopsAreFew (erase text)) (erase text).equations) where
-  both_named : (list_all has_enumerator_names (erase text).sorts ≡ true) × (list_all (λ (X : syntax.Equation). is_name X.name) (erase text).equations ≡ true)
-  both_named = and_parts (list_all has_enumerator_names (erase text).sorts) (list_all (λ (X : syntax.Equation). is_name X.name) (erase text).equations) named
+  both_named : (list_all has_enumerator_names (erase text).sorts ≡ true) × (list_all (λ (X : syntax.Equation). is_module_name X.name) (erase text).equations ≡ true)
+  both_named = and_parts (list_all has_enumerator_names (erase text).sorts) (list_all (λ (X : syntax.Equation). is_module_name X.name) (erase text).equations) named
 
   forms : AreFormsOf (erase text) (map erased_equation text.equations) callees es
   forms = record { rights = rights; loops = loops; parameters = declared }
@@ -117,7 +117,7 @@ module _ (text : SpecForm) (faultless : is_faultless text ≡ true) (callees : L
           let here : slice_get Q I.equation ≡ Some at.0 = ap (λ (cs : List EquationContents). slice_get cs I.equation) equations ∙ ap (slice_get (all_compiled callees callees text.equations es)) place ∙ at.1 in
           let inside : is_within (map values_of at.0.parameters) I.values ≡ true =
           ap (λ (vs : List carriers.Carrier). is_within vs I.values) at.2 ∙ ap (is_within (carriers_of (erase text) there.equation.parameters)) values ∙ there.within in
-          and_from _ _ byte (ap (λ (o : Option EquationContents). is_tuple (parameters_of o) I.values) here ∙ and_from _ _ words inside)
+          and_from _ _ byte (ap (λ (o : Option EquationContents). is_tuple (parameters_if_any o) I.values) here ∙ and_from _ _ words inside)
 
       pub whole_fits : fits whole ≡ true
       whole_fits =

@@ -8,7 +8,7 @@ use Rattle.pb_text_tree.specs.Form.{EquationForm}
 use Rattle.pb_text_meaning.specs.Syntax.{Enumerator, Sort, Struct, Alias, SortDeclaration}
 use Rattle.pb_bytecode.specs.Contents.{EquationContents}
 use Rattle.pb_bytecode.specs.Limits.{is_byte, is_i32}
-use Rattle.pb_bytecode.specs.Names.{is_name}
+use Rattle.pb_bytecode.specs.Names.{is_module_name}
 use Rattle.pb_bytecode_program.specs.Counts.{static_steps, static_tokens}
 use Rattle.pb_bytecode_program.specs.Machine.{Program}
 use Rattle.pb_normal.specs.View.{formula_view}
@@ -57,7 +57,7 @@ all_compiled callees css texts E = []
 -- a struct has names that a module may have, and at most MAX_ENUMERATORS enumerators
 abbrev pub IsSort : Sort → Type 0
 IsSort (Struct es) =
-    (length es ≤ MAX_ENUMERATORS) × (list_all (λ (e : Enumerator). is_name e.name) es ≡ true)
+    (length es ≤ MAX_ENUMERATORS) × (list_all (λ (e : Enumerator). is_module_name e.name) es ≡ true)
 IsSort (Alias s) = ⊤
 
 abbrev pub AreSorts : List SortDeclaration → Type 0
@@ -66,10 +66,10 @@ AreSorts (d ∷ ds) = IsSort d.sort × AreSorts ds
 
 -- an equation that a module may have: its name, its numbers, its slots, and the code keeps the
 -- machine's limits
-pub record IsReady
+pub record IsReadyToCompile
     (callees : List (List Carrier)) (parameters : List Carrier) (text : EquationForm) (X : Equation)
     : Type 0 where
-  pub named : is_name text.name.text ≡ true
+  pub named : is_module_name text.name.text ≡ true
   pub small : is_small_formula (formula_view X.right) ≡ true
   pub slots : quantifiers (formula_view X.right) ≡ slots_from (length parameters) X.loops.now
   pub kept : KeepsLimits (bare_program callees parameters X) (formula_view X.right)
@@ -79,7 +79,7 @@ abbrev pub AreReady :
     List (List Carrier) → List (List Carrier) → List EquationForm → List Equation → Type 0
 AreReady callees [] [] [] = ⊤
 AreReady callees (cs ∷ css) (text ∷ texts) (X ∷ E) =
-    IsReady callees cs text X × AreReady callees css texts E
+    IsReadyToCompile callees cs text X × AreReady callees css texts E
 AreReady callees css texts E = ⊥
 
 -- ---- carriers, whose fields have so many bits

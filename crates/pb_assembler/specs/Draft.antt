@@ -19,9 +19,9 @@ abbrev pub is_label : ℕ → Option ℕ → Bool
 is_label n None = true
 is_label n (Some l) = nat_lt l n
 
-abbrev pub is_within : ℕ → Option ℕ → Bool
-is_within n None = true
-is_within n (Some q) = nat_le q n
+abbrev pub is_at_or_behind : ℕ → Option ℕ → Bool
+is_at_or_behind n None = true
+is_at_or_behind n (Some q) = nat_le q n
 
 -- each label that is named is there
 abbrev pub names_labels : ℕ → List Labelled → Bool
@@ -29,7 +29,7 @@ names_labels n ops = list_all (λ (o : Labelled). is_label n o.1) ops
 
 -- no label is placed behind the end
 abbrev pub are_within : ℕ → List (Option ℕ) → Bool
-are_within n places = list_all (is_within n) places
+are_within n places = list_all (is_at_or_behind n) places
 
 -- how many labels have no place
 abbrev pub open_labels : List (Option ℕ) → ℕ
@@ -49,12 +49,12 @@ with_target (op.InRange low high to) q = op.InRange low high q
 with_target (op.SlotInRange slot low high to) q = op.SlotInRange slot low high q
 with_target o q = o
 
-abbrev pub joined : Option (Option ℕ) → Option ℕ
-joined None = None
-joined (Some o) = o
+abbrev pub known_place : Option (Option ℕ) → Option ℕ
+known_place None = None
+known_place (Some o) = o
 
-abbrev pub place_of : List (Option ℕ) → ℕ → Option ℕ
-place_of places l = joined (slice_get places l)
+abbrev pub label_place : List (Option ℕ) → ℕ → Option ℕ
+label_place places l = known_place (slice_get places l)
 
 -- a label's place, where it has one
 abbrev pub Places : Type 0
@@ -78,5 +78,5 @@ is_slot_test (op.SlotInRange slot low high to) = true
 is_slot_test o = false
 
 -- the least version that has all instructions
-abbrev pub version_of : List Labelled → ℕ
-version_of ops = if list_any (λ (o : Labelled). is_slot_test o.0) ops then 2 else 1
+abbrev pub needed_version : List Labelled → ℕ
+needed_version ops = if list_any (λ (o : Labelled). is_slot_test o.0) ops then 2 else 1

@@ -6,17 +6,17 @@ use Rattle.pb_text_tree.specs.declared.operator.Connective.TheVariants as connec
 use Rattle.pb_bytecode_program.specs.declared.instruction.Connective.TheVariants as connectives
 use Rattle.pb_bytecode_program.specs.declared.instruction.Op.TheVariants as op
 use Rattle.pb_assembler_scheme.specs.Pieces.{Piece, Plain, Then, Leave, flat}
-use Rattle.pb_assembler.specs.Draft.{Draft, Places, open_labels, place_of, resolved}
+use Rattle.pb_assembler.specs.Draft.{Draft, Places, open_labels, label_place, resolved}
 
 -- what has a place in the draft has it in these places, too
 abbrev pub Keeps : Draft → Places → Type 0
-Keeps d M = (l q : ℕ) → place_of d.places l ≡ Some q → M l ≡ Some q
+Keeps d M = (l q : ℕ) → label_place d.places l ≡ Some q → M l ≡ Some q
 
 -- the second draft has the piece's instructions behind those of the first, in a block that ends at
 -- this place; the labels of the first have the places that they had, and all others have one
 pub record Emits (x : Piece) (end : Places → ℕ) (d d' : Draft) : Type 0 where
   pub grown : length d.places ≤ length d'.places
-  pub kept : (l : ℕ) → l < length d.places → place_of d'.places l ≡ place_of d.places l
+  pub kept : (l : ℕ) → l < length d.places → label_place d'.places l ≡ label_place d.places l
   pub settled : open_labels d'.places ≡ open_labels d.places
   pub code :
       (M : Places) → Keeps d' M

@@ -45,9 +45,9 @@ passing l x = record x {
   steps = 1 + (l.instructions + x.steps);
 }
 
--- a test that writes the deciding leaf in place of what follows
-abbrev pub deciding : Load → Tally → Tally
-deciding l x = record x {
+-- a test that writes the deciding_tally leaf in place of what follows
+abbrev pub deciding_tally : Load → Tally → Tally
+deciding_tally l x = record x {
   instructions = 3 + (l.instructions + x.instructions);
   operands = max l.operands x.operands;
   steps = 3 + (l.instructions + x.steps);
@@ -56,8 +56,8 @@ deciding l x = record x {
 
 -- a test joined by m with what follows under the bracket that is open
 abbrev pub tested_tally : (m around : Junction) → Load → Tally → Tally
-tested_tally And And l x = deciding l x
-tested_tally Or Or l x = deciding l x
+tested_tally And And l x = deciding_tally l x
+tested_tally Or Or l x = deciding_tally l x
 tested_tally And Or l x = passing l x
 tested_tally Or And l x = passing l x
 

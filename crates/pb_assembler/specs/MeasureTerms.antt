@@ -55,13 +55,13 @@ both l m = record {
 }
 
 -- the first one, and then one of the other two
-abbrev pub chosen : Load → Load → Load → Load
-chosen c l m = record {
+abbrev pub choice_load : Load → Load → Load → Load
+choice_load c l m = record {
   instructions = suc (suc (c.instructions + (l.instructions + m.instructions)));
   operands = max c.operands (max l.operands m.operands);
 }
 
 -- an operand of a connective behind the operands that follow it
-abbrev pub connected : Connective → Load → Load → Load
-connected connective.Implies behind operand = followed (followed (both behind operand))
-connected _ behind operand = followed (both behind operand)
+abbrev pub connective_load : Connective → Load → Load → Load
+connective_load connective.Implies behind operand = followed (followed (both behind operand))
+connective_load _ behind operand = followed (both behind operand)

@@ -39,20 +39,20 @@ taken p (op.Call equation) = length (parameters (slice_get p.callees equation))
 taken p _ = 0
 
 -- how many it pushes then; a test for a range leaves its operand
-abbrev pub given : Op → ℕ
-given (op.PushInt z) = 1
-given (op.PushBool b) = 1
-given (op.PushEnum s i) = 1
-given (op.Get s) = 1
-given (op.Arithmetic c) = 1
-given op.Negate = 1
-given op.Absolute = 1
-given (op.Compare o) = 1
-given (op.Equality o) = 1
-given op.Not = 1
-given (op.Logic c) = 1
-given (op.InRange low high to) = 1
-given _ = 0
+abbrev pub pushed_by : Op → ℕ
+pushed_by (op.PushInt z) = 1
+pushed_by (op.PushBool b) = 1
+pushed_by (op.PushEnum s i) = 1
+pushed_by (op.Get s) = 1
+pushed_by (op.Arithmetic c) = 1
+pushed_by op.Negate = 1
+pushed_by op.Absolute = 1
+pushed_by (op.Compare o) = 1
+pushed_by (op.Equality o) = 1
+pushed_by op.Not = 1
+pushed_by (op.Logic c) = 1
+pushed_by (op.InRange low high to) = 1
+pushed_by _ = 0
 
 abbrev pub opened : Op → ℕ
 opened (op.Open c) = 1
@@ -74,19 +74,19 @@ LeadsTo _ q r = r ≡ q + 1
 -- ---- runs
 
 -- one instruction leads from h to k; so many operands are left below those that it takes off
-pub record Leads (p : Program) (h k : Height) : Type 0 where
+pub record LeadsToHeight (p : Program) (h k : Height) : Type 0 where
   pub instruction : Op
   pub there : slice_get p.code h.place ≡ Some instruction
   pub place : LeadsTo instruction h.place k.place
   pub left : ℕ
   pub before : h.operands ≡ left + taken p instruction
-  pub after : k.operands ≡ left + given instruction
+  pub after : k.operands ≡ left + pushed_by instruction
   pub brackets : k.brackets + closed instruction ≡ h.brackets + opened instruction
 
 -- after so many instructions, from the first place on
 abbrev pub IsReachedIn : Program → ℕ → Height → Type 0
 IsReachedIn p zero h = (h.place ≡ 0) × (h.operands ≡ 0) × (h.brackets ≡ 0)
-IsReachedIn p (suc n) h = (g : Height) × IsReachedIn p n g × Leads p g h
+IsReachedIn p (suc n) h = (g : Height) × IsReachedIn p n g × LeadsToHeight p g h
 
 abbrev pub IsReached : Program → Height → Type 0
 IsReached p h = (n : ℕ) × IsReachedIn p n h

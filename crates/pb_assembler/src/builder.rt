@@ -5,7 +5,7 @@ ghost use Rattle.std.specs.Prelude.{IfErr, OnOk, OnErr, Some, None, option_map};
 ghost use Rattle.std.specs.List.{list_any, slice_set};
 ghost use Rattle.pb_limits.specs.declared.TheConstants.{MAX_INSTRUCTIONS};
 ghost use Rattle.pb_assembler.specs.Draft.{are_placed, are_within, is_label, is_slot_test};
-ghost use Rattle.pb_assembler.specs.Draft.{place_of, resolved, resolved_op, version_of};
+ghost use Rattle.pb_assembler.specs.Draft.{label_place, resolved, resolved_op, needed_version};
 ghost use Rattle.pb_assembler.specs.Draft.{with_target};
 
 use pb_bytecode_program::Op;
@@ -83,7 +83,7 @@ fn resolve(places: &[Option<usize>], op: Op, label: Option<usize>) -> Op
     requires label { is_label (length places.now) label ≡ true }
     requires placed { are_placed places.now ≡ true }
     requires within { are_within MAX_INSTRUCTIONS places.now ≡ true }
-    ensures { result ≡ resolved_op (place_of places.now) (op, label) }
+    ensures { result ≡ resolved_op (label_place places.now) (op, label) }
 {
     let Some(label) = label else {
         return op;
@@ -171,7 +171,7 @@ impl Builder {
     /// The version of the module format that the instructions need: 2 exactly where a slot's range
     /// is tested.
     pub fn version(&self) -> u8
-        ensures { result ≡ version_of self.now.ops }
+        ensures { result ≡ needed_version self.now.ops }
     {
         if self.has_slot_test() { 2 } else { 1 }
     }
@@ -190,7 +190,7 @@ impl Builder {
         requires placed { are_placed self.places ≡ true }
         requires few { length self.ops ≤ MAX_INSTRUCTIONS }
         ensures finished { IfOk result (λ ops. ops.items
-            ≡ resolved (place_of self.places) self.ops) }
+            ≡ resolved (label_place self.places) self.ops) }
         ensures handed_back { IfErr result (λ refused. refused.0 ≡ self) }
     {
         match self.resolved_ops() {
@@ -204,7 +204,7 @@ impl Builder {
         requires placed { are_placed self.now.places ≡ true }
         requires few { length self.now.ops ≤ MAX_INSTRUCTIONS }
         ensures { IfOk result (λ ops. ops.items
-            ≡ resolved (place_of self.now.places) self.now.ops) }
+            ≡ resolved (label_place self.now.places) self.now.ops) }
     {
         let mut ops = Vec::with_capacity(*self.ops.allocator(), self.ops.len())?;
         for (op, label) in &self.ops {

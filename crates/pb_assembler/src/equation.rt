@@ -6,7 +6,7 @@ ghost use Rattle.pb_text_tree.specs.Form.{equation_form};
 ghost use Rattle.pb_bytecode.specs.Views.{equation_contents};
 ghost use Rattle.pb_assembler.specs.Compiled.{all_compiled, compiled_contents};
 ghost use Rattle.pb_assembler.specs.Compiled.{has_fitting_carriers, has_fitting_fields, AreReady};
-ghost use Rattle.pb_assembler.specs.Compiled.{IsReady};
+ghost use Rattle.pb_assembler.specs.Compiled.{IsReadyToCompile};
 ghost use Rattle.pb_assembler.specs.MeasureEquations.{AreMeasuresOfAll, AreMeasuresOf};
 
 use crate::code::equation_code;
@@ -53,7 +53,7 @@ fn compile_equation(
     text: &pb_text_tree::Equation,
     measured: Measured<'_, '_>,
 ) -> Result<Equation, AllocError>
-    requires ready { IsReady layout.now parameters.now (equation_form text.now)
+    requires ready { IsReadyToCompile layout.now parameters.now (equation_form text.now)
         measured.normal.now }
     requires measured { AreMeasuresOf measured.measures.now layout.now measured.normal.now }
     ensures contents { IfOk result (λ X. equation_contents X

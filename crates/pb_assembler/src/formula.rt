@@ -6,7 +6,7 @@ ghost use Rattle.pb_typed_tree.specs.View.{chained};
 ghost use Rattle.pb_normal.specs.Normal.{Join};
 ghost use Rattle.pb_normal.specs.Normalisation.{dual};
 ghost use Rattle.pb_normal.specs.View.{formula_view, formula_views, nested};
-ghost use Rattle.pb_assembler_scheme.specs.Scheme.{connective_of, deciding, formula_piece};
+ghost use Rattle.pb_assembler_scheme.specs.Scheme.{connective_of, deciding_leaf, formula_piece};
 ghost use Rattle.pb_assembler_scheme.specs.Scheme.{junction_of, neutral, test_piece};
 ghost use Rattle.pb_assembler.specs.Emitted.{Emits, nowhere};
 ghost use Rattle.pb_assembler.specs.Operands.{early_test, other_of, IsLeft};
@@ -26,7 +26,7 @@ use std::alloc::AllocError;
 
 /// The leaf that decides a bracket of this kind.
 fn deciding(kind: Junction) -> Leaf
-    ensures { result ≡ deciding kind }
+    ensures { result ≡ deciding_leaf kind }
 {
     match kind {
         Junction::And => Leaf::No,

@@ -3,16 +3,16 @@
 ghost use Rattle.std.specs.Prelude.{◌≡◌, ◌*◌};
 ghost use Rattle.pb_assembler.specs.MeasureTerms.{capped, capped_load};
 ghost use Rattle.pb_assembler.specs.MeasureFormulas.{after, argument_load, bracketed_tally};
-ghost use Rattle.pb_assembler.specs.MeasureFormulas.{capped_tally, deciding, ended_call, looped};
+ghost use Rattle.pb_assembler.specs.MeasureFormulas.{capped_tally, deciding_tally, ended_call};
 ghost use Rattle.pb_assembler.specs.MeasureFormulas.{nothing, passing, test_tally, tested_tally};
-ghost use Rattle.pb_assembler.specs.MeasureFormulas.{under_tally};
+ghost use Rattle.pb_assembler.specs.MeasureFormulas.{under_tally, looped};
 
 use crate::measure_load::{Load, MOST, add};
 use pb_normal::Junction;
 
 /// How many instructions, steps and tokens a formula's code has, and how many operands, brackets
 /// and loops it holds open at most.
-#[derive(Clone, Copy, Debug, PartialEq, Eq)]
+#[derive(Clone, Copy)]
 pub(crate) struct Tally {
     pub instructions: u32,
     pub operands: u32,
@@ -60,7 +60,7 @@ fn passing(load: Load, rest: Tally) -> Tally
 
 /// A test that writes the deciding leaf in place of what follows.
 fn deciding(load: Load, rest: Tally) -> Tally
-    ensures { result ≡ capped_tally (deciding load rest) }
+    ensures { result ≡ capped_tally (deciding_tally load rest) }
 {
     Tally {
         instructions: add(add(load.instructions, rest.instructions), 3),

@@ -4,8 +4,8 @@ ghost use Rattle.std.specs.Prelude.{◌≡◌};
 ghost use Rattle.pb_text_meaning.specs.Erase.{of_comparison, of_connective};
 ghost use Rattle.pb_typed_tree.specs.Tree.{Binary};
 ghost use Rattle.pb_typed_tree.specs.View.{calculated, chained, link_views, term_view, term_views};
-ghost use Rattle.pb_assembler.specs.MeasureTerms.{both, capped_load, chosen, connected, followed};
-ghost use Rattle.pb_assembler.specs.MeasureTerms.{single, term_load};
+ghost use Rattle.pb_assembler.specs.MeasureTerms.{both, capped_load, choice_load, connective_load};
+ghost use Rattle.pb_assembler.specs.MeasureTerms.{single, term_load, followed};
 
 use crate::measure_load::{Load, both, chosen, followed, single};
 use pb_text_tree::Connective;
@@ -92,7 +92,7 @@ fn measure_beside(operand: &Term) -> Load
 /// One of two operands, as the condition says.
 #[cycle(measures)]
 fn measure_choice(condition: &Term, positive: &Term, negative: &Term) -> Load
-    ensures { result ≡ capped_load (chosen (term_load (term_view condition.now))
+    ensures { result ≡ capped_load (choice_load (term_load (term_view condition.now))
         (term_load (term_view positive.now)) (term_load (term_view negative.now))) }
 {
     let condition = measure_term(condition);
@@ -103,7 +103,7 @@ fn measure_choice(condition: &Term, positive: &Term, negative: &Term) -> Load
 
 /// What follows, then an operand of a connective, and its instruction.
 fn connected(connective: Connective, behind: Load, operand: Load) -> Load
-    ensures { result ≡ capped_load (connected connective behind operand) }
+    ensures { result ≡ capped_load (connective_load connective behind operand) }
 {
     match connective {
         Connective::And | Connective::Or => followed(both(behind, operand)),

@@ -10,7 +10,7 @@ use pb_limits::{
 
 /// How much an equation's code takes of each. What is above a limit is counted no further than just
 /// above it.
-#[derive(Clone, Copy, Debug, PartialEq, Eq)]
+#[derive(Clone, Copy)]
 pub(crate) struct Measures {
     pub instructions: u32,
     pub operands: u32,

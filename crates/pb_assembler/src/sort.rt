@@ -5,7 +5,7 @@ ghost use Rattle.std.specs.List.{list_all};
 ghost use Rattle.pb_text_tree.specs.Form.{enumerator_form, sort_declaration_form};
 ghost use Rattle.pb_text_meaning.specs.Erase.{erased_declaration, erased_enumerator};
 ghost use Rattle.pb_text_meaning.specs.Syntax as syntax;
-ghost use Rattle.pb_bytecode.specs.Names.{is_name};
+ghost use Rattle.pb_bytecode.specs.Names.{is_module_name};
 ghost use Rattle.pb_bytecode.specs.Views.{sort_contents, text_of};
 ghost use Rattle.pb_assembler_modules.specs.Module.{struct_names};
 ghost use Rattle.pb_assembler.specs.Compiled.{AreSorts};
@@ -17,7 +17,7 @@ use std::alloc::{AllocError, Global};
 
 /// The names of enumerators, in order.
 fn enumerator_names(alloc: Global, enumerators: &[Enumerator]) -> Result<Vec<Name>, AllocError>
-    requires { list_all (λ e. is_name (string_bytes e.name.text)) enumerators.now ≡ true }
+    requires { list_all (λ e. is_module_name (string_bytes e.name.text)) enumerators.now ≡ true }
     ensures { IfOk result (λ names. map text_of names.items
         ≡ map (λ e. string_bytes e.name.text) enumerators.now) }
 {

@@ -13,8 +13,8 @@ use Rattle.pb_typing_declarations.specs.Shapes.{Shape, Unknown, Truths, Places, 
 use Rattle.pb_typing_rules.specs.Shapes.{interval}
 use Rattle.pb_bytecode_program.specs.Values.{is_inhabited}
 use Rattle.pb_bytecode_program.specs.Abstract.{Covers}
-use Rattle.pb_bytecode_program.specs.declared.abstract_value.AbstractValue.{AbstractValue}
-use Rattle.pb_bytecode_program.specs.declared.abstract_value.AbstractValue.TheVariants as abstract
+use Rattle.pb_bytecode_program.specs.declared.domain.AbstractValue.{AbstractValue}
+use Rattle.pb_bytecode_program.specs.declared.domain.AbstractValue.TheVariants as abstract
 use Rattle.pb_bytecode_program.specs.Machine.{Program}
 use Rattle.pb_bytecode_program.specs.Transfer
 use Rattle.pb_bytecode_program.specs.Transfer.{AbstractState, Flow, accepts, abstract_pop_args, to_next_place}
@@ -57,9 +57,9 @@ answered (carrier.Enum n) (Wholes l h) f e = absurd f
 answered (carrier.Range r) Unknown f e = absurd f
 answered (carrier.Range r) Truths f e = absurd f
 answered (carrier.Range r) (Places s n) f e = absurd f
-answered (carrier.Range r) (Wholes l h) f e = by (intervals.is_within (interval l h) (interval r.low r.high)) refl
+answered (carrier.Range r) (Wholes l h) f e = by (intervals.is_included (interval l h) (interval r.low r.high)) refl
   where
-    by : (b : Bool) → intervals.is_within (interval l h) (interval r.low r.high) ≡ b → Answers (carrier.Range r) (abstract.Int l h) (cond b None (Some (r.low, r.high)))
+    by : (b : Bool) → intervals.is_included (interval l h) (interval r.low r.high) ≡ b → Answers (carrier.Range r) (abstract.Int l h) (cond b None (Some (r.low, r.high)))
     by true w = w
     by false w = record {
       least = l;

@@ -7,8 +7,8 @@ use Rattle.pb_sorts.specs.declared.carrier.Carrier.TheVariants as carrier
 use Rattle.pb_typing_declarations.specs.Shapes.{Shape, Unknown, Truths, Places, Wholes}
 use Rattle.pb_bytecode_program.specs.Values.{is_inhabited}
 use Rattle.pb_bytecode_program.specs.Abstract.{abstraction_of}
-use Rattle.pb_bytecode_program.specs.declared.abstract_value.AbstractValue.{AbstractValue}
-use Rattle.pb_bytecode_program.specs.declared.abstract_value.AbstractValue.TheVariants as abstract
+use Rattle.pb_bytecode_program.specs.declared.domain.AbstractValue.{AbstractValue}
+use Rattle.pb_bytecode_program.specs.declared.domain.AbstractValue.TheVariants as abstract
 use Rattle.pb_bytecode_program.specs.Machine.{Program, carrier_of}
 use Rattle.pb_bytecode_program.specs.Transfer
 use Rattle.pb_bytecode_program.specs.Transfer.{AbstractState, Flow, to_next_place, among}
@@ -21,7 +21,7 @@ use Rattle.pb_normal.specs.declared.formula.Junction.{Junction}
 use Rattle.pb_normal.specs.declared.formula.Junction.TheVariants.{And, Or}
 use Rattle.pb_normal.specs.Normal.{Term, Argument, Formula, Test, Join, Each, Call}
 use Rattle.pb_assembler_scheme.specs.Pieces.{Piece, Plain, Then, Unless, Choose, Repeat}
-use Rattle.pb_assembler_scheme.specs.Scheme.{data_piece, deciding, neutral, junction_of, bracketed, under, test_piece, tested_piece, test_of, join_piece, call_piece, parameters, formula_piece}
+use Rattle.pb_assembler_scheme.specs.Scheme.{data_piece, deciding_leaf, neutral, junction_of, bracketed, under, test_piece, tested_piece, test_of, join_piece, call_piece, parameters, formula_piece}
 use Rattle.pb_assembler_accepted.specs.Limits.{term_operands, argument_operands, formula_operands, brackets_under, join_brackets, formula_brackets, formula_loops}
 use Rattle.pb_assembler_accepted.proofs.Tables.{Flows, inside}
 use Rattle.pb_assembler_accepted.proofs.Typing.{Typed, topped, yields}
@@ -97,7 +97,7 @@ module _ (p : Program) where
     tested_flows Or And x g = unless_flows true x g
 
     pub test_flows : (around : Junction) → Flows p (test_piece around t) out k k
-    test_flows around = unless_flows (neutral around) (Plain (op.Emit (deciding around))) (emit_flows (deciding around) out k s)
+    test_flows around = unless_flows (neutral around) (Plain (op.Emit (deciding_leaf around))) (emit_flows (deciding_leaf around) out k s)
 
   -- ---- brackets
 

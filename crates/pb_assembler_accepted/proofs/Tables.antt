@@ -6,8 +6,8 @@ use Rattle.std.proofs.lemmas.Bool.{and_from, eq-eqb, cases_lt}
 use Rattle.pb_sorts.specs.declared.carrier.Carrier.{Carrier}
 use Rattle.pb_bytecode_program.specs.Values.{is_inhabited}
 use Rattle.pb_bytecode_program.specs.Abstract.{abstraction_of}
-use Rattle.pb_bytecode_program.specs.declared.abstract_value.AbstractValue.{AbstractValue}
-use Rattle.pb_bytecode_program.specs.declared.abstract_value.AbstractValue.TheVariants as abstract
+use Rattle.pb_bytecode_program.specs.declared.domain.AbstractValue.{AbstractValue}
+use Rattle.pb_bytecode_program.specs.declared.domain.AbstractValue.TheVariants as abstract
 use Rattle.pb_bytecode_program.specs.Machine.{Program, carrier_of}
 use Rattle.pb_bytecode_program.specs.Counts.{loops_around, loop_effect, loops_after, Straight}
 use Rattle.pb_bytecode_program.specs.Transfer

@@ -14,10 +14,10 @@ use Rattle.pb_typing_declarations.specs.WellDeclared.{AreVariables, IsDeclared, 
 use Rattle.pb_typing_declarations.proofs.ShapeLaws.{shape_carrier-sort_shape}
 use Rattle.pb_typing_rules.specs.Scope.{Scope, outermost, declare, bound}
 use Rattle.pb_typing_rules.specs.Formula.{IsProper}
-use Rattle.pb_typing_rules.specs.WellTyped.{parameters_of, AreProper, IsWellTyped}
+use Rattle.pb_typing_rules.specs.WellTyped.{parameter_scope, AreProper, IsWellTyped}
 use Rattle.pb_bytecode_program.specs.Values.{is_inhabited}
 use Rattle.pb_bytecode_program.specs.Abstract.{abstraction_of}
-use Rattle.pb_bytecode_program.specs.declared.abstract_value.AbstractValue.{AbstractValue}
+use Rattle.pb_bytecode_program.specs.declared.domain.AbstractValue.{AbstractValue}
 use Rattle.pb_bytecode_program.specs.Machine.{Program}
 use Rattle.pb_bytecode_program.specs.Accepted.{Accepted, Table}
 use Rattle.pb_normal.specs.Loops.{variable_shapes}
@@ -77,14 +77,14 @@ module _ (spec : Spec) (declared : IsDeclared spec) (p : Program) (same : p.sort
         by y s at known false = more_slots p.sorts [] ps n (suc n) (c y) (scope y) (omega arith) (slots y)
 
 module _ (spec : Spec) (typed : IsWellTyped spec) where
-  equation_accepted : (X : Equation) → IsProper spec true (parameters_of spec X) X.right → AreVariables spec X.parameters → (p : Program) → IsMadeOf spec X p → KeepsLimits p (normal_equation spec X) → (table : Table) × Accepted p table
+  equation_accepted : (X : Equation) → IsProper spec true (parameter_scope spec X) X.right → AreVariables spec X.parameters → (p : Program) → IsMadeOf spec X p → KeepsLimits p (normal_equation spec X) → (table : Table) × Accepted p table
   equation_accepted X proper variables p m limits =
       let some = inhabited spec typed.declarations p m.sorts X.parameters p.parameters m.parameters variables.shaped in
       let ps = map abstraction_of p.parameters in
       let slots = parameters_agree spec typed.declarations p m.sorts ps X.parameters p.parameters 0 (length X.parameters) outermost unslotted (omega arith) m.parameters variables.shaped
       (λ i. let at : 0 + i ≡ i = omega arith in ap (slice_get ps) at) (λ x. tt) in
       has_table p (normal_equation spec X) m.compiled
-      (formula_types spec typed.declarations p m.sorts ps (parameters_solid p p.parameters some) m.callees true (parameters_of spec X) X.right proper [] (with_slots X.parameters 0 unslotted) (length X.parameters)
+      (formula_types spec typed.declarations p m.sorts ps (parameters_solid p p.parameters some) m.callees true (parameter_scope spec X) X.right proper [] (with_slots X.parameters 0 unslotted) (length X.parameters)
       (record { slots = slots; fresh = λ i l. refl; solid = tt }) (program-slots p (normal_equation spec X) m.compiled.slots))
       some limits
 

@@ -17,8 +17,8 @@ use Rattle.pb_typing_rules.specs.Term.{shape, passes, IsOperation, IsTyped}
 use Rattle.pb_typing_rules.specs.Formula.{count, AreArguments, IsCalled, IsProper}
 use Rattle.pb_bytecode_program.specs.Values.{is_inhabited}
 use Rattle.pb_bytecode_program.specs.Abstract.{abstraction_of}
-use Rattle.pb_bytecode_program.specs.declared.abstract_value.AbstractValue.{AbstractValue}
-use Rattle.pb_bytecode_program.specs.declared.abstract_value.AbstractValue.TheVariants as abstract
+use Rattle.pb_bytecode_program.specs.declared.domain.AbstractValue.{AbstractValue}
+use Rattle.pb_bytecode_program.specs.declared.domain.AbstractValue.TheVariants as abstract
 use Rattle.pb_bytecode_program.specs.Machine.{Program, carrier_of}
 use Rattle.pb_bytecode_program.specs.Transfer.{abstract_slot, among}
 use Rattle.pb_bytecode_program.specs.Accepted.{CoversEach, CoversLoops}

@@ -5,7 +5,7 @@ use Rattle.std.specs.Option.{option_map}
 use Rattle.std.proofs.lemmas.Bool.{and_from, and_parts, eqb-true, eq-eqb}
 use Rattle.std.proofs.lemmas.Int.{ints, clamps}
 use Rattle.pb_bytecode_program.proofs.Ints.{from_le, le_true, from_below}
-use Rattle.pb_intervals.specs.Interval.{IntegerInterval, is_within, within, literals, words, singleton}
+use Rattle.pb_intervals.specs.Interval.{IntegerInterval, is_included, within, literals, words, singleton}
 use Rattle.pb_intervals.specs.Operation.{UnaryOperation, BinaryOperation, unary_interval, binary_interval}
 use Rattle.pb_text_meaning.specs.Syntax as syntax
 use Rattle.pb_text_meaning.specs.Syntax.{Name, Operator, Terms, Spec}
@@ -23,8 +23,8 @@ use Rattle.pb_typing_rules.proofs.Operations.{not_or}
 use Rattle.pb_typing_rules.proofs.Functions.{may_follow}
 use Rattle.pb_bytecode_program.specs.Values.{divides, fits64, operation_of}
 use Rattle.pb_bytecode_program.specs.Abstract.{same_kind, Covers}
-use Rattle.pb_bytecode_program.specs.declared.abstract_value.AbstractValue.{AbstractValue}
-use Rattle.pb_bytecode_program.specs.declared.abstract_value.AbstractValue.TheVariants as abstract
+use Rattle.pb_bytecode_program.specs.declared.domain.AbstractValue.{AbstractValue}
+use Rattle.pb_bytecode_program.specs.declared.domain.AbstractValue.TheVariants as abstract
 use Rattle.pb_bytecode_program.specs.Transfer.{abstract_slot}
 use Rattle.pb_bytecode_program.specs.Accepted.{CoversEach, CoversLoops}
 use Rattle.pb_bytecode_program.specs.declared.instruction.Arithmetic.{Arithmetic}
@@ -53,18 +53,18 @@ truth_shape counts (Wholes l h) k e = absurd (true≢false (sym e))
 
 -- ---- numbers
 
-pub fits_words : (i : IntegerInterval) → is_within i literals ≡ true → fits64 i.low i.high ≡ true
+pub fits_words : (i : IntegerInterval) → is_included i literals ≡ true → fits64 i.low i.high ≡ true
 fits_words i e =
     let two = and_parts (int_le literals.low i.low) (int_le i.high literals.high) e in
     let a = le_true literals.low i.low two.0 in
     let b = le_true i.high literals.high two.1 in
     and_from _ _ (from_le words.low i.low (omega (arith, ints))) (from_le i.high words.high (omega (arith, ints)))
 
-limited_shape : (i : IntegerInterval) → is_within i literals ≡ true → of_interval (within literals i) ≡ Wholes i.low i.high
+limited_shape : (i : IntegerInterval) → is_included i literals ≡ true → of_interval (within literals i) ≡ Wholes i.low i.high
 limited_shape i e = ap (λ b. of_interval (cond b (Some i) None)) e
 
 -- a fact of the numbers of an interval within the limits
-limited : (counts : List ℕ) (T : AbstractValue → Type 0) (i : IntegerInterval) → is_within i literals ≡ true → T (abstract.Int i.low i.high) → T (known_of (of_interval (within literals i))) × IsKnown counts (of_interval (within literals i))
+limited : (counts : List ℕ) (T : AbstractValue → Type 0) (i : IntegerInterval) → is_included i literals ≡ true → T (abstract.Int i.low i.high) → T (known_of (of_interval (within literals i))) × IsKnown counts (of_interval (within literals i))
 limited counts T i e t = subst (λ (s : Shape). T (known_of s) × IsKnown counts s) (sym (limited_shape i e)) (t, tt)
 
 no_divisor : (d : Bool) (m : ℤ) → (not d || int_le (pos 1) m) ≡ true → (d && int_lt m (pos 1)) ≡ false
@@ -75,7 +75,7 @@ pub computed : (counts : List ℕ) (c : Arithmetic) (s t : Shape) → IsKnown co
     → Computes c (known_of s) (known_of t) (known_of (binary_shape (operation_of c) s t)) × IsKnown counts (binary_shape (operation_of c) s t)
 computed counts c (Wholes l h) (Wholes m k) a b w d e =
     let i = binary_interval (operation_of c) (interval l h) (interval m k) in
-    let fits : is_within i literals ≡ true = not_or (may_divide (operation_of c) (Wholes m k)) (is_within i literals) d e in
+    let fits : is_included i literals ≡ true = not_or (may_divide (operation_of c) (Wholes m k)) (is_included i literals) d e in
     subst (λ z. Computes c (abstract.Int l h) (abstract.Int m k) (known_of (cond z (of_interval (within literals i)) Unknown)) × IsKnown counts (cond z (of_interval (within literals i)) Unknown)) (sym d)
     (limited counts (λ v. Computes c (abstract.Int l h) (abstract.Int m k) v) i fits (no_divisor (divides c) m d, fits_words i fits, refl))
 computed counts c Unknown t a b w d e = absurd a

@@ -7,8 +7,8 @@ use Rattle.pb_text_meaning.specs.Syntax.{Operator}
 use Rattle.pb_bytecode_program.proofs.Covering.{covers_through}
 use Rattle.pb_bytecode_program.specs.Values.{divides, fits64}
 use Rattle.pb_bytecode_program.specs.Abstract.{Covers, interval_of, absolute_interval, same_kind}
-use Rattle.pb_bytecode_program.specs.declared.abstract_value.AbstractValue.{AbstractValue}
-use Rattle.pb_bytecode_program.specs.declared.abstract_value.AbstractValue.TheVariants as abstract
+use Rattle.pb_bytecode_program.specs.declared.domain.AbstractValue.{AbstractValue}
+use Rattle.pb_bytecode_program.specs.declared.domain.AbstractValue.TheVariants as abstract
 use Rattle.pb_bytecode_program.specs.Machine.{Program}
 use Rattle.pb_bytecode_program.specs.Counts.{loop_effect, Straight}
 use Rattle.pb_bytecode_program.specs.Transfer

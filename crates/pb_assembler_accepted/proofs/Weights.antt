@@ -5,7 +5,7 @@ use Rattle.std.proofs.Math.Nat.{mul-add, mul_assoc}
 use Rattle.pb_sorts.specs.declared.carrier.Carrier.{Carrier}
 use Rattle.pb_text_meaning.specs.Syntax.{Operator}
 use Rattle.pb_bytecode_program.specs.Machine.{Program, carrier_of}
-use Rattle.pb_bytecode_program.specs.Counts.{LoopEffect, Straight, loop_effect, size_of, multiplier, cost_by, cost_of, one_step, tokens_of, static_steps, static_tokens}
+use Rattle.pb_bytecode_program.specs.Counts.{LoopEffect, Straight, loop_effect, carrier_size, multiplier, cost_by, cost_of, one_step, tokens_of, static_steps, static_tokens}
 use Rattle.pb_bytecode_program.specs.declared.instruction.Leaf.TheVariants as leaf
 use Rattle.pb_bytecode_program.specs.declared.instruction.Op.{Op}
 use Rattle.pb_bytecode_program.specs.declared.instruction.Op.TheVariants as op
@@ -50,7 +50,7 @@ module _ (p : Program) (cost : Op → ℕ) (jump : ℕ) where
       (ap (λ (is : List Op). cost_of p cost is ws) (append_assoc (flat (q + 1) e a) (j ∷ fb) rest) ∙ counted bl a (q + 1) e (j ∷ (fb ++ rest)) ws st.0)
       (more (multiplier ws) jump (weight p cost jump b) (cost_of p cost rest ws) _ _ (ap (λ n. multiplier ws * n + cost_of p cost (fb ++ rest) ws) (bl.always _)) (counted bl b mid e rest ws st.1)))
   counted bl (Repeat s a) q e rest ws st =
-      let size = size_of (carrier_of p s) in
+      let size = carrier_size (carrier_of p s) in
       let t = multiplier ws in
       let r = cost_of p cost rest ws in
       let body : cost_of p cost ((flat (q + 1) e a ++ op.Next ∷ []) ++ rest) (t * size ∷ ws) ≡ t * size * (weight p cost jump a + cost op.Next) + r =

@@ -14,7 +14,7 @@ use Rattle.pb_trees.specs.declared.Token.{Token}
 use Rattle.pb_trees.specs.declared.Token.TheVariants as token
 use Rattle.pb_typing_declarations.specs.Shapes.{Shape, Unknown, Truths, Places, Wholes}
 use Rattle.pb_typing_rules.specs.Shapes.{interval}
-use Rattle.pb_bytecode_program.specs.Values.{Value, IntValue, untagged}
+use Rattle.pb_bytecode_program.specs.Values.{TaggedValue, IntValue, untagged}
 use Rattle.pb_bytecode_program.specs.Machine
 use Rattle.pb_bytecode_program.specs.Machine.{Program, State, Outcome, MachineFault, argument_fault}
 use Rattle.pb_bytecode_program.specs.declared.instruction.Leaf.TheVariants as leaf
@@ -33,7 +33,7 @@ use Rattle.pb_assembler_scheme.proofs.Terms.{Agrees, put, gives}
 use Rattle.pb_assembler_scheme.proofs.Formulas.{Compiles, Meaning, at_emit}
 
 -- these values, pushed in order
-abbrev onto : List Value → List Value → List Value
+abbrev onto : List TaggedValue → List TaggedValue → List TaggedValue
 onto [] vs = vs
 onto (v ∷ args) vs = onto args (v ∷ vs)
 
@@ -59,13 +59,13 @@ fails-range (carrier.Enum n) shape tested e z out = cc
 fails-range (carrier.Range r) Unknown tested e z out = cc
 fails-range (carrier.Range r) Truths tested e z out = cc
 fails-range (carrier.Range r) (Places s n) tested e z out = cc
-fails-range (carrier.Range r) (Wholes l h) tested e z out = by (intervals.is_within (interval l h) (interval r.low r.high)) e
+fails-range (carrier.Range r) (Wholes l h) tested e z out = by (intervals.is_included (interval l h) (interval r.low r.high)) e
   where
     by : (b : Bool) → cond b None (Some (r.low, r.high)) ≡ Some tested → holds (carrier.Range r) z ≡ false
     by true k = cc
     by false k = let same : (r.low, r.high) ≡ tested = cc in outside-range r z (ap (λ (p : ℤ × ℤ). int_le p.0 z && int_le z p.1) same ∙ out)
 
-length_untagged : (vs : List Value) → length (map untagged vs) ≡ length vs
+length_untagged : (vs : List TaggedValue) → length (map untagged vs) ≡ length vs
 length_untagged [] = refl
 length_untagged (v ∷ vs) = ap suc (length_untagged vs)
 
@@ -88,14 +88,14 @@ module _ (p : Program) (Q : List Token → Type 0) where
   passed None x y f h = f h
   passed (Some g) x y f h = tt
 
-  pops_append : (cs ds : List Carrier) (acc vs : List Value) (go : List Value → List Value → Outcome)
+  pops_append : (cs ds : List Carrier) (acc vs : List TaggedValue) (go : List TaggedValue → List TaggedValue → Outcome)
       → After p Q (Machine.pop_args cs acc vs (λ bs us. Machine.pop_args ds bs us go)) → After p Q (Machine.pop_args (cs ++ ds) acc vs go)
   pops_append [] ds acc vs go h = h
   pops_append (c ∷ cs) ds acc [] go h = h
   pops_append (c ∷ cs) ds acc (v ∷ vs) go h = passed (argument_fault v c) _ _ (pops_append cs ds (v ∷ acc) vs go) h
 
   -- the arguments come off in their order, each in its carrier
-  pops : (cs : List Carrier) (args acc vs : List Value) (go : List Value → List Value → Outcome) → length args ≡ length cs
+  pops : (cs : List Carrier) (args acc vs : List TaggedValue) (go : List TaggedValue → List TaggedValue → Outcome) → length args ≡ length cs
       → (within cs (map untagged args) ≡ true → After p Q (go (args ++ acc) vs)) → After p Q (Machine.pop_args (reverse cs) acc (onto args vs) go)
   pops [] [] acc vs go l h = h refl
   pops [] (v ∷ args) acc vs go l h = absurd (omega arith)
@@ -111,13 +111,13 @@ module _ (p : Program) (Q : List Token → Type 0) where
   module _ (last : Piece) (e : ℕ) (a : Slots) where
     -- where the last piece stands, behind all arguments
     abbrev Hits : State → ℕ → List Carrier → List Argument → Type 0
-    Hits st r cs xs = (q : ℕ) (vs : List Value) → HasPieceAt p.code q e last → map untagged vs ≡ argument_values a xs → (any_tested cs xs ≡ false → end q last ≡ r) → Wins p Q (put p Q st q (onto vs st.operands))
+    Hits st r cs xs = (q : ℕ) (vs : List TaggedValue) → HasPieceAt p.code q e last → map untagged vs ≡ argument_values a xs → (any_tested cs xs ≡ false → end q last ≡ r) → Wins p Q (put p Q st q (onto vs st.operands))
 
     -- where a test failed, and all arguments were taken off
     abbrev Misses : State → ℕ → List Carrier → List Argument → Type 0
     Misses st r cs xs = any_tested cs xs ≡ true → within cs (argument_values a xs) ≡ false → Wins p Q (put p Q st r st.operands)
 
-    takes_off : (st : State) (q : ℕ) (v : Value) → slice_get p.code q ≡ Some op.Pop → Wins p Q (put p Q st (q + 1) st.operands) → Wins p Q (put p Q st q (v ∷ st.operands))
+    takes_off : (st : State) (q : ℕ) (v : TaggedValue) → slice_get p.code q ≡ Some op.Pop → Wins p Q (put p Q st (q + 1) st.operands) → Wins p Q (put p Q st q (v ∷ st.operands))
     takes_off st q v h k = one p Q (put p Q st q (v ∷ st.operands)) op.Pop h k
 
     -- what is behind the first argument
@@ -125,7 +125,7 @@ module _ (p : Program) (Q : List Token → Type 0) where
     Runs cs xs = (st : State) → length xs ≡ length cs → HasPieceAt p.code st.place e (arguments_piece cs xs last) → Agrees st a
         → Hits st (end st.place (arguments_piece cs xs last)) cs xs → Misses st (end st.place (arguments_piece cs xs last)) cs xs → Wins p Q st
 
-    behind : (c : Carrier) (cs : List Carrier) (x : Argument) (xs : List Argument) → Runs cs xs → length xs ≡ length cs → (st : State) (q : ℕ) → Agrees st a → (v : Value) → untagged v ≡ value a x.term
+    behind : (c : Carrier) (cs : List Carrier) (x : Argument) (xs : List Argument) → Runs cs xs → length xs ≡ length cs → (st : State) (q : ℕ) → Agrees st a → (v : TaggedValue) → untagged v ≡ value a x.term
         → (o : Option (ℤ × ℤ)) → tested_range c x.shape ≡ o → (later : Bool) → any_tested cs xs ≡ later
         → HasPieceAt p.code q e (guarded o later (arguments_piece cs xs last))
         → Hits st (end q (guarded o later (arguments_piece cs xs last))) (c ∷ cs) (x ∷ xs) → Misses st (end q (guarded o later (arguments_piece cs xs last))) (c ∷ cs) (x ∷ xs)
@@ -157,13 +157,13 @@ module _ (p : Program) (Q : List Token → Type 0) where
 
   -- ---- the call itself
 
-  called : (st : State) (q eq n : ℕ) (vs : List Value) (o : Option (List Carrier)) → length vs ≡ length (parameters o) → st.brackets ≡ suc n
+  called : (st : State) (q eq n : ℕ) (vs : List TaggedValue) (o : Option (List Carrier)) → length vs ≡ length (parameters o) → st.brackets ≡ suc n
       → (within (parameters o) (map untagged vs) ≡ true → Wins p Q (record st { place = q + 1; output = st.output ++ token.Call (Machine.number p eq vs) ∷ [] }))
-      → After p Q (Machine.call p (put p Q st q (onto vs st.operands)) eq o)
+      → After p Q (Machine.call_instance p (put p Q st q (onto vs st.operands)) eq o)
   called st q eq n vs None l br go = tt
   called st q eq n vs (Some cs) l br go =
       pops cs vs [] st.operands _ l (λ w. rooted p Q st.brackets st.roots n _ br
-      (subst (λ (us : List Value). Wins p Q (record st { place = q + 1; output = st.output ++ token.Call (Machine.number p eq us) ∷ [] })) (sym (append-nil vs)) (go w)))
+      (subst (λ (us : List TaggedValue). Wins p Q (record st { place = q + 1; output = st.output ++ token.Call (Machine.number p eq us) ∷ [] })) (sym (append-nil vs)) (go w)))
 
   module _ (k : Junction) (eq : ℕ) (xs : List Argument) (full : IsFullCall (slice_get p.callees eq) xs) where
     abbrev cs : List Carrier
@@ -172,7 +172,7 @@ module _ (p : Program) (Q : List Token → Type 0) where
     abbrev φ : Meaning
     φ a env = numbered_truth p a env (Call eq xs)
 
-    writes_call : (st : State) (q n : ℕ) (a : Slots) (vs : List Value) → slice_get p.code q ≡ Some (op.Call eq) → map untagged vs ≡ argument_values a xs → st.brackets ≡ suc n
+    writes_call : (st : State) (q n : ℕ) (a : Slots) (vs : List TaggedValue) → slice_get p.code q ≡ Some (op.Call eq) → map untagged vs ≡ argument_values a xs → st.brackets ≡ suc n
         → ((ts : List Token) → Joins k ts (φ a) → Wins p Q (record st { place = q + 1; output = st.output ++ ts })) → Wins p Q (put p Q st q (onto vs st.operands))
     writes_call st q n a vs h ev br go =
         one p Q (put p Q st q (onto vs st.operands)) (op.Call eq) h (called st q eq n vs (slice_get p.callees eq)

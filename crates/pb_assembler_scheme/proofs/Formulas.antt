@@ -7,7 +7,7 @@ use Rattle.pb_sorts.specs.declared.carrier.Carrier.{Carrier}
 use Rattle.pb_trees.specs.declared.Token.{Token}
 use Rattle.pb_trees.specs.declared.Token.TheVariants as token
 use Rattle.pb_text_meaning.specs.Value.{is_true}
-use Rattle.pb_bytecode_program.specs.Values.{Value, untagged, tagged_values}
+use Rattle.pb_bytecode_program.specs.Values.{TaggedValue, untagged, tagged_values}
 use Rattle.pb_bytecode_program.specs.Machine
 use Rattle.pb_bytecode_program.specs.Machine.{Program, State, Frame, Outcome, Continues, Ends, Faults, carrier_of}
 use Rattle.pb_bytecode_program.specs.declared.instruction.Leaf.{Leaf}
@@ -80,20 +80,20 @@ module _ (p : Program) (Q : List Token → Type 0) where
   closed b n go e h = subst (λ (m : ℕ). After p Q (Machine.close_bracket m go)) (sym e) h
 
   -- from behind the opening on
-  pub enclosed : (m : Junction) (x : Piece) (φ : Meaning) → Compiles m x φ → (st : State) (e : ℕ) (a : Slots) (n : ℕ) (o : List Token) → HasPieceAt p.code st.place e (Then x (Plain op.Close)) → Agrees st a → st.brackets ≡ suc n → st.output ≡ o ++ Machine.opening (connective_of m) ∷ []
-      → ((xs : List Token) → Joins m xs (φ a) → Wins p Q (record st { place = end st.place x + 1; brackets = n; output = o ++ Machine.opening (connective_of m) ∷ (xs ++ token.Close ∷ []) })) → Wins p Q st
+  pub enclosed : (m : Junction) (x : Piece) (φ : Meaning) → Compiles m x φ → (st : State) (e : ℕ) (a : Slots) (n : ℕ) (o : List Token) → HasPieceAt p.code st.place e (Then x (Plain op.Close)) → Agrees st a → st.brackets ≡ suc n → st.output ≡ o ++ Machine.opening_token (connective_of m) ∷ []
+      → ((xs : List Token) → Joins m xs (φ a) → Wins p Q (record st { place = end st.place x + 1; brackets = n; output = o ++ Machine.opening_token (connective_of m) ∷ (xs ++ token.Close ∷ []) })) → Wins p Q st
   enclosed m x φ hx st e a n o h ag br eo go =
       hx st e a n h.0 ag br (λ xs j.
       one p Q (record st { place = end st.place x; output = st.output ++ xs }) op.Close h.1 (closed st.brackets n _ br
       (subst (λ (l : List Token). Wins p Q (record st { place = end st.place x + 1; brackets = n; output = l }))
-      (sym (append_assoc o (Machine.opening (connective_of m) ∷ []) (xs ++ token.Close ∷ [])) ∙ ap (λ (l : List Token). l ++ (xs ++ token.Close ∷ [])) (sym eo) ∙ sym (append_assoc st.output xs (token.Close ∷ [])))
+      (sym (append_assoc o (Machine.opening_token (connective_of m) ∷ []) (xs ++ token.Close ∷ [])) ∙ ap (λ (l : List Token). l ++ (xs ++ token.Close ∷ [])) (sym eo) ∙ sym (append_assoc st.output xs (token.Close ∷ [])))
       (go xs j))))
 
   bracketed_runs : (k m : Junction) (x : Piece) (φ : Meaning) → Compiles m x φ → Compiles k (bracketed m x) φ
   bracketed_runs k m x φ hx st e a n h ag br go =
       one p Q st (op.Open (connective_of m)) h.0 (passes_test p Q (nat_lt st.brackets 32) _ _ (rooted p Q st.brackets st.roots n _ br
-      (enclosed m x φ hx (record st { place = st.place + 1; brackets = st.brackets + 1; output = st.output ++ Machine.opening (connective_of m) ∷ [] }) e a st.brackets st.output h.1 ag (add-one st.brackets) refl
-      (λ xs j. go (Machine.opening (connective_of m) ∷ (xs ++ token.Close ∷ [])) (joins_bracket k m xs (φ a) j)))))
+      (enclosed m x φ hx (record st { place = st.place + 1; brackets = st.brackets + 1; output = st.output ++ Machine.opening_token (connective_of m) ∷ [] }) e a st.brackets st.output h.1 ag (add-one st.brackets) refl
+      (λ xs j. go (Machine.opening_token (connective_of m) ∷ (xs ++ token.Close ∷ [])) (joins_bracket k m xs (φ a) j)))))
 
   under_runs : (m k : Junction) (x : Piece) (φ : Meaning) → Compiles m x φ → Compiles k (under m k x) φ
   under_runs And And x φ hx = hx
@@ -120,10 +120,10 @@ module _ (p : Program) (Q : List Token → Type 0) where
       by false h = ag i v h
 
   module _ (m : Junction) (x : Piece) (φ : Meaning) (hx : Compiles m x φ) (s : ℕ) (st : State) (e : ℕ) (a : Slots) (n : ℕ) (h : HasPieceAt p.code st.place e (Repeat s x)) (ag : Agrees st a) (br : st.brackets ≡ suc n) where
-    abbrev turning : Value → List Value → List Token → State
+    abbrev turning : TaggedValue → List TaggedValue → List Token → State
     turning v left o = record st { place = st.place + 1; loops = record { loop_place = st.place; slot = s; value = v; remaining = left } ∷ st.loops; output = o }
 
-    turns : (left : List Value) (v : Value) (o : List Token) → ((xs : List Token) → Joins m xs (over m φ a s (untagged v ∷ map untagged left)) → Wins p Q (record st { place = end st.place (Repeat s x); output = o ++ xs })) → Wins p Q (turning v left o)
+    turns : (left : List TaggedValue) (v : TaggedValue) (o : List Token) → ((xs : List Token) → Joins m xs (over m φ a s (untagged v ∷ map untagged left)) → Wins p Q (record st { place = end st.place (Repeat s x); output = o ++ xs })) → Wins p Q (turning v left o)
     turns [] v o go =
         hx (turning v [] o) e (set a s (untagged v)) n h.1 (agrees_in st a (record { loop_place = st.place; slot = s; value = v; remaining = [] }) ag) br (λ xs j.
         one p Q (record (turning v [] o) { place = end (st.place + 1) x; output = o ++ xs }) op.Next h.2 (go xs (joins_same m xs _ _ (λ env. sym (joined_unit m _)) j)))
@@ -133,7 +133,7 @@ module _ (p : Program) (Q : List Token → Type 0) where
         subst (λ (l : List Token). Wins p Q (record st { place = end st.place (Repeat s x); output = l })) (sym (append_assoc o xs ys))
         (go (xs ++ ys) (joins_append m xs ys _ _ j k)))))
 
-    entered : (vs : List Value) → Writes m st (end st.place (Repeat s x)) (over m φ a s (map untagged vs)) → After p Q (Machine.enter_loop st s vs)
+    entered : (vs : List TaggedValue) → Writes m st (end st.place (Repeat s x)) (over m φ a s (map untagged vs)) → After p Q (Machine.enter_loop st s vs)
     entered [] go = tt
     entered (v ∷ left) go = turns left v st.output go
 

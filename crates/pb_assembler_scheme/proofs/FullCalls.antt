@@ -13,7 +13,7 @@ use Rattle.pb_text_meaning.specs.Formula.{carriers_of, equation_named}
 use Rattle.pb_evaluation.specs.Environment.{all_carriers}
 use Rattle.pb_typing_rules.specs.Scope.{Scope, bound}
 use Rattle.pb_typing_rules.specs.Formula.{count, IsCalled, IsProper}
-use Rattle.pb_typing_rules.specs.WellTyped.{parameters_of}
+use Rattle.pb_typing_rules.specs.WellTyped.{parameter_scope}
 use Rattle.pb_normal.specs.Expansion.{has_quantifier, connected, expanded_term, expanded}
 use Rattle.pb_normal.specs.Normal.{Term, Argument, Formula}
 use Rattle.pb_normal.specs.Normalisation.{Slotting, unslotted, with_slot, with_slots, slotted, width, signed_test, signed_quantifier, each, arguments, place_of, call, normal}
@@ -120,5 +120,5 @@ module _ (spec : Spec) (callees : List (List Carrier)) (same : layout.carriers_o
   formula-full even scope (syntax.Formula.Call x es) h c n =
       call-full (count es) (arguments spec c scope es) (place_of 0 spec.equations x) (length-arguments spec c scope es) (finds-full scope es callees spec.equations 0 x same h.1)
 
-  pub equation-full : (X : Equation) → IsProper spec true (parameters_of spec X) X.right → HasFullCalls callees (normal_equation spec X)
-  equation-full X proper = formula-full true (parameters_of spec X) X.right proper (with_slots X.parameters 0 unslotted) (length X.parameters)
+  pub equation-full : (X : Equation) → IsProper spec true (parameter_scope spec X) X.right → HasFullCalls callees (normal_equation spec X)
+  equation-full X proper = formula-full true (parameter_scope spec X) X.right proper (with_slots X.parameters 0 unslotted) (length X.parameters)

@@ -111,12 +111,12 @@ joins_leaf m leaf.Cut = joins_tree_leaf m trees.Cut
 pub joins_call : (m : Junction) (n : ℕ) → Joins m (token.Call n ∷ []) (λ t. t n)
 joins_call m n = joins_tree_leaf m (trees.Call n)
 
-pub opening-token : (m : Junction) → Machine.opening (connective_of m) ≡ opening (tree_connective m)
+pub opening-token : (m : Junction) → Machine.opening_token (connective_of m) ≡ opening (tree_connective m)
 opening-token And = refl
 opening-token Or = refl
 
 -- a bracket is one operand of the bracket around it
-pub joins_bracket : (k m : Junction) (xs : List Token) (φ : Meaning) → Joins m xs φ → Joins k (Machine.opening (connective_of m) ∷ (xs ++ token.Close ∷ [])) φ
+pub joins_bracket : (k m : Junction) (xs : List Token) (φ : Meaning) → Joins m xs φ → Joins k (Machine.opening_token (connective_of m) ∷ (xs ++ token.Close ∷ [])) φ
 joins_bracket k m xs φ h = record {
   operands = BracketThen (tree_connective m) h.operands End;
   tokens = ap (λ (o : Token). o ∷ (xs ++ token.Close ∷ [])) (opening-token m) ∙ ap (λ (ts : List Token). opening (tree_connective m) ∷ (ts ++ token.Close ∷ [])) h.tokens;

@@ -10,7 +10,7 @@ use Rattle.pb_sorts.specs.declared.carrier.Carrier.TheVariants as carrier
 use Rattle.pb_sorts.specs.Carrier.{values_of}
 use Rattle.pb_typing_declarations.specs.Shapes.{Shape}
 use Rattle.pb_typing_declarations.specs.Entries.{carrier_shape}
-use Rattle.pb_bytecode_program.specs.Values.{Value, tagged, untagged}
+use Rattle.pb_bytecode_program.specs.Values.{TaggedValue, tagged, untagged}
 use Rattle.pb_bytecode_program.specs.Machine.{Program, carrier_of}
 use Rattle.pb_bytecode_program.specs.Safety.{AreArguments, arguments}
 use Rattle.pb_bytecode_program.proofs.CarrierValues.{untagged-tagged}
@@ -21,7 +21,7 @@ use Rattle.pb_assembler_scheme.proofs.Numbered.{HasSlots}
 
 -- ---- values of parameters
 
-pub start-slots : (cs : List Carrier) (tuple : List ℤ) → AreArguments cs tuple → (i : ℕ) (v : Value) → slice_get (arguments cs tuple) i ≡ Some v → untagged v ≡ slots_of tuple i
+pub start-slots : (cs : List Carrier) (tuple : List ℤ) → AreArguments cs tuple → (i : ℕ) (v : TaggedValue) → slice_get (arguments cs tuple) i ≡ Some v → untagged v ≡ slots_of tuple i
 start-slots [] tuple a i v e = cc
 start-slots (c ∷ cs) [] a i v e = cc
 start-slots (c ∷ cs) (z ∷ zs) a zero v e =

@@ -11,7 +11,7 @@ use Rattle.pb_fixpoint.specs.Solution.{Environment, solution, empty}
 use Rattle.pb_fixpoint.specs.Transfer.{Matches, IsSame, AreSame}
 use Rattle.pb_fixpoint.proofs.Transfer.{solution-matches}
 use Rattle.pb_carriers.specs.Carrier.{Carrier, is_within, tuple_count}
-use Rattle.pb_sorts.specs.Instance.{first_of, size_of, tuples_of}
+use Rattle.pb_sorts.specs.Instance.{first_of, size_of, tuple_count_at}
 use Rattle.pb_sorts.proofs.Numbers.{first_of-next}
 use Rattle.pb_trees.specs.Tree.{Tree, tree_truth}
 use Rattle.pb_trees.specs.Equations.{numbered, solved}
@@ -80,7 +80,7 @@ module _ (spec : Spec) (typed : IsWellTyped spec)
 
   size-at : (k : ℕ) (X : Equation) → slice_get spec.equations k ≡ Some X → size_of (all_carriers spec) k ≡ tuple_count (carriers_of spec X.parameters)
   size-at k X at =
-      ap tuples_of (slice_get-map (λ (Y : Equation). carriers_of spec Y.parameters) spec.equations k ∙ ap (option_map (λ (Y : Equation). carriers_of spec Y.parameters)) at)
+      ap tuple_count_at (slice_get-map (λ (Y : Equation). carriers_of spec Y.parameters) spec.equations k ∙ ap (option_map (λ (Y : Equation). carriers_of spec Y.parameters)) at)
 
   is-same : (k first : ℕ) (X : Equation) → slice_get spec.equations k ≡ Some X → first ≡ first_of (all_carriers spec) k
       → IsSame (is_instance spec) (number_in spec) (Rattle.pb_trees.specs.Equations.equation first (signature_of spec X) trees) (made X)

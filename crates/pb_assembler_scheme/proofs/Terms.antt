@@ -9,7 +9,7 @@ use Rattle.pb_trees.specs.declared.Token.{Token}
 use Rattle.pb_text_meaning.specs.Syntax.{Operator}
 use Rattle.pb_text_meaning.specs.Value.{is_true}
 use Rattle.pb_text_meaning.proofs.Truths.{is_true-of_bool}
-use Rattle.pb_bytecode_program.specs.Values.{Value, BoolValue, IntValue, EnumValue, untagged, arithmetic, divides, absolute, compares, equals, answers, connects}
+use Rattle.pb_bytecode_program.specs.Values.{TaggedValue, BoolValue, IntValue, EnumValue, untagged, arithmetic, divides, absolute, compares, equals, answers, connects}
 use Rattle.pb_bytecode_program.specs.Machine
 use Rattle.pb_bytecode_program.specs.Machine.{Program, State}
 use Rattle.pb_bytecode_program.specs.declared.instruction.Arithmetic.{Arithmetic}
@@ -29,18 +29,18 @@ use Rattle.pb_assembler_scheme.proofs.Wins.{Wins, After, one, avoids_fault, push
 
 -- what the machine's slots hold is what the formula's slots hold
 abbrev pub Agrees : State → Slots → Type 0
-Agrees st a = (i : ℕ) (v : Value) → Machine.value_at st.loops st.parameters i ≡ Some v → untagged v ≡ a i
+Agrees st a = (i : ℕ) (v : TaggedValue) → Machine.value_at st.loops st.parameters i ≡ Some v → untagged v ≡ a i
 
 module _ (p : Program) (Q : List Token → Type 0) where
   -- the state after a term: its value on top
   abbrev pub Gives : State → ℕ → ℤ → Type 0
-  Gives st q z = (v : Value) → untagged v ≡ z → Wins p Q (record st { place = q; operands = v ∷ st.operands })
+  Gives st q z = (v : TaggedValue) → untagged v ≡ z → Wins p Q (record st { place = q; operands = v ∷ st.operands })
 
-  slot : (o : Option Value) (st : State) → ((v : Value) → o ≡ Some v → Wins p Q (record st { place = st.place + 1; operands = v ∷ st.operands })) → After p Q (Machine.with_slot o (λ v. Machine.push st st.operands v))
+  slot : (o : Option TaggedValue) (st : State) → ((v : TaggedValue) → o ≡ Some v → Wins p Q (record st { place = st.place + 1; operands = v ∷ st.operands })) → After p Q (Machine.with_slot o (λ v. Machine.push st st.operands v))
   slot None st h = tt
   slot (Some v) st h = pushed p Q st st.operands v (h v refl)
 
-  same : (st : State) (vs : List Value) (wanted : Equality) (x y : Value) → ((b : Bool) → b ≡ answers wanted (int_eq (untagged x) (untagged y)) → Wins p Q (record st { place = st.place + 1; operands = BoolValue b ∷ vs })) → After p Q (Machine.push_equality st vs wanted (equals x y))
+  same : (st : State) (vs : List TaggedValue) (wanted : Equality) (x y : TaggedValue) → ((b : Bool) → b ≡ answers wanted (int_eq (untagged x) (untagged y)) → Wins p Q (record st { place = st.place + 1; operands = BoolValue b ∷ vs })) → After p Q (Machine.push_equality st vs wanted (equals x y))
   same st vs w (BoolValue a) (BoolValue b) h = pushed p Q st vs _ (h _ (ap (answers w) (same_bools a b)))
   same st vs w (IntValue a) (IntValue b) h = pushed p Q st vs _ (h _ (ap (answers w) (same_numbers a b)))
   same st vs w (EnumValue s i) (EnumValue t j) h = by (s == t)
@@ -56,12 +56,12 @@ module _ (p : Program) (Q : List Token → Type 0) where
   same st vs w (EnumValue s i) (IntValue b) h = tt
 
   -- a test on the topmost operand
-  pub jumps : (st : State) (on : Bool) (to : ℕ) (v : Value) (vs : List Value) → st.operands ≡ v ∷ vs → slice_get p.code st.place ≡ Some (op.JumpIf on to)
+  pub jumps : (st : State) (on : Bool) (to : ℕ) (v : TaggedValue) (vs : List TaggedValue) → st.operands ≡ v ∷ vs → slice_get p.code st.place ≡ Some (op.JumpIf on to)
       → (is_true (untagged v) ≡ on → Wins p Q (record st { place = to; operands = vs }))
       → (is_true (untagged v) ≡ not on → Wins p Q (record st { place = st.place + 1; operands = vs }))
       → Wins p Q st
   jumps st on to v vs e at there next =
-      one p Q st _ at (subst (λ (ws : List Value). After p Q (Machine.pop_bool ws (λ b ws. cond (cond on b (not b)) (Machine.jump_to st to ws) (Machine.jump_to st (st.place + 1) ws)))) (sym e)
+      one p Q st _ at (subst (λ (ws : List TaggedValue). After p Q (Machine.pop_bool ws (λ b ws. cond (cond on b (not b)) (Machine.jump_to st to ws) (Machine.jump_to st (st.place + 1) ws)))) (sym e)
       (popped_bool p Q v vs _ (λ b k. by on b (sym (is_true-of_bool b) ∙ ap is_true k) there next)))
     where
       by : (on b : Bool) → b ≡ is_true (untagged v) → (is_true (untagged v) ≡ on → Wins p Q (record st { place = to; operands = vs }))
@@ -74,33 +74,33 @@ module _ (p : Program) (Q : List Token → Type 0) where
 
   -- ---- one instruction of a term, at a place with these operands
 
-  abbrev pub put : State → ℕ → List Value → State
+  abbrev pub put : State → ℕ → List TaggedValue → State
   put st q vs = record st { place = q; operands = vs }
 
-  at_negate : (st : State) (q : ℕ) (v : Value) (vs : List Value) → slice_get p.code q ≡ Some op.Negate → Wins p Q (put st (q + 1) (IntValue (neg_ℤ (untagged v)) ∷ vs)) → Wins p Q (put st q (v ∷ vs))
+  at_negate : (st : State) (q : ℕ) (v : TaggedValue) (vs : List TaggedValue) → slice_get p.code q ≡ Some op.Negate → Wins p Q (put st (q + 1) (IntValue (neg_ℤ (untagged v)) ∷ vs)) → Wins p Q (put st q (v ∷ vs))
   at_negate st q v vs h k = one p Q (put st q (v ∷ vs)) op.Negate h (popped_int p Q v vs _ (pushed_int p Q (put st q (v ∷ vs)) vs _ k))
 
-  at_absolute : (st : State) (q : ℕ) (v : Value) (vs : List Value) → slice_get p.code q ≡ Some op.Absolute → Wins p Q (put st (q + 1) (IntValue (absolute (untagged v)) ∷ vs)) → Wins p Q (put st q (v ∷ vs))
+  at_absolute : (st : State) (q : ℕ) (v : TaggedValue) (vs : List TaggedValue) → slice_get p.code q ≡ Some op.Absolute → Wins p Q (put st (q + 1) (IntValue (absolute (untagged v)) ∷ vs)) → Wins p Q (put st q (v ∷ vs))
   at_absolute st q v vs h k = one p Q (put st q (v ∷ vs)) op.Absolute h (popped_int p Q v vs _ (pushed_int p Q (put st q (v ∷ vs)) vs _ k))
 
-  at_not : (st : State) (q : ℕ) (v : Value) (vs : List Value) → slice_get p.code q ≡ Some op.Not → Wins p Q (put st (q + 1) (BoolValue (not (is_true (untagged v))) ∷ vs)) → Wins p Q (put st q (v ∷ vs))
+  at_not : (st : State) (q : ℕ) (v : TaggedValue) (vs : List TaggedValue) → slice_get p.code q ≡ Some op.Not → Wins p Q (put st (q + 1) (BoolValue (not (is_true (untagged v))) ∷ vs)) → Wins p Q (put st q (v ∷ vs))
   at_not st q v vs h k = one p Q (put st q (v ∷ vs)) op.Not h (popped_bool p Q v vs _ (λ b e. pushed p Q (put st q (v ∷ vs)) vs _ (subst (λ c. Wins p Q (put st (q + 1) (BoolValue (not c) ∷ vs))) (ap is_true (sym e) ∙ is_true-of_bool b) k)))
 
-  at_arithmetic : (c : Arithmetic) (st : State) (q : ℕ) (v w : Value) (vs : List Value) → slice_get p.code q ≡ Some (op.Arithmetic c) → Wins p Q (put st (q + 1) (IntValue (arithmetic c (untagged v) (untagged w)) ∷ vs)) → Wins p Q (put st q (w ∷ v ∷ vs))
+  at_arithmetic : (c : Arithmetic) (st : State) (q : ℕ) (v w : TaggedValue) (vs : List TaggedValue) → slice_get p.code q ≡ Some (op.Arithmetic c) → Wins p Q (put st (q + 1) (IntValue (arithmetic c (untagged v) (untagged w)) ∷ vs)) → Wins p Q (put st q (w ∷ v ∷ vs))
   at_arithmetic c st q v w vs h k = one p Q (put st q (w ∷ v ∷ vs)) (op.Arithmetic c) h (popped_int p Q w (v ∷ vs) _ (popped_int p Q v vs _ (avoids_fault p Q (divides c && int_lt (untagged w) (pos 1)) _ _ (pushed_int p Q (put st q (w ∷ v ∷ vs)) vs _ k))))
 
-  at_compare : (o : Comparison) (st : State) (q : ℕ) (v w : Value) (vs : List Value) → slice_get p.code q ≡ Some (op.Compare o) → Wins p Q (put st (q + 1) (BoolValue (compares o (untagged v) (untagged w)) ∷ vs)) → Wins p Q (put st q (w ∷ v ∷ vs))
+  at_compare : (o : Comparison) (st : State) (q : ℕ) (v w : TaggedValue) (vs : List TaggedValue) → slice_get p.code q ≡ Some (op.Compare o) → Wins p Q (put st (q + 1) (BoolValue (compares o (untagged v) (untagged w)) ∷ vs)) → Wins p Q (put st q (w ∷ v ∷ vs))
   at_compare o st q v w vs h k = one p Q (put st q (w ∷ v ∷ vs)) (op.Compare o) h (popped_int p Q w (v ∷ vs) _ (popped_int p Q v vs _ (pushed p Q (put st q (w ∷ v ∷ vs)) vs _ k)))
 
-  at_equality : (wanted : Equality) (st : State) (q : ℕ) (v w : Value) (vs : List Value) → slice_get p.code q ≡ Some (op.Equality wanted) → Wins p Q (put st (q + 1) (BoolValue (answers wanted (int_eq (untagged v) (untagged w))) ∷ vs)) → Wins p Q (put st q (w ∷ v ∷ vs))
+  at_equality : (wanted : Equality) (st : State) (q : ℕ) (v w : TaggedValue) (vs : List TaggedValue) → slice_get p.code q ≡ Some (op.Equality wanted) → Wins p Q (put st (q + 1) (BoolValue (answers wanted (int_eq (untagged v) (untagged w))) ∷ vs)) → Wins p Q (put st q (w ∷ v ∷ vs))
   at_equality wanted st q v w vs h k = one p Q (put st q (w ∷ v ∷ vs)) (op.Equality wanted) h (same (put st q (w ∷ v ∷ vs)) vs wanted v w (λ b e. subst (λ c. Wins p Q (put st (q + 1) (BoolValue c ∷ vs))) (sym e) k))
 
-  at_logic : (c : Connective) (st : State) (q : ℕ) (v w : Value) (vs : List Value) → slice_get p.code q ≡ Some (op.Logic c) → Wins p Q (put st (q + 1) (BoolValue (connects c (is_true (untagged v)) (is_true (untagged w))) ∷ vs)) → Wins p Q (put st q (w ∷ v ∷ vs))
+  at_logic : (c : Connective) (st : State) (q : ℕ) (v w : TaggedValue) (vs : List TaggedValue) → slice_get p.code q ≡ Some (op.Logic c) → Wins p Q (put st (q + 1) (BoolValue (connects c (is_true (untagged v)) (is_true (untagged w))) ∷ vs)) → Wins p Q (put st q (w ∷ v ∷ vs))
   at_logic c st q v w vs h k =
       one p Q (put st q (w ∷ v ∷ vs)) (op.Logic c) h (popped_bool p Q w (v ∷ vs) (λ b us. Machine.pop_bool us (λ a ws. Machine.push (put st q (w ∷ v ∷ vs)) ws (BoolValue (connects c a b)))) (λ b e. popped_bool p Q v vs _ (λ a f. pushed p Q (put st q (w ∷ v ∷ vs)) vs _
       (subst (λ d. Wins p Q (put st (q + 1) (BoolValue (connects c d b) ∷ vs))) (ap is_true (sym f) ∙ is_true-of_bool a) (subst (λ d. Wins p Q (put st (q + 1) (BoolValue (connects c (is_true (untagged v)) d) ∷ vs))) (ap is_true (sym e) ∙ is_true-of_bool b) k)))))
 
-  pub at_jump : (st : State) (q to : ℕ) (vs : List Value) → slice_get p.code q ≡ Some (op.Jump to) → Wins p Q (put st to vs) → Wins p Q (put st q vs)
+  pub at_jump : (st : State) (q to : ℕ) (vs : List TaggedValue) → slice_get p.code q ≡ Some (op.Jump to) → Wins p Q (put st to vs) → Wins p Q (put st q vs)
   at_jump st q to vs h k = one p Q (put st q vs) (op.Jump to) h k
 
   -- ---- pieces that put a value on top

@@ -8,7 +8,7 @@ use Rattle.pb_trees.specs.Tree.{Tree, Root, tree_truth}
 use Rattle.pb_trees.specs.Tokens.{opening, tree_tokens}
 use Rattle.pb_trees.specs.Laws.{TokensAreOneTree}
 use Rattle.pb_text_meaning.specs.Syntax.{Spec}
-use Rattle.pb_bytecode_program.specs.Values.{Value}
+use Rattle.pb_bytecode_program.specs.Values.{TaggedValue}
 use Rattle.pb_bytecode_program.specs.Machine
 use Rattle.pb_bytecode_program.specs.Machine.{Program, State, Outcome, Continues, Ends, Faults, MachineFault, run, start}
 use Rattle.pb_bytecode_program.specs.Counts.{static_steps}
@@ -20,7 +20,7 @@ use Rattle.pb_normal.specs.Normal.{Formula, Slots}
 use Rattle.pb_normal.specs.Answer.{slots_of}
 use Rattle.pb_assembler_scheme.specs.Pieces.{HasPieceAt}
 use Rattle.pb_assembler_scheme.specs.Scheme.{connective_of, head, formula_piece, equation_piece, equation_code}
-use Rattle.pb_assembler_scheme.specs.Correct.{IsCompiled, HasFullCalls, Declares, IsFaultless, HasTruth, Decides}
+use Rattle.pb_assembler_scheme.specs.Correct.{IsCompiled, HasFullCalls, Declares, IsFaultless, TreeHasTruth, Decides}
 use Rattle.pb_assembler_scheme.proofs.Wins.{Wins, EndsIn, one}
 use Rattle.pb_assembler_scheme.proofs.Joins.{Joins, tree_connective, opening-token}
 use Rattle.pb_assembler_scheme.proofs.Numbered.{numbered_truth, same-truth}
@@ -35,14 +35,14 @@ equation_stands p f compiled =
     stands p.code 0 0 (equation_piece p.callees f)
     (subst (λ (code : List Op). HasAt code 0 (equation_code p.callees f)) (sym compiled.code) (has_all (equation_code p.callees f)))
 
-module _ (p : Program) (f : Formula) (args : List Value) (slots : Slots) where
+module _ (p : Program) (f : Formula) (args : List TaggedValue) (slots : Slots) where
   -- the tokens are those of a tree with the formula's truth
   pub record IsDecided (out : List Token) : Type 0 where
     pub tree : Tree
     pub tokens : out ≡ tree_tokens tree
     pub truth : (t : Environment ℕ) → tree_truth t tree ≡ numbered_truth p slots t f
 
-  root-decided : (xs : List Token) → Joins (head f) xs (λ t. numbered_truth p slots t f) → IsDecided (Machine.opening (connective_of (head f)) ∷ (xs ++ token.Close ∷ []))
+  root-decided : (xs : List Token) → Joins (head f) xs (λ t. numbered_truth p slots t f) → IsDecided (Machine.opening_token (connective_of (head f)) ∷ (xs ++ token.Close ∷ []))
   root-decided xs j = record {
     tree = Root (tree_connective (head f)) j.operands;
     tokens = ap (λ (o : Token). o ∷ (xs ++ token.Close ∷ [])) (opening-token (head f)) ∙ ap (λ (ts : List Token). opening (tree_connective (head f)) ∷ (ts ++ token.Close ∷ [])) j.tokens;
@@ -53,7 +53,7 @@ module _ (p : Program) (f : Formula) (args : List Value) (slots : Slots) where
   wins full agrees h =
       one p IsDecided (start args) (op.Open (connective_of (head f))) h.0.0
       (enclosed p IsDecided (head f) (formula_piece p.callees (head f) f) (λ a t. numbered_truth p a t f) (formula_runs p IsDecided (call_runs p IsDecided) f (head f) full)
-      (record (start args) { place = 1; brackets = 1; roots = 1; output = Machine.opening (connective_of (head f)) ∷ [] }) 0 slots 0 [] h.0.1 agrees refl refl
+      (record (start args) { place = 1; brackets = 1; roots = 1; output = Machine.opening_token (connective_of (head f)) ∷ [] }) 0 slots 0 [] h.0.1 agrees refl refl
       (λ xs j. one p IsDecided _ op.End h.1 (root-decided xs j)))
 
 -- a run that faults goes no further
@@ -95,7 +95,7 @@ module _ (spec : Spec) (p : Program) (f : Formula) (tuple : Tuple) (compiled : I
       no-end : {out : List Token} → Faults g ≡ Ends out → ⊥
       no-end k = cc
 
-  pub ended-decides : TokensAreOneTree → (tree : Tree) → EndsWith p tuple tree → HasTruth spec f tuple tree
+  pub ended-decides : TokensAreOneTree → (tree : Tree) → EndsWith p tuple tree → TreeHasTruth spec f tuple tree
   ended-decides one-tree tree ended =
       let d = decides (ends-faultless tree ended) in
       let st = start (arguments p.parameters tuple) in
@@ -105,4 +105,4 @@ module _ (spec : Spec) (p : Program) (f : Formula) (tuple : Tuple) (compiled : I
       let same-end = sym late ∙ early in
       let tokens : tree_tokens d.tree ≡ tree_tokens tree = cc in
       let same : d.tree ≡ tree = (one-tree d.tree tree [] [] (append-nil (tree_tokens d.tree) ∙ tokens ∙ sym (append-nil (tree_tokens tree)))).0 in
-      subst (HasTruth spec f tuple) same d.has_truth
+      subst (TreeHasTruth spec f tuple) same d.has_truth

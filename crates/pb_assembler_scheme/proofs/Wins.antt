@@ -4,7 +4,7 @@ use Rattle.std.specs.Prelude.{ℤ, nat_lt}
 use Rattle.std.specs.List.{slice_get}
 use Rattle.pb_carriers.specs.Carrier.{of_bool}
 use Rattle.pb_trees.specs.declared.Token.{Token}
-use Rattle.pb_bytecode_program.specs.Values.{Value, BoolValue, IntValue, EnumValue, untagged, fits64}
+use Rattle.pb_bytecode_program.specs.Values.{TaggedValue, BoolValue, IntValue, EnumValue, untagged, fits64}
 use Rattle.pb_bytecode_program.specs.Machine
 use Rattle.pb_bytecode_program.specs.Machine.{Program, State, Outcome, Continues, Ends, Faults, MachineFault}
 use Rattle.pb_bytecode_program.specs.declared.instruction.Op.{Op}
@@ -50,18 +50,18 @@ module _ (p : Program) (Q : List Token → Type 0) where
   either_goes true x y h k = h refl
   either_goes false x y h k = k refl
 
-  pub pushed : (st : State) (vs : List Value) (v : Value) → Wins (record st { place = st.place + 1; operands = v ∷ vs }) → After (Machine.push st vs v)
+  pub pushed : (st : State) (vs : List TaggedValue) (v : TaggedValue) → Wins (record st { place = st.place + 1; operands = v ∷ vs }) → After (Machine.push st vs v)
   pushed st vs v h = passes_test (nat_lt (length vs) 32) _ _ h
 
-  pub pushed_int : (st : State) (vs : List Value) (z : ℤ) → Wins (record st { place = st.place + 1; operands = IntValue z ∷ vs }) → After (Machine.push_int st vs z)
+  pub pushed_int : (st : State) (vs : List TaggedValue) (z : ℤ) → Wins (record st { place = st.place + 1; operands = IntValue z ∷ vs }) → After (Machine.push_int st vs z)
   pushed_int st vs z h = passes_test (fits64 z z) _ _ (pushed st vs (IntValue z) h)
 
-  pub popped_int : (v : Value) (vs : List Value) (go : ℤ → List Value → Outcome) → After (go (untagged v) vs) → After (Machine.pop_int (v ∷ vs) go)
+  pub popped_int : (v : TaggedValue) (vs : List TaggedValue) (go : ℤ → List TaggedValue → Outcome) → After (go (untagged v) vs) → After (Machine.pop_int (v ∷ vs) go)
   popped_int (IntValue z) vs go h = h
   popped_int (BoolValue b) vs go h = tt
   popped_int (EnumValue s i) vs go h = tt
 
-  pub popped_bool : (v : Value) (vs : List Value) (go : Bool → List Value → Outcome) → ((b : Bool) → of_bool b ≡ untagged v → After (go b vs)) → After (Machine.pop_bool (v ∷ vs) go)
+  pub popped_bool : (v : TaggedValue) (vs : List TaggedValue) (go : Bool → List TaggedValue → Outcome) → ((b : Bool) → of_bool b ≡ untagged v → After (go b vs)) → After (Machine.pop_bool (v ∷ vs) go)
   popped_bool (BoolValue b) vs go h = h b refl
   popped_bool (IntValue z) vs go h = tt
   popped_bool (EnumValue s i) vs go h = tt

@@ -69,8 +69,8 @@ number_in spec i =
 
 -- where an instance counts as true exactly if its number does, the tree has the truth of the
 -- formula, the first slots holding these values
-abbrev pub HasTruth : Spec → Formula → Tuple → Tree → Type 0
-HasTruth spec f tuple tree =
+abbrev pub TreeHasTruth : Spec → Formula → Tuple → Tree → Type 0
+TreeHasTruth spec f tuple tree =
     (numbers : Environment ℕ) (t : Environment Instance)
     → Matches (is_instance spec) (number_in spec) numbers t
     → tree_truth numbers tree ≡ truth spec (slots_of tuple) t f
@@ -87,4 +87,4 @@ pub record Decides (spec : Spec) (p : Program) (f : Formula) (tuple : Tuple) : T
   pub tree : Tree
   pub steps : ℕ
   pub ends : run p steps (start (arguments p.parameters tuple)) ≡ Ends (tree_tokens tree)
-  pub has_truth : HasTruth spec f tuple tree
+  pub has_truth : TreeHasTruth spec f tuple tree

@@ -1,7 +1,7 @@
 -- The compile scheme: from right sides in positive normal form to the code of equations.
 use Rattle.std.specs.Prelude.{ℕ, Bool, true, false, ◌||◌, List, [], ◌∷◌, Option, Some, None, is_some, ℤ, pos, if◌then◌else◌}
 use Rattle.std.specs.List.{slice_get}
-use Rattle.pb_intervals.specs.Interval.{is_within}
+use Rattle.pb_intervals.specs.Interval.{is_included}
 use Rattle.pb_sorts.specs.declared.carrier.Carrier.{Carrier}
 use Rattle.pb_sorts.specs.declared.carrier.Carrier.TheVariants as carrier
 use Rattle.pb_text_tree.specs.declared.operator.Quantifier.{Quantifier}
@@ -76,9 +76,9 @@ connective_of And = connective.And
 connective_of Or = connective.Or
 
 -- the leaf that decides a bracket of this kind
-abbrev pub deciding : Junction → Leaf
-deciding And = leaf.No
-deciding Or = leaf.Yes
+abbrev pub deciding_leaf : Junction → Leaf
+deciding_leaf And = leaf.No
+deciding_leaf Or = leaf.Yes
 
 -- the truth value that decides nothing in it
 abbrev pub neutral : Junction → Bool
@@ -102,10 +102,10 @@ under Or And x = bracketed Or x
 
 -- ---- tests
 
--- a test alone: the deciding leaf, unless the test is what doesn't decide
+-- a test alone: the deciding_leaf leaf, unless the test is what doesn't decide
 abbrev pub test_piece : (around : Junction) → Term → Piece
 test_piece around t =
-    Then (data_piece t) (Unless (neutral around) (Plain (op.Emit (deciding around))))
+    Then (data_piece t) (Unless (neutral around) (Plain (op.Emit (deciding_leaf around))))
 
 -- a test joined by m with an operand, whose code stands under the bracket that is open
 abbrev pub tested_piece : (m around : Junction) → Term → Piece → Piece
@@ -132,7 +132,7 @@ join_piece m around None None f_around g_around f_own g_own = under m around (Th
 -- argument lies within
 abbrev pub tested_range : Carrier → Shape → Option (ℤ × ℤ)
 tested_range (carrier.Range r) (Wholes l h) =
-    if is_within (interval l h) (interval r.low r.high) then None else Some (r.low, r.high)
+    if is_included (interval l h) (interval r.low r.high) then None else Some (r.low, r.high)
 tested_range _ _ = None
 
 abbrev pub any_tested : List Carrier → List Argument → Bool

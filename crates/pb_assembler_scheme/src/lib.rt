@@ -19,7 +19,7 @@ ghost use Rattle.pb_typing.specs.Typed.{is_faultless};
 ghost use Rattle.pb_bytecode_program.specs.Machine.{Program};
 ghost use Rattle.pb_bytecode_program.specs.Safety.{AreArguments, EndsWith};
 ghost use Rattle.pb_normal.specs.Normal.{Formula};
-ghost use Rattle.pb_assembler_scheme.specs.Correct.{Declares, Decides, HasFullCalls, HasTruth};
+ghost use Rattle.pb_assembler_scheme.specs.Correct.{Declares, Decides, HasFullCalls, TreeHasTruth};
 ghost use Rattle.pb_assembler_scheme.specs.Correct.{IsCompiled, IsFaultless};
 ghost use Rattle.pb_assembler_scheme.specs.Equations.{DecidesEquation, IsProgramOf};
 ghost use Rattle.pb_assembler_scheme.specs.Examples.{CountdownIsCompiled, OthersAreCompiled};
@@ -36,7 +36,7 @@ pub fn compiled_code_decides()
     ensures ended { (spec : Spec) (p : Program) (f : Formula) (tuple : Tuple) (tree : Tree)
         → IsCompiled p f → HasFullCalls p.callees f
         → Declares spec p.callees → AreArguments p.parameters tuple → EndsWith p tuple tree
-        → HasTruth spec f tuple tree }
+        → TreeHasTruth spec f tuple tree }
 {
     pb_trees::tokens_determine_tree();
 }

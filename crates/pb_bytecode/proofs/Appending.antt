@@ -8,7 +8,7 @@ use Rattle.pb_bytecode.specs.declared.version.Version.{Version}
 use Rattle.pb_bytecode.specs.declared.equation.Equation.{Equation}
 use Rattle.pb_bytecode.specs.Contents.{Contents, counts}
 use Rattle.pb_bytecode.specs.Countable.{HasCountableParts}
-use Rattle.pb_bytecode.specs.Names.{is_name}
+use Rattle.pb_bytecode.specs.Names.{is_module_name}
 use Rattle.pb_bytecode.specs.Limits.{is_between, is_u32, fits_carrier, fits_equation, fits_sort, fits}
 use Rattle.pb_bytecode.specs.Views.{equation_contents}
 
@@ -20,7 +20,7 @@ append_both x y z a b p q = q ∙ ap (λ (w : List ℕ). w ++ b) p ∙ append_as
 pub is_countable : (v : Version) (sizes : List ℕ) (e : Equation) → fits_equation v sizes (equation_contents e) ≡ true → HasCountableParts e
 is_countable v sizes e h =
     let d = equation_contents e in
-    let a = and_parts (is_name d.name) _ h in
+    let a = and_parts (is_module_name d.name) _ h in
     let b = and_parts (is_between 0 (MAX_PARAMETERS + 1) (length d.parameters) && list_all (fits_carrier sizes) d.parameters) _ a.1 in
     let c = and_parts (is_between 0 (MAX_LOOP_SLOTS + 1) (length d.loops) && list_all (fits_carrier sizes) d.loops) _ b.1 in
     let s = and_parts (is_u32 d.steps) _ c.1 in

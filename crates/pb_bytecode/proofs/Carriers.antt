@@ -12,7 +12,7 @@ use Rattle.pb_sorts.specs.declared.carrier.Carrier.TheVariants as carrier
 use Rattle.pb_sorts.specs.declared.carrier.Range.{Range}
 use Rattle.pb_sorts.specs.declared.carrier.Enumeration.{Enumeration}
 use Rattle.pb_bytecode_program.proofs.Ints.{from_le}
-use Rattle.pb_bytecode.specs.Limits.{count_of}
+use Rattle.pb_bytecode.specs.Limits.{enumerator_count}
 use Rattle.pb_bytecode.specs.Reading.{byte_at, signed_at, range_from, enum_from, range_at, enum_at}
 
 le_is_prop : (a b : ℤ) (p q : a ≤ℤ b) → p ≡ q
@@ -29,23 +29,23 @@ pub enum_again : (e : Enumeration) (b : Bool) (h : nat_lt 0 e.count ≡ b) → e
 enum_again e true h = ap (λ (p : 0 < e.count). Some (carrier.Enum (record { sort = e.sort; count = e.count; not_empty = p }))) (lt_is_prop 0 e.count _ e.not_empty)
 enum_again e false h = absurd (let t = lt-ltb 0 e.count e.not_empty in cc)
 
-pub range_read : (c : Carrier) (low high : ℤ) (bytes second rest : List ℕ) → IsRange c low high → signed_at w32 bytes ≡ Ok (low, second) → signed_at w32 second ≡ Ok (high, rest) → range_at bytes ≡ Ok (c, rest)
+pub ranges : (c : Carrier) (low high : ℤ) (bytes second rest : List ℕ) → IsRange c low high → signed_at w32 bytes ≡ Ok (low, second) → signed_at w32 second ≡ Ok (high, rest) → range_at bytes ≡ Ok (c, rest)
 unfolding range_at
-range_read carrier.Bool low high bytes second rest r p q = absurd r
-range_read (carrier.Enum e) low high bytes second rest r p q = absurd r
-range_read (carrier.Range x) low high bytes second rest r p q =
+ranges carrier.Bool low high bytes second rest r p q = absurd r
+ranges (carrier.Enum e) low high bytes second rest r p q = absurd r
+ranges (carrier.Range x) low high bytes second rest r p q =
     let p' : signed_at w32 bytes ≡ Ok (x.low, second) = rw (r.0) p in
     let q' : signed_at w32 second ≡ Ok (x.high, rest) = rw (r.1) q in
     rw (p', q', range_again x (int_le x.low x.high) refl) refl
 
-pub enum_read : (e : Enumeration) (sizes bytes rest : List ℕ) → byte_at bytes ≡ Ok (e.sort, rest) → count_of sizes e.sort ≡ e.count → enum_at sizes bytes ≡ Ok (carrier.Enum e, rest)
+pub enum_read : (e : Enumeration) (sizes bytes rest : List ℕ) → byte_at bytes ≡ Ok (e.sort, rest) → enumerator_count sizes e.sort ≡ e.count → enum_at sizes bytes ≡ Ok (carrier.Enum e, rest)
 unfolding enum_at
 enum_read e sizes bytes rest p q = rw (p, q, enum_again e (nat_lt 0 e.count) refl) refl
 
 -- no such sort
-pub enum_none : (sizes bytes : List ℕ) (s : ℕ) (rest : List ℕ) → byte_at bytes ≡ Ok (s, rest) → count_of sizes s ≡ 0 → enum_at sizes bytes ≡ Err (record { rule = rule.Limit; left = length bytes })
+pub enum_none : (sizes bytes : List ℕ) (s : ℕ) (rest : List ℕ) → byte_at bytes ≡ Ok (s, rest) → enumerator_count sizes s ≡ 0 → enum_at sizes bytes ≡ Err (record { rule = rule.Limit; left = length bytes })
 unfolding enum_at
 enum_none sizes bytes s rest p q = rw (p, q) refl
 
-pub count_is : (sizes : List ℕ) (s : ℕ) → count_of sizes s ≡ get_or sizes s 0
+pub count_is : (sizes : List ℕ) (s : ℕ) → enumerator_count sizes s ≡ get_or sizes s 0
 count_is sizes s = unwrap_or-slice_get sizes s 0

@@ -9,7 +9,7 @@ use Rattle.pb_sorts.specs.declared.carrier.Carrier.{Carrier}
 use Rattle.pb_bytecode.specs.declared.fault.FieldFault.{FieldFault}
 use Rattle.pb_bytecode.specs.declared.fault.ModuleRule.TheVariants as rule
 use Rattle.pb_bytecode.specs.Contents.{SortContents}
-use Rattle.pb_bytecode.specs.Names.{is_name}
+use Rattle.pb_bytecode.specs.Names.{is_module_name}
 use Rattle.pb_bytecode.specs.Limits.{is_byte, is_u32, is_i64, is_between, fits_sort, fits_carrier}
 use Rattle.pb_bytecode.specs.Spelling
 use Rattle.pb_bytecode.specs.Reading.{◌>>=◌, truncated, checked, kept, byte_at, number_at, signed_at, counted_at, name_at, sort_at, carrier_at}
@@ -30,7 +30,7 @@ use Rattle.pb_sorts.specs.Carrier.{values_of}
 use Rattle.pb_fixpoint.specs.declared.Sign.{Sign}
 use Rattle.pb_fixpoint.specs.declared.Sign.TheVariants.{Mu, Nu}
 use Rattle.pb_bytecode.specs.Contents.{Text, EquationContents, Contents, counts}
-use Rattle.pb_bytecode.specs.Limits.{fits_equation, instance_count, parameters_of, is_tuple, fits_initial, fits_values, fits}
+use Rattle.pb_bytecode.specs.Limits.{fits_equation, instance_count, parameters_if_any, is_tuple, fits_initial, fits_values, fits}
 use Rattle.pb_bytecode.specs.Reading.{sign_of, sign_at, equation_at, equations_at, expect, mark_at, version_of, version_at, value_at, values_at, parameters_at, initial_at, contents_at, all_of}
 
 -- ---- signs and versions
@@ -101,7 +101,7 @@ unfolding equation_at
 equation_reads v sizes =
     same_test (equation_at v sizes) Spelling.equation_bytes (λ e. true && fits_equation v sizes e) (λ e. fits_equation v sizes e) (λ e h. h) (λ e h. h)
     (close _ _ _ (then (λ c. sign_at) (λ c. Spelling.sign_bytes) (λ c s. true) _ (λ e. tt) (λ e. e.sign) _ _ (λ c. sign_reads)
-    (then (λ (c : Unit {0} × Sign). name_at) (λ c. Spelling.name_bytes) (λ c. is_name) _ (λ e. (tt, e.sign)) (λ e. e.name) _ _ (λ c. name_reads)
+    (then (λ (c : Unit {0} × Sign). name_at) (λ c. Spelling.name_bytes) (λ c. is_module_name) _ (λ e. (tt, e.sign)) (λ e. e.name) _ _ (λ c. name_reads)
     (then (λ (c : (Unit {0} × Sign) × Text). counted_at 0 (MAX_PARAMETERS + 1) (carrier_at sizes)) (λ c. Spelling.counted Spelling.carrier_bytes) (λ c. carrier_list_fits (MAX_PARAMETERS + 1) sizes) _ (λ e. ((tt, e.sign), e.name)) (λ e. e.parameters) _ _ (λ c. counted_reads 0 (MAX_PARAMETERS + 1) (carrier_at sizes) Spelling.carrier_bytes (fits_carrier sizes) (omega arith) (carrier_reads sizes))
     (then (λ (c : ((Unit {0} × Sign) × Text) × List Carrier). counted_at 0 (MAX_LOOP_SLOTS + 1) (carrier_at sizes)) (λ c. Spelling.counted Spelling.carrier_bytes) (λ c. carrier_list_fits (MAX_LOOP_SLOTS + 1) sizes) _ (λ e. (((tt, e.sign), e.name), e.parameters)) (λ e. e.loops) _ _ (λ c. counted_reads 0 (MAX_LOOP_SLOTS + 1) (carrier_at sizes) Spelling.carrier_bytes (fits_carrier sizes) (omega arith) (carrier_reads sizes))
     (then (λ (c : (((Unit {0} × Sign) × Text) × List Carrier) × List Carrier). number_at w32) (λ c. Spelling.u32) (λ c. is_u32) _ (λ e. ((((tt, e.sign), e.name), e.parameters), e.loops)) (λ e. e.steps) _ _ (λ c. u32_reads)
@@ -216,12 +216,12 @@ values_within (c ∷ cs) bytes e fits h =
 values_reads : (cs : List Carrier) → Reads (values_at cs) (flat_map Spelling.i64) (fits_values cs)
 values_reads cs = record { takes = values_take cs; again = values_again cs; within = values_within cs }
 
-tuple_to : (es : List EquationContents) (e : ℕ) (zs : List ℤ) → nat_lt e (length es) ≡ true → fits_values (parameters_at es e) zs ≡ true → is_tuple (parameters_of (slice_get es e)) zs ≡ true
+tuple_to : (es : List EquationContents) (e : ℕ) (zs : List ℤ) → nat_lt e (length es) ≡ true → fits_values (parameters_at es e) zs ≡ true → is_tuple (parameters_if_any (slice_get es e)) zs ≡ true
 tuple_to [] e zs lt h = absurd (let l = ltb-true e 0 lt in omega arith)
 tuple_to (x ∷ es) zero zs lt h = h
 tuple_to (x ∷ es) (suc e) zs lt h = tuple_to es e zs (lt-ltb e (length es) (let l = ltb-true (suc e) (length (x ∷ es)) lt in omega arith)) h
 
-tuple_from : (es : List EquationContents) (e : ℕ) (zs : List ℤ) → is_tuple (parameters_of (slice_get es e)) zs ≡ true → (nat_lt e (length es) ≡ true) × (fits_values (parameters_at es e) zs ≡ true)
+tuple_from : (es : List EquationContents) (e : ℕ) (zs : List ℤ) → is_tuple (parameters_if_any (slice_get es e)) zs ≡ true → (nat_lt e (length es) ≡ true) × (fits_values (parameters_at es e) zs ≡ true)
 tuple_from [] e zs h = absurd (let f : false ≡ true = h in cc)
 tuple_from (x ∷ es) zero zs h = (lt-ltb 0 (length (x ∷ es)) (omega arith), h)
 tuple_from (x ∷ es) (suc e) zs h = let w = tuple_from es e zs h in (lt-ltb (suc e) (length (x ∷ es)) (let l = ltb-true e (length es) w.0 in omega arith), w.1)
@@ -235,7 +235,7 @@ initial_reads es =
     let b = and_parts (is_byte i.equation) (nat_lt i.equation (length es)) a.0 in
     and_from _ _ b.0 (tuple_to es i.equation i.values b.1 a.1))
     (λ i h.
-    let a = and_parts (is_byte i.equation) (is_tuple (parameters_of (slice_get es i.equation)) i.values) h in
+    let a = and_parts (is_byte i.equation) (is_tuple (parameters_if_any (slice_get es i.equation)) i.values) h in
     let w = tuple_from es i.equation i.values a.1 in
     and_from _ _ (and_from _ _ a.0 w.0) w.1)
     (close _ _ _ (then (λ c. checked byte_at (kept (λ e. nat_lt e (length es))) rule.Initial) (λ c. Spelling.byte) (λ c e. is_byte e && nat_lt e (length es)) _ (λ i. tt) (λ i. i.equation) _ _ (λ c. keep byte_at Spelling.byte is_byte (λ e. nat_lt e (length es)) rule.Initial byte_reads)

@@ -14,12 +14,12 @@ use Rattle.pb_sorts.specs.declared.carrier.Carrier.TheVariants as carrier
 use Rattle.pb_bytecode_program.proofs.Ints.{from_le}
 use Rattle.pb_bytecode.specs.declared.fault.FieldFault.{FieldFault}
 use Rattle.pb_bytecode.specs.declared.fault.ModuleRule.TheVariants as rule
-use Rattle.pb_bytecode.specs.Names.{is_name}
-use Rattle.pb_bytecode.specs.Limits.{is_byte, is_i32, is_between, are_bounds, fits_sort, count_of, fits_carrier}
+use Rattle.pb_bytecode.specs.Names.{is_module_name}
+use Rattle.pb_bytecode.specs.Limits.{is_byte, is_i32, is_between, are_bounds, fits_sort, enumerator_count, fits_carrier}
 use Rattle.pb_bytecode.specs.Spelling
 use Rattle.pb_bytecode.specs.Reading.{◌>>=◌, Field, truncated, known, checked, kept, byte_at, signed_at, between_at, bounds_at, counted_at, items_at, name_at, sort_at, enum_from, range_from, enum_at, range_at, tagged_at, carrier_at}
 use Rattle.pb_bytecode.proofs.Readers.{IsBytes, bind_ok, bind_err, ok_is, Took, shorter, Reads, ReadsIn, then, last, close, same_test, keep, known_ok, known_err, items}
-use Rattle.pb_bytecode.proofs.Carriers.{range_read, enum_read}
+use Rattle.pb_bytecode.proofs.Carriers.{ranges, enum_read}
 use Rattle.pb_bytecode.proofs.FieldLaws.{byte_reads, IsBytes-drop, truncated_within, i32_reads}
 
 -- ---- bytes within limits
@@ -56,25 +56,25 @@ counted_reads low end item spell test small reads =
 
 -- the bytes of a name, its length being read
 abbrev text_at : List ℕ → ℕ → List ℕ → Field (List ℕ)
-text_at field n bytes = cond (ltb (length bytes) n) (Err truncated) (known (kept is_name (take n bytes)) rule.Limit field (drop n bytes))
+text_at field n bytes = cond (ltb (length bytes) n) (Err truncated) (known (kept is_module_name (take n bytes)) rule.Limit field (drop n bytes))
 
-text_ok : (field bytes : List ℕ) (n : ℕ) (x : List ℕ × List ℕ) → text_at field n bytes ≡ Ok x → (n ≤ length bytes) × (x ≡ (take n bytes, drop n bytes)) × (is_name (take n bytes) ≡ true)
-text_ok field bytes n x e = by (ltb (length bytes) n) (is_name (take n bytes)) refl refl e
+text_ok : (field bytes : List ℕ) (n : ℕ) (x : List ℕ × List ℕ) → text_at field n bytes ≡ Ok x → (n ≤ length bytes) × (x ≡ (take n bytes, drop n bytes)) × (is_module_name (take n bytes) ≡ true)
+text_ok field bytes n x e = by (ltb (length bytes) n) (is_module_name (take n bytes)) refl refl e
   where
-    by : (a b : Bool) → ltb (length bytes) n ≡ a → is_name (take n bytes) ≡ b → cond a (Err truncated) (known (cond b (Some (take n bytes)) None) rule.Limit field (drop n bytes)) ≡ Ok x → (n ≤ length bytes) × (x ≡ (take n bytes, drop n bytes)) × (is_name (take n bytes) ≡ true)
+    by : (a b : Bool) → ltb (length bytes) n ≡ a → is_module_name (take n bytes) ≡ b → cond a (Err truncated) (known (cond b (Some (take n bytes)) None) rule.Limit field (drop n bytes)) ≡ Ok x → (n ≤ length bytes) × (x ≡ (take n bytes, drop n bytes)) × (is_module_name (take n bytes) ≡ true)
     by true b p q h = absurd cc
     by false false p q h = absurd cc
     by false true p q h = (ltb-false _ _ p, sym (ok_is (take n bytes, drop n bytes) x h), q)
 
 text_err : (field bytes : List ℕ) (n : ℕ) (e : FieldFault) → text_at field n bytes ≡ Err e → length bytes ≤ length field → e.left ≤ length field
-text_err field bytes n e h le = by (ltb (length bytes) n) (is_name (take n bytes)) h
+text_err field bytes n e h le = by (ltb (length bytes) n) (is_module_name (take n bytes)) h
   where
     by : (a b : Bool) → cond a (Err truncated) (known (cond b (Some (take n bytes)) None) rule.Limit field (drop n bytes)) ≡ Err e → e.left ≤ length field
     by true b h = truncated_within e field (cc)
     by false true h = absurd cc
     by false false h = let same : record { rule = rule.Limit; left = length field } ≡ e = cc in let z = ap (λ (f : FieldFault). f.left) same in omega arith
 
-pub name_reads : Reads name_at Spelling.name_bytes is_name
+pub name_reads : Reads name_at Spelling.name_bytes is_module_name
 unfolding name_at
 name_reads = record {
   takes = λ bytes x fits e.
@@ -84,7 +84,7 @@ name_reads = record {
       let len : length (take a.0.0 a.0.1) ≡ a.0.0 = let h = g.0 in omega (arith, length-take a.0.0 a.0.1) in
       let whole : bytes ≡ Spelling.name_bytes (take a.0.0 a.0.1) ++ drop a.0.0 a.0.1 =
       t.parts ∙ ap (λ (r : List ℕ). a.0.0 ∷ r) (sym (take-append-drop a.0.0 a.0.1)) ∙ ap (λ (n : ℕ). n ∷ (take a.0.0 a.0.1 ++ drop a.0.0 a.0.1)) (sym len) in
-      subst (λ (y : List ℕ × List ℕ). Took (Spelling.name_bytes y.0) (is_name y.0) bytes y.1) (sym g.1)
+      subst (λ (y : List ℕ × List ℕ). Took (Spelling.name_bytes y.0) (is_module_name y.0) bytes y.1) (sym g.1)
       (record { parts = whole; left = IsBytes-drop a.0.0 a.0.1 t.left; fits = g.2 });
   again = λ text rest h.
       let long : ltb (length (text ++ rest)) (length text) ≡ false = le-ltb _ _ (omega (arith, length-append text rest)) in
@@ -97,7 +97,7 @@ name_reads = record {
 
 pub sort_reads : Reads sort_at Spelling.sort_bytes fits_sort
 unfolding sort_at
-sort_reads = counted_reads 1 (MAX_ENUMERATORS + 1) name_at Spelling.name_bytes is_name (omega arith) name_reads
+sort_reads = counted_reads 1 (MAX_ENUMERATORS + 1) name_at Spelling.name_bytes is_module_name (omega arith) name_reads
 
 -- ---- bounds and carriers
 
@@ -125,11 +125,11 @@ range_parts low high false h c e = absurd cc
 enum_reads : (sizes : List ℕ) (bytes : List ℕ) (x : Carrier × List ℕ) → IsBytes bytes → enum_at sizes bytes ≡ Ok x → (e : Enumeration) × (x.0 ≡ carrier.Enum e) × Took (Spelling.byte e.sort) (fits_carrier sizes (carrier.Enum e)) bytes x.1
 unfolding enum_at
 enum_reads sizes bytes x fits h =
-    let a = bind_ok (byte_at bytes) (λ s. known (enum_from s.0 (count_of sizes s.0) (nat_lt 0 (count_of sizes s.0)) refl) rule.Limit bytes s.1) x h in
+    let a = bind_ok (byte_at bytes) (λ s. known (enum_from s.0 (enumerator_count sizes s.0) (nat_lt 0 (enumerator_count sizes s.0)) refl) rule.Limit bytes s.1) x h in
     let k = known_ok _ rule.Limit bytes a.0.1 x a.2 in
-    let p = enum_parts a.0.0 (count_of sizes a.0.0) _ refl x.0 k.0 in
+    let p = enum_parts a.0.0 (enumerator_count sizes a.0.0) _ refl x.0 k.0 in
     let t = byte_reads.takes bytes a.0 fits a.1 in
-    (p.0, p.1, record { parts = t.parts ∙ ap (λ (s : ℕ). s ∷ a.0.1) (sym p.2) ∙ ap (λ (r : List ℕ). p.0.sort ∷ r) (sym k.1); left = subst IsBytes (sym k.1) t.left; fits = and_from _ _ (ap is_byte p.2 ∙ t.fits) (eq-eqb _ _ (p.3 ∙ ap (count_of sizes) (sym p.2))) })
+    (p.0, p.1, record { parts = t.parts ∙ ap (λ (s : ℕ). s ∷ a.0.1) (sym p.2) ∙ ap (λ (r : List ℕ). p.0.sort ∷ r) (sym k.1); left = subst IsBytes (sym k.1) t.left; fits = and_from _ _ (ap is_byte p.2 ∙ t.fits) (eq-eqb _ _ (p.3 ∙ ap (enumerator_count sizes) (sym p.2))) })
 
 range_reads : (bytes : List ℕ) (x : Carrier × List ℕ) → IsBytes bytes → range_at bytes ≡ Ok x → (r : Range) × (x.0 ≡ carrier.Range r) × Took (Spelling.bounds r.low r.high) (are_bounds r.low r.high) bytes x.1
 unfolding range_at
@@ -169,13 +169,13 @@ carrier_takes sizes (suc (suc zero)) bytes x lt fits h =
 carrier_takes sizes (suc (suc (suc n))) bytes x lt fits h = absurd (omega arith)
 
 enum_at_again : (sizes : List ℕ) (e : Enumeration) (rest : List ℕ) → fits_carrier sizes (carrier.Enum e) ≡ true → enum_at sizes (e.sort ∷ rest) ≡ Ok (carrier.Enum e, rest)
-enum_at_again sizes e rest h = let two = and_parts (is_byte e.sort) (e.count == count_of sizes e.sort) h in enum_read e sizes (e.sort ∷ rest) rest refl (sym (eqb-true _ _ two.1))
+enum_at_again sizes e rest h = let two = and_parts (is_byte e.sort) (e.count == enumerator_count sizes e.sort) h in enum_read e sizes (e.sort ∷ rest) rest refl (sym (eqb-true _ _ two.1))
 
 range_at_again : (r : Range) (rest : List ℕ) → are_bounds r.low r.high ≡ true → range_at (Spelling.bounds r.low r.high ++ rest) ≡ Ok (carrier.Range r, rest)
 range_at_again r rest h =
     let p = and_parts (is_i32 r.low && is_i32 r.high) (int_le r.low r.high) h in
     let q = and_parts (is_i32 r.low) (is_i32 r.high) p.0 in
-    range_read (carrier.Range r) r.low r.high (Spelling.bounds r.low r.high ++ rest) (Spelling.i32 r.high ++ rest) rest (refl, refl)
+    ranges (carrier.Range r) r.low r.high (Spelling.bounds r.low r.high ++ rest) (Spelling.i32 r.high ++ rest) rest (refl, refl)
     (ap (signed_at w32) (append_assoc (Spelling.i32 r.low) (Spelling.i32 r.high) rest) ∙ i32_reads.again r.low (Spelling.i32 r.high ++ rest) q.0) (i32_reads.again r.high rest q.1)
 
 carrier_again : (sizes : List ℕ) (c : Carrier) (rest : List ℕ) → fits_carrier sizes c ≡ true → carrier_at sizes (Spelling.carrier_bytes c ++ rest) ≡ Ok (c, rest)

@@ -6,7 +6,7 @@ use Rattle.std.specs.List.{flat_map, list_all}
 use Rattle.std.proofs.lemmas.Bool.{and_parts, and_from, ltb-true, le-leb, eqb-true}
 use Rattle.pb_bytecode.specs.declared.fault.FieldFault.{FieldFault}
 use Rattle.pb_bytecode.specs.declared.fault.ModuleRule.TheVariants as rule
-use Rattle.pb_bytecode.specs.Limits.{is_byte, is_u16, is_i64, is_between, are_bounds, count_of}
+use Rattle.pb_bytecode.specs.Limits.{is_byte, is_u16, is_i64, is_between, are_bounds, enumerator_count}
 use Rattle.pb_bytecode.specs.Spelling
 use Rattle.pb_bytecode.specs.Reading.{◌>>=◌, Field, known, checked, kept, byte_at, number_at, signed_at, between_at, bounds_at}
 use Rattle.pb_bytecode.proofs.Readers.{IsBytes, bind_ok, bind_err, ok_is, Took, shorter, Reads, then, last, close, same_test, keep, known_ok, known_err}
@@ -178,11 +178,11 @@ format_found version.Two format.SlotInRange h = refl
 
 -- ---- operands
 
-enumerator_reads : (sizes : List ℕ) → Reads (enumerator_at sizes) (λ e. Spelling.byte e.0 ++ Spelling.byte e.1) (λ e. (is_byte e.0 && is_between 0 (length sizes) e.0) && (is_byte e.1 && is_between 0 (count_of sizes e.0) e.1))
+enumerator_reads : (sizes : List ℕ) → Reads (enumerator_at sizes) (λ e. Spelling.byte e.0 ++ Spelling.byte e.1) (λ e. (is_byte e.0 && is_between 0 (length sizes) e.0) && (is_byte e.1 && is_between 0 (enumerator_count sizes e.0) e.1))
 unfolding enumerator_at
 enumerator_reads sizes =
     close _ _ _ (then (λ c. between_at 0 (length sizes)) (λ c. Spelling.byte) (λ c s. is_byte s && is_between 0 (length sizes) s) _ (λ e. tt) (λ e. e.0) _ _ (λ c. between_reads 0 (length sizes))
-    (last (λ (c : Unit {0} × ℕ). between_at 0 (count_of sizes c.1)) (λ c. Spelling.byte) (λ c i. is_byte i && is_between 0 (count_of sizes c.1) i) (λ c. (c.0.1, c.1)) (λ e. (tt, e.0)) (λ e. e.1) (λ e. refl) (λ c. refl) (λ c. between_reads 0 (count_of sizes c.1))))
+    (last (λ (c : Unit {0} × ℕ). between_at 0 (enumerator_count sizes c.1)) (λ c. Spelling.byte) (λ c i. is_byte i && is_between 0 (enumerator_count sizes c.1) i) (λ c. (c.0.1, c.1)) (λ e. (tt, e.0)) (λ e. e.1) (λ e. refl) (λ c. refl) (λ c. between_reads 0 (enumerator_count sizes c.1))))
 
 u16_reads : Reads (number_at w16) Spelling.u16 is_u16
 u16_reads = number_reads w16 (2 ^ 16) wide16
@@ -217,23 +217,23 @@ made_takes {A} v sizes f mk read spell test reads for_mk spelled bytes x fits h 
 made_within : {A : Type 0} (mk : A → Op) (read : List ℕ → Field A) (spell : A → List ℕ) (test : A → Bool) → Reads read spell test → (bytes : List ℕ) (e : FieldFault) → IsBytes bytes → made mk (read bytes) ≡ Err e → e.left ≤ length bytes
 made_within mk read spell test reads bytes e fits h = bind_err (read bytes) (λ y. Ok (mk y.0, y.1)) e _ h (λ f. reads.within bytes e fits f) (λ x ok f. absurd cc)
 
-truth_spelled : (b : ℕ) → (is_byte b && is_between 0 2 b) ≡ true → Spelling.byte b ≡ Spelling.truth (b == 1)
+truth_spelled : (b : ℕ) → (is_byte b && is_between 0 2 b) ≡ true → Spelling.byte b ≡ Spelling.truth_byte (b == 1)
 truth_spelled zero h = refl
 truth_spelled (suc zero) h = refl
 truth_spelled (suc (suc b)) h = let lt = ltb-true (suc (suc b)) 2 (and_parts (nat_le 0 (suc (suc b))) (nat_lt (suc (suc b)) 2) (and_parts (is_byte (suc (suc b))) (is_between 0 2 (suc (suc b))) h).1).1 in absurd (omega arith)
 
-enumerator_fits : (sizes : List ℕ) (s i : ℕ) → ((is_byte s && is_between 0 (length sizes) s) && (is_byte i && is_between 0 (count_of sizes s) i)) ≡ true → (is_sort sizes s && (is_byte i && nat_lt i (count_of sizes s))) ≡ true
+enumerator_fits : (sizes : List ℕ) (s i : ℕ) → ((is_byte s && is_between 0 (length sizes) s) && (is_byte i && is_between 0 (enumerator_count sizes s) i)) ≡ true → (is_sort sizes s && (is_byte i && nat_lt i (enumerator_count sizes s))) ≡ true
 enumerator_fits sizes s i h =
-    let a = and_parts (is_byte s && is_between 0 (length sizes) s) (is_byte i && is_between 0 (count_of sizes s) i) h in
+    let a = and_parts (is_byte s && is_between 0 (length sizes) s) (is_byte i && is_between 0 (enumerator_count sizes s) i) h in
     let b = and_parts (is_byte s) (is_between 0 (length sizes) s) a.0 in
-    let c = and_parts (is_byte i) (is_between 0 (count_of sizes s) i) a.1 in
-    and_from _ _ (and_from _ _ b.0 (and_parts (nat_le 0 s) (nat_lt s (length sizes)) b.1).1) (and_from _ _ c.0 (and_parts (nat_le 0 i) (nat_lt i (count_of sizes s)) c.1).1)
+    let c = and_parts (is_byte i) (is_between 0 (enumerator_count sizes s) i) a.1 in
+    and_from _ _ (and_from _ _ b.0 (and_parts (nat_le 0 s) (nat_lt s (length sizes)) b.1).1) (and_from _ _ c.0 (and_parts (nat_le 0 i) (nat_lt i (enumerator_count sizes s)) c.1).1)
 
-enumerator_back : (sizes : List ℕ) (s i : ℕ) → (is_sort sizes s && (is_byte i && nat_lt i (count_of sizes s))) ≡ true → ((is_byte s && is_between 0 (length sizes) s) && (is_byte i && is_between 0 (count_of sizes s) i)) ≡ true
+enumerator_back : (sizes : List ℕ) (s i : ℕ) → (is_sort sizes s && (is_byte i && nat_lt i (enumerator_count sizes s))) ≡ true → ((is_byte s && is_between 0 (length sizes) s) && (is_byte i && is_between 0 (enumerator_count sizes s) i)) ≡ true
 enumerator_back sizes s i h =
-    let a = and_parts (is_sort sizes s) (is_byte i && nat_lt i (count_of sizes s)) h in
+    let a = and_parts (is_sort sizes s) (is_byte i && nat_lt i (enumerator_count sizes s)) h in
     let b = and_parts (is_byte s) (nat_lt s (length sizes)) a.0 in
-    let c = and_parts (is_byte i) (nat_lt i (count_of sizes s)) a.1 in
+    let c = and_parts (is_byte i) (nat_lt i (enumerator_count sizes s)) a.1 in
     and_from _ _ (and_from _ _ b.0 (and_from (nat_le 0 s) _ (le-leb 0 s (omega arith)) b.1)) (and_from _ _ c.0 (and_from (nat_le 0 i) _ (le-leb 0 i (omega arith)) c.1))
 
 plain_is : (v : Version) (sizes : List ℕ) (i : Op) → is_plain i ≡ true → (format_for i ≡ format.Plain i) × (Spelling.op_operands i ≡ []) × (fits_op v sizes i ≡ true)

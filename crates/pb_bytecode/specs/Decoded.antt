@@ -13,7 +13,7 @@ abbrev pub module_contents : Module → Contents
 module_contents m = contents_of m.version m.sorts.items m.equations.items m.initial
 
 -- reading from the left meets this fault first, in the field that begins at its byte
-pub record IsFirstFault (bytes : List ℕ) (fault : ModuleFault) : Type 0 where
+pub record IsFirstFieldFault (bytes : List ℕ) (fault : ModuleFault) : Type 0 where
   pub left : ℕ
   pub first : all_of bytes ≡ Err (record { rule = fault.rule; left = left })
   pub place : fault.byte + left ≡ length bytes

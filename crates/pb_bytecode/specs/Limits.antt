@@ -13,7 +13,7 @@ use Rattle.pb_bytecode_program.specs.declared.instruction.Op.TheVariants as op
 use Rattle.pb_bytecode.specs.declared.version.Version.{Version}
 use Rattle.pb_bytecode.specs.declared.version.Version.TheVariants as version
 use Rattle.pb_bytecode.specs.Contents.{SortContents, EquationContents, InitialContents, Contents, counts}
-use Rattle.pb_bytecode.specs.Names.{is_name}
+use Rattle.pb_bytecode.specs.Names.{is_module_name}
 
 -- ---- numbers
 
@@ -44,11 +44,11 @@ are_bounds low high = (is_i32 low && is_i32 high) && int_le low high
 
 -- a sort has 1 to MAX_ENUMERATORS enumerators
 abbrev pub fits_sort : SortContents → Bool
-fits_sort names = is_between 1 (MAX_ENUMERATORS + 1) (length names) && list_all is_name names
+fits_sort names = is_between 1 (MAX_ENUMERATORS + 1) (length names) && list_all is_module_name names
 
 -- how many enumerators a sort has
-abbrev pub count_of : List ℕ → ℕ → ℕ
-count_of sizes s = unwrap_or (slice_get sizes s) 0
+abbrev pub enumerator_count : List ℕ → ℕ → ℕ
+enumerator_count sizes s = unwrap_or (slice_get sizes s) 0
 
 -- a place in the list of sorts
 abbrev pub is_sort : List ℕ → ℕ → Bool
@@ -56,7 +56,8 @@ is_sort sizes s = is_byte s && nat_lt s (length sizes)
 
 abbrev pub fits_carrier : List ℕ → Carrier → Bool
 fits_carrier sizes carrier.Bool = true
-fits_carrier sizes (carrier.Enum enum) = is_byte enum.sort && enum.count == count_of sizes enum.sort
+fits_carrier sizes (carrier.Enum enum) =
+    is_byte enum.sort && enum.count == enumerator_count sizes enum.sort
 fits_carrier sizes (carrier.Range range) = are_bounds range.low range.high
 
 -- ---- instructions
@@ -69,7 +70,8 @@ is_second version.Two = true
 -- matter.
 abbrev pub fits_op : Version → List ℕ → Op → Bool
 fits_op v sizes (op.PushInt k) = is_i64 k
-fits_op v sizes (op.PushEnum s i) = is_sort sizes s && (is_byte i && nat_lt i (count_of sizes s))
+fits_op v sizes (op.PushEnum s i) =
+    is_sort sizes s && (is_byte i && nat_lt i (enumerator_count sizes s))
 fits_op v sizes (op.Get slot) = is_byte slot
 fits_op v sizes (op.Jump to) = is_u16 to
 fits_op v sizes (op.JumpIf on to) = is_u16 to
@@ -86,7 +88,7 @@ fits_op v sizes _ = true
 -- instructions
 abbrev pub fits_equation : Version → List ℕ → EquationContents → Bool
 fits_equation v sizes e =
-    is_name e.name
+    is_module_name e.name
     && ((is_between 0 (MAX_PARAMETERS + 1) (length e.parameters)
     && list_all (fits_carrier sizes) e.parameters)
     && ((is_between 0 (MAX_LOOP_SLOTS + 1) (length e.loops)
@@ -103,9 +105,9 @@ instance_count (e ∷ es) = tuple_count (map values_of e.parameters) + instance_
 
 -- ---- modules
 
-abbrev pub parameters_of : Option EquationContents → Option (List Carrier)
-parameters_of None = None
-parameters_of (Some e) = Some e.parameters
+abbrev pub parameters_if_any : Option EquationContents → Option (List Carrier)
+parameters_if_any None = None
+parameters_if_any (Some e) = Some e.parameters
 
 -- numbers of 64 bits, one of each carrier
 abbrev pub fits_values : List Carrier → Tuple → Bool
@@ -118,7 +120,7 @@ is_tuple (Some parameters) values = fits_values parameters values
 -- the initial instance is of an equation that is there, with values of its parameters' carriers
 abbrev pub fits_initial : List EquationContents → InitialContents → Bool
 fits_initial equations i =
-    is_byte i.equation && is_tuple (parameters_of (slice_get equations i.equation)) i.values
+    is_byte i.equation && is_tuple (parameters_if_any (slice_get equations i.equation)) i.values
 
 -- at most MAX_STRUCTS sorts, 1 to MAX_EQUATIONS equations, and MAX_INSTANCES instances over all
 -- carriers

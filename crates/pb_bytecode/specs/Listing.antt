@@ -34,10 +34,10 @@ line word words = word ++ line_end words
 abbrev pub count_line : Text → ℕ → List ℕ
 count_line label n = line label (decimal n ∷ [])
 
--- what is written of each item, which are numbered from n on
-abbrev pub numbered : {A : Type 0} → (ℕ → A → List ℕ) → ℕ → List A → List ℕ
-numbered item n [] = []
-numbered item n (x ∷ xs) = item n x ++ numbered item (suc n) xs
+-- what is written of each item, which are numbered_lines from n on
+abbrev pub numbered_lines : {A : Type 0} → (ℕ → A → List ℕ) → ℕ → List A → List ℕ
+numbered_lines item n [] = []
+numbered_lines item n (x ∷ xs) = item n x ++ numbered_lines item (suc n) xs
 
 -- ---- sorts and slots
 
@@ -154,8 +154,8 @@ head_line n e = line (codes "equation") (decimal n ∷ sign_name e.sign ∷ e.na
 -- the parameters are the first slots, and loop slots follow them
 abbrev pub slot_lines : EquationContents → List ℕ
 slot_lines e =
-    numbered (slot_line (codes "param")) 0 e.parameters
-    ++ numbered (slot_line (codes "loop")) (length e.parameters) e.loops
+    numbered_lines (slot_line (codes "param")) 0 e.parameters
+    ++ numbered_lines (slot_line (codes "loop")) (length e.parameters) e.loops
 
 -- how many steps a run takes and how many tokens it writes at most, as the module states it
 abbrev pub stated_lines : EquationContents → List ℕ
@@ -163,7 +163,7 @@ stated_lines e = count_line (codes "steps") e.steps ++ count_line (codes "tokens
 
 abbrev pub equation_lines : ℕ → EquationContents → List ℕ
 equation_lines n e =
-    head_line n e ++ (slot_lines e ++ (stated_lines e ++ numbered op_line 0 e.code))
+    head_line n e ++ (slot_lines e ++ (stated_lines e ++ numbered_lines op_line 0 e.code))
 
 -- the equation of the initial instance, and its parameters' values
 abbrev pub initial_line : InitialContents → List ℕ
@@ -171,5 +171,5 @@ initial_line i = line (codes "init") (decimal i.equation ∷ map signed_decimal 
 
 abbrev pub listing : Contents → List ℕ
 listing m =
-    numbered sort_line 0 m.sorts
-    ++ (numbered equation_lines 0 m.equations ++ initial_line m.initial)
+    numbered_lines sort_line 0 m.sorts
+    ++ (numbered_lines equation_lines 0 m.equations ++ initial_line m.initial)

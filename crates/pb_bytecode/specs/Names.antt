@@ -9,6 +9,6 @@ begins_with_letter [] = false
 begins_with_letter (b ∷ bs) = is_letter b
 
 -- of 1 to MAX_NAME_BYTES bytes, the first of which is a letter or an underscore
-abbrev pub is_name : List ℕ → Bool
-is_name bs =
+abbrev pub is_module_name : List ℕ → Bool
+is_module_name bs =
     begins_with_letter bs && (nat_le (length bs) MAX_NAME_BYTES && list_all is_name_byte bs)

@@ -24,9 +24,9 @@ use Rattle.pb_bytecode.specs.declared.fault.ModuleRule.{ModuleRule}
 use Rattle.pb_bytecode.specs.declared.fault.ModuleRule.TheVariants as rule
 use Rattle.pb_bytecode.specs.declared.fault.FieldFault.{FieldFault}
 use Rattle.pb_bytecode.specs.Contents.{Text, SortContents, EquationContents, InitialContents, Contents, counts}
-use Rattle.pb_bytecode.specs.Names.{is_name}
+use Rattle.pb_bytecode.specs.Names.{is_module_name}
 use Rattle.pb_bytecode.specs.Formats.{format_of}
-use Rattle.pb_bytecode.specs.Limits.{is_between, count_of, parameters_of, instance_count}
+use Rattle.pb_bytecode.specs.Limits.{is_between, enumerator_count, parameters_if_any, instance_count}
 use Rattle.pb_bytecode.specs.Spelling.{mark}
 
 infixl 10 ◌>>=◌
@@ -115,7 +115,7 @@ unfoldable pub name_at : List ℕ → Field Text
 name_at bytes = do
   n ← byte_at bytes
   if nat_lt (length n.1) n.0 then Err truncated
-      else known (kept is_name (take n.0 n.1)) rule.Limit bytes (drop n.0 n.1)
+      else known (kept is_module_name (take n.0 n.1)) rule.Limit bytes (drop n.0 n.1)
 
 unfoldable pub sort_at : List ℕ → Field SortContents
 sort_at bytes = counted_at 1 (MAX_ENUMERATORS + 1) name_at bytes
@@ -134,7 +134,8 @@ enum_from s n false h = None
 
 unfoldable pub enum_at : List ℕ → List ℕ → Field Carrier
 enum_at sizes bytes =
-    checked byte_at (λ s. enum_from s (count_of sizes s) (nat_lt 0 (count_of sizes s)) refl)
+    checked byte_at
+    (λ s. enum_from s (enumerator_count sizes s) (nat_lt 0 (enumerator_count sizes s)) refl)
     rule.Limit bytes
 
 unfoldable pub range_at : List ℕ → Field Carrier
@@ -158,7 +159,7 @@ carrier_at sizes bytes = do
 unfoldable pub enumerator_at : List ℕ → List ℕ → Field (ℕ × ℕ)
 enumerator_at sizes bytes = do
   s ← between_at 0 (length sizes) bytes
-  i ← between_at 0 (count_of sizes s.0) s.1
+  i ← between_at 0 (enumerator_count sizes s.0) s.1
   Ok ((s.0, i.0), i.1)
 
 -- two bounds and a target
@@ -271,7 +272,7 @@ values_at (c ∷ cs) bytes =
 
 -- the carriers of an equation's parameters
 abbrev pub parameters_at : List EquationContents → ℕ → List Carrier
-parameters_at equations e = unwrap_or (parameters_of (slice_get equations e)) []
+parameters_at equations e = unwrap_or (parameters_if_any (slice_get equations e)) []
 
 -- an equation that is there, with a value for each parameter; else B07
 unfoldable pub initial_at : List EquationContents → List ℕ → Field InitialContents

@@ -120,9 +120,9 @@ op_code (op.Emit l) = leaf_code l
 op_code (op.Call equation) = 36
 op_code (op.SlotInRange slot low high to) = 37
 
-abbrev pub truth : Bool → List ℕ
-truth false = byte 0
-truth true = byte 1
+abbrev pub truth_byte : Bool → List ℕ
+truth_byte false = byte 0
+truth_byte true = byte 1
 
 abbrev pub bounds : ℤ → ℤ → List ℕ
 bounds low high = i32 low ++ i32 high
@@ -130,7 +130,7 @@ bounds low high = i32 low ++ i32 high
 -- what follows the code
 abbrev pub op_operands : Op → List ℕ
 op_operands (op.PushInt k) = i64 k
-op_operands (op.PushBool b) = truth b
+op_operands (op.PushBool b) = truth_byte b
 op_operands (op.PushEnum s i) = byte s ++ byte i
 op_operands (op.Get slot) = byte slot
 op_operands (op.Jump to) = u16 to

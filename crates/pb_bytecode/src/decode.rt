@@ -2,7 +2,7 @@
 ghost use Rattle.std.specs.Prelude.{◌≡◌, ◌+◌, length, true, Ok, Err, IfOk, MatchResult};
 ghost use Rattle.pb_errors.specs.OrMemory.{IfRefused};
 ghost use Rattle.pb_bytecode.specs.Contents.{Contents};
-ghost use Rattle.pb_bytecode.specs.Decoded.{IsFirstFault, IsModuleOf, module_contents};
+ghost use Rattle.pb_bytecode.specs.Decoded.{IsFirstFieldFault, IsModuleOf, module_contents};
 ghost use Rattle.pb_bytecode.specs.Limits.{fits};
 ghost use Rattle.pb_bytecode.specs.Reading.{Gives, IsRead, all_of, mark_at, version_at};
 ghost use Rattle.pb_bytecode.specs.Spelling.{spelling};
@@ -79,7 +79,7 @@ pub fn decode(alloc: Global, bytes: &[u8]) -> Result<Module, ModuleError>
     // What is spelled so is read, unless memory runs out.
     ensures read { (m : Contents) → fits m ≡ true → bytes.now ≡ spelling m → IsModuleOf m result }
     // Which fault it is, and where it stands.
-    ensures fault { IfRefused result (IsFirstFault bytes.now) }
+    ensures fault { IfRefused result (IsFirstFieldFault bytes.now) }
 {
     match fields(alloc, bytes) {
         Ok((version, sorts, equations, initial)) => Ok(Module {

@@ -54,7 +54,7 @@ impl fmt::Display for ModuleRule {
 }
 
 /// A rule that is broken, and how many bytes are left from the beginning of its field on.
-#[derive(Clone, Copy, Debug, PartialEq, Eq)]
+#[derive(Clone, Copy)]
 pub(crate) struct FieldFault {
     pub(crate) rule: ModuleRule,
     pub(crate) left: usize,

@@ -6,9 +6,9 @@ ghost use Rattle.std.specs.List.{AllByRecursion};
 ghost use Rattle.pb_bytecode.specs.Countable.{HasCountableParts};
 ghost use Rattle.pb_bytecode.specs.Decoded.{module_contents};
 ghost use Rattle.pb_bytecode.specs.Listing.{equation_lines, head_line, initial_line, line_end};
-ghost use Rattle.pb_bytecode.specs.Listing.{listing, numbered, op_line, op_name, operand_words};
+ghost use Rattle.pb_bytecode.specs.Listing.{listing, numbered_lines, op_line, op_name};
 ghost use Rattle.pb_bytecode.specs.Listing.{sign_name, slot_line, slot_lines, sort_line};
-ghost use Rattle.pb_bytecode.specs.Listing.{stated_lines};
+ghost use Rattle.pb_bytecode.specs.Listing.{stated_lines, operand_words};
 ghost use Rattle.pb_bytecode.specs.Views.{equation_contents, initial_contents, sort_contents};
 ghost use Rattle.pb_bytecode.specs.Views.{text_of};
 
@@ -43,7 +43,7 @@ fn list_sort(text: &mut String, index: usize, sort: &Sort) -> Result<(), AllocEr
 
 fn list_sorts(text: &mut String, sorts: &[Sort]) -> Result<(), AllocError>
     ensures { OnOk result (string_bytes text.new ≡ string_bytes text.old
-        ++ numbered sort_line 0 (map sort_contents sorts.now)) }
+        ++ numbered_lines sort_line 0 (map sort_contents sorts.now)) }
 {
     for (index, sort) in sorts.iter().enumerate() {
         list_sort(text, index, sort)?;
@@ -77,7 +77,7 @@ fn list_slots(
 ) -> Result<(), AllocError>
     requires { first + length carriers.now < 2 ^ 64 }
     ensures { OnOk result (string_bytes text.new ≡ string_bytes text.old
-        ++ numbered (slot_line kind.now) first carriers.now) }
+        ++ numbered_lines (slot_line kind.now) first carriers.now) }
 {
     for (index, carrier) in carriers.iter().enumerate() {
         list_slot(text, kind, first + index, carrier)?;
@@ -180,7 +180,7 @@ fn list_op(text: &mut String, place: usize, op: &Op) -> Result<(), AllocError>
 
 fn list_code(text: &mut String, code: &[Op]) -> Result<(), AllocError>
     ensures { OnOk result (string_bytes text.new ≡ string_bytes text.old
-        ++ numbered op_line 0 code.now) }
+        ++ numbered_lines op_line 0 code.now) }
 {
     for (place, op) in code.iter().enumerate() {
         list_op(text, place, op)?;
@@ -230,7 +230,7 @@ fn list_equation(text: &mut String, index: usize, equation: &Equation) -> Result
 fn list_equations(text: &mut String, equations: &[Equation]) -> Result<(), AllocError>
     requires { AllByRecursion HasCountableParts equations.now }
     ensures { OnOk result (string_bytes text.new ≡ string_bytes text.old
-        ++ numbered equation_lines 0 (map equation_contents equations.now)) }
+        ++ numbered_lines equation_lines 0 (map equation_contents equations.now)) }
 {
     for (index, equation) in equations.iter().enumerate() {
         list_equation(text, index, equation)?;

@@ -1,7 +1,7 @@
 //! Names of enumerators and of predicate variables.
 ghost use Rattle.std.specs.Prelude.{◌≡◌, true, string_bytes};
 ghost use Rattle.std.specs.List.{list_all};
-ghost use Rattle.pb_bytecode.specs.Names.{begins_with_letter, is_name, is_name_byte};
+ghost use Rattle.pb_bytecode.specs.Names.{begins_with_letter, is_module_name, is_name_byte};
 
 use pb_limits::MAX_NAME_BYTES;
 use pb_names::{is_letter, is_name_byte};
@@ -11,7 +11,7 @@ use pb_names::{is_letter, is_name_byte};
 #[derive(Debug, Drop)]
 pub struct Name {
     pub text: String,
-    pub ghost spelled: { is_name (string_bytes text) ≡ true },
+    pub ghost spelled: { is_module_name (string_bytes text) ≡ true },
 }
 
 fn begins_with_letter(text: &[u8]) -> bool
@@ -31,7 +31,7 @@ fn are_name_bytes(text: &[u8]) -> bool
 
 /// Whether a module may have the name (B05).
 pub fn is_name(text: &[u8]) -> bool
-    ensures { result ≡ is_name text.now }
+    ensures { result ≡ is_module_name text.now }
 {
     begins_with_letter(text) && text.len() <= MAX_NAME_BYTES && are_name_bytes(text)
 }

@@ -5,10 +5,10 @@ use Rattle.std.proofs.lemmas.Int.{ints}
 use Rattle.std.proofs.lemmas.Bool.{and_parts, ltb-true, or_right, or_cases, false≢true}
 use Rattle.pb_sorts.specs.Carrier.{values_of}
 use Rattle.pb_sorts.proofs.Intervals.{contains-interval, contains-numbers_from, count-interval}
-use Rattle.pb_bytecode_program.specs.Values.{Value, BoolValue, IntValue, EnumValue, tagged, untagged, tagged_values, is_inhabited}
-use Rattle.pb_bytecode_program.specs.Abstract.{Within, abstraction_of}
-use Rattle.pb_bytecode_program.specs.declared.abstract_value.AbstractValue.{AbstractValue}
-use Rattle.pb_bytecode_program.specs.declared.abstract_value.AbstractValue.TheVariants as abstract
+use Rattle.pb_bytecode_program.specs.Values.{TaggedValue, BoolValue, IntValue, EnumValue, tagged, untagged, tagged_values, is_inhabited}
+use Rattle.pb_bytecode_program.specs.Abstract.{IsAbstractedBy, abstraction_of}
+use Rattle.pb_bytecode_program.specs.declared.domain.AbstractValue.{AbstractValue}
+use Rattle.pb_bytecode_program.specs.declared.domain.AbstractValue.TheVariants as abstract
 use Rattle.std.specs.Ordering.{int_eq}
 use Rattle.std.proofs.lemmas.Bool.Decides.{Decides-int_eq}
 use Rattle.pb_carriers.specs.Carrier as carriers
@@ -21,7 +21,7 @@ use Rattle.pb_bytecode_program.proofs.Ints.{le_true}
 -- ---- a carrier's values
 
 -- a number of the carrier, with its kind, is one that is known of the carrier
-pub tagged_within : (c : Carrier) (z : ℤ) → carriers.contains (values_of c) z ≡ true → Within (tagged c z) (abstraction_of c)
+pub tagged_within : (c : Carrier) (z : ℤ) → carriers.contains (values_of c) z ≡ true → IsAbstractedBy (tagged c z) (abstraction_of c)
 tagged_within carrier.Bool z e = tt
 tagged_within (carrier.Enum enum) z e = let w = (contains-numbers_from (pos 0) enum.count z).0 e in let a = w.0 in let b = w.1 in (refl, omega (arith, ints))
 tagged_within (carrier.Range range) z e = (contains-interval range.low range.high z range.not_empty).0 e
@@ -40,7 +40,7 @@ untagged-tagged (carrier.Enum enum) z e = let least = ((contains-numbers_from (p
 untagged-tagged (carrier.Range range) z e = refl
 
 -- an argument without a fault is a number of the carrier
-pub untagged_contained : (v : Value) (c : Carrier) → Machine.argument_fault v c ≡ None → carriers.contains (values_of c) (untagged v) ≡ true
+pub untagged_contained : (v : TaggedValue) (c : Carrier) → Machine.argument_fault v c ≡ None → carriers.contains (values_of c) (untagged v) ≡ true
 untagged_contained (BoolValue true) carrier.Bool e = refl
 untagged_contained (BoolValue false) carrier.Bool e = refl
 untagged_contained (IntValue z) (carrier.Range range) e = by (int_le range.low z && int_le z range.high) refl e
@@ -63,7 +63,7 @@ untagged_contained (IntValue z) (carrier.Enum enum) e = cc
 untagged_contained (EnumValue s i) carrier.Bool e = cc
 untagged_contained (EnumValue s i) (carrier.Range range) e = cc
 
-numbers_tagged : (c : Carrier) (zs : List ℤ) (s : AbstractValue) → ((z : ℤ) → carriers.contains zs z ≡ true → Within (tagged c z) s) → AllWithin (map (tagged c) zs) s
+numbers_tagged : (c : Carrier) (zs : List ℤ) (s : AbstractValue) → ((z : ℤ) → carriers.contains zs z ≡ true → IsAbstractedBy (tagged c z) s) → AllWithin (map (tagged c) zs) s
 numbers_tagged c [] s h = tt
 numbers_tagged c (z ∷ zs) s h =
     (h z (rw ((Decides-int_eq z z).1 refl) refl), numbers_tagged c zs s (λ y e. h y (or_right (int_eq z y) (carriers.contains zs y) e)))

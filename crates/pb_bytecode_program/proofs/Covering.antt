@@ -3,10 +3,10 @@ use Rattle.std.proofs.Common.{◌≡◌, ℕ, zero, suc, Bool, true, false, cond
 use Rattle.std.specs.Prelude.{slice_get, ◌==◌}
 use Rattle.std.proofs.lemmas.Int.{ints}
 use Rattle.std.proofs.lemmas.Bool.{cond-true, cond-false, cond_both, or_parts}
-use Rattle.pb_bytecode_program.specs.Values.{Value, BoolValue, IntValue, EnumValue}
-use Rattle.pb_bytecode_program.specs.Abstract.{Within, Covers}
-use Rattle.pb_bytecode_program.specs.declared.abstract_value.AbstractValue.{AbstractValue}
-use Rattle.pb_bytecode_program.specs.declared.abstract_value.AbstractValue.TheVariants as abstract
+use Rattle.pb_bytecode_program.specs.Values.{TaggedValue, BoolValue, IntValue, EnumValue}
+use Rattle.pb_bytecode_program.specs.Abstract.{IsAbstractedBy, Covers}
+use Rattle.pb_bytecode_program.specs.declared.domain.AbstractValue.{AbstractValue}
+use Rattle.pb_bytecode_program.specs.declared.domain.AbstractValue.TheVariants as abstract
 use Rattle.pb_bytecode_program.specs.Machine
 use Rattle.pb_bytecode_program.specs.Machine.{Program, Frame, State, Outcome, Continues, Ends, Faults}
 use Rattle.pb_bytecode_program.specs.Transfer
@@ -31,7 +31,7 @@ covers_through (abstract.Enum a n) (abstract.Enum b m) abstract.Bool c d = absur
 covers_through (abstract.Enum a n) (abstract.Enum b m) (abstract.Int x y) c d = absurd d
 covers_through (abstract.Enum a n) (abstract.Enum b m) (abstract.Enum e k) c d = (c.0 ∙ d.0, let x = c.1 in let y = d.1 in omega arith)
 
-pub within_more : (v : Value) (s t : AbstractValue) → Covers s t → Within v s → Within v t
+pub within_more : (v : TaggedValue) (s t : AbstractValue) → Covers s t → IsAbstractedBy v s → IsAbstractedBy v t
 within_more (BoolValue b) abstract.Bool abstract.Bool c w = tt
 within_more (IntValue z) (abstract.Int l h) (abstract.Int m k) c w = (let a = c.0 in let b = w.0 in omega (arith, ints), let a = c.2 in let b = w.1 in omega (arith, ints))
 within_more (EnumValue s i) (abstract.Enum t n) (abstract.Enum u m) c w = (w.0 ∙ c.0, let a = c.1 in let b = w.1 in omega arith)
@@ -48,14 +48,14 @@ within_more (EnumValue s i) (abstract.Int l h) t c w = absurd w
 within_more (EnumValue s i) (abstract.Enum t n) abstract.Bool c w = absurd c
 within_more (EnumValue s i) (abstract.Enum t n) (abstract.Int l h) c w = absurd c
 
-pub fits_more : (vs : List Value) (ss ts : List AbstractValue) (rest : List Value) → CoversEach ss ts → Fits vs ss rest → Fits vs ts rest
+pub fits_more : (vs : List TaggedValue) (ss ts : List AbstractValue) (rest : List TaggedValue) → CoversEach ss ts → Fits vs ss rest → Fits vs ts rest
 fits_more vs [] [] rest c f = f
 fits_more vs [] (t ∷ ts) rest c f = absurd c
 fits_more vs (s ∷ ss) [] rest c f = absurd c
 fits_more [] (s ∷ ss) (t ∷ ts) rest c f = absurd f
 fits_more (v ∷ vs) (s ∷ ss) (t ∷ ts) rest c f = (within_more v s t c.0 f.0, fits_more vs ss ts rest c.1 f.1)
 
-pub parameters_more : (vs : List Value) (ss ts : List AbstractValue) → CoversEach ss ts → FitParameters vs ss → FitParameters vs ts
+pub parameters_more : (vs : List TaggedValue) (ss ts : List AbstractValue) → CoversEach ss ts → FitParameters vs ss → FitParameters vs ts
 parameters_more [] [] [] c f = tt
 parameters_more [] [] (t ∷ ts) c f = absurd c
 parameters_more vs (s ∷ ss) [] c f = absurd c
@@ -85,20 +85,20 @@ covered_more p table st k m c v = record {
 
 -- ---- slots
 
-abbrev pub SlotFits : Option Value → Option AbstractValue → Type 0
-SlotFits (Some v) (Some s) = Within v s
+abbrev pub SlotFits : Option TaggedValue → Option AbstractValue → Type 0
+SlotFits (Some v) (Some s) = IsAbstractedBy v s
 SlotFits None None = Unit {0}
 SlotFits (Some v) None = ⊥
 SlotFits None (Some s) = ⊥
 
-pub param_fits : (vs : List Value) (ss : List AbstractValue) (i : ℕ) → FitParameters vs ss → SlotFits (slice_get vs i) (slice_get ss i)
+pub param_fits : (vs : List TaggedValue) (ss : List AbstractValue) (i : ℕ) → FitParameters vs ss → SlotFits (slice_get vs i) (slice_get ss i)
 param_fits [] [] i f = tt
 param_fits [] (s ∷ ss) i f = absurd f
 param_fits (v ∷ vs) [] i f = absurd f
 param_fits (v ∷ vs) (s ∷ ss) zero f = f.0
 param_fits (v ∷ vs) (s ∷ ss) (suc i) f = param_fits vs ss i f.1
 
-pub slot_fits : (fs : List Frame) (ls : List (ℕ × AbstractValue)) (vs : List Value) (ss : List AbstractValue) (i : ℕ) → FitLoops fs ls → FitParameters vs ss → SlotFits (Machine.value_at fs vs i) (Transfer.abstract_slot ls ss i)
+pub slot_fits : (fs : List Frame) (ls : List (ℕ × AbstractValue)) (vs : List TaggedValue) (ss : List AbstractValue) (i : ℕ) → FitLoops fs ls → FitParameters vs ss → SlotFits (Machine.value_at fs vs i) (Transfer.abstract_slot ls ss i)
 slot_fits [] [] vs ss i f g = param_fits vs ss i g
 slot_fits [] (l ∷ ls) vs ss i f g = absurd f
 slot_fits (x ∷ fs) [] vs ss i f g = absurd f
@@ -121,14 +121,14 @@ loops_length (x ∷ fs) [] f = absurd f
 loops_length (x ∷ fs) (l ∷ ls) f = ap suc (loops_length fs ls f.2)
 
 -- a slot's shape, cut to what its value meets
-pub set_parameters : (vs : List Value) (ss : List AbstractValue) (i : ℕ) (s : AbstractValue) → FitParameters vs ss → ((v : Value) → slice_get vs i ≡ Some v → Within v s) → FitParameters vs (Transfer.set_param ss i s)
+pub set_parameters : (vs : List TaggedValue) (ss : List AbstractValue) (i : ℕ) (s : AbstractValue) → FitParameters vs ss → ((v : TaggedValue) → slice_get vs i ≡ Some v → IsAbstractedBy v s) → FitParameters vs (Transfer.set_param ss i s)
 set_parameters [] [] i s f h = tt
 set_parameters [] (t ∷ ss) i s f h = absurd f
 set_parameters (v ∷ vs) [] i s f h = absurd f
 set_parameters (v ∷ vs) (t ∷ ss) zero s f h = (h v refl, f.1)
 set_parameters (v ∷ vs) (t ∷ ss) (suc i) s f h = (f.0, set_parameters vs ss i s f.1 h)
 
-pub set_loops : (fs : List Frame) (ls : List (ℕ × AbstractValue)) (vs : List Value) (i : ℕ) (s : AbstractValue) → FitLoops fs ls → ((v : Value) → Machine.value_at fs vs i ≡ Some v → Within v s) → FitLoops fs (Transfer.set_loop ls i s)
+pub set_loops : (fs : List Frame) (ls : List (ℕ × AbstractValue)) (vs : List TaggedValue) (i : ℕ) (s : AbstractValue) → FitLoops fs ls → ((v : TaggedValue) → Machine.value_at fs vs i ≡ Some v → IsAbstractedBy v s) → FitLoops fs (Transfer.set_loop ls i s)
 set_loops [] [] vs i s f h = tt
 set_loops [] (l ∷ ls) vs i s f h = absurd f
 set_loops (x ∷ fs) [] vs i s f h = absurd f
@@ -137,6 +137,6 @@ set_loops (x ∷ fs) (l ∷ ls) vs i s f h =
     (λ e. (f.0, h x.value (cond-true _ _ _ (ap (λ m. i == m) f.0 ∙ e)), f.2))
     (λ e. (f.0, f.1, set_loops fs ls vs i s f.2 (λ v g. h v (cond-false _ _ _ (ap (λ m. i == m) f.0 ∙ e) ∙ g))))
 
-pub no_loop : (fs : List Frame) (vs : List Value) (i : ℕ) → Machine.is_running fs i ≡ false → Machine.value_at fs vs i ≡ slice_get vs i
+pub no_loop : (fs : List Frame) (vs : List TaggedValue) (i : ℕ) → Machine.is_running fs i ≡ false → Machine.value_at fs vs i ≡ slice_get vs i
 no_loop [] vs i e = refl
 no_loop (f ∷ fs) vs i e = let two = or_parts (i == f.slot) (Machine.is_running fs i) e in cond-false _ _ _ two.0 ∙ no_loop fs vs i two.1

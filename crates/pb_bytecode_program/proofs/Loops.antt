@@ -2,7 +2,7 @@
 use Rattle.std.proofs.Common.{◌≡◌, ℕ, suc, ◌+◌, ◌-◌, ◌<◌, true, not, ◌&&◌, List, [], ◌∷◌, length, Option, Some, None, refl, sym, ap, ◌∙◌, subst, arith}
 use Rattle.std.specs.Prelude.{slice_get, nat_lt}
 use Rattle.std.proofs.lemmas.Bool.{and_parts}
-use Rattle.pb_bytecode_program.specs.Values.{Value, tagged_values, is_inhabited}
+use Rattle.pb_bytecode_program.specs.Values.{TaggedValue, tagged_values, is_inhabited}
 use Rattle.pb_bytecode_program.specs.Abstract.{abstraction_of}
 use Rattle.pb_bytecode_program.specs.Machine
 use Rattle.pb_bytecode_program.specs.Machine.{Program, Frame, State, Outcome, Continues, Ends, Faults}
@@ -25,11 +25,11 @@ module _ (p : Program) (table : Table) (ok : Accepted p table) where
   pub sim_loop : (st : State) (k : AbstractState) (j : ℕ) → state_at table st.place ≡ Some k → Straightly p table ok st (op.Loop j) k
   sim_loop st k j there at cov ar home pl fine = by (Machine.carrier_of p j) refl fine
     where
-      enter : (c : Carrier) (vs : List Value) → Machine.carrier_of p j ≡ Some c → tagged_values c ≡ vs → HasFirst vs → AllWithin vs (abstraction_of c) → FlowIsCovered table (Transfer.to_next_place st.place (record { operands = []; operands_below = length k.operands + k.operands_below; parameters = k.parameters; loops = (j, abstraction_of c) ∷ k.loops; brackets = k.brackets; brackets_below = k.brackets; roots = k.roots })) → IsSafeStep p table st (op.Loop j) (Machine.enter_loop st j vs)
+      enter : (c : Carrier) (vs : List TaggedValue) → Machine.carrier_of p j ≡ Some c → tagged_values c ≡ vs → HasFirst vs → AllWithin vs (abstraction_of c) → FlowIsCovered table (Transfer.to_next_place st.place (record { operands = []; operands_below = length k.operands + k.operands_below; parameters = k.parameters; loops = (j, abstraction_of c) ∷ k.loops; brackets = k.brackets; brackets_below = k.brackets; roots = k.roots })) → IsSafeStep p table st (op.Loop j) (Machine.enter_loop st j vs)
       enter c [] e f first w fl = absurd first
       enter c (v ∷ left) e f first w fl =
           let a : loops_around p.code (st.place + 1) ≡ st.place ∷ places st.loops = around_next p.code st.place (op.Loop j) at ∙ ap (λ qs. st.place ∷ qs) ar in
-          let size : Counts.size_of (Machine.carrier_of p j) ≡ suc (length left) = ap Counts.size_of e ∙ ap length f in
+          let size : Counts.carrier_size (Machine.carrier_of p j) ≡ suc (length left) = ap Counts.carrier_size e ∙ ap length f in
           let c' : Covered p table (record st { place = st.place + 1; loops = record { loop_place = st.place; slot = j; value = v; remaining = left } ∷ st.loops }) (record { operands = []; operands_below = length k.operands + k.operands_below; parameters = k.parameters; loops = (j, abstraction_of c) ∷ k.loops; brackets = k.brackets; brackets_below = k.brackets; roots = k.roots }) = record {
             rest = st.operands;
             operands = refl;
@@ -94,7 +94,7 @@ module _ (p : Program) (table : Table) (ok : Accepted p table) where
             written = omega arith;
           }
 
-      back : (f : Frame) (fs : List Frame) (v : Value) (left : List Value) → st.loops ≡ f ∷ fs → f.remaining ≡ v ∷ left → (u : AtLoop p table st.parameters f fs cov.rest (Under p table st.parameters fs)) → u.home ≡ inv.0 → IsSafeStep p table st op.Next (Continues (record st { place = f.loop_place + 1; loops = record { loop_place = f.loop_place; slot = f.slot; value = v; remaining = left } ∷ fs }))
+      back : (f : Frame) (fs : List Frame) (v : TaggedValue) (left : List TaggedValue) → st.loops ≡ f ∷ fs → f.remaining ≡ v ∷ left → (u : AtLoop p table st.parameters f fs cov.rest (Under p table st.parameters fs)) → u.home ≡ inv.0 → IsSafeStep p table st op.Next (Continues (record st { place = f.loop_place + 1; loops = record { loop_place = f.loop_place; slot = f.slot; value = v; remaining = left } ∷ fs }))
       back f fs v left e l u same =
           let w : AllWithin (v ∷ left) (abstraction_of u.carrier) = subst (λ vs. AllWithin vs (abstraction_of u.carrier)) l u.remaining in
           let each = ok.each f.loop_place (op.Loop f.slot) u.home u.loop u.there in
@@ -124,7 +124,7 @@ module _ (p : Program) (table : Table) (ok : Accepted p table) where
             written = omega arith;
           }
 
-      choose : (f : Frame) (fs : List Frame) (left : List Value) → st.loops ≡ f ∷ fs → f.remaining ≡ left → (u : AtLoop p table st.parameters f fs cov.rest (Under p table st.parameters fs)) → IsSafeStep p table st op.Next (Machine.next_turn st f fs left)
+      choose : (f : Frame) (fs : List Frame) (left : List TaggedValue) → st.loops ≡ f ∷ fs → f.remaining ≡ left → (u : AtLoop p table st.parameters f fs cov.rest (Under p table st.parameters fs)) → IsSafeStep p table st op.Next (Machine.next_turn st f fs left)
       choose f fs [] e l u = out f fs e u (same_home f fs e u)
       choose f fs (v ∷ left) e l u = back f fs v left e l u (same_home f fs e u)
 

@@ -10,8 +10,8 @@ use Rattle.std.proofs.lemmas.Int.{ints, clamps}
 use Rattle.std.proofs.lemmas.Bool.{and_parts, and_from, eqb-true, eq-eqb, leb-true, le-leb, not_from_false, not_from_true, both_ways, false_from_ne_true}
 use Rattle.pb_bytecode_program.specs.Values.{is_inhabited, divides, fits64}
 use Rattle.pb_bytecode_program.specs.Abstract.{Covers, abstraction_of, same_kind}
-use Rattle.pb_bytecode_program.specs.declared.abstract_value.AbstractValue.{AbstractValue}
-use Rattle.pb_bytecode_program.specs.declared.abstract_value.AbstractValue.TheVariants as abstract
+use Rattle.pb_bytecode_program.specs.declared.domain.AbstractValue.{AbstractValue}
+use Rattle.pb_bytecode_program.specs.declared.domain.AbstractValue.TheVariants as abstract
 use Rattle.pb_bytecode_program.specs.Machine.{Program, carrier_of}
 use Rattle.pb_bytecode_program.specs.Transfer.{AbstractState, Edge, Flow, abstract_pop, abstract_pop_int, abstract_pop_bool, to_next_place, abstract_push, abstract_push_int, accepts, abstract_pop_args, abstract_slot, with_abstract_slot, with_interval, set_param, among, set_loop, set_slot, abstract_root, abstract_close, abstract_end, abstract_loop, abstract_next, when, range_edges, enum_fits, count_or_zero, abstract_call, transfer}
 use Rattle.pb_bytecode_program.specs.Accepted.{CoversEach, CoversLoops, IsCovered}

@@ -1,10 +1,10 @@
 -- The machine's work on operands and roots does what the rules say, for any property of its outcome.
 use Rattle.std.proofs.Common.{◌≡◌, ℕ, zero, suc, Bool, List, [], ◌∷◌}
 use Rattle.std.specs.Prelude.{ℤ, ◌≤ℤ◌}
-use Rattle.pb_bytecode_program.specs.Values.{Value, BoolValue, IntValue, EnumValue}
-use Rattle.pb_bytecode_program.specs.Abstract.{Within}
-use Rattle.pb_bytecode_program.specs.declared.abstract_value.AbstractValue.{AbstractValue}
-use Rattle.pb_bytecode_program.specs.declared.abstract_value.AbstractValue.TheVariants as abstract
+use Rattle.pb_bytecode_program.specs.Values.{TaggedValue, BoolValue, IntValue, EnumValue}
+use Rattle.pb_bytecode_program.specs.Abstract.{IsAbstractedBy}
+use Rattle.pb_bytecode_program.specs.declared.domain.AbstractValue.{AbstractValue}
+use Rattle.pb_bytecode_program.specs.declared.domain.AbstractValue.TheVariants as abstract
 use Rattle.pb_bytecode_program.specs.Machine
 use Rattle.pb_bytecode_program.specs.Machine.{Program, Frame, State, Outcome, Continues, Ends, Faults}
 use Rattle.pb_bytecode_program.specs.Transfer
@@ -16,13 +16,13 @@ use Rattle.pb_bytecode_program.proofs.Rules.{tested, argument_ok}
 
 -- ---- the machine's helpers do what the rules say
 
-module _ (table : Table) (G : Outcome → Type 0) (rest : List Value) where
-  pub sim_any : (vs : List Value) (ss : List AbstractValue) (go : Value → List Value → Outcome) (ago : AbstractValue → List AbstractValue → Flow) → Fits vs ss rest → ((v : Value) (s : AbstractValue) (ws : List Value) (ts : List AbstractValue) → Within v s → Fits ws ts rest → FlowIsCovered table (ago s ts) → G (go v ws)) → FlowIsCovered table (Transfer.abstract_pop ss ago) → G (Machine.pop_any vs go)
+module _ (table : Table) (G : Outcome → Type 0) (rest : List TaggedValue) where
+  pub sim_any : (vs : List TaggedValue) (ss : List AbstractValue) (go : TaggedValue → List TaggedValue → Outcome) (ago : AbstractValue → List AbstractValue → Flow) → Fits vs ss rest → ((v : TaggedValue) (s : AbstractValue) (ws : List TaggedValue) (ts : List AbstractValue) → IsAbstractedBy v s → Fits ws ts rest → FlowIsCovered table (ago s ts) → G (go v ws)) → FlowIsCovered table (Transfer.abstract_pop ss ago) → G (Machine.pop_any vs go)
   sim_any vs [] go ago f k fine = absurd fine
   sim_any [] (s ∷ ss) go ago f k fine = absurd f
   sim_any (v ∷ vs) (s ∷ ss) go ago f k fine = k v s vs ss f.0 f.1 fine
 
-  pub sim_int : (vs : List Value) (ss : List AbstractValue) (go : ℤ → List Value → Outcome) (ago : ℤ → ℤ → List AbstractValue → Flow) → Fits vs ss rest → ((z l h : ℤ) (ws : List Value) (ts : List AbstractValue) → l ≤ℤ z → z ≤ℤ h → Fits ws ts rest → FlowIsCovered table (ago l h ts) → G (go z ws)) → FlowIsCovered table (Transfer.abstract_pop_int ss ago) → G (Machine.pop_int vs go)
+  pub sim_int : (vs : List TaggedValue) (ss : List AbstractValue) (go : ℤ → List TaggedValue → Outcome) (ago : ℤ → ℤ → List AbstractValue → Flow) → Fits vs ss rest → ((z l h : ℤ) (ws : List TaggedValue) (ts : List AbstractValue) → l ≤ℤ z → z ≤ℤ h → Fits ws ts rest → FlowIsCovered table (ago l h ts) → G (go z ws)) → FlowIsCovered table (Transfer.abstract_pop_int ss ago) → G (Machine.pop_int vs go)
   sim_int vs [] go ago f k fine = absurd fine
   sim_int vs (abstract.Bool ∷ ss) go ago f k fine = absurd fine
   sim_int vs (abstract.Enum s n ∷ ss) go ago f k fine = absurd fine
@@ -31,7 +31,7 @@ module _ (table : Table) (G : Outcome → Type 0) (rest : List Value) where
   sim_int (EnumValue s i ∷ vs) (abstract.Int l h ∷ ss) go ago f k fine = absurd f.0
   sim_int (IntValue z ∷ vs) (abstract.Int l h ∷ ss) go ago f k fine = k z l h vs ss f.0.0 f.0.1 f.1 fine
 
-  pub sim_bool : (vs : List Value) (ss : List AbstractValue) (go : Bool → List Value → Outcome) (ago : List AbstractValue → Flow) → Fits vs ss rest → ((b : Bool) (ws : List Value) (ts : List AbstractValue) → Fits ws ts rest → FlowIsCovered table (ago ts) → G (go b ws)) → FlowIsCovered table (Transfer.abstract_pop_bool ss ago) → G (Machine.pop_bool vs go)
+  pub sim_bool : (vs : List TaggedValue) (ss : List AbstractValue) (go : Bool → List TaggedValue → Outcome) (ago : List AbstractValue → Flow) → Fits vs ss rest → ((b : Bool) (ws : List TaggedValue) (ts : List AbstractValue) → Fits ws ts rest → FlowIsCovered table (ago ts) → G (go b ws)) → FlowIsCovered table (Transfer.abstract_pop_bool ss ago) → G (Machine.pop_bool vs go)
   sim_bool vs [] go ago f k fine = absurd fine
   sim_bool vs (abstract.Int l h ∷ ss) go ago f k fine = absurd fine
   sim_bool vs (abstract.Enum s n ∷ ss) go ago f k fine = absurd fine
@@ -40,7 +40,7 @@ module _ (table : Table) (G : Outcome → Type 0) (rest : List Value) where
   sim_bool (EnumValue s i ∷ vs) (abstract.Bool ∷ ss) go ago f k fine = absurd f.0
   sim_bool (BoolValue b ∷ vs) (abstract.Bool ∷ ss) go ago f k fine = k b vs ss f.1 fine
 
-  pub sim_args : (cs : List Carrier) (vs : List Value) (ss : List AbstractValue) (args : List Value) (go : List Value → List Value → Outcome) (ago : List AbstractValue → Flow) → Fits vs ss rest → ((us ws : List Value) (ts : List AbstractValue) → Fits ws ts rest → FlowIsCovered table (ago ts) → G (go us ws)) → FlowIsCovered table (Transfer.abstract_pop_args cs ss ago) → G (Machine.pop_args cs args vs go)
+  pub sim_args : (cs : List Carrier) (vs : List TaggedValue) (ss : List AbstractValue) (args : List TaggedValue) (go : List TaggedValue → List TaggedValue → Outcome) (ago : List AbstractValue → Flow) → Fits vs ss rest → ((us ws : List TaggedValue) (ts : List AbstractValue) → Fits ws ts rest → FlowIsCovered table (ago ts) → G (go us ws)) → FlowIsCovered table (Transfer.abstract_pop_args cs ss ago) → G (Machine.pop_args cs args vs go)
   sim_args [] vs ss args go ago f k fine = k args vs ss f fine
   sim_args (c ∷ cs) vs [] args go ago f k fine = absurd fine
   sim_args (c ∷ cs) [] (s ∷ ss) args go ago f k fine = absurd f

@@ -6,7 +6,7 @@ use Rattle.std.proofs.lemmas.Bool.{lt-ltb, le-ltb}
 use Rattle.std.proofs.lemmas.List.{drop-drop}
 use Rattle.pb_sorts.proofs.Places.{drop-slice_get}
 use Rattle.pb_bytecode_program.specs.Machine.{Program, Frame, carrier_of}
-use Rattle.pb_bytecode_program.specs.Counts.{LoopEffect, Enters, Leaves, Straight, loop_effect, loops_after, loops_open_after, loops_around, size_of, multiplier, cost_by, cost_of}
+use Rattle.pb_bytecode_program.specs.Counts.{LoopEffect, Enters, Leaves, Straight, loop_effect, loops_after, loops_open_after, loops_around, carrier_size, multiplier, cost_by, cost_of}
 use Rattle.pb_bytecode_program.specs.declared.instruction.Op.{Op}
 
 -- the instructions up to n pair among themselves, d of them being open at the start
@@ -153,7 +153,7 @@ paired code q n c e =
 
 module _ (p : Program) (cost : Op → ℕ) where
   dropped_turn : (t : LoopEffect) (c n : ℕ) (is : List Op) (ws : List ℕ) → PairedBy t n (length ws) (Paired is n) → ((us : List ℕ) → Paired is n (length us) → cost_of p cost (drop n is) [] ≤ cost_of p cost is us) → cost_of p cost (drop n is) [] ≤ cost_by p t c ws (cost_of p cost is)
-  dropped_turn (Enters i) c n is ws h f = omega (arith, f (multiplier ws * size_of (carrier_of p i) ∷ ws) h)
+  dropped_turn (Enters i) c n is ws h f = omega (arith, f (multiplier ws * carrier_size (carrier_of p i) ∷ ws) h)
   dropped_turn Leaves c n is [] h f = absurd h
   dropped_turn Leaves c n is (w ∷ ws) h f = omega (arith, f ws h)
   dropped_turn Straight c n is ws h f = omega (arith, f ws h)
@@ -180,8 +180,8 @@ module _ (p : Program) (cost : Op → ℕ) where
   -- a body that runs n times, and what follows it
   scale_turn : (t : LoopEffect) (c n : ℕ) (is : List Op) (ws : List ℕ) → ((us : List ℕ) → cost_of p cost is (scaled n us) ≡ n * cost_of p cost is us + cost_of p cost (after_body is (length us)) []) → cost_by p t c (scaled n ws) (cost_of p cost is) ≡ n * cost_by p t c ws (cost_of p cost is) + cost_of p cost (after_by t (length ws) is (after_body is)) []
   scale_turn (Enters i) c n is ws f =
-      let e : n * multiplier ws * size_of (carrier_of p i) ≡ n * (multiplier ws * size_of (carrier_of p i)) = mul_assoc n (multiplier ws) (size_of (carrier_of p i)) in
-      rw (times_scaled n ws, e, f (multiplier ws * size_of (carrier_of p i) ∷ ws)) (ring n (multiplier ws) c _ _)
+      let e : n * multiplier ws * carrier_size (carrier_of p i) ≡ n * (multiplier ws * carrier_size (carrier_of p i)) = mul_assoc n (multiplier ws) (carrier_size (carrier_of p i)) in
+      rw (times_scaled n ws, e, f (multiplier ws * carrier_size (carrier_of p i) ∷ ws)) (ring n (multiplier ws) c _ _)
   scale_turn Leaves c n is [] f = refl
   scale_turn Leaves c n is (w ∷ ws) f = rw (f ws) (ring n w c _ _)
   scale_turn Straight c n is ws f = rw (times_scaled n ws, f ws) (ring n (multiplier ws) c _ _)
@@ -252,12 +252,12 @@ module _ (p : Program) (cost : Op → ℕ) where
   entered_from is js c n (f ∷ fs) e a = rw (a, e) (omega arith)
 
   -- LOOP
-  pub spent_in : (q i : ℕ) (o : Op) (f : Frame) (fs : List Frame) → slice_get p.code q ≡ Some o → loop_effect o ≡ Enters i → f.loop_place ≡ q → size_of (carrier_of p i) ≡ suc (length f.remaining) → left_at (q + 1) (f ∷ fs) + cost o ≤ left_at q fs
+  pub spent_in : (q i : ℕ) (o : Op) (f : Frame) (fs : List Frame) → slice_get p.code q ≡ Some o → loop_effect o ≡ Enters i → f.loop_place ≡ q → carrier_size (carrier_of p i) ≡ suc (length f.remaining) → left_at (q + 1) (f ∷ fs) + cost o ≤ left_at q fs
   spent_in q i o f fs h s a e =
       let is = drop (q + 1) p.code in
-      let one : cost_of p cost (o ∷ is) [] ≡ 1 * cost o + cost_of p cost is (1 * size_of (carrier_of p i) ∷ []) = ap (λ t. cost_by p t (cost o) [] (cost_of p cost is)) s in
-      let w : 1 * size_of (carrier_of p i) ≡ suc (length f.remaining) = omega arith in
-      let two : cost_of p cost is (1 * size_of (carrier_of p i) ∷ []) ≡ suc (length f.remaining) * cost_of p cost is [] + cost_of p cost (after_body is 0) [] = ap (λ m. cost_of p cost is (m ∷ [])) w ∙ scale p cost is (suc (length f.remaining)) [] in
+      let one : cost_of p cost (o ∷ is) [] ≡ 1 * cost o + cost_of p cost is (1 * carrier_size (carrier_of p i) ∷ []) = ap (λ t. cost_by p t (cost o) [] (cost_of p cost is)) s in
+      let w : 1 * carrier_size (carrier_of p i) ≡ suc (length f.remaining) = omega arith in
+      let two : cost_of p cost is (1 * carrier_size (carrier_of p i) ∷ []) ≡ suc (length f.remaining) * cost_of p cost is [] + cost_of p cost (after_body is 0) [] = ap (λ m. cost_of p cost is (m ∷ [])) w ∙ scale p cost is (suc (length f.remaining)) [] in
       let three : suc (length f.remaining) * cost_of p cost is [] ≡ length f.remaining * cost_of p cost is [] + cost_of p cost is [] = suc-mul (length f.remaining) (cost_of p cost is []) in
       let all : cost_of p cost (o ∷ is) [] ≡ cost o + (length f.remaining * cost_of p cost is [] + cost_of p cost is [] + cost_of p cost (after_body is 0) []) = omega arith in
       let end : after_body (o ∷ is) 0 ≡ after_body (after_body is 0) 0 = ap (λ t. after_by t 0 is (after_body is)) s ∙ sym (after_twice is 0) in

@@ -5,10 +5,10 @@ use Rattle.std.specs.Int.{int_min, int_max}
 use Rattle.std.proofs.lemmas.Int.{ints, clamps}
 use Rattle.std.proofs.lemmas.Bool.{and_parts, and_from, cond-true, eqb-true, eq-eqb, ltb-true, lt-ltb, leb-true, not_from_false, false_from_ne_true}
 use Rattle.pb_trees.specs.declared.Token.{Token}
-use Rattle.pb_bytecode_program.specs.Values.{Value, BoolValue, IntValue, EnumValue, equals, fits64, least64, greatest64}
-use Rattle.pb_bytecode_program.specs.Abstract.{Within, same_kind}
-use Rattle.pb_bytecode_program.specs.declared.abstract_value.AbstractValue.{AbstractValue}
-use Rattle.pb_bytecode_program.specs.declared.abstract_value.AbstractValue.TheVariants as abstract
+use Rattle.pb_bytecode_program.specs.Values.{TaggedValue, BoolValue, IntValue, EnumValue, equals, fits64, least64, greatest64}
+use Rattle.pb_bytecode_program.specs.Abstract.{IsAbstractedBy, same_kind}
+use Rattle.pb_bytecode_program.specs.declared.domain.AbstractValue.{AbstractValue}
+use Rattle.pb_bytecode_program.specs.declared.domain.AbstractValue.TheVariants as abstract
 use Rattle.pb_bytecode_program.specs.Machine
 use Rattle.pb_bytecode_program.specs.Machine.{Program, Frame, State, Outcome, Continues, Ends, Faults}
 use Rattle.pb_bytecode_program.specs.Transfer
@@ -43,7 +43,7 @@ pub enum_below : (o : Option ℕ) (j : ℕ) → Transfer.enum_fits o j ≡ true 
 enum_below None j e = cc
 enum_below (Some n) j e = ltb-true j n e
 
-pub argument_ok : (v : Value) (s : AbstractValue) (c : Carrier) → Transfer.accepts s c ≡ true → Within v s → Machine.argument_fault v c ≡ None
+pub argument_ok : (v : TaggedValue) (s : AbstractValue) (c : Carrier) → Transfer.accepts s c ≡ true → IsAbstractedBy v s → Machine.argument_fault v c ≡ None
 argument_ok (BoolValue b) abstract.Bool carrier.Bool e w = refl
 argument_ok (BoolValue b) abstract.Bool (carrier.Enum enum) e w = cc
 argument_ok (BoolValue b) abstract.Bool (carrier.Range range) e w = cc
@@ -99,7 +99,7 @@ split_out table q to l h low high z k m fine a b e =
 
 -- ---- equality of two of one kind
 
-pub equal_kinds : (a b : Value) (s t : AbstractValue) → Within a s → Within b t → same_kind s t ≡ true → (r : Bool) × (equals a b ≡ Some r)
+pub equal_kinds : (a b : TaggedValue) (s t : AbstractValue) → IsAbstractedBy a s → IsAbstractedBy b t → same_kind s t ≡ true → (r : Bool) × (equals a b ≡ Some r)
 equal_kinds a b abstract.Bool (abstract.Int l h) w x e = cc
 equal_kinds a b abstract.Bool (abstract.Enum u n) w x e = cc
 equal_kinds a b (abstract.Int l h) abstract.Bool w x e = cc
@@ -122,7 +122,7 @@ equal_kinds (EnumValue a i) (IntValue b) (abstract.Enum u n) (abstract.Enum v m)
 equal_kinds (BoolValue a) b (abstract.Enum u n) (abstract.Enum v m) w x e = absurd w
 equal_kinds (IntValue a) b (abstract.Enum u n) (abstract.Enum v m) w x e = absurd w
 
-pub fits_length : (vs : List Value) (ss : List AbstractValue) (rest : List Value) → Fits vs ss rest → length vs ≡ length ss + length rest
+pub fits_length : (vs : List TaggedValue) (ss : List AbstractValue) (rest : List TaggedValue) → Fits vs ss rest → length vs ≡ length ss + length rest
 fits_length vs [] rest f = ap length f ∙ (let e : length rest ≡ 0 + length rest = omega arith in e)
 fits_length [] (s ∷ ss) rest f = absurd f
 fits_length (v ∷ vs) (s ∷ ss) rest f = let i = fits_length vs ss rest f.1 in omega arith
@@ -140,7 +140,7 @@ ended_ok table (x ∷ fs) [] n m r s out f e g fine = absurd f
 ended_ok table [] [] n zero r (suc zero) out f e g fine = rw (e, g) refl
 ended_ok table [] [] n zero r (suc (suc s)) out f e g fine = absurd fine
 
-pub cut_within : (low high z l h : ℤ) → l ≤ℤ z → z ≤ℤ h → (int_le low z && int_le z high) ≡ true → Within (IntValue z) (abstract.Int (int_max l low) (int_min h high))
+pub cut_within : (low high z l h : ℤ) → l ≤ℤ z → z ≤ℤ h → (int_le low z && int_le z high) ≡ true → IsAbstractedBy (IntValue z) (abstract.Int (int_max l low) (int_min h high))
 cut_within low high z l h p1 p2 e =
     let two = and_parts (int_le low z) (int_le z high) e in
     let x = le_true low z two.0 in

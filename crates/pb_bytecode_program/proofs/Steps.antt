@@ -6,10 +6,10 @@ use Rattle.std.specs.Int.{int_min, int_max}
 use Rattle.std.proofs.lemmas.Bool.{cond_both}
 use Rattle.pb_trees.specs.declared.Token.{Token}
 use Rattle.pb_trees.specs.declared.Token.TheVariants as token
-use Rattle.pb_bytecode_program.specs.Values.{Value, BoolValue, IntValue, EnumValue, untagged, arithmetic, divides, absolute, compares, equals, answers, connects, fits64}
-use Rattle.pb_bytecode_program.specs.Abstract.{Within, interval_of, absolute_interval, same_kind}
-use Rattle.pb_bytecode_program.specs.declared.abstract_value.AbstractValue.{AbstractValue}
-use Rattle.pb_bytecode_program.specs.declared.abstract_value.AbstractValue.TheVariants as abstract
+use Rattle.pb_bytecode_program.specs.Values.{TaggedValue, BoolValue, IntValue, EnumValue, untagged, arithmetic, divides, absolute, compares, equals, answers, connects, fits64}
+use Rattle.pb_bytecode_program.specs.Abstract.{IsAbstractedBy, interval_of, absolute_interval, same_kind}
+use Rattle.pb_bytecode_program.specs.declared.domain.AbstractValue.{AbstractValue}
+use Rattle.pb_bytecode_program.specs.declared.domain.AbstractValue.TheVariants as abstract
 use Rattle.pb_bytecode_program.specs.Machine
 use Rattle.pb_bytecode_program.specs.Machine.{Program, Frame, State, Outcome, Continues, Ends, Faults}
 use Rattle.pb_bytecode_program.specs.Counts
@@ -82,42 +82,42 @@ module _ (p : Program) (table : Table) (ok : Accepted p table) where
       }
 
       -- other operands
-      pub with_operands : (to : ℕ) (vs : List Value) (ss : List AbstractValue) → Fits vs ss cov.rest → Covered p table (record st { place = to; operands = vs }) (record k { operands = ss })
+      pub with_operands : (to : ℕ) (vs : List TaggedValue) (ss : List AbstractValue) → Fits vs ss cov.rest → Covered p table (record st { place = to; operands = vs }) (record k { operands = ss })
       with_operands to vs ss f = record { rest = cov.rest; operands = f; deep = cov.deep; fit_parameters = cov.fit_parameters; fit_loops = cov.fit_loops; brackets = cov.brackets; roots = cov.roots; under = cov.under }
 
       -- other operands, brackets, roots and output
-      pub renewed : (vs : List Value) (ss : List AbstractValue) (n r : ℕ) (out : List Token) → Fits vs ss cov.rest → Covered p table (record st { place = st.place + 1; operands = vs; brackets = n; roots = r; output = out }) (record k { operands = ss; brackets = n; roots = r })
+      pub renewed : (vs : List TaggedValue) (ss : List AbstractValue) (n r : ℕ) (out : List Token) → Fits vs ss cov.rest → Covered p table (record st { place = st.place + 1; operands = vs; brackets = n; roots = r; output = out }) (record k { operands = ss; brackets = n; roots = r })
       renewed vs ss n r out f = record { rest = cov.rest; operands = f; deep = cov.deep; fit_parameters = cov.fit_parameters; fit_loops = cov.fit_loops; brackets = refl; roots = refl; under = cov.under }
 
-      pub sim_push : (vs : List Value) (ss : List AbstractValue) (v : Value) (s : AbstractValue) → Within v s → Fits vs ss cov.rest → FlowIsCovered table (Transfer.abstract_push st.place k ss s) → IsSafeStep p table st i (Machine.push st vs v)
+      pub sim_push : (vs : List TaggedValue) (ss : List AbstractValue) (v : TaggedValue) (s : AbstractValue) → IsAbstractedBy v s → Fits vs ss cov.rest → FlowIsCovered table (Transfer.abstract_push st.place k ss s) → IsSafeStep p table st i (Machine.push st vs v)
       sim_push vs ss v s w f fine =
           let t = tested table (nat_lt (length ss + k.operands_below) 32) _ fine in
           let e : length vs ≡ length ss + k.operands_below = fits_length vs ss cov.rest f ∙ ap (λ m. length ss + m) cov.deep in
           rw (ap (λ m. nat_lt m 32) e ∙ t.0) (go_on _ _ refl refl (omega arith) (with_operands _ _ (s ∷ ss) (w, f)) t.1)
 
-      pub sim_push_int : (vs : List Value) (ss : List AbstractValue) (z l h : ℤ) → l ≤ℤ z → z ≤ℤ h → Fits vs ss cov.rest → FlowIsCovered table (Transfer.abstract_push_int st.place k ss (l, h)) → IsSafeStep p table st i (Machine.push_int st vs z)
+      pub sim_push_int : (vs : List TaggedValue) (ss : List AbstractValue) (z l h : ℤ) → l ≤ℤ z → z ≤ℤ h → Fits vs ss cov.rest → FlowIsCovered table (Transfer.abstract_push_int st.place k ss (l, h)) → IsSafeStep p table st i (Machine.push_int st vs z)
       sim_push_int vs ss z l h a b f fine =
           let t = tested table (fits64 l h) _ fine in
           rw (fit_within l h z t.0 a b) (sim_push vs ss (IntValue z) (abstract.Int l h) (a, b) f t.1)
 
-      pub sim_give : (v : Option Value) (s : Option AbstractValue) → SlotFits v s → FlowIsCovered table (Transfer.with_abstract_slot s (λ t. Transfer.abstract_push st.place k k.operands t)) → IsSafeStep p table st i (Machine.with_slot v (λ w. Machine.push st st.operands w))
+      pub sim_give : (v : Option TaggedValue) (s : Option AbstractValue) → SlotFits v s → FlowIsCovered table (Transfer.with_abstract_slot s (λ t. Transfer.abstract_push st.place k k.operands t)) → IsSafeStep p table st i (Machine.with_slot v (λ w. Machine.push st st.operands w))
       sim_give v None f fine = absurd fine
       sim_give None (Some s) f fine = absurd f
       sim_give (Some v) (Some s) f fine = sim_push st.operands k.operands v s f cov.operands fine
 
-      pub sim_same : (vs : List Value) (ss : List AbstractValue) (wanted : Equality) (a b : Value) (s t : AbstractValue) → Within a s → Within b t → Fits vs ss cov.rest → FlowIsCovered table (if same_kind s t then Transfer.abstract_push st.place k ss abstract.Bool else None) → IsSafeStep p table st i (Machine.push_equality st vs wanted (equals a b))
+      pub sim_same : (vs : List TaggedValue) (ss : List AbstractValue) (wanted : Equality) (a b : TaggedValue) (s t : AbstractValue) → IsAbstractedBy a s → IsAbstractedBy b t → Fits vs ss cov.rest → FlowIsCovered table (if same_kind s t then Transfer.abstract_push st.place k ss abstract.Bool else None) → IsSafeStep p table st i (Machine.push_equality st vs wanted (equals a b))
       sim_same vs ss wanted a b s t w x f fine =
           let u = tested table (same_kind s t) _ fine in
           let e = equal_kinds a b s t w x u.0 in
           rw (e.1) (sim_push vs ss (BoolValue (answers wanted e.0)) abstract.Bool tt f u.1)
 
-      pub sim_calc : (c : Arithmetic) (vs : List Value) (ss : List AbstractValue) (a b l h m n : ℤ) → l ≤ℤ a → a ≤ℤ h → m ≤ℤ b → b ≤ℤ n → Fits vs ss cov.rest → FlowIsCovered table (if divides c && int_lt m (pos 1) then None else Transfer.abstract_push_int st.place k ss (interval_of c l h m n)) → IsSafeStep p table st i (if divides c && int_lt b (pos 1) then Faults Machine.Divisor else Machine.push_int st vs (arithmetic c a b))
+      pub sim_calc : (c : Arithmetic) (vs : List TaggedValue) (ss : List AbstractValue) (a b l h m n : ℤ) → l ≤ℤ a → a ≤ℤ h → m ≤ℤ b → b ≤ℤ n → Fits vs ss cov.rest → FlowIsCovered table (if divides c && int_lt m (pos 1) then None else Transfer.abstract_push_int st.place k ss (interval_of c l h m n)) → IsSafeStep p table st i (if divides c && int_lt b (pos 1) then Faults Machine.Divisor else Machine.push_int st vs (arithmetic c a b))
       sim_calc c vs ss a b l h m n p1 p2 p3 p4 f fine =
           let t = allowed table (divides c && int_lt m (pos 1)) _ fine in
           let w = calc_within c a b l h m n p1 p2 p3 p4 (λ d. divisor (divides c) m t.0 d) in
           rw (no_divisor (divides c) m b t.0 p3) (sim_push_int vs ss (arithmetic c a b) (interval_of c l h m n).0 (interval_of c l h m n).1 w.0 w.1 f t.1)
 
-      pub sim_range : (to : ℕ) (low high z l h : ℤ) (vs : List Value) (k1 k2 : AbstractState) → IsTarget p.code st.place to → l ≤ℤ z → z ≤ℤ h → ((int_le low z && int_le z high) ≡ true → Covered p table (record st { place = st.place + 1; operands = vs }) k1) → Covered p table (record st { place = to; operands = vs }) k2 → FlowIsCovered table (Transfer.range_edges st.place to l h low high k1 k2) → IsSafeStep p table st i (if int_le low z && int_le z high then Machine.jump_to st (st.place + 1) vs else Machine.jump_to st to vs)
+      pub sim_range : (to : ℕ) (low high z l h : ℤ) (vs : List TaggedValue) (k1 k2 : AbstractState) → IsTarget p.code st.place to → l ≤ℤ z → z ≤ℤ h → ((int_le low z && int_le z high) ≡ true → Covered p table (record st { place = st.place + 1; operands = vs }) k1) → Covered p table (record st { place = to; operands = vs }) k2 → FlowIsCovered table (Transfer.range_edges st.place to l h low high k1 k2) → IsSafeStep p table st i (if int_le low z && int_le z high then Machine.jump_to st (st.place + 1) vs else Machine.jump_to st to vs)
       sim_range to low high z l h vs k1 k2 tg a b c1 c2 fine =
           cond_both (int_le low z && int_le z high) _ _ (IsSafeStep p table st i)
           (λ e. go_on _ k1 refl refl (omega arith) (c1 e) (split_in table st.place to l h low high z k1 k2 fine a b e, tt))
@@ -221,12 +221,12 @@ module _ (p : Program) (table : Table) (ok : Accepted p table) where
       cut : (z l h : ℤ) → Machine.value_at st.loops st.parameters j ≡ Some (IntValue z) → l ≤ℤ z → z ≤ℤ h → (int_le low z && int_le z high) ≡ true → Covered p table (record st { place = st.place + 1 }) (Transfer.set_slot k j (abstract.Int (int_max l low) (int_min h high)))
       cut z l h e p1 p2 t =
           let w = cut_within low high z l h p1 p2 t in
-          let is_z : (v : Value) → Some v ≡ Some (IntValue z) → Within v (abstract.Int (int_max l low) (int_min h high)) = λ v g. let same : IntValue z ≡ v = cc in subst (λ x. Within x (abstract.Int (int_max l low) (int_min h high))) same w in
+          let is_z : (v : TaggedValue) → Some v ≡ Some (IntValue z) → IsAbstractedBy v (abstract.Int (int_max l low) (int_min h high)) = λ v g. let same : IntValue z ≡ v = cc in subst (λ x. IsAbstractedBy x (abstract.Int (int_max l low) (int_min h high))) same w in
           cond_both (Transfer.among k.loops j) _ _ (Covered p table (record st { place = st.place + 1 }))
           (λ a. record { rest = cov.rest; operands = cov.operands; deep = cov.deep; fit_parameters = cov.fit_parameters; fit_loops = set_loops st.loops k.loops st.parameters j _ cov.fit_loops (λ v g. is_z v (sym g ∙ e)); brackets = cov.brackets; roots = cov.roots; under = cov.under })
           (λ a. record { rest = cov.rest; operands = cov.operands; deep = cov.deep; fit_parameters = set_parameters st.parameters k.parameters j _ cov.fit_parameters (λ v g. is_z v (sym g ∙ sym (no_loop st.loops st.parameters j (runs_among st.loops k.loops j cov.fit_loops ∙ a)) ∙ e)); fit_loops = cov.fit_loops; brackets = cov.brackets; roots = cov.roots; under = cov.under })
 
-      by : (v : Option Value) (s : Option AbstractValue) → Machine.value_at st.loops st.parameters j ≡ v → SlotFits v s → FlowIsCovered table (Transfer.with_abstract_slot s (λ u. Transfer.with_interval u (λ l h. Transfer.range_edges st.place to l h low high (Transfer.set_slot k j (abstract.Int (int_max l low) (int_min h high))) k))) → IsSafeStep p table st (op.SlotInRange j low high to) (Machine.with_slot v (λ w. Machine.with_int w (λ z. if int_le low z && int_le z high then Machine.jump_to st (st.place + 1) st.operands else Machine.jump_to st to st.operands)))
+      by : (v : Option TaggedValue) (s : Option AbstractValue) → Machine.value_at st.loops st.parameters j ≡ v → SlotFits v s → FlowIsCovered table (Transfer.with_abstract_slot s (λ u. Transfer.with_interval u (λ l h. Transfer.range_edges st.place to l h low high (Transfer.set_slot k j (abstract.Int (int_max l low) (int_min h high))) k))) → IsSafeStep p table st (op.SlotInRange j low high to) (Machine.with_slot v (λ w. Machine.with_int w (λ z. if int_le low z && int_le z high then Machine.jump_to st (st.place + 1) st.operands else Machine.jump_to st to st.operands)))
       by v None e f fl = absurd fl
       by None (Some s) e f fl = absurd f
       by (Some v) (Some abstract.Bool) e f fl = absurd fl
@@ -242,7 +242,7 @@ module _ (p : Program) (table : Table) (ok : Accepted p table) where
       let t = tested table (nat_lt k.brackets 32) _ fine in
       rw (ap (λ m. nat_lt m 32) cov.brackets ∙ t.0)
       (sim_roots table (IsSafeStep p table st (op.Open kind)) cov.rest st.brackets k.brackets st.roots k.roots _ _ cov.brackets cov.roots
-      (λ r fl. go_on st (op.Open kind) k at cov ar refl _ _ refl refl (one_more st.output (Machine.opening kind))
+      (λ r fl. go_on st (op.Open kind) k at cov ar refl _ _ refl refl (one_more st.output (Machine.opening_token kind))
       (rw (cov.brackets) (renewed st (op.Open kind) k at cov ar refl st.operands k.operands (k.brackets + 1) r _ cov.operands)) fl) t.1)
 
   pub sim_tip : (st : State) (k : AbstractState) (leaf : Leaf) → Straightly st (op.Emit leaf) k
@@ -265,7 +265,7 @@ module _ (p : Program) (table : Table) (ok : Accepted p table) where
   pub sim_call : (st : State) (k : AbstractState) (eq : ℕ) → Straightly st (op.Call eq) k
   sim_call st k eq at cov ar home pl fine = by (slice_get p.callees eq) fine
     where
-      by : (o : Option (List Carrier)) → FlowIsCovered table (Transfer.abstract_call st.place k o) → IsSafeStep p table st (op.Call eq) (Machine.call p st eq o)
+      by : (o : Option (List Carrier)) → FlowIsCovered table (Transfer.abstract_call st.place k o) → IsSafeStep p table st (op.Call eq) (Machine.call_instance p st eq o)
       by None fl = absurd fl
       by (Some cs) fl =
           sim_args table (IsSafeStep p table st (op.Call eq)) cov.rest (reverse cs) st.operands k.operands [] _ _ cov.operands

@@ -12,7 +12,7 @@ use Rattle.pb_trees.specs.Tokens as tokens
 use Rattle.pb_sorts.specs.Carrier.{values_of}
 use Rattle.pb_sorts.specs.Instance.{is_instance}
 use Rattle.pb_sorts.specs.Layout.{carriers_of}
-use Rattle.pb_bytecode_program.specs.Values.{Value, BoolValue, IntValue, EnumValue, untagged, tagged_values, fits64, answers, arithmetic, absolute, divides}
+use Rattle.pb_bytecode_program.specs.Values.{TaggedValue, BoolValue, IntValue, EnumValue, untagged, tagged_values, fits64, answers, arithmetic, absolute, divides}
 use Rattle.pb_bytecode_program.specs.Machine
 use Rattle.pb_bytecode_program.specs.Machine.{Program, Frame, State, Outcome, Continues, Ends, Faults}
 use Rattle.pb_bytecode_program.specs.Safety.{IsInstance}
@@ -33,14 +33,14 @@ abbrev tree_connective : Connective → trees.Connective
 tree_connective connective.And = trees.Conjunction
 tree_connective connective.Or = trees.Disjunction
 
-opening-token : (c : Connective) → tokens.opening (tree_connective c) ≡ Machine.opening c
+opening-token : (c : Connective) → tokens.opening (tree_connective c) ≡ Machine.opening_token c
 opening-token connective.And = refl
 opening-token connective.Or = refl
 
 -- ---- arguments of calls
 
 -- the arguments that are popped are of the carriers
-abbrev AreOf : List Carrier → List Value → Type 0
+abbrev AreOf : List Carrier → List TaggedValue → Type 0
 AreOf cs vs = carriers.is_within (map values_of cs) (map untagged vs) ≡ true
 
 pub reverse_more : {X : Type 0} (x : X) (xs ys : List X) → reverse (x ∷ xs) ++ ys ≡ reverse xs ++ x ∷ ys
@@ -62,23 +62,23 @@ module _ (p : Program) where
   Writes (Ends out) = IsTreeOf IsCall out
   Writes (Faults f) = Unit {0}
 
-  writes_any : (vs : List Value) (go : Value → List Value → Outcome) → ((v : Value) (ws : List Value) → Writes (go v ws)) → Writes (Machine.pop_any vs go)
+  writes_any : (vs : List TaggedValue) (go : TaggedValue → List TaggedValue → Outcome) → ((v : TaggedValue) (ws : List TaggedValue) → Writes (go v ws)) → Writes (Machine.pop_any vs go)
   writes_any [] go k = tt
   writes_any (v ∷ vs) go k = k v vs
 
-  writes_int : (vs : List Value) (go : ℤ → List Value → Outcome) → ((z : ℤ) (ws : List Value) → Writes (go z ws)) → Writes (Machine.pop_int vs go)
+  writes_int : (vs : List TaggedValue) (go : ℤ → List TaggedValue → Outcome) → ((z : ℤ) (ws : List TaggedValue) → Writes (go z ws)) → Writes (Machine.pop_int vs go)
   writes_int [] go k = tt
   writes_int (IntValue z ∷ vs) go k = k z vs
   writes_int (BoolValue b ∷ vs) go k = tt
   writes_int (EnumValue s i ∷ vs) go k = tt
 
-  writes_bool : (vs : List Value) (go : Bool → List Value → Outcome) → ((b : Bool) (ws : List Value) → Writes (go b ws)) → Writes (Machine.pop_bool vs go)
+  writes_bool : (vs : List TaggedValue) (go : Bool → List TaggedValue → Outcome) → ((b : Bool) (ws : List TaggedValue) → Writes (go b ws)) → Writes (Machine.pop_bool vs go)
   writes_bool [] go k = tt
   writes_bool (BoolValue b ∷ vs) go k = k b vs
   writes_bool (IntValue z ∷ vs) go k = tt
   writes_bool (EnumValue s i ∷ vs) go k = tt
 
-  writes_args : (cs ds : List Carrier) (args vs : List Value) (go : List Value → List Value → Outcome) → AreOf ds args → ((us ws : List Value) → AreOf (reverse cs ++ ds) us → Writes (go us ws)) → Writes (Machine.pop_args cs args vs go)
+  writes_args : (cs ds : List Carrier) (args vs : List TaggedValue) (go : List TaggedValue → List TaggedValue → Outcome) → AreOf ds args → ((us ws : List TaggedValue) → AreOf (reverse cs ++ ds) us → Writes (go us ws)) → Writes (Machine.pop_args cs args vs go)
   writes_args [] ds args vs go a k = k args vs a
   writes_args (c ∷ cs) ds args [] go a k = tt
   writes_args (c ∷ cs) ds args (v ∷ vs) go a k = by (Machine.argument_fault v c) refl (λ e. writes_args cs (c ∷ ds) (v ∷ args) vs go (and_from _ _ (untagged_contained v c e) a) (λ us ws w. k us ws (subst (λ es. AreOf es us) (sym (reverse_more c cs ds)) w)))
@@ -88,27 +88,27 @@ module _ (p : Program) where
       by (Some f) e k' = tt
 
   module _ (st : State) (w : Written IsCall st.brackets st.roots st.output) where
-    writes_push : (vs : List Value) (v : Value) → Writes (Machine.push st vs v)
+    writes_push : (vs : List TaggedValue) (v : TaggedValue) → Writes (Machine.push st vs v)
     writes_push vs v = cond_both (nat_lt (length vs) 32) _ _ Writes (λ e. w) (λ e. tt)
 
-    writes_push_int : (vs : List Value) (z : ℤ) → Writes (Machine.push_int st vs z)
+    writes_push_int : (vs : List TaggedValue) (z : ℤ) → Writes (Machine.push_int st vs z)
     writes_push_int vs z = cond_both (fits64 z z) _ _ Writes (λ e. writes_push vs (IntValue z)) (λ e. tt)
 
-    writes_equality : (vs : List Value) (wanted : Equality) (o : Option Bool) → Writes (Machine.push_equality st vs wanted o)
+    writes_equality : (vs : List TaggedValue) (wanted : Equality) (o : Option Bool) → Writes (Machine.push_equality st vs wanted o)
     writes_equality vs wanted None = tt
     writes_equality vs wanted (Some b) = writes_push vs (BoolValue (answers wanted b))
 
-    writes_slot : (o : Option Value) (go : Value → Outcome) → ((v : Value) → Writes (go v)) → Writes (Machine.with_slot o go)
+    writes_slot : (o : Option TaggedValue) (go : TaggedValue → Outcome) → ((v : TaggedValue) → Writes (go v)) → Writes (Machine.with_slot o go)
     writes_slot None go k = tt
     writes_slot (Some v) go k = k v
 
-    writes_with_int : (v : Value) (go : ℤ → Outcome) → ((z : ℤ) → Writes (go z)) → Writes (Machine.with_int v go)
+    writes_with_int : (v : TaggedValue) (go : ℤ → Outcome) → ((z : ℤ) → Writes (go z)) → Writes (Machine.with_int v go)
     writes_with_int (IntValue z) go k = k z
     writes_with_int (BoolValue b) go k = tt
     writes_with_int (EnumValue s i) go k = tt
 
     -- a leaf
-    writes_leaf : (l : trees.Leaf) (place : ℕ) (vs : List Value) (loops : List Frame) → trees.LeafCalls IsCall l → Writes (Machine.with_root st.brackets st.roots (λ r. Continues (record { place = place; operands = vs; parameters = st.parameters; loops = loops; brackets = st.brackets; roots = r; output = st.output ++ tokens.leaf_token l ∷ [] })))
+    writes_leaf : (l : trees.Leaf) (place : ℕ) (vs : List TaggedValue) (loops : List Frame) → trees.LeafCalls IsCall l → Writes (Machine.with_root st.brackets st.roots (λ r. Continues (record { place = place; operands = vs; parameters = st.parameters; loops = loops; brackets = st.brackets; roots = r; output = st.output ++ tokens.leaf_token l ∷ [] })))
     writes_leaf l place vs loops c = by st.brackets st.roots w
       where
         by : (n r : ℕ) → Written IsCall n r st.output → Writes (Machine.with_root n r (λ s. Continues (record { place = place; operands = vs; parameters = st.parameters; loops = loops; brackets = n; roots = s; output = st.output ++ tokens.leaf_token l ∷ [] })))
@@ -145,7 +145,7 @@ module _ (p : Program) where
     writes_end [] zero (suc zero) e = e
     writes_end [] zero (suc (suc r)) e = tt
 
-    writes_enter : (i : ℕ) (vs : List Value) → Writes (Machine.enter_loop st i vs)
+    writes_enter : (i : ℕ) (vs : List TaggedValue) → Writes (Machine.enter_loop st i vs)
     writes_enter i [] = tt
     writes_enter i (v ∷ vs) = w
 
@@ -153,7 +153,7 @@ module _ (p : Program) where
     writes_begin i None = tt
     writes_begin i (Some c) = cond_both (nat_lt (length st.loops) 8 && not (Machine.is_running st.loops i)) _ (Faults Machine.Loop) Writes (λ e. writes_enter i (tagged_values c)) (λ e. tt)
 
-    writes_turn : (f : Frame) (fs : List Frame) (vs : List Value) → Writes (Machine.next_turn st f fs vs)
+    writes_turn : (f : Frame) (fs : List Frame) (vs : List TaggedValue) → Writes (Machine.next_turn st f fs vs)
     writes_turn f fs [] = w
     writes_turn f fs (v ∷ vs) = w
 
@@ -161,7 +161,7 @@ module _ (p : Program) where
     writes_next [] = tt
     writes_next (f ∷ fs) = writes_turn f fs f.remaining
 
-    writes_call : (eq : ℕ) (o : Option (List Carrier)) → slice_get p.callees eq ≡ o → Writes (Machine.call p st eq o)
+    writes_call : (eq : ℕ) (o : Option (List Carrier)) → slice_get p.callees eq ≡ o → Writes (Machine.call_instance p st eq o)
     writes_call eq None e = tt
     writes_call eq (Some cs) e =
         writes_args (reverse cs) [] [] st.operands _ refl (λ us ws a.

@@ -4,17 +4,17 @@ use Rattle.pb_sorts.specs.declared.carrier.Carrier.{Carrier}
 use Rattle.pb_sorts.specs.declared.carrier.Carrier.TheVariants as carrier
 use Rattle.pb_intervals.specs.Interval.{IntegerInterval}
 use Rattle.pb_intervals.specs.Operation.{binary_interval, absolute_values}
-use Rattle.pb_bytecode_program.specs.Values.{Value, BoolValue, IntValue, EnumValue, operation_of}
-use Rattle.pb_bytecode_program.specs.declared.abstract_value.AbstractValue.{AbstractValue}
-use Rattle.pb_bytecode_program.specs.declared.abstract_value.AbstractValue.TheVariants as abstract
+use Rattle.pb_bytecode_program.specs.Values.{TaggedValue, BoolValue, IntValue, EnumValue, operation_of}
+use Rattle.pb_bytecode_program.specs.declared.domain.AbstractValue.{AbstractValue}
+use Rattle.pb_bytecode_program.specs.declared.domain.AbstractValue.TheVariants as abstract
 use Rattle.pb_bytecode_program.specs.declared.instruction.Arithmetic.{Arithmetic}
 
 -- the value is one of those that the abstract value stands for
-abbrev pub Within : Value → AbstractValue → Type 0
-Within (BoolValue b) abstract.Bool = Unit {0}
-Within (IntValue z) (abstract.Int l h) = (l ≤ℤ z) × (z ≤ℤ h)
-Within (EnumValue s i) (abstract.Enum t n) = (s ≡ t) × (i < n)
-Within _ _ = ⊥
+abbrev pub IsAbstractedBy : TaggedValue → AbstractValue → Type 0
+IsAbstractedBy (BoolValue b) abstract.Bool = Unit {0}
+IsAbstractedBy (IntValue z) (abstract.Int l h) = (l ≤ℤ z) × (z ≤ℤ h)
+IsAbstractedBy (EnumValue s i) (abstract.Enum t n) = (s ≡ t) × (i < n)
+IsAbstractedBy _ _ = ⊥
 
 -- the second stands for each value of the first, whose interval isn't empty
 abbrev pub Covers : AbstractValue → AbstractValue → Type 0

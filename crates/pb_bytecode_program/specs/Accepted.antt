@@ -7,7 +7,7 @@ use Rattle.pb_bytecode_program.specs.Abstract.{Covers, abstraction_of}
 use Rattle.pb_bytecode_program.specs.Machine.{Program, carrier_of}
 use Rattle.pb_bytecode_program.specs.Counts.{Leaves, loop_effect, loops_around, static_steps, static_tokens}
 use Rattle.pb_bytecode_program.specs.Transfer.{AbstractState, Edge, Flow, transfer}
-use Rattle.pb_bytecode_program.specs.declared.abstract_value.AbstractValue.{AbstractValue}
+use Rattle.pb_bytecode_program.specs.declared.domain.AbstractValue.{AbstractValue}
 use Rattle.pb_bytecode_program.specs.declared.instruction.Op.{Op}
 use Rattle.pb_bytecode_program.specs.declared.instruction.Op.TheVariants as op
 

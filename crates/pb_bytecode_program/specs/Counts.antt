@@ -36,9 +36,9 @@ abbrev pub loops_around : List Op → ℕ → List ℕ
 loops_around code q = loops_open_after code 0 [] q
 
 -- how many values a loop slot's carrier has
-abbrev pub size_of : Option Carrier → ℕ
-size_of None = 0
-size_of (Some c) = length (tagged_values c)
+abbrev pub carrier_size : Option Carrier → ℕ
+carrier_size None = 0
+carrier_size (Some c) = length (tagged_values c)
 
 -- how often an instruction runs in the loops that were opened, given the product for each
 abbrev pub multiplier : List ℕ → ℕ
@@ -48,7 +48,7 @@ multiplier (w ∷ ws) = w
 -- an instruction's cost times the product of the loops around it, and the cost of what follows
 abbrev pub cost_by : Program → LoopEffect → ℕ → List ℕ → (List ℕ → ℕ) → ℕ
 cost_by p (Enters i) c ws rest =
-    multiplier ws * c + rest (multiplier ws * size_of (carrier_of p i) ∷ ws)
+    multiplier ws * c + rest (multiplier ws * carrier_size (carrier_of p i) ∷ ws)
 cost_by p Leaves c [] rest = c
 cost_by p Leaves c (w ∷ ws) rest = w * c + rest ws
 cost_by p Straight c ws rest = multiplier ws * c + rest ws

@@ -7,7 +7,7 @@ use Rattle.pb_sorts.specs.Layout.{carriers_of}
 use Rattle.pb_trees.specs.declared.Token.{Token}
 use Rattle.pb_trees.specs.declared.Token.TheVariants as token
 use Rattle.pb_limits.specs.declared.TheConstants.{MAX_OPERANDS, MAX_BRACKETS, MAX_LOOPS}
-use Rattle.pb_bytecode_program.specs.Values.{Value, BoolValue, IntValue, EnumValue, tagged_values, untagged, arithmetic, divides, absolute, compares, equals, answers, connects, fits64}
+use Rattle.pb_bytecode_program.specs.Values.{TaggedValue, BoolValue, IntValue, EnumValue, tagged_values, untagged, arithmetic, divides, absolute, compares, equals, answers, connects, fits64}
 use Rattle.pb_sorts.specs.declared.carrier.Carrier.{Carrier}
 use Rattle.pb_sorts.specs.declared.carrier.Carrier.TheVariants as carrier
 use Rattle.pb_bytecode_program.specs.declared.instruction.Connective.{Connective}
@@ -46,13 +46,13 @@ pub data MachineFault : Type 0 where
 pub record Frame : Type 0 where
   pub loop_place : ℕ
   pub slot : ℕ
-  pub value : Value
-  pub remaining : List Value
+  pub value : TaggedValue
+  pub remaining : List TaggedValue
 
 pub record State : Type 0 where
   pub place : ℕ
-  pub operands : List Value  -- the topmost first
-  pub parameters : List Value
+  pub operands : List TaggedValue  -- the topmost first
+  pub parameters : List TaggedValue
   pub loops : List Frame  -- the innermost first
   pub brackets : ℕ  -- how many are open
   pub roots : ℕ  -- how many leaves and brackets were written outside brackets
@@ -66,9 +66,9 @@ pub data Outcome : Type 0 where
 
 -- ---- tokens
 
-abbrev pub opening : Connective → Token
-opening And = token.And
-opening Or = token.Or
+abbrev pub opening_token : Connective → Token
+opening_token And = token.And
+opening_token Or = token.Or
 
 abbrev pub leaf : Leaf → Token
 leaf Yes = token.Yes
@@ -78,39 +78,39 @@ leaf Cut = token.Cut
 -- ---- operands
 
 -- the topmost operand, then what is done with it and the rest
-abbrev pub pop_any : List Value → (Value → List Value → Outcome) → Outcome
+abbrev pub pop_any : List TaggedValue → (TaggedValue → List TaggedValue → Outcome) → Outcome
 pop_any [] go = Faults MissingOperand
 pop_any (v ∷ vs) go = go v vs
 
-abbrev pub pop_int : List Value → (ℤ → List Value → Outcome) → Outcome
+abbrev pub pop_int : List TaggedValue → (ℤ → List TaggedValue → Outcome) → Outcome
 pop_int [] go = Faults MissingOperand
 pop_int (IntValue z ∷ vs) go = go z vs
 pop_int (BoolValue b ∷ vs) go = Faults WrongKind
 pop_int (EnumValue s i ∷ vs) go = Faults WrongKind
 
-abbrev pub pop_bool : List Value → (Bool → List Value → Outcome) → Outcome
+abbrev pub pop_bool : List TaggedValue → (Bool → List TaggedValue → Outcome) → Outcome
 pop_bool [] go = Faults MissingOperand
 pop_bool (BoolValue b ∷ vs) go = go b vs
 pop_bool (IntValue z ∷ vs) go = Faults WrongKind
 pop_bool (EnumValue s i ∷ vs) go = Faults WrongKind
 
 -- pushes a value and goes on at the next place
-abbrev pub push : State → List Value → Value → Outcome
+abbrev pub push : State → List TaggedValue → TaggedValue → Outcome
 push st vs v =
     if nat_lt (length vs) MAX_OPERANDS
     then Continues (record st { place = st.place + 1; operands = v ∷ vs })
     else Faults Depth
 
-abbrev pub push_int : State → List Value → ℤ → Outcome
+abbrev pub push_int : State → List TaggedValue → ℤ → Outcome
 push_int st vs z = if fits64 z z then push st vs (IntValue z) else Faults Overflow
 
 -- pushes the answer, where the two values are of one kind
-abbrev pub push_equality : State → List Value → Equality → Option Bool → Outcome
+abbrev pub push_equality : State → List TaggedValue → Equality → Option Bool → Outcome
 push_equality st vs wanted None = Faults WrongKind
 push_equality st vs wanted (Some b) = push st vs (BoolValue (answers wanted b))
 
 -- what is wrong with an argument
-abbrev pub argument_fault : Value → Carrier → Option MachineFault
+abbrev pub argument_fault : TaggedValue → Carrier → Option MachineFault
 argument_fault (BoolValue b) carrier.Bool = None
 argument_fault (IntValue z) (carrier.Range range) =
     if int_le range.low z && int_le z range.high then None else Some Argument
@@ -123,8 +123,9 @@ abbrev pub fault_or : Option MachineFault → Outcome → Outcome
 fault_or None next = next
 fault_or (Some f) next = Faults f
 
--- the arguments of a call, from the last one down
-abbrev pub pop_args : List Carrier → List Value → List Value → (List Value → List Value → Outcome)
+-- the arguments of a call_instance, from the last one down
+abbrev pub pop_args : List Carrier → List TaggedValue → List TaggedValue
+    → (List TaggedValue → List TaggedValue → Outcome)
     → Outcome
 pop_args [] args vs go = go args vs
 pop_args (c ∷ cs) args [] go = Faults MissingOperand
@@ -133,7 +134,7 @@ pop_args (c ∷ cs) args (v ∷ vs) go = fault_or (argument_fault v c) (pop_args
 -- ---- slots
 
 -- the value of a slot: of a loop under way, else of a parameter
-abbrev pub value_at : List Frame → List Value → ℕ → Option Value
+abbrev pub value_at : List Frame → List TaggedValue → ℕ → Option TaggedValue
 value_at [] parameters i = slice_get parameters i
 value_at (f ∷ fs) parameters i = if i == f.slot then Some f.value else value_at fs parameters i
 
@@ -142,11 +143,11 @@ abbrev pub is_running : List Frame → ℕ → Bool
 is_running [] i = false
 is_running (f ∷ fs) i = (i == f.slot) || is_running fs i
 
-abbrev pub with_slot : Option Value → (Value → Outcome) → Outcome
+abbrev pub with_slot : Option TaggedValue → (TaggedValue → Outcome) → Outcome
 with_slot None go = Faults NoSlot
 with_slot (Some v) go = go v
 
-abbrev pub with_int : Value → (ℤ → Outcome) → Outcome
+abbrev pub with_int : TaggedValue → (ℤ → Outcome) → Outcome
 with_int (IntValue z) go = go z
 with_int (BoolValue b) go = Faults WrongKind
 with_int (EnumValue s i) go = Faults WrongKind
@@ -179,7 +180,7 @@ abbrev pub carrier_of : Program → ℕ → Option Carrier
 carrier_of p i =
     if nat_lt i (length p.parameters) then None else slice_get p.loops (i - length p.parameters)
 
-abbrev pub enter_loop : State → ℕ → List Value → Outcome
+abbrev pub enter_loop : State → ℕ → List TaggedValue → Outcome
 enter_loop st i [] = Faults Loop
 enter_loop st i (v ∷ left) =
     Continues
@@ -196,7 +197,7 @@ begin_loop st i (Some c) =
     then enter_loop st i (tagged_values c) else Faults Loop
 
 -- the next value of the loop, or the place after its NEXT where none remains
-abbrev pub next_turn : State → Frame → List Frame → List Value → Outcome
+abbrev pub next_turn : State → Frame → List Frame → List TaggedValue → Outcome
 next_turn st f fs [] = Continues (record st { place = st.place + 1; loops = fs })
 next_turn st f fs (v ∷ left) =
     Continues
@@ -212,13 +213,13 @@ repeat_or_leave st (f ∷ fs) = next_turn st f fs f.remaining
 -- ---- calls
 
 -- the number of an equation's instance
-abbrev pub number : Program → ℕ → List Value → ℕ
+abbrev pub number : Program → ℕ → List TaggedValue → ℕ
 number p eq args =
     number_of (carriers_of p.callees) (record { equation = eq; values = map untagged args })
 
-abbrev pub call : Program → State → ℕ → Option (List Carrier) → Outcome
-call p st eq None = Faults NoCallee
-call p st eq (Some cs) =
+abbrev pub call_instance : Program → State → ℕ → Option (List Carrier) → Outcome
+call_instance p st eq None = Faults NoCallee
+call_instance p st eq (Some cs) =
     pop_args (reverse cs) [] st.operands (λ args vs.
     with_root st.brackets st.roots (λ r.
     Continues
@@ -231,7 +232,7 @@ call p st eq (Some cs) =
 
 -- ---- one instruction
 
-abbrev pub jump_to : State → ℕ → List Value → Outcome
+abbrev pub jump_to : State → ℕ → List TaggedValue → Outcome
 jump_to st to vs = Continues (record st { place = to; operands = vs })
 
 -- what an instruction does
@@ -276,7 +277,7 @@ execute p (op.Open c) st =
       place = st.place + 1;
       brackets = st.brackets + 1;
       roots = r;
-      output = st.output ++ opening c ∷ [];
+      output = st.output ++ opening_token c ∷ [];
     }))
     else Faults Bracket
 execute p op.Close st =
@@ -287,7 +288,7 @@ execute p (op.Emit l) st =
     with_root st.brackets st.roots
     (λ r. Continues
     (record st { place = st.place + 1; roots = r; output = st.output ++ leaf l ∷ [] }))
-execute p (op.Call eq) st = call p st eq (slice_get p.callees eq)
+execute p (op.Call eq) st = call_instance p st eq (slice_get p.callees eq)
 
 abbrev pub execute_at : Program → Option Op → State → Outcome
 execute_at p None st = Faults NoPlace
@@ -309,7 +310,7 @@ run p zero st = Continues st
 run p (suc n) st = and_then (step p st) (run p n)
 
 -- the state at place 0 with the parameters' values
-abbrev pub start : List Value → State
+abbrev pub start : List TaggedValue → State
 start args =
     record {
       place = 0;

@@ -7,13 +7,13 @@ use Rattle.pb_sorts.specs.Layout.{carriers_of}
 use Rattle.pb_trees.specs.Tree.{Tree, TreeCalls}
 use Rattle.pb_trees.specs.Tokens.{tree_tokens}
 use Rattle.pb_sorts.specs.Carrier.{values_of}
-use Rattle.pb_bytecode_program.specs.Values.{Value, tagged}
+use Rattle.pb_bytecode_program.specs.Values.{TaggedValue, tagged}
 use Rattle.pb_bytecode_program.specs.Machine.{Program, Ends, Faults, MachineFault, run, start}
 use Rattle.pb_bytecode_program.specs.Counts.{static_steps, static_tokens}
 use Rattle.pb_sorts.specs.declared.carrier.Carrier.{Carrier}
 
 -- a tuple's values with the kinds of its carriers
-abbrev pub arguments : List Carrier → Tuple → List Value
+abbrev pub arguments : List Carrier → Tuple → List TaggedValue
 arguments (c ∷ cs) (z ∷ zs) = tagged c z ∷ arguments cs zs
 arguments _ _ = []
 

@@ -3,7 +3,7 @@
 use Rattle.std.specs.Prelude.{ℕ, Bool, true, false, not, ◌&&◌, ◌||◌, List, [], ◌∷◌, map, Option, Some, None, ℤ, pos, int_lt, int_le, ◌==◌, nat_lt, if◌then◌else◌, unsigned_abs}
 use Rattle.std.specs.Ordering.{int_eq}
 use Rattle.pb_carriers.specs.Carrier as carriers
-use Rattle.pb_intervals.specs.Interval.{is_within, words}
+use Rattle.pb_intervals.specs.Interval.{is_included, words}
 use Rattle.pb_intervals.specs.Operation.{UnaryOperation, BinaryOperation, unary_value, binary_value}
 use Rattle.pb_intervals.specs.Operation as operation
 use Rattle.pb_sorts.specs.Carrier.{values_of}
@@ -19,27 +19,27 @@ use Rattle.pb_bytecode_program.specs.declared.instruction.Connective.{Connective
 use Rattle.pb_bytecode_program.specs.declared.instruction.Connective.TheVariants.{And, Or}
 
 -- an operand with its kind
-pub data Value : Type 0 where
-  BoolValue : Bool → Value
-  IntValue : ℤ → Value
-  EnumValue : (sort index : ℕ) → Value
+pub data TaggedValue : Type 0 where
+  BoolValue : Bool → TaggedValue
+  IntValue : ℤ → TaggedValue
+  EnumValue : (sort index : ℕ) → TaggedValue
 
 -- ---- carriers
 
 -- a value of a carrier, with its kind
-abbrev pub tagged : Carrier → carriers.Value → Value
+abbrev pub tagged : Carrier → carriers.Value → TaggedValue
 tagged carrier.Bool z = BoolValue (not (int_eq z (pos 0)))
 tagged (carrier.Enum enum) z = EnumValue enum.sort (unsigned_abs z)
 tagged (carrier.Range range) z = IntValue z
 
 -- a value without its kind
-abbrev pub untagged : Value → carriers.Value
+abbrev pub untagged : TaggedValue → carriers.Value
 untagged (BoolValue b) = carriers.of_bool b
 untagged (IntValue z) = z
 untagged (EnumValue s i) = pos i
 
 -- a carrier's values with their kind, in order
-abbrev pub tagged_values : Carrier → List Value
+abbrev pub tagged_values : Carrier → List TaggedValue
 tagged_values c = map (tagged c) (values_of c)
 
 abbrev pub is_inhabited : Carrier → Bool
@@ -75,7 +75,7 @@ compares Greater a b = int_lt b a
 compares GreaterOrEqual a b = int_le b a
 
 -- whether two values are equal, or none for two kinds
-abbrev pub equals : Value → Value → Option Bool
+abbrev pub equals : TaggedValue → TaggedValue → Option Bool
 equals (BoolValue a) (BoolValue b) = Some ((a && b) || (not a && not b))
 equals (IntValue a) (IntValue b) = Some (int_le a b && int_le b a)
 equals (EnumValue s i) (EnumValue t j) = if s == t then Some (i == j) else None
@@ -99,4 +99,4 @@ greatest64 = words.high
 
 -- each number from l to h is one of 64 bits
 abbrev pub fits64 : ℤ → ℤ → Bool
-fits64 l h = is_within (record { low = l; high = h }) words
+fits64 l h = is_included (record { low = l; high = h }) words

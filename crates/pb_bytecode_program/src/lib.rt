@@ -6,10 +6,10 @@
 //! machine, so that these agree on one definition each.
 #![tactic(auto)]
 
-pub mod abstract_value;
+pub mod domain;
 pub mod instruction;
 pub mod laws;
 
-pub use abstract_value::AbstractValue;
+pub use domain::AbstractValue;
 pub use instruction::{Arithmetic, Comparison, Connective, Equality, Leaf, Op};
 pub use laws::{accepted_is_safe, transfer_is_monotone};

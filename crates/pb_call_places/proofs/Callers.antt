@@ -25,7 +25,7 @@ use Rattle.pb_text_meaning.specs.Syntax.{Equation, Name, Spec}
 use Rattle.pb_typing_declarations.specs.Entries.{shape_of, shapes_of}
 use Rattle.pb_typing_declarations.specs.Shapes.{Shape}
 use Rattle.pb_typing_rules.specs.Formula.{IsProper}
-use Rattle.pb_typing_rules.specs.WellTyped.{AreProper, IsWellTyped, parameters_of}
+use Rattle.pb_typing_rules.specs.WellTyped.{AreProper, IsWellTyped, parameter_scope}
 use Rattle.pb_typed_tree.specs.Calls.{call_places, calls_in}
 use Rattle.pb_typed_tree.specs.Elaboration.{elaborated_equation, unslotted, with_slots}
 use Rattle.pb_typed_tree.specs.Equations.{Hold}
@@ -68,10 +68,10 @@ rest-clear (v ∷ vs) m (suc s) le = rest-clear vs m s (omega (arith, le))
 -- ---- the first call of a text's equation
 
 proper-at : (spec : Spec) (E : List Equation) (k : ℕ) (X : Equation) → AreProper spec E
-    → slice_get E k ≡ Some X → IsProper spec true (parameters_of spec X) X.right
+    → slice_get E k ≡ Some X → IsProper spec true (parameter_scope spec X) X.right
 proper-at spec [] k X proper at = cc
 proper-at spec (Y ∷ E) zero X proper at =
-    subst (λ (Z : Equation). IsProper spec true (parameters_of spec Z) Z.right)
+    subst (λ (Z : Equation). IsProper spec true (parameter_scope spec Z) Z.right)
     (same_Some Y X at) proper.0
 proper-at spec (Y ∷ E) (suc k) X proper at = proper-at spec E k X proper.1 at
 
@@ -135,7 +135,7 @@ first-kept text well i j X Y at at_called slots count hold =
     let xs = erased_variables X.parameters in
     let ps = calls_in X.right in
     let there = slice_get-mapped erased_equation text.equations i.equation X at in
-    let scope = parameters_of S (erased_equation X) in
+    let scope = parameter_scope S (erased_equation X) in
     let proper = proper-at S S.equations i.equation (erased_equation X) well.rights there in
     let a = assigned xs i.values [] in
     let c = with_slots xs 0 unslotted in

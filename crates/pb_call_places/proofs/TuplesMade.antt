@@ -36,7 +36,7 @@ use Rattle.pb_evaluation.proofs.Slots.{length-put, placed, put-clear, put-slots}
 use Rattle.pb_evaluation.proofs.Nested.{any-map, shape-values}
 use Rattle.pb_call_places.specs.Loops.{Holds, holding, tuples_of}
 use Rattle.pb_call_places.specs.Made.{made}
-use Rattle.pb_call_places.specs.Sought.{Fits, IsOf, is_made}
+use Rattle.pb_call_places.specs.Sought.{FitsValues, IsOf, is_made}
 use Rattle.pb_call_places.specs.declared.loops.Loops.{Loops}
 use Rattle.pb_call_places.specs.declared.sought.Sought.{Sought}
 use Rattle.pb_call_places.proofs.Holding.{held, replaced, tuple-length}
@@ -133,8 +133,8 @@ module _ (s : Sought) (l : Loops) (body : Formula) (outer : Tuple) where
       let count = tuple-length l w.place w.holds.tuple w.holds.at in
       omega (arith, long, count, w.holds.room)
 
-  pub body-fits : (slots : Tuple) → Fits s outer whole → IsUnderWay slots
-      → Fits s slots (formula_view body)
+  pub body-fits : (slots : Tuple) → FitsValues s outer whole → IsUnderWay slots
+      → FitsValues s slots (formula_view body)
   body-fits slots fits w =
       let h = w.holds in
       let k = length s.environment.layout.now in
@@ -188,7 +188,7 @@ module _ (s : Sought) (l : Loops) (body : Formula) (outer : Tuple) where
       ∙ ap (list_any p) none))
 
   -- zeros in the quantifier's slots are what was there
-  pub cleared : (slots : Tuple) → Fits s outer whole → (w : IsUnderWay slots)
+  pub cleared : (slots : Tuple) → FitsValues s outer whole → (w : IsUnderWay slots)
       → holding l slots (map (λ v. pos 0) w.holds.tuple) ≡ outer
   cleared slots fits w =
       let h = w.holds in

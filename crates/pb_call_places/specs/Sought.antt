@@ -19,8 +19,8 @@ abbrev pub IsOf : Sought → Spec → Type 0
 IsOf s spec = IsLaidOut spec s.environment.layout.now
 
 -- a formula can be evaluated over slots
-abbrev pub Fits : Sought → Tuple → tree.Formula → Type 0
-Fits s vs f = FormulaFits (length s.environment.layout.now) (length vs) (slots_of vs) f
+abbrev pub FitsValues : Sought → Tuple → tree.Formula → Type 0
+FitsValues s vs f = FormulaFits (length s.environment.layout.now) (length vs) (slots_of vs) f
 
 -- whether a formula makes the call
 abbrev pub is_made : Spec → Sought → Slots → Formula → Bool

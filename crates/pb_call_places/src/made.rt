@@ -9,7 +9,7 @@ ghost use Rattle.pb_typed_tree.specs.View.{formula_view, nested};
 ghost use Rattle.pb_evaluation.specs.Slots.{slots_of};
 ghost use Rattle.pb_call_places.specs.Calls.{decides};
 ghost use Rattle.pb_call_places.specs.Made.{is_deciding, made};
-ghost use Rattle.pb_call_places.specs.Sought.{Fits, IsOf, is_made};
+ghost use Rattle.pb_call_places.specs.Sought.{FitsValues, IsOf, is_made};
 
 use crate::calls::{has_call_at, is_test, same_place};
 use crate::loops::Loops;
@@ -36,7 +36,7 @@ fn is_deciding(
     slots: &mut [i64],
     sought: &Sought<'_>,
 ) -> bool
-    requires { Fits sought.now slots.old (formula_view operand.now) }
+    requires { FitsValues sought.now slots.old (formula_view operand.now) }
     ensures deciding { (spec : Spec) → IsOf sought.now spec → result
         ≡ is_deciding spec (slots_of slots.old) connective (formula_view operand.now) }
     ensures kept { slots.new ≡ slots.old }
@@ -52,7 +52,7 @@ fn is_deciding(
 /// again afterwards.
 #[cycle(made)]
 pub(crate) fn makes_call(formula: &Formula, slots: &mut [i64], sought: &Sought<'_>) -> bool
-    requires { Fits sought.now slots.old (formula_view formula.now) }
+    requires { FitsValues sought.now slots.old (formula_view formula.now) }
     ensures made { (spec : Spec) → IsOf sought.now spec → result
         ≡ is_made spec sought.now (slots_of slots.old) formula.now }
     ensures kept { slots.new ≡ slots.old }
@@ -109,7 +109,7 @@ pub(crate) fn makes_call(formula: &Formula, slots: &mut [i64], sought: &Sought<'
 /// Whether a formula makes the call for some values of a quantifier's slots.
 #[cycle(made)]
 fn makes_call_for(loops: &Loops<'_>, body: &Formula, slots: &mut [i64], sought: &Sought<'_>) -> bool
-    requires { Fits sought.now slots.old
+    requires { FitsValues sought.now slots.old
         (nested Exists loops.now.slot loops.now.carriers.now (formula_view body.now)) }
     ensures made { (spec : Spec) → IsOf sought.now spec → result
         ≡ made spec (instance_of sought.now.called.now) sought.now.place (slots_of slots.old)

@@ -70,8 +70,8 @@ abbrev pub translating_shape : List ℕ → Shape
 translating_shape name = record (new_shape name) { rules = property_rule ∷ [] }
 
 -- the program, which needs a command, and the commands of texts
-abbrev pub text_line : App
-text_line =
+abbrev pub text_commands : App
+text_commands =
     let bare = on_top (λ s. record s { subcommand_required = true }) (new_app (codes "pbsolve")) in
     let solve = with_subcommand bare (solving_shape (codes "solve")) in
     let game = with_subcommand solve (exploring_shape (codes "game")) in
@@ -83,7 +83,7 @@ text_line =
 -- the command line, as clap reads it
 abbrev pub command_line : App
 command_line =
-    let verify = with_subcommand text_line (new_shape (codes "verify")) in
+    let verify = with_subcommand text_commands (new_shape (codes "verify")) in
     let listing = with_subcommand verify (new_shape (codes "list")) in
     let solve_code = with_subcommand listing (solving_shape (codes "solve-code")) in
     let translate = with_subcommand solve_code (translating_shape (codes "translate")) in

@@ -23,7 +23,7 @@ use Rattle.pb_typed_tree.specs.Meaning.{Slots, set, truth}
 use Rattle.pb_typed_tree.specs.View.{nested}
 use Rattle.pb_typed_tree.specs.Fits.{FormulaFits}
 use Rattle.pb_typed_tree.proofs.Expanded.{same-of-values}
-use Rattle.pb_evaluation.specs.Quantifier.{deciding}
+use Rattle.pb_evaluation.specs.Quantifier.{deciding_truth}
 use Rattle.pb_evaluation.proofs.Slots.{placed}
 use Rattle.pb_evaluation.proofs.Runs.{all_tuples, least, run-contains}
 
@@ -80,7 +80,7 @@ truth-nested S t q f (c ∷ cs) s a =
 -- ---- one tuple after the other
 
 -- a tuple that decides
-pub decided : (q : Quantifier) (p : Tuple → Bool) (ts : List Tuple) (k : ℕ) (vs : Tuple) → slice_get ts k ≡ Some vs → p vs ≡ deciding q → of_tuples q p ts ≡ deciding q
+pub decided : (q : Quantifier) (p : Tuple → Bool) (ts : List Tuple) (k : ℕ) (vs : Tuple) → slice_get ts k ≡ Some vs → p vs ≡ deciding_truth q → of_tuples q p ts ≡ deciding_truth q
 decided q p [] k vs at is = absurd (none-some vs at)
 decided Forall p (u ∷ ts) zero vs at is = ap (λ b. b && list_all p ts) (ap p (same_Some u vs at) ∙ is)
 decided Exists p (u ∷ ts) zero vs at is = ap (λ b. b || list_any p ts) (ap p (same_Some u vs at) ∙ is)
@@ -96,7 +96,7 @@ decided Exists p (u ∷ ts) (suc k) vs at is = ap (λ b. p u || b) (decided Exis
     or-true false = refl
 
 -- no tuple decides
-pub undecided : (q : Quantifier) (p : Tuple → Bool) (ts : List Tuple) → ((k : ℕ) (vs : Tuple) → slice_get ts k ≡ Some vs → p vs ≡ not (deciding q)) → of_tuples q p ts ≡ not (deciding q)
+pub undecided : (q : Quantifier) (p : Tuple → Bool) (ts : List Tuple) → ((k : ℕ) (vs : Tuple) → slice_get ts k ≡ Some vs → p vs ≡ not (deciding_truth q)) → of_tuples q p ts ≡ not (deciding_truth q)
 undecided Forall p [] h = refl
 undecided Exists p [] h = refl
 undecided Forall p (u ∷ ts) h = ap (λ b. b && list_all p ts) (h 0 u refl) ∙ undecided Forall p ts (λ k vs at. h (suc k) vs at)

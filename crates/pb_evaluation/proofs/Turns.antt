@@ -22,7 +22,7 @@ use Rattle.pb_typed_tree.specs.Meaning.{Slots, truth}
 use Rattle.pb_typed_tree.specs.View.{nested}
 use Rattle.pb_typed_tree.specs.Fits.{FormulaFits}
 use Rattle.pb_evaluation.specs.Environment.{IsLaidOut, environment_of}
-use Rattle.pb_evaluation.specs.Quantifier.{deciding}
+use Rattle.pb_evaluation.specs.Quantifier.{deciding_truth}
 use Rattle.pb_evaluation.specs.Slots.{slots_of}
 use Rattle.pb_evaluation.proofs.Runs.{all_tuples}
 use Rattle.pb_evaluation.proofs.Slots.{placed, put, put-slots, read-put, length-put, put-put, put-clear}
@@ -50,7 +50,7 @@ module _ (layout : List (List Carrier)) (truths : List Bool) (q : Quantifier) (f
     pub place : ℕ
     pub at : slice_get (all_tuples cs) place ≡ Some values
     pub now : cur ≡ put xs slot values
-    pub before : (S : Spec) → IsLaidOut S layout → (j : ℕ) (ws : Tuple) → j < place → slice_get (all_tuples cs) j ≡ Some ws → holds_at S xs ws ≡ not (deciding q)
+    pub before : (S : Spec) → IsLaidOut S layout → (j : ℕ) (ws : Tuple) → j < place → slice_get (all_tuples cs) j ≡ Some ws → holds_at S xs ws ≡ not (deciding_truth q)
 
 -- ---- lists of slots
 
@@ -115,30 +115,30 @@ module _ (layout : List (List Carrier)) (truths : List Bool) (q : Quantifier) (f
         same-tuple S way.place way.values way.at
         ∙ (ap (λ (ys : Tuple). truth S (slots_of ys) (environment_of S truths) f) (sym way.now) ∙ sym is)
 
-    pub way-decided : holds ≡ deciding q → holds ≡ truth S (slots_of xs) (environment_of S truths) (nested q slot cs f)
+    pub way-decided : holds ≡ deciding_truth q → holds ≡ truth S (slots_of xs) (environment_of S truths) (nested q slot cs f)
     way-decided decides =
         decides
         ∙ (sym (decided q (at_tuple S) (all_tuples cs) way.place way.values way.at (here ∙ decides))
         ∙ sym (truth-nested S (environment_of S truths) q f cs slot (slots_of xs)))
 
     -- so far, the present tuple with them
-    none-so-far : holds ≡ not (deciding q) → (j : ℕ) (ws : Tuple) → j < way.place + 1 → slice_get (all_tuples cs) j ≡ Some ws → at_tuple S ws ≡ not (deciding q)
+    none-so-far : holds ≡ not (deciding_truth q) → (j : ℕ) (ws : Tuple) → j < way.place + 1 → slice_get (all_tuples cs) j ≡ Some ws → at_tuple S ws ≡ not (deciding_truth q)
     none-so-far none j ws lt at = by-place (nat_lt j way.place) refl
       where
-        by-place : (b : Bool) → nat_lt j way.place ≡ b → at_tuple S ws ≡ not (deciding q)
+        by-place : (b : Bool) → nat_lt j way.place ≡ b → at_tuple S ws ≡ not (deciding_truth q)
         by-place true e = same-tuple S j ws at ∙ way.before S laid j ws (ltb-true j way.place e) at
         by-place false e =
             let same : j ≡ way.place = omega (arith, lt, ltb-false j way.place e) in
             let is_now : ws ≡ way.values = same_Some ws way.values (sym at ∙ (ap (slice_get (all_tuples cs)) same ∙ way.at)) in
             ap (at_tuple S) is_now ∙ (here ∙ none)
 
-    pub way-ended : holds ≡ not (deciding q) → length (all_tuples cs) ≡ way.place + 1 → holds ≡ truth S (slots_of xs) (environment_of S truths) (nested q slot cs f)
+    pub way-ended : holds ≡ not (deciding_truth q) → length (all_tuples cs) ≡ way.place + 1 → holds ≡ truth S (slots_of xs) (environment_of S truths) (nested q slot cs f)
     way-ended none last =
         none
         ∙ (sym (undecided q (at_tuple S) (all_tuples cs) (λ j ws at. none-so-far none j ws (omega (arith, last, slice_get_within (all_tuples cs) j ws at)) at))
         ∙ sym (truth-nested S (environment_of S truths) q f cs slot (slots_of xs)))
 
-  pub way-next : (cur : Tuple) (way : Way cur) (holds : Bool) → ((S : Spec) → IsLaidOut S layout → holds ≡ truth S (slots_of cur) (environment_of S truths) f) → holds ≡ not (deciding q)
+  pub way-next : (cur : Tuple) (way : Way cur) (holds : Bool) → ((S : Spec) → IsLaidOut S layout → holds ≡ truth S (slots_of cur) (environment_of S truths) f) → holds ≡ not (deciding_truth q)
       → (more vs : Tuple) → slice_get (all_tuples cs) (way.place + 1) ≡ Some vs → more ≡ put cur slot vs → Way more
   way-next cur way holds is none more vs at now = record {
     values = vs;

@@ -4,6 +4,6 @@ use Rattle.pb_text_tree.specs.declared.operator.Quantifier.{Quantifier}
 use Rattle.pb_text_tree.specs.declared.operator.Quantifier.TheVariants.{Forall, Exists}
 
 -- the truth for one value that decides a quantifier
-abbrev pub deciding : Quantifier → Bool
-deciding Forall = false
-deciding Exists = true
+abbrev pub deciding_truth : Quantifier → Bool
+deciding_truth Forall = false
+deciding_truth Exists = true

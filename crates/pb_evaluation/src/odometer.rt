@@ -6,14 +6,14 @@ ghost use Rattle.std.specs.Prelude.{◌≡◌, ◌+◌, ℕ, true, false, length
 ghost use Rattle.std.specs.List.{slice_get};
 ghost use Rattle.pb_carriers.specs.Carrier.{tuples};
 ghost use Rattle.pb_sorts.specs.Carrier.{values_of};
-ghost use Rattle.pb_evaluation.specs.Quantifier.{deciding};
+ghost use Rattle.pb_evaluation.specs.Quantifier.{deciding_truth};
 
 use pb_sorts::Carrier;
 use pb_text_tree::Quantifier;
 
 /// The truth for one value that decides a quantifier.
 pub fn deciding(quantifier: Quantifier) -> bool
-    ensures { result ≡ deciding quantifier }
+    ensures { result ≡ deciding_truth quantifier }
 {
     match quantifier {
         Quantifier::Forall => false,

@@ -7,7 +7,7 @@ use Rattle.pb_trees.specs.Tree.{tree_truth}
 use Rattle.pb_trees.specs.Equations.{Signature}
 use Rattle.pb_trees.specs.Examples.{mu, nu}
 use Rattle.pb_trees.proofs.Members.{among_of_contains, contains_of_among}
-use Rattle.pb_evidence.specs.ProofGraphs.{Leads, exactly, sign_from, least_of, dominating_sign, supporting, IsProofGraph}
+use Rattle.pb_evidence.specs.ProofGraphs.{RestsThrough, exactly, sign_from, least_of, dominating_sign, supporting, IsProofGraph}
 use Rattle.pb_evidence.specs.Examples.{itself, loop, SelfReference, either, OneOfTwo}
 use Rattle.pb_evidence.specs.Supports.{HaveSame, IsSupport}
 use Rattle.pb_evidence.proofs.Signs.{in_graph, least_below}
@@ -25,7 +25,7 @@ only n h = elim (among_of_contains zeros n h) [ inl e ↦ sym e | inr none ↦ a
 -- one equation with one instance
 module _ (s : Signature) (size : s.size ≡ 1) (b : Bool) (sign : s.sign ≡ supporting b)
     (sufficient : tree_truth (exactly b zeros) (itself 0) ≡ b) where
-  least_sign : (n : ℕ) (over : List ℕ) → Leads loop n over n → dominating_sign (s ∷ []) n over ≡ s.sign
+  least_sign : (n : ℕ) (over : List ℕ) → RestsThrough loop n over n → dominating_sign (s ∷ []) n over ≡ s.sign
   least_sign n over h =
       let zero_is = only n (in_graph loop n over n h) in
       let low = least_below n over in

@@ -15,7 +15,7 @@ use Rattle.pb_trees.proofs.Monotone.{tree_truth-keeps}
 use Rattle.pb_strategy.proofs.Players.{player, not_other}
 use Rattle.pb_strategy.proofs.Lexicographic.{IsLess, IsAtMost}
 use Rattle.pb_strategy.proofs.Arena.{Arena, claim}
-use Rattle.pb_evidence.specs.ProofGraphs.{Graph, RestsOn, Leads, exactly, IsProofGraph, ProofGraphsProve}
+use Rattle.pb_evidence.specs.ProofGraphs.{Graph, RestsOn, RestsThrough, exactly, IsProofGraph, ProofGraphsProve}
 use Rattle.pb_evidence.specs.Priorities.{dominating_priority}
 use Rattle.pb_evidence.proofs.Signs.{priority_of_sign, in_graph}
 use Rattle.pb_evidence.proofs.Reaching.{Path, path_of, reaches, reaches_edge, reaches_over}
@@ -87,7 +87,7 @@ module _ (signatures : List Signature) (trees : ℕ → Tree) (b : Bool) (graph 
   low_of : (p v m : ℕ) → edge p v m ≡ true → level v ≤ p
   low_of p v m h = leb-true (level v) p (and_parts (is_among graph.instances v && is_among (graph.dependencies v) m) (nat_le (level v) p) h).1
 
-  leads_of : (p v : ℕ) (over : List ℕ) (m : ℕ) → Path (edge p) v over m → Leads graph v over m
+  leads_of : (p v : ℕ) (over : List ℕ) (m : ℕ) → Path (edge p) v over m → RestsThrough graph v over m
   leads_of p v [] m h = rests_of p v m h
   leads_of p v (x ∷ xs) m h = (rests_of p v x h.0, leads_of p x xs m h.1)
 

@@ -28,7 +28,7 @@ use Rattle.pb_evidence.specs.Marks.{IsMarked}
 use Rattle.pb_evidence.specs.BreadthFirst.{IsInRow, IsBreadthFirst}
 use Rattle.pb_evidence.specs.Searching.{IsOpen}
 use Rattle.pb_evidence.specs.Exploring.{ListsNext, IsExplored}
-use Rattle.pb_evidence.specs.Divided.{IsDivided}
+use Rattle.pb_evidence.specs.Divided.{IsDividedIntoRows}
 use Rattle.pb_evidence.specs.Evidence.{AreNumbers, graph_of, Shows}
 use Rattle.pb_evidence.proofs.Finding.{place_of, marked_within}
 use Rattle.pb_evidence.specs.Nearest.{IsNearestFirst}
@@ -272,7 +272,7 @@ known_within g s marks start x explored k h =
 -- the rows of what was explored, under the vertices' names
 pub divided : (g : Game) (s : Solution) (marks : List Bool) (start : ℕ) (x : Exploration) → IsExplored g s marks start x → (name : ℕ → ℕ) →
     (instances dependencies : List ℕ) → instances ≡ map name x.reached.vertices.items → dependencies ≡ map name x.dependencies.items →
-    IsDivided instances x.places.items dependencies
+    IsDividedIntoRows instances x.places.items dependencies
 divided g s marks start x explored name instances dependencies e d =
     let size : length instances ≡ length x.reached.vertices.items = ap length e ∙ length-map x.reached.vertices.items name in
     let many : length dependencies ≡ length x.dependencies.items = ap length d ∙ length-map x.dependencies.items name in

@@ -9,7 +9,7 @@ use Rattle.pb_trees.specs.Equations.{Signature, total}
 use Rattle.pb_trees.specs.Game.{first_priority, priority_from}
 use Rattle.pb_strategy.proofs.Players.{player, begins}
 use Rattle.pb_strategy.proofs.Priorities.{first_parity, first_falls, priority_here, priority_later}
-use Rattle.pb_evidence.specs.ProofGraphs.{Graph, Leads, sign_from, supporting, least_of, dominating_sign}
+use Rattle.pb_evidence.specs.ProofGraphs.{Graph, RestsThrough, sign_from, supporting, least_of, dominating_sign}
 use Rattle.pb_evidence.specs.Strategies.{player_for}
 use Rattle.pb_evidence.specs.Priorities.{dominating_priority, PrioritiesSupport}
 
@@ -76,7 +76,7 @@ pub player_is : (b : Bool) → player_for b ≡ player b
 player_is true = refl
 player_is false = refl
 
-pub in_graph : (graph : Graph) (n : ℕ) (over : List ℕ) (m : ℕ) → Leads graph n over m → Contains graph.instances n
+pub in_graph : (graph : Graph) (n : ℕ) (over : List ℕ) (m : ℕ) → RestsThrough graph n over m → Contains graph.instances n
 in_graph graph n [] m h = h.0
 in_graph graph n (x ∷ xs) m h = h.0.0
 

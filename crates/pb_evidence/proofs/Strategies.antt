@@ -28,7 +28,7 @@ use Rattle.pb_strategy.proofs.Counts.{losing_counts, progress-at_most, progress-
 use Rattle.pb_strategy.proofs.Standing.{StandAt}
 use Rattle.pb_strategy.proofs.CertifiedVertices.{IsCertified, row_at, priority_is, local_over}
 use Rattle.pb_strategy.proofs.Winners.{certified, kept_there}
-use Rattle.pb_evidence.specs.ProofGraphs.{Graph, RestsOn, Leads, exactly, IsProofGraph}
+use Rattle.pb_evidence.specs.ProofGraphs.{Graph, RestsOn, RestsThrough, exactly, IsProofGraph}
 use Rattle.pb_evidence.specs.Priorities.{dominating_priority}
 use Rattle.pb_evidence.proofs.Signs.{sign_of_priority, in_graph, player_is}
 use Rattle.pb_evidence.specs.Strategies.{player_for, IsInner, IsKeptPath, IsStrategyGraph, StrategiesProve}
@@ -206,14 +206,14 @@ module _ (g : Game) (s : Solution) (signatures : List Signature) (trees : ℕ �
         subst (λ q. IsLess (rank g s is rows b (at m) q) (rank g s is rows b (at n) q)) same
         (path_less g s is rows b (at n) path.0 (at m) (at_within n reached) (won n h.0) (λ even. odd (ap (λ q. q % 2) (sym same) ∙ even)) path.1)
 
-    leads_at_most : (n : ℕ) (over : List ℕ) (m q : ℕ) → Leads graph n over m → dominating_priority signatures (n ∷ over) ≤ q →
+    leads_at_most : (n : ℕ) (over : List ℕ) (m q : ℕ) → RestsThrough graph n over m → dominating_priority signatures (n ∷ over) ≤ q →
         IsAtMost (rank g s is rows b (at m) q) (rank g s is rows b (at n) q)
     leads_at_most n [] m q h low = step_at_most n m q h (omega arith)
     leads_at_most n (x ∷ xs) m q h low =
         at_most_trans (rank g s is rows b (at m) q) (rank g s is rows b (at x) q) (rank g s is rows b (at n) q)
         (leads_at_most x xs m q h.1 (omega arith)) (step_at_most n x q h.0 (omega arith))
 
-    leads_less : (n : ℕ) (over : List ℕ) (m q : ℕ) → Leads graph n over m → dominating_priority signatures (n ∷ over) ≡ q → q % 2 ≢ parity_of (player b) →
+    leads_less : (n : ℕ) (over : List ℕ) (m q : ℕ) → RestsThrough graph n over m → dominating_priority signatures (n ∷ over) ≡ q → q % 2 ≢ parity_of (player b) →
         IsLess (rank g s is rows b (at m) q) (rank g s is rows b (at n) q)
     leads_less n [] m q h top odd =
         let same : level n ≡ q = omega arith in
@@ -231,7 +231,7 @@ module _ (g : Game) (s : Solution) (signatures : List Signature) (trees : ℕ �
           (step_less n x h.0 (λ even. odd (ap (λ p. p % 2) (sym same) ∙ even))))
     ]
 
-    pub cycles : (n : ℕ) (over : List ℕ) → Leads graph n over n → dominating_priority signatures (n ∷ over) % 2 ≡ parity_of (player b)
+    pub cycles : (n : ℕ) (over : List ℕ) → RestsThrough graph n over n → dominating_priority signatures (n ∷ over) % 2 ≡ parity_of (player b)
     cycles n over h =
         let q = dominating_priority signatures (n ∷ over) in
         elim (cases_Bool (q % 2 == parity_of (player b))) [

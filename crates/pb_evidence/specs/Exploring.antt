@@ -13,15 +13,15 @@ use Rattle.pb_evidence.specs.Finding.{IsFound, Gains}
 use Rattle.pb_evidence.specs.Searching.{LeadsTo}
 
 -- the next instance's vertex to which v leads can be u
-pub record IsNext (g : Game) (s : Solution) (marks : List Bool) (v u : ℕ) : Type 0 where
+pub record CanBeNext (g : Game) (s : Solution) (marks : List Bool) (v u : ℕ) : Type 0 where
   pub marked : IsMarked marks u
   pub leads : LeadsTo g s marks v u
 
 -- the list has the instances' vertices to which v leads next, each once, and no others
 pub record ListsNext (g : Game) (s : Solution) (marks : List Bool) (v : ℕ) (list : List ℕ)
     : Type 0 where
-  pub some : (u : ℕ) → Contains list u → IsNext g s marks v u
-  pub all : (u : ℕ) → IsNext g s marks v u → Contains list u
+  pub some : (u : ℕ) → Contains list u → CanBeNext g s marks v u
+  pub all : (u : ℕ) → CanBeNext g s marks v u → Contains list u
   pub apart : AllPairs (λ (u w : ℕ). u ≢ w) list
 
 -- v was visited: its row stands behind the others, and what is in it was found
@@ -31,7 +31,7 @@ pub record Visits (g : Game) (s : Solution) (marks : List Bool) (v : ℕ) (old n
   pub next : ListsNext g s marks v list
   pub listed : new.dependencies.items ≡ old.dependencies.items ++ list
   pub placed : new.places.items ≡ old.places.items ++ length new.dependencies.items ∷ []
-  pub reached : Gains (λ u. IsNext g s marks v u) old.reached new.reached
+  pub reached : Gains (λ u. CanBeNext g s marks v u) old.reached new.reached
 
 -- the first k of the vertices that were found were visited
 pub record IsExploring (g : Game) (s : Solution) (marks : List Bool) (start k : ℕ) (e : Exploration)

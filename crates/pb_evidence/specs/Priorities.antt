@@ -5,7 +5,7 @@ use Rattle.pb_game.specs.Adjacency.{greatest_of}
 use Rattle.pb_trees.specs.Tree.{Tree}
 use Rattle.pb_trees.specs.Equations.{Signature}
 use Rattle.pb_trees.specs.Game.{priority_from}
-use Rattle.pb_evidence.specs.ProofGraphs.{Graph, Leads, IsProofGraph}
+use Rattle.pb_evidence.specs.ProofGraphs.{Graph, RestsThrough, IsProofGraph}
 use Rattle.pb_evidence.specs.Strategies.{player_for}
 
 -- the greatest priority of these instances
@@ -17,5 +17,5 @@ abbrev pub PrioritiesSupport : Type 0
 PrioritiesSupport =
     (signatures : List Signature) (trees : ℕ → Tree) (b : Bool) (graph : Graph) →
     IsProofGraph signatures trees b graph →
-    (n : ℕ) (over : List ℕ) → Leads graph n over n
+    (n : ℕ) (over : List ℕ) → RestsThrough graph n over n
     → dominating_priority signatures (n ∷ over) % 2 ≡ parity_of (player_for b)

@@ -56,7 +56,7 @@ Refuses p TooManyPriorities =
     × ¬ HasFewPriorities p
 
 -- the game has the parts' vertices
-pub record IsGameOf (p : Parts) (g : Game) : Type 0 where
+pub record IsGameOfParts (p : Parts) (g : Game) : Type 0 where
   pub parts : AreGame p
   pub vertices : vertex_count g ≡ length p.owners.items
   pub owner : (v : ℕ) → v < length p.owners.items

@@ -44,7 +44,7 @@ pub struct Game {
 impl Game {
     ghost use Rattle.pb_game.specs.Games.{vertex_count, owner_of, priority_of, greatest_priority};
     ghost use Rattle.pb_game.specs.Games.{successors_of, predecessors_of, HasEdge, IsGame};
-    ghost use Rattle.pb_game.specs.Parts.{IsGameOf, Refuses};
+    ghost use Rattle.pb_game.specs.Parts.{IsGameOfParts, Refuses};
 
     /// The game of these parts.
     ///
@@ -52,7 +52,7 @@ impl Game {
     ///
     /// The first fault of the parts, in the order of [`GameFault`]'s variants; or memory.
     pub fn from_parts(alloc: Global, parts: Parts) -> Result<Game, GameError>
-        ensures game { IfOk result (λ game. IsGameOf parts game) }
+        ensures game { IfOk result (λ game. IsGameOfParts parts game) }
         ensures well_formed { IfOk result (λ game. IsGame game) }
         ensures refused { IfRefused result (Refuses parts) }
     {
@@ -101,7 +101,6 @@ impl Game {
     }
 
     /// The priority of `v`.
-    #[tactic(auto, unfolding(crate::specs::Games::vertex_count, crate::specs::Games::priority_of, crate::specs::Games::greatest_priority))]
     pub fn priority(&self, v: u32) -> u32
         requires { v < vertex_count self.now }
         ensures value { result ≡ priority_of self.now v }
@@ -119,7 +118,6 @@ impl Game {
     }
 
     /// The successors of `v`, rising.
-    #[tactic(auto, unfolding(crate::specs::Games::vertex_count, crate::specs::Games::successors_of))]
     pub fn successors(&self, v: u32) -> &[u32]
         requires { v < vertex_count self.now }
         ensures list { result.now ≡ successors_of self.now v }
@@ -130,7 +128,6 @@ impl Game {
     }
 
     /// The predecessors of `v`, rising: exactly the vertices that have `v` among their successors.
-    #[tactic(auto, unfolding(crate::specs::Games::vertex_count, crate::specs::Games::predecessors_of))]
     pub fn predecessors(&self, v: u32) -> &[u32]
         requires { v < vertex_count self.now }
         ensures list { result.now ≡ predecessors_of self.now v }

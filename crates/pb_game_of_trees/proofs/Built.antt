@@ -19,7 +19,7 @@ use Rattle.pb_game_of_trees.proofs.EquationLevels.{priority_in-levels}
 use Rattle.pb_game_of_trees.proofs.LowPriorities.{low_vertices}
 use Rattle.pb_game_of_trees.proofs.Vertices.{none, IsTable, table_at, rows_same, length-row_vertices, length-vertices_from}
 
-module _ (signatures : List Signature) (trees : ℕ → Tree) (rows : List in_memory.Row) (reached : List Row) (are : AreReached signatures trees rows reached) where
+module _ (signatures : List Signature) (trees : ℕ → Tree) (rows : List in_memory.TokenRow) (reached : List Row) (are : AreReached signatures trees rows reached) where
   pub count_rows : length reached ≡ length rows
   count_rows = sym (ap length are.held ∙ length-map reached held)
 

@@ -14,7 +14,7 @@ use Rattle.pb_game.specs.declared.parts.Parts.{Parts}
 use Rattle.pb_game.specs.Adjacency.{row}
 use Rattle.pb_game.specs.declared.parts.GameFault.{GameFault}
 use Rattle.pb_game.specs.declared.parts.GameFault.TheVariants as fault
-use Rattle.pb_game.specs.Parts.{AreGame, IsGameOf, Refuses}
+use Rattle.pb_game.specs.Parts.{AreGame, IsGameOfParts, Refuses}
 use Rattle.pb_strategy.specs.Vertices.{HasVertices}
 use Rattle.pb_game_of_trees.specs.Draft.{successors, edge_sums, places, ArePartsOf, MakeGame}
 
@@ -138,7 +138,7 @@ parts_are_game vs make p is =
       };
     }
 
-pub has_vertices : (vs : List Vertex) (p : Parts) (g : Game) → ArePartsOf p vs → IsGameOf p g → HasVertices g vs
+pub has_vertices : (vs : List Vertex) (p : Parts) (g : Game) → ArePartsOf p vs → IsGameOfParts p g → HasVertices g vs
 has_vertices vs p g is game =
     let count : length p.owners.items ≡ length vs = ap length is.owner ∙ length-map vs (λ (x : Vertex). x.owner) in
     record {

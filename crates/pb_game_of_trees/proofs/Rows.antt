@@ -11,12 +11,12 @@ use Rattle.pb_game_of_trees.specs.Places.{vertex_behind, vertices_from, numbers,
 use Rattle.pb_game_of_trees.proofs.Closing.{closing_tree}
 
 -- the row at i is this one, and is held so
-pub record IsNext (plain : List Row) (i : ℕ) (row : in_memory.Row) : Type 0 where
+pub record IsNext (plain : List Row) (i : ℕ) (row : in_memory.TokenRow) : Type 0 where
   pub next : Row
   pub is : held next ≡ row
   pub rest : drop i plain ≡ next ∷ drop (i + 1) plain
 
-next_plain : (plain : List Row) (i : ℕ) (d : in_memory.Row) → i < length (map held plain) → IsNext plain i (get_or (map held plain) i d)
+next_plain : (plain : List Row) (i : ℕ) (d : in_memory.TokenRow) → i < length (map held plain) → IsNext plain i (get_or (map held plain) i d)
 next_plain [] i d l = absurd (omega arith)
 next_plain (row ∷ plain) zero d l = record { next = row; is = refl; rest = refl }
 next_plain (row ∷ plain) (suc i) d l =
@@ -24,21 +24,21 @@ next_plain (row ∷ plain) (suc i) d l =
     let e : suc i + 1 ≡ suc (i + 1) = omega arith in
     record { next = later.next; is = later.is; rest = later.rest ∙ ap (λ (k : ℕ). later.next ∷ drop k (row ∷ plain)) (sym e) }
 
-pub next_row : (rows : List in_memory.Row) (plain : List Row) (i : ℕ) → Hold rows plain → i < length rows → IsNext plain i (get_or rows i in_memory.nothing)
+pub next_row : (rows : List in_memory.TokenRow) (plain : List Row) (i : ℕ) → Hold rows plain → i < length rows → IsNext plain i (get_or rows i in_memory.nothing)
 next_row rows plain i hold l =
     let at : get_or (map held plain) i in_memory.nothing ≡ get_or rows i in_memory.nothing =
-    ap (λ (xs : List in_memory.Row). get_or xs i in_memory.nothing) (sym hold) in
+    ap (λ (xs : List in_memory.TokenRow). get_or xs i in_memory.nothing) (sym hold) in
     subst (IsNext plain i) at (next_plain plain i in_memory.nothing (omega (arith, ap length hold)))
 
 pub vertex_behind-le : (rows : List Row) (next : ℕ) → next ≤ vertex_behind rows next
 vertex_behind-le [] next = omega arith
 vertex_behind-le (row ∷ rows) next = omega (arith, vertex_behind-le rows (suc (next + inner row.tree)))
 
-pub tokens_of : (plain : List Row) (i : ℕ) (row : in_memory.Row) (n : IsNext plain i row) → row.tree ≡ tree_tokens n.next.tree
-tokens_of plain i row n = sym (ap (λ (r : in_memory.Row). r.tree) n.is)
+pub tokens_of : (plain : List Row) (i : ℕ) (row : in_memory.TokenRow) (n : IsNext plain i row) → row.tree ≡ tree_tokens n.next.tree
+tokens_of plain i row n = sym (ap (λ (r : in_memory.TokenRow). r.tree) n.is)
 
 -- the next row's vertices, where m is how many brackets are inside its tree
-module _ (plain : List Row) (i next m : ℕ) (row : in_memory.Row) (n : IsNext plain i row) (counts : (tree : Tree) → row.tree ≡ tree_tokens tree → m ≡ inner tree) where
+module _ (plain : List Row) (i next m : ℕ) (row : in_memory.TokenRow) (n : IsNext plain i row) (counts : (tree : Tree) → row.tree ≡ tree_tokens tree → m ≡ inner tree) where
   inside : m ≡ inner n.next.tree
   inside = counts n.next.tree (tokens_of plain i row n)
 
@@ -56,7 +56,7 @@ module _ (plain : List Row) (i next m : ℕ) (row : in_memory.Row) (n : IsNext p
 
 -- ---- numbers
 
-abbrev pub number : in_memory.Row → ℕ
+abbrev pub number : in_memory.TokenRow → ℕ
 number row = row.number
 
 numbers-held : (plain : List Row) → map number (map held plain) ≡ numbers plain
@@ -64,10 +64,10 @@ numbers-held [] = refl
 numbers-held (row ∷ plain) = ap (λ (ns : List ℕ). row.number ∷ ns) (numbers-held plain)
 
 -- the numbers are those of the rows in memory
-pub numbers_of : (rows : List in_memory.Row) (plain : List Row) → Hold rows plain → numbers plain ≡ map number rows
+pub numbers_of : (rows : List in_memory.TokenRow) (plain : List Row) → Hold rows plain → numbers plain ≡ map number rows
 numbers_of rows plain hold = sym (ap (map number) hold ∙ numbers-held plain)
 
-pub number_at : (rows : List in_memory.Row) (plain : List Row) (k : ℕ) (d : in_memory.Row) → Hold rows plain → k < length rows →
+pub number_at : (rows : List in_memory.TokenRow) (plain : List Row) (k : ℕ) (d : in_memory.TokenRow) → Hold rows plain → k < length rows →
     (get_or rows k d).number ≡ get_or (numbers plain) k 0
 number_at rows plain k d hold l =
     sym (ap (λ (ns : List ℕ). get_or ns k 0) (numbers_of rows plain hold) ∙ get_or-map number rows k d 0 l)
@@ -96,10 +96,10 @@ contains_next (x ∷ xs) (suc i) r e =
     let l = later.1 in
     (suc later.0, omega arith, later.2)
 
-pub contained : (plain : List Row) (i : ℕ) (row : in_memory.Row) (n : IsNext plain i row) → Contains plain n.next
+pub contained : (plain : List Row) (i : ℕ) (row : in_memory.TokenRow) (n : IsNext plain i row) → Contains plain n.next
 contained plain i row n = contains_next plain i n.next n.rest
 
-module _ (plain : List Row) (k : ℕ) (some : 0 < k) (row : in_memory.Row) (n : IsNext plain (k - 1) row) where
+module _ (plain : List Row) (k : ℕ) (some : 0 < k) (row : in_memory.TokenRow) (n : IsNext plain (k - 1) row) where
   back : k - 1 + 1 ≡ k
   back = omega arith
 
@@ -119,9 +119,9 @@ sized (x ∷ xs) (y ∷ ys) next e =
     let first : held x ≡ held y = cc in
     let rest : map held xs ≡ map held ys = cc in
     let inside : inner x.tree ≡ inner y.tree =
-    sym (closing_tree x.tree) ∙ (ap (λ (r : in_memory.Row). count_by is_closing r.tree - 1) first ∙ closing_tree y.tree) in
+    sym (closing_tree x.tree) ∙ (ap (λ (r : in_memory.TokenRow). count_by is_closing r.tree - 1) first ∙ closing_tree y.tree) in
     sized xs ys (suc (next + inner x.tree)) rest ∙ ap (λ (n : ℕ). vertex_behind ys (suc (next + n))) inside
 
 -- rows that are held alike are of one size
-pub one_size : (rows : List in_memory.Row) (xs ys : List Row) → Hold rows xs → Hold rows ys → vertex_behind xs 2 ≡ vertex_behind ys 2
+pub one_size : (rows : List in_memory.TokenRow) (xs ys : List Row) → Hold rows xs → Hold rows ys → vertex_behind xs 2 ≡ vertex_behind ys 2
 one_size rows xs ys h k = sized xs ys 2 (sym h ∙ k)

@@ -2,12 +2,12 @@
 -- of their trees.
 use Rattle.std.specs.Prelude.{ℕ, List, map}
 use Rattle.pb_trees.specs.Tree.{Tree}
-use Rattle.pb_rows.specs.Row.{Row}
+use Rattle.pb_rows.specs.Row.{TokenRow}
 use Rattle.pb_rows.specs.Reached.{rows_of}
 use Rattle.pb_bytecode.specs.Contents.{Contents}
 use Rattle.pb_bytecode.specs.Meaning.{AreTrees, signature_of, initial_of}
 use Rattle.pb_game_of_trees.specs.declared.tree_game.TreeGame.{TreeGame}
-use Rattle.pb_game_of_trees.specs.TreeGame.{AreRowsFrom, IsTreeGame, IsTooLarge}
+use Rattle.pb_game_of_trees.specs.TreeGame.{AreRowsFrom, IsTreeGame, HasTooManyVertices}
 
 -- the module's instances have trees: their runs end
 abbrev pub ModuleHasTrees : Contents → Type 0
@@ -15,19 +15,20 @@ ModuleHasTrees m = (trees : ℕ → Tree) × AreTrees m trees
 
 -- with whichever trees its instances have, the rows are the module's, and one of them is the
 -- initial instance's
-abbrev pub AreModuleRows : Contents → List Row → Type 0
+abbrev pub AreModuleRows : Contents → List TokenRow → Type 0
 AreModuleRows m rows =
     (trees : ℕ → Tree) → AreTrees m trees
     → AreRowsFrom (map signature_of m.equations) trees rows (initial_of m)
 
 -- with whichever trees its instances have, it is the game of the module's rows
-abbrev pub IsModuleGame : Contents → List Row → TreeGame → Type 0
+abbrev pub IsModuleGame : Contents → List TokenRow → TreeGame → Type 0
 IsModuleGame m rows built =
     (trees : ℕ → Tree) → AreTrees m trees
     → IsTreeGame (map signature_of m.equations) trees (rows_of trees rows) (initial_of m) built
 
 -- with whichever trees its instances have, the game of the module's rows has more vertices than a
 -- game may have
-abbrev pub IsModuleTooLarge : Contents → List Row → Type 0
+abbrev pub IsModuleTooLarge : Contents → List TokenRow → Type 0
 IsModuleTooLarge m rows =
-    (trees : ℕ → Tree) → AreTrees m trees → IsTooLarge (map signature_of m.equations) trees rows
+    (trees : ℕ → Tree) → AreTrees m trees
+    → HasTooManyVertices (map signature_of m.equations) trees rows

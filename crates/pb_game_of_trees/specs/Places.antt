@@ -32,7 +32,7 @@ abbrev pub CallBelow : ℕ → List Row → Type 0
 CallBelow count rows = (row : Row) → Contains rows row → TreeCalls (λ n. n < count) row.tree
 
 -- a game of these rows has so many vertices
-abbrev pub IsSizeOf : List in_memory.Row → ℕ → Type 0
+abbrev pub IsSizeOf : List in_memory.TokenRow → ℕ → Type 0
 IsSizeOf rows size = (plain : List Row) → Hold rows plain → size ≡ vertex_behind plain 2
 
 -- the vertex that stands where a number stands among these, and 0 where it stands nowhere

@@ -6,7 +6,7 @@ use Rattle.pb_trees.specs.Tree.{Tree}
 use Rattle.pb_trees.specs.Equations.{Signature}
 use Rattle.pb_trees.specs.Rows as plain
 use Rattle.pb_trees.specs.Game.{vertex_of, game_vertices}
-use Rattle.pb_rows.specs.Row.{Row}
+use Rattle.pb_rows.specs.Row.{TokenRow}
 use Rattle.pb_rows.specs.Reached.{numbers_of, rows_of, AreRowsOf}
 use Rattle.pb_limits.specs.declared.TheConstants.{MAX_VERTICES}
 use Rattle.pb_strategy.specs.Meaning.{IsGameOfRows}
@@ -22,30 +22,30 @@ pub record IsTreeGame (signatures : List Signature) (trees : ℕ → Tree) (reac
   pub start : built.start ≡ vertex_of reached initial
 
 -- the rows are a system's, and some row has the initial instance
-pub record AreRowsFrom (signatures : List Signature) (trees : ℕ → Tree) (rows : List Row)
+pub record AreRowsFrom (signatures : List Signature) (trees : ℕ → Tree) (rows : List TokenRow)
     (initial : ℕ) : Type 0 where
   pub are : AreRowsOf signatures trees rows
   pub found : Contains (numbers_of rows) initial
 
 -- that is so with some trees
-abbrev pub RowsHaveTrees : List Signature → List Row → ℕ → Type 0
+abbrev pub RowsHaveTrees : List Signature → List TokenRow → ℕ → Type 0
 RowsHaveTrees signatures rows initial =
     (trees : ℕ → Tree) × AreRowsFrom signatures trees rows initial
 
 -- with whichever trees that is so, it is the game of the rows
-abbrev pub IsGameOf : List Signature → List Row → ℕ → TreeGame → Type 0
+abbrev pub IsGameOf : List Signature → List TokenRow → ℕ → TreeGame → Type 0
 IsGameOf signatures rows initial built =
     (trees : ℕ → Tree) → AreRowsFrom signatures trees rows initial
     → IsTreeGame signatures trees (rows_of trees rows) initial built
 
 -- G01: the game of the rows has more vertices than a game may have
-abbrev pub IsTooLarge : List Signature → (ℕ → Tree) → List Row → Type 0
-IsTooLarge signatures trees rows =
+abbrev pub HasTooManyVertices : List Signature → (ℕ → Tree) → List TokenRow → Type 0
+HasTooManyVertices signatures trees rows =
     MAX_VERTICES < length (game_vertices signatures (rows_of trees rows))
 
 -- it is refused exactly where it is too large
 abbrev pub IsRefusedExactly : Result TreeGame (OrMemory TooManyVertices) → List Signature
-    → List Row → Type 0
+    → List TokenRow → Type 0
 IsRefusedExactly result signatures rows =
     (trees : ℕ → Tree) → AreRowsOf signatures trees rows
-    → (result ≡ Err (Refused (record {}))) ↔ IsTooLarge signatures trees rows
+    → (result ≡ Err (Refused (record {}))) ↔ HasTooManyVertices signatures trees rows

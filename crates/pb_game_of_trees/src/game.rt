@@ -5,7 +5,7 @@ ghost use Rattle.pb_trees.specs.Tree.{Tree};
 ghost use Rattle.pb_rows.specs.Reached.{AreRowsOf};
 ghost use Rattle.pb_bytecode.specs.Meaning.{signature_of, initial_of};
 ghost use Rattle.pb_game_of_trees.specs.TreeGame.{RowsHaveTrees, IsGameOf};
-ghost use Rattle.pb_game_of_trees.specs.TreeGame.{IsTooLarge};
+ghost use Rattle.pb_game_of_trees.specs.TreeGame.{HasTooManyVertices};
 ghost use Rattle.pb_game_of_trees.specs.Explored.{ModuleHasTrees, AreModuleRows, IsModuleGame};
 ghost use Rattle.pb_game_of_trees.specs.Explored.{IsModuleTooLarge};
 
@@ -31,7 +31,7 @@ pub fn build_rows(
         (initial_of verified.now)) }
     ensures too_many { OnRefused result ((trees : ℕ → Tree)
         → AreRowsOf (map signature_of verified.now.equations) trees rows.now
-        → IsTooLarge (map signature_of verified.now.equations) trees rows.now) }
+        → HasTooManyVertices (map signature_of verified.now.equations) trees rows.now) }
 {
     let signatures = signatures_of(alloc, verified)?;
     TreeGame::build(alloc, &signatures, rows, verified.initial())

@@ -3,7 +3,7 @@ use Rattle.std.proofs.Common.{◌≡◌, ◌↔◌, Some, None, Bool, true, fals
 use Rattle.std.specs.Int.{int_min, int_max}
 use Rattle.std.proofs.lemmas.Int.{ints, clamps}
 use Rattle.std.proofs.lemmas.Bool.{cond_both, and_parts, and_from}
-use Rattle.pb_intervals.specs.Interval.{IntegerInterval, Includes, IsNonEmpty, IsWithin, cut, hull, is_non_empty, is_within, unless_empty, within}
+use Rattle.pb_intervals.specs.Interval.{IntegerInterval, Includes, IsNonEmpty, IsWithin, cut, hull, is_non_empty, is_included, unless_empty, within}
 use Rattle.pb_intervals.specs.Operation.{UnaryOperation, BinaryOperation, unary_interval, binary_interval, binary_value, span_of_four, absolute_values}
 use Rattle.pb_intervals.specs.Laws.{IsDefined}
 use Rattle.pb_intervals.proofs.Ends.{from_le, le_true, le_false}
@@ -14,7 +14,7 @@ use Rattle.pb_intervals.proofs.Sound.{unary_sound, binary_sound}
 pub non_empty_decides : (i : IntegerInterval) → ((is_non_empty i ≡ true) ↔ IsNonEmpty i)
 non_empty_decides i = (le_true i.low i.high, from_le i.low i.high)
 
-pub within_decides : (i outer : IntegerInterval) → ((is_within i outer ≡ true) ↔ IsWithin i outer)
+pub within_decides : (i outer : IntegerInterval) → ((is_included i outer ≡ true) ↔ IsWithin i outer)
 within_decides i outer = (
   (λ e. let both = and_parts (int_le outer.low i.low) (int_le i.high outer.high) e in (le_true outer.low i.low both.0, le_true i.high outer.high both.1)),
   (λ p. and_from (int_le outer.low i.low) (int_le i.high outer.high) (from_le outer.low i.low p.0) (from_le i.high outer.high p.1)),
@@ -33,7 +33,7 @@ some_if false i r = ((λ e. cc), (λ p. let e = p.1 in cc))
 
 pub within_exact : (limits i r : IntegerInterval) → ((within limits i ≡ Some r) ↔ ((r ≡ i) × IsWithin i limits))
 within_exact limits i r =
-    let some = some_if (is_within i limits) i r in
+    let some = some_if (is_included i limits) i r in
     let decides = within_decides i limits in
     ((λ e. let p = some.0 e in (p.0, decides.0 p.1)), (λ p. some.1 (p.0, decides.1 p.1)))
 

@@ -22,12 +22,12 @@ IsWithin i outer = (outer.low ≤ℤ i.low) × (i.high ≤ℤ outer.high)
 abbrev pub is_non_empty : IntegerInterval → Bool
 is_non_empty i = int_le i.low i.high
 
-abbrev pub is_within : IntegerInterval → IntegerInterval → Bool
-is_within i outer = int_le outer.low i.low && int_le i.high outer.high
+abbrev pub is_included : IntegerInterval → IntegerInterval → Bool
+is_included i outer = int_le outer.low i.low && int_le i.high outer.high
 
 -- the interval, or none where it isn't within the limits (T10 of texts, V04 of code)
 abbrev pub within : IntegerInterval → IntegerInterval → Option IntegerInterval
-within limits i = if is_within i limits then Some i else None
+within limits i = if is_included i limits then Some i else None
 
 -- the interval, or none where it is empty
 abbrev pub unless_empty : IntegerInterval → Option IntegerInterval

@@ -4,7 +4,8 @@
 ghost use Rattle.std.specs.Prelude.{◌≡◌, ◌↔◌, ◌⊎◌, ℤ, pos, ◌≤ℤ◌, true, Some};
 ghost use Rattle.pb_carriers.specs.Division.{quotient, remainder};
 ghost use Rattle.pb_intervals.specs.Interval.{IntegerInterval, Includes, IsNonEmpty, IsWithin, cut};
-ghost use Rattle.pb_intervals.specs.Interval.{hull, is_non_empty, is_within, unless_empty, within};
+ghost use Rattle.pb_intervals.specs.Interval.{hull, is_non_empty, is_included, unless_empty};
+ghost use Rattle.pb_intervals.specs.Interval.{within};
 ghost use Rattle.pb_intervals.specs.Laws.{IsDefined, IsDivision};
 ghost use Rattle.pb_intervals.specs.Operation.{BinaryOperation, UnaryOperation, binary_interval};
 ghost use Rattle.pb_intervals.specs.Operation.{binary_value, unary_interval, unary_value};
@@ -20,7 +21,8 @@ pub fn division_is_unique()
 /// or none.
 pub fn tests_decide()
     ensures non_empty { (i : IntegerInterval) → ((is_non_empty i ≡ true) ↔ IsNonEmpty i) }
-    ensures within { (i outer : IntegerInterval) → ((is_within i outer ≡ true) ↔ IsWithin i outer) }
+    ensures within { (i outer : IntegerInterval)
+        → ((is_included i outer ≡ true) ↔ IsWithin i outer) }
     ensures values { (i outer : IntegerInterval) → IsNonEmpty i
         → (IsWithin i outer ↔ ((v : ℤ) → Includes i v → Includes outer v)) }
     ensures limited { (limits i r : IntegerInterval)

@@ -10,7 +10,7 @@ use Rattle.pb_game.specs.declared.Game.{Game}
 use Rattle.pb_game.specs.declared.certificate.Solution.{Solution}
 use Rattle.pb_game.specs.Games.{vertex_count, priority_count}
 use Rattle.pb_game.specs.Solutions.{winner_of, choice_of, count_of}
-use Rattle.pb_lifting.specs.Solutions.{winner_by, words_of, IsChoice, count_by_rank, IsSolutionTo, IsSolutionOf, AddsVertex}
+use Rattle.pb_lifting.specs.Solutions.{winner_by, player_words, IsChoice, count_by_rank, IsSolutionTo, IsSolutionByMeasures, AddsVertex}
 use Rattle.pb_lifting.proofs.Lists.{push_front, push_here, any_front, any_here}
 
 one_more : (n w : ℕ) → (n + 1) * w ≡ n * w + w
@@ -21,7 +21,7 @@ module _ (g : Game) (even_words odd_words : List ℕ) where
   player v = winner_by g even_words v
 
   abbrev words : ℕ → List ℕ
-  words v = words_of (player v) even_words odd_words
+  words v = player_words (player v) even_words odd_words
 
   pub one_vertex_more : (n : ℕ) (s t : Solution) → IsSolutionTo g even_words odd_words s n → AddsVertex g (player n) (words n) n s t → IsSolutionTo g even_words odd_words t (n + 1)
   unfolding winner_of choice_of count_of
@@ -44,7 +44,7 @@ module _ (g : Game) (even_words odd_words : List ℕ) where
         a.row.same (v * priority_count g + q) (omega arith) ∙ h.counts v q (omega arith) c);
   }
 
-  pub whole : (n : ℕ) (s : Solution) → n ≡ vertex_count g → IsSolutionTo g even_words odd_words s n → IsSolutionOf g even_words odd_words s
+  pub whole : (n : ℕ) (s : Solution) → n ≡ vertex_count g → IsSolutionTo g even_words odd_words s n → IsSolutionByMeasures g even_words odd_words s
   whole n s e h = record {
     lengths = record { winner = h.winners ∙ e; choice = h.choices ∙ e; counts = h.rows ∙ ap (λ x. x * priority_count g) e };
     winner = λ v b. h.winner v (omega arith);

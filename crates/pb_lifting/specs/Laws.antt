@@ -8,7 +8,7 @@ use Rattle.pb_lifting.specs.Measures.{top_of, counts_of, asked, least_rank, IsMe
 use Rattle.pb_lifting.specs.Measures.{IsLeastMeasure}
 use Rattle.pb_lifting.specs.declared.view.Key.{Key}
 use Rattle.pb_lifting.specs.declared.view.View.{View}
-use Rattle.pb_lifting.specs.Rule.{At, known_of, IsKept}
+use Rattle.pb_lifting.specs.Rule.{At, known_of, AreMeasuresKept}
 use Rattle.pb_lifting.specs.Sweep.{AreWords}
 
 -- an edge from v makes progress exactly where v's rank is at least what the edge asks for
@@ -32,6 +32,7 @@ FixedWordsAreLeast = (g : Game) (player : Player) (words : List ℕ) → AreWord
 
 -- a word of which no view knows more than 0 is 0
 abbrev pub UnknownWordsAreZero : Type 0
-UnknownWordsAreZero = (key : Key) (words : List ℕ) (views : List View) → IsKept key words views
+UnknownWordsAreZero =
+    (key : Key) (words : List ℕ) (views : List View) → AreMeasuresKept key words views
     → ((id : ℕ) (v : View) → At views id v → (n : ℕ) → known_of v n ≡ 0)
     → (n : ℕ) → slice_index words n ≡ 0

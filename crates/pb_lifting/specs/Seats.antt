@@ -81,5 +81,5 @@ AreFresh t seats = (k : ℕ) (s : LiftSeat) → slice_get seats k ≡ Some s →
     view_of s ≡ first_view (key_at t)
 
 -- no word is below what some seat knows
-abbrev pub AreBelow : List LiftSeat → List ℕ → Type 0
-AreBelow seats words = (k : ℕ) (s : LiftSeat) → slice_get seats k ≡ Some s → IsBelow s words
+abbrev pub AreSeatsBelow : List LiftSeat → List ℕ → Type 0
+AreSeatsBelow seats words = (k : ℕ) (s : LiftSeat) → slice_get seats k ≡ Some s → IsBelow s words

@@ -23,9 +23,9 @@ pub record AreMeasured (g : Game) (player : Player) (m : Measured) : Type 0 wher
 abbrev pub winner_by : Game → List ℕ → ℕ → Player
 winner_by g words v = if slice_index words v == top_of g Even then Odd else Even
 
-abbrev pub words_of : Player → List ℕ → List ℕ → List ℕ
-words_of Even even_words odd_words = even_words
-words_of Odd even_words odd_words = odd_words
+abbrev pub player_words : Player → List ℕ → List ℕ → List ℕ
+player_words Even even_words odd_words = even_words
+player_words Odd even_words odd_words = odd_words
 
 -- the counts of a rank, and all 0 where it is top
 abbrev pub count_by_rank : Game → Player → ℕ → ℕ → ℕ
@@ -59,16 +59,17 @@ pub record IsChoice (g : Game) (player : Player) (words : List ℕ) (v u : ℕ) 
       → IsLeastMeeting g player words v u ⊎ (MeetsNone g player words v × IsLeastSuccessor g v u)
   pub other : owner_of g v ≢ player → IsLeastSuccessor g v u
 
-pub record IsSolutionOf (g : Game) (even_words odd_words : List ℕ) (s : Solution) : Type 0 where
+pub record IsSolutionByMeasures (g : Game) (even_words odd_words : List ℕ)
+    (s : Solution) : Type 0 where
   pub lengths : HasLengths g s
   pub winner : (v : ℕ) → v < vertex_count g → winner_of s v ≡ winner_by g even_words v
   pub choice : (v : ℕ) → v < vertex_count g
       → IsChoice g (winner_by g even_words v)
-      (words_of (winner_by g even_words v) even_words odd_words) v (choice_of s v)
+      (player_words (winner_by g even_words v) even_words odd_words) v (choice_of s v)
   pub counts : (v q : ℕ) → v < vertex_count g → q < priority_count g →
       count_of g s v q
       ≡ count_by_rank g (winner_by g even_words v)
-      (slice_index (words_of (winner_by g even_words v) even_words odd_words) v) q
+      (slice_index (player_words (winner_by g even_words v) even_words odd_words) v) q
 
 abbrev pub lesser_of : Option ℕ → ℕ → ℕ
 lesser_of None u = u
@@ -91,11 +92,11 @@ pub record IsSolutionTo (g : Game) (even_words odd_words : List ℕ) (s : Soluti
   pub winner : (v : ℕ) → v < n → winner_of s v ≡ winner_by g even_words v
   pub choice : (v : ℕ) → v < n
       → IsChoice g (winner_by g even_words v)
-      (words_of (winner_by g even_words v) even_words odd_words) v (choice_of s v)
+      (player_words (winner_by g even_words v) even_words odd_words) v (choice_of s v)
   pub counts : (v q : ℕ) → v < n → q < priority_count g →
       count_of g s v q
       ≡ count_by_rank g (winner_by g even_words v)
-      (slice_index (words_of (winner_by g even_words v) even_words odd_words) v) q
+      (slice_index (player_words (winner_by g even_words v) even_words odd_words) v) q
 
 -- the list with a vertex's counts behind it
 pub record AddsRow (g : Game) (player : Player) (rank : ℕ) (old new : List ℕ) : Type 0 where
@@ -119,10 +120,10 @@ AddsMeasured g player m v old new = AddsVertex g player m.words.items v old new
 abbrev pub AddsWinner : Game → Measured → Measured → ℕ → Solution → Solution → Type 0
 AddsWinner g even odd v old new =
     let player = winner_by g even.words.items v in
-    AddsVertex g player (words_of player even.words.items odd.words.items) v old new
+    AddsVertex g player (player_words player even.words.items odd.words.items) v old new
 
 -- the solution of the least measures of both players
 abbrev pub IsLiftedSolution : Game → Solution → Type 0
 IsLiftedSolution g s = (even_words : List ℕ) × (odd_words : List ℕ) ×
     IsLeastMeasure g Even even_words × IsLeastMeasure g Odd odd_words
-    × IsSolutionOf g even_words odd_words s
+    × IsSolutionByMeasures g even_words odd_words s

@@ -7,7 +7,8 @@ ghost use Rattle.pb_trees.specs.declared.player.Player.TheVariants.{Even, Odd};
 ghost use Rattle.pb_lifting.specs.Scales.{IsScaleOf};
 ghost use Rattle.pb_lifting.specs.Solutions.{Meets, IsMeeting, IsLeastSuccessor, IsChoice};
 ghost use Rattle.pb_lifting.specs.Solutions.{winner_by, count_by_rank, lesser_of, AddsRow};
-ghost use Rattle.pb_lifting.specs.Solutions.{AddsMeasured, AddsWinner, IsSolutionOf, AreMeasured};
+ghost use Rattle.pb_lifting.specs.Solutions.{AddsMeasured, AddsWinner, IsSolutionByMeasures};
+ghost use Rattle.pb_lifting.specs.Solutions.{AreMeasured};
 
 use crate::measured::Measured;
 use crate::scale::{Scale, width};
@@ -23,7 +24,8 @@ pub(crate) fn solution_of(
 ) -> Result<Solution, AllocError>
     requires even { AreMeasured game.now Even even.now }
     requires odd { AreMeasured game.now Odd odd.now }
-    ensures { IfOk result (λ s. IsSolutionOf game.now even.now.words.items odd.now.words.items s) }
+    ensures { IfOk result
+        (λ s. IsSolutionByMeasures game.now even.now.words.items odd.now.words.items s) }
 {
     let vertices = game.len() as usize;
     let mut solution = Solution {

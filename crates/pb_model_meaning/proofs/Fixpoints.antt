@@ -13,7 +13,7 @@ use Rattle.pb_model_meaning.specs.Syntax.{Formula, Model}
 use Rattle.pb_model_meaning.specs.Steps.{State, state_carriers, is_state, state_count}
 use Rattle.pb_model_meaning.specs.Satisfaction.{States, Valuation, with_set, satisfying}
 use Rattle.pb_model_meaning.specs.Positive.{IsPositive}
-use Rattle.pb_model_meaning.specs.Laws.{Within, IsExtremeFixpoint, FixpointsAreExtreme}
+use Rattle.pb_model_meaning.specs.Laws.{WithinModel, IsExtremeFixpoint, FixpointsAreExtreme}
 use Rattle.pb_model_meaning.proofs.Same.{Agree, chosen, with_set-same, satisfying-same}
 use Rattle.pb_model_meaning.proofs.Monotone.{inner, set-related, satisfying-within}
 
@@ -33,7 +33,7 @@ module _ (m : Model) (ρ : Valuation) (sign : Sign) (X : Name) (f : Formula) (p 
   monotone = record {
     keeps = λ S U w s e.
         let parts = and_parts (is_state m s) (g S s) e in
-        let larger : Within m (g S) (g U) = satisfying-within m f p.1 (with_set ρ X S) (with_set ρ X U)
+        let larger : WithinModel m (g S) (g U) = satisfying-within m f p.1 (with_set ρ X S) (with_set ρ X U)
         (λ Y. set-related m (same_name X Y) f Y S U (ρ Y) (ρ Y) (inner m f X Y S U p.0 (λ i k. w i))
         (λ apart. inl ((λ i k x. x), (λ i k x. x)))) in
         and_from (is_state m s) (g U s) parts.0 (larger s parts.0 parts.1);
@@ -69,11 +69,11 @@ module _ (m : Model) (ρ : Valuation) (sign : Sign) (X : Name) (f : Formula) (p 
   same : (s : State) → is_state m s ≡ true → g T s ≡ T s
   same s e = sym (operator-same _ _ value-same s e) ∙ (solved.fixpoint.same s e ∙ value-same s e)
 
-  below : fixpoint.IsLeast equation (operator equation [] empty) (value_of equation [] empty) → (S : States) → Within m (g S) S → Within m T S
+  below : fixpoint.IsLeast equation (operator equation [] empty) (value_of equation [] empty) → (S : States) → WithinModel m (g S) S → WithinModel m T S
   below least S closed s e x =
       least.below S (λ i k y. closed i k (sym (operator-same S S (λ j l. refl) i k) ∙ y)) s e (value-same s e ∙ x)
 
-  above : fixpoint.IsGreatest equation (operator equation [] empty) (value_of equation [] empty) → (S : States) → Within m S (g S) → Within m S T
+  above : fixpoint.IsGreatest equation (operator equation [] empty) (value_of equation [] empty) → (S : States) → WithinModel m S (g S) → WithinModel m S T
   above greatest S closed s e x =
       sym (value-same s e) ∙ greatest.above S (λ i k y. operator-same S S (λ j l. refl) i k ∙ closed i k y) s e x
 

@@ -10,7 +10,7 @@ use Rattle.pb_model_meaning.specs.Syntax.{Formula, Model}
 use Rattle.pb_model_meaning.specs.Steps.{State, is_state, state_count, successors}
 use Rattle.pb_model_meaning.specs.Satisfaction.{States, Valuation, with_set, is_truth, holds_at, satisfying}
 use Rattle.pb_model_meaning.specs.Positive.{IsPositiveIn, IsPositive}
-use Rattle.pb_model_meaning.specs.Laws.{Within}
+use Rattle.pb_model_meaning.specs.Laws.{WithinModel}
 
 -- x is at most y
 abbrev Below : Bool → Bool → Type 0
@@ -39,33 +39,33 @@ chosen-below true x y z h = h refl
 chosen-below false x y z h = λ e. e
 
 module _ (m : Model) where
-  and-within : (S T U V : States) → Within m S U → Within m T V → Within m (λ s. S s && T s) (λ s. U s && V s)
+  and-within : (S T U V : States) → WithinModel m S U → WithinModel m T V → WithinModel m (λ s. S s && T s) (λ s. U s && V s)
   and-within S T U V SU TV s e x =
       let parts = and_parts (S s) (T s) x in and_from (U s) (V s) (SU s e parts.0) (TV s e parts.1)
 
-  or-within : (S T U V : States) → Within m S U → Within m T V → Within m (λ s. S s || T s) (λ s. U s || V s)
+  or-within : (S T U V : States) → WithinModel m S U → WithinModel m T V → WithinModel m (λ s. S s || T s) (λ s. U s || V s)
   or-within S T U V SU TV s e x =
       elim (or_cases (S s) (T s) x) [ inl l ↦ or_left (U s) (V s) (SU s e l) | inr r ↦ or_right (U s) (V s) (TV s e r) ]
 
-  not-within : (S T : States) → Within m T S → Within m (λ s. not (S s)) (λ s. not (T s))
+  not-within : (S T : States) → WithinModel m T S → WithinModel m (λ s. not (S s)) (λ s. not (T s))
   not-within S T TS s e = not-below (S s) (T s) (TS s e)
 
-  holds_at-below : (f : Formula) (S T : States) → Within m S T → (s : State) → Below (holds_at m f S s) (holds_at m f T s)
+  holds_at-below : (f : Formula) (S T : States) → WithinModel m S T → (s : State) → Below (holds_at m f S s) (holds_at m f T s)
   holds_at-below f S T ST s = chosen-below (is_state m s) (S s) (T s) (is_truth f) (ST s)
 
-  pub iterate-within : (g h : States → States) → ((S T : States) → Within m S T → Within m (g S) (h T)) →
-      (n : ℕ) (S : States) → Within m (iterate n g S) (iterate n h S)
+  pub iterate-within : (g h : States → States) → ((S T : States) → WithinModel m S T → WithinModel m (g S) (h T)) →
+      (n : ℕ) (S : States) → WithinModel m (iterate n g S) (iterate n h S)
   iterate-within g h step zero S = λ s e x. x
   iterate-within g h step (suc n) S = step _ _ (iterate-within g h step n S)
 
   -- S is at most T, or the other way round
   abbrev Ordered : Bool → States → States → Type 0
-  Ordered true S T = Within m S T
-  Ordered false S T = Within m T S
+  Ordered true S T = WithinModel m S T
+  Ordered false S T = WithinModel m T S
 
   -- two sets for X, either equal or ordered as X stands in f
   abbrev pub Related : Formula → Name → States → States → Type 0
-  Related f X S T = (Within m S T × Within m T S) ⊎ ((even : Bool) × IsPositiveIn X even f × Ordered even S T)
+  Related f X S T = (WithinModel m S T × WithinModel m T S) ⊎ ((even : Bool) × IsPositiveIn X even f × Ordered even S T)
 
   part : (f g : Formula) (X : Name) → ((even : Bool) → IsPositiveIn X even f → IsPositiveIn X even g) →
       (S T : States) → Related f X S T → Related g X S T
@@ -78,7 +78,7 @@ module _ (m : Model) where
   turned f g X h S T (inr (true, positive, w)) = inr (false, h true positive, w)
   turned f g X h S T (inr (false, positive, w)) = inr (true, h false positive, w)
 
-  named : (X : Name) (S T : States) → Related (Formula.Named X) X S T → Within m S T
+  named : (X : Name) (S T : States) → Related (Formula.Named X) X S T → WithinModel m S T
   named X S T (inl w) = w.0
   named X S T (inr (true, positive, w)) = w
   named X S T (inr (false, positive, w)) = absurd (true≢false (sym (positive ((bytes_eq-Decides X X).1 refl))))
@@ -88,10 +88,10 @@ module _ (m : Model) where
   set-related true f Y S T U V h k = h refl
   set-related false f Y S T U V h k = k refl
 
-  pub inner : (f : Formula) (X Y : Name) (S T : States) → IsPositiveIn X true f → Within m S T → same_name X Y ≡ true → Related f Y S T
+  pub inner : (f : Formula) (X Y : Name) (S T : States) → IsPositiveIn X true f → WithinModel m S T → same_name X Y ≡ true → Related f Y S T
   inner f X Y S T positive w e = inr (true, subst (λ (Z : Name). IsPositiveIn Z true f) (same_text X Y (sym e)) positive, w)
 
-  pub satisfying-within : (f : Formula) → IsPositive f → (ρ τ : Valuation) → ((X : Name) → Related f X (ρ X) (τ X)) → Within m (satisfying m ρ f) (satisfying m τ f)
+  pub satisfying-within : (f : Formula) → IsPositive f → (ρ τ : Valuation) → ((X : Name) → Related f X (ρ X) (τ X)) → WithinModel m (satisfying m ρ f) (satisfying m τ f)
   satisfying-within (Formula.Truth b) p ρ τ h = λ s e x. x
   satisfying-within (Formula.Data x) p ρ τ h = λ s e y. y
   satisfying-within (Formula.Named X) p ρ τ h = named X (ρ X) (τ X) (h X)

@@ -10,18 +10,18 @@ use Rattle.pb_model_meaning.specs.Satisfaction.{States, Valuation, with_set, sat
 use Rattle.pb_model_meaning.specs.Positive.{IsPositive}
 
 -- each state of the model that is in S is in T
-abbrev pub Within : Model → States → States → Type 0
-Within m S T = (s : State) → is_state m s ≡ true → S s ≡ true → T s ≡ true
+abbrev pub WithinModel : Model → States → States → Type 0
+WithinModel m S T = (s : State) → is_state m s ≡ true → S s ≡ true → T s ≡ true
 
 -- at the states of the model, T is a fixpoint of g, and within each set that g doesn't enlarge
 pub record IsLeastFixpoint (m : Model) (g : States → States) (T : States) : Type 0 where
   pub fixpoint : (s : State) → is_state m s ≡ true → g T s ≡ T s
-  pub least : (S : States) → Within m (g S) S → Within m T S
+  pub least : (S : States) → WithinModel m (g S) S → WithinModel m T S
 
 -- at the states of the model, T is a fixpoint of g, and each set that g doesn't cut is within it
 pub record IsGreatestFixpoint (m : Model) (g : States → States) (T : States) : Type 0 where
   pub fixpoint : (s : State) → is_state m s ≡ true → g T s ≡ T s
-  pub greatest : (S : States) → Within m S (g S) → Within m S T
+  pub greatest : (S : States) → WithinModel m S (g S) → WithinModel m S T
 
 abbrev pub IsExtremeFixpoint : Sign → Model → (States → States) → States → Type 0
 IsExtremeFixpoint Mu m g T = IsLeastFixpoint m g T

@@ -8,18 +8,19 @@ use Rattle.pb_model_tree.specs.Form.{FormulaForm, ModelForm}
 use Rattle.pb_model_meaning.specs.Erase.{erase, erased_formula}
 use Rattle.pb_model_meaning.specs.Satisfaction as meaning
 use Rattle.pb_model_translation.specs.Names as translation
-use Rattle.pb_model_text.specs.Parsing.{IsReading, IsReadingWithin}
+use Rattle.pb_model_text.specs.Parsing.{IsModelReading, IsModelReadingWithin}
 use Rattle.pb_model_typing.specs.Texts.{IsTypedModel}
 
 -- the bytes say this model within the limits, and they say nothing else, whatever the limits
-pub record IsTheReading (bytes : List ℕ) (model : ModelForm) : Type 0 where
-  pub reading : IsReading bytes model
+pub record IsTheModelReading (bytes : List ℕ) (model : ModelForm) : Type 0 where
+  pub reading : IsModelReading bytes model
   pub only :
-      (depth operators : ℕ) (x : ModelForm) → IsReadingWithin depth operators bytes x → x ≡ model
+      (depth operators : ℕ) (x : ModelForm) → IsModelReadingWithin depth operators bytes x
+      → x ≡ model
 
 -- the bytes say this model, which is well typed
 pub record IsModelOf (bytes : List ℕ) (model : ModelForm) : Type 0 where
-  pub read : IsTheReading bytes model
+  pub read : IsTheModelReading bytes model
   pub typed : IsTypedModel model
 
 -- whether the model satisfies the formula, given by their trees

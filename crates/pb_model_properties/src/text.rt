@@ -10,7 +10,7 @@ ghost use Rattle.pb_errors.specs.OrMemory.{IfRefused};
 ghost use Rattle.pb_text_tree.specs.Form.{spec_form};
 ghost use Rattle.pb_model_tree.specs.Form.{PropertyForm, model_form};
 ghost use Rattle.pb_model_properties.specs.Printed.{IsTranslation};
-ghost use Rattle.pb_model_properties.specs.Refusals.{IsUntranslated};
+ghost use Rattle.pb_model_properties.specs.Refusals.{LacksTranslation};
 ghost use Rattle.pb_model_properties.specs.Said.{IsModelOf, IsTextOf};
 
 use crate::asked::place_of;
@@ -47,7 +47,7 @@ pub fn translation_of(
     requires { length bytes.now ≤ MAX_INPUT_BYTES }
     ensures text { IfOk result
         (λ text. IsTranslation (option_copied name.entry) bytes.now text.items) }
-    ensures refused { IfRefused result (IsUntranslated (option_copied name.entry) bytes.now) }
+    ensures refused { IfRefused result (LacksTranslation (option_copied name.entry) bytes.now) }
     // There is a first one.
     ensures named { result ≡ Err (Refused NoProperty) → IsSome name.entry }
 {

@@ -7,7 +7,7 @@ use Rattle.pb_text_meaning.specs.Erase as text
 use Rattle.pb_text_printer.specs.Sayable.{Each}
 use Rattle.pb_model_tree.specs.Form.{PropertyForm, ModelForm}
 use Rattle.pb_model_meaning.specs.Erase.{erase, erased_formula}
-use Rattle.pb_model_text.specs.Parsing.{IsReading}
+use Rattle.pb_model_text.specs.Parsing.{IsModelReading}
 use Rattle.pb_model_translation.specs.Translation.{total_count}
 use Rattle.pb_model_translation.specs.Names.{names_of, translation}
 use Rattle.pb_model_spelling.specs.Writable.{CanBeSaid, SpecWritable, ModalWritable}
@@ -23,7 +23,7 @@ all_of P (x ∷ xs) h = All-cons P x xs h.0 (all_of P xs h.1)
 abbrev HasWords : PropertyForm → Type 0
 HasWords p = ModalWritable (erased_formula p.formula)
 
-translation_words : (bytes : List ℕ) (model : ModelForm) (p : PropertyForm) → IsReading bytes model → Contains model.properties p
+translation_words : (bytes : List ℕ) (model : ModelForm) (p : PropertyForm) → IsModelReading bytes model → Contains model.properties p
     → SpecWritable (translation (erase model) (erased_formula p.formula))
 translation_words bytes model p read has =
     let words = reading_words bytes model read in
@@ -32,6 +32,6 @@ translation_words bytes model p read has =
     let within : total_count f ≤ total_count f = omega arith in
     translation_writable (erase model) (names_of f) (total_count f) (names_are_words f h) words.writable f within h
 
-pub translation_said : (bytes : List ℕ) (model : ModelForm) (p : PropertyForm) (x : SpecForm) → IsReading bytes model → Contains model.properties p
+pub translation_said : (bytes : List ℕ) (model : ModelForm) (p : PropertyForm) (x : SpecForm) → IsModelReading bytes model → Contains model.properties p
     → text.erase x ≡ translation (erase model) (erased_formula p.formula) → CanBeSaid x
 translation_said bytes model p x read has same = text_said x (subst SpecWritable (sym same) (translation_words bytes model p read has))

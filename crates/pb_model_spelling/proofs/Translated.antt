@@ -10,7 +10,7 @@ use Rattle.pb_text_meaning.specs.Syntax as text
 use Rattle.pb_text_printer.specs.Sayable.{Each, EachOf}
 use Rattle.pb_model_meaning.specs.Syntax.{Assignment, Step, Formula, Model}
 use Rattle.pb_model_meaning.specs.Steps.{assigned_term, has_step, steps_in}
-use Rattle.pb_model_translation.specs.Translation.{has_equation, next_if, equation_count, total_count, Callee, Scope, callee_of, operand_callee, term_or_name, next_terms, conjunction, disjunction, over, call, after_each, after_some, right_side, equation, with_equation, equations, all_equations, translation_by}
+use Rattle.pb_model_translation.specs.Translation.{has_equation, next_if, equation_count, total_count, Callee, FixpointScope, callee_of, operand_callee, term_or_name, next_terms, conjunction, disjunction, over, call, after_each, after_some, right_side, equation, with_equation, equations, all_equations, translation_by}
 use Rattle.pb_model_spelling.specs.Writable.{IsWord, VariableWritable, TermWritable, AllWritable, FormulaWritable, EquationWritable, SpecWritable, ModalWritable, AssignmentWritable, StepWritable, ModelWritable}
 
 each_filtered : {X : Type 0} (P : X → Type 0) (test : X → Bool) (xs : List X) → Each P xs → Each P (filter test xs)
@@ -60,10 +60,10 @@ abbrev IsWithin : ℕ → Callee → Type 0
 IsWithin N (Callee.Constant b) = Unit {0}
 IsWithin N (Callee.Numbered n) = n < N
 
-abbrev ScopeWithin : ℕ → Scope → Type 0
+abbrev ScopeWithin : ℕ → FixpointScope → Type 0
 ScopeWithin N scope = Each (λ (e : Name × ℕ). e.1 < N) scope
 
-variable_within : (N : ℕ) (scope : Scope) (X : Name) → ScopeWithin N scope → IsWithin N (callee_of scope X)
+variable_within : (N : ℕ) (scope : FixpointScope) (X : Name) → ScopeWithin N scope → IsWithin N (callee_of scope X)
 variable_within N [] X h = tt
 variable_within N ((Y, n) ∷ scope) X h = go (same_name Y X) (variable_within N scope X h.1)
   where
@@ -71,7 +71,7 @@ variable_within N ((Y, n) ∷ scope) X h = go (same_name Y X) (variable_within N
     go true rest = h.0
     go false rest = rest
 
-operand_within : (N : ℕ) (scope : Scope) (n : ℕ) (f : Formula) → ScopeWithin N scope → n + next_if (has_equation f) (equation_count f) ≤ N → IsWithin N (operand_callee scope n f)
+operand_within : (N : ℕ) (scope : FixpointScope) (n : ℕ) (f : Formula) → ScopeWithin N scope → n + next_if (has_equation f) (equation_count f) ≤ N → IsWithin N (operand_callee scope n f)
 operand_within N scope n (Formula.Truth b) h fits = tt
 operand_within N scope n (Formula.Data x) h fits = omega arith
 operand_within N scope n (Formula.Named X) h fits = variable_within N scope X h
@@ -94,7 +94,7 @@ module _ (m : Model) (names : ℕ → Name) (N : ℕ) (words : (k : ℕ) → k <
   some_writable : (c : Callee) → IsWithin N c → (a : Step) → StepWritable a → FormulaWritable (after_some m names c a)
   some_writable c less a h = over_writable Exists a.variables _ h.0 (h.1, call_writable c a.assignments less h.2)
 
-  right_writable : (scope : Scope) (n : ℕ) (f : Formula) → ScopeWithin N scope → n + equation_count f ≤ N → ModalWritable f → FormulaWritable (right_side m names scope n f)
+  right_writable : (scope : FixpointScope) (n : ℕ) (f : Formula) → ScopeWithin N scope → n + equation_count f ≤ N → ModalWritable f → FormulaWritable (right_side m names scope n f)
   right_writable scope n (Formula.Truth b) s fits h = tt
   right_writable scope n (Formula.Data x) s fits h = h
   right_writable scope n (Formula.Named X) s fits h = call_writable (callee_of scope X) [] (variable_within N scope X s) tt
@@ -114,18 +114,18 @@ module _ (m : Model) (names : ℕ → Name) (N : ℕ) (words : (k : ℕ) → k <
 
   -- ---- equations
 
-  one_writable : (sign : Sign) (n k : ℕ) (f : Formula) (scope : Scope) → n < N → ScopeWithin N scope → k + equation_count f ≤ N → ModalWritable f
+  one_writable : (sign : Sign) (n k : ℕ) (f : Formula) (scope : FixpointScope) → n < N → ScopeWithin N scope → k + equation_count f ≤ N → ModalWritable f
       → EquationWritable (equation m names sign n (right_side m names scope k f))
   one_writable sign n k f scope less s fits h = (words n less, model.variables, right_writable scope k f s fits h)
 
   -- a modality's operand has an equation of its own or none
-  own_writable : (b : Bool) (f : Formula) (scope : Scope) (sign : Sign) (n : ℕ) (E : List Equation) → ScopeWithin N scope → n + next_if b (equation_count f) ≤ N → ModalWritable f
+  own_writable : (b : Bool) (f : Formula) (scope : FixpointScope) (sign : Sign) (n : ℕ) (E : List Equation) → ScopeWithin N scope → n + next_if b (equation_count f) ≤ N → ModalWritable f
       → ((k : ℕ) → k + equation_count f ≤ N → Each EquationWritable (equations m names scope sign k f E))
       → Each EquationWritable (with_equation m names b (equation m names sign n (right_side m names scope (next_if b n) f)) (equations m names scope sign (next_if b n) f E))
   own_writable true f scope sign n E s fits h rest = (one_writable sign n (suc n) f scope (omega arith) s (omega arith) h, rest (suc n) (omega arith))
   own_writable false f scope sign n E s fits h rest = rest n fits
 
-  equations_writable : (f : Formula) (scope : Scope) (sign : Sign) (n : ℕ) (E : List Equation) → ScopeWithin N scope → n + equation_count f ≤ N → ModalWritable f → Each EquationWritable E
+  equations_writable : (f : Formula) (scope : FixpointScope) (sign : Sign) (n : ℕ) (E : List Equation) → ScopeWithin N scope → n + equation_count f ≤ N → ModalWritable f → Each EquationWritable E
       → Each EquationWritable (equations m names scope sign n f E)
   equations_writable (Formula.Truth b) scope sign n E s fits h e = e
   equations_writable (Formula.Data x) scope sign n E s fits h e = e

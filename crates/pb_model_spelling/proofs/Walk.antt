@@ -24,8 +24,8 @@ use Rattle.pb_model_tree.specs.declared.formula.Modality.{Modality}
 use Rattle.pb_model_tree.specs.declared.formula.Modality.TheVariants as modality
 use Rattle.pb_model_tree.specs.Form.{StepSetForm, FormulaForm, AssignmentForm, StepForm, InitialForm, PropertyForm, ModelForm}
 use Rattle.pb_model_meaning.specs.Erase.{erased_formula, erased_assignment, erased_step, erase}
-use Rattle.pb_model_text.specs.Grammar.{SetBegun, united_by, IsSet, IsStepSet, atom_of, Scope, is_bound, Beginning, Atom, Modal, Begun, Binding, FixpointBy, Fixpoint, Connections, within, IsNode, IsFormula, IsAssignment, IsStep, Steps, IsInitial, IsProperty, Properties, IsModel}
-use Rattle.pb_model_text.specs.Parsing.{IsReading}
+use Rattle.pb_model_text.specs.Grammar.{SetBegun, united_by, IsSet, IsStepSet, atom_of, FixpointNames, is_bound, Beginning, Atom, Modal, Begun, Binding, FixpointBy, Fixpoint, Connections, within, IsNode, IsFormula, IsAssignment, IsStep, Steps, IsInitialState, IsProperty, Properties, IsModel}
+use Rattle.pb_model_text.specs.Parsing.{IsModelReading}
 use Rattle.pb_model_spelling.specs.Writable.{VariableWritable, TermWritable, AllWritable, ModalWritable, AssignmentWritable, StepWritable, ModelWritable}
 use Rattle.pb_model_spelling.proofs.Gives.{Gives, Any, gives_said, gives_as, gives_is, gives_nothing, gives_then, gives_one, gives_behind, gives_name, gives_first, gives_listed, gives_own, gives_either, gives_extended, gives_placed, gives_chained}
 use Rattle.pb_model_spelling.proofs.OfSayable.{term_writable, variables_writable, ranges_writable}
@@ -94,7 +94,7 @@ variable_or_data : (b : Bool) (f g : FormulaForm) → HasWords f → HasWords g 
 variable_or_data true f g h i = h
 variable_or_data false f g h i = i
 
-atom_words : (scope : Scope) (p : Place) (x : TermForm) → HasData x → HasWords (atom_of scope p x)
+atom_words : (scope : FixpointNames) (p : Place) (x : TermForm) → HasData x → HasWords (atom_of scope p x)
 atom_words scope p (TermForm.name n) h = variable_or_data (is_bound scope n.text) (FormulaForm.variable n) (FormulaForm.«data» p (TermForm.name n)) tt h
 atom_words scope p (TermForm.constant q b) h = h
 atom_words scope p (TermForm.number q n) h = h
@@ -116,7 +116,7 @@ modal_given : (kind : Modality) (close : Kind) (Node : Reads FormulaForm) (Sets 
 modal_given kind close Node Sets t node sets =
     gives_then Any HasWords _ _ sets (λ A u. gives_behind close HasWords _ (λ c. gives_then HasWords HasWords _ _ node (λ f h. gives_is HasWords _ (modal_words kind t.place A f h))))
 
-module _ (scope : Scope) (Node Formula : Reads FormulaForm) (Unary : Reads TermForm) (Sets : Reads StepSetForm)
+module _ (scope : FixpointNames) (Node Formula : Reads FormulaForm) (Unary : Reads TermForm) (Sets : Reads StepSetForm)
     (node : Gives HasWords Node) (formula : Gives HasWords Formula) (unary : Gives HasData Unary) (equated : Gives HasData (Equated Unary)) (sets : Gives Any Sets) where
   begun_given : (kind : Kind) → Gives HasWords (Begun scope Node Formula Unary Sets kind)
   begun_given k.Not = gives_behind k.Not HasWords _ (λ s. gives_then HasWords HasWords _ _ node (λ f h. gives_is HasWords _ h))
@@ -155,13 +155,13 @@ connections_given Node Body node body =
     gives_chained HasWords k.Implies (join k.Implies) (Disjunction join Node Node) (Disjunction join Node Open) (λ x t y h i. (h, i)) disjunction disjunction_end
 
 mutual
-  node_given : (scope : Scope) (depth : ℕ) → Gives HasWords (IsNode scope depth)
+  node_given : (scope : FixpointNames) (depth : ℕ) → Gives HasWords (IsNode scope depth)
   node_given scope zero = first_formula scope Nothing Nothing (IsUnary zero) Nothing (gives_nothing HasWords) (gives_nothing HasWords) (unary_given zero) (equated_given zero) (gives_nothing Any)
   node_given scope (suc depth) =
       first_formula scope (IsNode scope depth) (IsFormula scope depth) (IsUnary (suc depth)) (IsStepSet depth)
       (node_given scope depth) (formula_given scope depth) (unary_given (suc depth)) (equated_given (suc depth)) (steps_given depth)
 
-  formula_given : (scope : Scope) (depth : ℕ) → Gives HasWords (IsFormula scope depth)
+  formula_given : (scope : FixpointNames) (depth : ℕ) → Gives HasWords (IsFormula scope depth)
   formula_given scope zero =
       connections_given (First (Begun scope Nothing Nothing (IsUnary zero) Nothing)) (λ name. Nothing)
       (first_formula scope Nothing Nothing (IsUnary zero) Nothing (gives_nothing HasWords) (gives_nothing HasWords) (unary_given zero) (equated_given zero) (gives_nothing Any)) (λ name. gives_nothing HasWords)
@@ -214,7 +214,7 @@ arguments_writable (a ∷ values) h = (h.0, arguments_writable values h.1)
 abbrev InitialHasWords : InitialForm → Type 0
 InitialHasWords i = AllWritable (erased_arguments i.values)
 
-initial_given : (depth : ℕ) → Gives InitialHasWords (IsInitial depth)
+initial_given : (depth : ℕ) → Gives InitialHasWords (IsInitialState depth)
 initial_given depth =
     gives_behind k.Init InitialHasWords _ (λ w.
     gives_then _ InitialHasWords _ _ (gives_listed (λ (a : Place × TermForm). HasData a.1) (Placed (IsTerm depth)) (One k.Comma) (gives_placed HasData (IsTerm depth) (term_given depth)) (gives_one k.Comma)) (λ vs h.
@@ -247,7 +247,7 @@ model_words ranges depth s z model bounds (sorts, a, r, (w, b, q, (state, c, t, 
     let five = gives_one k.Semicolon d semicolon e p four.1 in
     let six = gives_one k.Step e step f o five.1 in
     let seven = steps_of_model depth f steps g n six.1 in
-    let eight = gives_own InitialHasWords (IsInitial depth) (initial_given depth) g initial i m seven.1 in
+    let eight = gives_own InitialHasWords (IsInitialState depth) (initial_given depth) g initial i m seven.1 in
     let nine = properties_given depth i properties j l eight.1 in
     subst HasAllWords (sym is.0) (record {
       writable = record {
@@ -260,7 +260,7 @@ model_words ranges depth s z model bounds (sorts, a, r, (w, b, q, (state, c, t, 
       formulas = each-of PropertyHasWords properties nine.0;
     })
 
-pub reading_words : (bytes : List ℕ) (model : ModelForm) → IsReading bytes model → HasAllWords model
+pub reading_words : (bytes : List ℕ) (model : ModelForm) → IsModelReading bytes model → HasAllWords model
 reading_words bytes model is =
     model_words is.ranges depth_limit _ _ model (ranges_of_models_are_said bytes is.tokens is.ranges is.cut) is.says.2 (tokens_of_models_are_lexical bytes is.tokens is.ranges is.cut)
 
@@ -277,5 +277,5 @@ model_has_property : (ranges : List RangeForm) (depth : ℕ) (s z : State) (mode
 model_has_property ranges depth s z model (sorts, a, r, (w, b, q, (state, c, t, (vs, d, v, (semicolon, e, p, (step, f, o, (steps, g, n, (initial, i, m, (properties, j, l, is))))))))) =
     subst HasProperty (sym is.0) (first_of_series _ _ i j properties l)
 
-pub has_property : (bytes : List ℕ) (model : ModelForm) → IsReading bytes model → HasProperty model
+pub has_property : (bytes : List ℕ) (model : ModelForm) → IsModelReading bytes model → HasProperty model
 has_property bytes model is = model_has_property is.ranges depth_limit _ _ model is.says.2

@@ -12,7 +12,7 @@ use Rattle.pb_text_terms.specs.Operators.{is_operator}
 use Rattle.pb_text_terms.specs.Grammar.{applied}
 use Rattle.pb_text_terms.specs.Reading.{equated, unary, instance}
 use Rattle.pb_text_terms.proofs.ReadLemmas.{placed-fails, placed-read, begun-at, name-is, equated-first-fails, equated-alone}
-use Rattle.pb_model_text.specs.Grammar.{Scope, is_bound, atom_of}
+use Rattle.pb_model_text.specs.Grammar.{FixpointNames, is_bound, atom_of}
 use Rattle.pb_model_text.specs.Reading.{atom, data_operand}
 use Rattle.pb_model_text.proofs.PlainLemmas.{operated-data}
 
@@ -25,7 +25,7 @@ module _ (made : Place → TermForm → FormulaForm) (depth : ℕ) (s : State) w
   unfolding data_operand
   atom-read z at x here reads = rw (placed-read (equated (unary depth)) s z at x here reads) refl
 
-module _ (scope : Scope) (depth : ℕ) (s : State) (is : kind s ≡ k.Name) where
+module _ (scope : FixpointNames) (depth : ℕ) (s : State) (is : kind s ≡ k.Name) where
   name-fails : (bad : Refusal) → instance depth s ≡ Err bad → unary depth s ≡ Err bad
   name-fails bad fails = begun-at depth s k.Name is ∙ rw fails refl
 
@@ -45,11 +45,11 @@ module _ (scope : Scope) (depth : ℕ) (s : State) (is : kind s ≡ k.Name) wher
 
 -- ---- what is data
 
-pub unbound-data : (scope : Scope) (p : Place) (n : Named) (arguments : ArgumentForms) → is_bound scope n.text ≡ false → FormulaForm.«data» p (applied n arguments) ≡ atom_of scope p (applied n arguments)
+pub unbound-data : (scope : FixpointNames) (p : Place) (n : Named) (arguments : ArgumentForms) → is_bound scope n.text ≡ false → FormulaForm.«data» p (applied n arguments) ≡ atom_of scope p (applied n arguments)
 unbound-data scope p n no_arguments other = rw other refl
 unbound-data scope p n (argument q x rest) other = refl
 
-pub applied-data : (scope : Scope) (p : Place) (n : Named) (arguments : List Argument) → length arguments ≢ 0
+pub applied-data : (scope : FixpointNames) (p : Place) (n : Named) (arguments : List Argument) → length arguments ≢ 0
     → FormulaForm.«data» p (applied n (argument_forms arguments)) ≡ atom_of scope p (applied n (argument_forms arguments))
 applied-data scope p n [] some = absurd (some refl)
 applied-data scope p n (a ∷ arguments) some = refl

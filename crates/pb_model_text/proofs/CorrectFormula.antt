@@ -30,7 +30,7 @@ use Rattle.pb_text_terms.proofs.CorrectOperators.{below-connectives, equated_goe
 use Rattle.pb_text_terms.proofs.CorrectInstance.{placed-correct}
 use Rattle.pb_text_terms.proofs.CorrectTerm.{unary-correct}
 use Rattle.pb_text_terms.proofs.TermStarts as terms
-use Rattle.pb_model_text.specs.Grammar.{Scope, atom_of, Beginning, Atom, Modal, Begun, FixpointBy, Fixpoint, within, IsStepSet, IsNode, IsFormula}
+use Rattle.pb_model_text.specs.Grammar.{FixpointNames, atom_of, Beginning, Atom, Modal, Begun, FixpointBy, Fixpoint, within, IsStepSet, IsNode, IsFormula}
 use Rattle.pb_model_text.specs.Reading.{is_fixpoint, goes_on, atom, modal, begun, data_operand, step_set, fixpoint_over, node, formula}
 use Rattle.pb_model_text.proofs.CorrectStepSets.{sets_go, readable-sets, step_set-correct}
 use Rattle.pb_model_text.proofs.CorrectBeginning.{beginning-answers}
@@ -145,7 +145,7 @@ formula-closes = refl
 
 -- ---- tokens that begin a node
 
-module _ (scope : Scope) where
+module _ (scope : FixpointNames) where
   abbrev kinds : ℕ → Kind → Reads FormulaForm
   kinds d = Begun scope (deeper (IsNode scope) d) (deeper (IsFormula scope) d) (IsUnary d) (deeper IsStepSet d)
 
@@ -372,13 +372,13 @@ module _ (scope : Scope) where
       alike-correct Always (connected (connected_by FormulaForm.connected) is_fixpoint n q) connecteds (IsFormula scope) formula_goes depth to-formula from-formula
       (connected-correct (connected_by FormulaForm.connected) (IsNode scope) fixpoints node_goes is_fixpoint depth below-connectives node-starts fixpoint-starts n q right-n right-q)
 
-formulas-last : (scope : Scope) → Correct Always (formula scope 0) (IsFormula scope) formula_goes 0
+formulas-last : (scope : FixpointNames) → Correct Always (formula scope 0) (IsFormula scope) formula_goes 0
 unfolding node formula
 formulas-last scope =
     connections-correct scope 0 (node scope 0) (fixpoint_over (refuse Limit) (λ name. refuse Limit)) (node-last scope)
     (fixpoint-last (λ name. IsFormula (within scope name)) formula_goes (λ name. readable-formula (within scope name) 0) (λ name. refuse Limit))
 
-formulas-over : (scope : Scope) (depth : ℕ) → Correct Always (node scope (suc depth)) (IsNode scope) node_goes (suc depth)
+formulas-over : (scope : FixpointNames) (depth : ℕ) → Correct Always (node scope (suc depth)) (IsNode scope) node_goes (suc depth)
     → ((name : List ℕ) → Correct Always (formula (within scope name) depth) (IsFormula (within scope name)) formula_goes depth)
     → Correct Always (formula scope (suc depth)) (IsFormula scope) formula_goes (suc depth)
 unfolding node formula
@@ -388,8 +388,8 @@ formulas-over scope depth n f =
 
 -- both, so many levels being open to them, in any scope
 pub record AreCorrect (depth : ℕ) : Type 0 where
-  pub nodes : (scope : Scope) → Correct Always (node scope depth) (IsNode scope) node_goes depth
-  pub formulas : (scope : Scope) → Correct Always (formula scope depth) (IsFormula scope) formula_goes depth
+  pub nodes : (scope : FixpointNames) → Correct Always (node scope depth) (IsNode scope) node_goes depth
+  pub formulas : (scope : FixpointNames) → Correct Always (formula scope depth) (IsFormula scope) formula_goes depth
 
 pub formulas-correct : (depth : ℕ) → AreCorrect depth
 formulas-correct zero = record { nodes = node-last; formulas = formulas-last }

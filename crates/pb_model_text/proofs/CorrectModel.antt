@@ -7,7 +7,7 @@ use Rattle.pb_text_lexer.specs.declared.fault.Refusal.{Refusal}
 use Rattle.pb_text_lexer.specs.declared.kind.Kind.{Kind}
 use Rattle.pb_text_lexer.specs.declared.kind.Kind.TheVariants as k
 use Rattle.pb_text_lexer.specs.Kinds.{same_kind, is_last, is_limited}
-use Rattle.pb_text_lexer.specs.Grammar.{State, Within, going_on, One, CountedApart}
+use Rattle.pb_text_lexer.specs.Grammar.{State, WithinLimits, going_on, One, CountedApart}
 use Rattle.pb_text_lexer.specs.LeftGrammar.{Listed}
 use Rattle.pb_text_lexer.specs.Steps.{ends, Step, Outcome, and_then, pure, expect, refuse, refusal, kind, head_kind, nothing_between}
 use Rattle.pb_text_lexer.specs.Steps as step
@@ -25,11 +25,11 @@ use Rattle.pb_text_terms.proofs.CorrectInstance.{placed-correct}
 use Rattle.pb_text_terms.proofs.CorrectTerm.{term-correct}
 use Rattle.pb_text_terms.proofs.TermStarts.{deeper-some}
 use Rattle.pb_text.specs.Grammar.{SortParts}
-use Rattle.pb_text.specs.Reading.{is_name, sort_parts, parameters}
+use Rattle.pb_text.specs.Reading.{is_name_kind, sort_parts, parameters}
 use Rattle.pb_text.proofs.CorrectSorts.{passes-kind, token-correct, many-correct, parts_go, sort_parts-correct}
 use Rattle.pb_text.proofs.CorrectText.{parameters_of, parameters-correct}
-use Rattle.pb_model_text.specs.Grammar.{IsFormula, IsAssignment, IsStep, Steps, IsInitial, IsProperty, Properties, IsModel, IsModelText}
-use Rattle.pb_model_text.specs.Parsing.{BeginsModel, StaysWithin}
+use Rattle.pb_model_text.specs.Grammar.{IsFormula, IsAssignment, IsStep, Steps, IsInitialState, IsProperty, Properties, IsModel, IsModelText}
+use Rattle.pb_model_text.specs.Parsing.{BeginsModel, ModelStaysWithin}
 use Rattle.pb_model_text.specs.Reading.{is_property, formula, assignment, assignments, step_parts, steps, initial_parts, initial, property_parts, property, properties, model, whole_model}
 use Rattle.pb_model_text.specs.Reading as reading
 use Rattle.pb_model_text.proofs.CorrectFormula.{formula_goes, formulas-correct}
@@ -43,9 +43,9 @@ pub record IsFault (depth operators : ℕ) (tokens : List Tok) (bad : Refusal) :
   pub kind : bad.kind ≡ next.kind
   pub place : bad.place ≡ next.place
   pub limited : bad.rule ≡ Limit → is_limited next.kind ≡ true
-  pub none : (d n : ℕ) (tail : List Tok) (ranges : List RangeForm) (y : ModelForm) → Within bad.rule depth operators d n → IsModelText d n (front ++ next ∷ tail) ranges y → ⊥
+  pub none : (d n : ℕ) (tail : List Tok) (ranges : List RangeForm) (y : ModelForm) → WithinLimits bad.rule depth operators d n → IsModelText d n (front ++ next ∷ tail) ranges y → ⊥
   pub goes_on : BeginsModel (suc depth) (suc operators) (front ++ going_on bad.rule next)
-  pub first : StaysWithin depth operators front
+  pub first : ModelStaysWithin depth operators front
 
 -- the tokens are this model, within the limits, and no other, within any
 pub record IsRead (depth operators : ℕ) (tokens : List Tok) (ranges : List RangeForm) (x : ModelForm) : Type 0 where
@@ -106,15 +106,15 @@ step-correct : (depth : ℕ) → Correct Always (reading.step depth) (λ d. Coun
 unfolding reading.step
 step-correct depth = own-correct Always (step_parts depth) IsStep never depth (step_parts-correct depth)
 
-step-starts : (d : ℕ) (s : State) (x : StepForm) (z : State) → CountedApart (IsStep d) s x z → Passes is_name s.tokens
+step-starts : (d : ℕ) (s : State) (x : StepForm) (z : State) → CountedApart (IsStep d) s x z → Passes is_name_kind s.tokens
 step-starts d s x z r = let q = r.1 in passes-kind k.Name s.tokens q.2.1.tokens q.2.0 q.2.2.0 q.2.2.1
 
 abbrev steps_go : Kind → Bool
-steps_go = going never is_name
+steps_go = going never is_name_kind
 
 steps-correct : (depth : ℕ) → Correct Always (steps depth) Steps steps_go depth
 steps-correct depth =
-    many-correct (λ d. CountedApart (IsStep d)) never is_name depth (λ kind h. refl) step-starts (λ x. x ∷ []) (λ x u xs. x ∷ xs) (reading.step depth) (step-correct depth)
+    many-correct (λ d. CountedApart (IsStep d)) never is_name_kind depth (λ kind h. refl) step-starts (λ x. x ∷ []) (λ x u xs. x ∷ xs) (reading.step depth) (step-correct depth)
 
 -- ---- the initial state
 
@@ -122,7 +122,7 @@ values-correct : (depth : ℕ) → Correct Always (argument_list (term depth)) (
 values-correct depth =
     listed-correct (λ d. Placed (IsTerm d)) term_goes depth comma-apart (placed (term depth)) (placed_term-correct depth)
 
-initial_parts-correct : (depth : ℕ) → Correct Always (initial_parts depth) IsInitial never depth
+initial_parts-correct : (depth : ℕ) → Correct Always (initial_parts depth) IsInitialState never depth
 unfolding initial_parts
 initial_parts-correct depth =
     then-plain (λ d. One k.Init) _ never depth
@@ -131,9 +131,9 @@ initial_parts-correct depth =
     (λ d x m y z r over. stops-at-kind list_goes k.Semicolon semicolon-stops m.tokens r.1.tokens r.0 r.2.0 r.2.1) Always (argument_list (term depth)) _ (values-correct depth)
     (λ values. anywhere (Stops list_goes) _ _ never depth (token-correct k.Semicolon depth (record { place = word.place; values = arguments_of values }) refl)))
 
-initial-correct : (depth : ℕ) → Correct Always (initial depth) (λ d. CountedApart (IsInitial d)) never depth
+initial-correct : (depth : ℕ) → Correct Always (initial depth) (λ d. CountedApart (IsInitialState d)) never depth
 unfolding initial
-initial-correct depth = own-correct Always (initial_parts depth) IsInitial never depth (initial_parts-correct depth)
+initial-correct depth = own-correct Always (initial_parts depth) IsInitialState never depth (initial_parts-correct depth)
 
 -- ---- properties
 
@@ -205,7 +205,7 @@ module _ (ranges : List RangeForm) (depth : ℕ) where
       Always (expect k.Step) _ (expect-correct k.Step depth refl) (λ step.
       then-correct Steps _ steps_go properties_go depth
       (λ d x m y z r over. let q = r.2.1 in stops-at-kind steps_go k.Init init-stops m.tokens q.1.tokens q.0 q.2.0 q.2.1) Always (steps depth) _ (steps-correct depth) (λ found. anywhere (Stops steps_go) _ _ properties_go depth (
-      then-plain (λ d. CountedApart (IsInitial d)) _ properties_go depth
+      then-plain (λ d. CountedApart (IsInitialState d)) _ properties_go depth
       Always (initial depth) _ (initial-correct depth) (λ start.
       said-correct Properties (λ asked. record { sorts = sorts; ranges = ranges; variables = own; steps = found; initial = start; properties = asked }) properties_go depth Always (properties depth) (properties-correct depth))))))))))))
 

@@ -26,12 +26,12 @@ use Rattle.pb_text_lexer.proofs.LoopLemmas.{placed, resumed-first-fails}
 use Rattle.pb_text_terms.specs.Operators.{symbol, is_connective}
 use Rattle.pb_text_terms.specs.Reading.{name, below}
 use Rattle.pb_text_terms.proofs.ReadLemmas.{below-is, resumed-alone-or-fails, no-connective}
-use Rattle.pb_model_text.specs.Grammar.{Scope, within}
+use Rattle.pb_model_text.specs.Grammar.{FixpointNames, within}
 use Rattle.pb_model_text.specs.Links.{link_form, link_forms}
-use Rattle.pb_model_text.specs.Reading.{begun, modal, opening, closing, modal_steps, data_operand, goes_on, binding, step_set, sign_of, is_fixpoint, node, formula, fixpoint, primary, operand, level}
+use Rattle.pb_model_text.specs.Reading.{begun, modal, opening_kind, closing, modal_steps, data_operand, goes_on, binding, step_set, sign_of, is_fixpoint, node, formula, fixpoint, primary, operand, level}
 
 -- a level is a chain of its operands
-pub level-chain : (c : Connective) (scope : Scope) (depth : ℕ) (s : State)
+pub level-chain : (c : Connective) (scope : FixpointNames) (depth : ℕ) (s : State)
     → level c scope depth s ≡ chain (symbol c) (placed (symbol c) (FormulaForm.connected c) (operand c scope depth)) (operand c scope depth) (suc (length s.tokens)) s
 unfolding node formula fixpoint
 level-chain And scope depth s = refl
@@ -42,7 +42,7 @@ level-chain Implies scope (suc depth) s = refl
 pub links-last : (links : List Link) (link : Link) → link_forms (links ++ link ∷ []) ≡ link_forms links ++ link_form link ∷ []
 links-last links link = map-append _ links (link ∷ [])
 
-begun-other : (scope : Scope) (enter : Step Tok) (below inner : Step FormulaForm) (term : Step TermForm) (sets : Step StepSetForm) (kind : Kind)
+begun-other : (scope : FixpointNames) (enter : Step Tok) (below inner : Step FormulaForm) (term : Step TermForm) (sets : Step StepSetForm) (kind : Kind)
     → kind ≢ k.Not → kind ≢ k.Open → kind ≢ k.OpenSquare → kind ≢ k.Less → kind ≢ k.True → kind ≢ k.False → kind ≢ k.Val → kind ≢ k.Name → kind ≢ k.Number → kind ≢ k.Minus
     → begun scope enter below inner term sets kind ≡ refuse Unexpected
 begun-other scope enter below inner term sets k.Not a b c d e f g h i j = absurd (a refl)
@@ -57,7 +57,7 @@ begun-other scope enter below inner term sets k.Number a b c d e f g h i j = abs
 begun-other scope enter below inner term sets k.Minus a b c d e f g h i j = absurd (j refl)
 begun-other scope enter below inner term sets _ a b c d e f g h i j = refl
 
-pub node-other : (scope : Scope) (depth : ℕ) (s : State) → kind s ≢ k.Not → kind s ≢ k.Open → kind s ≢ k.OpenSquare → kind s ≢ k.Less → kind s ≢ k.True → kind s ≢ k.False → kind s ≢ k.Val → kind s ≢ k.Name
+pub node-other : (scope : FixpointNames) (depth : ℕ) (s : State) → kind s ≢ k.Not → kind s ≢ k.Open → kind s ≢ k.OpenSquare → kind s ≢ k.Less → kind s ≢ k.True → kind s ≢ k.False → kind s ≢ k.Val → kind s ≢ k.Name
     → kind s ≢ k.Number → kind s ≢ k.Minus → node scope depth s ≡ Err (refusal Unexpected s.tokens)
 unfolding node
 node-other scope zero s a b c d e f g h i j =
@@ -71,7 +71,7 @@ no-sign k.Mu e = cc
 no-sign k.Nu e = cc
 no-sign _ e = refl
 
-pub primary-node : (scope : Scope) (depth : ℕ) (s : State) → sign_of (kind s) ≡ None → primary scope depth s ≡ node scope depth s
+pub primary-node : (scope : FixpointNames) (depth : ℕ) (s : State) → sign_of (kind s) ≡ None → primary scope depth s ≡ node scope depth s
 primary-node scope depth s other = rw (no-sign (kind s) other) refl
 
 some-sign : (kind : Kind) (sign : Sign) → sign_of kind ≡ Some sign → is_fixpoint kind ≡ true
@@ -79,7 +79,7 @@ some-sign k.Mu sign e = refl
 some-sign k.Nu sign e = refl
 some-sign _ sign e = cc
 
-pub primary-fixpoint : (scope : Scope) (depth : ℕ) (s : State) (sign : Sign) → sign_of (kind s) ≡ Some sign → primary scope depth s ≡ fixpoint scope depth s
+pub primary-fixpoint : (scope : FixpointNames) (depth : ℕ) (s : State) (sign : Sign) → sign_of (kind s) ≡ Some sign → primary scope depth s ≡ fixpoint scope depth s
 primary-fixpoint scope depth s sign is = rw (some-sign (kind s) sign is) refl
 
 -- ---- what a token begins, where a level may open and where none may
@@ -91,25 +91,25 @@ opens_level k.OpenSquare = true
 opens_level k.Less = true
 opens_level _ = false
 
-pub node-at : (scope : Scope) (depth : ℕ) (s : State) (k' : Kind) → kind s ≡ k'
+pub node-at : (scope : FixpointNames) (depth : ℕ) (s : State) (k' : Kind) → kind s ≡ k'
     → node scope depth s ≡ begun scope (enter depth) (below (node scope) depth) (below (formula scope) depth) (data_operand depth) (below step_set depth) k' s
 unfolding node
 node-at scope zero s k' is = ap (λ v. begun scope (refuse Limit) (refuse Limit) (refuse Limit) (data_operand 0) (refuse Limit) v s) is
 node-at scope (suc depth) s k' is = ap (λ v. begun scope take_token (node scope depth) (formula scope depth) (data_operand (suc depth)) (step_set depth) v s) is
 
 -- where no level may open that a token would open
-pub node-enter-fails : (scope : Scope) (depth : ℕ) (s : State) (k' : Kind) → opens_level k' ≡ true → kind s ≡ k' → (bad : Refusal) → enter depth s ≡ Err bad → node scope depth s ≡ Err bad
+pub node-enter-fails : (scope : FixpointNames) (depth : ℕ) (s : State) (k' : Kind) → opens_level k' ≡ true → kind s ≡ k' → (bad : Refusal) → enter depth s ≡ Err bad → node scope depth s ≡ Err bad
 node-enter-fails scope depth s k.Not e is bad fails = node-at scope depth s k.Not is ∙ rw fails refl
 node-enter-fails scope depth s k.Open e is bad fails = node-at scope depth s k.Open is ∙ rw fails refl
 node-enter-fails scope depth s k.OpenSquare e is bad fails = node-at scope depth s k.OpenSquare is ∙ rw fails refl
 node-enter-fails scope depth s k.Less e is bad fails = node-at scope depth s k.Less is ∙ rw fails refl
 node-enter-fails scope depth s _ e is bad fails = cc
 
-node-modal : (scope : Scope) (depth : ℕ) (s : State) (m : Modality) → kind s ≡ opening m → node scope depth s ≡ modal m (closing m) (enter depth) (below (node scope) depth) (below step_set depth) s
+node-modal : (scope : FixpointNames) (depth : ℕ) (s : State) (m : Modality) → kind s ≡ opening_kind m → node scope depth s ≡ modal m (closing m) (enter depth) (below (node scope) depth) (below step_set depth) s
 node-modal scope depth s modality.Box is = node-at scope depth s k.OpenSquare is
 node-modal scope depth s modality.Diamond is = node-at scope depth s k.Less is
 
-pub modal-enter-fails : (scope : Scope) (depth : ℕ) (s : State) (m : Modality) → kind s ≡ opening m → (bad : Refusal) → enter depth s ≡ Err bad → node scope depth s ≡ Err bad
+pub modal-enter-fails : (scope : FixpointNames) (depth : ℕ) (s : State) (m : Modality) → kind s ≡ opening_kind m → (bad : Refusal) → enter depth s ≡ Err bad → node scope depth s ≡ Err bad
 modal-enter-fails scope depth s modality.Box is bad fails = node-enter-fails scope depth s k.OpenSquare refl is bad fails
 modal-enter-fails scope depth s modality.Diamond is bad fails = node-enter-fails scope depth s k.Less refl is bad fails
 
@@ -135,7 +135,7 @@ and-fewer (Ok t) x a b c less low = omega arith
 and-fewer (Err e) x a b c less low = tt
 
 -- what a token that opens a level begins
-module _ (scope : Scope) (depth : ℕ) (s s1 : State) (word : Tok) (entered : enter depth s ≡ Ok (word, s1)) (some : 0 < depth) where
+module _ (scope : FixpointNames) (depth : ℕ) (s s1 : State) (word : Tok) (entered : enter depth s ≡ Ok (word, s1)) (some : 0 < depth) where
   node-below : (u : State) → below (node scope) depth u ≡ node scope (depth - 1) u
   node-below u = ap (λ p. p u) (below-is (node scope) depth some)
 
@@ -179,7 +179,7 @@ module _ (scope : Scope) (depth : ℕ) (s s1 : State) (word : Tok) (entered : en
   bracketed-closes view (Err fault) f s2 z is reads closes = if_fault fault (λ bad e. bracketed-close-fails is (formula_form f) s2 reads bad e) closes
 
   -- a modality
-  module _ (m : Modality) (is : kind s ≡ opening m) where
+  module _ (m : Modality) (is : kind s ≡ opening_kind m) where
     modal-at : node scope depth s ≡ and_then (modal_steps m (step_set (depth - 1)) s1) (λ steps. below (node scope) depth >>= (λ x. pure (FormulaForm.modal m word.place steps x)))
     modal-at = node-modal scope depth s m is ∙ rw entered (rw (sets-below s1) (steps-closed m word (below (node scope) depth) (step_set (depth - 1) s1)))
 
@@ -194,17 +194,17 @@ module _ (scope : Scope) (depth : ℕ) (s s1 : State) (word : Tok) (entered : en
       modal-read x z reads = modal-at ∙ rw steps (rw (node-below s2, reads) refl)
 
 -- data behind `val` with which more would go on
-pub value-again : (scope : Scope) (depth : ℕ) (s s1 s2 : State) (t : Tok) (x : TermForm) → kind s ≡ k.Val → take_token s ≡ Ok (t, s1) → data_operand depth s1 ≡ Ok (x, s2) → goes_on (kind s2) ≡ true
+pub value-again : (scope : FixpointNames) (depth : ℕ) (s s1 s2 : State) (t : Tok) (x : TermForm) → kind s ≡ k.Val → take_token s ≡ Ok (t, s1) → data_operand depth s1 ≡ Ok (x, s2) → goes_on (kind s2) ≡ true
     → node scope depth s ≡ Err (refusal Unexpected s2.tokens)
 value-again scope depth s s1 s2 t x is taken reads again = node-at scope depth s k.Val is ∙ rw taken (rw reads (rw again refl))
 
-fixpoint-is : (scope : Scope) (depth : ℕ) (s : State) (sign : Sign) → sign_of (kind s) ≡ Some sign
+fixpoint-is : (scope : FixpointNames) (depth : ℕ) (s : State) (sign : Sign) → sign_of (kind s) ≡ Some sign
     → fixpoint scope depth s ≡ (enter depth >>= (λ word. binding sign word.place (λ name. below (formula (within scope name)) depth))) s
 unfolding fixpoint
 fixpoint-is scope zero s sign is = rw is refl
 fixpoint-is scope (suc depth) s sign is = rw is refl
 
-module _ (scope : Scope) (depth : ℕ) (s s1 : State) (sign : Sign) (word : Tok) (is : sign_of (kind s) ≡ Some sign) (entered : enter depth s ≡ Ok (word, s1)) where
+module _ (scope : FixpointNames) (depth : ℕ) (s s1 : State) (sign : Sign) (word : Tok) (is : sign_of (kind s) ≡ Some sign) (entered : enter depth s ≡ Ok (word, s1)) where
   pub fixpoint-name-fails : (bad : Refusal) → expect k.Name s1 ≡ Err bad → fixpoint scope depth s ≡ Err bad
   unfolding name
   fixpoint-name-fails bad fails = fixpoint-is scope depth s sign is ∙ rw entered (rw fails refl)
@@ -230,27 +230,27 @@ module _ (scope : Scope) (depth : ℕ) (s s1 : State) (sign : Sign) (word : Tok)
 -- ---- chains over chains
 
 -- where an operand fails, its chain does
-level-fails : (c : Connective) (scope : Scope) (depth : ℕ) (s : State) (bad : Refusal) → operand c scope depth s ≡ Err bad → level c scope depth s ≡ Err bad
+level-fails : (c : Connective) (scope : FixpointNames) (depth : ℕ) (s : State) (bad : Refusal) → operand c scope depth s ≡ Err bad → level c scope depth s ≡ Err bad
 level-fails c scope depth s bad fails = level-chain c scope depth s ∙ resumed-first-fails (symbol c) (FormulaForm.connected c) (operand c scope depth) (length s.tokens) s bad fails
 
-pub conjunction-fails : (scope : Scope) (depth : ℕ) (s : State) (bad : Refusal) → level And scope depth s ≡ Err bad → formula scope depth s ≡ Err bad
+pub conjunction-fails : (scope : FixpointNames) (depth : ℕ) (s : State) (bad : Refusal) → level And scope depth s ≡ Err bad → formula scope depth s ≡ Err bad
 conjunction-fails scope depth s bad fails = level-fails Implies scope depth s bad (level-fails Or scope depth s bad fails)
 
-pub disjunction-fails : (scope : Scope) (depth : ℕ) (s : State) (bad : Refusal) → level Or scope depth s ≡ Err bad → formula scope depth s ≡ Err bad
+pub disjunction-fails : (scope : FixpointNames) (depth : ℕ) (s : State) (bad : Refusal) → level Or scope depth s ≡ Err bad → formula scope depth s ≡ Err bad
 disjunction-fails scope depth s bad fails = level-fails Implies scope depth s bad fails
 
-pub primary-fails : (scope : Scope) (depth : ℕ) (s : State) (bad : Refusal) → primary scope depth s ≡ Err bad → formula scope depth s ≡ Err bad
+pub primary-fails : (scope : FixpointNames) (depth : ℕ) (s : State) (bad : Refusal) → primary scope depth s ≡ Err bad → formula scope depth s ≡ Err bad
 primary-fails scope depth s bad fails = conjunction-fails scope depth s bad (level-fails And scope depth s bad fails)
 
 -- an operand behind which the connective doesn't stand
-pub level-alone-or-fails : (c : Connective) (scope : Scope) (depth : ℕ) (s z : State) (r : Result Formula (OrMemory Refusal)) → Gives formula_form (operand c scope depth s) r z → same_kind (kind z) (symbol c) ≡ false
+pub level-alone-or-fails : (c : Connective) (scope : FixpointNames) (depth : ℕ) (s z : State) (r : Result Formula (OrMemory Refusal)) → Gives formula_form (operand c scope depth s) r z → same_kind (kind z) (symbol c) ≡ false
     → Gives formula_form (level c scope depth s) r z
 level-alone-or-fails c scope depth s z r reads other =
     subst (λ (o : Outcome FormulaForm). Gives formula_form o r z) (sym (level-chain c scope depth s))
     (resumed-alone-or-fails (symbol c) (FormulaForm.connected c) (operand c scope depth) formula_form (length s.tokens) s z r reads other)
 
 -- a first part behind which no connective stands
-pub primary-alone-or-fails : (scope : Scope) (depth : ℕ) (s z : State) (r : Result Formula (OrMemory Refusal)) → Gives formula_form (primary scope depth s) r z → is_connective (kind z) ≡ false
+pub primary-alone-or-fails : (scope : FixpointNames) (depth : ℕ) (s z : State) (r : Result Formula (OrMemory Refusal)) → Gives formula_form (primary scope depth s) r z → is_connective (kind z) ≡ false
     → Gives formula_form (formula scope depth s) r z
 primary-alone-or-fails scope depth s z r reads other =
     level-alone-or-fails Implies scope depth s z r

@@ -17,7 +17,7 @@ use Rattle.pb_text_lexer.specs.declared.language.Language.TheVariants as languag
 use Rattle.pb_text_lexer.specs.Kinds.{is_defect, is_limited}
 use Rattle.pb_text_lexer.specs.Lexing.{start, IsDefectIn}
 use Rattle.pb_text_lexer.specs.Remaining.{tokens_from, ranges_from}
-use Rattle.pb_text_lexer.specs.Grammar.{State, Within, going_on}
+use Rattle.pb_text_lexer.specs.Grammar.{State, WithinLimits, going_on}
 use Rattle.pb_text_lexer.specs.Steps.{Outcome, Gives}
 use Rattle.pb_text_lexer.specs.Tokens.{Tok}
 use Rattle.pb_text_lexer.proofs.Correct.{st}
@@ -26,7 +26,7 @@ use Rattle.pb_text_lexer.proofs.RemainingLemmas.{tokens-end}
 use Rattle.pb_model_text.specs.Grammar.{IsModelText}
 use Rattle.pb_text.specs.declared.error.TextFault.{TextFault}
 use Rattle.pb_text.specs.Parsing.{depth_limit, operator_limit, rule_of, fault_of}
-use Rattle.pb_model_text.specs.Parsing.{IsReading, IsReadingWithin, AtMostOneReading, BeginsNextModel, IsRefusal, IsBroken, IsFirstFaultBy, NoReading, IsFirstFault}
+use Rattle.pb_model_text.specs.Parsing.{IsModelReading, IsModelReadingWithin, AtMostOneModelReading, BeginsNextModel, IsModelRefusal, IsBrokenModel, IsFirstModelFaultBy, NoModelReading, IsFirstModelFault}
 use Rattle.pb_model_text.specs.Reading.{whole_model}
 use Rattle.pb_text.proofs.Raised.{Answers, Raised, ok-raised, err-raised}
 use Rattle.pb_model_text.proofs.CorrectModel.{IsFault, IsRead, Reading, whole-reads, with-ranges}
@@ -37,23 +37,23 @@ all_tokens bytes = tokens_from language.Model bytes 0 start
 abbrev pub all_ranges : List ℕ → List RangeForm
 all_ranges bytes = ranges_from language.Model bytes 0 start
 
-pub is-reading : (bytes : List ℕ) (x : ModelForm) → IsRead depth_limit operator_limit (all_tokens bytes) (all_ranges bytes) x → IsReading bytes x
+pub is-reading : (bytes : List ℕ) (x : ModelForm) → IsRead depth_limit operator_limit (all_tokens bytes) (all_ranges bytes) x → IsModelReading bytes x
 is-reading bytes x r = record { tokens = all_tokens bytes; ranges = all_ranges bytes; cut = whole-cut language.Model bytes r.front r.end r.cut r.end_is; says = r.reads }
 
 -- what the tokens and range lines of a cut say, those that the lexer gives say
-of-cut : (bytes : List ℕ) (d n : ℕ) (y : ModelForm) → IsReadingWithin d n bytes y → IsModelText d n (all_tokens bytes) (all_ranges bytes) y
+of-cut : (bytes : List ℕ) (d n : ℕ) (y : ModelForm) → IsModelReadingWithin d n bytes y → IsModelText d n (all_tokens bytes) (all_ranges bytes) y
 of-cut bytes d n y h =
     let same = same-cut language.Model bytes h.tokens h.ranges h.cut in
     subst (λ (v : List Tok). IsModelText d n v (all_ranges bytes) y) same.tokens (subst (λ (v : List RangeForm). IsModelText d n h.tokens v y) same.ranges_too h.says)
 
-pub only-reading : (bytes : List ℕ) (x : ModelForm) → IsRead depth_limit operator_limit (all_tokens bytes) (all_ranges bytes) x → (d n : ℕ) (y : ModelForm) → IsReadingWithin d n bytes y → y ≡ x
+pub only-reading : (bytes : List ℕ) (x : ModelForm) → IsRead depth_limit operator_limit (all_tokens bytes) (all_ranges bytes) x → (d n : ℕ) (y : ModelForm) → IsModelReadingWithin d n bytes y → y ≡ x
 only-reading bytes x r d n y h = r.only d n y (of-cut bytes d n y h)
 
 -- where some reading is within the limits, reading the tokens gives it, and there is no other
-pub at_most_one : AtMostOneReading
+pub at_most_one : AtMostOneModelReading
 at_most_one bytes d n e m x y hx hy = by (whole_model (all_ranges bytes) d (st (all_tokens bytes) n)) (whole-reads (all_ranges bytes) d (st (all_tokens bytes) n) (tokens-end language.Model start bytes))
   where
-    within-these : (rule : ReadingRule) (d n : ℕ) → Within rule d n d n
+    within-these : (rule : ReadingRule) (d n : ℕ) → WithinLimits rule d n d n
     within-these Unexpected d n = tt
     within-these Limit d n = (omega arith, omega arith)
 
@@ -63,17 +63,17 @@ at_most_one bytes d n e m x y hx hy = by (whole_model (all_ranges bytes) d (st (
         absurd (f.none d n f.more (all_ranges bytes) x (within-these bad.rule d n)
         (subst (λ (v : List Tok). IsModelText d n v (all_ranges bytes) x) f.cut (of-cut bytes d n x hx)))
 
-pub no-reading : (bytes : List ℕ) (bad : Refusal) → IsFault depth_limit operator_limit (all_tokens bytes) bad → (y : ModelForm) → IsReading bytes y → ⊥
+pub no-reading : (bytes : List ℕ) (bad : Refusal) → IsFault depth_limit operator_limit (all_tokens bytes) bad → (y : ModelForm) → IsModelReading bytes y → ⊥
 no-reading bytes bad f y h =
     f.none depth_limit operator_limit f.more (all_ranges bytes) y (within-self bad.rule) (subst (λ (v : List Tok). IsModelText depth_limit operator_limit v (all_ranges bytes) y) f.cut (of-cut bytes depth_limit operator_limit y h))
   where
-    within-self : (rule : ReadingRule) → Within rule depth_limit operator_limit depth_limit operator_limit
+    within-self : (rule : ReadingRule) → WithinLimits rule depth_limit operator_limit depth_limit operator_limit
     within-self Unexpected = tt
     within-self Limit = (omega arith, omega arith)
 
 -- a refused token is no token, or it is refused by the grammar
-by-kind : (bytes : List ℕ) (rule : ReadingRule) (kind : Kind) (place : Place) → (is_defect kind ≡ true → IsBroken bytes kind place) → (is_defect kind ≡ false → IsRefusal bytes rule place)
-    → IsFirstFaultBy (rule_of rule kind) bytes place
+by-kind : (bytes : List ℕ) (rule : ReadingRule) (kind : Kind) (place : Place) → (is_defect kind ≡ true → IsBrokenModel bytes kind place) → (is_defect kind ≡ false → IsModelRefusal bytes rule place)
+    → IsFirstModelFaultBy (rule_of rule kind) bytes place
 by-kind bytes rule Unknown place broken refused = broken refl
 by-kind bytes rule LargeNumber place broken refused = broken refl
 by-kind bytes rule RangeLine place broken refused = broken refl
@@ -92,7 +92,7 @@ before Limit front next limited broken goes = absurd (no-limit next.kind (limite
     no-limit RangeLine h e = cc
     no-limit _ h e = cc
 
-pub stands-by : (bytes : List ℕ) (bad : Refusal) → IsFault depth_limit operator_limit (all_tokens bytes) bad → IsFirstFaultBy (rule_of bad.rule bad.kind) bytes bad.place
+pub stands-by : (bytes : List ℕ) (bad : Refusal) → IsFault depth_limit operator_limit (all_tokens bytes) bad → IsFirstModelFaultBy (rule_of bad.rule bad.kind) bytes bad.place
 stands-by bytes bad f =
     let s = stands language.Model bytes f.front f.more f.next f.cut in
     by-kind bytes bad.rule bad.kind bad.place
@@ -151,9 +151,9 @@ module _ (bytes : List ℕ) (below : Result Model (OrMemory Refusal)) (h : Answe
   said s is = ok-raised GivesFault (IsSaid bytes) (IsFaultOf bytes) below s is h
 
   module _ (error : OrMemory TextFault) (is : Raised GivesFault below (Err error)) where
-    pub refused-is : IfFault error (λ fault. NoReading bytes)
-    refused-is = err-raised GivesFault (IsSaid bytes) (IsFaultOf bytes) (λ fault. NoReading bytes) below error is (λ bad fault made f. no-reading bytes bad f) h
+    pub refused-is : IfFault error (λ fault. NoModelReading bytes)
+    refused-is = err-raised GivesFault (IsSaid bytes) (IsFaultOf bytes) (λ fault. NoModelReading bytes) below error is (λ bad fault made f. no-reading bytes bad f) h
 
-    pub stands-is : IfFault error (IsFirstFault bytes)
-    stands-is = err-raised GivesFault (IsSaid bytes) (IsFaultOf bytes) (IsFirstFault bytes) below error is
-        (λ bad fault made f. subst (λ (v : TextFault). IsFirstFault bytes v) (sym made) (stands-by bytes bad f)) h
+    pub stands-is : IfFault error (IsFirstModelFault bytes)
+    stands-is = err-raised GivesFault (IsSaid bytes) (IsFaultOf bytes) (IsFirstModelFault bytes) below error is
+        (λ bad fault made f. subst (λ (v : TextFault). IsFirstModelFault bytes v) (sym made) (stands-by bytes bad f)) h

@@ -12,7 +12,7 @@ use Rattle.pb_text_lexer.specs.Steps.{Step, Outcome, and_then, ◌>>=◌, pure, 
 use Rattle.pb_text_lexer.specs.Tokens.{Tok}
 use Rattle.pb_text_terms.specs.Operators.{is_equality, is_order, compared_by, is_additive, is_times, is_division, computed_by, is_operator}
 use Rattle.pb_text_terms.specs.Reading.{product, sum, ordered, equated}
-use Rattle.pb_model_text.specs.Grammar.{Scope, atom_of}
+use Rattle.pb_model_text.specs.Grammar.{FixpointNames, atom_of}
 
 abbrev IsCompound : TermForm → Type 0
 IsCompound (TermForm.compared c p x y) = Unit {0}
@@ -158,13 +158,13 @@ an-operator k.Equal h without = let e = without.1 in cc
 an-operator k.NotEqual h without = let e = without.1 in cc
 an-operator _ h without = cc
 
-compound-data : (scope : Scope) (p : Place) (y : TermForm) → IsCompound y → atom_of scope p y ≡ FormulaForm.«data» p y
+compound-data : (scope : FixpointNames) (p : Place) (y : TermForm) → IsCompound y → atom_of scope p y ≡ FormulaForm.«data» p y
 compound-data scope p (TermForm.compared c q x y) h = refl
 compound-data scope p (TermForm.computed c q x y) h = refl
 compound-data scope p _ h = absurd h
 
 pub operated-data : (u : Step TermForm) (s s1 : State) (x y : TermForm) (z : State) → u s ≡ Ok (x, s1) → is_operator (kind s1) ≡ true → equated u s ≡ Ok (y, z)
-    → (scope : Scope) (p : Place) → atom_of scope p y ≡ FormulaForm.«data» p y
+    → (scope : FixpointNames) (p : Place) → atom_of scope p y ≡ FormulaForm.«data» p y
 operated-data u s s1 x y z reads on h scope p = at (equated-either u s s1 x reads y z h)
   where
     at : Either x s1 (NoOperator (kind s1)) y z → atom_of scope p y ≡ FormulaForm.«data» p y

@@ -64,15 +64,15 @@ abbrev mutual
 -- ---- formulas
 
 -- the names of the fixpoints around a formula
-abbrev pub Scope : Type 0
-Scope = List (List ℕ)
+abbrev pub FixpointNames : Type 0
+FixpointNames = List (List ℕ)
 
-abbrev pub is_bound : Scope → List ℕ → Bool
+abbrev pub is_bound : FixpointNames → List ℕ → Bool
 is_bound [] text = false
 is_bound (name ∷ names) text = if bytes_eq name text then true else is_bound names text
 
 -- A name alone that is a fixpoint's around it is its variable; any other term is data.
-abbrev pub atom_of : Scope → Place → TermForm → FormulaForm
+abbrev pub atom_of : FixpointNames → Place → TermForm → FormulaForm
 atom_of scope place (TermForm.name name) =
     if is_bound scope name.text then FormulaForm.variable name
     else FormulaForm.«data» place (TermForm.name name)
@@ -100,7 +100,7 @@ Modal modality close Node Sets open_bracket = do
 -- brackets Formula, in data without connectives Unary, and between the brackets of modalities Sets.
 -- Data that begins otherwise, or has a connective or a quantifier, stands behind `val`.
 abbrev pub Begun :
-    Scope → Reads FormulaForm → Reads FormulaForm → Reads TermForm → Reads StepSetForm →
+    FixpointNames → Reads FormulaForm → Reads FormulaForm → Reads TermForm → Reads StepSetForm →
     Kind → Reads FormulaForm
 Begun scope Node Formula Unary Sets k.Not = do
   sign ← One k.Not
@@ -158,19 +158,19 @@ abbrev pub Connections : Reads FormulaForm → (List ℕ → Reads FormulaForm) 
 Connections Node Body = Connected (connected_by FormulaForm.connected) Node (Fixpoint Body)
 
 -- the scope inside a fixpoint
-abbrev pub within : Scope → List ℕ → Scope
+abbrev pub within : FixpointNames → List ℕ → FixpointNames
 within scope name = scope ++ name ∷ []
 
 -- So many levels may open: each `!`, each bracket but that which closes, and each fixpoint opens
 -- one.
 abbrev mutual
-  pub IsNode : Scope → ℕ → Reads FormulaForm
+  pub IsNode : FixpointNames → ℕ → Reads FormulaForm
   IsNode scope zero = First (Begun scope Nothing Nothing (IsUnary zero) Nothing)
   IsNode scope (suc depth) =
       First (Begun scope (IsNode scope depth) (IsFormula scope depth) (IsUnary (suc depth))
       (IsStepSet depth))
 
-  pub IsFormula : Scope → ℕ → Reads FormulaForm
+  pub IsFormula : FixpointNames → ℕ → Reads FormulaForm
   IsFormula scope zero =
       Connections (First (Begun scope Nothing Nothing (IsUnary zero) Nothing)) (λ name. Nothing)
   IsFormula scope (suc depth) =
@@ -206,8 +206,8 @@ abbrev pub Steps : ℕ → Reads (List StepForm)
 Steps depth = Listed (CountedApart (IsStep depth)) (Is {X = Unit {0}} tt)
 
 -- the values of the state variables, in order
-abbrev pub IsInitial : ℕ → Reads InitialForm
-IsInitial depth = do
+abbrev pub IsInitialState : ℕ → Reads InitialForm
+IsInitialState depth = do
   word ← One k.Init
   values ← Listed (Placed (IsTerm depth)) (One k.Comma)
   semicolon ← One k.Semicolon
@@ -238,7 +238,7 @@ IsModel ranges depth = do
   semicolon ← One k.Semicolon
   step ← One k.Step
   steps ← Steps depth
-  initial ← CountedApart (IsInitial depth)
+  initial ← CountedApart (IsInitialState depth)
   properties ← Properties depth
   Is (record {
     sorts = sorts;

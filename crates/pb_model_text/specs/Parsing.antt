@@ -8,7 +8,7 @@ use Rattle.pb_text_lexer.specs.declared.fault.ReadingRule as token_rule
 use Rattle.pb_text_lexer.specs.declared.kind.Kind.{Kind}
 use Rattle.pb_text_lexer.specs.declared.kind.Kind.TheVariants as k
 use Rattle.pb_text_lexer.specs.declared.language.Language.TheVariants.{Model}
-use Rattle.pb_text_lexer.specs.Grammar.{Within, going_on}
+use Rattle.pb_text_lexer.specs.Grammar.{WithinLimits, going_on}
 use Rattle.pb_text_lexer.specs.Kinds.{is_limited}
 use Rattle.pb_text_lexer.specs.Lexing.{IsCutIn, IsDefectIn, BeginsIn}
 use Rattle.pb_text_lexer.specs.Tokens.{Tok}
@@ -20,21 +20,22 @@ use Rattle.pb_model_text.specs.Grammar.{IsModelText}
 
 -- The bytes are this model: so many levels may open, and each step, the initial state and each
 -- property may have so many operators.
-pub record IsReadingWithin (depth operators : ℕ) (bytes : List ℕ) (x : ModelForm) : Type 0 where
+pub record IsModelReadingWithin (depth operators : ℕ) (bytes : List ℕ)
+    (x : ModelForm) : Type 0 where
   pub tokens : List Tok
   pub ranges : List RangeForm
   pub cut : IsCutIn Model bytes tokens ranges
   pub says : IsModelText depth operators tokens ranges x
 
 -- the bytes are this model, within the limits of texts
-abbrev pub IsReading : List ℕ → ModelForm → Type 0
-IsReading bytes x = IsReadingWithin depth_limit operator_limit bytes x
+abbrev pub IsModelReading : List ℕ → ModelForm → Type 0
+IsModelReading bytes x = IsModelReadingWithin depth_limit operator_limit bytes x
 
 -- bytes are at most one model, places included, whatever the limits
-abbrev pub AtMostOneReading : Type 0
-AtMostOneReading =
-    (bytes : List ℕ) (d n e m : ℕ) (x y : ModelForm) → IsReadingWithin d n bytes x →
-    IsReadingWithin e m bytes y → x ≡ y
+abbrev pub AtMostOneModelReading : Type 0
+AtMostOneModelReading =
+    (bytes : List ℕ) (d n e m : ℕ) (x y : ModelForm) → IsModelReadingWithin d n bytes x →
+    IsModelReadingWithin e m bytes y → x ≡ y
 
 -- some model begins with these tokens, where so many levels may open, and so many operators come
 pub record BeginsModel (depth operators : ℕ) (tokens : List Tok) : Type 0 where
@@ -49,8 +50,8 @@ BeginsNextModel tokens = BeginsModel (suc depth_limit) (suc operator_limit) toke
 
 -- Up to each of these tokens at which a limit can be exceeded, some model begins so, within so many
 -- levels and operators: none of them is past a limit.
-abbrev pub StaysWithin : ℕ → ℕ → List Tok → Type 0
-StaysWithin depth operators tokens =
+abbrev pub ModelStaysWithin : ℕ → ℕ → List Tok → Type 0
+ModelStaysWithin depth operators tokens =
     (before behind : List Tok) (t : Tok) → tokens ≡ before ++ t ∷ behind →
     is_limited t.kind ≡ true → BeginsModel depth operators (before ++ t ∷ [])
 
@@ -60,7 +61,7 @@ StaysWithin depth operators tokens =
 -- limit isn't named. Where the rule is a limit, it is a token at which a limit can be exceeded, so
 -- the first that is past one; and with one level and one operator more some model begins with it
 -- too, so no other fault stands before it.
-pub record IsRefusal
+pub record IsModelRefusal
     (bytes : List ℕ) (broken : token_rule.ReadingRule) (place : Place) : Type 0 where
   pub front : List Tok
   pub next : Tok
@@ -69,30 +70,30 @@ pub record IsRefusal
   pub limited : broken ≡ refused.Limit → is_limited next.kind ≡ true
   pub none :
       (d n : ℕ) (tail : List Tok) (ranges : List RangeForm) (x : ModelForm) →
-      Within broken depth_limit operator_limit d n →
+      WithinLimits broken depth_limit operator_limit d n →
       IsModelText d n (front ++ next ∷ tail) ranges x → ⊥
   pub goes_on : BeginsNextModel (front ++ going_on broken next)
-  pub first : StaysWithin depth_limit operator_limit front
+  pub first : ModelStaysWithin depth_limit operator_limit front
 
 -- The bytes are cut into tokens up to this place, where no token stands, nor the end. Some model
 -- begins with those tokens, none of which is past a limit.
-pub record IsBroken (bytes : List ℕ) (kind : Kind) (place : Place) : Type 0 where
+pub record IsBrokenModel (bytes : List ℕ) (kind : Kind) (place : Place) : Type 0 where
   pub front : List Tok
   pub defect : IsDefectIn Model bytes front place kind
   pub goes_on : BeginsNextModel front
-  pub first : StaysWithin depth_limit operator_limit front
+  pub first : ModelStaysWithin depth_limit operator_limit front
 
 -- what a refusal says of the bytes
-abbrev pub IsFirstFaultBy : TextRule → List ℕ → Place → Type 0
-IsFirstFaultBy rule.UnknownByte bytes place = IsBroken bytes k.Unknown place
-IsFirstFaultBy rule.UnexpectedToken bytes place = IsRefusal bytes refused.Unexpected place
-IsFirstFaultBy rule.LargeNumber bytes place = IsBroken bytes k.LargeNumber place
-IsFirstFaultBy rule.LimitExceeded bytes place = IsRefusal bytes refused.Limit place
-IsFirstFaultBy rule.RangeLine bytes place = IsBroken bytes k.RangeLine place
+abbrev pub IsFirstModelFaultBy : TextRule → List ℕ → Place → Type 0
+IsFirstModelFaultBy rule.UnknownByte bytes place = IsBrokenModel bytes k.Unknown place
+IsFirstModelFaultBy rule.UnexpectedToken bytes place = IsModelRefusal bytes refused.Unexpected place
+IsFirstModelFaultBy rule.LargeNumber bytes place = IsBrokenModel bytes k.LargeNumber place
+IsFirstModelFaultBy rule.LimitExceeded bytes place = IsModelRefusal bytes refused.Limit place
+IsFirstModelFaultBy rule.RangeLine bytes place = IsBrokenModel bytes k.RangeLine place
 
-abbrev pub IsFirstFault : List ℕ → TextFault → Type 0
-IsFirstFault bytes fault = IsFirstFaultBy fault.rule bytes fault.place
+abbrev pub IsFirstModelFault : List ℕ → TextFault → Type 0
+IsFirstModelFault bytes fault = IsFirstModelFaultBy fault.rule bytes fault.place
 
 -- the bytes say no model within the limits
-abbrev pub NoReading : List ℕ → Type 0
-NoReading bytes = (x : ModelForm) → IsReading bytes x → ⊥
+abbrev pub NoModelReading : List ℕ → Type 0
+NoModelReading bytes = (x : ModelForm) → IsModelReading bytes x → ⊥

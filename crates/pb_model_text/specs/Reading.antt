@@ -21,12 +21,12 @@ use Rattle.pb_text_terms.specs.Operators.{is_times, is_division}
 use Rattle.pb_text_terms.specs.Grammar.{arguments_of}
 use Rattle.pb_text_terms.specs.Reading.{name, is_comma, is_open, placed, argument_list, equated}
 use Rattle.pb_text_terms.specs.Reading.{unary, term, variables}
-use Rattle.pb_text.specs.Reading.{is_name, parameters, sort_parts}
+use Rattle.pb_text.specs.Reading.{is_name_kind, parameters, sort_parts}
 use Rattle.pb_model_tree.specs.declared.formula.Modality.{Modality}
 use Rattle.pb_model_tree.specs.declared.formula.Modality.TheVariants as modality
 use Rattle.pb_model_tree.specs.Form.{StepSetForm, FormulaForm, AssignmentForm, StepForm}
 use Rattle.pb_model_tree.specs.Form.{InitialForm, PropertyForm, ModelForm}
-use Rattle.pb_model_text.specs.Grammar.{united_by, Scope, atom_of, within}
+use Rattle.pb_model_text.specs.Grammar.{united_by, FixpointNames, atom_of, within}
 
 abbrev pub is_or : Kind → Bool
 is_or kind = same_kind kind k.Or
@@ -104,9 +104,9 @@ modal modality close enter below sets = do
   pure (FormulaForm.modal modality open_bracket.place steps operand)
 
 -- the brackets of a modality, and its steps with the bracket behind them
-abbrev pub opening : Modality → Kind
-opening modality.Box = k.OpenSquare
-opening modality.Diamond = k.Less
+abbrev pub opening_kind : Modality → Kind
+opening_kind modality.Box = k.OpenSquare
+opening_kind modality.Diamond = k.Less
 
 abbrev pub closing : Modality → Kind
 closing modality.Box = k.CloseSquare
@@ -120,7 +120,8 @@ modal_steps modality sets = do
 
 -- What a token begins that is no fixpoint. The first step takes a token that opens a level.
 abbrev pub begun :
-    Scope → Step Tok → Step FormulaForm → Step FormulaForm → Step TermForm → Step StepSetForm →
+    FixpointNames → Step Tok → Step FormulaForm → Step FormulaForm → Step TermForm
+    → Step StepSetForm →
     Kind → Step FormulaForm
 begun scope enter below inner operand sets k.Not = do
   sign ← enter
@@ -176,51 +177,51 @@ unfoldable pub data_operand : ℕ → Step TermForm
 data_operand depth = unary depth
 
 -- where no level may open, and where one may
-abbrev pub last_node : Scope → Step FormulaForm
+abbrev pub last_node : FixpointNames → Step FormulaForm
 last_node scope =
     peek
     >>= begun scope (refuse Limit) (refuse Limit) (refuse Limit) (data_operand 0) (refuse Limit)
 
-abbrev pub node_over : Scope → Step FormulaForm → Step FormulaForm → ℕ → Step FormulaForm
+abbrev pub node_over : FixpointNames → Step FormulaForm → Step FormulaForm → ℕ → Step FormulaForm
 node_over scope below inner depth =
     peek >>= begun scope take_token below inner (data_operand (suc depth)) (step_set depth)
 
 -- The number is how many levels may still open.
 unfoldable mutual
-  pub node : Scope → ℕ → Step FormulaForm
+  pub node : FixpointNames → ℕ → Step FormulaForm
   node scope zero = last_node scope
   node scope (suc depth) = node_over scope (node scope depth) (formula scope depth) depth
 
-  pub formula : Scope → ℕ → Step FormulaForm
+  pub formula : FixpointNames → ℕ → Step FormulaForm
   formula scope zero = connections (refuse Limit) (last_node scope) (λ name. refuse Limit)
   formula scope (suc depth) =
       connections take_token (node_over scope (node scope depth) (formula scope depth) depth)
       (λ name. formula (within scope name) depth)
 
 -- a fixpoint with its body
-unfoldable pub fixpoint : Scope → ℕ → Step FormulaForm
+unfoldable pub fixpoint : FixpointNames → ℕ → Step FormulaForm
 fixpoint scope zero = fixpoint_over (refuse Limit) (λ name. refuse Limit)
 fixpoint scope (suc depth) = fixpoint_over take_token (λ name. formula (within scope name) depth)
 
 -- an operand of `&&`
-abbrev pub primary : Scope → ℕ → Step FormulaForm
+abbrev pub primary : FixpointNames → ℕ → Step FormulaForm
 primary scope depth = either is_fixpoint (node scope depth) (fixpoint scope depth)
 
 -- a chain of the connective, and an operand of one
-abbrev pub level : Connective → Scope → ℕ → Step FormulaForm
+abbrev pub level : Connective → FixpointNames → ℕ → Step FormulaForm
 level connective.And scope depth =
     conjunction (connected_by FormulaForm.connected) (primary scope depth)
 level connective.Or scope depth =
     disjunction (connected_by FormulaForm.connected) (primary scope depth)
 level connective.Implies scope depth = formula scope depth
 
-abbrev pub operand : Connective → Scope → ℕ → Step FormulaForm
+abbrev pub operand : Connective → FixpointNames → ℕ → Step FormulaForm
 operand connective.And scope depth = primary scope depth
 operand connective.Or scope depth = level connective.And scope depth
 operand connective.Implies scope depth = level connective.Or scope depth
 
 -- the names of a scope, as the code keeps it
-abbrev pub names_of : List (Bor (List ℕ)) → Scope
+abbrev pub names_of : List (Bor (List ℕ)) → FixpointNames
 names_of = map (λ name. name.now)
 
 -- ---- steps, the initial state, properties
@@ -251,7 +252,7 @@ unfoldable pub step : ℕ → Step StepForm
 step depth = alone (step_parts depth)
 
 abbrev pub steps : ℕ → Step (List StepForm)
-steps depth = λ s. listed (step depth) is_name nothing_between (suc (length s.tokens)) s
+steps depth = λ s. listed (step depth) is_name_kind nothing_between (suc (length s.tokens)) s
 
 unfoldable pub initial_parts : ℕ → Step InitialForm
 initial_parts depth = do

@@ -127,7 +127,7 @@ fn modal<'a>(
     scope: Scope<'_, 'a>,
     modality: Modality,
 ) -> Result<Formula, ReadingError>
-    requires { spec.kind input.old ≡ reading.opening modality }
+    requires { spec.kind input.old ≡ reading.opening_kind modality }
     ensures reads { Gives formula_form (reading.node (names_of scope.entry.names.now)
         scope.entry.depth input.old) result input.new }
     ensures fewer { OnOk result (length input.new.tokens < length input.old.tokens) }

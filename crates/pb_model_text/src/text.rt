@@ -4,7 +4,8 @@ ghost use Rattle.pb_limits.specs.declared.TheConstants.{MAX_INPUT_BYTES};
 ghost use Rattle.std.specs.Prelude.{◌≡◌, ◌≤◌, ℕ, length, IfOk};
 ghost use Rattle.pb_errors.specs.OrMemory.{IfRefused, OnRefused};
 ghost use Rattle.pb_model_tree.specs.Form.{ModelForm, model_form};
-ghost use Rattle.pb_model_text.specs.Parsing.{IsReading, IsReadingWithin, NoReading, IsFirstFault};
+ghost use Rattle.pb_model_text.specs.Parsing.{IsModelReading, IsModelReadingWithin, NoModelReading};
+ghost use Rattle.pb_model_text.specs.Parsing.{IsFirstModelFault};
 
 use crate::model::whole;
 use pb_errors::OrMemory;
@@ -29,17 +30,18 @@ use std::alloc::Global;
 pub fn parse_model(alloc: Global, bytes: &[u8]) -> Result<Model, TextError>
     requires { length bytes.now ≤ MAX_INPUT_BYTES }
     // It is what the bytes say, within the limits, places included.
-    ensures reading { IfOk result (λ m. IsReading bytes.now (model_form m)) }
+    ensures reading { IfOk result (λ m. IsModelReading bytes.now (model_form m)) }
     // They say nothing else, within any limits.
-    ensures only { IfOk result (λ m. (d n : ℕ) (x : ModelForm) → IsReadingWithin d n bytes.now x
+    ensures only { IfOk result
+        (λ m. (d n : ℕ) (x : ModelForm) → IsModelReadingWithin d n bytes.now x
         → x ≡ model_form m) }
     // Only where they say nothing within the limits, or memory runs out, is there no model.
-    ensures refused { OnRefused result (NoReading bytes.now) }
+    ensures refused { OnRefused result (NoModelReading bytes.now) }
     // The fault stands at its place, and nothing that is no token stands before it. Some model
     // begins with the tokens before it, so P02 stands at the first with which none goes on; and no
     // token before it is past a limit. At P04 no model within the limits begins with that token
     // too, so it is the first past a limit; with one level and one operator more some model does.
-    ensures stands { IfRefused result (IsFirstFault bytes.now) }
+    ensures stands { IfRefused result (IsFirstModelFault bytes.now) }
 {
     let mut input = Input::new(Language::Model, bytes, MAX_OPERATORS as u32);
     let mut model = whole(&mut input, alloc).map_err(OrMemory::raise)?;

@@ -17,7 +17,7 @@ use Rattle.pb_model_tree.specs.declared.formula.Formula as tree
 use Rattle.pb_model_tree.specs.declared.formula.Link as tree_link
 use Rattle.pb_model_meaning.specs.Syntax.{StepSet, Formula, Model}
 use Rattle.pb_model_meaning.specs.Erase.{joined, modal}
-use Rattle.pb_model_translation.specs.Translation.{Callee, Scope, has_equation, next_if, equation_count, operand_callee, right_side, equation, with_equation, equations}
+use Rattle.pb_model_translation.specs.Translation.{Callee, FixpointScope, has_equation, next_if, equation_count, operand_callee, right_side, equation, with_equation, equations}
 use Rattle.pb_model_names.proofs.Chains.{all_joined, at-chain}
 use Rattle.pb_model_names.specs.View.{formula_of, operand_of, operands_of}
 use Rattle.pb_model_modalities.specs.View as modalities
@@ -44,7 +44,7 @@ count-modal Diamond A f = refl
 module _ (m : Model) (names : ℕ → Name) where
   -- ---- right sides
 
-  pub right-joined : (scope : Scope) (c : Connective) (n : ℕ) (f : Formula) (fs : List Formula) →
+  pub right-joined : (scope : FixpointScope) (c : Connective) (n : ℕ) (f : Formula) (fs : List Formula) →
       right_side m names scope n (all_joined c f fs) ≡ text_joined c (right_side m names scope n f) (right_sides m names scope (n + equation_count f) fs)
   right-joined scope c n f [] = refl
   right-joined scope c n f (g ∷ gs) = by c n f (all_joined c g gs) ∙ ap (text_erase.joined c (right_side m names scope n f)) (right-joined scope c (n + equation_count f) g gs)
@@ -54,7 +54,7 @@ module _ (m : Model) (names : ℕ → Name) where
       by connective.Or n f h = refl
       by connective.Implies n f h = refl
 
-  pub right-modal : (scope : Scope) (n : ℕ) (k : Modality) (A : StepSet) (f : Formula) → right_side m names scope n (modal k A f) ≡ over_steps m names k A (operand_callee scope n f)
+  pub right-modal : (scope : FixpointScope) (n : ℕ) (k : Modality) (A : StepSet) (f : Formula) → right_side m names scope n (modal k A f) ≡ over_steps m names k A (operand_callee scope n f)
   right-modal scope n Box A f = refl
   right-modal scope n Diamond A f = refl
 
@@ -69,7 +69,7 @@ module _ (m : Model) (names : ℕ → Name) where
       first (G E) ∙ ap (λ es. F [] ++ es) (second E) ∙ sym (append_assoc (F []) (G []) E) ∙ ap (λ es. es ++ E) (sym (first (G [])))
 
   -- a formula's equations stand in front of others
-  equations-behind : (scope : Scope) (sign : Sign) (n : ℕ) (f : Formula) (E : List Equation) → equations m names scope sign n f E ≡ equations m names scope sign n f [] ++ E
+  equations-behind : (scope : FixpointScope) (sign : Sign) (n : ℕ) (f : Formula) (E : List Equation) → equations m names scope sign n f E ≡ equations m names scope sign n f [] ++ E
   equations-behind scope sign n (Formula.Truth b) E = refl
   equations-behind scope sign n (Formula.Data x) E = refl
   equations-behind scope sign n (Formula.Named X) E = refl
@@ -91,7 +91,7 @@ module _ (m : Model) (names : ℕ → Name) where
   equations-behind scope sign n (Formula.Fixpoint inner X f) E =
       ap (λ es. equation m names inner n (right_side m names ((X, n) ∷ scope) (suc n) f) ∷ es) (equations-behind ((X, n) ∷ scope) inner (suc n) f E)
 
-  pub equations-joined : (scope : Scope) (sign : Sign) (c : Connective) (n : ℕ) (f : Formula) (fs : List Formula) →
+  pub equations-joined : (scope : FixpointScope) (sign : Sign) (c : Connective) (n : ℕ) (f : Formula) (fs : List Formula) →
       equations m names scope sign n (all_joined c f fs) [] ≡ equations m names scope sign n f [] ++ row_equations m names scope sign (n + equation_count f) fs
   equations-joined scope sign c n f [] = sym (append-nil (equations m names scope sign n f []))
   equations-joined scope sign c n f (g ∷ gs) =
@@ -103,7 +103,7 @@ module _ (m : Model) (names : ℕ → Name) where
       by connective.Or n f h = refl
       by connective.Implies n f h = refl
 
-  pub equations-modal : (scope : Scope) (sign : Sign) (n : ℕ) (k : Modality) (A : StepSet) (f : Formula) →
+  pub equations-modal : (scope : FixpointScope) (sign : Sign) (n : ℕ) (k : Modality) (A : StepSet) (f : Formula) →
       equations m names scope sign n (modal k A f) []
       ≡ with_equation m names (has_equation f) (equation m names sign n (right_side m names scope (next_if (has_equation f) n) f)) (equations m names scope sign (next_if (has_equation f) n) f [])
   equations-modal scope sign n Box A f = refl
@@ -111,7 +111,7 @@ module _ (m : Model) (names : ℕ → Name) where
 
   -- ---- chains as the code meets them
 
-  pub chain-right : (scope : Scope) (n next : ℕ) (c : Connective) (x : tree.Formula) (p : common.Box tree.Formula Global) (v : Vec tree_link.Link Global) (ls : List tree_link.Link) (f : tree.Formula)
+  pub chain-right : (scope : FixpointScope) (n next : ℕ) (c : Connective) (x : tree.Formula) (p : common.Box tree.Formula Global) (v : Vec tree_link.Link Global) (ls : List tree_link.Link) (f : tree.Formula)
       (y : text_tree.Formula) (q : common.Box text_tree.Formula Global) (w : Vec text_link.Link Global) → f ≡ tree.Chain c p v → x ≡ box_value p → ls ≡ v.items
       → box_value q ≡ y → modalities.formula_of y ≡ right_side m names scope n (formula_of x) → next ≡ n + equation_count (formula_of x)
       → all_linked w.items ≡ right_sides m names scope next (operands_of ls) → modalities.formula_of (text_tree.Chain c q w) ≡ right_side m names scope n (formula_of f)
@@ -121,7 +121,7 @@ module _ (m : Model) (names : ℕ → Name) where
       ∙ ap (text_joined c (right_side m names scope n (formula_of x))) (others ∙ ap (λ (k : ℕ). right_sides m names scope k (operands_of ls)) number)
       ∙ sym (right-joined scope c n (formula_of x) (operands_of ls)) ∙ ap (right_side m names scope n) (sym (at-chain c x p v ls f is at same))
 
-  pub chain-equations : (scope : Scope) (sign : Sign) (n k : ℕ) (c : Connective) (x : tree.Formula) (p : common.Box tree.Formula Global) (v : Vec tree_link.Link Global) (ls : List tree_link.Link) (f : tree.Formula)
+  pub chain-equations : (scope : FixpointScope) (sign : Sign) (n k : ℕ) (c : Connective) (x : tree.Formula) (p : common.Box tree.Formula Global) (v : Vec tree_link.Link Global) (ls : List tree_link.Link) (f : tree.Formula)
       (old mid : List Equation) → f ≡ tree.Chain c p v → x ≡ box_value p → ls ≡ v.items
       → k ≡ n + equation_count (formula_of x) → mid ≡ old ++ equations m names scope sign n (formula_of x) []
       → mid ++ row_equations m names scope sign k (operands_of ls) ≡ old ++ equations m names scope sign n (formula_of f) []
@@ -136,7 +136,7 @@ pub chain-count : (c : Connective) (x : tree.Formula) (p : common.Box tree.Formu
 chain-count c x p v ls f is at same = ap equation_count (at-chain c x p v ls f is at same) ∙ count-joined c (formula_of x) (operands_of ls)
 
 -- with links, a chain has an equation of its own
-pub several-called : (scope : Scope) (n : ℕ) (c : Connective) (p : common.Box tree.Formula Global) (v : Vec tree_link.Link Global) (ls : List tree_link.Link) (l : tree_link.Link) (f : tree.Formula) → f ≡ tree.Chain c p v → ls ≡ v.items
+pub several-called : (scope : FixpointScope) (n : ℕ) (c : Connective) (p : common.Box tree.Formula Global) (v : Vec tree_link.Link Global) (ls : List tree_link.Link) (l : tree_link.Link) (f : tree.Formula) → f ≡ tree.Chain c p v → ls ≡ v.items
     → Some l ≡ slice_get ls 0 → Callee.Numbered n ≡ operand_callee scope n (formula_of f)
 several-called scope n c p v [] l f is same some = cc
 several-called scope n c p v (k ∷ ls) l f is same some =

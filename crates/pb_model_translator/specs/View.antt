@@ -12,6 +12,6 @@ abbrev pub equations_of : List declared_equation.Equation → List Equation
 equations_of es = map erased_equation (map equation_form es)
 
 -- the innermost first
-abbrev pub scope_of : Scope → translation.Scope
+abbrev pub scope_of : Scope → translation.FixpointScope
 scope_of Outermost = []
 scope_of (Bound' variable number p outer) = (variable.now, number) ∷ scope_of outer

@@ -3,11 +3,11 @@ use Rattle.std.proofs.Common.{◌≡◌, ℕ, ◌≤◌, Bool, List, length, map
 use Rattle.pb_trees.specs.Tree.{Tree}
 use Rattle.pb_trees.specs.Equations.{Signature, solved}
 use Rattle.pb_trees.specs.Rows as plain
-use Rattle.pb_rows.specs.Row.{Row}
+use Rattle.pb_rows.specs.Row.{TokenRow}
 use Rattle.pb_rows.specs.Reached.{rows_of}
 use Rattle.pb_bytecode.specs.Contents.{Contents}
 use Rattle.pb_bytecode.specs.Meaning.{AreTrees, signature_of, initial_of, answer}
-use Rattle.pb_exploration.specs.Rows.{AreExplored}
+use Rattle.pb_exploration.specs.Rows.{AreExploredRows}
 use Rattle.pb_game.specs.Games.{vertex_count}
 use Rattle.pb_game_of_trees.specs.Explored.{ModuleHasTrees, IsModuleGame}
 use Rattle.pb_game_of_trees.specs.declared.tree_game.TreeGame.{TreeGame}
@@ -31,7 +31,7 @@ abbrev pub IsTruth : TreeGame → Bool → Type 0
 IsTruth built truth = (signatures : List Signature) (trees : ℕ → Tree) (reached : List plain.Row) (initial : ℕ)
     → IsTreeGame signatures trees reached initial built → plain.IsReached reached initial → truth ≡ solved signatures trees initial
 
-module _ (m : Contents) (rows : List Row) (built : TreeGame) (explored : AreExplored m rows) (game : IsModuleGame m rows built) where
+module _ (m : Contents) (rows : List TokenRow) (built : TreeGame) (explored : AreExploredRows m rows) (game : IsModuleGame m rows built) where
   from : (trees : ℕ → Tree) → AreTrees m trees → AreRowsFrom (map signature_of m.equations) trees rows (initial_of m)
   from trees have = module_rows m rows rows refl explored trees have
 

@@ -3,7 +3,7 @@ use Rattle.std.proofs.Common.{◌≡◌, ℕ, Bool, true, false, not, List, map,
 use Rattle.std.specs.Bool.{beq}
 use Rattle.pb_trees.specs.Tree.{Tree}
 use Rattle.pb_trees.specs.Equations.{Signature}
-use Rattle.pb_rows.specs.Row.{Row}
+use Rattle.pb_rows.specs.Row.{TokenRow}
 use Rattle.pb_rows.specs.Reached.{rows_of}
 use Rattle.pb_bytecode.specs.Contents.{Contents}
 use Rattle.pb_bytecode.specs.Meaning.{signature_of, initial_of}
@@ -26,12 +26,12 @@ same_of false true h = cc
 same_of false false h = refl
 
 -- what evidence of rows says
-abbrev pub ExplainsRows : List Row → TreeGame → Explanation → Type 0
+abbrev pub ExplainsRows : List TokenRow → TreeGame → Explanation → Type 0
 ExplainsRows rows built x =
     (signatures : List Signature) (trees : ℕ → Tree) (initial : ℕ) → AreRowsFrom signatures trees rows initial
     → IsTreeGame signatures trees (rows_of trees rows) initial built → Explains signatures trees initial x
 
-module _ (m : Contents) (rows : List Row) (some : module_rows.ModuleHasTrees m) (b : Bool) (assumed : AreAssumedRows m b rows) where
+module _ (m : Contents) (rows : List TokenRow) (some : module_rows.ModuleHasTrees m) (b : Bool) (assumed : AreAssumedRows m b rows) where
   -- some trees that are assumed
   pub some_rows : RowsHaveTrees (map signature_of m.equations) rows (initial_of m)
   some_rows = let a = assumed some.0 some.1 in (a.0, a.2)

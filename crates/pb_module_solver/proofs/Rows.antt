@@ -1,14 +1,14 @@
 -- The rows that exploration hands over are those from which a game is built.
 use Rattle.std.proofs.Common.{◌≡◌, List, sym, subst}
-use Rattle.pb_rows.specs.Row.{Row}
+use Rattle.pb_rows.specs.Row.{TokenRow}
 use Rattle.pb_bytecode.specs.Contents.{Contents}
 use Rattle.pb_bytecode.specs.Meaning.{initial_of}
 use Rattle.pb_machine.specs.Reachable.{Starts}
-use Rattle.pb_exploration.specs.Rows.{AreExplored}
+use Rattle.pb_exploration.specs.Rows.{AreExploredRows}
 use Rattle.pb_game_of_trees.specs.Explored.{AreModuleRows, IsModuleTooLarge}
 use Rattle.pb_module_solver.specs.Answers.{IsTooLarge}
 
-pub module_rows : (m : Contents) (found rows : List Row) → rows ≡ found → AreExplored m found → AreModuleRows m rows
+pub module_rows : (m : Contents) (found rows : List TokenRow) → rows ≡ found → AreExploredRows m found → AreModuleRows m rows
 module_rows m found rows same explored = subst (AreModuleRows m) (sym same) (λ trees have.
     let reached = explored trees have in
     record {
@@ -17,6 +17,6 @@ module_rows m found rows same explored = subst (AreModuleRows m) (sym same) (λ 
     })
 
 -- what is too large for the game of the rows is so for that of the reached instances
-pub too_large : (m : Contents) (found rows : List Row) → rows ≡ found → AreExplored m found → IsModuleTooLarge m rows → IsTooLarge m
+pub too_large : (m : Contents) (found rows : List TokenRow) → rows ≡ found → AreExploredRows m found → IsModuleTooLarge m rows → IsTooLarge m
 too_large m found rows same explored large trees have =
-    record { rows = found; reached = explored trees have; large = subst (λ (r : List Row). IsModuleTooLarge m r) same large trees have }
+    record { rows = found; reached = explored trees have; large = subst (λ (r : List TokenRow). IsModuleTooLarge m r) same large trees have }

@@ -3,10 +3,10 @@
 -- about them is said of whichever trees they have.
 use Rattle.std.specs.Prelude.{◌≡◌, ℕ, ◌<◌, ◌≤◌, ◌↔◌, IsTrue, List}
 use Rattle.pb_trees.specs.Tree.{Tree}
-use Rattle.pb_rows.specs.Row.{Row}
+use Rattle.pb_rows.specs.Row.{TokenRow}
 use Rattle.pb_bytecode.specs.Contents.{Contents}
 use Rattle.pb_bytecode.specs.Meaning.{AreTrees}
-use Rattle.pb_exploration.specs.Rows.{AreReached, AreExplored}
+use Rattle.pb_exploration.specs.Rows.{AreReached, AreExploredRows}
 use Rattle.pb_trees.specs.declared.player.Player.TheVariants.{Even}
 use Rattle.pb_game_of_trees.specs.Explored.{IsModuleGame}
 use Rattle.pb_game.specs.declared.certificate.Solution.{Solution}
@@ -23,7 +23,7 @@ use Rattle.pb_limits.specs.declared.TheConstants.{MAX_VERTICES}
 -- its reached instances, of those whose tree has a Cut, and of their game's vertices, which are at
 -- most 2^24.
 pub record IsAnswerUnder (m : Contents) (trees : ℕ → Tree) (a : Answer) : Type 0 where
-  pub rows : List Row
+  pub rows : List TokenRow
   pub reached : AreReached m trees rows
   pub exact : a ≡ answer_for m trees rows
   pub few : a.vertices ≤ MAX_VERTICES
@@ -34,8 +34,8 @@ IsAnswerOf m a = (trees : ℕ → Tree) → AreTrees m trees → IsAnswerUnder m
 -- The truth is what a solution of the reached instances' game says: who wins the initial instance's
 -- vertex. The solution is that of lifting, unless lifting has none.
 pub record IsLiftedAnswer (m : Contents) (a : Answer) : Type 0 where
-  pub rows : List Row
-  pub explored : AreExplored m rows
+  pub rows : List TokenRow
+  pub explored : AreExploredRows m rows
   pub built : TreeGame
   pub game : IsModuleGame m rows built
   pub solution : Solution
@@ -44,7 +44,7 @@ pub record IsLiftedAnswer (m : Contents) (a : Answer) : Type 0 where
 
 -- the game of the reached instances has more than 2^24 vertices
 pub record IsTooLargeUnder (m : Contents) (trees : ℕ → Tree) : Type 0 where
-  pub rows : List Row
+  pub rows : List TokenRow
   pub reached : AreReached m trees rows
   pub large : MAX_VERTICES < (answer_for m trees rows).vertices
 
@@ -53,10 +53,10 @@ IsTooLarge m = (trees : ℕ → Tree) → AreTrees m trees → IsTooLargeUnder m
 
 -- the rows are the module's reached instances, and the game is that of these
 pub record IsBuiltModule (m : Contents) (b : BuiltModule) : Type 0 where
-  pub explored : AreExplored m b.explored
+  pub explored : AreExploredRows m b.explored
   pub game : IsModuleGame m b.explored b.built
 
 -- the same, where the game is solved
 pub record IsSolutionOf (m : Contents) (s : SolvedModule) : Type 0 where
-  pub explored : AreExplored m s.explored
+  pub explored : AreExploredRows m s.explored
   pub game : IsModuleGame m s.explored s.solved.built

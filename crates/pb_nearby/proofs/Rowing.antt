@@ -27,13 +27,13 @@ use Rattle.pb_machine.proofs.Successors.{tree_meant, successor_called}
 use Rattle.pb_machine.proofs.TreeCalls.{each_tree}
 use Rattle.pb_evidence.specs.AssumedGraphs.{leaf_tree, IsAssumed}
 use Rattle.pb_evidence.proofs.Proving.{test_of, contained_of}
-use Rattle.pb_rows.specs.Row.{Row, nothing, row_of_tokens}
+use Rattle.pb_rows.specs.Row.{TokenRow, nothing, row_of_tokens}
 use Rattle.pb_rows.specs.Reached.{numbers_of, row_of, rows_of}
 use Rattle.pb_game_of_trees.specs.TreeGame.{AreRowsFrom}
 use Rattle.pb_game_of_trees.proofs.Reached.{found_row}
 use Rattle.pb_game_of_trees.specs.Explored.{AreModuleRows}
 use Rattle.pb_nearby.specs.declared.nearby.Nearby.{Nearby}
-use Rattle.pb_nearby.specs.Nearby.{found_in, rows_in, IsNearby}
+use Rattle.pb_nearby.specs.Nearby.{found_in, nearby_rows, IsNearby}
 use Rattle.pb_nearby.specs.Around.{leaf_of, IsAround, AreAssumedRows}
 use Rattle.pb_nearby.proofs.Finding.{one_place}
 
@@ -72,83 +72,83 @@ module _ (m : Contents) (x : Nearby) (is : IsNearby m x) where
   one : (i j : ℕ) → i < length (found_in x) → j < length (found_in x) → get_or (found_in x) i 0 ≡ get_or (found_in x) j 0 → i ≡ j
   one i j li lj e = one_place x.found is.found i j li lj e
 
-  count : length (numbers_of (rows_in x)) ≡ length (rows_in x)
-  count = length-map (rows_in x) (λ (r : Row). r.number)
+  count : length (numbers_of (nearby_rows x)) ≡ length (nearby_rows x)
+  count = length-map (nearby_rows x) (λ (r : TokenRow). r.number)
 
   -- the k-th row is of the k-th number
-  row_number : (k : ℕ) → k < length (rows_in x) → (get_or (rows_in x) k nothing).number ≡ get_or (found_in x) k 0
+  row_number : (k : ℕ) → k < length (nearby_rows x) → (get_or (nearby_rows x) k nothing).number ≡ get_or (found_in x) k 0
   row_number k l =
-      sym (get_or-map (λ (r : Row). r.number) (rows_in x) k nothing 0 l)
-      ∙ (ap (λ (ns : List ℕ). get_or ns k 0) is.first ∙ get_or-take (length (rows_in x)) (found_in x) k 0 l)
+      sym (get_or-map (λ (r : TokenRow). r.number) (nearby_rows x) k nothing 0 l)
+      ∙ (ap (λ (ns : List ℕ). get_or ns k 0) is.first ∙ get_or-take (length (nearby_rows x)) (found_in x) k 0 l)
 
   -- where a number stands
   module _ (n k : ℕ) (below : k < length (found_in x)) (there : get_or (found_in x) k 0 ≡ n) where
-    pub explored_row : k < length (rows_in x) → Contains (rows_in x) (row_of_tokens n (get_or (rows_in x) k nothing).tree)
+    pub explored_row : k < length (nearby_rows x) → Contains (nearby_rows x) (row_of_tokens n (get_or (nearby_rows x) k nothing).tree)
     explored_row l =
-        let number : (get_or (rows_in x) k nothing).number ≡ n = row_number k l ∙ there in
-        subst (λ (j : ℕ). Contains (rows_in x) (row_of_tokens j (get_or (rows_in x) k nothing).tree)) number (Contains-get_or (rows_in x) k nothing l)
+        let number : (get_or (nearby_rows x) k nothing).number ≡ n = row_number k l ∙ there in
+        subst (λ (j : ℕ). Contains (nearby_rows x) (row_of_tokens j (get_or (nearby_rows x) k nothing).tree)) number (Contains-get_or (nearby_rows x) k nothing l)
 
-    pub not_explored : length (rows_in x) ≤ k → Contains (numbers_of (rows_in x)) n → ⊥
+    pub not_explored : length (nearby_rows x) ≤ k → Contains (numbers_of (nearby_rows x)) n → ⊥
     not_explored past c =
-        let p = contains_place (numbers_of (rows_in x)) n c in
-        let low : p.0 < length (rows_in x) = let l = p.1.within in omega (arith, l, count) in
+        let p = contains_place (numbers_of (nearby_rows x)) n c in
+        let low : p.0 < length (nearby_rows x) = let l = p.1.within in omega (arith, l, count) in
         let of_found : get_or (found_in x) p.0 0 ≡ n =
-        sym (get_or-take (length (rows_in x)) (found_in x) p.0 0 low) ∙ (ap (λ (ns : List ℕ). get_or ns p.0 0) (sym is.first) ∙ p.1.there) in
+        sym (get_or-take (length (nearby_rows x)) (found_in x) p.0 0 low) ∙ (ap (λ (ns : List ℕ). get_or ns p.0 0) (sym is.first) ∙ p.1.there) in
         let few = is.few in
         let same : p.0 ≡ k = one p.0 k (omega (arith, low, few)) below (of_found ∙ sym there) in
         omega (arith, same, low, past)
 
-    pub explored_is : (b : Bool) → k < length (rows_in x) → (tokens : List Token) → tokens ≡ (get_or (rows_in x) k nothing).tree → IsAround x b (row_of_tokens n tokens)
-    explored_is b l tokens e = inl (subst (λ (ts : List Token). Contains (rows_in x) (row_of_tokens n ts)) (sym e) (explored_row l))
+    pub explored_is : (b : Bool) → k < length (nearby_rows x) → (tokens : List Token) → tokens ≡ (get_or (nearby_rows x) k nothing).tree → IsAround x b (row_of_tokens n tokens)
+    explored_is b l tokens e = inl (subst (λ (ts : List Token). Contains (nearby_rows x) (row_of_tokens n ts)) (sym e) (explored_row l))
 
-    pub frontier_is : (b : Bool) → length (rows_in x) ≤ k → (leaf : Token) → leaf ≡ leaf_of (not b) → IsAround x b (row_of_tokens n (leaf ∷ []))
+    pub frontier_is : (b : Bool) → length (nearby_rows x) ≤ k → (leaf : Token) → leaf ≡ leaf_of (not b) → IsAround x b (row_of_tokens n (leaf ∷ []))
     frontier_is b past leaf e = inr (ap (λ (t : Token). t ∷ []) e, not_explored past)
 
-  pub short_row : (k : ℕ) → k < length (rows_in x) → length (get_or (rows_in x) k nothing).tree < 2 ^ 32
-  short_row k l = is.short (get_or (rows_in x) k nothing) (Contains-get_or (rows_in x) k nothing l)
+  pub short_row : (k : ℕ) → k < length (nearby_rows x) → length (get_or (nearby_rows x) k nothing).tree < 2 ^ 32
+  short_row k l = is.short (get_or (nearby_rows x) k nothing) (Contains-get_or (nearby_rows x) k nothing l)
 
   -- ---- the rows in order
 
-  module _ (b : Bool) (rows : List Row) (rising : IsStrictlyIncreasing (numbers_of rows)) (moved : IsPermutation (found_in x) (numbers_of rows)) (around : All (IsAround x b) rows) where
+  module _ (b : Bool) (rows : List TokenRow) (rising : IsStrictlyIncreasing (numbers_of rows)) (moved : IsPermutation (found_in x) (numbers_of rows)) (around : All (IsAround x b) rows) where
     numbered : (n : ℕ) → Contains (found_in x) n → Contains (numbers_of rows) n
     numbered n c = Contains-permutation (found_in x) (numbers_of rows) n moved c
 
     numbered_back : (n : ℕ) → Contains (numbers_of rows) n → Contains (found_in x) n
     numbered_back n c = Contains-permutation (numbers_of rows) (found_in x) n (IsPermutation-sym (found_in x) (numbers_of rows) moved) c
 
-    explored_number : (r : Row) → Contains (rows_in x) r → Contains (numbers_of (rows_in x)) r.number
+    explored_number : (r : TokenRow) → Contains (nearby_rows x) r → Contains (numbers_of (nearby_rows x)) r.number
     explored_number r c =
         let k = c.0 in
         let l = c.1 in
-        (k, omega (arith, l, count), get_or-map (λ (z : Row). z.number) (rows_in x) k r r.number l ∙ ap (λ (z : Row). z.number) c.2)
+        (k, omega (arith, l, count), get_or-map (λ (z : TokenRow). z.number) (nearby_rows x) k r r.number l ∙ ap (λ (z : TokenRow). z.number) c.2)
 
     module _ (trees : ℕ → Tree) (are : AreTrees m trees) (assumed : ℕ → Tree)
-        (known : (n : ℕ) → Contains (numbers_of (rows_in x)) n → assumed n ≡ trees n)
-        (others : (n : ℕ) → Contains (numbers_of rows) n → (¬ Contains (numbers_of (rows_in x)) n) → assumed n ≡ leaf_tree (not b)) where
-      tree_of : (r : Row) → Contains (numbers_of rows) r.number → IsAround x b r → r.tree ≡ tree_tokens (assumed r.number)
+        (known : (n : ℕ) → Contains (numbers_of (nearby_rows x)) n → assumed n ≡ trees n)
+        (others : (n : ℕ) → Contains (numbers_of rows) n → (¬ Contains (numbers_of (nearby_rows x)) n) → assumed n ≡ leaf_tree (not b)) where
+      tree_of : (r : TokenRow) → Contains (numbers_of rows) r.number → IsAround x b r → r.tree ≡ tree_tokens (assumed r.number)
       tree_of r c (inl explored) =
-          tree_meant m r.number r.tree (subst (λ (z : Row). IsTreeAt m z.number z.tree) explored.2 (is.trees explored.0 r explored.1)) trees are
+          tree_meant m r.number r.tree (subst (λ (z : TokenRow). IsTreeAt m z.number z.tree) explored.2 (is.trees explored.0 r explored.1)) trees are
           ∙ ap tree_tokens (sym (known r.number (explored_number r explored)))
       tree_of r c (inr leaf) = leaf.0 ∙ (leaf_tokens (not b) ∙ ap tree_tokens (sym (others r.number c leaf.1)))
 
       reached : (n : ℕ) → Contains (found_in x) n → plain.IsReached (rows_of assumed rows) n
       reached n c = found_row assumed rows n (numbered n c)
 
-      calls_of : (r : Row) → Contains (numbers_of rows) r.number → IsAround x b r → TreeCalls (plain.IsReached (rows_of assumed rows)) (assumed r.number)
+      calls_of : (r : TokenRow) → Contains (numbers_of rows) r.number → IsAround x b r → TreeCalls (plain.IsReached (rows_of assumed rows)) (assumed r.number)
       calls_of r c (inl explored) =
           subst (TreeCalls (plain.IsReached (rows_of assumed rows))) (sym (known r.number (explored_number r explored)))
           (each_tree (plain.IsReached (rows_of assumed rows)) (trees r.number) (λ k a.
-          let tree = subst (λ (z : Row). IsTreeAt m z.number z.tree) explored.2 (is.trees explored.0 r explored.1) in
+          let tree = subst (λ (z : TokenRow). IsTreeAt m z.number z.tree) explored.2 (is.trees explored.0 r explored.1) in
           reached k (is.closed r explored k (successor_called m r.number r.tree tree trees are k (contains_of_among (successors trees r.number) k a)))))
       calls_of r c (inr leaf) =
           subst (TreeCalls (plain.IsReached (rows_of assumed rows))) (sym (others r.number c leaf.1)) (leaf_calls_none (plain.IsReached (rows_of assumed rows)) (not b))
 
-      number_there : (k : ℕ) (r : Row) → k < length rows → Contains (numbers_of rows) (get_or rows k r).number
-      number_there k r l = (k, omega (arith, l, length-map rows (λ (z : Row). z.number)), get_or-map (λ (z : Row). z.number) rows k r (get_or rows k r).number l)
+      number_there : (k : ℕ) (r : TokenRow) → k < length rows → Contains (numbers_of rows) (get_or rows k r).number
+      number_there k r l = (k, omega (arith, l, length-map rows (λ (z : TokenRow). z.number)), get_or-map (λ (z : TokenRow). z.number) rows k r (get_or rows k r).number l)
 
       -- a row of the system is one of these
       record IsFrom (row : plain.Row) : Type 0 where
-        from : Row
+        from : TokenRow
         listed : Contains (numbers_of rows) from.number
         is_around : IsAround x b from
         same : row_of assumed from ≡ row
@@ -187,12 +187,12 @@ module _ (m : Contents) (x : Nearby) (is : IsNearby m x) where
 
     -- the explored rows have their own trees, and all others the leaf
     abbrev pub guess : (ℕ → Tree) → ℕ → Tree
-    guess trees n = cond (is_among (numbers_of (rows_in x)) n) (trees n) (leaf_tree (not b))
+    guess trees n = cond (is_among (numbers_of (nearby_rows x)) n) (trees n) (leaf_tree (not b))
 
     guessed : (trees : ℕ → Tree) (n : ℕ) → IsAssumed trees (guess trees) b n
-    guessed trees n = elim (cases_Bool (is_among (numbers_of (rows_in x)) n)) [
-      | inl yes' ↦ inl (cond-true (is_among (numbers_of (rows_in x)) n) (trees n) (leaf_tree (not b)) yes')
-      | inr no' ↦ inr (cond-false (is_among (numbers_of (rows_in x)) n) (trees n) (leaf_tree (not b)) no')
+    guessed trees n = elim (cases_Bool (is_among (numbers_of (nearby_rows x)) n)) [
+      | inl yes' ↦ inl (cond-true (is_among (numbers_of (nearby_rows x)) n) (trees n) (leaf_tree (not b)) yes')
+      | inr no' ↦ inr (cond-false (is_among (numbers_of (nearby_rows x)) n) (trees n) (leaf_tree (not b)) no')
     ]
 
     pub are_assumed : AreAssumedRows m b rows
@@ -200,20 +200,20 @@ module _ (m : Contents) (x : Nearby) (is : IsNearby m x) where
       guess trees,
       guessed trees,
       assumed_rows trees are (guess trees)
-          (λ n c. cond-true (is_among (numbers_of (rows_in x)) n) (trees n) (leaf_tree (not b)) (test_of (numbers_of (rows_in x)) n c))
-          (λ n _ not_there. elim (cases_Bool (is_among (numbers_of (rows_in x)) n)) [
-            | inl yes' ↦ absurd (not_there (contained_of (numbers_of (rows_in x)) n yes'))
-            | inr no' ↦ cond-false (is_among (numbers_of (rows_in x)) n) (trees n) (leaf_tree (not b)) no'
+          (λ n c. cond-true (is_among (numbers_of (nearby_rows x)) n) (trees n) (leaf_tree (not b)) (test_of (numbers_of (nearby_rows x)) n c))
+          (λ n _ not_there. elim (cases_Bool (is_among (numbers_of (nearby_rows x)) n)) [
+            | inl yes' ↦ absurd (not_there (contained_of (numbers_of (nearby_rows x)) n yes'))
+            | inr no' ↦ cond-false (is_among (numbers_of (nearby_rows x)) n) (trees n) (leaf_tree (not b)) no'
           ]),
     )
 
     -- where nothing is left, the rows are the module's
-    pub are_whole : length (rows_in x) ≡ length (found_in x) → AreModuleRows m rows
+    pub are_whole : length (nearby_rows x) ≡ length (found_in x) → AreModuleRows m rows
     are_whole all trees are =
         assumed_rows trees are trees (λ n c. refl)
         (λ n c not_there. absurd (not_there
         (let at = contains_place (found_in x) n (numbered_back n c) in
-        let l : at.0 < length (rows_in x) = let w = at.1.within in omega (arith, w, all) in
-        let here : get_or (numbers_of (rows_in x)) at.0 0 ≡ n =
-        ap (λ (ns : List ℕ). get_or ns at.0 0) is.first ∙ (get_or-take (length (rows_in x)) (found_in x) at.0 0 l ∙ at.1.there) in
-        contains_at (numbers_of (rows_in x)) n at.0 (record { within = omega (arith, l, count); there = here }))))
+        let l : at.0 < length (nearby_rows x) = let w = at.1.within in omega (arith, w, all) in
+        let here : get_or (numbers_of (nearby_rows x)) at.0 0 ≡ n =
+        ap (λ (ns : List ℕ). get_or ns at.0 0) is.first ∙ (get_or-take (length (nearby_rows x)) (found_in x) at.0 0 l ∙ at.1.there) in
+        contains_at (numbers_of (nearby_rows x)) n at.0 (record { within = omega (arith, l, count); there = here }))))

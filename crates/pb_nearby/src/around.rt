@@ -4,7 +4,7 @@ ghost use Rattle.std.specs.Prelude.{map};
 ghost use Rattle.pb_rows.specs.Entries.{IsThere, row_there};
 ghost use Rattle.pb_bytecode.specs.Contents.{Contents};
 ghost use Rattle.pb_game_of_trees.specs.Explored.{AreModuleRows};
-ghost use Rattle.pb_nearby.specs.Nearby.{IsNearby, found_in, rows_in};
+ghost use Rattle.pb_nearby.specs.Nearby.{IsNearby, found_in, nearby_rows};
 ghost use Rattle.pb_nearby.specs.Around.{AddsAround, AreAssumedRows};
 
 use crate::nearby::Nearby;
@@ -49,7 +49,7 @@ impl Nearby {
         ensures assumed { IfOk result (λ rows. (m : Contents) → IsNearby m self.now
             → AreAssumedRows m truth rows) }
         ensures whole { IfOk result (λ rows. (m : Contents) → IsNearby m self.now
-            → length (rows_in self.now) ≡ length (found_in self.now) → AreModuleRows m rows) }
+            → length (nearby_rows self.now) ≡ length (found_in self.now) → AreModuleRows m rows) }
     {
         let mut numbers = Vec::from_slice(alloc, &self.found.numbers)?;
         numbers.sort_unstable();

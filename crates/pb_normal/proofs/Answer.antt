@@ -12,7 +12,7 @@ use Rattle.pb_text_meaning.specs.Sorts.{carrier_of}
 use Rattle.pb_text_meaning.specs.Meaning.{equation_of, equations_of, answer}
 use Rattle.pb_typing_rules.specs.WellTyped.{IsWellTyped}
 use Rattle.pb_normal.specs.Normal.{truth}
-use Rattle.pb_normal.specs.Equations.{normal_equation, Hold, KeepsTruth}
+use Rattle.pb_normal.specs.Equations.{normal_equation, Hold, NormalFormKeepsTruth}
 use Rattle.pb_normal.specs.Answer.{slots_of, equation_by, equations_by, answer_by, normal_equations}
 use Rattle.pb_normal.proofs.Equations.{equations-keep-truth}
 use Rattle.pb_normal.proofs.Sequences.{HoldsAlike, same-solution}
@@ -36,7 +36,7 @@ holds_normally spec X i t = truth spec (slots_of i.values) t (normal_equation sp
 abbrev normally : Spec → Equation → fixpoint.Equation Instance
 normally spec X = equation_by spec X (normal_equation spec X)
 
-holds-alike : (spec : Spec) (X : Equation) → KeepsTruth spec X → HoldsAlike Instance Equation (equation_of spec) (holds_normally spec) X
+holds-alike : (spec : Spec) (X : Equation) → NormalFormKeepsTruth spec X → HoldsAlike Instance Equation (equation_of spec) (holds_normally spec) X
 holds-alike spec X keeps t i own =
     let inside = and_parts (same_name X.name i.name) (is_within (carriers_of spec X.parameters) i.values) own in
     keeps t (slots_of i.values) i (within-count spec X.parameters i.values inside.1) (slots-hold i.values)

@@ -4,7 +4,7 @@ use Rattle.std.specs.Prelude.{nat_lt, nat_le}
 use Rattle.std.specs.List.{All}
 use Rattle.std.proofs.lemmas.Int.{ints}
 use Rattle.std.proofs.lemmas.Bool.{and_from, and_parts, le-leb, lt-ltb}
-use Rattle.pb_intervals.specs.Interval.{is_within, singleton, literals}
+use Rattle.pb_intervals.specs.Interval.{is_included, singleton, literals}
 use Rattle.pb_intervals.proofs.Ends.{le_true}
 use Rattle.pb_text_tree.specs.declared.operator.Quantifier.{Quantifier}
 use Rattle.pb_text_meaning.specs.Syntax as syntax
@@ -18,7 +18,7 @@ use Rattle.pb_typing_rules.specs.Shapes.{kind_of}
 use Rattle.pb_typing_rules.specs.Scope.{Scope, bound}
 use Rattle.pb_typing_rules.specs.Term.{passes, IsTyped, AreTyped}
 use Rattle.pb_typing_rules.specs.Formula.{IsProper}
-use Rattle.pb_typing_rules.specs.WellTyped.{parameters_of, AreProper, IsWellTyped}
+use Rattle.pb_typing_rules.specs.WellTyped.{parameter_scope, AreProper, IsWellTyped}
 use Rattle.pb_typing_rules.proofs.Contained.{called_typed}
 use Rattle.pb_normal.specs.Expansion.{has_quantifier, connected, expanded_term, expanded}
 use Rattle.pb_normal.specs.Normal.{Term, Argument, Formula}
@@ -27,14 +27,14 @@ use Rattle.pb_normal.specs.Normalisation.{Slotting, unslotted, with_slot, with_s
 use Rattle.pb_normal.specs.Loops.{equation_loops}
 use Rattle.pb_normal.specs.Plain.{AreFree}
 use Rattle.pb_normal.specs.Structs.{has_enumerator, struct_counts}
-use Rattle.pb_normal.specs.Bounds.{Bounds, is_bounded, are_bounded, is_bounded_formula, bounds_with, HasBounds}
+use Rattle.pb_normal.specs.Bounds.{FormulaBounds, is_bounded, are_bounded, is_bounded_formula, bounds_with, HasBounds}
 use Rattle.pb_typing.proofs.LoopCount.{length-loops}
 use Rattle.pb_typed_tree.proofs.Parameters.{free-parameters}
 use Rattle.pb_normal.proofs.Structs.{enumerator_known, recogniser_known, position-there}
 use Rattle.pb_typed_tree.proofs.Truth.{more-free, free-with}
 
 -- a literal is at most 2^62
-literal-bounded : (n : ℕ) → is_within (singleton (pos n)) literals ≡ true → nat_le n (2 ^ 62) ≡ true
+literal-bounded : (n : ℕ) → is_included (singleton (pos n)) literals ≡ true → nat_le n (2 ^ 62) ≡ true
 literal-bounded n e =
     let high = le_true (pos n) literals.high (and_parts (int_le literals.low (pos n)) (int_le (pos n) literals.high) e).1 in
     le-leb n (2 ^ 62) (omega (arith, ints, high))
@@ -49,7 +49,7 @@ place-below n (X ∷ E) x k e = by (same_name X.name x) e (place-below (suc n) E
     by false h later = let l = later h in omega (arith, l)
 
 module _ (spec : Spec) (slots : ℕ) where
-  abbrev bounds : Bounds
+  abbrev bounds : FormulaBounds
   bounds = bounds_with spec slots
 
   abbrev Fits : Term → Type 0
@@ -237,10 +237,10 @@ module _ (spec : Spec) (slots : ℕ) where
       call-fits x (place_of 0 spec.equations x) (arguments spec c scope es) refl
       (arguments-fit c (more-free c n slots (omega (arith, room)) free) scope typed es (called_typed spec typed es (equation_named spec.equations x) h.1))
 
-equation-bounded : (spec : Spec) (X : Equation) → IsProper spec true (parameters_of spec X) X.right → HasBounds spec X
+equation-bounded : (spec : Spec) (X : Equation) → IsProper spec true (parameter_scope spec X) X.right → HasBounds spec X
 equation-bounded spec X proper =
     let count = length-loops spec (expanded X.right) in
-    formula-fits spec (length X.parameters + length (equation_loops spec X)) X.right true (parameters_of spec X) proper true (parameters_of spec X)
+    formula-fits spec (length X.parameters + length (equation_loops spec X)) X.right true (parameter_scope spec X) proper true (parameter_scope spec X)
     (with_slots X.parameters 0 unslotted) (length X.parameters) (free-parameters X.parameters) (omega (arith, count))
 
 rights-bounded : (spec : Spec) (E : List Equation) → AreProper spec E → All (HasBounds spec) E

@@ -7,7 +7,7 @@ use Rattle.pb_text_meaning.specs.Syntax.{Name, same_name, Variable, Operator, Te
 use Rattle.pb_text_meaning.specs.Formula.{equation_named}
 use Rattle.pb_typing_rules.specs.Scope.{Scope, bound}
 use Rattle.pb_typing_rules.specs.Formula.{count, AreArguments, IsCalled, IsProper}
-use Rattle.pb_typing_rules.specs.WellTyped.{parameters_of, AreProper, IsWellTyped}
+use Rattle.pb_typing_rules.specs.WellTyped.{parameter_scope, AreProper, IsWellTyped}
 use Rattle.pb_normal.specs.Calls.{AreAlike, AreArgumentsOf, HasCalls}
 use Rattle.pb_normal.specs.Expansion.{has_quantifier, connected, expanded_term, expanded}
 use Rattle.pb_normal.specs.Equations.{normal_equation}
@@ -110,7 +110,7 @@ module _ (spec : Spec) where
 
   rights-full : (E : List Equation) → AreProper spec E → All (λ (X : Equation). HasCalls spec (normal_equation spec X)) E
   rights-full [] proper k d below = absurd (omega arith)
-  rights-full (X ∷ E) proper zero d below = formula-full true (parameters_of spec X) X.right proper.0 (with_slots X.parameters 0 unslotted) (length X.parameters)
+  rights-full (X ∷ E) proper zero d below = formula-full true (parameter_scope spec X) X.right proper.0 (with_slots X.parameters 0 unslotted) (length X.parameters)
   rights-full (X ∷ E) proper (suc k) d below = rights-full E proper.1 k d (omega arith)
 
 pub equations-full : (spec : Spec) → IsWellTyped spec → All (λ (X : Equation). HasCalls spec (normal_equation spec X)) spec.equations

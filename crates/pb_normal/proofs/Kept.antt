@@ -13,10 +13,10 @@ use Rattle.pb_text_meaning.specs.Meaning.{assigned}
 use Rattle.pb_typing_declarations.specs.Shapes.{sort_shape}
 use Rattle.pb_typing_declarations.proofs.ShapeLaws.{shape_carrier-sort_shape}
 use Rattle.pb_typing_rules.specs.Shapes.{IsValueOf}
-use Rattle.pb_typing_rules.specs.Scope.{Scope, outermost, declare, bound, Within}
+use Rattle.pb_typing_rules.specs.Scope.{Scope, outermost, declare, bound, IsWithinScope}
 use Rattle.pb_typing_rules.specs.Term.{shape, AreTyped}
 use Rattle.pb_typing_rules.specs.Formula.{IsProper}
-use Rattle.pb_typing_rules.specs.WellTyped.{parameters_of, AreProper, IsWellTyped}
+use Rattle.pb_typing_rules.specs.WellTyped.{parameter_scope, AreProper, IsWellTyped}
 use Rattle.pb_typing_rules.proofs.Names.{within_declared, sort_value}
 use Rattle.pb_typing_rules.proofs.Contained.{contained, called_typed}
 use Rattle.pb_typing_rules.proofs.Fitting.{assigned_within}
@@ -35,7 +35,7 @@ use Rattle.pb_normal.proofs.Answer.{within-count}
 
 -- what a body promises wherever the slots of a scope hold values of its shapes
 abbrev Fits : Scope → (Slotting → ℕ → Formula) → Type 0
-Fits scope body = (c : Slotting) (n : ℕ) (a : Slots) (g : Assignment) → AreFree c n → Agree c a g → Within g scope → ArgumentsFit a (body c n)
+Fits scope body = (c : Slotting) (n : ℕ) (a : Slots) (g : Assignment) → AreFree c n → Agree c a g → IsWithinScope g scope → ArgumentsFit a (body c n)
 
 each-fits : (spec : Spec) (m : Quantifier) (xs : List Variable) (scope : Scope) (body : Slotting → ℕ → Formula) → Fits (bound spec xs scope) body → Fits scope (λ c n. each spec m xs c n body)
 each-fits spec m [] scope body fits c n a g free agree within = fits c n a g free agree within
@@ -89,7 +89,7 @@ term-fits spec scope (syntax.Term.Quantified q xs x) = λ even.
 
 -- ---- arguments
 
-arguments-fit : (spec : Spec) (c : Slotting) (scope : Scope) (a : Slots) (g : Assignment) → Agree c a g → Within g scope → (es : Terms) → AreTyped spec scope es
+arguments-fit : (spec : Spec) (c : Slotting) (scope : Scope) (a : Slots) (g : Assignment) → Agree c a g → IsWithinScope g scope → (es : Terms) → AreTyped spec scope es
     → All (λ (e : Argument). IsValueOf e.shape (value a e.term)) (arguments spec c scope es)
 arguments-fit spec c scope a g agree within Terms.NoTerms typed k d below = absurd (omega arith)
 arguments-fit spec c scope a g agree within (Terms.Then x xs) typed zero d below =
@@ -126,10 +126,10 @@ formula-fits spec even scope (syntax.Formula.Call X es) h c n a g free agree wit
 -- ---- equations
 
 -- the values of an instance are of the shapes of their parameters
-keeps-shapes : (spec : Spec) (X : Equation) → IsProper spec true (parameters_of spec X) X.right → KeepsShapes spec X
+keeps-shapes : (spec : Spec) (X : Equation) → IsProper spec true (parameter_scope spec X) X.right → KeepsShapes spec X
 keeps-shapes spec X proper slots i own hold =
     let inside = and_parts (same_name X.name i.name) (is_within (carriers_of spec X.parameters) i.values) own in
-    formula-fits spec true (parameters_of spec X) X.right proper
+    formula-fits spec true (parameter_scope spec X) X.right proper
     (with_slots X.parameters 0 unslotted) (length X.parameters) slots (assigned X.parameters i.values [])
     (free-parameters X.parameters)
     (agree-parameters X.parameters i.values slots (within-count spec X.parameters i.values inside.1) hold)

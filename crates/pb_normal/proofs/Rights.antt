@@ -8,7 +8,7 @@ use Rattle.pb_text_meaning.specs.Syntax.{Spec}
 use Rattle.pb_text_meaning.specs.Positive.{ArePositive}
 use Rattle.pb_typing_declarations.specs.Shapes.{Shape}
 use Rattle.pb_typing_declarations.specs.Entries.{shapes_of}
-use Rattle.pb_typing_rules.specs.WellTyped.{parameters_of, IsWellTyped}
+use Rattle.pb_typing_rules.specs.WellTyped.{parameter_scope, IsWellTyped}
 use Rattle.pb_typing_rules.proofs.Fitting.{spec_positive}
 use Rattle.pb_typed_tree.specs.declared.formula.Equation as tree
 use Rattle.pb_typed_tree.specs.Elaboration.{unslotted, with_slots, elaborated_equations}
@@ -66,7 +66,7 @@ signed-normal : (spec : Spec) (E : List syntax.Equation) → ArePositive E → m
 signed-normal spec [] h = refl
 signed-normal spec (X ∷ E) h =
     ap (λ (f : Formula). f ∷ map (signed_form true) (elaborated_equations spec E))
-    (sym (normal-signed spec (expanded X.right) true (parameters_of spec X) (with_slots X.parameters 0 unslotted) (length X.parameters) (expanded-positive true X.right h.0)))
+    (sym (normal-signed spec (expanded X.right) true (parameter_scope spec X) (with_slots X.parameters 0 unslotted) (length X.parameters) (expanded-positive true X.right h.0)))
     ∙ ap (λ (fs : List Formula). normal_equation spec X ∷ fs) (signed-normal spec E h.1)
 
 pub rights_ended : (spec : Spec) (xs : List tree.Equation) (k : ℕ) (done : List declared.Equation) → IsWellTyped spec → typed.right_views xs ≡ elaborated_equations spec spec.equations → length xs ≤ k → AreDone xs k done

@@ -11,7 +11,7 @@ use Rattle.pb_text_meaning.specs.declared.function.NamedFunction.TheVariants.{If
 use Rattle.pb_text_meaning.specs.Functions.{named_function}
 use Rattle.pb_typing_declarations.specs.Enumerators.{Position, enumerator_of, recogniser_of}
 use Rattle.pb_typing_rules.specs.Scope.{Scope, bound}
-use Rattle.pb_typing_rules.specs.WellTyped.{parameters_of}
+use Rattle.pb_typing_rules.specs.WellTyped.{parameter_scope}
 use Rattle.pb_normal.specs.Expansion.{expanded}
 use Rattle.pb_normal.specs.Normal.{Term, Argument, Formula}
 use Rattle.pb_normal.specs.Normalisation as made
@@ -68,7 +68,7 @@ normal-slots spec (syntax.Formula.Quantified q xs f) even scope c n =
 normal-slots spec (syntax.Formula.Call X es) even scope c n = call-slots (place_of 0 spec.equations X) (arguments spec c scope es)
 
 pub equation-slots : (spec : Spec) (X : Equation) → quantified_slots (normal_equation spec X) ≡ range_with_len (length X.parameters) (width (expanded X.right))
-equation-slots spec X = normal-slots spec (expanded X.right) true (parameters_of spec X) (with_slots X.parameters 0 unslotted) (length X.parameters)
+equation-slots spec X = normal-slots spec (expanded X.right) true (parameter_scope spec X) (with_slots X.parameters 0 unslotted) (length X.parameters)
 
 -- ---- the slots that are read
 
@@ -221,5 +221,5 @@ normal-closed spec (syntax.Formula.Call X es) even scope c n known inside none =
 pub equation-closed : (spec : Spec) (X : Equation) → IsClosed (λ s. nat_lt s (length X.parameters)) (normal_equation spec X)
 equation-closed spec X =
     let count = length X.parameters in
-    normal-closed spec (expanded X.right) true (parameters_of spec X) (with_slots X.parameters 0 unslotted) count (λ s. nat_lt s count)
+    normal-closed spec (expanded X.right) true (parameter_scope spec X) (with_slots X.parameters 0 unslotted) count (λ s. nat_lt s count)
     (λ x s e. lt-ltb s count (free-parameters X.parameters x s e)) (λ s le. le-ltb s count le)

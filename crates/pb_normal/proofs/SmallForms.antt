@@ -6,7 +6,7 @@ use Rattle.std.proofs.lemmas.Bool.{and_from, and_parts}
 use Rattle.pb_text_meaning.specs.Syntax.{Spec}
 use Rattle.pb_typing_rules.specs.WellTyped.{IsWellTyped}
 use Rattle.pb_normal.specs.Normal.{Term, Number, Slot, Negative, Absolute, Successor, Predecessor, Binary, Maximum, Minimum, Choice, Recognised, Argument, Formula, Test, Join, Each, Call}
-use Rattle.pb_normal.specs.Bounds.{Bounds, is_bounded, are_bounded, is_bounded_formula, bounds_of, IsSmallWhereLoopsAreFew}
+use Rattle.pb_normal.specs.Bounds.{FormulaBounds, is_bounded, are_bounded, is_bounded_formula, bounds_of, IsSmallWhereLoopsAreFew}
 use Rattle.pb_normal.specs.Equations.{normal_equation}
 use Rattle.pb_normal.specs.Small.{is_small, are_small, is_small_formula}
 use Rattle.pb_normal.specs.Structs.{has_enumerator}
@@ -18,12 +18,12 @@ lower k n m h le = grind (arith, tests)
 under : (k n m : ℕ) → nat_le k n ≡ true → n < m → nat_lt k m ≡ true
 under k n m h lt = grind (arith, tests)
 
-pub record AreSmallBounds (b : Bounds) : Type 0 where
+pub record AreSmallBounds (b : FormulaBounds) : Type 0 where
   pub number : b.number < 2 ^ 63
   pub slots : b.slots ≤ 256
   pub equations : b.equations ≤ 256
 
-module _ (b : Bounds) (small : AreSmallBounds b) where
+module _ (b : FormulaBounds) (small : AreSmallBounds b) where
   pair : (x y : Term) → (is_bounded b x ≡ true → is_small x ≡ true) → (is_bounded b y ≡ true → is_small y ≡ true) → is_bounded b x && is_bounded b y ≡ true → is_small x && is_small y ≡ true
   pair x y f g h = let p = and_parts (is_bounded b x) (is_bounded b y) h in and_from (is_small x) (is_small y) (f p.0) (g p.1)
 

@@ -7,7 +7,7 @@ use Rattle.pb_text_meaning.specs.Syntax.{Name, same_name, Variable, Enumerator, 
 use Rattle.pb_typing_declarations.specs.Shapes.{Shape, Definition, Structure, Renaming, definition_of, definitions_from, number_behind, first, Bounds, range_bounds, End, Shaped, Unranged, Undeclared, Endless, end_by, end_within, end_of, end_shape, sort_shape, built_in_integers, definitions}
 use Rattle.pb_typing_declarations.specs.Enumerators.{Position, positioned, enumerators_from, enumerators_in, all_enumerators, recogniser_entry, recognisers_from, recognisers_in, all_recognisers, enumerator_of, recogniser_of}
 use Rattle.pb_typing_declarations.specs.WellDeclared.{IsDeclared, IsDefined, IsRanged, has_shape, structs_behind}
-use Rattle.pb_typing_rules.specs.WellTyped.{parameters_of, AreProper, IsWellTyped}
+use Rattle.pb_typing_rules.specs.WellTyped.{parameter_scope, AreProper, IsWellTyped}
 use Rattle.pb_normal.specs.Expansion.{expanded}
 use Rattle.pb_normal.specs.Loops.{AreShaped, IsShaped, loops, variable_shapes}
 use Rattle.pb_normal.specs.Structs.{with_count, struct_counts, AreFew, has_enumerator, IsDeclaredShape, HasDeclaredShapes}
@@ -212,7 +212,7 @@ module _ (spec : Spec) (declared : IsDeclared spec) where
   equations_declared [] all proper k d below = absurd (omega arith)
   equations_declared (X ∷ E) all proper zero d below = record {
     parameters = variables_declared X.parameters (all 0 X (omega arith));
-    loops = loops_declared (expanded X.right) (expanded-shaped spec true (parameters_of spec X) X.right proper.0);
+    loops = loops_declared (expanded X.right) (expanded-shaped spec true (parameter_scope spec X) X.right proper.0);
   }
   equations_declared (X ∷ E) all proper (suc k) d below = equations_declared E (λ n e low. all (suc n) e (omega arith)) proper.1 k d (omega arith)
 

@@ -12,13 +12,13 @@ use Rattle.pb_normal.specs.Structs.{struct_counts, has_enumerator}
 
 -- the greatest number, how many slots and equations there are, and how many enumerators each struct
 -- has
-pub record Bounds : Type 0 where
+pub record FormulaBounds : Type 0 where
   pub number : ℕ
   pub slots : ℕ
   pub equations : ℕ
   pub counts : List ℕ
 
-abbrev pub is_bounded : Bounds → Term → Bool
+abbrev pub is_bounded : FormulaBounds → Term → Bool
 is_bounded b (Term.Truth c) = true
 is_bounded b (Number n) = nat_le n b.number
 is_bounded b (Term.Enumerator s i) = has_enumerator b.counts s i
@@ -34,17 +34,17 @@ is_bounded b (Minimum x y) = is_bounded b x && is_bounded b y
 is_bounded b (Choice c x y) = is_bounded b c && (is_bounded b x && is_bounded b y)
 is_bounded b (Recognised s i x) = has_enumerator b.counts s i && is_bounded b x
 
-abbrev pub are_bounded : Bounds → List Argument → Bool
+abbrev pub are_bounded : FormulaBounds → List Argument → Bool
 are_bounded b es = list_all (λ (e : Argument). is_bounded b e.term) es
 
-abbrev pub is_bounded_formula : Bounds → Formula → Bool
+abbrev pub is_bounded_formula : FormulaBounds → Formula → Bool
 is_bounded_formula b (Test x) = is_bounded b x
 is_bounded_formula b (Join m f g) = is_bounded_formula b f && is_bounded_formula b g
 is_bounded_formula b (Each q s shape f) = nat_lt s b.slots && is_bounded_formula b f
 is_bounded_formula b (Call equation es) = nat_lt equation b.equations && are_bounded b es
 
 -- numbers up to 2^62, so many slots, and the equations and structs of a specification
-abbrev pub bounds_with : Spec → (slots : ℕ) → Bounds
+abbrev pub bounds_with : Spec → (slots : ℕ) → FormulaBounds
 bounds_with spec slots = record {
   number = 2 ^ 62;
   slots = slots;
@@ -53,7 +53,7 @@ bounds_with spec slots = record {
 }
 
 -- those of an equation: a slot for each parameter and for each variable of its quantifiers
-abbrev pub bounds_of : Spec → Equation → Bounds
+abbrev pub bounds_of : Spec → Equation → FormulaBounds
 bounds_of spec X = bounds_with spec (length X.parameters + length (equation_loops spec X))
 
 -- its normal form keeps them

@@ -4,7 +4,7 @@ use Rattle.pb_fixpoint.specs.Solution.{Environment}
 use Rattle.pb_text_meaning.specs.Syntax.{Equation, Spec}
 use Rattle.pb_text_meaning.specs.Formula.{Instance}
 use Rattle.pb_text_meaning.specs.Meaning.{equation_of}
-use Rattle.pb_typing_rules.specs.WellTyped.{parameters_of}
+use Rattle.pb_typing_rules.specs.WellTyped.{parameter_scope}
 pub use Rattle.pb_typed_tree.specs.Equations.{Hold}
 use Rattle.pb_normal.specs.Expansion.{expanded}
 use Rattle.pb_normal.specs.Normal.{Formula, Slots, truth}
@@ -14,7 +14,7 @@ use Rattle.pb_normal.specs.Normalisation.{normal, unslotted, with_slots}
 -- slots
 abbrev pub normal_equation : Spec → Equation → Formula
 normal_equation spec X =
-    normal spec true (with_slots X.parameters 0 unslotted) (parameters_of spec X)
+    normal spec true (with_slots X.parameters 0 unslotted) (parameter_scope spec X)
     (length X.parameters) (expanded X.right)
 
 -- where the first slots hold the values of an instance, the right side is true exactly where the
@@ -26,8 +26,8 @@ HasTruth spec X f =
     → truth spec slots t f ≡ (equation_of spec X).holds i t
 
 -- so it is with an equation's normal form
-abbrev pub KeepsTruth : Spec → Equation → Type 0
-KeepsTruth spec X = HasTruth spec X (normal_equation spec X)
+abbrev pub NormalFormKeepsTruth : Spec → Equation → Type 0
+NormalFormKeepsTruth spec X = HasTruth spec X (normal_equation spec X)
 
 -- one right side for each equation, in order
 abbrev pub HaveTruth : Spec → List Equation → List Formula → Type 0

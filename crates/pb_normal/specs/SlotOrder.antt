@@ -19,9 +19,9 @@ quantifiers (Each q s shape f) = (s, shape) ∷ quantifiers f
 quantifiers (Call X es) = []
 
 -- shapes with the slots from n on
-abbrev pub numbered : ℕ → List Shape → List (ℕ × Shape)
-numbered n [] = []
-numbered n (s ∷ ss) = (n, s) ∷ numbered (suc n) ss
+abbrev pub numbered_slots : ℕ → List Shape → List (ℕ × Shape)
+numbered_slots n [] = []
+numbered_slots n (s ∷ ss) = (n, s) ∷ numbered_slots (suc n) ss
 
 -- each slot that a term reads has a value
 abbrev pub reads_only : (ℕ → Bool) → Term → Bool

@@ -18,7 +18,7 @@ ghost use Rattle.pb_typed_tree.specs.Elaboration.{elaborated};
 ghost use Rattle.pb_typed_tree.specs.Expansion.{expanded};
 ghost use Rattle.pb_typed_tree.specs.Plain.{Agree, AreFree, IsPlain};
 ghost use Rattle.pb_normal.specs.Answer.{answer_by, equations_by, normal_equations};
-ghost use Rattle.pb_normal.specs.Equations.{normal_equation, KeepsTruth};
+ghost use Rattle.pb_normal.specs.Equations.{normal_equation, NormalFormKeepsTruth};
 ghost use Rattle.pb_normal.specs.Kept.{KeepsShapes};
 ghost use Rattle.pb_normal.specs.Normal as normal;
 ghost use Rattle.pb_normal.specs.Normalisation as normalisation;
@@ -50,9 +50,10 @@ pub fn normal_forms_keep_truth()
 /// equation has the truth of the equation's right side: under every environment, and at every
 /// instance whose values the first slots hold.
 pub fn normal_equations_keep_truth()
-    ensures well_typed { (spec : Spec) → IsWellTyped spec → All (KeepsTruth spec) spec.equations }
+    ensures well_typed { (spec : Spec) → IsWellTyped spec
+        → All (NormalFormKeepsTruth spec) spec.equations }
     ensures accepted { (text : SpecForm) → is_faultless text ≡ true
-        → All (KeepsTruth (erase text)) (erase text).equations }
+        → All (NormalFormKeepsTruth (erase text)) (erase text).equations }
 {}
 
 /// The normal forms of a well-typed specification have the solution of its equations, and with it

@@ -12,7 +12,7 @@ ghost use Rattle.pb_normal.specs.Bounds.{AreBounded, AreSmall};
 ghost use Rattle.pb_normal.specs.Calls.{HaveCalls};
 ghost use Rattle.pb_normal.specs.Equations.{normal_equation};
 ghost use Rattle.pb_normal.specs.Loops.{equation_loops};
-ghost use Rattle.pb_normal.specs.SlotOrder.{numbered, quantifiers};
+ghost use Rattle.pb_normal.specs.SlotOrder.{numbered_slots, quantifiers};
 ghost use Rattle.pb_normal.specs.Structs.{struct_counts, AreFew, HaveDeclaredShapes};
 
 /// In a well-typed specification, and so in a text that typing accepts, no number of an equation's
@@ -35,7 +35,7 @@ pub fn normal_forms_are_small()
 pub fn quantifiers_take_loops()
     ensures { (spec : Spec) (X : Equation)
         → quantifiers (normal_equation spec X)
-        ≡ numbered (length X.parameters) (equation_loops spec X) }
+        ≡ numbered_slots (length X.parameters) (equation_loops spec X) }
 {}
 
 /// In a well-typed specification there are at most `MAX_STRUCTS` structs, each of 1 to

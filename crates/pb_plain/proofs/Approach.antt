@@ -6,7 +6,7 @@ use Rattle.pb_fixpoint.specs.declared.Sign.{Sign}
 use Rattle.pb_fixpoint.specs.declared.Sign.TheVariants.{Mu, Nu}
 use Rattle.pb_fixpoint.specs.Solution.{Environment, Equation, assign, iterate, start, solution, operator, value_of}
 use Rattle.pb_fixpoint.specs.Fixpoint.{IsMonotone, AreMonotone, IsExtreme, IsSolved}
-use Rattle.pb_plain.specs.Side.{side_of, Before, BeforeAt, joined}
+use Rattle.pb_plain.specs.Side.{side_of, Before, BeforeAt, later_truth}
 use Rattle.pb_plain.specs.Bounds.{AreBounds}
 use Rattle.pb_plain.proofs.Order.{All-before, before_self, before_same, before_trans, before_both, before_not, joined_left, joined_right, joined_least, assign-before, assign-same, operator-before, value-before, start-before}
 
@@ -87,24 +87,24 @@ module _ {I : Type 0} (X : Equation I) (E : List (Equation I)) (t : Environment 
 
   -- one step further
   pub steps : (k : ℕ) (e e' b : Environment I) → IsApproach X E t k e → b ≡ solution E e → e' ≡ assign t X e'
-      → ((i : I) → X.owns i ≡ true → e' i ≡ joined side (e i) (X.holds i b)) → IsApproach X E t (suc k) e'
+      → ((i : I) → X.owns i ≡ true → e' i ≡ later_truth side (e i) (X.holds i b)) → IsApproach X E t (suc k) e'
   steps k e e' b a below out joins = record {
     outside = out;
     reached = λ i own.
         before_trans side _ (op e i) (e' i) (operator-before side X E m me t _ e a.reached i)
-        (before_trans side (op e i) (joined side (e i) (op e i)) (e' i) (joined_right side (e i) (op e i)) (before_same side _ (e' i) (sym (joins i own ∙ ap (joined side (e i)) (op_here e b a.outside below i)))));
+        (before_trans side (op e i) (later_truth side (e i) (op e i)) (e' i) (joined_right side (e i) (op e i)) (before_same side _ (e' i) (sym (joins i own ∙ ap (later_truth side (e i)) (op_here e b a.outside below i)))));
     within = λ i own.
-        before_trans side (e' i) (joined side (e i) (op e i)) (V i) (before_same side (e' i) _ (joins i own ∙ ap (joined side (e i)) (op_here e b a.outside below i)))
+        before_trans side (e' i) (later_truth side (e i) (op e i)) (V i) (before_same side (e' i) _ (joins i own ∙ ap (later_truth side (e i)) (op_here e b a.outside below i)))
         (joined_least side (e i) (op e i) (V i) (a.within i own) (op_within e a.within i own));
   }
 
   -- a step moves on
-  pub moves : (e e' b : Environment I) → e ≡ assign t X e → e' ≡ assign t X e' → ((i : I) → X.owns i ≡ true → e' i ≡ joined side (e i) (X.holds i b)) → All-before side e e'
+  pub moves : (e e' b : Environment I) → e ≡ assign t X e → e' ≡ assign t X e' → ((i : I) → X.owns i ≡ true → e' i ≡ later_truth side (e i) (X.holds i b)) → All-before side e e'
   moves e e' b out out' joins =
       subst (λ (r : Environment I). All-before side r e') (sym out)
       (subst (λ (r : Environment I). All-before side (assign t X e) r) (sym out')
       (assign-before side X t t e e' (λ i. before_self side (t i))
-      (λ i own. before_trans side (e i) (joined side (e i) (X.holds i b)) (e' i) (joined_left side (e i) (X.holds i b)) (before_same side _ (e' i) (sym (joins i own))))))
+      (λ i own. before_trans side (e i) (later_truth side (e i) (X.holds i b)) (e' i) (joined_left side (e i) (X.holds i b)) (before_same side _ (e' i) (sym (joins i own))))))
 
   -- the set is reached where the operator gives nothing new
   extreme_within : (sign : Sign) (F T : Environment I) → IsExtreme sign X op T → BeforeAt (side_of sign) X (op F) F → BeforeAt (side_of sign) X T F
@@ -115,10 +115,10 @@ module _ {I : Type 0} (X : Equation I) (E : List (Equation I)) (t : Environment 
   at_value e out p q =
       ap (solution E) (out ∙ assign-same X t e V (λ i own. before_both side (e i) (V i) (p i own) (q i own)))
 
-  pub stops : (k : ℕ) (e b : Environment I) → IsApproach X E t k e → b ≡ solution E e → ((i : I) → X.owns i ≡ true → e i ≡ joined side (e i) (X.holds i b)) → b ≡ solution (X ∷ E) t
+  pub stops : (k : ℕ) (e b : Environment I) → IsApproach X E t k e → b ≡ solution E e → ((i : I) → X.owns i ≡ true → e i ≡ later_truth side (e i) (X.holds i b)) → b ≡ solution (X ∷ E) t
   stops k e b a below same =
       let pre : BeforeAt side X (op e) e =
-      λ i own. before_trans side (op e i) (joined side (e i) (op e i)) (e i) (joined_right side (e i) (op e i)) (before_same side _ (e i) (sym (same i own ∙ ap (joined side (e i)) (op_here e b a.outside below i)))) in
+      λ i own. before_trans side (op e i) (later_truth side (e i) (op e i)) (e i) (joined_right side (e i) (op e i)) (before_same side _ (e i) (sym (same i own ∙ ap (later_truth side (e i)) (op_here e b a.outside below i)))) in
       below ∙ at_value e a.outside a.within (extreme_within X.sign e V solved.extreme pre)
 
   -- it is reached after as many steps as there are instances

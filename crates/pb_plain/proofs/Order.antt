@@ -7,7 +7,7 @@ use Rattle.pb_fixpoint.specs.declared.Sign.TheVariants.{Mu, Nu}
 use Rattle.pb_fixpoint.specs.Solution.{Environment, Equation, assign, start, solution, operator, value_of}
 use Rattle.pb_fixpoint.specs.Fixpoint.{Within, IsMonotone, AreMonotone}
 use Rattle.pb_fixpoint.proofs.Solved.{solution-within, iterate-within, assign-within, cond_same}
-use Rattle.pb_plain.specs.Side.{side_of, Before, BeforeAt, joined}
+use Rattle.pb_plain.specs.Side.{side_of, Before, BeforeAt, later_truth}
 
 -- s comes before t
 abbrev pub All-before : {I : Type 0} → Bool → Environment I → Environment I → Type 0
@@ -34,19 +34,19 @@ pub before_not : (side x y : Bool) → Before side x y → Before (not side) y x
 before_not true x y p = p
 before_not false x y p = p
 
-pub joined_left : (side x y : Bool) → Before side x (joined side x y)
+pub joined_left : (side x y : Bool) → Before side x (later_truth side x y)
 joined_left true true y = λ e. refl
 joined_left true false y = λ e. absurd (true≢false (sym e))
 joined_left false true y = λ e. refl
 joined_left false false y = λ e. e
 
-pub joined_right : (side x y : Bool) → Before side y (joined side x y)
+pub joined_right : (side x y : Bool) → Before side y (later_truth side x y)
 joined_right true true y = λ e. refl
 joined_right true false y = λ e. e
 joined_right false true y = λ e. e
 joined_right false false y = λ e. absurd (true≢false (sym e))
 
-pub joined_least : (side x y z : Bool) → Before side x z → Before side y z → Before side (joined side x y) z
+pub joined_least : (side x y z : Bool) → Before side x z → Before side y z → Before side (later_truth side x y) z
 joined_least true true y z p q = p
 joined_least true false y z p q = q
 joined_least false true y z p q = q

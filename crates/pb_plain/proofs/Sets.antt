@@ -22,7 +22,7 @@ use Rattle.pb_text_meaning.specs.Meaning.{equation_of}
 use Rattle.pb_text_meaning.specs.Names.{AreNamedApart}
 use Rattle.pb_evaluation.specs.Environment.{all_carriers, environment_of, place_named, truth_at, truth_of}
 use Rattle.pb_evaluation.proofs.Called.{counted, place_here}
-use Rattle.pb_plain.specs.Side.{side_of, joined}
+use Rattle.pb_plain.specs.Side.{side_of, later_truth}
 use Rattle.pb_plain.specs.Step.{ChangesOnly, TakesSet, JoinsRight, right_truth, right_truth_at}
 
 -- ---- one equation
@@ -109,12 +109,12 @@ module _ (S : Spec) (layout : List (List Carrier)) (laid : carriers_of layout �
       let p : HasPlace i = has_place i owned in
       p.reads new ∙ (takes p.number p.own ∙ sym (p.reads from))
 
-  -- X's set is joined with its right side
+  -- X's set is later_truth with its right side
   pub joins_right : (below old new : List Bool) → JoinsRight S layout k X below old new → (i : Instance) → (equation_of S X).owns i ≡ true
-      → environment_of S new i ≡ joined (side_of X.sign) (environment_of S old i) ((equation_of S X).holds i (environment_of S below))
+      → environment_of S new i ≡ later_truth (side_of X.sign) (environment_of S old i) ((equation_of S X).holds i (environment_of S below))
   joins_right below old new joins i owned =
       let p : HasPlace i = has_place i owned in
       p.reads new
       ∙ (joins p.number p.own
-      ∙ (ap (λ (b : Bool). joined (side_of X.sign) b (right_truth_at S (environment_of S below) X layout p.number)) (sym (p.reads old))
-      ∙ ap (λ (o : Option numbered.Instance). joined (side_of X.sign) (environment_of S old i) (right_truth S (environment_of S below) X o)) p.there))
+      ∙ (ap (λ (b : Bool). later_truth (side_of X.sign) b (right_truth_at S (environment_of S below) X layout p.number)) (sym (p.reads old))
+      ∙ ap (λ (o : Option numbered.Instance). later_truth (side_of X.sign) (environment_of S old i) (right_truth S (environment_of S below) X o)) p.there))

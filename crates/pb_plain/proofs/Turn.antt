@@ -10,7 +10,7 @@ use Rattle.pb_carriers.specs.Carrier as values
 use Rattle.pb_sorts.specs.declared.carrier.Carrier.{Carrier}
 use Rattle.std.proofs.Math.Path.{fun_ext}
 use Rattle.std.proofs.lemmas.Bool.{and_right, and_parts}
-use Rattle.pb_sorts.specs.Instance.{instances, number_of, size_of, tuples_of}
+use Rattle.pb_sorts.specs.Instance.{instances, number_of, size_of, tuple_count_at}
 use Rattle.pb_sorts.proofs.Equations.{length-carriers_of}
 use Rattle.pb_sorts.specs.Layout.{carriers_of, count_of}
 use Rattle.pb_sorts.proofs.Places.{slice_get-mapped, drop-slice_get, map_length}
@@ -133,7 +133,7 @@ module _ (S : Spec) (layout : List (List Carrier)) (laid : carriers_of layout �
       → environment_of S done ≡ solution (drop k (equations_of S)) t
   ended t j cur done all a solved =
       let size : j ≡ read.size =
-      all ∙ (ap (λ (css : List (List values.Carrier)). size_of css k) laid ∙ ap tuples_of (slice_get-mapped (λ (Y : Equation). formula.carriers_of S Y.parameters) S.equations k X at)) in
+      all ∙ (ap (λ (css : List (List values.Carrier)). size_of css k) laid ∙ ap tuple_count_at (slice_get-mapped (λ (Y : Equation). formula.carriers_of S Y.parameters) S.equations k X at)) in
       solved
       ∙ (ends read after t monotone.0 monotone.1 (solved_here t) (environment_of S cur) (subst (λ (n : ℕ). IsApproach read after t n (environment_of S cur)) size a)
       ∙ ap (λ (E : List (fixpoint.Equation Instance)). solution E t) (sym here))

@@ -20,6 +20,6 @@ abbrev pub BeforeAt : {I : Type 0} → Bool → Equation I → Environment I →
 BeforeAt {I} side X s t = (i : I) → X.owns i ≡ true → Before side (s i) (t i)
 
 -- the first truth that comes after both
-abbrev pub joined : Bool → Bool → Bool → Bool
-joined true x y = x || y
-joined false x y = x && y
+abbrev pub later_truth : Bool → Bool → Bool → Bool
+later_truth true x y = x || y
+later_truth false x y = x && y

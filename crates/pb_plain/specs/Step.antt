@@ -15,7 +15,7 @@ use Rattle.pb_text_meaning.specs.Meaning.{assigned}
 use Rattle.pb_typed_tree.specs.Fits.{AreClear, slot_count}
 use Rattle.pb_evaluation.specs.Environment.{environment_of}
 use Rattle.pb_evaluation.specs.Slots.{slots_of}
-use Rattle.pb_plain.specs.Side.{side_of, joined}
+use Rattle.pb_plain.specs.Side.{side_of, later_truth}
 
 -- Slots for an equation's right side: one for each parameter, and free ones for the variables of
 -- its quantifiers.
@@ -45,11 +45,11 @@ TakesSet layout k from new =
     (n : ℕ) → owns_number (carriers_of layout) k n ≡ true
     → slice_index_or new n false ≡ slice_index_or from n false
 
--- each truth of X's set is joined with that of its right side under `below`
+-- each truth of X's set is later_truth with that of its right side under `below`
 abbrev pub JoinsRight : Spec → List (List Carrier) → ℕ → Equation → List Bool → List Bool
     → List Bool → Type 0
 JoinsRight spec layout k X below old new =
     (n : ℕ) → owns_number (carriers_of layout) k n ≡ true
     → slice_index_or new n false
-    ≡ joined (side_of X.sign) (slice_index_or old n false)
+    ≡ later_truth (side_of X.sign) (slice_index_or old n false)
     (right_truth_at spec (environment_of spec below) X layout n)

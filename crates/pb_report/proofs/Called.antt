@@ -6,11 +6,11 @@ use Rattle.std.proofs.lemmas.List.Elements.{Contains-append_cases}
 use Rattle.pb_trees.specs.Tree.{Connective, Conjunction, Disjunction, Leaf, Yes, No, Cut, Call, Operands, End, LeafThen, BracketThen, Tree, Single, Root, LeafCalls, OperandsCall, TreeCalls}
 use Rattle.pb_trees.specs.Equations.{Signature}
 use Rattle.pb_trees.specs.Rows as plain
-use Rattle.pb_rows.specs.Row.{Row, nothing}
+use Rattle.pb_rows.specs.Row.{TokenRow, nothing}
 use Rattle.pb_rows.specs.Reached.{numbers_of, row_of, rows_of}
 use Rattle.pb_game_of_trees.specs.TreeGame.{AreRowsFrom}
 use Rattle.pb_game_of_trees.proofs.Reached.{found_row}
-use Rattle.pb_evidence.specs.ProofGraphs.{RestsOn, Leads}
+use Rattle.pb_evidence.specs.ProofGraphs.{RestsOn, RestsThrough}
 use Rattle.pb_evidence.specs.Supports.{IsLeafSupport, IsJoined, IsOperandsSupport, IsTreeSupport}
 use Rattle.pb_evidence.specs.declared.Evidence.{Evidence}
 use Rattle.pb_evidence.specs.Evidence.{graph_of, Shows}
@@ -67,17 +67,17 @@ module _ (P : ℕ → Type 0) (b : Bool) where
   tree_called (Root c f) holds calls is = operands_called c f holds calls is
 
 -- a reached row by its number
-number_reached : (trees : ℕ → Tree) (rows : List Row) (n : ℕ) → plain.IsReached (rows_of trees rows) n → Contains (numbers_of rows) n
+number_reached : (trees : ℕ → Tree) (rows : List TokenRow) (n : ℕ) → plain.IsReached (rows_of trees rows) n → Contains (numbers_of rows) n
 number_reached trees rows n found =
     let k = found.1.0 in
     let l : k < length rows = omega (arith, found.1.1, length-map rows (row_of trees)) in
     let there = sym (get_or-map (row_of trees) rows k nothing found.0 l) ∙ found.1.2 in (
       k,
-      omega (arith, l, length-map rows (λ (r : Row). r.number)),
-      get_or-map (λ (r : Row). r.number) rows k nothing n l ∙ (ap (λ (r : plain.Row). r.number) there ∙ found.2),
+      omega (arith, l, length-map rows (λ (r : TokenRow). r.number)),
+      get_or-map (λ (r : TokenRow). r.number) rows k nothing n l ∙ (ap (λ (r : plain.Row). r.number) there ∙ found.2),
     )
 
-module _ (signatures : List Signature) (trees : ℕ → Tree) (rows : List Row) (initial : ℕ) (from : AreRowsFrom signatures trees rows initial)
+module _ (signatures : List Signature) (trees : ℕ → Tree) (rows : List TokenRow) (initial : ℕ) (from : AreRowsFrom signatures trees rows initial)
     (e : Evidence) (shown : Shows signatures trees initial e) where
   abbrev IsRow : ℕ → Type 0
   IsRow = plain.IsReached (rows_of trees rows)
@@ -90,7 +90,7 @@ module _ (signatures : List Signature) (trees : ℕ → Tree) (rows : List Row) 
       let support = shown.choices n rests.0 in
       tree_called IsRow e.truth (trees n) (subst (TreeCalls IsRow) tree calls) support.0 support.1 m ((support.2 m).1 rests.1)
 
-  leads_within : (over : List ℕ) (n m : ℕ) → IsRow n → Leads (graph_of e) n over m → IsRow m
+  leads_within : (over : List ℕ) (n m : ℕ) → IsRow n → RestsThrough (graph_of e) n over m → IsRow m
   leads_within [] n m reached leads = rests_within n m reached leads
   leads_within (x ∷ xs) n m reached leads = leads_within xs x m (rests_within n x reached leads.0) leads.1
 

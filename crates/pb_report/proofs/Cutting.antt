@@ -12,7 +12,7 @@ use Rattle.pb_trees.specs.declared.Token.{Token}
 use Rattle.pb_trees.specs.Tree.{Connective, Conjunction, Disjunction, Leaf, Yes, No, Cut, Call, Operands, End, LeafThen, BracketThen, Tree, Single, Root, joined, leaf_truth, operands_truth, tree_truth}
 use Rattle.pb_trees.specs.Tokens.{tree_tokens}
 use Rattle.pb_trees.specs.Equations.{Signature}
-use Rattle.pb_rows.specs.Row.{Row, nothing}
+use Rattle.pb_rows.specs.Row.{TokenRow, nothing}
 use Rattle.pb_rows.specs.Reached.{numbers_of}
 use Rattle.pb_game_of_trees.specs.TreeGame.{AreRowsFrom}
 use Rattle.pb_evidence.specs.ProofGraphs.{exactly}
@@ -107,15 +107,15 @@ read_cut b named value sorted tree found cut same moved is told =
     ∙ same_tree (exactly b sorted) (exactly b named) (exactly_sorted b named sorted moved) (uncut tree)))
     ∙ commuted (tree_truth (exactly b named) (uncut tree)) b)
 
-module _ (signatures : List Signature) (trees : ℕ → Tree) (rows : List Row) (initial : ℕ) (from : AreRowsFrom signatures trees rows initial)
+module _ (signatures : List Signature) (trees : ℕ → Tree) (rows : List TokenRow) (initial : ℕ) (from : AreRowsFrom signatures trees rows initial)
     (e : Evidence) (shown : Shows signatures trees initial e) where
   -- the tokens at the row of the instance are those of its tree
   pub tokens_there : (numbers : List ℕ) (p n : ℕ) (tokens : List Token) → numbers ≡ numbers_of rows → p < length rows → get_or numbers p 0 ≡ n
       → tokens ≡ (get_or rows p nothing).tree → tokens ≡ tree_tokens (trees n)
   tokens_there numbers p n tokens listed within there read =
       let number : (get_or rows p nothing).number ≡ n =
-      sym (get_or-map (λ (r : Row). r.number) rows p nothing 0 within) ∙ (sym (ap (λ (ns : List ℕ). get_or ns p 0) listed) ∙ there) in
-      read ∙ (All-get_or (λ (r : Row). r.tree ≡ tree_tokens (trees r.number)) rows p nothing within from.are.of_trees
+      sym (get_or-map (λ (r : TokenRow). r.number) rows p nothing 0 within) ∙ (sym (ap (λ (ns : List ℕ). get_or ns p 0) listed) ∙ there) in
+      read ∙ (All-get_or (λ (r : TokenRow). r.tree ≡ tree_tokens (trees r.number)) rows p nothing within from.are.of_trees
       ∙ ap (λ (k : ℕ). tree_tokens (trees k)) number)
 
   -- one more instance was judged

@@ -3,7 +3,7 @@ use Rattle.std.proofs.Common.{◌≡◌, ℕ, ◌+◌, ◌<◌, Bool, true, fals
 use Rattle.std.specs.Prelude.{replicate}
 use Rattle.std.proofs.lemmas.Bool.{cases_eq, false≢true}
 use Rattle.std.proofs.lemmas.List.{get_or-replicate, get_or-set_same, get_or-set_other, length-replicate}
-use Rattle.pb_rows.specs.Row.{Row, nothing}
+use Rattle.pb_rows.specs.Row.{TokenRow, nothing}
 use Rattle.pb_evidence.specs.Marks.{IsMarked}
 use Rattle.pb_evidence.proofs.Finding.{marked_within}
 use Rattle.pb_report.specs.VertexNames.{AreRising}
@@ -14,7 +14,7 @@ unmarked count v h =
     let below = marked_within (replicate count false) v h in
     false≢true (sym (get_or-replicate count v false false (omega (arith, below, length-replicate count false))) ∙ h)
 
-pub none_marked : (vertices : List ℕ) (rows : List Row) (count : ℕ) (marks : List Bool) (numbers : List ℕ) →
+pub none_marked : (vertices : List ℕ) (rows : List TokenRow) (count : ℕ) (marks : List Bool) (numbers : List ℕ) →
     marks ≡ replicate count false → AreMarked vertices rows 0 marks numbers
 none_marked vertices rows count marks numbers e = record {
   marked = λ k less. absurd (omega (arith, less));
@@ -22,7 +22,7 @@ none_marked vertices rows count marks numbers e = record {
   only = λ v h. absurd (unmarked count v (sym (ap (λ (xs : List Bool). get_or xs v false) e) ∙ h));
 }
 
-pub one_marked : (vertices : List ℕ) (rows : List Row) (k : ℕ) (marks : List Bool) (numbers : List ℕ) (v n : ℕ) → AreRising vertices →
+pub one_marked : (vertices : List ℕ) (rows : List TokenRow) (k : ℕ) (marks : List Bool) (numbers : List ℕ) (v n : ℕ) → AreRising vertices →
     k < length vertices → v ≡ get_or vertices k 0 → n ≡ (get_or rows k nothing).number → v < length marks → v < length numbers →
     AreMarked vertices rows k marks numbers → AreMarked vertices rows (k + 1) (set marks v true) (set numbers v n)
 one_marked vertices rows k marks numbers v n rising below here is l m was = record {

@@ -6,7 +6,7 @@ use Rattle.pb_trees.specs.Equations.{Signature}
 use Rattle.pb_trees.specs.Rows as plain
 use Rattle.pb_trees.specs.Game.{vertex_of}
 use Rattle.pb_trees.specs.Laws.{RowsHaveVertices}
-use Rattle.pb_rows.specs.Row.{Row, nothing}
+use Rattle.pb_rows.specs.Row.{TokenRow, nothing}
 use Rattle.pb_game.specs.Games.{vertex_count}
 use Rattle.pb_game_of_trees.specs.Held.{held}
 use Rattle.pb_game_of_trees.specs.declared.tree_game.TreeGame.{TreeGame}
@@ -18,7 +18,7 @@ use Rattle.pb_evidence.specs.Evidence.{AreNumbers}
 use Rattle.pb_report.specs.InstanceMarks.{AreMarked}
 
 -- the same marks, otherwise written
-pub moved : (vs ws : List ℕ) (rows : List Row) (done : ℕ) (marks ms : List Bool) (numbers ns : List ℕ) → vs ≡ ws → marks ≡ ms → numbers ≡ ns →
+pub moved : (vs ws : List ℕ) (rows : List TokenRow) (done : ℕ) (marks ms : List Bool) (numbers ns : List ℕ) → vs ≡ ws → marks ≡ ms → numbers ≡ ns →
     AreMarked vs rows done marks numbers → AreMarked ws rows done ms ns
 moved vs ws rows done marks ms numbers ns v m n are =
     subst (λ (xs : List ℕ). AreMarked xs rows done ms ns) v
@@ -27,7 +27,7 @@ moved vs ws rows done marks ms numbers ns v m n are =
 abbrev none : plain.Row
 none = record { number = 0; tree = Single No }
 
-module _ (signatures : List Signature) (trees : ℕ → Tree) (rows : List Row) (reached : List plain.Row) (initial : ℕ) (built : TreeGame)
+module _ (signatures : List Signature) (trees : ℕ → Tree) (rows : List TokenRow) (reached : List plain.Row) (initial : ℕ) (built : TreeGame)
     (are : AreReached signatures trees rows reached) (is : IsTreeGame signatures trees reached initial built) where
   pub count : length rows ≡ length reached
   count = ap length are.held ∙ length-map reached held
@@ -39,8 +39,8 @@ module _ (signatures : List Signature) (trees : ℕ → Tree) (rows : List Row) 
 
   number_at : (k : ℕ) (row : plain.Row) → k < length reached → get_or reached k row ≡ row → (get_or rows k nothing).number ≡ row.number
   number_at k row l e =
-      ap (λ (xs : List Row). (get_or xs k nothing).number) are.held
-      ∙ (ap (λ (x : Row). x.number) (get_or-map held reached k row nothing l) ∙ ap (λ (x : plain.Row). x.number) e)
+      ap (λ (xs : List TokenRow). (get_or xs k nothing).number) are.held
+      ∙ (ap (λ (x : TokenRow). x.number) (get_or-map held reached k row nothing l) ∙ ap (λ (x : plain.Row). x.number) e)
 
   -- a row by its place
   there : (k : ℕ) → k < length reached → get_or reached k (get_or reached k none) ≡ get_or reached k none

@@ -68,7 +68,7 @@ lines_are f h same g (x ∷ xs) v all =
     ∙ (ap (λ (o : Option (List ℕ)). vertex_line v x o ++ lines_of f g (suc v) (length xs)) (same v)
     ∙ ap (λ (text : List ℕ). vertex_line v x (h v) ++ text) rest)
 
-module _ (m : Contents) (rows : List in_memory.Row) (built : TreeGame) (trees : ℕ → Tree) (reached : List Row) (initial : ℕ)
+module _ (m : Contents) (rows : List in_memory.TokenRow) (built : TreeGame) (trees : ℕ → Tree) (reached : List Row) (initial : ℕ)
     (are : AreReached (map signature_of m.equations) trees rows reached) (is : IsTreeGame (map signature_of m.equations) trees reached initial built) where
   vertices_in : built.vertices.items ≡ vertices_from reached 2
   vertices_in = is.vertices ∙ sym (vertices_are reached are.rising)
@@ -76,7 +76,7 @@ module _ (m : Contents) (rows : List in_memory.Row) (built : TreeGame) (trees : 
   pub number_at : (v : ℕ) → number_in built.vertices.items rows v ≡ instance_at reached 2 v
   number_at v =
       ap (λ (vs : List ℕ). number_in vs rows v) vertices_in
-      ∙ (ap (λ (rs : List in_memory.Row). number_in (vertices_from reached 2) rs v) are.held ∙ number_is reached 2 v)
+      ∙ (ap (λ (rs : List in_memory.TokenRow). number_in (vertices_from reached 2) rs v) are.held ∙ number_is reached 2 v)
 
   pub text_is : memory_text m built.game built.vertices.items rows ≡ game_text (vertex_name m reached) (game_vertices (map signature_of m.equations) reached)
   text_is =

@@ -21,22 +21,22 @@ at_place [] (suc k) x rest e = cc
 at_place (y ∷ xs) zero x rest e = let same : y ≡ x = cc in ap Some same
 at_place (y ∷ xs) (suc k) x rest e = at_place xs k x rest e
 
-pub count_held : (rows : List in_memory.Row) (reached : List Row) → Hold rows reached → length rows ≡ length reached
+pub count_held : (rows : List in_memory.TokenRow) (reached : List Row) → Hold rows reached → length rows ≡ length reached
 count_held rows reached hold = ap length hold ∙ length-map reached held
 
 -- of the lines from k on, the first one and the others
-pub next_line : (name : ℕ → List ℕ) (truth : ℕ → Bool) (reached : List Row) (k : ℕ) (row : in_memory.Row) (b : Bool) (n : IsNext reached k row) → b ≡ truth n.next.number →
+pub next_line : (name : ℕ → List ℕ) (truth : ℕ → Bool) (reached : List Row) (k : ℕ) (row : in_memory.TokenRow) (b : Bool) (n : IsNext reached k row) → b ≡ truth n.next.number →
     solution_text name truth (drop k reached) ≡ solution_line (name row.number) b ++ solution_text name truth (drop (k + 1) reached)
 next_line name truth reached k row b n e =
     let more = solution_text name truth (drop (k + 1) reached) in
     ap (solution_text name truth) n.rest
-    ∙ (ap (λ (r : in_memory.Row). solution_line (name r.number) (truth n.next.number) ++ more) n.is
+    ∙ (ap (λ (r : in_memory.TokenRow). solution_line (name r.number) (truth n.next.number) ++ more) n.is
     ∙ ap (λ (t : Bool). solution_line (name row.number) t ++ more) (sym e))
 
-pub number_below : (m : Contents) (rows : List in_memory.Row) (trees : ℕ → Tree) (reached : List Row) (k : ℕ) →
+pub number_below : (m : Contents) (rows : List in_memory.TokenRow) (trees : ℕ → Tree) (reached : List Row) (k : ℕ) →
     AreReached (map signature_of m.equations) trees rows reached → k < length rows → (get_or rows k in_memory.nothing).number < count_of (parameters m)
 number_below m rows trees reached k are l =
     let row = get_or rows k in_memory.nothing in
     let n = next_row rows reached k are.held l in
     let all : count_of (parameters m) ≡ total (map signature_of m.equations) = count_is_total m in
-    omega (arith, all, are.are.below n.next (contained reached k row n), ap (λ (r : in_memory.Row). r.number) n.is)
+    omega (arith, all, are.are.below n.next (contained reached k row n), ap (λ (r : in_memory.TokenRow). r.number) n.is)

@@ -8,7 +8,7 @@ use Rattle.pb_game.specs.declared.Game.{Game}
 use Rattle.pb_report.specs.GameText.{vertex_at, vertex_line}
 use Rattle.pb_report.specs.VertexNames.{number_in, IsAtRow, AreRising, lines_of}
 
-pub number_some : (vs : List ℕ) (rs : List in_memory.Row) (k v : ℕ) (d : in_memory.Row) → length vs ≡ length rs → k < length vs → get_or vs k 0 ≡ v →
+pub number_some : (vs : List ℕ) (rs : List in_memory.TokenRow) (k v : ℕ) (d : in_memory.TokenRow) → length vs ≡ length rs → k < length vs → get_or vs k 0 ≡ v →
     ((j : ℕ) → j < k → get_or vs j 0 < v) → number_in vs rs v ≡ Some (get_or rs k d).number
 number_some [] rs k v d m l e b = absurd (omega arith)
 number_some (x ∷ vs) [] k v d m l e b = absurd (omega (arith, m))
@@ -23,7 +23,7 @@ number_some (x ∷ vs) (r ∷ rs) (suc k) v d m l e b = elim (cases_Bool (v == x
       ∙ number_some vs rs k v d (omega (arith, m)) (omega arith) e (λ j below. b (suc j) (omega (arith, below)))
 ]
 
-pub number_none : (vs : List ℕ) (rs : List in_memory.Row) (v : ℕ) → ((j : ℕ) → j < length vs → get_or vs j 0 ≡ v → ⊥) → number_in vs rs v ≡ None
+pub number_none : (vs : List ℕ) (rs : List in_memory.TokenRow) (v : ℕ) → ((j : ℕ) → j < length vs → get_or vs j 0 ≡ v → ⊥) → number_in vs rs v ≡ None
 number_none [] rs v never = refl
 number_none (x ∷ vs) [] v never = refl
 number_none (x ∷ vs) (r ∷ rs) v never = elim (cases_Bool (v == x)) [

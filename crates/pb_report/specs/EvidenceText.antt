@@ -32,14 +32,14 @@ cut_mark true = codes " cut"
 cut_mark false = []
 
 -- what stands behind an instance's name
-abbrev pub line_end : Bool → List ℕ → Bool → List ℕ
-line_end truth dependencies cut =
+abbrev pub line_tail : Bool → List ℕ → Bool → List ℕ
+line_tail truth dependencies cut =
     truth_mark truth ++ (dependencies ++ (cut_mark cut ++ codes "\n"))
 
 abbrev pub evidence_line :
     (ℕ → List ℕ) → (ℕ → Option Place) → Bool → ℕ → List ℕ → Bool → List ℕ
 evidence_line name place truth n dependencies cut =
-    name n ++ line_end truth (dependencies_text name place dependencies) cut
+    name n ++ line_tail truth (dependencies_text name place dependencies) cut
 
 -- a line for each of these instances
 abbrev pub evidence_lines : (ℕ → List ℕ) → (ℕ → ℕ → Option Place) → Bool → (ℕ → List ℕ)

@@ -16,11 +16,12 @@ lines_of m trees place e instances =
     evidence_lines (instance_name m) place e.truth (graph_of e).dependencies (is_cut trees e)
     instances
 
-abbrev pub line_of : Contents → (ℕ → Tree) → (ℕ → ℕ → Option Place) → Evidence → ℕ → List ℕ
-line_of m trees place e n =
+abbrev pub evidence_line_of : Contents → (ℕ → Tree) → (ℕ → ℕ → Option Place) → Evidence → ℕ → List ℕ
+evidence_line_of m trees place e n =
     evidence_line (instance_name m) (place n) e.truth n ((graph_of e).dependencies n)
     (is_cut trees e n)
 
 -- that of the instance at a place
-abbrev pub line_at : Contents → (ℕ → Tree) → (ℕ → ℕ → Option Place) → Evidence → ℕ → List ℕ
-line_at m trees place e k = line_of m trees place e (slice_index e.instances.items k)
+abbrev pub evidence_line_at : Contents → (ℕ → Tree) → (ℕ → ℕ → Option Place) → Evidence → ℕ → List ℕ
+evidence_line_at m trees place e k =
+    evidence_line_of m trees place e (slice_index e.instances.items k)

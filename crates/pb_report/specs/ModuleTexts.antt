@@ -3,7 +3,7 @@ use Rattle.std.specs.Prelude.{◌≡◌, ℕ, List, length, map}
 use Rattle.pb_trees.specs.Tree.{Tree}
 use Rattle.pb_trees.specs.Equations.{solved}
 use Rattle.pb_trees.specs.Game.{Vertex, game_vertices}
-use Rattle.pb_rows.specs.Row.{Row}
+use Rattle.pb_rows.specs.Row.{TokenRow}
 use Rattle.pb_rows.specs.Reached.{rows_of}
 use Rattle.pb_game.specs.declared.Game.{Game}
 use Rattle.pb_game.specs.declared.certificate.Solution.{Solution}
@@ -20,12 +20,12 @@ use Rattle.pb_report.specs.SolutionText.{solution_text}
 use Rattle.pb_report.specs.CertificateText.{certificate_text}
 
 -- the vertices of the game of the reached instances, by number
-abbrev pub module_vertices : Contents → (ℕ → Tree) → List Row → List Vertex
+abbrev pub module_vertices : Contents → (ℕ → Tree) → List TokenRow → List Vertex
 module_vertices m trees rows = game_vertices (map signature_of m.equations) (rows_of trees rows)
 
 -- the truth of the initial instance, and the counts of the reached instances, of those that meet a
 -- cut, and of vertices
-abbrev pub answer_for : Contents → (ℕ → Tree) → List Row → Answer
+abbrev pub answer_for : Contents → (ℕ → Tree) → List TokenRow → Answer
 answer_for m trees rows = record {
   truth = answer m trees;
   instances = length rows;
@@ -34,28 +34,29 @@ answer_for m trees rows = record {
 }
 
 -- with whichever trees the module's instances have, that is the answer
-abbrev pub IsAnswer : Contents → List Row → Answer → Type 0
-IsAnswer m rows found = (trees : ℕ → Tree) → AreTrees m trees → found ≡ answer_for m trees rows
+abbrev pub IsModuleAnswer : Contents → List TokenRow → Answer → Type 0
+IsModuleAnswer m rows found =
+    (trees : ℕ → Tree) → AreTrees m trees → found ≡ answer_for m trees rows
 
 -- P holds of a text that the trees say, with whichever trees the module's instances have
 abbrev pub ForTrees : Contents → ((ℕ → Tree) → List ℕ) → (List ℕ → Type 0) → Type 0
 ForTrees m text P = (trees : ℕ → Tree) → AreTrees m trees → P (text trees)
 
 -- the game of the reached instances, the sinks and the instances by name
-abbrev pub module_game_text : Contents → (ℕ → Tree) → List Row → List ℕ
+abbrev pub module_game_text : Contents → (ℕ → Tree) → List TokenRow → List ℕ
 module_game_text m trees rows =
     game_text (vertex_name m (rows_of trees rows)) (module_vertices m trees rows)
 
 -- the nested solution of the equations (Groote and Willemse 2005) at the reached instances, by
 -- their names
-abbrev pub module_solution_text : Contents → (ℕ → Tree) → List Row → List ℕ
+abbrev pub module_solution_text : Contents → (ℕ → Tree) → List TokenRow → List ℕ
 module_solution_text m trees rows =
     solution_text (instance_name m) (solved (map signature_of m.equations) trees)
     (rows_of trees rows)
 
 -- A certificate of the game whose vertices, by the same numbers, are those of `module_game_text`: a
 -- winner for each, a strategy for each winner, and progress measures. P holds of its text.
-pub record HasCertificateText (m : Contents) (trees : ℕ → Tree) (rows : List Row)
+pub record HasCertificateText (m : Contents) (trees : ℕ → Tree) (rows : List TokenRow)
     (P : List ℕ → Type 0) : Type 0 where
   pub game : Game
   pub vertices : HasVertices game (module_vertices m trees rows)

@@ -8,15 +8,15 @@ truth_line true = codes "answer true\n"
 truth_line false = codes "answer false\n"
 
 -- a number, behind a label
-abbrev pub count_line : List ℕ → ℕ → List ℕ
-count_line label n = label ++ (decimal n ++ codes "\n")
+abbrev pub counted_line : List ℕ → ℕ → List ℕ
+counted_line label n = label ++ (decimal n ++ codes "\n")
 
 -- how many instances were reached, how many of these have a Cut in their trees, and how many
 -- vertices the game has
 abbrev pub counts_text : Answer → List ℕ
 counts_text a =
-    count_line (codes "instances ") a.instances
-    ++ (count_line (codes "cut ") a.cut ++ count_line (codes "vertices ") a.vertices)
+    counted_line (codes "instances ") a.instances
+    ++ (counted_line (codes "cut ") a.cut ++ counted_line (codes "vertices ") a.vertices)
 
 abbrev pub report_text : Answer → List ℕ
 report_text a = truth_line a.truth ++ counts_text a

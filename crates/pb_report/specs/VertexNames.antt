@@ -32,13 +32,13 @@ vertex_name m rows v = name_by m v (instance_at rows 2 v)
 -- ---- the same of what lies in memory: the vertex of each row
 
 -- the number of the row whose vertex this is
-abbrev pub number_in : List ℕ → List in_memory.Row → ℕ → Option ℕ
+abbrev pub number_in : List ℕ → List in_memory.TokenRow → ℕ → Option ℕ
 number_in (x ∷ vertices) (row ∷ rows) v =
     if v == x then Some row.number else number_in vertices rows v
 number_in (x ∷ vertices) [] v = None
 number_in [] rows v = None
 
-abbrev pub name_in : Contents → List ℕ → List in_memory.Row → ℕ → Option (List ℕ)
+abbrev pub name_in : Contents → List ℕ → List in_memory.TokenRow → ℕ → Option (List ℕ)
 name_in m vertices rows v = name_by m v (number_in vertices rows v)
 
 -- the rows before place k have vertices below v, the others have theirs from v on
@@ -55,12 +55,12 @@ abbrev pub lines_of : (ℕ → Option (List ℕ)) → Game → ℕ → ℕ → L
 lines_of names g v zero = []
 lines_of names g v (suc n) = vertex_line v (vertex_at g v) (names v) ++ lines_of names g (suc v) n
 
-abbrev pub lines_text : Contents → Game → List ℕ → List in_memory.Row → List ℕ
+abbrev pub lines_text : Contents → Game → List ℕ → List in_memory.TokenRow → List ℕ
 lines_text m g vertices rows = lines_of (name_in m vertices rows) g 0 (vertex_count g)
 
 -- the first line, which says how great a vertex's number is
 abbrev pub first_line : ℕ → List ℕ
 first_line greatest = codes "parity " ++ (decimal greatest ++ codes ";\n")
 
-abbrev pub memory_text : Contents → Game → List ℕ → List in_memory.Row → List ℕ
+abbrev pub memory_text : Contents → Game → List ℕ → List in_memory.TokenRow → List ℕ
 memory_text m g vertices rows = first_line (vertex_count g - 1) ++ lines_text m g vertices rows

@@ -1,7 +1,7 @@
 //! The answer to a system, and its report.
 ghost use Rattle.pb_report.specs.Delivery.{Delivers, is_failed};
 ghost use Rattle.pb_report.specs.Sending.{Sends};
-ghost use Rattle.pb_report.specs.Report.{truth_line, count_line, counts_text, report_text};
+ghost use Rattle.pb_report.specs.Report.{truth_line, counted_line, counts_text, report_text};
 
 use crate::buffer::{TextBuffer, TextWriter, WriteError};
 use crate::cut_calls::count_cut;
@@ -23,14 +23,14 @@ pub struct Answer {
 impl Answer {
     ghost use Rattle.pb_bytecode.specs.Contents.{Contents};
     ghost use Rattle.pb_game_of_trees.specs.Explored.{ModuleHasTrees, AreModuleRows, IsModuleGame};
-    ghost use Rattle.pb_report.specs.ModuleTexts.{IsAnswer};
+    ghost use Rattle.pb_report.specs.ModuleTexts.{IsModuleAnswer};
 
     /// What was found about a module whose game is solved and whose reached instances these are.
     pub fn of_solved(solved: &Solved, rows: &IndexedRows) -> Answer
         requires { (m : Contents) × ModuleHasTrees m × AreModuleRows m rows.now
             × IsModuleGame m rows.now solved.now.built }
         ensures { (m : Contents) → AreModuleRows m rows.now
-            → IsModuleGame m rows.now solved.now.built → IsAnswer m rows.now result }
+            → IsModuleGame m rows.now solved.now.built → IsModuleAnswer m rows.now result }
     {
         Answer {
             truth: solved.truth(),
@@ -53,7 +53,7 @@ pub(crate) fn write_answer<S: Sink>(writer: &mut TextWriter<'_, S>, truth: bool)
 }
 
 fn write_count<S: Sink>(writer: &mut TextWriter<'_, S>, label: &[u8], count: u32) -> Result<(), E02>
-    ensures { Sends (count_line label.now count) result S.Sink writer.old writer.new }
+    ensures { Sends (counted_line label.now count) result S.Sink writer.old writer.new }
 {
     writer.write(label)?;
     writer.write_number(count)?;

@@ -11,9 +11,9 @@ ghost use Rattle.pb_report.specs.InstanceName.{instance_name};
 ghost use Rattle.pb_report.specs.Delivery.{Delivers, is_failed};
 ghost use Rattle.pb_report.specs.Sending.{Sends};
 ghost use Rattle.pb_report.specs.EvidenceText.{truth_mark, place_mark, dependency_text};
-ghost use Rattle.pb_report.specs.EvidenceText.{cut_mark, line_end};
+ghost use Rattle.pb_report.specs.EvidenceText.{cut_mark, line_tail};
 ghost use Rattle.pb_report.specs.CallPlaces.{AreCallPlaces, placed_names};
-ghost use Rattle.pb_report.specs.ModuleLines.{line_at, lines_of};
+ghost use Rattle.pb_report.specs.ModuleLines.{evidence_line_at, lines_of};
 ghost use Rattle.pb_report.specs.ModuleEvidence.{IsExplanation, module_evidence_text};
 ghost use Rattle.pb_report.specs.ModuleTexts.{ForTrees};
 
@@ -135,7 +135,7 @@ fn write_line_end<S: Sink>(
 ) -> Result<(), E02>
     requires { (k : ℕ) → k < length basis.now.dependencies.now
         → slice_index basis.now.dependencies.now k < count_of (parameters verified.now) }
-    ensures { Sends (line_end truth (placed_names (instance_name verified.now)
+    ensures { Sends (line_tail truth (placed_names (instance_name verified.now)
         basis.now.dependencies.now basis.now.call_places.now) basis.now.cut)
         result S.Sink writer.old writer.new }
 {
@@ -157,7 +157,7 @@ fn write_line<S: Sink>(
     requires explanation { IsExplanation verified.now placed.now.explanation.now }
     ensures { (trees : ℕ → Tree) → AreTrees verified.now trees → (place : ℕ → ℕ → Option Place)
         → AreCallPlaces place placed.now.explanation.now.evidence placed.now.call_places.now
-        → Sends (line_at verified.now trees place placed.now.explanation.now.evidence k)
+        → Sends (evidence_line_at verified.now trees place placed.now.explanation.now.evidence k)
         result S.Sink writer.old writer.new }
 {
     let evidence = &placed.explanation.evidence;

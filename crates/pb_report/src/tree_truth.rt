@@ -17,7 +17,7 @@ use pb_trees::Token;
 use std::alloc::{AllocError, Global};
 
 /// An open bracket, with the truth of its operands so far: of all of them, or of any.
-#[derive(Clone, Copy, Debug, PartialEq, Eq)]
+#[derive(Clone, Copy)]
 pub(crate) enum Bracket {
     All(bool),
     Any(bool),

@@ -6,7 +6,7 @@ use Rattle.pb_trees.specs.declared.Token.{Token}
 use Rattle.pb_rows.specs.declared.rows.Entry.{Entry}
 use Rattle.pb_rows.specs.declared.rows.Parts.{Parts}
 use Rattle.pb_rows.specs.declared.index.Place.{Place}
-use Rattle.pb_rows.specs.Row.{Row, nothing}
+use Rattle.pb_rows.specs.Row.{TokenRow, nothing}
 use Rattle.pb_rows.specs.Entries.{AreInside, IsInside, IsListed, IsThere, entries_in, entry_there, listed_row, no_entry, row_at, row_there, rows_in, tokens_in}
 
 -- the parts of one of the lists
@@ -60,7 +60,7 @@ module _ (lists : List Parts) where
       ap (λ (ts : List Token). row_at ts (entry_there lists p).entry) at.tokens
       ∙ (ap (row_at (tokens_in at.parts)) (entry_is p there)
       ∙ (sym (get_or-map (row_at (tokens_in at.parts)) (entries_in at.parts) p.entry no_entry nothing (within p there))
-      ∙ sym (ap (λ (rs : List Row). slice_index_or rs p.entry nothing) at.rows)))
+      ∙ sym (ap (λ (rs : List TokenRow). slice_index_or rs p.entry nothing) at.rows)))
 
   pub all_listed : All AreInside lists → (index : List Place) → All (IsThere (map rows_in lists)) index
       → All (IsListed (map tokens_in lists)) (map (entry_there lists) index)

@@ -5,7 +5,7 @@ use Rattle.std.proofs.lemmas.Option.{slice_get_read, slice_get_within}
 use Rattle.pb_carriers.specs.Carrier.{tuple_count}
 use Rattle.pb_sorts.specs.declared.carrier.Carrier.{Carrier}
 use Rattle.pb_sorts.specs.Carrier.{values_of}
-use Rattle.pb_sorts.specs.Instance.{first_of, size_of, tuples_of}
+use Rattle.pb_sorts.specs.Instance.{first_of, size_of, tuple_count_at}
 use Rattle.pb_sorts.specs.Layout.{carriers_of, count_of, lists_of}
 use Rattle.pb_sorts.proofs.Places.{slice_get-mapped, map_length}
 use Rattle.pb_sorts.proofs.Numbers.{first_of-next, first_of-last, first_of-before}
@@ -15,7 +15,7 @@ pub slice_get-carriers_of : (equations : List (List Carrier)) (k : ℕ) (ps : Li
 slice_get-carriers_of equations k ps e = slice_get-mapped (λ (parameters : List Carrier). map values_of parameters) equations k ps e
 
 pub size_of-at : (equations : List (List Carrier)) (k : ℕ) (ps : List Carrier) → slice_get equations k ≡ Some ps → size_of (carriers_of equations) k ≡ tuple_count (map values_of ps)
-size_of-at equations k ps e = ap tuples_of (slice_get-carriers_of equations k ps e)
+size_of-at equations k ps e = ap tuple_count_at (slice_get-carriers_of equations k ps e)
 
 pub length-carriers_of : (equations : List (List Carrier)) → length (carriers_of equations) ≡ length equations
 length-carriers_of equations = map_length (λ (parameters : List Carrier). map values_of parameters) equations

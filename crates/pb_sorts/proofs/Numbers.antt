@@ -12,7 +12,7 @@ use Rattle.pb_sorts.specs.declared.carrier.Carrier.{Carrier}
 use Rattle.pb_sorts.specs.declared.carrier.Carrier.TheVariants as variants
 use Rattle.pb_sorts.specs.Carrier.{values_of}
 use Rattle.pb_sorts.specs.Layout.{carriers_of}
-use Rattle.pb_sorts.specs.Instance.{Instance, instances, instances_from, is_instance, is_tuple_of, first_of, size_of, tuples_of, owns_number, owns_instance, place_of, mixed_radix, mixed_radix_of, number_of}
+use Rattle.pb_sorts.specs.Instance.{Instance, instances, instances_from, is_instance, is_tuple_of, first_of, size_of, tuple_count_at, owns_number, owns_instance, carrier_place, mixed_radix, mixed_radix_of, number_of}
 use Rattle.pb_sorts.proofs.Places.{IsImage, map_cases}
 use Rattle.pb_sorts.proofs.Intervals.{slice_get-numbers_from, length-numbers_from}
 use Rattle.pb_sorts.proofs.TuplePlaces.{is_within-slice_get, HasTuplePlace, place-is_within, IsDistinct, AreDistinct, mixed_radix-slice_get}
@@ -73,15 +73,15 @@ cond_later false x y e = refl
 numbers_distinct : (low : ℤ) (n : ℕ) → IsDistinct (numbers_from low n)
 numbers_distinct low zero k v e = absurd (none-some v e)
 numbers_distinct low (suc n) zero v e =
-    sym (cond_first (int_eq low v) (1 + place_of (numbers_from (low +ℤ pos 1) n) v) 0 ((Decides-int_eq low v).1 (same_Some low v e)))
+    sym (cond_first (int_eq low v) (1 + carrier_place (numbers_from (low +ℤ pos 1) n) v) 0 ((Decides-int_eq low v).1 (same_Some low v e)))
 numbers_distinct low (suc n) (suc k) v e =
     let long : length (numbers_from (low +ℤ pos 1) n) ≡ n = length-numbers_from (low +ℤ pos 1) n in
     let inside : k < length (numbers_from (low +ℤ pos 1) n) = slice_get_within (numbers_from (low +ℤ pos 1) n) k v e in
     let here : slice_get (numbers_from (low +ℤ pos 1) n) k ≡ Some ((low +ℤ pos 1) +ℤ pos k) = slice_get-numbers_from (low +ℤ pos 1) n k (omega (arith, long, inside)) in
     let value : ((low +ℤ pos 1) +ℤ pos k) ≡ v = same_Some ((low +ℤ pos 1) +ℤ pos k) v (sym here ∙ e) in
-    let rest : k ≡ place_of (numbers_from (low +ℤ pos 1) n) v = numbers_distinct (low +ℤ pos 1) n k v e in
+    let rest : k ≡ carrier_place (numbers_from (low +ℤ pos 1) n) v = numbers_distinct (low +ℤ pos 1) n k v e in
     let other : int_eq low v ≡ true → ⊥ = λ h. absurd (apart low v k value ((Decides-int_eq low v).0 h)) in
-    ap suc rest ∙ (omega arith ∙ sym (cond_later (int_eq low v) (1 + place_of (numbers_from (low +ℤ pos 1) n) v) 0 other))
+    ap suc rest ∙ (omega arith ∙ sym (cond_later (int_eq low v) (1 + carrier_place (numbers_from (low +ℤ pos 1) n) v) 0 other))
   where
     apart : (low v : ℤ) (k : ℕ) → ((low +ℤ pos 1) +ℤ pos k) ≡ v → low ≡ v → ⊥
     apart low v k is same = omega (arith, ints, is, same)
@@ -162,7 +162,7 @@ owns_number-owns_instance css k n i below e =
     let p : IsPlaced 0 css n i = placed 0 css n i e in
     let same : i.equation ≡ p.place = omega (arith, p.equation) in
     let known : p.place < length css = slice_get_within css p.place p.carriers p.carriers_at in
-    let size : size_of css p.place ≡ tuple_count p.carriers = ap tuples_of p.carriers_at in
+    let size : size_of css p.place ≡ tuple_count p.carriers = ap tuple_count_at p.carriers_at in
     let short : p.tuple_place < tuple_count p.carriers = subst (λ (m : ℕ). p.tuple_place < m) (length-tuples p.carriers) (slice_get_within (tuples p.carriers) p.tuple_place i.values p.tuple_at) in
     in_block (first_of css k) (size_of css k) n i.equation k (is_instance css i) (is_instance-slice_get css n i e)
     (λ h. let at_k : first_of css p.place + size_of css p.place ≡ first_of css k + size_of css k = ap (λ (q : ℕ). first_of css q + size_of css q) (sym same ∙ h) in

@@ -6,7 +6,7 @@ use Rattle.std.proofs.lemmas.Option.{none-some, same_Some}
 use Rattle.std.proofs.lemmas.Bool.{and_from, and_parts, or_cases, or_right}
 use Rattle.pb_carriers.specs.Carrier.{Carrier, Value, Tuple, contains, is_within, tuples, tuple_count}
 use Rattle.pb_carriers.proofs.Tuples.{length-tuples}
-use Rattle.pb_sorts.specs.Instance.{place_of, mixed_radix}
+use Rattle.pb_sorts.specs.Instance.{carrier_place, mixed_radix}
 use Rattle.pb_sorts.proofs.Places.{IsFront, fronts_cases, slice_get-fronts}
 
 pub slice_get-tuples : (c : Carrier) (cs : List Carrier) (q r n : ℕ) (v : Value) (vs : Tuple)
@@ -58,9 +58,9 @@ place-is_within (c ∷ cs) (v ∷ vs) e =
 
 -- ---- the place by its formula
 
--- each value of the carrier stands at one place, the one that place_of gives
+-- each value of the carrier stands at one place, the one that carrier_place gives
 abbrev pub IsDistinct : Carrier → Type 0
-IsDistinct c = (k : ℕ) (v : Value) → slice_get c k ≡ Some v → k ≡ place_of c v
+IsDistinct c = (k : ℕ) (v : Value) → slice_get c k ≡ Some v → k ≡ carrier_place c v
 
 abbrev pub AreDistinct : List Carrier → Type 0
 AreDistinct [] = Unit {0}
@@ -71,10 +71,10 @@ mixed_radix-slice_get [] zero ws distinct e = refl
 mixed_radix-slice_get [] (suc n) ws distinct e = absurd (none-some ws e)
 mixed_radix-slice_get (c ∷ cs) n ws distinct e =
     let front : IsFront c (tuples cs) n ws = fronts_cases c (tuples cs) n ws e in
-    let first : front.value_place ≡ place_of c front.value = distinct.0 front.value_place front.value front.value_at in
+    let first : front.value_place ≡ carrier_place c front.value = distinct.0 front.value_place front.value front.value_at in
     let rest : front.rest_place ≡ mixed_radix cs front.rest = mixed_radix-slice_get cs front.rest_place front.rest distinct.1 front.rest_at in
     front.place
     ∙ (ap (λ (m : ℕ). front.value_place * m + front.rest_place) (length-tuples cs)
     ∙ (ap (λ (q : ℕ). q * tuple_count cs + front.rest_place) first
-    ∙ (ap (λ (r : ℕ). place_of c front.value * tuple_count cs + r) rest
+    ∙ (ap (λ (r : ℕ). carrier_place c front.value * tuple_count cs + r) rest
     ∙ ap (mixed_radix (c ∷ cs)) front.parts)))

@@ -40,12 +40,12 @@ abbrev pub first_of : List (List Carrier) → ℕ → ℕ
 first_of equations k = length (instances (take k equations))
 
 -- how many instances the equation at place k has
-abbrev pub tuples_of : Option (List Carrier) → ℕ
-tuples_of None = 0
-tuples_of (Some carriers) = tuple_count carriers
+abbrev pub tuple_count_at : Option (List Carrier) → ℕ
+tuple_count_at None = 0
+tuple_count_at (Some carriers) = tuple_count carriers
 
 abbrev pub size_of : List (List Carrier) → ℕ → ℕ
-size_of equations k = tuples_of (slice_get equations k)
+size_of equations k = tuple_count_at (slice_get equations k)
 
 -- whether the equation at place k has the number n, and whether it has the instance i
 abbrev pub owns_number : List (List Carrier) → ℕ → ℕ → Bool
@@ -57,13 +57,13 @@ owns_instance equations k i = (i.equation == k) && is_instance equations i
 
 -- ---- the number by its formula: mixed radix, the last parameter being the lowest digit
 
-abbrev pub place_of : Carrier → Value → ℕ
-place_of carrier value = position_or_len (λ u. int_eq u value) carrier
+abbrev pub carrier_place : Carrier → Value → ℕ
+carrier_place carrier value = position_or_len (λ u. int_eq u value) carrier
 
 abbrev pub mixed_radix : List Carrier → Tuple → ℕ
 mixed_radix [] values = 0
 mixed_radix (c ∷ cs) [] = 0
-mixed_radix (c ∷ cs) (v ∷ vs) = place_of c v * tuple_count cs + mixed_radix cs vs
+mixed_radix (c ∷ cs) (v ∷ vs) = carrier_place c v * tuple_count cs + mixed_radix cs vs
 
 abbrev pub mixed_radix_of : Option (List Carrier) → Tuple → ℕ
 mixed_radix_of None values = 0

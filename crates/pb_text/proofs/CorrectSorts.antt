@@ -19,7 +19,7 @@ use Rattle.pb_text_lexer.proofs.CorrectLeft.{unless_next-correct, extended-corre
 use Rattle.pb_text_terms.specs.Grammar.{Name}
 use Rattle.pb_text_terms.specs.Reading.{name}
 use Rattle.pb_text.specs.Grammar.{Plain, Recognised, Enumerator, SortBy, SortDecl, SortPart, SortParts}
-use Rattle.pb_text.specs.Reading.{is_question, is_bar, is_name, is_sort, plain, recognised, enumerator, enumerators, sort_by, sort, declaration, declarations, sort_part, some_sort_parts, sort_parts}
+use Rattle.pb_text.specs.Reading.{is_question, is_bar, is_name_kind, is_sort, plain, with_recogniser, enumerator, enumerators, sort_by, sort, declaration, declarations, sort_part, some_sort_parts, sort_parts}
 use Rattle.pb_text_terms.proofs.CorrectVariable.{name-correct}
 
 -- ---- tokens that begin something
@@ -83,7 +83,7 @@ plain-correct depth =
 recognised-starts : (d : ℕ) (x : EnumeratorForm) (s : State) (y : EnumeratorForm) (z : State) → Recognised x s y z → Passes is_question s.tokens
 recognised-starts d x s y z r = passes-kind k.Question s.tokens r.1.tokens r.0 r.2.0 r.2.1
 
-recognised-correct : (depth : ℕ) (x : EnumeratorForm) → Correct (Passes is_question) (recognised x) (λ d. Recognised x) (going never is_question) depth
+recognised-correct : (depth : ℕ) (x : EnumeratorForm) → Correct (Passes is_question) (with_recogniser x) (λ d. Recognised x) (going never is_question) depth
 recognised-correct depth x =
     unless_next-correct (λ d. Recognised x) never is_question depth (Passes is_question)
     (step.◌>>=◌ take_token (λ question. step.◌>>=◌ name (λ found. pure (record { name = x.name; recogniser = Some found }))))
@@ -98,7 +98,7 @@ enumerator-correct : (depth : ℕ) → Correct Always enumerator (λ d. Enumerat
 unfolding enumerator
 enumerator-correct depth =
     extended-correct (λ d. Plain) (λ x d. Recognised x) never is_question depth (λ k h. refl) recognised-starts
-    Always plain (plain-correct depth) recognised (λ x. (recognised-correct depth x).answers)
+    Always plain (plain-correct depth) with_recogniser (λ x. (recognised-correct depth x).answers)
 
 bar-apart : (kind : Kind) → is_bar kind ≡ true → going never is_question kind ≡ false
 unfolding same_kind
@@ -173,41 +173,41 @@ declaration-correct depth =
     then-plain (λ d. First SortBy) (λ sort d. Is (record { name = n; sort = sort })) never depth
     Always sort _ (sort-correct depth) (λ sort. is-correct (record { name = n; sort = sort }) depth)))
 
-declaration-starts : (d : ℕ) (s : State) (x : SortDeclarationForm) (z : State) → SortDecl s x z → Passes is_name s.tokens
+declaration-starts : (d : ℕ) (s : State) (x : SortDeclarationForm) (z : State) → SortDecl s x z → Passes is_name_kind s.tokens
 declaration-starts d s x z r = passes-kind k.Name s.tokens r.2.1.tokens r.2.0 r.2.2.0 r.2.2.1
 
-declarations-correct : (depth : ℕ) → Correct Always declarations (λ d. Listed SortDecl (Is {X = Unit {0}} tt)) (going never is_name) depth
-declarations-correct depth = many-correct (λ d. SortDecl) never is_name depth (λ k h. refl) declaration-starts (λ x. x ∷ []) (λ x u xs. x ∷ xs) declaration (declaration-correct depth)
+declarations-correct : (depth : ℕ) → Correct Always declarations (λ d. Listed SortDecl (Is {X = Unit {0}} tt)) (going never is_name_kind) depth
+declarations-correct depth = many-correct (λ d. SortDecl) never is_name_kind depth (λ k h. refl) declaration-starts (λ x. x ∷ []) (λ x u xs. x ∷ xs) declaration (declaration-correct depth)
 
-sort_part-correct : (depth : ℕ) → Correct Always sort_part (λ d. SortPart) (going never is_name) depth
+sort_part-correct : (depth : ℕ) → Correct Always sort_part (λ d. SortPart) (going never is_name_kind) depth
 unfolding sort_part
 sort_part-correct depth =
-    then-plain (λ d. One k.Sort) (λ word d. grammar.◌>>=◌ (Listed SortDecl (Is {X = Unit {0}} tt)) (λ found. Is found)) (going never is_name) depth
+    then-plain (λ d. One k.Sort) (λ word d. grammar.◌>>=◌ (Listed SortDecl (Is {X = Unit {0}} tt)) (λ found. Is found)) (going never is_name_kind) depth
     Always (expect k.Sort) _ (expect-correct k.Sort depth refl) (λ word.
-    then-correct (λ d. Listed SortDecl (Is {X = Unit {0}} tt)) (λ found d. Is found) (going never is_name) (going never is_name) depth
-    (λ d x m y z h over. subst (λ (v : State). Stops (going never is_name) v.tokens) h.1 over) Always declarations (λ found. pure found) (declarations-correct depth)
-    (λ found. pure-correct found (going never is_name) depth))
+    then-correct (λ d. Listed SortDecl (Is {X = Unit {0}} tt)) (λ found d. Is found) (going never is_name_kind) (going never is_name_kind) depth
+    (λ d x m y z h over. subst (λ (v : State). Stops (going never is_name_kind) v.tokens) h.1 over) Always declarations (λ found. pure found) (declarations-correct depth)
+    (λ found. pure-correct found (going never is_name_kind) depth))
 
 part-starts : (d : ℕ) (s : State) (x : List SortDeclarationForm) (z : State) → SortPart s x z → Passes is_sort s.tokens
 part-starts d s x z r = passes-kind k.Sort s.tokens r.1.tokens r.0 r.2.0 r.2.1
 
-sort-apart : (kind : Kind) → is_sort kind ≡ true → going never is_name kind ≡ false
+sort-apart : (kind : Kind) → is_sort kind ≡ true → going never is_name_kind kind ≡ false
 unfolding same_kind
-sort-apart kind h = subst (λ (v : Kind). going never is_name v ≡ false) (sym (kind-same kind k.Sort h)) refl
+sort-apart kind h = subst (λ (v : Kind). going never is_name_kind v ≡ false) (sym (kind-same kind k.Sort h)) refl
 
 abbrev pub parts_go : Kind → Bool
-parts_go = going (going never is_name) is_sort
+parts_go = going (going never is_name_kind) is_sort
 
 abbrev some_parts : Family (List SortDeclarationForm)
 some_parts d = Series SortPart (Is {X = Unit {0}} tt) (λ sorts. sorts) (λ sorts u rest. sorts ++ rest)
 
 some-parts-correct : (depth : ℕ) → Correct Always some_sort_parts some_parts parts_go depth
 some-parts-correct depth =
-    many-correct (λ d. SortPart) (going never is_name) is_sort depth sort-apart part-starts (λ sorts. sorts) (λ sorts u rest. sorts ++ rest) sort_part (sort_part-correct depth)
+    many-correct (λ d. SortPart) (going never is_name_kind) is_sort depth sort-apart part-starts (λ sorts. sorts) (λ sorts u rest. sorts ++ rest) sort_part (sort_part-correct depth)
 
 pub sort_parts-correct : (depth : ℕ) → Correct Always sort_parts (λ d. SortParts) parts_go depth
 sort_parts-correct depth =
-    extended-correct (λ d. Is []) (λ none d. some_parts d) (going never is_name) is_sort depth sort-apart
-    (λ d none s y z r. many-start (λ d. SortPart) (going never is_name) is_sort depth sort-apart part-starts (λ sorts. sorts) (λ sorts u rest. sorts ++ rest) d s y z r)
-    Always (unless_next is_name (pure [])) (unless_next-correct (λ d. Is []) never is_name depth Always (pure []) (is-correct [] depth))
+    extended-correct (λ d. Is []) (λ none d. some_parts d) (going never is_name_kind) is_sort depth sort-apart
+    (λ d none s y z r. many-start (λ d. SortPart) (going never is_name_kind) is_sort depth sort-apart part-starts (λ sorts. sorts) (λ sorts u rest. sorts ++ rest) d s y z r)
+    Always (unless_next is_name_kind (pure [])) (unless_next-correct (λ d. Is []) never is_name_kind depth Always (pure []) (is-correct [] depth))
     (λ none. some_sort_parts) (λ none. (anywhere (Passes is_sort) some_sort_parts some_parts parts_go depth (some-parts-correct depth)).answers)

@@ -9,7 +9,7 @@ use Rattle.pb_text_lexer.specs.declared.fault.Refusal.{Refusal}
 use Rattle.pb_text_lexer.specs.declared.kind.Kind.{Kind}
 use Rattle.pb_text_lexer.specs.declared.kind.Kind.TheVariants as k
 use Rattle.pb_text_lexer.specs.Kinds.{same_kind, is_last, is_limited}
-use Rattle.pb_text_lexer.specs.Grammar.{State, Within, going_on, Reads, Is, Nothing, One, First, Series, CountedApart}
+use Rattle.pb_text_lexer.specs.Grammar.{State, WithinLimits, going_on, Reads, Is, Nothing, One, First, Series, CountedApart}
 use Rattle.pb_text_lexer.specs.Grammar as grammar
 use Rattle.pb_text_lexer.specs.LeftGrammar.{Extended}
 use Rattle.pb_text_lexer.specs.Steps.{ends, Step, Outcome, and_then, pure, take_token, expect, refuse, refusal, kind, head_kind, alone, unless_next, nothing_between}
@@ -24,7 +24,7 @@ use Rattle.pb_text_lexer.proofs.CorrectLeft.{unless_next-answers, extended-corre
 use Rattle.pb_text_terms.specs.Grammar.{Name, Variables, Instance, IsTerm}
 use Rattle.pb_text_terms.specs.Reading.{name, variables, is_open, is_comma}
 use Rattle.pb_text_terms.specs.Reading as expressions
-use Rattle.pb_text.specs.Grammar.{IsFormula, SortParts, SignOf, Declared, IsEquation, Equations, IsInitial, IsSpec, IsText}
+use Rattle.pb_text.specs.Grammar.{IsFormula, SortParts, SignOf, Declared, IsEquation, Equations, IsInitialInstance, IsSpec, IsText}
 use Rattle.pb_text.specs.Parsing.{BeginsText, StaysWithin}
 use Rattle.pb_text.specs.Reading.{level, sign_by, sign_of, declared, parameters, right_side, equation, begins_equation, equations, initial_instance, sort_parts, text, whole_text}
 use Rattle.pb_text_terms.proofs.CorrectVariable.{head-kind-is, name-correct, variables-correct}
@@ -41,7 +41,7 @@ pub record IsFault (depth operators : ℕ) (tokens : List Tok) (bad : Refusal) :
   pub kind : bad.kind ≡ next.kind
   pub place : bad.place ≡ next.place
   pub limited : bad.rule ≡ Limit → is_limited next.kind ≡ true
-  pub none : (d n : ℕ) (tail : List Tok) (ranges : List RangeForm) (y : SpecForm) → Within bad.rule depth operators d n → IsText d n (front ++ next ∷ tail) ranges y → ⊥
+  pub none : (d n : ℕ) (tail : List Tok) (ranges : List RangeForm) (y : SpecForm) → WithinLimits bad.rule depth operators d n → IsText d n (front ++ next ∷ tail) ranges y → ⊥
   pub goes_on : BeginsText (suc depth) (suc operators) (front ++ going_on bad.rule next)
   pub first : StaysWithin depth operators front
 
@@ -184,19 +184,19 @@ equations-correct depth =
 
 -- ---- the initial instance
 
-to-initial : (d : ℕ) (s : State) (y : InstanceForm) (z : State) → Instance (deeper IsTerm d) s y z → IsInitial d s y z
+to-initial : (d : ℕ) (s : State) (y : InstanceForm) (z : State) → Instance (deeper IsTerm d) s y z → IsInitialInstance d s y z
 to-initial zero s y z r = r
 to-initial (suc d) s y z r = r
 
-from-initial : (d : ℕ) (s : State) (y : InstanceForm) (z : State) → IsInitial d s y z → Instance (deeper IsTerm d) s y z
+from-initial : (d : ℕ) (s : State) (y : InstanceForm) (z : State) → IsInitialInstance d s y z → Instance (deeper IsTerm d) s y z
 from-initial zero s y z r = r
 from-initial (suc d) s y z r = r
 
-initial-correct : (depth : ℕ) → Correct Always (initial_instance depth) (λ d. CountedApart (IsInitial d)) node_goes depth
+initial-correct : (depth : ℕ) → Correct Always (initial_instance depth) (λ d. CountedApart (IsInitialInstance d)) node_goes depth
 unfolding initial_instance
 initial-correct depth =
-    own-correct Always (expressions.instance depth) IsInitial node_goes depth
-    (alike-correct Always (expressions.instance depth) (λ d. Instance (deeper IsTerm d)) IsInitial node_goes depth to-initial from-initial (instance-correct depth))
+    own-correct Always (expressions.instance depth) IsInitialInstance node_goes depth
+    (alike-correct Always (expressions.instance depth) (λ d. Instance (deeper IsTerm d)) IsInitialInstance node_goes depth to-initial from-initial (instance-correct depth))
 
 -- ---- the whole text
 
@@ -216,15 +216,15 @@ module _ (ranges : List RangeForm) (depth : ℕ) where
   text-correct : Correct Always (text ranges depth) (IsSpec ranges) never depth
   unfolding text
   text-correct =
-      then-correct (λ d. SortParts) (λ sorts d. grammar.◌>>=◌ (One k.Pbes) (λ pbes. grammar.◌>>=◌ (Equations d) (λ found. grammar.◌>>=◌ (One k.Init) (λ init. grammar.◌>>=◌ (CountedApart (IsInitial d)) (λ initial. grammar.◌>>=◌ (One k.Semicolon) (λ semicolon. Is (record { sorts = sorts; ranges = ranges; equations = found; initial = initial }))))))) parts_go never depth
+      then-correct (λ d. SortParts) (λ sorts d. grammar.◌>>=◌ (One k.Pbes) (λ pbes. grammar.◌>>=◌ (Equations d) (λ found. grammar.◌>>=◌ (One k.Init) (λ init. grammar.◌>>=◌ (CountedApart (IsInitialInstance d)) (λ initial. grammar.◌>>=◌ (One k.Semicolon) (λ semicolon. Is (record { sorts = sorts; ranges = ranges; equations = found; initial = initial }))))))) parts_go never depth
       (λ d x m y z r over. other-stops parts_go k.Pbes m.tokens r.1.tokens r.0 pbes-stops r.2.0 r.2.1) Always sort_parts _ (sort_parts-correct depth) (λ sorts. anywhere (Stops parts_go) _ _ never depth (
-      then-plain (λ d. One k.Pbes) (λ pbes d. grammar.◌>>=◌ (Equations d) (λ found. grammar.◌>>=◌ (One k.Init) (λ init. grammar.◌>>=◌ (CountedApart (IsInitial d)) (λ initial. grammar.◌>>=◌ (One k.Semicolon) (λ semicolon. Is (record { sorts = sorts; ranges = ranges; equations = found; initial = initial })))))) never depth
+      then-plain (λ d. One k.Pbes) (λ pbes d. grammar.◌>>=◌ (Equations d) (λ found. grammar.◌>>=◌ (One k.Init) (λ init. grammar.◌>>=◌ (CountedApart (IsInitialInstance d)) (λ initial. grammar.◌>>=◌ (One k.Semicolon) (λ semicolon. Is (record { sorts = sorts; ranges = ranges; equations = found; initial = initial })))))) never depth
       Always (expect k.Pbes) _ (expect-correct k.Pbes depth refl) (λ pbes.
-      then-correct Equations (λ found d. grammar.◌>>=◌ (One k.Init) (λ init. grammar.◌>>=◌ (CountedApart (IsInitial d)) (λ initial. grammar.◌>>=◌ (One k.Semicolon) (λ semicolon. Is (record { sorts = sorts; ranges = ranges; equations = found; initial = initial }))))) (going never begins_equation) never depth
+      then-correct Equations (λ found d. grammar.◌>>=◌ (One k.Init) (λ init. grammar.◌>>=◌ (CountedApart (IsInitialInstance d)) (λ initial. grammar.◌>>=◌ (One k.Semicolon) (λ semicolon. Is (record { sorts = sorts; ranges = ranges; equations = found; initial = initial }))))) (going never begins_equation) never depth
       (λ d x m y z r over. other-stops (going never begins_equation) k.Init m.tokens r.1.tokens r.0 init-stops r.2.0 r.2.1) Always (equations depth) _ (equations-correct depth) (λ found. anywhere (Stops (going never begins_equation)) _ _ never depth (
-      then-plain (λ d. One k.Init) (λ init d. grammar.◌>>=◌ (CountedApart (IsInitial d)) (λ initial. grammar.◌>>=◌ (One k.Semicolon) (λ semicolon. Is (record { sorts = sorts; ranges = ranges; equations = found; initial = initial })))) never depth
+      then-plain (λ d. One k.Init) (λ init d. grammar.◌>>=◌ (CountedApart (IsInitialInstance d)) (λ initial. grammar.◌>>=◌ (One k.Semicolon) (λ semicolon. Is (record { sorts = sorts; ranges = ranges; equations = found; initial = initial })))) never depth
       Always (expect k.Init) _ (expect-correct k.Init depth refl) (λ init.
-      then-correct (λ d. CountedApart (IsInitial d)) (λ initial d. grammar.◌>>=◌ (One k.Semicolon) (λ semicolon. Is (record { sorts = sorts; ranges = ranges; equations = found; initial = initial }))) node_goes never depth
+      then-correct (λ d. CountedApart (IsInitialInstance d)) (λ initial d. grammar.◌>>=◌ (One k.Semicolon) (λ semicolon. Is (record { sorts = sorts; ranges = ranges; equations = found; initial = initial }))) node_goes never depth
       (λ d x m y z r over. other-stops node_goes k.Semicolon m.tokens r.1.tokens r.0 end-stops r.2.0 r.2.1) Always (initial_instance depth) _ (initial-correct depth)
       (λ initial. anywhere (Stops node_goes) _ _ never depth (token-correct k.Semicolon depth (record { sorts = sorts; ranges = ranges; equations = found; initial = initial }) refl))))))))
 

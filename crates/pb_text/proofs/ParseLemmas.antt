@@ -16,7 +16,7 @@ use Rattle.pb_text_lexer.specs.declared.language.Language.TheVariants.{Text}
 use Rattle.pb_text_lexer.specs.Kinds.{is_defect, is_limited}
 use Rattle.pb_text_lexer.specs.Lexing.{start, IsDefect}
 use Rattle.pb_text_lexer.specs.Remaining.{tokens_from, ranges_from}
-use Rattle.pb_text_lexer.specs.Grammar.{State, Within, going_on}
+use Rattle.pb_text_lexer.specs.Grammar.{State, WithinLimits, going_on}
 use Rattle.pb_text_lexer.specs.Steps.{Outcome, Gives}
 use Rattle.pb_text_lexer.specs.Tokens.{Tok}
 use Rattle.pb_text_lexer.proofs.Correct.{st}
@@ -47,7 +47,7 @@ of-cut bytes d n y h =
 pub only-reading : (bytes : List ℕ) (x : SpecForm) → IsRead depth_limit operator_limit (all_tokens bytes) (all_ranges bytes) x → (d n : ℕ) (y : SpecForm) → IsReadingWithin d n bytes y → y ≡ x
 only-reading bytes x r d n y h = r.only d n y (of-cut bytes d n y h)
 
-within-these : (rule : ReadingRule) (d n : ℕ) → Within rule d n d n
+within-these : (rule : ReadingRule) (d n : ℕ) → WithinLimits rule d n d n
 within-these Unexpected d n = tt
 within-these Limit d n = (omega arith, omega arith)
 
@@ -61,7 +61,7 @@ at_most_one bytes d n e m x y hx hy = by (whole_text (all_ranges bytes) d (st (a
         absurd (f.none d n f.more (all_ranges bytes) x (within-these bad.rule d n)
         (subst (λ (v : List Tok). IsText d n v (all_ranges bytes) x) f.cut (of-cut bytes d n x hx)))
 
-within-self : (rule : ReadingRule) → Within rule depth_limit operator_limit depth_limit operator_limit
+within-self : (rule : ReadingRule) → WithinLimits rule depth_limit operator_limit depth_limit operator_limit
 within-self Unexpected = tt
 within-self Limit = (omega arith, omega arith)
 

@@ -8,7 +8,7 @@ use Rattle.pb_text_lexer.specs.declared.fault.Refusal.{Refusal}
 use Rattle.pb_text_lexer.specs.declared.fault.ReadingRule.TheVariants.{Unexpected}
 use Rattle.pb_text_lexer.specs.Grammar.{State}
 use Rattle.pb_text_lexer.specs.Steps.{Step, Outcome, and_then, ◌>>=◌, pure, kind, refusal, series, extended, nothing_between}
-use Rattle.pb_text.specs.Reading.{is_name, is_sort, sort_part, some_sort_parts, sort_parts}
+use Rattle.pb_text.specs.Reading.{is_name_kind, is_sort, sort_part, some_sort_parts, sort_parts}
 
 abbrev parts_from : ℕ → Step (List SortDeclarationForm)
 parts_from = series sort_part is_sort nothing_between (λ sorts. sorts) (λ sorts u rest. sorts ++ rest)
@@ -27,11 +27,11 @@ same-at : (s : State) (b : Bool) → cond b some_sort_parts (pure []) s ≡ cond
 same-at s true = refl
 same-at s false = refl
 
-pub kept-none : (s : State) → is_name (kind s) ≡ false → sort_parts s ≡ kept [] (suc (length s.tokens)) s
+pub kept-none : (s : State) → is_name_kind (kind s) ≡ false → sort_parts s ≡ kept [] (suc (length s.tokens)) s
 kept-none s other = rw other (same-at s (is_sort (kind s)) ∙ none-in-front (still (suc (length s.tokens)) s))
 
 -- a declaration without a part
-pub parts-refused : (s : State) → is_name (kind s) ≡ true → sort_parts s ≡ Err (refusal Unexpected s.tokens)
+pub parts-refused : (s : State) → is_name_kind (kind s) ≡ true → sort_parts s ≡ Err (refusal Unexpected s.tokens)
 parts-refused s same = rw same refl
 
 -- no part more

@@ -147,9 +147,9 @@ abbrev pub Equations : ℕ → Reads (List EquationForm)
 Equations depth = Listed (IsEquation depth) (Is {X = Unit {0}} tt)
 
 -- the instance that is asked for, its arguments in brackets, which open a level
-abbrev pub IsInitial : ℕ → Reads InstanceForm
-IsInitial zero = Instance Nothing
-IsInitial (suc depth) = Instance (IsTerm depth)
+abbrev pub IsInitialInstance : ℕ → Reads InstanceForm
+IsInitialInstance zero = Instance Nothing
+IsInitialInstance (suc depth) = Instance (IsTerm depth)
 
 -- The ranges are those of the text's range lines, which stand among the tokens as white space.
 abbrev pub IsSpec : List RangeForm → ℕ → Reads SpecForm
@@ -158,7 +158,7 @@ IsSpec ranges depth = do
   pbes ← One k.Pbes
   equations ← Equations depth
   init ← One k.Init
-  initial ← CountedApart (IsInitial depth)
+  initial ← CountedApart (IsInitialInstance depth)
   semicolon ← One k.Semicolon
   Is (record { sorts = sorts; ranges = ranges; equations = equations; initial = initial })
 

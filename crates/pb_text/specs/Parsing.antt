@@ -7,7 +7,7 @@ use Rattle.pb_text_lexer.specs.declared.fault.ReadingRule as token_rule
 use Rattle.pb_text_lexer.specs.declared.fault.Refusal.{Refusal}
 use Rattle.pb_text_lexer.specs.declared.kind.Kind.{Kind}
 use Rattle.pb_text_lexer.specs.declared.kind.Kind.TheVariants as k
-use Rattle.pb_text_lexer.specs.Grammar.{Within, going_on}
+use Rattle.pb_text_lexer.specs.Grammar.{WithinLimits, going_on}
 use Rattle.pb_text_lexer.specs.Kinds.{is_limited}
 use Rattle.pb_text_lexer.specs.Lexing.{IsCut, IsDefect, Begins}
 use Rattle.pb_text_lexer.specs.Tokens.{Tok}
@@ -75,7 +75,8 @@ pub record IsRefusal (bytes : List ℕ) (broken : token_rule.ReadingRule)
   pub stands : next.place ≡ place
   pub limited : broken ≡ refused.Limit → is_limited next.kind ≡ true
   pub none : (d n : ℕ) (tail : List Tok) (ranges : List RangeForm) (x : SpecForm)
-      → Within broken depth_limit operator_limit d n → IsText d n (front ++ next ∷ tail) ranges x
+      → WithinLimits broken depth_limit operator_limit d n
+      → IsText d n (front ++ next ∷ tail) ranges x
       → ⊥
   pub goes_on : BeginsNextText (front ++ going_on broken next)
   pub first : StaysWithin depth_limit operator_limit front

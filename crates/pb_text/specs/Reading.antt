@@ -22,8 +22,8 @@ is_question kind = same_kind kind k.Question
 abbrev pub is_bar : Kind → Bool
 is_bar kind = same_kind kind k.Bar
 
-abbrev pub is_name : Kind → Bool
-is_name kind = same_kind kind k.Name
+abbrev pub is_name_kind : Kind → Bool
+is_name_kind kind = same_kind kind k.Name
 
 abbrev pub is_sort : Kind → Bool
 is_sort kind = same_kind kind k.Sort
@@ -125,14 +125,14 @@ plain = do
   found ← name
   pure (record { name = found; recogniser = None })
 
-abbrev pub recognised : EnumeratorForm → Step EnumeratorForm
-recognised x = unless_next is_question (do
+abbrev pub with_recogniser : EnumeratorForm → Step EnumeratorForm
+with_recogniser x = unless_next is_question (do
   question ← take_token
   found ← name
   pure (record { name = x.name; recogniser = Some found }))
 
 unfoldable pub enumerator : Step EnumeratorForm
-enumerator = extended is_question plain recognised
+enumerator = extended is_question plain with_recogniser
 
 abbrev pub enumerators : Step (List EnumeratorForm)
 enumerators = λ s. listed enumerator is_bar take_token (suc (length s.tokens)) s
@@ -160,7 +160,7 @@ declaration = do
   pure (record { name = found; sort = its_sort })
 
 abbrev pub declarations : Step (List SortDeclarationForm)
-declarations = λ s. listed declaration is_name nothing_between (suc (length s.tokens)) s
+declarations = λ s. listed declaration is_name_kind nothing_between (suc (length s.tokens)) s
 
 unfoldable pub sort_part : Step (List SortDeclarationForm)
 sort_part = do
@@ -175,7 +175,7 @@ some_sort_parts =
 
 -- where no part begins, no declaration of one does
 abbrev pub sort_parts : Step (List SortDeclarationForm)
-sort_parts = extended is_sort (unless_next is_name (pure [])) (λ none. some_sort_parts)
+sort_parts = extended is_sort (unless_next is_name_kind (pure [])) (λ none. some_sort_parts)
 
 -- ---- equations and texts
 

@@ -9,7 +9,7 @@ use Rattle.pb_text_lexer.specs.declared.fault.Refusal.{Refusal}
 use Rattle.pb_text_lexer.specs.Kinds.{same_kind, is_last, is_limited}
 use Rattle.pb_text_lexer.specs.Lexing.{start}
 use Rattle.pb_text_lexer.specs.Tokens.{Tok, token_at}
-use Rattle.pb_text_lexer.specs.Grammar.{State, Within, going_on, Reads, Is, Nothing, One, Operator, First, by_first}
+use Rattle.pb_text_lexer.specs.Grammar.{State, WithinLimits, going_on, Reads, Is, Nothing, One, Operator, First, by_first}
 use Rattle.pb_text_lexer.specs.Grammar as grammar
 use Rattle.pb_text_lexer.specs.Steps.{ends, head_kind, Step, Outcome, and_then, pure, peek, take_token, take_from, take_operator, expect, refuse, refusal, kind}
 use Rattle.pb_text_lexer.specs.Steps as step
@@ -79,7 +79,7 @@ pub record Refused {X : Type 0} (fam : Family X) (g : Kind → Bool) (depth : �
   pub kind : bad.kind ≡ next.kind
   pub place : bad.place ≡ next.place
   pub limited : bad.rule ≡ Limit → is_limited next.kind ≡ true
-  pub none : (d n : ℕ) (tail : List Tok) (y : X) (w : State) → Within bad.rule depth s.operators d n
+  pub none : (d n : ℕ) (tail : List Tok) (y : X) (w : State) → WithinLimits bad.rule depth s.operators d n
       → fam d (st (front ++ next ∷ tail) n) y w → Stops g w.tokens → ⊥
   pub goes_on : GoesOn fam (suc depth) (suc s.operators) (front ++ going_on bad.rule next)
   pub first : Reaches fam depth s.operators front
@@ -108,7 +108,7 @@ pub same-head : (g : Kind → Bool) (front : List Tok) (t : Tok) (a b ts : List 
 same-head g [] t a b ts e h = subst (λ (v : List Tok). Stops g v) e h
 same-head g (f ∷ fs) t a b ts e h = subst (λ (v : List Tok). Stops g v) e h
 
-pub within-less : (rule : ReadingRule) (depth d n m used a b : ℕ) → n ≡ used + m → a ≡ used + b → Within rule depth a d n → Within rule depth b d m
+pub within-less : (rule : ReadingRule) (depth d n m used a b : ℕ) → n ≡ used + m → a ≡ used + b → WithinLimits rule depth a d n → WithinLimits rule depth b d m
 within-less Unexpected depth d n m used a b p q h = tt
 within-less Limit depth d n m used a b p q h = (h.0, omega arith)
 
@@ -291,16 +291,16 @@ module _ {X Y : Type 0} (famR : Family X) (famS : X → Family Y) (g h : Kind �
   then-tokens s m x bad a b = a.tokens ∙ ap (λ v. a.front ++ v) b.tokens ∙ sym (append_assoc a.front b.front (b.next ∷ b.more))
 
   pub then-none : (s m : State) (x : X) (bad : Refusal) (a : Took famR g depth s x m) (b : Refused (famS x) h depth m bad) (d n : ℕ) (tail : List Tok) (v : Y) (w : State)
-      → Within bad.rule depth s.operators d n → both d (st ((a.front ++ b.front) ++ b.next ∷ tail) n) v w → Stops h w.tokens → ⊥
+      → WithinLimits bad.rule depth s.operators d n → both d (st ((a.front ++ b.front) ++ b.next ∷ tail) n) v w → Stops h w.tokens → ⊥
   then-none s m x bad a b d n tail v w within r over = none d n tail v w within (move (both d) _ _ _ _ v w (append_assoc a.front b.front (b.next ∷ tail)) refl r) over
     where
-      last : (d n : ℕ) (tail : List Tok) (v : Y) (w m' : State) (x' : X) → Within bad.rule depth s.operators d n → Stops h w.tokens
+      last : (d n : ℕ) (tail : List Tok) (v : Y) (w m' : State) (x' : X) → WithinLimits bad.rule depth s.operators d n → Stops h w.tokens
           → (x' ≡ x) → (m'.tokens ≡ b.front ++ b.next ∷ tail) → (n ≡ a.used + m'.operators) → famS x' d m' v w → ⊥
       last d n tail v w m' x' within over same at count r =
           b.none d m'.operators tail v w (within-less bad.rule depth d n m'.operators a.used s.operators m.operators count a.operators within)
           (move (famS x d) m'.tokens _ _ _ v w at refl (subst (λ (u : X). famS u d m' v w) same r)) over
 
-      none : (d n : ℕ) (tail : List Tok) (v : Y) (w : State) → Within bad.rule depth s.operators d n
+      none : (d n : ℕ) (tail : List Tok) (v : Y) (w : State) → WithinLimits bad.rule depth s.operators d n
           → both d (st (a.front ++ (b.front ++ b.next ∷ tail)) n) v w → Stops h w.tokens → ⊥
       none d n tail v w within r over =
           let found = a.only d n (b.front ++ b.next ∷ tail) r.0 r.1 (same-head g b.front b.next b.more tail m.tokens b.tokens a.stops) r.2 (follow d r.0 r.1 v w r.3 over) in
@@ -395,14 +395,14 @@ pub unlike : Unexpected ≡ Limit → ⊥
 unlike e = cc
 
 pub refused-here : {X : Type 0} (fam : Family X) (g : Kind → Bool) (depth : ℕ) (s : State) (rule : ReadingRule) → ends s.tokens ≡ true → (rule ≡ Limit → is_limited (head_kind s.tokens) ≡ true)
-    → ((d n : ℕ) (t : Tok) (tail : List Tok) (y : X) (w : State) → t.kind ≡ head_kind s.tokens → Within rule depth s.operators d n
+    → ((d n : ℕ) (t : Tok) (tail : List Tok) (y : X) (w : State) → t.kind ≡ head_kind s.tokens → WithinLimits rule depth s.operators d n
     → fam d (st (t ∷ tail) n) y w → Stops g w.tokens → ⊥)
     → ((t : Tok) → t.kind ≡ head_kind s.tokens → GoesOn fam (suc depth) (suc s.operators) (going_on rule t))
     → Refused fam g depth s (refusal rule s.tokens)
 refused-here {X} fam g depth s rule end limited none goes = go s.tokens end limited none goes
   where
     go : (ts : List Tok) → ends ts ≡ true → (rule ≡ Limit → is_limited (head_kind ts) ≡ true)
-        → ((d n : ℕ) (t : Tok) (tail : List Tok) (y : X) (w : State) → t.kind ≡ head_kind ts → Within rule depth s.operators d n
+        → ((d n : ℕ) (t : Tok) (tail : List Tok) (y : X) (w : State) → t.kind ≡ head_kind ts → WithinLimits rule depth s.operators d n
         → fam d (st (t ∷ tail) n) y w → Stops g w.tokens → ⊥)
         → ((t : Tok) → t.kind ≡ head_kind ts → GoesOn fam (suc depth) (suc s.operators) (going_on rule t))
         → Refused fam g depth (st ts s.operators) (refusal rule ts)

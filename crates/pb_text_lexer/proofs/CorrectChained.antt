@@ -7,7 +7,7 @@ use Rattle.pb_text_lexer.specs.declared.fault.ReadingRule.TheVariants.{Limit}
 use Rattle.pb_text_lexer.specs.declared.fault.Refusal.{Refusal}
 use Rattle.pb_text_lexer.specs.Kinds.{same_kind, is_last, is_limited}
 use Rattle.pb_text_lexer.specs.Tokens.{Tok}
-use Rattle.pb_text_lexer.specs.Grammar.{State, Within, going_on, Operator}
+use Rattle.pb_text_lexer.specs.Grammar.{State, WithinLimits, going_on, Operator}
 use Rattle.pb_text_lexer.specs.OpenGrammar.{Chained, last, more}
 use Rattle.pb_text_lexer.specs.Steps.{ends, head_kind, Step, Outcome, and_then, pure, take_operator, series, chain, kind}
 use Rattle.pb_text_lexer.specs.Steps as step
@@ -32,7 +32,7 @@ Only {X} fam W A front used x = (d n : ℕ) (after : List Tok) (y : X) (w : Stat
 
 -- There is no reading of a list that begins so.
 abbrev pub None : {X : Type 0} → Family X → (List Tok → Type 0) → ReadingRule → ℕ → ℕ → List Tok → Tok → Type 0
-None {X} fam W rule depth operators front next = (d n : ℕ) (tail : List Tok) (y : X) (w : State) → Within rule depth operators d n
+None {X} fam W rule depth operators front next = (d n : ℕ) (tail : List Tok) (y : X) (w : State) → WithinLimits rule depth operators d n
     → fam d (st (front ++ next ∷ tail) n) y w → W w.tokens → ⊥
 
 -- what may follow instead of ts, where conn are all connectives

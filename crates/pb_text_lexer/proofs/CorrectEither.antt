@@ -7,7 +7,7 @@ use Rattle.pb_text_lexer.specs.declared.kind.Kind.TheVariants.{And, Or, Implies}
 use Rattle.pb_text_lexer.specs.declared.fault.Refusal.{Refusal}
 use Rattle.pb_text_lexer.specs.Kinds.{same_kind}
 use Rattle.pb_text_lexer.specs.Tokens.{Tok}
-use Rattle.pb_text_lexer.specs.Grammar.{State, Within, going_on}
+use Rattle.pb_text_lexer.specs.Grammar.{State, WithinLimits, going_on}
 use Rattle.pb_text_lexer.specs.OpenGrammar.{Either, Conjunction, Disjunction, Implication, Connected}
 use Rattle.pb_text_lexer.specs.Steps.{ends, head_kind, Step, Outcome, kind, either, conjunction, disjunction, connected}
 use Rattle.pb_text_lexer.proofs.Correct.{st, Family, Stops, free-to, goes-to, reaches-to, Took, Refused, Answers, Answering, Correct}
@@ -109,7 +109,7 @@ module _ {X : Type 0} (node quant : Family X) (g conn is_quant : Kind → Bool) 
       begins : (tail : List Tok) → Passes is_quant (a.front ++ a.next ∷ tail)
       begins tail = passes-is is_quant a.front a.next a.more tail s.tokens a.tokens head
 
-      at : (d n : ℕ) (tail : List Tok) (y : X) (w : State) → Within bad.rule depth s.operators d n → both d (st (a.front ++ a.next ∷ tail) n) y w → Stops conn w.tokens → ⊥
+      at : (d n : ℕ) (tail : List Tok) (y : X) (w : State) → WithinLimits bad.rule depth s.operators d n → both d (st (a.front ++ a.next ∷ tail) n) y w → Stops conn w.tokens → ⊥
       at d n tail y w inside (inl r) over = both-ways is_quant _ (begins tail) (node-starts d _ y w r)
       at d n tail y w inside (inr r) over = a.none d n tail y w inside r over
 
@@ -131,7 +131,7 @@ module _ {X : Type 0} (node quant : Family X) (g conn is_quant : Kind → Bool) 
       begins : (tail : List Tok) → Passes (Not is_quant) (a.front ++ a.next ∷ tail)
       begins tail = passes-is (Not is_quant) a.front a.next a.more tail s.tokens a.tokens head
 
-      at : (d n : ℕ) (tail : List Tok) (y : X) (w : State) → Within bad.rule depth s.operators d n → both d (st (a.front ++ a.next ∷ tail) n) y w → Stops g w.tokens → ⊥
+      at : (d n : ℕ) (tail : List Tok) (y : X) (w : State) → WithinLimits bad.rule depth s.operators d n → both d (st (a.front ++ a.next ∷ tail) n) y w → Stops g w.tokens → ⊥
       at d n tail y w inside (inl r) over = a.none d n tail y w inside r over
       at d n tail y w inside (inr r) over = both-ways is_quant _ (quant-starts d _ y w r) (begins tail)
 

@@ -6,7 +6,7 @@ use Rattle.pb_text_lexer.specs.declared.fault.ReadingRule.{ReadingRule}
 use Rattle.pb_text_lexer.specs.declared.fault.ReadingRule.TheVariants.{Unexpected, Limit}
 use Rattle.pb_text_lexer.specs.declared.fault.Refusal.{Refusal}
 use Rattle.pb_text_lexer.specs.Tokens.{Tok}
-use Rattle.pb_text_lexer.specs.Grammar.{State, Within, going_on, Reads, Nothing, First}
+use Rattle.pb_text_lexer.specs.Grammar.{State, WithinLimits, going_on, Reads, Nothing, First}
 use Rattle.pb_text_lexer.specs.Steps.{ends, head_kind, Step, Outcome, and_then, pure, peek, take_token, take_from, take_operator, expect, refuse, refusal, kind}
 use Rattle.pb_text_lexer.specs.Steps as step
 use Rattle.pb_text_lexer.proofs.Correct.{st, Family, Stops, Readable, Took, Refused, Answers, Answering, Correct, free-to, goes-to, goes-free, reaches-to, unlike, refused-here, HeadIs}
@@ -122,13 +122,13 @@ deeper-answers {X} P p fam g depth a s end pre = go (p s) (a s end pre)
     only front used x f zero n after y w stop r over = absurd r
     only front used x f (suc d) n after y w stop r over = f d n after y w stop r over
 
-    less : (rule : ReadingRule) (d n : ℕ) → Within rule (suc depth) s.operators (suc d) n → Within rule depth s.operators d n
+    less : (rule : ReadingRule) (d n : ℕ) → WithinLimits rule (suc depth) s.operators (suc d) n → WithinLimits rule depth s.operators d n
     less Unexpected d n w = tt
     less Limit d n w = let p = w.0 in (omega arith, w.1)
 
     none : (rule : ReadingRule) (front : List Tok) (next : Tok)
-        → ((d n : ℕ) (tail : List Tok) (y : X) (w : State) → Within rule depth s.operators d n → fam d (st (front ++ next ∷ tail) n) y w → Stops g w.tokens → ⊥)
-        → (d n : ℕ) (tail : List Tok) (y : X) (w : State) → Within rule (suc depth) s.operators d n → deeper fam d (st (front ++ next ∷ tail) n) y w → Stops g w.tokens → ⊥
+        → ((d n : ℕ) (tail : List Tok) (y : X) (w : State) → WithinLimits rule depth s.operators d n → fam d (st (front ++ next ∷ tail) n) y w → Stops g w.tokens → ⊥)
+        → (d n : ℕ) (tail : List Tok) (y : X) (w : State) → WithinLimits rule (suc depth) s.operators d n → deeper fam d (st (front ++ next ∷ tail) n) y w → Stops g w.tokens → ⊥
     none rule front next f zero n tail y w within r over = r
     none rule front next f (suc d) n tail y w within r over = f d n tail y w (less rule d n within) r over
 

@@ -5,7 +5,7 @@ use Rattle.pb_text_lexer.specs.declared.kind.Kind.{Kind}
 use Rattle.pb_text_lexer.specs.declared.fault.ReadingRule.TheVariants.{Unexpected}
 use Rattle.pb_text_lexer.specs.declared.fault.Refusal.{Refusal}
 use Rattle.pb_text_lexer.specs.Tokens.{Tok}
-use Rattle.pb_text_lexer.specs.Grammar.{State, Within, going_on, more}
+use Rattle.pb_text_lexer.specs.Grammar.{State, WithinLimits, going_on, more}
 use Rattle.pb_text_lexer.specs.Grammar as grammar
 use Rattle.pb_text_lexer.specs.OpenGrammar.{Either}
 use Rattle.pb_text_lexer.specs.LeftGrammar.{Extended}
@@ -160,7 +160,7 @@ module _ {X : Type 0} (item : Family X) (beyond : X → Family X) (g test : Kind
         (goes-then item beyond depth a.front before (t ∷ []) s.operators s1.operators x a.reads (b.first before behind t e lim)));
   }
     where
-      none : (d n : ℕ) (tail : List Tok) (v : X) (w : State) → Within bad.rule depth s.operators d n
+      none : (d n : ℕ) (tail : List Tok) (v : X) (w : State) → WithinLimits bad.rule depth s.operators d n
           → many d (st ((a.front ++ b.front) ++ b.next ∷ tail) n) v w → Stops (going g test) w.tokens → ⊥
       none d n tail v w within (inr r) over = then-none item beyond g (going g test) depth follow s s1 x bad a b d n tail v w within r over
       none d n tail v w within (inl r) over = not-alone s s1 x a d n (b.front ++ b.next ∷ tail) v w
@@ -181,7 +181,7 @@ module _ {X : Type 0} (item : Family X) (beyond : X → Family X) (g test : Kind
     first = reaches-to item many (λ v. v) depth depth s.operators (alone depth) a.front a.first;
   }
     where
-      none : (d n : ℕ) (tail : List Tok) (v : X) (w : State) → Within bad.rule depth s.operators d n
+      none : (d n : ℕ) (tail : List Tok) (v : X) (w : State) → WithinLimits bad.rule depth s.operators d n
           → many d (st (a.front ++ a.next ∷ tail) n) v w → Stops (going g test) w.tokens → ⊥
       none d n tail v w within (inl r) over = a.none d n tail v w within r (stops-less g test w.tokens over)
       none d n tail v w within (inr r) over = a.none d n tail r.0 r.1 within r.2 (follow d r.0 r.1 v w r.3 over)
@@ -297,7 +297,7 @@ module _ {X : Type 0} (fam other : Family X) (test test' g : Kind → Bool) (dep
     first = reaches-to fam one-of (λ v. v) depth depth s.operators (left depth) a.front a.first;
   }
     where
-      none : (d n : ℕ) (tail : List Tok) (y : X) (w : State) → Within bad.rule depth s.operators d n → one-of d (st (a.front ++ a.next ∷ tail) n) y w → Stops g w.tokens → ⊥
+      none : (d n : ℕ) (tail : List Tok) (y : X) (w : State) → WithinLimits bad.rule depth s.operators d n → one-of d (st (a.front ++ a.next ∷ tail) n) y w → Stops g w.tokens → ⊥
       none d n tail y w within (inl r) over = a.none d n tail y w within r over
       none d n tail y w within (inr r) over = not-both _ (passes-is test a.front a.next a.more tail s.tokens a.tokens head) (starts' d _ y w r)
 
@@ -315,7 +315,7 @@ module _ {X : Type 0} (fam other : Family X) (test test' g : Kind → Bool) (dep
     first = reaches-to other one-of (λ v. v) depth depth s.operators (right depth) a.front a.first;
   }
     where
-      none : (d n : ℕ) (tail : List Tok) (y : X) (w : State) → Within bad.rule depth s.operators d n → one-of d (st (a.front ++ a.next ∷ tail) n) y w → Stops g w.tokens → ⊥
+      none : (d n : ℕ) (tail : List Tok) (y : X) (w : State) → WithinLimits bad.rule depth s.operators d n → one-of d (st (a.front ++ a.next ∷ tail) n) y w → Stops g w.tokens → ⊥
       none d n tail y w within (inr r) over = a.none d n tail y w within r over
       none d n tail y w within (inl r) over = not-both _ (starts d _ y w r) (passes-is test' a.front a.next a.more tail s.tokens a.tokens head)
 

@@ -5,7 +5,7 @@ use Rattle.std.proofs.Math.Bool.{or-true}
 use Rattle.pb_text_lexer.specs.declared.kind.Kind.{Kind}
 use Rattle.pb_text_lexer.specs.declared.fault.Refusal.{Refusal}
 use Rattle.pb_text_lexer.specs.Tokens.{Tok}
-use Rattle.pb_text_lexer.specs.Grammar.{State, Within, going_on, Is, Series, last, more}
+use Rattle.pb_text_lexer.specs.Grammar.{State, WithinLimits, going_on, Is, Series, last, more}
 use Rattle.pb_text_lexer.specs.Grammar as grammar
 use Rattle.pb_text_lexer.specs.Steps.{ends, head_kind, Step, Outcome, and_then, pure, kind, series}
 use Rattle.pb_text_lexer.specs.Steps as step
@@ -148,7 +148,7 @@ module _ {X T Y : Type 0} (item : Family X) (between : Family T) (end : X → Y)
         (goes-then item behind depth a.front before (t ∷ []) s.operators s1.operators x a.reads (b.first before behind-it t e lim)));
   }
     where
-      none : (d n : ℕ) (tail : List Tok) (v : Y) (w : State) → Within bad.rule depth s.operators d n
+      none : (d n : ℕ) (tail : List Tok) (v : Y) (w : State) → WithinLimits bad.rule depth s.operators d n
           → single d (st ((a.front ++ b.front) ++ b.next ∷ tail) n) v w ⊎ longer d (st ((a.front ++ b.front) ++ b.next ∷ tail) n) v w → Stops (going g test) w.tokens → ⊥
       none d n tail v w within (inr r) over = then-none item behind g (going g test) depth follow s s1 x bad a b d n tail v w within r over
       none d n tail v w within (inl r) over = not-alone s s1 x a d n (b.front ++ b.next ∷ tail) v w
@@ -169,7 +169,7 @@ module _ {X T Y : Type 0} (item : Family X) (between : Family T) (end : X → Y)
     first = reaches-to item many end depth depth s.operators (λ s x z r. last r) a.front a.first;
   }
     where
-      none : (d n : ℕ) (tail : List Tok) (v : Y) (w : State) → Within bad.rule depth s.operators d n
+      none : (d n : ℕ) (tail : List Tok) (v : Y) (w : State) → WithinLimits bad.rule depth s.operators d n
           → single d (st (a.front ++ a.next ∷ tail) n) v w ⊎ longer d (st (a.front ++ a.next ∷ tail) n) v w → Stops (going g test) w.tokens → ⊥
       none d n tail v w within (inl r) over = a.none d n tail r.0 r.1 within r.2 (stops-less g test r.1.tokens (subst (λ (v : State). Stops (going g test) v.tokens) r.3.1 over))
       none d n tail v w within (inr r) over = a.none d n tail r.0 r.1 within r.2 (follow d r.0 r.1 v w r.3 over)

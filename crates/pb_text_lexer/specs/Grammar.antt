@@ -59,9 +59,9 @@ CountedApart R s x z =
 
 -- The limits that a refusal speaks of: any, or those that are at hand. So many levels may open, and
 -- so many operators come.
-abbrev pub Within : ReadingRule → ℕ → ℕ → ℕ → ℕ → Type 0
-Within Unexpected depth operators d n = Unit {0}
-Within Limit depth operators d n = (d ≤ depth) × (n ≤ operators)
+abbrev pub WithinLimits : ReadingRule → ℕ → ℕ → ℕ → ℕ → Type 0
+WithinLimits Unexpected depth operators d n = Unit {0}
+WithinLimits Limit depth operators d n = (d ≤ depth) × (n ≤ operators)
 
 -- At a refused token: the token with which, within some limits, a text goes on. Where a limit is
 -- exceeded it is that one.

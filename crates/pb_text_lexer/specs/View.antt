@@ -7,7 +7,7 @@ use Rattle.pb_text_lexer.specs.Remaining.{remaining, IsWithin, HasDigits, HasSpe
 abbrev pub state_of : Inside → State
 state_of i = record { tokens = remaining i.language i.lexer; operators = i.operators }
 
-abbrev pub IsReady : Inside → Type 0
-IsReady i =
+abbrev pub IsConsistent : Inside → Type 0
+IsConsistent i =
     IsWithin i.lexer.place i.lexer.rest.now × HasDigits i.lexer.token × HasSpelling i.lexer.token
     × IsAscii i.lexer.token.text.now

@@ -35,11 +35,11 @@ impl<'a> Model for Input<'a> {
 
     ghost Value = { State };
 
-    ghost use Rattle.pb_text_lexer.specs.View.{state_of, IsReady};
+    ghost use Rattle.pb_text_lexer.specs.View.{state_of, IsConsistent};
 
     ghost view = { state_of };
 
-    ghost invariant = { IsReady };
+    ghost invariant = { IsConsistent };
 }
 
 impl<'a> Input<'a> {

@@ -53,7 +53,6 @@ pub(crate) fn kind_among(table: &[(&str, Kind)], word: &[u8]) -> Kind
 }
 
 /// The kind of a word: that of a reserved word, or that of a name.
-#[tactic(auto, using(crate::proofs::WordLemmas::short_name, crate::proofs::WordLemmas::long_name), unfolding(crate::specs::Bytes::word_kind))]
 pub fn word_kind(word: &[u8]) -> Kind
     ensures { result ≡ spec.word_kind word.now }
 {

@@ -10,7 +10,7 @@ use Rattle.pb_text_lexer.specs.Grammar.{State, Reads, Is, One, First, last, more
 use Rattle.pb_text_lexer.specs.LeftGrammar.{Extended, Listed}
 use Rattle.pb_text_lexer.proofs.Correct.{st}
 use Rattle.pb_text_terms.specs.Grammar.{Variables}
-use Rattle.pb_text.specs.Grammar.{Enumerator, SortBy, SortDecl, SortParts, SignOf, Declared, IsEquation, IsInitial, IsText, IsFormula}
+use Rattle.pb_text.specs.Grammar.{Enumerator, SortBy, SortDecl, SortParts, SignOf, Declared, IsEquation, IsInitialInstance, IsText, IsFormula}
 use Rattle.pb_text_printer.specs.Unplaced.{unplaced_name, unplaced_variables, unplaced_formula, unplaced_instance, unplaced_enumerator, unplaced_sort, unplaced_declaration, unplaced_range, unplaced_equation, unplaced}
 use Rattle.pb_text_printer.specs.Words.{Spells, Word, word, last_of_line, close_word, variable_words, instance_words, formula_words, is_word, semicolon_word, sign_word, enumerator_words, enumerators_words, sort_words, declaration_words, parameter_words, equation_words, sorts_words, text_words}
 use Rattle.pb_text_printer.specs.Sayable.{Each, EachOf, list_operators, formula_operators, InstanceSayable, SortSayable, DeclarationSayable, ParametersSayable, EquationSayable, TextSayable}
@@ -220,9 +220,9 @@ equation-back a depth x h s r (t, m, e, i, y, (u, n, f, j, z, rest)) =
 
 -- ---- whole texts
 
-initial-back : (a depth : ℕ) (i : InstanceForm) → InstanceSayable i depth → list_operators i.arguments ≤ a → RestoresAt a (CountedApart (IsInitial depth)) unplaced_instance i (instance_words i)
-initial-back a zero i h le = own-back (IsInitial zero) unplaced_instance i (list_operators i.arguments) a (instance_words i) le (instance-back i.name i.arguments zero (arguments-back i.arguments) h)
-initial-back a (suc d) i h le = own-back (IsInitial (suc d)) unplaced_instance i (list_operators i.arguments) a (instance_words i) le (instance-back i.name i.arguments (suc d) (arguments-back i.arguments) h)
+initial-back : (a depth : ℕ) (i : InstanceForm) → InstanceSayable i depth → list_operators i.arguments ≤ a → RestoresAt a (CountedApart (IsInitialInstance depth)) unplaced_instance i (instance_words i)
+initial-back a zero i h le = own-back (IsInitialInstance zero) unplaced_instance i (list_operators i.arguments) a (instance_words i) le (instance-back i.name i.arguments zero (arguments-back i.arguments) h)
+initial-back a (suc d) i h le = own-back (IsInitialInstance (suc d)) unplaced_instance i (list_operators i.arguments) a (instance_words i) le (instance-back i.name i.arguments (suc d) (arguments-back i.arguments) h)
 
 some-equations : (a depth : ℕ) (xs : List EquationForm) → EachOf (EquationSayable depth a) xs → (s r : List Tok) → Spells (flat_map equation_words xs) s r
     → ListBack (IsEquation depth) unplaced_equation xs (st s a) (st r a)
@@ -237,7 +237,7 @@ record TailBack (depth : ℕ) (i : InstanceForm) (s z : State) : Type 0 where
   mid : State
   end : Tok
   init : One k.Init s word behind
-  reads : CountedApart (IsInitial depth) behind said mid
+  reads : CountedApart (IsInitialInstance depth) behind said mid
   closes : One k.Semicolon mid end z
   same : unplaced_instance said ≡ unplaced_instance i
 
@@ -248,7 +248,7 @@ tail-back a depth i h le s r (t, m, e, j, y, rest) = go (spells-split (instance_
     go : Split (instance_words i) (semicolon_word ∷ []) m r → TailBack depth i (st s a) (st r a)
     go cut = last-of cut.mid (initial-back a depth i h le m cut.mid cut.front) cut.back
       where
-        last-of : (mid : List Tok) → Back (CountedApart (IsInitial depth)) unplaced_instance i (st m a) (st mid a) → Spells (semicolon_word ∷ []) mid r → TailBack depth i (st s a) (st r a)
+        last-of : (mid : List Tok) → Back (CountedApart (IsInitialInstance depth)) unplaced_instance i (st m a) (st mid a) → Spells (semicolon_word ∷ []) mid r → TailBack depth i (st s a) (st r a)
         last-of mid g (u, n, f, l, z, end) = record {
           said = g.said;
           word = t;

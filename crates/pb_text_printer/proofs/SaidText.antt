@@ -9,7 +9,7 @@ use Rattle.pb_text_lexer.specs.Grammar.{State, Reads, Is, One, Series, last, mor
 use Rattle.pb_text_lexer.specs.LeftGrammar.{Extended, Listed}
 use Rattle.pb_text_lexer.proofs.Correct.{st}
 use Rattle.pb_text_terms.specs.Grammar.{IsTerm}
-use Rattle.pb_text.specs.Grammar.{Enumerator, SortBy, SortDecl, SortPart, SortParts, SignOf, Declared, IsEquation, IsInitial, IsSpec, IsText, IsFormula}
+use Rattle.pb_text.specs.Grammar.{Enumerator, SortBy, SortDecl, SortPart, SortParts, SignOf, Declared, IsEquation, IsInitialInstance, IsSpec, IsText, IsFormula}
 use Rattle.pb_text_printer.specs.Sayable.{Each, EachOf, IsName, AreVariables, list_operators, formula_operators, InstanceSayable, FormulaSayable, EnumeratorSayable, SortSayable, DeclarationSayable, ParametersSayable, EquationSayable, TextSayable}
 use Rattle.pb_text_printer.proofs.SaidLemmas.{Said, EachReadingIs, AreLexical, one-said, finish, first-said, each-of, total-none, listed-said, nothing-said, name-said, variables-said}
 use Rattle.pb_text_printer.proofs.SaidTerm.{instance-said, alone-said, term-said}
@@ -139,7 +139,7 @@ equation-said depth limit s z x l lex (sign, m, r, (n, o, q, (vs, w, p, (t, u, i
     finish (EquationSayable depth limit) (λ x. 0) (record { sign = sign; name = n; parameters = vs; right = right }) x s j z e.0 e.1
     (record { says = (b.says, c.says, h.says.0, h.says.1); rest = y.rest; count = omega arith })
 
-initial-said : (depth : ℕ) → EachReadingIs (IsInitial depth) (λ i. InstanceSayable i depth) (λ i. list_operators i.arguments)
+initial-said : (depth : ℕ) → EachReadingIs (IsInitialInstance depth) (λ i. InstanceSayable i depth) (λ i. list_operators i.arguments)
 initial-said zero = alone-said
 initial-said (suc d) = instance-said (IsTerm d) d (term-said d)
 
@@ -155,7 +155,7 @@ spec-said depth limit ranges s z x l lex (sorts, m, r, (t, o, q, (es, w, p, (u, 
     let d = one-said k.Init w n u c.rest i in
     let c' = c.count in let d' = d.count in
     let left' : n.operators ≡ limit = omega arith in
-    let h = own-said (IsInitial depth) (λ i. InstanceSayable i depth) (λ i. list_operators i.arguments) (initial-said depth) limit n v initial left' d.rest f in
+    let h = own-said (IsInitialInstance depth) (λ i. InstanceSayable i depth) (λ i. list_operators i.arguments) (initial-said depth) limit n v initial left' d.rest f in
     let y = one-said k.Semicolon v j end h.rest g in
     let h' = h.count in let y' = y.count in
     finish (TextSayable depth limit) (λ x. 0) (record { sorts = sorts; ranges = ranges; equations = es; initial = initial }) x s j z e.0 e.1

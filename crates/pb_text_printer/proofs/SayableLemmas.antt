@@ -4,7 +4,7 @@ use Rattle.std.proofs.lemmas.Bool.Decides.{nat_tests}
 use Rattle.pb_text_tree.specs.Form.{TermForm, ArgumentForms, no_arguments, argument, FormulaForm}
 use Rattle.pb_text_printer.specs.declared.level.Level.{Level}
 use Rattle.pb_text_printer.specs.declared.level.Level.TheVariants as level
-use Rattle.pb_text_printer.specs.Words.{rank, fits, comparison_level, arithmetic_level, needs_no_brackets, goes_on, formula_needs_no_brackets, connective_level, term_side, formula_side, comparison_side, arithmetic_side}
+use Rattle.pb_text_printer.specs.Words.{binding_strength, fits, comparison_level, arithmetic_level, needs_no_brackets, goes_on, formula_needs_no_brackets, connective_level, term_side, formula_side, comparison_side, arithmetic_side}
 use Rattle.pb_text_printer.specs.Sayable.{Opens, IsPut, IsSayable, AreSayable, MoreSayable, SomeSayable, FormulaSayable}
 
 -- ---- one level more
@@ -189,9 +189,9 @@ fits-more a b c h g = grind (arith, nat_tests)
 
 -- what stands at a level stands at a looser one
 pub looser : (x : TermForm) (l m : Level) (ends : Bool) → fits l m ≡ true → needs_no_brackets x l ends ≡ true → needs_no_brackets x m ends ≡ true
-looser (TermForm.connected c p x y) l m ends e h = fits-more (rank (connective_level c)) (rank l) (rank m) h e
-looser (TermForm.compared c p x y) l m ends e h = fits-more (rank (comparison_level c)) (rank l) (rank m) h e
-looser (TermForm.computed o p x y) l m ends e h = fits-more (rank (arithmetic_level o)) (rank l) (rank m) h e
+looser (TermForm.connected c p x y) l m ends e h = fits-more (binding_strength (connective_level c)) (binding_strength l) (binding_strength m) h e
+looser (TermForm.compared c p x y) l m ends e h = fits-more (binding_strength (comparison_level c)) (binding_strength l) (binding_strength m) h e
+looser (TermForm.computed o p x y) l m ends e h = fits-more (binding_strength (arithmetic_level o)) (binding_strength l) (binding_strength m) h e
 looser (TermForm.quantified q p vars x) l m ends e h = h
 looser (TermForm.constant p value) l m ends e h = h
 looser (TermForm.number p n) l m ends e h = h
@@ -201,7 +201,7 @@ looser (TermForm.negative p x) l m ends e h = h
 looser (TermForm.application f xs) l m ends e h = h
 
 pub formula-looser : (x : FormulaForm) (l m : Level) (ends : Bool) → fits l m ≡ true → formula_needs_no_brackets x l ends ≡ true → formula_needs_no_brackets x m ends ≡ true
-formula-looser (FormulaForm.connected c p x y) l m ends e h = fits-more (rank (connective_level c)) (rank l) (rank m) h e
+formula-looser (FormulaForm.connected c p x y) l m ends e h = fits-more (binding_strength (connective_level c)) (binding_strength l) (binding_strength m) h e
 formula-looser (FormulaForm.quantified q p vars x) l m ends e h = h
 formula-looser (FormulaForm.constant p value) l m ends e h = h
 formula-looser (FormulaForm.val p x) l m ends e h = h
@@ -213,9 +213,9 @@ fits-lowest n = grind (arith, nat_tests)
 
 -- where anything may stand, nothing needs brackets
 pub needs_no_brackets-whole : (x : TermForm) → needs_no_brackets x level.Implication true ≡ true
-needs_no_brackets-whole (TermForm.connected c p x y) = fits-lowest (rank (connective_level c))
-needs_no_brackets-whole (TermForm.compared c p x y) = fits-lowest (rank (comparison_level c))
-needs_no_brackets-whole (TermForm.computed o p x y) = fits-lowest (rank (arithmetic_level o))
+needs_no_brackets-whole (TermForm.connected c p x y) = fits-lowest (binding_strength (connective_level c))
+needs_no_brackets-whole (TermForm.compared c p x y) = fits-lowest (binding_strength (comparison_level c))
+needs_no_brackets-whole (TermForm.computed o p x y) = fits-lowest (binding_strength (arithmetic_level o))
 needs_no_brackets-whole (TermForm.quantified q p vars x) = refl
 needs_no_brackets-whole (TermForm.constant p value) = refl
 needs_no_brackets-whole (TermForm.number p n) = refl
@@ -225,7 +225,7 @@ needs_no_brackets-whole (TermForm.negative p x) = refl
 needs_no_brackets-whole (TermForm.application f xs) = refl
 
 pub formula-needs_no_brackets-whole : (x : FormulaForm) → formula_needs_no_brackets x level.Implication true ≡ true
-formula-needs_no_brackets-whole (FormulaForm.connected c p x y) = fits-lowest (rank (connective_level c))
+formula-needs_no_brackets-whole (FormulaForm.connected c p x y) = fits-lowest (binding_strength (connective_level c))
 formula-needs_no_brackets-whole (FormulaForm.quantified q p vars x) = refl
 formula-needs_no_brackets-whole (FormulaForm.constant p value) = refl
 formula-needs_no_brackets-whole (FormulaForm.val p x) = refl

@@ -19,7 +19,7 @@ use Rattle.pb_text_tree.proofs.FormLemmas.{term-application}
 use Rattle.pb_text_printer.specs.declared.level.Level.{Level}
 use Rattle.pb_text_printer.specs.declared.level.Position.{Position}
 use Rattle.pb_text_printer.specs.declared.level.RightEnd.TheVariants.{Closed}
-use Rattle.pb_text_printer.specs.Words.{Word, is_open, term_words, formula_words, list_words, name_word, connective_word, comparison_word, comparison_side, quantifier_word, variable_words, period_word}
+use Rattle.pb_text_printer.specs.Words.{Word, is_open_end, term_words, formula_words, list_words, name_word, connective_word, comparison_word, comparison_side, quantifier_word, variable_words, period_word}
 use Rattle.pb_text_printer.specs.Page.{Page, typed, after}
 use Rattle.pb_text_printer.specs.Parts.{placed_words, placed_formula}
 use Rattle.pb_text_printer.proofs.PageLemmas.{left}
@@ -29,14 +29,14 @@ pub infixed : (first second : List Word) (w : Word) (p q r : Page) → q ≡ aft
 infixed first second w p q r one two = ap (after second) two ∙ left first (w ∷ second) p q one
 
 pub placed : (x y : Term) (position wanted : Position) (p : Page) → x ≡ y → position ≡ wanted
-    → after (placed_words (term_form x) position.level (is_open position.right_end)) p ≡ after (placed_words (term_form y) wanted.level (is_open wanted.right_end)) p
+    → after (placed_words (term_form x) position.level (is_open_end position.right_end)) p ≡ after (placed_words (term_form y) wanted.level (is_open_end wanted.right_end)) p
 placed x y position wanted p same at =
-    ap (λ (v : Term). after (placed_words (term_form v) position.level (is_open position.right_end)) p) same ∙ ap (λ (v : Position). after (placed_words (term_form y) v.level (is_open v.right_end)) p) at
+    ap (λ (v : Term). after (placed_words (term_form v) position.level (is_open_end position.right_end)) p) same ∙ ap (λ (v : Position). after (placed_words (term_form y) v.level (is_open_end v.right_end)) p) at
 
 pub placed-formula : (x y : Formula) (position wanted : Position) (p : Page) → x ≡ y → position ≡ wanted
-    → after (placed_formula (formula_form x) position.level (is_open position.right_end)) p ≡ after (placed_formula (formula_form y) wanted.level (is_open wanted.right_end)) p
+    → after (placed_formula (formula_form x) position.level (is_open_end position.right_end)) p ≡ after (placed_formula (formula_form y) wanted.level (is_open_end wanted.right_end)) p
 placed-formula x y position wanted p same at =
-    ap (λ (v : Formula). after (placed_formula (formula_form v) position.level (is_open position.right_end)) p) same ∙ ap (λ (v : Position). after (placed_formula (formula_form y) v.level (is_open v.right_end)) p) at
+    ap (λ (v : Formula). after (placed_formula (formula_form v) position.level (is_open_end position.right_end)) p) same ∙ ap (λ (v : Position). after (placed_formula (formula_form y) v.level (is_open_end v.right_end)) p) at
 
 abbrev pub closed : Level → Position
 closed level = record { level = level; right_end = Closed }

@@ -45,8 +45,8 @@ closing kind text =
     record { kind = kind; text = text; spaced = false; gap = true; ends_line = false }
 
 -- close to what is behind it
-abbrev pub opening : Kind → List ℕ → Word
-opening kind text =
+abbrev pub opening_word : Kind → List ℕ → Word
+opening_word kind text =
     record { kind = kind; text = text; spaced = true; gap = false; ends_line = false }
 
 abbrev pub last_of_line : Word → Word
@@ -55,7 +55,7 @@ last_of_line w = record w { gap = false; ends_line = true }
 -- ---- words of their own
 
 abbrev pub open_word : Word
-open_word = opening k.Open (codes "(")
+open_word = opening_word k.Open (codes "(")
 
 -- the bracket of arguments and parameters, close to the name before it
 abbrev pub list_word : Word
@@ -74,10 +74,10 @@ abbrev pub period_word : Word
 period_word = closing k.Period (codes ".")
 
 abbrev pub not_word : Word
-not_word = opening k.Not (codes "!")
+not_word = opening_word k.Not (codes "!")
 
 abbrev pub minus_word : Word
-minus_word = opening k.Minus (codes "-")
+minus_word = opening_word k.Minus (codes "-")
 
 abbrev pub truth_word : Bool → Word
 truth_word true = word k.True (codes "true")
@@ -113,19 +113,19 @@ arithmetic_word arithmetic.Mod = word k.Mod (codes "mod")
 -- ---- levels
 
 -- how tightly a level binds
-abbrev pub rank : Level → ℕ
-rank level.Implication = 0
-rank level.Disjunction = 1
-rank level.Conjunction = 2
-rank level.Equality = 3
-rank level.Order = 4
-rank level.Sum = 5
-rank level.Product = 6
-rank level.Unary = 7
+abbrev pub binding_strength : Level → ℕ
+binding_strength level.Implication = 0
+binding_strength level.Disjunction = 1
+binding_strength level.Conjunction = 2
+binding_strength level.Equality = 3
+binding_strength level.Order = 4
+binding_strength level.Sum = 5
+binding_strength level.Product = 6
+binding_strength level.Unary = 7
 
 -- whether what has a level of its own stands without brackets where one is asked for
 abbrev pub fits : Level → Level → Bool
-fits own asked = nat_le (rank asked) (rank own)
+fits own asked = nat_le (binding_strength asked) (binding_strength own)
 
 abbrev pub connective_level : Connective → Level
 connective_level connective.And = level.Conjunction
@@ -174,9 +174,9 @@ chains_with arithmetic.Mod = is_division
 -- ---- brackets
 
 -- whether a quantifier may stand at a right end
-abbrev pub is_open : RightEnd → Bool
-is_open Open = true
-is_open Closed = false
+abbrev pub is_open_end : RightEnd → Bool
+is_open_end Open = true
+is_open_end Closed = false
 
 -- Whether a term needs no brackets where a level is asked for, and where a quantifier may end it or
 -- not.

@@ -28,7 +28,7 @@ fn operand_level(connective: Connective) -> Level
 /// Whether a formula needs no brackets at a position.
 fn needs_no_brackets(formula: &Formula, position: Position) -> bool
     ensures { result ≡ words.formula_needs_no_brackets (formula_form formula.now) position.level
-        (words.is_open position.right_end) }
+        (words.is_open_end position.right_end) }
 {
     match formula {
         Formula::Chain {
@@ -54,7 +54,7 @@ fn write_links(
     right_end: RightEnd,
 ) -> Result<(), AllocError>
     ensures { OnOk result (page out.new ≡ after
-        (parts.formula_link_words connective (words.is_open right_end) (link_forms links.now))
+        (parts.formula_link_words connective (words.is_open_end right_end) (link_forms links.now))
         (page out.old)) }
 {
     let side = Position::closed(operand_level(connective));
@@ -79,7 +79,7 @@ fn write_formula(
 ) -> Result<(), AllocError>
     ensures { OnOk result (page out.new ≡ after
         (parts.placed_formula (formula_form formula.now) position.level
-        (words.is_open position.right_end)) (page out.old)) }
+        (words.is_open_end position.right_end)) (page out.old)) }
 {
     if needs_no_brackets(formula, position) {
         return write_plain(out, alloc, formula, position.right_end);
@@ -109,7 +109,8 @@ pub fn write_plain(
     right_end: RightEnd,
 ) -> Result<(), AllocError>
     ensures { OnOk result (page out.new ≡ after
-        (words.formula_words (formula_form formula.now) (words.is_open right_end)) (page out.old)) }
+        (words.formula_words (formula_form formula.now) (words.is_open_end right_end))
+        (page out.old)) }
 {
     match formula {
         Formula::Constant { value, .. } => write_truth(out, *value),

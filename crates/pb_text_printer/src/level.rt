@@ -22,7 +22,7 @@ pub enum Level {
 impl Level {
     /// How tightly the level binds.
     fn rank(self) -> u8
-        ensures { result ≡ words.rank self }
+        ensures { result ≡ words.binding_strength self }
     {
         self as u8
     }
@@ -47,7 +47,7 @@ pub enum RightEnd {
 impl RightEnd {
     /// Whether a quantifier may stand there.
     pub fn is_open(self) -> bool
-        ensures { result ≡ words.is_open self }
+        ensures { result ≡ words.is_open_end self }
     {
         matches!(self, RightEnd::Open)
     }

@@ -31,7 +31,7 @@ fn operand_level(connective: Connective) -> Level
 /// Whether a term needs no brackets at a position.
 fn needs_no_brackets(term: &Term, position: Position) -> bool
     ensures { result ≡ words.needs_no_brackets (term_form term.now) position.level
-        (words.is_open position.right_end) }
+        (words.is_open_end position.right_end) }
 {
     match term {
         Term::Chain {
@@ -137,7 +137,7 @@ fn write_links(
     right_end: RightEnd,
 ) -> Result<(), AllocError>
     ensures { OnOk result (page out.new ≡ after
-        (parts.link_words connective (words.is_open right_end) (term_links links.now))
+        (parts.link_words connective (words.is_open_end right_end) (term_links links.now))
         (page out.old)) }
 {
     let side = Position::closed(operand_level(connective));
@@ -245,7 +245,8 @@ pub fn write_term(
     position: Position,
 ) -> Result<(), AllocError>
     ensures { OnOk result (page out.new ≡ after
-        (parts.placed_words (term_form term.now) position.level (words.is_open position.right_end))
+        (parts.placed_words (term_form term.now) position.level
+        (words.is_open_end position.right_end))
         (page out.old)) }
 {
     if needs_no_brackets(term, position) {
@@ -265,7 +266,7 @@ pub fn write_plain(
     right_end: RightEnd,
 ) -> Result<(), AllocError>
     ensures { OnOk result (page out.new ≡ after
-        (words.term_words (term_form term.now) (words.is_open right_end)) (page out.old)) }
+        (words.term_words (term_form term.now) (words.is_open_end right_end)) (page out.old)) }
 {
     match term {
         Term::Constant { value, .. } => write_truth(out, *value),

@@ -9,7 +9,7 @@ use Rattle.pb_text_lexer.specs.declared.fault.ReadingRule.TheVariants.{Limit}
 use Rattle.pb_text_lexer.specs.declared.kind.Kind.{Kind}
 use Rattle.pb_text_lexer.specs.declared.kind.Kind.TheVariants as k
 use Rattle.pb_text_lexer.specs.Kinds.{same_kind, is_limited}
-use Rattle.pb_text_lexer.specs.Grammar.{State, Within, Reads, Is, One, First}
+use Rattle.pb_text_lexer.specs.Grammar.{State, WithinLimits, Reads, Is, One, First}
 use Rattle.pb_text_lexer.specs.Grammar as grammar
 use Rattle.pb_text_lexer.specs.LeftGrammar.{Listed}
 use Rattle.pb_text_lexer.specs.Steps.{ends, head_kind, Step, pure, peek, take_token, expect, refuse, listed}

@@ -12,7 +12,7 @@ use Rattle.pb_text_meaning.specs.Fits.{RightFits}
 use Rattle.pb_typing_declarations.specs.Shapes.{sort_shape}
 use Rattle.pb_typing_declarations.proofs.ShapeLaws.{shape_carrier-sort_shape}
 use Rattle.pb_typing_rules.specs.Formula.{IsProper}
-use Rattle.pb_typing_rules.specs.WellTyped.{parameters_of, AreProper, IsWellTyped}
+use Rattle.pb_typing_rules.specs.WellTyped.{parameter_scope, AreProper, IsWellTyped}
 use Rattle.pb_typing_rules.proofs.Fitting.{spec_fits}
 use Rattle.pb_typed_tree.specs.Expansion.{expanded}
 use Rattle.pb_typed_tree.specs.Elaboration.{unslotted, with_slots, width}
@@ -41,9 +41,9 @@ within-length spec [] (v ∷ vs) e = absurd (true≢false (sym e))
 within-length spec (x ∷ xs) [] e = absurd (true≢false (sym e))
 within-length spec (x ∷ xs) (v ∷ vs) e = ap suc (within-length spec xs vs (and_parts (contains (carrier_of spec x.sort) v) (is_within (carriers_of spec xs) vs) e).1)
 
-equation-fits : (spec : Spec) (X : Equation) → IsProper spec true (parameters_of spec X) X.right → RightFits spec X → EquationFits spec X
+equation-fits : (spec : Spec) (X : Equation) → IsProper spec true (parameter_scope spec X) X.right → RightFits spec X → EquationFits spec X
 equation-fits spec X proper fits vs slots within hold clear =
-    let scope = parameters_of spec X in
+    let scope = parameter_scope spec X in
     let a = assigned X.parameters vs [] in
     elaborated-fits spec (slot_count spec X) (expanded X.right) scope (λ s. sym (shape_carrier-sort_shape spec s)) (expanded-plain spec true scope X.right proper)
     (with_slots X.parameters 0 unslotted) (length X.parameters) slots a (free-parameters X.parameters)

@@ -12,7 +12,7 @@ use Rattle.pb_typing_declarations.specs.Shapes.{sort_shape}
 use Rattle.pb_typing_declarations.specs.Enumerators.{Position, enumerator_of, recogniser_of}
 use Rattle.pb_typing_rules.specs.Scope.{Scope, bound}
 use Rattle.pb_typing_rules.specs.Term.{shape}
-use Rattle.pb_typing_rules.specs.WellTyped.{parameters_of}
+use Rattle.pb_typing_rules.specs.WellTyped.{parameter_scope}
 use Rattle.pb_typed_tree.specs.Expansion.{expanded}
 use Rattle.pb_typed_tree.specs.Tree.{Term, Number, Slot, Negative, Absolute, Successor, Predecessor, Binary, Maximum, Minimum, Choice, Recognised, Argument, Formula, Test, Negation, Connected, Quantified, Call}
 
@@ -162,7 +162,7 @@ elaborated spec c scope n (syntax.Formula.Call X es) =
 -- the typed right side of an equation, whose parameters have the first slots
 abbrev pub elaborated_equation : Spec → Equation → Formula
 elaborated_equation spec X =
-    elaborated spec (with_slots X.parameters 0 unslotted) (parameters_of spec X)
+    elaborated spec (with_slots X.parameters 0 unslotted) (parameter_scope spec X)
     (length X.parameters) (expanded X.right)
 
 abbrev pub elaborated_equations : Spec → List Equation → List Formula

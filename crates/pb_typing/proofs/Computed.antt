@@ -3,7 +3,7 @@ use Rattle.std.proofs.Common.{◌≡◌, Bool, true, false, cond, ◌||◌, not,
 use Rattle.pb_text_tree.specs.declared.place.Place.{Place}
 use Rattle.pb_text_tree.specs.declared.operator.Arithmetic.{Arithmetic}
 use Rattle.pb_text_tree.specs.declared.operator.Arithmetic.TheVariants as arithmetic
-use Rattle.pb_intervals.specs.Interval.{IntegerInterval, is_within, within, literals}
+use Rattle.pb_intervals.specs.Interval.{IntegerInterval, is_included, within, literals}
 use Rattle.pb_intervals.specs.Operation.{BinaryOperation, binary_interval}
 use Rattle.pb_text_meaning.specs.Erase.{of_arithmetic}
 use Rattle.pb_typing_declarations.specs.declared.fault.TypingRule.TheVariants as rule
@@ -17,17 +17,17 @@ use Rattle.pb_typing_declarations.proofs.Parts.{no_whole, unless_holds}
 use Rattle.pb_typing.specs.View.{operation_of}
 
 -- an interval within the limits, and one that isn't
-some_within : (j i : IntegerInterval) → Some i ≡ within literals j → (is_within j literals ≡ true) × (i ≡ j)
-some_within j i e = by_test (is_within j literals) refl e
+some_within : (j i : IntegerInterval) → Some i ≡ within literals j → (is_included j literals ≡ true) × (i ≡ j)
+some_within j i e = by_test (is_included j literals) refl e
   where
-    by_test : (b : Bool) → is_within j literals ≡ b → Some i ≡ cond b (Some j) None → (is_within j literals ≡ true) × (i ≡ j)
+    by_test : (b : Bool) → is_included j literals ≡ b → Some i ≡ cond b (Some j) None → (is_included j literals ≡ true) × (i ≡ j)
     by_test true is f = (is, cc)
     by_test false is f = absurd (cc)
 
-none_within : (j : IntegerInterval) → None ≡ within literals j → is_within j literals ≡ false
-none_within j e = by_test (is_within j literals) refl e
+none_within : (j : IntegerInterval) → None ≡ within literals j → is_included j literals ≡ false
+none_within j e = by_test (is_included j literals) refl e
   where
-    by_test : (b : Bool) → is_within j literals ≡ b → None ≡ cond b (Some j) None → is_within j literals ≡ false
+    by_test : (b : Bool) → is_included j literals ≡ b → None ≡ cond b (Some j) None → is_included j literals ≡ false
     by_test true is f = absurd (cc)
     by_test false is f = is
 
@@ -43,7 +43,7 @@ pub computed : (o : BinaryOperation) (l r : IntegerInterval) (p : Place) (i : In
 computed o l r p i d e =
     let w = some_within (binary_interval o l r) i e in (
       no_whole (unless (may_divide o (wholes r)) rule.Divisor p) _ (unless_holds (may_divide o (wholes r)) rule.Divisor p d)
-          (unless_holds (binary_is_limited o (wholes l) (wholes r)) rule.LargeInterval p (limited (may_divide o (wholes r)) (is_within (binary_interval o l r) literals) w.0)),
+          (unless_holds (binary_is_limited o (wholes l) (wholes r)) rule.LargeInterval p (limited (may_divide o (wholes r)) (is_included (binary_interval o l r) literals) w.0)),
       ap of_interval e ∙ sym (ap (λ (b : Bool). cond b (of_interval (within literals (binary_interval o l r))) Unknown) d),
     )
 
@@ -54,7 +54,7 @@ fails false w p e f = absurd (true≢false (sym e))
 
 pub beyond : (o : BinaryOperation) (l r : IntegerInterval) (p : Place) → may_divide o (wholes r) ≡ true → None ≡ within literals (binary_interval o l r)
     → IsAmong (operator_faults (Computed o) (wholes l) (wholes r) p) (Refused (record { rule = rule.LargeInterval; place = p }))
-beyond o l r p d e = fails (may_divide o (wholes r)) (is_within (binary_interval o l r) literals) p d (none_within (binary_interval o l r) e)
+beyond o l r p d e = fails (may_divide o (wholes r)) (is_included (binary_interval o l r) literals) p d (none_within (binary_interval o l r) e)
 
 pub kind_of-arithmetic : (o : Arithmetic) → kind_of (of_arithmetic o) ≡ Computed (operation_of o)
 kind_of-arithmetic arithmetic.Plus = refl

@@ -3,7 +3,7 @@
 ghost use Rattle.std.specs.Prelude.{◌≡◌, [], false, length, pos, MatchResult};
 ghost use Rattle.pb_text_tree.specs.Form.{TermForm, argument_forms, arithmetic_links, calculated};
 ghost use Rattle.pb_text_tree.specs.Form.{chained, named, term_form, term_links};
-ghost use Rattle.pb_intervals.specs.Interval.{is_within, literals, singleton};
+ghost use Rattle.pb_intervals.specs.Interval.{is_included, literals, singleton};
 ghost use Rattle.pb_typing_rules.specs.Shapes.{literal_shape};
 ghost use Rattle.pb_typing_declarations.specs.Faults.{IsAmong, unless};
 ghost use Rattle.pb_typed_tree.specs.Tree as tree;
@@ -29,7 +29,7 @@ use pb_typing_declarations::{TypeError, TypingFault, TypingRule, require};
 
 /// A literal, within 2^62 (T10).
 fn literal(number: u64, place: Place) -> Result<TypedTerm, TypingFault>
-    ensures { Resolves (unless (is_within (singleton (pos number)) literals)
+    ensures { Resolves (unless (is_included (singleton (pos number)) literals)
         TypingRule.LargeInterval place) (literal_shape number) (tree.Number number) result }
 {
     match literal_interval(number) {

@@ -15,13 +15,13 @@ use Rattle.pb_typing_declarations.specs.declared.definition.DataName.{DataName}
 use Rattle.pb_typing_declarations.specs.Shapes.{End, end_within, end_of, base_of, first, range_bounds}
 use Rattle.pb_typing_declarations.specs.Tables.{Table}
 use Rattle.pb_typing_declarations.specs.Entries.{definition_in, range_in, range_shown}
-use Rattle.pb_typing_declarations.specs.Agreement.{Agree}
+use Rattle.pb_typing_declarations.specs.Agreement.{AreTables}
 use Rattle.pb_typing_declarations.proofs.Filling.{none_in}
 
 erased_length : (spec : ast.Spec) → length (erase (spec_form spec)).sorts ≡ length spec.sorts.items
 erased_length spec = length-map (map sort_declaration_form spec.sorts.items) erased_declaration ∙ length-map spec.sorts.items sort_declaration_form
 
-module _ (spec : ast.Spec) (sorts : Table Definition) (ranges : Table Range) (names : Table DataName) (equations : Table ℕ) (agree : Agree (erase (spec_form spec)) sorts ranges names equations) where
+module _ (spec : ast.Spec) (sorts : Table Definition) (ranges : Table Range) (names : Table DataName) (equations : Table ℕ) (agree : AreTables (erase (spec_form spec)) sorts ranges names equations) where
   -- the end of a chain through as many aliases as there are sorts
   pub end_is : (n : ℕ) (s : Name) (e : End) → n ≡ length spec.sorts.items → e ≡ end_within (suc n) (range_in ranges) (definition_in sorts) s → e ≡ end_of (erase (spec_form spec)) s
   end_is n s e are is =

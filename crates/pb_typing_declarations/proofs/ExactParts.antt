@@ -16,7 +16,7 @@ use Rattle.pb_typing_declarations.specs.Faults.{unless, repeated, length_faults}
 use Rattle.pb_typing_declarations.specs.Shapes.{End, Shaped, Unranged, Undeclared, Endless, end_of, base_of, is_sort, is_built_in, number_behind}
 use Rattle.pb_typing_declarations.specs.Instances.{instance_count, all_instances}
 use Rattle.pb_typing_declarations.specs.Declarations.{stays_within, is_integer, is_named_function, is_faulty, end_faults, variable_names, variable_faults, variables_faults, limit_faults, own_names, equation_faults, equations_faults_behind, recogniser_faults, recogniser_name, names_of_enumerator, enumerator_faults, enumerators_of_sort, all_enumerator_forms, struct_faults, structs_faults, definition_faults, sort_faults, range_faults, empty_faults}
-use Rattle.pb_typing_declarations.specs.WellDeclared.{AreApart, has_shape, AreVariables, HaveEnds, IsDefined, structs_behind, IsRanged, enumerators, given, enumerator_names, every_enumerator}
+use Rattle.pb_typing_declarations.specs.WellDeclared.{AreApart, has_shape, AreVariables, HaveEnds, IsDefined, structs_behind, IsRanged, enumerators, name_if_any, enumerator_names, every_enumerator}
 use Rattle.pb_typing_declarations.proofs.Parts.{no_parts, no_whole, holds_unless, unless_holds}
 use Rattle.pb_typing_declarations.proofs.Passing.{stays, one_more_stays}
 use Rattle.pb_typing_declarations.proofs.VariableLemmas.{few_names, limit_clear}
@@ -234,7 +234,7 @@ enumerator_texts (e ∷ es) =
     ∙ (ap (λ xs. xs ++ texts (flat_map names_of_enumerator es)) (one e.recogniser)
     ∙ ap (λ xs. enumerator_names (erased_enumerator e) ++ xs) (enumerator_texts es))
   where
-    one : (r : Option Named) → texts (e.name ∷ recogniser_name r) ≡ e.name.text ∷ given (erased_recogniser r)
+    one : (r : Option Named) → texts (e.name ∷ recogniser_name r) ≡ e.name.text ∷ name_if_any (erased_recogniser r)
     one None = refl
     one (Some x) = refl
 
@@ -242,13 +242,13 @@ abbrev pub ShortName : Enumerator → Type 0
 ShortName e = length e.name ≤ MAX_NAME_BYTES
 
 abbrev pub NewFunction : Enumerator → Type 0
-NewFunction e = All (λ x. is_named_function x ≡ false) (given e.recogniser)
+NewFunction e = All (λ x. is_named_function x ≡ false) (name_if_any e.recogniser)
 
-recogniser : (r : Option Named) → recogniser_faults r ≡ [] → All (λ x. is_named_function x ≡ false) (given (erased_recogniser r))
+recogniser : (r : Option Named) → recogniser_faults r ≡ [] → All (λ x. is_named_function x ≡ false) (name_if_any (erased_recogniser r))
 recogniser None e = All-nil (λ x. is_named_function x ≡ false)
 recogniser (Some x) e = All-cons (λ y. is_named_function y ≡ false) x.text [] (not-true _ (holds_unless _ _ _ e)) (All-nil (λ y. is_named_function y ≡ false))
 
-recogniser_clear : (r : Option Named) → All (λ x. is_named_function x ≡ false) (given (erased_recogniser r)) → recogniser_faults r ≡ []
+recogniser_clear : (r : Option Named) → All (λ x. is_named_function x ≡ false) (name_if_any (erased_recogniser r)) → recogniser_faults r ≡ []
 recogniser_clear None h = refl
 recogniser_clear (Some x) h = unless_holds _ _ _ (not_from_false _ (All-head (λ y. is_named_function y ≡ false) x.text [] h))
 

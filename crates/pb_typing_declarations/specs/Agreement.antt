@@ -14,7 +14,7 @@ use Rattle.pb_typing_declarations.specs.Entries.{as_recogniser}
 abbrev pub equation_place : Spec → Name → Option ℕ
 equation_place S x = position (λ (X : Equation). same_name X.name x) S.equations
 
-pub record Agree (S : Spec) (sorts : Table Definition) (ranges : Table Range)
+pub record AreTables (S : Spec) (sorts : Table Definition) (ranges : Table Range)
     (names : Table DataName) (equations : Table ℕ) : Type 0 where
   pub definitions : (x : Name) → definition_in sorts x ≡ first (definitions S) x
   pub bounds : (x : Name) → range_in ranges x ≡ first (range_bounds S.ranges) x

@@ -50,13 +50,13 @@ enumerators (Alias s) = []
 abbrev pub every_enumerator : List SortDeclaration → List Enumerator
 every_enumerator ds = flat_map (λ (d : SortDeclaration). enumerators d.sort) ds
 
-abbrev pub given : Option Name → List Name
-given None = []
-given (Some x) = x ∷ []
+abbrev pub name_if_any : Option Name → List Name
+name_if_any None = []
+name_if_any (Some x) = x ∷ []
 
 -- an enumerator's name and its recogniser's
 abbrev pub enumerator_names : Enumerator → List Name
-enumerator_names e = e.name ∷ given e.recogniser
+enumerator_names e = e.name ∷ name_if_any e.recogniser
 
 -- ---- variables
 
@@ -87,7 +87,7 @@ pub record IsDeclared (spec : Spec) : Type 0 where
   pub short_enumerators :
       All (λ (e : Enumerator). length e.name ≤ MAX_NAME_BYTES) (every_enumerator spec.sorts)
   pub new_functions :
-      All (λ (e : Enumerator). All (λ x. is_named_function x ≡ false) (given e.recogniser))
+      All (λ (e : Enumerator). All (λ x. is_named_function x ≡ false) (name_if_any e.recogniser))
       (every_enumerator spec.sorts)
   pub predicate_variables : AreApart (map (λ (X : Equation). X.name) spec.equations)
   pub short_predicate_variables :

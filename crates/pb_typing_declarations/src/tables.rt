@@ -16,7 +16,7 @@ ghost use Rattle.pb_typing_declarations.specs.Entries.{end_shown, as_enumerator,
 ghost use Rattle.pb_typing_declarations.specs.Entries.{definition_in, range_in};
 ghost use Rattle.pb_typing_declarations.specs.Chains.{AreChains};
 ghost use Rattle.pb_typing_declarations.specs.Variables.{variables_of};
-ghost use Rattle.pb_typing_declarations.specs.Agreement.{Agree, equation_place};
+ghost use Rattle.pb_typing_declarations.specs.Agreement.{AreTables, equation_place};
 ghost use Rattle.pb_typing_declarations.specs.Reading.{AreEquations, IsCarrier, HasVariables};
 ghost use Rattle.pb_typing_declarations.specs.Reading.{HasParameters, AddsInstances, HasCarriers};
 ghost use Rattle.pb_typing_declarations.specs.Reading.{IsEquationTable};
@@ -53,7 +53,7 @@ pub(crate) struct Tables<'a> {
     /// The chains of aliases, and those of the sorts without any ranges.
     pub chains: HashMap<&'a str, Chain>,
     pub bases: HashMap<&'a str, Chain>,
-    pub ghost agrees: { Agree (erase (spec_form spec.now)) definitions ranges names equations },
+    pub ghost agrees: { AreTables (erase (spec_form spec.now)) definitions ranges names equations },
     pub ghost chained: { AreChains (range_in ranges) (definition_in definitions) chains },
     pub ghost based: { AreChains (λ s. None) (definition_in definitions) bases },
 }

@@ -8,7 +8,7 @@ use Rattle.pb_text_meaning.specs.Value.{Assignment, value, values}
 use Rattle.pb_text_meaning.specs.Formula.{equation_named}
 use Rattle.pb_text_meaning.specs.Fits.{Fits, AllFit, FormulaFits}
 use Rattle.pb_typing_rules.specs.Shapes.{kind_of}
-use Rattle.pb_typing_rules.specs.Scope.{Scope, bound, Within}
+use Rattle.pb_typing_rules.specs.Scope.{Scope, bound, IsWithinScope}
 use Rattle.pb_typing_rules.specs.Term.{shape, shapes, IsTyped, AreTyped, passes}
 use Rattle.pb_typing_rules.specs.Formula.{AreArguments, IsCalled, IsProper}
 use Rattle.pb_typing_rules.proofs.Values.{Contained, bounded_in, truth_value, whole_value}
@@ -17,7 +17,7 @@ use Rattle.pb_typing_rules.proofs.Operations.{unary_contained, operation_contain
 use Rattle.pb_typing_rules.proofs.Functions.{AreContained, function_contained}
 
 mutual
-  pub contained : (spec : Spec) (stands : Bool) (scope : Scope) (a : Assignment) (x : Term) → Within a scope → IsTyped spec stands scope x → Contained (shape spec scope x) (value spec a x)
+  pub contained : (spec : Spec) (stands : Bool) (scope : Scope) (a : Assignment) (x : Term) → IsWithinScope a scope → IsTyped spec stands scope x → Contained (shape spec scope x) (value spec a x)
   contained spec stands scope a (Term.Truth b) within h = truth_value b
   contained spec stands scope a (Term.Number n) within h = whole_value (singleton (pos n)) (pos n) h (omega (arith, ints), omega (arith, ints))
   contained spec stands scope a (Term.Named x) within h = name_contained spec scope a x within h
@@ -32,12 +32,12 @@ mutual
       function_contained spec f (shapes spec scope xs) (values spec a xs) h.1 (all_contained spec scope a xs within h.0)
   contained spec stands scope a (Term.Quantified q xs x) within h = truth_value _
 
-  pub all_contained : (spec : Spec) (scope : Scope) (a : Assignment) (xs : Terms) → Within a scope → AreTyped spec scope xs → AreContained (shapes spec scope xs) (values spec a xs)
+  pub all_contained : (spec : Spec) (scope : Scope) (a : Assignment) (xs : Terms) → IsWithinScope a scope → AreTyped spec scope xs → AreContained (shapes spec scope xs) (values spec a xs)
   all_contained spec scope a Terms.NoTerms within h = tt
   all_contained spec scope a (Terms.Then x xs) within h = (contained spec false scope a x within h.0, all_contained spec scope a xs within h.1)
 
 mutual
-  pub fits : (spec : Spec) (stands : Bool) (scope : Scope) (a : Assignment) (x : Term) → Within a scope → IsTyped spec stands scope x → Fits spec a x
+  pub fits : (spec : Spec) (stands : Bool) (scope : Scope) (a : Assignment) (x : Term) → IsWithinScope a scope → IsTyped spec stands scope x → Fits spec a x
   fits spec stands scope a (Term.Truth b) within h = tt
   fits spec stands scope a (Term.Number n) within h = bounded_in (singleton (pos n)) (pos n) h (omega (arith, ints), omega (arith, ints))
   fits spec stands scope a (Term.Named x) within h = (name_contained spec scope a x within h).bounded
@@ -55,7 +55,7 @@ mutual
   fits spec stands scope a (Term.Quantified q xs x) within h =
       for_variables spec xs scope a (λ b. Fits spec b x) within (λ b inner. fits spec stands (bound spec xs scope) b x inner h.2)
 
-  pub all_fit : (spec : Spec) (scope : Scope) (a : Assignment) (xs : Terms) → Within a scope → AreTyped spec scope xs → AllFit spec a xs
+  pub all_fit : (spec : Spec) (scope : Scope) (a : Assignment) (xs : Terms) → IsWithinScope a scope → AreTyped spec scope xs → AllFit spec a xs
   all_fit spec scope a Terms.NoTerms within h = tt
   all_fit spec scope a (Terms.Then x xs) within h = (fits spec false scope a x within h.0, all_fit spec scope a xs within h.1)
 
@@ -70,7 +70,7 @@ pub called_typed : (spec : Spec) (scope : Scope) (es : Terms) (X : Option Equati
 called_typed spec scope es None h = absurd h
 called_typed spec scope es (Some X) h = arguments_typed spec scope es X.parameters h.1
 
-pub formula_fits : (spec : Spec) (even : Bool) (scope : Scope) (a : Assignment) (f : Formula) → Within a scope → IsProper spec even scope f → FormulaFits spec a f
+pub formula_fits : (spec : Spec) (even : Bool) (scope : Scope) (a : Assignment) (f : Formula) → IsWithinScope a scope → IsProper spec even scope f → FormulaFits spec a f
 formula_fits spec even scope a (Formula.Truth b) within h = tt
 formula_fits spec even scope a (Formula.Val x) within h = fits spec true scope a x within h.0
 formula_fits spec even scope a (Formula.Not f) within h = formula_fits spec _ scope a f within h

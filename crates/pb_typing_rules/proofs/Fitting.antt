@@ -11,14 +11,14 @@ use Rattle.pb_text_meaning.specs.Meaning.{assigned}
 use Rattle.pb_text_meaning.specs.Positive.{IsPositive, ArePositive}
 use Rattle.pb_text_meaning.specs.Fits.{RightFits, SpecFits}
 use Rattle.pb_typing_declarations.specs.Shapes.{sort_shape}
-use Rattle.pb_typing_rules.specs.Scope.{Scope, outermost, declare, bound, Within}
+use Rattle.pb_typing_rules.specs.Scope.{Scope, outermost, declare, bound, IsWithinScope}
 use Rattle.pb_typing_rules.specs.Formula.{IsProper}
-use Rattle.pb_typing_rules.specs.WellTyped.{parameters_of, AreProper, IsWellTyped}
+use Rattle.pb_typing_rules.specs.WellTyped.{parameter_scope, AreProper, IsWellTyped}
 use Rattle.pb_typing_rules.proofs.Names.{within_declared, sort_value}
 use Rattle.pb_typing_rules.proofs.Contained.{formula_fits, all_fit, called_typed}
 
 -- a tuple of the parameters' carriers makes an assignment within their scope
-pub assigned_within : (spec : Spec) (xs : List Variable) (vs : Tuple) (scope : Scope) (a : Assignment) → is_within (carriers_of spec xs) vs ≡ true → Within a scope → Within (assigned xs vs a) (bound spec xs scope)
+pub assigned_within : (spec : Spec) (xs : List Variable) (vs : Tuple) (scope : Scope) (a : Assignment) → is_within (carriers_of spec xs) vs ≡ true → IsWithinScope a scope → IsWithinScope (assigned xs vs a) (bound spec xs scope)
 assigned_within spec [] [] scope a e within = within
 assigned_within spec [] (v ∷ vs) scope a e within = absurd (true≢false (sym e))
 assigned_within spec (x ∷ xs) [] scope a e within = absurd (true≢false (sym e))
@@ -27,11 +27,11 @@ assigned_within spec (x ∷ xs) (v ∷ vs) scope a e within =
     assigned_within spec xs vs (declare x.name (sort_shape spec x.sort) scope) ((x.name, v) ∷ a) q.1
     (within_declared a scope x.name (sort_shape spec x.sort) v (sort_value spec x.sort v q.0) within)
 
-nothing_within : Within [] outermost
+nothing_within : IsWithinScope [] outermost
 nothing_within = λ x. tt
 
-right_fits : (spec : Spec) (X : Equation) → IsProper spec true (parameters_of spec X) X.right → RightFits spec X
-right_fits spec X h = λ vs e. formula_fits spec true (parameters_of spec X) (assigned X.parameters vs []) X.right (assigned_within spec X.parameters vs outermost [] e nothing_within) h
+right_fits : (spec : Spec) (X : Equation) → IsProper spec true (parameter_scope spec X) X.right → RightFits spec X
+right_fits spec X h = λ vs e. formula_fits spec true (parameter_scope spec X) (assigned X.parameters vs []) X.right (assigned_within spec X.parameters vs outermost [] e nothing_within) h
 
 rights_fit : (spec : Spec) (E : List Equation) → AreProper spec E → All (RightFits spec) E
 rights_fit spec [] h k d below = absurd (omega (arith, below))
@@ -56,7 +56,7 @@ positive spec even scope (Formula.Call x es) h = h.0
 
 rights_positive : (spec : Spec) (E : List Equation) → AreProper spec E → ArePositive E
 rights_positive spec [] h = tt
-rights_positive spec (X ∷ E) h = (positive spec true (parameters_of spec X) X.right h.0, rights_positive spec E h.1)
+rights_positive spec (X ∷ E) h = (positive spec true (parameter_scope spec X) X.right h.0, rights_positive spec E h.1)
 
 pub spec_positive : (spec : Spec) → IsWellTyped spec → ArePositive spec.equations
 spec_positive spec h = rights_positive spec spec.equations h.rights

@@ -13,7 +13,7 @@ use Rattle.pb_typing_declarations.specs.Shapes.{Shape, Places, first, number_beh
 use Rattle.pb_typing_declarations.specs.Enumerators.{Position, positioned, enumerators_from, enumerators_in, all_enumerators, enumerator_of, position_shape, enumerator_shape}
 use Rattle.pb_typing_declarations.proofs.ShapeLaws.{shape_carrier-sort_shape}
 use Rattle.pb_typing_rules.specs.Shapes.{IsValueOf}
-use Rattle.pb_typing_rules.specs.Scope.{Scope, declare, bound, or_else, named_shape, Agree, Within}
+use Rattle.pb_typing_rules.specs.Scope.{Scope, declare, bound, or_else, named_shape, AgreeWithShape, IsWithinScope}
 use Rattle.pb_typing_rules.specs.Term.{shape_or_unknown, IsNamed}
 use Rattle.pb_typing_rules.proofs.Values.{Contained, bounded_value, carrier_value}
 
@@ -61,22 +61,22 @@ enumerator_value spec x s e = placed_value (enumerator_of spec x) (place_in (λ 
 
 -- ---- names
 
-by_agreement : (spec : Spec) (x : Name) (v : Option ℤ) (s e : Option Shape) → e ≡ enumerator_shape spec x → Agree v s → IsNamed (or_else s e) → Contained (shape_or_unknown (or_else s e)) (named_value spec v x)
+by_agreement : (spec : Spec) (x : Name) (v : Option ℤ) (s e : Option Shape) → e ≡ enumerator_shape spec x → AgreeWithShape v s → IsNamed (or_else s e) → Contained (shape_or_unknown (or_else s e)) (named_value spec v x)
 by_agreement spec x (Some v) (Some s) e is h k = record { value = h; bounded = bounded_value s v k h }
 by_agreement spec x None None (Some s) is h k = let p = enumerator_value spec x s (sym is) in record { value = p; bounded = bounded_value s _ k p }
 by_agreement spec x None None None is h k = absurd k
 by_agreement spec x None (Some s) e is h k = absurd h
 by_agreement spec x (Some v) None e is h k = absurd h
 
-pub name_contained : (spec : Spec) (scope : Scope) (a : Assignment) (x : Name) → Within a scope → IsNamed (named_shape spec scope x) → Contained (shape_or_unknown (named_shape spec scope x)) (named_value spec (looked_up a x) x)
+pub name_contained : (spec : Spec) (scope : Scope) (a : Assignment) (x : Name) → IsWithinScope a scope → IsNamed (named_shape spec scope x) → Contained (shape_or_unknown (named_shape spec scope x)) (named_value spec (looked_up a x) x)
 name_contained spec scope a x within k = by_agreement spec x (looked_up a x) (scope x) (enumerator_shape spec x) refl (within x) k
 
 -- ---- bound variables
 
-pub within_declared : (a : Assignment) (scope : Scope) (y : Name) (s : Shape) (v : ℤ) → IsValueOf s v → Within a scope → Within ((y, v) ∷ a) (declare y s scope)
+pub within_declared : (a : Assignment) (scope : Scope) (y : Name) (s : Shape) (v : ℤ) → IsValueOf s v → IsWithinScope a scope → IsWithinScope ((y, v) ∷ a) (declare y s scope)
 within_declared a scope y s v h within = λ x. by_test x (same_name y x)
   where
-    by_test : (x : Name) (b : Bool) → Agree (cond b (Some v) (looked_up a x)) (cond b (Some s) (scope x))
+    by_test : (x : Name) (b : Bool) → AgreeWithShape (cond b (Some v) (looked_up a x)) (cond b (Some s) (scope x))
     by_test x true = h
     by_test x false = within x
 
@@ -84,7 +84,7 @@ pub sort_value : (spec : Spec) (s : Name) (v : ℤ) → contains (carrier_of spe
 sort_value spec s v e = carrier_value (sort_shape spec s) v (subst (λ c. contains c v ≡ true) (sym (shape_carrier-sort_shape spec s)) e)
 
 -- a fact of each assignment within the variables' scope
-pub for_variables : (spec : Spec) (xs : List Variable) (scope : Scope) (a : Assignment) (P : Assignment → Type 0) → Within a scope → ((b : Assignment) → Within b (bound spec xs scope) → P b) → FitsFor spec xs P a
+pub for_variables : (spec : Spec) (xs : List Variable) (scope : Scope) (a : Assignment) (P : Assignment → Type 0) → IsWithinScope a scope → ((b : Assignment) → IsWithinScope b (bound spec xs scope) → P b) → FitsFor spec xs P a
 for_variables spec [] scope a P within h = h a within
 for_variables spec (x ∷ xs) scope a P within h =
     λ v e. for_variables spec xs (declare x.name (sort_shape spec x.sort) scope) ((x.name, v) ∷ a) P (within_declared a scope x.name (sort_shape spec x.sort) v (sort_value spec x.sort v e) within) h

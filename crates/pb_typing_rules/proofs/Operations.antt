@@ -3,7 +3,7 @@ use Rattle.std.proofs.Common.{◌≡◌, ℕ, Bool, true, false, cond, ◌&&◌,
 use Rattle.std.specs.Prelude.{◌==◌, max}
 use Rattle.std.proofs.lemmas.Int.{ints}
 use Rattle.std.proofs.lemmas.Bool.{and_parts}
-use Rattle.pb_intervals.specs.Interval.{is_within, within, literals}
+use Rattle.pb_intervals.specs.Interval.{is_included, within, literals}
 use Rattle.pb_intervals.specs.Operation.{UnaryOperation, BinaryOperation, Sum, Difference, Product, Quotient, Remainder, unary_value, binary_value, unary_interval, binary_interval, divides}
 use Rattle.pb_intervals.specs.Laws.{IsDefined}
 use Rattle.pb_intervals.proofs.Ends.{le_true}
@@ -32,7 +32,7 @@ defined o m k e = λ d. le_true (pos 1) m (not_or (divides o) (int_le (pos 1) m)
 wholes_contained : (o : BinaryOperation) (l h m k u v : ℤ) → may_divide o (Wholes m k) ≡ true → binary_is_limited o (Wholes l h) (Wholes m k) ≡ true → IsValueOf (Wholes l h) u → IsValueOf (Wholes m k) v → Contained (binary_shape o (Wholes l h) (Wholes m k)) (binary_value o u v)
 wholes_contained o l h m k u v d e p q =
     let i = binary_interval o (interval l h) (interval m k) in
-    let limited = not_or (may_divide o (Wholes m k)) (is_within i literals) d e in
+    let limited = not_or (may_divide o (Wholes m k)) (is_included i literals) d e in
     subst (λ (b : Bool). Contained (cond b (of_interval (within literals i)) Unknown) (binary_value o u v)) (sym d)
     (whole_value i (binary_value o u v) limited (binary_sound o (interval l h) (interval m k) u v (defined o m k d) p q))
 

@@ -5,7 +5,7 @@ use Rattle.std.proofs.lemmas.Bool.Decides.{Decides-int_eq}
 use Rattle.std.proofs.lemmas.Bool.{and_parts}
 use Rattle.pb_carriers.specs.Carrier.{contains, of_bool, at_least_none}
 use Rattle.pb_sorts.proofs.Intervals.{contains-numbers_from}
-use Rattle.pb_intervals.specs.Interval.{IntegerInterval, Includes, is_within, within, literals}
+use Rattle.pb_intervals.specs.Interval.{IntegerInterval, Includes, is_included, within, literals}
 use Rattle.pb_intervals.proofs.Ends.{le_true}
 use Rattle.pb_text_meaning.specs.Fits.{IsBounded}
 use Rattle.pb_typing_declarations.specs.Shapes.{Shape, Unknown, Truths, Places, Wholes, shape_carrier}
@@ -16,7 +16,7 @@ pub record Contained (s : Shape) (v : ℤ) : Type 0 where
   pub value : IsValueOf s v
   pub bounded : IsBounded v
 
-pub bounded_in : (i : IntegerInterval) (v : ℤ) → is_within i literals ≡ true → Includes i v → IsBounded v
+pub bounded_in : (i : IntegerInterval) (v : ℤ) → is_included i literals ≡ true → Includes i v → IsBounded v
 bounded_in i v e p =
     let ends = and_parts (int_le literals.low i.low) (int_le i.high literals.high) e in
     let low = le_true literals.low i.low ends.0 in
@@ -38,7 +38,7 @@ truth_value false = record { value = (omega (arith, ints), omega (arith, ints));
 
 -- ---- whole numbers of an interval within the limits
 
-pub whole_value : (i : IntegerInterval) (v : ℤ) → is_within i literals ≡ true → Includes i v → Contained (of_interval (within literals i)) v
+pub whole_value : (i : IntegerInterval) (v : ℤ) → is_included i literals ≡ true → Includes i v → Contained (of_interval (within literals i)) v
 whole_value i v e p = subst (λ (b : Bool). Contained (of_interval (cond b (Some i) None)) v) (sym e) (record { value = p; bounded = bounded_in i v e p })
 
 -- ---- values of carriers

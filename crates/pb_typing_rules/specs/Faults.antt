@@ -4,7 +4,7 @@ use Rattle.pb_text_tree.specs.declared.place.Place.{Place}
 use Rattle.pb_text_tree.specs.declared.operator.Connective.{Connective}
 use Rattle.pb_text_tree.specs.declared.operator.Connective.TheVariants.{And, Or, Implies}
 use Rattle.pb_text_tree.specs.Form.{Named, TermForm, ArgumentForms, no_arguments, argument, InstanceForm, FormulaForm, EquationForm, SpecForm}
-use Rattle.pb_intervals.specs.Interval.{is_within, singleton, literals}
+use Rattle.pb_intervals.specs.Interval.{is_included, singleton, literals}
 use Rattle.pb_intervals.specs.Operation.{Negation}
 use Rattle.pb_text_meaning.specs.Syntax.{Variable, Equation, Spec}
 use Rattle.pb_carriers.specs.Carrier.{Carrier, Value, contains}
@@ -65,7 +65,7 @@ abbrev mutual
   pub term_faults : Spec → Bool → Scope → TermForm → List TypingFault
   term_faults spec stands scope (TermForm.constant p b) = []
   term_faults spec stands scope (TermForm.number p n) =
-      unless (is_within (singleton (pos n)) literals) rule.LargeInterval p
+      unless (is_included (singleton (pos n)) literals) rule.LargeInterval p
   term_faults spec stands scope (TermForm.name x) =
       name_faults spec (named_shape spec scope x.text) x
   term_faults spec stands scope (TermForm.not p x) =

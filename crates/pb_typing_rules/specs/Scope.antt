@@ -31,12 +31,12 @@ named_shape spec scope x = or_else (scope x) (enumerator_shape spec x)
 
 -- ---- assignments
 
-abbrev pub Agree : Option ℤ → Option Shape → Type 0
-Agree None None = ⊤
-Agree (Some v) (Some s) = IsValueOf s v
-Agree None (Some s) = ⊥
-Agree (Some v) None = ⊥
+abbrev pub AgreeWithShape : Option ℤ → Option Shape → Type 0
+AgreeWithShape None None = ⊤
+AgreeWithShape (Some v) (Some s) = IsValueOf s v
+AgreeWithShape None (Some s) = ⊥
+AgreeWithShape (Some v) None = ⊥
 
 -- the assignment has a value of each variable in scope, one of its shape, and of no other
-abbrev pub Within : Assignment → Scope → Type 0
-Within a scope = (x : Name) → Agree (looked_up a x) (scope x)
+abbrev pub IsWithinScope : Assignment → Scope → Type 0
+IsWithinScope a scope = (x : Name) → AgreeWithShape (looked_up a x) (scope x)

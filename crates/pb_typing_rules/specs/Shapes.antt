@@ -3,7 +3,7 @@
 use Rattle.std.specs.Prelude.{ℕ, ℤ, pos, ◌-ℤ◌, int_le, Bool, true, false, not, ◌==◌, ◌&&◌, ◌||◌, if◌then◌else◌, Option, Some, None, max}
 use Rattle.pb_text_meaning.specs.Syntax.{Operator}
 use Rattle.pb_intervals.specs.Interval as intervals
-use Rattle.pb_intervals.specs.Interval.{IntegerInterval, Includes, is_within, within, singleton, literals}
+use Rattle.pb_intervals.specs.Interval.{IntegerInterval, Includes, is_included, within, singleton, literals}
 use Rattle.pb_intervals.specs.Operation.{UnaryOperation, BinaryOperation, Sum, Difference, Product, Quotient, Remainder, divides, unary_interval, binary_interval}
 use Rattle.pb_typing_declarations.specs.Shapes.{Shape, Unknown, Truths, Places, Wholes}
 
@@ -51,8 +51,8 @@ IsValueOf (Wholes l h) v = Includes (interval l h) v
 abbrev pub is_limited : Shape → Bool
 is_limited Unknown = true
 is_limited Truths = true
-is_limited (Places s n) = is_within (interval (pos 0) (pos n -ℤ pos 1)) literals
-is_limited (Wholes l h) = is_within (interval l h) literals
+is_limited (Places s n) = is_included (interval (pos 0) (pos n -ℤ pos 1)) literals
+is_limited (Wholes l h) = is_included (interval l h) literals
 
 -- whole numbers of this interval, if there is one
 abbrev pub of_interval : Option IntegerInterval → Shape
@@ -79,7 +79,7 @@ unary_shape o (Wholes l h) = of_interval (within literals (unary_interval o (int
 unary_shape o _ = Unknown
 
 abbrev pub unary_is_limited : UnaryOperation → Shape → Bool
-unary_is_limited o (Wholes l h) = is_within (unary_interval o (interval l h)) literals
+unary_is_limited o (Wholes l h) = is_included (unary_interval o (interval l h)) literals
 unary_is_limited o _ = true
 
 -- no divisor is below 1
@@ -97,7 +97,7 @@ binary_shape o _ _ = Unknown
 abbrev pub binary_is_limited : BinaryOperation → Shape → Shape → Bool
 binary_is_limited o (Wholes l h) (Wholes m k) =
     not (may_divide o (Wholes m k))
-    || is_within (binary_interval o (interval l h) (interval m k)) literals
+    || is_included (binary_interval o (interval l h) (interval m k)) literals
 binary_is_limited o _ _ = true
 
 -- ---- operators

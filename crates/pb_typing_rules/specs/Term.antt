@@ -1,7 +1,7 @@
 -- The kind and interval of a data term, and which terms are well typed.
 use Rattle.std.specs.Prelude.{◌≡◌, pos, Bool, true, false, ⊤, List, [], ◌∷◌, length, Option, Some, None}
 use Rattle.pb_text_meaning.specs.Syntax.{Term, Terms, Spec}
-use Rattle.pb_intervals.specs.Interval.{is_within, singleton, literals}
+use Rattle.pb_intervals.specs.Interval.{is_included, singleton, literals}
 use Rattle.pb_intervals.specs.Operation.{Negation}
 use Rattle.pb_typing_declarations.specs.Shapes.{Shape, Unknown, Truths}
 use Rattle.pb_typing_declarations.specs.WellDeclared.{AreVariables}
@@ -66,7 +66,7 @@ IsOperation o s t =
 abbrev mutual
   pub IsTyped : Spec → Bool → Scope → Term → Type 0
   IsTyped spec stands scope (Term.Truth b) = ⊤
-  IsTyped spec stands scope (Term.Number n) = is_within (singleton (pos n)) literals ≡ true
+  IsTyped spec stands scope (Term.Number n) = is_included (singleton (pos n)) literals ≡ true
   IsTyped spec stands scope (Term.Named x) = IsNamed (named_shape spec scope x)
   IsTyped spec stands scope (Term.Not x) =
       IsTyped spec stands scope x × (may_be_truth (shape spec scope x) ≡ true)

@@ -8,13 +8,13 @@ use Rattle.pb_typing_rules.specs.Scope.{Scope, outermost, bound}
 use Rattle.pb_typing_rules.specs.Formula.{IsProper}
 
 -- an equation's parameters
-abbrev pub parameters_of : Spec → Equation → Scope
-parameters_of spec X = bound spec X.parameters outermost
+abbrev pub parameter_scope : Spec → Equation → Scope
+parameter_scope spec X = bound spec X.parameters outermost
 
 -- each right side is well typed under its equation's parameters, and positive
 abbrev pub AreProper : Spec → List Equation → Type 0
 AreProper spec [] = ⊤
-AreProper spec (X ∷ E) = IsProper spec true (parameters_of spec X) X.right × AreProper spec E
+AreProper spec (X ∷ E) = IsProper spec true (parameter_scope spec X) X.right × AreProper spec E
 
 -- Declarations are as they must be, right sides are well typed and positive, and so is the initial
 -- instance, whose values are in their parameters' carriers.

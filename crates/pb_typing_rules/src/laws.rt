@@ -11,7 +11,7 @@ ghost use Rattle.pb_text_meaning.specs.Positive.{ArePositive};
 ghost use Rattle.pb_typing_rules.specs.Faults.{faults};
 ghost use Rattle.pb_typing_rules.specs.Formula.{IsProper};
 ghost use Rattle.pb_typing_rules.specs.WellTyped.{IsWellTyped};
-ghost use Rattle.pb_typing_rules.specs.Scope.{Scope, Within};
+ghost use Rattle.pb_typing_rules.specs.Scope.{Scope, IsWithinScope};
 ghost use Rattle.pb_typing_rules.specs.Shapes.{IsValueOf};
 ghost use Rattle.pb_typing_rules.specs.Term.{IsTyped, shape};
 
@@ -20,12 +20,12 @@ ghost use Rattle.pb_typing_rules.specs.Term.{IsTyped, shape};
 /// term of a well-typed formula.
 pub fn values_are_contained()
     ensures term { (spec : Spec) (stands : Bool) (scope : Scope) (a : Assignment) (x : Term)
-        → Within a scope → IsTyped spec stands scope x
+        → IsWithinScope a scope → IsTyped spec stands scope x
         → IsValueOf (shape spec scope x) (value spec a x) }
     ensures fits { (spec : Spec) (stands : Bool) (scope : Scope) (a : Assignment) (x : Term)
-        → Within a scope → IsTyped spec stands scope x → Fits spec a x }
+        → IsWithinScope a scope → IsTyped spec stands scope x → Fits spec a x }
     ensures formula_fits { (spec : Spec) (even : Bool) (scope : Scope) (a : Assignment)
-        (f : Formula) → Within a scope → IsProper spec even scope f → FormulaFits spec a f }
+        (f : Formula) → IsWithinScope a scope → IsProper spec even scope f → FormulaFits spec a f }
 {}
 
 /// A text has no fault exactly where what it says is well typed.

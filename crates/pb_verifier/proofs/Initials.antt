@@ -12,11 +12,11 @@ use Rattle.pb_sorts.specs.Layout.{carriers_of}
 use Rattle.pb_sorts.specs.declared.carrier.Carrier.{Carrier}
 use Rattle.pb_sorts.proofs.Numbers.{number_of-slice_get}
 use Rattle.pb_bytecode.specs.Contents.{EquationContents, Contents, counts}
-use Rattle.pb_bytecode.specs.Limits.{fits, fits_sort, fits_equation, is_tuple, is_between, is_byte, instance_count, parameters_of, is_i64}
+use Rattle.pb_bytecode.specs.Limits.{fits, fits_sort, fits_equation, is_tuple, is_between, is_byte, instance_count, parameters_if_any, is_i64}
 use Rattle.pb_bytecode.specs.Meaning.{parameters}
-use Rattle.pb_verifier.specs.Acceptance.{IsInitial}
+use Rattle.pb_verifier.specs.Acceptance.{IsInitialNumber}
 
-values_fit : (es : List EquationContents) (k : ℕ) (values : Tuple) → is_tuple (parameters_of (slice_get es k)) values ≡ true → is_tuple_of (slice_get (carriers_of (map (λ (e : EquationContents). e.parameters) es)) k) values ≡ true
+values_fit : (es : List EquationContents) (k : ℕ) (values : Tuple) → is_tuple (parameters_if_any (slice_get es k)) values ≡ true → is_tuple_of (slice_get (carriers_of (map (λ (e : EquationContents). e.parameters) es)) k) values ≡ true
 values_fit [] k values h = cc
 values_fit (e ∷ es) zero values h = (and_parts (list_all is_i64 values) (is_within (map values_of e.parameters) values) h).1
 values_fit (e ∷ es) (suc k) values h = values_fit es k values h
@@ -26,7 +26,7 @@ initial_fits m h =
     let sorts = is_between 0 (MAX_STRUCTS + 1) (length m.sorts) && list_all fits_sort m.sorts in
     let equations = is_between 1 (MAX_EQUATIONS + 1) (length m.equations) && list_all (fits_equation m.version (counts m.sorts)) m.equations in
     let few = nat_le (instance_count m.equations) MAX_INSTANCES in
-    let initial = is_tuple (parameters_of (slice_get m.equations m.initial.equation)) m.initial.values in
+    let initial = is_tuple (parameters_if_any (slice_get m.equations m.initial.equation)) m.initial.values in
     values_fit m.equations m.initial.equation m.initial.values
     ((and_parts (is_byte m.initial.equation) initial
     ((and_parts few (is_byte m.initial.equation && initial)
@@ -43,7 +43,7 @@ module _ (m : Contents) (laid : List (List Carrier)) (values : Tuple) (laid_out 
       subst (λ (x : List (List Carrier)). is_instance (carriers_of x) (with_values m values) ≡ true) (sym laid_out)
       (subst (λ (v : Tuple). is_instance (carriers_of (parameters m)) (with_values m v) ≡ true) (sym valued) (initial_fits m h))
 
-  pub initial_number_is : (n : ℕ) → slice_get (instances (carriers_of laid)) n ≡ Some (with_values m values) → IsInitial m n
+  pub initial_number_is : (n : ℕ) → slice_get (instances (carriers_of laid)) n ≡ Some (with_values m values) → IsInitialNumber m n
   initial_number_is n at =
       let here = subst (λ (x : List (List Carrier)). slice_get (instances (carriers_of x)) n ≡ Some (with_values m values)) laid_out at in
       let there = here ∙ ap (λ (v : Tuple). Some (with_values m v)) valued in

@@ -15,7 +15,7 @@ use Rattle.pb_bytecode_program.specs.Monotone.{IsCoveredAtLoop}
 use Rattle.pb_bytecode_program.proofs.Monotone.{AllEdges}
 use Rattle.pb_verifier_states.proofs.Covered.{flow_covered, solid_flow}
 use Rattle.pb_verifier.specs.Pass.{then_table, put, joined_at, merge_state, merge_edges}
-use Rattle.pb_verifier_structure.specs.Structure.{IsStructured, IsWithinLimits}
+use Rattle.pb_verifier_structure.specs.Structure.{IsStructured, IsProgramWithinLimits}
 use Rattle.pb_verifier.proofs.Targets.{TargetHolds, transfer_goes}
 use Rattle.pb_verifier.proofs.Merges.{IsBelow, AllSolid, Joined, AllFit, leads_further, covered_further, edges_joined, edges_refused, set_other}
 
@@ -150,7 +150,7 @@ home_solid T (Some k) (x ∷ qs) s e = s x k e
 
 -- ---- one place more
 
-module _ (p : Program) (w : IsStructured p) (limits : IsWithinLimits p) where
+module _ (p : Program) (w : IsStructured p) (limits : IsProgramWithinLimits p) where
   abbrev pub flow_at : Table → ℕ → Op → AbstractState → Flow
   flow_at T q i k = transfer p (state_at_loop T (loops_around p.code q)) q i k
 

@@ -14,10 +14,10 @@ use Rattle.pb_bytecode_program.specs.declared.instruction.Op.TheVariants as op
 use Rattle.pb_bytecode.specs.declared.version.Version.{Version}
 use Rattle.pb_bytecode.specs.Contents.{EquationContents, Contents, counts}
 use Rattle.pb_bytecode.specs.Meaning.{parameters, program_of}
-use Rattle.pb_bytecode.specs.Names.{is_name}
+use Rattle.pb_bytecode.specs.Names.{is_module_name}
 use Rattle.pb_bytecode.specs.Limits.{is_between, is_byte, is_i32, is_u16, is_u32, is_second, are_bounds, fits_sort, fits_carrier, fits_op, fits_equation, fits_initial, instance_count, fits}
 use Rattle.pb_bytecode.proofs.InstanceCounts.{instances_counted}
-use Rattle.pb_verifier_structure.specs.Structure.{IsWithinLimits}
+use Rattle.pb_verifier_structure.specs.Structure.{IsProgramWithinLimits}
 
 -- ---- parts of the limits
 
@@ -56,7 +56,7 @@ code_fits v sizes e h =
     let steps = is_u32 e.steps && tokens in
     let loops = is_between 0 (MAX_LOOP_SLOTS + 1) (length e.loops) && list_all (fits_carrier sizes) e.loops in
     let parameters = is_between 0 (MAX_PARAMETERS + 1) (length e.parameters) && list_all (fits_carrier sizes) e.parameters in
-    let a = and_parts (is_name e.name) (parameters && (loops && steps)) h in
+    let a = and_parts (is_module_name e.name) (parameters && (loops && steps)) h in
     let b = and_parts parameters (loops && steps) a.1 in
     let c = and_parts loops steps b.1 in
     let d = and_parts (is_u32 e.steps) tokens c.1 in
@@ -94,7 +94,7 @@ ordered v sizes op.Close h = tt
 ordered v sizes (op.Emit z) h = tt
 ordered v sizes (op.Call z) h = tt
 
-pub code_within_limits : (m : Contents) (k : ℕ) (e : EquationContents) → fits m ≡ true → slice_get m.equations k ≡ Some e → IsWithinLimits (program_of m e)
+pub code_within_limits : (m : Contents) (k : ℕ) (e : EquationContents) → fits m ≡ true → slice_get m.equations k ≡ Some e → IsProgramWithinLimits (program_of m e)
 code_within_limits m k e h at =
     let parts = equations_fit m h in
     let fit = code_fits m.version (counts m.sorts) e (all_at (fits_equation m.version (counts m.sorts)) m.equations k e parts.each at) in

@@ -15,7 +15,7 @@ use Rattle.pb_verifier.specs.Acceptance.{HasTable, IsAccepted, IsVerified}
 use Rattle.pb_verifier.specs.Programs.{HaveTables, parameters_of, program_in}
 use Rattle.pb_bytecode.specs.declared.sort.Sort.{Sort}
 use Rattle.std.proofs.lemmas.List.{length-map}
-use Rattle.pb_verifier_structure.specs.Structure.{IsWithinLimits}
+use Rattle.pb_verifier_structure.specs.Structure.{IsProgramWithinLimits}
 use Rattle.pb_verifier.proofs.Limits.{HasLayout, code_within_limits, has_layout}
 
 -- what the check of a module has at hand: counts of enumerators, the carriers of callees, and the equations
@@ -45,10 +45,10 @@ equation_at [] k x h = cc
 equation_at (e ∷ es) zero x h = record { equation = e; there = refl; says = let same : equation_contents e ≡ x = cc in same }
 equation_at (e ∷ es) (suc k) x h = let t = equation_at es k x h in record { equation = t.equation; there = t.there; says = t.says }
 
-pub each_within_limits : (m : Module) (sizes : List ℕ) (callees : List (List Carrier)) (es : List Equation) → IsOf m sizes callees es → fits (module_contents m) ≡ true → (k : ℕ) (e : Equation) → slice_get es k ≡ Some e → IsWithinLimits (program_in sizes callees e)
+pub each_within_limits : (m : Module) (sizes : List ℕ) (callees : List (List Carrier)) (es : List Equation) → IsOf m sizes callees es → fits (module_contents m) ≡ true → (k : ℕ) (e : Equation) → slice_get es k ≡ Some e → IsProgramWithinLimits (program_in sizes callees e)
 each_within_limits m sizes callees es o f k e h =
     let here : slice_get m.equations.items k ≡ Some e = ap (λ (xs : List Equation). slice_get xs k) (sym o.equations_are) ∙ h in
-    subst IsWithinLimits (same_program m sizes callees es e o) (code_within_limits (module_contents m) k (equation_contents e) f (slice_get-mapped equation_contents m.equations.items k e here))
+    subst IsProgramWithinLimits (same_program m sizes callees es e o) (code_within_limits (module_contents m) k (equation_contents e) f (slice_get-mapped equation_contents m.equations.items k e here))
 
 pub accepted_by_tables : (m : Module) (sizes : List ℕ) (callees : List (List Carrier)) (es : List Equation) → IsOf m sizes callees es → HaveTables sizes callees es → IsAccepted (module_contents m)
 accepted_by_tables m sizes callees es o h = record {

@@ -9,7 +9,7 @@ use Rattle.pb_bytecode_program.specs.Machine.{Program}
 use Rattle.pb_bytecode_program.specs.Transfer.{AbstractState, transfer}
 use Rattle.pb_bytecode_program.specs.Accepted.{Table, state_at}
 use Rattle.pb_bytecode_program.specs.declared.instruction.Op.{Op}
-use Rattle.pb_verifier.specs.Pass.{Homes, homes_after, innermost, merge_edges, passes, code_passes, opening, then_table, visited}
+use Rattle.pb_verifier.specs.Pass.{Homes, homes_after, innermost, merge_edges, passes, code_passes, initial_table, then_table, visited}
 
 -- what is known flows on
 pub known_flows : (p : Program) (q : ℕ) (i : Op) (o : Option AbstractState) (k : AbstractState) (home : Option AbstractState) (homes : Homes) (t : Table) (u : Option Table) → o ≡ Some k → home ≡ innermost homes → then_table (transfer p home q i k) (merge_edges t) ≡ u → visited p q i o homes t ≡ u
@@ -32,7 +32,7 @@ pub op_here : (items code : List Op) (q : ℕ) (d : Op) → items ≡ code → q
 op_here items code q d e l = sym (ap (λ (x : List Op). slice_get x q) e) ∙ slice_get-get_or items q d l
 
 -- at the start
-pub passes_begin : (p : Program) (homes : Homes) (t : Table) → homes ≡ [] → t ≡ opening p → passes p 0 (drop 0 p.code) homes t ≡ code_passes p
+pub passes_begin : (p : Program) (homes : Homes) (t : Table) → homes ≡ [] → t ≡ initial_table p → passes p 0 (drop 0 p.code) homes t ≡ code_passes p
 passes_begin p homes t h e = rw (h, e, drop_none p.code) refl
   where
     drop_none : (code : List Op) → drop 0 code ≡ code

@@ -15,8 +15,8 @@ use Rattle.pb_sorts.specs.declared.carrier.Carrier.{Carrier}
 use Rattle.pb_sorts.specs.declared.carrier.Carrier.TheVariants as carrier
 use lib.Signed.{≤ℤ_refl}
 use Rattle.std.proofs.lemmas.Option.{slice_get_within, none-some, same_Some}
-use Rattle.pb_verifier.specs.Pass.{Homes, homes_after, visited, passes, passes_on, opening, code_passes, innermost}
-use Rattle.pb_verifier_structure.specs.Structure.{IsStructured, IsWithinLimits}
+use Rattle.pb_verifier.specs.Pass.{Homes, homes_after, visited, passes, passes_on, initial_table, code_passes, innermost}
+use Rattle.pb_verifier_structure.specs.Structure.{IsStructured, IsProgramWithinLimits}
 use Rattle.pb_verifier_structure.proofs.Around.{start_around}
 use Rattle.pb_verifier.proofs.Merges.{IsBelow, set_same, set_other, set_long}
 use Rattle.pb_verifier.proofs.Agreement.{Agrees, SameBehind, SameResult, visited_agrees, home_of}
@@ -53,7 +53,7 @@ homes_step Leaves T U q [] homes o h e = rw h refl
 homes_step Leaves T U q (x ∷ qs) homes o h e = rw h refl
 homes_step Straight T U q qs homes o h e = h
 
-module _ (p : Program) (w : IsStructured p) (limits : IsWithinLimits p) where
+module _ (p : Program) (w : IsStructured p) (limits : IsProgramWithinLimits p) where
   later : (T t : Table) (homes : Homes) (q : ℕ) (i : Op) → slice_get p.code q ≡ Some i → (a : Agrees p T t homes q) → SameResult q (visited p q i (state_at t q) homes (slice_set t q None)) (visited p q i (state_at T q) homes T)
   later T t homes q i at a = visited_agrees p T t homes q i a (λ k es e. later_edges p (innermost homes) q i k es (w.placed q i at) e)
 
@@ -131,14 +131,14 @@ carriers_solid (c ∷ cs) = (carrier_solid c, carriers_solid cs)
 entry_solid : (p : Program) → IsCovered (entry p) (entry p)
 entry_solid p = record { operands = tt; operands_below = refl; parameters = carriers_solid p.parameters; loops = tt; brackets = refl; brackets_below = refl; roots = refl }
 
-open_known : (p : Program) (r : ℕ) (k : AbstractState) → 0 < length p.code → state_at (opening p) r ≡ Some k → (r ≡ 0) × (k ≡ entry p)
+open_known : (p : Program) (r : ℕ) (k : AbstractState) → 0 < length p.code → state_at (initial_table p) r ≡ Some k → (r ≡ 0) × (k ≡ entry p)
 open_known p r k l e =
     ⊎_elim
-    (λ (same : r ≡ 0). (same, sym (same_Some _ _ (sym (set_same (replicate (length p.code) None) 0 None (entry p) (first_there (length p.code) l)) ∙ ap (state_at (opening p)) (sym same) ∙ e))))
+    (λ (same : r ≡ 0). (same, sym (same_Some _ _ (sym (set_same (replicate (length p.code) None) 0 None (entry p) (first_there (length p.code) l)) ∙ ap (state_at (initial_table p)) (sym same) ∙ e))))
     (λ (differ : r ≡ 0 → ⊥). absurd (none-some k (sym (nothing_known (length p.code) r) ∙ sym (set_other (replicate (length p.code) None) 0 r (entry p) differ) ∙ e)))
     (cases_eq r 0)
 
-opening_kept : (p : Program) → IsWithinLimits p → Kept p (opening p) 0
+opening_kept : (p : Program) → IsProgramWithinLimits p → Kept p (initial_table p) 0
 opening_kept p l =
     let some = l.some in record {
       done = λ r i k lt at h. absurd (omega arith);
@@ -148,13 +148,13 @@ opening_kept p l =
       reached = λ r k e. let x = open_known p r k l.some e in rw (x.0, start_around p.code) tt;
     }
 
-opening_agrees : (p : Program) → Agrees p (opening p) (opening p) [] 0
+opening_agrees : (p : Program) → Agrees p (initial_table p) (initial_table p) [] 0
 opening_agrees p = record { same = λ r le. refl; long = refl; known = rw (start_around p.code) refl }
 
 -- where the pass ends, a table accepts the code
-pub pass_sound : (p : Program) → IsStructured p → IsWithinLimits p → static_steps p ≤ p.stated_steps → p.stated_steps ≤ MAX_STEPS → static_tokens p ≤ p.stated_tokens → p.stated_tokens ≤ MAX_TOKENS → code_passes p ≡ true → (table : Table) × Accepted p table
+pub pass_sound : (p : Program) → IsStructured p → IsProgramWithinLimits p → static_steps p ≤ p.stated_steps → p.stated_steps ≤ MAX_STEPS → static_tokens p ≤ p.stated_tokens → p.stated_tokens ≤ MAX_TOKENS → code_passes p ≡ true → (table : Table) × Accepted p table
 pass_sound p w l a b c d e =
-    let k = all_kept p w l p.code 0 (opening p) (opening p) [] refl (omega arith) (opening_kept p l) (opening_agrees p) e in (
+    let k = all_kept p w l p.code 0 (initial_table p) (initial_table p) [] refl (omega arith) (opening_kept p l) (opening_agrees p) e in (
       k.0,
       record {
         placed = w.placed;
@@ -172,9 +172,9 @@ pass_sound p w l a b c d e =
     )
 
 -- where it refuses, none does
-pub pass_complete : (p : Program) (A : Table) → IsStructured p → IsWithinLimits p → code_passes p ≡ false → Accepted p A → ⊥
+pub pass_complete : (p : Program) (A : Table) → IsStructured p → IsProgramWithinLimits p → code_passes p ≡ false → Accepted p A → ⊥
 pass_complete p A w l e ok =
-    none_kept p w l A p.code 0 (opening p) (opening p) [] ok refl (opening_kept p l)
+    none_kept p w l A p.code 0 (initial_table p) (initial_table p) [] ok refl (opening_kept p l)
     (λ r k h. let x = open_known p r k l.some h in let b = ok.begins in
     let g : Leads A (record { to = r; state = k }) = record { known = b.known; there = ap (state_at A) x.0 ∙ b.there; covered = subst (λ (u : AbstractState). IsCovered u b.known) (sym x.1) b.covered } in g)
     (opening_agrees p) e

@@ -28,7 +28,7 @@ pub record IsVerified (m : Contents) (layout : List (List Carrier)) : Type 0 whe
   pub laid_out : layout ≡ parameters m
 
 -- the number of the initial instance, which is one of the layout's
-pub record IsInitial (m : Contents) (number : ℕ) : Type 0 where
+pub record IsInitialNumber (m : Contents) (number : ℕ) : Type 0 where
   pub same : number ≡ initial_of m
   pub inside : number < count_of (parameters m)
 

@@ -11,8 +11,8 @@ use Rattle.pb_verifier.specs.Programs.{program_in}
 
 -- joined into the table, what flows from the instruction gives this table, or none where they don't
 -- join
-abbrev pub FlowsTo : Names → ℕ → Op → AbstractState → Table → Option Table → Type 0
-FlowsTo names place i state old new = (p : Program) (home : Option AbstractState) →
+abbrev pub FlowsInto : Names → ℕ → Op → AbstractState → Table → Option Table → Type 0
+FlowsInto names place i state old new = (p : Program) (home : Option AbstractState) →
     p.sorts ≡ names.sorts.now → p.callees ≡ map vec_items names.callees.now →
     then_table (transfer p home place i state) (merge_edges old) ≡ new
 

@@ -66,9 +66,9 @@ passes p q (i ∷ is) homes t =
     (passes p (q + 1) is (homes_after (loop_effect i) (state_at t q) homes))
 
 -- at the start the first place alone is known
-abbrev pub opening : Program → Table
-opening p = slice_set (replicate (length p.code) None) 0 (Some (entry p))
+abbrev pub initial_table : Program → Table
+initial_table p = slice_set (replicate (length p.code) None) 0 (Some (entry p))
 
 -- the whole code
 abbrev pub code_passes : Program → Bool
-code_passes p = passes p 0 p.code [] (opening p)
+code_passes p = passes p 0 p.code [] (initial_table p)

@@ -7,7 +7,7 @@ ghost use Rattle.pb_verifier_structure.specs.Views.{IsProgramOf};
 ghost use Rattle.pb_verifier.specs.Acceptance.{HasTable, StatesCounts};
 ghost use Rattle.pb_errors.specs.OrMemory.{OnRefused};
 ghost use Rattle.pb_verifier.specs.Programs.{program_in};
-ghost use Rattle.pb_verifier_structure.specs.Structure.{IsWithinLimits};
+ghost use Rattle.pb_verifier_structure.specs.Structure.{IsProgramWithinLimits};
 
 use crate::pass::pass;
 use pb_bytecode::Equation;
@@ -36,7 +36,8 @@ pub(crate) fn check_equation(
     callees: &[Vec<Carrier>],
     equation: &Equation,
 ) -> Result<(), OrMemory<PositionFault>>
-    requires { IsWithinLimits (program_in sorts.now (map vec_items callees.now) equation.now) }
+    requires { IsProgramWithinLimits
+        (program_in sorts.now (map vec_items callees.now) equation.now) }
     ensures accepted { OnOk result (HasTable (program_in sorts.now
         (map vec_items callees.now) equation.now)) }
     ensures refused { OnRefused result

@@ -9,10 +9,10 @@ ghost use Rattle.pb_bytecode_program.specs.Counts.{Leaves, loop_effect};
 ghost use Rattle.pb_bytecode_program.specs.Monotone.{HasOrderedRange};
 ghost use Rattle.pb_bytecode_program.specs.Machine.{Program, carrier_of};
 ghost use Rattle.pb_bytecode_program.specs.declared.instruction.Op.TheVariants as op;
-ghost use Rattle.pb_verifier.specs.Pass.{code_passes, homes_after, opening, visited};
+ghost use Rattle.pb_verifier.specs.Pass.{code_passes, homes_after, initial_table, visited};
 ghost use Rattle.pb_verifier.specs.Programs.{program_in};
 ghost use Rattle.pb_verifier.specs.Names.{program_with};
-ghost use Rattle.pb_verifier_structure.specs.Structure.{IsWithinLimits};
+ghost use Rattle.pb_verifier_structure.specs.Structure.{IsProgramWithinLimits};
 ghost use Rattle.pb_limits.specs.declared.TheConstants.{MAX_INSTRUCTIONS};
 ghost use Rattle.pb_sorts.specs.declared.carrier.Carrier.{Carrier as carrier_type};
 
@@ -76,7 +76,7 @@ impl PassState {
     fn opening(alloc: Global, equation: &Equation) -> Result<PassState, AllocError>
         requires { 0 < vec_len equation.now.code }
         ensures table { IfOk result (λ pass. (sorts : List ℕ) (callees : List (List carrier_type))
-            → pass.table.items ≡ opening (program_in sorts callees equation.now)) }
+            → pass.table.items ≡ initial_table (program_in sorts callees equation.now)) }
         ensures open_loops { IfOk result (λ pass. pass.open_loops ≡ []) }
     {
         let mut table = empty_table(alloc, equation.code.len())?;
@@ -188,7 +188,8 @@ pub(crate) fn pass(
     callees: &[Vec<Carrier>],
     equation: &Equation,
 ) -> Result<(), OrMemory<PositionFault>>
-    requires { IsWithinLimits (program_in sorts.now (map vec_items callees.now) equation.now) }
+    requires { IsProgramWithinLimits
+        (program_in sorts.now (map vec_items callees.now) equation.now) }
     ensures passes { OnOk result
         (code_passes (program_in sorts.now (map vec_items callees.now) equation.now) ≡ true) }
     ensures refused { OnRefused result

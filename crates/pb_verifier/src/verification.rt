@@ -4,10 +4,10 @@ ghost use Rattle.std.specs.Prelude.{◌≡◌, IfErr, IfOk, OnOk, Some, ℕ, map
 ghost use Rattle.pb_bytecode.specs.Decoded.{module_contents};
 ghost use Rattle.pb_bytecode.specs.Meaning.{parameters};
 ghost use Rattle.pb_bytecode.specs.declared.equation.Equation.{Equation as equation_type};
-ghost use Rattle.pb_verifier.specs.Acceptance.{IsAccepted, IsInitial, IsVerified};
+ghost use Rattle.pb_verifier.specs.Acceptance.{IsAccepted, IsInitialNumber, IsVerified};
 ghost use Rattle.pb_verifier.specs.Programs.{program_in, HaveTables};
 ghost use Rattle.pb_errors.specs.OrMemory.{IfFault, OnRefused, raised};
-ghost use Rattle.pb_verifier_structure.specs.Structure.{IsWithinLimits};
+ghost use Rattle.pb_verifier_structure.specs.Structure.{IsProgramWithinLimits};
 
 use crate::equation::check_equation;
 use crate::module_tables::{enumerator_counts, layout_of, parameter_carriers};
@@ -39,7 +39,7 @@ fn check_equations(
     equations: &[Equation],
 ) -> Result<(), VerifyError>
     requires { (k : ℕ) (e : equation_type) → slice_get equations.now k ≡ Some e
-        → IsWithinLimits (program_in sorts.now (map vec_items callees.now) e) }
+        → IsProgramWithinLimits (program_in sorts.now (map vec_items callees.now) e) }
     ensures accepted { OnOk result (HaveTables sorts.now
         (map vec_items callees.now) equations.now) }
     ensures refused { OnRefused result
@@ -57,7 +57,7 @@ fn check_equations(
 // The number of the initial instance. Up to `MAX_PARAMETERS` values take no memory.
 fn initial_number(alloc: Global, module: &Module, layout: &Layout) -> Result<u32, AllocError>
     requires { layout.now ≡ parameters (module_contents «module».now) }
-    ensures { IfOk result (IsInitial (module_contents «module».now)) }
+    ensures { IfOk result (IsInitialNumber (module_contents «module».now)) }
 {
     let instance = Instance {
         equation: module.initial.equation,
@@ -72,7 +72,8 @@ fn initial_number(alloc: Global, module: &Module, layout: &Layout) -> Result<u32
 // Checks the module, and gives the layout of its instances and the number of the initial one.
 fn check(alloc: Global, module: &Module) -> Result<(Layout, u32), VerifyError>
     ensures verified { IfOk result (λ found. IsVerified (module_contents «module».now) found.0) }
-    ensures initial { IfOk result (λ found. IsInitial (module_contents «module».now) found.1) }
+    ensures initial { IfOk result
+        (λ found. IsInitialNumber (module_contents «module».now) found.1) }
     ensures refused { OnRefused result (IsAccepted (module_contents «module».now) → ⊥) }
 {
     let sorts = enumerator_counts(alloc, &module.sorts)?;

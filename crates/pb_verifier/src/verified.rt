@@ -23,23 +23,24 @@ pub struct Verified {
 impl Model for Verified {
     ghost use Rattle.pb_bytecode.specs.Contents.{Contents};
     ghost use Rattle.pb_bytecode.specs.Decoded.{module_contents};
-    ghost use Rattle.pb_verifier.specs.Acceptance.{IsInitial, IsVerified};
+    ghost use Rattle.pb_verifier.specs.Acceptance.{IsInitialNumber, IsVerified};
 
     ghost Value = { Contents };
 
     ghost view = { λ verified. module_contents verified.module };
 
     ghost invariant = { λ verified. IsVerified (module_contents verified.module) verified.layout
-        × IsInitial (module_contents verified.module) verified.initial };
+        × IsInitialNumber (module_contents verified.module) verified.initial };
 }
 
 impl Verified {
-    ghost use Rattle.pb_verifier.specs.Acceptance.{IsAccepted, IsInitial, IsVerified, RunsSafely};
+    ghost use Rattle.pb_verifier.specs.Acceptance.{IsAccepted, IsInitialNumber, IsVerified};
+    ghost use Rattle.pb_verifier.specs.Acceptance.{RunsSafely};
 
     /// A module whose code was found to be accepted.
     pub(crate) fn new(accepted: Module, layout: Layout, initial: u32) -> Verified
         requires accepted { IsVerified (module_contents accepted) layout }
-        requires initial { IsInitial (module_contents accepted) initial }
+        requires initial { IsInitialNumber (module_contents accepted) initial }
         ensures { result ≡ module_contents accepted }
     {
         Verified {

@@ -8,7 +8,7 @@ ghost use Rattle.pb_bytecode_program.specs.Counts.{Straight, loop_effect};
 ghost use Rattle.pb_bytecode_program.specs.Machine.{Program, carrier_of};
 ghost use Rattle.pb_bytecode_program.specs.Transfer.{AbstractState as Known, transfer};
 ghost use Rattle.pb_bytecode_program.specs.declared.instruction.Op.TheVariants as op;
-ghost use Rattle.pb_verifier.specs.Names.{FlowsTo};
+ghost use Rattle.pb_verifier.specs.Names.{FlowsInto};
 ghost use Rattle.pb_verifier.specs.Pass.{merge_edges as merged_edges, then_table};
 
 use crate::table::{merge, merge_edges};
@@ -37,10 +37,10 @@ pub(crate) fn visit(
     requires straight { loop_effect instruction ≡ Straight }
     requires bounds { HasOrderedRange instruction }
     requires small { place ≤ MAX_INSTRUCTIONS }
-    ensures ok { OnOk result (FlowsTo names.now place instruction state table.old.items
+    ensures ok { OnOk result (FlowsInto names.now place instruction state table.old.items
         (Some table.new.items)) }
     ensures refused { OnRefused result
-        (FlowsTo names.now place instruction state table.old.items None) }
+        (FlowsInto names.now place instruction state table.old.items None) }
 {
     let alloc = *table.allocator();
     let edges = flow(state, alloc, names.sorts, names.callees, instruction)?;

@@ -2,7 +2,7 @@
 use Rattle.std.proofs.Common.{◌≡◌, ℕ, ◌+◌, ◌-◌, ◌<◌, ◌≤◌, List, ◌∷◌, length, take, get_or, reverse, ap, ◌∙◌, sym, arith, None}
 use Rattle.std.proofs.lemmas.Grind.{common_steps}
 use Rattle.pb_bytecode_program.specs.Transfer.{Flow, abstract_pop_args}
-use Rattle.pb_bytecode_program.specs.declared.abstract_value.AbstractValue.{AbstractValue}
+use Rattle.pb_bytecode_program.specs.declared.domain.AbstractValue.{AbstractValue}
 use Rattle.pb_sorts.specs.declared.carrier.Carrier.{Carrier}
 
 pub reverse_take : (cs : List Carrier) (n : ℕ) (d : Carrier) → 0 < n → n ≤ length cs → reverse (take n cs) ≡ get_or cs (n - 1) d ∷ reverse (take (n - 1) cs)

@@ -8,9 +8,9 @@ use Rattle.std.proofs.lemmas.Option.{same_Some}
 use Rattle.pb_bytecode_program.specs.Abstract.{Covers}
 use Rattle.pb_bytecode_program.specs.Transfer.{AbstractState}
 use Rattle.pb_bytecode_program.specs.Accepted.{CoversEach, CoversLoops, IsCovered}
-use Rattle.pb_bytecode_program.specs.declared.abstract_value.AbstractValue.{AbstractValue}
-use Rattle.pb_bytecode_program.specs.declared.abstract_value.AbstractValue.TheVariants as abstract
-use Rattle.pb_verifier_states.specs.Join.{hull_of, with_first, hulls, with_loop, loop_hulls, joined, agree, join_states}
+use Rattle.pb_bytecode_program.specs.declared.domain.AbstractValue.{AbstractValue}
+use Rattle.pb_bytecode_program.specs.declared.domain.AbstractValue.TheVariants as abstract
+use Rattle.pb_verifier_states.specs.Join.{hull_of, with_first, hulls, with_loop, loop_hulls, joined_state, agree, join_states}
 
 -- the items so far, and those to come
 abbrev pub prefixed : List AbstractValue → Option (List AbstractValue) → Option (List AbstractValue)
@@ -200,7 +200,7 @@ loops_none (s ∷ ss) (t ∷ ts) (m ∷ ms) e a b =
 pub join_covers : (k m n : AbstractState) → join_states k m ≡ Some n → IsCovered k k → IsCovered m m → IsCovered k n × IsCovered m n
 join_covers k m n e a b = by (agree k m) (hulls k.operands m.operands) (hulls k.parameters m.parameters) (loop_hulls k.loops m.loops) refl refl refl refl e
   where
-    by : (c : Bool) (o r : Option (List AbstractValue)) (l : Option (List (ℕ × AbstractValue))) → agree k m ≡ c → hulls k.operands m.operands ≡ o → hulls k.parameters m.parameters ≡ r → loop_hulls k.loops m.loops ≡ l → joined c k o r l ≡ Some n → IsCovered k n × IsCovered m n
+    by : (c : Bool) (o r : Option (List AbstractValue)) (l : Option (List (ℕ × AbstractValue))) → agree k m ≡ c → hulls k.operands m.operands ≡ o → hulls k.parameters m.parameters ≡ r → loop_hulls k.loops m.loops ≡ l → joined_state c k o r l ≡ Some n → IsCovered k n × IsCovered m n
     by false o r l f g h j e = cc
     by true None r l f g h j e = cc
     by true (Some ss) None l f g h j e = cc
@@ -220,7 +220,7 @@ join_covers k m n e a b = by (agree k m) (hulls k.operands m.operands) (hulls k.
 pub join_least : (k m n u : AbstractState) → join_states k m ≡ Some n → IsCovered k u → IsCovered m u → IsCovered n u
 join_least k m n u e a b = by (agree k m) (hulls k.operands m.operands) (hulls k.parameters m.parameters) (loop_hulls k.loops m.loops) refl refl refl e
   where
-    by : (c : Bool) (o r : Option (List AbstractValue)) (l : Option (List (ℕ × AbstractValue))) → hulls k.operands m.operands ≡ o → hulls k.parameters m.parameters ≡ r → loop_hulls k.loops m.loops ≡ l → joined c k o r l ≡ Some n → IsCovered n u
+    by : (c : Bool) (o r : Option (List AbstractValue)) (l : Option (List (ℕ × AbstractValue))) → hulls k.operands m.operands ≡ o → hulls k.parameters m.parameters ≡ r → loop_hulls k.loops m.loops ≡ l → joined_state c k o r l ≡ Some n → IsCovered n u
     by false o r l g h j e = cc
     by true None r l g h j e = cc
     by true (Some ss) None l g h j e = cc
@@ -229,12 +229,12 @@ join_least k m n u e a b = by (agree k m) (hulls k.operands m.operands) (hulls k
         subst (λ (v : AbstractState). IsCovered v u) (same_Some _ _ e) (record { operands = hulls_least k.operands m.operands ss u.operands g a.operands b.operands; operands_below = a.operands_below; parameters = hulls_least k.parameters m.parameters ps u.parameters h a.parameters b.parameters; loops = loops_least k.loops m.loops ls u.loops j a.loops b.loops; brackets = a.brackets; brackets_below = a.brackets_below; roots = a.roots })
 
 pub join_none : (k m u : AbstractState) → join_states k m ≡ None → IsCovered k u → IsCovered m u → ⊥
-join_none k m u e a b = by (hulls k.operands m.operands) (hulls k.parameters m.parameters) (loop_hulls k.loops m.loops) refl refl refl (subst (λ c. joined c k (hulls k.operands m.operands) (hulls k.parameters m.parameters) (loop_hulls k.loops m.loops) ≡ None) test e)
+join_none k m u e a b = by (hulls k.operands m.operands) (hulls k.parameters m.parameters) (loop_hulls k.loops m.loops) refl refl refl (subst (λ c. joined_state c k (hulls k.operands m.operands) (hulls k.parameters m.parameters) (loop_hulls k.loops m.loops) ≡ None) test e)
   where
     test : agree k m ≡ true
     test = and_from ((k.operands_below == m.operands_below) && (k.brackets == m.brackets) && (k.brackets_below == m.brackets_below)) (k.roots == m.roots) (and_from ((k.operands_below == m.operands_below) && (k.brackets == m.brackets)) (k.brackets_below == m.brackets_below) (and_from (k.operands_below == m.operands_below) (k.brackets == m.brackets) (eq-eqb k.operands_below m.operands_below (a.operands_below ∙ sym b.operands_below)) (eq-eqb k.brackets m.brackets (a.brackets ∙ sym b.brackets))) (eq-eqb k.brackets_below m.brackets_below (a.brackets_below ∙ sym b.brackets_below))) (eq-eqb k.roots m.roots (a.roots ∙ sym b.roots))
 
-    by : (o r : Option (List AbstractValue)) (l : Option (List (ℕ × AbstractValue))) → hulls k.operands m.operands ≡ o → hulls k.parameters m.parameters ≡ r → loop_hulls k.loops m.loops ≡ l → joined true k o r l ≡ None → ⊥
+    by : (o r : Option (List AbstractValue)) (l : Option (List (ℕ × AbstractValue))) → hulls k.operands m.operands ≡ o → hulls k.parameters m.parameters ≡ r → loop_hulls k.loops m.loops ≡ l → joined_state true k o r l ≡ None → ⊥
     by None r l g h j e = hulls_none k.operands m.operands u.operands g a.operands b.operands
     by (Some ss) None l g h j e = hulls_none k.parameters m.parameters u.parameters h a.parameters b.parameters
     by (Some ss) (Some ps) None g h j e = loops_none k.loops m.loops u.loops j a.loops b.loops

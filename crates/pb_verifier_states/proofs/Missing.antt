@@ -4,8 +4,8 @@ use Rattle.std.proofs.lemmas.Grind.{common_steps}
 use Rattle.std.proofs.lemmas.List.{length-reverse}
 use Rattle.pb_bytecode_program.specs.Abstract.{abstraction_of, same_kind}
 use Rattle.pb_bytecode_program.specs.Transfer.{AbstractState, Flow, abstract_pop_args, abstract_root, abstract_call, to_next_place, accepts}
-use Rattle.pb_bytecode_program.specs.declared.abstract_value.AbstractValue.{AbstractValue}
-use Rattle.pb_bytecode_program.specs.declared.abstract_value.AbstractValue.TheVariants as abstract
+use Rattle.pb_bytecode_program.specs.declared.domain.AbstractValue.{AbstractValue}
+use Rattle.pb_bytecode_program.specs.declared.domain.AbstractValue.TheVariants as abstract
 use Rattle.pb_sorts.specs.declared.carrier.Carrier.{Carrier}
 use Rattle.pb_sorts.specs.declared.carrier.Carrier.TheVariants as carrier
 use Rattle.pb_verifier_states.specs.Kinds.{are_of_kinds}
@@ -19,8 +19,8 @@ too_few [] ss go h = absurd (omega arith)
 too_few (c ∷ cs) [] go h = refl
 too_few (c ∷ cs) (s ∷ ss) go h = none_either (accepts s c) (abstract_pop_args cs ss go) (λ _. too_few cs ss go (omega arith))
 
-pub no_arguments : (cs : List Carrier) (ss : List AbstractValue) (go : List AbstractValue → Flow) → length ss < length cs → abstract_pop_args (reverse cs) ss go ≡ None
-no_arguments cs ss go h = too_few (reverse cs) ss go (rw length-reverse h)
+pub are_missing : (cs : List Carrier) (ss : List AbstractValue) (go : List AbstractValue → Flow) → length ss < length cs → abstract_pop_args (reverse cs) ss go ≡ None
+are_missing cs ss go h = too_few (reverse cs) ss go (rw length-reverse h)
 
 accepted_kind : (s : AbstractValue) (c : Carrier) → accepts s c ≡ true → same_kind s (abstraction_of c) ≡ true
 accepted_kind abstract.Bool carrier.Bool h = refl

@@ -5,8 +5,8 @@ use Rattle.pb_bytecode_program.proofs.Covering.{covers_through}
 use Rattle.pb_bytecode_program.specs.Abstract.{Covers}
 use Rattle.pb_bytecode_program.specs.Transfer.{AbstractState}
 use Rattle.pb_bytecode_program.specs.Accepted.{CoversEach, CoversLoops, IsCovered}
-use Rattle.pb_bytecode_program.specs.declared.abstract_value.AbstractValue.{AbstractValue}
-use Rattle.pb_bytecode_program.specs.declared.abstract_value.AbstractValue.TheVariants as abstract
+use Rattle.pb_bytecode_program.specs.declared.domain.AbstractValue.{AbstractValue}
+use Rattle.pb_bytecode_program.specs.declared.domain.AbstractValue.TheVariants as abstract
 
 each_through : (s t u : List AbstractValue) → CoversEach s t → CoversEach t u → CoversEach s u
 each_through [] [] u c d = d

@@ -4,7 +4,7 @@ use Rattle.std.specs.Prelude.{slice_get, slice_set}
 use Rattle.pb_bytecode_program.specs.Values.{is_inhabited}
 use Rattle.pb_bytecode_program.specs.Abstract.{abstraction_of}
 use Rattle.pb_bytecode_program.proofs.Ints.{from_le}
-use Rattle.pb_bytecode_program.specs.declared.abstract_value.AbstractValue.{AbstractValue}
+use Rattle.pb_bytecode_program.specs.declared.domain.AbstractValue.{AbstractValue}
 use Rattle.pb_sorts.specs.declared.carrier.Carrier.{Carrier}
 use Rattle.pb_sorts.specs.declared.carrier.Carrier.TheVariants as carrier
 use Rattle.std.proofs.lemmas.Int.{ints, clamps}
@@ -14,7 +14,7 @@ use Rattle.std.specs.Prelude.{IfSome}
 use Rattle.std.proofs.lemmas.Bool.{cond-true, eq-eqb, lt-ltb}
 use Rattle.std.proofs.Common.{◌<◌, ◌≤◌, ◌++◌, take, drop, get_or, Bool, false, cond, suc, length, refl, ap, sym, max}
 use Rattle.pb_bytecode_program.specs.Transfer.{abstract_slot, set_loop, set_param}
-use Rattle.pb_bytecode_program.specs.declared.abstract_value.AbstractValue.TheVariants as abstract
+use Rattle.pb_bytecode_program.specs.declared.domain.AbstractValue.TheVariants as abstract
 use Rattle.pb_verifier_states.specs.Join.{hull_of, hulls, with_loop, loop_hulls}
 use Rattle.pb_verifier_states.proofs.Hulls.{made}
 use Rattle.pb_verifier_states.specs.Inhabited.{HasOrderedEnds, HaveOrderedEnds, LoopsHaveOrderedEnds}

@@ -6,8 +6,8 @@ use Rattle.std.proofs.lemmas.Bool.{cond-true, cond-false}
 use Rattle.pb_bytecode_program.specs.Values.{fits64, divides}
 use Rattle.pb_bytecode_program.specs.Abstract.{interval_of}
 use Rattle.pb_bytecode_program.specs.Transfer.{AbstractState, abstract_push, abstract_push_int, to_next_place}
-use Rattle.pb_bytecode_program.specs.declared.abstract_value.AbstractValue.{AbstractValue}
-use Rattle.pb_bytecode_program.specs.declared.abstract_value.AbstractValue.TheVariants as abstract
+use Rattle.pb_bytecode_program.specs.declared.domain.AbstractValue.{AbstractValue}
+use Rattle.pb_bytecode_program.specs.declared.domain.AbstractValue.TheVariants as abstract
 use Rattle.pb_bytecode_program.specs.declared.instruction.Arithmetic.{Arithmetic}
 use Rattle.pb_bytecode_program.specs.declared.instruction.Op.TheVariants as op
 use Rattle.pb_intervals.specs.Interval.{IntegerInterval}

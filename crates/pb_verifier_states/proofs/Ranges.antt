@@ -6,8 +6,8 @@ use Rattle.std.proofs.lemmas.Int.{ints, clamps}
 use Rattle.std.proofs.lemmas.Bool.{and_parts, and_from, false_from_ne_true}
 use Rattle.pb_bytecode_program.specs.Transfer.{AbstractState, range_edges, abstract_pop_int, set_slot, abstract_slot}
 use Rattle.pb_bytecode_program.proofs.Ints.{le_true, le_false, from_le}
-use Rattle.pb_bytecode_program.specs.declared.abstract_value.AbstractValue.{AbstractValue}
-use Rattle.pb_bytecode_program.specs.declared.abstract_value.AbstractValue.TheVariants as abstract
+use Rattle.pb_bytecode_program.specs.declared.domain.AbstractValue.{AbstractValue}
+use Rattle.pb_bytecode_program.specs.declared.domain.AbstractValue.TheVariants as abstract
 use Rattle.pb_bytecode_program.specs.declared.instruction.Op.TheVariants as op
 use Rattle.pb_intervals.specs.Interval.{IntegerInterval, IsWithin, cut, unless_empty, is_non_empty}
 use Rattle.pb_verifier_states.specs.Edges.{edges_of}

@@ -1,7 +1,7 @@
 -- Abstract values that stand for some value: no interval is empty.
 use Rattle.std.specs.Prelude.{ℕ, List, [], ◌∷◌, ◌≤ℤ◌}
-use Rattle.pb_bytecode_program.specs.declared.abstract_value.AbstractValue.{AbstractValue}
-use Rattle.pb_bytecode_program.specs.declared.abstract_value.AbstractValue.TheVariants as abstract
+use Rattle.pb_bytecode_program.specs.declared.domain.AbstractValue.{AbstractValue}
+use Rattle.pb_bytecode_program.specs.declared.domain.AbstractValue.TheVariants as abstract
 
 abbrev pub HasOrderedEnds : AbstractValue → Type 0
 HasOrderedEnds abstract.Bool = Unit {0}

@@ -3,8 +3,8 @@
 use Rattle.std.specs.Prelude.{ℕ, max, List, [], ◌∷◌, Option, Some, None, Bool, true, ◌&&◌, ◌==◌, if◌then◌else◌}
 use Rattle.std.specs.Int.{int_min, int_max}
 use Rattle.pb_bytecode_program.specs.Transfer.{AbstractState}
-use Rattle.pb_bytecode_program.specs.declared.abstract_value.AbstractValue.{AbstractValue}
-use Rattle.pb_bytecode_program.specs.declared.abstract_value.AbstractValue.TheVariants as abstract
+use Rattle.pb_bytecode_program.specs.declared.domain.AbstractValue.{AbstractValue}
+use Rattle.pb_bytecode_program.specs.declared.domain.AbstractValue.TheVariants as abstract
 
 -- the least value that covers two of one kind
 abbrev pub hull_of : AbstractValue → AbstractValue → Option AbstractValue
@@ -40,11 +40,12 @@ loop_hulls (s ∷ ss) (t ∷ ts) = with_loop (s.0 == t.0) s.0 (hull_of s.1 t.1) 
 loop_hulls [] (t ∷ ts) = None
 loop_hulls (s ∷ ss) [] = None
 
-abbrev pub joined : Bool → AbstractState → Option (List AbstractValue) → Option (List AbstractValue)
+abbrev pub joined_state : Bool → AbstractState → Option (List AbstractValue)
+    → Option (List AbstractValue)
     → Option (List (ℕ × AbstractValue)) → Option AbstractState
-joined true k (Some ss) (Some ps) (Some ls) =
+joined_state true k (Some ss) (Some ps) (Some ls) =
     Some (record k { operands = ss; parameters = ps; loops = ls })
-joined _ _ _ _ _ = None
+joined_state _ _ _ _ _ = None
 
 -- all but operands and slots is the same
 abbrev pub agree : AbstractState → AbstractState → Bool
@@ -55,5 +56,5 @@ agree k m =
 -- the least state that covers both
 abbrev pub join_states : AbstractState → AbstractState → Option AbstractState
 join_states k m =
-    joined (agree k m) k (hulls k.operands m.operands) (hulls k.parameters m.parameters)
+    joined_state (agree k m) k (hulls k.operands m.operands) (hulls k.parameters m.parameters)
     (loop_hulls k.loops m.loops)

@@ -3,8 +3,8 @@ use Rattle.std.specs.Prelude.{ℕ, ◌+◌, Bool, true, false, ◌&&◌, List, [
 use Rattle.pb_limits.specs.declared.TheConstants.{MAX_OPERANDS}
 use Rattle.pb_bytecode_program.specs.Abstract.{abstraction_of, same_kind}
 use Rattle.pb_bytecode_program.specs.Transfer.{AbstractState, abstract_pop_args, abstract_pop_int}
-use Rattle.pb_bytecode_program.specs.declared.abstract_value.AbstractValue.{AbstractValue}
-use Rattle.pb_bytecode_program.specs.declared.abstract_value.AbstractValue.TheVariants as abstract
+use Rattle.pb_bytecode_program.specs.declared.domain.AbstractValue.{AbstractValue}
+use Rattle.pb_bytecode_program.specs.declared.domain.AbstractValue.TheVariants as abstract
 use Rattle.pb_sorts.specs.declared.carrier.Carrier.{Carrier}
 
 -- room for another operand

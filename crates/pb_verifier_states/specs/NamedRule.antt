@@ -4,7 +4,7 @@
 -- their intervals, and the brackets before the root.
 use Rattle.std.specs.Prelude.{ℕ, Bool, not, ◌&&◌, List, [], ◌∷◌, length, reverse, Option, Some, None, is_some, nat_lt, nat_le, if◌then◌else◌, slice_get}
 use Rattle.pb_limits.specs.declared.TheConstants.{MAX_BRACKETS}
-use Rattle.pb_bytecode_program.specs.declared.abstract_value.AbstractValue.{AbstractValue}
+use Rattle.pb_bytecode_program.specs.declared.domain.AbstractValue.{AbstractValue}
 use Rattle.pb_bytecode_program.specs.Values.{divides}
 use Rattle.pb_bytecode_program.specs.Transfer.{AbstractState, abstract_slot, enum_fits}
 use Rattle.pb_bytecode_program.specs.declared.instruction.Op.{Op}

@@ -6,7 +6,7 @@ ghost use Rattle.pb_bytecode_program.specs.Abstract as abstract_values;
 ghost use Rattle.pb_bytecode_program.specs.Transfer as transfers;
 ghost use Rattle.pb_verifier_states.specs.Inhabited.{HasOrderedEnds};
 ghost use Rattle.pb_verifier_states.specs.Join.{hull_of};
-ghost use Rattle.pb_bytecode_program.specs.declared.abstract_value.AbstractValue.TheVariants as abstract;
+ghost use Rattle.pb_bytecode_program.specs.declared.domain.AbstractValue.TheVariants as abstract;
 
 use pb_bytecode_program::AbstractValue;
 use pb_intervals::Interval;

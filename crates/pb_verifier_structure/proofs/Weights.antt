@@ -7,7 +7,7 @@ use Rattle.std.proofs.Math.Seq.{take-append_seam, get_or-append_seam}
 use Rattle.std.proofs.lemmas.List.{drop_all}
 use Rattle.pb_sorts.proofs.Places.{drop-slice_get}
 use Rattle.pb_bytecode_program.specs.Machine.{Program, carrier_of}
-use Rattle.pb_bytecode_program.specs.Counts.{LoopEffect, Enters, Leaves, Straight, loop_effect, loops_after, loops_around, size_of, multiplier, cost_by, cost_of, one_step, tokens_of, static_steps, static_tokens}
+use Rattle.pb_bytecode_program.specs.Counts.{LoopEffect, Enters, Leaves, Straight, loop_effect, loops_after, loops_around, carrier_size, multiplier, cost_by, cost_of, one_step, tokens_of, static_steps, static_tokens}
 use Rattle.pb_bytecode_program.specs.declared.instruction.Op.{Op}
 use Rattle.pb_bytecode_program.proofs.Places.{around_next}
 use Rattle.pb_verifier_structure.specs.Structure.{IsStructured}
@@ -49,7 +49,7 @@ stopped_product a m (suc n) e = ⊎_elim
 
 -- the counts of the loops around, after an instruction
 abbrev pub weights_after : Program → LoopEffect → List ℕ → List ℕ
-weights_after p (Enters i) ws = multiplier ws * size_of (carrier_of p i) ∷ ws
+weights_after p (Enters i) ws = multiplier ws * carrier_size (carrier_of p i) ∷ ws
 weights_after p Leaves [] = []
 weights_after p Leaves (w ∷ ws) = ws
 weights_after p Straight ws = ws
@@ -120,10 +120,10 @@ module _ (p : Program) (w : IsStructured p) (q : ℕ) (items : List ℕ) (steps 
     here_tokens : y ≡ stopped (multiplier h.weights * tokens_of i)
     here_tokens = f ∙ stopped_product x (multiplier h.weights) (tokens_of i) here_weight
 
-    pub counted_in : (slot n : ℕ) → loop_effect i ≡ Enters slot → n ≡ min (x * size_of (carrier_of p slot)) SATURATED → IsCounted p (q + 1) (items ++ n ∷ []) (min (steps + x) SATURATED) (min (tokens + y) SATURATED)
+    pub counted_in : (slot n : ℕ) → loop_effect i ≡ Enters slot → n ≡ min (x * carrier_size (carrier_of p slot)) SATURATED → IsCounted p (q + 1) (items ++ n ∷ []) (min (steps + x) SATURATED) (min (tokens + y) SATURATED)
     counted_in slot n t g =
         more x y here_weight here_tokens (items ++ n ∷ [])
-        (ap (λ (ws : List ℕ). ws ++ n ∷ []) h.same ∙ ap (λ m. stacked h.weights ++ m ∷ []) (g ∙ stopped_product x (multiplier h.weights) (size_of (carrier_of p slot)) here_weight) ∙ ap (λ u. stacked (weights_after p u h.weights)) (sym t))
+        (ap (λ (ws : List ℕ). ws ++ n ∷ []) h.same ∙ ap (λ m. stacked h.weights ++ m ∷ []) (g ∙ stopped_product x (multiplier h.weights) (carrier_size (carrier_of p slot)) here_weight) ∙ ap (λ u. stacked (weights_after p u h.weights)) (sym t))
 
     pub counted_out : loop_effect i ≡ Leaves → IsCounted p (q + 1) (take (length items - 1) items) (min (steps + x) SATURATED) (min (tokens + y) SATURATED)
     counted_out t =

@@ -17,7 +17,7 @@ pub record IsStructured (p : Program) : Type 0 where
       → 0 < length (loops_around p.code q)
 
 -- there are 1 to MAX_INSTRUCTIONS instructions, and the bounds of range tests are in order
-pub record IsWithinLimits (p : Program) : Type 0 where
+pub record IsProgramWithinLimits (p : Program) : Type 0 where
   pub some : 0 < length p.code
   pub short : length p.code ≤ MAX_INSTRUCTIONS
   pub bounds : (q : ℕ) (i : Op) → slice_get p.code q ≡ Some i → HasOrderedRange i

@@ -3,7 +3,7 @@
 
 ghost use Rattle.std.specs.Prelude.{◌≡◌, ◌+◌, ◌-◌, ◌*◌, ◌<◌, ◌≤◌, ◌↔◌, IsSome, IsTrue, Some, min};
 ghost use Rattle.std.specs.Prelude.{length, slice_index_or};
-ghost use Rattle.pb_bytecode_program.specs.Counts.{size_of, static_steps, static_tokens};
+ghost use Rattle.pb_bytecode_program.specs.Counts.{carrier_size, static_steps, static_tokens};
 ghost use Rattle.pb_bytecode_program.specs.Counts.{tokens_of as tokens_written};
 ghost use Rattle.pb_bytecode_program.specs.Machine.{Program, carrier_of};
 ghost use Rattle.pb_verifier_structure.specs.Structure.{IsStructured};
@@ -50,7 +50,7 @@ fn tokens_of(instruction: Op) -> u64
 // How often the loop of a slot runs its body.
 fn turns(code: &EquationCode, slot: u8) -> u64
     requires { (p : Program) × IsProgramOf p code.now × IsSome (carrier_of p slot) }
-    ensures { (p : Program) → IsProgramOf p code.now → result ≡ size_of (carrier_of p slot) }
+    ensures { (p : Program) → IsProgramOf p code.now → result ≡ carrier_size (carrier_of p slot) }
 {
     code.loops[slot as usize - code.parameters.len()].size()
 }

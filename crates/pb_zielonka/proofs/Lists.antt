@@ -10,7 +10,7 @@ use Rattle.std.proofs.lemmas.List.Sorted.{IsPermutation-sym, Contains-permutatio
 use Rattle.std.proofs.lemmas.List.Elements.{Contains-append_left, Contains-append_right, Contains-append_cases}
 use Rattle.std.proofs.lemmas.Map.Keys.{IsDistinct-IsPermutation}
 use Rattle.pb_game.proofs.Membership.{IsAt, contains_at, contains_place}
-use Rattle.pb_zielonka.specs.Regions.{ListsRegion, IsPart}
+use Rattle.pb_zielonka.specs.Regions.{ListsRegion, IsSelection}
 
 pub last_item : (xs : List ℕ) (x : ℕ) → get_or (xs ++ x ∷ []) (length xs) 0 ≡ x
 last_item [] x = refl
@@ -114,7 +114,7 @@ single v w h = let k = contains_place (v ∷ []) w h in elim (cases_eq k.0 0) [
 itself : (v : ℕ) → Contains (v ∷ []) v
 itself v = contains_at (v ∷ []) v 0 (record { within = omega arith; there = refl })
 
-pub part_none : (P : ℕ → Type 0) → IsPart P [] []
+pub part_none : (P : ℕ → Type 0) → IsSelection P [] []
 part_none P = record {
   within = λ v h. h;
   meets = λ v h. absurd (omega (arith, h.1));
@@ -122,7 +122,7 @@ part_none P = record {
 }
 
 -- one vertex more of the list, which meets P
-pub part_taken : (P : ℕ → Type 0) (part list : List ℕ) (v : ℕ) → P v → IsPart P part list → IsPart P (part ++ v ∷ []) (list ++ v ∷ [])
+pub part_taken : (P : ℕ → Type 0) (part list : List ℕ) (v : ℕ) → P v → IsSelection P part list → IsSelection P (part ++ v ∷ []) (list ++ v ∷ [])
 part_taken P part list v p i = record {
   within = λ w h. elim (Contains-append_cases part (v ∷ []) w h) [
     | inl h' ↦ Contains-append_left list (v ∷ []) w (i.within w h')
@@ -139,7 +139,7 @@ part_taken P part list v p i = record {
 }
 
 -- and one that doesn't
-pub part_passed : (P : ℕ → Type 0) (part list : List ℕ) (v : ℕ) → (P v → ⊥) → IsPart P part list → IsPart P part (list ++ v ∷ [])
+pub part_passed : (P : ℕ → Type 0) (part list : List ℕ) (v : ℕ) → (P v → ⊥) → IsSelection P part list → IsSelection P part (list ++ v ∷ [])
 part_passed P part list v none i = record {
   within = λ w h. Contains-append_left list (v ∷ []) w (i.within w h);
   meets = i.meets;

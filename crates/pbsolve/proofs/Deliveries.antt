@@ -11,12 +11,12 @@ use Rattle.pbsolve.specs.declared.solve_error.SolveError.{SolveError}
 use Rattle.pbsolve.specs.declared.solve_error.SolveError.TheVariants as solve_error
 use Rattle.pbsolve.specs.declared.solve_fault.SolveFault.{SolveFault}
 use Rattle.pbsolve.specs.Delivery.{Delivers, is_failed_write}
-use Rattle.pbsolve.specs.Errors.{IfInputRefused, joined, write_failure}
+use Rattle.pbsolve.specs.Errors.{IfInputRefused, joins_into, write_failure}
 
 module _ {S : Type 0} (taken : S → Option (List ℕ)) (has_failed : S → Bool) where
   -- where `?` hands up the error of a layer, nothing was written
   pub nothing_written : {F T : Type 0} (gives : F → SolveFault → Type 0) (For : (List ℕ → Type 0) → Type 0) (w : S) (e : OrMemory F) (r : Result T SolveError)
-      → IsErrAnd r (joined gives e) → Delivers For r taken has_failed w w
+      → IsErrAnd r (joins_into gives e) → Delivers For r taken has_failed w w
   nothing_written gives For w e (Ok x) made = absurd made
   nothing_written gives For w (or_memory.Refused fault) (Err (solve_error.Refused above)) made = refl
   nothing_written gives For w (or_memory.Refused fault) (Err solve_error.Memory) made = refl

@@ -10,17 +10,17 @@ use Rattle.pb_sorts.specs.Instance.{Instance}
 use Rattle.pb_game.specs.Adjacency.{row}
 use Rattle.pb_game.proofs.Rows.{row_length}
 use Rattle.pb_call_places.specs.Calls.{call_place}
-use Rattle.pb_evidence.specs.Divided.{IsDivided}
-use Rattle.pbsolve.specs.CallPlaces.{numbered, place_of_call, told_place}
+use Rattle.pb_evidence.specs.Divided.{IsDividedIntoRows}
+use Rattle.pbsolve.specs.CallPlaces.{instance_numbered, place_of_call, told_place}
 
 -- the place of a call between two instances that are known
-pub place_known : (text : SpecForm) (layout : List (List Carrier)) (n called : ℕ) (i j : Instance) → numbered layout n ≡ Some i → numbered layout called ≡ Some j
+pub place_known : (text : SpecForm) (layout : List (List Carrier)) (n called : ℕ) (i j : Instance) → instance_numbered layout n ≡ Some i → instance_numbered layout called ≡ Some j
     → call_place text i j ≡ place_of_call text layout n called
 place_known text layout n called i j is_caller is_called =
-    sym (ap (λ (o : Option Instance). option_and_then (λ (x : Instance). option_and_then (λ (y : Instance). call_place text x y) (numbered layout called)) o) is_caller
+    sym (ap (λ (o : Option Instance). option_and_then (λ (x : Instance). option_and_then (λ (y : Instance). call_place text x y) (instance_numbered layout called)) o) is_caller
     ∙ ap (λ (o : Option Instance). option_and_then (λ (y : Instance). call_place text i y) o) is_called)
 
-module _ (ns ps ds : List ℕ) (divided : IsDivided ns ps ds) (place : ℕ → ℕ → Option Place) where
+module _ (ns ps ds : List ℕ) (divided : IsDividedIntoRows ns ps ds) (place : ℕ → ℕ → Option Place) where
   abbrev start : ℕ → ℕ
   start k = get_or ps k 0
 

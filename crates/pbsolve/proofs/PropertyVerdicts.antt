@@ -96,7 +96,7 @@ model_unchecked bytes (model_fault.Text fault) h = h
 model_unchecked bytes (model_fault.Typing fault) h = h
 model_unchecked bytes model_fault.NoProperty h = absurd h
 
-pub model_untranslated : (name : Option (List ℕ)) (bytes : List ℕ) (f : ModelFault) → untranslated.IsUntranslated name bytes f
+pub model_untranslated : (name : Option (List ℕ)) (bytes : List ℕ) (f : ModelFault) → untranslated.LacksTranslation name bytes f
     → IsUntranslated name bytes (fault_of_model f)
 model_untranslated name bytes (model_fault.Text fault) h = h
 model_untranslated name bytes (model_fault.Typing fault) h = h

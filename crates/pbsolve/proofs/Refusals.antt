@@ -20,7 +20,7 @@ use Rattle.pbsolve.specs.declared.solve_error.SolveError.{SolveError}
 use Rattle.pbsolve.specs.declared.solve_error.SolveError.TheVariants as solve_error
 use Rattle.pbsolve.specs.declared.solve_fault.SolveFault.{SolveFault}
 use Rattle.pbsolve.specs.declared.solve_fault.SolveFault.TheVariants as solve_fault
-use Rattle.pbsolve.specs.Errors.{IfInputFault, IfInputRefused, joined, write_failure}
+use Rattle.pbsolve.specs.Errors.{IfInputFault, IfInputRefused, joins_into, write_failure}
 use Rattle.pb_bytecode.specs.Contents.{Contents}
 use Rattle.pb_errors.proofs.Faults.{if_fault}
 use Rattle.pb_game_of_trees.specs.declared.tree_game.TooManyVertices.{TooManyVertices}
@@ -103,7 +103,7 @@ form_uncompiled bytes text read typed (solve_fault.Acceptance fault) h = absurd 
 -- what holds of a layer's fault is what is wrong with the input
 pub refused_up : {F T : Type 0} (gives : F → SolveFault → Type 0) (P : F → Type 0) (Q : SolveFault → Type 0)
     → ((f : F) (above : SolveFault) → gives f above → P f → Q above) → (e : OrMemory F) (r : Result T SolveError)
-    → IfFault e P → IsErrAnd r (joined gives e) → IfInputRefused r Q
+    → IfFault e P → IsErrAnd r (joins_into gives e) → IfInputRefused r Q
 refused_up gives P Q up e (Ok x) h made = tt
 refused_up gives P Q up (or_memory.Refused f) (Err (solve_error.Refused above)) h made = up f above made h
 refused_up gives P Q up (or_memory.Refused f) (Err solve_error.Memory) h made = tt
@@ -131,7 +131,7 @@ untyped bytes text read or_memory.Memory or_memory.Memory made among ill = tt
 
 -- and of what is wrong with the input already
 pub handed_up : {T : Type 0} (P Q : SolveFault → Type 0) → ((f : SolveFault) → P f → Q f) → (e : OrMemory SolveFault) (r : Result T SolveError)
-    → IfFault e P → IsErrAnd r (joined (λ f above. above ≡ f) e) → IfInputRefused r Q
+    → IfFault e P → IsErrAnd r (joins_into (λ f above. above ≡ f) e) → IfInputRefused r Q
 handed_up P Q up e r h made = refused_up (λ f above. above ≡ f) P Q (λ f above same p. subst Q (sym same) (up f p)) e r h made
 
 pub refused_texts : {T : Type 0} (bytes : List ℕ) (text : SpecForm) (r : Result T (OrMemory SolveFault)) → IsTheReading bytes text → IsWellTyped (erase text)
@@ -170,7 +170,7 @@ if_input_refused P Q more (Err (solve_error.Write failed)) h = tt
 
 -- where `?` hands up a module's refusal
 pub too_large_up : {T : Type 0} (m : Contents) (e : OrMemory TooManyVertices) (r : Result T SolveError) → IfFault e (λ _. IsTooLarge m)
-    → IsErrAnd r (joined (λ _ above. above ≡ solve_fault.TooManyVertices) e) → IfInputRefused r (IsRefusedModule m)
+    → IsErrAnd r (joins_into (λ _ above. above ≡ solve_fault.TooManyVertices) e) → IfInputRefused r (IsRefusedModule m)
 too_large_up m e r large made =
     refused_up (λ _ above. above ≡ solve_fault.TooManyVertices) (λ _. IsTooLarge m) (IsRefusedModule m) (λ f above same h. subst (IsRefusedModule m) (sym same) h) e r large made
 

@@ -9,15 +9,15 @@ use Rattle.pb_sorts.specs.Layout.{carriers_of}
 use Rattle.pb_call_places.specs.Calls.{call_place}
 
 -- the instance with this number
-abbrev pub numbered : List (List Carrier) → ℕ → Option Instance
-numbered layout n = slice_get (instances (carriers_of layout)) n
+abbrev pub instance_numbered : List (List Carrier) → ℕ → Option Instance
+instance_numbered layout n = slice_get (instances (carriers_of layout)) n
 
 -- the place of the first call by which the instance n names the other one
 abbrev pub place_of_call : SpecForm → List (List Carrier) → ℕ → ℕ → Option Place
 place_of_call text layout n called =
     option_and_then
-    (λ i. option_and_then (λ j. call_place text i j) (numbered layout called))
-    (numbered layout n)
+    (λ i. option_and_then (λ j. call_place text i j) (instance_numbered layout called))
+    (instance_numbered layout n)
 
 -- the same where places are told, else none
 abbrev pub told_place : Bool → SpecForm → List (List Carrier) → ℕ → ℕ → Option Place

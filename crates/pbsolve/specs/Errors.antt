@@ -24,10 +24,10 @@ fault_of_model (model_fault.Typing fault) = solve_fault.Typing fault
 fault_of_model model_fault.NoProperty = solve_fault.NoProperty
 
 -- want of memory stays what it is, whichever layer met it, and of a fault there is the one above
-abbrev pub joined : {F : Type 0} → (F → SolveFault → Type 0) → OrMemory F → SolveError → Type 0
-joined gives (or_memory.Refused fault) (solve_error.Refused above) = gives fault above
-joined gives or_memory.Memory solve_error.Memory = Unit {0}
-joined gives error made = ⊥
+abbrev pub joins_into : {F : Type 0} → (F → SolveFault → Type 0) → OrMemory F → SolveError → Type 0
+joins_into gives (or_memory.Refused fault) (solve_error.Refused above) = gives fault above
+joins_into gives or_memory.Memory solve_error.Memory = Unit {0}
+joins_into gives error made = ⊥
 
 abbrev pub write_failure : OrMemory sink.E02 → SolveError
 write_failure (or_memory.Refused failed) = solve_error.Write failed

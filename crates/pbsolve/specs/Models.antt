@@ -6,7 +6,7 @@ use Rattle.pb_assembler.specs.Excess.{IsFirstExcess}
 use Rattle.pb_assembler.specs.declared.compile_error.Excess.{Excess}
 use Rattle.pb_bytecode.specs.Contents.{Contents}
 use Rattle.pb_model_tree.specs.Form.{ModelForm, PropertyForm}
-use Rattle.pb_model_properties.specs.Refusals.{IsRefusedText, IsRefusedType, LacksProperty}
+use Rattle.pb_model_properties.specs.Refusals.{IsRefusedModelText, IsRefusedModelType, LacksProperty}
 use Rattle.pb_model_properties.specs.Said.{satisfies, IsModelOf, IsTextOf}
 use Rattle.pb_model_properties.specs.Verdicts.{verdict_text}
 use Rattle.pb_report.specs.declared.answer.Answer.{Answer}
@@ -59,16 +59,16 @@ pub record IsModelTooLarge (bytes : List ℕ) : Type 0 where
 
 -- `translate`: the bytes say no model that is well typed, or one that has no property of the name
 abbrev pub IsUntranslated : Option (List ℕ) → List ℕ → SolveFault → Type 0
-IsUntranslated name bytes (solve_fault.Text fault) = IsRefusedText bytes fault
-IsUntranslated name bytes (solve_fault.Typing fault) = IsRefusedType bytes fault
+IsUntranslated name bytes (solve_fault.Text fault) = IsRefusedModelText bytes fault
+IsUntranslated name bytes (solve_fault.Typing fault) = IsRefusedModelType bytes fault
 IsUntranslated name bytes solve_fault.NoProperty = LacksProperty name bytes
 IsUntranslated name bytes fault = ⊥
 
 -- `check`: they say none, or one with a property whose text isn't compiled, or whose module has too
 -- large a game
 abbrev pub IsUnchecked : List ℕ → SolveFault → Type 0
-IsUnchecked bytes (solve_fault.Text fault) = IsRefusedText bytes fault
-IsUnchecked bytes (solve_fault.Typing fault) = IsRefusedType bytes fault
+IsUnchecked bytes (solve_fault.Text fault) = IsRefusedModelText bytes fault
+IsUnchecked bytes (solve_fault.Typing fault) = IsRefusedModelType bytes fault
 IsUnchecked bytes (solve_fault.Limit excess) = IsModelOverLimit bytes excess
 IsUnchecked bytes solve_fault.TooManyVertices = IsModelTooLarge bytes
 IsUnchecked bytes fault = ⊥

@@ -88,7 +88,7 @@ IsRefusalLine words known line =
     ⊎ ((fault : SolveFault) × RefusesBy words known fault × (line ≡ fault_line fault))
 
 -- the line of a refused input went out
-abbrev pub Refuses : List (List ℕ) → Option (List ℕ) → Option (List ℕ) → Option (List ℕ) → Bool
+abbrev pub TellsRefusal : List (List ℕ) → Option (List ℕ) → Option (List ℕ) → Option (List ℕ) → Bool
     → Type 0
-Refuses words known old new failed =
+TellsRefusal words known old new failed =
     (line : List ℕ) × IsRefusalLine words known line × Tells old new failed line

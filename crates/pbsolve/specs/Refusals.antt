@@ -65,7 +65,7 @@ IsRefused bytes fault = IsUncompiled bytes fault
 
 -- `list`: reading the bytes as a module meets this fault first
 abbrev pub IsUnlisted : List ℕ → SolveFault → Type 0
-IsUnlisted bytes (solve_fault.Module fault) = decoded.IsFirstFault bytes fault
+IsUnlisted bytes (solve_fault.Module fault) = decoded.IsFirstFieldFault bytes fault
 IsUnlisted bytes fault = ⊥
 
 -- `verify`: they spell none, or one whose code is not accepted

@@ -14,7 +14,7 @@ use std::alloc::Global;
 const PIECE: usize = 65_536;
 
 /// What is wrong with the input before anything is read in it.
-#[derive(Clone, Copy, Debug, PartialEq, Eq)]
+#[derive(Clone, Copy)]
 pub(crate) enum InputFault {
     /// E01: reading failed.
     Failed,

@@ -13,7 +13,7 @@ ghost use Rattle.pbsolve.specs.Delivery.{Delivers};
 ghost use Rattle.pbsolve.specs.Outputs.{OutputsFor, IsRefusedFor};
 ghost use Rattle.pbsolve.specs.Program.{fault_status, status_of, error_line_of, Answers};
 ghost use Rattle.pbsolve.specs.Program.{IsRefusedBy, LackProperty, Tells, ReadsAtMost};
-ghost use Rattle.pbsolve.specs.Program.{Refuses};
+ghost use Rattle.pbsolve.specs.Program.{TellsRefusal};
 
 use crate::code::{list_code, solve_code, verify_code};
 use crate::compile::compile_text;
@@ -208,7 +208,7 @@ pub fn run<T: Threads + Sync, S: AsStr, G: Gate + Sync, R: Source, O: Sink, E: S
     // Refused, or not understood, or no memory: nothing went out, and a line tells which.
     ensures silent { 1 ≤ result → result ≤ 3 → streams.new.output ≡ streams.old.output }
     ensures refused { result ≡ 1 →
-        Refuses (map S.text words.now) (R.left streams.old.input)
+        TellsRefusal (map S.text words.now) (R.left streams.old.input)
         (E.taken streams.old.error) (E.taken streams.new.error) (E.has_failed streams.new.error) }
     ensures usage { result ≡ 2 →
         Tells (E.taken streams.old.error) (E.taken streams.new.error)

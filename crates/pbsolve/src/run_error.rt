@@ -8,7 +8,7 @@ use crate::{ProgramFault, SolveError, SolveFault};
 use pb_command_line::{Usage, WordsError};
 
 /// Why a run has no answer.
-#[derive(Debug, Drop)]
+#[derive(Drop)]
 pub(crate) enum RunError {
     /// A fault of the whole run.
     ProgramFault(ProgramFault),

@@ -1,7 +1,7 @@
 //! Why a command has no answer, or none that was written.
 ghost use Rattle.std.specs.Prelude.{◌≡◌};
 ghost use Rattle.pbsolve.specs.declared.solve_error.SolveError.TheVariants.{Memory};
-ghost use Rattle.pbsolve.specs.Errors.{joined, write_failure};
+ghost use Rattle.pbsolve.specs.Errors.{joins_into, write_failure};
 
 use crate::SolveFault;
 use pb_errors::OrMemory;
@@ -37,7 +37,7 @@ impl<F> From<OrMemory<F>> for SolveError
 where
     SolveFault: From<F>,
 {
-    ghost from_gives = { λ error made. joined ⟦<SolveFault as From<F>>⟧.from_gives error made };
+    ghost from_gives = { λ error made. joins_into ⟦<SolveFault as From<F>>⟧.from_gives error made };
 
     fn from(error: OrMemory<F>) -> SolveError {
         match error {

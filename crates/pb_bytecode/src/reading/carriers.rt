@@ -31,7 +31,7 @@ fn range_of(low: i32, high: i32) -> Carrier
     Carrier::Range(Range { low, high })
 }
 
-#[tactic(auto, using(crate::proofs::Carriers::range_read), unfolding(crate::specs::Reading::range_at))]
+#[tactic(auto, using(crate::proofs::Carriers::ranges), unfolding(crate::specs::Reading::range_at))]
 fn range_at(bytes: &[u8]) -> Result<(Carrier, &[u8]), FieldFault>
     ensures { IsRead (λ x. (x.0, x.1.now)) result (range_at bytes.now) }
 {

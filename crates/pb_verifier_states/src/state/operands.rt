@@ -9,9 +9,9 @@ ghost use Rattle.pb_verifier_states.specs.NamedRule.{named_at_call, named_at_top
 ghost use Rattle.pb_errors.specs.OrMemory.{IfRefused, OnRefused};
 ghost use Rattle.pb_bytecode_program.specs.Transfer.{Flow, abstract_pop_args, abstract_pop_bool};
 ghost use Rattle.pb_bytecode_program.specs.Transfer.{abstract_pop_int};
-ghost use Rattle.pb_bytecode_program.specs.declared.abstract_value.AbstractValue.{AbstractValue as value_type};
+ghost use Rattle.pb_bytecode_program.specs.declared.domain.AbstractValue.{AbstractValue as domain};
 ghost use Rattle.pb_sorts.specs.declared.carrier.Carrier.{Carrier as carrier_type};
-ghost use Rattle.pb_bytecode_program.specs.declared.abstract_value.AbstractValue.TheVariants as abstract;
+ghost use Rattle.pb_bytecode_program.specs.declared.domain.AbstractValue.TheVariants as abstract;
 
 use crate::flow_error::FlowError;
 use crate::rule::AcceptanceRule;
@@ -71,7 +71,7 @@ impl AbstractState {
     pub fn pop_int(&mut self) -> Result<Interval, AcceptanceRule>
         ensures ok { IfOk result (λ i. self.old
             ≡ record self.new { operands = abstract.Int i.low i.high ∷ self.new.operands }) }
-        ensures err { OnErr result ((go : ℤ → ℤ → List value_type → Flow)
+        ensures err { OnErr result ((go : ℤ → ℤ → List domain → Flow)
             → abstract_pop_int self.old.operands go ≡ None) }
         ensures room { OnOk result (kinds.has_room self.new ≡ true) }
         ensures rule { IfErr result (λ rule. rule ≡ named_at_top self.old.operands) }
@@ -85,7 +85,7 @@ impl AbstractState {
     pub fn pop_bool(&mut self) -> Result<(), AcceptanceRule>
         ensures ok { OnOk result
             (self.old ≡ record self.new { operands = abstract.Bool ∷ self.new.operands }) }
-        ensures err { OnErr result ((go : List value_type → Flow)
+        ensures err { OnErr result ((go : List domain → Flow)
             → abstract_pop_bool self.old.operands go ≡ None) }
         ensures room { OnOk result (kinds.has_room self.new ≡ true) }
         ensures rule { IfErr result (λ rule. rule ≡ named_at_top self.old.operands) }
@@ -101,7 +101,7 @@ impl AbstractState {
         ensures ok { IfOk result (λ i. self.now.operands
             ≡ abstract.Int i.low i.high ∷ drop 1 self.now.operands) }
         ensures ordered { IfOk result (λ i. i.low ≤ℤ i.high) }
-        ensures err { OnErr result ((go : ℤ → ℤ → List value_type → Flow)
+        ensures err { OnErr result ((go : ℤ → ℤ → List domain → Flow)
             → abstract_pop_int self.now.operands go ≡ None) }
         ensures rule { IfErr result (λ rule. rule ≡ named_at_top self.now.operands) }
     {
@@ -124,12 +124,12 @@ impl AbstractState {
     }
 
     /// Whether a call finds its arguments, each of its carrier's kind (V02).
-    #[tactic(auto, using(crate::proofs::Missing::no_arguments, crate::proofs::Missing::wrong_kinds))]
+    #[tactic(auto, using(crate::proofs::Missing::are_missing, crate::proofs::Missing::wrong_kinds))]
     pub fn test_arguments(&self, carriers: &[Carrier]) -> Result<(), AcceptanceRule>
         ensures there { OnOk result (length carriers.now ≤ length self.now.operands) }
         ensures kinds { OnOk result (kinds.are_of_kinds (reverse carriers.now) self.now.operands
             ≡ true) }
-        ensures err { OnErr result ((go : List value_type → Flow)
+        ensures err { OnErr result ((go : List domain → Flow)
             → abstract_pop_args (reverse carriers.now) self.now.operands go ≡ None) }
         ensures rule { IfErr result (λ rule. rule
             ≡ named_at_call self.now.operands (Some carriers.now)) }
@@ -144,10 +144,10 @@ impl AbstractState {
     /// Pops the arguments of a call, the last one first: each is one of its carrier (V08).
     pub fn pop_arguments(&mut self, carriers: &[Carrier]) -> Result<(), AcceptanceRule>
         requires { length carriers.now ≤ length self.old.operands }
-        ensures ok { OnOk result ((go : List value_type → Flow)
+        ensures ok { OnOk result ((go : List domain → Flow)
             → abstract_pop_args (reverse carriers.now) self.old.operands go
             ≡ go self.new.operands) }
-        ensures err { OnErr result ((go : List value_type → Flow)
+        ensures err { OnErr result ((go : List domain → Flow)
             → abstract_pop_args (reverse carriers.now) self.old.operands go ≡ None) }
         ensures rule { IfErr result (λ rule. rule ≡ AcceptanceRule.ArgumentOutside) }
         ensures same { self.new ≡ record self.old { operands = self.new.operands } }
@@ -167,10 +167,10 @@ impl AbstractState {
     fn pop_argument(&mut self, carrier: Carrier) -> Result<(), AcceptanceRule>
         requires { 0 < length self.old.operands }
         ensures one { OnOk result (length self.old.operands ≡ length self.new.operands + 1) }
-        ensures ok { OnOk result ((cs : List carrier_type) (go : List value_type → Flow)
+        ensures ok { OnOk result ((cs : List carrier_type) (go : List domain → Flow)
             → abstract_pop_args (carrier ∷ cs) self.old.operands go
             ≡ abstract_pop_args cs self.new.operands go) }
-        ensures err { OnErr result ((cs : List carrier_type) (go : List value_type → Flow)
+        ensures err { OnErr result ((cs : List carrier_type) (go : List domain → Flow)
             → abstract_pop_args (carrier ∷ cs) self.old.operands go ≡ None) }
         ensures rule { IfErr result (λ rule. rule ≡ AcceptanceRule.ArgumentOutside) }
         ensures same { self.new ≡ record self.old { operands = self.new.operands } }

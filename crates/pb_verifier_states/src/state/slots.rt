@@ -7,7 +7,7 @@ ghost use Rattle.pb_verifier_states.specs.NamedRule.{named_at_slot};
 ghost use Rattle.pb_bytecode_program.specs.Transfer.{Flow, abstract_slot, among, set_loop};
 ghost use Rattle.pb_bytecode_program.specs.Transfer.{set_param, set_slot, with_abstract_slot};
 ghost use Rattle.pb_bytecode_program.specs.Transfer.{with_interval};
-ghost use Rattle.pb_bytecode_program.specs.declared.abstract_value.AbstractValue.TheVariants as abstract;
+ghost use Rattle.pb_bytecode_program.specs.declared.domain.AbstractValue.TheVariants as abstract;
 
 use crate::rule::AcceptanceRule;
 use crate::state::AbstractState;

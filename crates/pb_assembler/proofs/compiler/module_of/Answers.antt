@@ -6,7 +6,7 @@ use Rattle.pb_text_tree.specs.declared.spec.Equation as tree
 use Rattle.pb_text_tree.specs.Form.{equation_form, sort_declaration_form, spec_form}
 use Rattle.pb_text_meaning.specs.Erase.{erase, erased_declaration}
 use Rattle.pb_text_meaning.specs.Syntax as syntax
-use Rattle.pb_bytecode.specs.Names.{is_name}
+use Rattle.pb_bytecode.specs.Names.{is_module_name}
 use Rattle.pb_bytecode.specs.Views.{equation_contents, initial_contents, sort_contents}
 use Rattle.pb_normal.specs.declared.normal.Equation.{Equation}
 use Rattle.pb_assembler_modules.specs.Module.{struct_names}
@@ -24,7 +24,7 @@ sorts-requires c =
     let text = spec_form typed.spec in
     subst (λ (ds : List SortDeclaration). AreSorts (map erased_declaration (map sort_declaration_form ds))) (sym c.deref.ensures.value)
     (accepted_sorts text typed.faultless
-    (and_parts (list_all has_enumerator_names (erase text).sorts) (list_all (λ (X : syntax.Equation). is_name X.name) (erase text).equations)
+    (and_parts (list_all has_enumerator_names (erase text).sorts) (list_all (λ (X : syntax.Equation). is_module_name X.name) (erase text).equations)
     (text_named typed.spec (accepted-well-typed text typed.faultless).declarations)).0)
 
 pub compile_equations-requires-clause-ready : goal.compile_equations-requires-clause-ready

@@ -11,7 +11,7 @@ use Rattle.pb_normal.specs.declared.formula.Formula.{Formula}
 use Rattle.pb_normal.specs.Normalisation.{dual}
 use Rattle.pb_normal.specs.View.{chained, formula_view, formula_views, nested, term_view}
 use Rattle.pb_assembler_scheme.specs.Pieces.{Piece, Plain, Unless, Choose}
-use Rattle.pb_assembler_scheme.specs.Scheme.{connective_of, data_piece, deciding, formula_piece, junction_of, neutral}
+use Rattle.pb_assembler_scheme.specs.Scheme.{connective_of, data_piece, deciding_leaf, formula_piece, junction_of, neutral}
 use Rattle.pb_assembler.specs.Emitted.{Emits, nowhere}
 use Rattle.pb_assembler.specs.Operands.{Guarded, other_of}
 use Rattle.pb_assembler.specs.Tests.{tested_term}
@@ -116,7 +116,7 @@ emit_inside-loop-behind-preserved-in-Some t c =
     let rest = formula_piece cs m (chained (Join m) (formula_view other) (formula_views more)) in
     let l = c.in_ok-last.last.number in
     let d0 = c.args.builder.now in
-    let leaf = Plain (op.Emit (deciding m)) in
+    let leaf = Plain (op.Emit (deciding_leaf m)) in
     let jumps = rw c.neutral.ensures at c.in_ok-emit.ensures.ok in
     let same = test_step cs m m (formula_view left) (formula_views behind) (Some r) r refl s.ensures.views ∙ tested_own m (tested_term s.early.test) rest in
     let a1 = subst (λ (q : Piece). Awaits whole q l d0 c.loop-behind.builder) same i.awaits in

@@ -2,7 +2,7 @@ use Rattle.std.proofs.Common.{subst}
 use Rattle.pb_bytecode_program.specs.declared.instruction.Leaf.{Leaf}
 use Rattle.pb_bytecode_program.specs.declared.instruction.Op.TheVariants as op
 use Rattle.pb_assembler_scheme.specs.Pieces.{Plain, Unless}
-use Rattle.pb_assembler_scheme.specs.Scheme.{data_piece, deciding, neutral}
+use Rattle.pb_assembler_scheme.specs.Scheme.{data_piece, deciding_leaf, neutral}
 use Rattle.pb_assembler.specs.Emitted.{Emits, nowhere}
 use Rattle.pb_assembler.specs.Tests.{tested_term}
 use Rattle.pb_assembler.proofs.Emitting.{emits_then, unless_emitted}
@@ -11,7 +11,7 @@ use Rattle.pb_assembler.proofs.formula.emit_test.Goals as goal
 pub returns : goal.returns
 returns c =
     let m = c.args.around in
-    let leaf = Plain (op.Emit (deciding m)) in
+    let leaf = Plain (op.Emit (deciding_leaf m)) in
     emits_then (data_piece (tested_term c.args.test)) (Unless (neutral m) leaf) nowhere c.args.builder.now c.emit_tested.new.builder c.place.new.self c.in_ok-emit_tested.ensures
     (unless_emitted (neutral m) leaf nowhere 0 c.emit_tested.new.builder c.label.new.self c.emit.new.self c.emit_plain.new.builder c.place.new.self c.in_ok-passed.passed.number
     c.in_ok-passed.ensures.label c.in_ok-passed.ensures.ok (rw c.neutral.ensures at c.in_ok-emit.ensures.ok)

@@ -4,7 +4,7 @@ use Rattle.std.proofs.lemmas.List.{append-nil, append_assoc, drop_all, map_push}
 use Rattle.std.specs.List.{list_all}
 use Rattle.pb_text_tree.specs.declared.sort.Enumerator.{Enumerator}
 use Rattle.pb_sorts.proofs.Places.{drop-at}
-use Rattle.pb_bytecode.specs.Names.{is_name}
+use Rattle.pb_bytecode.specs.Names.{is_module_name}
 use Rattle.pb_bytecode.specs.Views.{text_of}
 use Rattle.pb_bytecode.specs.declared.name.Name.{Name}
 use Rattle.pb_assembler.proofs.sort.enumerator_names.Goals as goal
@@ -23,8 +23,8 @@ loop-enumerator-preserved c =
     let rest = map text (drop (k + 1) all) in
     record {
       named =
-          (and_parts (is_name (text e)) (list_all (λ (x : Enumerator). is_name (text x)) (drop (k + 1) all))
-          (subst (λ (es : List Enumerator). list_all (λ (x : Enumerator). is_name (text x)) es ≡ true) split c.loop-enumerator.invariant.named)).1;
+          (and_parts (is_module_name (text e)) (list_all (λ (x : Enumerator). is_module_name (text x)) (drop (k + 1) all))
+          (subst (λ (es : List Enumerator). list_all (λ (x : Enumerator). is_module_name (text x)) es ≡ true) split c.loop-enumerator.invariant.named)).1;
       made =
           ap (λ (ns : List Name). map text_of ns ++ rest) c.in_ok-push.ensures.items
           ∙ ap (λ (ts : List (List ℕ)). ts ++ rest) (map_push text_of done n)

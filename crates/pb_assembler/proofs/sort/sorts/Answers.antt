@@ -4,7 +4,7 @@ use Rattle.pb_text_tree.specs.declared.sort.Enumerator.{Enumerator}
 use Rattle.pb_text_tree.specs.declared.sort.Sort.{Sort}
 use Rattle.pb_text_tree.specs.Form.{sort_form}
 use Rattle.pb_text_meaning.specs.Erase.{erased_sort}
-use Rattle.pb_bytecode.specs.Names.{is_name}
+use Rattle.pb_bytecode.specs.Names.{is_module_name}
 use Rattle.pb_bytecode.specs.declared.sort.Sort as bytecode
 use Rattle.pb_assembler.specs.Compiled.{IsSort}
 use Rattle.pb_assembler.proofs.Sorts.{AreMade, fits_next, struct_fits, struct_next, alias_next}
@@ -18,7 +18,7 @@ enumerator_names-requires c =
     let d = c.declaration-item.result in
     let done = c.loop-declaration.sorts.items in
     let fits = subst (λ (s : Sort). IsSort (erased_sort (sort_form s))) c.in-Struct.is (fits_next all k d c.loop-declaration-test.true c.declaration-item.is done c.loop-declaration.invariant) in
-    subst (λ (es : List Enumerator). list_all (λ (e : Enumerator). is_name (string_bytes e.name.text)) es ≡ true) (sym c.deref.ensures.value)
+    subst (λ (es : List Enumerator). list_all (λ (e : Enumerator). is_module_name (string_bytes e.name.text)) es ≡ true) (sym c.deref.ensures.value)
     (struct_fits all k d c.loop-declaration-test.true c.declaration-item.is done c.in-Struct.enumerators.items fits).1
 
 pub loop-declaration-preserved : goal.loop-declaration-preserved

@@ -1,7 +1,7 @@
 -- A line with one command more after another is the command line, where memory was refused for none.
 use Rattle.std.proofs.Common.{codes, true, rules}
 use Rattle.clap.specs.Simple.{new_app, new_shape, on_top, with_subcommand, App}
-use Rattle.pb_command_line.specs.Words.{text_line, solving_shape, exploring_shape, explaining_shape, translating_shape}
+use Rattle.pb_command_line.specs.Words.{text_commands, solving_shape, exploring_shape, explaining_shape, translating_shape}
 use Rattle.pb_command_line.proofs.words.command_line.Goals as goal
 
 pub returns : goal.returns
@@ -12,7 +12,7 @@ returns c =
     let solution : App = with_subcommand game (solving_shape (codes "solution")) in
     let certificate : App = with_subcommand solution (solving_shape (codes "certificate")) in
     let explain : App = with_subcommand certificate (explaining_shape (codes "explain")) in
-    let verify : App = with_subcommand text_line (new_shape (codes "verify")) in
+    let verify : App = with_subcommand text_commands (new_shape (codes "verify")) in
     let listing : App = with_subcommand verify (new_shape (codes "list")) in
     let solve_code : App = with_subcommand listing (solving_shape (codes "solve-code")) in
     let translate : App = with_subcommand solve_code (translating_shape (codes "translate")) in
@@ -22,7 +22,7 @@ returns c =
     let line = c.with-line-4.ensures solution (solving_shape (codes "certificate")) line c.solving-3.ensures in
     let line = c.with-line-5.ensures certificate (explaining_shape (codes "explain")) line c.explaining.ensures in
     let line = c.with-line-6.ensures explain (new_shape (codes "compile")) line (c.plain.ensures.shape, c.plain.ensures.local) in
-    let line = c.with-line-7.ensures text_line (new_shape (codes "verify")) line (c.plain-2.ensures.shape, c.plain-2.ensures.local) in
+    let line = c.with-line-7.ensures text_commands (new_shape (codes "verify")) line (c.plain-2.ensures.shape, c.plain-2.ensures.local) in
     let line = c.with-line-8.ensures verify (new_shape (codes "list")) line (c.plain-3.ensures.shape, c.plain-3.ensures.local) in
     let line = c.with-line-9.ensures listing (solving_shape (codes "solve-code")) line c.solving-4.ensures in
     let line = c.with-line-10.ensures solve_code (translating_shape (codes "translate")) line c.translating.ensures in

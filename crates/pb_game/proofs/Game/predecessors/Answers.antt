@@ -19,3 +19,15 @@ returns-clause-exact c =
     let g = c.args.self.now in
     let e : c.row_of.result.now ≡ row g.predecessor_places.items g.predecessors.items c.args.v = search rules in
     λ u below. subst (λ (xs : List ℕ). Contains xs u ↔ HasEdge g u c.args.v) (sym e) ((is_game g).predecessor u c.args.v below c.requires)
+
+pub row_of-requires-clause-vertex : goal.row_of-requires-clause-vertex
+unfolding vertex_count
+row_of-requires-clause-vertex c = search rules
+
+pub row_of-requires-clause-ordered : goal.row_of-requires-clause-ordered
+unfolding vertex_count
+row_of-requires-clause-ordered c = search rules
+
+pub returns-clause-list : goal.returns-clause-list
+unfolding predecessors_of
+returns-clause-list c = search rules

@@ -3,12 +3,12 @@ use Rattle.pb_model_tree.specs.Form.{step_form}
 use Rattle.pb_text_lexer.specs.Steps.{nothing_between}
 use Rattle.pb_text_lexer.proofs.LoopLemmas.{gathered}
 use Rattle.pb_model_text.specs.Reading.{step, steps}
-use Rattle.pb_text.specs.Reading.{is_name}
+use Rattle.pb_text.specs.Reading.{is_name_kind}
 use Rattle.pb_model_text.proofs.step.steps.Given as goal
 
 abbrev pub invariant-steps : goal.invariant-steps
 invariant-steps l = record {
-  reads : steps 64 l.fn.input ≡ gathered (step 64) is_name nothing_between (map step_form l.steps.items) (suc (length l.fn.input.tokens) - vec_len l.steps) l.input;
+  reads : steps 64 l.fn.input ≡ gathered (step 64) is_name_kind nothing_between (map step_form l.steps.items) (suc (length l.fn.input.tokens) - vec_len l.steps) l.input;
   room : vec_len l.steps + length l.input.tokens ≤ length l.fn.input.tokens;
 }
 

@@ -1,7 +1,7 @@
 use Rattle.std.proofs.Common.{◌≡◌, [], ◌∷◌, ◌++◌, List, All, map, length, ◌<◌, sym, ap, ◌∙◌, subst, arith}
 use Rattle.std.proofs.lemmas.List.{take_more, take_all, map_push}
 use Rattle.std.proofs.lemmas.List.Elements.{All-push}
-use Rattle.pb_rows.specs.Row.{Row, nothing}
+use Rattle.pb_rows.specs.Row.{TokenRow, nothing}
 use Rattle.pb_rows.specs.Entries.{IsThere, row_there}
 use Rattle.pb_rows.specs.declared.index.Place.{Place}
 use Rattle.pb_nearby.proofs.around.places_of.Goals as goal
@@ -16,7 +16,7 @@ loop-k-preserved c =
       subst (All (IsThere (rows ∷ []))) (sym pushed) (All-push (IsThere (rows ∷ [])) index place c.loop-k.invariant.0 (omega arith, below)),
       ap (map (row_there (rows ∷ []))) pushed
           ∙ (map_push (row_there (rows ∷ [])) index place
-          ∙ (ap (λ (rs : List Row). rs ++ row_there (rows ∷ []) place ∷ []) c.loop-k.invariant.1
+          ∙ (ap (λ (rs : List TokenRow). rs ++ row_there (rows ∷ []) place ∷ []) c.loop-k.invariant.1
           ∙ sym (take_more rows c.loop-k.k nothing below))),
     )
 

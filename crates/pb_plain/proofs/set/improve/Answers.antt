@@ -11,7 +11,7 @@ use Rattle.pb_sorts.specs.Layout.{carriers_of}
 use Rattle.pb_text_meaning.specs.Syntax.{Equation}
 use Rattle.pb_text_meaning.specs.Erase.{erase, erased_equation}
 use Rattle.pb_evaluation.specs.Environment.{environment_of}
-use Rattle.pb_plain.specs.Side.{side_of, joined}
+use Rattle.pb_plain.specs.Side.{side_of, later_truth}
 use Rattle.pb_plain.specs.Step.{AreSlots, right_truth_at}
 use Rattle.pb_plain.proofs.Ranges.{IsMixed, between_yes, mixed_start, mixed_set, mixed_keep, mixed_ahead, mixed_inside, mixed_outside}
 use Rattle.pb_plain.proofs.Owned.{equation_known, loops_there, parameters_there, typed_length}
@@ -20,7 +20,7 @@ use Rattle.pb_plain.proofs.set.improve.Goals as goal
 use Rattle.pb_plain.proofs.set.improve.Goals.{then-truths-number+then-holds-start, then-truths-number+else-holds-start, else-truths-number}
 
 -- a truth that changes
-joins_new : (s start cur r : Bool) → start ≡ not s → beq cur start ≡ true → not (beq r start) ≡ true → not start ≡ joined s cur r
+joins_new : (s start cur r : Bool) → start ≡ not s → beq cur start ≡ true → not (beq r start) ≡ true → not start ≡ later_truth s cur r
 joins_new true true cur r e p q = absurd (true≢false e)
 joins_new true false true r e p q = absurd (true≢false (sym p))
 joins_new true false false true e p q = refl
@@ -31,7 +31,7 @@ joins_new false true true false e p q = refl
 joins_new false true true true e p q = absurd (true≢false (sym q))
 
 -- one whose right side has it already
-joins_same : (s start cur r : Bool) → start ≡ not s → beq cur start ≡ true → not (beq r start) ≡ false → cur ≡ joined s cur r
+joins_same : (s start cur r : Bool) → start ≡ not s → beq cur start ≡ true → not (beq r start) ≡ false → cur ≡ later_truth s cur r
 joins_same true true cur r e p q = absurd (true≢false e)
 joins_same true false true r e p q = absurd (true≢false (sym p))
 joins_same true false false true e p q = absurd (true≢false q)
@@ -42,7 +42,7 @@ joins_same false true true false e p q = absurd (true≢false q)
 joins_same false true true true e p q = refl
 
 -- one that is changed already
-joins_done : (s start cur r : Bool) → start ≡ not s → beq cur start ≡ false → cur ≡ joined s cur r
+joins_done : (s start cur r : Bool) → start ≡ not s → beq cur start ≡ false → cur ≡ later_truth s cur r
 joins_done true true cur r e p = absurd (true≢false e)
 joins_done true false true r e p = refl
 joins_done true false false r e p = absurd (true≢false p)
@@ -66,7 +66,7 @@ loop-number-init c =
     let long = typed_length S layout typed.equations.items typed.laid_out.values typed.rights in
     record {
       mixed = λ X at.
-          let f = λ (n : ℕ). joined (side_of X.sign) (get_or old n false) (right_truth_at S (environment_of S c.args.below.now) X layout n) in
+          let f = λ (n : ℕ). later_truth (side_of X.sign) (get_or old n false) (right_truth_at S (environment_of S c.args.below.now) X layout n) in
           subst (λ (k : ℕ). IsMixed first k f old old) (sym c.numbers_of-numbers.ensures.start) (mixed_start first f old);
       kept = λ e n. refl;
       slots = λ X at.
@@ -109,7 +109,7 @@ loop-number-preserved c =
       mixed = λ X at.
           let side = side_of X.sign in
           let right = λ (n : ℕ). right_truth_at S (environment_of S c.args.below.now) X layout n in
-          let f = λ (n : ℕ). joined side (get_or old n false) (right n) in
+          let f = λ (n : ℕ). later_truth side (get_or old n false) (right n) in
           let m = inv.mixed X at in
           let here : get_or xs k false ≡ get_or old k false = mixed_ahead first k f old xs m in
           let begins : start ≡ not side = c.starts_full-start.ensures ∙ ap (λ (s : Sign). not (side_of s)) (sign_there typed c.args.equation c.index.result.now X c.requires.known c.index.ensures at) in
@@ -150,7 +150,7 @@ returns-clause-joins c =
     let numbers = c.numbers_of-numbers.ensures in
     let all : c.loop-number.number ≡ first + size_of css c.args.equation = omega (arith, numbers.start, numbers.end, c.loop-number.auto.number, c.loop-number.auto.number-end, c.loop-number-test.false) in
     λ X at n own.
-    let f = λ (m : ℕ). joined (side_of X.sign) (get_or old m false) (right_truth_at S t X layout m) in
+    let f = λ (m : ℕ). later_truth (side_of X.sign) (get_or old m false) (right_truth_at S t X layout m) in
     let mixed = subst (λ (k : ℕ). IsMixed first k f old c.loop-number.truths) all (c.loop-number.invariant.mixed X at) in
     mixed_inside first (first + size_of css c.args.equation) f old c.loop-number.truths n mixed own
 
@@ -164,7 +164,7 @@ returns-clause-others c =
     let old = c.args.truths.now in
     let t = environment_of S c.args.below.now in
     let layout = typed.layout in
-    let f = λ (n : ℕ). joined (side_of X.sign) (get_or old n false) (right_truth_at S t X layout n) in
+    let f = λ (n : ℕ). later_truth (side_of X.sign) (get_or old n false) (right_truth_at S t X layout n) in
     let css = carriers_of layout in
     let first = first_of css c.args.equation in
     let numbers = c.numbers_of-numbers.ensures in

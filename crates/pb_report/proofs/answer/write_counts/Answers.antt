@@ -1,18 +1,18 @@
 use Rattle.std.proofs.Common.{ℕ, List, ◌++◌}
 use Rattle.std.specs.Prelude.{codes}
 use Rattle.pb_report.specs.declared.answer.Answer.{Answer}
-use Rattle.pb_report.specs.Report.{count_line}
+use Rattle.pb_report.specs.Report.{counted_line}
 use Rattle.pb_report.proofs.Sending.{sends_then, sends_err}
 use Rattle.pb_report.proofs.answer.write_counts.Goals as goal
 
 abbrev instances : Answer → List ℕ
-instances a = count_line (codes "instances ") a.instances
+instances a = counted_line (codes "instances ") a.instances
 
 abbrev cut : Answer → List ℕ
-cut a = count_line (codes "cut ") a.cut
+cut a = counted_line (codes "cut ") a.cut
 
 abbrev vertices : Answer → List ℕ
-vertices a = count_line (codes "vertices ") a.vertices
+vertices a = counted_line (codes "vertices ") a.vertices
 
 pub returns-in_err-write_count : goal.returns-in_err-write_count
 returns-in_err-write_count g c =

@@ -2,7 +2,7 @@ use Rattle.std.proofs.Common.{ℕ, ◌<◌, List, length, get_or, map, sym, ap, 
 use Rattle.std.specs.Prelude.{Contains}
 use Rattle.std.proofs.lemmas.List.{get_or_read, length-map, take_all}
 use Rattle.pb_game.proofs.Rising.{rising_le}
-use Rattle.pb_rows.specs.Row.{Row}
+use Rattle.pb_rows.specs.Row.{TokenRow}
 use Rattle.pb_rows.specs.Reached.{numbers_of}
 use Rattle.pb_report.specs.Rising.{IsRising}
 use Rattle.pb_report.specs.Cuts.{is_cut}
@@ -39,7 +39,7 @@ loop-place-preserved c = λ sigs trees initial from shown.
     let read = get_or_read e.instances.items k c.index.result.now l c.index.ensures 0 in
     let listed = c.deref.ensures.value ∙ c.in_ok-numbers.ensures in
     let within : c.place_of.result < length rows =
-    omega (arith, c.place_of.ensures.within, ap length listed, length-map rows (λ (r : Row). r.number)) in
+    omega (arith, c.place_of.ensures.within, ap length listed, length-map rows (λ (r : TokenRow). r.number)) in
     let spelled = tokens_there sigs trees rows initial from e shown c.deref.result.now c.place_of.result (get_or e.instances.items k 0)
     c.tokens-tokens.result.now listed within (c.place_of.ensures.there ∙ read) c.tokens-tokens.ensures in
     c.in_ok-push.ensures.items

@@ -5,7 +5,7 @@ use Rattle.pb_report.specs.InstanceName.{instance_name}
 use Rattle.pb_report.proofs.Sending.{sends_then, sends_err, sends_as}
 use Rattle.pb_report.specs.CallPlaces.{placed_names}
 use Rattle.pb_report.specs.Cuts.{is_cut}
-use Rattle.pb_report.specs.EvidenceText.{dependencies_text, line_end}
+use Rattle.pb_report.specs.EvidenceText.{dependencies_text, line_tail}
 use Rattle.pb_report.proofs.Lines.{instance_below, dependency_below, placed_at, cut_within, cut_at}
 use Rattle.pb_report.proofs.evidence_text.write_line.Goals as goal
 
@@ -36,7 +36,7 @@ returns-in_err-write_instance_name g c = λ trees have place are.
     let name = instance_name c.args.verified.now in
     let n = get_or e.instances.items c.args.k 0 in
     let read = get_or_read e.instances.items c.args.k c.index.result.now c.requires.place c.index.ensures 0 in
-    let rest = line_end e.truth (dependencies_text name (place n) ((graph_of e).dependencies n)) (is_cut trees e n) in
+    let rest = line_tail e.truth (dependencies_text name (place n) ((graph_of e).dependencies n)) (is_cut trees e n) in
     sends_as (ap (λ (m : ℕ). name m ++ rest) read)
     (sends_err (name c.index.result.now) rest c.from_residual.ensures.0 c.in_err-write_instance_name.ensures)
 
@@ -57,9 +57,9 @@ returns g c = λ trees have place are.
     ∙ placed_at m c.requires.trees x c.requires.explanation place c.args.placed.now.call_places.now are c.args.k c.requires.place
     c.dependencies.result.now c.dependencies.ensures c.index-2.result.now first in
     let written = placed_names name c.dependencies.result.now c.behind.result.now in
-    let same = ap (λ (i : ℕ). name i ++ line_end e.truth written c.index-3.result.now) read
-    ∙ (ap (λ (text : List ℕ). name n ++ line_end e.truth text c.index-3.result.now) placed
-    ∙ ap (λ (b : Bool). name n ++ line_end e.truth names b) cut) in
+    let same = ap (λ (i : ℕ). name i ++ line_tail e.truth written c.index-3.result.now) read
+    ∙ (ap (λ (text : List ℕ). name n ++ line_tail e.truth text c.index-3.result.now) placed
+    ∙ ap (λ (b : Bool). name n ++ line_tail e.truth names b) cut) in
     sends_as same
-    (sends_then (name c.index.result.now) (line_end e.truth written c.index-3.result.now)
+    (sends_then (name c.index.result.now) (line_tail e.truth written c.index-3.result.now)
     c.in_ok-write_instance_name.ensures c.write_line_end.ensures)

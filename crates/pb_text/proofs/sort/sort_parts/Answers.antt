@@ -3,13 +3,13 @@ use Rattle.std.proofs.lemmas.Result.{err_from_is_err_and}
 use Rattle.pb_errors.proofs.Faults.{if_fault}
 use Rattle.pb_text_tree.specs.Form.{sort_declaration_form}
 use Rattle.pb_text_lexer.specs.Steps.{kind}
-use Rattle.pb_text.specs.Reading.{is_name, is_sort}
+use Rattle.pb_text.specs.Reading.{is_name_kind, is_sort}
 use Rattle.pb_text.proofs.PartsLemmas.{kept, kept-none, parts-refused, kept-end, kept-more, kept-fails, declarations-append}
 use Rattle.pb_text.proofs.sort.sort_parts.Goals as goal
 
 pub parts-init : goal.parts-init
 parts-init c =
-    let other : is_name (kind c.args.input.now) ≡ false = search rules in
+    let other : is_name_kind (kind c.args.input.now) ≡ false = search rules in
     rw c.new-sorts.ensures.items (suc (length c.args.input.now.tokens), omega arith, kept-none c.args.input.now other)
 
 pub returns-in_err-unless : goal.returns-in_err-unless

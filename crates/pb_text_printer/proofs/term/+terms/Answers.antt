@@ -8,7 +8,7 @@ use Rattle.pb_text_tree.specs.Form.{TermForm, term_form, term_link, arithmetic_l
 use Rattle.pb_text_printer.specs.declared.level.Level.{Level}
 use Rattle.pb_text_printer.specs.declared.level.Bracketing.{Bracketing}
 use Rattle.pb_text_printer.specs.declared.level.Position.{Position}
-use Rattle.pb_text_printer.specs.Words.{Word, close_word, connective_word, connective_level, term_side, term_words, comparison_side, is_open, needs_no_brackets}
+use Rattle.pb_text_printer.specs.Words.{Word, close_word, connective_word, connective_level, term_side, term_words, comparison_side, is_open_end, needs_no_brackets}
 use Rattle.pb_text_printer.specs.Page.{Page, after, page, typed}
 use Rattle.pb_text_printer.specs.Parts.{placed_words, bracket, computed_words, left_words}
 use Rattle.pb_text_printer.proofs.PageLemmas.{bracketed}
@@ -50,7 +50,7 @@ write_links-returns-then-index-links t c =
     c.last-last.ensures ∙ ap (λ (v : Level). let r : Position = record { level = v; right_end = c.args.right_end } in r) c.connective_level.ensures in
     subst (λ (v : Page). OnOk c.write_term.result (page c.write_term.new.out ≡ v))
     (placed c.index-links-index.result.operand c.index-links-index.result.operand c.last-last.result (record { level = connective_level o; right_end = c.args.right_end }) (page c.word.new.self) refl at
-    ∙ links.link-last term_link (connective_word o) (λ y. placed_words y (term_side o) false) (λ y. placed_words y (connective_level o) (is_open c.args.right_end))
+    ∙ links.link-last term_link (connective_word o) (λ y. placed_words y (term_side o) false) (λ y. placed_words y (connective_level o) (is_open_end c.args.right_end))
     c.args.links.now c.loop-index.index c.index-links-index.result (page c.loop-index.out) (page c.word.new.self) end c.index-links-index.is word
     ∙ c.loop-index.invariant)
     c.write_term.ensures
@@ -62,7 +62,7 @@ write_links-loop-index-preserved t c =
     c.in_ok-word.ensures ∙ ap (λ (v : List ℕ). typed true true v (page c.loop-index.out)) c.connective_token.ensures ∙ connective-typed o (page c.loop-index.out) in
     let more : c.loop-index.index + 1 ≡ length c.args.links.now → ⊥ = λ e. omega (arith, e, c.if-index-links.false) in
     let at : c.closed-side.result ≡ closed (term_side o) = c.closed-side.ensures ∙ ap closed c.operand_level.ensures in
-    links.link-next term_link (connective_word o) (λ y. placed_words y (term_side o) false) (λ y. placed_words y (connective_level o) (is_open c.args.right_end))
+    links.link-next term_link (connective_word o) (λ y. placed_words y (term_side o) false) (λ y. placed_words y (connective_level o) (is_open_end c.args.right_end))
     c.args.links.now c.loop-index.index c.index-links-index.result (page c.loop-index.out) (page c.word.new.self) (page c.write_term-in-loop-index.new.out)
     c.loop-index-test.true more c.index-links-index.is word
     (c.in_ok-write_term.ensures ∙ placed c.index-links-index.result.operand c.index-links-index.result.operand c.closed-side.result (closed (term_side o)) (page c.word.new.self) refl at)
@@ -71,14 +71,14 @@ write_links-loop-index-preserved t c =
 pub write_links-returns : goal.write_links-returns
 write_links-returns t c =
     let o = c.args.connective in
-    links.links-end term_link (connective_word o) (λ y. placed_words y (term_side o) false) (λ y. placed_words y (connective_level o) (is_open c.args.right_end))
+    links.links-end term_link (connective_word o) (λ y. placed_words y (term_side o) false) (λ y. placed_words y (connective_level o) (is_open_end c.args.right_end))
     c.args.links.now c.loop-index.index (page c.loop-index.out) c.loop-index-test.false
     ∙ c.loop-index.invariant
 
 pub write_plain-returns-in-None : goal.write_plain-returns-in-None
 write_plain-returns-in-None t c =
     subst (λ (v : Page). OnOk c.write_plain.result (page c.write_plain.new.out ≡ v))
-    (ap (λ (x : TermForm). after (term_words x (is_open c.args.right_end)) (page c.args.out.now))
+    (ap (λ (x : TermForm). after (term_words x (is_open_end c.args.right_end)) (page c.args.out.now))
     (ap term_form c.deref-in-None.ensures ∙ links.chain-of-one c.in-Chain.connective c.in-Chain.first c.in-Chain.links c.deref-in-Chain.result.now c.args.term.now c.in-Chain.is c.deref-in-Chain.ensures.value c.in-None.ensures.value))
     c.write_plain.ensures
 
@@ -87,7 +87,7 @@ write_plain-returns-in_ok-write_term-in-Some t c =
     let o = c.in-Chain.connective in
     let at : c.closed-side.result ≡ closed (term_side o) = c.closed-side.ensures ∙ ap closed c.operand_level.ensures in
     subst (λ (v : Page). OnOk c.write_links.result (page c.write_links.new.out ≡ v))
-    (links.chain-words o c.in-Chain.first c.in-Chain.links c.deref-in-Chain.result.now c.deref-in-Some-2.result.now c.in-Some.field-0.now c.args.term.now (is_open c.args.right_end) (page c.args.out.now) (page c.write_term-in-Some.new.out)
+    (links.chain-words o c.in-Chain.first c.in-Chain.links c.deref-in-Chain.result.now c.deref-in-Some-2.result.now c.in-Some.field-0.now c.args.term.now (is_open_end c.args.right_end) (page c.args.out.now) (page c.write_term-in-Some.new.out)
     c.in-Chain.is c.deref-in-Chain.ensures.value c.deref-in-Some-2.ensures.value c.in-Some.ensures.value
     (c.in_ok-write_term-in-Some.ensures ∙ placed c.deref-in-Some.result.now (box_value c.in-Chain.first) c.closed-side.result (closed (term_side o)) (page c.args.out.now) c.deref-in-Some.ensures at))
     c.write_links.ensures
@@ -101,7 +101,7 @@ write_plain-returns-in_ok-word-in-Comparison t c =
     let q = page c.write_term-in-Comparison.new.out in
     subst (λ (v : Page). OnOk c.write_term-in-Comparison-2.result (page c.write_term-in-Comparison-2.new.out ≡ v))
     (placed c.deref-in-Comparison-2.result.now (box_value c.in-Comparison.right) c.closed-side-in-Comparison.result (closed (comparison_side o)) (page c.word-in-Comparison.new.self) c.deref-in-Comparison-2.ensures at
-    ∙ comparison-words c.in-Comparison.place o c.in-Comparison.left c.in-Comparison.right c.args.term.now (is_open c.args.right_end) (page c.args.out.now) q (page c.word-in-Comparison.new.self) c.in-Comparison.is
+    ∙ comparison-words c.in-Comparison.place o c.in-Comparison.left c.in-Comparison.right c.args.term.now (is_open_end c.args.right_end) (page c.args.out.now) q (page c.word-in-Comparison.new.self) c.in-Comparison.is
     (c.in_ok-write_term-in-Comparison.ensures
     ∙ placed c.deref-in-Comparison.result.now (box_value c.in-Comparison.left) c.closed-side-in-Comparison.result (closed (comparison_side o)) (page c.args.out.now) c.deref-in-Comparison.ensures at)
     (c.in_ok-word-in-Comparison.ensures ∙ ap (λ (v : List ℕ). typed true true v q) c.comparison_token.ensures ∙ comparison-typed o q))
@@ -127,7 +127,7 @@ write_operations-returns t c =
 pub write_plain-returns-in-None-first : goal.write_plain-returns-in-None-first
 write_plain-returns-in-None-first t c =
     subst (λ (v : Page). OnOk c.write_plain-in-None-first.result (page c.write_plain-in-None-first.new.out ≡ v))
-    (ap (λ (x : TermForm). after (term_words x (is_open c.args.right_end)) (page c.args.out.now))
+    (ap (λ (x : TermForm). after (term_words x (is_open_end c.args.right_end)) (page c.args.out.now))
     (ap term_form c.deref-in-None-first.ensures
     ∙ of-one-first c.in-Arithmetic.first c.in-Arithmetic.links c.deref-in-Arithmetic.result.now c.args.term.now c.in-Arithmetic.is c.deref-in-Arithmetic.ensures.value c.in-None-first.ensures.value))
     c.write_plain-in-None-first.ensures
@@ -136,7 +136,7 @@ pub write_plain-returns-in_ok-write_left-in-Some-first : goal.write_plain-return
 write_plain-returns-in_ok-write_left-in-Some-first t c =
     let l = c.in-Some-first.link.now in
     subst (λ (v : Page). OnOk c.write_operations.result (page c.write_operations.new.out ≡ v))
-    (calculation c.in-Arithmetic.first c.in-Arithmetic.links c.deref-in-Arithmetic.result.now c.deref-in-Some-first.result.now c.deref-in-Some-first-3.result.now l c.args.term.now (is_open c.args.right_end)
+    (calculation c.in-Arithmetic.first c.in-Arithmetic.links c.deref-in-Arithmetic.result.now c.deref-in-Some-first.result.now c.deref-in-Some-first-3.result.now l c.args.term.now (is_open_end c.args.right_end)
     (page c.args.out.now) (page c.open_brackets.new.out) (page c.write_left.new.out) c.in-Arithmetic.is
     c.deref-in-Arithmetic.ensures.value c.deref-in-Some-first.ensures.value c.deref-in-Some-first-3.ensures.value c.in-Some-first.ensures.value
     c.in_ok-open_brackets-in-Some-first.ensures
@@ -148,7 +148,7 @@ write_plain-returns-in_ok-write_left-in-Some-first t c =
 pub write_plain-returns-in_ok-word-in-Application : goal.write_plain-returns-in_ok-word-in-Application
 write_plain-returns-in_ok-word-in-Application t c =
     subst (λ (v : Page). OnOk c.write_arguments.result (page c.write_arguments.new.out ≡ v))
-    (application-words c.in-Application.function c.in-Application.arguments c.deref-in-Application.result.now c.args.term.now (is_open c.args.right_end) (page c.args.out.now) (page c.word-in-Application.new.self)
+    (application-words c.in-Application.function c.in-Application.arguments c.deref-in-Application.result.now c.args.term.now (is_open_end c.args.right_end) (page c.args.out.now) (page c.word-in-Application.new.self)
     c.in-Application.is c.deref-in-Application.ensures.value
     (c.in_ok-word-in-Application.ensures ∙ ap (λ (v : List ℕ). typed true true v (page c.args.out.now)) c.as_str-in-Application.ensures.value))
     c.write_arguments.ensures
@@ -157,7 +157,7 @@ pub write_plain-returns-in_ok-write_quantifier-in-Quantified : goal.write_plain-
 write_plain-returns-in_ok-write_quantifier-in-Quantified t c =
     subst (λ (v : Page). OnOk c.write_plain-in-Quantified.result (page c.write_plain-in-Quantified.new.out ≡ v))
     (ap (λ (x : Term). after (term_words (term_form x) true) (page c.write_quantifier.new.out)) c.deref-in-Quantified-2.ensures
-    ∙ quantified-words c.in-Quantified.place c.in-Quantified.quantifier c.in-Quantified.variables c.deref-in-Quantified.result.now c.in-Quantified.body c.args.term.now (is_open c.args.right_end)
+    ∙ quantified-words c.in-Quantified.place c.in-Quantified.quantifier c.in-Quantified.variables c.deref-in-Quantified.result.now c.in-Quantified.body c.args.term.now (is_open_end c.args.right_end)
     (page c.args.out.now) (page c.write_quantifier.new.out) c.in-Quantified.is c.deref-in-Quantified.ensures.value c.in_ok-write_quantifier-in-Quantified.ensures)
     c.write_plain-in-Quantified.ensures
 
@@ -166,6 +166,6 @@ write_plain-returns-in_ok-write_quantifier-in-Quantified t c =
 pub write_term-returns : goal.write_term-returns
 write_term-returns t c =
     subst (λ (v : Page). OnOk c.close.result (page c.close.new.self ≡ v))
-    (bracketed (term_words (term_form c.args.term.now)) (needs_no_brackets (term_form c.args.term.now) c.args.position.level (is_open c.args.position.right_end)) (is_open c.args.position.right_end)
+    (bracketed (term_words (term_form c.args.term.now)) (needs_no_brackets (term_form c.args.term.now) c.args.position.level (is_open_end c.args.position.right_end)) (is_open_end c.args.position.right_end)
     (page c.args.out.now) (page c.open.new.self) (page c.write_plain-2.new.out) (sym c.needs_no_brackets.ensures ∙ c.if-needs_no_brackets.false) c.in_ok-open.ensures c.in_ok-write_plain.ensures)
     c.close.ensures

@@ -1,7 +1,7 @@
 use Rattle.std.proofs.Common.{◌≡◌, drop}
 use Rattle.std.specs.Prelude.{None}
 use Rattle.pb_text_tree.specs.Form.{argument_forms, arithmetic_links, term_links}
-use Rattle.pb_text_printer.specs.Words.{is_open}
+use Rattle.pb_text_printer.specs.Words.{is_open_end}
 use Rattle.pb_text_printer.specs.Page.{after, page}
 use Rattle.pb_text_printer.specs.Parts.{arguments_from, computed_words, link_words}
 use Rattle.pb_text_printer.proofs.term.+terms.Given as goal
@@ -14,7 +14,7 @@ invariant-write_arguments-loop-index l =
 
 abbrev pub invariant-write_links-loop-index : goal.invariant-write_links-loop-index
 invariant-write_links-loop-index l =
-    after (link_words l.connective (is_open l.right_end) (term_links (drop l.index l.links))) (page l.out) ≡ after (link_words l.connective (is_open l.right_end) (term_links l.links)) (page l.initial.out)
+    after (link_words l.connective (is_open_end l.right_end) (term_links (drop l.index l.links))) (page l.out) ≡ after (link_words l.connective (is_open_end l.right_end) (term_links l.links)) (page l.initial.out)
 
 abbrev pub invariant-write_operations-loop-link : goal.invariant-write_operations-loop-link
 invariant-write_operations-loop-link l =

@@ -12,7 +12,7 @@ use Rattle.pb_model_properties.specs.declared.error.ModelFault.TheVariants as mo
 use Rattle.pb_errors.specs.declared.or_memory.OrMemory.{OrMemory}
 use Rattle.pb_errors.specs.declared.or_memory.OrMemory.TheVariants as or_memory
 use Rattle.pbsolve.specs.declared.solve_error.SolveError.TheVariants as solve_error
-use Rattle.pbsolve.specs.Errors.{fault_of_model, joined}
+use Rattle.pbsolve.specs.Errors.{fault_of_model, joins_into}
 use Rattle.pbsolve.proofs.Refusals.{refused_up}
 use Rattle.pbsolve.proofs.PropertyVerdicts.{model_untranslated}
 use Rattle.pbsolve.proofs.models.translate_text.Goals as goal
@@ -43,12 +43,12 @@ pub returns-in_err-text-clause-refused : goal.returns-in_err-text-clause-refused
 returns-in_err-text-clause-refused g c =
     let name = option_copied c.args.property in
     let bytes = c.args.bytes.now in
-    refused_up (λ f above. above ≡ fault_of_model f) (untranslated.IsUntranslated name bytes) (IsUntranslated name bytes)
+    refused_up (λ f above. above ≡ fault_of_model f) (untranslated.LacksTranslation name bytes) (IsUntranslated name bytes)
     (λ f above same h. subst (IsUntranslated name bytes) (sym same) (model_untranslated name bytes f h))
     c.in_err-text.field-0.0 c.from_residual.result c.in_err-text.ensures.refused c.from_residual.ensures.1
 
 -- a property that isn't there was told as that
-by_name : {T : Type 0} (P : Type 0) (e : OrMemory ModelFault) (r : Result T SolveError) → IsErrAnd r (joined (λ f above. above ≡ fault_of_model f) e)
+by_name : {T : Type 0} (P : Type 0) (e : OrMemory ModelFault) (r : Result T SolveError) → IsErrAnd r (joins_into (λ f above. above ≡ fault_of_model f) e)
     → (e ≡ or_memory.Refused model_fault.NoProperty → P) → r ≡ Err (Refused NoProperty) → P
 by_name P e (Ok x) made h is = absurd (cc is)
 by_name P (or_memory.Refused model_fault.NoProperty) (Err x) made h is = h refl

@@ -1,6 +1,6 @@
 use Rattle.std.proofs.Common.{◌≡◌, List, sym, subst, ◌∙◌}
 use Rattle.pb_bytecode_program.specs.Values.{divides}
-use Rattle.pb_bytecode_program.specs.declared.abstract_value.AbstractValue.{AbstractValue}
+use Rattle.pb_bytecode_program.specs.declared.domain.AbstractValue.{AbstractValue}
 use Rattle.pb_verifier_states.specs.NamedRule.{named_at_numbers}
 use Rattle.pb_verifier_states.specs.declared.rule.AcceptanceRule.TheVariants as rule
 use Rattle.pb_verifier_states.proofs.Pushes.{arithmetic_goes_on, divisor_fails, overflow_fails, divisor_named, overflow_named, two_on_top}

@@ -1,6 +1,6 @@
 use Rattle.std.proofs.Common.{◌≡◌, ◌≤◌, List, length, take, reverse}
 use Rattle.pb_bytecode_program.specs.Transfer.{Flow, abstract_pop_args}
-use Rattle.pb_bytecode_program.specs.declared.abstract_value.AbstractValue.{AbstractValue}
+use Rattle.pb_bytecode_program.specs.declared.domain.AbstractValue.{AbstractValue}
 use Rattle.pb_verifier_states.proofs.state.AbstractState.pop_arguments.Given as goal
 
 abbrev pub decreases-loop-left : goal.decreases-loop-left
