@@ -1,12 +1,10 @@
 //! Tests of exploration, on one small module: steps of the reference, words that two seats step on,
 //! one worker alone with and without memory, and two workers that overlap. The helpers keep the
-//! conditions of what they call. And tests of what is printed of explored modules.
+//! conditions of what they call.
 #![tactic(auto)]
 
 #[cfg(test)]
 mod alone;
-#[cfg(test)]
-mod game_texts;
 #[cfg(test)]
 mod modules;
 #[cfg(test)]

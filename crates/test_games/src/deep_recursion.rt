@@ -1,7 +1,7 @@
 //! The depth of the solver's recursion, which is that of a game's priorities: the most that a game
 //! can have are solved within the stack of a thread.
-
-use pb_game::{Game, GameError, GameFault, Parts, Player};
+use crate::games::{count_won, loops};
+use pb_game::{Game, GameError, GameFault};
 use pb_strategy::check;
 use pb_zielonka::solve;
 use std::alloc::Global;
@@ -10,33 +10,11 @@ use std::test::Fail;
 use std::thread;
 use std::thread::Threads;
 
-/// So many vertices, each with a priority of its own and an edge to itself.
-fn loops(alloc: Global, priorities: u32) -> Result<Parts, Fail> {
-    let mut parts = Parts {
-        owners: Vec::new(alloc),
-        priorities: Vec::new(alloc),
-        places: vec![in alloc; 0usize]?,
-        successors: Vec::new(alloc),
-    };
-    for v in 0..priorities {
-        parts.owners.push(Player::Even)?;
-        parts.priorities.push(v)?;
-        parts.successors.push(v)?;
-        let place = parts.successors.len();
-        parts.places.push(place)?;
-    }
-    Ok(parts)
-}
-
 /// How many vertices of the game Even wins, where there was memory to solve it.
-fn count_won<R: Threads + Sync>(rt: &R, alloc: Global, game: &Game) -> Option<u32> {
+fn solved_and_won<R: Threads + Sync>(rt: &R, alloc: Global, game: &Game) -> Option<u32> {
     let solution = solve(rt, alloc, game).ok()?;
     let checked = check(game, &solution).ok()?;
-    let mut won = 0u32;
-    for v in 0..game.len() {
-        won = won.wrapping_add(u32::from(checked.truth(v)));
-    }
-    Some(won)
+    Some(count_won(&checked))
 }
 
 /// Even wins each vertex of even priority.
@@ -46,7 +24,7 @@ fn all_priorities_within_two_megabytes(rt: HostRuntime) -> Result<(), Fail> {
     let game = Game::from_parts(alloc, loops(alloc, 256)?)?;
     let solver = thread::Builder::new()
         .stack_size(2 << 20)
-        .spawn(&rt, move || count_won(&rt, alloc, &game))?;
+        .spawn(&rt, move || solved_and_won(&rt, alloc, &game))?;
     assert!(rt; solver.join(&rt) == Some(128));
     Ok(())
 }

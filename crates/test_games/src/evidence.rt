@@ -1,6 +1,8 @@
+//! Evidence of worked games: what it rests on, nearest first.
+use crate::games::Builder;
 use pb_evidence::{Evidence, explain};
 use pb_game::Player::{Even, Odd};
-use pb_game::{Game, Parts, Player};
+use pb_game::{Game, Player, Solution};
 use pb_strategy::check;
 use pb_zielonka::solve;
 use std::alloc::Global;
@@ -8,71 +10,33 @@ use std::process::Abort;
 use std::test::Fail;
 use std::thread::Threads;
 
-/// The parts of a game, with the number of the instance at each vertex that is one's.
-#[derive(Drop)]
-struct Builder {
-    parts: Parts,
-    marks: Vec<bool>,
-    numbers: Vec<u32>,
-}
+/// A vertex: the number of the instance whose it is, if it is one's, its owner, its priority and
+/// its successors.
+type Vertex<'a> = (Option<u32>, Player, u32, &'a [u32]);
 
-impl Builder {
-    /// The two sinks.
-    fn new(alloc: Global) -> Result<Builder, Fail> {
-        let mut builder = Builder {
-            parts: Parts {
-                owners: Vec::new(alloc),
-                priorities: Vec::new(alloc),
-                places: vec![in alloc; 0usize]?,
-                successors: Vec::new(alloc),
-            },
-            marks: Vec::new(alloc),
-            numbers: Vec::new(alloc),
-        };
-        builder.push(None, Even, 1, &[0])?;
-        builder.push(None, Even, 0, &[1])?;
-        Ok(builder)
+/// Why the instance of the first vertex behind the two sinks has its truth value.
+fn evidence_of<R: Abort + Threads + Sync>(
+    rt: &R,
+    alloc: Global,
+    vertices: &[Vertex],
+) -> Result<Option<Evidence>, Fail> {
+    let mut builder = Builder::with_sinks(alloc)?;
+    let mut marks = vec![in alloc; false; 2]?;
+    let mut numbers = vec![in alloc; 0u32; 2]?;
+    for (instance, owner, priority, successors) in vertices.iter().copied() {
+        marks.push(instance.is_some())?;
+        numbers.push(instance.unwrap_or(0))?;
+        builder.push(owner, priority, successors)?;
     }
-
-    fn push(
-        &mut self,
-        instance: Option<u32>,
-        owner: Player,
-        priority: u32,
-        successors: &[u32],
-    ) -> Result<(), Fail> {
-        self.marks.push(instance.is_some())?;
-        self.numbers.push(instance.unwrap_or(0))?;
-        self.parts.owners.push(owner)?;
-        self.parts.priorities.push(priority)?;
-        self.parts.successors.extend_from_slice(successors)?;
-        let place = self.parts.successors.len();
-        self.parts.places.push(place)?;
-        Ok(())
-    }
-
-    /// Why the instance at `start` has its truth value.
-    fn explain<R: Abort + Threads + Sync>(
-        self,
-        rt: &R,
-        alloc: Global,
-        start: u32,
-    ) -> Result<Option<Evidence>, Fail> {
-        let Builder {
-            parts,
-            marks,
-            numbers,
-        } = self;
-        let game = Game::from_parts(alloc, parts)?;
-        let solution = solve(rt, alloc, &game)?;
-        explained(alloc, &game, &solution, &marks, &numbers, start)
-    }
+    let game = builder.game(alloc)?;
+    let solution = solve(rt, alloc, &game)?;
+    explained(alloc, &game, &solution, &marks, &numbers, 2)
 }
 
 fn explained(
     alloc: Global,
     game: &Game,
-    solution: &pb_game::Solution,
+    solution: &Solution,
     marks: &[bool],
     numbers: &[u32],
     start: u32,
@@ -114,55 +78,67 @@ fn assert_evidence<R: Abort>(
     }
 }
 
-/// `nu X0 = X1 && X3 && X2; X1 = X2 && X0; X2 = X3; X3 = X4; X4 = false`: the shortest path to the
-/// violation, X4.
-#[test]
-fn safety(rt: HostRuntime) -> Result<(), Fail> {
-    let mut builder = Builder::new(rt.alloc())?;
-    builder.push(Some(0), Odd, 0, &[3, 4, 5])?;
-    builder.push(Some(1), Odd, 0, &[2, 4])?;
-    builder.push(Some(2), Even, 0, &[5])?;
-    builder.push(Some(3), Even, 0, &[6])?;
-    builder.push(Some(4), Even, 0, &[0])?;
-    let evidence = builder.explain(&rt, rt.alloc(), 2)?;
-    assert_evidence(&rt, evidence, false, &[0, 3, 4], &[&[3], &[4], &[]]);
-    Ok(())
-}
+/// The vertices of games behind the two sinks; the truth value of the first one's instance, the
+/// instances of its evidence, and what each of these rests on.
+const WORKED: [(&[Vertex], bool, &[u32], &[&[u32]]); 3] = [
+    // `nu X0 = X1 && X3 && X2; X1 = X2 && X0; X2 = X3; X3 = X4; X4 = false`: the shortest path to
+    // the violation, X4
+    (
+        &[
+            (Some(0), Odd, 0, &[3, 4, 5]),
+            (Some(1), Odd, 0, &[2, 4]),
+            (Some(2), Even, 0, &[5]),
+            (Some(3), Even, 0, &[6]),
+            (Some(4), Even, 0, &[0]),
+        ],
+        false,
+        &[0, 3, 4],
+        &[&[3], &[4], &[]],
+    ),
+    // `mu X0 = X1 && X2; X1 = true; X2 = X3; X3 = X2`: a lasso
+    (
+        &[
+            (Some(0), Odd, 1, &[3, 4]),
+            (Some(1), Even, 1, &[1]),
+            (Some(2), Even, 1, &[5]),
+            (Some(3), Even, 1, &[4]),
+        ],
+        false,
+        &[0, 2, 3],
+        &[&[2], &[3], &[2]],
+    ),
+    // `nu X7 = (X7 && X8) || X9; nu X8 = X7; mu X9 = X9`: true by the bracket
+    (
+        &[
+            (Some(7), Even, 2, &[3, 5]),
+            (None, Odd, 0, &[2, 4]),
+            (Some(8), Even, 2, &[2]),
+            (Some(9), Even, 1, &[5]),
+        ],
+        true,
+        &[7, 8],
+        &[&[7, 8], &[7]],
+    ),
+];
 
-/// `mu X0 = X1 && X2; X1 = true; X2 = X3; X3 = X2`: a lasso.
 #[test]
-fn liveness(rt: HostRuntime) -> Result<(), Fail> {
-    let mut builder = Builder::new(rt.alloc())?;
-    builder.push(Some(0), Odd, 1, &[3, 4])?;
-    builder.push(Some(1), Even, 1, &[1])?;
-    builder.push(Some(2), Even, 1, &[5])?;
-    builder.push(Some(3), Even, 1, &[4])?;
-    let evidence = builder.explain(&rt, rt.alloc(), 2)?;
-    assert_evidence(&rt, evidence, false, &[0, 2, 3], &[&[2], &[3], &[2]]);
-    Ok(())
-}
-
-/// `nu X7 = (X7 && X8) || X9; nu X8 = X7; mu X9 = X9`: true by the bracket.
-#[test]
-fn brackets(rt: HostRuntime) -> Result<(), Fail> {
-    let mut builder = Builder::new(rt.alloc())?;
-    builder.push(Some(7), Even, 2, &[3, 5])?;
-    builder.push(None, Odd, 0, &[2, 4])?;
-    builder.push(Some(8), Even, 2, &[2])?;
-    builder.push(Some(9), Even, 1, &[5])?;
-    let evidence = builder.explain(&rt, rt.alloc(), 2)?;
-    assert_evidence(&rt, evidence, true, &[7, 8], &[&[7, 8], &[7]]);
+fn worked_games(rt: HostRuntime) -> Result<(), Fail> {
+    for (vertices, truth, instances, rows) in WORKED {
+        let evidence = evidence_of(&rt, rt.alloc(), vertices)?;
+        assert_evidence(&rt, evidence, truth, instances, rows);
+    }
     Ok(())
 }
 
 /// `nu X0 = X1 || X2; nu X1 = X1; nu X2 = X2`: all are true, and X0 rests on one of the two.
 #[test]
 fn one_of_two(rt: HostRuntime) -> Result<(), Fail> {
-    let mut builder = Builder::new(rt.alloc())?;
-    builder.push(Some(0), Even, 0, &[3, 4])?;
-    builder.push(Some(1), Even, 0, &[3])?;
-    builder.push(Some(2), Even, 0, &[4])?;
-    let evidence = builder.explain(&rt, rt.alloc(), 2)?.ok_or("no evidence")?;
+    let vertices: [Vertex; 3] = [
+        (Some(0), Even, 0, &[3, 4]),
+        (Some(1), Even, 0, &[3]),
+        (Some(2), Even, 0, &[4]),
+    ];
+    let evidence = evidence_of(&rt, rt.alloc(), &vertices)?.ok_or("no evidence")?;
     assert!(rt; evidence.truth);
     assert!(rt; evidence.instances.len() == 2);
     assert!(rt; evidence.dependencies(0).len() == 1);

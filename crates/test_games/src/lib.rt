@@ -1,6 +1,6 @@
-//! Tests of the game crates together: worked games, generated games against a solver of the tests'
-//! own, games of a size or a shape that a recursion or a round could be slow on; lifting, alone and
-//! by workers that overlap; evidence.
+//! Tests of the game crates together: worked games, flaws and faults, generated games against a
+//! solver of the tests' own, games of a size or a shape that a recursion or a round could be slow
+//! on; lifting, alone and by workers that overlap; evidence.
 #![tactic(auto)]
 
 #[cfg(test)]
@@ -8,8 +8,14 @@ mod deep_recursion;
 #[cfg(test)]
 mod evidence;
 #[cfg(test)]
+mod games;
+#[cfg(test)]
+mod generated;
+#[cfg(test)]
 mod lifting;
 #[cfg(test)]
 mod measures;
 #[cfg(test)]
 mod tests;
+#[cfg(test)]
+mod winners;

@@ -1,7 +1,5 @@
-//! Worked games: the words and solutions that lifting gives, overlapping workers, games whose ranks
-//! are too many, and generated games whose winners both solvers name.
+//! Worked games: the words and solutions that lifting gives, overlapping workers, and games whose
+//! ranks are too many.
 
-mod games;
-mod generated;
 mod overlap;
 mod tests;

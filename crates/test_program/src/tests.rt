@@ -2,9 +2,9 @@
 //! tested by `rows/`; here stand readers and writers that fail, workers that are watched, and what
 //! is compared with the plain solver.
 mod faults;
-mod models;
 mod parts;
 mod plain;
+mod runs;
 mod solvers;
 mod workers;
 

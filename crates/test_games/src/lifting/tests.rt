@@ -1,19 +1,31 @@
-//! What lifting gives, and that its winners are Zielonka's.
+//! What lifting gives. That its winners are Zielonka's is tested over generated games.
 ghost use Rattle.std.specs.Prelude.{◌<◌};
 
-use crate::lifting::games::{game_of, long_cycle, two_equations};
-use crate::lifting::generated::generated;
+use crate::games::{Builder, game_of};
 use crate::lifting::overlap::Overlap;
 use pb_exploration::{Gate, NoGate};
 use pb_game::Player::{Even, Odd};
 use pb_game::{Game, Player, Solver};
 use pb_lifting::{LiftError, Ranks, TooManyRanks, lift};
 use pb_module_solver::{Context, solve};
-use pb_strategy::check;
 use std::alloc::Global;
 use std::process::Abort;
 use std::test::Fail;
 use std::thread::Threads;
+
+/// `mu X = Y; nu Y = X`, behind the two sinks.
+fn two_equations(alloc: Global) -> Result<Game, Fail> {
+    game_of(alloc, &[(Even, 1, &[3]), (Even, 0, &[2])])
+}
+
+/// A cycle of 128 vertices with as many priorities: each player has `2 ^ 64` ranks below top.
+fn long_cycle(alloc: Global) -> Result<Game, Fail> {
+    let mut builder = Builder::new(alloc)?;
+    for v in 0..128u32 {
+        builder.push(Even, v, &[(v + 1) % 128])?;
+    }
+    builder.game(alloc)
+}
 
 /// The words of a player once a seat has lifted each vertex so many times.
 fn words_after<R: Abort>(
@@ -57,26 +69,20 @@ fn assert_two_equations<G: Gate + Sync, R: Abort + Threads + Sync>(
     Ok(())
 }
 
-// before any lift
+// before any lift, and at the end
 #[test]
-fn opening_words(rt: HostRuntime) -> Result<(), Fail> {
+fn words_of_two_equations(rt: HostRuntime) -> Result<(), Fail> {
     let alloc = rt.alloc();
     let game = two_equations(alloc)?;
-    for player in [Even, Odd] {
-        let words = words_after(&rt, alloc, &game, player, 0)?;
-        assert!(rt; words.as_slice() == [0u64, 0, 0, 0].as_slice());
+    for (passes, even, odd) in [
+        (0u32, [0u64, 0, 0, 0], [0u64, 0, 0, 0]),
+        (12, [3, 0, 3, 3], [0, 3, 0, 1]),
+    ] {
+        for (player, wanted) in [(Even, even), (Odd, odd)] {
+            let words = words_after(&rt, alloc, &game, player, passes)?;
+            assert!(rt; words.as_slice() == wanted.as_slice());
+        }
     }
-    Ok(())
-}
-
-#[test]
-fn final_words(rt: HostRuntime) -> Result<(), Fail> {
-    let alloc = rt.alloc();
-    let game = two_equations(alloc)?;
-    let even = words_after(&rt, alloc, &game, Even, 12)?;
-    let odd = words_after(&rt, alloc, &game, Odd, 12)?;
-    assert!(rt; even.as_slice() == [3u64, 0, 3, 3].as_slice());
-    assert!(rt; odd.as_slice() == [0u64, 3, 0, 1].as_slice());
     Ok(())
 }
 
@@ -100,7 +106,7 @@ fn workers_overlap(rt: HostRuntime) -> Result<(), Fail> {
 #[test]
 fn empty_game(rt: HostRuntime) -> Result<(), Fail> {
     let alloc = rt.alloc();
-    let game = game_of(alloc, [].as_slice(), [].as_slice(), [].as_slice())?;
+    let game = Builder::new(alloc)?.game(alloc)?;
     let Ok(solution) = lift(&rt, alloc, &game, 2, &NoGate) else {
         panic!(rt; "no solution");
     };
@@ -136,29 +142,6 @@ fn too_many_ranks(rt: HostRuntime) -> Result<(), Fail> {
     let winners = &certified.solution().winner;
     assert!(rt; winners.len() == 128);
     assert!(rt; winners.iter().all(|&winner| winner == Odd));
-    Ok(())
-}
-
-#[test]
-fn winners_of_generated_games(rt: HostRuntime) -> Result<(), Fail> {
-    let alloc = rt.alloc();
-    let context = Context {
-        rt: &rt,
-        alloc,
-        gate: &NoGate,
-    };
-    for seed in 0..1000u64 {
-        let game = generated(alloc, seed)?;
-        let zielonka = solve(&context, &game, Solver::Zielonka, 1)?;
-        let Ok(lifted) = lift(&rt, alloc, &game, 2, &NoGate) else {
-            panic!(rt; "seed {seed}");
-        };
-        assert!(rt; check(&game, &lifted).is_ok(), "seed {seed}");
-        assert!(rt;
-            lifted.winner.as_slice() == zielonka.solution().winner.as_slice(),
-            "seed {seed}"
-        );
-    }
     Ok(())
 }
 

@@ -1,4 +1,5 @@
 //! Wrong words, readers and writers that fail, and input up to its limit.
+use super::runs::RUNS;
 use super::{ROOM, run_on, run_over};
 use crate::budget::Budget;
 use crate::failing::{Broken, Failing};
@@ -10,18 +11,6 @@ use std::io::Read;
 use std::test::Fail;
 
 const SOLVE: [&str; 2] = ["pbsolve", "solve"];
-
-const TEXT: &[u8] = b"pbes mu X = Y; nu Y = X; init X;";
-
-// What the commands write of the text.
-const OUTPUTS: [(&str, &[u8]); 3] = [
-    ("solve", b"answer false\ninstances 2\ncut 0\nvertices 4\n"),
-    (
-        "game",
-        b"parity 3;\n0 1 0 0 \"false\";\n1 0 0 1 \"true\";\n2 1 0 3 \"X\";\n3 0 0 2 \"Y\";\n",
-    ),
-    ("certificate", b"paritysol 3;\n0 1;\n1 0 1;\n2 1;\n3 1;\n"),
-];
 
 // A writer that fails once after so many bytes.
 fn writer(alloc: Global, budget: usize, is_slow: bool) -> Budget {
@@ -45,22 +34,22 @@ fn refuses_words(rt: HostRuntime) -> Result<(), Fail> {
     Ok(())
 }
 
+// Whatever was written before is a prefix of the output.
 #[test]
 fn fails_at_each_byte_written(rt: HostRuntime) -> Result<(), Fail> {
-    for (command, text) in OUTPUTS {
-        let words = ["pbsolve", command];
-        for budget in 0..=text.len() {
-            let whole = budget == text.len();
+    for run in RUNS {
+        for budget in 0..=run.output.len() {
+            let whole = budget == run.output.len();
             let status = if whole { 0 } else { 4 };
             let line: &[u8] = if whole { b"" } else { b"E02\n" };
             for is_slow in [false, true] {
                 let streams = Streams {
-                    input: In::new(TEXT),
+                    input: In::new(run.input),
                     output: writer(rt.alloc(), budget, is_slow),
                     error: writer(rt.alloc(), ROOM, is_slow),
                 };
-                let outcome = run_over(&rt, rt.alloc(), &words, streams);
-                assert!(rt; outcome.is(status, &text[..budget], line), "{command}");
+                let outcome = run_over(&rt, rt.alloc(), run.words, streams);
+                assert!(rt; outcome.is(status, &run.output[..budget], line));
             }
         }
     }
@@ -69,12 +58,12 @@ fn fails_at_each_byte_written(rt: HostRuntime) -> Result<(), Fail> {
 
 #[test]
 fn fails_at_each_byte_read(rt: HostRuntime) -> Result<(), Fail> {
-    for (command, _) in OUTPUTS {
-        let words = ["pbsolve", command];
-        for left in 0..=TEXT.len() {
-            let reader = In::new(Failing { bytes: TEXT, left });
-            let outcome = run_on(&rt, rt.alloc(), &words, reader, ROOM);
-            assert!(rt; outcome.is(4, b"", b"E01\n"), "{command}");
+    for run in RUNS {
+        for left in 0..=run.input.len() {
+            let bytes = run.input;
+            let reader = In::new(Failing { bytes, left });
+            let outcome = run_on(&rt, rt.alloc(), run.words, reader, ROOM);
+            assert!(rt; outcome.is(4, b"", b"E01\n"));
         }
     }
     Ok(())
@@ -82,16 +71,16 @@ fn fails_at_each_byte_read(rt: HostRuntime) -> Result<(), Fail> {
 
 #[test]
 fn reads_and_writes_single_bytes(rt: HostRuntime) -> Result<(), Fail> {
-    for (command, text) in OUTPUTS {
-        let bytes = TEXT;
+    for run in RUNS {
+        let bytes = run.input;
         let left = usize::MAX;
         let streams = Streams {
             input: In::new(Failing { bytes, left }),
             output: Budget::slow(rt.alloc(), ROOM),
             error: Budget::slow(rt.alloc(), ROOM),
         };
-        let outcome = run_over(&rt, rt.alloc(), &["pbsolve", command], streams);
-        assert!(rt; outcome.is(0, text, b""), "{command}");
+        let outcome = run_over(&rt, rt.alloc(), run.words, streams);
+        assert!(rt; outcome.is(0, run.output, b""));
     }
     Ok(())
 }

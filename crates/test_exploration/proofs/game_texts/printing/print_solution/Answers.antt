@@ -1,9 +1,0 @@
-use Rattle.std.proofs.Common.{sym, subst}
-use Rattle.pb_game_of_trees.specs.Explored.{AreModuleRows}
-use Rattle.test_exploration.proofs.game_texts.printing.print_solution.Goals as goal
-
-pub solution_text-requires-clause-rows : goal.solution_text-requires-clause-rows
-solution_text-requires-clause-rows g c = subst (AreModuleRows c.in_ok-module.module) (sym c.rows-rows.ensures) c.in_ok-explored.ensures
-
-pub solved_game-requires-clause-rows : goal.solved_game-requires-clause-rows
-solved_game-requires-clause-rows g c κs within = subst (AreModuleRows c.in_ok-module.module) (sym c.rows-rows.ensures) c.in_ok-explored.ensures

@@ -1,0 +1,96 @@
+//! What the program writes of small inputs, for the tests in which a reader or a writer fails.
+
+/// A run: its words, what it reads, and what it writes.
+#[derive(Clone, Copy)]
+pub struct Run {
+    pub words: &'static [&'static str],
+    pub input: &'static [u8],
+    pub output: &'static [u8],
+}
+
+const TEXT: &[u8] = b"pbes mu X = Y; nu Y = X; init X;";
+
+// A lock that two processes grab by an atomic test-and-set.
+const LOCK: &[u8] = b"sort Place = struct idle | trying | critical;
+model
+  state p, q: Place;
+  step try1:   p == idle -> p := trying;
+       enter1: p == trying && q != critical -> p := critical;
+       leave1: p == critical -> p := idle;
+       try2:   q == idle -> q := trying;
+       enter2: q == trying && p != critical -> q := critical;
+       leave2: q == critical -> q := idle;
+init idle, idle;
+property safe = nu X . !(p == critical && q == critical) && [true] X;
+property alive = nu X . <true> true && [true] X;
+property enters = nu Z . [true] Z && (p == trying => mu Y . [enter1] true && [!enter1] Y);
+";
+
+const VERDICTS: &[u8] = b"safe true\nalive true\nenters false\n";
+
+// A counter whose last step leads outside its range.
+const CUT: &[u8] = b"%range Nat 0 3
+model state n: Nat; step up: true -> n := n + 1; init 0;
+property alive = nu X . <true> true && [true] X;
+property top = mu X . n == 3 || <up> X;
+";
+
+const TRANSLATED: &[u8] = b"%range Nat 0 3
+pbes
+mu X(n: Nat) = val(n == 3) || val(true) && X(n + 1);
+init X(0);
+";
+
+/// Runs of each command that reads a text or a model.
+pub const RUNS: [Run; 10] = [
+    Run {
+        words: &["pbsolve", "solve"],
+        input: TEXT,
+        output: b"answer false\ninstances 2\ncut 0\nvertices 4\n",
+    },
+    Run {
+        words: &["pbsolve", "solution"],
+        input: TEXT,
+        output: b"X false\nY false\n",
+    },
+    Run {
+        words: &["pbsolve", "game"],
+        input: TEXT,
+        output: b"parity 3;\n0 1 0 0 \"false\";\n1 0 0 1 \"true\";\n2 1 0 3 \"X\";\n3 0 0 2 \"Y\";\n",
+    },
+    Run {
+        words: &["pbsolve", "certificate"],
+        input: TEXT,
+        output: b"paritysol 3;\n0 1;\n1 0 1;\n2 1;\n3 1;\n",
+    },
+    Run {
+        words: &["pbsolve", "explain"],
+        input: TEXT,
+        output: b"answer false\nX false: Y\nY false: X\n",
+    },
+    Run {
+        words: &["pbsolve", "check"],
+        input: LOCK,
+        output: VERDICTS,
+    },
+    Run {
+        words: &["pbsolve", "check", "--workers", "2"],
+        input: LOCK,
+        output: VERDICTS,
+    },
+    Run {
+        words: &["pbsolve", "check", "--solver", "lift"],
+        input: LOCK,
+        output: VERDICTS,
+    },
+    Run {
+        words: &["pbsolve", "check"],
+        input: CUT,
+        output: b"alive false\ncut 1\ntop true\n",
+    },
+    Run {
+        words: &["pbsolve", "translate", "--property", "top"],
+        input: CUT,
+        output: TRANSLATED,
+    },
+];
