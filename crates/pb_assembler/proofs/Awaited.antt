@@ -7,7 +7,7 @@ use Rattle.pb_assembler_scheme.proofs.Flat.{long}
 use Rattle.pb_bytecode_program.specs.declared.instruction.Op.{Op}
 use Rattle.pb_bytecode_program.specs.declared.instruction.Op.TheVariants as op
 use Rattle.pb_assembler_scheme.specs.Pieces.{Piece, Then, Unless, Choose, end, flat}
-use Rattle.pb_assembler.specs.Draft.{Draft, Labelled, Places, open_labels, label_place, resolved, resolved_op}
+use Rattle.pb_assembler_builder.specs.Draft.{Draft, Labelled, Places, open_labels, label_place, resolved, resolved_op}
 use Rattle.pb_assembler.specs.Emitted.{Keeps, Emits, nowhere}
 use Rattle.pb_assembler.proofs.Emitting.{Adds, Makes, Sets, Follows, beyond, earlier, emits_follows, adds_follows, makes_follows, then_follows, set_follows, set_keeps, none_some, emitted_long, added_long, added_code, place_at, makes_from, adds_from, sets_from, unplaced, new_place}
 

@@ -9,7 +9,7 @@ use Rattle.pb_normal.specs.Normal.{Formula}
 use Rattle.pb_assembler_scheme.proofs.Flat.{long}
 use Rattle.pb_assembler_scheme.specs.Pieces.{Plain, Then}
 use Rattle.pb_assembler_scheme.specs.Scheme.{bracketed, connective_of, equation_code, equation_piece, formula_piece, head}
-use Rattle.pb_assembler.specs.Draft.{Draft, label_place}
+use Rattle.pb_assembler_builder.specs.Draft.{Draft, label_place}
 use Rattle.pb_assembler.specs.Emitted.{Emits, nowhere}
 use Rattle.pb_assembler.proofs.Emitting.{emits_then, emitted_long}
 

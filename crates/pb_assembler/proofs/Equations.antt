@@ -20,7 +20,7 @@ use Rattle.pb_assembler.specs.Compiled.{bare_program, compiled_contents, all_com
 use Rattle.pb_assembler.specs.Measures.{AreMeasures}
 use Rattle.pb_assembler.specs.MeasureEquations.{IsProgram}
 use Rattle.pb_assembler.specs.declared.measures.Measures.{Measures}
-use Rattle.pb_assembler.proofs.Drafts.{append_one}
+use Rattle.pb_assembler_builder.proofs.Drafts.{append_one}
 use Rattle.pb_assembler_modules.proofs.StatedCounts.{cost_same}
 
 -- ---- stated counts

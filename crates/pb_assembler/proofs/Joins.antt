@@ -18,7 +18,7 @@ use Rattle.pb_normal.specs.View.{chained, nested, formula_view, formula_views}
 use Rattle.pb_bytecode_program.specs.declared.instruction.Op.TheVariants as op
 use Rattle.pb_assembler_scheme.specs.Pieces.{Piece, Plain, Then, Unless, Choose, Repeat}
 use Rattle.pb_assembler_scheme.specs.Scheme.{data_piece, neutral, junction_of, test_of, tested_piece, join_piece, under, bracketed, deciding_leaf, connective_of, formula_piece}
-use Rattle.pb_assembler.specs.Draft.{Draft, Labelled}
+use Rattle.pb_assembler_builder.specs.Draft.{Draft, Labelled}
 use Rattle.pb_assembler.specs.Emitted.{Emits, nowhere}
 use Rattle.pb_assembler.specs.Operands.{Guarded, early_test, guarded_by, IsLeft, other_of}
 use Rattle.pb_normal.specs.Small.{is_small, is_small_formula}

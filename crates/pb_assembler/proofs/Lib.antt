@@ -1,4 +1,3 @@
-pub mod Drafts
 pub mod Emitting
 pub mod Chains
 pub mod Views

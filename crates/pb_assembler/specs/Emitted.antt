@@ -6,7 +6,7 @@ use Rattle.pb_text_tree.specs.declared.operator.Connective.TheVariants as connec
 use Rattle.pb_bytecode_program.specs.declared.instruction.Connective.TheVariants as connectives
 use Rattle.pb_bytecode_program.specs.declared.instruction.Op.TheVariants as op
 use Rattle.pb_assembler_scheme.specs.Pieces.{Piece, Plain, Then, Leave, flat}
-use Rattle.pb_assembler.specs.Draft.{Draft, Places, open_labels, label_place, resolved}
+use Rattle.pb_assembler_builder.specs.Draft.{Draft, Places, open_labels, label_place, resolved}
 
 -- what has a place in the draft has it in these places, too
 abbrev pub Keeps : Draft → Places → Type 0

@@ -1,4 +1,3 @@
-pub mod Draft
 pub mod Emitted
 pub mod Excess
 pub mod Measures

@@ -4,14 +4,14 @@ ghost use Rattle.std.specs.Prelude.{◌≡◌, ◌<◌, true, length, map, optio
 ghost use Rattle.pb_typed_tree.specs.View.{argument_view};
 ghost use Rattle.pb_assembler_scheme.specs.Pieces.{Guard};
 ghost use Rattle.pb_assembler_scheme.specs.Scheme.{arguments_piece, call_piece};
-ghost use Rattle.pb_assembler.specs.Draft.{is_label};
+ghost use Rattle.pb_assembler_builder.specs.Draft.{is_label};
 ghost use Rattle.pb_assembler.specs.Emitted.{Emits, block_end, called_piece, nowhere};
 ghost use Rattle.pb_normal.specs.Small.{are_small};
 
 use crate::argument::{any_tested, tested_range};
-use crate::builder::{Builder, Label};
 use crate::emission::emit_plain;
 use crate::term::emit_term;
+use pb_assembler_builder::{Builder, Label};
 use pb_bytecode_program::{Leaf, Op};
 use pb_sorts::{Carrier, Range};
 use pb_typed_tree::Argument;

@@ -6,10 +6,10 @@ ghost use Rattle.pb_normal.specs.View.{formula_view};
 ghost use Rattle.pb_assembler_scheme.specs.Scheme.{equation_code};
 ghost use Rattle.pb_normal.specs.Small.{is_small_formula};
 
-use crate::builder::Builder;
 use crate::emission::emit_plain;
 use crate::formula::{connective_of, emit_formula};
 use crate::measure_equation::outermost;
+use pb_assembler_builder::Builder;
 use pb_bytecode_program::Op;
 use pb_normal::Formula;
 use pb_sorts::Layout;

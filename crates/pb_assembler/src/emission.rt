@@ -4,7 +4,7 @@ ghost use Rattle.std.specs.Prelude.{◌≡◌, None, OnOk};
 ghost use Rattle.pb_assembler_scheme.specs.Pieces.{Plain};
 ghost use Rattle.pb_assembler.specs.Emitted.{Emits, nowhere};
 
-use crate::builder::Builder;
+use pb_assembler_builder::Builder;
 use pb_bytecode_program::Op;
 use std::alloc::AllocError;
 

@@ -13,11 +13,11 @@ ghost use Rattle.pb_assembler.specs.Operands.{early_test, other_of, IsLeft};
 ghost use Rattle.pb_assembler.specs.Tests.{tested_term};
 ghost use Rattle.pb_normal.specs.Small.{is_small, is_small_formula};
 
-use crate::builder::Builder;
 use crate::call::emit_call;
 use crate::callee::parameters_of;
 use crate::emission::emit_plain;
 use crate::test::{Test, as_test, emit_tested};
+use pb_assembler_builder::Builder;
 use pb_bytecode_program::{Connective, Leaf, Op};
 use pb_normal::{Formula, Junction};
 use pb_sorts::{Carrier, Layout};

@@ -5,7 +5,6 @@
 #![tactic(auto)]
 
 mod argument;
-pub mod builder;
 mod call;
 mod callee;
 mod code;
@@ -30,6 +29,6 @@ mod sort;
 mod term;
 mod test;
 
-pub use builder::{Builder, Label};
 pub use compile_error::{CompileError, Excess};
 pub use compiler::compile;
+pub use pb_assembler_builder::{Builder, Label};

@@ -9,9 +9,9 @@ ghost use Rattle.pb_assembler_scheme.specs.Scheme.{data_piece, in_order};
 ghost use Rattle.pb_assembler.specs.Emitted.{Emits, connected_behind, nowhere};
 ghost use Rattle.pb_normal.specs.Small.{is_small};
 
-use crate::builder::Builder;
 use crate::emission::emit_plain;
 use crate::operator::{arithmetic_op, comparison_op};
+use pb_assembler_builder::Builder;
 use pb_bytecode_program::{Arithmetic, Connective, Equality, Op};
 use pb_typed_tree::{Link, Term};
 use std::alloc::AllocError;

@@ -8,11 +8,11 @@ ghost use Rattle.pb_assembler.specs.Emitted.{Emits, nowhere};
 ghost use Rattle.pb_assembler.specs.MeasureTerms.{capped_load, term_load};
 ghost use Rattle.pb_assembler.specs.Tests.{tested_term};
 
-use crate::builder::Builder;
 use crate::emission::emit_plain;
 use crate::measure_load::Load;
 use crate::measure_term::{measure_one, measure_term};
 use crate::term::emit_term;
+use pb_assembler_builder::Builder;
 use pb_bytecode_program::Op;
 use pb_normal::Formula;
 use pb_typed_tree::Term;

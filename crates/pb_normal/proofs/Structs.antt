@@ -11,7 +11,7 @@ use Rattle.pb_typing_rules.specs.WellTyped.{parameter_scope, AreProper, IsWellTy
 use Rattle.pb_normal.specs.Expansion.{expanded}
 use Rattle.pb_normal.specs.Loops.{AreShaped, IsShaped, loops, variable_shapes}
 use Rattle.pb_normal.specs.Structs.{with_count, struct_counts, AreFew, has_enumerator, IsDeclaredShape, HasDeclaredShapes}
-use Rattle.pb_typing.proofs.Shaped.{variables-shaped, expanded-shaped}
+use Rattle.pb_typing_nodes.proofs.Shaped.{variables-shaped, expanded-shaped}
 
 -- ---- entries of tables
 

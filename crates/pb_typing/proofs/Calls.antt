@@ -27,7 +27,7 @@ use Rattle.pb_typing_rules.specs.Faults.{term_faults, argument_faults, called_fa
 use Rattle.pb_typing_declarations.proofs.Parts.{among_left, among_right}
 use Rattle.pb_typing.specs.Arguments.{faults_against}
 use Rattle.pb_typing.specs.Typed.{IsLayout}
-use Rattle.pb_typing.proofs.SlotLemmas.{length-shapes, length-variables}
+use Rattle.pb_typing_nodes.proofs.SlotLemmas.{length-shapes, length-variables}
 use Rattle.pb_typing.proofs.Found.{found, not_found}
 
 pub length-erased : (xs : List Argument) → count (erased_arguments (argument_forms xs)) ≡ length xs

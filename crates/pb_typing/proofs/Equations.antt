@@ -22,7 +22,7 @@ use Rattle.pb_typed_tree.specs.Loops.{AreShaped, equation_loops}
 use Rattle.pb_typed_tree.specs.Tree.{Formula}
 use Rattle.pb_typed_tree.specs.View.{formula_view}
 use Rattle.pb_typing.specs.Rights.{AreRights, IsRight, own_faults}
-use Rattle.pb_typing.proofs.Shaped.{variables-shaped}
+use Rattle.pb_typing_nodes.proofs.Shaped.{variables-shaped}
 
 abbrev pub erased : Equation → syntax.Equation
 erased X = erased_equation (equation_form X)

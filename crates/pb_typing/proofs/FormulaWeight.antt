@@ -6,7 +6,7 @@ use Rattle.pb_text_tree.specs.declared.operator.Connective.{Connective}
 use Rattle.pb_text_tree.specs.declared.formula.Formula as formula
 use Rattle.pb_text_tree.specs.declared.formula.Formula.{Formula, Row_of-Link, end_of-Link, more_of-Link, items-the_row-Link, items_hidden-the_row-Link-0}
 use Rattle.pb_text_tree.specs.declared.formula.Link.{Link}
-use Rattle.pb_typing.proofs.Weight.{groups_weight}
+use Rattle.pb_typing_terms.proofs.Weight.{groups_weight}
 
 abbrev mutual
   pub weight : Formula → ℕ

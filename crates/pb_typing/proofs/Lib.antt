@@ -1,15 +1,5 @@
-pub mod Weight
 pub mod FormulaWeight
-pub mod Computed
-pub mod Unknown
-pub mod Links
-pub mod Nodes
-pub mod FunctionArguments
-pub mod Applications
-pub mod DataLemmas
-pub mod SlotLemmas
 pub mod LoopCount
-pub mod Shaped
 pub mod ElaboratedChains
 pub mod ValueFold
 pub mod ValueChains

@@ -6,7 +6,7 @@ use Rattle.pb_text_meaning.specs.Syntax.{Spec}
 use Rattle.pb_typing_declarations.specs.Shapes.{Shape}
 use Rattle.pb_typed_tree.specs.Loops.{loops, variable_shapes}
 use Rattle.pb_typed_tree.specs.Elaboration.{width}
-use Rattle.pb_typing.proofs.SlotLemmas.{length-variables}
+use Rattle.pb_typing_nodes.proofs.SlotLemmas.{length-variables}
 
 join-length : (ss ts : List Shape) (v w : ℕ) → length ss ≡ v → length ts ≡ w → length (ss ++ ts) ≡ v + w
 join-length ss ts v w h k = length-append ss ts ∙ (ap (λ (a : ℕ). a + length ts) h ∙ ap (λ (a : ℕ). v + a) k)

@@ -21,11 +21,11 @@ use Rattle.pb_typed_tree.specs.Loops.{loops}
 use Rattle.pb_typed_tree.specs.Elaboration.{Slotting, width}
 use Rattle.pb_typed_tree.specs.View.{chained}
 use Rattle.pb_typing.specs.Tree.{operand_terms}
-use Rattle.pb_typing.specs.Value.{Value, value_of, values_of}
+use Rattle.pb_typing.specs.Value.{value_of, values_of}
 use Rattle.pb_typing.specs.Value as values
 use Rattle.pb_typing.specs.ValueLinks.{operand, value_loops}
 use Rattle.pb_typing.proofs.LoopCount.{length-loops}
-use Rattle.pb_typing.proofs.SlotLemmas.{length_behind}
+use Rattle.pb_typing_nodes.proofs.SlotLemmas.{length_behind}
 use Rattle.pb_typing.proofs.ValueChains.{chain, chain-value, plain-expanded, split}
 
 -- ---- no quantifier stands where none may

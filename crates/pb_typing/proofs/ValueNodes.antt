@@ -41,7 +41,7 @@ use Rattle.pb_typed_tree.specs.View as view
 use Rattle.pb_typed_tree.specs.View.{nested, formula_view, term_view}
 use Rattle.pb_typing.specs.declared.joined.Value.{Value}
 use Rattle.pb_typing.specs.declared.joined.Value.TheVariants as declared
-use Rattle.pb_typing.specs.Chains.{link_faults, operand_shape}
+use Rattle.pb_typing_terms.specs.Chains.{link_faults, operand_shape}
 use Rattle.pb_typing.specs.Elaborated.{ChecksValueIn, ElaboratesValue, truth_faults}
 use Rattle.pb_typing.specs.Tree as texts
 use Rattle.pb_typing.specs.Tree.{operand_terms}
@@ -50,8 +50,8 @@ use Rattle.pb_typing.specs.Value.{Data, as_formula, chosen, value_of, values_of}
 use Rattle.pb_typing.specs.ValueLinks.{operand, value_loops}
 use Rattle.pb_typing.specs.ValueView.{value_shape, value_view, value_views}
 use Rattle.pb_typing.proofs.ElaboratedChains.{each-nested}
-use Rattle.pb_typing.proofs.Links.{no_links}
-use Rattle.pb_typing.proofs.SlotLemmas.{length_behind, length-variables}
+use Rattle.pb_typing_terms.proofs.Links.{no_links}
+use Rattle.pb_typing_nodes.proofs.SlotLemmas.{length_behind, length-variables}
 use Rattle.pb_typing.proofs.ValueChains.{value-formula}
 use Rattle.pb_typing.proofs.ValueLemmas.{form-value, form-loops, grown, negated-loops, no_quantifier, plain_grows}
 

@@ -4,34 +4,15 @@ use Rattle.pb_sorts.specs.declared.carrier.Carrier.{Carrier}
 use Rattle.pb_text_tree.specs.declared.place.Place.{Place}
 use Rattle.pb_text_tree.specs.Form.{FormulaForm, TermForm}
 use Rattle.pb_text_meaning.specs.Syntax as syntax
-use Rattle.pb_text_meaning.specs.Syntax.{Spec}
 use Rattle.pb_errors.specs.declared.or_memory.OrMemory.{OrMemory}
 use Rattle.pb_typing_declarations.specs.declared.fault.TypingFault.{TypingFault}
 use Rattle.pb_typing_declarations.specs.Entries.{shapes_of}
-use Rattle.pb_typing_declarations.specs.View.{spec_of}
-use Rattle.pb_typing_rules.specs.Scope.{Scope}
-use Rattle.pb_typed_tree.specs.declared.formula.Argument.{Argument}
 use Rattle.pb_typed_tree.specs.declared.formula.Formula.{Formula}
 use Rattle.pb_typed_tree.specs.Loops.{loops}
-use Rattle.pb_typed_tree.specs.Elaboration.{Slotting}
-use Rattle.pb_typing.specs.declared.context.Context.{Context}
+use Rattle.pb_typing_nodes.specs.declared.context.Context.{Context}
 use Rattle.pb_typing.specs.declared.joined.Value.{Value}
-use Rattle.pb_typing.specs.Elaborated.{ChecksFormulaIn, ChecksTermIn, ChecksTruthIn, ChecksValueIn}
-use Rattle.pb_typing.specs.Scopes.{scope_view, slotting}
-
--- what is declared, and the shapes and the slots of the variables in scope
-abbrev pub text_in : Context → Spec
-text_in context = spec_of context.declarations.now
-
-abbrev pub scope_in : Context → Scope
-scope_in context = scope_view context.scope.now
-
-abbrev pub slots_in : Context → Slotting
-slots_in context = slotting context.scope.now
-
-abbrev pub ChecksTerm : Context → TermForm → Result Argument (OrMemory TypingFault) → Type 0
-ChecksTerm context x result =
-    ChecksTermIn (text_in context) (scope_in context) (slots_in context) x result
+use Rattle.pb_typing.specs.Elaborated.{ChecksFormulaIn, ChecksTruthIn, ChecksValueIn}
+use Rattle.pb_typing_nodes.specs.Contexts.{scope_in, slots_in, text_in}
 
 abbrev pub ChecksValue : Context → ℕ → TermForm → Result Value (OrMemory TypingFault) → Type 0
 ChecksValue context n x result =

@@ -1,5 +1,5 @@
 -- What the check finds of a part: no fault, and its typed tree; or a fault.
-use Rattle.std.specs.Prelude.{◌≡◌, ℕ, Bool, true, false, ◌++◌, [], List, Result, Contains}
+use Rattle.std.specs.Prelude.{◌≡◌, ℕ, Bool, true, ◌++◌, [], List, Result}
 use Rattle.std.specs.Prelude.{MatchResult, Some, map}
 use Rattle.pb_text_tree.specs.declared.place.Place.{Place}
 use Rattle.pb_text_tree.specs.Form.{FormulaForm, InstanceForm, TermForm}
@@ -14,37 +14,15 @@ use Rattle.pb_typing_rules.specs.Faults.{formula_faults, term_faults}
 use Rattle.pb_typing_rules.specs.Scope.{Scope}
 use Rattle.pb_typing_rules.specs.Shapes.{may_be_truth}
 use Rattle.pb_typing_rules.specs.Term.{shape}
-use Rattle.pb_typed_tree.specs.declared.formula.Argument as typed
 use Rattle.pb_typed_tree.specs.declared.formula.Formula as code
-use Rattle.pb_typed_tree.specs.Elaboration.{Slotting, arguments, elaborated, place_of, slotted}
+use Rattle.pb_typed_tree.specs.Elaboration.{Slotting, arguments, elaborated, place_of}
 use Rattle.pb_typed_tree.specs.Expansion.{expanded, expanded_term}
-use Rattle.pb_typed_tree.specs.Tree.{Formula, Term}
-use Rattle.pb_typed_tree.specs.View.{argument_view, formula_view, shape_view, term_view}
+use Rattle.pb_typed_tree.specs.Tree.{Formula}
+use Rattle.pb_typed_tree.specs.View.{argument_view, formula_view}
 use Rattle.pb_typing.specs.declared.instance.Call.{Call}
 use Rattle.pb_typing.specs.declared.joined.Value as program
 use Rattle.pb_typing.specs.Value.{Value, value_of}
 use Rattle.pb_typing.specs.ValueView.{value_shape, value_view}
-
--- ---- data terms
-
--- this shape and this typed tree
-abbrev pub IsTypedAs : Shape → Term → typed.Argument → Type 0
-IsTypedAs s x r = (shape_view r.shape ≡ s) × (term_view r.term ≡ x)
-
-abbrev pub Elaborates : List TypingFault → Shape → Term
-    → Result typed.Argument (OrMemory TypingFault) → Type 0
-Elaborates all s x result = MatchResult result (λ r. (all ≡ []) × IsTypedAs s x r) (IsAmong all)
-
--- the same where no memory is asked for
-abbrev pub Resolves : List TypingFault → Shape → Term → Result typed.Argument TypingFault → Type 0
-Resolves all s x result = MatchResult result (λ r. (all ≡ []) × IsTypedAs s x r) (Contains all)
-
--- a term where no quantifier may stand
-abbrev pub ChecksTermIn : Spec → Scope → Slotting → TermForm
-    → Result typed.Argument (OrMemory TypingFault) → Type 0
-ChecksTermIn S a c x result =
-    Elaborates (term_faults S false a x) (shape S a (erased_term x)) (slotted S c (erased_term x))
-    result
 
 -- ---- data below val
 

@@ -1,15 +1,9 @@
 pub mod View
-pub mod Found
-pub mod Functions
-pub mod Scopes
-pub mod Bound
 pub mod Value
 pub mod ValueView
 pub mod Elaborated
 pub mod Contexts
-pub mod Slots
 pub mod Tree
-pub mod Chains
 pub mod ValueLinks
 pub mod Arguments
 pub mod FormulaLinks

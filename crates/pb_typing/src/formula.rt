@@ -6,26 +6,27 @@ ghost use Rattle.pb_typing_declarations.specs.Entries.{shapes_of};
 ghost use Rattle.pb_typing_declarations.specs.Faults.{IsAmong};
 ghost use Rattle.pb_typed_tree.specs.Calls.{call_places, calls_in, places_of};
 ghost use Rattle.pb_typed_tree.specs.View.{formula_views};
-ghost use Rattle.pb_typing.specs.Contexts.{AddsLoops, ChecksFormula, scope_in, slots_in, text_in};
+ghost use Rattle.pb_typing.specs.Contexts.{AddsLoops, ChecksFormula};
+ghost use Rattle.pb_typing_nodes.specs.Contexts.{scope_in, slots_in, text_in};
 ghost use Rattle.pb_typing.specs.Elaborated.{ChecksFormulaIn};
 ghost use Rattle.pb_typing.specs.FormulaLinks.{elaborated_links, link_faults, links_calls};
 ghost use Rattle.pb_typing.specs.FormulaLinks.{links_loops};
-ghost use Rattle.pb_typing.specs.Scopes.{inner_slots, inner_view};
+ghost use Rattle.pb_typing_nodes.specs.Scopes.{inner_slots, inner_view};
 ghost use Rattle.pb_typing.specs.Tree.{formula_of};
 ghost use Rattle.pb_typing.specs.Typed.{IsLayout};
 ghost use Rattle.pb_typing.specs.View.{is_positive};
 
-use crate::context::Context;
 use crate::instance::check_instance;
-use crate::operands::paired;
 use crate::polarity::{Polarity, operand_polarity};
-use crate::scope::{Scope, Variable};
 use crate::value::check_truth;
-use crate::variables::{bind_variables, quantified};
 use pb_sorts::Carrier;
 use pb_text_tree::{Connective, Instance, Link};
 use pb_typed_tree::{Formula, Term};
 use pb_typing_declarations::TypeError;
+use pb_typing_nodes::context::Context;
+use pb_typing_nodes::operands::paired;
+use pb_typing_nodes::scope::{Scope, Variable};
+use pb_typing_nodes::variables::{bind_variables, quantified};
 use std::collections::HashMap;
 
 /// Checks a formula of a polarity. The carriers are those of the slots so far, to which it adds

@@ -19,15 +19,15 @@ ghost use Rattle.pb_typed_tree.specs.InitialPlace.{IsInitial};
 ghost use Rattle.pb_typed_tree.specs.View.{argument_view};
 ghost use Rattle.pb_typing.specs.Typed.{IsLayout};
 
-use crate::context::Context;
 use crate::instance::check_instance;
 use crate::polarity::Polarity;
-use crate::scope::Scope;
 use pb_evaluation::value;
 use pb_sorts::{Carrier, Layout};
 use pb_text_tree::{Argument, Spec};
 use pb_typed_tree::Initial;
 use pb_typing_declarations::{Declarations, TypeError, TypingRule, require};
+use pb_typing_nodes::context::Context;
+use pb_typing_nodes::scope::Scope;
 use std::alloc::Global;
 
 /// Checks the initial instance, and hands it out: it is well typed, and each argument's value is in

@@ -11,22 +11,23 @@ ghost use Rattle.pb_typing_declarations.specs.Faults.{IsAmong, unless};
 ghost use Rattle.pb_typed_tree.specs.Elaboration as elaboration;
 ghost use Rattle.pb_typed_tree.specs.View.{argument_view};
 ghost use Rattle.pb_typing.specs.Arguments.{faults_against};
-ghost use Rattle.pb_typing.specs.Contexts.{scope_in, slots_in, text_in};
-ghost use Rattle.pb_typing.specs.Elaborated.{Elaborates, IsCall};
-ghost use Rattle.pb_typing.specs.Slots.{over_slots};
+ghost use Rattle.pb_typing_nodes.specs.Contexts.{scope_in, slots_in, text_in};
+ghost use Rattle.pb_typing_nodes.specs.Elaborated.{Elaborates};
+ghost use Rattle.pb_typing.specs.Elaborated.{IsCall};
+ghost use Rattle.pb_typing_terms.specs.Slots.{over_slots};
 ghost use Rattle.pb_typing.specs.Typed.{IsLayout};
 ghost use Rattle.pb_typing.specs.View.{is_positive};
 
-use crate::context::Context;
-use crate::operands::accepted;
-use crate::operation::fault;
 use crate::polarity::Polarity;
-use crate::shape::{are_alike, carrier_shape};
-use crate::term::check_term;
 use pb_sorts::Carrier;
 use pb_text_tree::Instance;
 use pb_typed_tree::Argument;
 use pb_typing_declarations::{TypeError, TypingRule, require};
+use pb_typing_nodes::context::Context;
+use pb_typing_nodes::operands::accepted;
+use pb_typing_nodes::operation::fault;
+use pb_typing_nodes::shape::{are_alike, carrier_shape};
+use pb_typing_terms::term::check_term;
 
 /// An instance of an equation, by its place, with these arguments.
 #[derive(Drop)]

@@ -11,9 +11,9 @@ ghost use Rattle.pb_typing.specs.Value as values;
 ghost use Rattle.pb_typing.specs.Value.{as_formula, folded, joined};
 ghost use Rattle.pb_typing.specs.ValueView.{pieces, value_shape, value_view, value_views};
 
-use crate::operands::{paired, with_last};
 use pb_text_tree::Connective;
 use pb_typed_tree::{Argument as TypedTerm, Formula, Shape, Term};
+use pb_typing_nodes::operands::{paired, with_last};
 use std::alloc::{AllocError, Global};
 
 /// What stands below `val`: data without quantifiers, or the formula as which data is read.

@@ -8,8 +8,8 @@ use Rattle.pb_model_properties.specs.declared.error.ModelFault.TheVariants as mo
 use Rattle.pb_command_line.specs.declared.words.Usage.{Usage}
 use Rattle.pbsolve.specs.Lines as lines
 use Rattle.pbsolve.specs.declared.fault.ProgramFault.TheVariants.{U01, U02, E01, E02, M01}
-use Rattle.pbsolve.specs.declared.input.InputFault.{InputFault}
-use Rattle.pbsolve.specs.declared.input.InputFault.TheVariants.{Failed, TooLong}
+use Rattle.pb_input.specs.declared.input.InputFault.{InputFault}
+use Rattle.pb_input.specs.declared.input.InputFault.TheVariants.{Failed, TooLong}
 use Rattle.pbsolve.specs.declared.solve_fault.SolveFault.{SolveFault}
 use Rattle.pbsolve.specs.declared.solve_fault.SolveFault.TheVariants as solve_fault
 use Rattle.pbsolve.specs.declared.solve_error.SolveError.{SolveError}

@@ -1,6 +1,6 @@
 -- How a run of the program ends: its exit status, and what went to both writers.
 use Rattle.std.specs.Prelude.{◌≡◌, ◌≢◌, ◌≤◌, ℕ, List, ◌⊎◌, Bool, true, length, Option}
-use Rattle.std.specs.Io.KnownBytes.{Appends, Consumes}
+use Rattle.std.specs.Io.KnownBytes.{Appends}
 use Rattle.pb_sorts.specs.Sink.{AppendsPrefix}
 use Rattle.pb_sorts.specs.Source.{IsWhole, IsLongerThan}
 use Rattle.pbsolve.specs.Lines as lines
@@ -40,10 +40,6 @@ error_line_of (run_error.Refused fault) = fault_line fault
 -- the line went out, or a part that begins it and then writing failed
 abbrev pub Tells : Option (List ℕ) → Option (List ℕ) → Bool → List ℕ → Type 0
 Tells old new failed line = Appends old new line ⊎ ((failed ≡ true) × AppendsPrefix old new line)
-
--- at most n bytes left the source, which is said where reading failed (E01)
-abbrev pub ReadsAtMost : ℕ → Option (List ℕ) → Option (List ℕ) → Type 0
-ReadsAtMost n old new = (bytes : List ℕ) × (length bytes ≤ n) × Consumes old new bytes
 
 -- the whole input has at most so many bytes as the program takes, and this holds of it
 abbrev pub ForInput : Option (List ℕ) → (List ℕ → Type 0) → Type 0

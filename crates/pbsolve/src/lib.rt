@@ -7,7 +7,6 @@ mod compile;
 mod delivery;
 pub mod error_line;
 pub mod fault;
-mod input;
 mod laws;
 mod line;
 mod models;

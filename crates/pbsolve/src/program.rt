@@ -12,12 +12,12 @@ ghost use Rattle.pb_command_line.specs.Words.{AskForSomething, HaveFault, AskNot
 ghost use Rattle.pbsolve.specs.Delivery.{Delivers};
 ghost use Rattle.pbsolve.specs.Outputs.{OutputsFor, IsRefusedFor};
 ghost use Rattle.pbsolve.specs.Program.{fault_status, status_of, error_line_of, Answers};
-ghost use Rattle.pbsolve.specs.Program.{IsRefusedBy, LackProperty, Tells, ReadsAtMost};
+ghost use Rattle.pb_input.specs.Reading.{ReadsAtMost};
+ghost use Rattle.pbsolve.specs.Program.{IsRefusedBy, LackProperty, Tells};
 ghost use Rattle.pbsolve.specs.Program.{TellsRefusal};
 
 use crate::code::{list_code, solve_code, verify_code};
 use crate::compile::compile_text;
-use crate::input::read_input;
 use crate::models::{check_text, translate_text};
 use crate::options::ExplainOptions;
 use crate::run_error::RunError;
@@ -27,6 +27,7 @@ use crate::streams::Streams;
 use crate::{ErrorLine, ProgramFault, SolveError};
 use pb_command_line::{Command, Request, request_of};
 use pb_exploration::Gate;
+use pb_input::read_input;
 use pb_limits::MAX_INPUT_BYTES;
 use pb_module_solver::{Context, SolveOptions};
 use pb_sorts::{Sink, Source, put};

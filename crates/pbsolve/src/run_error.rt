@@ -3,9 +3,9 @@ ghost use Rattle.std.specs.Prelude.{◌≡◌};
 ghost use Rattle.pbsolve.specs.Errors.{run_error_of_input, run_error_of_solving};
 ghost use Rattle.pbsolve.specs.Errors.{run_error_of_words};
 
-use crate::input::{InputError, InputFault};
 use crate::{ProgramFault, SolveError, SolveFault};
 use pb_command_line::{Usage, WordsError};
+use pb_input::{InputError, InputFault};
 
 /// Why a run has no answer.
 #[derive(Drop)]

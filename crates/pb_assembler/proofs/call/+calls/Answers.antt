@@ -2,12 +2,12 @@ use Rattle.std.proofs.Common.{◌∙◌, refl, true, false, sym, ap, Option, Som
 use Rattle.std.specs.Prelude.{ℤ}
 use Rattle.std.proofs.lemmas.List.{nil_from_length}
 use Rattle.pb_bytecode_program.specs.declared.instruction.Op.TheVariants as op
-use Rattle.pb_assembler.specs.Draft.{Draft}
+use Rattle.pb_assembler_builder.specs.Draft.{Draft}
 use Rattle.pb_sorts.specs.declared.carrier.Range.{Range}
 use Rattle.pb_normal.specs.View.{argument_view}
 use Rattle.pb_assembler_scheme.specs.Scheme.{arguments_piece}
 use Rattle.pb_assembler.specs.Emitted.{block_end, called_piece}
-use Rattle.pb_assembler.specs.declared.builder.Label.{Label}
+use Rattle.pb_assembler_builder.specs.declared.builder.Label.{Label}
 use Rattle.pb_assembler.proofs.Calls.{argument_alone, argument_first, popped}
 use Rattle.pb_assembler.proofs.Emitting.{adds_from, guard_emitted, on_ok}
 use Rattle.pb_assembler.proofs.call.+calls.Goals as goal

@@ -16,8 +16,8 @@ use Rattle.pb_typed_tree.specs.declared.formula.Equation.{Equation}
 use Rattle.pb_typed_tree.specs.Elaboration.{Slotting, unslotted, with_slots}
 use Rattle.pb_typed_tree.specs.Loops.{variable_shapes}
 use Rattle.pb_typing.specs.Rights.{IsRight, IsRightIn, own_faults}
-use Rattle.pb_typing.specs.Scopes.{inner_slots}
-use Rattle.pb_typing.proofs.SlotLemmas.{inner_scope, inner_slotting, length_behind, length-variables, variables_of}
+use Rattle.pb_typing_nodes.specs.Scopes.{inner_slots}
+use Rattle.pb_typing_nodes.proofs.SlotLemmas.{inner_scope, inner_slotting, length_behind, length-variables, variables_of}
 use Rattle.pb_typing.proofs.equation.check_right.Goals as goal
 
 -- what is found of a right side in a scope

@@ -1,6 +1,6 @@
 use Rattle.std.proofs.Common.{◌≡◌, ◌∙◌, ap, arith, drop, length, List}
 use Rattle.pb_sorts.specs.declared.carrier.Carrier.{Carrier}
-use Rattle.pb_typing.proofs.SlotLemmas.{length_behind, shapes_behind}
+use Rattle.pb_typing_nodes.proofs.SlotLemmas.{length_behind, shapes_behind}
 use Rattle.pb_typing.proofs.equation.check_under.Goals as goal
 
 pub carriers_from-requires : goal.carriers_from-requires

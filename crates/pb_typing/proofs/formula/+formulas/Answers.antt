@@ -24,16 +24,16 @@ use Rattle.pb_typed_tree.specs.Tree.{Negation}
 use Rattle.pb_typed_tree.specs.View.{formula_view, formula_views}
 use Rattle.pb_typed_tree.proofs.Calls.{chain-places}
 use Rattle.pb_typed_tree.proofs.Views.{formula-chain}
-use Rattle.pb_typing.specs.Contexts.{scope_in, slots_in, text_in}
+use Rattle.pb_typing_nodes.specs.Contexts.{scope_in, slots_in, text_in}
 use Rattle.pb_typing.specs.FormulaLinks.{elaborated_links, link_faults, links_calls, links_loops}
-use Rattle.pb_typing.specs.Scopes.{inner_slots}
+use Rattle.pb_typing_nodes.specs.Scopes.{inner_slots}
 use Rattle.pb_typing.specs.Tree.{formula_of}
 use Rattle.pb_typing.specs.View.{is_positive}
 use Rattle.pb_typing.proofs.FormulaLinks.{chain_first, chain_next}
 use Rattle.pb_typing.proofs.FormulaNodes.{value_formula, value_loops, at_places, call_formula, call_loops, negation-faults, negation-form, negation-calls, quantified-faults, quantified-form, quantified-calls}
 use Rattle.pb_typing.proofs.FormulaSteps.{done_begun, done_next, faults_ended, places_ended, shapes_ended, views_ended, chain-shapes, chain-view, chain-node, chain_calls, value_places}
 use Rattle.pb_typing.proofs.FormulaWeight.{weight, weight-chain, links_weight, link_lighter}
-use Rattle.pb_typing.proofs.SlotLemmas.{inner_scope, inner_slotting, variables_of}
+use Rattle.pb_typing_nodes.proofs.SlotLemmas.{inner_scope, inner_slotting, variables_of}
 use Rattle.pb_typing.proofs.ValueNodes.{quantified-view, quantified-loops}
 use Rattle.pb_typing.proofs.formula.+formulas.Goals as goal
 

@@ -1,6 +1,6 @@
 use Rattle.std.proofs.Common.{◌+◌, ◌*◌}
 use Rattle.pb_typing_declarations.specs.View.{spec_of}
-use Rattle.pb_typing.specs.Scopes.{scope_view, slotting}
+use Rattle.pb_typing_nodes.specs.Scopes.{scope_view, slotting}
 use Rattle.pb_typing.specs.View.{is_positive}
 use Rattle.pb_typing.proofs.FormulaSteps.{AreDone}
 use Rattle.pb_typing.proofs.FormulaWeight.{weight, links_weight}

@@ -24,7 +24,7 @@ use Rattle.pb_typed_tree.specs.Expansion.{have_quantifier}
 use Rattle.pb_typed_tree.proofs.Plain.{typed-plain}
 use Rattle.pb_typing.specs.Typed.{IsLayout}
 use Rattle.pb_typing.proofs.Calls.{length-erased}
-use Rattle.pb_typing.proofs.Unknown.{some_position}
+use Rattle.pb_typing_nodes.proofs.Unknown.{some_position}
 use Rattle.pb_typing.proofs.FormulaSteps.{place-found}
 use Rattle.pb_typing.proofs.InitialValues.{among_then, arguments_fit, carriers_counted, carriers_there, counted, initial_found}
 use Rattle.pb_typing.proofs.initial.check_initial.Goals as goal

@@ -12,9 +12,9 @@ use Rattle.pb_typing_rules.specs.Shapes.{may_be_alike}
 use Rattle.pb_typing_rules.specs.Term.{shape}
 use Rattle.pb_typed_tree.specs.View.{shape_view}
 use Rattle.pb_typing.specs.Arguments.{own_faults}
-use Rattle.pb_typing.specs.Contexts.{scope_in, slots_in, text_in}
-use Rattle.pb_typing.specs.Elaborated.{IsTypedAs}
-use Rattle.pb_typing.specs.Slots.{over_slots}
+use Rattle.pb_typing_nodes.specs.Contexts.{scope_in, slots_in, text_in}
+use Rattle.pb_typing_nodes.specs.Elaborated.{IsTypedAs}
+use Rattle.pb_typing_terms.specs.Slots.{over_slots}
 use Rattle.pb_typing.proofs.instance.check_argument.Goals as goal
 
 pub returns-in_err-found : goal.returns-in_err-found

@@ -3,7 +3,7 @@ use Rattle.pb_typing_declarations.specs.Entries.{shapes_of}
 use Rattle.pb_typing_declarations.specs.Faults.{IsAmong}
 use Rattle.pb_typing_declarations.proofs.Parts.{among_first, first_clear}
 use Rattle.pb_typing.specs.Arguments.{faults_against}
-use Rattle.pb_typing.specs.Contexts.{scope_in, slots_in, text_in}
+use Rattle.pb_typing_nodes.specs.Contexts.{scope_in, slots_in, text_in}
 use Rattle.pb_typing.proofs.FormulaSteps.{arguments_begun, faults_next, argument_next, faults_done, arguments_ended}
 use Rattle.pb_typing.proofs.instance.check_arguments.Goals as goal
 

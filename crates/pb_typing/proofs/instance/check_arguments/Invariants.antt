@@ -1,6 +1,6 @@
 use Rattle.pb_typing_declarations.specs.Entries.{shapes_of}
 use Rattle.pb_typing_declarations.specs.View.{spec_of}
-use Rattle.pb_typing.specs.Scopes.{scope_view, slotting}
+use Rattle.pb_typing_nodes.specs.Scopes.{scope_view, slotting}
 use Rattle.pb_typing.proofs.FormulaSteps.{AreLeft}
 use Rattle.pb_typing.proofs.instance.check_arguments.Given as goal
 

@@ -12,7 +12,7 @@ use Rattle.pb_typing_declarations.specs.Entries.{shapes_of}
 use Rattle.pb_typing_declarations.specs.Faults.{unless, IsAmong}
 use Rattle.pb_typing_declarations.proofs.Parts.{among_right, holds_unless, no_whole}
 use Rattle.pb_typing.specs.Arguments.{faults_against}
-use Rattle.pb_typing.specs.Contexts.{scope_in, slots_in, text_in}
+use Rattle.pb_typing_nodes.specs.Contexts.{scope_in, slots_in, text_in}
 use Rattle.pb_typing.specs.View.{is_positive}
 use Rattle.pb_typing.proofs.Calls.{named_there, odd_instance, count_instance, instance-called, unknown_instance}
 use Rattle.pb_typing.proofs.FormulaSteps.{call_arguments, place-found}

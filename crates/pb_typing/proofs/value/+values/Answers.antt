@@ -23,20 +23,20 @@ use Rattle.pb_typed_tree.specs.Elaboration.{Slotting, elaborated}
 use Rattle.pb_typed_tree.specs.Expansion.{expanded_term}
 use Rattle.pb_typed_tree.specs.Loops.{loops}
 use Rattle.pb_typed_tree.specs.View.{shape_view}
-use Rattle.pb_typing.specs.Chains.{link_faults, own_faults}
-use Rattle.pb_typing.specs.Contexts.{scope_in, slots_in, text_in}
+use Rattle.pb_typing_terms.specs.Chains.{link_faults, own_faults}
+use Rattle.pb_typing_nodes.specs.Contexts.{scope_in, slots_in, text_in}
 use Rattle.pb_typing.specs.Elaborated.{truth_faults}
-use Rattle.pb_typing.specs.Scopes.{inner_slots}
+use Rattle.pb_typing_nodes.specs.Scopes.{inner_slots}
 use Rattle.pb_typing.specs.Tree.{operand_terms}
 use Rattle.pb_typing.specs.Value.{Whole, value_of, values_of}
 use Rattle.pb_typing.specs.ValueLinks.{value_loops}
 use Rattle.pb_typing.specs.declared.joined.Value.{Value}
 use Rattle.pb_typing.specs.ValueView.{value_shape, value_view, value_views}
-use Rattle.pb_typing.proofs.Links.{chained-faults, links_next, some-shape}
-use Rattle.pb_typing.proofs.Nodes.{not_operand}
-use Rattle.pb_typing.proofs.SlotLemmas.{inner_scope, inner_slotting, variables_of}
+use Rattle.pb_typing_terms.proofs.Links.{chained-faults, links_next, some-shape}
+use Rattle.pb_typing_terms.proofs.Nodes.{not_operand}
+use Rattle.pb_typing_nodes.proofs.SlotLemmas.{inner_scope, inner_slotting, variables_of}
 use Rattle.pb_typing.proofs.ValueNodes.{value_node, data_node, not_value, truth_formula, truth_clear, truth_kind, quantified-view, quantified-loops, quantified-faults, quantified-form, chain-node, lone_value, lone_loops, chain-loops, chain-value, done_begun, done_next, faults_ended, values_ended, loops_ended, empty-count, operand-node, arithmetic-same, application-same, same-faults, on_ok, not_loops, data_grows}
-use Rattle.pb_typing.proofs.Weight.{weight, weight-chain, weight-arithmetic, links_weight, link_lighter}
+use Rattle.pb_typing_terms.proofs.Weight.{weight, weight-chain, weight-arithmetic, links_weight, link_lighter}
 use Rattle.pb_typing.proofs.value.+values.Goals as goal
 
 -- ---- Booleans

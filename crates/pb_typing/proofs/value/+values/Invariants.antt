@@ -1,9 +1,9 @@
 use Rattle.std.proofs.Common.{◌+◌, ◌*◌}
 use Rattle.pb_typing_declarations.specs.View.{spec_of}
 use Rattle.pb_typed_tree.specs.View.{shape_view}
-use Rattle.pb_typing.specs.Scopes.{scope_view, slotting}
+use Rattle.pb_typing_nodes.specs.Scopes.{scope_view, slotting}
 use Rattle.pb_typing.proofs.ValueNodes.{AreDone}
-use Rattle.pb_typing.proofs.Weight.{weight, links_weight}
+use Rattle.pb_typing_terms.proofs.Weight.{weight, links_weight}
 use Rattle.pb_typing.proofs.value.+values.Given as goal
 
 abbrev pub decreases-check_value : goal.decreases-check_value

@@ -1,5 +1,5 @@
 use Rattle.pb_text_tree.specs.Form.{term_form}
-use Rattle.pb_typing.specs.Contexts.{scope_in, slots_in, text_in}
+use Rattle.pb_typing_nodes.specs.Contexts.{scope_in, slots_in, text_in}
 use Rattle.pb_typing.proofs.ValueLemmas.{no_quantifier}
 use Rattle.pb_typing.proofs.ValueNodes.{data_value}
 use Rattle.pb_typing.proofs.value.check_data.Goals as goal

@@ -8,7 +8,7 @@ use Rattle.pbsolve.specs.declared.fault.ProgramFault.TheVariants as fault
 use Rattle.pb_sorts.specs.Source.{IsLongerThan}
 use Rattle.pb_command_line.specs.declared.request.Request.{Request}
 use Rattle.pb_command_line.specs.Words.{AskFor, AskForSomething}
-use Rattle.pbsolve.specs.declared.input.InputFault.{InputFault}
+use Rattle.pb_input.specs.declared.input.InputFault.{InputFault}
 use Rattle.pb_limits.specs.declared.TheConstants.{MAX_INPUT_BYTES}
 use Rattle.pbsolve.specs.declared.run_error.RunError.{RunError}
 use Rattle.pbsolve.specs.declared.solve_error.SolveError.{SolveError}
@@ -20,7 +20,7 @@ use Rattle.pb_report.specs.Delivery.{Leaves}
 use Rattle.pbsolve.specs.Delivery.{is_failed_write}
 use Rattle.pbsolve.specs.Outputs.{OutputsFor, IsRefusedFor, IsRefusedWith, property_name}
 use Rattle.pbsolve.specs.Program.{ForInput, IsRefusedBy}
-use Rattle.pbsolve.specs.declared.input.InputFault.TheVariants.{Failed, TooLong}
+use Rattle.pb_input.specs.declared.input.InputFault.TheVariants.{Failed, TooLong}
 use Rattle.pbsolve.specs.declared.solve_fault.SolveFault.TheVariants.{Text, Typing, Limit, Module, Acceptance, TooManyVertices, NoProperty}
 use Rattle.pb_errors.specs.OrMemory.{IfFault}
 use Rattle.pb_errors.specs.declared.or_memory.OrMemory.{OrMemory}

@@ -1,6 +1,0 @@
-use Rattle.std.proofs.Common.{◌≡◌, take}
-use Rattle.pb_assembler.specs.Draft.{label_place, resolved}
-use Rattle.pb_assembler.proofs.builder.Builder.resolved_ops.Given as goal
-
-abbrev pub invariant-loop-op : goal.invariant-loop-op
-invariant-loop-op l = l.ops.items ≡ resolved (label_place l.self.places) (take l.op-index l.self.ops)

@@ -1,0 +1,4 @@
+pub mod Computed
+pub mod Unknown
+pub mod SlotLemmas
+pub mod Shaped
