@@ -40,33 +40,45 @@ fn are_all_others(rows: &IndexedRows) -> bool {
     true
 }
 
-// Two workers take turns at the reference.
+/// Steps at the reference, by workers that take turns, of which there are two: the worker, its
+/// step, whether this is allowed, and whether all is settled behind it.
+const STEPS: [(u32, Step, bool, bool); 17] = [
+    (0, Step::Take(0), true, false),
+    (1, Step::Take(0), false, false),
+    (1, Step::Mark(1), false, false),
+    (0, Step::Mark(1), true, false),
+    (0, Step::Mark(1), false, false),
+    (0, Step::Finish(0), false, false),
+    (0, Step::Mark(2), true, false),
+    (0, Step::Finish(0), true, false),
+    (1, Step::Take(1), true, false),
+    (0, Step::GiveBack(1), false, false),
+    (1, Step::GiveBack(1), true, false),
+    (0, Step::Take(1), true, false),
+    (0, Step::Finish(1), true, false),
+    (0, Step::Take(2), true, false),
+    (0, Step::Finish(2), true, true),
+    (0, Step::Take(3), false, true),
+    (2, Step::Take(0), false, true),
+];
+
+// A step that isn't allowed changes nothing.
 #[test]
 fn reference_steps(rt: HostRuntime) -> Result<(), Fail> {
     let alloc = rt.alloc();
     let module = all_others(alloc)?;
     let mut core = Core::start(alloc, &module, 2)?;
     assert!(rt; core.status(module.initial()) == Status::Pending);
-    let refused = Err(StepError::Refused(NotAllowed));
-    assert!(rt; core.apply(event(0, Step::Take(0))) == Ok(()));
-    assert!(rt; core.apply(event(1, Step::Take(0))) == refused);
-    assert!(rt; core.apply(event(1, Step::Mark(1))) == refused);
-    assert!(rt; core.apply(event(0, Step::Mark(1))) == Ok(()));
-    assert!(rt; core.apply(event(0, Step::Mark(1))) == refused);
-    assert!(rt; core.apply(event(0, Step::Finish(0))) == refused);
-    assert!(rt; core.apply(event(0, Step::Mark(2))) == Ok(()));
-    assert!(rt; core.apply(event(0, Step::Finish(0))) == Ok(()));
-    assert!(rt; core.apply(event(1, Step::Take(1))) == Ok(()));
-    assert!(rt; core.apply(event(0, Step::GiveBack(1))) == refused);
-    assert!(rt; core.apply(event(1, Step::GiveBack(1))) == Ok(()));
-    assert!(rt; core.apply(event(0, Step::Take(1))) == Ok(()));
-    assert!(rt; core.apply(event(0, Step::Finish(1))) == Ok(()));
-    assert!(rt; core.apply(event(0, Step::Take(2))) == Ok(()));
-    assert!(rt; !core.settled());
-    assert!(rt; core.apply(event(0, Step::Finish(2))) == Ok(()));
-    assert!(rt; core.settled());
-    assert!(rt; core.apply(event(0, Step::Take(3))) == refused);
-    assert!(rt; core.apply(event(2, Step::Take(0))) == refused);
+    for (worker, step, is_allowed, is_settled) in STEPS {
+        let event = event(worker, step);
+        let wanted = if is_allowed {
+            Ok(())
+        } else {
+            Err(StepError::Refused(NotAllowed))
+        };
+        assert!(rt; core.apply(event) == wanted, "{event}");
+        assert!(rt; core.settled() == is_settled, "{event}");
+    }
     Ok(())
 }
 
