@@ -12,10 +12,12 @@ For each case requests are counted up until a run meets no refusal (with two wor
 their interleaving, until twenty runs in a row meet none). A run that met one must end with status 3, the line `M01` and
 nothing on standard output. Only where the C library asked, as it does to start a thread, or a thread was refused, or the
 program asked inside the call that starts the workers, may the whole answer come instead; the table counts these apart."""
+import concurrent.futures
 import os
 import subprocess
 import sys
 import tempfile
+import threading
 
 CYCLE = b"pbes mu X = Y; nu Y = X; init X;"
 OTHERS = b"sort D = struct a | b | c; pbes nu X(d: D) = forall e: D . val(e != d) => X(e); init X(a);"
@@ -59,7 +61,7 @@ class Refusals:
     """Runs of one program with something refused."""
 
     def __init__(self, program, folder):
-        self.program, self.report = program, os.path.join(folder, "report")
+        self.program, self.folder = program, folder
         self.library = os.path.join(folder, "refuse.so")
         kit = os.path.dirname(subprocess.run(["rt", "doc"], capture_output=True, text=True, check=True).stdout.strip())
         self.tools = os.path.join(kit, "toolchain", "bin")
@@ -77,14 +79,15 @@ class Refusals:
 
     def run(self, words, text, **refused):
         """How the run ended, and what was refused: `program`, `library`, `thread` or `nothing`, with the callers."""
-        if os.path.exists(self.report):
-            os.remove(self.report)
+        report = os.path.join(self.folder, f"report-{threading.get_ident()}")
+        if os.path.exists(report):
+            os.remove(report)
         settings = {f"REFUSE_{kind.upper()}": str(number) for kind, number in refused.items()}
         done = subprocess.run(
             [self.program, *words], input=text, capture_output=True, timeout=60,
-            env={"LD_PRELOAD": self.library, "REFUSE_REPORT": self.report, **settings},
+            env={"LD_PRELOAD": self.library, "REFUSE_REPORT": report, **settings},
         )
-        _, _, what, *places = open(self.report).read().split()
+        _, _, what, *places = open(report).read().split()
         return (done.returncode, done.stdout, done.stderr), what, [int(place, 16) for place in places]
 
     def callers(self, places):
@@ -127,21 +130,22 @@ def sweep_worker(tests, wrong):
 
 
 def main():
-    wrong, total, tests = [], 0, sys.argv[2:]
-    with tempfile.TemporaryDirectory() as folder:
-        refusals = Refusals(os.path.abspath(sys.argv[1]), folder)
+    wrong, tests = [], sys.argv[2:]
+    tasks = [(case, workers, kind) for case in CASES for workers in (1, 2) for kind in ("request", "thread")]
+    with tempfile.TemporaryDirectory() as folder, concurrent.futures.ThreadPoolExecutor(os.cpu_count()) as pool:
+        refusals, *alone = [Refusals(os.path.abspath(path), folder) for path in sys.argv[1:]]
+        swept = pool.map(lambda task: sweep(refusals, *task, bool(tests), wrong), tasks)
+        swept_alone = pool.map(lambda it: sweep_worker(it, wrong), alone)
         print("| Command | Input | Workers | Requests refused | answered all the same | Threads refused | answered all the same |")
         print("|---|---|---|---|---|---|---|")
-        for case in CASES:
-            for workers in (1, 2):
-                requests = sweep(refusals, case, workers, "request", bool(tests), wrong)
-                threads = sweep(refusals, case, workers, "thread", bool(tests), wrong)
-                total += requests[0] + threads[0]
-                print(f"| `{case[0]}` | {case[1]} | {workers} | {requests[0]} | {requests[1]} | {threads[0]} | {threads[1]} |", flush=True)
-        for path in tests:
-            alone = sweep_worker(Refusals(os.path.abspath(path), folder), wrong)
-            print(f"{alone} requests of one worker alone")
-            total += alone
+        total = 0
+        for case, workers, _ in tasks[::2]:
+            requests, threads = next(swept), next(swept)
+            total += requests[0] + threads[0]
+            print(f"| `{case[0]}` | {case[1]} | {workers} | {requests[0]} | {requests[1]} | {threads[0]} | {threads[1]} |", flush=True)
+        for count in swept_alone:
+            print(f"{count} requests of one worker alone")
+            total += count
     print(f"{total} refusals, {len(wrong)} not as wanted")
     for it in wrong:
         print(it)
