@@ -90,6 +90,7 @@ pub(crate) fn count_won(checked: &Checked) -> u32 {
 pub(crate) fn assert_winners<R: Abort + Threads + Sync>(
     rt: &R,
     alloc: Global,
+    name: &str,
     game: &Game,
     winners: &[Player],
 ) -> Result<(), Fail> {
@@ -101,11 +102,11 @@ pub(crate) fn assert_winners<R: Abort + Threads + Sync>(
                 let winner = winners.get(v as usize).copied();
                 assert!(rt;
                     winner == Some(if checked.truth(v) { Even } else { Odd }),
-                    "vertex {v}"
+                    "{name}: vertex {v}"
                 );
             }
         }
-        Err(flaw) => assert!(rt; false, "{flaw}"),
+        Err(flaw) => assert!(rt; false, "{name}: {flaw}"),
     }
     Ok(())
 }

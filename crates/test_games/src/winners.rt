@@ -12,22 +12,25 @@ use pb_zielonka::solve;
 use std::alloc::Global;
 use std::test::Fail;
 
-/// The vertices of games behind the two sinks, and who wins each vertex.
-const WORKED: [(&[Vertex], &[Player]); 7] = [
-    // `mu X = Y; nu Y = X`
-    (&[(Even, 1, &[3]), (Even, 0, &[2])], &[Odd, Even, Odd, Odd]),
-    // `nu Y = X; mu X = Y`
+/// A game: what it is that of, its vertices behind the two sinks, and who wins each vertex.
+const WORKED: [(&str, &[Vertex], &[Player]); 7] = [
     (
+        "mu X = Y; nu Y = X",
+        &[(Even, 1, &[3]), (Even, 0, &[2])],
+        &[Odd, Even, Odd, Odd],
+    ),
+    (
+        "nu Y = X; mu X = Y",
         &[(Even, 2, &[3]), (Even, 1, &[2])],
         &[Odd, Even, Even, Even],
     ),
-    // `nu X(d) = forall e . val(e != d) => X(e)` over three values
     (
+        "nu X(d) = forall e . val(e != d) => X(e), over three values",
         &[(Odd, 0, &[3, 4]), (Odd, 0, &[2, 4]), (Odd, 0, &[2, 3])],
         &[Odd, Even, Even, Even, Even],
     ),
-    // a `nu` and a `mu` variable over two values, one calling the other's next value
     (
+        "a nu and a mu variable over two values, one calling the other's next value",
         &[
             (Even, 2, &[4]),
             (Even, 2, &[5]),
@@ -36,19 +39,19 @@ const WORKED: [(&[Vertex], &[Player]); 7] = [
         ],
         &[Odd, Even, Even, Even, Even, Even],
     ),
-    // `nu X = (X && Y) || Y; mu Y = Y`
     (
+        "nu X = (X && Y) || Y; mu Y = Y",
         &[(Even, 2, &[3, 4]), (Odd, 0, &[2, 4]), (Even, 1, &[4])],
         &[Odd, Even, Odd, Odd, Odd],
     ),
-    // an operand that is true by itself beside a call of the instance itself
     (
+        "an operand that is true by itself beside a call of the instance itself",
         &[(Even, 1, &[2, 3]), (Even, 0, &[1])],
         &[Odd, Even, Even, Even],
     ),
-    // `nu A = F && E; mu F = F; mu E = A || E`: the player of the greatest priority loses it to a
-    // region below
+    // The player of the greatest priority loses it to a region below.
     (
+        "nu A = F && E; mu F = F; mu E = A || E",
         &[(Odd, 2, &[3, 4]), (Odd, 1, &[3]), (Even, 1, &[2, 4])],
         &[Odd, Even, Odd, Odd, Odd],
     ),
@@ -57,9 +60,9 @@ const WORKED: [(&[Vertex], &[Player]); 7] = [
 #[test]
 fn worked_games(rt: HostRuntime) -> Result<(), Fail> {
     let alloc = rt.alloc();
-    for (vertices, winners) in WORKED {
+    for (name, vertices, winners) in WORKED {
         let game = game_of(alloc, vertices)?;
-        assert_winners(&rt, alloc, &game, winners)?;
+        assert_winners(&rt, alloc, name, &game, winners)?;
     }
     Ok(())
 }
@@ -124,7 +127,7 @@ fn wide_opponents(rt: HostRuntime) -> Result<(), Fail> {
         winners.push(if wins { Even } else { Odd })?;
     }
     let game = builder.game(alloc)?;
-    assert_winners(&rt, alloc, &game, &winners)
+    assert_winners(&rt, alloc, "wide opponents", &game, &winners)
 }
 
 /// Two thousand generated games have the winners that the plain solver finds, by either solver, and
