@@ -49,7 +49,11 @@ fn fails_at_each_byte_written(rt: HostRuntime) -> Result<(), Fail> {
                     error: writer(rt.alloc(), ROOM, is_slow),
                 };
                 let outcome = run_over(&rt, rt.alloc(), run.words, streams);
-                assert!(rt; outcome.is(status, &run.output[..budget], line));
+                let name = run.name;
+                assert!(rt;
+                    outcome.is(status, &run.output[..budget], line),
+                    "{name}: {budget}"
+                );
             }
         }
     }
@@ -63,7 +67,8 @@ fn fails_at_each_byte_read(rt: HostRuntime) -> Result<(), Fail> {
             let bytes = run.input;
             let reader = In::new(Failing { bytes, left });
             let outcome = run_on(&rt, rt.alloc(), run.words, reader, ROOM);
-            assert!(rt; outcome.is(4, b"", b"E01\n"));
+            let name = run.name;
+            assert!(rt; outcome.is(4, b"", b"E01\n"), "{name}: {left}");
         }
     }
     Ok(())
@@ -80,7 +85,8 @@ fn reads_and_writes_single_bytes(rt: HostRuntime) -> Result<(), Fail> {
             error: Budget::slow(rt.alloc(), ROOM),
         };
         let outcome = run_over(&rt, rt.alloc(), run.words, streams);
-        assert!(rt; outcome.is(0, run.output, b""));
+        let name = run.name;
+        assert!(rt; outcome.is(0, run.output, b""), "{name}");
     }
     Ok(())
 }

@@ -1,8 +1,9 @@
 //! What the program writes of small inputs, for the tests in which a reader or a writer fails.
 
-/// A run: its words, what it reads, and what it writes.
+/// A run: what it is called where it fails, its words, what it reads, and what it writes.
 #[derive(Clone, Copy)]
 pub struct Run {
+    pub name: &'static str,
     pub words: &'static [&'static str],
     pub input: &'static [u8],
     pub output: &'static [u8],
@@ -44,51 +45,61 @@ init X(0);
 /// Runs of each command that reads a text or a model.
 pub const RUNS: [Run; 10] = [
     Run {
+        name: "solve",
         words: &["pbsolve", "solve"],
         input: TEXT,
         output: b"answer false\ninstances 2\ncut 0\nvertices 4\n",
     },
     Run {
+        name: "solution",
         words: &["pbsolve", "solution"],
         input: TEXT,
         output: b"X false\nY false\n",
     },
     Run {
+        name: "game",
         words: &["pbsolve", "game"],
         input: TEXT,
         output: b"parity 3;\n0 1 0 0 \"false\";\n1 0 0 1 \"true\";\n2 1 0 3 \"X\";\n3 0 0 2 \"Y\";\n",
     },
     Run {
+        name: "certificate",
         words: &["pbsolve", "certificate"],
         input: TEXT,
         output: b"paritysol 3;\n0 1;\n1 0 1;\n2 1;\n3 1;\n",
     },
     Run {
+        name: "explain",
         words: &["pbsolve", "explain"],
         input: TEXT,
         output: b"answer false\nX false: Y\nY false: X\n",
     },
     Run {
+        name: "check",
         words: &["pbsolve", "check"],
         input: LOCK,
         output: VERDICTS,
     },
     Run {
+        name: "check by two workers",
         words: &["pbsolve", "check", "--workers", "2"],
         input: LOCK,
         output: VERDICTS,
     },
     Run {
+        name: "check by lifting",
         words: &["pbsolve", "check", "--solver", "lift"],
         input: LOCK,
         output: VERDICTS,
     },
     Run {
+        name: "check of a cut model",
         words: &["pbsolve", "check"],
         input: CUT,
         output: b"alive false\ncut 1\ntop true\n",
     },
     Run {
+        name: "translate",
         words: &["pbsolve", "translate", "--property", "top"],
         input: CUT,
         output: TRANSLATED,

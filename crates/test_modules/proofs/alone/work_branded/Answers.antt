@@ -3,7 +3,7 @@ use Rattle.std.specs.Prelude.{slice_get}
 use Rattle.pb_instances.specs.Rule.{mark_of}
 use Rattle.pb_instances.specs.Seats.{module_of, workers_of, view_of}
 use Rattle.pb_instances.proofs.Seating.{fresh_low, get_last}
-use Rattle.test_exploration.proofs.alone.work_branded.Goals as goal
+use Rattle.test_modules.proofs.alone.work_branded.Goals as goal
 
 pub work-rows-requires-clause-free : goal.work-rows-requires-clause-free
 work-rows-requires-clause-free g c m two =
