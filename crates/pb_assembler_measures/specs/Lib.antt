@@ -1,0 +1,7 @@
+pub mod Excess
+pub mod Measures
+pub mod MeasureTerms
+pub mod MeasureEquations
+pub mod MeasureFormulas
+pub mod Reached
+pub mod Tests
