@@ -20,4 +20,4 @@ mod test;
 
 pub use compiler::compile;
 pub use pb_assembler_builder::{Builder, Label};
-pub use pb_assembler_measures::{CompileError, Excess, compile_error, measure_places};
+pub use pb_assembler_measures::{CompileError, Excess, compile_error};

@@ -13,8 +13,4 @@ pub mod MeasureHeads
 pub mod MeasureEquation
 pub mod MeasureMade
 pub mod MeasureExcess
-pub mod Reached
-pub mod ReachedBounds
-pub mod Nesting
-pub mod ReachedTexts
 pub mod Tests

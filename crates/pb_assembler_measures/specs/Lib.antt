@@ -3,5 +3,4 @@ pub mod Measures
 pub mod MeasureTerms
 pub mod MeasureEquations
 pub mod MeasureFormulas
-pub mod Reached
 pub mod Tests

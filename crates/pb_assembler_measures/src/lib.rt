@@ -12,7 +12,6 @@ mod first_excess;
 mod measure_equation;
 mod measure_formula;
 mod measure_load;
-pub mod measure_places;
 mod measure_tally;
 mod measure_term;
 mod measures;

@@ -18,7 +18,7 @@ use Rattle.pb_assembler_scheme.specs.Scheme.{junction_of, data_piece, binary_pie
 use Rattle.pb_assembler_accepted.specs.Limits.{formula_loops}
 use Rattle.pb_assembler_accepted.proofs.Tables.{IsStraight}
 use Rattle.pb_assembler_accepted.proofs.Weights.{equation_straight}
-use Rattle.pb_assembler_measures.specs.Reached.{AreMostLoops}
+use Rattle.pb_assembler_places.specs.Reached.{AreMostLoops}
 
 -- ---- how many loops are open, whichever they are
 

@@ -12,10 +12,10 @@ use Rattle.pb_assembler_scheme.specs.Scheme.{head}
 use Rattle.pb_assembler_accepted.specs.Limits.{formula_brackets, formula_operands}
 use Rattle.pb_assembler_accepted.specs.Made.{IsMadeOf}
 use Rattle.pb_assembler_accepted.proofs.TextEquations.{program_made}
-use Rattle.pb_assembler_measures.specs.Reached.{AreMostBrackets, AreMostOperands, HoldsWhatIsCounted, HoldWhatIsCounted, IsFullProgram}
-use Rattle.pb_assembler_measures.proofs.Nesting.{most_loops}
-use Rattle.pb_assembler_measures.proofs.Reached.{operands_reached, brackets_reached}
-use Rattle.pb_assembler_measures.proofs.ReachedBounds.{operands_bounded, brackets_bounded}
+use Rattle.pb_assembler_places.specs.Reached.{AreMostBrackets, AreMostOperands, HoldsWhatIsCounted, HoldWhatIsCounted, IsFullProgram}
+use Rattle.pb_assembler_places.proofs.Nesting.{most_loops}
+use Rattle.pb_assembler_places.proofs.Reached.{operands_reached, brackets_reached}
+use Rattle.pb_assembler_places.proofs.ReachedBounds.{operands_bounded, brackets_bounded}
 
 pub most_operands : (p : Program) (f : Formula) → IsFullProgram p f → AreMostOperands p (formula_operands f)
 most_operands p f h = record { held = operands_reached p f h.compiled h.calls; most = operands_bounded p f h.compiled h.calls }

@@ -2,8 +2,8 @@
 
 ghost use Rattle.pb_text_meaning.specs.Syntax.{Spec};
 ghost use Rattle.pb_typing_rules.specs.WellTyped.{IsWellTyped};
-ghost use Rattle.pb_assembler_measures.specs.Reached.{BracketsAreCounted, HoldWhatIsCounted};
-ghost use Rattle.pb_assembler_measures.specs.Reached.{LoopsAreCounted, OperandsAreCounted};
+ghost use Rattle.pb_assembler_places.specs.Reached.{BracketsAreCounted, HoldWhatIsCounted};
+ghost use Rattle.pb_assembler_places.specs.Reached.{LoopsAreCounted, OperandsAreCounted};
 
 /// The operands and brackets that are counted on the right side are the most that any place of the
 /// scheme's code is reached with, as if every test could go both ways, and the loops the most that
